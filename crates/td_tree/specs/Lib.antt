@@ -1,0 +1,5 @@
+pub mod Causes
+pub mod Hashes
+pub mod Keywords
+pub mod Names
+pub mod Signs

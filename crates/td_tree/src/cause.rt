@@ -1,0 +1,100 @@
+//! The causes for which a statement is refused.
+ghost use Rattle.std.specs.Prelude.{◌≡◌};
+ghost use Rattle.td_tree.specs.Causes.{name_of, number_of};
+
+use thiserror::Error;
+
+/// Why a statement is refused. Its number and its name stand in the answer.
+#[derive(Clone, Copy, Debug, PartialEq, Eq, Error)]
+pub enum Cause {
+    #[error("a token is bad")]
+    Scan,
+    #[error("the grammar spells no such statement")]
+    Syntax,
+    #[error("a name is not known")]
+    NameUnknown,
+    #[error("a name is taken")]
+    NameTaken,
+    #[error("a type does not fit")]
+    TypeMismatch,
+    #[error("a heading does not fit")]
+    Heading,
+    #[error("a declaration of keys does not fit")]
+    KeyDeclaration,
+    #[error("a declared type is too deep")]
+    Rank,
+    #[error("another entry mentions what is dropped")]
+    InUse,
+    #[error("a virtual relvar takes no assignment")]
+    NotAssignable,
+    #[error("too many transactions are open, or none is")]
+    Transaction,
+    #[error("a number is out of range")]
+    Overflow,
+    #[error("a divisor is zero")]
+    ZeroDivisor,
+    #[error("an aggregate of nothing has no value")]
+    EmptyAggregate,
+    #[error("a relation has not exactly one tuple")]
+    NotOneTuple,
+    #[error("a type constraint is false")]
+    TypeConstraint,
+    #[error("a key does not hold")]
+    Key,
+    #[error("a constraint is false")]
+    Constraint,
+}
+
+impl Cause {
+    /// The number by which causes are ordered: of several the least is named.
+    pub fn number(self) -> u8
+        ensures { result ≡ number_of self }
+    {
+        match self {
+            Cause::Scan => 1,
+            Cause::Syntax => 2,
+            Cause::NameUnknown => 3,
+            Cause::NameTaken => 4,
+            Cause::TypeMismatch => 5,
+            Cause::Heading => 6,
+            Cause::KeyDeclaration => 7,
+            Cause::Rank => 8,
+            Cause::InUse => 9,
+            Cause::NotAssignable => 10,
+            Cause::Transaction => 11,
+            Cause::Overflow => 20,
+            Cause::ZeroDivisor => 21,
+            Cause::EmptyAggregate => 22,
+            Cause::NotOneTuple => 23,
+            Cause::TypeConstraint => 24,
+            Cause::Key => 30,
+            Cause::Constraint => 31,
+        }
+    }
+
+    /// The name in capitals.
+    pub fn name(self) -> &'static str
+        ensures { result.now ≡ name_of self }
+    {
+        match self {
+            Cause::Scan => "SCAN",
+            Cause::Syntax => "SYNTAX",
+            Cause::NameUnknown => "NAME_UNKNOWN",
+            Cause::NameTaken => "NAME_TAKEN",
+            Cause::TypeMismatch => "TYPE_MISMATCH",
+            Cause::Heading => "HEADING",
+            Cause::KeyDeclaration => "KEY_DECLARATION",
+            Cause::Rank => "RANK",
+            Cause::InUse => "IN_USE",
+            Cause::NotAssignable => "NOT_ASSIGNABLE",
+            Cause::Transaction => "TRANSACTION",
+            Cause::Overflow => "OVERFLOW",
+            Cause::ZeroDivisor => "ZERO_DIVISOR",
+            Cause::EmptyAggregate => "EMPTY_AGGREGATE",
+            Cause::NotOneTuple => "NOT_ONE_TUPLE",
+            Cause::TypeConstraint => "TYPE_CONSTRAINT",
+            Cause::Key => "KEY",
+            Cause::Constraint => "CONSTRAINT",
+        }
+    }
+}

@@ -1,0 +1,257 @@
+//! The reserved words of the language.
+ghost use Rattle.std.specs.Prelude.{◌≡◌, find};
+ghost use Rattle.std.specs.Str.{str_eq_ignore_ascii_case};
+ghost use Rattle.td_tree.specs.Keywords.{keyword_of, word_of};
+
+/// A reserved word. In a script it may stand in any ASCII case.
+#[derive(Clone, Copy, Debug, PartialEq, Eq)]
+pub enum Keyword {
+    Add,
+    All,
+    And,
+    As,
+    Base,
+    Begin,
+    Boolean,
+    But,
+    By,
+    Char,
+    Commit,
+    Compose,
+    Constraint,
+    Count,
+    Delete,
+    Drop,
+    Dump,
+    DInsert,
+    DUnion,
+    Else,
+    End,
+    Extend,
+    False,
+    From,
+    Group,
+    If,
+    In,
+    Init,
+    Insert,
+    Integer,
+    Intersect,
+    IsEmpty,
+    IDelete,
+    IMinus,
+    Join,
+    Key,
+    Matching,
+    Max,
+    Min,
+    Minus,
+    Not,
+    Or,
+    Per,
+    Possrep,
+    Real,
+    Relation,
+    Rename,
+    Rollback,
+    Sum,
+    Summarize,
+    TableDee,
+    TableDum,
+    Tclose,
+    Then,
+    Times,
+    Transaction,
+    True,
+    Tuple,
+    Type,
+    Ungroup,
+    Union,
+    Unwrap,
+    Update,
+    Var,
+    Virtual,
+    Where,
+    With,
+    Wrap,
+    Write,
+}
+
+impl Keyword {
+    /// Every reserved word, in alphabetical order.
+    pub const ALL: [Keyword; 69] = [
+        Keyword::Add,
+        Keyword::All,
+        Keyword::And,
+        Keyword::As,
+        Keyword::Base,
+        Keyword::Begin,
+        Keyword::Boolean,
+        Keyword::But,
+        Keyword::By,
+        Keyword::Char,
+        Keyword::Commit,
+        Keyword::Compose,
+        Keyword::Constraint,
+        Keyword::Count,
+        Keyword::Delete,
+        Keyword::Drop,
+        Keyword::Dump,
+        Keyword::DInsert,
+        Keyword::DUnion,
+        Keyword::Else,
+        Keyword::End,
+        Keyword::Extend,
+        Keyword::False,
+        Keyword::From,
+        Keyword::Group,
+        Keyword::If,
+        Keyword::In,
+        Keyword::Init,
+        Keyword::Insert,
+        Keyword::Integer,
+        Keyword::Intersect,
+        Keyword::IsEmpty,
+        Keyword::IDelete,
+        Keyword::IMinus,
+        Keyword::Join,
+        Keyword::Key,
+        Keyword::Matching,
+        Keyword::Max,
+        Keyword::Min,
+        Keyword::Minus,
+        Keyword::Not,
+        Keyword::Or,
+        Keyword::Per,
+        Keyword::Possrep,
+        Keyword::Real,
+        Keyword::Relation,
+        Keyword::Rename,
+        Keyword::Rollback,
+        Keyword::Sum,
+        Keyword::Summarize,
+        Keyword::TableDee,
+        Keyword::TableDum,
+        Keyword::Tclose,
+        Keyword::Then,
+        Keyword::Times,
+        Keyword::Transaction,
+        Keyword::True,
+        Keyword::Tuple,
+        Keyword::Type,
+        Keyword::Ungroup,
+        Keyword::Union,
+        Keyword::Unwrap,
+        Keyword::Update,
+        Keyword::Var,
+        Keyword::Virtual,
+        Keyword::Where,
+        Keyword::With,
+        Keyword::Wrap,
+        Keyword::Write,
+    ];
+
+    /// The word in capitals, as answers and dumps print it.
+    pub fn word(self) -> &'static str
+        ensures { result.now ≡ word_of self }
+    {
+        match self {
+            Keyword::Add => "ADD",
+            Keyword::All => "ALL",
+            Keyword::And => "AND",
+            Keyword::As => "AS",
+            Keyword::Base => "BASE",
+            Keyword::Begin => "BEGIN",
+            Keyword::Boolean => "BOOLEAN",
+            Keyword::But => "BUT",
+            Keyword::By => "BY",
+            Keyword::Char => "CHAR",
+            Keyword::Commit => "COMMIT",
+            Keyword::Compose => "COMPOSE",
+            Keyword::Constraint => "CONSTRAINT",
+            Keyword::Count => "COUNT",
+            Keyword::Delete => "DELETE",
+            Keyword::Drop => "DROP",
+            Keyword::Dump => "DUMP",
+            Keyword::DInsert => "D_INSERT",
+            Keyword::DUnion => "D_UNION",
+            Keyword::Else => "ELSE",
+            Keyword::End => "END",
+            Keyword::Extend => "EXTEND",
+            Keyword::False => "FALSE",
+            Keyword::From => "FROM",
+            Keyword::Group => "GROUP",
+            Keyword::If => "IF",
+            Keyword::In => "IN",
+            Keyword::Init => "INIT",
+            Keyword::Insert => "INSERT",
+            Keyword::Integer => "INTEGER",
+            Keyword::Intersect => "INTERSECT",
+            Keyword::IsEmpty => "IS_EMPTY",
+            Keyword::IDelete => "I_DELETE",
+            Keyword::IMinus => "I_MINUS",
+            Keyword::Join => "JOIN",
+            Keyword::Key => "KEY",
+            Keyword::Matching => "MATCHING",
+            Keyword::Max => "MAX",
+            Keyword::Min => "MIN",
+            Keyword::Minus => "MINUS",
+            Keyword::Not => "NOT",
+            Keyword::Or => "OR",
+            Keyword::Per => "PER",
+            Keyword::Possrep => "POSSREP",
+            Keyword::Real => "REAL",
+            Keyword::Relation => "RELATION",
+            Keyword::Rename => "RENAME",
+            Keyword::Rollback => "ROLLBACK",
+            Keyword::Sum => "SUM",
+            Keyword::Summarize => "SUMMARIZE",
+            Keyword::TableDee => "TABLE_DEE",
+            Keyword::TableDum => "TABLE_DUM",
+            Keyword::Tclose => "TCLOSE",
+            Keyword::Then => "THEN",
+            Keyword::Times => "TIMES",
+            Keyword::Transaction => "TRANSACTION",
+            Keyword::True => "TRUE",
+            Keyword::Tuple => "TUPLE",
+            Keyword::Type => "TYPE",
+            Keyword::Ungroup => "UNGROUP",
+            Keyword::Union => "UNION",
+            Keyword::Unwrap => "UNWRAP",
+            Keyword::Update => "UPDATE",
+            Keyword::Var => "VAR",
+            Keyword::Virtual => "VIRTUAL",
+            Keyword::Where => "WHERE",
+            Keyword::With => "WITH",
+            Keyword::Wrap => "WRAP",
+            Keyword::Write => "WRITE",
+        }
+    }
+
+    /// Whether these bytes are the word in some ASCII case.
+    pub fn is_spelled_by(self, text: &[u8]) -> bool
+        ensures { result ≡ str_eq_ignore_ascii_case (word_of self) text.now }
+    {
+        self.word().as_bytes().eq_ignore_ascii_case(text)
+    }
+
+    /// The reserved word that these bytes spell in some ASCII case.
+    #[tactic(auto, unfolding(crate::specs::Keywords::keyword_of))]
+    pub fn of_word(text: &[u8]) -> Option<Keyword>
+        ensures { result ≡ keyword_of text.now }
+    {
+        first_spelled(&Keyword::ALL, text)
+    }
+}
+
+/// The first of these words that the bytes spell.
+fn first_spelled(keywords: &[Keyword], text: &[u8]) -> Option<Keyword>
+    ensures { result ≡ find (λ k. str_eq_ignore_ascii_case (word_of k) text.now) keywords.now }
+{
+    for keyword in keywords {
+        if keyword.is_spelled_by(text) {
+            return Some(*keyword);
+        }
+    }
+    None
+}

@@ -1,0 +1,8 @@
+//! Names, causes and tokens of Tutorial D.
+#![tactic(auto)]
+
+pub mod cause;
+pub mod fault;
+pub mod keyword;
+pub mod name;
+pub mod token;

@@ -1,0 +1,74 @@
+//! What a token is.
+ghost use Rattle.std.specs.Prelude.{◌≡◌};
+ghost use Rattle.td_tree.specs.Signs.{sign_text};
+
+use crate::keyword::Keyword;
+
+/// A sign.
+#[derive(Clone, Copy, Debug, PartialEq, Eq)]
+pub enum Sign {
+    Assign,
+    NotEqual,
+    LessOrEqual,
+    GreaterOrEqual,
+    Concatenate,
+    OpenBrace,
+    CloseBrace,
+    OpenParenthesis,
+    CloseParenthesis,
+    Comma,
+    Semicolon,
+    Colon,
+    Equal,
+    Less,
+    Greater,
+    Plus,
+    Minus,
+    Times,
+    Divide,
+}
+
+impl Sign {
+    /// The sign as it is spelled.
+    pub fn text(self) -> &'static str
+        ensures { result.now ≡ sign_text self }
+    {
+        match self {
+            Sign::Assign => ":=",
+            Sign::NotEqual => "<>",
+            Sign::LessOrEqual => "<=",
+            Sign::GreaterOrEqual => ">=",
+            Sign::Concatenate => "||",
+            Sign::OpenBrace => "{",
+            Sign::CloseBrace => "}",
+            Sign::OpenParenthesis => "(",
+            Sign::CloseParenthesis => ")",
+            Sign::Comma => ",",
+            Sign::Semicolon => ";",
+            Sign::Colon => ":",
+            Sign::Equal => "=",
+            Sign::Less => "<",
+            Sign::Greater => ">",
+            Sign::Plus => "+",
+            Sign::Minus => "-",
+            Sign::Times => "*",
+            Sign::Divide => "/",
+        }
+    }
+}
+
+/// What a token is.
+#[derive(Clone, Copy, Debug, PartialEq, Eq)]
+pub enum Kind {
+    /// A reserved word, in any ASCII case.
+    Reserved(Keyword),
+    /// A word that begins with `THE_` in any ASCII case: the rest of it names a component.
+    Component,
+    /// Every other word.
+    Name,
+    /// Decimal digits.
+    Number,
+    Sign(Sign),
+    /// What begins no other token.
+    Bad,
+}

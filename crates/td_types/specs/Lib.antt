@@ -1,0 +1,5 @@
+pub mod Falls
+pub mod Keys
+pub mod TypeOrder
+pub mod Types
+pub mod Views

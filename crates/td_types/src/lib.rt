@@ -1,0 +1,4 @@
+//! Types and headings.
+#![tactic(auto)]
+
+pub mod ty;
