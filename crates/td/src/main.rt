@@ -1,6 +1,7 @@
 //! `td run [--stop] [FILE]`: runs a script of Tutorial D and writes an answer for each statement.
 #![tactic(auto)]
 
+mod engine;
 mod line;
 mod sink;
 mod source;

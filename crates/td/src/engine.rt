@@ -1,0 +1,5 @@
+//! The engine of the first path: base relvars of INTEGER attributes, assignment and WRITE.
+pub mod cursor;
+pub mod number;
+pub mod parse;
+pub mod tree;
