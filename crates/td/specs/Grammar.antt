@@ -1,7 +1,6 @@
 -- The grammar of the first path: which words spell which tree (this project's own profile of the language).
 use Rattle.std.specs.Prelude.{◌≡◌, ◌≢◌, ℕ, ◌-◌, ◌^◌, ◌≤◌, Bool, true, false, List, [], ◌∷◌, ◌++◌, Option, Some, None, map}
-use Rattle.std.specs.List.{flat_map}
-use Rattle.std.specs.Prelude.{All}
+use Rattle.std.specs.List.{AllByRecursion, flat_map}
 use Rattle.td_tree.specs.declared.keyword.Keyword.TheVariants as keywords
 use Rattle.td_tree.specs.declared.token.Sign.TheVariants as signs
 use Rattle.td.specs.Numbers.{numeral_limit}
@@ -75,13 +74,13 @@ statement_words t = body_words t ++ (sign signs.Semicolon ∷ [])
 -- ---- what a tree has to be besides
 
 abbrev pub AreInRange : TupleLiteral → Type 0
-AreInRange = All (λ a. a.numeral.magnitude ≤ numeral_limit a.numeral.minus)
+AreInRange = AllByRecursion (λ a. a.numeral.magnitude ≤ numeral_limit a.numeral.minus)
 
 -- a relation without its heading has a tuple
 abbrev pub IsOperand : Operand → Type 0
 IsOperand (relvar n) = Unit {0}
-IsOperand (literal (Some names) tuples) = All AreInRange tuples
-IsOperand (literal None tuples) = All AreInRange tuples × (tuples ≢ [])
+IsOperand (literal (Some names) tuples) = AllByRecursion AreInRange tuples
+IsOperand (literal None tuples) = AllByRecursion AreInRange tuples × (tuples ≢ [])
 
 abbrev pub AreOperands : Expression → Type 0
 AreOperands (single r) = IsOperand r

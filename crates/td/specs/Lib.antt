@@ -1,6 +1,7 @@
 pub mod CommandLine
 pub mod Grammar
 pub mod Numbers
+pub mod Parsing
 pub mod Reading
 pub mod Told
 pub mod TreeViews

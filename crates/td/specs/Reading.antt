@@ -185,10 +185,10 @@ closed_in ws = body_in ws >>= λ x. after_sign signs.Semicolon x.1 >>= λ after.
 unfoldable pub statement_in : List Word → Read Statement
 statement_in ws = either (closed_in ws) (λ after. Some (empty, after)) (after_sign signs.Semicolon ws)
 
+abbrev pub all_of : Statement → List Word → Option Statement
+all_of t [] = Some t
+all_of t (w ∷ ws) = None
+
 -- the statement that all the words are
 unfoldable pub whole_in : List Word → Option Statement
 whole_in ws = statement_in ws >>= λ x. all_of x.0 x.1
-  where
-    all_of : Statement → List Word → Option Statement
-    all_of t [] = Some t
-    all_of t (w ∷ ws) = None

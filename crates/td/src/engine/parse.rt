@@ -1,8 +1,9 @@
 //! Recursive descent over a statement's tokens.
 ghost use Rattle.std.specs.Prelude.{◌≡◌, ◌≤◌, map};
 ghost use Rattle.td.specs.Reading as reading;
-ghost use Rattle.td.specs.Reading.{Moves, any_tuples_in, attribute_in, attributes_in, heading_in, integer_in, name_in, names_in, some_items, tuple_in};
+ghost use Rattle.td.specs.Reading.{Moves, any_tuples_in, attribute_in, attributes_in, heading_in, integer_in, name_in, names_in, some_items, tuple_in, whole_in};
 ghost use Rattle.td.specs.TreeViews.{attribute_of, attributes_of, expression_of, literal_of, operand_of, statement_of, tuple_of, tuples_of};
+ghost use Rattle.td.specs.Parsing.{Gives, Parses, has_bad, is_bad};
 ghost use Rattle.td.specs.Words.{words};
 
 use crate::engine::cursor::{Cursor, SYNTAX};
@@ -315,21 +316,28 @@ fn statement(alloc: Global, tokens: &mut Cursor<'_, '_>) -> Result<Statement, Fa
 }
 
 /// Whether one of the tokens is bad.
-fn has_bad(tokens: &[Token<'_>]) -> bool {
+fn has_bad(tokens: &[Token<'_>]) -> bool
+    ensures { result ≡ has_bad (map (λ token. token.kind) tokens.now) }
+{
     for token in tokens {
-        if token.kind == Kind::Bad {
+        if is_bad(token.kind) {
             return true;
         }
     }
     false
 }
 
-/// The statement that the tokens spell: SCAN where one of them is bad, else SYNTAX where they
-/// spell none.
-pub fn parse_statement(alloc: Global, tokens: &[Token<'_>]) -> Result<Statement, Fault> {
-    if has_bad(tokens) {
-        return Err(Fault::Refused(Cause::Scan));
-    }
+fn is_bad(kind: Kind) -> bool
+    ensures { result ≡ is_bad kind }
+{
+    matches!(kind, Kind::Bad)
+}
+
+/// The statement that all the tokens are.
+#[tactic(auto, unfolding(crate::specs::Reading::whole_in))]
+fn whole(alloc: Global, tokens: &[Token<'_>]) -> Result<Statement, Fault>
+    ensures { Gives result (whole_in (words tokens.now)) }
+{
     let mut tokens = Cursor { rest: tokens };
     let statement = statement(alloc, &mut tokens)?;
     if tokens.rest.is_empty() {
@@ -337,4 +345,15 @@ pub fn parse_statement(alloc: Global, tokens: &[Token<'_>]) -> Result<Statement,
     } else {
         Err(SYNTAX)
     }
+}
+
+/// The statement that the tokens spell: SCAN where one of them is bad, else SYNTAX where they
+/// spell none.
+pub fn parse_statement(alloc: Global, tokens: &[Token<'_>]) -> Result<Statement, Fault>
+    ensures { Parses (map (λ token. token.kind) tokens.now) (words tokens.now) result }
+{
+    if has_bad(tokens) {
+        return Err(Fault::Refused(Cause::Scan));
+    }
+    whole(alloc, tokens)
 }
