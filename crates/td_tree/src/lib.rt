@@ -5,4 +5,5 @@ pub mod cause;
 pub mod fault;
 pub mod keyword;
 pub mod name;
+pub mod piece;
 pub mod token;
