@@ -2,6 +2,7 @@
 use Rattle.std.proofs.Common.{◌≡◌, ℕ, zero, suc, ◌+◌, ◌-◌, ◌<◌, ◌≤◌, List, [], ◌∷◌, ◌++◌, length, take, drop, Option, Some, None, ◌⊎◌, inl, inr, refl, sym, ap, ◌∙◌, subst, append_assoc, arith, Bool, true, false, if◌then◌else◌}
 use Rattle.std.proofs.lemmas.List.{length-append, append-nil, append_cancel_left, take_at, drop_at, length_push}
 use Rattle.std.specs.Prelude.{option_map}
+use Rattle.std.specs.List.{flat_map}
 use Rattle.td_tree.specs.Division.{run, state, IsPiece, IsNext, IsDivision, divide_from, divide, up_to}
 
 -- two divisions of one list at the same place
@@ -80,6 +81,39 @@ module _ {X S : Type 0} (opens : X → S) (goes_on : S → X → Option S) where
     let tails : d.0 ≡ e.0 = sym (drop_at p d.0 (length p) refl) ∙ ap (drop (length p)) same ∙ drop_at q e.0 (length p) (omega arith) in
     let rests : ps ≡ qs = one_division ps qs e.0 (subst (IsDivision opens goes_on ps) tails d.3) e.3 in
     cc
+
+-- where the pieces are these and those, the list is these joined, and what those divide
+pub record Rest {X S : Type 0} (opens : X → S) (goes_on : S → X → Option S) (xs : List X) (front back : List (List X)) : Type 0 where
+  pub rest : List X
+  pub parts : xs ≡ flat_map (λ q. q) front ++ rest
+  pub again : back ≡ divide opens goes_on rest
+
+module _ {X S : Type 0} (opens : X → S) (goes_on : S → X → Option S) where
+  -- the first piece, and the division of the rest
+  record First (pieces : List (List X)) (all : List X) : Type 0 where
+    piece : List X
+    rest : List X
+    parts : all ≡ piece ++ rest
+    again : pieces ≡ piece ∷ divide opens goes_on rest
+
+  first_piece : (s : S) (p xs : List X) → First (divide_from opens goes_on s p xs) (p ++ xs)
+  first_piece s p [] = record { piece = p; rest = []; parts = refl; again = refl }
+  first_piece s p (x ∷ xs) =
+    elim (goes_on s x) as (λ o. First (elim o as (λ _. List (List X)) [ Some t ↦ divide_from opens goes_on t (p ++ x ∷ []) xs | None ↦ p ∷ divide_from opens goes_on (opens x) (x ∷ []) xs ]) (p ++ x ∷ xs)) [
+      Some t ↦ subst (First (divide_from opens goes_on t (p ++ x ∷ []) xs)) (append_assoc p (x ∷ []) xs) (first_piece t (p ++ x ∷ []) xs)
+    | None ↦ record { piece = p; rest = x ∷ xs; parts = refl; again = refl }
+    ]
+
+  pub rest_of : (front back : List (List X)) (xs : List X) → divide opens goes_on xs ≡ front ++ back → Rest opens goes_on xs front back
+  rest_of [] back xs e = record { rest = xs; parts = refl; again = sym e }
+  rest_of (f ∷ front) back [] e = absurd cc
+  rest_of (f ∷ front) back (x ∷ xs) e =
+    let w = first_piece (opens x) (x ∷ []) xs in
+    let all : w.piece ∷ divide opens goes_on w.rest ≡ f ∷ (front ++ back) = sym w.again ∙ e in
+    let same : w.piece ≡ f = cc in
+    let others : divide opens goes_on w.rest ≡ front ++ back = cc in
+    let r = rest_of front back w.rest others in
+    record { rest = r.rest; parts = w.parts ∙ ap (λ q. q ++ w.rest) same ∙ ap (λ t. f ++ t) r.parts ∙ sym (append_assoc f (flat_map (λ q. q) front) r.rest); again = r.again }
 
 module _ {X : Type 0} (ends : X → Bool) where
   pub up_to-ends : (p : X) (ps : List X) → ends p ≡ true → up_to ends (p ∷ ps) ≡ Some (p ∷ [])

@@ -1,7 +1,10 @@
 pub mod DivisionLaws
 pub mod EndLaws
 pub mod FrontLaws
+pub mod HeldLaws
 pub mod KindLaws
+pub mod PieceLaws
 pub mod StableBytes
+pub mod StatementLaws
 pub mod SymbolLaws
 pub mod Tests

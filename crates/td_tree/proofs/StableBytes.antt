@@ -26,18 +26,19 @@ abbrev HasText : Symbol → Type 0
 HasText s = (b : ℕ) × (bs : List ℕ) × (s.text ≡ b ∷ bs)
 
 -- the symbol at the front has bytes, and those behind it are left
-record Cuts (b : ℕ) (bs : List ℕ) (s : Symbol) : Type 0 where
-  more : List ℕ
-  text : s.text ≡ b ∷ more
-  rest : more ++ drop (length s.text - 1) bs ≡ bs
+pub record Cuts (b : ℕ) (bs : List ℕ) (s : Symbol) : Type 0 where
+  pub more : List ℕ
+  pub text : s.text ≡ b ∷ more
+  pub rest : more ++ drop (length s.text - 1) bs ≡ bs
 
-cuts : (b : ℕ) (bs : List ℕ) → Cuts b bs (symbol_at b bs)
+pub cuts : (b : ℕ) (bs : List ℕ) → Cuts b bs (symbol_at b bs)
 cuts b bs = elim (front_char (b ∷ bs)) as (λ o. Cuts b bs (symbol_of o (front_bytes (b ∷ bs)) b)) [
       Some c ↦ record { more = drop 1 (front_bytes (b ∷ bs)); text = refl; rest = (let n = continuation_len b in ap (λ k. take n bs ++ drop k bs) (less_one (length (take n bs))) ∙ front_tail n bs) }
     | None ↦ record { more = []; text = refl; rest = refl }
     ]
 
-spelled : (left : ℕ) (bs : List ℕ) → spell (symbols_from left bs) ≡ drop left bs
+-- the symbols spell the bytes
+pub spelled : (left : ℕ) (bs : List ℕ) → spell (symbols_from left bs) ≡ drop left bs
 spelled zero [] = refl
 spelled (suc left) [] = refl
 spelled (suc left) (b ∷ bs) = spelled left bs

@@ -6,5 +6,6 @@ pub mod Keywords
 pub mod Names
 pub mod Pieces
 pub mod Signs
+pub mod Spellings
 pub mod Statements
 pub mod Symbols
