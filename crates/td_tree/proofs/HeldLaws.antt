@@ -11,6 +11,7 @@ use Rattle.td_tree.specs.Pieces.{begins, continues, pieces, kind_of, state}
 use Rattle.td_tree.specs.Statements.{Entry, Held, entry_of, tokens_from, tokens, is_end, ends, split, statements, chosen, first_statement, end_of, end_of_first, behind, after}
 use Rattle.td_tree.specs.Symbols.{Symbol, spell}
 use Rattle.td_tree.proofs.EndLaws.{up_to_cases}
+use Rattle.td_tree.proofs.EndOfStatement.{continuation}
 use Rattle.td_tree.proofs.PieceLaws.{joined, size, size-cons, taken_off}
 use Rattle.td_tree.proofs.StatementLaws.{is_end_of, ends_piece, up_to_tokens, tokens-append, split_first, split-first, left, split-left}
 
@@ -118,3 +119,45 @@ follows_front at bs first front found is =
         ∙ ap (λ n. first ++ tokens_from n (pieces (drop (size front) bs))) (sym stop)
         ∙ ap (λ n. first ++ tokens_from (end_of at first) (pieces (drop n bs))) (sym long);
     }
+
+-- a statement that `;` ends, whatever follows
+pub follows_later : (at : ℕ) (bs : List ℕ) (first : List Entry) → up_to ends (tokens at bs) ≡ Some first → (later : List ℕ) → Follows at (bs ++ later) first
+follows_later at bs first e later =
+    let w = ended at bs first e in
+    follows_front at (bs ++ later) first w.front (continuation bs later w.front w.found) w.is
+
+pub follows : (at : ℕ) (bs : List ℕ) (first : List Entry) → up_to ends (tokens at bs) ≡ Some first → Follows at bs first
+follows at bs first e = let w = ended at bs first e in follows_front at bs first w.front w.found w.is
+
+up_to_first : (at : ℕ) (bs : List ℕ) (first : List Entry) → up_to ends (tokens at bs) ≡ Some first → (later : List ℕ) → up_to ends (tokens at (bs ++ later)) ≡ Some first
+unfolding tokens
+up_to_first at bs first e later =
+    let w = ended at bs first e in
+    up_to_tokens at (pieces (bs ++ later)) ∙ ap (option_map (tokens_from at)) (continuation bs later w.front w.found) ∙ ap Some (sym w.is)
+
+-- the statements of bytes whose first `;` ends this one, whatever follows
+pub statements_later : (at : ℕ) (bs : List ℕ) (first : List Entry) → up_to ends (tokens at bs) ≡ Some first → (later : List ℕ)
+    → statements at (bs ++ later) ≡ first ∷ statements (end_of at first) (drop (end_of at first - at) bs ++ later)
+unfolding statements
+statements_later at bs first e later =
+    let f = follows_later at bs first e later in
+    split-first (tokens at (bs ++ later)) first (tokens (end_of at first) (drop (end_of at first - at) (bs ++ later))) (up_to_first at bs first e later) f.again
+    ∙ ap (λ r. first ∷ split (tokens (end_of at first) r)) (drop-append-le (end_of at first - at) bs later (follows at bs first e).within)
+
+-- behind the last token there is none
+pub none_behind : (at : ℕ) (bs : List ℕ) (t : Entry) (ts : List Entry) → tokens at bs ≡ t ∷ ts → tokens (end_of at (t ∷ ts)) (drop (end_of at (t ∷ ts) - at) bs) ≡ []
+unfolding tokens
+none_behind at bs t ts e =
+    let w = up_to_last at (pieces bs) t ts e in
+    let off = taken_off bs w.front w.back w.parts in
+    let stop : end_of at (t ∷ ts) ≡ at + size w.front = ap (end_of at) (sym e) ∙ w.stop at in
+    let long : end_of at (t ∷ ts) - at ≡ size w.front = omega (arith, stop) in
+    ap (λ n. tokens_from (end_of at (t ∷ ts)) (pieces (drop n bs))) long ∙ ap (tokens_from (end_of at (t ∷ ts))) (sym off.again) ∙ w.none (end_of at (t ∷ ts))
+
+pub last_within : (at : ℕ) (bs : List ℕ) (t : Entry) (ts : List Entry) → tokens at bs ≡ t ∷ ts → (at ≤ end_of at (t ∷ ts)) × (end_of at (t ∷ ts) - at ≤ length bs)
+unfolding tokens
+last_within at bs t ts e =
+    let w = up_to_last at (pieces bs) t ts e in
+    let off = taken_off bs w.front w.back w.parts in
+    let stop : end_of at (t ∷ ts) ≡ at + size w.front = ap (end_of at) (sym e) ∙ w.stop at in
+    (omega (arith, stop), omega (arith, stop, off.within))

@@ -1,5 +1,7 @@
+pub mod CourseLaws
 pub mod DivisionLaws
 pub mod EndLaws
+pub mod EndOfStatement
 pub mod FrontLaws
 pub mod HeldLaws
 pub mod KindLaws
@@ -7,4 +9,5 @@ pub mod PieceLaws
 pub mod StableBytes
 pub mod StatementLaws
 pub mod SymbolLaws
+pub mod TakenLaws
 pub mod Tests

@@ -65,13 +65,14 @@ goes_on Bar (Some c) = if c == 124 then Some (pieces_are.Sign signs.Concatenate)
 goes_on Blank (Some c) = None
 goes_on Bad (Some c) = None
 
--- what a word is: a reserved word, a THE word, else a name
+-- a reserved word, a THE word, else a name
+abbrev pub word_kind_of : Option Keyword → Bool → Kind
+word_kind_of (Some keyword) the = kinds.Reserved keyword
+word_kind_of None the = if the then kinds.Component else kinds.Name
+
+-- what a word is, by its bytes
 unfoldable pub word_kind : List ℕ → Kind
 word_kind text = word_kind_of (keyword_of text) (begins_the text)
-  where
-    word_kind_of : Option Keyword → Bool → Kind
-    word_kind_of (Some keyword) the = kinds.Reserved keyword
-    word_kind_of None the = if the then kinds.Component else kinds.Name
 
 -- what a piece with these bytes is; None for a blank, which is no token
 abbrev pub kind_after : Piece → List ℕ → Option Kind
