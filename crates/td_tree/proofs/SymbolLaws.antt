@@ -1,12 +1,12 @@
 -- The symbols of bytes.
 use Rattle.std.proofs.Common.{◌≡◌, ℕ, zero, suc, ◌+◌, ◌-◌, ◌≤◌, ◌<◌, List, [], ◌∷◌, ◌++◌, length, take, drop, refl, sym, ap, ◌∙◌, subst, arith, Bool, true, false, Option, Some, None, ◌⊎◌, inl, inr, ⊎_elim}
-use Rattle.std.specs.Prelude.{if◌then◌else◌, slice_get}
+use Rattle.std.specs.Prelude.{if◌then◌else◌, slice_get, slice_index}
 use Rattle.std.specs.Str.{is_utf8, chars, continuation_len}
 use Rattle.std.proofs.lemmas.List.{take-append-le, length-take-le, length-take, take_all, take-append-drop, append_assoc}
 use Rattle.std.specs.List.{flat_map}
 use Rattle.std.proofs.str.Laws.{order}
 use Rattle.td_tree.specs.Symbols.{front_char, front_bytes, Symbol, symbol_of, symbol_at, symbols_from, symbols}
-use Rattle.td_tree.proofs.FrontLaws.{part_is_none, past_ascii_is_none}
+use Rattle.td_tree.proofs.FrontLaws.{part_is_none, past_ascii_is_none, ascii_char, ascii_bytes}
 
 pub skipped : (n : ℕ) (bs : List ℕ) → symbols_from n bs ≡ symbols (drop n bs)
 skipped zero bs = refl
@@ -83,3 +83,8 @@ front_none [] some is = absurd (omega arith)
 front_none (b ∷ bs) some is =
     let at : symbol_at b bs ≡ symbol None (b ∷ []) = ap (λ o. symbol_of o (front_bytes (b ∷ bs)) b) is in
     symbols_step b bs ∙ ap (λ s. s ∷ symbols (drop (length s.text - 1) bs)) at
+
+-- an ASCII byte is a symbol
+pub front_ascii : (bs : List ℕ) → 0 < length bs → slice_index bs 0 < 128 → symbols bs ≡ symbol (Some (slice_index bs 0)) (take 1 bs) ∷ symbols (drop 1 bs)
+front_ascii [] some ascii = absurd (omega arith)
+front_ascii (b ∷ bs) some ascii = front_some (b ∷ bs) b 1 some (ascii_char b bs ascii) (sym (ap length (ascii_bytes b bs ascii)))

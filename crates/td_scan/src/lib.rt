@@ -1,0 +1,7 @@
+//! The statements and tokens of a script, however it is cut into pieces.
+#![tactic(auto)]
+
+pub mod cutter;
+mod piece;
+mod symbol;
+pub mod token;
