@@ -103,8 +103,21 @@ impl Cutter {
         ensures ok { OnOk result (self.new ≡ record self.old { bytes = self.old.bytes ++ piece.now }) }
         ensures err { OnErr result (self.new ≡ self.old) }
     {
+        self.close_up();
         self.bytes.extend_from_slice(piece)?;
         Ok(())
+    }
+
+    /// Moves what is held to the front once as much or more was taken off, so that each byte is moved for one that was.
+    fn close_up(&mut self)
+        ensures { self.new ≡ self.old }
+    {
+        let held = self.bytes.len() - self.taken;
+        if held <= self.taken {
+            self.bytes.copy_within(self.taken.., 0);
+            self.bytes.truncate(held);
+            self.taken = 0;
+        }
     }
 
     /// Says that the whole script was fed.
