@@ -2,6 +2,7 @@
 #![tactic(auto)]
 
 pub mod cutter;
+pub mod laws;
 mod piece;
 mod symbol;
 pub mod token;

@@ -129,7 +129,8 @@ follows_later at bs first e later =
 pub follows : (at : ℕ) (bs : List ℕ) (first : List Entry) → up_to ends (tokens at bs) ≡ Some first → Follows at bs first
 follows at bs first e = let w = ended at bs first e in follows_front at bs first w.front w.found w.is
 
-up_to_first : (at : ℕ) (bs : List ℕ) (first : List Entry) → up_to ends (tokens at bs) ≡ Some first → (later : List ℕ) → up_to ends (tokens at (bs ++ later)) ≡ Some first
+-- and it is found there again
+pub up_to_first : (at : ℕ) (bs : List ℕ) (first : List Entry) → up_to ends (tokens at bs) ≡ Some first → (later : List ℕ) → up_to ends (tokens at (bs ++ later)) ≡ Some first
 unfolding tokens
 up_to_first at bs first e later =
     let w = ended at bs first e in

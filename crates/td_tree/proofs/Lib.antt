@@ -11,3 +11,4 @@ pub mod StatementLaws
 pub mod SymbolLaws
 pub mod TakenLaws
 pub mod Tests
+pub mod TokenLaws

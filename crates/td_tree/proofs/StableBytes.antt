@@ -47,17 +47,20 @@ spelled zero (b ∷ bs) =
     let c = cuts b bs in
     ap (λ r. s.text ++ r) (spelled (length s.text - 1) bs) ∙ ap (λ t. t ++ drop (length s.text - 1) bs) c.text ∙ ap (λ r. b ∷ r) c.rest
 
-abbrev AllText : List Symbol → Type 0
+pub all_spelled : (bytes : List ℕ) → spell (symbols bytes) ≡ bytes
+all_spelled bytes = spelled 0 bytes
+
+abbrev pub AllText : List Symbol → Type 0
 AllText [] = Unit {0}
 AllText (s ∷ ss) = HasText s × AllText ss
 
-all_text : (left : ℕ) (bs : List ℕ) → AllText (symbols_from left bs)
+pub all_text : (left : ℕ) (bs : List ℕ) → AllText (symbols_from left bs)
 all_text zero [] = tt
 all_text (suc left) [] = tt
 all_text (suc left) (b ∷ bs) = all_text left bs
 all_text zero (b ∷ bs) = let c = cuts b bs in ((b, c.more, c.text), all_text (length (symbol_at b bs).text - 1) bs)
 
-all_front : (front rest : List Symbol) → AllText (front ++ rest) → AllText front
+pub all_front : (front rest : List Symbol) → AllText (front ++ rest) → AllText front
 all_front [] rest all = tt
 all_front (s ∷ front) rest all = (all.0, all_front front rest all.1)
 

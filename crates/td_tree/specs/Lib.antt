@@ -6,6 +6,7 @@ pub mod Keywords
 pub mod Names
 pub mod Pieces
 pub mod Signs
+pub mod Spans
 pub mod Spellings
 pub mod Statements
 pub mod Symbols

@@ -4,6 +4,7 @@
 pub mod cause;
 pub mod fault;
 pub mod keyword;
+pub mod laws;
 pub mod name;
 pub mod piece;
 pub mod token;
