@@ -6,3 +6,6 @@ pub mod laws;
 mod piece;
 mod symbol;
 pub mod token;
+
+#[cfg(test)]
+mod tests;

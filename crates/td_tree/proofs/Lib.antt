@@ -10,5 +10,5 @@ pub mod StableBytes
 pub mod StatementLaws
 pub mod SymbolLaws
 pub mod TakenLaws
-pub mod Tests
+pub mod TextTests
 pub mod TokenLaws

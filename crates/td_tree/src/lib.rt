@@ -8,3 +8,6 @@ pub mod laws;
 pub mod name;
 pub mod piece;
 pub mod token;
+
+#[cfg(test)]
+mod tests;
