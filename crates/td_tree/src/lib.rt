@@ -4,5 +4,10 @@
 pub mod cause;
 pub mod fault;
 pub mod keyword;
+pub mod laws;
 pub mod name;
+pub mod piece;
 pub mod token;
+
+#[cfg(test)]
+mod tests;

@@ -1,0 +1,11 @@
+//! The statements and tokens of a script, however it is cut into pieces.
+#![tactic(auto)]
+
+pub mod cutter;
+pub mod laws;
+mod piece;
+mod symbol;
+pub mod token;
+
+#[cfg(test)]
+mod tests;
