@@ -1,5 +1,6 @@
 pub mod Falls
 pub mod Keys
+pub mod Texts
 pub mod TypeOrder
 pub mod Types
 pub mod Views

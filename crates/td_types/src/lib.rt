@@ -1,4 +1,5 @@
 //! Types and headings.
 #![tactic(auto)]
 
+pub mod text;
 pub mod ty;

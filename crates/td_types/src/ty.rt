@@ -2,10 +2,10 @@ ghost use Rattle.std.specs.Prelude.{◌≡◌, IfOk, [], ◌∷◌, ◌++◌, le
 ghost use Rattle.td_types.specs.Types.{type_cmp, type_rank, attrs_cmp, pack};
 ghost use Rattle.td_types.specs.Views.{type_of, attributes_of};
 
-use td_tree::name::Name;
 use std::alloc::{AllocError, Global};
 use std::cmp::Ordering;
 use std::marker::Model;
+use td_tree::name::Name;
 
 /// A type.
 #[cycle(ty)]
@@ -23,15 +23,15 @@ pub enum Ty {
 #[cycle(ty)]
 #[derive(Drop)]
 pub struct Attribute {
-    name: Name,
-    ty: Ty,
+    pub(crate) name: Name,
+    pub(crate) ty: Ty,
 }
 
 /// A heading, seen as its attributes in name order.
 #[cycle(ty)]
 #[derive(Drop)]
 pub struct Heading {
-    attributes: Vec<Attribute>,
+    pub(crate) attributes: Vec<Attribute>,
 }
 
 impl Model for Heading {
