@@ -1,5 +1,7 @@
 //! The order of types and of headings, and their equality. No output shows the order.
-ghost use Rattle.std.specs.Prelude.{◌≡◌};
+ghost use Rattle.std.specs.Prelude.{◌≡◌, ◌↔◌, IsTrue};
+ghost use Rattle.std.specs.Ordering.{eq_by_cmp};
+ghost use Rattle.td_types.specs.TypeOrder.{heading_cmp, ty_cmp};
 ghost use Rattle.td_types.specs.Types.{attrs_cmp, pack, type_cmp, type_rank};
 ghost use Rattle.td_types.specs.Views.{attributes_of, type_of};
 
@@ -68,14 +70,16 @@ fn compare_attributes(a: &[Attribute], b: &[Attribute]) -> Ordering
 }
 
 impl PartialEq for Ty {
-    ghost use Rattle.std.specs.Ordering.{eq_by_cmp};
-    ghost use Rattle.td_types.specs.TypeOrder.{ty_cmp, ty_eq_laws};
+    ghost use Rattle.td_types.specs.TypeOrder.{ty_eq_laws};
 
     ghost eq = { eq_by_cmp ty_cmp };
 
     ghost laws = { ty_eq_laws };
 
-    fn eq(&self, other: &Ty) -> bool {
+    fn eq(&self, other: &Ty) -> bool
+        ensures test { result ≡ eq_by_cmp ty_cmp self.now other.now }
+        ensures same { IsTrue result ↔ (type_of self.now ≡ type_of other.now) }
+    {
         compare_types(self, other) == Ordering::Equal
     }
 }
@@ -117,9 +121,31 @@ impl Ord for Ty {
 }
 
 impl Heading {
+    /// Which heading stands first.
     pub fn compare(&self, other: &Heading) -> Ordering
         ensures { result ≡ attrs_cmp (pack self.now) (pack other.now) }
     {
         compare_headings(self, other)
     }
+}
+
+impl PartialEq for Heading {
+    ghost use Rattle.td_types.specs.TypeOrder.{heading_eq_laws};
+
+    ghost eq = { eq_by_cmp heading_cmp };
+
+    ghost laws = { heading_eq_laws };
+
+    fn eq(&self, other: &Heading) -> bool
+        ensures test { result ≡ eq_by_cmp heading_cmp self.now other.now }
+        ensures same { IsTrue result ↔ (self.now ≡ other.now) }
+    {
+        compare_headings(self, other) == Ordering::Equal
+    }
+}
+
+impl Eq for Heading {
+    ghost use Rattle.td_types.specs.TypeOrder.{heading_eq_equiv};
+
+    ghost laws = { heading_eq_equiv };
 }
