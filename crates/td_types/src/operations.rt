@@ -10,13 +10,20 @@ use td_tree::cause::Cause;
 use td_tree::fault::Fault;
 use td_tree::name::Name;
 
+/// Whether the name is one of the names.
+fn is_among(name: &Name, names: &[Name]) -> bool
+    ensures { result ≡ has_name name.now names.now }
+{
+    names.contains(name)
+}
+
 /// Whether no name comes twice.
 fn are_distinct(names: &[Name]) -> bool
     ensures { result ≡ are_distinct names.now }
 {
     let mut rest = names;
     while let [name, later @ ..] = rest {
-        if later.contains(name) {
+        if is_among(name, later) {
             return false;
         }
         rest = later;
@@ -80,7 +87,7 @@ impl Heading {
         }
         let mut attributes = Vec::new(*self.attributes.allocator());
         for attribute in &self.attributes {
-            if names.contains(&attribute.name) {
+            if is_among(&attribute.name, names) {
                 attributes.push(attribute.try_clone()?)?;
             }
         }
