@@ -1,10 +1,10 @@
 -- Headings as std's finite maps: their look-up, their order and the insertion of an entry.
-use Rattle.std.proofs.Common.{◌≡◌, ℕ, ◌+◌, ◌≤◌, length, suc, Bool, true, false, List, [], ◌∷◌, ◌++◌, refl, sym, ap, ◌∙◌, take, drop, arith, Option, None, Some, map}
+use Rattle.std.proofs.Common.{fold, ◌≡◌, ℕ, ◌+◌, ◌≤◌, length, suc, Bool, true, false, List, [], ◌∷◌, ◌++◌, refl, sym, subst, ap, ◌∙◌, take, drop, arith, Option, None, Some, map}
 use Rattle.std.specs.Prelude.{if◌then◌else◌, is_some, option_map, T, not, ◌&&◌}
 use Rattle.std.specs.declared.cmp.Ordering.{Ordering}
 use Rattle.std.specs.declared.cmp.Ordering.TheVariants.{Less, Equal, Greater}
 use Rattle.std.specs.Ordering.{nat_cmp, eq_by_cmp, is_lt, is_eq, ordering_reverse}
-use Rattle.std.specs.Cmp.Lexicographic.{slice_cmp, texts_ties}
+use Rattle.std.specs.Cmp.Lexicographic.{same_text, slice_cmp, texts_ties}
 use Rattle.std.specs.Cmp.{IsEquivalence}
 use Rattle.std.specs.List.{AllByRecursion, filter, insert, prefix_len}
 use Rattle.std.specs.List.Sorted.{IsStrictlySortedBy}
@@ -15,6 +15,7 @@ use Rattle.std.proofs.lemmas.List.{append-nil, map-append, length-map, drop_all}
 use Rattle.std.specs.List.{take-map, drop-map}
 use Rattle.std.proofs.lemmas.List.Sums.{prefix_len-le-length}
 use Rattle.td_types.specs.declared.ty.Attribute as Ty
+use Rattle.td_types.specs.Headings.{add_missing, has_attribute}
 use Rattle.td_types.specs.Views.{attribute_of, attributes_of, type_of}
 use Rattle.td_types.specs.Types.{Type', Attribute, Attributes, IsAscending, names_of, same_name, type_at}
 
@@ -126,6 +127,28 @@ pub type_at-without : (name n : List ℕ) (xs : Attributes) → type_at n (filte
 type_at-without name n xs =
     type_at-filter (λ m. not (same_name m name)) n xs ∙ rw (same_name-flips name n) (if_not (same_name n name) (type_at n xs) None)
 
+-- ---- the attributes of one heading, and those of another that it lacks
+
+same_when_found : {A : Type 0} (o : Option A) → (if is_some o then o else None) ≡ o
+same_when_found None = refl
+same_when_found (Some a) = refl
+
+type_at-add_missing : (n : List ℕ) (h xs : Attributes) (a : Attribute) (there : Bool) → there ≡ has_attribute a.0 h
+    → (same : Bool) → same ≡ same_name a.0 n
+    → (if is_some (type_at n (add_missing h a)) then type_at n (add_missing h a) else type_at n xs) ≡ (if is_some (type_at n h) then type_at n h else type_at n (a ∷ xs))
+type_at-add_missing n h xs a true e true f =
+    let there : true ≡ has_attribute n h = subst (λ m. true ≡ has_attribute m h) (same_text a.0 n f) e in
+    rw (← e, ← there) refl
+type_at-add_missing n h xs a true e false f = rw (← e, ← f) refl
+type_at-add_missing n h xs a false e true f =
+    let lacking : false ≡ has_attribute n h = subst (λ m. false ≡ has_attribute m h) (same_text a.0 n f) e in
+    rw (← e, type_at-put n a.0 a.1 h, ← f, ← lacking) refl
+type_at-add_missing n h xs a false e false f = rw (← e, type_at-put n a.0 a.1 h, ← f) refl
+
+pub type_at-fold : (n : List ℕ) (h xs : Attributes) → type_at n (fold add_missing h xs) ≡ (if has_attribute n h then type_at n h else type_at n xs)
+type_at-fold n h [] = sym (same_when_found (type_at n h))
+type_at-fold n h (a ∷ xs) = type_at-fold n (add_missing h a) xs ∙ type_at-add_missing n h xs a _ refl _ refl
+
 -- ---- the same of the code's attributes
 
 -- an attribute of the code inserted at the place of its name is put in its place
@@ -146,6 +169,12 @@ kept_all items i p xs ys past e =
     let none : drop i items ≡ [] = drop_all i items past in
     let kept = rw none at e in
     sym (append-nil xs) ∙ kept
+
+-- what has been added once past the last attribute
+pub added_all : (items : List Ty.Attribute) (i : ℕ) (read : List Ty.Attribute → Attributes) (u r : Attributes) → read [] ≡ [] → length items ≤ i → fold add_missing u (read (drop i items)) ≡ r → u ≡ r
+added_all items i read u r nothing past e =
+    let none : drop i items ≡ [] = drop_all i items past in
+    rw (none, nothing) at e
 
 -- a look-up in the code finds an attribute where the map has one
 pub found : {A : Type 0} (f : A → Type') (o : Option A) (t : Option Type') → option_map f o ≡ t → is_some t ≡ is_some o

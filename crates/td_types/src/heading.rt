@@ -78,7 +78,7 @@ impl Heading {
     }
 
     /// The heading with the attribute, unless it has one of that name.
-    fn add(self, name: Name, ty: Ty) -> Result<Heading, AllocError>
+    pub(crate) fn add(self, name: Name, ty: Ty) -> Result<Heading, AllocError>
         ensures { IfOk result (λ h. h ≡ add_missing self (name, type_of ty)) }
     {
         if self.get(&name).is_some() {

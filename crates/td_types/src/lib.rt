@@ -5,5 +5,6 @@ mod copy;
 pub mod heading;
 pub mod operations;
 mod order;
+pub mod rename;
 pub mod text;
 pub mod ty;

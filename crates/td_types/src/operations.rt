@@ -5,7 +5,7 @@ ghost use Rattle.td_types.specs.Headings.{IsMap, agree, are_distinct, has_attrib
 ghost use Rattle.td_types.specs.Types.{same_name, type_at};
 ghost use Rattle.td_types.specs.Views.{type_of};
 
-use crate::ty::Heading;
+use crate::ty::{Attribute, Heading};
 use td_tree::cause::Cause;
 use td_tree::fault::Fault;
 use td_tree::name::Name;
@@ -110,5 +110,21 @@ impl Heading {
             }
         }
         Ok(Heading { attributes })
+    }
+    /// The attributes that either has: refused where one has two types.
+    pub fn union(&self, other: &Heading) -> Result<Heading, Fault>
+        ensures accepted { OnOk result (agree self.now other.now ≡ true) }
+        ensures types { IfOk result (λ h. IsMap h (λ n. if has_attribute n self.now then type_at n self.now else type_at n other.now)) }
+        ensures fault { IfErr result (λ e. e ≡ heading_fault (not (agree self.now other.now))) }
+    {
+        if !self.agrees_with(other) {
+            return Err(Fault::Refused(Cause::Heading));
+        }
+        let mut union = self.try_clone()?;
+        for attribute in &other.attributes {
+            let Attribute { name, ty } = attribute.try_clone()?;
+            union = union.add(name, ty)?;
+        }
+        Ok(union)
     }
 }

@@ -1,0 +1,11 @@
+use Rattle.std.proofs.Common.{◌≡◌, drop, length, map, fold, []}
+use Rattle.td_types.specs.Headings.{add_missing, are_distinct, has_attributes, has_name, new_name, renamed}
+use Rattle.td_types.specs.Types.{names_of}
+use Rattle.td_types.specs.Views.{attributes_of}
+use Rattle.td_types.proofs.rename.are_old_distinct.Given as goal
+
+abbrev pub invariant-loop-rest : goal.invariant-loop-rest
+invariant-loop-rest l = are_distinct (map (λ r. r.0) l.rest) ≡ are_distinct (map (λ r. r.0) l.renamings)
+
+abbrev pub decreases-loop-rest : goal.decreases-loop-rest
+decreases-loop-rest l = length l.rest

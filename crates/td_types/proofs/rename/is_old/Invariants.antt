@@ -1,0 +1,8 @@
+use Rattle.std.proofs.Common.{◌≡◌, drop, length, map, fold, []}
+use Rattle.td_types.specs.Headings.{add_missing, are_distinct, has_attributes, has_name, new_name, renamed}
+use Rattle.td_types.specs.Types.{names_of}
+use Rattle.td_types.specs.Views.{attributes_of}
+use Rattle.td_types.proofs.rename.is_old.Given as goal
+
+abbrev pub invariant-loop-old : goal.invariant-loop-old
+invariant-loop-old l = has_name l.name (map (λ r. r.0) (drop l.old-index l.renamings)) ≡ has_name l.name (map (λ r. r.0) l.renamings)
