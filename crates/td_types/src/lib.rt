@@ -8,3 +8,6 @@ mod order;
 pub mod rename;
 pub mod text;
 pub mod ty;
+
+#[cfg(test)]
+mod tests;
