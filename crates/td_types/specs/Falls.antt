@@ -1,5 +1,5 @@
 -- Each heading inside a heading is less deep.
-use Rattle.std.specs.Prelude.{ℕ, ◌≤◌, max, List, [], ◌∷◌}
+use Rattle.std.specs.Prelude.{◌≤◌, max, List, [], ◌∷◌}
 use Rattle.std.proofs.Common.{arith}
 use Rattle.td_types.specs.Types.{attributes_depth, type_depth}
 use Rattle.td_types.specs.declared.ty.Attribute.{Attribute}

@@ -1,5 +1,5 @@
 -- What a type and a heading of the code stand for.
-use Rattle.std.specs.Prelude.{ℕ, List, map}
+use Rattle.std.specs.Prelude.{List, map}
 use Rattle.td_types.specs.Types
 use Rattle.td_types.specs.Types.{Type', boolean, integer, text, user, tuple, relation, Attributes, pack}
 use Rattle.td_types.specs.declared.ty.Attribute.{Attribute}

@@ -6,8 +6,7 @@ pub mod heading;
 pub mod operations;
 mod order;
 pub mod rename;
-pub mod text;
-pub mod ty;
-
 #[cfg(test)]
 mod tests;
+pub mod text;
+pub mod ty;

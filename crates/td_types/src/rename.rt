@@ -1,6 +1,6 @@
 //! Renaming: each renaming is a pair of an old and a new name, and all are done at once.
 ghost use Rattle.std.specs.Prelude.{◌≡◌, ◌&&◌, Bool, true, IfErr, IfOk, List, OnOk, map, not, ℕ};
-ghost use Rattle.td_types.specs.Headings.{IsMap, are_distinct, can_rename, has_attributes, has_name, heading_fault, new_name, renamed};
+ghost use Rattle.td_types.specs.Headings.{IsMap, are_distinct, can_rename, has_attributes, has_name, heading_fault, heading_renamed, new_name, renamed};
 ghost use Rattle.td_types.specs.Types.{names_of, type_at};
 ghost use Rattle.td_types.specs.Views.{attributes_of};
 
@@ -99,6 +99,7 @@ impl Heading {
     /// or where two attributes would have one name.
     pub fn rename(&self, renamings: &[(Name, Name)]) -> Result<Heading, Fault>
         ensures accepted { OnOk result (can_rename renamings.now self.now ≡ true) }
+        ensures value { IfOk result (λ h. h ≡ heading_renamed renamings.now self.now) }
         ensures types { IfOk result (λ h. IsMap h (λ n. type_at n (renamed renamings.now self.now))) }
         ensures fault { IfErr result (λ e. e ≡ heading_fault (not (can_rename renamings.now self.now))) }
     {

@@ -5,7 +5,7 @@ use std::alloc::{AllocError, Global};
 use std::test::Fail;
 use td_tree::cause::Cause;
 use td_tree::fault::Fault;
-use td_tree::name::{is_name, Name};
+use td_tree::name::{Name, is_name};
 
 fn name(alloc: Global, text: &str) -> Result<Name, Fault> {
     if !is_name(text) {
@@ -37,13 +37,19 @@ fn one_heading_makes_another(rt: HostRuntime) -> Result<(), Fail> {
     let without = h.without(&b)?;
     let project = h.project(&[a.try_clone()?])?;
     let rename = h.rename(&[(a, c)])?;
-    assert_eq!(rt; shown(alloc, &h)?.as_str(), "RELATION {A INTEGER, B INTEGER}");
+    assert_eq!(rt;
+        shown(alloc, &h)?.as_str(),
+        "RELATION {A INTEGER, B INTEGER}"
+    );
     assert_eq!(rt; shown(alloc, &without)?.as_str(), "RELATION {A INTEGER}");
     assert!(rt; project == without);
     assert!(rt; h.common(&h)? == h);
     assert!(rt; h.union(&h)? == h);
     assert!(rt; h.try_clone()? == h);
-    assert_eq!(rt; shown(alloc, &rename)?.as_str(), "RELATION {B INTEGER, C INTEGER}");
+    assert_eq!(rt;
+        shown(alloc, &rename)?.as_str(),
+        "RELATION {B INTEGER, C INTEGER}"
+    );
     Ok(())
 }
 

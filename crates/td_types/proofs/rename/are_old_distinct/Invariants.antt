@@ -1,7 +1,5 @@
-use Rattle.std.proofs.Common.{◌≡◌, drop, length, map, fold, []}
-use Rattle.td_types.specs.Headings.{add_missing, are_distinct, has_attributes, has_name, new_name, renamed}
-use Rattle.td_types.specs.Types.{names_of}
-use Rattle.td_types.specs.Views.{attributes_of}
+use Rattle.std.proofs.Common.{◌≡◌, length, map}
+use Rattle.td_types.specs.Headings.{are_distinct}
 use Rattle.td_types.proofs.rename.are_old_distinct.Given as goal
 
 abbrev pub invariant-loop-rest : goal.invariant-loop-rest

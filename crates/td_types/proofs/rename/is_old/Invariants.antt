@@ -1,7 +1,5 @@
-use Rattle.std.proofs.Common.{◌≡◌, drop, length, map, fold, []}
-use Rattle.td_types.specs.Headings.{add_missing, are_distinct, has_attributes, has_name, new_name, renamed}
-use Rattle.td_types.specs.Types.{names_of}
-use Rattle.td_types.specs.Views.{attributes_of}
+use Rattle.std.proofs.Common.{◌≡◌, drop, map}
+use Rattle.td_types.specs.Headings.{has_name}
 use Rattle.td_types.proofs.rename.is_old.Given as goal
 
 abbrev pub invariant-loop-old : goal.invariant-loop-old

@@ -1,6 +1,5 @@
-use Rattle.std.proofs.Common.{◌≡◌, drop, length, map, fold, []}
-use Rattle.td_types.specs.Headings.{add_missing, are_distinct, has_attributes, has_name, new_name, renamed}
-use Rattle.td_types.specs.Types.{names_of}
+use Rattle.std.proofs.Common.{◌≡◌, drop, fold, []}
+use Rattle.td_types.specs.Headings.{add_missing, renamed}
 use Rattle.td_types.specs.Views.{attributes_of}
 use Rattle.td_types.proofs.ty.Heading.rename.Given as goal
 
