@@ -19,6 +19,7 @@ then_equal_right Equal = refl
 then_equal_right Greater = refl
 
 mutual
+  -- the order of types is that of their keys
   pub type_cmp-key : (s t : Type') → type_cmp s t ≡ key_cmp (type_key s) (type_key t)
   type_cmp-key (user m) (user n) = sym (then_equal_right (slice_cmp nat_cmp m n))
   type_cmp-key (tuple xs) (tuple ys) = attrs_cmp-keys xs ys
