@@ -1,5 +1,8 @@
 pub mod Falls
+pub mod HeadingLaws
+pub mod Headings
 pub mod Keys
+pub mod Texts
 pub mod TypeOrder
 pub mod Types
 pub mod Views
