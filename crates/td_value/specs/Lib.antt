@@ -1,0 +1,7 @@
+pub mod Falls
+pub mod Literal
+pub mod Sets
+pub mod ValueCode
+pub mod ValueOrder
+pub mod Values
+pub mod Views

@@ -1,0 +1,4 @@
+//! Values, tuples and relations.
+#![tactic(auto)]
+
+pub mod value;
