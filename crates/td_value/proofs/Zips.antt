@@ -38,4 +38,4 @@ same_names [] (v ∷ vs) ws d e = absurd (omega (arith, d))
 same_names (n ∷ ns) [] ws d e = absurd (omega (arith, d))
 same_names (n ∷ ns) (v ∷ vs) [] d e = absurd (omega (arith, e))
 same_names (n ∷ ns) (v ∷ vs) (w ∷ ws) d e =
-  rw (fixed (slice_cmp nat_cmp n n) (nat_list_cmp_total.antisymm n n), same_names ns vs ws (omega (arith, d)) (omega (arith, e))) refl
+    rw (fixed (slice_cmp nat_cmp n n) (nat_list_cmp_total.antisymm n n), same_names ns vs ws (omega (arith, d)) (omega (arith, e))) refl

@@ -1,4 +1,5 @@
 //! Values, tuples and relations.
 #![tactic(auto)]
 
+mod order;
 pub mod value;
