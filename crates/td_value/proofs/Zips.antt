@@ -1,16 +1,15 @@
-use Rattle.std.specs.Prelude.{ℕ, suc, List, [], ◌∷◌, length, ◌≡◌, refl, map, ◌+◌}
+use Rattle.std.specs.Prelude.{ℕ, suc, List, [], ◌∷◌, length, ◌≡◌, refl, map, ◌+◌, ◌++◌}
 use Rattle.std.specs.List.{zip}
-use Rattle.std.proofs.Common.{arith}
-use Rattle.td_value.specs.Values.{Val}
+use Rattle.std.proofs.Common.{arith, ap}
+use Rattle.td_value.specs.Hashes.{fed_value, fed_parts, fed_tuple}
 use Rattle.td_value.specs.Views.{entries_of, values_of}
-use mathlib.Core.Path.{ap}
 use Rattle.std.specs.Ordering.{nat_cmp, ordering_then, ordering_reverse}
 use Rattle.std.specs.declared.cmp.Ordering.{Ordering}
 use Rattle.std.specs.declared.cmp.Ordering.TheVariants.{Less, Equal, Greater}
 use Rattle.std.specs.Cmp.Lexicographic.{slice_cmp}
 use Rattle.std.specs.Cmp.{IsTotalOrder}
 use Rattle.std.proofs.lemmas.Cmp.{nat_list_cmp_total}
-use Rattle.td_value.specs.Values.{tuple_order, parts_order, pack_parts, pack_fields, order}
+use Rattle.td_value.specs.Values.{Val, tuple_order, parts_order, pack_parts, pack_fields, order}
 
 pub zip_values : (ns : List (List ℕ)) (vs : List Val) → length ns ≡ length vs → values_of (entries_of ns vs) ≡ vs
 zip_values [] [] e = refl
@@ -39,3 +38,10 @@ same_names (n ∷ ns) [] ws d e = absurd (omega (arith, d))
 same_names (n ∷ ns) (v ∷ vs) [] d e = absurd (omega (arith, e))
 same_names (n ∷ ns) (v ∷ vs) (w ∷ ws) d e =
     rw (fixed (slice_cmp nat_cmp n n) (nat_list_cmp_total.antisymm n n), same_names ns vs ws (omega (arith, d)) (omega (arith, e))) refl
+
+-- what a tuple's hash is fed depends on its values alone
+pub fed_by_values : (ns : List (List ℕ)) (vs : List Val) → length ns ≡ length vs → fed_tuple (entries_of ns vs) ≡ fed_parts (pack_parts vs)
+fed_by_values [] [] e = refl
+fed_by_values [] (v ∷ vs) e = absurd (omega (arith, e))
+fed_by_values (n ∷ ns) [] e = absurd (omega (arith, e))
+fed_by_values (n ∷ ns) (v ∷ vs) e = ap (λ r. fed_value v ++ r) (fed_by_values ns vs (omega (arith, e)))

@@ -1,4 +1,5 @@
 pub mod Falls
+pub mod Hashes
 pub mod Literal
 pub mod Sets
 pub mod ValueCode

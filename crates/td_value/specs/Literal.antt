@@ -1,7 +1,6 @@
--- The literal of a value (a relation without its heading here), and the writes that its hash makes.
+-- The literal of a value .
 use Rattle.std.specs.Prelude.{ℕ, Bool, true, false, List, [], ◌∷◌, ◌++◌, codes, if◌then◌else◌, ◌==◌, cond}
 use Rattle.std.specs.Fmt.{signed_decimal}
-use Rattle.std.specs.Hash as fed
 use Rattle.td_value.specs.Values.{Val, boolean, integer, text, user, tuple, relation, Parts, no_parts, part, Fields, no_fields, field, Rows, no_rows, row}
 
 -- each quote twice
@@ -32,26 +31,3 @@ abbrev mutual
   pub rows_literal : Bool → Rows → List ℕ
   rows_literal later no_rows = []
   rows_literal later (row fs rs) = comma_if later ++ codes "TUPLE {" ++ fields_literal false fs ++ codes "}" ++ rows_literal true rs
-
--- ---- what a value's hash is fed
-
-abbrev mutual
-  pub fed_value : Val → List (List ℕ)
-  fed_value (boolean b) = fed.bool b
-  fed_value (integer z) = fed.i64 z
-  fed_value (text s) = fed.str s
-  fed_value (user n ps) = fed.str n ++ fed_parts ps
-  fed_value (tuple fs) = fed_fields fs
-  fed_value (relation h rs) = fed_rows rs
-
-  pub fed_parts : Parts → List (List ℕ)
-  fed_parts no_parts = fed.u8 0
-  fed_parts (part v ps) = fed_value v ++ fed_parts ps
-
-  pub fed_fields : Fields → List (List ℕ)
-  fed_fields no_fields = fed.u8 1
-  fed_fields (field n v fs) = fed.str n ++ fed_value v ++ fed_fields fs
-
-  pub fed_rows : Rows → List (List ℕ)
-  fed_rows no_rows = fed.u8 2
-  fed_rows (row fs rs) = fed_fields fs ++ fed_rows rs

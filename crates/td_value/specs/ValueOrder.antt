@@ -8,10 +8,10 @@ use Rattle.std.specs.Cmp.Lexicographic.{slice_cmp}
 use Rattle.std.proofs.Common.{ap, sym, subst, ◌∙◌, true≢false}
 use Rattle.std.specs.Prelude.{IsTrue}
 use Rattle.std.specs.Bool.{Decides}
-use Rattle.td_value.specs.Literal.{fed_value}
+use Rattle.td_value.specs.Hashes.{fed_value, fed_tuple, fed_relation}
 use Rattle.std.proofs.lemmas.Cmp.{on_total, eq_by_cmp_equiv, tied_itself}
 use Rattle.td_types.specs.Keys.{Key, key, Keys, no_keys, more, key_cmp, keys_cmp, key_cmp_total, key_same}
-use Rattle.td_types.specs.Types.{attrs_cmp, attrs_keys, unpack, unpack_pack, pack}
+use Rattle.td_types.specs.Types.{Attrs, no_attrs, attrs_cmp, attrs_keys, unpack, unpack_pack, pack}
 use Rattle.td_types.specs.TypeOrder.{attrs_cmp-keys}
 use Rattle.td_value.specs.Values.{Val, boolean, integer, text, user, tuple, relation, Parts, no_parts, part, Fields, no_fields, field, Rows, no_rows, row, Entries, Relation, pack_fields, unpack_fields, pack_rows, unpack_rows, order, parts_order, fields_order, rows_order, rank, tuple_order, relation_order}
 use Rattle.td_value.specs.ValueCode.{val_key, parts_keys, fields_keys, rows_keys, bit, val_from, val_back, unpack_pack_fields, unpack_pack_rows}
@@ -104,3 +104,31 @@ value_Decides v w = (λ e. order_same v w (equal_from (order v w) e), λ e. subs
 
 pub fed_alike : (v w : Val) → IsTrue (eq_by_cmp order v w) → fed_value v ≡ fed_value w
 fed_alike v w h = ap fed_value ((value_Decides v w).0 h)
+
+-- of a total order in which only equal items tie
+same_by : {K : Type 0} (R : K → K → Ordering) → ((x y : K) → R x y ≡ Equal → x ≡ y) → (x y : K) → IsTrue (eq_by_cmp R x y) → x ≡ y
+same_by R same x y h = same x y (equal_from (R x y) h)
+
+pub tuples_fed_alike : (s t : Entries) → IsTrue (eq_by_cmp tuple_order s t) → fed_tuple s ≡ fed_tuple t
+tuples_fed_alike s t h = ap fed_tuple (same_by tuple_order tuple_order_same s t h)
+
+-- the order of relations ties only equal relations
+pub relation_order_same : (r s : Relation) → relation_order r s ≡ Equal → r ≡ s
+relation_order_same r s e = relation_value_same r s (order_same (relation_value r) (relation_value s) e)
+  where
+    heading_in : Val → Attrs
+    heading_in (relation h rs) = h
+    heading_in v = no_attrs
+
+    rows_in : Val → Rows
+    rows_in (relation h rs) = rs
+    rows_in v = no_rows
+
+    relation_value_same : (r s : Relation) → relation_value r ≡ relation_value s → r ≡ s
+    relation_value_same r s e =
+        let h : r.heading ≡ s.heading = sym (unpack_pack r.heading) ∙ ap (λ v. unpack (heading_in v)) e ∙ unpack_pack s.heading in
+        let b : r.rows ≡ s.rows = sym (unpack_pack_rows r.rows) ∙ ap (λ v. unpack_rows (rows_in v)) e ∙ unpack_pack_rows s.rows in
+        λ i. record { heading = h i; rows = b i }
+
+pub relations_fed_alike : (r s : Relation) → IsTrue (eq_by_cmp relation_order r s) → fed_relation r ≡ fed_relation s
+relations_fed_alike r s h = ap fed_relation (same_by relation_order relation_order_same r s h)
