@@ -9,7 +9,14 @@ use Rattle.std.specs.declared.cmp.Ordering.TheVariants.{Less, Equal, Greater}
 use Rattle.std.specs.Cmp.Lexicographic.{slice_cmp}
 use Rattle.std.specs.Cmp.{IsTotalOrder}
 use Rattle.std.proofs.lemmas.Cmp.{nat_list_cmp_total}
-use Rattle.td_value.specs.Values.{Val, tuple_order, parts_order, pack_parts, pack_fields, order}
+use Rattle.td_value.specs.Values.{Val, names_of, tuple_order, parts_order, pack_parts, pack_fields, order}
+
+-- a tuple's names and values are those that it was made of
+pub zip_names : (ns : List (List ℕ)) (vs : List Val) → length ns ≡ length vs → names_of (entries_of ns vs) ≡ ns
+zip_names [] [] e = refl
+zip_names [] (v ∷ vs) e = absurd (omega (arith, e))
+zip_names (n ∷ ns) [] e = absurd (omega (arith, e))
+zip_names (n ∷ ns) (v ∷ vs) e = ap (λ r. n ∷ r) (zip_names ns vs (omega (arith, e)))
 
 pub zip_values : (ns : List (List ℕ)) (vs : List Val) → length ns ≡ length vs → values_of (entries_of ns vs) ≡ vs
 zip_values [] [] e = refl

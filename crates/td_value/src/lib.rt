@@ -4,4 +4,5 @@
 mod copy;
 mod hash;
 mod order;
+mod relation;
 pub mod value;

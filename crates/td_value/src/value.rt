@@ -1,7 +1,7 @@
 //! What values, tuples and relations are made of.
-ghost use Rattle.std.specs.Prelude.{◌≡◌, IfOk};
+ghost use Rattle.std.specs.Prelude.{◌≡◌, IfOk, length, option_map};
 ghost use Rattle.std.specs.Rc.{rc_str_bytes};
-ghost use Rattle.td_value.specs.Values.{boolean, integer, text, user, tuple, relation, pack_parts, pack_fields, pack_rows, IsValue};
+ghost use Rattle.td_value.specs.Values.{boolean, integer, text, user, tuple, relation, pack_parts, pack_fields, pack_rows, value_at};
 ghost use Rattle.td_value.specs.Views.{node_value, entries_of, relation_of, selected_of};
 ghost use Rattle.td_types.specs.Types.{pack};
 
@@ -212,4 +212,54 @@ impl User {
     {
         &self.components
     }
+}
+
+impl Tuple {
+    ghost use Rattle.td_value.specs.Values.{IsTuple, names_of};
+    ghost use Rattle.td_value.specs.Views.{values_of};
+
+    /// How many attributes it has.
+    pub fn len(&self) -> usize
+        ensures { result ≡ length self.now }
+    {
+        self.values.len()
+    }
+
+    /// The names, ascending.
+    pub fn names(&self) -> &[Name]
+        ensures names { result.now ≡ names_of self.now }
+        ensures valid { IsTuple self.now }
+    {
+        &self.names
+    }
+
+    /// The values, in the order of their names.
+    pub fn values(&self) -> &[Value]
+        ensures values { result.now ≡ values_of self.now }
+        ensures valid { IsTuple self.now }
+    {
+        &self.values
+    }
+
+    /// The value of the attribute of that name.
+    pub fn get(&self, name: &Name) -> Option<&Value>
+        ensures { option_map (λ v. v.now) result ≡ value_at name.now self.now }
+    {
+        value_named(&self.names, &self.values, name)
+    }
+}
+
+/// The value that stands where the name does.
+fn value_named<'a>(names: &[Name], values: &'a [Value], name: &Name) -> Option<&'a Value>
+    requires { length names.now ≡ length values.now }
+    ensures { option_map (λ v. v.now) result ≡ value_at name.now (entries_of names.now values.now) }
+{
+    let mut place = 0;
+    for value in values {
+        if names[place] == *name {
+            return Some(value);
+        }
+        place += 1;
+    }
+    None
 }
