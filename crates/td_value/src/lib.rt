@@ -3,6 +3,7 @@
 
 mod copy;
 mod hash;
+mod literal;
 mod order;
 mod relation;
 pub mod value;
