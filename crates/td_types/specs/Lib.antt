@@ -1,4 +1,5 @@
 pub mod Falls
+pub mod Headings
 pub mod Keys
 pub mod Texts
 pub mod TypeOrder

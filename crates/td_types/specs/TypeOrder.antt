@@ -1,16 +1,17 @@
--- The order of types is a total order, in which only equal types tie.
-use Rattle.std.specs.Prelude.{◌≡◌, ℕ, zero, suc, pos, List, [], ◌∷◌, refl}
+-- The order of types and of headings (this project's own: no output shows it) is total, and only equal ones tie in it.
+use Rattle.std.specs.Prelude.{◌≡◌, true, ℕ, zero, suc, pos, List, [], ◌∷◌, refl}
 use Rattle.std.specs.declared.cmp.Ordering.{Ordering}
 use Rattle.std.specs.declared.cmp.Ordering.TheVariants.{Less, Equal, Greater}
 use Rattle.std.specs.Ordering.{nat_cmp, int_cmp, ordering_then, ordering_reverse, on, eq_by_cmp, as_partial_cmp}
-use Rattle.std.specs.Cmp.{IsTotalOrder, IsEquivalence, IsPartialEquivalence, IsPartialOrder, partial_equiv_from_equiv, partial_order_from_agreeing_total}
+use Rattle.std.specs.Bool.{Decides}
+use Rattle.std.specs.Cmp.{Equal-is, IsTotalOrder, IsEquivalence, IsPartialEquivalence, IsPartialOrder, partial_equiv_from_equiv, partial_order_from_agreeing_total}
 use Rattle.std.specs.Cmp.Lexicographic.{slice_cmp}
 use Rattle.std.proofs.Common.{ap, sym, ◌∙◌, subst}
 use Rattle.std.proofs.lemmas.Cmp.{on_total, eq_by_cmp_equiv}
 use Rattle.td_types.specs.declared.ty.Ty.{Ty}
 use Rattle.td_types.specs.Views.{type_of}
 use Rattle.td_types.specs.Keys.{Key, key, Keys, no_keys, more, key_cmp, keys_cmp, key_cmp_total, key_same}
-use Rattle.td_types.specs.Types.{Type', boolean, integer, text, user, tuple, relation, Attrs, no_attrs, attr, type_cmp, attrs_cmp, type_key, attrs_keys, type_rank}
+use Rattle.td_types.specs.Types.{Type', boolean, integer, text, user, tuple, relation, Attrs, no_attrs, attr, Attributes, pack, unpack, unpack_pack, type_cmp, attrs_cmp, type_key, attrs_keys, type_rank}
 
 then_equal_right : (o : Ordering) → ordering_then o Equal ≡ o
 then_equal_right Less = refl
@@ -93,6 +94,13 @@ pub type_same : (s t : Type') → type_cmp s t ≡ Equal → s ≡ t
 type_same s t e =
     sym (type_from_key-type_key s) ∙ ap type_from_key (key_same (type_key s) (type_key t) (sym (type_cmp-key s t) ∙ e)) ∙ type_from_key-type_key t
 
+-- two types pass the test of the order exactly where they are the same
+pub type_eq-Decides : (s t : Type') → Decides (eq_by_cmp type_cmp s t) (s ≡ t)
+type_eq-Decides s t =
+    (λ e. type_same s t ((Equal-is (type_cmp s t)).0 e), λ e. subst (λ u. eq_by_cmp type_cmp s u ≡ true) e ((eq_by_cmp_equiv type_cmp_total).refl s))
+
+-- ---- types of the code
+
 abbrev pub ty_cmp : Ty → Ty → Ordering
 ty_cmp = on type_of type_cmp
 
@@ -107,3 +115,33 @@ ty_eq_laws = partial_equiv_from_equiv ty_eq_equiv
 
 pub ty_partial_laws : IsPartialOrder (eq_by_cmp ty_cmp) (as_partial_cmp ty_cmp)
 ty_partial_laws = partial_order_from_agreeing_total ty_cmp ty_cmp_total (λ x y. refl) (λ x y. refl)
+
+-- ---- headings: as the tuple types that they make
+
+abbrev pub heading_cmp : Attributes → Attributes → Ordering
+heading_cmp g h = attrs_cmp (pack g) (pack h)
+
+pub heading_cmp_total : IsTotalOrder heading_cmp
+heading_cmp_total = on_total (λ h. tuple (pack h)) type_cmp_total
+
+headings_of : Type' → Attributes
+headings_of (tuple xs) = unpack xs
+headings_of t = []
+
+pub heading_same : (g h : Attributes) → heading_cmp g h ≡ Equal → g ≡ h
+unfolding headings_of
+heading_same g h e = sym (unpack_pack g) ∙ ap headings_of (type_same (tuple (pack g)) (tuple (pack h)) e) ∙ unpack_pack h
+
+-- two headings pass the test of the order exactly where they are the same
+pub heading_eq-Decides : (g h : Attributes) → Decides (eq_by_cmp heading_cmp g h) (g ≡ h)
+heading_eq-Decides g h =
+    (λ e. heading_same g h ((Equal-is (heading_cmp g h)).0 e), λ e. subst (λ k. eq_by_cmp heading_cmp g k ≡ true) e ((eq_by_cmp_equiv heading_cmp_total).refl g))
+
+pub heading_eq_equiv : IsEquivalence (eq_by_cmp heading_cmp)
+heading_eq_equiv = eq_by_cmp_equiv heading_cmp_total
+
+pub heading_eq_laws : IsPartialEquivalence (eq_by_cmp heading_cmp)
+heading_eq_laws = partial_equiv_from_equiv heading_eq_equiv
+
+pub heading_partial_laws : IsPartialOrder (eq_by_cmp heading_cmp) (as_partial_cmp heading_cmp)
+heading_partial_laws = partial_order_from_agreeing_total heading_cmp heading_cmp_total (λ x y. refl) (λ x y. refl)

@@ -1,12 +1,12 @@
--- Types and headings, xs mathematics has them.
-use Rattle.std.specs.Prelude.{◌≡◌, ℕ, zero, suc, ◌+◌, max, List, [], ◌∷◌, map, refl, Option, Some, None, if◌then◌else◌, ◌==◌}
+-- Types and headings as the chapter has them, apart from how the code stores them.
+use Rattle.std.specs.Prelude.{◌≡◌, ℕ, zero, suc, ◌+◌, max, Bool, List, [], ◌∷◌, map, refl, Option, Some, None, if◌then◌else◌, ◌==◌}
 use lib.Pointwise.{pointwise}
 use Rattle.std.proofs.Common.{ap, ◌∙◌}
 use Rattle.std.specs.Prelude.{pos}
 use Rattle.std.specs.Ordering.{nat_cmp, ordering_then}
 use Rattle.std.specs.declared.cmp.Ordering.{Ordering}
 use Rattle.std.specs.declared.cmp.Ordering.TheVariants.{Less, Equal, Greater}
-use Rattle.td_types.specs.Keys.{Key, key, Keys, no_keys, more}
+use Rattle.td_types.specs.Keys.{Key, key, Keys, no_keys, more, bytes_to, bytes_from, bytes_back}
 use Rattle.std.specs.Cmp.Lexicographic.{slice_cmp}
 use Rattle.std.specs.List.Sorted.{IsStrictlySortedBy}
 use Rattle.std.specs.Coded.{Coded, code_by, coded_list}
@@ -66,21 +66,6 @@ abbrev pub attributes_depth : Attributes → ℕ
 attributes_depth xs = attrs_depth (pack xs)
 
 -- ---- how the logic stores a type
-
-abbrev bytes_to : List ℕ → Gv
-bytes_to [] = gnil
-bytes_to (b ∷ bs) = gcons (gnum b) (bytes_to bs)
-
-abbrev bytes_from : Gv → List ℕ
-bytes_from gnil = []
-bytes_from (gnum n) = []
-bytes_from (gcons gnil g) = []
-bytes_from (gcons (gnum n) g) = n ∷ bytes_from g
-bytes_from (gcons (gcons h t) g) = []
-
-pub bytes_back : (bs : List ℕ) → bytes_from (bytes_to bs) ≡ bs
-bytes_back [] = refl
-bytes_back (b ∷ bs) = ap (λ r. b ∷ r) (bytes_back bs)
 
 abbrev mutual
   type_to : Type' → Gv
@@ -148,10 +133,14 @@ attributes_back xs = ap unpack (attrs_back (pack xs)) ∙ unpack_pack xs
 abbrev pub attributes_code : Coded Attributes
 attributes_code = code_by Gv itself attributes_to attributes_from attributes_back
 
--- the type of the attribute of that name
+-- whether two names are the same
+abbrev pub same_name : List ℕ → List ℕ → Bool
+same_name = pointwise ◌==◌
+
+-- the type that a heading, as a finite map, gives to a name
 abbrev pub type_at : List ℕ → Attributes → Option Type'
 type_at n [] = None
-type_at n (x ∷ xs) = if pointwise ◌==◌ x.0 n then Some x.1 else type_at n xs
+type_at n (x ∷ xs) = if same_name x.0 n then Some x.1 else type_at n xs
 
 -- ---- the order of types: no output shows it
 

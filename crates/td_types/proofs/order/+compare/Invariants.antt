@@ -1,7 +1,7 @@
 use Rattle.std.proofs.Common.{◌≡◌, ◌≤◌, length, drop}
 use Rattle.td_types.specs.Types.{attrs_cmp, pack}
 use Rattle.td_types.specs.Views.{attributes_of}
-use Rattle.td_types.proofs.ty.+compare.Given as goal
+use Rattle.td_types.proofs.order.+compare.Given as goal
 
 abbrev pub invariant-compare_attributes-loop-x : goal.invariant-compare_attributes-loop-x
 invariant-compare_attributes-loop-x l =

@@ -1,0 +1,104 @@
+//! Headings as finite maps from names to types.
+ghost use Rattle.std.specs.Prelude.{◌≡◌, ◌↔◌, Bool, true, false, IfErr, IfOk, IsTrue, None, OnOk, Option, Some, [], if◌then◌else◌, length, not, option_map, slice_get};
+ghost use Rattle.std.specs.List.{prefix_len};
+ghost use Rattle.std.specs.Ordering.{is_lt, nat_cmp};
+ghost use Rattle.std.specs.Cmp.Lexicographic.{slice_cmp};
+ghost use Rattle.td_types.specs.Headings.{IsMap, TypesDetermineHeading, add_missing, has_attribute, heading_fault};
+ghost use Rattle.td_types.specs.Types.{same_name, type_at};
+ghost use Rattle.td_types.specs.Views.{type_of};
+
+use crate::ty::{Attribute, Heading, Ty};
+use std::alloc::{AllocError, Global};
+use td_tree::cause::Cause;
+use td_tree::fault::Fault;
+use td_tree::name::Name;
+
+/// Two headings that give every name the same type are equal.
+pub fn types_determine_heading()
+    ensures { TypesDetermineHeading }
+{
+}
+
+impl Heading {
+    /// The heading without attributes.
+    pub fn empty(alloc: Global) -> Heading
+        ensures { result ≡ [] }
+    {
+        Heading {
+            attributes: Vec::new(alloc),
+        }
+    }
+
+    /// How many attributes there are.
+    pub fn len(&self) -> usize
+        ensures { result ≡ length self.now }
+    {
+        self.attributes.len()
+    }
+
+    /// Whether there is no attribute.
+    pub fn is_empty(&self) -> bool
+        ensures { IsTrue result ↔ (self.now ≡ []) }
+    {
+        self.attributes.is_empty()
+    }
+
+    /// The attribute at a place in name order.
+    pub fn at(&self, place: usize) -> Option<(&Name, &Ty)>
+        ensures { option_map (λ a. (a.0.now, type_of a.1.now)) result ≡ slice_get self.now place }
+    {
+        let attribute = self.attributes.get(place)?;
+        Some((&attribute.name, &attribute.ty))
+    }
+
+    /// The type of the attribute of that name.
+    pub fn get(&self, name: &Name) -> Option<&Ty>
+        ensures { option_map (λ t. type_of t.now) result ≡ type_at name.now self.now }
+    {
+        for attribute in &self.attributes {
+            if attribute.name == *name {
+                return Some(&attribute.ty);
+            }
+        }
+        None
+    }
+
+    /// How many attributes stand before the name.
+    fn place_of(&self, name: &Name) -> usize
+        ensures { result ≡ prefix_len (λ a. is_lt (slice_cmp nat_cmp a.0 name.now)) self.now }
+    {
+        let mut place = 0;
+        for attribute in &self.attributes {
+            if attribute.name >= *name {
+                return place;
+            }
+            place += 1;
+        }
+        place
+    }
+
+    /// The heading with the attribute, unless it has one of that name.
+    fn add(self, name: Name, ty: Ty) -> Result<Heading, AllocError>
+        ensures { IfOk result (λ h. h ≡ add_missing self (name, type_of ty)) }
+    {
+        if self.get(&name).is_some() {
+            return Ok(self);
+        }
+        let place = self.place_of(&name);
+        let mut attributes = self.attributes;
+        attributes.insert(place, Attribute { name, ty })?;
+        Ok(Heading { attributes })
+    }
+
+    /// The heading with one more attribute: refused where it has one of that name.
+    pub fn with(self, name: Name, ty: Ty) -> Result<Heading, Fault>
+        ensures accepted { OnOk result (has_attribute name self ≡ false) }
+        ensures types { IfOk result (λ h. IsMap h (λ n. if same_name name n then Some (type_of ty) else type_at n self)) }
+        ensures fault { IfErr result (λ e. e ≡ heading_fault (has_attribute name self)) }
+    {
+        if self.get(&name).is_some() {
+            return Err(Fault::Refused(Cause::Heading));
+        }
+        Ok(self.add(name, ty)?)
+    }
+}

@@ -1,0 +1,151 @@
+//! The order of types and of headings, and their equality. No output shows the order.
+ghost use Rattle.std.specs.Prelude.{◌≡◌, ◌↔◌, IsTrue};
+ghost use Rattle.std.specs.Ordering.{eq_by_cmp};
+ghost use Rattle.td_types.specs.TypeOrder.{heading_cmp, ty_cmp};
+ghost use Rattle.td_types.specs.Types.{attrs_cmp, pack, type_cmp, type_rank};
+ghost use Rattle.td_types.specs.Views.{attributes_of, type_of};
+
+use crate::ty::{Attribute, Heading, Ty};
+use std::cmp::Ordering;
+
+impl Ty {
+    fn rank(&self) -> u8
+        ensures { result ≡ type_rank (type_of self.now) }
+    {
+        match self {
+            Ty::Bool => 0,
+            Ty::Int => 1,
+            Ty::Text => 2,
+            Ty::User(_) => 3,
+            Ty::Tup(_) => 4,
+            Ty::Rel(_) => 5,
+        }
+    }
+}
+
+#[cycle(compare)]
+fn compare_types(a: &Ty, b: &Ty) -> Ordering
+    ensures { result ≡ type_cmp (type_of a.now) (type_of b.now) }
+{
+    match (a, b) {
+        (Ty::User(m), Ty::User(n)) => m.cmp(n),
+        (Ty::Tup(g), Ty::Tup(h)) => compare_headings(g, h),
+        (Ty::Rel(g), Ty::Rel(h)) => compare_headings(g, h),
+        _ => a.rank().cmp(&b.rank()),
+    }
+}
+
+#[cycle(compare)]
+fn compare_headings(a: &Heading, b: &Heading) -> Ordering
+    ensures { result ≡ attrs_cmp (pack a.now) (pack b.now) }
+{
+    compare_attributes(&a.attributes, &b.attributes)
+}
+
+#[cycle(compare)]
+fn compare_attributes(a: &[Attribute], b: &[Attribute]) -> Ordering
+    ensures { result ≡ attrs_cmp (pack (attributes_of a.now)) (pack (attributes_of b.now)) }
+{
+    let mut place = 0;
+    for x in a {
+        if place == b.len() {
+            return Ordering::Greater;
+        }
+        let y = &b[place];
+        match x.name.cmp(&y.name) {
+            Ordering::Equal => {}
+            order => return order,
+        }
+        match compare_types(&x.ty, &y.ty) {
+            Ordering::Equal => {}
+            order => return order,
+        }
+        place += 1;
+    }
+    if place == b.len() {
+        Ordering::Equal
+    } else {
+        Ordering::Less
+    }
+}
+
+impl PartialEq for Ty {
+    ghost use Rattle.td_types.specs.TypeOrder.{ty_eq_laws};
+
+    ghost eq = { eq_by_cmp ty_cmp };
+
+    ghost laws = { ty_eq_laws };
+
+    fn eq(&self, other: &Ty) -> bool
+        ensures test { result ≡ eq_by_cmp ty_cmp self.now other.now }
+        ensures same { IsTrue result ↔ (type_of self.now ≡ type_of other.now) }
+    {
+        compare_types(self, other) == Ordering::Equal
+    }
+}
+
+impl Eq for Ty {
+    ghost use Rattle.td_types.specs.TypeOrder.{ty_eq_equiv};
+
+    ghost laws = { ty_eq_equiv };
+}
+
+impl PartialOrd for Ty {
+    ghost use Rattle.std.specs.Ordering.{as_partial_cmp};
+    ghost use Rattle.td_types.specs.TypeOrder.{ty_cmp, ty_partial_laws};
+
+    ghost partial_cmp = { as_partial_cmp ty_cmp };
+
+    ghost laws = { ty_partial_laws };
+
+    fn partial_cmp(&self, other: &Ty) -> Option<Ordering> {
+        Some(self.cmp(other))
+    }
+}
+
+impl Ord for Ty {
+    ghost use Rattle.std.specs.Prelude.{refl};
+    ghost use Rattle.td_types.specs.TypeOrder.{ty_cmp, ty_cmp_total};
+
+    ghost cmp = { ty_cmp };
+
+    ghost total = { ty_cmp_total };
+
+    ghost matches_partial_cmp = { λ x y. refl };
+
+    ghost matches_eq = { λ x y. refl };
+
+    fn cmp(&self, other: &Ty) -> Ordering {
+        compare_types(self, other)
+    }
+}
+
+impl Heading {
+    /// Which heading stands first.
+    pub fn compare(&self, other: &Heading) -> Ordering
+        ensures { result ≡ attrs_cmp (pack self.now) (pack other.now) }
+    {
+        compare_headings(self, other)
+    }
+}
+
+impl PartialEq for Heading {
+    ghost use Rattle.td_types.specs.TypeOrder.{heading_eq_laws};
+
+    ghost eq = { eq_by_cmp heading_cmp };
+
+    ghost laws = { heading_eq_laws };
+
+    fn eq(&self, other: &Heading) -> bool
+        ensures test { result ≡ eq_by_cmp heading_cmp self.now other.now }
+        ensures same { IsTrue result ↔ (self.now ≡ other.now) }
+    {
+        compare_headings(self, other) == Ordering::Equal
+    }
+}
+
+impl Eq for Heading {
+    ghost use Rattle.td_types.specs.TypeOrder.{heading_eq_equiv};
+
+    ghost laws = { heading_eq_equiv };
+}
