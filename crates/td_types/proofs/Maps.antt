@@ -1,17 +1,17 @@
 -- Headings as std's finite maps: their look-up, their order and the insertion of an entry.
 use Rattle.std.proofs.Common.{◌≡◌, ℕ, ◌+◌, ◌≤◌, length, suc, Bool, true, false, List, [], ◌∷◌, ◌++◌, refl, sym, ap, ◌∙◌, take, drop, arith, Option, None, Some, map}
-use Rattle.std.specs.Prelude.{if◌then◌else◌, is_some, option_map, T, ◌&&◌}
+use Rattle.std.specs.Prelude.{if◌then◌else◌, is_some, option_map, T, not, ◌&&◌}
 use Rattle.std.specs.declared.cmp.Ordering.{Ordering}
 use Rattle.std.specs.declared.cmp.Ordering.TheVariants.{Less, Equal, Greater}
 use Rattle.std.specs.Ordering.{nat_cmp, eq_by_cmp, is_lt, is_eq, ordering_reverse}
 use Rattle.std.specs.Cmp.Lexicographic.{slice_cmp, texts_ties}
 use Rattle.std.specs.Cmp.{IsEquivalence}
-use Rattle.std.specs.List.{AllByRecursion, insert, prefix_len}
+use Rattle.std.specs.List.{AllByRecursion, filter, insert, prefix_len}
 use Rattle.std.specs.List.Sorted.{IsStrictlySortedBy}
-use Rattle.std.specs.FinMap.Entries.{find, put, is_sorted, below_all, is_sorted-put, find-put, same_entries}
+use Rattle.std.specs.FinMap.Entries.{find, put, is_sorted, below_all, is_sorted-put, is_sorted-where_key, find-put, find-where_key, same_entries}
 use Rattle.std.proofs.lemmas.Cmp.{nat_list_cmp_total, eq_by_cmp_equiv}
 use Rattle.std.proofs.lemmas.Map.Lookups.{exact_bytes}
-use Rattle.std.proofs.lemmas.List.{map-append, length-map}
+use Rattle.std.proofs.lemmas.List.{append-nil, map-append, length-map, drop_all}
 use Rattle.std.specs.List.{take-map, drop-map}
 use Rattle.std.proofs.lemmas.List.Sums.{prefix_len-le-length}
 use Rattle.td_types.specs.declared.ty.Attribute as Ty
@@ -106,6 +106,26 @@ insert-put n t (x ∷ xs) h = by_order (insert-put n t xs) (name_cmp x.0 n) refl
         let below : name_cmp n x.0 ≡ Less = r ∙ ap ordering_reverse e in
         rw (e, below) refl
 
+-- ---- the attributes of some names
+
+pub IsAscending-filter : (p : List ℕ → Bool) (xs : Attributes) → IsAscending xs → IsAscending (filter (λ a. p a.0) xs)
+IsAscending-filter p xs h = ascending_from_sorted _ (is_sorted-where_key name_cmp p xs (sorted_from_ascending xs h))
+
+pub type_at-filter : (p : List ℕ → Bool) (n : List ℕ) (xs : Attributes) → type_at n (filter (λ a. p a.0) xs) ≡ (if p n then type_at n xs else None)
+type_at-filter p n xs =
+    sym (find-type_at n (filter (λ a. p a.0) xs)) ∙ find-where_key name_cmp p n (λ m e. ap p (sym (exact_bytes n m e))) xs ∙ ap (λ t. if p n then t else None) (find-type_at n xs)
+
+same_name-flips : (m n : List ℕ) → same_name m n ≡ same_name n m
+same_name-flips m n = texts_ties m n ∙ (eq_by_cmp_equiv nat_list_cmp_total).symm m n ∙ sym (texts_ties n m)
+
+if_not : {A : Type 0} (b : Bool) (x y : A) → (if not b then x else y) ≡ (if b then y else x)
+if_not true x y = refl
+if_not false x y = refl
+
+pub type_at-without : (name n : List ℕ) (xs : Attributes) → type_at n (filter (λ a. not (same_name a.0 name)) xs) ≡ (if same_name name n then None else type_at n xs)
+type_at-without name n xs =
+    type_at-filter (λ m. not (same_name m name)) n xs ∙ rw (same_name-flips name n) (if_not (same_name n name) (type_at n xs) None)
+
 -- ---- the same of the code's attributes
 
 -- an attribute of the code inserted at the place of its name is put in its place
@@ -119,6 +139,13 @@ attributes_of-insert items h is a place at none =
 -- the place of a name is within the list
 pub place_within : (items : List Ty.Attribute) (h : Attributes) → attributes_of items ≡ h → (p : Attribute → Bool) (place : ℕ) → place ≡ prefix_len p h → place ≤ length items
 place_within items h is p place at = omega (arith, prefix_len-le-length p h, ap length is, length-map items attribute_of)
+
+-- what a filter has kept once it is past the last attribute
+pub kept_all : (items : List Ty.Attribute) (i : ℕ) (p : Attribute → Bool) (xs ys : Attributes) → length items ≤ i → xs ++ filter p (attributes_of (drop i items)) ≡ ys → xs ≡ ys
+kept_all items i p xs ys past e =
+    let none : drop i items ≡ [] = drop_all i items past in
+    let kept = rw none at e in
+    sym (append-nil xs) ∙ kept
 
 -- a look-up in the code finds an attribute where the map has one
 pub found : {A : Type 0} (f : A → Type') (o : Option A) (t : Option Type') → option_map f o ≡ t → is_some t ≡ is_some o

@@ -1,13 +1,13 @@
 -- Headings are finite maps from names to types (the chapter's), kept as the list of their attributes in name order.
-use Rattle.std.specs.Prelude.{◌≡◌, ℕ, Bool, true, not, ◌&&◌, List, [], ◌∷◌, Option, None, Some, is_some, if◌then◌else◌}
-use Rattle.std.specs.List.{list_any}
+use Rattle.std.specs.Prelude.{◌≡◌, ℕ, Bool, true, not, ◌&&◌, List, [], ◌∷◌, map, Option, None, Some, is_some, if◌then◌else◌}
+use Rattle.std.specs.List.{list_all, list_any}
 use Rattle.std.specs.Cmp.Lexicographic.{slice_cmp}
-use Rattle.std.specs.Ordering.{nat_cmp}
+use Rattle.std.specs.Ordering.{eq_by_cmp, nat_cmp}
 use Rattle.std.specs.FinMap.Entries.{put}
 use Rattle.td_tree.specs.declared.cause.Cause.TheVariants.{Heading}
 use Rattle.td_tree.specs.declared.fault.Fault.{Fault}
 use Rattle.td_tree.specs.declared.fault.Fault.TheVariants.{Refused, Memory}
-use Rattle.td_types.specs.Types.{Type', Attribute, Attributes, IsAscending, same_name, type_at}
+use Rattle.td_types.specs.Types.{Type', Attribute, Attributes, IsAscending, names_of, same_name, type_at, type_cmp}
 
 -- the heading gives each name the type that `types` gives it
 abbrev pub IsMap : Attributes → (List ℕ → Option Type') → Type 0
@@ -28,3 +28,46 @@ TypesDetermineHeading = (g h : Attributes) → IsAscending g → IsAscending h �
 -- the heading with the attribute in its place, unless it has one of that name
 abbrev pub add_missing : Attributes → Attribute → Attributes
 add_missing heading a = if has_attribute a.0 heading then heading else put (slice_cmp nat_cmp) a.0 a.1 heading
+
+-- ---- what each operation refuses
+
+-- whether the name is one of the names
+abbrev pub has_name : List ℕ → List (List ℕ) → Bool
+has_name name = list_any (λ n. same_name n name)
+
+-- whether no name comes twice
+abbrev pub are_distinct : List (List ℕ) → Bool
+are_distinct [] = true
+are_distinct (n ∷ ns) = not (has_name n ns) && are_distinct ns
+
+-- whether the heading has an attribute of each name
+abbrev pub has_attributes : List (List ℕ) → Attributes → Bool
+has_attributes names heading = list_all (λ n. has_attribute n heading) names
+
+-- whether the heading has a projection on the names: each is there, and none comes twice
+abbrev pub has_projection : List (List ℕ) → Attributes → Bool
+has_projection names heading = has_attributes names heading && are_distinct names
+
+-- whether the type that was found, if one was, is the type
+abbrev pub is_type_or_none : Type' → Option Type' → Bool
+is_type_or_none t None = true
+is_type_or_none t (Some s) = eq_by_cmp type_cmp s t
+
+-- whether no name has two types in two headings
+abbrev pub agree : Attributes → Attributes → Bool
+agree g h = list_all (λ a. is_type_or_none a.1 (type_at a.0 h)) g
+
+-- ---- renaming, by pairs of an old and a new name
+
+-- the name that the renamings give a name
+abbrev pub new_name : List (List ℕ × List ℕ) → List ℕ → List ℕ
+new_name [] name = name
+new_name (r ∷ rs) name = if same_name r.0 name then r.1 else new_name rs name
+
+-- each attribute under its new name, all at once
+abbrev pub renamed : List (List ℕ × List ℕ) → Attributes → Attributes
+renamed renamings = map (λ a. (new_name renamings a.0, a.1))
+
+-- whether each old name is there, none comes twice, and the new names of the attributes are distinct
+abbrev pub can_rename : List (List ℕ × List ℕ) → Attributes → Bool
+can_rename renamings heading = has_attributes (map (λ r. r.0) renamings) heading && are_distinct (map (λ r. r.0) renamings) && are_distinct (names_of (renamed renamings heading))

@@ -3,6 +3,7 @@
 
 mod copy;
 pub mod heading;
+pub mod operations;
 mod order;
 pub mod text;
 pub mod ty;
