@@ -1,3 +1,5 @@
 pub mod Ends
+pub mod Maps
+pub mod Names
 pub mod Pieces
 pub mod Zips

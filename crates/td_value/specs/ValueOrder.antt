@@ -9,11 +9,11 @@ use Rattle.std.proofs.Common.{ap, sym, subst, ◌∙◌, true≢false}
 use Rattle.std.specs.Prelude.{IsTrue}
 use Rattle.std.specs.Bool.{Decides}
 use Rattle.td_value.specs.Hashes.{fed_value, fed_tuple, fed_relation}
-use Rattle.std.proofs.lemmas.Cmp.{on_total, eq_by_cmp_equiv, tied_itself}
-use Rattle.td_types.specs.Keys.{Key, key, Keys, no_keys, more, key_cmp, keys_cmp, key_cmp_total, key_same}
+use Rattle.std.proofs.lemmas.Cmp.{on_total, then_total, nat_list_cmp_total, eq_by_cmp_equiv, tied_itself}
+use Rattle.td_types.specs.Keys.{Key, key, Keys, no_keys, more, key_cmp, keys_cmp, key_cmp_total, key_same, list_same, nat_same, then_equal}
 use Rattle.td_types.specs.Types.{Attrs, no_attrs, attrs_cmp, attrs_keys, unpack, unpack_pack, pack}
 use Rattle.td_types.specs.TypeOrder.{attrs_cmp-keys}
-use Rattle.td_value.specs.Values.{Val, boolean, integer, text, user, tuple, relation, Parts, no_parts, part, Fields, no_fields, field, Rows, no_rows, row, Entries, Relation, pack_fields, unpack_fields, pack_rows, unpack_rows, order, parts_order, fields_order, rows_order, rank, tuple_order, relation_order}
+use Rattle.td_value.specs.Values.{Val, boolean, integer, text, user, tuple, relation, Parts, no_parts, part, Fields, no_fields, field, Rows, no_rows, row, Entries, Relation, pack_fields, unpack_fields, pack_rows, unpack_rows, order, parts_order, fields_order, rows_order, rank, tuple_order, relation_order, entry_order}
 use Rattle.td_value.specs.ValueCode.{val_key, parts_keys, fields_keys, rows_keys, bit, val_from, val_back, unpack_pack_fields, unpack_pack_rows}
 
 then_equal_right : (o : Ordering) → ordering_then o Equal ≡ o
@@ -132,3 +132,13 @@ relation_order_same r s e = relation_value_same r s (order_same (relation_value 
 
 pub relations_fed_alike : (r s : Relation) → IsTrue (eq_by_cmp relation_order r s) → fed_relation r ≡ fed_relation s
 relations_fed_alike r s h = ap fed_relation (same_by relation_order relation_order_same r s h)
+
+-- ---- the order of a tuple's entries
+
+pub entry_order_total : IsTotalOrder entry_order
+entry_order_total = then_total (on_total (λ e. e.0) nat_list_cmp_total) (on_total (λ e. e.1) order_total)
+
+pub entry_order_same : (e f : List ℕ × Val) → entry_order e f ≡ Equal → e ≡ f
+entry_order_same e f h =
+    let both = then_equal (slice_cmp nat_cmp e.0 f.0) (order e.1 f.1) h in
+    λ i. (list_same nat_cmp nat_same e.0 f.0 both.0 i, order_same e.1 f.1 both.1 i)

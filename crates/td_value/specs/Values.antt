@@ -6,10 +6,10 @@ use Rattle.std.specs.declared.cmp.Ordering.TheVariants.{Less, Equal, Greater}
 use Rattle.std.specs.Cmp.Lexicographic.{slice_cmp}
 use Rattle.std.specs.List.Sorted.{IsStrictlySortedBy}
 use Rattle.std.specs.List.{AllByRecursion}
-use lib.Pointwise.{pointwise}
 use Rattle.td_tree.specs.Names.{IsName}
-use Rattle.td_types.specs.Types.{Type', Attrs, no_attrs, attr, Attributes, attrs_cmp, pack}
+use Rattle.td_types.specs.Types.{Type', same_name, Attrs, no_attrs, attr, Attributes, attrs_cmp, pack}
 use Rattle.td_types.specs.Types as types
+use Rattle.td_value.specs.Sets.{set_of}
 
 -- a value of any type: a user value is a type's name with its components, a tuple a finite map from names to values,
 -- a relation a heading with a set of tuples of that heading (the chapter's)
@@ -117,6 +117,14 @@ tuple_order s t = fields_order (pack_fields s) (pack_fields t)
 abbrev pub relation_order : Relation → Relation → Ordering
 relation_order r s = ordering_then (attrs_cmp (pack r.heading) (pack s.heading)) (rows_order (pack_rows r.rows) (pack_rows s.rows))
 
+-- the order of a tuple's entries: by name, then by value
+abbrev pub entry_order : List ℕ × Val → List ℕ × Val → Ordering
+entry_order e f = ordering_then (slice_cmp nat_cmp e.0 f.0) (order e.1 f.1)
+
+-- the finite map that pairs of distinct names are, as the set of them in name order
+abbrev pub tuple_of : Entries → Entries
+tuple_of = set_of entry_order
+
 -- ---- the type of a value
 
 abbrev mutual
@@ -213,7 +221,7 @@ IsSelected u = IsValue (user u.name (pack_parts u.components))
 abbrev pub IsTupleOf : Attributes → Entries → Type 0
 IsTupleOf h t = AreFields (pack_fields t) × IsStrictlySortedBy (slice_cmp nat_cmp) (names_of (unpack_fields (pack_fields t))) × (fields_type (pack_fields t) ≡ pack h)
 
--- the value of the attribute of that name
+-- the value that a tuple, as a finite map, gives to a name
 abbrev pub value_at : List ℕ → Entries → Option Val
 value_at n [] = None
-value_at n (e ∷ es) = if pointwise ◌==◌ e.0 n then Some e.1 else value_at n es
+value_at n (e ∷ es) = if same_name e.0 n then Some e.1 else value_at n es

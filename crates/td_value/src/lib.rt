@@ -6,4 +6,5 @@ mod hash;
 mod literal;
 mod order;
 mod relation;
+mod tuple;
 pub mod value;
