@@ -1,5 +1,5 @@
--- Each heading inside a heading is less deep.
-use Rattle.std.specs.Prelude.{ℕ, ◌≤◌, max, List, [], ◌∷◌}
+-- Each heading inside a heading is less deep, so that recursion over types ends.
+use Rattle.std.specs.Prelude.{◌≤◌, max, List, [], ◌∷◌}
 use Rattle.std.proofs.Common.{arith}
 use Rattle.td_types.specs.Types.{attributes_depth, type_depth}
 use Rattle.td_types.specs.declared.ty.Attribute.{Attribute}
@@ -9,6 +9,7 @@ use Rattle.td_types.specs.declared.ty.Heading.TheDeep.{deep-Ty, deep-Attribute}
 use Rattle.td_types.specs.Views.{type_of, attributes_of}
 use denote.Param.Weighed.{most}
 
+-- by the depth that the code's own structure has
 pub type_falls : (t : Ty) → deep-Ty t ≤ type_depth (type_of t)
 type_falls Bool = omega arith
 type_falls Int = omega arith

@@ -1,5 +1,5 @@
 -- Headings are finite maps from names to types (the chapter's), kept as the list of their attributes in name order.
-use Rattle.std.specs.Prelude.{◌≡◌, ℕ, Bool, true, not, ◌&&◌, List, [], ◌∷◌, map, Option, None, Some, is_some, if◌then◌else◌}
+use Rattle.std.specs.Prelude.{◌≡◌, ℕ, Bool, true, not, ◌&&◌, List, [], ◌∷◌, filter, fold, map, Option, None, Some, is_some, if◌then◌else◌, IsTrue, ◌↔◌}
 use Rattle.std.specs.List.{list_all, list_any}
 use Rattle.std.specs.Cmp.Lexicographic.{slice_cmp}
 use Rattle.std.specs.Ordering.{eq_by_cmp, nat_cmp}
@@ -20,14 +20,6 @@ has_attribute name heading = is_some (type_at name heading)
 -- why an operation gives no heading: a refusal by the cause of headings where `refused`, else want of memory
 abbrev pub heading_fault : Bool → Fault
 heading_fault refused = if refused then Refused Heading else Memory
-
--- a heading is determined by the type that it gives each name
-abbrev pub TypesDetermineHeading : Type 0
-TypesDetermineHeading = (g h : Attributes) → IsAscending g → IsAscending h → IsMap g (λ name. type_at name h) → g ≡ h
-
--- the heading with the attribute in its place, unless it has one of that name
-abbrev pub add_missing : Attributes → Attribute → Attributes
-add_missing heading a = if has_attribute a.0 heading then heading else put (slice_cmp nat_cmp) a.0 a.1 heading
 
 -- ---- what each operation refuses
 
@@ -71,3 +63,44 @@ renamed renamings = map (λ a. (new_name renamings a.0, a.1))
 -- whether each old name is there, none comes twice, and the new names of the attributes are distinct
 abbrev pub can_rename : List (List ℕ × List ℕ) → Attributes → Bool
 can_rename renamings heading = has_attributes (map (λ r. r.0) renamings) heading && are_distinct (map (λ r. r.0) renamings) && are_distinct (names_of (renamed renamings heading))
+
+-- ---- the headings that the operations make
+
+-- the attribute added in its place, in name order
+abbrev pub with_attribute : Attributes → Attribute → Attributes
+with_attribute heading a = put (slice_cmp nat_cmp) a.0 a.1 heading
+
+-- the attributes of every other name
+abbrev pub without_attribute : List ℕ → Attributes → Attributes
+without_attribute name = filter (λ a. not (same_name a.0 name))
+
+-- the attributes of those names
+abbrev pub projection : List (List ℕ) → Attributes → Attributes
+projection names = filter (λ a. has_name a.0 names)
+
+-- the attributes of one heading whose names the other has too
+abbrev pub common_part : Attributes → Attributes → Attributes
+common_part g h = filter (λ a. has_attribute a.0 h) g
+
+-- the attribute added, unless there is one of its name
+abbrev pub add_missing : Attributes → Attribute → Attributes
+add_missing heading a = if has_attribute a.0 heading then heading else with_attribute heading a
+
+-- the attributes of either
+abbrev pub heading_union : Attributes → Attributes → Attributes
+heading_union = fold add_missing
+
+-- the attributes under their new names, in the order of these
+abbrev pub heading_renamed : List (List ℕ × List ℕ) → Attributes → Attributes
+heading_renamed renamings heading = fold add_missing [] (renamed renamings heading)
+
+-- ---- laws
+
+-- a heading is determined by the type that it gives each name
+abbrev pub TypesDetermineHeading : Type 0
+TypesDetermineHeading = (g h : Attributes) → IsAscending g → IsAscending h → IsMap g (λ name. type_at name h) → g ≡ h
+
+-- two headings agree exactly where each name that both have has one type
+abbrev pub AgreementIsOneType : Type 0
+AgreementIsOneType =
+    (g h : Attributes) → IsAscending g → IsTrue (agree g h) ↔ ((name : List ℕ) (s t : Type') → type_at name g ≡ Some s → type_at name h ≡ Some t → s ≡ t)

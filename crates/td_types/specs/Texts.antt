@@ -1,5 +1,5 @@
 -- The text of a type (this project's own): one for each type, with attributes in name order.
-use Rattle.std.specs.Prelude.{ℕ, Bool, true, false, List, [], ◌∷◌, ◌++◌, codes, if◌then◌else◌}
+use Rattle.std.specs.Prelude.{ℕ, Bool, true, false, List, [], ◌++◌, codes, if◌then◌else◌}
 use Rattle.td_types.specs.Types.{Type', boolean, integer, text, user, tuple, relation, Attrs, no_attrs, attr}
 
 -- what stands before a part: a comma and a space where another part stands before it

@@ -1,8 +1,8 @@
 -- The order of types and of headings (this project's own: no output shows it) is total, and only equal ones tie in it.
-use Rattle.std.specs.Prelude.{◌≡◌, true, ℕ, zero, suc, pos, List, [], ◌∷◌, refl}
+use Rattle.std.specs.Prelude.{◌≡◌, true, ℕ, zero, suc, List, [], refl}
 use Rattle.std.specs.declared.cmp.Ordering.{Ordering}
 use Rattle.std.specs.declared.cmp.Ordering.TheVariants.{Less, Equal, Greater}
-use Rattle.std.specs.Ordering.{nat_cmp, int_cmp, ordering_then, ordering_reverse, on, eq_by_cmp, as_partial_cmp}
+use Rattle.std.specs.Ordering.{nat_cmp, ordering_then, on, eq_by_cmp, as_partial_cmp}
 use Rattle.std.specs.Bool.{Decides}
 use Rattle.std.specs.Cmp.{Equal-is, IsTotalOrder, IsEquivalence, IsPartialEquivalence, IsPartialOrder, partial_equiv_from_equiv, partial_order_from_agreeing_total}
 use Rattle.std.specs.Cmp.Lexicographic.{slice_cmp}
@@ -11,7 +11,7 @@ use Rattle.std.proofs.lemmas.Cmp.{on_total, eq_by_cmp_equiv}
 use Rattle.td_types.specs.declared.ty.Ty.{Ty}
 use Rattle.td_types.specs.Views.{type_of}
 use Rattle.td_types.specs.Keys.{Key, key, Keys, no_keys, more, key_cmp, keys_cmp, key_cmp_total, key_same}
-use Rattle.td_types.specs.Types.{Type', boolean, integer, text, user, tuple, relation, Attrs, no_attrs, attr, Attributes, pack, unpack, unpack_pack, type_cmp, attrs_cmp, type_key, attrs_keys, type_rank}
+use Rattle.td_types.specs.Types.{Type', boolean, integer, text, user, tuple, relation, Attrs, no_attrs, attr, Attributes, pack, unpack, unpack_pack, type_cmp, attrs_cmp, type_key, attrs_keys}
 
 then_equal_right : (o : Ordering) → ordering_then o Equal ≡ o
 then_equal_right Less = refl
@@ -19,6 +19,7 @@ then_equal_right Equal = refl
 then_equal_right Greater = refl
 
 mutual
+  -- the order of types is that of their keys
   pub type_cmp-key : (s t : Type') → type_cmp s t ≡ key_cmp (type_key s) (type_key t)
   type_cmp-key (user m) (user n) = sym (then_equal_right (slice_cmp nat_cmp m n))
   type_cmp-key (tuple xs) (tuple ys) = attrs_cmp-keys xs ys

@@ -23,8 +23,10 @@ fn copy_type(ty: &Ty) -> Result<Ty, AllocError>
 fn copy_heading(heading: &Heading) -> Result<Heading, AllocError>
     ensures { IfOk result (λ copy. copy ≡ heading.now) }
 {
-    let mut attributes =
-        Vec::with_capacity(*heading.attributes.allocator(), heading.attributes.len())?;
+    let mut attributes = Vec::with_capacity(
+        *heading.attributes.allocator(),
+        heading.attributes.len(),
+    )?;
     for attribute in &heading.attributes {
         let name = attribute.name.try_clone()?;
         let ty = copy_type(&attribute.ty)?;

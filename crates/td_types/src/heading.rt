@@ -3,7 +3,7 @@ ghost use Rattle.std.specs.Prelude.{◌≡◌, ◌↔◌, Bool, true, false, IfE
 ghost use Rattle.std.specs.List.{prefix_len};
 ghost use Rattle.std.specs.Ordering.{is_lt, nat_cmp};
 ghost use Rattle.std.specs.Cmp.Lexicographic.{slice_cmp};
-ghost use Rattle.td_types.specs.Headings.{IsMap, TypesDetermineHeading, add_missing, has_attribute, heading_fault};
+ghost use Rattle.td_types.specs.Headings.{AgreementIsOneType, IsMap, TypesDetermineHeading, add_missing, has_attribute, heading_fault, with_attribute};
 ghost use Rattle.td_types.specs.Types.{same_name, type_at};
 ghost use Rattle.td_types.specs.Views.{type_of};
 
@@ -16,8 +16,12 @@ use td_tree::name::Name;
 /// Two headings that give every name the same type are equal.
 pub fn types_determine_heading()
     ensures { TypesDetermineHeading }
-{
-}
+{}
+
+/// Two headings agree exactly where each name that both have has one type.
+pub fn agreement_is_one_type()
+    ensures { AgreementIsOneType }
+{}
 
 impl Heading {
     /// The heading without attributes.
@@ -78,7 +82,7 @@ impl Heading {
     }
 
     /// The heading with the attribute, unless it has one of that name.
-    fn add(self, name: Name, ty: Ty) -> Result<Heading, AllocError>
+    pub(crate) fn add(self, name: Name, ty: Ty) -> Result<Heading, AllocError>
         ensures { IfOk result (λ h. h ≡ add_missing self (name, type_of ty)) }
     {
         if self.get(&name).is_some() {
@@ -93,6 +97,7 @@ impl Heading {
     /// The heading with one more attribute: refused where it has one of that name.
     pub fn with(self, name: Name, ty: Ty) -> Result<Heading, Fault>
         ensures accepted { OnOk result (has_attribute name self ≡ false) }
+        ensures value { IfOk result (λ h. h ≡ with_attribute self (name, type_of ty)) }
         ensures types { IfOk result (λ h. IsMap h (λ n. if same_name name n then Some (type_of ty) else type_at n self)) }
         ensures fault { IfErr result (λ e. e ≡ heading_fault (has_attribute name self)) }
     {

@@ -5,5 +5,8 @@ mod copy;
 pub mod heading;
 pub mod operations;
 mod order;
+pub mod rename;
+#[cfg(test)]
+mod tests;
 pub mod text;
 pub mod ty;

@@ -80,7 +80,7 @@ impl PartialEq for Ty {
         ensures test { result ≡ eq_by_cmp ty_cmp self.now other.now }
         ensures same { IsTrue result ↔ (type_of self.now ≡ type_of other.now) }
     {
-        compare_types(self, other) == Ordering::Equal
+        self.cmp(other) == Ordering::Equal
     }
 }
 
@@ -140,7 +140,7 @@ impl PartialEq for Heading {
         ensures test { result ≡ eq_by_cmp heading_cmp self.now other.now }
         ensures same { IsTrue result ↔ (self.now ≡ other.now) }
     {
-        compare_headings(self, other) == Ordering::Equal
+        self.compare(other) == Ordering::Equal
     }
 }
 

@@ -1,10 +1,10 @@
 use Rattle.std.proofs.Common.{◌≡◌, false, sym, ◌∙◌, subst, arith}
 use Rattle.std.specs.Prelude.{is_some}
-use Rattle.std.specs.List.{insert}
-use Rattle.std.specs.FinMap.Entries.{put}
 use Rattle.td_types.specs.Types.{IsAscending, type_at}
 use Rattle.td_types.specs.Views.{attributes_of, type_of}
-use Rattle.td_types.proofs.Maps.{name_cmp, attributes_of-insert, place_within, IsAscending-put, found}
+use Rattle.td_types.specs.Headings.{with_attribute}
+use Rattle.td_types.specs.HeadingLaws.{IsAscending-with}
+use Rattle.td_types.proofs.Attributes.{attributes_of-insert, place_within, found}
 use Rattle.td_types.proofs.ty.Heading.add.Goals as goal
 
 pub insert-requires : goal.insert-requires
@@ -14,9 +14,9 @@ pub invariant_of-result : goal.invariant_of-result
 invariant_of-result c =
     let none : is_some (type_at c.args.name c.args.self) ≡ false = found _ _ _ c.get.ensures ∙ sym c.is_some.ensures ∙ c.if-is_some.false in
     let items = rw c.in_ok-insert.was at c.insert.ensures.items in
-    let is : attributes_of c.insert.new.self.items ≡ put name_cmp c.args.name (type_of c.args.ty) c.args.self =
-        rw items (attributes_of-insert c.self.inside.attributes.items c.args.self c.self.view_is _ _ c.place_of-place.ensures none) in
-    subst IsAscending (sym is) (IsAscending-put c.args.name (type_of c.args.ty) c.args.self (subst IsAscending c.self.view_is c.self.invariant))
+    let is : attributes_of c.insert.new.self.items ≡ with_attribute c.args.self (c.args.name, type_of c.args.ty) =
+    rw items (attributes_of-insert c.self.inside.attributes.items c.args.self c.self.view_is _ _ c.place_of-place.ensures none) in
+    subst IsAscending (sym is) (IsAscending-with c.args.name (type_of c.args.ty) c.args.self (subst IsAscending c.self.view_is c.self.invariant))
 
 pub returns : goal.returns
 returns c =

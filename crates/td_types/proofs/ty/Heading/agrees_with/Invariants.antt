@@ -1,4 +1,4 @@
-use Rattle.std.proofs.Common.{◌≡◌, ◌++◌, drop}
+use Rattle.std.proofs.Common.{◌≡◌, drop}
 use Rattle.td_types.specs.Headings.{agree}
 use Rattle.td_types.specs.Views.{attributes_of}
 use Rattle.td_types.proofs.ty.Heading.agrees_with.Given as goal

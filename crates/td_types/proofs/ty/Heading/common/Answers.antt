@@ -1,17 +1,22 @@
 use Rattle.std.proofs.Common.{◌≡◌, sym, ap, ◌∙◌, subst}
-use Rattle.std.specs.Prelude.{filter, not}
-use Rattle.td_types.specs.Headings.{has_attribute, has_name}
-use Rattle.td_types.specs.Types.{IsAscending, same_name, type_at}
+use Rattle.td_types.specs.Headings.{common_part}
+use Rattle.td_types.specs.HeadingLaws.{IsAscending-common, type_at-common}
+use Rattle.td_types.specs.Types.{IsAscending, type_at}
 use Rattle.td_types.specs.Views.{attributes_of}
-use Rattle.td_types.proofs.Maps.{IsAscending-filter, kept_all, type_at-filter, type_at-without}
+use Rattle.td_types.proofs.Attributes.{kept_all}
 use Rattle.td_types.proofs.ty.Heading.common.Goals as goal
 
 pub invariant_of-result : goal.invariant_of-result
 invariant_of-result c =
-    let kept : attributes_of c.loop-attribute.attributes.items ≡ filter (λ a. has_attribute a.0 c.args.other.now) c.args.self.now =
-        kept_all _ _ _ _ _ c.loop-attribute-test.false c.loop-attribute.invariant in
-    subst IsAscending (sym kept) (IsAscending-filter (λ n. has_attribute n c.args.other.now) c.args.self.now (subst IsAscending c.self.view_is c.self.invariant))
+    let kept : attributes_of c.loop-attribute.attributes.items ≡ common_part c.args.self.now c.args.other.now =
+    kept_all _ _ _ _ _ c.loop-attribute-test.false c.loop-attribute.invariant in
+    subst IsAscending (sym kept) (IsAscending-common c.args.self.now c.args.other.now (subst IsAscending c.self.view_is c.self.invariant))
+
+pub returns-clause-value : goal.returns-clause-value
+returns-clause-value c = kept_all _ _ _ _ _ c.loop-attribute-test.false c.loop-attribute.invariant
 
 pub returns-clause-types : goal.returns-clause-types
 returns-clause-types c = λ n.
-    ap (type_at n) (kept_all _ _ (λ a. has_attribute a.0 c.args.other.now) _ _ c.loop-attribute-test.false c.loop-attribute.invariant) ∙ type_at-filter (λ m. has_attribute m c.args.other.now) n c.args.self.now
+    let kept : attributes_of c.loop-attribute.attributes.items ≡ common_part c.args.self.now c.args.other.now =
+    kept_all _ _ _ _ _ c.loop-attribute-test.false c.loop-attribute.invariant in
+    ap (type_at n) kept ∙ type_at-common n c.args.self.now c.args.other.now

@@ -1,4 +1,3 @@
-use Rattle.std.proofs.Common.{rules}
 use Rattle.std.specs.List.Sorted.{IsStrictlySortedBy}
 use Rattle.td_types.proofs.ty.Heading.empty.Goals as goal
 

@@ -1,4 +1,4 @@
-use Rattle.std.proofs.Common.{◌≡◌, ◌++◌, drop}
+use Rattle.std.proofs.Common.{◌≡◌, drop}
 use Rattle.td_types.specs.Headings.{has_attributes}
 use Rattle.td_types.proofs.ty.Heading.has_all.Given as goal
 

@@ -2,10 +2,16 @@ use Rattle.std.proofs.Common.{◌≡◌, false, sym, ◌∙◌}
 use Rattle.std.specs.Prelude.{is_some}
 use Rattle.td_types.specs.Types.{type_at}
 use Rattle.td_types.specs.Views.{type_of}
-use Rattle.td_types.proofs.Maps.{type_at-put, found}
+use Rattle.td_types.specs.HeadingLaws.{type_at-with}
+use Rattle.td_types.proofs.Attributes.{found}
 use Rattle.td_types.proofs.ty.Heading.with.Goals as goal
+
+pub returns-clause-value : goal.returns-clause-value
+returns-clause-value c =
+    let none : is_some (type_at c.args.name c.args.self) ≡ false = found _ _ _ c.get.ensures ∙ sym c.is_some.ensures ∙ c.if-is_some.false in
+    rw none at c.in_ok-add.ensures
 
 pub returns-clause-types : goal.returns-clause-types
 returns-clause-types c = λ n.
     let none : is_some (type_at c.args.name c.args.self) ≡ false = found _ _ _ c.get.ensures ∙ sym c.is_some.ensures ∙ c.if-is_some.false in
-    rw (c.in_ok-add.ensures, none) (type_at-put n c.args.name (type_of c.args.ty) c.args.self)
+    rw (c.in_ok-add.ensures, none) (type_at-with n c.args.name (type_of c.args.ty) c.args.self)

@@ -1,0 +1,230 @@
+-- What the operations on headings make: each is ascending, and gives each name the type that it should.
+-- A heading is one of std's sorted lists of entries, whose lemmas show most of it.
+use Rattle.std.proofs.Common.{◌≡◌, ℕ, ◌+◌, suc, Bool, true, false, List, [], ◌∷◌, refl, sym, subst, ap, ◌∙◌, arith, Option, None, Some}
+use Rattle.std.specs.Prelude.{if◌then◌else◌, is_some, T, not, ◌&&◌}
+use Rattle.std.specs.declared.cmp.Ordering.{Ordering}
+use Rattle.std.specs.declared.cmp.Ordering.TheVariants.{Less, Equal, Greater}
+use Rattle.std.specs.Ordering.{nat_cmp, eq_by_cmp, is_lt, ordering_reverse}
+use Rattle.std.specs.Cmp.Lexicographic.{same_text, slice_cmp, texts_ties}
+use Rattle.std.specs.List.{AllByRecursion, filter, insert, prefix_len}
+use Rattle.std.specs.List.Sorted.{IsStrictlySortedBy}
+use Rattle.std.specs.FinMap.Entries.{find, is_sorted, below_all, is_sorted-put, is_sorted-where_key, find-put, find-where_key, same_entries}
+use Rattle.std.proofs.lemmas.Cmp.{nat_list_cmp_total, eq_by_cmp_equiv}
+use Rattle.std.proofs.lemmas.Map.Lookups.{exact_bytes}
+use Rattle.td_types.specs.Headings.{AgreementIsOneType, TypesDetermineHeading, add_missing, agree, common_part, has_attribute, has_name, heading_renamed, heading_union, is_type_or_none, projection, renamed, with_attribute, without_attribute}
+use Rattle.td_types.specs.TypeOrder.{type_eq-Decides}
+use Rattle.td_types.specs.Types.{Type', Attribute, Attributes, IsAscending, names_of, same_name, type_at}
+
+abbrev pub name_cmp : List ℕ → List ℕ → Ordering
+name_cmp = slice_cmp nat_cmp
+
+-- the same names tie
+pub same_name-ties : (m n : List ℕ) → same_name m n ≡ eq_by_cmp name_cmp n m
+same_name-ties m n = texts_ties m n ∙ (eq_by_cmp_equiv nat_list_cmp_total).symm m n
+
+-- the type of a name is what std's look-up finds
+pub find-type_at : (n : List ℕ) (xs : Attributes) → find name_cmp n xs ≡ type_at n xs
+find-type_at n [] = refl
+find-type_at n (x ∷ xs) = rw (same_name-ties x.0 n, find-type_at n xs) refl
+
+less_is : (o : Ordering) → o ≡ Less → T (is_lt o)
+less_is Less e = tt
+less_is Equal e = cc
+less_is Greater e = cc
+
+is_less : (o : Ordering) → T (is_lt o) → o ≡ Less
+is_less Less h = refl
+is_less Equal h = absurd h
+is_less Greater h = absurd h
+
+both : (a b : Bool) → T a → T b → T (a && b)
+both true b p q = q
+both false b p q = p
+
+first : (a b : Bool) → T (a && b) → T a
+first true b p = tt
+first false b p = p
+
+second : (a b : Bool) → T (a && b) → T b
+second true b p = p
+second false b p = absurd p
+
+above_first : (n : List ℕ) (xs : Attributes) → AllByRecursion (λ m. name_cmp n m ≡ Less) (names_of xs) → T (below_all name_cmp n xs)
+above_first n [] h = tt
+above_first n (x ∷ xs) h = both _ _ (less_is (name_cmp n x.0) h.0) (above_first n xs h.1)
+
+above_first_back : (n : List ℕ) (xs : Attributes) → T (below_all name_cmp n xs) → AllByRecursion (λ m. name_cmp n m ≡ Less) (names_of xs)
+above_first_back n [] h = tt
+above_first_back n (x ∷ xs) h = (is_less (name_cmp n x.0) (first _ _ h), above_first_back n xs (second _ _ h))
+
+-- ascending names are sorted entries
+pub sorted_from_ascending : (xs : Attributes) → IsAscending xs → T (is_sorted name_cmp xs)
+unfolding IsStrictlySortedBy
+sorted_from_ascending [] h = tt
+sorted_from_ascending (x ∷ xs) h = both _ _ (above_first x.0 xs h.0) (sorted_from_ascending xs h.1)
+
+pub ascending_from_sorted : (xs : Attributes) → T (is_sorted name_cmp xs) → IsAscending xs
+unfolding IsStrictlySortedBy
+ascending_from_sorted [] h = tt
+ascending_from_sorted (x ∷ xs) h = (above_first_back x.0 xs (first _ _ h), ascending_from_sorted xs (second _ _ h))
+
+-- ---- an attribute put in its place
+
+pub IsAscending-with : (n : List ℕ) (t : Type') (xs : Attributes) → IsAscending xs → IsAscending (with_attribute xs (n, t))
+IsAscending-with n t xs h = ascending_from_sorted _ (is_sorted-put name_cmp nat_list_cmp_total n t xs (sorted_from_ascending xs h))
+
+pub type_at-with : (m n : List ℕ) (t : Type') (xs : Attributes) → type_at m (with_attribute xs (n, t)) ≡ (if same_name n m then Some t else type_at m xs)
+type_at-with m n t xs = sym (find-type_at m (with_attribute xs (n, t))) ∙ find-put name_cmp nat_list_cmp_total m n t xs ∙ rw (find-type_at m xs, same_name-ties n m) refl
+
+-- two headings with the same types are the same
+pub types_determine_heading : TypesDetermineHeading
+types_determine_heading g h a b e =
+    same_entries name_cmp nat_list_cmp_total exact_bytes g h (sorted_from_ascending g a) (sorted_from_ascending h b) (λ n. find-type_at n g ∙ e n ∙ sym (find-type_at n h))
+
+-- an attribute inserted before the first that does not stand before its name is put in its place
+pub insert-with : (n : List ℕ) (t : Type') (xs : Attributes) → is_some (type_at n xs) ≡ false
+    → insert xs (prefix_len (λ a. is_lt (name_cmp a.0 n)) xs) (n, t) ≡ with_attribute xs (n, t)
+insert-with n t [] h = refl
+insert-with n t (x ∷ xs) h = by_order (insert-with n t xs) (name_cmp x.0 n) refl (nat_list_cmp_total.antisymm n x.0)
+  where
+    by_order : (is_some (type_at n xs) ≡ false → insert xs (prefix_len (λ a. is_lt (name_cmp a.0 n)) xs) (n, t) ≡ with_attribute xs (n, t))
+        → (o : Ordering) → name_cmp x.0 n ≡ o → name_cmp n x.0 ≡ ordering_reverse (name_cmp x.0 n)
+        → insert (x ∷ xs) (prefix_len (λ a. is_lt (name_cmp a.0 n)) (x ∷ xs)) (n, t) ≡ with_attribute (x ∷ xs) (n, t)
+    by_order rest Less e r =
+        let above : name_cmp n x.0 ≡ Greater = r ∙ ap ordering_reverse e in
+        let none : is_some (type_at n xs) ≡ false = rw (same_name-ties x.0 n, above) at h in
+        let next : 1 + prefix_len (λ a. is_lt (name_cmp a.0 n)) xs ≡ suc (prefix_len (λ a. is_lt (name_cmp a.0 n)) xs) = omega arith in
+        rw (e, above, next) (ap (λ r. x ∷ r) (rest none))
+    by_order rest Equal e r =
+        let tied : name_cmp n x.0 ≡ Equal = r ∙ ap ordering_reverse e in
+        let some : true ≡ false = rw (same_name-ties x.0 n, tied) at h in
+        cc
+    by_order rest Greater e r =
+        let below : name_cmp n x.0 ≡ Less = r ∙ ap ordering_reverse e in
+        rw (e, below) refl
+
+-- ---- the attributes of some names
+
+pub IsAscending-filter : (p : List ℕ → Bool) (xs : Attributes) → IsAscending xs → IsAscending (filter (λ a. p a.0) xs)
+IsAscending-filter p xs h = ascending_from_sorted _ (is_sorted-where_key name_cmp p xs (sorted_from_ascending xs h))
+
+pub type_at-filter : (p : List ℕ → Bool) (n : List ℕ) (xs : Attributes) → type_at n (filter (λ a. p a.0) xs) ≡ (if p n then type_at n xs else None)
+type_at-filter p n xs =
+    sym (find-type_at n (filter (λ a. p a.0) xs)) ∙ find-where_key name_cmp p n (λ m e. ap p (sym (exact_bytes n m e))) xs ∙ ap (λ t. if p n then t else None) (find-type_at n xs)
+
+same_name-flips : (m n : List ℕ) → same_name m n ≡ same_name n m
+same_name-flips m n = texts_ties m n ∙ (eq_by_cmp_equiv nat_list_cmp_total).symm m n ∙ sym (texts_ties n m)
+
+if_not : {A : Type 0} (b : Bool) (x y : A) → (if not b then x else y) ≡ (if b then y else x)
+if_not true x y = refl
+if_not false x y = refl
+
+pub type_at-without : (name n : List ℕ) (xs : Attributes) → type_at n (without_attribute name xs) ≡ (if same_name name n then None else type_at n xs)
+type_at-without name n xs =
+    type_at-filter (λ m. not (same_name m name)) n xs ∙ rw (same_name-flips name n) (if_not (same_name n name) (type_at n xs) None)
+
+-- ---- the attributes of one heading, and those of another that it lacks
+
+same_when_found : {A : Type 0} (o : Option A) → (if is_some o then o else None) ≡ o
+same_when_found None = refl
+same_when_found (Some a) = refl
+
+type_at-add_missing : (n : List ℕ) (h xs : Attributes) (a : Attribute) (there : Bool) → there ≡ has_attribute a.0 h
+    → (same : Bool) → same ≡ same_name a.0 n
+    → (if is_some (type_at n (add_missing h a)) then type_at n (add_missing h a) else type_at n xs) ≡ (if is_some (type_at n h) then type_at n h else type_at n (a ∷ xs))
+type_at-add_missing n h xs a true e true f =
+    let there : true ≡ has_attribute n h = subst (λ m. true ≡ has_attribute m h) (same_text a.0 n f) e in
+    rw (← e, ← there) refl
+type_at-add_missing n h xs a true e false f = rw (← e, ← f) refl
+type_at-add_missing n h xs a false e true f =
+    let lacking : false ≡ has_attribute n h = subst (λ m. false ≡ has_attribute m h) (same_text a.0 n f) e in
+    rw (← e, type_at-with n a.0 a.1 h, ← f, ← lacking) refl
+type_at-add_missing n h xs a false e false f = rw (← e, type_at-with n a.0 a.1 h, ← f) refl
+
+pub type_at-union : (n : List ℕ) (h xs : Attributes) → type_at n (heading_union h xs) ≡ (if has_attribute n h then type_at n h else type_at n xs)
+type_at-union n h [] = sym (same_when_found (type_at n h))
+type_at-union n h (a ∷ xs) = type_at-union n (add_missing h a) xs ∙ type_at-add_missing n h xs a _ refl _ refl
+
+pub IsAscending-without : (name : List ℕ) (xs : Attributes) → IsAscending xs → IsAscending (without_attribute name xs)
+IsAscending-without name = IsAscending-filter (λ n. not (same_name n name))
+
+pub IsAscending-projection : (names : List (List ℕ)) (xs : Attributes) → IsAscending xs → IsAscending (projection names xs)
+IsAscending-projection names = IsAscending-filter (λ n. has_name n names)
+
+pub type_at-projection : (names : List (List ℕ)) (n : List ℕ) (xs : Attributes) → type_at n (projection names xs) ≡ (if has_name n names then type_at n xs else None)
+type_at-projection names = type_at-filter (λ n. has_name n names)
+
+pub IsAscending-common : (g h : Attributes) → IsAscending g → IsAscending (common_part g h)
+IsAscending-common g h = IsAscending-filter (λ n. has_attribute n h) g
+
+pub type_at-common : (n : List ℕ) (g h : Attributes) → type_at n (common_part g h) ≡ (if has_attribute n h then type_at n g else None)
+type_at-common n g h = type_at-filter (λ m. has_attribute m h) n g
+
+IsAscending-add_missing : (h : Attributes) (a : Attribute) (there : Bool) → there ≡ has_attribute a.0 h → IsAscending h → IsAscending (add_missing h a)
+IsAscending-add_missing h a true e i = rw (← e) i
+IsAscending-add_missing h a false e i = rw (← e) (IsAscending-with a.0 a.1 h i)
+
+pub IsAscending-union : (h xs : Attributes) → IsAscending h → IsAscending (heading_union h xs)
+IsAscending-union h [] i = i
+IsAscending-union h (a ∷ xs) i = IsAscending-union (add_missing h a) xs (IsAscending-add_missing h a _ refl i)
+
+pub IsAscending-renamed : (renamings : List (List ℕ × List ℕ)) (h : Attributes) → IsAscending (heading_renamed renamings h)
+unfolding IsStrictlySortedBy
+IsAscending-renamed renamings h = IsAscending-union [] (renamed renamings h) tt
+
+pub type_at-renamed : (renamings : List (List ℕ × List ℕ)) (n : List ℕ) (h : Attributes) → type_at n (heading_renamed renamings h) ≡ type_at n (renamed renamings h)
+type_at-renamed renamings n h = type_at-union n [] (renamed renamings h)
+
+-- ---- agreement
+
+and_first : (a b : Bool) → (a && b) ≡ true → a ≡ true
+and_first true b h = refl
+and_first false b h = cc
+
+and_second : (a b : Bool) → (a && b) ≡ true → b ≡ true
+and_second true b h = h
+and_second false b h = cc
+
+agreed : (s t : Type') (found : Option Type') → is_type_or_none s found ≡ true → found ≡ Some t → s ≡ t
+agreed s t None h e = cc
+agreed s t (Some u) h e = let same : u ≡ s = (type_eq-Decides u s).0 h in cc
+
+one_type : (g h : Attributes) → agree g h ≡ true → (n : List ℕ) (s t : Type') → type_at n g ≡ Some s → type_at n h ≡ Some t → s ≡ t
+one_type [] h a n s t e f = cc
+one_type (x ∷ g) h a n s t e f = by_name (one_type g h (and_second _ _ a) n s t) (same_name x.0 n) refl
+  where
+    by_name : (type_at n g ≡ Some s → type_at n h ≡ Some t → s ≡ t) → (same : Bool) → same ≡ same_name x.0 n → s ≡ t
+    by_name rest true is =
+        let here : Some x.1 ≡ Some s = rw (← is) at e in
+        let type : x.1 ≡ s = cc in
+        let found : type_at x.0 h ≡ Some t = subst (λ m. type_at m h ≡ Some t) (sym (same_text x.0 n is)) f in
+        sym type ∙ agreed x.1 t (type_at x.0 h) (and_first _ _ a) found
+    by_name rest false is = rest (rw (← is) at e) f
+
+absent : (n : List ℕ) (xs : Attributes) → AllByRecursion (λ m. name_cmp n m ≡ Less) (names_of xs) → type_at n xs ≡ None
+absent n [] h = refl
+absent n (x ∷ xs) h = rw (same_name-ties x.0 n, h.0) (absent n xs h.1)
+
+agrees : (s : Type') (found : Option Type') → ((t : Type') → found ≡ Some t → s ≡ t) → is_type_or_none s found ≡ true
+agrees s None h = refl
+agrees s (Some t) h = (type_eq-Decides t s).1 (sym (h t refl))
+
+and_both : (a b : Bool) → a ≡ true → b ≡ true → (a && b) ≡ true
+and_both true b p q = q
+and_both false b p q = cc
+
+agree_from_one_type : (g h : Attributes) → IsAscending g → ((n : List ℕ) (s t : Type') → type_at n g ≡ Some s → type_at n h ≡ Some t → s ≡ t) → agree g h ≡ true
+unfolding IsStrictlySortedBy
+agree_from_one_type [] h i one = refl
+agree_from_one_type (x ∷ g) h i one =
+    and_both _ _ (agrees x.1 (type_at x.0 h) (λ t. one x.0 x.1 t (rw (same_name-ties x.0 x.0, (eq_by_cmp_equiv nat_list_cmp_total).refl x.0) refl)))
+    (agree_from_one_type g h i.1 (λ n s t e f. one n s t (later n s e (same_name x.0 n) refl) f))
+  where
+    later : (n : List ℕ) (s : Type') → type_at n g ≡ Some s → (same : Bool) → same ≡ same_name x.0 n → type_at n (x ∷ g) ≡ Some s
+    later n s e true is =
+        let none : type_at n g ≡ None = subst (λ m. type_at m g ≡ None) (same_text x.0 n is) (absent x.0 g i.0) in
+        cc
+    later n s e false is = rw (← is) e
+
+pub agreement_is_one_type : AgreementIsOneType
+agreement_is_one_type g h i = (one_type g h, agree_from_one_type g h i)
