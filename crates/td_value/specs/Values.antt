@@ -5,7 +5,7 @@ use Rattle.std.specs.declared.cmp.Ordering.{Ordering}
 use Rattle.std.specs.declared.cmp.Ordering.TheVariants.{Less, Equal, Greater}
 use Rattle.std.specs.Cmp.Lexicographic.{slice_cmp}
 use Rattle.std.specs.List.Sorted.{IsStrictlySortedBy}
-use Rattle.std.specs.List.{AllByRecursion}
+use Rattle.std.specs.List.{Contains}
 use Rattle.td_tree.specs.Names.{IsName}
 use Rattle.td_types.specs.Types.{Type', same_name, Attrs, no_attrs, attr, Attributes, attrs_cmp, pack}
 use Rattle.td_types.specs.Types as types
@@ -225,3 +225,7 @@ IsTupleOf h t = AreFields (pack_fields t) × IsStrictlySortedBy (slice_cmp nat_c
 abbrev pub value_at : List ℕ → Entries → Option Val
 value_at n [] = None
 value_at n (e ∷ es) = if same_name e.0 n then Some e.1 else value_at n es
+
+-- any two of the tuples have the same names
+abbrev pub HaveSameNames : List Entries → Type 0
+HaveSameNames ts = (s t : Entries) → Contains ts s → Contains ts t → names_of s ≡ names_of t

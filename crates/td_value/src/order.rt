@@ -2,7 +2,7 @@
 ghost use Rattle.std.specs.Prelude.{◌≡◌, length};
 ghost use Rattle.td_types.specs.Types.{attrs_cmp, pack};
 ghost use Rattle.td_value.specs.Values.{order, user, parts_order, fields_order, rows_order, tuple_order, relation_order, pack_parts, pack_fields, pack_rows, rank};
-ghost use Rattle.td_value.specs.Views.{entries_of};
+ghost use Rattle.td_value.specs.Views.{entries_of, values_of};
 
 use crate::value::{Node, Rel, Tuple, User, Value};
 use std::cmp::Ordering;
@@ -73,6 +73,13 @@ fn compare_tuples(a: &Tuple, b: &Tuple) -> Ordering
     ensures { result ≡ tuple_order a.now b.now }
 {
     compare_entries(&a.names, &a.values, &b.names, &b.values)
+}
+
+/// By the values alone, in name order: of tuples of the same names this is their order.
+pub fn compare_by_values(a: &Tuple, b: &Tuple) -> Ordering
+    ensures { result ≡ parts_order (pack_parts (values_of a.now)) (pack_parts (values_of b.now)) }
+{
+    compare_parts(a.values(), b.values())
 }
 
 #[cycle(compare)]
