@@ -1,0 +1,61 @@
+-- The tuples of one heading: they have the same names, so that their values alone order them.
+use Rattle.std.proofs.Common.{◌≡◌, ◌∙◌, ◌+◌, ◌<◌, ap, sym, refl, arith, ℕ, suc, List, [], ◌∷◌, length, get_or, Bool, false}
+use Rattle.std.specs.Ordering.{eq_by_cmp, is_lt, nat_cmp, ordering_then}
+use Rattle.std.specs.declared.cmp.Ordering.{Ordering}
+use Rattle.std.specs.Cmp.{IsTotalOrder}
+use Rattle.std.specs.Cmp.Lexicographic.{slice_cmp}
+use Rattle.std.specs.List.{All, Contains, dedup}
+use Rattle.std.specs.List.Sorted.{IsSorted, IsSortedBy}
+use Rattle.std.proofs.lemmas.Cmp.{on_total, nat_list_cmp_total, tied_itself}
+use Rattle.std.proofs.lemmas.List.Kept.{Contains-from_dedup}
+use Rattle.std.proofs.lemmas.List.Elements.{All-contains, All-contains_itself}
+use Rattle.td_types.specs.Types.{Attrs, no_attrs, attr, Attributes, pack}
+use Rattle.td_value.specs.Values.{Val, user, Parts, Entries, AreRows, HaveSameNames, IsTupleOf, fields_type, names_of, order, pack_fields, pack_parts, pack_rows, parts_order, tuple_order}
+use Rattle.td_value.specs.ValueOrder.{order_total}
+use Rattle.td_value.specs.Views.{values_of}
+
+-- the order of tuples by their values alone
+abbrev pub by_values : Entries → Entries → Ordering
+by_values s t = parts_order (pack_parts (values_of s)) (pack_parts (values_of t))
+
+pub by_values_total : IsTotalOrder by_values
+by_values_total = on_total (λ (s : Entries). user [] (pack_parts (values_of s))) order_total
+
+-- tuples of the same names compare as their values do
+pub tuple_order-by_values : (s t : Entries) → names_of s ≡ names_of t → tuple_order s t ≡ by_values s t
+tuple_order-by_values [] [] h = refl
+tuple_order-by_values [] (f ∷ t) h = absurd (cc)
+tuple_order-by_values (e ∷ s) [] h = absurd (cc)
+tuple_order-by_values (e ∷ s) (f ∷ t) h =
+    let first : e.0 ≡ f.0 = cc in
+    let rest : names_of s ≡ names_of t = cc in
+    rw (first, tied_itself nat_list_cmp_total f.0, tuple_order-by_values s t rest) refl
+
+attribute_names : Attrs → List (List ℕ)
+attribute_names no_attrs = []
+attribute_names (attr n t h) = n ∷ attribute_names h
+
+names-fields_type : (s : Entries) → attribute_names (fields_type (pack_fields s)) ≡ names_of s
+unfolding attribute_names
+names-fields_type [] = refl
+names-fields_type (e ∷ s) = ap (λ ns. e.0 ∷ ns) (names-fields_type s)
+
+same_heading : (h : Attributes) (s t : Entries) → IsTupleOf h s → IsTupleOf h t → names_of s ≡ names_of t
+same_heading h s t p q = sym (names-fields_type s) ∙ ap attribute_names (p.2 ∙ sym q.2) ∙ names-fields_type t
+
+pub HaveSameNames-from : (h : Attributes) (ts : List Entries) → All (IsTupleOf h) ts → HaveSameNames ts
+HaveSameNames-from h ts a s t p q = same_heading h s t (All-contains (IsTupleOf h) ts s a p) (All-contains (IsTupleOf h) ts t a q)
+
+-- tuples of one heading that are sorted by their values are sorted
+pub sorted_from_values : (h : Attributes) (ts : List Entries) → All (IsTupleOf h) ts → IsSortedBy (λ s t. is_lt (by_values s t)) ts → IsSorted tuple_order ts
+sorted_from_values h ts a up k d l u =
+    let same = same_heading h (get_or ts (k + 1) d) (get_or ts k d) (a (k + 1) d u) (a k d (omega arith)) in
+    rw (tuple_order-by_values (get_or ts (k + 1) d) (get_or ts k d) same) (up k d l u)
+
+pub AreRows-from : (h : Attributes) (ts : List Entries) → All (IsTupleOf h) ts → AreRows (pack h) (pack_rows ts)
+AreRows-from h [] a = tt
+AreRows-from h (t ∷ ts) a = (a 0 t (omega arith), AreRows-from h ts (λ k d p. a (suc k) d (omega arith)))
+
+pub All-dedup : {X : Type 0} (E : X → X → Bool) (P : X → Type 0) (xs : List X) → All P xs → All P (dedup E xs)
+All-dedup E P xs a = λ k d p.
+    All-contains P xs _ a (Contains-from_dedup E xs _ (All-contains_itself (dedup E xs) k d p))

@@ -1,0 +1,19 @@
+use Rattle.std.proofs.Common.{◌≡◌, ◌∙◌, ap, sym, subst, length, ℕ, List}
+use Rattle.td_value.specs.Values.{IsTuple, names_of}
+use Rattle.td_value.specs.Views.{entries_of}
+use Rattle.td_value.proofs.Zips.{zip_names}
+use Rattle.td_value.proofs.relation.take_names.Goals as goal
+
+pub invariant_of-row : goal.invariant_of-row
+invariant_of-row c =
+    let inside = c.row.inside in
+    let same : c.in_ok-row-inside.field-0.value.items ≡ inside.names.value.items =
+    ap (λ v. v.items) c.in_ok-row-inside.ensures.cases ∙ c.requires ∙ ap names_of (sym c.row.view_is) ∙ zip_names inside.names.value.items inside.values.items c.row.invariant.0 in
+    subst (λ ns. (length ns ≡ length inside.values.items) × IsTuple (entries_of ns inside.values.items)) (sym same) c.row.invariant
+
+pub returns : goal.returns
+returns c =
+    let inside = c.row.inside in
+    let same : c.in_ok-row-inside.field-0.value.items ≡ inside.names.value.items =
+    ap (λ v. v.items) c.in_ok-row-inside.ensures.cases ∙ c.requires ∙ ap names_of (sym c.row.view_is) ∙ zip_names inside.names.value.items inside.values.items c.row.invariant.0 in
+    ap (λ ns. entries_of ns inside.values.items) same ∙ c.row.view_is

@@ -1,0 +1,144 @@
+-- The order of values is a total order, in which only equal values tie.
+use Rattle.std.specs.Prelude.{◌≡◌, ℕ, zero, suc, pos, Bool, true, false, List, [], ◌∷◌, refl}
+use Rattle.std.specs.declared.cmp.Ordering.{Ordering}
+use Rattle.std.specs.declared.cmp.Ordering.TheVariants.{Less, Equal, Greater}
+use Rattle.std.specs.Ordering.{nat_cmp, int_cmp, bool_cmp, ordering_then, ordering_reverse, on, eq_by_cmp, as_partial_cmp, is_eq}
+use Rattle.std.specs.Cmp.{IsTotalOrder, IsEquivalence, IsPartialEquivalence, IsPartialOrder, partial_equiv_from_equiv, partial_order_from_agreeing_total}
+use Rattle.std.specs.Cmp.Lexicographic.{slice_cmp}
+use Rattle.std.proofs.Common.{ap, sym, subst, ◌∙◌, true≢false}
+use Rattle.std.specs.Prelude.{IsTrue}
+use Rattle.std.specs.Bool.{Decides}
+use Rattle.td_value.specs.Hashes.{fed_value, fed_tuple, fed_relation}
+use Rattle.std.proofs.lemmas.Cmp.{on_total, then_total, nat_list_cmp_total, eq_by_cmp_equiv, tied_itself}
+use Rattle.td_types.specs.Keys.{Key, key, Keys, no_keys, more, key_cmp, keys_cmp, key_cmp_total, key_same, list_same, nat_same, then_equal}
+use Rattle.td_types.specs.Types.{Attrs, no_attrs, attrs_cmp, attrs_keys, unpack, unpack_pack, pack}
+use Rattle.td_types.specs.TypeOrder.{attrs_cmp-keys}
+use Rattle.td_value.specs.Values.{Val, boolean, integer, text, user, tuple, relation, Parts, no_parts, part, Fields, no_fields, field, Rows, no_rows, row, Entries, Relation, pack_fields, unpack_fields, pack_rows, unpack_rows, order, parts_order, fields_order, rows_order, rank, tuple_order, relation_order, entry_order}
+use Rattle.td_value.specs.ValueCode.{val_key, parts_keys, fields_keys, rows_keys, bit, val_from, val_back, unpack_pack_fields, unpack_pack_rows}
+
+then_equal_right : (o : Ordering) → ordering_then o Equal ≡ o
+then_equal_right Less = refl
+then_equal_right Equal = refl
+then_equal_right Greater = refl
+
+bool_int : (a b : Bool) → bool_cmp a b ≡ int_cmp (bit a) (bit b)
+bool_int false false = refl
+bool_int false true = refl
+bool_int true false = refl
+bool_int true true = refl
+
+mutual
+  pub order-key : (v w : Val) → order v w ≡ key_cmp (val_key v) (val_key w)
+  order-key (boolean a) (boolean b) = bool_int a b ∙ sym (then_equal_right (int_cmp (bit a) (bit b)))
+  order-key (integer x) (integer y) = sym (then_equal_right (int_cmp x y))
+  order-key (text s) (text t) = sym (then_equal_right (slice_cmp nat_cmp s t))
+  order-key (user m ps) (user n qs) = ap (ordering_then (slice_cmp nat_cmp m n)) (parts_order-keys ps qs)
+  order-key (tuple fs) (tuple gs) = fields_order-keys fs gs
+  order-key (relation h rs) (relation i ss) = rw (attrs_cmp-keys h i, rows_order-keys rs ss)
+  order-key v w = refl
+
+  pub parts_order-keys : (ps qs : Parts) → parts_order ps qs ≡ keys_cmp (parts_keys ps) (parts_keys qs)
+  parts_order-keys no_parts no_parts = refl
+  parts_order-keys no_parts (part w qs) = refl
+  parts_order-keys (part v ps) no_parts = refl
+  parts_order-keys (part v ps) (part w qs) = rw (order-key v w, parts_order-keys ps qs)
+
+  pub fields_order-keys : (fs gs : Fields) → fields_order fs gs ≡ keys_cmp (fields_keys fs) (fields_keys gs)
+  fields_order-keys no_fields no_fields = refl
+  fields_order-keys no_fields (field n w gs) = refl
+  fields_order-keys (field m v fs) no_fields = refl
+  fields_order-keys (field m v fs) (field n w gs) =
+      rw (order-key v w, fields_order-keys fs gs, then_equal_right (slice_cmp nat_cmp m n))
+
+  pub rows_order-keys : (rs ss : Rows) → rows_order rs ss ≡ keys_cmp (rows_keys rs) (rows_keys ss)
+  rows_order-keys no_rows no_rows = refl
+  rows_order-keys no_rows (row gs ss) = refl
+  rows_order-keys (row fs rs) no_rows = refl
+  rows_order-keys (row fs rs) (row gs ss) = rw (fields_order-keys fs gs, rows_order-keys rs ss)
+
+-- an order that another's keys give
+pub total_by : {K : Type 0} (R : K → K → Ordering) (f : K → Key) → ((x y : K) → R x y ≡ key_cmp (f x) (f y)) → IsTotalOrder R
+total_by R f is = record {
+  antisymm = λ s t. is s t ∙ key_cmp_total.antisymm (f s) (f t) ∙ ap ordering_reverse (sym (is t s));
+  trans = λ s t u p q. is s u ∙ key_cmp_total.trans (f s) (f t) (f u) (sym (is s t) ∙ p) (sym (is t u) ∙ q);
+  congr = λ s t u p. is s u ∙ key_cmp_total.congr (f s) (f t) (f u) (sym (is s t) ∙ p) ∙ sym (is t u);
+}
+
+pub order_total : IsTotalOrder order
+order_total = total_by order val_key order-key
+
+-- only equal values tie
+pub order_same : (v w : Val) → order v w ≡ Equal → v ≡ w
+order_same v w e = sym (val_back v) ∙ ap val_from (key_same (val_key v) (val_key w) (sym (order-key v w) ∙ e)) ∙ val_back w
+
+abbrev pub entries_value : Entries → Val
+entries_value t = tuple (pack_fields t)
+
+pub entries_value_same : (s t : Entries) → entries_value s ≡ entries_value t → s ≡ t
+entries_value_same s t e = sym (unpack_pack_fields s) ∙ ap (λ v. unpack_fields (fields_in v)) e ∙ unpack_pack_fields t
+  where
+    fields_in : Val → Fields
+    fields_in (tuple fs) = fs
+    fields_in v = no_fields
+
+pub tuple_order_total : IsTotalOrder tuple_order
+tuple_order_total = on_total entries_value order_total
+
+pub tuple_order_same : (s t : Entries) → tuple_order s t ≡ Equal → s ≡ t
+tuple_order_same s t e = entries_value_same s t (order_same (entries_value s) (entries_value t) e)
+
+abbrev pub relation_value : Relation → Val
+relation_value r = relation (pack r.heading) (pack_rows r.rows)
+
+pub relation_order_total : IsTotalOrder relation_order
+relation_order_total = on_total relation_value order_total
+
+pub equal_from : (o : Ordering) → is_eq o ≡ true → o ≡ Equal
+equal_from Less e = cc
+equal_from Equal e = refl
+equal_from Greater e = cc
+
+-- `==` answers true exactly at one value
+pub value_Decides : (v w : Val) → Decides (eq_by_cmp order v w) (v ≡ w)
+value_Decides v w = (λ e. order_same v w (equal_from (order v w) e), λ e. subst (λ x. eq_by_cmp order v x ≡ true) e (ap is_eq (tied_itself order_total v)))
+
+pub fed_alike : (v w : Val) → IsTrue (eq_by_cmp order v w) → fed_value v ≡ fed_value w
+fed_alike v w h = ap fed_value ((value_Decides v w).0 h)
+
+-- of a total order in which only equal items tie
+same_by : {K : Type 0} (R : K → K → Ordering) → ((x y : K) → R x y ≡ Equal → x ≡ y) → (x y : K) → IsTrue (eq_by_cmp R x y) → x ≡ y
+same_by R same x y h = same x y (equal_from (R x y) h)
+
+pub tuples_fed_alike : (s t : Entries) → IsTrue (eq_by_cmp tuple_order s t) → fed_tuple s ≡ fed_tuple t
+tuples_fed_alike s t h = ap fed_tuple (same_by tuple_order tuple_order_same s t h)
+
+-- the order of relations ties only equal relations
+pub relation_order_same : (r s : Relation) → relation_order r s ≡ Equal → r ≡ s
+relation_order_same r s e = relation_value_same r s (order_same (relation_value r) (relation_value s) e)
+  where
+    heading_in : Val → Attrs
+    heading_in (relation h rs) = h
+    heading_in v = no_attrs
+
+    rows_in : Val → Rows
+    rows_in (relation h rs) = rs
+    rows_in v = no_rows
+
+    relation_value_same : (r s : Relation) → relation_value r ≡ relation_value s → r ≡ s
+    relation_value_same r s e =
+        let h : r.heading ≡ s.heading = sym (unpack_pack r.heading) ∙ ap (λ v. unpack (heading_in v)) e ∙ unpack_pack s.heading in
+        let b : r.rows ≡ s.rows = sym (unpack_pack_rows r.rows) ∙ ap (λ v. unpack_rows (rows_in v)) e ∙ unpack_pack_rows s.rows in
+        λ i. record { heading = h i; rows = b i }
+
+pub relations_fed_alike : (r s : Relation) → IsTrue (eq_by_cmp relation_order r s) → fed_relation r ≡ fed_relation s
+relations_fed_alike r s h = ap fed_relation (same_by relation_order relation_order_same r s h)
+
+-- ---- the order of a tuple's entries
+
+pub entry_order_total : IsTotalOrder entry_order
+entry_order_total = then_total (on_total (λ e. e.0) nat_list_cmp_total) (on_total (λ e. e.1) order_total)
+
+pub entry_order_same : (e f : List ℕ × Val) → entry_order e f ≡ Equal → e ≡ f
+entry_order_same e f h =
+    let both = then_equal (slice_cmp nat_cmp e.0 f.0) (order e.1 f.1) h in
+    λ i. (list_same nat_cmp nat_same e.0 f.0 both.0 i, order_same e.1 f.1 both.1 i)

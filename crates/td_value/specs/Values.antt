@@ -1,0 +1,231 @@
+-- Values, tuples and relations (a relation is a set of tuples, as in Tutorial D; the order of values is this project's own).
+use Rattle.std.specs.Prelude.{◌≡◌, ℕ, zero, suc, ◌+◌, ◌-◌, ◌^◌, ◌<◌, max, ℤ, pos, ◌≤ℤ◌, negsuc, Bool, true, false, cond, List, [], ◌∷◌, ◌++◌, length, map, refl, Option, Some, None, if◌then◌else◌, ◌==◌, IsUtf8}
+use Rattle.std.specs.Ordering.{nat_cmp, int_cmp, bool_cmp, ordering_then}
+use Rattle.std.specs.declared.cmp.Ordering.{Ordering}
+use Rattle.std.specs.declared.cmp.Ordering.TheVariants.{Less, Equal, Greater}
+use Rattle.std.specs.Cmp.Lexicographic.{slice_cmp}
+use Rattle.std.specs.List.Sorted.{IsStrictlySortedBy}
+use Rattle.std.specs.List.{Contains}
+use Rattle.td_tree.specs.Names.{IsName}
+use Rattle.td_types.specs.Types.{Type', same_name, Attrs, no_attrs, attr, Attributes, attrs_cmp, pack}
+use Rattle.td_types.specs.Types as types
+use Rattle.td_value.specs.Sets.{set_of}
+
+-- a value of any type: a user value is a type's name with its components, a tuple a finite map from names to values,
+-- a relation a heading with a set of tuples of that heading (the chapter's)
+mutual
+  pub data Val : Type 0 where
+    boolean : Bool → Val
+    integer : ℤ → Val
+    text : List ℕ → Val
+    user : List ℕ → Parts → Val
+    tuple : Fields → Val
+    relation : Attrs → Rows → Val
+
+  -- a user value's components, in declared order
+  pub data Parts : Type 0 where
+    no_parts : Parts
+    part : Val → Parts → Parts
+
+  -- a tuple inside a value
+  pub data Fields : Type 0 where
+    no_fields : Fields
+    field : List ℕ → Val → Fields → Fields
+
+  -- a relation's tuples inside a value
+  pub data Rows : Type 0 where
+    no_rows : Rows
+    row : Fields → Rows → Rows
+
+-- a tuple: its names with their values, in name order
+abbrev pub Entries : Type 0
+Entries = List (List ℕ × Val)
+
+-- a user value: its type's name, and its components in declared order
+pub record Selected : Type 0 where
+  pub name : List ℕ
+  pub components : List Val
+
+-- a relation: its heading, and its body as the strictly ascending list of its tuples
+pub record Relation : Type 0 where
+  pub heading : Attributes
+  pub rows : List Entries
+
+abbrev pub pack_parts : List Val → Parts
+pack_parts [] = no_parts
+pack_parts (v ∷ vs) = part v (pack_parts vs)
+
+abbrev pub pack_fields : Entries → Fields
+pack_fields [] = no_fields
+pack_fields (e ∷ es) = field e.0 e.1 (pack_fields es)
+
+abbrev pub unpack_fields : Fields → Entries
+unpack_fields no_fields = []
+unpack_fields (field n v fs) = (n, v) ∷ unpack_fields fs
+
+abbrev pub pack_rows : List Entries → Rows
+pack_rows [] = no_rows
+pack_rows (t ∷ ts) = row (pack_fields t) (pack_rows ts)
+
+abbrev pub unpack_rows : Rows → List Entries
+unpack_rows no_rows = []
+unpack_rows (row fs rs) = unpack_fields fs ∷ unpack_rows rs
+
+-- ---- the order of values (this project's own): FALSE before TRUE, numbers by size, texts by their bytes in UTF-8, user
+-- values by their components in declared order, tuples by their values in name order, relations by their ascending lists
+-- of tuples, a proper prefix first. Between values of two types it is some total order, which no output shows
+
+abbrev pub rank : Val → ℕ
+rank (boolean b) = 0
+rank (integer z) = 1
+rank (text s) = 2
+rank (user n ps) = 3
+rank (tuple fs) = 4
+rank (relation h rs) = 5
+
+abbrev mutual
+  pub order : Val → Val → Ordering
+  order (boolean a) (boolean b) = bool_cmp a b
+  order (integer x) (integer y) = int_cmp x y
+  order (text s) (text t) = slice_cmp nat_cmp s t
+  order (user m ps) (user n qs) = ordering_then (slice_cmp nat_cmp m n) (parts_order ps qs)
+  order (tuple fs) (tuple gs) = fields_order fs gs
+  order (relation h rs) (relation i ss) = ordering_then (attrs_cmp h i) (rows_order rs ss)
+  order v w = nat_cmp (rank v) (rank w)
+
+  pub parts_order : Parts → Parts → Ordering
+  parts_order no_parts no_parts = Equal
+  parts_order no_parts (part w qs) = Less
+  parts_order (part v ps) no_parts = Greater
+  parts_order (part v ps) (part w qs) = ordering_then (order v w) (parts_order ps qs)
+
+  pub fields_order : Fields → Fields → Ordering
+  fields_order no_fields no_fields = Equal
+  fields_order no_fields (field n w gs) = Less
+  fields_order (field m v fs) no_fields = Greater
+  fields_order (field m v fs) (field n w gs) = ordering_then (slice_cmp nat_cmp m n) (ordering_then (order v w) (fields_order fs gs))
+
+  pub rows_order : Rows → Rows → Ordering
+  rows_order no_rows no_rows = Equal
+  rows_order no_rows (row gs ss) = Less
+  rows_order (row fs rs) no_rows = Greater
+  rows_order (row fs rs) (row gs ss) = ordering_then (fields_order fs gs) (rows_order rs ss)
+
+abbrev pub tuple_order : Entries → Entries → Ordering
+tuple_order s t = fields_order (pack_fields s) (pack_fields t)
+
+abbrev pub relation_order : Relation → Relation → Ordering
+relation_order r s = ordering_then (attrs_cmp (pack r.heading) (pack s.heading)) (rows_order (pack_rows r.rows) (pack_rows s.rows))
+
+-- the order of a tuple's entries: by name, then by value
+abbrev pub entry_order : List ℕ × Val → List ℕ × Val → Ordering
+entry_order e f = ordering_then (slice_cmp nat_cmp e.0 f.0) (order e.1 f.1)
+
+-- the finite map that pairs of distinct names are, as the set of them in name order
+abbrev pub tuple_of : Entries → Entries
+tuple_of = set_of entry_order
+
+-- ---- the type of a value
+
+abbrev mutual
+  pub type_of : Val → Type'
+  type_of (boolean b) = types.boolean
+  type_of (integer z) = types.integer
+  type_of (text s) = types.text
+  type_of (user n ps) = types.user n
+  type_of (tuple fs) = types.tuple (fields_type fs)
+  type_of (relation h rs) = types.relation h
+
+  pub fields_type : Fields → Attrs
+  fields_type no_fields = no_attrs
+  fields_type (field n v fs) = attr n (type_of v) (fields_type fs)
+
+-- ---- what holds of every value, at every depth
+
+-- the numbers of INTEGER (this project's own range)
+abbrev pub IsInRange : ℤ → Type 0
+IsInRange z = (negsuc (2 ^ 63 - 1) ≤ℤ z) × (z ≤ℤ pos (2 ^ 63 - 1))
+
+-- a tuple's names, in order
+abbrev pub names_of : Entries → List (List ℕ)
+names_of = map (λ e. e.0)
+
+-- the tuples ascend, so none comes twice
+abbrev pub IsAscendingRows : List Entries → Type 0
+IsAscendingRows = IsStrictlySortedBy tuple_order
+
+-- numbers are in range, texts are UTF-8, names are names and ascend, tuples ascend and have their relation's heading
+abbrev mutual
+  pub IsValue : Val → Type 0
+  IsValue (boolean b) = Unit {0}
+  IsValue (integer z) = IsInRange z
+  IsValue (text s) = IsUtf8 s
+  IsValue (user n ps) = IsName n × AreValues ps
+  IsValue (tuple fs) = AreFields fs × IsStrictlySortedBy (slice_cmp nat_cmp) (names_of (unpack_fields fs))
+  IsValue (relation h rs) = AreRows h rs × IsAscendingRows (unpack_rows rs)
+
+  pub AreValues : Parts → Type 0
+  AreValues no_parts = Unit {0}
+  AreValues (part v ps) = IsValue v × AreValues ps
+
+  pub AreFields : Fields → Type 0
+  AreFields no_fields = Unit {0}
+  AreFields (field n v fs) = IsName n × IsValue v × AreFields fs
+
+  pub AreRows : Attrs → Rows → Type 0
+  AreRows h no_rows = Unit {0}
+  AreRows h (row fs rs) = (AreFields fs × IsStrictlySortedBy (slice_cmp nat_cmp) (names_of (unpack_fields fs)) × (fields_type fs ≡ h)) × AreRows h rs
+
+abbrev pub IsTuple : Entries → Type 0
+IsTuple t = IsValue (tuple (pack_fields t))
+
+abbrev pub IsRelation : Relation → Type 0
+IsRelation r = IsValue (relation (pack r.heading) (pack_rows r.rows))
+
+-- ---- how deep values nest
+
+abbrev mutual
+  pub depth : Val → ℕ
+  depth (boolean b) = 0
+  depth (integer z) = 0
+  depth (text s) = 0
+  depth (user n ps) = suc (parts_depth ps)
+  depth (tuple fs) = suc (fields_depth fs)
+  depth (relation h rs) = suc (rows_depth rs)
+
+  pub parts_depth : Parts → ℕ
+  parts_depth no_parts = 0
+  parts_depth (part v ps) = max (suc (depth v)) (parts_depth ps)
+
+  pub fields_depth : Fields → ℕ
+  fields_depth no_fields = 0
+  fields_depth (field n v fs) = max (suc (depth v)) (fields_depth fs)
+
+  pub rows_depth : Rows → ℕ
+  rows_depth no_rows = 0
+  rows_depth (row fs rs) = max (suc (fields_depth fs)) (rows_depth rs)
+
+abbrev pub tuple_depth : Entries → ℕ
+tuple_depth t = fields_depth (pack_fields t)
+
+abbrev pub relation_depth : Relation → ℕ
+relation_depth r = rows_depth (pack_rows r.rows)
+
+abbrev pub selected_depth : Selected → ℕ
+selected_depth u = parts_depth (pack_parts u.components)
+
+abbrev pub IsSelected : Selected → Type 0
+IsSelected u = IsValue (user u.name (pack_parts u.components))
+
+-- a tuple of the heading h
+abbrev pub IsTupleOf : Attributes → Entries → Type 0
+IsTupleOf h t = AreFields (pack_fields t) × IsStrictlySortedBy (slice_cmp nat_cmp) (names_of (unpack_fields (pack_fields t))) × (fields_type (pack_fields t) ≡ pack h)
+
+-- the value that a tuple, as a finite map, gives to a name
+abbrev pub value_at : List ℕ → Entries → Option Val
+value_at n [] = None
+value_at n (e ∷ es) = if same_name e.0 n then Some e.1 else value_at n es
+
+-- any two of the tuples have the same names
+abbrev pub HaveSameNames : List Entries → Type 0
+HaveSameNames ts = (s t : Entries) → Contains ts s → Contains ts t → names_of s ≡ names_of t

@@ -1,0 +1,10 @@
+//! Values, tuples and relations.
+#![tactic(auto)]
+
+mod copy;
+mod hash;
+mod literal;
+mod order;
+mod relation;
+mod tuple;
+pub mod value;

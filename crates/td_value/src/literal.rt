@@ -1,0 +1,164 @@
+//! The literals of values.
+ghost use Rattle.std.specs.Prelude.{◌≡◌, ◌++◌, IfOk, OnOk, codes, false, length};
+ghost use Rattle.std.specs.Fmt.{signed_decimal};
+ghost use Rattle.std.specs.String.{string_bytes};
+ghost use Rattle.td_types.specs.Texts.{comma_if};
+ghost use Rattle.td_value.specs.Literal.{doubled, fields_literal, literal, quotes_if, relation_literal, tuple_literal};
+ghost use Rattle.td_value.specs.Values.{pack_fields, pack_parts, user};
+ghost use Rattle.td_value.specs.Views.{entries_of};
+
+use crate::value::{Node, Rel, Tuple, User, Value};
+use std::alloc::{AllocError, Global};
+use td_tree::name::Name;
+use td_types::text::put_relation_type;
+
+fn put_comma(out: &mut String, later: bool) -> Result<(), AllocError>
+    ensures { OnOk result (string_bytes out.new ≡ string_bytes out.old ++ comma_if later) }
+{
+    if later {
+        out.push_str(", ")?;
+    }
+    Ok(())
+}
+
+fn put_number(out: &mut String, n: i64) -> Result<(), AllocError>
+    ensures { OnOk result (string_bytes out.new ≡ string_bytes out.old ++ signed_decimal n) }
+{
+    let mut buffer = itoa::Buffer::new();
+    out.push_str(buffer.format(n))
+}
+
+fn put_quotes(out: &mut String, later: bool) -> Result<(), AllocError>
+    ensures { OnOk result (string_bytes out.new ≡ string_bytes out.old ++ quotes_if later) }
+{
+    if later {
+        out.push_str("''")?;
+    }
+    Ok(())
+}
+
+/// Puts the text with each quote doubled: its pieces between quotes, with two quotes between.
+fn put_doubled(out: &mut String, content: &str) -> Result<(), AllocError>
+    ensures { OnOk result (string_bytes out.new ≡ string_bytes out.old ++ doubled content.now) }
+{
+    let mut later = false;
+    for piece in content.split('\'') {
+        put_quotes(out, later)?;
+        out.push_str(piece)?;
+        later = true;
+    }
+    Ok(())
+}
+
+fn put_text(out: &mut String, content: &str) -> Result<(), AllocError>
+    ensures { OnOk result (string_bytes out.new ≡ string_bytes out.old ++ (codes "'" ++ doubled content.now ++ codes "'")) }
+{
+    out.push_str("'")?;
+    put_doubled(out, content)?;
+    out.push_str("'")
+}
+
+#[cycle(write)]
+fn write_value(v: &Value, out: &mut String) -> Result<(), AllocError>
+    ensures { OnOk result (string_bytes out.new ≡ string_bytes out.old ++ literal v.now) }
+{
+    match &v.node {
+        Node::Bool(true) => out.push_str("TRUE"),
+        Node::Bool(false) => out.push_str("FALSE"),
+        Node::Int(n) => put_number(out, *n),
+        Node::Text(s) => put_text(out, s.as_str()),
+        Node::User(u) => write_user(u, out),
+        Node::Tup(t) => write_tuple(t, out),
+        Node::Rel(r) => write_relation(r, out),
+    }
+}
+
+#[cycle(write)]
+fn write_user(u: &User, out: &mut String) -> Result<(), AllocError>
+    ensures { OnOk result (string_bytes out.new ≡ string_bytes out.old ++ literal (user u.now.name (pack_parts u.now.components))) }
+{
+    out.push_str(u.name.as_str())?;
+    out.push_str("(")?;
+    let mut later = false;
+    for v in &u.components {
+        put_comma(out, later)?;
+        write_value(v, out)?;
+        later = true;
+    }
+    out.push_str(")")
+}
+
+#[cycle(write)]
+fn write_tuple(t: &Tuple, out: &mut String) -> Result<(), AllocError>
+    ensures { OnOk result (string_bytes out.new ≡ string_bytes out.old ++ tuple_literal t.now) }
+{
+    out.push_str("TUPLE {")?;
+    write_entries(&t.names, &t.values, out)?;
+    out.push_str("}")
+}
+
+#[cycle(write)]
+fn write_entries(names: &[Name], values: &[Value], out: &mut String) -> Result<(), AllocError>
+    requires { length names.now ≡ length values.now }
+    ensures { OnOk result (string_bytes out.new ≡ string_bytes out.old ++ fields_literal false (pack_fields (entries_of names.now values.now))) }
+{
+    let mut place = 0;
+    let mut later = false;
+    for v in values {
+        put_comma(out, later)?;
+        out.push_str(names[place].as_str())?;
+        out.push_str(" ")?;
+        write_value(v, out)?;
+        later = true;
+        place += 1;
+    }
+    Ok(())
+}
+
+#[cycle(write)]
+fn write_relation(r: &Rel, out: &mut String) -> Result<(), AllocError>
+    ensures { OnOk result (string_bytes out.new ≡ string_bytes out.old ++ relation_literal r.now) }
+{
+    put_relation_type(out, &r.heading)?;
+    out.push_str(" {")?;
+    let mut later = false;
+    for t in &r.rows {
+        put_comma(out, later)?;
+        write_tuple(t, out)?;
+        later = true;
+    }
+    out.push_str("}")
+}
+
+impl Value {
+    /// The literal.
+    pub fn literal(&self, alloc: Global) -> Result<String, AllocError>
+        ensures { IfOk result (λ s. string_bytes s ≡ literal self.now) }
+    {
+        let mut out = String::new(alloc);
+        write_value(self, &mut out)?;
+        Ok(out)
+    }
+}
+
+impl Tuple {
+    /// The literal.
+    pub fn literal(&self, alloc: Global) -> Result<String, AllocError>
+        ensures { IfOk result (λ s. string_bytes s ≡ tuple_literal self.now) }
+    {
+        let mut out = String::new(alloc);
+        write_tuple(self, &mut out)?;
+        Ok(out)
+    }
+}
+
+impl Rel {
+    /// The literal.
+    pub fn literal(&self, alloc: Global) -> Result<String, AllocError>
+        ensures { IfOk result (λ s. string_bytes s ≡ relation_literal self.now) }
+    {
+        let mut out = String::new(alloc);
+        write_relation(self, &mut out)?;
+        Ok(out)
+    }
+}

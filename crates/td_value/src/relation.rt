@@ -1,0 +1,67 @@
+//! Relations.
+ghost use Rattle.std.specs.Prelude.{◌≡◌, IfOk, OnOk};
+ghost use Rattle.std.specs.List.{All};
+ghost use Rattle.td_value.specs.Sets.{set_of};
+ghost use Rattle.td_value.specs.Values.{HaveSameNames, IsRelation, IsTupleOf, names_of, tuple_order};
+ghost use Rattle.td_value.specs.Views.{relation_of};
+
+use crate::order::compare_by_values;
+use crate::value::{Rel, Tuple};
+use std::alloc::AllocError;
+use std::rc::Rc;
+use td_tree::name::Name;
+use td_types::ty::Heading;
+
+/// Takes the list of the same names in place of the tuple's own.
+fn take_names(row: &mut Tuple, names: &Rc<Vec<Name>>) -> Result<(), AllocError>
+    requires { names.now.value.items ≡ names_of row.old }
+    ensures { OnOk result (row.new ≡ row.old) }
+{
+    row.names = names.clone()?;
+    Ok(())
+}
+
+/// Lets all tuples share the first one's list of names.
+fn share_names(rows: &mut [Tuple]) -> Result<(), AllocError>
+    requires { HaveSameNames rows.old }
+    ensures { OnOk result (rows.new ≡ rows.old) }
+{
+    let Some(first) = rows.first() else {
+        return Ok(());
+    };
+    let names = first.names.clone()?;
+    for place in 1..rows.len() {
+        let row = &mut rows[place];
+        take_names(row, &names)?;
+    }
+    Ok(())
+}
+
+impl Rel {
+    /// The relation with that heading whose body is the set of the tuples.
+    pub fn new(heading: Heading, mut rows: Vec<Tuple>) -> Result<Rel, AllocError>
+        requires { All (IsTupleOf heading) rows.items }
+        ensures { IfOk result (λ r. r ≡ relation_of heading (set_of tuple_order rows.items)) }
+    {
+        rows.sort_unstable_by(|a, b| compare_by_values(a, b));
+        rows.dedup();
+        rows.shrink_to_fit();
+        share_names(&mut rows)?;
+        Ok(Rel { heading, rows })
+    }
+
+    /// The heading.
+    pub fn heading(&self) -> &Heading
+        ensures { result.now ≡ self.now.heading }
+    {
+        &self.heading
+    }
+
+    /// The tuples, ascending.
+    pub fn rows(&self) -> &[Tuple]
+        ensures rows { result.now ≡ self.now.rows }
+        ensures valid { IsRelation self.now }
+    {
+        &self.rows
+    }
+}

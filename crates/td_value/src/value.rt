@@ -1,0 +1,265 @@
+//! What values, tuples and relations are made of.
+ghost use Rattle.std.specs.Prelude.{◌≡◌, IfOk, length, option_map};
+ghost use Rattle.std.specs.Rc.{rc_str_bytes};
+ghost use Rattle.td_value.specs.Values.{boolean, integer, text, user, tuple, relation, pack_parts, pack_fields, pack_rows, value_at};
+ghost use Rattle.td_value.specs.Views.{node_value, entries_of, relation_of, selected_of};
+ghost use Rattle.td_types.specs.Types.{pack};
+
+use std::alloc::{AllocError, Global};
+use std::marker::Model;
+use std::rc::{Rc, RcStr};
+use td_tree::name::Name;
+use td_types::ty::Heading;
+
+/// A value of any type. A copy of it shares what it is made of.
+#[cycle(value)]
+#[derive(Drop)]
+pub struct Value {
+    pub node: Node,
+}
+
+/// A value, by the kind of its type.
+#[cycle(value)]
+#[derive(Drop)]
+pub enum Node {
+    Bool(bool),
+    Int(i64),
+    Text(RcStr),
+    User(Rc<User>),
+    Tup(Rc<Tuple>),
+    Rel(Rc<Rel>),
+}
+
+/// A user value: its type's name, with its components in declared order.
+#[cycle(value)]
+#[derive(Drop)]
+pub struct User {
+    pub(crate) name: Name,
+    pub(crate) components: Vec<Value>,
+}
+
+/// A finite map from names to values, seen as its entries in name order. The tuples of one relation share one list of
+/// names.
+#[cycle(value)]
+#[derive(Drop)]
+pub struct Tuple {
+    pub(crate) names: Rc<Vec<Name>>,
+    pub(crate) values: Vec<Value>,
+}
+
+/// A heading with a set of tuples, seen as the strictly ascending list of them.
+#[cycle(value)]
+#[derive(Drop)]
+pub struct Rel {
+    pub(crate) heading: Heading,
+    pub(crate) rows: Vec<Tuple>,
+}
+
+impl Model for Value {
+    ghost use Rattle.td_value.specs.Values.{Val, depth, IsValue};
+    ghost use Rattle.td_value.specs.ValueCode.{val_code};
+
+    ghost Value = { Val };
+
+    ghost coded = { val_code };
+
+    ghost use Rattle.td_value.specs.Views.{node_value};
+
+    ghost view = { λ a. node_value a.node };
+
+    ghost invariant = { λ a. IsValue (node_value a.node) };
+
+    ghost size = { depth };
+
+    ghost use Rattle.td_value.specs.Falls.{node_falls};
+
+    ghost size_decreases = { λ a h. node_falls a.node };
+}
+
+impl Model for User {
+    ghost use Rattle.td_value.specs.Values.{Selected, selected_depth, IsSelected};
+    ghost use Rattle.td_value.specs.ValueCode.{selected_code};
+
+    ghost Value = { Selected };
+
+    ghost coded = { selected_code };
+
+    ghost use Rattle.td_value.specs.Views.{selected_of};
+
+    ghost view = { λ a. selected_of a.name a.components.items };
+
+    ghost invariant = { λ a. IsSelected (selected_of a.name a.components.items) };
+
+    ghost size = { selected_depth };
+
+    ghost use Rattle.td_value.specs.Falls.{parts_fall};
+
+    ghost size_decreases = { λ a h. parts_fall a.components.items };
+}
+
+impl Model for Tuple {
+    ghost use Rattle.std.specs.Prelude.{◌≡◌, length};
+    ghost use Rattle.td_value.specs.Values.{Entries, tuple_depth, IsTuple};
+    ghost use Rattle.td_value.specs.ValueCode.{entries_code};
+
+    ghost Value = { Entries };
+
+    ghost coded = { entries_code };
+
+    ghost use Rattle.td_value.specs.Views.{entries_of};
+
+    ghost view = { λ a. entries_of a.names.value.items a.values.items };
+
+    ghost invariant = { λ a. (length a.names.value.items ≡ length a.values.items) × IsTuple (entries_of a.names.value.items a.values.items) };
+
+    ghost size = { tuple_depth };
+
+    ghost use Rattle.td_value.specs.Falls.{fields_fall};
+
+    ghost size_decreases = { λ a h. fields_fall a.names.value.items a.values.items h.0 };
+}
+
+impl Model for Rel {
+    ghost use Rattle.td_value.specs.Values.{Relation, relation_depth, IsRelation};
+    ghost use Rattle.td_value.specs.ValueCode.{relation_code};
+
+    ghost Value = { Relation };
+
+    ghost coded = { relation_code };
+
+    ghost use Rattle.td_value.specs.Views.{relation_of};
+
+    ghost view = { λ a. relation_of a.heading a.rows.items };
+
+    ghost invariant = { λ a. IsRelation (relation_of a.heading a.rows.items) };
+
+    ghost size = { relation_depth };
+
+    ghost use Rattle.td_value.specs.Falls.{relation_falls};
+
+    ghost size_decreases = { λ a h. relation_falls a.rows.items };
+}
+
+impl Value {
+    /// The value TRUE or FALSE.
+    pub fn bool(b: bool) -> Value
+        ensures { result ≡ boolean b }
+    {
+        Value {
+            node: Node::Bool(b),
+        }
+    }
+
+    /// The value of the number.
+    pub fn int(n: i64) -> Value
+        ensures { result ≡ integer n }
+    {
+        Value { node: Node::Int(n) }
+    }
+
+    /// The value of the text.
+    pub fn text(alloc: Global, content: &str) -> Result<Value, AllocError>
+        ensures { IfOk result (λ v. v ≡ text content.now) }
+    {
+        let shared = RcStr::from_str(alloc, content)?;
+        let _ = shared.as_str();
+        let node = Node::Text(shared);
+        Ok(Value { node })
+    }
+
+    /// The user value.
+    pub fn user(alloc: Global, selected: User) -> Result<Value, AllocError>
+        ensures { IfOk result (λ v. v ≡ user selected.name (pack_parts selected.components)) }
+    {
+        let _ = &selected.components;
+        let node = Node::User(Rc::new(alloc, selected)?);
+        Ok(Value { node })
+    }
+
+    /// The tuple as a value.
+    pub fn tuple(alloc: Global, t: Tuple) -> Result<Value, AllocError>
+        ensures { IfOk result (λ v. v ≡ tuple (pack_fields t)) }
+    {
+        let _ = &t.values;
+        let node = Node::Tup(Rc::new(alloc, t)?);
+        Ok(Value { node })
+    }
+
+    /// The relation as a value.
+    pub fn relation(alloc: Global, r: Rel) -> Result<Value, AllocError>
+        ensures { IfOk result (λ v. v ≡ relation (pack r.heading) (pack_rows r.rows)) }
+    {
+        let _ = &r.rows;
+        let node = Node::Rel(Rc::new(alloc, r)?);
+        Ok(Value { node })
+    }
+}
+
+impl User {
+    ghost use Rattle.td_value.specs.Values.{IsSelected};
+
+    /// The name of its type.
+    pub fn name(&self) -> &Name
+        ensures { result.now ≡ self.now.name }
+    {
+        &self.name
+    }
+
+    /// The components in declared order.
+    pub fn components(&self) -> &[Value]
+        ensures components { result.now ≡ self.now.components }
+        ensures valid { IsSelected self.now }
+    {
+        &self.components
+    }
+}
+
+impl Tuple {
+    ghost use Rattle.td_value.specs.Values.{IsTuple, names_of};
+    ghost use Rattle.td_value.specs.Views.{values_of};
+
+    /// How many attributes it has.
+    pub fn len(&self) -> usize
+        ensures { result ≡ length self.now }
+    {
+        self.values.len()
+    }
+
+    /// The names, ascending.
+    pub fn names(&self) -> &[Name]
+        ensures names { result.now ≡ names_of self.now }
+        ensures valid { IsTuple self.now }
+    {
+        &self.names
+    }
+
+    /// The values, in the order of their names.
+    pub fn values(&self) -> &[Value]
+        ensures values { result.now ≡ values_of self.now }
+        ensures valid { IsTuple self.now }
+    {
+        &self.values
+    }
+
+    /// The value of the attribute of that name.
+    pub fn get(&self, name: &Name) -> Option<&Value>
+        ensures { option_map (λ v. v.now) result ≡ value_at name.now self.now }
+    {
+        value_named(&self.names, &self.values, name)
+    }
+}
+
+/// The value that stands where the name does.
+fn value_named<'a>(names: &[Name], values: &'a [Value], name: &Name) -> Option<&'a Value>
+    requires { length names.now ≡ length values.now }
+    ensures { option_map (λ v. v.now) result ≡ value_at name.now (entries_of names.now values.now) }
+{
+    let mut place = 0;
+    for value in values {
+        if names[place] == *name {
+            return Some(value);
+        }
+        place += 1;
+    }
+    None
+}
