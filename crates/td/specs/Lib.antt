@@ -1,4 +1,7 @@
 pub mod CommandLine
+pub mod Database
+pub mod Machine
+pub mod Meaning
 pub mod Grammar
 pub mod Numbers
 pub mod Parsing

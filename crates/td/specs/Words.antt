@@ -8,7 +8,7 @@ use Rattle.td_tree.specs.declared.keyword.Keyword.{Keyword}
 use Rattle.td_tree.specs.declared.token.Kind.{Kind}
 use Rattle.td_tree.specs.declared.token.Kind.TheVariants as kinds
 use Rattle.td_tree.specs.declared.token.Sign.{Sign}
-use Rattle.td_scan.specs.declared.Token.{Token}
+use Rattle.td_scan.specs.declared.token.Token.{Token}
 use Rattle.td.specs.Numbers.{decimal_value}
 
 -- a token without its spelling: a reserved word in any case is that word, digits are their number

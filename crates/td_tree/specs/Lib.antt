@@ -4,6 +4,7 @@ pub mod Division
 pub mod Hashes
 pub mod Keywords
 pub mod Names
+pub mod Outcomes
 pub mod Pieces
 pub mod Signs
 pub mod Spans

@@ -8,7 +8,7 @@ ghost use Rattle.td.specs.Words.{word_of, words};
 
 use crate::engine::number::{MAX_MAGNITUDE, Numeral, magnitude};
 use std::alloc::Global;
-use td_scan::Token;
+use td_scan::token::Token;
 use td_tree::cause::Cause;
 use td_tree::fault::Fault;
 use td_tree::keyword::Keyword;

@@ -12,7 +12,7 @@ use crate::engine::tree::{
     TupleLiteral,
 };
 use std::alloc::Global;
-use td_scan::Token;
+use td_scan::token::Token;
 use td_tree::cause::Cause;
 use td_tree::fault::Fault;
 use td_tree::keyword::Keyword;
