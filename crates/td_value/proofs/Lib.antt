@@ -1,4 +1,7 @@
 pub mod Ends
+pub mod Headed
+pub mod HeadingOf
+pub mod Kept
 pub mod Maps
 pub mod Names
 pub mod Pieces

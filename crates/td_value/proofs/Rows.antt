@@ -1,16 +1,15 @@
 -- The tuples of one heading: they have the same names, so that their values alone order them.
-use Rattle.std.proofs.Common.{◌≡◌, ◌∙◌, ◌+◌, ◌<◌, ap, sym, refl, arith, ℕ, suc, List, [], ◌∷◌, length, get_or, Bool, false}
-use Rattle.std.specs.Ordering.{eq_by_cmp, is_lt, nat_cmp, ordering_then}
+use Rattle.std.proofs.Common.{◌≡◌, ◌∙◌, ◌+◌, ap, sym, refl, arith, ℕ, suc, List, [], ◌∷◌, get_or, Bool}
+use Rattle.std.specs.Ordering.{is_lt}
 use Rattle.std.specs.declared.cmp.Ordering.{Ordering}
 use Rattle.std.specs.Cmp.{IsTotalOrder}
-use Rattle.std.specs.Cmp.Lexicographic.{slice_cmp}
-use Rattle.std.specs.List.{All, Contains, dedup}
+use Rattle.std.specs.List.{All, dedup}
 use Rattle.std.specs.List.Sorted.{IsSorted, IsSortedBy}
 use Rattle.std.proofs.lemmas.Cmp.{on_total, nat_list_cmp_total, tied_itself}
 use Rattle.std.proofs.lemmas.List.Kept.{Contains-from_dedup}
 use Rattle.std.proofs.lemmas.List.Elements.{All-contains, All-contains_itself}
 use Rattle.td_types.specs.Types.{Attrs, no_attrs, attr, Attributes, pack}
-use Rattle.td_value.specs.Values.{Val, user, Parts, Entries, AreRows, HaveSameNames, IsTupleOf, fields_type, names_of, order, pack_fields, pack_parts, pack_rows, parts_order, tuple_order}
+use Rattle.td_value.specs.Values.{user, Entries, AreRows, HaveSameNames, IsTupleOf, fields_type, names_of, pack_fields, pack_parts, pack_rows, parts_order, tuple_order}
 use Rattle.td_value.specs.ValueOrder.{order_total}
 use Rattle.td_value.specs.Views.{values_of}
 

@@ -1,18 +1,16 @@
-use Rattle.std.specs.Prelude.{ℕ, suc, List, [], ◌∷◌, length, ◌≡◌, refl, map, ◌+◌, ◌++◌}
-use Rattle.std.specs.List.{zip}
+use Rattle.std.specs.Prelude.{ℕ, suc, List, [], ◌∷◌, length, ◌≡◌, refl, ◌++◌}
 use Rattle.std.proofs.Common.{arith, ap}
 use Rattle.std.specs.List.Sorted.{IsStrictlySortedBy}
 use Rattle.td_tree.specs.Names.{IsName}
 use Rattle.td_value.specs.ValueCode.{unpack_pack_fields}
 use Rattle.td_value.specs.Hashes.{fed_value, fed_parts, fed_tuple}
 use Rattle.td_value.specs.Views.{entries_of, values_of}
-use Rattle.std.specs.Ordering.{nat_cmp, ordering_then, ordering_reverse}
+use Rattle.std.specs.Ordering.{nat_cmp, ordering_reverse}
 use Rattle.std.specs.declared.cmp.Ordering.{Ordering}
 use Rattle.std.specs.declared.cmp.Ordering.TheVariants.{Less, Equal, Greater}
 use Rattle.std.specs.Cmp.Lexicographic.{slice_cmp}
-use Rattle.std.specs.Cmp.{IsTotalOrder}
 use Rattle.std.proofs.lemmas.Cmp.{nat_list_cmp_total}
-use Rattle.td_value.specs.Values.{Val, Entries, AreFields, IsValue, IsTuple, names_of, tuple_order, parts_order, pack_parts, pack_fields, order}
+use Rattle.td_value.specs.Values.{Val, Entries, AreFields, IsValue, IsTuple, names_of, tuple_order, parts_order, pack_parts, pack_fields}
 
 -- a tuple's names and values are those that it was made of
 pub zip_names : (ns : List (List ℕ)) (vs : List Val) → length ns ≡ length vs → names_of (entries_of ns vs) ≡ ns

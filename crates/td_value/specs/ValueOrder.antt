@@ -1,19 +1,19 @@
 -- The order of values is a total order, in which only equal values tie.
-use Rattle.std.specs.Prelude.{◌≡◌, ℕ, zero, suc, pos, Bool, true, false, List, [], ◌∷◌, refl}
+use Rattle.std.specs.Prelude.{◌≡◌, ℕ, Bool, true, false, List, refl}
 use Rattle.std.specs.declared.cmp.Ordering.{Ordering}
 use Rattle.std.specs.declared.cmp.Ordering.TheVariants.{Less, Equal, Greater}
-use Rattle.std.specs.Ordering.{nat_cmp, int_cmp, bool_cmp, ordering_then, ordering_reverse, on, eq_by_cmp, as_partial_cmp, is_eq}
-use Rattle.std.specs.Cmp.{IsTotalOrder, IsEquivalence, IsPartialEquivalence, IsPartialOrder, partial_equiv_from_equiv, partial_order_from_agreeing_total}
+use Rattle.std.specs.Ordering.{nat_cmp, int_cmp, bool_cmp, ordering_then, ordering_reverse, eq_by_cmp, is_eq}
+use Rattle.std.specs.Cmp.{IsTotalOrder}
 use Rattle.std.specs.Cmp.Lexicographic.{slice_cmp}
-use Rattle.std.proofs.Common.{ap, sym, subst, ◌∙◌, true≢false}
+use Rattle.std.proofs.Common.{ap, sym, subst, ◌∙◌}
 use Rattle.std.specs.Prelude.{IsTrue}
 use Rattle.std.specs.Bool.{Decides}
 use Rattle.td_value.specs.Hashes.{fed_value, fed_tuple, fed_relation}
-use Rattle.std.proofs.lemmas.Cmp.{on_total, then_total, nat_list_cmp_total, eq_by_cmp_equiv, tied_itself}
-use Rattle.td_types.specs.Keys.{Key, key, Keys, no_keys, more, key_cmp, keys_cmp, key_cmp_total, key_same, list_same, nat_same, then_equal}
-use Rattle.td_types.specs.Types.{Attrs, no_attrs, attrs_cmp, attrs_keys, unpack, unpack_pack, pack}
+use Rattle.std.proofs.lemmas.Cmp.{on_total, then_total, nat_list_cmp_total, tied_itself}
+use Rattle.td_types.specs.Keys.{Key, key_cmp, keys_cmp, key_cmp_total, key_same, list_same, nat_same, then_equal}
+use Rattle.td_types.specs.Types.{Attrs, no_attrs, unpack, unpack_pack, pack}
 use Rattle.td_types.specs.TypeOrder.{attrs_cmp-keys}
-use Rattle.td_value.specs.Values.{Val, boolean, integer, text, user, tuple, relation, Parts, no_parts, part, Fields, no_fields, field, Rows, no_rows, row, Entries, Relation, pack_fields, unpack_fields, pack_rows, unpack_rows, order, parts_order, fields_order, rows_order, rank, tuple_order, relation_order, entry_order}
+use Rattle.td_value.specs.Values.{Val, boolean, integer, text, user, tuple, relation, Parts, no_parts, part, Fields, no_fields, field, Rows, no_rows, row, Entries, Relation, pack_fields, unpack_fields, pack_rows, unpack_rows, order, parts_order, fields_order, rows_order, tuple_order, relation_order, entry_order}
 use Rattle.td_value.specs.ValueCode.{val_key, parts_keys, fields_keys, rows_keys, bit, val_from, val_back, unpack_pack_fields, unpack_pack_rows}
 
 then_equal_right : (o : Ordering) → ordering_then o Equal ≡ o

@@ -1,5 +1,5 @@
 -- Values, tuples and relations (a relation is a set of tuples, as in Tutorial D; the order of values is this project's own).
-use Rattle.std.specs.Prelude.{◌≡◌, ℕ, zero, suc, ◌+◌, ◌-◌, ◌^◌, ◌<◌, max, ℤ, pos, ◌≤ℤ◌, negsuc, Bool, true, false, cond, List, [], ◌∷◌, ◌++◌, length, map, refl, Option, Some, None, if◌then◌else◌, ◌==◌, IsUtf8}
+use Rattle.std.specs.Prelude.{◌≡◌, ℕ, suc, ◌-◌, ◌^◌, max, ℤ, pos, ◌≤ℤ◌, negsuc, Bool, List, [], ◌∷◌, map, Option, Some, None, if◌then◌else◌, IsUtf8}
 use Rattle.std.specs.Ordering.{nat_cmp, int_cmp, bool_cmp, ordering_then}
 use Rattle.std.specs.declared.cmp.Ordering.{Ordering}
 use Rattle.std.specs.declared.cmp.Ordering.TheVariants.{Less, Equal, Greater}
@@ -139,6 +139,10 @@ abbrev mutual
   pub fields_type : Fields → Attrs
   fields_type no_fields = no_attrs
   fields_type (field n v fs) = attr n (type_of v) (fields_type fs)
+
+-- the heading of a tuple: each name with the type of its value
+abbrev pub heading_of : Entries → Attributes
+heading_of = map (λ e. (e.0, type_of e.1))
 
 -- ---- what holds of every value, at every depth
 

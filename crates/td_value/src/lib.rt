@@ -7,4 +7,5 @@ mod literal;
 mod order;
 mod relation;
 mod tuple;
+mod types;
 pub mod value;

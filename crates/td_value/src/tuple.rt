@@ -1,10 +1,11 @@
 //! Tuples.
-ghost use Rattle.std.specs.Prelude.{◌≡◌, ◌∷◌, List, ℕ, IfErr, IfOk, OnOk, filter, map, not, true};
+ghost use Rattle.std.specs.Prelude.{◌≡◌, ◌∷◌, List, ℕ, IfErr, IfOk, OnOk, filter, length, not, true};
 ghost use Rattle.std.specs.Ordering.{is_lt, nat_cmp};
 ghost use Rattle.std.specs.Cmp.Lexicographic.{slice_cmp};
 ghost use Rattle.std.specs.List.Sorted.{IsSortedBy, IsStrictlySortedBy};
 ghost use Rattle.td_types.specs.Headings.{are_distinct, has_name, heading_fault};
-ghost use Rattle.td_value.specs.Values.{names_of, tuple_of, value_at};
+ghost use Rattle.td_value.specs.Values.{IsTuple, names_of, tuple_of, value_at};
+ghost use Rattle.td_value.specs.Views.{entries_of};
 
 use crate::value::{Tuple, Value};
 use std::alloc::{AllocError, Global};
@@ -71,4 +72,49 @@ fn from_sorted(alloc: Global, entries: Vec<(Name, Value)>) -> Result<Tuple, Allo
     }
     let names = Rc::new(alloc, names)?;
     Ok(Tuple { names, values })
+}
+
+/// Whether the name is one of the names.
+fn is_among(name: &Name, names: &[Name]) -> bool
+    ensures { result ≡ has_name name.now names.now }
+{
+    names.iter().any(|other| other == name)
+}
+
+/// The tuple of the entries whose names are wanted.
+fn kept_entries(
+    names: &[Name],
+    values: &[Value],
+    wanted: &[Name],
+    alloc: Global,
+) -> Result<Tuple, AllocError>
+    requires same { length names.now ≡ length values.now }
+    requires valid { IsTuple (entries_of names.now values.now) }
+    ensures { IfOk result (λ t. t ≡ filter (λ e. has_name e.0 wanted.now) (entries_of names.now values.now)) }
+{
+    let mut kept_names = Vec::with_capacity(alloc, wanted.len())?;
+    let mut kept_values = Vec::with_capacity(alloc, wanted.len())?;
+    let mut place = 0;
+    for v in values {
+        let name = &names[place];
+        if is_among(name, wanted) {
+            kept_names.push(name.try_clone()?)?;
+            kept_values.push(v.try_clone()?)?;
+        }
+        place += 1;
+    }
+    let names = Rc::new(alloc, kept_names)?;
+    Ok(Tuple {
+        names,
+        values: kept_values,
+    })
+}
+
+impl Tuple {
+    /// The tuple of those attributes alone whose names are among the names.
+    pub fn project(&self, names: &[Name]) -> Result<Tuple, AllocError>
+        ensures { IfOk result (λ t. t ≡ filter (λ e. has_name e.0 names.now) self.now) }
+    {
+        kept_entries(&self.names, &self.values, names, *self.values.allocator())
+    }
 }

@@ -1,7 +1,7 @@
 //! What values, tuples and relations are made of.
 ghost use Rattle.std.specs.Prelude.{◌≡◌, IfOk, length, option_map};
 ghost use Rattle.std.specs.Rc.{rc_str_bytes};
-ghost use Rattle.td_value.specs.Values.{boolean, integer, text, user, tuple, relation, pack_parts, pack_fields, pack_rows, value_at};
+ghost use Rattle.td_value.specs.Values.{AreValues, boolean, integer, text, user, tuple, relation, pack_parts, pack_fields, pack_rows, value_at};
 ghost use Rattle.td_value.specs.Views.{node_value, entries_of, relation_of, selected_of};
 ghost use Rattle.td_types.specs.Types.{pack};
 
@@ -198,6 +198,15 @@ impl Value {
 impl User {
     ghost use Rattle.td_value.specs.Values.{IsSelected};
 
+    /// The user value of the type with that name.
+    pub fn new(name: Name, components: Vec<Value>) -> User
+        ensures { result ≡ selected_of name components.items }
+    {
+        let _ = name.as_str();
+        know_values(&components);
+        User { name, components }
+    }
+
     /// The name of its type.
     pub fn name(&self) -> &Name
         ensures { result.now ≡ self.now.name }
@@ -262,4 +271,13 @@ fn value_named<'a>(names: &[Name], values: &'a [Value], name: &Name) -> Option<&
         place += 1;
     }
     None
+}
+
+/// Each of the values is a value at every depth.
+fn know_values(values: &[Value])
+    ensures { AreValues (pack_parts values.now) }
+{
+    for v in values {
+        let _ = &v.node;
+    }
 }

@@ -1,4 +1,4 @@
-use Rattle.std.proofs.Common.{◌≡◌, ◌++◌, ◌∙◌, ap, sym, arith, length, drop, true, false, lit<, string_bytes, append-nil}
+use Rattle.std.proofs.Common.{◌++◌, ◌∙◌, ap, sym, arith, length, lit<, string_bytes, append-nil}
 use Rattle.std.specs.List.{slice_split}
 use Rattle.std.proofs.lemmas.List.{length_push, at_drop_all}
 use Rattle.std.proofs.lemmas.Iterator.Splits.{YieldsList-from_str_split}

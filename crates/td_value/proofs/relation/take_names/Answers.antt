@@ -1,4 +1,4 @@
-use Rattle.std.proofs.Common.{◌≡◌, ◌∙◌, ap, sym, subst, length, ℕ, List}
+use Rattle.std.proofs.Common.{◌≡◌, ◌∙◌, ap, sym, subst, length}
 use Rattle.td_value.specs.Values.{IsTuple, names_of}
 use Rattle.td_value.specs.Views.{entries_of}
 use Rattle.td_value.proofs.Zips.{zip_names}

@@ -1,7 +1,6 @@
-use Rattle.std.proofs.Common.{◌≡◌, ◌∷◌, ◌+◌, ◌<◌, ◌∙◌, ℕ, List, length, get_or, sym, ap, drop, arith, true, false, subst}
+use Rattle.std.proofs.Common.{◌≡◌, ◌∷◌, ◌+◌, ◌<◌, ◌∙◌, ℕ, List, length, get_or, sym, ap, drop, subst}
 use Rattle.std.specs.Prelude.{not}
 use Rattle.std.proofs.lemmas.List.{at_drop_more, at_drop_all}
-use Rattle.td_types.specs.Types.{same_name}
 use Rattle.td_types.specs.Headings.{are_distinct}
 use Rattle.td_value.specs.Values.{Val, Entries, names_of}
 use Rattle.td_value.proofs.Names.{Sorted, tail_sorted, distinct_apart, distinct_same}

@@ -1,4 +1,4 @@
-use Rattle.std.proofs.Common.{◌≡◌, length, drop}
+use Rattle.std.proofs.Common.{◌≡◌, drop}
 use Rattle.td_value.specs.Values.{value_at}
 use Rattle.td_value.specs.Views.{entries_of}
 use Rattle.td_value.proofs.value.value_named.Given as goal

@@ -1,14 +1,14 @@
-use Rattle.std.proofs.Common.{rules, ◌≡◌, ◌∙◌, sym, ap, subst, refl, true, false, Bool, List, ℕ}
+use Rattle.std.proofs.Common.{rules, ◌≡◌, ◌∙◌, sym, ap, refl, true, false, Bool}
 use Rattle.std.specs.Prelude.{not}
 use Rattle.std.specs.declared.cmp.Ordering.{Ordering}
 use Rattle.std.specs.declared.cmp.Ordering.TheVariants.{Less, Equal, Greater}
 use Rattle.std.specs.Ordering.{is_lt, ordering_then}
-use Rattle.std.specs.List.Sorted.{IsPermutation, IsSorted, IsStrictlySortedBy}
+use Rattle.std.specs.List.Sorted.{IsPermutation, IsSorted}
 use Rattle.std.proofs.lemmas.List.Sorted.{IsPermutation-map}
 use Rattle.td_types.specs.Headings.{are_distinct, heading_fault}
 use Rattle.td_value.specs.Values.{Entries, entry_order, names_of, value_at}
 use Rattle.td_value.proofs.Maps.{sorted_is_tuple_of, value_at-tuple_of}
-use Rattle.td_value.proofs.Names.{Sorted, distinct_permuted, name_cmp, rising}
+use Rattle.td_value.proofs.Names.{Sorted, distinct_permuted, rising}
 use Rattle.td_value.proofs.value.Tuple.new.Goals as goal
 
 same_distinct : (es fs : Entries) → IsPermutation es fs → are_distinct (names_of es) ≡ are_distinct (names_of fs)
