@@ -1,5 +1,6 @@
 pub mod Again
 pub mod Decimals
+pub mod Headings
 pub mod Joins
 pub mod Names
 pub mod Parses

@@ -1,9 +1,9 @@
 -- What expressions mean (the chapter's; the causes are this project's own). In this grammar every cause of an expression
 -- is static, so that its type and its value are found together.
-use Rattle.std.specs.Prelude.{◌≡◌, ℕ, ℤ, pos, ◌-ℤ◌, Bool, true, false, List, [], ◌∷◌, ◌++◌, Option, Some, None, map, fold, if◌then◌else◌}
+use Rattle.std.specs.Prelude.{◌≡◌, ℕ, ℤ, pos, ◌-ℤ◌, ◌&&◌, Bool, true, false, List, [], ◌∷◌, ◌++◌, Option, Some, None, map, fold, if◌then◌else◌}
 use Rattle.std.specs.List.{list_all}
 use Rattle.td_tree.specs.declared.cause.Cause.TheVariants as causes
-use Rattle.td_tree.specs.Outcomes.{Only, Outcome, Valued, Refused, with_value, with_both, gather}
+use Rattle.td_tree.specs.Outcomes.{Only, Outcome, Valued, Refused, with_value, with_both}
 use Rattle.td_types.specs.Headings.{are_distinct, with_attribute}
 use Rattle.td_types.specs.Types.{Attributes}
 use Rattle.td_types.specs.Types as types
@@ -24,37 +24,58 @@ written = map (λ a. (a.name, integer (numeral_value a.numeral)))
 abbrev pub integer_heading : List (List ℕ) → Attributes
 integer_heading = fold (λ heading n. with_attribute heading (n, types.integer)) []
 
--- ---- a name twice is HEADING
-
+-- the heading that the names make; a name twice is HEADING
 abbrev pub heading_meaning : List (List ℕ) → Outcome Attributes
 heading_meaning names = if are_distinct names then Valued (integer_heading names) else Refused (Only causes.Heading)
 
-abbrev pub tuple_meaning : TupleLiteral → Outcome Entries
-tuple_meaning t = if are_distinct (map (λ a. a.name) t) then Valued (tuple_of (written t)) else Refused (Only causes.Heading)
+-- ---- relations as they are written
 
--- ---- relations: headings that are not one are HEADING
+abbrev pub attribute_names : TupleLiteral → List (List ℕ)
+attribute_names = map (λ a. a.name)
 
--- the relation of that heading with these tuples
-abbrev pub relation_of : Attributes → List Entries → Outcome Relation
-relation_of heading tuples =
-    if list_all (λ t. same_heading (heading_of t) heading) tuples then Valued (record { heading = heading; rows = set_of tuple_order tuples }) else Refused (Only causes.Heading)
+abbrev pub tuple_value : TupleLiteral → Entries
+tuple_value t = tuple_of (written t)
+
+abbrev pub tuple_values : List TupleLiteral → List Entries
+tuple_values = map tuple_value
 
 -- the heading of the first tuple
 abbrev pub first_heading : List Entries → Attributes
 first_heading [] = []
 first_heading (t ∷ ts) = heading_of t
 
-abbrev pub literal_meaning : Option (List (List ℕ)) → List TupleLiteral → Outcome Relation
-literal_meaning (Some names) tuples = with_both (heading_meaning names) (gather (map tuple_meaning tuples)) relation_of
-literal_meaning None tuples = with_value (gather (map tuple_meaning tuples)) (λ ts. relation_of (first_heading ts) ts)
+-- the heading of a relation: the written one, or that of its tuples
+abbrev pub literal_heading : Option (List (List ℕ)) → List TupleLiteral → Attributes
+literal_heading (Some names) tuples = integer_heading names
+literal_heading None tuples = first_heading (tuple_values tuples)
 
--- the tuples that are in either
+abbrev pub are_distinct_if : Option (List (List ℕ)) → Bool
+are_distinct_if None = true
+are_distinct_if (Some names) = are_distinct names
+
+-- whether no tuple has a name twice
+abbrev pub are_tuples : List TupleLiteral → Bool
+are_tuples = list_all (λ t. are_distinct (attribute_names t))
+
+-- whether the tuples have the heading
+abbrev pub have_heading : Attributes → List Entries → Bool
+have_heading heading = list_all (λ t. same_heading (heading_of t) heading)
+
+-- whether no heading and no tuple has a name twice, and all have one heading
+abbrev pub is_relation : Option (List (List ℕ)) → List TupleLiteral → Bool
+is_relation names tuples = are_distinct_if names && are_tuples tuples && have_heading (literal_heading names tuples) (tuple_values tuples)
+
+-- the relation with these tuples; what is none is HEADING
+abbrev pub literal_meaning : Option (List (List ℕ)) → List TupleLiteral → Outcome Relation
+literal_meaning names tuples =
+    if is_relation names tuples then Valued (record { heading = literal_heading names tuples; rows = set_of tuple_order (tuple_values tuples) }) else Refused (Only causes.Heading)
+
+-- the tuples that are in either; headings that are not one are HEADING
 abbrev pub union_of : Relation → Relation → Outcome Relation
 union_of r s =
     if same_heading r.heading s.heading then Valued (record { heading = r.heading; rows = set_of tuple_order (r.rows ++ s.rows) }) else Refused (Only causes.Heading)
 
--- ---- a name that is no relvar is NAME_UNKNOWN
-
+-- a name that is no relvar is NAME_UNKNOWN
 abbrev pub known : Option Relvar → Outcome Relvar
 known (Some r) = Valued r
 known None = Refused (Only causes.NameUnknown)

@@ -1,5 +1,5 @@
 -- Sets of causes, and what has a value or such a set (this project's own).
-use Rattle.std.specs.Prelude.{◌≡◌, List, [], ◌∷◌, nat_le, if◌then◌else◌, ◌⊎◌}
+use Rattle.std.specs.Prelude.{◌≡◌, nat_le, if◌then◌else◌, ◌⊎◌}
 use Rattle.td_tree.specs.Causes.{number_of}
 use Rattle.td_tree.specs.declared.cause.Cause.{Cause}
 
@@ -36,8 +36,3 @@ with_both (Valued x) (Valued y) f = f x y
 with_both (Valued x) (Refused ds) f = Refused ds
 with_both (Refused cs) (Valued y) f = Refused cs
 with_both (Refused cs) (Refused ds) f = Refused (Union cs ds)
-
--- the values of all, or the causes of all that have none
-abbrev pub gather : {A : Type 0} → List (Outcome A) → Outcome (List A)
-gather [] = Valued []
-gather (o ∷ os) = with_both o (gather os) (λ x xs. Valued (x ∷ xs))

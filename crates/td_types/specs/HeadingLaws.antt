@@ -112,7 +112,7 @@ pub type_at-filter : (p : List ℕ → Bool) (n : List ℕ) (xs : Attributes) �
 type_at-filter p n xs =
     sym (find-type_at n (filter (λ a. p a.0) xs)) ∙ find-where_key name_cmp p n (λ m e. ap p (sym (exact_bytes n m e))) xs ∙ ap (λ t. if p n then t else None) (find-type_at n xs)
 
-same_name-flips : (m n : List ℕ) → same_name m n ≡ same_name n m
+pub same_name-flips : (m n : List ℕ) → same_name m n ≡ same_name n m
 same_name-flips m n = texts_ties m n ∙ (eq_by_cmp_equiv nat_list_cmp_total).symm m n ∙ sym (texts_ties n m)
 
 if_not : {A : Type 0} (b : Bool) (x y : A) → (if not b then x else y) ≡ (if b then y else x)

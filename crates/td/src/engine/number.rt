@@ -35,3 +35,17 @@ pub fn magnitude(digits: &[u8]) -> Option<u64>
         Some(value)
     }
 }
+
+impl Numeral {
+    ghost use Rattle.td.specs.Meaning.{numeral_value};
+    ghost use Rattle.td.specs.TreeViews.{numeral_of};
+
+    /// The number that it is.
+    pub fn value(self) -> i64
+        ensures { result ≡ numeral_value (numeral_of self) }
+    {
+        let magnitude = i128::from(self.magnitude);
+        let value = if self.minus { -magnitude } else { magnitude };
+        value as i64
+    }
+}
