@@ -1,5 +1,5 @@
 -- The tuples of one heading: they have the same names, so that their values alone order them.
-use Rattle.std.proofs.Common.{◌≡◌, ◌∙◌, ◌+◌, ap, sym, refl, arith, ℕ, suc, List, [], ◌∷◌, get_or, Bool}
+use Rattle.std.proofs.Common.{◌≡◌, ◌∙◌, ◌+◌, ap, sym, refl, arith, ℕ, zero, suc, List, [], ◌∷◌, get_or, Bool}
 use Rattle.std.specs.Ordering.{is_lt}
 use Rattle.std.specs.declared.cmp.Ordering.{Ordering}
 use Rattle.std.specs.Cmp.{IsTotalOrder}
@@ -58,3 +58,8 @@ AreRows-from h (t ∷ ts) a = (a 0 t (omega arith), AreRows-from h ts (λ k d p.
 pub All-dedup : {X : Type 0} (E : X → X → Bool) (P : X → Type 0) (xs : List X) → All P xs → All P (dedup E xs)
 All-dedup E P xs a = λ k d p.
     All-contains P xs _ a (Contains-from_dedup E xs _ (All-contains_itself (dedup E xs) k d p))
+
+pub All-from_rows : (h : Attributes) (ts : List Entries) → AreRows (pack h) (pack_rows ts) → All (IsTupleOf h) ts
+All-from_rows h [] a k d p = absurd (omega arith)
+All-from_rows h (t ∷ ts) a zero d p = a.0
+All-from_rows h (t ∷ ts) a (suc k) d p = All-from_rows h ts a.1 k d (omega arith)

@@ -6,6 +6,11 @@ mod hash;
 mod literal;
 mod order;
 mod relation;
+mod relation_order;
+#[cfg(test)]
+mod tests;
 mod tuple;
+mod tuple_order;
 mod types;
 pub mod value;
+mod value_order;

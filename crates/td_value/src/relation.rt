@@ -2,7 +2,7 @@
 ghost use Rattle.std.specs.Prelude.{◌≡◌, IfOk, OnOk};
 ghost use Rattle.std.specs.List.{All};
 ghost use Rattle.td_value.specs.Sets.{set_of};
-ghost use Rattle.td_value.specs.Values.{HaveSameNames, IsRelation, IsTupleOf, names_of, tuple_order};
+ghost use Rattle.td_value.specs.Values.{HaveSameNames, IsAscendingRows, IsTupleOf, names_of, tuple_order};
 ghost use Rattle.td_value.specs.Views.{relation_of};
 
 use crate::order::compare_by_values;
@@ -60,7 +60,8 @@ impl Rel {
     /// The tuples, ascending.
     pub fn rows(&self) -> &[Tuple]
         ensures rows { result.now ≡ self.now.rows }
-        ensures valid { IsRelation self.now }
+        ensures headed { All (IsTupleOf self.now.heading) self.now.rows }
+        ensures ascending { IsAscendingRows self.now.rows }
     {
         &self.rows
     }

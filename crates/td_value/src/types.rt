@@ -142,7 +142,7 @@ impl Tuple {
     pub fn type_of(&self, alloc: Global) -> Result<Ty, AllocError>
         ensures { IfOk result (λ t. heads.type_of t ≡ types.tuple (pack (heading_of self.now))) }
     {
-        Ok(Ty::Tup(find_heading(alloc, self)?))
+        Ok(Ty::Tup(self.heading(alloc)?))
     }
 }
 

@@ -1,5 +1,5 @@
 //! What values, tuples and relations are made of.
-ghost use Rattle.std.specs.Prelude.{◌≡◌, IfOk, length, option_map};
+ghost use Rattle.std.specs.Prelude.{◌≡◌, ◌↔◌, [], IfOk, IsTrue, length, option_map};
 ghost use Rattle.std.specs.Rc.{rc_str_bytes};
 ghost use Rattle.td_value.specs.Values.{AreValues, boolean, integer, text, user, tuple, relation, pack_parts, pack_fields, pack_rows, value_at};
 ghost use Rattle.td_value.specs.Views.{node_value, entries_of, relation_of, selected_of};
@@ -234,12 +234,19 @@ impl Tuple {
         self.values.len()
     }
 
+    /// Whether it is the tuple without attributes.
+    pub fn is_empty(&self) -> bool
+        ensures { IsTrue result ↔ (self.now ≡ []) }
+    {
+        self.len() == 0
+    }
+
     /// The names, ascending.
     pub fn names(&self) -> &[Name]
         ensures names { result.now ≡ names_of self.now }
         ensures valid { IsTuple self.now }
     {
-        &self.names
+        self.names.as_slice()
     }
 
     /// The values, in the order of their names.
@@ -247,7 +254,7 @@ impl Tuple {
         ensures values { result.now ≡ values_of self.now }
         ensures valid { IsTuple self.now }
     {
-        &self.values
+        self.values.as_slice()
     }
 
     /// The value of the attribute of that name.

@@ -1,0 +1,105 @@
+//! Each call that can want memory, with ample memory, and the literals.
+use crate::value::{Node, Rel, Tuple, User, Value};
+use std::alloc::Global;
+use std::test::Fail;
+use td_tree::cause::Cause;
+use td_tree::fault::Fault;
+use td_tree::name::{Name, is_name};
+use td_types::ty::{Heading, Ty};
+
+fn name(alloc: Global, text: &str) -> Result<Name, Fault> {
+    if !is_name(text) {
+        return Err(Fault::Refused(Cause::Scan));
+    }
+    Ok(Name::new(alloc, text)?)
+}
+
+/// The tuple that gives each name its number.
+fn numbers(alloc: Global, entries: &[(&str, i64)]) -> Result<Tuple, Fault> {
+    let mut pairs = Vec::new(alloc);
+    for (text, number) in entries {
+        pairs.push((name(alloc, text)?, Value::int(*number)))?;
+    }
+    Tuple::new(alloc, pairs)
+}
+
+/// The relation of the heading with those of the tuples that are of it.
+fn relation(heading: Heading, tuples: Vec<Tuple>, alloc: Global) -> Result<Rel, Fault> {
+    let mut rows = Vec::new(alloc);
+    for tuple in tuples {
+        if tuple.has_heading(&heading) {
+            rows.push(tuple)?;
+        }
+    }
+    Ok(Rel::new(heading, rows)?)
+}
+
+#[test]
+fn a_name_twice_is_refused(rt: HostRuntime) -> Result<(), Fail> {
+    let alloc = rt.alloc();
+    let twice = numbers(alloc, &[("A", 1), ("B", 3), ("A", 2)]);
+    assert!(rt; twice.err() == Some(Fault::Refused(Cause::Heading)));
+    Ok(())
+}
+
+#[test]
+fn tuples_are_maps(rt: HostRuntime) -> Result<(), Fail> {
+    let alloc = rt.alloc();
+    let (a, b) = (name(alloc, "A")?, name(alloc, "B")?);
+    let t = numbers(alloc, &[("B", 2), ("A", 1)])?;
+    assert_eq!(rt; t.literal(alloc)?.as_str(), "TUPLE {A 1, B 2}");
+    assert!(rt; t == numbers(alloc, &[("A", 1), ("B", 2)])?);
+    assert!(rt; t.try_clone()? == t);
+    assert!(rt; t.get(&b) == Some(&Value::int(2)));
+    assert!(rt; t.project(&[a])? == numbers(alloc, &[("A", 1)])?);
+    assert!(rt; t.has_heading(&t.heading(alloc)?));
+    assert!(rt; t.type_of(alloc)? == Ty::Tup(t.heading(alloc)?));
+    Ok(())
+}
+
+#[test]
+fn relations_are_sets(rt: HostRuntime) -> Result<(), Fail> {
+    let alloc = rt.alloc();
+    let mut tuples = Vec::new(alloc);
+    for number in [3, 2, 2] {
+        tuples.push(numbers(alloc, &[("A", 1), ("B", number)])?)?;
+    }
+    let heading = numbers(alloc, &[("A", 1), ("B", 2)])?.heading(alloc)?;
+    let r = relation(heading, tuples, alloc)?;
+    let text = "RELATION {A INTEGER, B INTEGER} {TUPLE {A 1, B 2}, TUPLE {A 1, B 3}}";
+    assert_eq!(rt; r.literal(alloc)?.as_str(), text);
+    assert!(rt; r.try_clone()? == r);
+    assert!(rt; r.type_of()? == Ty::Rel(r.heading().try_clone()?));
+    Ok(())
+}
+
+#[test]
+fn dee_has_the_empty_tuple(rt: HostRuntime) -> Result<(), Fail> {
+    let alloc = rt.alloc();
+    let mut tuples = Vec::new(alloc);
+    let dum = relation(Heading::empty(alloc), Vec::new(alloc), alloc)?;
+    tuples.push(numbers(alloc, &[])?)?;
+    let dee = relation(Heading::empty(alloc), tuples, alloc)?;
+    assert_eq!(rt; dee.literal(alloc)?.as_str(), "RELATION {} {TUPLE {}}");
+    assert_eq!(rt; dum.literal(alloc)?.as_str(), "RELATION {} {}");
+    Ok(())
+}
+
+#[test]
+fn values_of_each_type(rt: HostRuntime) -> Result<(), Fail> {
+    let alloc = rt.alloc();
+    let mut components = Vec::new(alloc);
+    components.push(Value::text(alloc, "it's")?)?;
+    components.push(Value::int(-9223372036854775808))?;
+    components.push(Value::bool(true))?;
+    components.push(Value::tuple(alloc, numbers(alloc, &[])?)?)?;
+    let dum = relation(Heading::empty(alloc), Vec::new(alloc), alloc)?;
+    components.push(Value::relation(alloc, dum)?)?;
+    let v = Value::user(alloc, User::new(name(alloc, "T")?, components))?;
+    let text = "T('it''s', -9223372036854775808, TRUE, TUPLE {}, RELATION {} {})";
+    assert_eq!(rt; v.literal(alloc)?.as_str(), text);
+    assert!(rt; v.try_clone()? == v);
+    assert!(rt; v.type_of(alloc)? == Ty::User(name(alloc, "T")?));
+    assert!(rt; matches!(&Value::bool(false).node, Node::Bool(false)));
+    Ok(())
+}
