@@ -6,6 +6,7 @@ pub mod FrontLaws
 pub mod HeldLaws
 pub mod KindLaws
 pub mod PieceLaws
+pub mod SliceLaws
 pub mod StableBytes
 pub mod StatementLaws
 pub mod SymbolLaws

@@ -1,5 +1,5 @@
 -- Where the tokens stand, and what the statements are.
-use Rattle.std.proofs.Common.{◌≡◌, ℕ, ◌+◌, ◌-◌, ◌<◌, ◌≤◌, List, [], ◌∷◌, ◌++◌, length, take, drop, refl, sym, ap, ◌∙◌, subst, arith, Bool, true, false, Option, Some, None, if◌then◌else◌, append_assoc, append-nil, length-append, ◌⊎◌, inl, inr}
+use Rattle.std.proofs.Common.{◌≡◌, ℕ, suc, ◌+◌, ◌-◌, ◌<◌, ◌≤◌, List, [], ◌∷◌, ◌++◌, length, take, drop, refl, sym, ap, ◌∙◌, subst, arith, Bool, true, false, Option, Some, None, if◌then◌else◌, append_assoc, append-nil, length-append, ◌⊎◌, inl, inr}
 use Rattle.std.specs.Prelude.{option_map}
 use Rattle.std.specs.List.{flat_map}
 use Rattle.std.proofs.lemmas.Grind.{flat_map-append}
@@ -33,7 +33,8 @@ slices_from (p ∷ ps) before script at place is =
     slice_more (kind_of p) before text (spell (joined ps)) script at (tokens_from (at + length text) ps) place whole
       (slices_from ps (before ++ text) script (at + length text) (omega (arith, place, length-append before text)) (whole ∙ sym (append_assoc before text (spell (joined ps)))))
 
-joins : (ps : List (List Symbol)) (xs : List Symbol) → IsDivision begins continues ps xs → joined ps ≡ xs
+-- the pieces joined are what they divide
+pub joins : (ps : List (List Symbol)) (xs : List Symbol) → IsDivision begins continues ps xs → joined ps ≡ xs
 joins [] xs d = sym d
 joins (p ∷ ps) xs d = ap (λ r. p ++ r) (joins ps d.0 d.3) ∙ sym d.1
 
@@ -130,3 +131,25 @@ are_split (t ∷ ts) =
 pub are_statements : (at : ℕ) (bytes : List ℕ) → AreStatements (statements at bytes)
 unfolding statements
 are_statements at bytes = are_split (tokens at bytes)
+
+-- ---- how many there are
+
+short_from : (at to : ℕ) (ts : List Entry) → Ascends at to ts → at + length ts ≤ to
+short_from at to [] up = omega (arith, up)
+short_from at to (t ∷ ts) up = omega (arith, up.0, up.1, short_from t.stop to ts up.2)
+
+short_put : (t : Entry) (ss : List (List Entry)) → length (put t ss) ≤ suc (length ss)
+short_put t [] = omega arith
+short_put t (s ∷ ss) = omega arith
+
+short_split : (ts : List Entry) → length (split ts) ≤ length ts
+short_split [] = omega arith
+short_split (t ∷ ts) = elim (ends t) as (λ b. length (if b then (t ∷ []) ∷ split ts else put t (split ts)) ≤ suc (length ts)) [
+      true ↦ omega (arith, short_split ts)
+    | false ↦ omega (arith, short_put t (split ts), short_split ts)
+    ]
+
+-- no more statements than bytes
+pub statements_fit : (at : ℕ) (bytes : List ℕ) → length (statements at bytes) ≤ length bytes
+unfolding statements
+statements_fit at bytes = omega (arith, short_split (tokens at bytes), short_from at (at + length bytes) (tokens at bytes) (ascends at bytes))

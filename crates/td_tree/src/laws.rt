@@ -4,7 +4,7 @@ ghost use Rattle.std.specs.List.{flat_map};
 ghost use Rattle.td_tree.specs.declared.piece.Piece.{Piece};
 ghost use Rattle.td_tree.specs.Division.{IsDivision, up_to};
 ghost use Rattle.td_tree.specs.Pieces.{begins, continues, pieces, state};
-ghost use Rattle.td_tree.specs.Spans.{AreSlices, AreStatements, Ascends};
+ghost use Rattle.td_tree.specs.Spans.{AreOfTheirKind, AreSlices, AreStatements, Ascends};
 ghost use Rattle.td_tree.specs.Spellings.{IsSpelled, characters};
 ghost use Rattle.td_tree.specs.Statements.{Entry, ends, statements, tokens};
 ghost use Rattle.td_tree.specs.Symbols.{Symbol, spell, symbols};
@@ -42,6 +42,13 @@ pub fn pieces_are_as_spelled()
 #[tactic(auto, using(crate::proofs::TokenLaws::slices))]
 pub fn tokens_are_slices()
     ensures { (script : List ℕ) → AreSlices script (tokens 0 script) }
+{
+}
+
+/// What a token is, its bytes say.
+#[tactic(auto, using(crate::proofs::SliceLaws::kinds))]
+pub fn tokens_are_of_their_kind()
+    ensures { (at : ℕ) (bytes : List ℕ) → AreOfTheirKind (tokens at bytes) }
 {
 }
 
