@@ -9,18 +9,16 @@ ghost use Rattle.td_tree.specs.Statements.{first_statement, statements};
 pub fn taken_off_are_the_first()
     ensures { (calls : List Call) → IsTrue (may_be_called false calls)
         → statements 0 (all_called at_first calls).fed
-            ≡ (all_called at_first calls).taken ++ statements (all_called at_first calls).held.offset (all_called at_first calls).held.bytes }
-{
-}
+        ≡ (all_called at_first calls).taken ++ statements (all_called at_first calls).held.offset (all_called at_first calls).held.bytes }
+{}
 
 /// Until the cutter is finished that holds whatever is still to come.
 #[tactic(auto, using(td_tree::proofs::CourseLaws::taken_stay))]
 pub fn taken_off_stay_the_first()
     ensures { (calls : List Call) (more : List ℕ) → IsTrue (may_be_called false calls) → (all_called at_first calls).held.finished ≡ false
         → statements 0 ((all_called at_first calls).fed ++ more)
-            ≡ (all_called at_first calls).taken ++ statements (all_called at_first calls).held.offset ((all_called at_first calls).held.bytes ++ more) }
-{
-}
+        ≡ (all_called at_first calls).taken ++ statements (all_called at_first calls).held.offset ((all_called at_first calls).held.bytes ++ more) }
+{}
 
 /// A finished cutter from which no more can be taken off has given all statements of the script.
 #[tactic(auto, using(td_tree::proofs::CourseLaws::taken_all))]
@@ -28,5 +26,4 @@ pub fn all_are_taken_off()
     ensures { (calls : List Call) → IsTrue (may_be_called false calls) → (all_called at_first calls).held.finished ≡ true
         → first_statement (all_called at_first calls).held ≡ None
         → (all_called at_first calls).taken ≡ statements 0 (all_called at_first calls).fed }
-{
-}
+{}

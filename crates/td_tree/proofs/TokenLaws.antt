@@ -1,5 +1,5 @@
 -- Where the tokens stand, and what the statements are.
-use Rattle.std.proofs.Common.{◌≡◌, ℕ, suc, ◌+◌, ◌-◌, ◌<◌, ◌≤◌, List, [], ◌∷◌, ◌++◌, length, take, drop, refl, sym, ap, ◌∙◌, subst, arith, Bool, true, false, Option, Some, None, if◌then◌else◌, append_assoc, append-nil, length-append, ◌⊎◌, inl, inr}
+use Rattle.std.proofs.Common.{◌≡◌, ℕ, suc, ◌+◌, ◌-◌, ◌<◌, ◌≤◌, List, [], ◌∷◌, ◌++◌, length, take, drop, refl, sym, ap, ◌∙◌, subst, arith, true, false, Option, Some, None, if◌then◌else◌, append_assoc, length-append, inl, inr}
 use Rattle.std.specs.Prelude.{option_map}
 use Rattle.std.specs.List.{flat_map}
 use Rattle.std.proofs.lemmas.Grind.{flat_map-append}
@@ -31,7 +31,7 @@ slices_from (p ∷ ps) before script at place is =
     let parts : spell (joined (p ∷ ps)) ≡ text ++ spell (joined ps) = flat_map-append (λ (s : Symbol). s.text) p (joined ps) in
     let whole : script ≡ before ++ (text ++ spell (joined ps)) = is ∙ ap (λ r. before ++ r) parts in
     slice_more (kind_of p) before text (spell (joined ps)) script at (tokens_from (at + length text) ps) place whole
-      (slices_from ps (before ++ text) script (at + length text) (omega (arith, place, length-append before text)) (whole ∙ sym (append_assoc before text (spell (joined ps)))))
+    (slices_from ps (before ++ text) script (at + length text) (omega (arith, place, length-append before text)) (whole ∙ sym (append_assoc before text (spell (joined ps)))))
 
 -- the pieces joined are what they divide
 pub joins : (ps : List (List Symbol)) (xs : List Symbol) → IsDivision begins continues ps xs → joined ps ≡ xs
@@ -91,9 +91,9 @@ joined_put t (s ∷ ss) = refl
 joined_split : (ts : List Entry) → flat_map (λ s. s) (split ts) ≡ ts
 joined_split [] = refl
 joined_split (t ∷ ts) = elim (ends t) as (λ b. flat_map (λ s. s) (if b then (t ∷ []) ∷ split ts else put t (split ts)) ≡ t ∷ ts) [
-      true ↦ ap (λ r. t ∷ r) (joined_split ts)
-    | false ↦ joined_put t (split ts) ∙ ap (λ r. t ∷ r) (joined_split ts)
-    ]
+  | true ↦ ap (λ r. t ∷ r) (joined_split ts)
+  | false ↦ joined_put t (split ts) ∙ ap (λ r. t ∷ r) (joined_split ts)
+]
 
 -- the statements joined are the tokens
 pub all_tokens : (at : ℕ) (bytes : List ℕ) → flat_map (λ s. s) (statements at bytes) ≡ tokens at bytes
@@ -105,9 +105,9 @@ ended_put t s more ended = ap (λ b. if b then Some (t ∷ []) else option_map (
 
 unended_put : (t : Entry) (s : List Entry) → ends t ≡ false → up_to ends s ≡ None → IsUnended (t ∷ s)
 unended_put t s more none = record {
-    some = omega arith;
-    none = ap (λ b. if b then Some (t ∷ []) else option_map (λ qs. t ∷ qs) (up_to ends s)) more ∙ ap (option_map (λ qs. t ∷ qs)) none;
-  }
+  some = omega arith;
+  none = ap (λ b. if b then Some (t ∷ []) else option_map (λ qs. t ∷ qs) (up_to ends s)) more ∙ ap (option_map (λ qs. t ∷ qs)) none;
+}
 
 are_put : (t : Entry) (ss : List (List Entry)) → ends t ≡ false → AreStatements ss → AreStatements (put t ss)
 are_put t [] more are = inr (unended_put t [] more refl)
@@ -123,8 +123,8 @@ are_split : (ts : List Entry) → AreStatements (split ts)
 are_split [] = tt
 are_split (t ∷ ts) =
     (elim (ends t) as (λ b. ends t ≡ b → AreStatements (if b then (t ∷ []) ∷ split ts else put t (split ts))) [
-      true ↦ λ e. are_before t (split ts) e (are_split ts)
-    | false ↦ λ e. are_put t (split ts) e (are_split ts)
+      | true ↦ λ e. are_before t (split ts) e (are_split ts)
+      | false ↦ λ e. are_put t (split ts) e (are_split ts)
     ]) refl
 
 -- each statement is ended by its `;`, and the last may be unended
@@ -145,9 +145,9 @@ short_put t (s ∷ ss) = omega arith
 short_split : (ts : List Entry) → length (split ts) ≤ length ts
 short_split [] = omega arith
 short_split (t ∷ ts) = elim (ends t) as (λ b. length (if b then (t ∷ []) ∷ split ts else put t (split ts)) ≤ suc (length ts)) [
-      true ↦ omega (arith, short_split ts)
-    | false ↦ omega (arith, short_put t (split ts), short_split ts)
-    ]
+  | true ↦ omega (arith, short_split ts)
+  | false ↦ omega (arith, short_put t (split ts), short_split ts)
+]
 
 -- no more statements than bytes
 pub statements_fit : (at : ℕ) (bytes : List ℕ) → length (statements at bytes) ≤ length bytes

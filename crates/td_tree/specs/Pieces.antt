@@ -1,5 +1,5 @@
 -- The pieces of a script: how one begins, how it goes on, and what it is (this project's own).
-use Rattle.std.specs.Prelude.{ℕ, Bool, ◌||◌, ◌&&◌, not, is_some, ◌==◌, if◌then◌else◌, List, [], ◌∷◌, Option, Some, None, option_map, option_and_then}
+use Rattle.std.specs.Prelude.{ℕ, Bool, ◌||◌, ◌==◌, if◌then◌else◌, List, Option, Some, None, option_map, option_and_then}
 use Rattle.std.specs.Char.{is_ascii_digit, is_ascii_alphabetic, is_ascii_alphanumeric}
 use Rattle.td_tree.specs.declared.keyword.Keyword.{Keyword}
 use Rattle.td_tree.specs.declared.piece.Piece.{Piece}

@@ -1,5 +1,5 @@
 -- Where the tokens of a script stand (this project's own).
-use Rattle.std.specs.Prelude.{◌≡◌, ℕ, ◌+◌, ◌-◌, ◌<◌, ◌≤◌, List, [], ◌∷◌, take, drop, Option, Some, None, length, ◌⊎◌, ⊤}
+use Rattle.std.specs.Prelude.{◌≡◌, ℕ, ◌-◌, ◌<◌, ◌≤◌, List, [], ◌∷◌, take, drop, Some, None, length, ◌⊎◌, ⊤}
 use Rattle.td_tree.specs.Division.{up_to}
 use Rattle.td_tree.specs.Pieces.{kind_of}
 use Rattle.td_tree.specs.Statements.{Entry, ends}
