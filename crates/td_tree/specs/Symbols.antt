@@ -16,6 +16,7 @@ pub record Symbol : Type 0 where
   pub character : Option ℕ
   pub text : List ℕ
 
+-- the character with these bytes, or where there is none the first byte
 abbrev pub symbol_of : Option ℕ → List ℕ → ℕ → Symbol
 symbol_of (Some c) front b = record { character = Some c; text = front }
 symbol_of None front b = record { character = None; text = b ∷ [] }

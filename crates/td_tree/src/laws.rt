@@ -2,11 +2,10 @@
 ghost use Rattle.std.specs.Prelude.{◌≡◌, ◌+◌, ◌++◌, ◌↔◌, ℕ, List, Some, length};
 ghost use Rattle.std.specs.List.{flat_map};
 ghost use Rattle.td_tree.specs.declared.piece.Piece.{Piece};
-ghost use Rattle.td_tree.specs.Division.{IsDivision, up_to};
-ghost use Rattle.td_tree.specs.Pieces.{begins, continues, pieces, state};
+ghost use Rattle.td_tree.specs.Pieces.{AreLongest, pieces, state};
 ghost use Rattle.td_tree.specs.Spans.{AreOfTheirKind, AreSlices, AreStatements, Ascends};
 ghost use Rattle.td_tree.specs.Spellings.{IsSpelled, characters};
-ghost use Rattle.td_tree.specs.Statements.{Entry, ends, statements, tokens};
+ghost use Rattle.td_tree.specs.Statements.{Entry, first_ended, statements, tokens};
 ghost use Rattle.td_tree.specs.Symbols.{Symbol, spell, symbols};
 
 /// The symbols of bytes spell the bytes.
@@ -18,13 +17,13 @@ pub fn symbols_spell_the_bytes()
 /// The pieces of bytes are a division into longest pieces.
 #[tactic(auto, using(crate::proofs::EndOfStatement::divides))]
 pub fn pieces_are_longest()
-    ensures { (bytes : List ℕ) → IsDivision begins continues (pieces bytes) (symbols bytes) }
+    ensures { (bytes : List ℕ) → AreLongest (pieces bytes) bytes }
 {}
 
 /// There is no other division into longest pieces.
 #[tactic(auto, using(crate::proofs::EndOfStatement::one_division))]
 pub fn one_division()
-    ensures { (ps : List (List Symbol)) (bytes : List ℕ) → IsDivision begins continues ps (symbols bytes) → ps ≡ pieces bytes }
+    ensures { (ps : List (List Symbol)) (bytes : List ℕ) → AreLongest ps bytes → ps ≡ pieces bytes }
 {}
 
 /// A piece is what the language's words say of its characters: a blank, a word, a number, a sign, or one
@@ -67,6 +66,6 @@ pub fn statements_end()
 /// A statement that `;` ends is the same in every continuation of the bytes.
 #[tactic(auto, using(crate::proofs::HeldLaws::up_to_first))]
 pub fn same_in_every_continuation()
-    ensures { (at : ℕ) (bytes : List ℕ) (first : List Entry) → up_to ends (tokens at bytes) ≡ Some first
-        → (later : List ℕ) → up_to ends (tokens at (bytes ++ later)) ≡ Some first }
+    ensures { (at : ℕ) (bytes : List ℕ) (first : List Entry) → first_ended at bytes ≡ Some first
+        → (later : List ℕ) → first_ended at (bytes ++ later) ≡ Some first }
 {}
