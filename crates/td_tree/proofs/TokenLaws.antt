@@ -1,5 +1,5 @@
 -- Where the tokens stand, and what the statements are.
-use Rattle.std.proofs.Common.{◌≡◌, ℕ, suc, ◌+◌, ◌-◌, ◌<◌, ◌≤◌, List, [], ◌∷◌, ◌++◌, length, take, drop, refl, sym, ap, ◌∙◌, subst, arith, true, false, Option, Some, None, if◌then◌else◌, append_assoc, length-append, inl, inr}
+use Rattle.std.proofs.Common.{◌≡◌, ℕ, suc, ◌+◌, ◌-◌, ◌<◌, ◌≤◌, List, [], ◌∷◌, ◌++◌, length, take, drop, refl, sym, ap, ◌∙◌, subst, arith, true, false, Option, Some, None, if◌then◌else◌, append_assoc, append-nil, length-append, inl, inr, ⊎_elim}
 use Rattle.std.specs.Prelude.{option_map}
 use Rattle.std.specs.List.{flat_map}
 use Rattle.std.proofs.lemmas.Grind.{flat_map-append}
@@ -11,9 +11,11 @@ use Rattle.td_tree.specs.Pieces.{begins, continues, pieces, kind_of, state}
 use Rattle.td_tree.specs.Spans.{AreSlices, Ascends, IsEnded, IsUnended, AreStatements}
 use Rattle.td_tree.specs.Statements.{Entry, entry_of, tokens_from, tokens, ends, put, split, statements}
 use Rattle.td_tree.specs.Symbols.{Symbol, symbols, spell}
+use Rattle.td_tree.proofs.EndLaws.{up_to_cases}
 use Rattle.td_tree.proofs.EndOfStatement.{divides}
 use Rattle.td_tree.proofs.PieceLaws.{joined, size, size-cons}
 use Rattle.td_tree.proofs.StableBytes.{AllText, all_text, all_front, spelled}
+use Rattle.td_tree.proofs.StatementLaws.{left, split-left, split-first}
 
 -- ---- slices
 
@@ -153,3 +155,32 @@ short_split (t ∷ ts) = elim (ends t) as (λ b. length (if b then (t ∷ []) �
 pub statements_fit : (at : ℕ) (bytes : List ℕ) → length (statements at bytes) ≤ length bytes
 unfolding statements
 statements_fit at bytes = omega (arith, short_split (tokens at bytes), short_from at (at + length bytes) (tokens at bytes) (ascends at bytes))
+
+-- ---- one way to cut tokens into statements
+
+found_before : (s rest : List Entry) → up_to ends s ≡ Some s → up_to ends (s ++ rest) ≡ Some s
+found_before [] rest e = absurd cc
+found_before (t ∷ s) rest e = ⊎_elim
+    (λ o. ap (λ b. if b then Some (t ∷ []) else option_map (λ qs. t ∷ qs) (up_to ends (s ++ rest))) o.yes ∙ ap Some (sym o.one))
+    (λ l.
+      let same : s ≡ l.inner = (let all : t ∷ s ≡ t ∷ l.inner = l.more in cc) in
+      ap (λ b. if b then Some (t ∷ []) else option_map (λ qs. t ∷ qs) (up_to ends (s ++ rest))) l.no
+      ∙ ap (option_map (λ qs. t ∷ qs)) (found_before s rest (l.found ∙ ap Some (sym same))))
+    (up_to_cases ends t s (t ∷ s) e)
+
+left_some : (s : List Entry) → 0 < length s → left s ≡ s ∷ []
+left_some [] some = absurd (omega arith)
+left_some (t ∷ s) some = refl
+
+split_again : (ss : List (List Entry)) → AreStatements ss → split (flat_map (λ s. s) ss) ≡ ss
+split_again [] are = refl
+split_again (s ∷ []) (inl ended) = split-first (s ++ []) s [] (found_before s [] ended) refl
+split_again (s ∷ []) (inr open_yet) = ap split (append-nil s) ∙ split-left s open_yet.none ∙ left_some s open_yet.some
+split_again (s ∷ t ∷ ss) are =
+    split-first (s ++ flat_map (λ q. q) (t ∷ ss)) s (flat_map (λ q. q) (t ∷ ss)) (found_before s (flat_map (λ q. q) (t ∷ ss)) are.0) refl
+    ∙ ap (λ r. s ∷ r) (split_again (t ∷ ss) are.1)
+
+-- tokens are cut into statements in no other way
+pub one_cut : (at : ℕ) (bytes : List ℕ) (ss : List (List Entry)) → AreStatements ss → flat_map (λ s. s) ss ≡ tokens at bytes → ss ≡ statements at bytes
+unfolding statements
+one_cut at bytes ss are all = sym (split_again ss are) ∙ ap split all

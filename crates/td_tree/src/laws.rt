@@ -63,6 +63,13 @@ pub fn statements_end()
     ensures { (at : ℕ) (bytes : List ℕ) → AreStatements (statements at bytes) }
 {}
 
+/// Tokens are cut into statements in no other way.
+#[tactic(auto, using(crate::proofs::TokenLaws::one_cut))]
+pub fn one_cut_into_statements()
+    ensures { (at : ℕ) (bytes : List ℕ) (ss : List (List Entry)) → AreStatements ss
+        → flat_map (λ s. s) ss ≡ tokens at bytes → ss ≡ statements at bytes }
+{}
+
 /// A statement that `;` ends is the same in every continuation of the bytes.
 #[tactic(auto, using(crate::proofs::HeldLaws::up_to_first))]
 pub fn same_in_every_continuation()
