@@ -1,4 +1,5 @@
 pub mod CourseLaws
+pub mod DecodeLaws
 pub mod DivisionLaws
 pub mod EndLaws
 pub mod EndOfStatement

@@ -47,9 +47,6 @@ spelled zero (b ∷ bs) =
     let c = cuts b bs in
     ap (λ r. s.text ++ r) (spelled (length s.text - 1) bs) ∙ ap (λ t. t ++ drop (length s.text - 1) bs) c.text ∙ ap (λ r. b ∷ r) c.rest
 
-pub all_spelled : (bytes : List ℕ) → spell (symbols bytes) ≡ bytes
-all_spelled bytes = spelled 0 bytes
-
 abbrev pub AllText : List Symbol → Type 0
 AllText [] = Unit {0}
 AllText (s ∷ ss) = HasText s × AllText ss

@@ -8,8 +8,8 @@ use Rattle.td_tree.specs.declared.token.Kind.{Kind}
 use Rattle.td_tree.specs.declared.piece.Piece.{Piece}
 use Rattle.td_tree.specs.Division.{IsDivision, up_to}
 use Rattle.td_tree.specs.Pieces.{begins, continues, pieces, kind_of, state}
-use Rattle.td_tree.specs.Spans.{AreSlices, Ascends, IsEnded, IsUnended, AreStatements}
-use Rattle.td_tree.specs.Statements.{Entry, entry_of, tokens_from, tokens, ends, put, split, statements}
+use Rattle.td_tree.specs.Spans.{AreSlices, Ascends}
+use Rattle.td_tree.specs.Statements.{Entry, entry_of, tokens_from, tokens, ends, put, split, statements, IsEnded, IsUnended, AreStatements}
 use Rattle.td_tree.specs.Symbols.{Symbol, symbols, spell}
 use Rattle.td_tree.proofs.EndLaws.{up_to_cases}
 use Rattle.td_tree.proofs.EndOfStatement.{divides}
@@ -163,9 +163,9 @@ found_before [] rest e = absurd cc
 found_before (t ∷ s) rest e = ⊎_elim
     (λ o. ap (λ b. if b then Some (t ∷ []) else option_map (λ qs. t ∷ qs) (up_to ends (s ++ rest))) o.yes ∙ ap Some (sym o.one))
     (λ l.
-      let same : s ≡ l.inner = (let all : t ∷ s ≡ t ∷ l.inner = l.more in cc) in
-      ap (λ b. if b then Some (t ∷ []) else option_map (λ qs. t ∷ qs) (up_to ends (s ++ rest))) l.no
-      ∙ ap (option_map (λ qs. t ∷ qs)) (found_before s rest (l.found ∙ ap Some (sym same))))
+    let same : s ≡ l.inner = (let all : t ∷ s ≡ t ∷ l.inner = l.more in cc) in
+    ap (λ b. if b then Some (t ∷ []) else option_map (λ qs. t ∷ qs) (up_to ends (s ++ rest))) l.no
+    ∙ ap (option_map (λ qs. t ∷ qs)) (found_before s rest (l.found ∙ ap Some (sym same))))
     (up_to_cases ends t s (t ∷ s) e)
 
 left_some : (s : List Entry) → 0 < length s → left s ≡ s ∷ []

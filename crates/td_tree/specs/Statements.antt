@@ -1,5 +1,5 @@
 -- The tokens and statements of a script (this project's own).
-use Rattle.std.specs.Prelude.{ℕ, ◌+◌, ◌-◌, Bool, true, false, if◌then◌else◌, List, [], ◌∷◌, ◌++◌, length, drop, Option, Some, None}
+use Rattle.std.specs.Prelude.{◌≡◌, ◌<◌, ◌⊎◌, ⊤, ℕ, ◌+◌, ◌-◌, Bool, true, false, if◌then◌else◌, List, [], ◌∷◌, ◌++◌, length, drop, Option, Some, None}
 use Rattle.td_tree.specs.declared.token.Kind.{Kind}
 use Rattle.td_tree.specs.declared.token.Kind.TheVariants as kinds
 use Rattle.td_tree.specs.declared.token.Sign.TheVariants as signs
@@ -46,6 +46,21 @@ put token (s ∷ ss) = (token ∷ s) ∷ ss
 abbrev pub split : List Entry → List (List Entry)
 split [] = []
 split (token ∷ rest) = if ends token then (token ∷ []) ∷ split rest else put token (split rest)
+
+-- only its last token is a `;`
+abbrev pub IsEnded : List Entry → Type 0
+IsEnded statement = up_to ends statement ≡ Some statement
+
+-- there is a token, and none is a `;`
+pub record IsUnended (statement : List Entry) : Type 0 where
+  pub some : 0 < length statement
+  pub none : up_to ends statement ≡ None
+
+-- each goes up to and with its `;`; the last may be tokens left
+abbrev pub AreStatements : List (List Entry) → Type 0
+AreStatements [] = ⊤
+AreStatements (s ∷ []) = IsEnded s ⊎ IsUnended s
+AreStatements (s ∷ t ∷ ss) = IsEnded s × AreStatements (t ∷ ss)
 
 -- the statements of these bytes, which begin at this offset of a script
 unfoldable pub statements : ℕ → List ℕ → List (List Entry)

@@ -3,15 +3,15 @@ ghost use Rattle.std.specs.Prelude.{◌≡◌, ◌+◌, ◌++◌, ◌↔◌, ℕ
 ghost use Rattle.std.specs.List.{flat_map};
 ghost use Rattle.td_tree.specs.declared.piece.Piece.{Piece};
 ghost use Rattle.td_tree.specs.Pieces.{AreLongest, pieces, state};
-ghost use Rattle.td_tree.specs.Spans.{AreOfTheirKind, AreSlices, AreStatements, Ascends};
+ghost use Rattle.td_tree.specs.Spans.{AreOfTheirKind, AreSlices, Ascends};
 ghost use Rattle.td_tree.specs.Spellings.{IsSpelled, characters};
-ghost use Rattle.td_tree.specs.Statements.{Entry, first_ended, statements, tokens};
-ghost use Rattle.td_tree.specs.Symbols.{Symbol, spell, symbols};
+ghost use Rattle.td_tree.specs.Statements.{AreStatements, Entry, first_ended, statements, tokens};
+ghost use Rattle.td_tree.specs.Symbols.{AreSymbols, Symbol, symbols};
 
-/// The symbols of bytes spell the bytes.
-#[tactic(auto, using(crate::proofs::StableBytes::all_spelled))]
-pub fn symbols_spell_the_bytes()
-    ensures { (bytes : List ℕ) → spell (symbols bytes) ≡ bytes }
+/// The symbols of bytes spell them, each a character of UTF-8, or one byte where none begins.
+#[tactic(auto, using(crate::proofs::DecodeLaws::are_symbols))]
+pub fn symbols_are_characters()
+    ensures { (bytes : List ℕ) → AreSymbols (symbols bytes) bytes }
 {}
 
 /// The pieces of bytes are a division into longest pieces.
