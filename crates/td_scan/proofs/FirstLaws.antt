@@ -1,13 +1,12 @@
 -- The piece at the front, and the tokens of the bytes.
-use Rattle.std.proofs.Common.{◌≡◌, ℕ, ◌+◌, ◌<◌, ◌≤◌, List, [], ◌∷◌, ◌++◌, length, take, drop, refl, sym, ap, ◌∙◌, subst, arith, Bool, true, Option, Some, None, append_assoc, append-nil, length-append}
+use Rattle.std.proofs.Common.{◌≡◌, ℕ, ◌+◌, ◌<◌, ◌≤◌, List, [], ◌∷◌, ◌++◌, length, take, drop, refl, sym, ap, ◌∙◌, subst, arith, true, Some, None, append_assoc, append-nil, length-append}
 use Rattle.std.specs.Prelude.{option_and_then, ◌==◌}
 use Rattle.std.proofs.lemmas.Bool.Decides.{nat_tests}
 use Rattle.std.proofs.lemmas.Grind.{flat_map-append}
-use Rattle.std.proofs.lemmas.List.{length-take-le}
 use Rattle.td_tree.specs.declared.piece.Piece.{Piece}
 use Rattle.td_tree.specs.Division.{run, divide, divide_from}
 use Rattle.td_tree.specs.Pieces.{begins, continues, pieces, kind_after, kind_of, state}
-use Rattle.td_tree.specs.Statements.{Entry, entry_of, tokens, tokens_from}
+use Rattle.td_tree.specs.Statements.{entry_of, tokens, tokens_from}
 use Rattle.td_tree.specs.Symbols.{Symbol, symbols, spell}
 use Rattle.td_tree.proofs.DivisionLaws.{state-append}
 use Rattle.td_tree.proofs.PieceLaws.{size, taken_off}
@@ -25,12 +24,12 @@ found_from : (n : ℕ) (t : Piece) (p xs : List Symbol) → n ≡ length (spell 
 found_from n t p [] long is = record { front = p; rest = []; again = refl; is = is; long = long }
 found_from n t p (x ∷ xs) long is =
     (elim (continues t x) as (λ o. continues t x ≡ o → Found (elim o as (λ _. List (List Symbol)) [ Some u ↦ divide_from begins continues u (p ++ x ∷ []) xs | None ↦ p ∷ divide_from begins continues (begins x) (x ∷ []) xs ])
-        (p ++ x ∷ xs) (elim o as (λ _. ℕ × Piece) [ Some u ↦ end_from (n + length x.text) u xs | None ↦ (n, t) ])) [
-      Some u ↦ λ next. subst (λ all. Found (divide_from begins continues u (p ++ x ∷ []) xs) all (end_from (n + length x.text) u xs)) (append_assoc p (x ∷ []) xs)
-        (found_from (n + length x.text) u (p ++ x ∷ []) xs
+    (p ++ x ∷ xs) (elim o as (λ _. ℕ × Piece) [ Some u ↦ end_from (n + length x.text) u xs | None ↦ (n, t) ])) [
+      | Some u ↦ λ next. subst (λ all. Found (divide_from begins continues u (p ++ x ∷ []) xs) all (end_from (n + length x.text) u xs)) (append_assoc p (x ∷ []) xs)
+          (found_from (n + length x.text) u (p ++ x ∷ []) xs
           (omega (arith, long, ap length (flat_map-append (λ (s : Symbol). s.text) p (x ∷ [])), length-append (spell p) (x.text ++ []), ap length (append-nil x.text)))
           (state-append begins continues p t (x ∷ []) is ∙ ap (λ o. run begins continues o []) next))
-    | None ↦ λ next. record { front = p; rest = x ∷ xs; again = refl; is = is; long = long }
+      | None ↦ λ next. record { front = p; rest = x ∷ xs; again = refl; is = is; long = long }
     ]) refl
 
 found_of : (xs : List Symbol) → 0 < length xs → Found (divide begins continues xs) xs (first_end xs)

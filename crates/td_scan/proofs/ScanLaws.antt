@@ -1,9 +1,8 @@
 -- The first statement, gathered token by token, and where it ends.
-use Rattle.std.proofs.Common.{◌≡◌, ℕ, ◌+◌, ◌<◌, List, [], ◌∷◌, ◌++◌, length, refl, sym, ap, ◌∙◌, Bool, true, false, not, ◌&&◌, Option, Some, None, if◌then◌else◌, append_assoc, append-nil, arith}
-use Rattle.std.specs.Prelude.{option_map, ◌==◌}
-use Rattle.std.proofs.lemmas.Bool.Decides.{nat_tests}
+use Rattle.std.proofs.Common.{◌≡◌, ℕ, List, [], ◌∷◌, ◌++◌, refl, sym, ap, ◌∙◌, Bool, true, false, Option, Some, None, if◌then◌else◌, append_assoc, append-nil}
+use Rattle.std.specs.Prelude.{option_map}
 use Rattle.td_tree.specs.Division.{up_to}
-use Rattle.td_tree.specs.Statements.{Entry, Held, tokens, is_end, ends, chosen, first_statement, end_of, end_of_first, behind}
+use Rattle.td_tree.specs.Statements.{Entry, Held, tokens, ends, chosen, first_statement, end_of, end_of_first, behind}
 
 -- the first statement of what was found so far and what is left
 abbrev pub gathered : Bool → List Entry → List Entry → Option (List Entry)
@@ -23,8 +22,8 @@ gathered_is : (finished : Bool) (found ts : List Entry) → gathered finished fo
 gathered_is finished found [] = ap (λ all. chosen finished all None) (sym (append-nil found))
 gathered_is finished found (t ∷ ts) =
     elim (ends t) as (λ b. (if b then Some (found ++ t ∷ []) else gathered finished (found ++ t ∷ []) ts) ≡ before finished found (t ∷ ts) (if b then Some (t ∷ []) else option_map (λ qs. t ∷ qs) (up_to ends ts))) [
-      true ↦ refl
-    | false ↦ gathered_is finished (found ++ t ∷ []) ts ∙ one_more finished found t ts (up_to ends ts)
+      | true ↦ refl
+      | false ↦ gathered_is finished (found ++ t ∷ []) ts ∙ one_more finished found t ts (up_to ends ts)
     ]
 
 chosen_is : (finished : Bool) (ts : List Entry) (o : Option (List Entry)) → before finished [] ts o ≡ chosen finished ts o
@@ -53,8 +52,8 @@ reached_is : (finished : Bool) (none so_far : ℕ) (ts : List Entry) → reached
 reached_is finished none so_far [] = refl
 reached_is finished none so_far (t ∷ ts) =
     elim (ends t) as (λ b. (if b then t.stop else reached finished none t.stop ts) ≡ end_at finished none so_far (t ∷ ts) (if b then Some (t ∷ []) else option_map (λ qs. t ∷ qs) (up_to ends ts))) [
-      true ↦ refl
-    | false ↦ reached_is finished none t.stop ts ∙ one_further finished none so_far t ts (up_to ends ts)
+      | true ↦ refl
+      | false ↦ reached_is finished none t.stop ts ∙ one_further finished none so_far t ts (up_to ends ts)
     ]
 
 end_is : (finished : Bool) (none : ℕ) (ts : List Entry) (o : Option (List Entry)) → end_at finished none none ts o ≡ end_of_first none (chosen finished ts o)

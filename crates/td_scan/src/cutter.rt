@@ -3,7 +3,7 @@ ghost use Rattle.std.specs.Prelude.{◌≡◌, ◌+◌, ◌-◌, ◌<◌, ◌≤
 ghost use Rattle.td_scan.specs.Entries.{entries};
 ghost use Rattle.td_tree.specs.Statements.{Held, after, behind, first_statement, is_end};
 
-use crate::token::{first_token, Token};
+use crate::token::{Token, first_token};
 use std::alloc::{AllocError, Global};
 use std::marker::Model;
 use td_tree::token::{Kind, Sign};

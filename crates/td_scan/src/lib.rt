@@ -5,7 +5,6 @@ pub mod cutter;
 pub mod laws;
 mod piece;
 mod symbol;
-pub mod token;
-
 #[cfg(test)]
 mod tests;
+pub mod token;

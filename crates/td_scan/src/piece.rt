@@ -9,7 +9,7 @@ use crate::symbol::symbol_at_front;
 use td_tree::piece::Piece;
 
 /// The longest piece at the front: how many bytes it takes, and what it is.
-#[derive(Clone, Copy, Debug)]
+#[derive(Clone, Copy)]
 pub struct First {
     pub length: usize,
     pub piece: Piece,

@@ -4,7 +4,7 @@ ghost use Rattle.td_scan.specs.Fronts.{char_size};
 ghost use Rattle.td_tree.specs.Symbols.{front_bytes, front_char, symbols};
 
 /// What stands at the front: its character, if it is one, and how many bytes it takes.
-#[derive(Clone, Copy, Debug)]
+#[derive(Clone, Copy)]
 pub struct Front {
     pub character: Option<char>,
     pub size: usize,

@@ -16,7 +16,7 @@ pub struct Token<'a> {
 }
 
 /// A token, and the bytes behind it.
-#[derive(Clone, Copy, Debug)]
+#[derive(Clone, Copy)]
 pub(crate) struct Found<'a> {
     pub(crate) token: Token<'a>,
     pub(crate) rest: &'a [u8],

@@ -1,5 +1,5 @@
 -- Whatever list of calls was made, what was taken off are the first statements of all that was fed.
-use Rattle.std.proofs.Common.{◌≡◌, ℕ, ◌+◌, ◌-◌, List, [], ◌∷◌, ◌++◌, length, drop, refl, sym, ap, ◌∙◌, subst, arith, Bool, true, false, not, ◌&&◌, Option, Some, None, append_assoc, append-nil, length-append, drop-drop, IsTrue}
+use Rattle.std.proofs.Common.{◌≡◌, ℕ, ◌+◌, ◌-◌, List, [], ◌∷◌, ◌++◌, length, drop, refl, sym, ap, ◌∙◌, subst, arith, Bool, true, false, not, ◌&&◌, Some, None, append_assoc, append-nil, length-append, drop-drop, IsTrue}
 use Rattle.std.proofs.lemmas.List.{drop-append-le, length-drop}
 use Rattle.td_tree.specs.Calls.{Call, Course, at_first, listed, called, all_called, may_be_called}
 use Rattle.td_tree.specs.Calls.Call.{Feed, Finish, Take}
@@ -18,11 +18,11 @@ stands_first = record { within = refl; place = refl; now = refl; later = λ open
 
 fed_more : (c : Course) (piece : List ℕ) → c.held.finished ≡ false → Stands c → Stands (called c (Feed piece))
 fed_more c piece open_yet s = record {
-    within = omega (arith, s.within, length-append c.held.bytes piece, length-append c.fed piece);
-    place = ap (λ b. b ++ piece) s.place ∙ sym (drop-append-le c.held.offset c.fed piece (omega (arith, s.within)));
-    now = s.later open_yet piece;
-    later = λ still more. ap (statements 0) (append_assoc c.fed piece more) ∙ s.later open_yet (piece ++ more) ∙ ap (λ b. c.taken ++ statements c.held.offset b) (sym (append_assoc c.held.bytes piece more));
-  }
+  within = omega (arith, s.within, length-append c.held.bytes piece, length-append c.fed piece);
+  place = ap (λ b. b ++ piece) s.place ∙ sym (drop-append-le c.held.offset c.fed piece (omega (arith, s.within)));
+  now = s.later open_yet piece;
+  later = λ still more. ap (statements 0) (append_assoc c.fed piece more) ∙ s.later open_yet (piece ++ more) ∙ ap (λ b. c.taken ++ statements c.held.offset b) (sym (append_assoc c.held.bytes piece more));
+}
 
 finished : (c : Course) → Stands c → Stands (called c Finish)
 finished c s = record { within = s.within; place = s.place; now = s.now; later = λ wrong. absurd cc }
@@ -31,8 +31,8 @@ none_taken : (c : Course) → first_statement c.held ≡ None → Stands c → S
 none_taken c e s =
     let course : Held → List (List Entry) → Course = λ held taken. record { fed = c.fed; held = held; taken = taken } in
     subst Stands
-      (ap (λ h. course h c.taken) (sym (after_none c.held e)) ∙ ap (course (after c.held)) (sym (append-nil c.taken) ∙ ap (λ o. c.taken ++ listed o) (sym e)))
-      s
+    (ap (λ h. course h c.taken) (sym (after_none c.held e)) ∙ ap (course (after c.held)) (sym (append-nil c.taken) ∙ ap (λ o. c.taken ++ listed o) (sym e)))
+    s
 
 one_taken : (c : Course) (first : List Entry) → first_statement c.held ≡ Some first → Stands c → Stands (called c Take)
 one_taken c first e s =
@@ -41,17 +41,17 @@ one_taken c first e s =
     subst Stands (ap (λ o. course (c.taken ++ listed o)) (sym e)) (record {
       within = omega (arith, s.within, w.stop, w.within, length-drop (behind c.held - c.held.offset) c.held.bytes);
       place = ap (drop (behind c.held - c.held.offset)) s.place ∙ drop-drop (behind c.held - c.held.offset) c.held.offset c.fed
-        ∙ ap (λ n. drop n c.fed) (let there : c.held.offset + (behind c.held - c.held.offset) ≡ behind c.held = omega (arith, w.stop) in there);
+          ∙ ap (λ n. drop n c.fed) (let there : c.held.offset + (behind c.held - c.held.offset) ≡ behind c.held = omega (arith, w.stop) in there);
       now = s.now ∙ ap (λ r. c.taken ++ r) (first_and_after c.held first e) ∙ sym (append_assoc c.taken (first ∷ []) (statements (after c.held).offset (after c.held).bytes));
       later = λ open_yet more. s.later open_yet more ∙ ap (λ r. c.taken ++ r) (first_and_later c.held first e open_yet more)
-        ∙ sym (append_assoc c.taken (first ∷ []) (statements (after c.held).offset ((after c.held).bytes ++ more)));
+          ∙ sym (append_assoc c.taken (first ∷ []) (statements (after c.held).offset ((after c.held).bytes ++ more)));
     })
 
 taken : (c : Course) → Stands c → Stands (called c Take)
 taken c s =
     (elim (first_statement c.held) as (λ o. first_statement c.held ≡ o → Stands (called c Take)) [
-      None ↦ λ e. none_taken c e s
-    | Some first ↦ λ e. one_taken c first e s
+      | None ↦ λ e. none_taken c e s
+      | Some first ↦ λ e. one_taken c first e s
     ]) refl
 
 may_feed : (finished rest : Bool) → (not finished && rest) ≡ true → (finished ≡ false) × (rest ≡ true)

@@ -1,18 +1,16 @@
 -- A `;` is one piece that nothing lengthens, so that what it ends is the same in every continuation.
-use Rattle.std.proofs.Common.{◌≡◌, ℕ, List, [], ◌∷◌, ◌++◌, map, refl, sym, ap, ◌∙◌, subst, Bool, true, false, Option, Some, None, if◌then◌else◌, ◌↔◌}
+use Rattle.std.proofs.Common.{◌≡◌, ℕ, List, [], ◌∷◌, ◌++◌, refl, sym, ap, ◌∙◌, true, false, Option, Some, None, if◌then◌else◌}
 use Rattle.std.specs.Prelude.{option_and_then}
-use Rattle.td_tree.specs.declared.keyword.Keyword.{Keyword}
 use Rattle.td_tree.specs.declared.piece.Piece.{Piece}
 use Rattle.td_tree.specs.declared.piece.Piece.TheVariants as pieces_are
-use Rattle.td_tree.specs.declared.token.Kind.{Kind}
 use Rattle.td_tree.specs.declared.token.Kind.TheVariants as kinds
 use Rattle.td_tree.specs.declared.token.Sign.{Sign}
 use Rattle.td_tree.specs.declared.token.Sign.TheVariants as signs
 use Rattle.td_tree.specs.Division.{up_to, IsDivision}
 use Rattle.td_tree.specs.Keywords.{keyword_of}
 use Rattle.td_tree.specs.Names.{begins_the}
-use Rattle.td_tree.specs.Pieces.{begins, continues, goes_on, longer_sign, pieces, kind_of, kind_after, state, word_kind, word_kind_of}
-use Rattle.td_tree.specs.Spellings.{characters, spelling}
+use Rattle.td_tree.specs.Pieces.{begins, continues, goes_on, longer_sign, pieces, kind_after, state, word_kind, word_kind_of}
+use Rattle.td_tree.specs.Spellings.{characters}
 use Rattle.td_tree.specs.Statements.{is_end}
 use Rattle.td_tree.specs.Symbols.{Symbol, symbols, spell}
 use Rattle.td_tree.proofs.DivisionLaws as division
@@ -23,9 +21,9 @@ use Rattle.td_tree.proofs.StatementLaws.{is_end_of, ends_piece}
 word_is_no_end : (text : List ℕ) → is_end (word_kind text) ≡ false
 unfolding word_kind
 word_is_no_end text = elim (keyword_of text) as (λ o. is_end (word_kind_of o (begins_the text)) ≡ false) [
-      Some keyword ↦ refl
-    | None ↦ (elim (begins_the text) as (λ b. is_end (if b then kinds.Component else kinds.Name) ≡ false) [ true ↦ refl | false ↦ refl ])
-    ]
+  | Some keyword ↦ refl
+  | None ↦ (elim (begins_the text) as (λ b. is_end (if b then kinds.Component else kinds.Name) ≡ false) [ true ↦ refl | false ↦ refl ])
+]
 
 semicolon_kind : (a : Sign) → is_end (kinds.Sign a) ≡ true → a ≡ signs.Semicolon
 semicolon_kind signs.Semicolon e = refl
@@ -60,8 +58,8 @@ one_symbol (s ∷ t ∷ p) e = absurd cc
 pub one_end : (p : List Symbol) → ends_piece p ≡ true → IsOneEnd p
 one_end p =
     (elim (state p) as (λ o. state p ≡ o → is_end_of (option_and_then (λ piece. kind_after piece (spell p)) o) ≡ true → IsOneEnd p) [
-      None ↦ λ is e. absurd cc
-    | Some t ↦ λ is e. one_symbol p ((as_spelled p (pieces_are.Sign signs.Semicolon)).0 (is ∙ ap Some (semicolon_state t (spell p) e)))
+      | None ↦ λ is e. absurd cc
+      | Some t ↦ λ is e. one_symbol p ((as_spelled p (pieces_are.Sign signs.Semicolon)).0 (is ∙ ap Some (semicolon_state t (spell p) e)))
     ]) refl
 
 pub continuation : (bytes later : List ℕ) (front : List (List Symbol)) → up_to ends_piece (pieces bytes) ≡ Some front → up_to ends_piece (pieces (bytes ++ later)) ≡ Some front

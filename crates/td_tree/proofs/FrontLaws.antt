@@ -1,10 +1,10 @@
 -- The character at the front of bytes.
-use Rattle.std.proofs.Common.{◌≡◌, ℕ, zero, suc, ◌+◌, ◌-◌, ◌*◌, get_or, ◌≤◌, ◌<◌, List, [], ◌∷◌, ◌++◌, length, take, drop, refl, sym, ap, ◌∙◌, subst, arith, Bool, true, false, Option, Some, None, IsUtf8, lt-ltb, rules}
-use Rattle.std.proofs.lemmas.Str.{is_utf8-from_IsUtf8, IsUtf8-from_is_utf8, chars-encodes, encodes-append, IsUtf8-take, IsCharBoundary-before_ascii, IsUtf8-from_ascii, chars-IsAscii, encode_ascii, encodes-chars}
+use Rattle.std.proofs.Common.{◌≡◌, ℕ, zero, suc, ◌+◌, ◌-◌, ◌*◌, get_or, ◌<◌, List, [], ◌∷◌, ◌++◌, length, take, refl, sym, ap, ◌∙◌, subst, arith, true, false, Option, Some, None, IsUtf8, lt-ltb, rules}
+use Rattle.std.proofs.lemmas.Str.{is_utf8-from_IsUtf8, IsUtf8-from_is_utf8, IsUtf8-take, IsCharBoundary-before_ascii, IsUtf8-from_ascii, chars-IsAscii, encode_ascii, encodes-chars}
 use Rattle.std.proofs.Math.Utf8.{encode, encodes}
 use Rattle.std.specs.Str.{IsAscii}
-use Rattle.std.proofs.lemmas.List.{take_all, take_at, get_or_at, length-append, take-append-le}
-use Rattle.std.specs.Str.{is_utf8, chars, chars_after, continuation_len, lead_bits, IsCharBoundary}
+use Rattle.std.proofs.lemmas.List.{take_all, take_at, get_or_at, length-append}
+use Rattle.std.specs.Str.{is_utf8, chars, chars_after, continuation_len, lead_bits}
 use Rattle.std.specs.Prelude.{if◌then◌else◌, slice_get}
 use Rattle.td_tree.specs.Symbols.{front_char, front_bytes}
 
@@ -37,16 +37,16 @@ part_is_none b bs less = rw (short (continuation_len b) (lead_bits b) bs less) r
 pub past_ascii_is_none : (b : ℕ) (xs ys : List ℕ) (a : ℕ) → a < 128 → length xs < continuation_len b → is_utf8 (b ∷ xs ++ a ∷ ys) ≡ false
 past_ascii_is_none b xs ys a ascii less =
     (elim (is_utf8 (b ∷ xs ++ a ∷ ys)) as (λ v. is_utf8 (b ∷ xs ++ a ∷ ys) ≡ v → v ≡ false) [
-      true ↦ λ e.
-        let all : List ℕ = (b ∷ xs) ++ a ∷ ys in
-        let i : ℕ = length (b ∷ xs) in
-        let u : IsUtf8 all = IsUtf8-from_is_utf8 all e in
-        let at : get_or all i 0 ≡ a = get_or_at (b ∷ xs) a ys 0 i refl in
-        let inside : i < length all = omega (arith, length-append (b ∷ xs) (a ∷ ys)) in
-        let front : IsUtf8 (take i all) = IsUtf8-take all i u (IsCharBoundary-before_ascii all i inside (omega (arith, at))) in
-        let whole : is_utf8 (b ∷ xs) ≡ true = is_utf8-from_IsUtf8 (b ∷ xs) (subst IsUtf8 (take_at (b ∷ xs) (a ∷ ys) i refl) front) in
-        absurd (let wrong : is_utf8 (b ∷ xs) ≡ false = part_is_none b xs less in cc)
-    | false ↦ λ e. refl
+      | true ↦ λ e.
+          let all : List ℕ = (b ∷ xs) ++ a ∷ ys in
+          let i : ℕ = length (b ∷ xs) in
+          let u : IsUtf8 all = IsUtf8-from_is_utf8 all e in
+          let at : get_or all i 0 ≡ a = get_or_at (b ∷ xs) a ys 0 i refl in
+          let inside : i < length all = omega (arith, length-append (b ∷ xs) (a ∷ ys)) in
+          let front : IsUtf8 (take i all) = IsUtf8-take all i u (IsCharBoundary-before_ascii all i inside (omega (arith, at))) in
+          let whole : is_utf8 (b ∷ xs) ≡ true = is_utf8-from_IsUtf8 (b ∷ xs) (subst IsUtf8 (take_at (b ∷ xs) (a ∷ ys) i refl) front) in
+          absurd (let wrong : is_utf8 (b ∷ xs) ≡ false = part_is_none b xs less in cc)
+      | false ↦ λ e. refl
     ]) refl
 
 -- ---- ASCII
@@ -75,6 +75,6 @@ lead (x ∷ cs) bs c b ascii first e =
 pub ascii_byte : (b : ℕ) (bs : List ℕ) (c : ℕ) → c < 128 → front_char (b ∷ bs) ≡ Some c → b ≡ c
 ascii_byte b bs c ascii =
     (elim (is_utf8 (front_bytes (b ∷ bs))) as (λ v. is_utf8 (front_bytes (b ∷ bs)) ≡ v → (if v then slice_get (chars (front_bytes (b ∷ bs))) 0 else None) ≡ Some c → b ≡ c) [
-      true ↦ λ e first. lead (chars (front_bytes (b ∷ bs))) (take (continuation_len b) bs) c b ascii first (encodes-chars (front_bytes (b ∷ bs)) (IsUtf8-from_is_utf8 (front_bytes (b ∷ bs)) e))
-    | false ↦ λ e first. absurd cc
+      | true ↦ λ e first. lead (chars (front_bytes (b ∷ bs))) (take (continuation_len b) bs) c b ascii first (encodes-chars (front_bytes (b ∷ bs)) (IsUtf8-from_is_utf8 (front_bytes (b ∷ bs)) e))
+      | false ↦ λ e first. absurd cc
     ]) refl

@@ -1,19 +1,16 @@
 -- What is held: its first statement, and the statements that are left once it is taken off.
-use Rattle.std.proofs.Common.{◌≡◌, ℕ, zero, suc, ◌+◌, ◌-◌, ◌≤◌, List, [], ◌∷◌, ◌++◌, length, take, drop, refl, sym, ap, ◌∙◌, subst, arith, Bool, true, false, Option, Some, None, if◌then◌else◌, append_assoc, append-nil, length-append, ◌⊎◌, ⊎_elim}
+use Rattle.std.proofs.Common.{◌≡◌, ℕ, ◌+◌, ◌-◌, ◌≤◌, List, [], ◌∷◌, ◌++◌, length, drop, refl, sym, ap, ◌∙◌, arith, true, Option, Some, None, ⊎_elim}
 use Rattle.std.specs.Prelude.{option_map}
 use Rattle.std.proofs.lemmas.List.{drop-append-le}
-use Rattle.td_tree.specs.declared.piece.Piece.{Piece}
-use Rattle.td_tree.specs.declared.piece.Piece.TheVariants as pieces_are
-use Rattle.td_tree.specs.declared.keyword.Keyword.{Keyword}
 use Rattle.td_tree.specs.declared.token.Kind.{Kind}
 use Rattle.td_tree.specs.Division.{up_to}
-use Rattle.td_tree.specs.Pieces.{begins, continues, pieces, kind_of, state}
-use Rattle.td_tree.specs.Statements.{Entry, Held, entry_of, tokens_from, tokens, is_end, ends, split, statements, chosen, first_statement, end_of, end_of_first, behind, after}
+use Rattle.td_tree.specs.Pieces.{pieces, kind_of}
+use Rattle.td_tree.specs.Statements.{Entry, entry_of, tokens_from, tokens, ends, split, statements, end_of}
 use Rattle.td_tree.specs.Symbols.{Symbol, spell}
 use Rattle.td_tree.proofs.EndLaws.{up_to_cases}
 use Rattle.td_tree.proofs.EndOfStatement.{continuation}
-use Rattle.td_tree.proofs.PieceLaws.{joined, size, size-cons, taken_off}
-use Rattle.td_tree.proofs.StatementLaws.{is_end_of, ends_piece, up_to_tokens, tokens-append, split_first, split-first, left, split-left}
+use Rattle.td_tree.proofs.PieceLaws.{size, size-cons, taken_off}
+use Rattle.td_tree.proofs.StatementLaws.{is_end_of, ends_piece, up_to_tokens, tokens-append, split_first, split-first}
 
 -- ---- where the tokens of some pieces end
 
@@ -30,11 +27,11 @@ pub end_of_pieces : (ps front : List (List Symbol)) (at start : ℕ) → up_to e
 end_of_pieces [] front at start found = absurd cc
 end_of_pieces (p ∷ ps) front at start found = ⊎_elim
     (λ e. ap (λ f. end_of start (tokens_from at f)) e.one ∙ end_here (kind_of p) at start (spell p) e.yes
-      ∙ (let long : at + length (spell p) ≡ at + size (p ∷ []) = omega (arith, size-cons p []) in long) ∙ ap (λ f. at + size f) (sym e.one))
+    ∙ (let long : at + length (spell p) ≡ at + size (p ∷ []) = omega (arith, size-cons p []) in long) ∙ ap (λ f. at + size f) (sym e.one))
     (λ l. ap (λ f. end_of start (tokens_from at f)) l.more
-      ∙ end_more (kind_of p) at start (at + size (p ∷ l.inner)) (spell p) (tokens_from (at + length (spell p)) l.inner)
-        (λ n. end_of_pieces ps l.inner (at + length (spell p)) n l.found ∙ (let long : at + length (spell p) + size l.inner ≡ at + size (p ∷ l.inner) = omega (arith, size-cons p l.inner) in long))
-      ∙ ap (λ f. at + size f) (sym l.more))
+    ∙ end_more (kind_of p) at start (at + size (p ∷ l.inner)) (spell p) (tokens_from (at + length (spell p)) l.inner)
+    (λ n. end_of_pieces ps l.inner (at + length (spell p)) n l.found ∙ (let long : at + length (spell p) + size l.inner ≡ at + size (p ∷ l.inner) = omega (arith, size-cons p l.inner) in long))
+    ∙ ap (λ f. at + size f) (sym l.more))
     (up_to_cases ends_piece p ps front found)
 
 nothing_more : (o : Option Kind) (a b : ℕ) (text : List ℕ) (xs ys : List Entry) → entry_of o a text ++ xs ≡ [] → (xs ≡ [] → ys ≡ []) → entry_of o b text ++ ys ≡ []
@@ -63,23 +60,23 @@ up_to_last at [] t ts e = absurd cc
 up_to_last at (p ∷ ps) t ts e =
     let next : ℕ = at + length (spell p) in
     (elim (tokens_from next ps) as (λ xs. tokens_from next ps ≡ xs → UpToLast at (p ∷ ps)) [
-      [] ↦ λ none. record {
+      | [] ↦ λ none. record {
         front = p ∷ [];
         back = ps;
         parts = refl;
         stop = λ start. last_here (kind_of p) at start (spell p) (tokens_from next ps) t ts none e ∙ (let long : at + length (spell p) ≡ at + size (p ∷ []) = omega (arith, size-cons p []) in long);
         none = λ n. no_tokens ps next n none;
       }
-    | u ∷ us ↦ λ some.
-        let w = up_to_last next ps u us some in
-        record {
-          front = p ∷ w.front;
-          back = w.back;
-          parts = ap (λ r. p ∷ r) w.parts;
-          stop = λ start. end_more (kind_of p) at start (at + size (p ∷ w.front)) (spell p) (tokens_from next ps)
-            (λ n. w.stop n ∙ (let long : next + size w.front ≡ at + size (p ∷ w.front) = omega (arith, size-cons p w.front) in long));
-          none = w.none;
-        }
+      | u ∷ us ↦ λ some.
+          let w = up_to_last next ps u us some in
+          record {
+            front = p ∷ w.front;
+            back = w.back;
+            parts = ap (λ r. p ∷ r) w.parts;
+            stop = λ start. end_more (kind_of p) at start (at + size (p ∷ w.front)) (spell p) (tokens_from next ps)
+                (λ n. w.stop n ∙ (let long : next + size w.front ≡ at + size (p ∷ w.front) = omega (arith, size-cons p w.front) in long));
+            none = w.none;
+          }
     ]) refl
 
 -- ---- bytes
@@ -94,8 +91,8 @@ pub ended : (at : ℕ) (bs : List ℕ) (first : List Entry) → up_to ends (toke
 unfolding tokens
 ended at bs first e =
     (elim (up_to ends_piece (pieces bs)) as (λ o. up_to ends_piece (pieces bs) ≡ o → option_map (tokens_from at) o ≡ Some first → Ended at bs first) [
-      None ↦ λ found is. absurd cc
-    | Some front ↦ λ found is. record { front = front; found = found; is = (let same : tokens_from at front ≡ first = cc in sym same) }
+      | None ↦ λ found is. absurd cc
+      | Some front ↦ λ found is. record { front = front; found = found; is = (let same : tokens_from at front ≡ first = cc in sym same) }
     ]) refl (sym (up_to_tokens at (pieces bs)) ∙ e)
 
 -- what follows a statement that `;` ends
@@ -115,9 +112,9 @@ follows_front at bs first front found is =
       stop = omega (arith, stop);
       within = omega (arith, long, off.within);
       again = ap (tokens_from at) w.1 ∙ tokens-append at front w.0 ∙ ap (λ f. f ++ tokens_from (at + size front) w.0) (sym is)
-        ∙ ap (λ r. first ++ tokens_from (at + size front) r) off.again
-        ∙ ap (λ n. first ++ tokens_from n (pieces (drop (size front) bs))) (sym stop)
-        ∙ ap (λ n. first ++ tokens_from (end_of at first) (pieces (drop n bs))) (sym long);
+          ∙ ap (λ r. first ++ tokens_from (at + size front) r) off.again
+          ∙ ap (λ n. first ++ tokens_from n (pieces (drop (size front) bs))) (sym stop)
+          ∙ ap (λ n. first ++ tokens_from (end_of at first) (pieces (drop n bs))) (sym long);
     }
 
 -- a statement that `;` ends, whatever follows

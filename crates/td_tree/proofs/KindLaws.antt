@@ -1,7 +1,7 @@
 -- What the pieces of each kind are, in the language's own words.
-use Rattle.std.proofs.Common.{◌≡◌, ℕ, List, [], ◌∷◌, ◌++◌, map, refl, sym, ap, ◌∙◌, subst, arith, Bool, true, false, Option, Some, None, if◌then◌else◌, ◌⊎◌, inl, inr, append-nil, IsTrue, rules, ◌↔◌}
-use Rattle.std.specs.Prelude.{◌==◌, option_map, codes, ◌&&◌, ◌||◌}
-use Rattle.std.specs.Char.{is_ascii_digit, is_ascii_alphabetic}
+use Rattle.std.proofs.Common.{◌≡◌, ℕ, List, [], ◌∷◌, ◌++◌, refl, sym, ap, ◌∙◌, subst, arith, Bool, true, false, Option, Some, None, if◌then◌else◌, ◌⊎◌, inl, inr, append-nil, ◌↔◌}
+use Rattle.std.specs.Prelude.{◌==◌, option_map, ◌&&◌}
+use Rattle.std.specs.Char.{is_ascii_digit}
 use Rattle.std.specs.List.{list_all}
 use Rattle.std.proofs.lemmas.Bool.Decides.{nat_tests}
 use Rattle.td_tree.specs.declared.piece.Piece.{Piece}
@@ -11,8 +11,7 @@ use Rattle.td_tree.specs.declared.token.Sign.{Sign}
 use Rattle.td_tree.specs.declared.token.Sign.TheVariants as signs
 use Rattle.td_tree.specs.Division as division
 use Rattle.td_tree.specs.Pieces.{begins, continues, opens, goes_on, sign_at, longer_sign, sign_piece, is_blank, starts_word, continues_word, state}
-use Rattle.td_tree.specs.Signs.{sign_text}
-use Rattle.td_tree.specs.Spellings.{characters, passes, start_and_rest, is_word_spelled, is_number_spelled, is_blank_spelled, spelling, bar, IsBadSpelled, IsSpelled}
+use Rattle.td_tree.specs.Spellings.{characters, passes, is_word_spelled, is_number_spelled, is_blank_spelled, spelling, bar, IsBadSpelled, IsSpelled}
 use Rattle.td_tree.specs.Symbols.{Symbol}
 
 abbrev run : Option Piece → List (Option ℕ) → Option Piece
@@ -44,8 +43,8 @@ both false b e = absurd cc
 one_of : (P : Sign → Type 0) (c k : ℕ) (a s : Sign) (rest : Option Sign) → (c ≡ k → P a) → (rest ≡ Some s → P s) → (if c == k then Some a else rest) ≡ Some s → P s
 one_of P c k a s rest this others =
     (elim (c == k) as (λ b. (c == k) ≡ b → (if b then Some a else rest) ≡ Some s → P s) [
-      true ↦ λ is found. let same : a ≡ s = cc in subst P same (this (same_number c k is))
-    | false ↦ λ is found. others found
+      | true ↦ λ is found. let same : a ≡ s = cc in subst P same (this (same_number c k is))
+      | false ↦ λ is found. others found
     ]) refl
 
 abbrev IsIn : ℕ → Sign → Type 0
@@ -107,17 +106,17 @@ module _ (piece : Piece) (test : ℕ → Bool) (at_none : goes_on piece None ≡
   stays [] v e = ((let same : piece ≡ v = cc in sym same), refl)
   stays (None ∷ cs) v e = let wrong : None ≡ Some v = ap (λ o. run o cs) (sym at_none) ∙ e in absurd cc
   stays (Some c ∷ cs) v e =
-    (elim (test c) as (λ b. test c ≡ b → run (if b then Some piece else None) cs ≡ Some v → (v ≡ piece) × ((b && list_all (passes test) cs) ≡ true)) [
-      true ↦ λ is found. stays cs v found
-    | false ↦ λ is found. absurd cc
-    ]) refl (ap (λ o. run o cs) (sym (at_some c)) ∙ e)
+      (elim (test c) as (λ b. test c ≡ b → run (if b then Some piece else None) cs ≡ Some v → (v ≡ piece) × ((b && list_all (passes test) cs) ≡ true)) [
+        | true ↦ λ is found. stays cs v found
+        | false ↦ λ is found. absurd cc
+      ]) refl (ap (λ o. run o cs) (sym (at_some c)) ∙ e)
 
   goes_through : (cs : List (Option ℕ)) → list_all (passes test) cs ≡ true → run (Some piece) cs ≡ Some piece
   goes_through [] e = refl
   goes_through (None ∷ cs) e = absurd cc
   goes_through (Some c ∷ cs) e =
-    let w = both (test c) (list_all (passes test) cs) e in
-    ap (λ o. run o cs) (at_some c) ∙ ap (λ b. run (if b then Some piece else None) cs) w.0 ∙ goes_through cs w.1
+      let w = both (test c) (list_all (passes test) cs) e in
+      ap (λ o. run o cs) (at_some c) ∙ ap (λ b. run (if b then Some piece else None) cs) w.0 ∙ goes_through cs w.1
 
 -- a piece that does not go on
 ends_here : (t v : Piece) (cs : List (Option ℕ)) → ((c : Option ℕ) → goes_on t c ≡ None) → run (Some t) cs ≡ Some v → (v ≡ t) × (cs ≡ [])
@@ -138,11 +137,11 @@ sign_runs a [] v = λ e. (a, (let same : pieces_are.Sign a ≡ v = cc in sym sam
 sign_runs a (None ∷ cs) v = λ e. absurd cc
 sign_runs a (Some c ∷ cs) v =
     (elim (longer_sign a c) as (λ o. longer_sign a c ≡ o → run (option_map pieces_are.Sign o) cs ≡ Some v → (s : Sign) × (v ≡ pieces_are.Sign s) × (spelling s ≡ spelling a ++ Some c ∷ cs)) [
-      None ↦ λ is e. absurd cc
-    | Some s ↦ λ is e.
-        let longer = longer_is a s c is in
-        let w = ends_here (pieces_are.Sign s) v cs longer.1 e in
-        (s, w.0, longer.0 ∙ ap (λ r. spelling a ++ Some c ∷ r) (sym w.1))
+      | None ↦ λ is e. absurd cc
+      | Some s ↦ λ is e.
+          let longer = longer_is a s c is in
+          let w = ends_here (pieces_are.Sign s) v cs longer.1 e in
+          (s, w.0, longer.0 ∙ ap (λ r. spelling a ++ Some c ∷ r) (sym w.1))
     ]) refl
 
 bar_runs : (cs : List (Option ℕ)) (v : Piece) → run (Some Bar) cs ≡ Some v → ((v ≡ Bar) × (cs ≡ [])) ⊎ ((v ≡ pieces_are.Sign signs.Concatenate) × (cs ≡ bar))
@@ -151,10 +150,10 @@ bar_runs [] v = λ e. inl ((let same : Bar ≡ v = cc in sym same), refl)
 bar_runs (None ∷ cs) v = λ e. absurd cc
 bar_runs (Some c ∷ cs) v =
     (elim (c == 124) as (λ b. (c == 124) ≡ b → run (if b then Some (pieces_are.Sign signs.Concatenate) else None) cs ≡ Some v → ((v ≡ Bar) × (Some c ∷ cs ≡ [])) ⊎ ((v ≡ pieces_are.Sign signs.Concatenate) × (Some c ∷ cs ≡ bar))) [
-      true ↦ λ is e.
-        let w = ends_here (pieces_are.Sign signs.Concatenate) v cs (λ d. elim d as (λ x. goes_on (pieces_are.Sign signs.Concatenate) x ≡ None) [ None ↦ refl | Some k ↦ refl ]) e in
-        inr (w.0, ap (λ n. Some n ∷ cs) (same_number c 124 is) ∙ ap (λ r. Some 124 ∷ r) w.1)
-    | false ↦ λ is e. absurd cc
+      | true ↦ λ is e.
+          let w = ends_here (pieces_are.Sign signs.Concatenate) v cs (λ d. elim d as (λ x. goes_on (pieces_are.Sign signs.Concatenate) x ≡ None) [ None ↦ refl | Some k ↦ refl ]) e in
+          inr (w.0, ap (λ n. Some n ∷ cs) (same_number c 124 is) ∙ ap (λ r. Some 124 ∷ r) w.1)
+      | false ↦ λ is e. absurd cc
     ]) refl
 
 runs_is : (t : Piece) (cs : List (Option ℕ)) (v : Piece) → run (Some t) cs ≡ Some v → Runs t cs v
@@ -173,9 +172,10 @@ digit_starts_none c e =
     (elim (starts_word c) as (λ b. starts_word c ≡ b → b ≡ false) [ true ↦ λ s. absurd (grind (arith, nat_tests)) | false ↦ λ s. refl ]) refl
 
 blank_starts_none : (c : ℕ) → is_blank c ≡ true → (starts_word c ≡ false) × (is_ascii_digit c ≡ false)
-blank_starts_none c e =
-    ((elim (starts_word c) as (λ b. starts_word c ≡ b → b ≡ false) [ true ↦ λ s. absurd (grind (arith, nat_tests)) | false ↦ λ s. refl ]) refl,
-     (elim (is_ascii_digit c) as (λ b. is_ascii_digit c ≡ b → b ≡ false) [ true ↦ λ s. absurd (grind (arith, nat_tests)) | false ↦ λ s. refl ]) refl)
+blank_starts_none c e = (
+  (elim (starts_word c) as (λ b. starts_word c ≡ b → b ≡ false) [ true ↦ λ s. absurd (grind (arith, nat_tests)) | false ↦ λ s. refl ]) refl,
+  (elim (is_ascii_digit c) as (λ b. is_ascii_digit c ≡ b → b ≡ false) [ true ↦ λ s. absurd (grind (arith, nat_tests)) | false ↦ λ s. refl ]) refl,
+)
 
 word_state : (cs : List (Option ℕ)) → is_word_spelled cs ≡ true → spelled_state cs ≡ Some Word
 unfolding opens goes_on
@@ -275,14 +275,14 @@ spelled_is Bad cs h = bad_state cs h
 
 bad_is : (c : Option ℕ) → spelled_state (c ∷ []) ≡ Some Bad → IsBadSpelled (c ∷ [])
 bad_is c e = record {
-    symbol = c;
-    one = refl;
-    no_blank = λ h. (let wrong : Some Bad ≡ Some Blank = sym e ∙ blank_state (c ∷ []) h in absurd cc);
-    no_word = λ h. (let wrong : Some Bad ≡ Some Word = sym e ∙ word_state (c ∷ []) h in absurd cc);
-    no_number = λ h. (let wrong : Some Bad ≡ Some Number = sym e ∙ number_state (c ∷ []) h in absurd cc);
-    no_sign = λ s h. (let wrong : Some Bad ≡ Some (pieces_are.Sign s) = sym e ∙ ap spelled_state h ∙ sign_state s in absurd cc);
-    no_bar = λ h. (let wrong : Some Bad ≡ Some Bar = sym e ∙ ap spelled_state h ∙ bar_state in absurd cc);
-  }
+  symbol = c;
+  one = refl;
+  no_blank = λ h. (let wrong : Some Bad ≡ Some Blank = sym e ∙ blank_state (c ∷ []) h in absurd cc);
+  no_word = λ h. (let wrong : Some Bad ≡ Some Word = sym e ∙ word_state (c ∷ []) h in absurd cc);
+  no_number = λ h. (let wrong : Some Bad ≡ Some Number = sym e ∙ number_state (c ∷ []) h in absurd cc);
+  no_sign = λ s h. (let wrong : Some Bad ≡ Some (pieces_are.Sign s) = sym e ∙ ap spelled_state h ∙ sign_state s in absurd cc);
+  no_bar = λ h. (let wrong : Some Bad ≡ Some Bar = sym e ∙ ap spelled_state h ∙ bar_state in absurd cc);
+}
 
 begun_is : (t v : Piece) (c : Option ℕ) (cs : List (Option ℕ)) → opens c ≡ t → Begins t c → Runs t cs v → IsSpelled v (c ∷ cs)
 unfolding Begins Runs

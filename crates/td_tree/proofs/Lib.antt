@@ -1,4 +1,5 @@
 pub mod CourseLaws
+pub mod DecodeLaws
 pub mod DivisionLaws
 pub mod EndLaws
 pub mod EndOfStatement
@@ -6,6 +7,7 @@ pub mod FrontLaws
 pub mod HeldLaws
 pub mod KindLaws
 pub mod PieceLaws
+pub mod SliceLaws
 pub mod StableBytes
 pub mod StatementLaws
 pub mod SymbolLaws

@@ -1,13 +1,13 @@
 -- What is left of bytes once pieces are taken off their front has the other pieces.
-use Rattle.std.proofs.Common.{◌≡◌, ℕ, zero, suc, ◌+◌, ◌-◌, ◌≤◌, ◌<◌, List, [], ◌∷◌, ◌++◌, length, take, drop, refl, sym, ap, ◌∙◌, subst, arith, Option, Some, None, length-append, drop-drop}
+use Rattle.std.proofs.Common.{◌≡◌, ℕ, suc, ◌+◌, ◌-◌, ◌≤◌, List, [], ◌∷◌, ◌++◌, length, take, drop, refl, sym, ap, ◌∙◌, arith, length-append, drop-drop}
 use Rattle.std.specs.List.{flat_map}
 use Rattle.std.proofs.lemmas.Grind.{flat_map-append}
 use Rattle.std.proofs.lemmas.List.{take_at}
 use Rattle.td_tree.specs.Division as Division
 use Rattle.td_tree.specs.Pieces.{begins, continues, pieces}
 use Rattle.td_tree.specs.Symbols.{Symbol, symbol_at, symbols, spell}
-use Rattle.td_tree.proofs.DivisionLaws.{Rest, rest_of}
-use Rattle.td_tree.proofs.StableBytes.{spelled, Cuts, cuts}
+use Rattle.td_tree.proofs.DivisionLaws.{rest_of}
+use Rattle.td_tree.proofs.StableBytes.{spelled, cuts}
 use Rattle.td_tree.proofs.SymbolLaws.{symbols_step}
 
 -- the pieces joined

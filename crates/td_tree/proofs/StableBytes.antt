@@ -1,15 +1,15 @@
 -- A statement that `;` ends is the same in every continuation of the bytes.
-use Rattle.std.proofs.Common.{◌≡◌, ℕ, zero, suc, ◌+◌, ◌-◌, ◌≤◌, ◌<◌, List, [], ◌∷◌, ◌++◌, length, take, drop, refl, sym, ap, ◌∙◌, subst, arith, Bool, true, false, Option, Some, None, ◌⊎◌, inl, inr, ⊎_elim, append_assoc}
+use Rattle.std.proofs.Common.{◌≡◌, ℕ, zero, suc, ◌-◌, List, [], ◌∷◌, ◌++◌, length, take, drop, refl, sym, ap, ◌∙◌, subst, arith, Bool, true, Option, Some, None, ⊎_elim, append_assoc}
 use Rattle.std.specs.List.{flat_map}
 use Rattle.std.specs.Str.{is_utf8, chars, continuation_len}
-use Rattle.std.proofs.lemmas.List.{length-append, take_at, drop_at, append_cancel_left}
+use Rattle.std.proofs.lemmas.List.{append_cancel_left}
 use Rattle.std.proofs.lemmas.Grind.{flat_map-append}
-use Rattle.td_tree.specs.Division.{divide, divide_from, up_to, state}
+use Rattle.td_tree.specs.Division.{divide, up_to, state}
 use Rattle.td_tree.proofs.DivisionLaws.{stable}
-use Rattle.td_tree.proofs.EndLaws.{FoundIn, found_in, up_to_cases}
+use Rattle.td_tree.proofs.EndLaws.{found_in, up_to_cases}
 use Rattle.td_tree.specs.Symbols.{front_char, front_bytes, spell, Symbol, symbol_of, symbol_at, symbols_from, symbols}
 use Rattle.td_tree.proofs.FrontLaws.{ascii_byte}
-use Rattle.td_tree.proofs.SymbolLaws.{symbols-append_ascii, symbols_step}
+use Rattle.td_tree.proofs.SymbolLaws.{symbols-append_ascii}
 
 abbrev semi : Symbol
 semi = record { character = Some 59; text = 59 ∷ [] }
@@ -33,9 +33,9 @@ pub record Cuts (b : ℕ) (bs : List ℕ) (s : Symbol) : Type 0 where
 
 pub cuts : (b : ℕ) (bs : List ℕ) → Cuts b bs (symbol_at b bs)
 cuts b bs = elim (front_char (b ∷ bs)) as (λ o. Cuts b bs (symbol_of o (front_bytes (b ∷ bs)) b)) [
-      Some c ↦ record { more = drop 1 (front_bytes (b ∷ bs)); text = refl; rest = (let n = continuation_len b in ap (λ k. take n bs ++ drop k bs) (less_one (length (take n bs))) ∙ front_tail n bs) }
-    | None ↦ record { more = []; text = refl; rest = refl }
-    ]
+  | Some c ↦ record { more = drop 1 (front_bytes (b ∷ bs)); text = refl; rest = (let n = continuation_len b in ap (λ k. take n bs ++ drop k bs) (less_one (length (take n bs))) ∙ front_tail n bs) }
+  | None ↦ record { more = []; text = refl; rest = refl }
+]
 
 -- the symbols spell the bytes
 pub spelled : (left : ℕ) (bs : List ℕ) → spell (symbols_from left bs) ≡ drop left bs
@@ -46,9 +46,6 @@ spelled zero (b ∷ bs) =
     let s = symbol_at b bs in
     let c = cuts b bs in
     ap (λ r. s.text ++ r) (spelled (length s.text - 1) bs) ∙ ap (λ t. t ++ drop (length s.text - 1) bs) c.text ∙ ap (λ r. b ∷ r) c.rest
-
-pub all_spelled : (bytes : List ℕ) → spell (symbols bytes) ≡ bytes
-all_spelled bytes = spelled 0 bytes
 
 abbrev pub AllText : List Symbol → Type 0
 AllText [] = Unit {0}
@@ -85,20 +82,20 @@ module _ (bs : List ℕ) (front rest : List Symbol) (is : symbols bs ≡ front +
 
   front_again : symbols (spell front) ≡ front
   front_again = sym (same_front front (symbols (spell front)) (semi ∷ rest) (symbols (59 ∷ spell rest))
-    (sym is ∙ ap symbols bytes_are ∙ symbols-append_ascii 0 (spell front) (spell rest) 59 (omega arith) (omega arith))
-    (sym (spelled 0 (spell front)))
-    (all_front front (semi ∷ rest) (subst AllText is (all_text 0 bs)))
-    (all_text 0 (spell front)))
+      (sym is ∙ ap symbols bytes_are ∙ symbols-append_ascii 0 (spell front) (spell rest) 59 (omega arith) (omega arith))
+      (sym (spelled 0 (spell front)))
+      (all_front front (semi ∷ rest) (subst AllText is (all_text 0 bs)))
+      (all_text 0 (spell front)))
 
   -- the symbols up to a `;` are the same in every continuation
   continued : (later : List ℕ) → symbols (bs ++ later) ≡ (front ++ semi ∷ []) ++ symbols (spell rest ++ later)
   continued later =
-    ap (λ b. symbols (b ++ later)) bytes_are
-    ∙ ap symbols (append_assoc (spell front) (59 ∷ spell rest) later)
-    ∙ symbols-append_ascii 0 (spell front) (spell rest ++ later) 59 (omega arith) (omega arith)
-    ∙ ap (λ r. r ++ symbols (59 ∷ (spell rest ++ later))) front_again
-    ∙ ap (λ r. front ++ r) (symbols_semi (spell rest ++ later))
-    ∙ sym (append_assoc front (semi ∷ []) (symbols (spell rest ++ later)))
+      ap (λ b. symbols (b ++ later)) bytes_are
+      ∙ ap symbols (append_assoc (spell front) (59 ∷ spell rest) later)
+      ∙ symbols-append_ascii 0 (spell front) (spell rest ++ later) 59 (omega arith) (omega arith)
+      ∙ ap (λ r. r ++ symbols (59 ∷ (spell rest ++ later))) front_again
+      ∙ ap (λ r. front ++ r) (symbols_semi (spell rest ++ later))
+      ∙ sym (append_assoc front (semi ∷ []) (symbols (spell rest ++ later)))
 
 -- a symbol that is a `;` is that byte
 IsReal : Symbol → Type 0
@@ -108,11 +105,11 @@ real_at : (b : ℕ) (bs : List ℕ) → IsReal (symbol_at b bs)
 unfolding IsReal
 real_at b bs =
     (elim (front_char (b ∷ bs)) as (λ o. front_char (b ∷ bs) ≡ o → (symbol_of o (front_bytes (b ∷ bs)) b).character ≡ Some 59 → (symbol_of o (front_bytes (b ∷ bs)) b).text ≡ 59 ∷ []) [
-      Some c ↦ λ is semi.
-        let same : c ≡ 59 = cc in
-        let byte : b ≡ 59 = ascii_byte b bs 59 (omega arith) (is ∙ ap Some same) in
-        ap (λ x. front_bytes (x ∷ bs)) byte
-    | None ↦ λ is semi. absurd cc
+      | Some c ↦ λ is semi.
+          let same : c ≡ 59 = cc in
+          let byte : b ≡ 59 = ascii_byte b bs 59 (omega arith) (is ∙ ap Some same) in
+          ap (λ x. front_bytes (x ∷ bs)) byte
+      | None ↦ λ is semi. absurd cc
     ]) refl
 
 real_in : (left : ℕ) (bs : List ℕ) (front rest : List Symbol) (s : Symbol) → symbols_from left bs ≡ front ++ s ∷ rest → IsReal s
@@ -148,24 +145,24 @@ module _ {S : Type 0} (opens : Symbol → S) (goes_on : S → Symbol → Option 
   last_is : (ps front : List (List Symbol)) → up_to ends ps ≡ Some front → UpToEnd (flat_map (λ q. q) front)
   last_is [] front found = absurd cc
   last_is (p ∷ ps) front found = ⊎_elim
-    (λ e. let one = one_end p e.yes in
+      (λ e. let one = one_end p e.yes in
       record { before = []; last = one.symbol; parts = ap (flat_map (λ q. q)) e.one ∙ ap (λ r. r ++ []) one.alone; is = one.is })
-    (λ l. let w = last_is ps l.inner l.found in
+      (λ l. let w = last_is ps l.inner l.found in
       record { before = p ++ w.before; last = w.last; parts = ap (flat_map (λ q. q)) l.more ∙ ap (λ r. p ++ r) w.parts ∙ sym (append_assoc p w.before (w.last ∷ [])); is = w.is })
-    (up_to_cases ends p ps front found)
+      (up_to_cases ends p ps front found)
 
   stable_at : (bs later : List ℕ) (front : List (List Symbol)) (xs : List Symbol) → symbols bs ≡ xs → up_to ends (divide opens goes_on xs) ≡ Some front → up_to ends (divide opens goes_on (symbols (bs ++ later))) ≡ Some front
   stable_at bs later front [] is found = absurd cc
   stable_at bs later front (x ∷ xs) is found =
-    let f = found_in opens goes_on ends (opens x) (x ∷ []) xs front found in
-    let w = last_is (divide opens goes_on (x ∷ xs)) front found in
-    let taken_last : x ∷ f.taken ≡ w.before ++ w.last ∷ [] = f.whole ∙ w.parts in
-    let all_last : symbols bs ≡ w.before ++ w.last ∷ f.left = is ∙ ap (λ r. x ∷ r) f.is ∙ ap (λ r. r ++ f.left) taken_last ∙ append_assoc w.before (w.last ∷ []) f.left in
-    let same : w.last ≡ semi = is_semi w.last w.is (real_in 0 bs w.before f.left w.last all_last) in
-    let taken : x ∷ f.taken ≡ w.before ++ semi ∷ [] = taken_last ∙ ap (λ s. w.before ++ s ∷ []) same in
-    let all : symbols bs ≡ w.before ++ semi ∷ f.left = all_last ∙ ap (λ s. w.before ++ s ∷ f.left) same in
-    ap (λ r. up_to ends (divide opens goes_on r)) (continued bs w.before f.left all later)
-    ∙ stable opens goes_on ends closed (w.before ++ semi ∷ []) (symbols (spell f.left ++ later)) front (ap (λ r. up_to ends (divide opens goes_on r)) (sym taken) ∙ f.again)
+      let f = found_in opens goes_on ends (opens x) (x ∷ []) xs front found in
+      let w = last_is (divide opens goes_on (x ∷ xs)) front found in
+      let taken_last : x ∷ f.taken ≡ w.before ++ w.last ∷ [] = f.whole ∙ w.parts in
+      let all_last : symbols bs ≡ w.before ++ w.last ∷ f.left = is ∙ ap (λ r. x ∷ r) f.is ∙ ap (λ r. r ++ f.left) taken_last ∙ append_assoc w.before (w.last ∷ []) f.left in
+      let same : w.last ≡ semi = is_semi w.last w.is (real_in 0 bs w.before f.left w.last all_last) in
+      let taken : x ∷ f.taken ≡ w.before ++ semi ∷ [] = taken_last ∙ ap (λ s. w.before ++ s ∷ []) same in
+      let all : symbols bs ≡ w.before ++ semi ∷ f.left = all_last ∙ ap (λ s. w.before ++ s ∷ f.left) same in
+      ap (λ r. up_to ends (divide opens goes_on r)) (continued bs w.before f.left all later)
+      ∙ stable opens goes_on ends closed (w.before ++ semi ∷ []) (symbols (spell f.left ++ later)) front (ap (λ r. up_to ends (divide opens goes_on r)) (sym taken) ∙ f.again)
 
   -- what `;` ends in the bytes is the same in every continuation of them
   pub stable_bytes : (bs later : List ℕ) (front : List (List Symbol)) → up_to ends (divide opens goes_on (symbols bs)) ≡ Some front → up_to ends (divide opens goes_on (symbols (bs ++ later))) ≡ Some front

@@ -1,20 +1,13 @@
 -- The tokens and statements of bytes: what is taken off the front leaves those of the rest.
-use Rattle.std.proofs.Common.{◌≡◌, ℕ, zero, suc, ◌+◌, ◌-◌, ◌≤◌, List, [], ◌∷◌, ◌++◌, length, take, drop, refl, sym, ap, ◌∙◌, subst, arith, Bool, true, false, Option, Some, None, if◌then◌else◌, append_assoc, append-nil, add_assoc, length-append, drop-drop, ◌⊎◌, ⊎_elim}
+use Rattle.std.proofs.Common.{◌≡◌, ℕ, ◌+◌, List, [], ◌∷◌, ◌++◌, length, refl, sym, ap, ◌∙◌, arith, Bool, true, false, Option, Some, None, if◌then◌else◌, append_assoc, ⊎_elim}
 use Rattle.std.specs.Prelude.{option_map}
-use Rattle.std.specs.List.{flat_map}
-use Rattle.std.proofs.lemmas.Grind.{flat_map-append}
-use Rattle.std.proofs.lemmas.List.{drop_at}
 use Rattle.td_tree.specs.declared.token.Kind.{Kind}
-use Rattle.td_tree.specs.declared.token.Kind.TheVariants as kinds
-use Rattle.td_tree.specs.declared.piece.Piece.{Piece}
-use Rattle.td_tree.specs.declared.piece.Piece.TheVariants as pieces_are
-use Rattle.td_tree.specs.declared.keyword.Keyword.{Keyword}
 use Rattle.td_tree.specs.Division.{up_to}
-use Rattle.td_tree.specs.Pieces.{begins, continues, pieces, kind_of, kind_after, state}
-use Rattle.td_tree.specs.Statements.{Entry, entry_of, tokens_from, tokens, is_end, ends, put, split, statements}
-use Rattle.td_tree.specs.Symbols.{Symbol, symbols, spell}
-use Rattle.td_tree.proofs.EndLaws.{up_to_cases, found_in}
-use Rattle.td_tree.proofs.PieceLaws.{joined, size, size-cons, TakenOff, taken_off}
+use Rattle.td_tree.specs.Pieces.{kind_of}
+use Rattle.td_tree.specs.Statements.{Entry, entry_of, tokens_from, is_end, ends, put, split}
+use Rattle.td_tree.specs.Symbols.{Symbol, spell}
+use Rattle.td_tree.proofs.EndLaws.{up_to_cases}
+use Rattle.td_tree.proofs.PieceLaws.{size, size-cons}
 
 -- ---- ends of pieces and of tokens
 
@@ -35,10 +28,10 @@ found_more None at text p rest ps (Some qs) same is spelled = same ∙ sym (rw (
 found_more (Some kind) at text p rest ps found same is spelled =
     let token : Entry = record { kind = kind; text = text; start = at; stop = at + length text } in
     elim (is_end kind) as (λ b. (if b then Some (token ∷ []) else option_map (λ qs. token ∷ qs) (up_to ends rest)) ≡ option_map (tokens_from at) (if b then Some (p ∷ []) else option_map (λ qs. p ∷ qs) found)) [
-      true ↦ sym (rw (is, spelled) refl)
-    | false ↦ (elim found as (λ f. up_to ends rest ≡ option_map (tokens_from (at + length text)) f → option_map (λ qs. token ∷ qs) (up_to ends rest) ≡ option_map (tokens_from at) (option_map (λ qs. p ∷ qs) f)) [
-        None ↦ λ e. ap (option_map (λ qs. token ∷ qs)) e
-      | Some qs ↦ λ e. ap (option_map (λ qs. token ∷ qs)) e ∙ sym (rw (is, spelled) refl)
+      | true ↦ sym (rw (is, spelled) refl)
+      | false ↦ (elim found as (λ f. up_to ends rest ≡ option_map (tokens_from (at + length text)) f → option_map (λ qs. token ∷ qs) (up_to ends rest) ≡ option_map (tokens_from at) (option_map (λ qs. p ∷ qs) f)) [
+        | None ↦ λ e. ap (option_map (λ qs. token ∷ qs)) e
+        | Some qs ↦ λ e. ap (option_map (λ qs. token ∷ qs)) e ∙ sym (rw (is, spelled) refl)
       ]) same
     ]
 
@@ -70,13 +63,13 @@ pub split-first : (ts first rest : List Entry) → up_to ends ts ≡ Some first 
 split-first [] first rest found parts = absurd cc
 split-first (t ∷ ts) first rest found parts = ⊎_elim
     (λ e.
-      let all : t ∷ ts ≡ t ∷ rest = parts ∙ ap (λ f. f ++ rest) e.one in
-      let same : ts ≡ rest = cc in
-      ap (λ b. if b then (t ∷ []) ∷ split ts else put t (split ts)) e.yes ∙ ap (λ r. (t ∷ []) ∷ split r) same ∙ ap (λ f. f ∷ split rest) (sym e.one))
+    let all : t ∷ ts ≡ t ∷ rest = parts ∙ ap (λ f. f ++ rest) e.one in
+    let same : ts ≡ rest = cc in
+    ap (λ b. if b then (t ∷ []) ∷ split ts else put t (split ts)) e.yes ∙ ap (λ r. (t ∷ []) ∷ split r) same ∙ ap (λ f. f ∷ split rest) (sym e.one))
     (λ l.
-      let all : t ∷ ts ≡ t ∷ (l.inner ++ rest) = parts ∙ ap (λ f. f ++ rest) l.more in
-      let same : ts ≡ l.inner ++ rest = cc in
-      ap (λ b. if b then (t ∷ []) ∷ split ts else put t (split ts)) l.no ∙ ap (put t) (split-first ts l.inner rest l.found same) ∙ ap (λ f. f ∷ split rest) (sym l.more))
+    let all : t ∷ ts ≡ t ∷ (l.inner ++ rest) = parts ∙ ap (λ f. f ++ rest) l.more in
+    let same : ts ≡ l.inner ++ rest = cc in
+    ap (λ b. if b then (t ∷ []) ∷ split ts else put t (split ts)) l.no ∙ ap (put t) (split-first ts l.inner rest l.found same) ∙ ap (λ f. f ∷ split rest) (sym l.more))
     (up_to_cases ends t ts first found)
 
 -- the tokens left are one statement, if there are any
@@ -92,9 +85,9 @@ pub split-left : (ts : List Entry) → up_to ends ts ≡ None → split ts ≡ l
 split-left [] = λ none. refl
 split-left (t ∷ ts) =
     elim (ends t) as (λ b. (if b then Some (t ∷ []) else option_map (λ qs. t ∷ qs) (up_to ends ts)) ≡ None → (if b then (t ∷ []) ∷ split ts else put t (split ts)) ≡ (t ∷ ts) ∷ []) [
-      true ↦ λ none. absurd cc
-    | false ↦ (elim (up_to ends ts) as (λ o. up_to ends ts ≡ o → option_map (λ qs. t ∷ qs) o ≡ None → put t (split ts) ≡ (t ∷ ts) ∷ []) [
-        None ↦ λ is none. ap (put t) (split-left ts is) ∙ put-left t ts
-      | Some qs ↦ λ is none. absurd cc
+      | true ↦ λ none. absurd cc
+      | false ↦ (elim (up_to ends ts) as (λ o. up_to ends ts ≡ o → option_map (λ qs. t ∷ qs) o ≡ None → put t (split ts) ≡ (t ∷ ts) ∷ []) [
+        | None ↦ λ is none. ap (put t) (split-left ts is) ∙ put-left t ts
+        | Some qs ↦ λ is none. absurd cc
       ]) refl
     ]

@@ -1,9 +1,8 @@
 -- The symbols of bytes.
-use Rattle.std.proofs.Common.{◌≡◌, ℕ, zero, suc, ◌+◌, ◌-◌, ◌≤◌, ◌<◌, List, [], ◌∷◌, ◌++◌, length, take, drop, refl, sym, ap, ◌∙◌, subst, arith, Bool, true, false, Option, Some, None, ◌⊎◌, inl, inr, ⊎_elim}
+use Rattle.std.proofs.Common.{◌≡◌, ℕ, zero, suc, ◌-◌, ◌≤◌, ◌<◌, List, [], ◌∷◌, ◌++◌, length, take, drop, refl, sym, ap, ◌∙◌, arith, false, Option, Some, None, ⊎_elim}
 use Rattle.std.specs.Prelude.{if◌then◌else◌, slice_get, slice_index}
 use Rattle.std.specs.Str.{is_utf8, chars, continuation_len}
-use Rattle.std.proofs.lemmas.List.{take-append-le, length-take-le, length-take, take_all, take-append-drop, append_assoc}
-use Rattle.std.specs.List.{flat_map}
+use Rattle.std.proofs.lemmas.List.{take-append-le, length-take, take_all}
 use Rattle.std.proofs.str.Laws.{order}
 use Rattle.td_tree.specs.Symbols.{front_char, front_bytes, Symbol, symbol_of, symbol_at, symbols_from, symbols}
 use Rattle.td_tree.proofs.FrontLaws.{part_is_none, past_ascii_is_none, ascii_char, ascii_bytes}
@@ -31,22 +30,22 @@ take_past (suc n) (x ∷ xs) ys a less = let rest = take_past n xs ys a (omega a
 pub same_symbol : (b : ℕ) (xs ys : List ℕ) (a : ℕ) → a < 128 → symbol_at b (xs ++ a ∷ ys) ≡ symbol_at b xs
 same_symbol b xs ys a ascii =
     ⊎_elim
-      (λ less.
-        let past = take_past (continuation_len b) xs ys a less in
-        let one : front_char (b ∷ xs ++ a ∷ ys) ≡ None = none_from ((b ∷ xs) ++ a ∷ ys) (ap (λ t. is_utf8 (b ∷ t)) past.1 ∙ past_ascii_is_none b xs past.0 a ascii less) in
-        let two : front_char (b ∷ xs) ≡ None = none_from (b ∷ xs) (ap (λ t. is_utf8 (b ∷ t)) (take_all (continuation_len b) xs (omega arith)) ∙ part_is_none b xs less) in
-        ap (λ o. symbol_of o (front_bytes ((b ∷ xs) ++ a ∷ ys)) b) one ∙ sym (ap (λ o. symbol_of o (front_bytes (b ∷ xs)) b) two))
-      (λ enough.
-        let same : front_bytes ((b ∷ xs) ++ a ∷ ys) ≡ front_bytes (b ∷ xs) = take-append-le (suc (continuation_len b)) (b ∷ xs) (a ∷ ys) (omega arith) in
-        ap (λ t. symbol_of (if is_utf8 t then slice_get (chars t) 0 else None) t b) same)
-      (order (length xs) (continuation_len b))
+    (λ less.
+    let past = take_past (continuation_len b) xs ys a less in
+    let one : front_char (b ∷ xs ++ a ∷ ys) ≡ None = none_from ((b ∷ xs) ++ a ∷ ys) (ap (λ t. is_utf8 (b ∷ t)) past.1 ∙ past_ascii_is_none b xs past.0 a ascii less) in
+    let two : front_char (b ∷ xs) ≡ None = none_from (b ∷ xs) (ap (λ t. is_utf8 (b ∷ t)) (take_all (continuation_len b) xs (omega arith)) ∙ part_is_none b xs less) in
+    ap (λ o. symbol_of o (front_bytes ((b ∷ xs) ++ a ∷ ys)) b) one ∙ sym (ap (λ o. symbol_of o (front_bytes (b ∷ xs)) b) two))
+    (λ enough.
+    let same : front_bytes ((b ∷ xs) ++ a ∷ ys) ≡ front_bytes (b ∷ xs) = take-append-le (suc (continuation_len b)) (b ∷ xs) (a ∷ ys) (omega arith) in
+    ap (λ t. symbol_of (if is_utf8 t then slice_get (chars t) 0 else None) t b) same)
+    (order (length xs) (continuation_len b))
 
 -- a symbol's bytes are a front of the bytes
 text_within : (b : ℕ) (bs : List ℕ) → length (symbol_at b bs).text - 1 ≤ length bs
 text_within b bs =
     elim (front_char (b ∷ bs)) as (λ o. length (symbol_of o (front_bytes (b ∷ bs)) b).text - 1 ≤ length bs) [
-      Some c ↦ omega (arith, length-take (suc (continuation_len b)) (b ∷ bs))
-    | None ↦ omega arith
+      | Some c ↦ omega (arith, length-take (suc (continuation_len b)) (b ∷ bs))
+      | None ↦ omega arith
     ]
 
 pub symbols-append_ascii : (left : ℕ) (xs ys : List ℕ) (a : ℕ) → a < 128 → left ≤ length xs → symbols_from left (xs ++ a ∷ ys) ≡ symbols_from left xs ++ symbols (a ∷ ys)
@@ -74,9 +73,9 @@ front_some (b ∷ bs) c size some is long =
     let same : size - 1 ≡ length (take n bs) = omega (arith, long) in
     let whole : size ≡ suc (length (take n bs)) = long in
     symbols_step b bs ∙ ap (λ s. s ∷ symbols (drop (length s.text - 1) bs)) at
-      ∙ (let one : suc (length (take n bs)) - 1 ≡ length (take n bs) = omega arith in ap (λ k. symbol (Some c) (b ∷ take n bs) ∷ symbols (drop k bs)) one)
-      ∙ ap (λ t. symbol (Some c) (b ∷ t) ∷ symbols (drop (length (take n bs)) bs)) (sym (take_again n bs))
-      ∙ ap (λ k. symbol (Some c) (take k (b ∷ bs)) ∷ symbols (drop k (b ∷ bs))) (sym whole)
+    ∙ (let one : suc (length (take n bs)) - 1 ≡ length (take n bs) = omega arith in ap (λ k. symbol (Some c) (b ∷ take n bs) ∷ symbols (drop k bs)) one)
+    ∙ ap (λ t. symbol (Some c) (b ∷ t) ∷ symbols (drop (length (take n bs)) bs)) (sym (take_again n bs))
+    ∙ ap (λ k. symbol (Some c) (take k (b ∷ bs)) ∷ symbols (drop k (b ∷ bs))) (sym whole)
 
 pub front_none : (bs : List ℕ) → 0 < length bs → front_char bs ≡ None → symbols bs ≡ symbol None (take 1 bs) ∷ symbols (drop 1 bs)
 front_none [] some is = absurd (omega arith)

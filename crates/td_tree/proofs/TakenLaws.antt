@@ -1,9 +1,12 @@
 -- What is taken off is the first of the statements, and the others are those of what is still held.
-use Rattle.std.proofs.Common.{◌≡◌, ℕ, ◌+◌, ◌-◌, ◌≤◌, List, [], ◌∷◌, ◌++◌, length, drop, refl, sym, ap, ◌∙◌, subst, arith, Bool, true, false, Option, Some, None, if◌then◌else◌, append_assoc, append-nil, length-drop, ◌⊎◌, inl, inr, ⊎_elim}
+use Rattle.std.proofs.Common.{◌≡◌, ℕ, ◌+◌, ◌-◌, ◌<◌, ◌≤◌, List, [], ◌∷◌, ◌++◌, length, drop, refl, sym, ap, ◌∙◌, subst, arith, Bool, true, false, Option, Some, None, length-drop, ◌⊎◌, inl, inr, ⊎_elim}
 use Rattle.td_tree.specs.Division.{up_to}
 use Rattle.td_tree.specs.Statements.{Entry, Held, tokens, ends, split, statements, chosen, first_statement, end_of, end_of_first, behind, after}
-use Rattle.td_tree.proofs.StatementLaws.{left, split-left, split-first}
-use Rattle.td_tree.proofs.HeldLaws.{follows, follows_later, statements_later, none_behind, last_within}
+use Rattle.td_tree.proofs.StatementLaws.{left, split-left, split-first, split_first}
+use Rattle.td_tree.proofs.TokenLaws.{ascends}
+use Rattle.td_tree.proofs.EndLaws.{up_to_cases}
+use Rattle.td_tree.specs.Spans.{Ascends}
+use Rattle.td_tree.proofs.HeldLaws.{follows, statements_later, none_behind, last_within}
 
 -- all was fed, and these tokens are left
 record LeftOver (finished : Bool) (all : List Entry) (o : Option (List Entry)) (first : List Entry) : Type 0 where
@@ -65,9 +68,9 @@ pub first_and_after : (h : Held) (first : List Entry) → first_statement h ≡ 
 unfolding statements first_statement First
 first_and_after h first e =
     ⊎_elim
-      (λ ended. split_ended h.offset h.bytes first ended)
-      (λ all. split_all h first (up_to ends (tokens h.offset h.bytes)) refl all)
-      (first_cases h.finished (tokens h.offset h.bytes) (up_to ends (tokens h.offset h.bytes)) first e)
+    (λ ended. split_ended h.offset h.bytes first ended)
+    (λ all. split_all h first (up_to ends (tokens h.offset h.bytes)) refl all)
+    (first_cases h.finished (tokens h.offset h.bytes) (up_to ends (tokens h.offset h.bytes)) first e)
     ∙ ap (λ n. first ∷ split (tokens n (drop (n - h.offset) h.bytes))) (sym (behind_first h first e))
 
 -- where no statement is left of what was fed whole, there is none
@@ -86,9 +89,9 @@ pub first_and_later : (h : Held) (first : List Entry) → first_statement h ≡ 
 unfolding first_statement First
 first_and_later h first e more later =
     ⊎_elim
-      (λ ended. statements_later h.offset h.bytes first ended later)
-      (λ l. absurd (let wrong : false ≡ true = sym more ∙ l.fed in cc))
-      (first_cases h.finished (tokens h.offset h.bytes) (up_to ends (tokens h.offset h.bytes)) first e)
+    (λ ended. statements_later h.offset h.bytes first ended later)
+    (λ l. absurd (let wrong : false ≡ true = sym more ∙ l.fed in cc))
+    (first_cases h.finished (tokens h.offset h.bytes) (up_to ends (tokens h.offset h.bytes)) first e)
     ∙ ap (λ n. first ∷ statements n (drop (n - h.offset) h.bytes ++ later)) (sym (behind_first h first e))
 
 -- the first statement ends within what is held
@@ -108,13 +111,56 @@ pub first_within : (h : Held) → Within h
 unfolding first_statement First
 first_within h =
     (elim (first_statement h) as (λ o. first_statement h ≡ o → Within h) [
-      None ↦ λ e. within_at h h.offset (behind_none h e) (omega arith) (omega arith)
-    | Some first ↦ λ e. ⊎_elim
-        (λ ended. let f = follows h.offset h.bytes first ended in within_at h (end_of h.offset first) (behind_first h first e) f.stop f.within)
-        (λ l. within_left h first (up_to ends (tokens h.offset h.bytes)) (behind_first h first e) l)
-        (first_cases h.finished (tokens h.offset h.bytes) (up_to ends (tokens h.offset h.bytes)) first e)
+      | None ↦ λ e. within_at h h.offset (behind_none h e) (omega arith) (omega arith)
+      | Some first ↦ λ e. ⊎_elim
+          (λ ended. let f = follows h.offset h.bytes first ended in within_at h (end_of h.offset first) (behind_first h first e) f.stop f.within)
+          (λ l. within_left h first (up_to ends (tokens h.offset h.bytes)) (behind_first h first e) l)
+          (first_cases h.finished (tokens h.offset h.bytes) (up_to ends (tokens h.offset h.bytes)) first e)
     ]) refl
 
 -- what is held ends where it did
 pub end_stays : (h : Held) → (after h).offset + length (after h).bytes ≡ h.offset + length h.bytes
 end_stays h = let w = first_within h in omega (arith, w.stop, w.within, length-drop (behind h - h.offset) h.bytes)
+
+end_past : (ts : List Entry) (at to start : ℕ) → Ascends at to ts → start ≤ at → start ≤ end_of start ts
+end_past [] at to start up low = omega arith
+end_past (t ∷ ts) at to start up low = omega (arith, up.0, up.1, low, end_past ts t.stop to t.stop up.2 (omega arith))
+
+ascends_front : (xs ys : List Entry) (at to : ℕ) → Ascends at to (xs ++ ys) → (high : ℕ) × Ascends at high xs
+ascends_front [] ys at to up = (at, omega arith)
+ascends_front (t ∷ xs) ys at to up = let w = ascends_front xs ys t.stop to up.2 in (w.0, (up.0, up.1, w.1))
+
+-- where there is a token the end is past its beginning
+past_first : (ts : List Entry) (at to : ℕ) → Ascends at to ts → 0 < length ts → at < end_of at ts
+past_first [] at to up some = absurd (omega arith)
+past_first (t ∷ ts) at to up some = omega (arith, up.0, up.1, end_past ts t.stop to t.stop up.2 (omega arith))
+
+some_found : (ts first : List Entry) → up_to ends ts ≡ Some first → 0 < length first
+some_found [] first found = absurd cc
+some_found (t ∷ ts) first found = ⊎_elim
+    (λ e. subst (λ (f : List Entry). 0 < length f) (sym e.one) (let one : 0 < length (t ∷ []) = omega arith in one))
+    (λ l. subst (λ (f : List Entry). 0 < length f) (sym l.more) (let one : 0 < length (t ∷ l.inner) = omega arith in one))
+    (up_to_cases ends t ts first found)
+
+past_ended : (at : ℕ) (bs : List ℕ) (first : List Entry) → up_to ends (tokens at bs) ≡ Some first → at < end_of at first
+past_ended at bs first found =
+    let w = split_first ends (tokens at bs) first found in
+    let front = ascends_front first w.0 at (at + length bs) (subst (Ascends at (at + length bs)) w.1 (ascends at bs)) in
+    past_first first at front.0 front.1 (some_found (tokens at bs) first found)
+
+past_left : (h : Held) (first : List Entry) (o : Option (List Entry)) → LeftOver h.finished (tokens h.offset h.bytes) o first → h.offset < end_of h.offset first
+past_left h first o l =
+    let all : tokens h.offset h.bytes ≡ first = l.are ∙ sym l.is in
+    past_first first h.offset (h.offset + length h.bytes) (subst (Ascends h.offset (h.offset + length h.bytes)) all (ascends h.offset h.bytes))
+    (subst (λ (f : List Entry). 0 < length f) (sym l.is) (let one : 0 < length (l.token ∷ l.others) = omega arith in one))
+
+-- a statement that is taken off takes bytes off
+pub fewer_bytes : (h : Held) (first : List Entry) → first_statement h ≡ Some first → length (after h).bytes < length h.bytes
+unfolding first_statement First
+fewer_bytes h first e =
+    let past : h.offset < end_of h.offset first = ⊎_elim
+    (λ ended. past_ended h.offset h.bytes first ended)
+    (λ l. past_left h first (up_to ends (tokens h.offset h.bytes)) l)
+    (first_cases h.finished (tokens h.offset h.bytes) (up_to ends (tokens h.offset h.bytes)) first e) in
+    let w = first_within h in
+    omega (arith, past, behind_first h first e, w.stop, w.within, length-drop (behind h - h.offset) h.bytes)

@@ -1,5 +1,5 @@
 -- The pieces of a script: how one begins, how it goes on, and what it is (this project's own).
-use Rattle.std.specs.Prelude.{ℕ, Bool, ◌||◌, ◌&&◌, not, is_some, ◌==◌, if◌then◌else◌, List, [], ◌∷◌, Option, Some, None, option_map, option_and_then}
+use Rattle.std.specs.Prelude.{ℕ, Bool, ◌||◌, ◌==◌, if◌then◌else◌, List, Option, Some, None, option_map, option_and_then}
 use Rattle.std.specs.Char.{is_ascii_digit, is_ascii_alphabetic, is_ascii_alphanumeric}
 use Rattle.td_tree.specs.declared.keyword.Keyword.{Keyword}
 use Rattle.td_tree.specs.declared.piece.Piece.{Piece}
@@ -44,6 +44,7 @@ longer_sign signs.Less c = if c == 61 then Some signs.LessOrEqual else (if c == 
 longer_sign signs.Greater c = if c == 61 then Some signs.GreaterOrEqual else None
 longer_sign _ c = None
 
+-- a sign, or what begins no other piece
 abbrev pub sign_piece : Option Sign → Piece
 sign_piece (Some sign) = pieces_are.Sign sign
 sign_piece None = Bad
@@ -83,17 +84,23 @@ kind_after (pieces_are.Sign sign) text = Some (kinds.Sign sign)
 kind_after Bar text = Some kinds.Bad
 kind_after Bad text = Some kinds.Bad
 
--- the machine over symbols
+-- the machine over symbols: it asks their characters alone
 abbrev pub begins : Symbol → Piece
 begins s = opens s.character
 
+-- the piece with one more symbol
 abbrev pub continues : Piece → Symbol → Option Piece
 continues piece s = goes_on piece s.character
 
--- the pieces of the bytes
+-- these are the longest pieces of the bytes
+abbrev pub AreLongest : List (List Symbol) → List ℕ → Type 0
+AreLongest ps bytes = division.IsDivision begins continues ps (symbols bytes)
+
+-- the pieces of the bytes, divided from the left
 abbrev pub pieces : List ℕ → List (List Symbol)
 pieces bytes = division.divide begins continues (symbols bytes)
 
+-- how the machine leaves these symbols; None where they are no piece
 abbrev pub state : List Symbol → Option Piece
 state = division.state begins continues
 

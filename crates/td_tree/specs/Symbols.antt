@@ -1,5 +1,6 @@
 -- A script as its characters, and the bytes that begin none (UTF-8 is the language's choice; strays are this project's own).
-use Rattle.std.specs.Prelude.{ℕ, zero, suc, ◌-◌, if◌then◌else◌, List, [], ◌∷◌, Option, Some, None, length, take, slice_index, slice_get}
+use Rattle.std.specs.Prelude.{◌≡◌, ◌++◌, encode_utf8, ℕ, zero, suc, ◌-◌, if◌then◌else◌, List, [], ◌∷◌, Option, Some, None, length, take, slice_index, slice_get}
+use Rattle.std.specs.Char.{IsScalar}
 use Rattle.std.specs.List.{flat_map}
 use Rattle.std.specs.Str.{is_utf8, chars, continuation_len}
 
@@ -16,6 +17,7 @@ pub record Symbol : Type 0 where
   pub character : Option ℕ
   pub text : List ℕ
 
+-- the character with these bytes, or where there is none the first byte
 abbrev pub symbol_of : Option ℕ → List ℕ → ℕ → Symbol
 symbol_of (Some c) front b = record { character = Some c; text = front }
 symbol_of None front b = record { character = None; text = b ∷ [] }
@@ -37,3 +39,13 @@ symbols = symbols_from 0
 -- the bytes of the symbols
 abbrev pub spell : List Symbol → List ℕ
 spell = flat_map (λ (s : Symbol). s.text)
+
+-- the character stands here in UTF-8; where none begins, one byte stands for itself
+abbrev pub IsFront : Option ℕ → List ℕ → List ℕ → Type 0
+IsFront (Some c) text bytes = IsScalar c × (text ≡ encode_utf8 c)
+IsFront None text bytes = (length text ≡ 1) × ((c : ℕ) (rest : List ℕ) → IsScalar c → bytes ≡ encode_utf8 c ++ rest → ⊥)
+
+-- these symbols spell the bytes, each the character that begins there, or a byte where none does
+abbrev pub AreSymbols : List Symbol → List ℕ → Type 0
+AreSymbols [] bytes = bytes ≡ []
+AreSymbols (s ∷ ss) bytes = (rest : List ℕ) × (bytes ≡ s.text ++ rest) × IsFront s.character s.text bytes × AreSymbols ss rest

@@ -7,7 +7,6 @@ pub mod keyword;
 pub mod laws;
 pub mod name;
 pub mod piece;
-pub mod token;
-
 #[cfg(test)]
 mod tests;
+pub mod token;

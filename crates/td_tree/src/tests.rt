@@ -1,4 +1,4 @@
-use crate::name::{is_name, Name};
+use crate::name::{Name, is_name};
 
 #[test]
 fn names(rt: HostRuntime) {

@@ -1,4 +1,4 @@
-use Rattle.std.proofs.Common.{◌∙◌, subst, IsUtf8, sym}
+use Rattle.std.proofs.Common.{◌∙◌, subst, IsUtf8}
 use Rattle.td_tree.proofs.FrontLaws.{found_char}
 use Rattle.td_scan.proofs.symbol.front_char.Goals as goal
 
