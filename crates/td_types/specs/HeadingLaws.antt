@@ -1,7 +1,7 @@
 -- What the operations on headings make: each is ascending, and gives each name the type that it should.
 -- A heading is one of std's sorted lists of entries, whose lemmas show most of it.
 use Rattle.std.proofs.Common.{◌≡◌, ℕ, ◌+◌, suc, Bool, true, false, List, [], ◌∷◌, refl, sym, subst, ap, ◌∙◌, arith, Option, None, Some}
-use Rattle.std.specs.Prelude.{if◌then◌else◌, is_some, T, not, ◌&&◌}
+use Rattle.std.specs.Prelude.{if◌then◌else◌, is_some, map, T, not, ◌&&◌, ◌||◌}
 use Rattle.std.specs.declared.cmp.Ordering.{Ordering}
 use Rattle.std.specs.declared.cmp.Ordering.TheVariants.{Less, Equal, Greater}
 use Rattle.std.specs.Ordering.{nat_cmp, eq_by_cmp, is_lt, ordering_reverse}
@@ -11,7 +11,7 @@ use Rattle.std.specs.List.Sorted.{IsStrictlySortedBy}
 use Rattle.std.specs.FinMap.Entries.{by_order, find, is_sorted, below_all, is_sorted-put, is_sorted-where_key, find-put, find-where_key, same_entries}
 use Rattle.std.proofs.lemmas.Cmp.{nat_list_cmp_total, eq_by_cmp_equiv}
 use Rattle.std.proofs.lemmas.Map.Lookups.{exact_bytes}
-use Rattle.td_types.specs.Headings.{AgreementIsOneType, TypesDetermineHeading, add_missing, agree, common_part, has_attribute, has_name, heading_renamed, heading_union, is_type_or_none, projection, renamed, with_attribute, without_attribute}
+use Rattle.td_types.specs.Headings.{AgreementIsOneType, RenamingKeepsTypes, TypesDetermineHeading, are_distinct, can_rename, new_name, add_missing, agree, common_part, has_attribute, has_attributes, has_name, heading_renamed, heading_union, is_type_or_none, projection, renamed, with_attribute, without_attribute}
 use Rattle.td_tree.specs.Names.{IsName}
 use Rattle.td_types.specs.TypeOrder.{type_eq-Decides}
 use Rattle.td_types.specs.Types.{Type', Attribute, Attributes, IsAscending, IsBefore, IsHeading, IsType, pack, names_of, same_name, type_at}
@@ -296,3 +296,63 @@ attribute_from_heading n t (x ∷ xs) h e = by_name (attribute_from_heading n t 
         let type : x.1 ≡ t = cc in
         (subst IsName (same_text x.0 n is) h.0, subst IsType type h.1)
     by_name rest false is = rest (rw (← is) at e)
+
+-- ---- renaming
+
+same_name-itself : (n : List ℕ) → same_name n n ≡ true
+same_name-itself n = same_name-ties n n ∙ (eq_by_cmp_equiv nat_list_cmp_total).refl n
+
+or_true : (a b : Bool) → b ≡ true → (a || b) ≡ true
+or_true true b e = refl
+or_true false b e = e
+
+-- the new name of an attribute is one of the new names
+new_name_there : (rs : List (List ℕ × List ℕ)) (n : List ℕ) (h : Attributes) → has_attribute n h ≡ true → has_name (new_name rs n) (names_of (renamed rs h)) ≡ true
+new_name_there rs n [] e = cc
+new_name_there rs n (a ∷ h) e = by_name (new_name_there rs n h) (same_name a.0 n) refl
+  where
+    by_name : (has_attribute n h ≡ true → has_name (new_name rs n) (names_of (renamed rs h)) ≡ true)
+        → (same : Bool) → same ≡ same_name a.0 n → has_name (new_name rs n) (names_of (renamed rs (a ∷ h))) ≡ true
+    by_name rest true is = subst (λ m. has_name (new_name rs m) (names_of (renamed rs (a ∷ h))) ≡ true) (same_text a.0 n is) (rw (same_name-itself (new_name rs a.0)) refl)
+    by_name rest false is = or_true _ _ (rest (rw (← is) at e))
+
+kept_types : (rs : List (List ℕ × List ℕ)) (h : Attributes) → are_distinct (names_of (renamed rs h)) ≡ true
+    → (n : List ℕ) → has_attribute n h ≡ true → type_at (new_name rs n) (renamed rs h) ≡ type_at n h
+kept_types rs [] d n e = cc
+kept_types rs (a ∷ h) d n e = by_name (kept_types rs h (and_second _ _ d) n) (same_name a.0 n) refl (same_name (new_name rs a.0) (new_name rs n)) refl
+  where
+    by_name : (has_attribute n h ≡ true → type_at (new_name rs n) (renamed rs h) ≡ type_at n h)
+        → (same : Bool) → same ≡ same_name a.0 n → (tied : Bool) → tied ≡ same_name (new_name rs a.0) (new_name rs n)
+        → type_at (new_name rs n) (renamed rs (a ∷ h)) ≡ type_at n (a ∷ h)
+    by_name rest true is true new = rw (← is, ← new) refl
+    by_name rest true is false new =
+        let tied : same_name (new_name rs a.0) (new_name rs n) ≡ true = subst (λ m. same_name (new_name rs a.0) (new_name rs m) ≡ true) (same_text a.0 n is) (same_name-itself (new_name rs a.0)) in
+        cc
+    by_name rest false is true new =
+        let there : has_attribute n h ≡ true = rw (← is) at e in
+        let taken : has_name (new_name rs a.0) (names_of (renamed rs h)) ≡ true =
+        subst (λ m. has_name m (names_of (renamed rs h)) ≡ true) (sym (same_text (new_name rs a.0) (new_name rs n) new)) (new_name_there rs n h there) in
+        let free : not (has_name (new_name rs a.0) (names_of (renamed rs h))) ≡ true = and_first _ _ d in
+        let clash = rw taken at free in
+        cc
+    by_name rest false is false new = rw (← is, ← new) (rest (rw (← is) at e))
+
+old_name_there : (rs : List (List ℕ × List ℕ)) (m : List ℕ) (h : Attributes) → has_attribute m (renamed rs h) ≡ true → (n : List ℕ) × (has_attribute n h ≡ true) × (new_name rs n ≡ m)
+old_name_there rs m [] e = cc
+old_name_there rs m (a ∷ h) e = by_name (old_name_there rs m h) (same_name (new_name rs a.0) m) refl
+  where
+    later : (n : List ℕ) → has_attribute n h ≡ true → (same : Bool) → same ≡ same_name a.0 n → has_attribute n (a ∷ h) ≡ true
+    later n there true is = rw (← is) refl
+    later n there false is = rw (← is) there
+
+    by_name : (has_attribute m (renamed rs h) ≡ true → (n : List ℕ) × (has_attribute n h ≡ true) × (new_name rs n ≡ m))
+        → (same : Bool) → same ≡ same_name (new_name rs a.0) m → (n : List ℕ) × (has_attribute n (a ∷ h) ≡ true) × (new_name rs n ≡ m)
+    by_name rest true is = (a.0, rw (same_name-itself a.0) refl, same_text (new_name rs a.0) m is)
+    by_name rest false is =
+        let found = rest (rw (← is) at e) in
+        (found.0, later found.0 found.1 _ refl, found.2)
+
+pub renaming_keeps_types : RenamingKeepsTypes
+renaming_keeps_types rs h e =
+    let old = has_attributes (map (λ r. r.0) rs) h && are_distinct (map (λ r. r.0) rs) in
+    (kept_types rs h (and_second old (are_distinct (names_of (renamed rs h))) e), λ m. old_name_there rs m h)

@@ -104,3 +104,10 @@ TypesDetermineHeading = (g h : Attributes) → IsAscending g → IsAscending h �
 abbrev pub AgreementIsOneType : Type 0
 AgreementIsOneType =
     (g h : Attributes) → IsAscending g → IsTrue (agree g h) ↔ ((name : List ℕ) (s t : Type') → type_at name g ≡ Some s → type_at name h ≡ Some t → s ≡ t)
+
+-- renaming gives each new name the type of its old one, and there are no others
+abbrev pub RenamingKeepsTypes : Type 0
+RenamingKeepsTypes =
+    (renamings : List (List ℕ × List ℕ)) (h : Attributes) → IsTrue (can_rename renamings h)
+    → ((name : List ℕ) → IsTrue (has_attribute name h) → type_at (new_name renamings name) (renamed renamings h) ≡ type_at name h)
+    × ((name : List ℕ) → IsTrue (has_attribute name (renamed renamings h)) → (old : List ℕ) × IsTrue (has_attribute old h) × (new_name renamings old ≡ name))
