@@ -66,7 +66,7 @@ can_rename renamings heading = has_attributes (map (λ r. r.0) renamings) headin
 
 -- ---- the headings that the operations make
 
--- the attribute added in its place, in name order
+-- the attribute added in its place, in name order; where the name is there, its type is the new one
 abbrev pub with_attribute : Attributes → Attribute → Attributes
 with_attribute heading a = put (slice_cmp nat_cmp) a.0 a.1 heading
 

@@ -9,6 +9,7 @@ use crate::ty::{Attribute, Heading, Ty};
 use std::cmp::Ordering;
 
 impl Ty {
+    /// The place of the type's kind.
     fn rank(&self) -> u8
         ensures { result ≡ type_rank (type_of self.now) }
     {
