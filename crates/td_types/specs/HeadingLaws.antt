@@ -11,7 +11,7 @@ use Rattle.std.specs.List.Sorted.{IsStrictlySortedBy}
 use Rattle.std.specs.FinMap.Entries.{by_order, find, is_sorted, below_all, is_sorted-put, is_sorted-where_key, find-put, find-where_key, same_entries}
 use Rattle.std.proofs.lemmas.Cmp.{nat_list_cmp_total, eq_by_cmp_equiv}
 use Rattle.std.proofs.lemmas.Map.Lookups.{exact_bytes}
-use Rattle.td_types.specs.Headings.{AgreementIsOneType, RenamingKeepsTypes, TypesDetermineHeading, are_distinct, can_rename, new_name, add_missing, agree, common_part, has_attribute, has_attributes, has_name, heading_renamed, heading_union, is_type_or_none, projection, renamed, with_attribute, without_attribute}
+use Rattle.td_types.specs.Headings.{AgreementIsOneType, RenamingKeepsTypes, TypesDetermineHeading, are_distinct, new_name, add_missing, agree, common_part, has_attribute, has_attributes, has_name, heading_renamed, heading_union, is_type_or_none, projection, renamed, with_attribute, without_attribute}
 use Rattle.td_tree.specs.Names.{IsName}
 use Rattle.td_types.specs.TypeOrder.{type_eq-Decides}
 use Rattle.td_types.specs.Types.{Type', Attribute, Attributes, IsAscending, IsBefore, IsHeading, IsType, pack, names_of, same_name, type_at}
@@ -356,3 +356,22 @@ pub renaming_keeps_types : RenamingKeepsTypes
 renaming_keeps_types rs h e =
     let old = has_attributes (map (λ r. r.0) rs) h && are_distinct (map (λ r. r.0) rs) in
     (kept_types rs h (and_second old (are_distinct (names_of (renamed rs h))) e), λ m. old_name_there rs m h)
+
+-- ---- which names a heading has
+
+-- those of its attributes
+pub has_attribute-names : (n : List ℕ) (xs : Attributes) → has_attribute n xs ≡ has_name n (names_of xs)
+has_attribute-names n [] = refl
+has_attribute-names n (x ∷ xs) = by_name (same_name x.0 n) (has_attribute-names n xs)
+  where
+    by_name : (same : Bool) → has_attribute n xs ≡ has_name n (names_of xs) → is_some (if same then Some x.1 else type_at n xs) ≡ (same || has_name n (names_of xs))
+    by_name true rest = refl
+    by_name false rest = rest
+
+-- with one more attribute, its name too
+pub has_attribute-with : (m n : List ℕ) (t : Type') (xs : Attributes) → has_attribute m (with_attribute xs (n, t)) ≡ (same_name n m || has_attribute m xs)
+has_attribute-with m n t xs = ap is_some (type_at-with m n t xs) ∙ by_name (same_name n m)
+  where
+    by_name : (same : Bool) → is_some (if same then Some t else type_at m xs) ≡ (same || has_attribute m xs)
+    by_name true = refl
+    by_name false = refl
