@@ -1,4 +1,4 @@
--- Headings are finite maps from names to types (the chapter's), kept as the list of their attributes in name order.
+-- Headings are finite maps from names to types (Tutorial D's), kept as the list of their attributes in name order.
 use Rattle.std.specs.Prelude.{◌≡◌, ℕ, Bool, true, not, ◌&&◌, List, [], ◌∷◌, filter, fold, map, Option, None, Some, is_some, if◌then◌else◌, IsTrue, ◌↔◌}
 use Rattle.std.specs.List.{list_all, list_any}
 use Rattle.std.specs.Cmp.Lexicographic.{slice_cmp}

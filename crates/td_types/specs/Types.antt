@@ -1,4 +1,4 @@
--- Types and headings as the chapter has them, apart from how the code stores them.
+-- Types and headings as Tutorial D has them, apart from how the code stores them.
 use Rattle.std.specs.Prelude.{◌≡◌, ℕ, zero, suc, max, Bool, List, [], ◌∷◌, map, refl, Option, Some, None, if◌then◌else◌, ◌==◌, pos, ⊤}
 use lib.Pointwise.{pointwise}
 use Rattle.std.proofs.Common.{ap, ◌∙◌}
