@@ -3,7 +3,8 @@ use Rattle.std.specs.Prelude.{◌≡◌, ℕ, Bool, true, false, not, ◌&&◌, 
 use Rattle.std.specs.List.{list_all, list_any}
 use Rattle.std.specs.Ordering.{eq_by_cmp, is_eq}
 use Rattle.td_types.specs.Headings.{are_distinct, has_attributes, has_name}
-use Rattle.td_types.specs.Types.{Attributes, attrs_cmp, pack, same_name}
+use Rattle.td_types.specs.TypeOrder.{heading_cmp}
+use Rattle.td_types.specs.Types.{Attributes, same_name}
 use Rattle.td_value.specs.Values.{Entries, Relation, tuple_order}
 
 -- a base relvar: its name, its declared keys, and its body with its heading
@@ -28,7 +29,7 @@ with_body n body (r ∷ rs) = if same_name r.name n then record r { body = body 
 
 -- whether two headings are one
 abbrev pub same_heading : Attributes → Attributes → Bool
-same_heading g h = is_eq (attrs_cmp (pack g) (pack h))
+same_heading = eq_by_cmp heading_cmp
 
 -- ---- keys
 
@@ -71,12 +72,13 @@ keys_fit heading keys = is_some_key keys && are_keys heading keys
 
 -- ---- legal databases
 
--- the relvar's keys fit its heading and hold of its body
-pub record IsRelvar (r : Relvar) : Type 0 where
-  pub fit : keys_fit r.body.heading r.keys ≡ true
-  pub hold : keys_hold r.keys r.body.rows ≡ true
+-- whether the relvar's keys fit its heading and hold of its body
+abbrev pub is_relvar : Relvar → Bool
+is_relvar r = keys_fit r.body.heading r.keys && keys_hold r.keys r.body.rows
 
--- every relvar is as it was declared, and no two have one name
-abbrev pub IsLegal : Database → Type 0
-IsLegal [] = Unit {0}
-IsLegal (r ∷ rs) = IsRelvar r × (has_name r.name (map (λ s. s.name) rs) ≡ false) × IsLegal rs
+abbrev pub names_of : Database → List (List ℕ)
+names_of = map (λ r. r.name)
+
+-- whether every relvar is as it was declared, and no two have one name
+abbrev pub is_legal : Database → Bool
+is_legal db = list_all is_relvar db && are_distinct (names_of db)
