@@ -2,6 +2,7 @@ pub mod Again
 pub mod Decimals
 pub mod Headings
 pub mod Joins
+pub mod Literals
 pub mod Names
 pub mod Parses
 pub mod Sound

@@ -45,9 +45,9 @@ first_heading [] = []
 first_heading (t ∷ ts) = heading_of t
 
 -- the heading of a relation: the written one, or that of its tuples
-abbrev pub literal_heading : Option (List (List ℕ)) → List TupleLiteral → Attributes
+abbrev pub literal_heading : Option (List (List ℕ)) → List Entries → Attributes
 literal_heading (Some names) tuples = integer_heading names
-literal_heading None tuples = first_heading (tuple_values tuples)
+literal_heading None tuples = first_heading tuples
 
 abbrev pub are_distinct_if : Option (List (List ℕ)) → Bool
 are_distinct_if None = true
@@ -63,12 +63,12 @@ have_heading heading = list_all (λ t. same_heading (heading_of t) heading)
 
 -- whether no heading and no tuple has a name twice, and all have one heading
 abbrev pub is_relation : Option (List (List ℕ)) → List TupleLiteral → Bool
-is_relation names tuples = are_distinct_if names && are_tuples tuples && have_heading (literal_heading names tuples) (tuple_values tuples)
+is_relation names tuples = are_distinct_if names && are_tuples tuples && have_heading (literal_heading names (tuple_values tuples)) (tuple_values tuples)
 
 -- the relation with these tuples; what is none is HEADING
 abbrev pub literal_meaning : Option (List (List ℕ)) → List TupleLiteral → Outcome Relation
 literal_meaning names tuples =
-    if is_relation names tuples then Valued (record { heading = literal_heading names tuples; rows = set_of tuple_order (tuple_values tuples) }) else Refused (Only causes.Heading)
+    if is_relation names tuples then Valued (record { heading = literal_heading names (tuple_values tuples); rows = set_of tuple_order (tuple_values tuples) }) else Refused (Only causes.Heading)
 
 -- the tuples that are in either; headings that are not one are HEADING
 abbrev pub union_of : Relation → Relation → Outcome Relation

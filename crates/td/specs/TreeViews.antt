@@ -1,5 +1,7 @@
 -- What the trees of the code stand for.
-use Rattle.std.specs.Prelude.{ℕ, List, map, option_map, fold}
+use Rattle.std.specs.Prelude.{ℕ, List, Option, Vec, map, option_map, fold}
+use Rattle.std.specs.Global.{Global}
+use Rattle.td_tree.specs.declared.name.Name.{Name}
 use Rattle.td.specs.Trees.{Numeral, AttributeValue, TupleLiteral, Operand, relvar, literal, Expression, single, union, Statement, empty, define, assign, write}
 use Rattle.td.specs.declared.engine.number.Numeral as code_numeral
 use Rattle.td.specs.declared.engine.tree.AttributeValue as code_attribute
@@ -26,8 +28,11 @@ tuple_of t = attributes_of t.attributes.items
 abbrev pub tuples_of : List code_tuple.TupleLiteral → List TupleLiteral
 tuples_of = map tuple_of
 
+abbrev pub names_if : Option (Vec Name Global) → Option (List (List ℕ))
+names_if = option_map (λ names. names.items)
+
 abbrev pub literal_of : code_literal.RelationLiteral → Operand
-literal_of l = literal (option_map (λ names. names.items) l.heading) (tuples_of l.tuples.items)
+literal_of l = literal (names_if l.heading) (tuples_of l.tuples.items)
 
 abbrev pub operand_of : code_operand.Operand → Operand
 operand_of (Relvar name) = relvar name
