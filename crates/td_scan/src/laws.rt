@@ -16,7 +16,7 @@ pub fn taken_off_are_the_first()
 pub fn taken_off_stay_the_first()
     ensures { (calls : List Call) (more : List ℕ) → IsAllowed calls → IsFalse (course calls).held.finished
         → statements 0 ((course calls).fed ++ more)
-            ≡ (course calls).taken ++ statements_before (course calls).held more }
+        ≡ (course calls).taken ++ statements_before (course calls).held more }
 {}
 
 /// A finished cutter from which no more can be taken off has given all statements of the script.

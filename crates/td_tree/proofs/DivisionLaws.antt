@@ -22,9 +22,6 @@ fronts (y ∷ q) r (x ∷ p) rest e =
     ]
 
 module _ {X S : Type 0} (opens : X → S) (goes_on : S → X → Option S) where
-  pub run-none : (xs : List X) → run opens goes_on None xs ≡ None
-  run-none xs = refl
-
   pub run-append : (o : Option S) (xs ys : List X) → run opens goes_on o (xs ++ ys) ≡ run opens goes_on (run opens goes_on o xs) ys
   run-append None xs ys = refl
   run-append (Some s) [] ys = refl
