@@ -8,3 +8,4 @@ pub mod Parses
 pub mod Sound
 pub mod ToldLaws
 pub mod Turns
+pub mod Unions

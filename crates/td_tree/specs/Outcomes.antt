@@ -1,5 +1,5 @@
 -- Sets of causes, and what has a value or such a set (this project's own).
-use Rattle.std.specs.Prelude.{◌≡◌, nat_le, if◌then◌else◌, ◌⊎◌}
+use Rattle.std.specs.Prelude.{◌≡◌, nat_le, Option, None, Some, if◌then◌else◌, ◌⊎◌}
 use Rattle.td_tree.specs.Causes.{number_of}
 use Rattle.td_tree.specs.declared.cause.Cause.{Cause}
 
@@ -24,6 +24,11 @@ least (Union a b) = lesser (least a) (least b)
 pub data Outcome (A : Type 0) : Type 0 where
   Valued : A → Outcome A
   Refused : Causes → Outcome A
+
+-- the cause that is named where there is no value
+abbrev pub named_cause : {A : Type 0} → Outcome A → Option Cause
+named_cause (Valued x) = None
+named_cause (Refused cs) = Some (least cs)
 
 -- what follows where there is a value
 abbrev pub with_value : {A B : Type 0} → Outcome A → (A → Outcome B) → Outcome B

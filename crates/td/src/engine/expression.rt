@@ -1,0 +1,80 @@
+//! The relations that expressions mean.
+ghost use Rattle.std.specs.Prelude.{◌≡◌};
+ghost use Rattle.td_tree.specs.Outcomes as outcomes;
+ghost use Rattle.td_tree.specs.Outcomes.{Outcome, with_both};
+ghost use Rattle.td_value.specs.Values.{Relation};
+ghost use Rattle.td.specs.Answering.{Answers};
+ghost use Rattle.td.specs.Meaning as spec;
+ghost use Rattle.td.specs.Meaning.{meaning, operand_meaning};
+ghost use Rattle.td.specs.TreeViews.{expression_of, operand_of};
+
+use crate::engine::database::Database;
+use crate::engine::literal::literal_value;
+use crate::engine::tree::{Expression, Operand};
+use std::alloc::Global;
+use td_tree::cause::Cause;
+use td_tree::fault::Fault;
+use td_value::value::Rel;
+
+/// The relation that an operand means; NAME_UNKNOWN where there is no such relvar.
+fn operand_value(alloc: Global, database: &Database, operand: &Operand) -> Result<Rel, Fault>
+    ensures { Answers result (operand_meaning database.now (operand_of operand.now)) }
+{
+    match operand {
+        Operand::Relvar(name) => match database.get(name) {
+            Some(relvar) => Ok(relvar.body.try_clone()?),
+            None => Err(Fault::Refused(Cause::NameUnknown)),
+        },
+        Operand::Literal(literal) => literal_value(alloc, literal),
+    }
+}
+
+/// The union of two relations; HEADING where their headings are not one.
+fn union(left: Rel, right: Rel) -> Result<Rel, Fault>
+    ensures { Answers result (spec.union_of left right) }
+{
+    if left.heading() != right.heading() {
+        return Err(Fault::Refused(Cause::Heading));
+    }
+    let heading = left.heading().try_clone()?;
+    let mut tuples = left.into_rows();
+    tuples.append(&mut right.into_rows())?;
+    Ok(Rel::new(heading, tuples)?)
+}
+
+/// The cause with the lesser number.
+fn lesser(one: Cause, other: Cause) -> Cause
+    ensures { result ≡ outcomes.lesser one other }
+{
+    if one.number() <= other.number() {
+        one
+    } else {
+        other
+    }
+}
+
+/// The union of what two operands mean: of their causes the least is named.
+#[tactic(auto, using(crate::proofs::Unions::both_valued, crate::proofs::Unions::both_refused, crate::proofs::Unions::left_refused, crate::proofs::Unions::right_refused))]
+fn union_of(left: Result<Rel, Fault>, right: Result<Rel, Fault>) -> Result<Rel, Fault>
+    ensures { (o p : Outcome Relation) → Answers left o → Answers right p → Answers result (with_both o p spec.union_of) }
+{
+    match (left, right) {
+        (Ok(left), Ok(right)) => union(left, right),
+        (Err(Fault::Refused(one)), Err(Fault::Refused(other))) => {
+            Err(Fault::Refused(lesser(one, other)))
+        }
+        (Err(Fault::Memory), _) | (_, Err(Fault::Memory)) => Err(Fault::Memory),
+        (Err(fault), Ok(_)) | (Ok(_), Err(fault)) => Err(fault),
+    }
+}
+
+/// The relation that an expression means, or the least of its causes.
+pub fn value(alloc: Global, database: &Database, expression: &Expression) -> Result<Rel, Fault>
+    ensures { Answers result (meaning database.now (expression_of expression.now)) }
+{
+    let mut value = operand_value(alloc, database, &expression.first);
+    for operand in &expression.others {
+        value = union_of(value, operand_value(alloc, database, operand));
+    }
+    value
+}
