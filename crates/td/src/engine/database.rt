@@ -1,5 +1,6 @@
 //! Databases.
-ghost use Rattle.std.specs.Prelude.{◌≡◌, [], ◌∷◌, ◌++◌, OnErr, OnOk, option_map, true};
+ghost use Rattle.std.specs.Prelude.{◌≡◌, [], ◌∷◌, ◌++◌, OnErr, OnOk, option_map, position, true};
+ghost use Rattle.td_types.specs.Types.{same_name};
 ghost use Rattle.td.specs.Database.{is_legal, relvar_at, with_body};
 ghost use Rattle.td.specs.Relvars.{relvar_of, relvars_of};
 
@@ -43,6 +44,29 @@ fn find<'a>(relvars: &'a [Relvar], name: &Name) -> Option<&'a Relvar>
     None
 }
 
+/// Where the relvar of this name stands among these.
+fn place_of(relvars: &[Relvar], name: &Name) -> Option<usize>
+    ensures { result ≡ position (λ r. same_name r.name name.now) relvars.now }
+{
+    let mut place = 0;
+    for relvar in relvars {
+        if relvar.name == *name {
+            return Some(place);
+        }
+        place += 1;
+    }
+    None
+}
+
+/// Gives the relvar of this name another body.
+fn put_body(relvars: &mut [Relvar], name: &Name, body: Rel)
+    ensures { relvars_of relvars.new ≡ with_body name.now body (relvars_of relvars.old) }
+{
+    if let Some(place) = place_of(relvars, name) {
+        relvars[place].body = body;
+    }
+}
+
 impl Database {
     /// No relvar.
     pub fn new(alloc: Global) -> Database
@@ -69,5 +93,13 @@ impl Database {
     {
         self.relvars.push(relvar)?;
         Ok(())
+    }
+
+    /// Gives the relvar of this name another body.
+    pub fn set_body(&mut self, name: &Name, body: Rel)
+        requires { is_legal (with_body name.now body self.old) ≡ true }
+        ensures { self.new ≡ with_body name.now body self.old }
+    {
+        put_body(&mut self.relvars, name, body);
     }
 }

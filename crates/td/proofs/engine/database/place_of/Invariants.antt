@@ -1,0 +1,10 @@
+use Rattle.std.proofs.Common.{◌≡◌, drop, position}
+use Rattle.std.specs.List.{position_from}
+use Rattle.td_types.specs.Types.{same_name}
+use Rattle.td.proofs.engine.database.place_of.Given as goal
+
+abbrev pub invariant-loop-relvar : goal.invariant-loop-relvar
+invariant-loop-relvar l = record {
+  at : l.place ≡ l.relvar-index;
+  found : position_from (λ r. same_name r.name l.name) l.place (drop l.place l.relvars) ≡ position (λ r. same_name r.name l.name) l.relvars;
+}
