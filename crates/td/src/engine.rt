@@ -6,6 +6,7 @@ ghost use Rattle.td.specs.Steps.{IsStep};
 pub mod answer;
 pub mod cursor;
 pub mod database;
+pub mod keys;
 pub mod literal;
 pub mod number;
 pub mod parse;
