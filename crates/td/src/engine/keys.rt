@@ -1,11 +1,14 @@
 //! The candidate keys of relvars.
-ghost use Rattle.std.specs.Prelude.{◌≡◌, ◌&&◌, map};
+ghost use Rattle.std.specs.Prelude.{◌≡◌, ◌&&◌, IfOk, map};
 ghost use Rattle.std.specs.List.{list_all};
 ghost use Rattle.td_types.specs.Headings.{are_distinct, has_attributes, has_name};
-ghost use Rattle.td.specs.Database.{are_apart, are_keys, includes, keys_fit};
+ghost use Rattle.td.specs.Database.{are_apart, are_keys, includes, key_holds, keys_fit, keys_hold};
 
+use std::alloc::{AllocError, Global};
+use std::collections::HashSet;
 use td_tree::name::Name;
 use td_types::ty::Heading;
+use td_value::value::Tuple;
 
 /// Whether the name is one of the names.
 fn is_among(name: &Name, names: &[Name]) -> bool
@@ -88,4 +91,30 @@ pub fn keys_fit(heading: &Heading, keys: &[Vec<Name>]) -> bool
     ensures { result ≡ keys_fit heading.now (map (λ key. key.items) keys.now) }
 {
     !keys.is_empty() && are_keys(heading, keys)
+}
+
+/// Whether no two of the tuples agree on the names of the key.
+fn key_holds(alloc: Global, key: &[Name], tuples: &[Tuple]) -> Result<bool, AllocError>
+    ensures { IfOk result (λ b. b ≡ key_holds key.now tuples.now) }
+{
+    let mut seen = HashSet::with_capacity(alloc, tuples.len())?;
+    for tuple in tuples {
+        let part = tuple.project(key)?;
+        if !seen.insert(part)? {
+            return Ok(false);
+        }
+    }
+    Ok(true)
+}
+
+/// Whether each of the keys holds: no two of the tuples agree on its names.
+pub fn keys_hold(alloc: Global, keys: &[Vec<Name>], tuples: &[Tuple]) -> Result<bool, AllocError>
+    ensures { IfOk result (λ b. b ≡ keys_hold (map (λ key. key.items) keys.now) tuples.now) }
+{
+    for key in keys {
+        if !key_holds(alloc, key, tuples)? {
+            return Ok(false);
+        }
+    }
+    Ok(true)
 }
