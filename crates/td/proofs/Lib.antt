@@ -2,9 +2,11 @@ pub mod Again
 pub mod Decimals
 pub mod Headings
 pub mod Joins
+pub mod KeyLaws
 pub mod Literals
 pub mod Names
 pub mod Parses
+pub mod Seen
 pub mod Sound
 pub mod ToldLaws
 pub mod Turns

@@ -7,6 +7,7 @@ pub mod answer;
 pub mod cursor;
 pub mod database;
 pub mod expression;
+pub mod keys;
 pub mod literal;
 pub mod number;
 pub mod parse;

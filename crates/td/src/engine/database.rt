@@ -1,5 +1,6 @@
 //! Databases.
-ghost use Rattle.std.specs.Prelude.{◌≡◌, [], ◌∷◌, ◌++◌, OnErr, OnOk, option_map, position, true};
+ghost use Rattle.std.specs.Prelude.{◌≡◌, [], ◌∷◌, ◌++◌, OnErr, OnOk, option_map, true};
+ghost use Rattle.std.specs.List.{position_from};
 ghost use Rattle.td_types.specs.Types.{same_name};
 ghost use Rattle.td.specs.Database.{is_legal, relvar_at, with_body};
 ghost use Rattle.td.specs.Relvars.{relvar_of, relvars_of};
@@ -46,7 +47,7 @@ fn find<'a>(relvars: &'a [Relvar], name: &Name) -> Option<&'a Relvar>
 
 /// Where the relvar of this name stands among these.
 fn place_of(relvars: &[Relvar], name: &Name) -> Option<usize>
-    ensures { result ≡ position (λ r. same_name r.name name.now) relvars.now }
+    ensures { result ≡ position_from (λ r. same_name r.name name.now) 0 relvars.now }
 {
     let mut place = 0;
     for relvar in relvars {

@@ -1,0 +1,120 @@
+//! The candidate keys of relvars.
+ghost use Rattle.std.specs.Prelude.{◌≡◌, ◌&&◌, IfOk, map};
+ghost use Rattle.std.specs.List.{list_all};
+ghost use Rattle.td_types.specs.Headings.{are_distinct, has_attributes, has_name};
+ghost use Rattle.td.specs.Database.{are_apart, are_keys, includes, key_holds, keys_fit, keys_hold};
+
+use std::alloc::{AllocError, Global};
+use std::collections::HashSet;
+use td_tree::name::Name;
+use td_types::ty::Heading;
+use td_value::value::Tuple;
+
+/// Whether the name is one of the names.
+fn is_among(name: &Name, names: &[Name]) -> bool
+    ensures { result ≡ has_name name.now names.now }
+{
+    names.contains(name)
+}
+
+/// Whether no name comes twice.
+fn are_distinct(names: &[Name]) -> bool
+    ensures { result ≡ are_distinct names.now }
+{
+    let mut rest = names;
+    while let [name, later @ ..] = rest {
+        if is_among(name, later) {
+            return false;
+        }
+        rest = later;
+    }
+    true
+}
+
+/// Whether each name is an attribute of the heading.
+fn are_attributes(names: &[Name], heading: &Heading) -> bool
+    ensures { result ≡ has_attributes names.now heading.now }
+{
+    names.iter().all(|name| heading.get(name).is_some())
+}
+
+/// Whether each name of the part is in the key.
+fn includes(key: &[Name], part: &[Name]) -> bool
+    ensures { result ≡ includes key.now part.now }
+{
+    part.iter().all(|name| is_among(name, key))
+}
+
+/// Whether neither key includes the other.
+fn are_apart(key: &[Name], other: &[Name]) -> bool
+    ensures { result ≡ are_apart key.now other.now }
+{
+    !includes(key, other) && !includes(other, key)
+}
+
+/// Whether the key and each of the others are apart.
+fn is_apart(key: &[Name], others: &[Vec<Name>]) -> bool
+    ensures { result ≡ list_all (are_apart key.now) (map (λ other. other.items) others.now) }
+{
+    for other in others {
+        if !are_apart(key, other) {
+            return false;
+        }
+    }
+    true
+}
+
+/// Whether the names of the key are distinct attributes, and it and each of the others are apart.
+fn is_key(heading: &Heading, key: &[Name], others: &[Vec<Name>]) -> bool
+    ensures { result ≡ (has_attributes key.now heading.now && are_distinct key.now && list_all (are_apart key.now) (map (λ other. other.items) others.now)) }
+{
+    are_attributes(key, heading) && are_distinct(key) && is_apart(key, others)
+}
+
+/// Whether the names of each key are distinct attributes, and no key includes another.
+fn are_keys(heading: &Heading, keys: &[Vec<Name>]) -> bool
+    ensures { result ≡ are_keys heading.now (map (λ key. key.items) keys.now) }
+{
+    let mut rest = keys;
+    while let [key, others @ ..] = rest {
+        if !is_key(heading, key, others) {
+            return false;
+        }
+        rest = others;
+    }
+    true
+}
+
+/// Whether the keys may be declared for the heading: there is one, each is of distinct
+/// attributes, and none includes another.
+pub fn keys_fit(heading: &Heading, keys: &[Vec<Name>]) -> bool
+    ensures { result ≡ keys_fit heading.now (map (λ key. key.items) keys.now) }
+{
+    !keys.is_empty() && are_keys(heading, keys)
+}
+
+/// Whether no two of the tuples agree on the names of the key.
+fn key_holds(alloc: Global, key: &[Name], tuples: &[Tuple]) -> Result<bool, AllocError>
+    ensures { IfOk result (λ b. b ≡ key_holds key.now tuples.now) }
+{
+    let mut seen = HashSet::with_capacity(alloc, tuples.len())?;
+    for tuple in tuples {
+        let part = tuple.project(key)?;
+        if !seen.insert(part)? {
+            return Ok(false);
+        }
+    }
+    Ok(true)
+}
+
+/// Whether each of the keys holds: no two of the tuples agree on its names.
+pub fn keys_hold(alloc: Global, keys: &[Vec<Name>], tuples: &[Tuple]) -> Result<bool, AllocError>
+    ensures { IfOk result (λ b. b ≡ keys_hold (map (λ key. key.items) keys.now) tuples.now) }
+{
+    for key in keys {
+        if !key_holds(alloc, key, tuples)? {
+            return Ok(false);
+        }
+    }
+    Ok(true)
+}
