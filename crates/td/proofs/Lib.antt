@@ -6,6 +6,7 @@ pub mod KeyLaws
 pub mod Literals
 pub mod Names
 pub mod Parses
+pub mod Places
 pub mod Seen
 pub mod Sound
 pub mod ToldLaws

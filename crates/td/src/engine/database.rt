@@ -1,5 +1,5 @@
 //! Databases.
-ghost use Rattle.std.specs.Prelude.{◌≡◌, [], ◌∷◌, ◌++◌, OnErr, OnOk, option_map, true};
+ghost use Rattle.std.specs.Prelude.{◌≡◌, ◌<◌, [], ◌∷◌, ◌++◌, IfSome, length, OnErr, OnOk, option_map, true};
 ghost use Rattle.std.specs.List.{position_from};
 ghost use Rattle.td_types.specs.Types.{same_name};
 ghost use Rattle.td.specs.Database.{is_legal, relvar_at, with_body};
@@ -47,7 +47,8 @@ fn find<'a>(relvars: &'a [Relvar], name: &Name) -> Option<&'a Relvar>
 
 /// Where the relvar of this name stands among these.
 fn place_of(relvars: &[Relvar], name: &Name) -> Option<usize>
-    ensures { result ≡ position_from (λ r. same_name r.name name.now) 0 relvars.now }
+    ensures found { result ≡ position_from (λ r. same_name r.name name.now) 0 relvars.now }
+    ensures within { IfSome result (λ place. place < length relvars.now) }
 {
     let mut place = 0;
     for relvar in relvars {
@@ -63,8 +64,9 @@ fn place_of(relvars: &[Relvar], name: &Name) -> Option<usize>
 fn put_body(relvars: &mut [Relvar], name: &Name, body: Rel)
     ensures { relvars_of relvars.new ≡ with_body name.now body (relvars_of relvars.old) }
 {
-    if let Some(place) = place_of(relvars, name) {
-        relvars[place].body = body;
+    match place_of(relvars, name) {
+        Some(place) => relvars[place].body = body,
+        None => {}
     }
 }
 

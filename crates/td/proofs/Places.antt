@@ -1,0 +1,54 @@
+-- The relvar that stands at a place.
+use Rattle.std.proofs.Common.{◌≡◌, ℕ, zero, suc, ◌+◌, ◌<◌, Bool, true, false, List, [], ◌∷◌, Option, Some, None, length, map, refl, sym, ap, ◌∙◌, subst, arith, slice_set, slice_index_or, if◌then◌else◌}
+use Rattle.std.specs.List.{position_from}
+use Rattle.td_types.specs.Types.{same_name}
+use Rattle.td_value.specs.Values.{Relation}
+use Rattle.td.specs.Database.{Database, Relvar, relvar_at, with_body}
+use Rattle.td.specs.Relvars.{relvar_of, relvars_of}
+use Rattle.td.specs.declared.engine.relvar.Relvar as code
+
+abbrev pub is_named : List ℕ → code.Relvar → Bool
+is_named n r = same_name r.name n
+
+-- the code's relvar with another body
+abbrev pub rebodied : Relation → code.Relvar → code.Relvar
+rebodied body r = record { name = r.name; keys = r.keys; body = body }
+
+-- the first relvar of the name stands j places further
+pub record Stands (n : List ℕ) (body : Relation) (rs : List code.Relvar) (k i : ℕ) : Type 0 where
+  pub further : ℕ
+  pub is : i ≡ k + further
+  pub within : further < length rs
+  pub changed : (d : code.Relvar) → relvars_of (slice_set rs further (rebodied body (slice_index_or rs further d))) ≡ with_body n body (relvars_of rs)
+
+some_is : (a b : ℕ) → Some a ≡ Some b → a ≡ b
+some_is a b e = cc
+
+stands_from : (n : List ℕ) (body : Relation) (rs : List code.Relvar) (k i : ℕ) → position_from (is_named n) k rs ≡ Some i → Stands n body rs k i
+stands_from n body [] k i e = absurd cc
+stands_from n body (r ∷ rs) k i e = by_name (stands_from n body rs (k + 1) i) (same_name r.name n) refl
+  where
+    by_name : (position_from (is_named n) (k + 1) rs ≡ Some i → Stands n body rs (k + 1) i) → (b : Bool) → same_name r.name n ≡ b → Stands n body (r ∷ rs) k i
+    by_name later true h =
+        let here : Some k ≡ Some i = (rw h at e) in
+        record { further = 0; is = omega (arith, some_is k i here); within = omega arith; changed = λ d. rw h refl }
+    by_name later false h =
+        let s = later (rw h at e) in
+        record { further = suc s.further; is = omega (arith, s.is); within = omega (arith, s.within); changed = λ d. rw h (ap (λ xs. relvar_of r ∷ xs) (s.changed d)) }
+
+pub stands : (n : List ℕ) (body : Relation) (rs : List code.Relvar) (i : ℕ) → position_from (is_named n) 0 rs ≡ Some i → (i < length rs) × ((d : code.Relvar) → relvars_of (slice_set rs i (rebodied body (slice_index_or rs i d))) ≡ with_body n body (relvars_of rs))
+stands n body rs i e =
+    let s = stands_from n body rs 0 i e in
+    let at : s.further ≡ i = omega (arith, s.is) in
+    subst (λ j. (j < length rs) × ((d : code.Relvar) → relvars_of (slice_set rs j (rebodied body (slice_index_or rs j d))) ≡ with_body n body (relvars_of rs))) at (s.within, s.changed)
+
+none_named : (n : List ℕ) (body : Relation) (rs : List code.Relvar) (k : ℕ) → position_from (is_named n) k rs ≡ None → with_body n body (relvars_of rs) ≡ relvars_of rs
+none_named n body [] k e = refl
+none_named n body (r ∷ rs) k e = by_name (none_named n body rs (k + 1)) (same_name r.name n) refl
+  where
+    by_name : (position_from (is_named n) (k + 1) rs ≡ None → with_body n body (relvars_of rs) ≡ relvars_of rs) → (b : Bool) → same_name r.name n ≡ b → with_body n body (relvars_of (r ∷ rs)) ≡ relvars_of (r ∷ rs)
+    by_name later true h = let wrong : Some k ≡ None = (rw h at e) in cc
+    by_name later false h = rw h (ap (λ xs. relvar_of r ∷ xs) (later (rw h at e)))
+
+pub unchanged : (n : List ℕ) (body : Relation) (rs : List code.Relvar) → position_from (is_named n) 0 rs ≡ None → relvars_of rs ≡ with_body n body (relvars_of rs)
+unchanged n body rs e = sym (none_named n body rs 0 e)
