@@ -4,6 +4,9 @@ ghost use Rattle.std.specs.List.{list_all};
 ghost use Rattle.td_types.specs.Headings.{are_distinct, has_attributes, has_name};
 ghost use Rattle.td.specs.Database.{are_apart, are_keys, includes, key_holds, keys_fit, keys_hold};
 
+#[cfg(test)]
+mod tests;
+
 use std::alloc::{AllocError, Global};
 use std::collections::HashSet;
 use td_tree::name::Name;
