@@ -3,12 +3,14 @@ pub mod Decimals
 pub mod Headings
 pub mod Joins
 pub mod KeyLaws
+pub mod Legal
 pub mod Literals
 pub mod Names
 pub mod Parses
 pub mod Places
 pub mod Seen
 pub mod Sound
+pub mod Static
 pub mod ToldLaws
 pub mod Turns
 pub mod Unions

@@ -49,6 +49,11 @@ key_holds key (t ∷ ts) = not (list_any (agree_on key t) ts) && key_holds key t
 abbrev pub keys_hold : List (List (List ℕ)) → List Entries → Bool
 keys_hold keys rows = list_all (λ key. key_holds key rows) keys
 
+-- whether the keys of a relvar, if there is one, hold of the tuples
+abbrev pub target_holds : Option Relvar → List Entries → Bool
+target_holds None rows = true
+target_holds (Some r) rows = keys_hold r.keys rows
+
 -- whether each name of a part is in the key
 abbrev pub includes : List (List ℕ) → List (List ℕ) → Bool
 includes key part = list_all (λ n. has_name n key) part

@@ -1,4 +1,5 @@
 pub mod Answering
+pub mod Assignable
 pub mod CommandLine
 pub mod Database
 pub mod DatabaseCode

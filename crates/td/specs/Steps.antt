@@ -14,3 +14,8 @@ step_of answer db = record { database = db; cause = answer.cause; text = string_
 pub record IsStep (old : Database) (tokens : List Entry) (answer : code.Answer) (new : Database) : Type 0 where
   pub step : Steps old tokens (step_of answer new)
   pub accepted : answer.accepted ≡ is_none answer.cause
+
+-- the answer and the database after it are those of the step
+pub record Does (step : Step) (answer : code.Answer) (new : Database) : Type 0 where
+  pub is : step_of answer new ≡ step
+  pub accepted : answer.accepted ≡ is_none answer.cause

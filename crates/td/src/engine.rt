@@ -12,6 +12,7 @@ pub mod literal;
 pub mod number;
 pub mod parse;
 pub mod relvar;
+pub mod statement;
 pub mod tree;
 
 use crate::engine::answer::Answer;

@@ -1,8 +1,9 @@
 //! Databases.
-ghost use Rattle.std.specs.Prelude.{◌≡◌, ◌<◌, [], ◌∷◌, ◌++◌, IfSome, length, OnErr, OnOk, option_map, true};
+ghost use Rattle.std.specs.Prelude.{◌≡◌, ◌<◌, [], ◌∷◌, ◌++◌, IfSome, length, None, OnErr, OnOk, option_map, true};
 ghost use Rattle.std.specs.List.{position_from};
 ghost use Rattle.td_types.specs.Types.{same_name};
-ghost use Rattle.td.specs.Database.{is_legal, relvar_at, with_body};
+ghost use Rattle.td.specs.Database.{is_legal, is_relvar, relvar_at, target_holds, with_body};
+ghost use Rattle.td.specs.Assignable.{IsAssignable};
 ghost use Rattle.td.specs.Relvars.{relvar_of, relvars_of};
 
 use crate::engine::relvar::Relvar;
@@ -26,6 +27,7 @@ impl Model for Database {
 
     ghost coded = { database_code };
 
+    ghost use Rattle.td.specs.Assignable.{IsAssignable};
     ghost use Rattle.td.specs.Relvars.{relvars_of};
 
     ghost view = { λ d. relvars_of d.relvars.items };
@@ -90,9 +92,11 @@ impl Database {
 
     /// Adds a relvar, last.
     pub fn add(&mut self, relvar: Relvar) -> Result<(), AllocError>
-        requires { is_legal (self.old ++ relvar_of relvar ∷ []) ≡ true }
+        requires free { relvar_at relvar.name self.old ≡ None }
+        requires fits { is_relvar (relvar_of relvar) ≡ true }
         ensures ok { OnOk result (self.new ≡ self.old ++ relvar_of relvar ∷ []) }
         ensures err { OnErr result (self.new ≡ self.old) }
+        ensures legal { is_legal self.new ≡ true }
     {
         self.relvars.push(relvar)?;
         Ok(())
@@ -100,8 +104,10 @@ impl Database {
 
     /// Gives the relvar of this name another body.
     pub fn set_body(&mut self, name: &Name, body: Rel)
-        requires { is_legal (with_body name.now body self.old) ≡ true }
-        ensures { self.new ≡ with_body name.now body self.old }
+        requires target { IsAssignable self.old name.now body }
+        requires keys { target_holds (relvar_at name.now self.old) body.rows ≡ true }
+        ensures changed { self.new ≡ with_body name.now body self.old }
+        ensures legal { is_legal self.new ≡ true }
     {
         put_body(&mut self.relvars, name, body);
     }

@@ -1,0 +1,161 @@
+//! What statements do to a database, and what is answered.
+ghost use Rattle.std.specs.Prelude.{◌≡◌, [], ◌∷◌, ◌++◌, IfOk, None, OnErr, map, true};
+ghost use Rattle.td_tree.specs.Outcomes.{with_both};
+ghost use Rattle.td.specs.Answering.{Answers};
+ghost use Rattle.td.specs.Machine as machine;
+ghost use Rattle.td.specs.Assignable.{IsAssignable};
+ghost use Rattle.td.specs.Machine.{assignable, changed, new_relvar, stepped};
+ghost use Rattle.td.specs.Meaning.{known, meaning};
+ghost use Rattle.td.specs.Database.{is_legal, keys_fit, relvar_at, target_holds, with_body};
+ghost use Rattle.td.specs.Relvars.{relvar_of};
+ghost use Rattle.td.specs.Steps.{Does};
+ghost use Rattle.td.specs.Trees as trees;
+ghost use Rattle.td.specs.TreeViews.{expression_of};
+
+use crate::engine::answer::Answer;
+use crate::engine::database::Database;
+use crate::engine::expression::value;
+use crate::engine::keys::{keys_fit, keys_hold};
+use crate::engine::literal::integer_heading;
+use crate::engine::relvar::Relvar;
+use crate::engine::tree::{Assignment, Definition, Expression};
+use std::alloc::{AllocError, Global};
+use td_tree::cause::Cause;
+use td_tree::fault::Fault;
+use td_tree::name::Name;
+use td_types::ty::Heading;
+use td_value::value::Rel;
+
+/// Prints the relation that an expression means.
+pub fn write(
+    alloc: Global,
+    database: &Database,
+    expression: &Expression,
+) -> Result<Answer, AllocError>
+    ensures { IfOk result (λ a. Does (stepped database.now (trees.write (expression_of expression.now))) a database.now) }
+{
+    match value(alloc, database, expression) {
+        Ok(relation) => Answer::accepted(relation.literal(alloc)?),
+        Err(Fault::Refused(cause)) => Answer::refused(alloc, cause),
+        Err(Fault::Memory) => Err(AllocError),
+    }
+}
+
+/// The heading that a definition declares, or the least of its causes.
+fn declared(alloc: Global, database: &Database, definition: &Definition) -> Result<Heading, Fault>
+    ensures { Answers result (machine.declared database.now definition.now.name definition.now.heading.items (map (λ key. key.items) definition.now.keys.items)) }
+{
+    if database.get(&definition.name).is_some() {
+        return Err(Fault::Refused(Cause::NameTaken));
+    }
+    let heading = integer_heading(alloc, &definition.heading)?;
+    if keys_fit(&heading, &definition.keys) {
+        Ok(heading)
+    } else {
+        Err(Fault::Refused(Cause::KeyDeclaration))
+    }
+}
+
+/// The relation that an assignment gives to its target, or the least of its causes.
+fn assigned(alloc: Global, database: &Database, assignment: &Assignment) -> Result<Rel, Fault>
+    ensures { Answers result (with_both (known (relvar_at assignment.now.target database.now)) (meaning database.now (expression_of assignment.now.source)) assignable) }
+{
+    let Some(relvar) = database.get(&assignment.target) else {
+        return Err(Fault::Refused(Cause::NameUnknown));
+    };
+    let source = value(alloc, database, &assignment.source)?;
+    if source.heading() == relvar.body.heading() {
+        Ok(source)
+    } else {
+        Err(Fault::Refused(Cause::Heading))
+    }
+}
+
+/// Defines a base relvar, with an empty body.
+pub fn define(
+    alloc: Global,
+    database: &mut Database,
+    definition: Definition,
+) -> Result<Answer, AllocError>
+    ensures done { IfOk result (λ a. Does (stepped database.old (trees.define definition.name definition.heading.items (map (λ key. key.items) definition.keys.items))) a database.new) }
+    ensures err { OnErr result (database.new ≡ database.old) }
+{
+    match declared(alloc, database, &definition) {
+        Ok(heading) => add(alloc, database, definition, heading),
+        Err(Fault::Refused(cause)) => Answer::refused(alloc, cause),
+        Err(Fault::Memory) => Err(AllocError),
+    }
+}
+
+/// Adds a relvar whose definition stands.
+fn add(
+    alloc: Global,
+    database: &mut Database,
+    definition: Definition,
+    heading: Heading,
+) -> Result<Answer, AllocError>
+    requires free { relvar_at definition.name database.old ≡ None }
+    requires fit { keys_fit heading (map (λ key. key.items) definition.keys.items) ≡ true }
+    ensures done { IfOk result (λ a. Does (changed database.old (database.old ++ (new_relvar definition.name (map (λ key. key.items) definition.keys.items) heading ∷ []))) a database.new) }
+    ensures err { OnErr result (database.new ≡ database.old) }
+{
+    let body = Rel::new(heading, Vec::new(alloc))?;
+    let answer = Answer::ok(alloc)?;
+    database.add(Relvar {
+        name: definition.name,
+        keys: definition.keys,
+        body,
+    })?;
+    Ok(answer)
+}
+
+/// Whether the keys of the relvar of this name hold of the tuples.
+fn target_holds(
+    alloc: Global,
+    database: &Database,
+    target: &Name,
+    body: &Rel,
+) -> Result<bool, AllocError>
+    ensures holds { IfOk result (λ b. b ≡ target_holds (relvar_at target.now database.now) body.now.rows) }
+    ensures legal { is_legal database.now ≡ true }
+{
+    match database.get(target) {
+        Some(relvar) => keys_hold(alloc, &relvar.keys, body.rows()),
+        None => Ok(true),
+    }
+}
+
+/// Gives a relvar another body, where its keys hold.
+fn replace(
+    alloc: Global,
+    database: &mut Database,
+    target: &Name,
+    body: Rel,
+) -> Result<Answer, AllocError>
+    requires { IsAssignable database.old target.now body }
+    ensures done { IfOk result (λ a. Does (changed database.old (with_body target.now body database.old)) a database.new) }
+    ensures err { OnErr result (database.new ≡ database.old) }
+{
+    if !target_holds(alloc, database, target, &body)? {
+        return Answer::key_refused(alloc, target);
+    }
+    let answer = Answer::ok(alloc)?;
+    database.set_body(target, body);
+    Ok(answer)
+}
+
+/// Assigns the relation that the source means to a base relvar, where its keys hold.
+pub fn assign(
+    alloc: Global,
+    database: &mut Database,
+    assignment: &Assignment,
+) -> Result<Answer, AllocError>
+    ensures done { IfOk result (λ a. Does (stepped database.old (trees.assign assignment.now.target (expression_of assignment.now.source))) a database.new) }
+    ensures err { OnErr result (database.new ≡ database.old) }
+{
+    match assigned(alloc, database, assignment) {
+        Ok(body) => replace(alloc, database, &assignment.target, body),
+        Err(Fault::Refused(cause)) => Answer::refused(alloc, cause),
+        Err(Fault::Memory) => Err(AllocError),
+    }
+}
