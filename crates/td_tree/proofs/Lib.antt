@@ -1,1 +1,16 @@
-pub mod Tests
+pub mod CourseLaws
+pub mod DecodeLaws
+pub mod DivisionLaws
+pub mod EndLaws
+pub mod EndOfStatement
+pub mod FrontLaws
+pub mod HeldLaws
+pub mod KindLaws
+pub mod PieceLaws
+pub mod SliceLaws
+pub mod StableBytes
+pub mod StatementLaws
+pub mod SymbolLaws
+pub mod TakenLaws
+pub mod TextTests
+pub mod TokenLaws

@@ -1,5 +1,13 @@
+pub mod Calls
 pub mod Causes
+pub mod Division
 pub mod Hashes
 pub mod Keywords
 pub mod Names
+pub mod Outcomes
+pub mod Pieces
 pub mod Signs
+pub mod Spans
+pub mod Spellings
+pub mod Statements
+pub mod Symbols

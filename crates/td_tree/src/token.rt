@@ -1,8 +1,10 @@
 //! What a token is.
 ghost use Rattle.std.specs.Prelude.{◌≡◌};
+ghost use Rattle.td_tree.specs.Pieces.{word_kind};
 ghost use Rattle.td_tree.specs.Signs.{sign_text};
 
 use crate::keyword::Keyword;
+use crate::name::begins_the;
 
 /// A sign.
 #[derive(Clone, Copy, Debug, PartialEq, Eq)]
@@ -71,4 +73,18 @@ pub enum Kind {
     Sign(Sign),
     /// What begins no other token.
     Bad,
+}
+
+impl Kind {
+    /// What a word with these bytes is.
+    #[tactic(auto, unfolding(crate::specs::Pieces::word_kind))]
+    pub fn of_word(text: &[u8]) -> Kind
+        ensures { result ≡ word_kind text.now }
+    {
+        match Keyword::of_word(text) {
+            Some(keyword) => Kind::Reserved(keyword),
+            None if begins_the(text) => Kind::Component,
+            None => Kind::Name,
+        }
+    }
 }

@@ -1,19 +1,20 @@
 -- What the operations on headings make: each is ascending, and gives each name the type that it should.
 -- A heading is one of std's sorted lists of entries, whose lemmas show most of it.
 use Rattle.std.proofs.Common.{◌≡◌, ℕ, ◌+◌, suc, Bool, true, false, List, [], ◌∷◌, refl, sym, subst, ap, ◌∙◌, arith, Option, None, Some}
-use Rattle.std.specs.Prelude.{if◌then◌else◌, is_some, T, not, ◌&&◌}
+use Rattle.std.specs.Prelude.{if◌then◌else◌, is_some, map, T, not, ◌&&◌, ◌||◌}
 use Rattle.std.specs.declared.cmp.Ordering.{Ordering}
 use Rattle.std.specs.declared.cmp.Ordering.TheVariants.{Less, Equal, Greater}
 use Rattle.std.specs.Ordering.{nat_cmp, eq_by_cmp, is_lt, ordering_reverse}
 use Rattle.std.specs.Cmp.Lexicographic.{same_text, slice_cmp, texts_ties}
 use Rattle.std.specs.List.{AllByRecursion, filter, insert, prefix_len}
 use Rattle.std.specs.List.Sorted.{IsStrictlySortedBy}
-use Rattle.std.specs.FinMap.Entries.{find, is_sorted, below_all, is_sorted-put, is_sorted-where_key, find-put, find-where_key, same_entries}
+use Rattle.std.specs.FinMap.Entries.{by_order, find, is_sorted, below_all, is_sorted-put, is_sorted-where_key, find-put, find-where_key, same_entries}
 use Rattle.std.proofs.lemmas.Cmp.{nat_list_cmp_total, eq_by_cmp_equiv}
 use Rattle.std.proofs.lemmas.Map.Lookups.{exact_bytes}
-use Rattle.td_types.specs.Headings.{AgreementIsOneType, TypesDetermineHeading, add_missing, agree, common_part, has_attribute, has_name, heading_renamed, heading_union, is_type_or_none, projection, renamed, with_attribute, without_attribute}
+use Rattle.td_types.specs.Headings.{AgreementIsOneType, RenamingKeepsTypes, TypesDetermineHeading, are_distinct, new_name, add_missing, agree, common_part, has_attribute, has_attributes, has_name, heading_renamed, heading_union, is_type_or_none, projection, renamed, with_attribute, without_attribute}
+use Rattle.td_tree.specs.Names.{IsName}
 use Rattle.td_types.specs.TypeOrder.{type_eq-Decides}
-use Rattle.td_types.specs.Types.{Type', Attribute, Attributes, IsAscending, names_of, same_name, type_at}
+use Rattle.td_types.specs.Types.{Type', Attribute, Attributes, IsAscending, IsBefore, IsHeading, IsType, pack, names_of, same_name, type_at}
 
 abbrev pub name_cmp : List ℕ → List ℕ → Ordering
 name_cmp = slice_cmp nat_cmp
@@ -76,6 +77,59 @@ IsAscending-with n t xs h = ascending_from_sorted _ (is_sorted-put name_cmp nat_
 pub type_at-with : (m n : List ℕ) (t : Type') (xs : Attributes) → type_at m (with_attribute xs (n, t)) ≡ (if same_name n m then Some t else type_at m xs)
 type_at-with m n t xs = sym (find-type_at m (with_attribute xs (n, t))) ∙ find-put name_cmp nat_list_cmp_total m n t xs ∙ rw (find-type_at m xs, same_name-ties n m) refl
 
+-- ---- what every heading is
+
+before_all : (n : List ℕ) (xs : Attributes) → IsBefore n (pack xs) → AllByRecursion (λ m. name_cmp n m ≡ Less) (names_of xs)
+before_all n [] h = tt
+before_all n (x ∷ xs) h = (h.0, before_all n xs h.1)
+
+-- its names ascend
+pub ascending_from_heading : (xs : Attributes) → IsHeading (pack xs) → IsAscending xs
+unfolding IsStrictlySortedBy
+ascending_from_heading [] h = tt
+ascending_from_heading (x ∷ xs) h = (before_all x.0 xs h.2, ascending_from_heading xs h.3)
+
+before_filter : (n : List ℕ) (p : Attribute → Bool) (xs : Attributes) → IsBefore n (pack xs) → IsBefore n (pack (filter p xs))
+before_filter n p [] h = tt
+before_filter n p (x ∷ xs) h = by_test (p x) (before_filter n p xs h.1)
+  where
+    by_test : (b : Bool) → IsBefore n (pack (filter p xs)) → IsBefore n (pack (if b then x ∷ filter p xs else filter p xs))
+    by_test true rest = (h.0, rest)
+    by_test false rest = rest
+
+-- so is what a filter keeps of it
+pub IsHeading-filter : (p : Attribute → Bool) (xs : Attributes) → IsHeading (pack xs) → IsHeading (pack (filter p xs))
+IsHeading-filter p [] h = tt
+IsHeading-filter p (x ∷ xs) h = by_test (p x) (before_filter x.0 p xs h.2) (IsHeading-filter p xs h.3)
+  where
+    by_test : (b : Bool) → IsBefore x.0 (pack (filter p xs)) → IsHeading (pack (filter p xs)) → IsHeading (pack (if b then x ∷ filter p xs else filter p xs))
+    by_test true before rest = (h.0, h.1, before, rest)
+    by_test false before rest = rest
+
+before_with : (m n : List ℕ) (t : Type') (xs : Attributes) → name_cmp m n ≡ Less → IsBefore m (pack xs) → IsBefore m (pack (with_attribute xs (n, t)))
+before_with m n t [] e h = (e, tt)
+before_with m n t (x ∷ xs) e h = by_place (name_cmp n x.0) (before_with m n t xs e h.1)
+  where
+    by_place : (o : Ordering) → IsBefore m (pack (with_attribute xs (n, t))) → IsBefore m (pack (by_order o ((n, t) ∷ x ∷ xs) ((x.0, t) ∷ xs) (x ∷ with_attribute xs (n, t))))
+    by_place Less rest = (e, h)
+    by_place Equal rest = h
+    by_place Greater rest = (h.0, rest)
+
+before_further : (m n : List ℕ) (xs : Attributes) → name_cmp m n ≡ Less → IsBefore n (pack xs) → IsBefore m (pack xs)
+before_further m n [] e h = tt
+before_further m n (x ∷ xs) e h = (nat_list_cmp_total.trans m n x.0 e h.0, before_further m n xs e h.1)
+
+-- so is it with one more attribute
+pub IsHeading-with : (n : List ℕ) (t : Type') (xs : Attributes) → IsName n → IsType t → IsHeading (pack xs) → IsHeading (pack (with_attribute xs (n, t)))
+IsHeading-with n t [] a b h = (a, b, tt, tt)
+IsHeading-with n t (x ∷ xs) a b h = by_place (name_cmp n x.0) refl (IsHeading-with n t xs a b h.3)
+  where
+    by_place : (o : Ordering) → name_cmp n x.0 ≡ o → IsHeading (pack (with_attribute xs (n, t)))
+        → IsHeading (pack (by_order o ((n, t) ∷ x ∷ xs) ((x.0, t) ∷ xs) (x ∷ with_attribute xs (n, t))))
+    by_place Less e rest = (a, b, (e, before_further n x.0 xs e h.2), h)
+    by_place Equal e rest = (h.0, b, h.2, h.3)
+    by_place Greater e rest = (h.0, h.1, before_with x.0 n t xs (nat_list_cmp_total.antisymm x.0 n ∙ ap ordering_reverse e) h.2, rest)
+
 -- two headings with the same types are the same
 pub types_determine_heading : TypesDetermineHeading
 types_determine_heading g h a b e =
@@ -85,21 +139,21 @@ types_determine_heading g h a b e =
 pub insert-with : (n : List ℕ) (t : Type') (xs : Attributes) → is_some (type_at n xs) ≡ false
     → insert xs (prefix_len (λ a. is_lt (name_cmp a.0 n)) xs) (n, t) ≡ with_attribute xs (n, t)
 insert-with n t [] h = refl
-insert-with n t (x ∷ xs) h = by_order (insert-with n t xs) (name_cmp x.0 n) refl (nat_list_cmp_total.antisymm n x.0)
+insert-with n t (x ∷ xs) h = by_first (insert-with n t xs) (name_cmp x.0 n) refl (nat_list_cmp_total.antisymm n x.0)
   where
-    by_order : (is_some (type_at n xs) ≡ false → insert xs (prefix_len (λ a. is_lt (name_cmp a.0 n)) xs) (n, t) ≡ with_attribute xs (n, t))
+    by_first : (is_some (type_at n xs) ≡ false → insert xs (prefix_len (λ a. is_lt (name_cmp a.0 n)) xs) (n, t) ≡ with_attribute xs (n, t))
         → (o : Ordering) → name_cmp x.0 n ≡ o → name_cmp n x.0 ≡ ordering_reverse (name_cmp x.0 n)
         → insert (x ∷ xs) (prefix_len (λ a. is_lt (name_cmp a.0 n)) (x ∷ xs)) (n, t) ≡ with_attribute (x ∷ xs) (n, t)
-    by_order rest Less e r =
+    by_first rest Less e r =
         let above : name_cmp n x.0 ≡ Greater = r ∙ ap ordering_reverse e in
         let none : is_some (type_at n xs) ≡ false = rw (same_name-ties x.0 n, above) at h in
         let next : 1 + prefix_len (λ a. is_lt (name_cmp a.0 n)) xs ≡ suc (prefix_len (λ a. is_lt (name_cmp a.0 n)) xs) = omega arith in
         rw (e, above, next) (ap (λ r. x ∷ r) (rest none))
-    by_order rest Equal e r =
+    by_first rest Equal e r =
         let tied : name_cmp n x.0 ≡ Equal = r ∙ ap ordering_reverse e in
         let some : true ≡ false = rw (same_name-ties x.0 n, tied) at h in
         cc
-    by_order rest Greater e r =
+    by_first rest Greater e r =
         let below : name_cmp n x.0 ≡ Less = r ∙ ap ordering_reverse e in
         rw (e, below) refl
 
@@ -112,7 +166,7 @@ pub type_at-filter : (p : List ℕ → Bool) (n : List ℕ) (xs : Attributes) �
 type_at-filter p n xs =
     sym (find-type_at n (filter (λ a. p a.0) xs)) ∙ find-where_key name_cmp p n (λ m e. ap p (sym (exact_bytes n m e))) xs ∙ ap (λ t. if p n then t else None) (find-type_at n xs)
 
-same_name-flips : (m n : List ℕ) → same_name m n ≡ same_name n m
+pub same_name-flips : (m n : List ℕ) → same_name m n ≡ same_name n m
 same_name-flips m n = texts_ties m n ∙ (eq_by_cmp_equiv nat_list_cmp_total).symm m n ∙ sym (texts_ties n m)
 
 if_not : {A : Type 0} (b : Bool) (x y : A) → (if not b then x else y) ≡ (if b then y else x)
@@ -228,3 +282,96 @@ agree_from_one_type (x ∷ g) h i one =
 
 pub agreement_is_one_type : AgreementIsOneType
 agreement_is_one_type g h i = (one_type g h, agree_from_one_type g h i)
+
+-- ---- what every attribute is
+
+-- the names of a heading are names, and its types are types
+pub attribute_from_heading : (n : List ℕ) (t : Type') (xs : Attributes) → IsHeading (pack xs) → type_at n xs ≡ Some t → IsName n × IsType t
+attribute_from_heading n t [] h e = cc
+attribute_from_heading n t (x ∷ xs) h e = by_name (attribute_from_heading n t xs h.3) (same_name x.0 n) refl
+  where
+    by_name : (type_at n xs ≡ Some t → IsName n × IsType t) → (same : Bool) → same ≡ same_name x.0 n → IsName n × IsType t
+    by_name rest true is =
+        let here : Some x.1 ≡ Some t = rw (← is) at e in
+        let type : x.1 ≡ t = cc in
+        (subst IsName (same_text x.0 n is) h.0, subst IsType type h.1)
+    by_name rest false is = rest (rw (← is) at e)
+
+-- ---- renaming
+
+same_name-itself : (n : List ℕ) → same_name n n ≡ true
+same_name-itself n = same_name-ties n n ∙ (eq_by_cmp_equiv nat_list_cmp_total).refl n
+
+or_true : (a b : Bool) → b ≡ true → (a || b) ≡ true
+or_true true b e = refl
+or_true false b e = e
+
+-- the new name of an attribute is one of the new names
+new_name_there : (rs : List (List ℕ × List ℕ)) (n : List ℕ) (h : Attributes) → has_attribute n h ≡ true → has_name (new_name rs n) (names_of (renamed rs h)) ≡ true
+new_name_there rs n [] e = cc
+new_name_there rs n (a ∷ h) e = by_name (new_name_there rs n h) (same_name a.0 n) refl
+  where
+    by_name : (has_attribute n h ≡ true → has_name (new_name rs n) (names_of (renamed rs h)) ≡ true)
+        → (same : Bool) → same ≡ same_name a.0 n → has_name (new_name rs n) (names_of (renamed rs (a ∷ h))) ≡ true
+    by_name rest true is = subst (λ m. has_name (new_name rs m) (names_of (renamed rs (a ∷ h))) ≡ true) (same_text a.0 n is) (rw (same_name-itself (new_name rs a.0)) refl)
+    by_name rest false is = or_true _ _ (rest (rw (← is) at e))
+
+kept_types : (rs : List (List ℕ × List ℕ)) (h : Attributes) → are_distinct (names_of (renamed rs h)) ≡ true
+    → (n : List ℕ) → has_attribute n h ≡ true → type_at (new_name rs n) (renamed rs h) ≡ type_at n h
+kept_types rs [] d n e = cc
+kept_types rs (a ∷ h) d n e = by_name (kept_types rs h (and_second _ _ d) n) (same_name a.0 n) refl (same_name (new_name rs a.0) (new_name rs n)) refl
+  where
+    by_name : (has_attribute n h ≡ true → type_at (new_name rs n) (renamed rs h) ≡ type_at n h)
+        → (same : Bool) → same ≡ same_name a.0 n → (tied : Bool) → tied ≡ same_name (new_name rs a.0) (new_name rs n)
+        → type_at (new_name rs n) (renamed rs (a ∷ h)) ≡ type_at n (a ∷ h)
+    by_name rest true is true new = rw (← is, ← new) refl
+    by_name rest true is false new =
+        let tied : same_name (new_name rs a.0) (new_name rs n) ≡ true = subst (λ m. same_name (new_name rs a.0) (new_name rs m) ≡ true) (same_text a.0 n is) (same_name-itself (new_name rs a.0)) in
+        cc
+    by_name rest false is true new =
+        let there : has_attribute n h ≡ true = rw (← is) at e in
+        let taken : has_name (new_name rs a.0) (names_of (renamed rs h)) ≡ true =
+        subst (λ m. has_name m (names_of (renamed rs h)) ≡ true) (sym (same_text (new_name rs a.0) (new_name rs n) new)) (new_name_there rs n h there) in
+        let free : not (has_name (new_name rs a.0) (names_of (renamed rs h))) ≡ true = and_first _ _ d in
+        let clash = rw taken at free in
+        cc
+    by_name rest false is false new = rw (← is, ← new) (rest (rw (← is) at e))
+
+old_name_there : (rs : List (List ℕ × List ℕ)) (m : List ℕ) (h : Attributes) → has_attribute m (renamed rs h) ≡ true → (n : List ℕ) × (has_attribute n h ≡ true) × (new_name rs n ≡ m)
+old_name_there rs m [] e = cc
+old_name_there rs m (a ∷ h) e = by_name (old_name_there rs m h) (same_name (new_name rs a.0) m) refl
+  where
+    later : (n : List ℕ) → has_attribute n h ≡ true → (same : Bool) → same ≡ same_name a.0 n → has_attribute n (a ∷ h) ≡ true
+    later n there true is = rw (← is) refl
+    later n there false is = rw (← is) there
+
+    by_name : (has_attribute m (renamed rs h) ≡ true → (n : List ℕ) × (has_attribute n h ≡ true) × (new_name rs n ≡ m))
+        → (same : Bool) → same ≡ same_name (new_name rs a.0) m → (n : List ℕ) × (has_attribute n (a ∷ h) ≡ true) × (new_name rs n ≡ m)
+    by_name rest true is = (a.0, rw (same_name-itself a.0) refl, same_text (new_name rs a.0) m is)
+    by_name rest false is =
+        let found = rest (rw (← is) at e) in
+        (found.0, later found.0 found.1 _ refl, found.2)
+
+pub renaming_keeps_types : RenamingKeepsTypes
+renaming_keeps_types rs h e =
+    let old = has_attributes (map (λ r. r.0) rs) h && are_distinct (map (λ r. r.0) rs) in
+    (kept_types rs h (and_second old (are_distinct (names_of (renamed rs h))) e), λ m. old_name_there rs m h)
+
+-- ---- which names a heading has
+
+-- those of its attributes
+pub has_attribute-names : (n : List ℕ) (xs : Attributes) → has_attribute n xs ≡ has_name n (names_of xs)
+has_attribute-names n [] = refl
+has_attribute-names n (x ∷ xs) = by_name (same_name x.0 n) (has_attribute-names n xs)
+  where
+    by_name : (same : Bool) → has_attribute n xs ≡ has_name n (names_of xs) → is_some (if same then Some x.1 else type_at n xs) ≡ (same || has_name n (names_of xs))
+    by_name true rest = refl
+    by_name false rest = rest
+
+-- with one more attribute, its name too
+pub has_attribute-with : (m n : List ℕ) (t : Type') (xs : Attributes) → has_attribute m (with_attribute xs (n, t)) ≡ (same_name n m || has_attribute m xs)
+has_attribute-with m n t xs = ap is_some (type_at-with m n t xs) ∙ by_name (same_name n m)
+  where
+    by_name : (same : Bool) → is_some (if same then Some t else type_at m xs) ≡ (same || has_attribute m xs)
+    by_name true = refl
+    by_name false = refl

@@ -1,4 +1,4 @@
--- Headings are finite maps from names to types (the chapter's), kept as the list of their attributes in name order.
+-- Headings are finite maps from names to types (Tutorial D's), kept as the list of their attributes in name order.
 use Rattle.std.specs.Prelude.{◌≡◌, ℕ, Bool, true, not, ◌&&◌, List, [], ◌∷◌, filter, fold, map, Option, None, Some, is_some, if◌then◌else◌, IsTrue, ◌↔◌}
 use Rattle.std.specs.List.{list_all, list_any}
 use Rattle.std.specs.Cmp.Lexicographic.{slice_cmp}
@@ -66,7 +66,7 @@ can_rename renamings heading = has_attributes (map (λ r. r.0) renamings) headin
 
 -- ---- the headings that the operations make
 
--- the attribute added in its place, in name order
+-- the attribute added in its place, in name order; where the name is there, its type is the new one
 abbrev pub with_attribute : Attributes → Attribute → Attributes
 with_attribute heading a = put (slice_cmp nat_cmp) a.0 a.1 heading
 
@@ -104,3 +104,10 @@ TypesDetermineHeading = (g h : Attributes) → IsAscending g → IsAscending h �
 abbrev pub AgreementIsOneType : Type 0
 AgreementIsOneType =
     (g h : Attributes) → IsAscending g → IsTrue (agree g h) ↔ ((name : List ℕ) (s t : Type') → type_at name g ≡ Some s → type_at name h ≡ Some t → s ≡ t)
+
+-- renaming gives each new name the type of its old one, and there are no others
+abbrev pub RenamingKeepsTypes : Type 0
+RenamingKeepsTypes =
+    (renamings : List (List ℕ × List ℕ)) (h : Attributes) → IsTrue (can_rename renamings h)
+    → ((name : List ℕ) → IsTrue (has_attribute name h) → type_at (new_name renamings name) (renamed renamings h) ≡ type_at name h)
+    × ((name : List ℕ) → IsTrue (has_attribute name (renamed renamings h)) → (old : List ℕ) × IsTrue (has_attribute old h) × (new_name renamings old ≡ name))

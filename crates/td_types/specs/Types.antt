@@ -1,10 +1,11 @@
--- Types and headings as the chapter has them, apart from how the code stores them.
-use Rattle.std.specs.Prelude.{◌≡◌, ℕ, zero, suc, max, Bool, List, [], ◌∷◌, map, refl, Option, Some, None, if◌then◌else◌, ◌==◌, pos}
+-- Types and headings as Tutorial D has them, apart from how the code stores them.
+use Rattle.std.specs.Prelude.{◌≡◌, ℕ, zero, suc, max, Bool, List, [], ◌∷◌, map, refl, Option, Some, None, if◌then◌else◌, ◌==◌, pos, ⊤}
 use lib.Pointwise.{pointwise}
 use Rattle.std.proofs.Common.{ap, ◌∙◌}
 use Rattle.std.specs.Ordering.{nat_cmp, ordering_then}
 use Rattle.std.specs.declared.cmp.Ordering.{Ordering}
 use Rattle.std.specs.declared.cmp.Ordering.TheVariants.{Less, Equal, Greater}
+use Rattle.td_tree.specs.Names.{IsName}
 use Rattle.td_types.specs.Keys.{Key, key, Keys, no_keys, more, bytes_to, bytes_from, bytes_back}
 use Rattle.std.specs.Cmp.Lexicographic.{slice_cmp}
 use Rattle.std.specs.List.Sorted.{IsStrictlySortedBy}
@@ -58,6 +59,25 @@ names_of = map (λ a. a.0)
 -- each name stands before the next by code points, so no name comes twice
 abbrev pub IsAscending : Attributes → Type 0
 IsAscending xs = IsStrictlySortedBy (slice_cmp nat_cmp) (names_of xs)
+
+-- the name stands before those of the heading
+abbrev pub IsBefore : List ℕ → Attrs → Type 0
+IsBefore n no_attrs = ⊤
+IsBefore n (attr m t xs) = (slice_cmp nat_cmp n m ≡ Less) × IsBefore n xs
+
+abbrev mutual
+  -- what every type of the code is: names in it are names, and headings ascend, at every depth
+  pub IsType : Type' → Type 0
+  IsType boolean = ⊤
+  IsType integer = ⊤
+  IsType text = ⊤
+  IsType (user n) = IsName n
+  IsType (tuple xs) = IsHeading xs
+  IsType (relation xs) = IsHeading xs
+
+  pub IsHeading : Attrs → Type 0
+  IsHeading no_attrs = ⊤
+  IsHeading (attr n t xs) = IsName n × IsType t × IsBefore n xs × IsHeading xs
 
 -- whether two names are the same
 abbrev pub same_name : List ℕ → List ℕ → Bool

@@ -4,7 +4,7 @@ ghost use Rattle.std.specs.List.{prefix_len};
 ghost use Rattle.std.specs.Ordering.{is_lt, nat_cmp};
 ghost use Rattle.std.specs.Cmp.Lexicographic.{slice_cmp};
 ghost use Rattle.td_types.specs.Headings.{AgreementIsOneType, IsMap, TypesDetermineHeading, add_missing, has_attribute, heading_fault, with_attribute};
-ghost use Rattle.td_types.specs.Types.{same_name, type_at};
+ghost use Rattle.td_types.specs.Types.{IsAscending, IsHeading, pack, same_name, type_at};
 ghost use Rattle.td_types.specs.Views.{type_of};
 
 use crate::ty::{Attribute, Heading, Ty};
@@ -35,7 +35,9 @@ impl Heading {
 
     /// How many attributes there are.
     pub fn len(&self) -> usize
-        ensures { result ≡ length self.now }
+        ensures length { result ≡ length self.now }
+        ensures heading { IsHeading (pack self.now) }
+        ensures ascending { IsAscending self.now }
     {
         self.attributes.len()
     }
@@ -88,6 +90,7 @@ impl Heading {
         if self.get(&name).is_some() {
             return Ok(self);
         }
+        ty.reveal();
         let place = self.place_of(&name);
         let mut attributes = self.attributes;
         attributes.insert(place, Attribute { name, ty })?;

@@ -2,6 +2,7 @@
 #![tactic(auto)]
 
 mod copy;
+mod hash;
 pub mod heading;
 pub mod operations;
 mod order;

@@ -36,12 +36,7 @@ impl Heading {
     fn has_all(&self, names: &[Name]) -> bool
         ensures { result ≡ has_attributes names.now self.now }
     {
-        for name in names {
-            if self.get(name).is_none() {
-                return false;
-            }
-        }
-        true
+        names.iter().all(|name| self.get(name).is_some())
     }
 
     /// Whether no name has two types here and there.
@@ -114,6 +109,7 @@ impl Heading {
         }
         Ok(Heading { attributes })
     }
+
     /// The attributes that either has: refused where one has two types.
     pub fn union(&self, other: &Heading) -> Result<Heading, Fault>
         ensures accepted { OnOk result (agree self.now other.now ≡ true) }

@@ -9,7 +9,8 @@ use crate::ty::{Attribute, Heading, Ty};
 use std::cmp::Ordering;
 
 impl Ty {
-    fn rank(&self) -> u8
+    /// The place of the type's kind.
+    pub(crate) fn rank(&self) -> u8
         ensures { result ≡ type_rank (type_of self.now) }
     {
         match self {
@@ -122,10 +123,10 @@ impl Ord for Ty {
 
 impl Heading {
     /// Which heading stands first.
-    pub fn compare(&self, other: &Heading) -> Ordering
-        ensures { result ≡ attrs_cmp (pack self.now) (pack other.now) }
+    pub fn compare(&self, heading: &Heading) -> Ordering
+        ensures { result ≡ attrs_cmp (pack self.now) (pack heading.now) }
     {
-        compare_headings(self, other)
+        compare_headings(self, heading)
     }
 }
 
@@ -148,4 +149,34 @@ impl Eq for Heading {
     ghost use Rattle.td_types.specs.TypeOrder.{heading_eq_equiv};
 
     ghost laws = { heading_eq_equiv };
+}
+
+impl PartialOrd for Heading {
+    ghost use Rattle.std.specs.Ordering.{as_partial_cmp};
+    ghost use Rattle.td_types.specs.TypeOrder.{heading_partial_laws};
+
+    ghost partial_cmp = { as_partial_cmp heading_cmp };
+
+    ghost laws = { heading_partial_laws };
+
+    fn partial_cmp(&self, other: &Heading) -> Option<Ordering> {
+        Some(self.compare(other))
+    }
+}
+
+impl Ord for Heading {
+    ghost use Rattle.std.specs.Prelude.{refl};
+    ghost use Rattle.td_types.specs.TypeOrder.{heading_cmp_total};
+
+    ghost cmp = { heading_cmp };
+
+    ghost total = { heading_cmp_total };
+
+    ghost matches_partial_cmp = { λ x y. refl };
+
+    ghost matches_eq = { λ x y. refl };
+
+    fn cmp(&self, other: &Heading) -> Ordering {
+        compare_headings(self, other)
+    }
 }

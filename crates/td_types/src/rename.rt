@@ -1,6 +1,6 @@
 //! Renaming: each renaming is a pair of an old and a new name, and all are done at once.
 ghost use Rattle.std.specs.Prelude.{◌≡◌, ◌&&◌, Bool, true, IfErr, IfOk, List, OnOk, map, not, ℕ};
-ghost use Rattle.td_types.specs.Headings.{IsMap, are_distinct, can_rename, has_attributes, has_name, heading_fault, heading_renamed, new_name, renamed};
+ghost use Rattle.td_types.specs.Headings.{IsMap, RenamingKeepsTypes, are_distinct, can_rename, has_attributes, has_name, heading_fault, heading_renamed, new_name, renamed};
 ghost use Rattle.td_types.specs.Types.{names_of, type_at};
 ghost use Rattle.td_types.specs.Views.{attributes_of};
 
@@ -8,6 +8,11 @@ use crate::ty::{Attribute, Heading};
 use td_tree::cause::Cause;
 use td_tree::fault::Fault;
 use td_tree::name::Name;
+
+/// Renaming gives each new name the type of its old one, and there are no other names.
+pub fn renaming_keeps_types()
+    ensures { RenamingKeepsTypes }
+{}
 
 /// The name that the renamings give a name.
 fn new_name<'a>(name: &'a Name, renamings: &'a [(Name, Name)]) -> &'a Name

@@ -2,6 +2,7 @@
 use crate::text::{put_relation_type, type_text};
 use crate::ty::{Heading, Ty};
 use std::alloc::{AllocError, Global};
+use std::collections::HashSet;
 use std::test::Fail;
 use td_tree::cause::Cause;
 use td_tree::fault::Fault;
@@ -79,5 +80,19 @@ fn each_type_has_its_text(rt: HostRuntime) -> Result<(), Fail> {
     let want = "TUPLE {B BOOLEAN, C CHAR, N INTEGER, R RELATION {}, T TUPLE {Q QTY}}";
     assert_eq!(rt; type_text(alloc, &ty)?.as_str(), want);
     assert!(rt; ty.try_clone()? == ty);
+    Ok(())
+}
+
+#[test]
+fn types_are_found_by_their_hashes(rt: HostRuntime) -> Result<(), Fail> {
+    let alloc = rt.alloc();
+    let heading = integers(alloc, &["A"])?;
+    let mut headings = HashSet::new(alloc);
+    headings.insert(heading.try_clone()?)?;
+    assert!(rt; headings.contains(&heading));
+    let ty = Ty::Rel(heading);
+    let mut types = HashSet::new(alloc);
+    types.insert(ty.try_clone()?)?;
+    assert!(rt; types.contains(&ty));
     Ok(())
 }

@@ -1,4 +1,4 @@
-//! The text of a type.
+//! The text of a type. A call that wants memory leaves a front of the text at the end of `out`.
 ghost use Rattle.std.specs.Prelude.{◌≡◌, ◌++◌, OnOk, IfOk, codes, false};
 ghost use Rattle.std.specs.String.{string_bytes};
 ghost use Rattle.td_types.specs.Texts.{attributes_text, comma_if, heading_text, type_text};
@@ -8,6 +8,7 @@ ghost use Rattle.td_types.specs.Views.{type_of};
 use crate::ty::{Heading, Ty};
 use std::alloc::{AllocError, Global};
 
+/// Puts what stands before a part.
 fn put_comma(out: &mut String, later: bool) -> Result<(), AllocError>
     ensures { OnOk result (string_bytes out.new ≡ string_bytes out.old ++ comma_if later) }
 {
@@ -44,6 +45,7 @@ pub fn put_relation_type(out: &mut String, heading: &Heading) -> Result<(), Allo
     put_heading(out, heading)
 }
 
+/// Puts the attributes between braces.
 #[cycle(put)]
 fn put_heading(out: &mut String, heading: &Heading) -> Result<(), AllocError>
     ensures { OnOk result (string_bytes out.new ≡ string_bytes out.old ++ heading_text (pack heading.now)) }

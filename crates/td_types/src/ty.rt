@@ -1,4 +1,7 @@
 //! Types, and headings as their attributes in name order.
+ghost use Rattle.td_types.specs.Types.{IsType};
+ghost use Rattle.td_types.specs.Views.{type_of};
+
 use std::marker::Model;
 use td_tree::name::Name;
 
@@ -37,7 +40,7 @@ pub struct Heading {
 
 impl Model for Heading {
     ghost use Rattle.std.specs.Prelude.{List, ℕ, map, length};
-    ghost use Rattle.td_types.specs.Types.{Attributes, attributes_code, IsAscending, attributes_depth};
+    ghost use Rattle.td_types.specs.Types.{Attributes, IsHeading, attributes_code, attributes_depth, pack};
 
     ghost Value = { Attributes };
 
@@ -47,11 +50,28 @@ impl Model for Heading {
 
     ghost view = { λ a. attributes_of a.attributes.items };
 
-    ghost invariant = { λ a. IsAscending (attributes_of a.attributes.items) };
+    ghost invariant = { λ a. IsHeading (pack (attributes_of a.attributes.items)) };
 
     ghost size = { attributes_depth };
 
     ghost use Rattle.td_types.specs.Falls.{attributes_fall};
 
     ghost size_decreases = { λ a h. attributes_fall a.attributes.items };
+}
+
+impl Ty {
+    /// What holds of every type. It takes no time.
+    pub fn reveal(&self)
+        ensures { IsType (type_of self.now) }
+    {
+        match self {
+            Ty::User(name) => {
+                let _ = name.as_str();
+            }
+            Ty::Tup(heading) | Ty::Rel(heading) => {
+                let _ = &heading.attributes;
+            }
+            Ty::Bool | Ty::Int | Ty::Text => {}
+        }
+    }
 }

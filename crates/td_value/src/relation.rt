@@ -65,4 +65,13 @@ impl Rel {
     {
         &self.rows
     }
+
+    /// The tuples, ascending, in place of the relation.
+    pub fn into_rows(self) -> Vec<Tuple>
+        ensures rows { result.items ≡ self.rows }
+        ensures headed { All (IsTupleOf self.heading) result.items }
+    {
+        let Rel { heading: _, rows } = self;
+        rows
+    }
 }

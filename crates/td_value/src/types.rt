@@ -2,6 +2,7 @@
 ghost use Rattle.std.specs.Prelude.{◌≡◌, ◌↔◌, IfOk, IsTrue, length};
 ghost use Rattle.std.specs.Ordering.{eq_by_cmp, is_eq};
 ghost use Rattle.td_types.specs.Headings.{with_attribute};
+ghost use Rattle.td_types.specs.TypeOrder.{heading_cmp};
 ghost use Rattle.td_types.specs.Types.{attrs_cmp, pack, type_cmp};
 ghost use Rattle.td_types.specs.Types as types;
 ghost use Rattle.td_types.specs.Views as heads;
@@ -123,7 +124,8 @@ impl Value {
 impl Tuple {
     /// Whether the tuple is of the heading.
     pub fn has_heading(&self, heading: &Heading) -> bool
-        ensures { IsTrue result ↔ IsTupleOf heading.now self.now }
+        ensures fits { IsTrue result ↔ IsTupleOf heading.now self.now }
+        ensures test { result ≡ eq_by_cmp heading_cmp (heading_of self.now) heading.now }
     {
         let _ = &self.values;
         tuple_has_heading(self, heading)

@@ -1,9 +1,10 @@
 use Rattle.std.proofs.Common.{◌≡◌, false, sym, ◌∙◌, subst, arith}
 use Rattle.std.specs.Prelude.{is_some}
-use Rattle.td_types.specs.Types.{IsAscending, type_at}
+use Rattle.td_types.specs.Types.{IsHeading, pack, type_at}
 use Rattle.td_types.specs.Views.{attributes_of, type_of}
+use Rattle.td_tree.specs.Names.{IsName}
 use Rattle.td_types.specs.Headings.{with_attribute}
-use Rattle.td_types.specs.HeadingLaws.{IsAscending-with}
+use Rattle.td_types.specs.HeadingLaws.{IsHeading-with}
 use Rattle.td_types.proofs.Attributes.{attributes_of-insert, place_within, found}
 use Rattle.td_types.proofs.ty.Heading.add.Goals as goal
 
@@ -16,7 +17,7 @@ invariant_of-result c =
     let items = rw c.in_ok-insert.was at c.insert.ensures.items in
     let is : attributes_of c.insert.new.self.items ≡ with_attribute c.args.self (c.args.name, type_of c.args.ty) =
     rw items (attributes_of-insert c.self.inside.attributes.items c.args.self c.self.view_is _ _ c.place_of-place.ensures none) in
-    subst IsAscending (sym is) (IsAscending-with c.args.name (type_of c.args.ty) c.args.self (subst IsAscending c.self.view_is c.self.invariant))
+    subst (λ h. IsHeading (pack h)) (sym is) (IsHeading-with c.args.name (type_of c.args.ty) c.args.self (subst IsName c.name.view_is c.name.invariant) c.reveal.ensures (subst (λ h. IsHeading (pack h)) c.self.view_is c.self.invariant))
 
 pub returns : goal.returns
 returns c =

@@ -1,6 +1,4 @@
-use Rattle.std.specs.List.Sorted.{IsStrictlySortedBy}
 use Rattle.td_types.proofs.ty.Heading.empty.Goals as goal
 
 pub invariant_of-result : goal.invariant_of-result
-unfolding IsStrictlySortedBy
 invariant_of-result c = rw c.new.ensures.items tt

@@ -1,7 +1,7 @@
 use Rattle.std.proofs.Common.{◌≡◌, sym, ap, ◌∙◌, subst}
 use Rattle.td_types.specs.Headings.{projection}
-use Rattle.td_types.specs.HeadingLaws.{IsAscending-projection, type_at-projection}
-use Rattle.td_types.specs.Types.{IsAscending, type_at}
+use Rattle.td_types.specs.HeadingLaws.{IsHeading-filter, type_at-projection}
+use Rattle.td_types.specs.Types.{IsHeading, pack, type_at}
 use Rattle.td_types.specs.Views.{attributes_of}
 use Rattle.td_types.proofs.Attributes.{kept_all}
 use Rattle.td_types.proofs.ty.Heading.project.Goals as goal
@@ -10,7 +10,7 @@ pub invariant_of-result : goal.invariant_of-result
 invariant_of-result c =
     let kept : attributes_of c.loop-attribute.attributes.items ≡ projection c.args.names.now c.args.self.now =
     kept_all _ _ _ _ _ c.loop-attribute-test.false c.loop-attribute.invariant in
-    subst IsAscending (sym kept) (IsAscending-projection c.args.names.now c.args.self.now (subst IsAscending c.self.view_is c.self.invariant))
+    subst (λ h. IsHeading (pack h)) (sym kept) (IsHeading-filter _ _ (subst (λ h. IsHeading (pack h)) c.self.view_is c.self.invariant))
 
 pub returns-clause-value : goal.returns-clause-value
 returns-clause-value c = kept_all _ _ _ _ _ c.loop-attribute-test.false c.loop-attribute.invariant

@@ -1,7 +1,7 @@
 -- What a test of two texts in any ASCII case has told.
 use Rattle.std.specs.Prelude.{◌≡◌, ℕ, Bool, List, map, IsTrue, ◌↔◌}
 use Rattle.std.specs.Char.{to_ascii_lowercase}
-use Rattle.std.specs.Str.{str_eq_ignore_ascii_case, bytes_eq}
+use Rattle.std.specs.Str.{str_eq_ignore_ascii_case}
 use Rattle.std.proofs.lemmas.Slice.Eq.{bytes_eq-Decides}
 use Rattle.std.proofs.lemmas.Bool.Decides.{same_from_decides}
 

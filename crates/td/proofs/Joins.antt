@@ -1,0 +1,13 @@
+-- One operand more.
+use Rattle.std.proofs.Common.{◌≡◌, List, [], ◌∷◌, ◌++◌, refl, map}
+use Rattle.std.specs.Prelude.{fold}
+use Rattle.td.specs.Trees.{Operand, Expression, union, single}
+use Rattle.td.specs.TreeViews.{joined, operand_of}
+use Rattle.td.specs.declared.engine.tree.Operand as code_operand
+
+fold_push : (e : Expression) (os : List code_operand.Operand) (o : code_operand.Operand) → fold union e (map operand_of (os ++ (o ∷ []))) ≡ union (fold union e (map operand_of os)) (operand_of o)
+fold_push e [] o = refl
+fold_push e (x ∷ os) o = fold_push (union e (operand_of x)) os o
+
+pub joined_push : (first : Operand) (os : List code_operand.Operand) (o : code_operand.Operand) → joined first (map operand_of (os ++ (o ∷ []))) ≡ union (joined first (map operand_of os)) (operand_of o)
+joined_push first os o = fold_push (single first) os o

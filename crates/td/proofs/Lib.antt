@@ -1,0 +1,10 @@
+pub mod Again
+pub mod Decimals
+pub mod Headings
+pub mod Joins
+pub mod Literals
+pub mod Names
+pub mod Parses
+pub mod Sound
+pub mod ToldLaws
+pub mod Turns

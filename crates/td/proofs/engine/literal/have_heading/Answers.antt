@@ -1,0 +1,18 @@
+use Rattle.std.proofs.Common.{◌≡◌, refl, arith, sym, IsTrue, true, take, subst}
+use Rattle.std.specs.List.{All}
+use Rattle.std.proofs.lemmas.Grind.{common_steps}
+use Rattle.std.proofs.Common.{rules}
+use Rattle.std.proofs.lemmas.List.{take_all, take_more}
+use Rattle.std.proofs.lemmas.List.Elements.{All-push}
+use Rattle.td_value.specs.Values.{IsTupleOf}
+use Rattle.td.proofs.engine.literal.have_heading.Goals as goal
+
+pub loop-tuple-preserved : goal.loop-tuple-preserved
+loop-tuple-preserved c = record {
+  test = first_of (search rules, grind (arith, common_steps));
+  fits = rw (take_more c.args.tuples.now c.loop-tuple.tuple-index c.tuple-item.result c.loop-tuple-test.true)
+      (All-push (IsTupleOf c.args.heading.now) _ _ c.loop-tuple.invariant.fits (subst (IsTupleOf c.args.heading.now) c.tuple-item.is (c.has_heading.ensures.fits.0 c.if-not-has_heading.false)));
+}
+
+pub returns-clause-fits : goal.returns-clause-fits
+returns-clause-fits c = λ _. rw (take_all c.loop-tuple.tuple-index c.args.tuples.now c.loop-tuple-test.false) at c.loop-tuple.invariant.fits

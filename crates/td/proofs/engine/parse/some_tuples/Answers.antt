@@ -1,0 +1,15 @@
+use Rattle.std.proofs.Common.{rules, arith, ◌+◌, ◌-◌, ◌≡◌, length}
+use Rattle.std.proofs.lemmas.Grind.{common_steps}
+use Rattle.std.proofs.lemmas.List.{map_push}
+use Rattle.td.specs.Reading.{tuple_in, items_from}
+use Rattle.td.specs.TreeViews.{tuple_of, tuples_of}
+use Rattle.td.specs.Words.{words}
+use Rattle.td.proofs.Turns.{one_more}
+use Rattle.td.proofs.engine.parse.some_tuples.Goals as goal
+
+pub loop-turn-preserved : goal.loop-turn-preserved
+unfolding items_from
+loop-turn-preserved c =
+    let e = one_more (λ n. items_from tuple_in n (tuples_of c.loop-turn.items.items) (words c.loop-turn.tokens.rest.now)) (length c.args.tokens.now.rest.now) c.loop-turn._turn (omega arith) in
+    let p = map_push tuple_of c.loop-turn.items.items c.in_ok-tuple.field-0 in
+    first_of (search rules, grind (arith, common_steps))

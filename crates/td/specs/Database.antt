@@ -1,0 +1,84 @@
+-- Databases of base relvars (the chapter's; the order of definition is this project's own).
+use Rattle.std.specs.Prelude.{◌≡◌, ℕ, Bool, true, false, not, ◌&&◌, List, [], ◌∷◌, ◌++◌, Option, Some, None, map, filter, if◌then◌else◌}
+use Rattle.std.specs.List.{list_all, list_any}
+use Rattle.std.specs.Ordering.{eq_by_cmp, is_eq}
+use Rattle.td_types.specs.Headings.{are_distinct, has_attributes, has_name}
+use Rattle.td_types.specs.TypeOrder.{heading_cmp}
+use Rattle.td_types.specs.Types.{Attributes, same_name}
+use Rattle.td_value.specs.Values.{Entries, Relation, tuple_order}
+
+-- a base relvar: its name, its declared keys, and its body with its heading
+pub record Relvar : Type 0 where
+  pub name : List ℕ
+  pub keys : List (List (List ℕ))
+  pub body : Relation
+
+-- the relvars, in order of definition
+abbrev pub Database : Type 0
+Database = List Relvar
+
+-- the relvar of that name
+abbrev pub relvar_at : List ℕ → Database → Option Relvar
+relvar_at n [] = None
+relvar_at n (r ∷ rs) = if same_name r.name n then Some r else relvar_at n rs
+
+-- the database in which the relvar of that name has another body
+abbrev pub with_body : List ℕ → Relation → Database → Database
+with_body n body [] = []
+with_body n body (r ∷ rs) = if same_name r.name n then record r { body = body } ∷ rs else r ∷ with_body n body rs
+
+-- whether two headings are one
+abbrev pub same_heading : Attributes → Attributes → Bool
+same_heading = eq_by_cmp heading_cmp
+
+-- ---- keys
+
+-- a tuple's part on the names of a key
+abbrev pub key_part : List (List ℕ) → Entries → Entries
+key_part key = filter (λ e. has_name e.0 key)
+
+-- whether two tuples agree on the names of a key
+abbrev pub agree_on : List (List ℕ) → Entries → Entries → Bool
+agree_on key t u = is_eq (tuple_order (key_part key t) (key_part key u))
+
+-- whether no two of the tuples agree on the names of the key
+abbrev pub key_holds : List (List ℕ) → List Entries → Bool
+key_holds key [] = true
+key_holds key (t ∷ ts) = not (list_any (agree_on key t) ts) && key_holds key ts
+
+abbrev pub keys_hold : List (List (List ℕ)) → List Entries → Bool
+keys_hold keys rows = list_all (λ key. key_holds key rows) keys
+
+-- whether each name of a part is in the key
+abbrev pub includes : List (List ℕ) → List (List ℕ) → Bool
+includes key part = list_all (λ n. has_name n key) part
+
+-- whether neither of two keys includes the other
+abbrev pub are_apart : List (List ℕ) → List (List ℕ) → Bool
+are_apart key other = not (includes key other) && not (includes other key)
+
+-- whether the names of each key are distinct attributes, and none includes another
+abbrev pub are_keys : Attributes → List (List (List ℕ)) → Bool
+are_keys heading [] = true
+are_keys heading (key ∷ keys) = has_attributes key heading && are_distinct key && list_all (are_apart key) keys && are_keys heading keys
+
+abbrev pub is_some_key : List (List (List ℕ)) → Bool
+is_some_key [] = false
+is_some_key (key ∷ keys) = true
+
+-- whether the keys may be declared for the heading: there is one, and they are its keys
+abbrev pub keys_fit : Attributes → List (List (List ℕ)) → Bool
+keys_fit heading keys = is_some_key keys && are_keys heading keys
+
+-- ---- legal databases
+
+-- whether the relvar's keys fit its heading and hold of its body
+abbrev pub is_relvar : Relvar → Bool
+is_relvar r = keys_fit r.body.heading r.keys && keys_hold r.keys r.body.rows
+
+abbrev pub names_of : Database → List (List ℕ)
+names_of = map (λ r. r.name)
+
+-- whether every relvar is as it was declared, and no two have one name
+abbrev pub is_legal : Database → Bool
+is_legal db = list_all is_relvar db && are_distinct (names_of db)

@@ -1,0 +1,16 @@
+pub mod Answering
+pub mod CommandLine
+pub mod Database
+pub mod DatabaseCode
+pub mod Grammar
+pub mod Machine
+pub mod Meaning
+pub mod Numbers
+pub mod Parsing
+pub mod Reading
+pub mod Relvars
+pub mod Steps
+pub mod Told
+pub mod TreeViews
+pub mod Trees
+pub mod Words

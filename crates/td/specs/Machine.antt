@@ -1,0 +1,140 @@
+-- The set machine: what a statement does to a database, and what it answers (the chapter's; causes, the order of checks
+-- and the texts are this project's own).
+use Rattle.std.specs.Prelude.{◌≡◌, ℕ, ◌+◌, Bool, true, false, not, ◌&&◌, List, [], ◌∷◌, ◌++◌, Option, Some, None, map, codes, decimal, nat_lt, if◌then◌else◌}
+use Rattle.td_tree.specs.Causes.{name_of, number_of}
+use Rattle.td_tree.specs.Outcomes.{Causes, Only, Outcome, Valued, Refused, least, with_value, with_both}
+use Rattle.td_tree.specs.Statements.{Entry}
+use Rattle.td_tree.specs.declared.cause.Cause.{Cause}
+use Rattle.td_tree.specs.declared.cause.Cause.TheVariants as causes
+use Rattle.td_types.specs.Types.{Attributes}
+use Rattle.td_value.specs.Literal.{relation_literal}
+use Rattle.td_value.specs.Values.{Relation}
+use Rattle.td.specs.Database.{Database, Relvar, keys_fit, keys_hold, relvar_at, same_heading, with_body}
+use Rattle.td.specs.Grammar.{Spells}
+use Rattle.td.specs.Meaning.{heading_meaning, known, meaning}
+use Rattle.td.specs.Parsing.{has_bad}
+use Rattle.td.specs.Trees.{Statement, empty, define, assign, write}
+use Rattle.td.specs.Words.{Word, word_of}
+
+-- what a statement does: the database after it, why it is refused, if it is, and the text of its answer
+pub record Step : Type 0 where
+  pub database : Database
+  pub cause : Option Cause
+  pub text : List ℕ
+
+-- ---- answers: a text and a newline
+
+abbrev pub line : List ℕ → List ℕ
+line text = text ++ (10 ∷ [])
+
+abbrev pub accepted : Database → List ℕ → Step
+accepted db text = record { database = db; cause = None; text = line text }
+
+abbrev pub refusal_text : Cause → List ℕ
+refusal_text cause = codes "REFUSED " ++ decimal (number_of cause) ++ codes " " ++ name_of cause
+
+-- a refused statement changes nothing
+abbrev pub refused : Database → Cause → Step
+refused db cause = record { database = db; cause = Some cause; text = line (refusal_text cause) }
+
+-- a key of that relvar would not hold
+abbrev pub key_refused : Database → List ℕ → Step
+key_refused db name = record { database = db; cause = Some causes.Key; text = line (refusal_text causes.Key ++ codes " " ++ name) }
+
+-- the static causes come before what follows; the least is named
+abbrev pub by_outcome : {A : Type 0} → Database → Outcome A → (A → Step) → Step
+by_outcome db (Valued x) f = f x
+by_outcome db (Refused cs) f = refused db (least cs)
+
+-- ---- definitions
+
+-- a name that is taken is NAME_TAKEN
+abbrev pub free : Option Relvar → Outcome (Unit {0})
+free None = Valued tt
+free (Some r) = Refused (Only causes.NameTaken)
+
+-- keys that do not fit the heading are KEY_DECLARATION
+abbrev pub fitting : List (List (List ℕ)) → Attributes → Outcome Attributes
+fitting keys heading = if keys_fit heading keys then Valued heading else Refused (Only causes.KeyDeclaration)
+
+abbrev pub declared : Database → List ℕ → List (List ℕ) → List (List (List ℕ)) → Outcome Attributes
+declared db n names keys = with_both (free (relvar_at n db)) (with_value (heading_meaning names) (fitting keys)) (λ _ heading. Valued heading)
+
+-- a new relvar comes last, with an empty body
+abbrev pub new_relvar : List ℕ → List (List (List ℕ)) → Attributes → Relvar
+new_relvar n keys heading = record { name = n; keys = keys; body = record { heading = heading; rows = [] } }
+
+-- ---- assignments
+
+-- a source of another heading is HEADING
+abbrev pub assignable : Relvar → Relation → Outcome Relation
+assignable target source = if same_heading source.heading target.body.heading then Valued source else Refused (Only causes.Heading)
+
+-- the first relvar of which a key does not hold
+abbrev pub first_broken : Database → Option (List ℕ)
+first_broken [] = None
+first_broken (r ∷ rs) = if keys_hold r.keys r.body.rows then first_broken rs else Some r.name
+
+-- a change stands where every key holds after it
+abbrev pub unless_broken : Database → Database → Option (List ℕ) → Step
+unless_broken old new None = accepted new (codes "OK")
+unless_broken old new (Some name) = key_refused old name
+
+abbrev pub changed : Database → Database → Step
+changed old new = unless_broken old new (first_broken new)
+
+-- ---- statements
+
+-- what a tree means
+abbrev pub stepped : Database → Statement → Step
+stepped db empty = accepted db (codes "OK")
+stepped db (define n names keys) = by_outcome db (declared db n names keys) (λ heading. changed db (db ++ (new_relvar n keys heading ∷ [])))
+stepped db (assign n e) = by_outcome db (with_both (known (relvar_at n db)) (meaning db e) assignable) (λ source. changed db (with_body n source db))
+stepped db (write e) = by_outcome db (meaning db e) (λ r. accepted db (relation_literal r))
+
+abbrev pub words_in : List Entry → List Word
+words_in = map (λ token. word_of token.kind token.text)
+
+abbrev pub is_bad_in : List Entry → Bool
+is_bad_in tokens = has_bad (map (λ token. token.kind) tokens)
+
+-- what a list of tokens does: SCAN where one is bad, else SYNTAX where they spell no tree, else what their tree means
+pub data Steps (db : Database) (tokens : List Entry) : Step → Type 0 where
+  scanned : is_bad_in tokens ≡ true → Steps db tokens (refused db causes.Scan)
+  unspelled : is_bad_in tokens ≡ false → ((t : Statement) → Spells (words_in tokens) t → ⊥) → Steps db tokens (refused db causes.Syntax)
+  spelled : (t : Statement) → is_bad_in tokens ≡ false → Spells (words_in tokens) t → Steps db tokens (stepped db t)
+
+-- ---- runs
+
+-- what a run has done so far
+pub record Progress : Type 0 where
+  pub database : Database
+  pub text : List ℕ
+  pub statements : ℕ
+  pub refusals : ℕ
+
+abbrev pub begun : Database → Progress
+begun db = record { database = db; text = []; statements = 0; refusals = 0 }
+
+abbrev pub refusals_of : Option Cause → ℕ
+refusals_of None = 0
+refusals_of (Some cause) = 1
+
+-- one statement more
+abbrev pub and_then : Progress → Step → Progress
+and_then so_far step = record {
+  database = step.database;
+  text = so_far.text ++ step.text;
+  statements = so_far.statements + 1;
+  refusals = so_far.refusals + refusals_of step.cause;
+}
+
+-- with `stop` nothing after the first refused statement counts
+abbrev pub has_stopped : Bool → Progress → Bool
+has_stopped stop so_far = stop && nat_lt 0 so_far.refusals
+
+-- these statements in turn, from what was done so far
+pub data Runs (stop : Bool) : Progress → List (List Entry) → Progress → Type 0 where
+  nothing : {p : Progress} → Runs stop p [] p
+  stopped : {p : Progress} {s : List Entry} {ss : List (List Entry)} → has_stopped stop p ≡ true → Runs stop p (s ∷ ss) p
+  next : {p q : Progress} {s : List Entry} {ss : List (List Entry)} (step : Step) → has_stopped stop p ≡ false → Steps p.database s step → Runs stop (and_then p step) ss q → Runs stop p (s ∷ ss) q

@@ -1,0 +1,130 @@
+//! The relations that literals mean.
+ghost use Rattle.std.specs.Prelude.{◌≡◌, IfErr, IfOk, IsTrue, OnOk, false, true};
+ghost use Rattle.std.specs.List.{All};
+ghost use Rattle.td_value.specs.Sets.{set_of};
+ghost use Rattle.td_value.specs.Values.{IsTupleOf, tuple_order};
+ghost use Rattle.td_value.specs.Views.{relation_of};
+ghost use Rattle.td_types.specs.Headings.{are_distinct};
+ghost use Rattle.td.specs.Answering.{Answers, RefusesBy};
+ghost use Rattle.td.specs.Meaning as spec;
+ghost use Rattle.td.specs.Meaning.{are_distinct_if, are_tuples, attribute_names, have_heading, literal_meaning, tuple_values, written};
+ghost use Rattle.td.specs.TreeViews.{attributes_of, names_if, tuple_of, tuples_of};
+
+use crate::engine::tree::{AttributeValue, RelationLiteral, TupleLiteral};
+use std::alloc::{AllocError, Global};
+use td_tree::cause::Cause;
+use td_tree::fault::Fault;
+use td_tree::name::Name;
+use td_types::ty::{Heading, Ty};
+use td_value::value::{Rel, Tuple, Value};
+
+/// The heading of these names, each of type INTEGER; HEADING where a name comes twice.
+pub fn integer_heading(alloc: Global, names: &[Name]) -> Result<Heading, Fault>
+    ensures distinct { OnOk result (are_distinct names.now ≡ true) }
+    ensures value { IfOk result (λ h. h ≡ spec.integer_heading names.now) }
+    ensures fault { IfErr result (RefusesBy Cause.Heading (are_distinct names.now ≡ false)) }
+{
+    let mut heading = Heading::empty(alloc);
+    for name in names {
+        heading = heading.with(name.try_clone()?, Ty::Int)?;
+    }
+    Ok(heading)
+}
+
+/// The names with their values, in the order written.
+fn entries(alloc: Global, attributes: &[AttributeValue]) -> Result<Vec<(Name, Value)>, AllocError>
+    ensures { IfOk result (λ v. v.items ≡ written (attributes_of attributes.now)) }
+{
+    let mut entries = Vec::with_capacity(alloc, attributes.len())?;
+    for attribute in attributes {
+        let name = attribute.name.try_clone()?;
+        let value = Value::int(attribute.numeral.value());
+        entries.push((name, value))?;
+    }
+    Ok(entries)
+}
+
+/// The tuple that a literal means; HEADING where a name comes twice.
+fn tuple_value(alloc: Global, literal: &TupleLiteral) -> Result<Tuple, Fault>
+    ensures distinct { OnOk result (are_distinct (attribute_names (tuple_of literal.now)) ≡ true) }
+    ensures value { IfOk result (λ t. t ≡ spec.tuple_value (tuple_of literal.now)) }
+    ensures fault { IfErr result (RefusesBy Cause.Heading (are_distinct (attribute_names (tuple_of literal.now)) ≡ false)) }
+{
+    let entries = entries(alloc, &literal.attributes)?;
+    Tuple::new(alloc, entries)
+}
+
+/// The tuples that literals mean; HEADING where a name comes twice in one.
+fn tuples_value(alloc: Global, literals: &[TupleLiteral]) -> Result<Vec<Tuple>, Fault>
+    ensures distinct { OnOk result (are_tuples (tuples_of literals.now) ≡ true) }
+    ensures values { IfOk result (λ v. v.items ≡ tuple_values (tuples_of literals.now)) }
+    ensures fault { IfErr result (RefusesBy Cause.Heading (are_tuples (tuples_of literals.now) ≡ false)) }
+{
+    let mut tuples = Vec::with_capacity(alloc, literals.len())?;
+    for literal in literals {
+        let tuple = tuple_value(alloc, literal)?;
+        tuples.push(tuple)?;
+    }
+    Ok(tuples)
+}
+
+/// The heading of the first tuple; without tuples the empty one.
+fn first_heading(alloc: Global, tuples: &[Tuple]) -> Result<Heading, AllocError>
+    ensures { IfOk result (λ h. h ≡ spec.first_heading tuples.now) }
+{
+    match tuples {
+        [first, ..] => first.heading(alloc),
+        [] => Ok(Heading::empty(alloc)),
+    }
+}
+
+/// The heading of a relation with these tuples: the written one, or that of the tuples.
+fn literal_heading(
+    alloc: Global,
+    names: &Option<Vec<Name>>,
+    tuples: &[Tuple],
+) -> Result<Heading, Fault>
+    ensures distinct { OnOk result (are_distinct_if (names_if names.now) ≡ true) }
+    ensures value { IfOk result (λ h. h ≡ spec.literal_heading (names_if names.now) tuples.now) }
+    ensures fault { IfErr result (RefusesBy Cause.Heading (are_distinct_if (names_if names.now) ≡ false)) }
+{
+    match names {
+        Some(names) => integer_heading(alloc, names),
+        None => Ok(first_heading(alloc, tuples)?),
+    }
+}
+
+/// Whether all tuples have the heading.
+fn have_heading(tuples: &[Tuple], heading: &Heading) -> bool
+    ensures test { result ≡ have_heading heading.now tuples.now }
+    ensures fits { IsTrue result → All (IsTupleOf heading.now) tuples.now }
+{
+    for tuple in tuples {
+        if !tuple.has_heading(heading) {
+            return false;
+        }
+    }
+    true
+}
+
+/// The relation with these tuples; HEADING where they have not all that heading.
+fn headed(heading: Heading, tuples: Vec<Tuple>) -> Result<Rel, Fault>
+    ensures fit { OnOk result (have_heading heading tuples.items ≡ true) }
+    ensures value { IfOk result (λ r. r ≡ relation_of heading (set_of tuple_order tuples.items)) }
+    ensures fault { IfErr result (RefusesBy Cause.Heading (have_heading heading tuples.items ≡ false)) }
+{
+    if !have_heading(&tuples, &heading) {
+        return Err(Fault::Refused(Cause::Heading));
+    }
+    Ok(Rel::new(heading, tuples)?)
+}
+
+/// The relation that a literal means.
+#[tactic(auto, using(crate::proofs::Literals::no_tuples, crate::proofs::Literals::no_heading, crate::proofs::Literals::no_fit, crate::proofs::Literals::is_one))]
+pub fn literal_value(alloc: Global, literal: &RelationLiteral) -> Result<Rel, Fault>
+    ensures { Answers result (literal_meaning (names_if literal.now.heading) (tuples_of literal.now.tuples.items)) }
+{
+    let tuples = tuples_value(alloc, &literal.tuples)?;
+    let heading = literal_heading(alloc, &literal.heading, &tuples)?;
+    headed(heading, tuples)
+}

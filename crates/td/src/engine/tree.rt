@@ -1,0 +1,129 @@
+//! The trees of the first path's grammar.
+ghost use Rattle.std.specs.Prelude.{◌≡◌, ◌≤◌, map, OnOk};
+ghost use Rattle.td.specs.Trees as spec;
+ghost use Rattle.td.specs.TreeViews.{expression_of, operand_of, tuples_of};
+
+use crate::engine::number::Numeral;
+use std::alloc::{AllocError, Global};
+use td_tree::name::Name;
+
+/// An attribute's name with its value.
+#[derive(Drop)]
+pub struct AttributeValue {
+    pub name: Name,
+    pub numeral: Numeral,
+}
+
+/// `TUPLE {A 1, B -2}`, in the order written.
+#[derive(Drop)]
+pub struct TupleLiteral {
+    pub attributes: Vec<AttributeValue>,
+}
+
+/// `RELATION {A INTEGER} {TUPLE {A 1}}`, or the same without its heading.
+#[derive(Drop)]
+pub struct RelationLiteral {
+    /// The names of the written heading, in the order written.
+    pub heading: Option<Vec<Name>>,
+    pub tuples: Vec<TupleLiteral>,
+}
+
+/// What UNION joins.
+#[derive(Drop)]
+pub enum Operand {
+    Relvar(Name),
+    Literal(RelationLiteral),
+}
+
+/// Operands with UNION between, grouped from the left.
+#[derive(Drop)]
+pub struct Expression {
+    pub first: Operand,
+    pub others: Vec<Operand>,
+}
+
+/// `VAR R BASE RELATION {A INTEGER} KEY {A}`.
+#[derive(Drop)]
+pub struct Definition {
+    pub name: Name,
+    /// The names of the heading, in the order written.
+    pub heading: Vec<Name>,
+    pub keys: Vec<Vec<Name>>,
+}
+
+/// `R := e`.
+#[derive(Drop)]
+pub struct Assignment {
+    pub target: Name,
+    pub source: Expression,
+}
+
+/// A statement.
+#[derive(Drop)]
+pub enum Statement {
+    Empty,
+    Define(Definition),
+    Assign(Assignment),
+    Write(Expression),
+}
+
+/// The height of a node over this many names or numbers.
+fn height_over(parts: usize) -> u64
+    ensures value { result ≡ spec.height_over parts }
+    ensures low { result ≤ 2 }
+{
+    if parts == 0 { 1 } else { 2 }
+}
+
+/// How high the highest of these tuples is; 0 where there is none.
+fn highest(tuples: &[TupleLiteral]) -> u64
+    ensures value { result ≡ spec.highest (map spec.tuple_height (tuples_of tuples.now)) }
+    ensures low { result ≤ 2 }
+{
+    let mut height = 0;
+    for tuple in tuples {
+        height = height.max(height_over(tuple.attributes.len()));
+    }
+    height
+}
+
+impl Operand {
+    /// One more than the highest part: the written heading, as a relation type, and the tuples.
+    pub fn height(&self) -> u64
+        ensures value { result ≡ spec.operand_height (operand_of self.now) }
+        ensures low { result ≤ 3 }
+    {
+        match self {
+            Operand::Relvar(_) => 1,
+            Operand::Literal(literal) => {
+                let heading = match &literal.heading {
+                    Some(names) => height_over(names.len()),
+                    None => 0,
+                };
+                heading.max(highest(&literal.tuples)) + 1
+            }
+        }
+    }
+}
+
+impl Expression {
+    /// An operand alone.
+    #[tactic(auto, unfolding(crate::specs::TreeViews::expression_of))]
+    pub fn single(alloc: Global, first: Operand) -> Expression
+        ensures { expression_of result ≡ spec.single (operand_of first) }
+    {
+        Expression {
+            first,
+            others: Vec::new(alloc),
+        }
+    }
+
+    /// Joins one more operand.
+    #[tactic(auto, using(crate::proofs::Joins::joined_push), unfolding(crate::specs::TreeViews::expression_of))]
+    pub fn join(&mut self, other: Operand) -> Result<(), AllocError>
+        ensures { OnOk result (expression_of self.new ≡ spec.union (expression_of self.old) (operand_of other)) }
+    {
+        self.others.push(other)?;
+        Ok(())
+    }
+}

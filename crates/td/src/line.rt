@@ -1,0 +1,80 @@
+//! The words of the command line.
+ghost use Rattle.std.specs.Prelude.{◌≡◌, IfOk, IfSome, List, map, false};
+ghost use Rattle.clap.specs.Words.{app_of, subcommand_of, subcommand_rows_of};
+ghost use Rattle.clap.specs.declared.builder.command.Command.TheViews.{out-Command};
+ghost use Rattle.td.specs.CommandLine.{IsSaidBy, mode_word, part_app, td_app};
+
+use clap::error::ErrorKind;
+use clap::{Arg, ArgAction, ArgMatches, Command, Error};
+use std::alloc::{AllocError, Global};
+
+/// What a script is run for.
+#[derive(Clone, Copy, Debug, PartialEq, Eq)]
+pub enum Mode {
+    /// Its answers.
+    Run,
+}
+
+/// What the command line says.
+#[derive(Clone, Copy, Debug, PartialEq, Eq)]
+pub struct Line<'a> {
+    /// What the script is run for.
+    pub mode: Mode,
+    /// Whether the first refusal ends the run.
+    pub stop: bool,
+    /// The script; without it, and where it is `-`, the script is standard input.
+    pub file: Option<&'a str>,
+}
+
+/// A subcommand: a flag `--stop` and the file.
+fn part<'a>(alloc: Global, name: &'a str) -> Result<Command<'a>, AllocError>
+    ensures app { IfOk result (λ c. app_of c ≡ part_app name.entry.now) }
+    ensures local { IfOk result (λ c. (out-Command c).has_globals ≡ false) }
+{
+    let stop = Arg::new(alloc, "stop")
+        .long("stop")
+        .action(ArgAction::SetTrue);
+    let file = Arg::new(alloc, "file");
+    Command::new(alloc, name).arg(stop)?.arg(file)
+}
+
+/// The whole command.
+fn command<'a>(alloc: Global) -> Result<Command<'a>, AllocError>
+    ensures app { IfOk result (λ c. app_of c ≡ td_app) }
+{
+    let run = part(alloc, "run")?;
+    Command::new(alloc, "td")
+        .subcommand_required(true)
+        .subcommand(run)
+}
+
+fn mode_of(name: &str) -> Option<Mode>
+    ensures { IfSome result (λ mode. name.now ≡ mode_word mode) }
+{
+    if name == "run" { Some(Mode::Run) } else { None }
+}
+
+fn line_of<'a>(matches: &ArgMatches<'a>) -> Option<Line<'a>>
+    ensures { IfSome result (λ line. IsSaidBy line (subcommand_rows_of matches.now)) }
+{
+    let (name, found) = matches.subcommand()?;
+    let mode = mode_of(name)?;
+    Some(Line {
+        mode,
+        stop: found.get_flag("stop"),
+        file: found.get_str("file"),
+    })
+}
+
+/// Reads the words of the command line, of which the first is the program's name. What it
+/// refuses is refused by `clap`, in its words.
+pub fn read_line<'a>(alloc: Global, words: &'a [&'a str]) -> Result<Line<'a>, Error>
+    ensures { IfOk result (λ line. IsSaidBy line (subcommand_of td_app (map (λ s. s.now) words.entry.now))) }
+{
+    let mut command = command(alloc)?;
+    let matches = command.try_get_matches_from_mut(words)?;
+    match line_of(&matches) {
+        Some(line) => Ok(line),
+        None => Err(command.error(ErrorKind::MissingSubcommand, "run is wanted")?),
+    }
+}

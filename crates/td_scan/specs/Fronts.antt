@@ -1,0 +1,20 @@
+-- What stands at the front of bytes, as the scanner finds it.
+use Rattle.std.specs.Prelude.{ℕ, suc, ◌+◌, List, [], ◌∷◌, length, Some, None}
+use Rattle.std.specs.Str.{continuation_len}
+use Rattle.td_tree.specs.declared.piece.Piece.{Piece}
+use Rattle.td_tree.specs.declared.piece.Piece.TheVariants.{Bad}
+use Rattle.td_tree.specs.Pieces.{begins, continues}
+use Rattle.td_tree.specs.Symbols.{Symbol}
+
+-- how many bytes a character takes that begins with this one
+abbrev pub char_size : ℕ → ℕ
+char_size lead = suc (continuation_len lead)
+
+-- how many bytes the piece takes, n so far, and what it is at its end
+abbrev pub end_from : ℕ → Piece → List Symbol → ℕ × Piece
+end_from n piece [] = (n, piece)
+end_from n piece (s ∷ ss) = elim (continues piece s) as (λ _. ℕ × Piece) [ Some longer ↦ end_from (n + length s.text) longer ss | None ↦ (n, piece) ]
+
+abbrev pub first_end : List Symbol → ℕ × Piece
+first_end [] = (0, Bad)
+first_end (s ∷ ss) = end_from (length s.text) (begins s) ss

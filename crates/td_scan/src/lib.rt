@@ -1,0 +1,10 @@
+//! The statements and tokens of a script, however it is cut into pieces.
+#![tactic(auto)]
+
+pub mod cutter;
+pub mod laws;
+mod piece;
+mod symbol;
+#[cfg(test)]
+mod tests;
+pub mod token;

@@ -1,0 +1,38 @@
+-- Sets of causes, and what has a value or such a set (this project's own).
+use Rattle.std.specs.Prelude.{◌≡◌, nat_le, if◌then◌else◌, ◌⊎◌}
+use Rattle.td_tree.specs.Causes.{number_of}
+use Rattle.td_tree.specs.declared.cause.Cause.{Cause}
+
+-- a nonempty set of causes: one, or the union of two such sets
+pub data Causes : Type 0 where
+  Only : Cause → Causes
+  Union : Causes → Causes → Causes
+
+abbrev pub Has : Causes → Cause → Type 0
+Has (Only c) d = d ≡ c
+Has (Union a b) d = Has a d ⊎ Has b d
+
+abbrev pub lesser : Cause → Cause → Cause
+lesser c d = if nat_le (number_of c) (number_of d) then c else d
+
+-- the member with the least number: it is the one that is named
+abbrev pub least : Causes → Cause
+least (Only c) = c
+least (Union a b) = lesser (least a) (least b)
+
+-- a value, or the set of the causes for which there is none
+pub data Outcome (A : Type 0) : Type 0 where
+  Valued : A → Outcome A
+  Refused : Causes → Outcome A
+
+-- what follows where there is a value
+abbrev pub with_value : {A B : Type 0} → Outcome A → (A → Outcome B) → Outcome B
+with_value (Valued x) f = f x
+with_value (Refused cs) f = Refused cs
+
+-- what follows where there are two values; the causes of both count
+abbrev pub with_both : {A B C : Type 0} → Outcome A → Outcome B → (A → B → Outcome C) → Outcome C
+with_both (Valued x) (Valued y) f = f x y
+with_both (Valued x) (Refused ds) f = Refused ds
+with_both (Refused cs) (Valued y) f = Refused cs
+with_both (Refused cs) (Refused ds) f = Refused (Union cs ds)

@@ -1,0 +1,105 @@
+-- The tokens and statements of a script (this project's own).
+use Rattle.std.specs.Prelude.{◌≡◌, ◌<◌, ◌⊎◌, ⊤, ℕ, ◌+◌, ◌-◌, Bool, true, false, if◌then◌else◌, List, [], ◌∷◌, ◌++◌, length, drop, Option, Some, None}
+use Rattle.td_tree.specs.declared.token.Kind.{Kind}
+use Rattle.td_tree.specs.declared.token.Kind.TheVariants as kinds
+use Rattle.td_tree.specs.declared.token.Sign.TheVariants as signs
+use Rattle.td_tree.specs.Division.{up_to}
+use Rattle.td_tree.specs.Pieces.{pieces, kind_of}
+use Rattle.td_tree.specs.Symbols.{Symbol, spell}
+
+-- a token: what it is, its bytes, and where they begin and end in the script
+pub record Entry : Type 0 where
+  pub kind : Kind
+  pub text : List ℕ
+  pub start : ℕ
+  pub stop : ℕ
+
+-- the token that a piece is, if it is one
+abbrev pub entry_of : Option Kind → ℕ → List ℕ → List Entry
+entry_of None at text = []
+entry_of (Some kind) at text = record { kind = kind; text = text; start = at; stop = at + length text } ∷ []
+
+-- the tokens among these pieces, which begin at this offset
+abbrev pub tokens_from : ℕ → List (List Symbol) → List Entry
+tokens_from at [] = []
+tokens_from at (p ∷ ps) = entry_of (kind_of p) at (spell p) ++ tokens_from (at + length (spell p)) ps
+
+-- the tokens of these bytes, which begin at this offset of a script
+unfoldable pub tokens : ℕ → List ℕ → List Entry
+tokens at bytes = tokens_from at (pieces bytes)
+
+-- what ends a statement is a `;`
+abbrev pub is_end : Kind → Bool
+is_end (kinds.Sign signs.Semicolon) = true
+is_end _ = false
+
+-- a `;`
+abbrev pub ends : Entry → Bool
+ends token = is_end token.kind
+
+-- a token that is no `;`, before the statements of what follows it
+abbrev pub put : Entry → List (List Entry) → List (List Entry)
+put token [] = (token ∷ []) ∷ []
+put token (s ∷ ss) = (token ∷ s) ∷ ss
+
+-- the statements of these tokens: each up to and with a `;`; the tokens left after the last are one more
+abbrev pub split : List Entry → List (List Entry)
+split [] = []
+split (token ∷ rest) = if ends token then (token ∷ []) ∷ split rest else put token (split rest)
+
+-- only its last token is a `;`
+abbrev pub IsEnded : List Entry → Type 0
+IsEnded statement = up_to ends statement ≡ Some statement
+
+-- there is a token, and none is a `;`
+pub record IsUnended (statement : List Entry) : Type 0 where
+  pub some : 0 < length statement
+  pub none : up_to ends statement ≡ None
+
+-- each goes up to and with its `;`; the last may be tokens left
+abbrev pub AreStatements : List (List Entry) → Type 0
+AreStatements [] = ⊤
+AreStatements (s ∷ []) = IsEnded s ⊎ IsUnended s
+AreStatements (s ∷ t ∷ ss) = IsEnded s × AreStatements (t ∷ ss)
+
+-- the statements of these bytes, which begin at this offset of a script
+unfoldable pub statements : ℕ → List ℕ → List (List Entry)
+statements at bytes = split (tokens at bytes)
+
+-- the statement that the first `;` ends
+abbrev pub first_ended : ℕ → List ℕ → Option (List Entry)
+first_ended at bytes = up_to ends (tokens at bytes)
+
+-- what a cutter holds: the bytes that were fed and not yet taken off, where they begin, and whether all were fed
+pub record Held : Type 0 where
+  pub bytes : List ℕ
+  pub offset : ℕ
+  pub finished : Bool
+
+-- those up to a `;`; where all was fed also all of them, if there are any
+abbrev pub chosen : Bool → List Entry → Option (List Entry) → Option (List Entry)
+chosen finished all (Some first) = Some first
+chosen finished [] None = None
+chosen finished (token ∷ rest) None = if finished then Some (token ∷ rest) else None
+
+-- the first statement: up to the first `;`; where all was fed also the tokens left
+unfoldable pub first_statement : Held → Option (List Entry)
+first_statement h = chosen h.finished (tokens h.offset h.bytes) (first_ended h.offset h.bytes)
+
+-- where the last of the tokens ends; the offset where there is none
+abbrev pub end_of : ℕ → List Entry → ℕ
+end_of at [] = at
+end_of at (token ∷ rest) = end_of token.stop rest
+
+-- where the statement ends, if there is one
+abbrev pub end_of_first : ℕ → Option (List Entry) → ℕ
+end_of_first at None = at
+end_of_first at (Some first) = end_of at first
+
+-- where the first statement ends; the offset where there is none
+unfoldable pub behind : Held → ℕ
+behind h = end_of_first h.offset (first_statement h)
+
+-- what is held once the bytes up to the end of the first statement are taken off
+abbrev pub after : Held → Held
+after h = record { bytes = drop (behind h - h.offset) h.bytes; offset = behind h; finished = h.finished }

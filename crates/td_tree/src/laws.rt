@@ -1,0 +1,78 @@
+//! Laws of pieces, tokens and statements.
+ghost use Rattle.std.specs.Prelude.{◌≡◌, ◌+◌, ◌++◌, ◌↔◌, ℕ, List, Some, length};
+ghost use Rattle.std.specs.List.{flat_map};
+ghost use Rattle.td_tree.specs.declared.piece.Piece.{Piece};
+ghost use Rattle.td_tree.specs.Pieces.{AreLongest, pieces, state};
+ghost use Rattle.td_tree.specs.Spans.{AreOfTheirKind, AreSlices, Ascends};
+ghost use Rattle.td_tree.specs.Spellings.{IsSpelled, characters};
+ghost use Rattle.td_tree.specs.Statements.{AreStatements, Entry, first_ended, statements, tokens};
+ghost use Rattle.td_tree.specs.Symbols.{AreSymbols, Symbol, symbols};
+
+/// The symbols of bytes spell them, each a character of UTF-8, or one byte where none begins.
+#[tactic(auto, using(crate::proofs::DecodeLaws::are_symbols))]
+pub fn symbols_are_characters()
+    ensures { (bytes : List ℕ) → AreSymbols (symbols bytes) bytes }
+{}
+
+/// The pieces of bytes are a division into longest pieces.
+#[tactic(auto, using(crate::proofs::EndOfStatement::divides))]
+pub fn pieces_are_longest()
+    ensures { (bytes : List ℕ) → AreLongest (pieces bytes) bytes }
+{}
+
+/// There is no other division into longest pieces.
+#[tactic(auto, using(crate::proofs::EndOfStatement::one_division))]
+pub fn one_division()
+    ensures { (ps : List (List Symbol)) (bytes : List ℕ) → AreLongest ps bytes → ps ≡ pieces bytes }
+{}
+
+/// A piece is what the language's words say of its characters: a blank, a word, a number, a sign, or one
+/// symbol that is none of these.
+#[tactic(auto, using(crate::proofs::KindLaws::as_spelled))]
+pub fn pieces_are_as_spelled()
+    ensures { (p : List Symbol) (piece : Piece) → (state p ≡ Some piece) ↔ IsSpelled piece (characters p) }
+{}
+
+/// Each token is the slice of the script at its span.
+#[tactic(auto, using(crate::proofs::TokenLaws::slices))]
+pub fn tokens_are_slices()
+    ensures { (script : List ℕ) → AreSlices script (tokens 0 script) }
+{}
+
+/// What a token is, its bytes say.
+#[tactic(auto, using(crate::proofs::SliceLaws::kinds))]
+pub fn tokens_are_of_their_kind()
+    ensures { (at : ℕ) (bytes : List ℕ) → AreOfTheirKind (tokens at bytes) }
+{}
+
+/// Spans ascend.
+#[tactic(auto, using(crate::proofs::TokenLaws::ascends))]
+pub fn spans_ascend()
+    ensures { (at : ℕ) (bytes : List ℕ) → Ascends at (at + length bytes) (tokens at bytes) }
+{}
+
+/// The statements hold the tokens, all of them and in order.
+#[tactic(auto, using(crate::proofs::TokenLaws::all_tokens))]
+pub fn statements_hold_the_tokens()
+    ensures { (at : ℕ) (bytes : List ℕ) → flat_map (λ s. s) (statements at bytes) ≡ tokens at bytes }
+{}
+
+/// A statement goes up to and with its `;`, and tokens left after the last `;` are one more.
+#[tactic(auto, using(crate::proofs::TokenLaws::are_statements))]
+pub fn statements_end()
+    ensures { (at : ℕ) (bytes : List ℕ) → AreStatements (statements at bytes) }
+{}
+
+/// Tokens are cut into statements in no other way.
+#[tactic(auto, using(crate::proofs::TokenLaws::one_cut))]
+pub fn one_cut_into_statements()
+    ensures { (at : ℕ) (bytes : List ℕ) (ss : List (List Entry)) → AreStatements ss
+        → flat_map (λ s. s) ss ≡ tokens at bytes → ss ≡ statements at bytes }
+{}
+
+/// A statement that `;` ends is the same in every continuation of the bytes.
+#[tactic(auto, using(crate::proofs::HeldLaws::up_to_first))]
+pub fn same_in_every_continuation()
+    ensures { (at : ℕ) (bytes : List ℕ) (first : List Entry) → first_ended at bytes ≡ Some first
+        → (later : List ℕ) → first_ended at (bytes ++ later) ≡ Some first }
+{}
