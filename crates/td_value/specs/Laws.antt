@@ -1,10 +1,17 @@
 -- What the order of values and their literals are to their callers.
-use Rattle.std.specs.Prelude.{◌≡◌, ℕ, List, [], ◌∷◌}
+use Rattle.std.specs.Prelude.{◌≡◌, ◌↔◌, IsTrue, ℕ, List, [], ◌∷◌}
+use Rattle.std.specs.Ordering.{eq_by_cmp}
 use Rattle.std.specs.Cmp.Lexicographic.{slice_cmp}
 use Rattle.td_types.specs.Types.{Type'}
 use Rattle.td_value.specs.Literal.{literal}
 use Rattle.td_value.specs.Values.{Val, boolean, integer, text, user, tuple, relation, Parts, no_parts, part, Fields, no_fields, field, Rows, no_rows, row, Entries, Relation, IsValue, names_of, order, pack_parts, relation_order, tuple_order, type_of}
 use Rattle.td_value.specs.Views.{values_of}
+
+-- values, tuples and relations are equal as the code compares them exactly where they are the same
+abbrev pub EqualityIsSameness : Type 0
+EqualityIsSameness =
+    ((v w : Val) → IsTrue (eq_by_cmp order v w) ↔ (v ≡ w)) × ((s t : Entries) → IsTrue (eq_by_cmp tuple_order s t) ↔ (s ≡ t))
+    × ((r s : Relation) → IsTrue (eq_by_cmp relation_order r s) ↔ (r ≡ s))
 
 -- tuples of the same names compare as their values do, in name order
 abbrev pub TuplesCompareByValues : Type 0

@@ -1,5 +1,10 @@
 //! What the order of values and their literals are to their callers: each function has its contract alone.
-ghost use Rattle.td_value.specs.Laws.{LiteralsTellValuesApart, RelationsCompareByRows, TuplesCompareByValues, UserValuesCompareByComponents};
+ghost use Rattle.td_value.specs.Laws.{EqualityIsSameness, LiteralsTellValuesApart, RelationsCompareByRows, TuplesCompareByValues, UserValuesCompareByComponents};
+
+/// `==` on values, on tuples and on relations tells whether they are the same.
+pub fn equality_is_sameness()
+    ensures { EqualityIsSameness }
+{}
 
 /// Tuples of the same names compare as their values do.
 pub fn tuples_compare_by_values()
