@@ -6,4 +6,5 @@ pub mod Maps
 pub mod Names
 pub mod Pieces
 pub mod Rows
+pub mod Unread
 pub mod Zips

@@ -1,15 +1,16 @@
 -- The tuples of one heading: they have the same names, so that their values alone order them.
 use Rattle.std.proofs.Common.{◌≡◌, ◌∙◌, ◌+◌, ap, sym, refl, arith, ℕ, zero, suc, List, [], ◌∷◌, get_or, Bool}
-use Rattle.std.specs.Ordering.{is_lt}
+use Rattle.std.specs.Ordering.{ordering_then, is_lt}
 use Rattle.std.specs.declared.cmp.Ordering.{Ordering}
 use Rattle.std.specs.Cmp.{IsTotalOrder}
+use Rattle.std.specs.Cmp.Lexicographic.{slice_cmp}
 use Rattle.std.specs.List.{All, dedup}
 use Rattle.std.specs.List.Sorted.{IsSorted, IsSortedBy}
 use Rattle.std.proofs.lemmas.Cmp.{on_total, nat_list_cmp_total, tied_itself}
 use Rattle.std.proofs.lemmas.List.Kept.{Contains-from_dedup}
 use Rattle.std.proofs.lemmas.List.Elements.{All-contains, All-contains_itself}
 use Rattle.td_types.specs.Types.{Attrs, no_attrs, attr, Attributes, pack}
-use Rattle.td_value.specs.Values.{user, Entries, AreRows, HaveSameNames, IsTupleOf, fields_type, names_of, pack_fields, pack_parts, pack_rows, parts_order, tuple_order}
+use Rattle.td_value.specs.Values.{Val, user, Entries, order, AreRows, HaveSameNames, IsTupleOf, fields_type, names_of, pack_fields, pack_parts, pack_rows, parts_order, rows_order, tuple_order}
 use Rattle.td_value.specs.ValueOrder.{order_total}
 use Rattle.td_value.specs.Views.{values_of}
 
@@ -63,3 +64,16 @@ pub All-from_rows : (h : Attributes) (ts : List Entries) → AreRows (pack h) (p
 All-from_rows h [] a k d p = absurd (omega arith)
 All-from_rows h (t ∷ ts) a zero d p = a.0
 All-from_rows h (t ∷ ts) a (suc k) d p = All-from_rows h ts a.1 k d (omega arith)
+
+-- lists of values, and of tuples, compare as lists do
+pub parts_order-lists : (vs ws : List Val) → parts_order (pack_parts vs) (pack_parts ws) ≡ slice_cmp order vs ws
+parts_order-lists [] [] = refl
+parts_order-lists [] (w ∷ ws) = refl
+parts_order-lists (v ∷ vs) [] = refl
+parts_order-lists (v ∷ vs) (w ∷ ws) = ap (ordering_then (order v w)) (parts_order-lists vs ws)
+
+pub rows_order-lists : (ss ts : List Entries) → rows_order (pack_rows ss) (pack_rows ts) ≡ slice_cmp tuple_order ss ts
+rows_order-lists [] [] = refl
+rows_order-lists [] (t ∷ ts) = refl
+rows_order-lists (s ∷ ss) [] = refl
+rows_order-lists (s ∷ ss) (t ∷ ts) = ap (ordering_then (tuple_order s t)) (rows_order-lists ss ts)

@@ -24,8 +24,10 @@ abbrev mutual
   fed_rows no_rows = fed.u8 1
   fed_rows (row fs rs) = fed_fields fs ++ fed_rows rs
 
+-- what the hash of a tuple is fed
 abbrev pub fed_tuple : Entries → List (List ℕ)
 fed_tuple t = fed_fields (pack_fields t)
 
+-- what the hash of a relation is fed: its tuples
 abbrev pub fed_relation : Relation → List (List ℕ)
 fed_relation r = fed_rows (pack_rows r.rows)

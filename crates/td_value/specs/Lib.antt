@@ -1,5 +1,6 @@
 pub mod Falls
 pub mod Hashes
+pub mod Laws
 pub mod Literal
 pub mod Sets
 pub mod ValueCode

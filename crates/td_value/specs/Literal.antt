@@ -38,8 +38,10 @@ abbrev mutual
   rows_literal later no_rows = []
   rows_literal later (row fs rs) = comma_if later ++ codes "TUPLE {" ++ fields_literal false fs ++ codes "}" ++ rows_literal true rs
 
+-- the literal of a tuple
 abbrev pub tuple_literal : Entries → List ℕ
 tuple_literal t = literal (tuple (pack_fields t))
 
+-- the literal of a relation
 abbrev pub relation_literal : Relation → List ℕ
 relation_literal r = literal (relation (pack r.heading) (pack_rows r.rows))

@@ -7,6 +7,7 @@ use Rattle.td_types.specs.Types.{Attributes, attrs_keys, attributes_code}
 use Rattle.td_types.specs.TypeOrder.{attrs_from_keys, attrs_from_keys-attrs_keys}
 use Rattle.td_value.specs.Values.{Val, boolean, integer, text, user, tuple, relation, Parts, no_parts, part, Fields, no_fields, field, Rows, no_rows, row, Entries, Relation, Selected, pack_fields, unpack_fields, pack_rows, unpack_rows}
 
+-- FALSE and TRUE as numbers, in their order
 abbrev pub bit : Bool → ℤ
 bit false = pos 0
 bit true = pos 1
@@ -34,11 +35,13 @@ abbrev mutual
 
 -- ---- and back
 
+-- the truth value of such a number
 abbrev pub unbit : ℤ → Bool
 unbit (pos zero) = false
 unbit (pos (suc n)) = true
 unbit (negsuc n) = false
 
+-- the parts of a key
 abbrev pub bytes_in : Key → List ℕ
 bytes_in (key a x s ks) = s
 
@@ -105,9 +108,11 @@ pub unpack_pack_rows : (ts : List Entries) → unpack_rows (pack_rows ts) ≡ ts
 unpack_pack_rows [] = refl
 unpack_pack_rows (t ∷ ts) = λ i. unpack_pack_fields t i ∷ unpack_pack_rows ts i
 
+-- the codes by which a proof tells apart values, tuples, relations and user values
 abbrev pub val_code : Coded Val
 val_code = code_by Key key_code val_key val_from val_back
 
+-- the key of a tuple
 abbrev pub entries_key : Entries → Key
 entries_key es = key 0 (pos 0) [] (fields_keys (pack_fields es))
 

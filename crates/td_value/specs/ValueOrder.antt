@@ -71,6 +71,7 @@ order_total = total_by order val_key order-key
 pub order_same : (v w : Val) → order v w ≡ Equal → v ≡ w
 order_same v w e = sym (val_back v) ∙ ap val_from (key_same (val_key v) (val_key w) (sym (order-key v w) ∙ e)) ∙ val_back w
 
+-- a tuple as a value
 abbrev pub entries_value : Entries → Val
 entries_value t = tuple (pack_fields t)
 
@@ -87,6 +88,7 @@ tuple_order_total = on_total entries_value order_total
 pub tuple_order_same : (s t : Entries) → tuple_order s t ≡ Equal → s ≡ t
 tuple_order_same s t e = entries_value_same s t (order_same (entries_value s) (entries_value t) e)
 
+-- a relation as a value
 abbrev pub relation_value : Relation → Val
 relation_value r = relation (pack r.heading) (pack_rows r.rows)
 
@@ -98,19 +100,21 @@ equal_from Less e = cc
 equal_from Equal e = refl
 equal_from Greater e = cc
 
--- `==` answers true exactly at one value
+-- of a total order in which only equal items tie, the test of a tie is the test of equality
+decides_by : {K : Type 0} (R : K → K → Ordering) → IsTotalOrder R → ((x y : K) → R x y ≡ Equal → x ≡ y) → (x y : K) → Decides (eq_by_cmp R x y) (x ≡ y)
+decides_by R o same x y = (λ e. same x y (equal_from (R x y) e), λ e. subst (λ z. eq_by_cmp R x z ≡ true) e (ap is_eq (tied_itself o x)))
+
 pub value_Decides : (v w : Val) → Decides (eq_by_cmp order v w) (v ≡ w)
-value_Decides v w = (λ e. order_same v w (equal_from (order v w) e), λ e. subst (λ x. eq_by_cmp order v x ≡ true) e (ap is_eq (tied_itself order_total v)))
+value_Decides = decides_by order order_total order_same
+
+pub tuple_Decides : (s t : Entries) → Decides (eq_by_cmp tuple_order s t) (s ≡ t)
+tuple_Decides = decides_by tuple_order tuple_order_total tuple_order_same
 
 pub fed_alike : (v w : Val) → IsTrue (eq_by_cmp order v w) → fed_value v ≡ fed_value w
 fed_alike v w h = ap fed_value ((value_Decides v w).0 h)
 
--- of a total order in which only equal items tie
-same_by : {K : Type 0} (R : K → K → Ordering) → ((x y : K) → R x y ≡ Equal → x ≡ y) → (x y : K) → IsTrue (eq_by_cmp R x y) → x ≡ y
-same_by R same x y h = same x y (equal_from (R x y) h)
-
 pub tuples_fed_alike : (s t : Entries) → IsTrue (eq_by_cmp tuple_order s t) → fed_tuple s ≡ fed_tuple t
-tuples_fed_alike s t h = ap fed_tuple (same_by tuple_order tuple_order_same s t h)
+tuples_fed_alike s t h = ap fed_tuple ((tuple_Decides s t).0 h)
 
 -- the order of relations ties only equal relations
 pub relation_order_same : (r s : Relation) → relation_order r s ≡ Equal → r ≡ s
@@ -130,8 +134,11 @@ relation_order_same r s e = relation_value_same r s (order_same (relation_value 
         let b : r.rows ≡ s.rows = sym (unpack_pack_rows r.rows) ∙ ap (λ v. unpack_rows (rows_in v)) e ∙ unpack_pack_rows s.rows in
         λ i. record { heading = h i; rows = b i }
 
+pub relation_Decides : (r s : Relation) → Decides (eq_by_cmp relation_order r s) (r ≡ s)
+relation_Decides = decides_by relation_order relation_order_total relation_order_same
+
 pub relations_fed_alike : (r s : Relation) → IsTrue (eq_by_cmp relation_order r s) → fed_relation r ≡ fed_relation s
-relations_fed_alike r s h = ap fed_relation (same_by relation_order relation_order_same r s h)
+relations_fed_alike r s h = ap fed_relation ((relation_Decides r s).0 h)
 
 -- ---- the order of a tuple's entries
 

@@ -51,6 +51,7 @@ pub record Relation : Type 0 where
   pub heading : Attributes
   pub rows : List Entries
 
+-- lists of values, of entries and of tuples as they stand inside a value, and back
 abbrev pub pack_parts : List Val → Parts
 pack_parts [] = no_parts
 pack_parts (v ∷ vs) = part v (pack_parts vs)
@@ -75,6 +76,7 @@ unpack_rows (row fs rs) = unpack_fields fs ∷ unpack_rows rs
 -- values by their components in declared order, tuples by their values in name order, relations by their ascending lists
 -- of tuples, a proper prefix first. Between values of two types it is some total order, which no output shows
 
+-- the place of a value's kind among the kinds
 abbrev pub rank : Val → ℕ
 rank (boolean b) = 0
 rank (integer z) = 1
@@ -111,9 +113,11 @@ abbrev mutual
   rows_order (row fs rs) no_rows = Greater
   rows_order (row fs rs) (row gs ss) = ordering_then (fields_order fs gs) (rows_order rs ss)
 
+-- the order of tuples
 abbrev pub tuple_order : Entries → Entries → Ordering
 tuple_order s t = fields_order (pack_fields s) (pack_fields t)
 
+-- the order of relations
 abbrev pub relation_order : Relation → Relation → Ordering
 relation_order r s = ordering_then (attrs_cmp (pack r.heading) (pack s.heading)) (rows_order (pack_rows r.rows) (pack_rows s.rows))
 
@@ -180,9 +184,11 @@ abbrev mutual
   AreRows h no_rows = Unit {0}
   AreRows h (row fs rs) = (AreFields fs × IsStrictlySortedBy (slice_cmp nat_cmp) (names_of (unpack_fields fs)) × (fields_type fs ≡ h)) × AreRows h rs
 
+-- a tuple, all of whose values are values
 abbrev pub IsTuple : Entries → Type 0
 IsTuple t = IsValue (tuple (pack_fields t))
 
+-- a relation, all of whose tuples are tuples of its heading
 abbrev pub IsRelation : Relation → Type 0
 IsRelation r = IsValue (relation (pack r.heading) (pack_rows r.rows))
 
@@ -209,6 +215,7 @@ abbrev mutual
   rows_depth no_rows = 0
   rows_depth (row fs rs) = max (suc (fields_depth fs)) (rows_depth rs)
 
+-- how deep the values of a tuple, of a relation and of a user value nest
 abbrev pub tuple_depth : Entries → ℕ
 tuple_depth t = fields_depth (pack_fields t)
 
@@ -218,6 +225,7 @@ relation_depth r = rows_depth (pack_rows r.rows)
 abbrev pub selected_depth : Selected → ℕ
 selected_depth u = parts_depth (pack_parts u.components)
 
+-- a user value, all of whose components are values
 abbrev pub IsSelected : Selected → Type 0
 IsSelected u = IsValue (user u.name (pack_parts u.components))
 

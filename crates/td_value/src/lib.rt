@@ -3,6 +3,7 @@
 
 mod copy;
 mod hash;
+pub mod laws;
 mod literal;
 mod order;
 mod relation;

@@ -1,4 +1,8 @@
 //! Each call that can want memory, with ample memory, and the literals.
+ghost use Rattle.std.specs.Prelude.{IsTrue};
+ghost use Rattle.std.specs.List.{All};
+ghost use Rattle.td_value.specs.Values.{IsTupleOf};
+
 use crate::value::{Node, Rel, Tuple, User, Value};
 use std::alloc::Global;
 use std::test::Fail;
@@ -23,15 +27,23 @@ fn numbers(alloc: Global, entries: &[(&str, i64)]) -> Result<Tuple, Fault> {
     Tuple::new(alloc, pairs)
 }
 
-/// The relation of the heading with those of the tuples that are of it.
-fn relation(heading: Heading, tuples: Vec<Tuple>, alloc: Global) -> Result<Rel, Fault> {
-    let mut rows = Vec::new(alloc);
+fn have_heading(tuples: &[Tuple], heading: &Heading) -> bool
+    ensures { IsTrue result → All (IsTupleOf heading.now) tuples.now }
+{
     for tuple in tuples {
-        if tuple.has_heading(&heading) {
-            rows.push(tuple)?;
+        if !tuple.has_heading(heading) {
+            return false;
         }
     }
-    Ok(Rel::new(heading, rows)?)
+    true
+}
+
+/// The relation of the heading with the tuples, which are to be of it.
+fn relation(heading: Heading, tuples: Vec<Tuple>) -> Result<Rel, Fault> {
+    if !have_heading(&tuples, &heading) {
+        return Err(Fault::Refused(Cause::TypeMismatch));
+    }
+    Ok(Rel::new(heading, tuples)?)
 }
 
 #[test]
@@ -65,7 +77,7 @@ fn relations_are_sets(rt: HostRuntime) -> Result<(), Fail> {
         tuples.push(numbers(alloc, &[("A", 1), ("B", number)])?)?;
     }
     let heading = numbers(alloc, &[("A", 1), ("B", 2)])?.heading(alloc)?;
-    let r = relation(heading, tuples, alloc)?;
+    let r = relation(heading, tuples)?;
     let text = "RELATION {A INTEGER, B INTEGER} {TUPLE {A 1, B 2}, TUPLE {A 1, B 3}}";
     assert_eq!(rt; r.literal(alloc)?.as_str(), text);
     assert!(rt; r.try_clone()? == r);
@@ -77,9 +89,9 @@ fn relations_are_sets(rt: HostRuntime) -> Result<(), Fail> {
 fn dee_has_the_empty_tuple(rt: HostRuntime) -> Result<(), Fail> {
     let alloc = rt.alloc();
     let mut tuples = Vec::new(alloc);
-    let dum = relation(Heading::empty(alloc), Vec::new(alloc), alloc)?;
+    let dum = relation(Heading::empty(alloc), Vec::new(alloc))?;
     tuples.push(numbers(alloc, &[])?)?;
-    let dee = relation(Heading::empty(alloc), tuples, alloc)?;
+    let dee = relation(Heading::empty(alloc), tuples)?;
     assert_eq!(rt; dee.literal(alloc)?.as_str(), "RELATION {} {TUPLE {}}");
     assert_eq!(rt; dum.literal(alloc)?.as_str(), "RELATION {} {}");
     Ok(())
@@ -93,7 +105,7 @@ fn values_of_each_type(rt: HostRuntime) -> Result<(), Fail> {
     components.push(Value::int(-9223372036854775808))?;
     components.push(Value::bool(true))?;
     components.push(Value::tuple(alloc, numbers(alloc, &[])?)?)?;
-    let dum = relation(Heading::empty(alloc), Vec::new(alloc), alloc)?;
+    let dum = relation(Heading::empty(alloc), Vec::new(alloc))?;
     components.push(Value::relation(alloc, dum)?)?;
     let v = Value::user(alloc, User::new(name(alloc, "T")?, components))?;
     let text = "T('it''s', -9223372036854775808, TRUE, TUPLE {}, RELATION {} {})";

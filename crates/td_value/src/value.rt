@@ -22,11 +22,17 @@ pub struct Value {
 #[cycle(value)]
 #[derive(Drop)]
 pub enum Node {
+    /// TRUE or FALSE.
     Bool(bool),
+    /// A number.
     Int(i64),
+    /// A text.
     Text(RcStr),
+    /// A user value.
     User(Rc<User>),
+    /// A tuple.
     Tup(Rc<Tuple>),
+    /// A relation.
     Rel(Rc<Rel>),
 }
 

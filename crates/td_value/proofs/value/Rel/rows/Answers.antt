@@ -1,4 +1,4 @@
-use Rattle.std.proofs.Common.{◌∙◌, ap, sym, subst}
+use Rattle.std.proofs.Common.{subst}
 use Rattle.td_value.specs.Values.{IsRelation, IsAscendingRows}
 use Rattle.td_value.specs.ValueCode.{unpack_pack_rows}
 use Rattle.td_value.proofs.Rows.{All-from_rows}

@@ -1,0 +1,27 @@
+//! What the order of values and their literals are to their callers: each function has its contract alone.
+ghost use Rattle.td_value.specs.Laws.{EqualityIsSameness, LiteralsTellValuesApart, RelationsCompareByRows, TuplesCompareByValues, UserValuesCompareByComponents};
+
+/// `==` on values, on tuples and on relations tells whether they are the same.
+pub fn equality_is_sameness()
+    ensures { EqualityIsSameness }
+{}
+
+/// Tuples of the same names compare as their values do.
+pub fn tuples_compare_by_values()
+    ensures { TuplesCompareByValues }
+{}
+
+/// Values of one user type compare as their components do.
+pub fn user_values_compare_by_components()
+    ensures { UserValuesCompareByComponents }
+{}
+
+/// Relations of one heading compare as their tuples do, in order.
+pub fn relations_compare_by_rows()
+    ensures { RelationsCompareByRows }
+{}
+
+/// Two values of one type have one literal only where they are equal.
+pub fn literals_tell_values_apart()
+    ensures { LiteralsTellValuesApart }
+{}
