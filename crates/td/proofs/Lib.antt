@@ -11,6 +11,8 @@ pub mod Places
 pub mod Seen
 pub mod Sound
 pub mod Static
+pub mod Stepping
+pub mod Done
 pub mod ToldLaws
 pub mod Turns
 pub mod Unions

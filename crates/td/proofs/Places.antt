@@ -1,9 +1,10 @@
 -- The relvar that stands at a place.
 use Rattle.std.proofs.Common.{◌≡◌, ℕ, zero, suc, ◌+◌, ◌<◌, Bool, true, false, List, [], ◌∷◌, Option, Some, None, length, map, refl, sym, ap, ◌∙◌, subst, arith, slice_set, slice_index_or, if◌then◌else◌}
+use Rattle.std.proofs.lemmas.List.{length-map}
 use Rattle.std.specs.List.{position_from}
 use Rattle.td_types.specs.Types.{same_name}
 use Rattle.td_value.specs.Values.{Relation}
-use Rattle.td.specs.Database.{Database, Relvar, relvar_at, with_body}
+use Rattle.td.specs.Database.{Database, Relvar, with_body}
 use Rattle.td.specs.Relvars.{relvar_of, relvars_of}
 use Rattle.td.specs.declared.engine.relvar.Relvar as code
 
@@ -52,3 +53,14 @@ none_named n body (r ∷ rs) k e = by_name (none_named n body rs (k + 1)) (same_
 
 pub unchanged : (n : List ℕ) (body : Relation) (rs : List code.Relvar) → position_from (is_named n) 0 rs ≡ None → relvars_of rs ≡ with_body n body (relvars_of rs)
 unchanged n body rs e = sym (none_named n body rs 0 e)
+
+bodies_stay : (n : List ℕ) (body : Relation) (db : Database) → length (with_body n body db) ≡ length db
+bodies_stay n body [] = refl
+bodies_stay n body (r ∷ db) = by_name (bodies_stay n body db) (same_name r.name n) refl
+  where
+    by_name : length (with_body n body db) ≡ length db → (b : Bool) → same_name r.name n ≡ b → length (with_body n body (r ∷ db)) ≡ suc (length db)
+    by_name others true h = rw h refl
+    by_name others false h = rw h (ap suc others)
+
+pub length_stays : (n : List ℕ) (body : Relation) (old new : List code.Relvar) → relvars_of new ≡ with_body n body (relvars_of old) → length new ≡ length old
+length_stays n body old new e = sym (length-map new relvar_of) ∙ ap length e ∙ bodies_stay n body (relvars_of old) ∙ length-map old relvar_of

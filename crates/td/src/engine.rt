@@ -17,9 +17,12 @@ pub mod tree;
 
 use crate::engine::answer::Answer;
 use crate::engine::database::Database;
+use crate::engine::parse::parse_statement;
+use crate::engine::statement::execute;
 use std::alloc::{AllocError, Global};
 use std::marker::Model;
 use td_scan::token::Token;
+use td_tree::fault::Fault;
 
 /// An engine, seen as its database: it changes by statements alone.
 #[derive(Drop)]
@@ -54,8 +57,10 @@ impl Engine {
         ensures step { IfOk result (λ answer. IsStep self.old (entries tokens.now) answer self.new) }
         ensures err { OnErr result (self.new ≡ self.old) }
     {
-        let _ = alloc;
-        let _ = tokens.len();
-        Err(AllocError)
+        match parse_statement(alloc, tokens) {
+            Ok(statement) => execute(alloc, &mut self.database, statement),
+            Err(Fault::Refused(cause)) => Answer::refused(alloc, cause),
+            Err(Fault::Memory) => Err(AllocError),
+        }
     }
 }

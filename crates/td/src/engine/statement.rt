@@ -10,7 +10,7 @@ ghost use Rattle.td.specs.Database.{is_legal, keys_fit, relvar_at, target_holds,
 ghost use Rattle.td.specs.Relvars.{relvar_of};
 ghost use Rattle.td.specs.Steps.{Does};
 ghost use Rattle.td.specs.Trees as trees;
-ghost use Rattle.td.specs.TreeViews.{expression_of};
+ghost use Rattle.td.specs.TreeViews.{expression_of, statement_of};
 
 use crate::engine::answer::Answer;
 use crate::engine::database::Database;
@@ -18,7 +18,7 @@ use crate::engine::expression::value;
 use crate::engine::keys::{keys_fit, keys_hold};
 use crate::engine::literal::integer_heading;
 use crate::engine::relvar::Relvar;
-use crate::engine::tree::{Assignment, Definition, Expression};
+use crate::engine::tree::{Assignment, Definition, Expression, Statement};
 use std::alloc::{AllocError, Global};
 use td_tree::cause::Cause;
 use td_tree::fault::Fault;
@@ -27,7 +27,7 @@ use td_types::ty::Heading;
 use td_value::value::Rel;
 
 /// Prints the relation that an expression means.
-pub fn write(
+fn write(
     alloc: Global,
     database: &Database,
     expression: &Expression,
@@ -72,7 +72,7 @@ fn assigned(alloc: Global, database: &Database, assignment: &Assignment) -> Resu
 }
 
 /// Defines a base relvar, with an empty body.
-pub fn define(
+fn define(
     alloc: Global,
     database: &mut Database,
     definition: Definition,
@@ -145,7 +145,7 @@ fn replace(
 }
 
 /// Assigns the relation that the source means to a base relvar, where its keys hold.
-pub fn assign(
+fn assign(
     alloc: Global,
     database: &mut Database,
     assignment: &Assignment,
@@ -157,5 +157,23 @@ pub fn assign(
         Ok(body) => replace(alloc, database, &assignment.target, body),
         Err(Fault::Refused(cause)) => Answer::refused(alloc, cause),
         Err(Fault::Memory) => Err(AllocError),
+    }
+}
+
+/// Does what a statement means. One that is refused or finds no memory leaves the database as it
+/// was.
+pub fn execute(
+    alloc: Global,
+    database: &mut Database,
+    statement: Statement,
+) -> Result<Answer, AllocError>
+    ensures done { IfOk result (λ a. Does (stepped database.old (statement_of statement)) a database.new) }
+    ensures err { OnErr result (database.new ≡ database.old) }
+{
+    match statement {
+        Statement::Empty => Answer::ok(alloc),
+        Statement::Define(definition) => define(alloc, database, definition),
+        Statement::Assign(assignment) => assign(alloc, database, &assignment),
+        Statement::Write(expression) => write(alloc, database, &expression),
     }
 }

@@ -1,15 +1,24 @@
-use Rattle.std.proofs.Common.{rules, ◌≡◌, ◌<◌, [], ◌∷◌, ◌++◌, IfSome, length, None, OnErr, OnOk, option_map, true, ℕ, ◌+◌, ◌-◌, ◌*◌, ◌≤◌, ◌/◌, ◌%◌, Bool, false, nat_eq, nat_lt, List, slice_index_or, slice_set, bit_and, bit_or, Fits, w8, w32, w64, Bor, MutBor}
-use Rattle.std.specs.List.{position_from}
-use Rattle.td_types.specs.Types.{same_name}
-use Rattle.td.specs.Database.{is_legal, is_relvar, relvar_at, target_holds, with_body}
-use Rattle.td.specs.Assignable.{IsAssignable}
+use Rattle.std.proofs.Common.{◌≡◌, ◌∙◌, ℕ, List, Vec, ap, sym, subst, true, length, refl}
+use Rattle.std.proofs.lemmas.List.{length-map, with_items_is}
+use Rattle.std.specs.Vec.{with_items}
+use Rattle.td_value.specs.Values.{Relation}
+use Rattle.td.specs.Database.{Database, is_legal, with_body}
 use Rattle.td.specs.Relvars.{relvar_of, relvars_of}
+use Rattle.td.specs.declared.engine.relvar.Relvar as code
+use Rattle.td.proofs.Legal.{legal_assigned}
+use Rattle.td.proofs.Places.{length_stays}
 use Rattle.td.proofs.engine.database.Database.set_body.Goals as goal
 
--- src/engine/database.rt:106:5
-pub invariant_of-self : goal.invariant_of-self
-invariant_of-self c = ?
+-- what was written over stands as it was written
+written : {Z : Type 0} (n : List ℕ) (body : Relation) (v : Vec code.Relvar Z) (old new : List code.Relvar) (db : Database) → length old ≡ v.len → old ≡ v.items
+    → relvars_of new ≡ with_body n body (relvars_of old) → relvars_of v.items ≡ db → relvars_of (with_items v new).items ≡ with_body n body db
+written n body v old new db len is put view =
+    ap relvars_of (with_items_is v new (length_stays n body old new put ∙ len)) ∙ put ∙ ap (λ xs. with_body n body (relvars_of xs)) is ∙ ap (with_body n body) view
 
--- src/engine/database.rt:106:5
+pub invariant_of-self : goal.invariant_of-self
+invariant_of-self c = subst (λ d. is_legal d ≡ true) (sym (written c.args.name.now c.args.body c.self.inside.relvars c.deref_mut.result.now c.put_body.new.relvars c.args.self.now c.deref_mut.ensures.len c.deref_mut.ensures.value c.put_body.ensures c.self.view_is))
+    (legal_assigned c.args.self.now c.args.name.now c.args.body (subst (λ d. is_legal d ≡ true) c.self.view_is c.self.invariant) c.requires.target c.requires.keys)
+
 pub returns-clause-legal : goal.returns-clause-legal
-returns-clause-legal c = ?
+returns-clause-legal c = subst (λ d. is_legal d ≡ true) (sym (written c.args.name.now c.args.body c.self.inside.relvars c.deref_mut.result.now c.put_body.new.relvars c.args.self.now c.deref_mut.ensures.len c.deref_mut.ensures.value c.put_body.ensures c.self.view_is))
+    (legal_assigned c.args.self.now c.args.name.now c.args.body (subst (λ d. is_legal d ≡ true) c.self.view_is c.self.invariant) c.requires.target c.requires.keys)
