@@ -2,8 +2,10 @@ pub mod Again
 pub mod Decimals
 pub mod Headings
 pub mod Joins
+pub mod Moving
 pub mod Names
 pub mod Parses
+pub mod Runs
 pub mod Sound
 pub mod ToldLaws
 pub mod Turns

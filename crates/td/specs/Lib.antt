@@ -2,9 +2,11 @@ pub mod Answering
 pub mod CommandLine
 pub mod Database
 pub mod DatabaseCode
+pub mod Faults
 pub mod Grammar
 pub mod Machine
 pub mod Meaning
+pub mod Moves
 pub mod Numbers
 pub mod Parsing
 pub mod Reading

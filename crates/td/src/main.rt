@@ -3,6 +3,7 @@
 
 mod engine;
 mod line;
+mod run;
 mod sink;
 mod source;
 
