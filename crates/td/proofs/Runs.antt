@@ -4,12 +4,14 @@ use Rattle.std.proofs.KnownBytes.{Appends-trans, Appends-nil}
 use Rattle.std.proofs.Math.Seq.{take-append_seam, take-append-add}
 use Rattle.std.specs.Io.KnownBytes.{Appends}
 use Rattle.td_tree.specs.Statements.{Entry, Held, statements}
-use Rattle.td_tree.specs.declared.cause.Cause.{Cause}
+use Rattle.td_tree.specs.declared.cause.Cause.TheVariants as causes
 use Rattle.td.specs.Database.{Database}
-use Rattle.td.specs.Machine.{Progress, Step, Steps, scanned, unspelled, spelled, Runs, nothing, stopped, next, and_then, begun, has_stopped, refusals_of, stepped, is_bad_in, words_in}
+use Rattle.td.specs.Machine.{Progress, Step, Steps, scanned, unspelled, spelled, Runs, nothing, stopped, next, and_then, begun, has_stopped, refused, stepped, is_bad_in, words_in}
 use Rattle.td.specs.Moves.{HasRun, HasRunCut, IsLeft, Reached}
 use Rattle.td.specs.Told.{AppendsIfTold}
-use Rattle.td.proofs.Parses.{one_tree}
+use Rattle.td.specs.Reading.{whole_in}
+use Rattle.td.proofs.Parses.{none_spelled, one_tree}
+use Rattle.td.proofs.Parses.{spelled as is_spelled}
 use Rattle.td.proofs.ToldLaws.{told_after}
 
 -- after a stop nothing is run
@@ -48,3 +50,26 @@ one_outcome stop p (s ∷ ss) q r (next step goes steps rest) (stopped over) = l
 one_outcome stop p (s ∷ ss) q r (next step goes steps rest) (next other also does more) =
     let same : step ≡ other = one_step p.database s step other steps does in
     one_outcome stop (and_then p step) ss q r rest (subst (λ (z : Step). Runs stop (and_then p z) ss r) (sym same) more)
+
+-- what a list of tokens does
+some_step : (db : Database) (tokens : List Entry) → (s : Step) × Steps db tokens s
+some_step db tokens =
+    (elim (is_bad_in tokens) as (λ b. is_bad_in tokens ≡ b → (s : Step) × Steps db tokens s) [
+      | true ↦ λ bad. (refused db causes.Scan, scanned bad)
+      | false ↦ λ good. (elim (whole_in (words_in tokens)) as (λ o. whole_in (words_in tokens) ≡ o → (s : Step) × Steps db tokens s) [
+        | None ↦ λ none. (refused db causes.Syntax, unspelled good (none_spelled (words_in tokens) none))
+        | Some t ↦ λ some. (stepped db t, spelled t good (is_spelled (words_in tokens) t some))
+      ]) refl
+    ]) refl
+
+-- a list of statements has an outcome
+pub some_outcome : (stop : Bool) (p : Progress) (ss : List (List Entry)) → (q : Progress) × Runs stop p ss q
+some_outcome stop p [] = (p, nothing)
+some_outcome stop p (s ∷ ss) =
+    (elim (has_stopped stop p) as (λ b. has_stopped stop p ≡ b → (q : Progress) × Runs stop p (s ∷ ss) q) [
+      | true ↦ λ over. (p, stopped over)
+      | false ↦ λ goes.
+          let step = some_step p.database s in
+          let rest = some_outcome stop (and_then p step.0) ss in
+          (rest.0, next step.0 goes step.1 rest.1)
+    ]) refl

@@ -11,6 +11,7 @@ pub mod Numbers
 pub mod Parsing
 pub mod Reading
 pub mod Relvars
+pub mod Sessions
 pub mod Steps
 pub mod Told
 pub mod TreeViews
