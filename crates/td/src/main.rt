@@ -9,6 +9,8 @@ mod run;
 mod session;
 mod sink;
 mod source;
+#[cfg(test)]
+mod tests;
 
 use std::process::ExitCode;
 

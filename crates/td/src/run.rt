@@ -148,22 +148,18 @@ fn run_one<W: Sink>(
     ensures read { IfErr result (IfRead (λ done. ⊥)) }
     ensures limit { IfErr result (IfReadLimit (λ done. ⊥)) }
 {
+    let done = report.statements;
     let answer = match next_answer(alloc, engine, cutter) {
         Ok(Some(answer)) => answer,
         Ok(None) => return Ok(false),
-        Err(_) => {
-            return Err(RunFault::Memory {
-                done: report.statements,
-            });
-        }
+        Err(_) => return Err(RunFault::Memory { done }),
     };
     cutter.take_statement();
     report.count(answer.accepted);
+    let done = report.statements;
     match put_all(writer, answer.text.as_bytes()) {
         Ok(()) => Ok(true),
-        Err(Broken) => Err(RunFault::Write {
-            done: report.statements,
-        }),
+        Err(Broken) => Err(RunFault::Write { done }),
     }
 }
 
