@@ -3,13 +3,16 @@ pub mod Assignable
 pub mod CommandLine
 pub mod Database
 pub mod DatabaseCode
+pub mod Faults
 pub mod Grammar
 pub mod Machine
 pub mod Meaning
+pub mod Moves
 pub mod Numbers
 pub mod Parsing
 pub mod Reading
 pub mod Relvars
+pub mod Sessions
 pub mod Steps
 pub mod Told
 pub mod TreeViews

@@ -2,12 +2,18 @@
 #![tactic(auto)]
 
 mod engine;
+mod laws;
 mod line;
+mod program;
+mod run;
+mod session;
 mod sink;
 mod source;
+#[cfg(test)]
+mod tests;
 
 use std::process::ExitCode;
 
-fn main(_rt: HostRuntime) -> ExitCode {
-    ExitCode::from(0)
+fn main(rt: HostRuntime) -> ExitCode {
+    ExitCode::from(program::status(&rt))
 }

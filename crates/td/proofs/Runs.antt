@@ -1,0 +1,75 @@
+-- Statements in turn: runs joined, the machine's one answer, and what a run leaves.
+use Rattle.std.proofs.Common.{◌≡◌, ℕ, ◌+◌, ◌-◌, ◌<◌, ◌≤◌, ◌&&◌, Bool, true, false, nat_lt, if◌then◌else◌, List, [], ◌∷◌, ◌++◌, length, take, Option, Some, None, refl, sym, ap, ◌∙◌, subst, arith, append_assoc, append-nil, length-append, is_none, ◌⊎◌, inl, inr, map}
+use Rattle.std.proofs.KnownBytes.{Appends-trans, Appends-nil}
+use Rattle.std.proofs.Math.Seq.{take-append_seam, take-append-add}
+use Rattle.std.specs.Io.KnownBytes.{Appends}
+use Rattle.td_tree.specs.Statements.{Entry, Held, statements}
+use Rattle.td_tree.specs.declared.cause.Cause.TheVariants as causes
+use Rattle.td.specs.Database.{Database}
+use Rattle.td.specs.Machine.{Progress, Step, Steps, scanned, unspelled, spelled, Runs, nothing, stopped, next, and_then, begun, has_stopped, refused, stepped, is_bad_in, words_in}
+use Rattle.td.specs.Moves.{HasRun, HasRunCut, IsLeft, Reached}
+use Rattle.td.specs.Told.{AppendsIfTold}
+use Rattle.td.specs.Reading.{whole_in}
+use Rattle.td.proofs.Parses.{none_spelled, one_tree}
+use Rattle.td.proofs.Parses.{spelled as is_spelled}
+use Rattle.td.proofs.ToldLaws.{told_after}
+
+-- after a stop nothing is run
+pub runs_stopped : (stop : Bool) (p : Progress) (ss : List (List Entry)) → has_stopped stop p ≡ true → Runs stop p ss p
+runs_stopped stop p [] h = nothing
+runs_stopped stop p (s ∷ ss) h = stopped h
+
+pub stays_stopped : (stop : Bool) (p : Progress) (ss : List (List Entry)) (q : Progress) → Runs stop p ss q → has_stopped stop p ≡ true → q ≡ p
+stays_stopped stop p ss q nothing h = refl
+stays_stopped stop p ss q (stopped over) h = refl
+stays_stopped stop p ss q (next step goes steps rest) h = let e : false ≡ true = sym goes ∙ h in absurd cc
+
+-- these and then those
+pub runs_append : (stop : Bool) (p : Progress) (xs : List (List Entry)) (q : Progress) (ys : List (List Entry)) (r : Progress) → Runs stop p xs q → Runs stop q ys r → Runs stop p (xs ++ ys) r
+runs_append stop p xs q ys r nothing k = k
+runs_append stop p xs q ys r (stopped over) k = subst (λ (z : Progress). Runs stop p (xs ++ ys) z) (sym (stays_stopped stop p ys r k over)) (runs_stopped stop p (xs ++ ys) over)
+runs_append stop p xs q ys r (next step goes steps rest) k = next step goes steps (runs_append stop _ _ q ys r rest k)
+
+-- a list of tokens does one thing
+pub one_step : (db : Database) (tokens : List Entry) (s t : Step) → Steps db tokens s → Steps db tokens t → s ≡ t
+one_step db tokens s t (scanned a) (scanned b) = refl
+one_step db tokens s t (scanned a) (unspelled b none) = let e : true ≡ false = sym a ∙ b in absurd cc
+one_step db tokens s t (scanned a) (spelled u b is) = let e : true ≡ false = sym a ∙ b in absurd cc
+one_step db tokens s t (unspelled a none) (scanned b) = let e : false ≡ true = sym a ∙ b in absurd cc
+one_step db tokens s t (unspelled a none) (unspelled b also) = refl
+one_step db tokens s t (unspelled a none) (spelled u b is) = absurd (none u is)
+one_step db tokens s t (spelled w a is) (scanned b) = let e : false ≡ true = sym a ∙ b in absurd cc
+one_step db tokens s t (spelled w a is) (unspelled b none) = absurd (none w is)
+one_step db tokens s t (spelled w a is) (spelled u b also) = ap (stepped db) (one_tree (words_in tokens) w u is also)
+
+-- a list of statements has one outcome
+pub one_outcome : (stop : Bool) (p : Progress) (ss : List (List Entry)) (q r : Progress) → Runs stop p ss q → Runs stop p ss r → q ≡ r
+one_outcome stop p [] q r nothing nothing = refl
+one_outcome stop p (s ∷ ss) q r (stopped over) k = sym (stays_stopped stop p (s ∷ ss) r k over)
+one_outcome stop p (s ∷ ss) q r (next step goes steps rest) (stopped over) = let e : false ≡ true = sym goes ∙ over in absurd cc
+one_outcome stop p (s ∷ ss) q r (next step goes steps rest) (next other also does more) =
+    let same : step ≡ other = one_step p.database s step other steps does in
+    one_outcome stop (and_then p step) ss q r rest (subst (λ (z : Step). Runs stop (and_then p z) ss r) (sym same) more)
+
+-- what a list of tokens does
+some_step : (db : Database) (tokens : List Entry) → (s : Step) × Steps db tokens s
+some_step db tokens =
+    (elim (is_bad_in tokens) as (λ b. is_bad_in tokens ≡ b → (s : Step) × Steps db tokens s) [
+      | true ↦ λ bad. (refused db causes.Scan, scanned bad)
+      | false ↦ λ good. (elim (whole_in (words_in tokens)) as (λ o. whole_in (words_in tokens) ≡ o → (s : Step) × Steps db tokens s) [
+        | None ↦ λ none. (refused db causes.Syntax, unspelled good (none_spelled (words_in tokens) none))
+        | Some t ↦ λ some. (stepped db t, spelled t good (is_spelled (words_in tokens) t some))
+      ]) refl
+    ]) refl
+
+-- a list of statements has an outcome
+pub some_outcome : (stop : Bool) (p : Progress) (ss : List (List Entry)) → (q : Progress) × Runs stop p ss q
+some_outcome stop p [] = (p, nothing)
+some_outcome stop p (s ∷ ss) =
+    (elim (has_stopped stop p) as (λ b. has_stopped stop p ≡ b → (q : Progress) × Runs stop p (s ∷ ss) q) [
+      | true ↦ λ over. (p, stopped over)
+      | false ↦ λ goes.
+          let step = some_step p.database s in
+          let rest = some_outcome stop (and_then p step.0) ss in
+          (rest.0, next step.0 goes step.1 rest.1)
+    ]) refl

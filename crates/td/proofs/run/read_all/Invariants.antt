@@ -1,0 +1,11 @@
+use Rattle.std.proofs.Common.{◌≡◌, ℕ, ◌+◌, ◌-◌, ◌^◌, false, length}
+use Rattle.std.specs.Io.KnownBytes.{Consumes}
+use Rattle.td.proofs.run.read_all.Given as goal
+
+-- the cutter holds what was read so far
+abbrev pub invariant-pieces : goal.invariant-pieces
+invariant-pieces g l = Consumes (g.R.Source.left l.fn.reader) (g.R.Source.left l.reader) l.cutter.bytes
+    × (length l.cutter.bytes ≡ l.read) × (l.cutter.offset ≡ 0) × (l.cutter.finished ≡ false)
+
+abbrev pub decreases-pieces : goal.decreases-pieces
+decreases-pieces g l = 2 ^ 30 + 1 - l.read

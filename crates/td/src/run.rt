@@ -1,0 +1,231 @@
+//! Whole runs: a script is read, each statement is run, each answer is written.
+ghost use Rattle.std.specs.Prelude.{◌≡◌, ℕ, ◌+◌, ◌<◌, ◌≤◌, ◌^◌, ◌&&◌, Bool, true, false, nat_lt, if◌then◌else◌, List, [], length, Option, IfOk, IfErr, IfSome, IsOk, OnOk, OnErr};
+ghost use Rattle.std.specs.Io.KnownBytes.{Appends, Consumes, IsAtEnd};
+ghost use Rattle.td_tree.specs.Statements.{Entry, after, first_statement, statements};
+ghost use Rattle.td.specs.Database.{Database};
+ghost use Rattle.td.specs.Faults.{IfMemory, IfNotMemory, IfRead, IfReadLimit, IfWrite};
+ghost use Rattle.td.specs.Moves.{HasRun, HasRunCut, IsAnswered, IsLeft, Reached};
+ghost use Rattle.td.specs.Told.{GaveAtMost, GaveMoreThan};
+
+use crate::engine::Engine;
+use crate::engine::answer::Answer;
+use crate::sink::{Sink, put_all};
+use crate::source::{Broken, Source};
+use std::alloc::{AllocError, Global};
+use td_scan::cutter::Cutter;
+
+/// The most bytes that a script may have.
+pub const SCRIPT_LIMIT: u64 = 1_073_741_824;
+
+/// How many bytes are asked for at a time.
+const PIECE: usize = 8192;
+
+/// What a run counts.
+#[derive(Clone, Copy, Debug, PartialEq, Eq)]
+pub struct Report {
+    /// The statements answered.
+    pub statements: u64,
+    /// Those of them that were refused.
+    pub refused: u64,
+}
+
+impl Report {
+    /// One answer more.
+    fn count(&mut self, accepted: bool)
+        requires statements { self.old.statements < 2 ^ 32 }
+        requires refused { self.old.refused < 2 ^ 32 }
+        ensures statements { self.new.statements ≡ self.old.statements + 1 }
+        ensures refused { self.new.refused ≡ self.old.refused + (if accepted then 0 else 1) }
+    {
+        self.statements += 1;
+        if !accepted {
+            self.refused += 1;
+        }
+    }
+
+    /// Whether a statement was refused that ends the run.
+    fn is_over(&self, stop: bool) -> bool
+        ensures { result ≡ (stop && nat_lt 0 self.now.refused) }
+    {
+        stop && self.refused > 0
+    }
+}
+
+/// Why a run stopped, after `done` statements.
+#[derive(Clone, Copy, Debug, PartialEq, Eq)]
+pub enum RunFault {
+    /// A request for memory was refused; the statement that met it is not counted.
+    Memory { done: u64 },
+    /// The reader failed.
+    Read { done: u64 },
+    /// The script has more than 1,073,741,824 bytes.
+    ReadLimit { done: u64 },
+    /// The writer failed; the statement whose answer it was to take is counted.
+    Write { done: u64 },
+}
+
+/// Reads the source to its end.
+fn read_all<R: Source>(alloc: Global, reader: &mut R) -> Result<Cutter, RunFault>
+    ensures bytes { IfOk result (λ cutter. Consumes (R.left reader.old) (R.left reader.new) cutter.bytes) }
+    ensures begins { IfOk result (λ cutter. cutter.offset ≡ 0) }
+    ensures finished { IfOk result (λ cutter. cutter.finished ≡ true) }
+    ensures size { IfOk result (λ cutter. length cutter.bytes ≤ 2 ^ 30) }
+    ensures end { OnOk result (IsAtEnd (R.left reader.new)) }
+    ensures whole { OnOk result (R.is_broken reader.new ≡ false) }
+    ensures memory { IfErr result (IfMemory (λ done. done ≡ 0)) }
+    ensures read { IfErr result (IfRead (λ done. (done ≡ 0) × (R.is_broken reader.new ≡ true))) }
+    ensures limit { IfErr result (IfReadLimit (λ done. (done ≡ 0) × GaveMoreThan (2 ^ 30) (R.left reader.old) (R.left reader.new))) }
+    ensures write { IfErr result (IfWrite (λ done. ⊥)) }
+{
+    let mut cutter = Cutter::new(alloc);
+    let mut buffer = [0u8; PIECE];
+    let mut read = 0;
+    'pieces: while read <= SCRIPT_LIMIT {
+        let Ok(count) = reader.pull(&mut buffer) else {
+            return Err(RunFault::Read { done: 0 });
+        };
+        if count == 0 {
+            cutter.finish();
+            return Ok(cutter);
+        }
+        match cutter.feed(&buffer[..count]) {
+            Ok(()) => read += count as u64,
+            Err(_) => return Err(RunFault::Memory { done: 0 }),
+        }
+    }
+    Err(RunFault::ReadLimit { done: 0 })
+}
+
+/// Runs the first statement of those held and answers it, if there is one.
+fn next_answer(
+    alloc: Global,
+    engine: &mut Engine,
+    cutter: &Cutter,
+) -> Result<Option<Answer>, AllocError>
+    ensures answered { IfOk result (λ found. IsAnswered (first_statement cutter.now) engine.old found engine.new) }
+    ensures err { OnErr result (engine.new ≡ engine.old) }
+{
+    match cutter.next_statement() {
+        Ok(Some(tokens)) => match engine.step(alloc, tokens.as_slice()) {
+            Ok(answer) => Ok(Some(answer)),
+            Err(error) => Err(error),
+        },
+        Ok(None) => Ok(None),
+        Err(error) => Err(error),
+    }
+}
+
+/// Runs the first statement of those held, takes it off and writes its answer whole. It answers
+/// whether there was one.
+fn run_one<W: Sink>(
+    alloc: Global,
+    engine: &mut Engine,
+    cutter: &mut Cutter,
+    writer: &mut W,
+    report: &mut Report,
+) -> Result<bool, RunFault>
+    requires finished { cutter.old.finished ≡ true }
+    requires statements { report.old.statements < 2 ^ 32 }
+    requires refused { report.old.refused ≤ report.old.statements }
+    ensures more { IfOk result (λ found. (stop : Bool) (old : Database) (script : List (List Entry)) (before : Option (List ℕ))
+        → (stop && nat_lt 0 report.old.refused) ≡ false
+        → Reached stop old script cutter.old engine.old before (W.taken writer.old) report.old.statements report.old.refused
+        → Reached stop old script cutter.new engine.new before (W.taken writer.new) report.new.statements report.new.refused) }
+    ensures none { IfOk result (λ found. found ≡ false → statements cutter.new.offset cutter.new.bytes ≡ []) }
+    ensures some { IfOk result (λ found. found ≡ true → report.new.statements + length cutter.new.bytes ≤ report.old.statements + length cutter.old.bytes) }
+    ensures fewer { IfOk result (λ found. found ≡ true → length cutter.new.bytes < length cutter.old.bytes) }
+    ensures refused { OnOk result (report.new.refused ≤ report.new.statements) }
+    ensures finished { OnOk result (cutter.new.finished ≡ true) }
+    ensures whole { OnOk result (W.is_broken writer.old ≡ false → W.is_broken writer.new ≡ false) }
+    ensures memory { IfErr result (IfMemory (λ done. (stop : Bool) (old : Database) (script : List (List Entry)) (before : Option (List ℕ))
+        → Reached stop old script cutter.old engine.old before (W.taken writer.old) report.old.statements report.old.refused
+        → HasRun stop old script done engine.new before (W.taken writer.new))) }
+    ensures write { IfErr result (IfWrite (λ done. (stop : Bool) (old : Database) (script : List (List Entry)) (before : Option (List ℕ))
+        → (stop && nat_lt 0 report.old.refused) ≡ false
+        → Reached stop old script cutter.old engine.old before (W.taken writer.old) report.old.statements report.old.refused
+        → HasRunCut stop old script done engine.new before (W.taken writer.new))) }
+    ensures broken { IfErr result (IfWrite (λ done. W.is_broken writer.new ≡ true)) }
+    ensures read { IfErr result (IfRead (λ done. ⊥)) }
+    ensures limit { IfErr result (IfReadLimit (λ done. ⊥)) }
+{
+    let done = report.statements;
+    let answer = match next_answer(alloc, engine, cutter) {
+        Ok(Some(answer)) => answer,
+        Ok(None) => return Ok(false),
+        Err(_) => return Err(RunFault::Memory { done }),
+    };
+    cutter.take_statement();
+    report.count(answer.accepted);
+    let done = report.statements;
+    match put_all(writer, answer.text.as_bytes()) {
+        Ok(()) => Ok(true),
+        Err(Broken) => Err(RunFault::Write { done }),
+    }
+}
+
+/// Runs the statements held, and writes each answer.
+fn run_held<W: Sink>(
+    alloc: Global,
+    engine: &mut Engine,
+    cutter: &mut Cutter,
+    writer: &mut W,
+    stop: bool,
+) -> Result<Report, RunFault>
+    requires finished { cutter.old.finished ≡ true }
+    requires size { length cutter.old.bytes ≤ 2 ^ 30 }
+    ensures answers { IfOk result (λ report. IsLeft stop engine.old (statements cutter.old.offset cutter.old.bytes)
+        engine.new (W.taken writer.old) (W.taken writer.new) report.statements report.refused) }
+    ensures whole { OnOk result (W.is_broken writer.old ≡ false → W.is_broken writer.new ≡ false) }
+    ensures memory { IfErr result (IfMemory (λ done. HasRun stop engine.old (statements cutter.old.offset cutter.old.bytes)
+        done engine.new (W.taken writer.old) (W.taken writer.new))) }
+    ensures write { IfErr result (IfWrite (λ done. HasRunCut stop engine.old (statements cutter.old.offset cutter.old.bytes)
+        done engine.new (W.taken writer.old) (W.taken writer.new))) }
+    ensures broken { IfErr result (IfWrite (λ done. W.is_broken writer.new ≡ true)) }
+    ensures read { IfErr result (IfRead (λ done. ⊥)) }
+    ensures limit { IfErr result (IfReadLimit (λ done. ⊥)) }
+{
+    let mut report = Report {
+        statements: 0,
+        refused: 0,
+    };
+    'statements: while !report.is_over(stop) {
+        match run_one(alloc, engine, cutter, writer, &mut report) {
+            Ok(true) => {}
+            Ok(false) => return Ok(report),
+            Err(fault) => return Err(fault),
+        }
+    }
+    Ok(report)
+}
+
+/// Reads the source to its end, runs each statement and writes each answer in order. With `stop`
+/// the first refused statement ends the run. At a fault the engine and the writer stand as after
+/// the statements that were run, and the engine can go on.
+pub fn run<R: Source, W: Sink>(
+    alloc: Global,
+    engine: &mut Engine,
+    reader: &mut R,
+    writer: &mut W,
+    stop: bool,
+) -> Result<Report, RunFault>
+    ensures headline { IfNotMemory result (R.is_broken reader.new ≡ false → W.is_broken writer.new ≡ false
+        → GaveAtMost (2 ^ 30) (R.left reader.old) (R.left reader.new) → IsOk result) }
+    ensures answers { IfOk result (λ report. IfSome (R.left reader.old) (λ script. IsLeft stop engine.old (statements 0 script)
+        engine.new (W.taken writer.old) (W.taken writer.new) report.statements report.refused)) }
+    ensures whole { OnOk result ((R.is_broken reader.new ≡ false) × (W.is_broken writer.old ≡ false → W.is_broken writer.new ≡ false)) }
+    ensures limit { OnOk result (IfSome (R.left reader.old) (λ xs. IfSome (R.left reader.new) (λ ys. length xs ≤ 2 ^ 30 + length ys))) }
+    ensures memory { IfErr result (IfMemory (λ done. IfSome (R.left reader.old) (λ script. HasRun stop engine.old (statements 0 script)
+        done engine.new (W.taken writer.old) (W.taken writer.new)))) }
+    ensures read { IfErr result (IfRead (λ done. R.is_broken reader.new ≡ true)) }
+    ensures unread { IfErr result (IfRead (λ done. (done ≡ 0) × (engine.new ≡ engine.old) × Appends (W.taken writer.old) (W.taken writer.new) [])) }
+    ensures too_long { IfErr result (IfReadLimit (λ done. GaveMoreThan (2 ^ 30) (R.left reader.old) (R.left reader.new))) }
+    ensures unrun { IfErr result (IfReadLimit (λ done. (done ≡ 0) × (engine.new ≡ engine.old) × Appends (W.taken writer.old) (W.taken writer.new) [])) }
+    ensures write { IfErr result (IfWrite (λ done. (W.is_broken writer.new ≡ true) × IfSome (R.left reader.old) (λ script.
+        HasRunCut stop engine.old (statements 0 script) done engine.new (W.taken writer.old) (W.taken writer.new)))) }
+{
+    let mut cutter = match read_all(alloc, reader) {
+        Ok(cutter) => cutter,
+        Err(fault) => return Err(fault),
+    };
+    run_held(alloc, engine, &mut cutter, writer, stop)
+}

@@ -1,0 +1,62 @@
+//! Sessions: a script on an engine of its own.
+ghost use Rattle.std.specs.Prelude.{◌≡◌, ℕ, ◌+◌, ◌≤◌, ◌^◌, true, false, [], length, None, IfNone, IfSome};
+ghost use Rattle.std.specs.Io.KnownBytes.{Appends};
+ghost use Rattle.td_tree.specs.Statements.{statements};
+ghost use Rattle.td.specs.Faults.{IfMemory, IfRead, IfReadLimit, IfWrite};
+ghost use Rattle.td.specs.Sessions.{HasAnswered, HasBegun, HasBegunCut, IsStatus, UnlessMemory};
+ghost use Rattle.td.specs.Told.{GaveAtMost, GaveMoreThan};
+
+use crate::engine::Engine;
+use crate::line::Mode;
+use crate::run::{RunFault, run};
+use crate::sink::Sink;
+use crate::source::Source;
+use std::alloc::Global;
+
+/// What a session comes to.
+#[derive(Clone, Copy, Debug, PartialEq, Eq)]
+pub struct Outcome {
+    /// The status that the program exits with.
+    pub status: u8,
+    /// Why the script was not run to its end.
+    pub fault: Option<RunFault>,
+}
+
+/// Runs a script on an empty database. The status is 0 where nothing was refused, 1 where
+/// something was, and 3 where there is a fault.
+pub fn session<R: Source, W: Sink>(
+    alloc: Global,
+    mode: Mode,
+    stop: bool,
+    reader: &mut R,
+    writer: &mut W,
+) -> Outcome
+    ensures headline { UnlessMemory result.fault (R.is_broken reader.new ≡ false → W.is_broken writer.new ≡ false
+        → GaveAtMost (2 ^ 30) (R.left reader.old) (R.left reader.new) → result.fault ≡ None) }
+    ensures status { IsStatus result.status result.fault }
+    ensures answers { IfNone result.fault (IfSome (R.left reader.old) (λ script.
+        HasAnswered stop (statements 0 script) result.status (W.taken writer.old) (W.taken writer.new))) }
+    ensures whole { IfNone result.fault ((R.is_broken reader.new ≡ false) × (W.is_broken writer.old ≡ false → W.is_broken writer.new ≡ false)) }
+    ensures limit { IfNone result.fault (IfSome (R.left reader.old) (λ xs. IfSome (R.left reader.new) (λ ys. length xs ≤ 2 ^ 30 + length ys))) }
+    ensures memory { IfSome result.fault (IfMemory (λ done. IfSome (R.left reader.old) (λ script.
+        HasBegun stop (statements 0 script) done (W.taken writer.old) (W.taken writer.new)))) }
+    ensures read { IfSome result.fault (IfRead (λ done. (R.is_broken reader.new ≡ true) × (done ≡ 0) × Appends (W.taken writer.old) (W.taken writer.new) [])) }
+    ensures too_long { IfSome result.fault (IfReadLimit (λ done. GaveMoreThan (2 ^ 30) (R.left reader.old) (R.left reader.new) × (done ≡ 0) × Appends (W.taken writer.old) (W.taken writer.new) [])) }
+    ensures write { IfSome result.fault (IfWrite (λ done. (W.is_broken writer.new ≡ true) × IfSome (R.left reader.old) (λ script.
+        HasBegunCut stop (statements 0 script) done (W.taken writer.old) (W.taken writer.new)))) }
+{
+    let mut engine = Engine::new(alloc);
+    let answered = match mode {
+        Mode::Run => run(alloc, &mut engine, reader, writer, stop),
+    };
+    match answered {
+        Ok(report) => Outcome {
+            status: if report.refused == 0 { 0 } else { 1 },
+            fault: None,
+        },
+        Err(fault) => Outcome {
+            status: 3,
+            fault: Some(fault),
+        },
+    }
+}
