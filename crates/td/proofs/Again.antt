@@ -1,14 +1,13 @@
 -- What the grammar spells is read again, whatever follows.
-use Rattle.std.proofs.Common.{◌≡◌, ◌≢◌, ℕ, zero, suc, ◌+◌, ◌-◌, ◌^◌, ◌<◌, ◌≤◌, max, Bool, true, false, cond, List, [], ◌∷◌, ◌++◌, length, Option, Some, None, refl, sym, ap, subst, ◌∙◌, append_assoc, append-nil, arith, length-append, map, nat_le}
-use Rattle.std.specs.Prelude.{if◌then◌else◌}
+use Rattle.std.proofs.Common.{◌≡◌, ◌≢◌, ℕ, zero, suc, ◌+◌, ◌^◌, ◌≤◌, Bool, true, false, List, [], ◌∷◌, ◌++◌, length, Some, None, refl, sym, ap, ◌∙◌, append_assoc, append-nil, arith, length-append, map, nat_le}
 use Rattle.std.specs.List.{AllByRecursion, flat_map}
 use Rattle.td_tree.specs.declared.keyword.Keyword.TheVariants as keywords
 use Rattle.td_tree.specs.declared.token.Sign.TheVariants as signs
 use Rattle.td.specs.Numbers.{numeral_limit}
-use Rattle.td.specs.Words.{Word, keyword, sign, name, number, other}
+use Rattle.td.specs.Words.{Word, keyword, sign, name, number}
 use Rattle.td.specs.Trees.{Numeral, AttributeValue, TupleLiteral, Operand, relvar, literal, Expression, single, union, Statement, empty, define, assign, write, expression_height, operand_height}
-use Rattle.td.specs.Grammar.{commas, braced, numeral_words, attribute_words, tuple_words, integer_words, heading_words, names_words, operand_words, expression_words, key_words, body_words, statement_words, AreInRange, IsOperand, AreOperands, IsExpression, IsStatement, Spells}
-use Rattle.td.specs.Reading.{Read, either, ◌>>=◌, after_sign, after_keyword, goes_on, as_name, as_number, name_in, magnitude_in, numeral_in, items_from, some_items, any_items, braced_in, names_in, integer_in, heading_in, attribute_in, attributes_in, tuple_in, any_tuples_in, with_heading_in, tuples_in, is_tuple, begins_tuples, relation_in, operand_in, unions_from, expression_in, keys_from, keys_in, definition_in, assignment_in, write_in, body_in, closed_in, statement_in, whole_in}
+use Rattle.td.specs.Grammar.{commas, braced, numeral_words, attribute_words, tuple_words, integer_words, heading_words, names_words, operand_words, expression_words, key_words, body_words, statement_words, AreInRange, IsOperand, AreOperands, IsExpression, IsStatement}
+use Rattle.td.specs.Reading.{Read, after_sign, after_keyword, goes_on, name_in, magnitude_in, numeral_in, items_from, some_items, any_items, braced_in, names_in, integer_in, heading_in, attribute_in, attributes_in, tuple_in, any_tuples_in, with_heading_in, tuples_in, begins_tuples, relation_in, operand_in, unions_from, expression_in, keys_from, keys_in, definition_in, assignment_in, write_in, body_in, closed_in, statement_in, whole_in}
 
 abbrev pub found_is : {A : Type 0} → A → List Word → Read A
 found_is x s = Some (x, s)

@@ -1,10 +1,9 @@
 -- Numbers too large to be spelled.
-use Rattle.std.proofs.Common.{◌≡◌, ℕ, suc, ◌+◌, ◌-◌, ◌*◌, ◌^◌, ◌<◌, ◌≤◌, Bool, true, false, List, [], ◌∷◌, length, drop, get_or, Option, Some, None, refl, sym, ◌∙◌, ap, arith, subst, nat_le, ◌&&◌, if◌then◌else◌}
+use Rattle.std.proofs.Common.{◌≡◌, ℕ, suc, ◌+◌, ◌-◌, ◌*◌, ◌^◌, ◌<◌, ◌≤◌, Bool, true, false, List, [], ◌∷◌, length, drop, get_or, Some, None, refl, sym, arith, subst, nat_le, ◌&&◌, if◌then◌else◌}
 use Rattle.std.specs.Prelude.{fold}
 use Rattle.std.proofs.Math.Seq.{drop-cons}
 use Rattle.std.proofs.lemmas.Bool.{cases_lt}
-use Rattle.std.proofs.Common.{◌⊎◌, inl, inr}
-use Rattle.td.specs.Numbers.{decimal_value}
+use Rattle.std.proofs.Common.{inl, inr}
 
 abbrev pub step : ℕ → ℕ → ℕ
 step n digit = n * 10 + (digit - 48)

@@ -1,5 +1,5 @@
 -- What an answer does.
-use Rattle.std.proofs.Common.{◌≡◌, ℕ, Bool, true, false, List, [], ◌∷◌, ◌++◌, Option, Some, None, Result, Ok, Err, codes, refl, sym, ap, ◌∙◌, subst, IfOk}
+use Rattle.std.proofs.Common.{◌≡◌, ℕ, Bool, true, false, List, ◌++◌, Option, Some, None, Result, Ok, Err, codes, refl, sym, ap, ◌∙◌, subst, IfOk}
 use Rattle.std.specs.String.{string_bytes}
 use Rattle.td_tree.specs.Outcomes.{Outcome, Valued, Refused, least, named_cause}
 use Rattle.td_tree.specs.declared.cause.Cause.{Cause}
@@ -7,11 +7,11 @@ use Rattle.td_tree.specs.declared.cause.Cause.TheVariants as causes
 use Rattle.td_types.specs.Types.{Attributes}
 use Rattle.td_value.specs.Values.{Relation}
 use Rattle.td.specs.Assignable.{IsAssignable}
-use Rattle.td.specs.Database.{Database, Relvar, keys_fit, is_legal, relvar_at, same_heading, with_body}
-use Rattle.td.specs.Machine.{Step, accepted, assignable, by_outcome, changed, declared, fitting, first_broken, free, key_refused, line, refusal_text, refused, unless_broken}
+use Rattle.td.specs.Database.{Database, Relvar, keys_fit, is_legal, relvar_at, same_heading}
+use Rattle.td.specs.Machine.{Step, accepted, assignable, by_outcome, changed, fitting, first_broken, free, key_refused, line, refusal_text, refused, unless_broken}
 use Rattle.td.specs.Meaning.{known}
 use Rattle.td_tree.specs.Outcomes.{with_both, with_value}
-use Rattle.td.specs.Steps.{Does, step_of}
+use Rattle.td.specs.Steps.{Does}
 use Rattle.td.specs.declared.engine.answer.Answer as code
 use Rattle.td_types.specs.TypeOrder.{heading_eq-Decides}
 use Rattle.td.proofs.Legal.{unbroken}
@@ -30,7 +30,7 @@ pub changed_does : (old new db : Database) (a : code.Answer) → (a.accepted ≡
 changed_does old new db a flag printed e legal =
     let none : first_broken db ≡ None = subst (λ d. first_broken d ≡ None) e (unbroken new legal) in
     subst (λ d. Does (changed old db) a d) (sym e)
-      (subst (λ o. Does (unless_broken old db o) a db) (sym none) (accepted_does old db (codes "OK") a flag printed))
+    (subst (λ o. Does (unless_broken old db o) a db) (sym none) (accepted_does old db (codes "OK") a flag printed))
 
 -- a change that breaks a key is refused
 pub broken_does : {E : Type 0} (old db : Database) (name : List ℕ) (r : Result code.Answer E) → first_broken db ≡ Some name

@@ -5,6 +5,7 @@ pub mod Headings
 pub mod Joins
 pub mod KeyLaws
 pub mod Legal
+pub mod LegalLaws
 pub mod Literals
 pub mod Moving
 pub mod Names

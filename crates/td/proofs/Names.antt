@@ -1,9 +1,9 @@
 -- A token that is a name.
-use Rattle.std.proofs.Common.{◌≡◌, ℕ, ◌&&◌, Bool, true, false, List, refl, sym, IsUtf8, if◌then◌else◌}
+use Rattle.std.proofs.Common.{◌≡◌, ℕ, Bool, true, false, List, refl, IsUtf8}
 use Rattle.std.proofs.lemmas.Str.{is_utf8-from_IsUtf8, IsUtf8-from_is_utf8}
 use Rattle.std.specs.Str.{is_utf8}
 use Rattle.td_tree.specs.Names.{is_name}
-use Rattle.td.specs.Words.{Word, name, other, name_word}
+use Rattle.td.specs.Words.{name, other, name_word}
 
 pub no_text : (text : List ℕ) → (IsUtf8 text → ⊥) → name_word text ≡ other
 no_text text bad = by_test (is_utf8 text) refl

@@ -1,5 +1,5 @@
 -- The two directions, for all the words of a statement.
-use Rattle.std.proofs.Common.{◌≡◌, List, Option, Some, None, refl, sym, ◌∙◌, subst}
+use Rattle.std.proofs.Common.{◌≡◌, List, Some, None, sym, ◌∙◌, subst}
 use Rattle.std.proofs.Common.{Result, Ok, Err, false}
 use Rattle.td_tree.specs.declared.fault.Fault.{Fault}
 use Rattle.td_tree.specs.declared.fault.Fault.TheVariants as faults
@@ -7,7 +7,7 @@ use Rattle.td_tree.specs.declared.token.Kind.{Kind}
 use Rattle.td.specs.Parsing.{Gives, Parses, has_bad}
 use Rattle.td.specs.TreeViews.{statement_of}
 use Rattle.td.specs.declared.engine.tree.Statement as code
-use Rattle.td.specs.Grammar.{Spells, statement_words}
+use Rattle.td.specs.Grammar.{Spells}
 use Rattle.td.specs.Reading.{whole_in}
 use Rattle.td.specs.Trees.{Statement}
 use Rattle.td.specs.Words.{Word}

@@ -1,10 +1,10 @@
 -- The relvar that stands at a place.
-use Rattle.std.proofs.Common.{◌≡◌, ℕ, zero, suc, ◌+◌, ◌<◌, Bool, true, false, List, [], ◌∷◌, Option, Some, None, length, map, refl, sym, ap, ◌∙◌, subst, arith, slice_set, slice_index_or, if◌then◌else◌}
+use Rattle.std.proofs.Common.{◌≡◌, ℕ, suc, ◌+◌, ◌<◌, Bool, true, false, List, [], ◌∷◌, Some, None, length, refl, sym, ap, ◌∙◌, subst, arith, slice_set, slice_index_or}
 use Rattle.std.proofs.lemmas.List.{length-map}
 use Rattle.std.specs.List.{position_from}
 use Rattle.td_types.specs.Types.{same_name}
 use Rattle.td_value.specs.Values.{Relation}
-use Rattle.td.specs.Database.{Database, Relvar, with_body}
+use Rattle.td.specs.Database.{Database, with_body}
 use Rattle.td.specs.Relvars.{relvar_of, relvars_of}
 use Rattle.td.specs.declared.engine.relvar.Relvar as code
 

@@ -1,18 +1,12 @@
 -- Statements in turn: runs joined, the machine's one answer, and what a run leaves.
-use Rattle.std.proofs.Common.{◌≡◌, ℕ, ◌+◌, ◌-◌, ◌<◌, ◌≤◌, ◌&&◌, Bool, true, false, nat_lt, if◌then◌else◌, List, [], ◌∷◌, ◌++◌, length, take, Option, Some, None, refl, sym, ap, ◌∙◌, subst, arith, append_assoc, append-nil, length-append, is_none, ◌⊎◌, inl, inr, map}
-use Rattle.std.proofs.KnownBytes.{Appends-trans, Appends-nil}
-use Rattle.std.proofs.Math.Seq.{take-append_seam, take-append-add}
-use Rattle.std.specs.Io.KnownBytes.{Appends}
-use Rattle.td_tree.specs.Statements.{Entry, Held, statements}
+use Rattle.std.proofs.Common.{◌≡◌, Bool, true, false, List, [], ◌∷◌, ◌++◌, Some, None, refl, sym, ap, ◌∙◌, subst}
+use Rattle.td_tree.specs.Statements.{Entry}
 use Rattle.td_tree.specs.declared.cause.Cause.TheVariants as causes
 use Rattle.td.specs.Database.{Database}
-use Rattle.td.specs.Machine.{Progress, Step, Steps, scanned, unspelled, spelled, Runs, nothing, stopped, next, and_then, begun, has_stopped, refused, stepped, is_bad_in, words_in}
-use Rattle.td.specs.Moves.{HasRun, HasRunCut, IsLeft, Reached}
-use Rattle.td.specs.Told.{AppendsIfTold}
+use Rattle.td.specs.Machine.{Progress, Step, Steps, scanned, unspelled, spelled, Runs, nothing, stopped, next, and_then, has_stopped, refused, stepped, is_bad_in, words_in}
 use Rattle.td.specs.Reading.{whole_in}
 use Rattle.td.proofs.Parses.{none_spelled, one_tree}
 use Rattle.td.proofs.Parses.{spelled as is_spelled}
-use Rattle.td.proofs.ToldLaws.{told_after}
 
 -- after a stop nothing is run
 pub runs_stopped : (stop : Bool) (p : Progress) (ss : List (List Entry)) → has_stopped stop p ≡ true → Runs stop p ss p

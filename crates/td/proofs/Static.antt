@@ -1,13 +1,13 @@
 -- No cause of an expression is less than NAME_UNKNOWN.
-use Rattle.std.proofs.Common.{◌≡◌, ◌≤◌, ℕ, Bool, List, true, false, Option, Some, None, refl, sym, ap, ◌∙◌, subst, arith, nat_le, if◌then◌else◌}
+use Rattle.std.proofs.Common.{◌≡◌, ◌≤◌, ℕ, Bool, List, true, false, Option, Some, None, refl, arith, nat_le, if◌then◌else◌}
 use Rattle.td_tree.specs.Causes.{number_of}
-use Rattle.td_tree.specs.Outcomes.{Causes, Only, Union, Outcome, Valued, Refused, least, lesser, named_cause, with_both}
+use Rattle.td_tree.specs.Outcomes.{Only, Outcome, Valued, Refused, least, lesser, named_cause, with_both}
 use Rattle.td_tree.specs.declared.cause.Cause.{Cause}
 use Rattle.td_tree.specs.declared.cause.Cause.TheVariants as causes
 use Rattle.td_value.specs.Values.{Relation}
 use Rattle.td.specs.Database.{Database, Relvar, relvar_at, same_heading}
 use Rattle.td.specs.Machine.{assignable}
-use Rattle.td.specs.Meaning.{is_relation, known, literal_meaning, meaning, operand_meaning, union_of}
+use Rattle.td.specs.Meaning.{is_relation, known, meaning, operand_meaning, union_of}
 use Rattle.td.specs.Trees.{Operand, relvar, literal, Expression, single, union}
 
 -- the named cause, if there is one, is 3 or more

@@ -1,5 +1,5 @@
 -- From a tree to the step of its tokens.
-use Rattle.std.proofs.Common.{◌≡◌, ℕ, Bool, true, false, List, [], ◌∷◌, ◌++◌, Option, Some, Result, Ok, Err, map, refl, sym, ap, subst, IfOk}
+use Rattle.std.proofs.Common.{◌≡◌, true, false, List, [], ◌∷◌, Some, Result, Ok, Err, map, refl, sym, ap, subst, IfOk}
 use Rattle.std.specs.String.{string_bytes}
 use Rattle.td_scan.specs.Entries.{entries}
 use Rattle.td_scan.specs.declared.token.Token.{Token}

@@ -1,5 +1,5 @@
 -- Bytes that are told, over several calls.
-use Rattle.std.proofs.Common.{◌≡◌, ℕ, ◌+◌, ◌<◌, ◌≤◌, List, [], ◌∷◌, ◌++◌, length, take, drop, Option, Some, None, refl, ap, sym, ◌∙◌, arith, append_assoc, length-append}
+use Rattle.std.proofs.Common.{ℕ, ◌<◌, List, ◌++◌, length, Option, Some, None, ap, ◌∙◌, arith, append_assoc, length-append}
 use Rattle.std.specs.Io.KnownBytes.{Appends, Consumes}
 use Rattle.td.specs.Told.{KeepsIfTold}
 use Rattle.td.specs.Told.{AppendsIfTold, GaveMoreThan}

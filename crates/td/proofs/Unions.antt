@@ -1,10 +1,10 @@
 -- What two answers make together.
-use Rattle.std.proofs.Common.{◌≡◌, Option, Some, None, Result, Ok, Err, refl, sym, ap, ap₂, ◌∙◌, subst}
+use Rattle.std.proofs.Common.{◌≡◌, Some, refl, sym, ap, ap₂, ◌∙◌}
 use Rattle.std.proofs.Common.{Bool, true, false, not}
 use Rattle.std.specs.Ordering.{eq_by_cmp}
 use Rattle.td_types.specs.TypeOrder.{heading_cmp, heading_eq-Decides}
 use Rattle.td_types.specs.Types.{Attributes}
-use Rattle.td_tree.specs.Outcomes.{Outcome, Valued, Refused, Union, least, lesser, named_cause, with_both}
+use Rattle.td_tree.specs.Outcomes.{Outcome, Valued, Refused, least, lesser, named_cause, with_both}
 use Rattle.td_tree.specs.declared.cause.Cause.{Cause}
 use Rattle.td_value.specs.Values.{Relation}
 use Rattle.td.specs.Meaning.{union_of}

@@ -1,5 +1,5 @@
 -- How the logic stores a database: as the lists of its relvars' parts.
-use Rattle.std.specs.Prelude.{◌≡◌, ℕ, List, [], ◌∷◌, map, refl}
+use Rattle.std.specs.Prelude.{ℕ, List, refl}
 use Rattle.std.specs.Coded.{Coded, code_by, coded×, coded_list, coded_ℕ}
 use Rattle.td_value.specs.ValueCode.{relation_code}
 use Rattle.td_value.specs.Values.{Relation}

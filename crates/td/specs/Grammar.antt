@@ -1,5 +1,5 @@
 -- The grammar of the first path: which words spell which tree (this project's own profile of the language).
-use Rattle.std.specs.Prelude.{◌≡◌, ◌≢◌, ℕ, ◌-◌, ◌^◌, ◌≤◌, Bool, true, false, List, [], ◌∷◌, ◌++◌, Option, Some, None, map}
+use Rattle.std.specs.Prelude.{◌≡◌, ◌≢◌, ℕ, ◌≤◌, Bool, true, false, List, [], ◌∷◌, ◌++◌, Some, None, map}
 use Rattle.std.specs.List.{AllByRecursion, flat_map}
 use Rattle.td_tree.specs.declared.keyword.Keyword.TheVariants as keywords
 use Rattle.td_tree.specs.declared.token.Sign.TheVariants as signs

@@ -5,6 +5,7 @@ pub mod Database
 pub mod DatabaseCode
 pub mod Faults
 pub mod Grammar
+pub mod Legality
 pub mod Machine
 pub mod Meaning
 pub mod Moves

@@ -1,6 +1,6 @@
 -- What expressions mean (the chapter's; the causes are this project's own). In this grammar every cause of an expression
 -- is static, so that its type and its value are found together.
-use Rattle.std.specs.Prelude.{◌≡◌, ℕ, ℤ, pos, ◌-ℤ◌, ◌&&◌, Bool, true, false, List, [], ◌∷◌, ◌++◌, Option, Some, None, map, fold, if◌then◌else◌}
+use Rattle.std.specs.Prelude.{ℕ, ℤ, pos, ◌-ℤ◌, ◌&&◌, Bool, true, List, [], ◌∷◌, ◌++◌, Option, Some, None, map, fold, if◌then◌else◌}
 use Rattle.std.specs.List.{list_all}
 use Rattle.td_tree.specs.declared.cause.Cause.TheVariants as causes
 use Rattle.td_tree.specs.Outcomes.{Only, Outcome, Valued, Refused, with_value, with_both}
@@ -10,7 +10,7 @@ use Rattle.td_types.specs.Types as types
 use Rattle.td_value.specs.Sets.{set_of}
 use Rattle.td_value.specs.Values.{Entries, Relation, heading_of, integer, tuple_of, tuple_order}
 use Rattle.td.specs.Database.{Database, Relvar, relvar_at, same_heading}
-use Rattle.td.specs.Trees.{Numeral, AttributeValue, TupleLiteral, Operand, relvar, literal, Expression, single, union}
+use Rattle.td.specs.Trees.{Numeral, TupleLiteral, Operand, relvar, literal, Expression, single, union}
 
 -- the number that a literal is: `- 0` is 0
 abbrev pub numeral_value : Numeral → ℤ

@@ -1,5 +1,5 @@
 -- Reading words from left to right, by recursive descent: private, the grammar says what is spelled.
-use Rattle.std.specs.Prelude.{◌≡◌, ℕ, zero, suc, ◌+◌, ◌-◌, ◌^◌, Bool, true, false, List, [], ◌∷◌, ◌++◌, length, Option, Some, None, Result, Ok, Err, nat_le, if◌then◌else◌}
+use Rattle.std.specs.Prelude.{◌≡◌, ℕ, zero, suc, ◌^◌, Bool, true, false, List, [], ◌∷◌, ◌++◌, length, Option, Some, None, Result, Ok, Err, nat_le, if◌then◌else◌}
 use denote.Enum.Bare.{sameb}
 use Rattle.td_tree.specs.contracts.keyword.Keyword as keyword_type
 use Rattle.td_tree.specs.contracts.token.Sign as sign_type
@@ -14,7 +14,7 @@ use Rattle.td_tree.specs.declared.token.Sign.{Sign}
 use Rattle.td_tree.specs.declared.token.Sign.TheVariants as signs
 use Rattle.td.specs.Numbers.{numeral_limit}
 use Rattle.td.specs.Trees.{Numeral, AttributeValue, TupleLiteral, Operand, relvar, literal, Expression, single, union, Statement, empty, define, assign, write, expression_height}
-use Rattle.td.specs.Words.{Word, keyword, sign, name, number, other}
+use Rattle.td.specs.Words.{Word, keyword, sign, name, number}
 
 infixl 10 ◌>>=◌
 abbrev pub ◌>>=◌ : {A B : Type 0} → Option A → (A → Option B) → Option B

@@ -1,5 +1,5 @@
 -- What a call of a source or a sink does to the bytes that it tells (this project's own; in std's words).
-use Rattle.std.specs.Prelude.{◌≡◌, ℕ, ◌+◌, ◌<◌, ◌≤◌, List, [], ◌++◌, length, take, Option, Some, None, Result, MatchResult, ⊤}
+use Rattle.std.specs.Prelude.{◌≡◌, ℕ, ◌+◌, ◌<◌, ◌≤◌, List, ◌++◌, length, take, Option, Some, Result, MatchResult, ⊤}
 use Rattle.std.specs.Io.KnownBytes.{Appends, Consumes}
 
 -- bytes that are told before and after are the same

@@ -1,6 +1,7 @@
 //! Laws of the set machine.
-ghost use Rattle.std.specs.Prelude.{◌≡◌, Bool, List};
+ghost use Rattle.std.specs.Prelude.{◌≡◌, Bool, List, []};
 ghost use Rattle.td_tree.specs.Statements.{Entry};
+ghost use Rattle.td.specs.Legality.{IsLegal};
 ghost use Rattle.td.specs.Machine.{Progress, Runs};
 
 /// Every list of statements has an outcome.
@@ -14,4 +15,13 @@ pub fn statements_have_an_outcome()
 pub fn statements_have_one_outcome()
     ensures { (stop : Bool) (so_far : Progress) (script : List (List Entry)) (p q : Progress)
         → Runs stop so_far script p → Runs stop so_far script q → p ≡ q }
+{}
+
+/// The empty database is legal, and what statements make of a legal database is legal. So between
+/// any two statements every key holds, and every body is a set of tuples of its heading.
+#[tactic(auto, using(crate::proofs::LegalLaws::legal_at_first, crate::proofs::LegalLaws::legal_runs))]
+pub fn databases_stay_legal()
+    ensures begins { IsLegal [] }
+    ensures stays { (stop : Bool) (so_far after : Progress) (script : List (List Entry))
+        → IsLegal so_far.database → Runs stop so_far script after → IsLegal after.database }
 {}

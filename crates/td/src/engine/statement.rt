@@ -27,11 +27,7 @@ use td_types::ty::Heading;
 use td_value::value::Rel;
 
 /// Prints the relation that an expression means.
-fn write(
-    alloc: Global,
-    database: &Database,
-    expression: &Expression,
-) -> Result<Answer, AllocError>
+fn write(alloc: Global, database: &Database, expression: &Expression) -> Result<Answer, AllocError>
     ensures { IfOk result (λ a. Does (stepped database.now (trees.write (expression_of expression.now))) a database.now) }
 {
     match value(alloc, database, expression) {

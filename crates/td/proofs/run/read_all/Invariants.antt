@@ -1,4 +1,4 @@
-use Rattle.std.proofs.Common.{◌≡◌, ℕ, ◌+◌, ◌-◌, ◌^◌, false, length}
+use Rattle.std.proofs.Common.{◌≡◌, ◌+◌, ◌-◌, ◌^◌, false, length}
 use Rattle.std.specs.Io.KnownBytes.{Consumes}
 use Rattle.td.proofs.run.read_all.Given as goal
 

@@ -1,4 +1,4 @@
-use Rattle.std.proofs.Common.{◌≡◌, ◌∙◌, ◌≤◌, ◌+◌, sym, refl, inl, inr, arith}
+use Rattle.std.proofs.Common.{◌∙◌, sym, inl, inr, arith}
 use Rattle.td_tree.specs.Statements.{statements}
 use Rattle.td.proofs.Moving.{left_over, reached_none}
 use Rattle.td.proofs.run.run_held.Goals as goal

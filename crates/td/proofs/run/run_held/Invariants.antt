@@ -1,4 +1,4 @@
-use Rattle.std.proofs.Common.{◌≡◌, ℕ, ◌+◌, ◌≤◌, true, false, length}
+use Rattle.std.proofs.Common.{◌≡◌, ◌+◌, ◌≤◌, true, false, length}
 use Rattle.td_tree.specs.Statements.{statements}
 use Rattle.td.specs.Moves.{Reached}
 use Rattle.td.proofs.run.run_held.Given as goal

@@ -1,6 +1,6 @@
-use Rattle.std.proofs.Common.{◌≡◌, ◌+◌, ◌<◌, ◌≤◌, ℕ, List, length, take, sym, ap, subst, arith}
+use Rattle.std.proofs.Common.{ℕ, List, take, sym, subst, arith}
 use Rattle.std.specs.Io.KnownBytes.{Appends}
-use Rattle.td_tree.specs.Statements.{Held, after}
+use Rattle.td_tree.specs.Statements.{Held}
 use Rattle.td.specs.Moves.{Reached}
 use Rattle.td.specs.Told.{AppendsIfTold}
 use Rattle.td.proofs.Moving.{answered_by, fewer_held, has_run_cut, none_held, reached_more}

@@ -1,4 +1,4 @@
-use Rattle.std.proofs.Common.{◌≡◌, sym}
+use Rattle.std.proofs.Common.{sym}
 use Rattle.td.proofs.Places.{stands, unchanged}
 use Rattle.td.proofs.engine.database.put_body.Goals as goal
 

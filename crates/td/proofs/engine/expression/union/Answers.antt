@@ -1,5 +1,4 @@
-use Rattle.std.proofs.Common.{◌≡◌, ◌∙◌, sym, subst}
-use Rattle.std.specs.List.{All}
+use Rattle.std.proofs.Common.{◌≡◌, ◌∙◌, sym}
 use Rattle.std.proofs.lemmas.List.Elements.{All-append}
 use Rattle.td_value.specs.Values.{IsTupleOf}
 use Rattle.td.proofs.Unions.{one_heading}

@@ -1,4 +1,4 @@
-use Rattle.std.proofs.Common.{◌≡◌, ◌∙◌, ap, refl}
+use Rattle.std.proofs.Common.{◌∙◌, ap}
 use Rattle.td_types.specs.Headings.{are_distinct}
 use Rattle.td_value.specs.Values.{names_of}
 use Rattle.td.specs.Meaning.{written}

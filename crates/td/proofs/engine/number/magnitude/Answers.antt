@@ -1,4 +1,4 @@
-use Rattle.std.proofs.Common.{◌≡◌, ℕ, ◌+◌, ◌-◌, ◌*◌, ◌^◌, ◌≤◌, refl, sym, ◌∙◌, subst, arith}
+use Rattle.std.proofs.Common.{◌+◌, ◌*◌, ◌^◌, ◌≤◌, refl, ◌∙◌, subst, arith}
 use Rattle.td.proofs.Decimals.{large, none_spelled, not_below}
 use Rattle.td.proofs.engine.number.magnitude.Goals as goal
 

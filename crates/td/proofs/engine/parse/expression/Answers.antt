@@ -1,4 +1,4 @@
-use Rattle.std.proofs.Common.{rules, arith, ◌+◌, ◌-◌, ◌≡◌, ◌≤◌, ℕ, ap, sym, ◌∙◌, refl}
+use Rattle.std.proofs.Common.{rules, arith, ap, sym, ◌∙◌, refl}
 use Rattle.std.proofs.lemmas.Grind.{common_steps}
 use Rattle.td.specs.Reading.{expression_in, unions_from}
 use Rattle.td.specs.Trees.{expression_height}

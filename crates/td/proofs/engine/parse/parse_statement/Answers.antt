@@ -1,4 +1,4 @@
-use Rattle.std.proofs.Common.{◌≡◌, sym, ◌∙◌, map}
+use Rattle.std.proofs.Common.{sym, ◌∙◌, map}
 use Rattle.td.specs.Words.{words}
 use Rattle.td.proofs.Parses.{parses_from}
 use Rattle.td.proofs.engine.parse.parse_statement.Goals as goal

@@ -1,4 +1,4 @@
-use Rattle.std.proofs.Common.{rules, arith, ◌+◌, ◌-◌, ◌≡◌, length}
+use Rattle.std.proofs.Common.{rules, arith, length}
 use Rattle.std.proofs.lemmas.Grind.{common_steps}
 use Rattle.std.proofs.lemmas.List.{map_push}
 use Rattle.td.specs.Reading.{attribute_in, items_from}

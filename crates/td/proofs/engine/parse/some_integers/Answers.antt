@@ -1,4 +1,4 @@
-use Rattle.std.proofs.Common.{rules, arith, ◌+◌, ◌-◌, ◌≡◌, length}
+use Rattle.std.proofs.Common.{rules, arith, length}
 use Rattle.std.proofs.lemmas.Grind.{common_steps}
 use Rattle.td.specs.Reading.{integer_in, items_from}
 use Rattle.td.specs.Words.{words}

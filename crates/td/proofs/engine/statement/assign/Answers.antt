@@ -17,4 +17,4 @@ returns-in-Err-Refused-clause-done c =
     let db = c.args.database.now in let target = c.args.assignment.now.target in
     let o : Outcome Relation = with_both (known (relvar_at target db)) (meaning db (expression_of c.args.assignment.now.source)) assignable in
     outcome_does db o (λ source. changed db (with_body target source db))
-      c.in-Err-Refused.cause c.refused.result (subst (λ f. Answers {A = Relation} (Err f) o) c.in-Err-Refused.field-0-is c.in-Err-Refused.ensures) c.refused.ensures.flag c.refused.ensures.text
+    c.in-Err-Refused.cause c.refused.result (subst (λ f. Answers {A = Relation} (Err f) o) c.in-Err-Refused.field-0-is c.in-Err-Refused.ensures) c.refused.ensures.flag c.refused.ensures.text

@@ -1,4 +1,4 @@
-use Rattle.std.proofs.Common.{◌≡◌, ◌∙◌, ap, sym, Some}
+use Rattle.std.proofs.Common.{◌∙◌, sym}
 use Rattle.td.specs.Database.{with_body}
 use Rattle.td.proofs.Done.{broken_does, changed_does}
 use Rattle.td.proofs.Legal.{broken_assigned}
@@ -8,8 +8,8 @@ pub returns-then-not-branch-clause-done : goal.returns-then-not-branch-clause-do
 returns-then-not-branch-clause-done c =
     let holds = c.in_ok-target_holds.ensures in
     broken_does c.args.database.now (with_body c.args.target.now c.args.body c.args.database.now) c.args.target.now c.key_refused.result
-      (broken_assigned c.args.database.now c.args.target.now c.args.body holds.legal c.requires (sym holds.holds ∙ c.if-not-branch.true))
-      c.key_refused.ensures.flag c.key_refused.ensures.text
+    (broken_assigned c.args.database.now c.args.target.now c.args.body holds.legal c.requires (sym holds.holds ∙ c.if-not-branch.true))
+    c.key_refused.ensures.flag c.key_refused.ensures.text
 
 pub returns-clause-done : goal.returns-clause-done
 returns-clause-done c =

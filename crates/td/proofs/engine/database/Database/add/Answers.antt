@@ -1,6 +1,6 @@
-use Rattle.std.proofs.Common.{◌≡◌, ◌∷◌, [], ◌++◌, ◌∙◌, ap, sym, subst, true, List, refl}
+use Rattle.std.proofs.Common.{◌≡◌, ◌∷◌, [], ◌++◌, ◌∙◌, ap, sym, subst, true, List}
 use Rattle.std.proofs.lemmas.List.{map_push}
-use Rattle.td.specs.Database.{Database, Relvar, is_legal}
+use Rattle.td.specs.Database.{Database, is_legal}
 use Rattle.td.specs.Relvars.{relvar_of, relvars_of}
 use Rattle.td.specs.declared.engine.relvar.Relvar as code
 use Rattle.td.proofs.Legal.{legal_more}

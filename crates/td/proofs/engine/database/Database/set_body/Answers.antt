@@ -1,9 +1,9 @@
-use Rattle.std.proofs.Common.{◌≡◌, ◌∙◌, ℕ, List, Vec, ap, sym, subst, true, length, refl}
-use Rattle.std.proofs.lemmas.List.{length-map, with_items_is}
+use Rattle.std.proofs.Common.{◌≡◌, ◌∙◌, ℕ, List, Vec, ap, sym, subst, true, length}
+use Rattle.std.proofs.lemmas.List.{with_items_is}
 use Rattle.std.specs.Vec.{with_items}
 use Rattle.td_value.specs.Values.{Relation}
 use Rattle.td.specs.Database.{Database, is_legal, with_body}
-use Rattle.td.specs.Relvars.{relvar_of, relvars_of}
+use Rattle.td.specs.Relvars.{relvars_of}
 use Rattle.td.specs.declared.engine.relvar.Relvar as code
 use Rattle.td.proofs.Legal.{legal_assigned}
 use Rattle.td.proofs.Places.{length_stays}
