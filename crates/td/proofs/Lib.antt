@@ -3,6 +3,7 @@ pub mod Decimals
 pub mod Done
 pub mod Headings
 pub mod Joins
+pub mod Kept
 pub mod KeyLaws
 pub mod Legal
 pub mod LegalLaws

@@ -1,8 +1,9 @@
 //! Laws of the set machine.
-ghost use Rattle.std.specs.Prelude.{◌≡◌, Bool, List, []};
+ghost use Rattle.std.specs.Prelude.{◌≡◌, ◌≢◌, Bool, List, [], None};
 ghost use Rattle.td_tree.specs.Statements.{Entry};
+ghost use Rattle.td.specs.Database.{Database};
 ghost use Rattle.td.specs.Legality.{IsLegal};
-ghost use Rattle.td.specs.Machine.{Progress, Runs};
+ghost use Rattle.td.specs.Machine.{Progress, Runs, Step, Steps};
 
 /// Every list of statements has an outcome.
 #[tactic(auto, using(crate::proofs::Runs::some_outcome))]
@@ -24,4 +25,10 @@ pub fn databases_stay_legal()
     ensures begins { IsLegal [] }
     ensures stays { (stop : Bool) (so_far after : Progress) (script : List (List Entry))
         → IsLegal so_far.database → Runs stop so_far script after → IsLegal after.database }
+{}
+
+/// A refused statement changes nothing.
+#[tactic(auto, using(crate::proofs::Kept::refused_keeps))]
+pub fn refused_statements_change_nothing()
+    ensures { (db : Database) (tokens : List Entry) (s : Step) → Steps db tokens s → s.cause ≢ None → s.database ≡ db }
 {}
