@@ -18,3 +18,4 @@ pub mod Stepping
 pub mod ToldLaws
 pub mod Turns
 pub mod Unions
+pub mod Worked
