@@ -19,3 +19,4 @@ pub mod ToldLaws
 pub mod Turns
 pub mod Unions
 pub mod Worked
+pub mod WorkedRuns

@@ -1,0 +1,196 @@
+-- Worked examples, from the bytes of a script to the bytes of its answers.
+use Rattle.std.proofs.Common.{◌≡◌, ◌≢◌, ℕ, ◌≤◌, Bool, true, false, List, [], ◌∷◌, ◌++◌, Option, Some, None, map, refl, sym, ap, ◌∙◌, subst, codes, arith, if◌then◌else◌}
+use Rattle.std.specs.Fmt.{digits}
+use Rattle.std.specs.List.{AllByRecursion}
+use Rattle.std.specs.Str.{chars, is_utf8}
+use Rattle.td_tree.specs.Keywords.{keyword_of}
+use Rattle.td_tree.specs.Names.{is_name}
+use Rattle.td_tree.specs.Pieces.{sign_at, longer_sign, opens, goes_on, word_kind}
+use Rattle.td_tree.specs.Statements.{Entry, tokens, statements}
+use Rattle.td.specs.Grammar.{IsStatement, statement_words}
+use Rattle.td.specs.Machine.{Progress, Runs, nothing, stopped, next, spelled, and_then, begun, has_stopped, is_bad_in, stepped, words_in}
+use Rattle.td.specs.Trees.{Statement}
+use Rattle.td.specs.Words.{Word, keyword, sign, name, number, other, name_word}
+use Rattle.td.proofs.Runs.{one_outcome}
+use Rattle.td.proofs.Worked.{k, r, k_is, keyed, single_keyed, define_r, add_two, write_r, define_single, two_tuples, write_q, other_heading}
+
+-- ---- from trees to runs
+
+-- whether each list of tokens has a bad one, and its words
+abbrev pub read : List (List Entry) → List (Bool × List Word)
+read = map (λ tokens. (is_bad_in tokens, words_in tokens))
+
+-- the words of trees, and none is bad
+abbrev pub spell : List Statement → List (Bool × List Word)
+spell = map (λ t. (false, statement_words t))
+
+-- these trees run in turn
+abbrev pub after_trees : Bool → Progress → List Statement → Progress
+after_trees stop p [] = p
+after_trees stop p (t ∷ ts) = if has_stopped stop p then p else after_trees stop (and_then p (stepped p.database t)) ts
+
+abbrev first_of_all : {A : Type 0} → A → List A → A
+first_of_all d [] = d
+first_of_all d (x ∷ xs) = x
+
+abbrev others : {A : Type 0} → List A → List A
+others [] = []
+others (x ∷ xs) = xs
+
+-- statements that spell trees run as the trees do
+pub runs_as_spelled : (stop : Bool) (p : Progress) (ss : List (List Entry)) (ts : List Statement) → read ss ≡ spell ts → AllByRecursion IsStatement ts → Runs stop p ss (after_trees stop p ts)
+runs_as_spelled stop p [] [] is stand = nothing
+runs_as_spelled stop p [] (t ∷ ts) is stand = absurd cc
+runs_as_spelled stop p (s ∷ ss) [] is stand = absurd cc
+runs_as_spelled stop p (s ∷ ss) (t ∷ ts) is stand =
+    by_test (runs_as_spelled stop (and_then p (stepped p.database t)) ss ts (ap others is) stand.1) (has_stopped stop p) refl
+  where
+    good : is_bad_in s ≡ false
+    good = ap (λ (xs : List (Bool × List Word)). (first_of_all (false, []) xs).0) is
+    words : words_in s ≡ statement_words t
+    words = ap (λ (xs : List (Bool × List Word)). (first_of_all (false, []) xs).1) is
+    by_test : Runs stop (and_then p (stepped p.database t)) ss (after_trees stop (and_then p (stepped p.database t)) ts)
+        → (b : Bool) → has_stopped stop p ≡ b → Runs stop p (s ∷ ss) (after_trees stop p (t ∷ ts))
+    by_test rest true e = rw e (stopped e)
+    by_test rest false e = rw e (next (stepped p.database t) e (spelled t good (record { are = words; stands = stand.0 })) rest)
+
+-- the bytes are cut into statements that spell these trees
+pub record IsCutInto (script : List ℕ) (trees : List Statement) : Type 0 where
+  pub words_are : read (statements 0 script) ≡ spell trees
+  pub stand : AllByRecursion IsStatement trees
+
+-- bytes that spell trees run as the trees do, and in no other way
+pub record Answers (stop : Bool) (script : List ℕ) (progress : Progress) : Type 0 where
+  pub runs : Runs stop (begun []) (statements 0 script) progress
+  pub alone : (p : Progress) → Runs stop (begun []) (statements 0 script) p → p ≡ progress
+
+pub answers : (stop : Bool) (script : List ℕ) (trees : List Statement) (progress : Progress) → IsCutInto script trees → after_trees stop (begun []) trees ≡ progress → Answers stop script progress
+answers stop script trees progress cut is =
+    let runs : Runs stop (begun []) (statements 0 script) progress =
+        subst (λ (p : Progress). Runs stop (begun []) (statements 0 script) p) is (runs_as_spelled stop (begun []) (statements 0 script) trees cut.words_are cut.stand) in
+    record { runs = runs; alone = λ p other. one_outcome stop (begun []) (statements 0 script) p progress other runs }
+
+-- ---- from bytes to trees
+
+-- `unfolding computing` lets `refl` compute the tokens and the words of a script
+unfoldable computing : Unit {0}
+unfolding tokens statements chars is_utf8 lib.Utf8.encode keyword_of sign_at longer_sign opens goes_on word_kind digits
+computing = tt
+
+-- these are names
+abbrev pub AreNames : List (List ℕ) → Type 0
+AreNames = AllByRecursion (λ n. is_name n ≡ true)
+
+-- a name as its bytes are seen
+abbrev seen : Word → Word
+seen (name n) = name_word n
+seen w = w
+
+abbrev IsSeen : Word → Type 0
+IsSeen (name n) = name_word n ≡ name n
+IsSeen w = Unit {0}
+
+abbrev AreSeen : List Statement → Type 0
+AreSeen = AllByRecursion (λ t. AllByRecursion IsSeen (statement_words t))
+
+abbrev spell_seen : List Statement → List (Bool × List Word)
+spell_seen = map (λ t. (false, map seen (statement_words t)))
+
+seen_same : (ws : List Word) → AllByRecursion IsSeen ws → map seen ws ≡ ws
+seen_same [] h = refl
+seen_same (keyword j ∷ ws) h = ap (λ vs. keyword j ∷ vs) (seen_same ws h.1)
+seen_same (sign j ∷ ws) h = ap (λ vs. sign j ∷ vs) (seen_same ws h.1)
+seen_same (name n ∷ ws) h = λ i. h.0 i ∷ seen_same ws h.1 i
+seen_same (number n ∷ ws) h = ap (λ vs. number n ∷ vs) (seen_same ws h.1)
+seen_same (other ∷ ws) h = ap (λ vs. other ∷ vs) (seen_same ws h.1)
+
+all_seen : (ts : List Statement) → AreSeen ts → spell_seen ts ≡ spell ts
+all_seen [] h = refl
+all_seen (t ∷ ts) h = λ i. (false, seen_same (statement_words t) h.0 i) ∷ all_seen ts h.1 i
+
+cut_into : (script : List ℕ) (ts : List Statement) → read (statements 0 script) ≡ spell_seen ts → AreSeen ts → AllByRecursion IsStatement ts → IsCutInto script ts
+cut_into script ts is names stand = record { words_are = is ∙ all_seen ts names; stand = stand }
+
+k_seen : is_name k ≡ true → name_word k ≡ name k
+unfolding computing
+k_seen named = rw named refl
+
+r_seen : is_name r ≡ true → name_word r ≡ name r
+unfolding computing
+r_seen named = rw named refl
+
+x_seen : is_name (codes "X") ≡ true → name_word (codes "X") ≡ name (codes "X")
+unfolding computing
+x_seen named = rw named refl
+
+define_stands : IsStatement define_r
+define_stands = tt
+
+assign_stands : IsStatement add_two
+assign_stands = ((tt, (((omega arith, tt), ((omega arith, tt), tt)), (λ e. absurd cc))), omega arith)
+
+write_stands : IsStatement write_r
+write_stands = (tt, omega arith)
+
+other_stands : IsStatement other_heading
+other_stands = (((((omega arith, tt), tt)), (λ e. absurd cc)), omega arith)
+
+-- ---- the first script
+
+abbrev pub first_script : List ℕ
+first_script = codes "VAR R BASE RELATION {K INTEGER} KEY {K}; R := R UNION RELATION {TUPLE {K 2}, TUPLE {K 1}}; WRITE R;"
+
+-- its bytes are its three statements
+pub first_script_cut : AreNames (k ∷ r ∷ []) → IsCutInto first_script (define_r ∷ add_two ∷ write_r ∷ [])
+unfolding computing
+first_script_cut named = let k_is = k_seen named.0 in let r_is = r_seen named.1.0 in
+    cut_into first_script _ refl (assumption (k_is, r_is)) (define_stands, (assign_stands, (write_stands, tt)))
+
+-- the database and the answers of the first script
+abbrev pub first_progress : Progress
+first_progress = record {
+  database = keyed (k_is 1 ∷ k_is 2 ∷ []);
+  text = codes "OK\nOK\nRELATION {K INTEGER} {TUPLE {K 1}, TUPLE {K 2}}\n";
+  statements = 3;
+  refusals = 0;
+}
+
+first_trees_do : (stop : Bool) → after_trees stop (begun []) (define_r ∷ add_two ∷ write_r ∷ []) ≡ first_progress
+unfolding digits
+first_trees_do true = refl
+first_trees_do false = refl
+
+-- its answers, with `stop` or without: all three statements are accepted
+pub first_script_answers : (stop : Bool) → AreNames (k ∷ r ∷ []) → Answers stop first_script first_progress
+first_script_answers stop named = answers stop first_script _ first_progress (first_script_cut named) (first_trees_do stop)
+
+-- ---- a refused statement in the middle
+
+abbrev pub middle_script : List ℕ
+middle_script = codes "VAR R BASE RELATION {K INTEGER} KEY {K}; R := RELATION {TUPLE {X 1}}; WRITE R;"
+
+-- its bytes are its three statements
+pub middle_script_cut : AreNames (k ∷ r ∷ codes "X" ∷ []) → IsCutInto middle_script (define_r ∷ other_heading ∷ write_r ∷ [])
+unfolding computing
+middle_script_cut named = let k_is = k_seen named.0 in let r_is = r_seen named.1.0 in let x_is = x_seen named.1.1.0 in
+    cut_into middle_script _ refl (assumption (k_is, r_is, x_is)) (define_stands, (other_stands, (write_stands, tt)))
+
+-- without `stop` what stands after the refused statement is answered too, on the database of before
+pub middle_script_goes_on : AreNames (k ∷ r ∷ codes "X" ∷ []) → Answers false middle_script (record {
+  database = keyed [];
+  text = codes "OK\nREFUSED 6 HEADING\nRELATION {K INTEGER} {}\n";
+  statements = 3;
+  refusals = 1;
+})
+unfolding digits
+middle_script_goes_on named = answers false middle_script _ _ (middle_script_cut named) refl
+
+-- with `stop` the refused statement is the last that is answered
+pub stop_ends_the_run : AreNames (k ∷ r ∷ codes "X" ∷ []) → Answers true middle_script (record {
+  database = keyed [];
+  text = codes "OK\nREFUSED 6 HEADING\n";
+  statements = 2;
+  refusals = 1;
+})
+unfolding digits
+stop_ends_the_run named = answers true middle_script _ _ (middle_script_cut named) refl
