@@ -3,13 +3,16 @@ use Rattle.std.proofs.Common.{◌≡◌, ◌≢◌, ℕ, ◌≤◌, Bool, true, 
 use Rattle.std.specs.Fmt.{digits}
 use Rattle.std.specs.List.{AllByRecursion}
 use Rattle.std.specs.Str.{chars, is_utf8}
+use Rattle.td_tree.specs.declared.keyword.Keyword.TheVariants as keywords
+use Rattle.td_tree.specs.declared.token.Kind.TheVariants as kinds
+use Rattle.td_tree.specs.declared.token.Sign.TheVariants as signs
 use Rattle.td_tree.specs.Keywords.{keyword_of}
 use Rattle.td_tree.specs.Names.{is_name}
 use Rattle.td_tree.specs.Pieces.{sign_at, longer_sign, opens, goes_on, word_kind}
 use Rattle.td_tree.specs.Statements.{Entry, tokens, statements}
 use Rattle.td.specs.Grammar.{IsStatement, statement_words}
 use Rattle.td.specs.Machine.{Progress, Runs, nothing, stopped, next, spelled, and_then, begun, has_stopped, is_bad_in, stepped, words_in}
-use Rattle.td.specs.Trees.{Statement}
+use Rattle.td.specs.Trees.{Statement, empty}
 use Rattle.td.specs.Words.{Word, keyword, sign, name, number, other, name_word}
 use Rattle.td.proofs.Runs.{one_outcome}
 use Rattle.td.proofs.Worked.{k, r, k_is, keyed, single_keyed, define_r, add_two, write_r, define_single, two_tuples, write_q, other_heading}
@@ -119,21 +122,33 @@ r_seen : is_name r ≡ true → name_word r ≡ name r
 unfolding computing
 r_seen named = rw named refl
 
+q_seen : is_name (codes "Q") ≡ true → name_word (codes "Q") ≡ name (codes "Q")
+unfolding computing
+q_seen named = rw named refl
+
 x_seen : is_name (codes "X") ≡ true → name_word (codes "X") ≡ name (codes "X")
 unfolding computing
 x_seen named = rw named refl
 
-define_stands : IsStatement define_r
-define_stands = tt
-
-assign_stands : IsStatement add_two
-assign_stands = ((tt, (((omega arith, tt), ((omega arith, tt), tt)), (λ e. absurd cc))), omega arith)
+add_stands : IsStatement add_two
+add_stands = ((tt, (((omega arith, tt), ((omega arith, tt), tt)), (λ e. absurd cc))), omega arith)
 
 write_stands : IsStatement write_r
 write_stands = (tt, omega arith)
 
 other_stands : IsStatement other_heading
 other_stands = (((((omega arith, tt), tt)), (λ e. absurd cc)), omega arith)
+
+two_stand : IsStatement two_tuples
+two_stand = ((((omega arith, tt), ((omega arith, tt), tt)), (λ e. absurd cc)), omega arith)
+
+-- a statement's tokens, each with its bytes and its place in the script
+pub one_statement_cut : statements 0 (codes "WRITE  R;\n") ≡ (
+    record { kind = kinds.Reserved keywords.Write; text = codes "WRITE"; start = 0; stop = 5 }
+    ∷ record { kind = kinds.Name; text = codes "R"; start = 7; stop = 8 }
+    ∷ record { kind = kinds.Sign signs.Semicolon; text = codes ";"; start = 8; stop = 9 } ∷ []) ∷ []
+unfolding computing
+one_statement_cut = refl
 
 -- ---- the first script
 
@@ -144,7 +159,7 @@ first_script = codes "VAR R BASE RELATION {K INTEGER} KEY {K}; R := R UNION RELA
 pub first_script_cut : AreNames (k ∷ r ∷ []) → IsCutInto first_script (define_r ∷ add_two ∷ write_r ∷ [])
 unfolding computing
 first_script_cut named = let k_is = k_seen named.0 in let r_is = r_seen named.1.0 in
-    cut_into first_script _ refl (assumption (k_is, r_is)) (define_stands, (assign_stands, (write_stands, tt)))
+    cut_into first_script _ refl (assumption (k_is, r_is)) (tt, (add_stands, (write_stands, tt)))
 
 -- the database and the answers of the first script
 abbrev pub first_progress : Progress
@@ -173,7 +188,7 @@ middle_script = codes "VAR R BASE RELATION {K INTEGER} KEY {K}; R := RELATION {T
 pub middle_script_cut : AreNames (k ∷ r ∷ codes "X" ∷ []) → IsCutInto middle_script (define_r ∷ other_heading ∷ write_r ∷ [])
 unfolding computing
 middle_script_cut named = let k_is = k_seen named.0 in let r_is = r_seen named.1.0 in let x_is = x_seen named.1.1.0 in
-    cut_into middle_script _ refl (assumption (k_is, r_is, x_is)) (define_stands, (other_stands, (write_stands, tt)))
+    cut_into middle_script _ refl (assumption (k_is, r_is, x_is)) (tt, (other_stands, (write_stands, tt)))
 
 -- without `stop` what stands after the refused statement is answered too, on the database of before
 pub middle_script_goes_on : AreNames (k ∷ r ∷ codes "X" ∷ []) → Answers false middle_script (record {
@@ -194,3 +209,47 @@ pub stop_ends_the_run : AreNames (k ∷ r ∷ codes "X" ∷ []) → Answers true
 })
 unfolding digits
 stop_ends_the_run named = answers true middle_script _ _ (middle_script_cut named) refl
+
+-- ---- a key that does not hold, and a name that is unknown
+
+abbrev pub key_script : List ℕ
+key_script = codes "VAR R BASE RELATION {K INTEGER} KEY {}; R := RELATION {TUPLE {K 1}, TUPLE {K 2}}; WRITE R; WRITE Q;"
+
+-- its bytes are its four statements
+pub key_script_cut : AreNames (k ∷ r ∷ codes "Q" ∷ []) → IsCutInto key_script (define_single ∷ two_tuples ∷ write_r ∷ write_q ∷ [])
+unfolding computing
+key_script_cut named = let k_is = k_seen named.0 in let r_is = r_seen named.1.0 in let q_is = q_seen named.1.1.0 in
+    cut_into key_script _ refl (assumption (k_is, r_is, q_is)) (tt, (two_stand, (write_stands, ((tt, omega arith), tt))))
+
+-- without `stop` all four are answered: two are refused, and R stays empty
+pub key_script_goes_on : AreNames (k ∷ r ∷ codes "Q" ∷ []) → Answers false key_script (record {
+  database = single_keyed;
+  text = codes "OK\nREFUSED 30 KEY R\nRELATION {K INTEGER} {}\nREFUSED 3 NAME_UNKNOWN\n";
+  statements = 4;
+  refusals = 2;
+})
+unfolding digits
+key_script_goes_on named = answers false key_script _ _ (key_script_cut named) refl
+
+-- with `stop` the statement that breaks the key is the last
+pub key_script_stops : AreNames (k ∷ r ∷ codes "Q" ∷ []) → Answers true key_script (record {
+  database = single_keyed;
+  text = codes "OK\nREFUSED 30 KEY R\n";
+  statements = 2;
+  refusals = 1;
+})
+unfolding digits
+key_script_stops named = answers true key_script _ _ (key_script_cut named) refl
+
+-- ---- scripts of one statement or none
+
+-- the empty script has no statements and no answers
+pub empty_script_answers : (stop : Bool) → Answers stop [] (begun [])
+unfolding computing
+empty_script_answers stop = answers stop [] [] (begun []) (record { words_are = refl; stand = tt }) refl
+
+-- a statement of no words but its semicolon is accepted
+pub empty_statement_answers : (stop : Bool) → Answers stop (codes ";") (record { database = []; text = codes "OK\n"; statements = 1; refusals = 0 })
+unfolding computing
+empty_statement_answers true = answers true (codes ";") (empty ∷ []) _ (record { words_are = refl; stand = (tt, tt) }) refl
+empty_statement_answers false = answers false (codes ";") (empty ∷ []) _ (record { words_are = refl; stand = (tt, tt) }) refl
