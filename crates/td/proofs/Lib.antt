@@ -19,4 +19,5 @@ pub mod ToldLaws
 pub mod Turns
 pub mod Unions
 pub mod Worked
+pub mod WorkedNames
 pub mod WorkedRuns

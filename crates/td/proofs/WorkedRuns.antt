@@ -3,6 +3,8 @@ use Rattle.std.proofs.Common.{◌≡◌, ◌≢◌, ℕ, ◌≤◌, Bool, true, 
 use Rattle.std.specs.Fmt.{digits}
 use Rattle.std.specs.List.{AllByRecursion}
 use Rattle.std.specs.Str.{chars, is_utf8}
+use Rattle.td_tree.specs.declared.cause.Cause.{Cause}
+use Rattle.td_tree.specs.declared.cause.Cause.TheVariants as causes
 use Rattle.td_tree.specs.declared.keyword.Keyword.TheVariants as keywords
 use Rattle.td_tree.specs.declared.token.Kind.TheVariants as kinds
 use Rattle.td_tree.specs.declared.token.Sign.TheVariants as signs
@@ -11,9 +13,11 @@ use Rattle.td_tree.specs.Names.{is_name}
 use Rattle.td_tree.specs.Pieces.{sign_at, longer_sign, opens, goes_on, word_kind}
 use Rattle.td_tree.specs.Statements.{Entry, tokens, statements}
 use Rattle.td.specs.Grammar.{IsStatement, statement_words}
-use Rattle.td.specs.Machine.{Progress, Runs, nothing, stopped, next, spelled, and_then, begun, has_stopped, is_bad_in, stepped, words_in}
+use Rattle.td.specs.Machine.{Progress, Runs, nothing, stopped, next, Steps, scanned, unspelled, spelled, and_then, begun, has_stopped, is_bad_in, refused, stepped, words_in}
+use Rattle.td.specs.Reading.{whole_in, statement_in, closed_in, body_in, write_in, expression_in, operand_in, name_in, after_keyword, after_sign}
 use Rattle.td.specs.Trees.{Statement, empty}
 use Rattle.td.specs.Words.{Word, keyword, sign, name, number, other, name_word}
+use Rattle.td.proofs.Parses.{none_spelled}
 use Rattle.td.proofs.Runs.{one_outcome}
 use Rattle.td.proofs.Worked.{k, r, k_is, keyed, single_keyed, define_r, add_two, write_r, define_single, two_tuples, write_q, other_heading}
 
@@ -253,3 +257,25 @@ pub empty_statement_answers : (stop : Bool) → Answers stop (codes ";") (record
 unfolding computing
 empty_statement_answers true = answers true (codes ";") (empty ∷ []) _ (record { words_are = refl; stand = (tt, tt) }) refl
 empty_statement_answers false = answers false (codes ";") (empty ∷ []) _ (record { words_are = refl; stand = (tt, tt) }) refl
+
+-- a script of one refused statement
+one_refused : (stop : Bool) (script : List ℕ) (s : List Entry) (cause : Cause) → statements 0 script ≡ s ∷ [] → Steps [] s (refused [] cause)
+    → Answers stop script (and_then (begun []) (refused [] cause))
+one_refused stop script s cause is step =
+    let runs : Runs stop (begun []) (statements 0 script) (and_then (begun []) (refused [] cause)) =
+        subst (λ ss. Runs stop (begun []) ss (and_then (begun []) (refused [] cause))) (sym is) (next (refused [] cause) (not_stopped stop) step nothing) in
+    record { runs = runs; alone = λ p other. one_outcome stop (begun []) (statements 0 script) p _ other runs }
+  where
+    not_stopped : (b : Bool) → has_stopped b (begun []) ≡ false
+    not_stopped true = refl
+    not_stopped false = refl
+
+-- a character that begins no token
+pub bad_token_answers : (stop : Bool) → Answers stop (codes "WRITE ?;") (record { database = []; text = codes "REFUSED 1 SCAN\n"; statements = 1; refusals = 1 })
+unfolding computing
+bad_token_answers stop = one_refused stop (codes "WRITE ?;") _ causes.Scan refl (scanned refl)
+
+-- tokens left without a semicolon are a statement that no tree spells
+pub unended_answers : (stop : Bool) → Answers stop (codes "WRITE 1") (record { database = []; text = codes "REFUSED 2 SYNTAX\n"; statements = 1; refusals = 1 })
+unfolding computing whole_in statement_in closed_in body_in write_in expression_in operand_in name_in after_keyword after_sign
+unended_answers stop = one_refused stop (codes "WRITE 1") _ causes.Syntax refl (unspelled refl (none_spelled _ refl))
