@@ -80,7 +80,7 @@ answers stop script trees progress cut is =
 -- ---- from bytes to trees
 
 -- `unfolding computing` lets `refl` compute the tokens and the words of a script
-unfoldable computing : Unit {0}
+unfoldable pub computing : Unit {0}
 unfolding tokens statements chars is_utf8 lib.Utf8.encode keyword_of sign_at longer_sign opens goes_on word_kind digits
 computing = tt
 
@@ -88,19 +88,19 @@ computing = tt
 abbrev pub AreNames : List (List ℕ) → Type 0
 AreNames = AllByRecursion (λ n. is_name n ≡ true)
 
--- a name as its bytes are seen
-abbrev seen : Word → Word
+-- a name as its bytes are seen: they may be no name
+abbrev pub seen : Word → Word
 seen (name n) = name_word n
 seen w = w
 
-abbrev IsSeen : Word → Type 0
+abbrev pub IsSeen : Word → Type 0
 IsSeen (name n) = name_word n ≡ name n
 IsSeen w = Unit {0}
 
-abbrev AreSeen : List Statement → Type 0
+abbrev pub AreSeen : List Statement → Type 0
 AreSeen = AllByRecursion (λ t. AllByRecursion IsSeen (statement_words t))
 
-abbrev spell_seen : List Statement → List (Bool × List Word)
+abbrev pub spell_seen : List Statement → List (Bool × List Word)
 spell_seen = map (λ t. (false, map seen (statement_words t)))
 
 seen_same : (ws : List Word) → AllByRecursion IsSeen ws → map seen ws ≡ ws
@@ -115,7 +115,7 @@ all_seen : (ts : List Statement) → AreSeen ts → spell_seen ts ≡ spell ts
 all_seen [] h = refl
 all_seen (t ∷ ts) h = λ i. (false, seen_same (statement_words t) h.0 i) ∷ all_seen ts h.1 i
 
-cut_into : (script : List ℕ) (ts : List Statement) → read (statements 0 script) ≡ spell_seen ts → AreSeen ts → AllByRecursion IsStatement ts → IsCutInto script ts
+pub cut_into : (script : List ℕ) (ts : List Statement) → read (statements 0 script) ≡ spell_seen ts → AreSeen ts → AllByRecursion IsStatement ts → IsCutInto script ts
 cut_into script ts is names stand = record { words_are = is ∙ all_seen ts names; stand = stand }
 
 k_seen : is_name k ≡ true → name_word k ≡ name k
