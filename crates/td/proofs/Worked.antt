@@ -21,6 +21,10 @@ r = codes "R"
 abbrev pub tuple : ℕ → TupleLiteral
 tuple n = record { name = k; numeral = record { minus = false; magnitude = n } } ∷ []
 
+-- TUPLE {K - n}
+abbrev pub minus : ℕ → TupleLiteral
+minus n = record { name = k; numeral = record { minus = true; magnitude = n } } ∷ []
+
 -- the value of TUPLE {K n}
 abbrev pub k_is : ℕ → Entries
 k_is n = (k, integer (pos n)) ∷ []
@@ -116,3 +120,60 @@ refused_in_the_middle = refl
 pub written_after_refusal : stepped (keyed []) write_r ≡ record { database = keyed []; cause = None; text = codes "RELATION {K INTEGER} {}\n" }
 unfolding digits
 written_after_refusal = refl
+
+-- ---- other statements
+
+-- TUPLE {A a, B b}, and with the attributes the other way round
+abbrev pub pair : ℕ → ℕ → TupleLiteral
+pair a b = record { name = codes "A"; numeral = record { minus = false; magnitude = a } } ∷ record { name = codes "B"; numeral = record { minus = false; magnitude = b } } ∷ []
+
+abbrev pub turned_pair : ℕ → ℕ → TupleLiteral
+turned_pair a b = record { name = codes "B"; numeral = record { minus = false; magnitude = b } } ∷ record { name = codes "A"; numeral = record { minus = false; magnitude = a } } ∷ []
+
+-- attributes have no order, and a tuple that is written twice is one
+pub one_tuple_written : stepped [] (write (single (literal None (turned_pair 1 2 ∷ pair 1 2 ∷ []))))
+    ≡ record { database = []; cause = None; text = codes "RELATION {A INTEGER, B INTEGER} {TUPLE {A 1, B 2}}\n" }
+unfolding digits
+one_tuple_written = refl
+
+-- RELATION {TUPLE {K - 0}, TUPLE {K 0}, TUPLE {K - 7}} has two tuples, the lesser first
+pub minus_nought_is_nought : stepped [] (write (single (literal None (minus 0 ∷ tuple 0 ∷ minus 7 ∷ []))))
+    ≡ record { database = []; cause = None; text = codes "RELATION {K INTEGER} {TUPLE {K -7}, TUPLE {K 0}}\n" }
+unfolding digits
+minus_nought_is_nought = refl
+
+-- the relation without attributes that has a tuple, and the one that has none
+pub empty_tuple_written : stepped [] (write (single (literal None ([] ∷ [])))) ≡ record { database = []; cause = None; text = codes "RELATION {} {TUPLE {}}\n" }
+empty_tuple_written = refl
+
+pub no_tuple_written : stepped [] (write (single (literal (Some []) []))) ≡ record { database = []; cause = None; text = codes "RELATION {} {}\n" }
+no_tuple_written = refl
+
+-- a relvar is defined once
+pub taken_name_refused : stepped (keyed []) define_r ≡ record { database = keyed []; cause = Some causes.NameTaken; text = codes "REFUSED 4 NAME_TAKEN\n" }
+unfolding digits
+taken_name_refused = refl
+
+-- VAR R BASE RELATION {K INTEGER}; has no key
+pub no_key_refused : stepped [] (define r (k ∷ []) []) ≡ record { database = []; cause = Some causes.KeyDeclaration; text = codes "REFUSED 7 KEY_DECLARATION\n" }
+unfolding digits
+no_key_refused = refl
+
+-- VAR R BASE RELATION {K INTEGER} KEY {X}; has a key on what is no attribute
+pub other_key_refused : stepped [] (define r (k ∷ []) ((codes "X" ∷ []) ∷ [])) ≡ record { database = []; cause = Some causes.KeyDeclaration; text = codes "REFUSED 7 KEY_DECLARATION\n" }
+unfolding digits
+other_key_refused = refl
+
+-- VAR R BASE RELATION {K INTEGER} KEY {K} KEY {}; has a key that includes another
+pub larger_key_refused : stepped [] (define r (k ∷ []) ((k ∷ []) ∷ [] ∷ [])) ≡ record { database = []; cause = Some causes.KeyDeclaration; text = codes "REFUSED 7 KEY_DECLARATION\n" }
+unfolding digits
+larger_key_refused = refl
+
+-- Q := RELATION {TUPLE {K 1}, TUPLE {A 1, B 2}}; has two causes: that of the lesser number is named
+pub least_cause_named : stepped [] (assign (codes "Q") (single (literal None (tuple 1 ∷ pair 1 2 ∷ [])))) ≡ record { database = []; cause = Some causes.NameUnknown; text = codes "REFUSED 3 NAME_UNKNOWN\n" }
+unfolding digits
+least_cause_named = refl
+
+-- R := RELATION {K INTEGER} {}; takes the tuples away
+pub emptied : stepped (keyed (k_is 1 ∷ [])) (assign r (single (literal (Some (k ∷ [])) []))) ≡ record { database = keyed []; cause = None; text = codes "OK\n" }
+emptied = refl

@@ -12,7 +12,7 @@ use Rattle.td_tree.specs.Keywords.{keyword_of}
 use Rattle.td_tree.specs.Names.{is_name}
 use Rattle.td_tree.specs.Pieces.{sign_at, longer_sign, opens, goes_on, word_kind}
 use Rattle.td_tree.specs.Statements.{Entry, tokens, statements}
-use Rattle.td.specs.Grammar.{IsStatement, statement_words}
+use Rattle.td.specs.Grammar.{IsStatement, Spells, statement_words}
 use Rattle.td.specs.Machine.{Progress, Runs, nothing, stopped, next, Steps, scanned, unspelled, spelled, and_then, begun, has_stopped, is_bad_in, refused, stepped, words_in}
 use Rattle.td.specs.Reading.{whole_in, statement_in, closed_in, body_in, write_in, expression_in, operand_in, name_in, after_keyword, after_sign}
 use Rattle.td.specs.Trees.{Statement, empty}
@@ -142,6 +142,21 @@ write_stands = (tt, omega arith)
 
 other_stands : IsStatement other_heading
 other_stands = (((((omega arith, tt), tt)), (λ e. absurd cc)), omega arith)
+
+-- the words of each statement of the first script spell its tree
+pub definition_spelled : Spells (
+    keyword keywords.Var ∷ name r ∷ keyword keywords.Base ∷ keyword keywords.Relation ∷ sign signs.OpenBrace ∷ name k ∷ keyword keywords.Integer ∷ sign signs.CloseBrace
+    ∷ keyword keywords.Key ∷ sign signs.OpenBrace ∷ name k ∷ sign signs.CloseBrace ∷ sign signs.Semicolon ∷ []) define_r
+definition_spelled = record { are = refl; stands = tt }
+
+pub assignment_spelled : Spells (
+    name r ∷ sign signs.Assign ∷ name r ∷ keyword keywords.Union ∷ keyword keywords.Relation ∷ sign signs.OpenBrace
+    ∷ keyword keywords.Tuple ∷ sign signs.OpenBrace ∷ name k ∷ number 2 ∷ sign signs.CloseBrace ∷ sign signs.Comma
+    ∷ keyword keywords.Tuple ∷ sign signs.OpenBrace ∷ name k ∷ number 1 ∷ sign signs.CloseBrace ∷ sign signs.CloseBrace ∷ sign signs.Semicolon ∷ []) add_two
+assignment_spelled = record { are = refl; stands = add_stands }
+
+pub writing_spelled : Spells (keyword keywords.Write ∷ name r ∷ sign signs.Semicolon ∷ []) write_r
+writing_spelled = record { are = refl; stands = write_stands }
 
 two_stand : IsStatement two_tuples
 two_stand = ((((omega arith, tt), ((omega arith, tt), tt)), (λ e. absurd cc)), omega arith)
