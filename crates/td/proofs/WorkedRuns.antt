@@ -14,12 +14,12 @@ use Rattle.td_tree.specs.Pieces.{sign_at, longer_sign, opens, goes_on, word_kind
 use Rattle.td_tree.specs.Statements.{Entry, tokens, statements}
 use Rattle.td.specs.Grammar.{IsStatement, Spells, statement_words}
 use Rattle.td.specs.Machine.{Progress, Runs, nothing, stopped, next, Steps, scanned, unspelled, spelled, and_then, begun, has_stopped, is_bad_in, refused, stepped, words_in}
-use Rattle.td.specs.Reading.{whole_in, statement_in, closed_in, body_in, write_in, expression_in, operand_in, name_in, after_keyword, after_sign}
-use Rattle.td.specs.Trees.{Statement, empty}
+use Rattle.td.specs.Reading.{whole_in, statement_in, closed_in, body_in, write_in, expression_in, unions_from, operand_in, relation_in, begins_tuples, tuples_in, with_heading_in, any_tuples_in, tuple_in, attributes_in, attribute_in, numeral_in, magnitude_in, heading_in, braced_in, any_items, some_items, items_from, goes_on as goes_on_in, name_in, after_keyword, after_sign}
+use Rattle.td.specs.Trees.{Statement, empty, write, single, literal}
 use Rattle.td.specs.Words.{Word, keyword, sign, name, number, other, name_word}
 use Rattle.td.proofs.Parses.{none_spelled}
 use Rattle.td.proofs.Runs.{one_outcome}
-use Rattle.td.proofs.Worked.{k, r, k_is, keyed, single_keyed, define_r, add_two, write_r, define_single, two_tuples, write_q, other_heading}
+use Rattle.td.proofs.Worked.{k, r, minus, k_is, keyed, single_keyed, define_r, add_two, write_r, define_single, two_tuples, write_q, other_heading}
 
 -- ---- from trees to runs
 
@@ -83,6 +83,11 @@ answers stop script trees progress cut is =
 unfoldable pub computing : Unit {0}
 unfolding tokens statements chars is_utf8 lib.Utf8.encode keyword_of sign_at longer_sign opens goes_on word_kind digits
 computing = tt
+
+-- `unfolding reading` lets `refl` compute that words spell no tree
+unfoldable pub reading : Unit {0}
+unfolding whole_in statement_in closed_in body_in write_in expression_in unions_from operand_in relation_in begins_tuples tuples_in with_heading_in any_tuples_in tuple_in attributes_in attribute_in numeral_in magnitude_in heading_in braced_in any_items some_items items_from goes_on_in name_in after_keyword after_sign
+reading = tt
 
 -- these are names
 abbrev pub AreNames : List (List ℕ) → Type 0
@@ -161,9 +166,24 @@ writing_spelled = record { are = refl; stands = write_stands }
 two_stand : IsStatement two_tuples
 two_stand = ((((omega arith, tt), ((omega arith, tt), tt)), (λ e. absurd cc)), omega arith)
 
--- a statement's tokens, each with its bytes and its place in the script
-pub one_statement_cut : statements 0 (codes "WRITE  R;\n") ≡ (
-    record { kind = kinds.Reserved keywords.Write; text = codes "WRITE"; start = 0; stop = 5 }
+-- WRITE RELATION {TUPLE {K n}}; or with a minus before the number
+abbrev number_written : List Word → List Word
+number_written ws =
+    keyword keywords.Write ∷ keyword keywords.Relation ∷ sign signs.OpenBrace ∷ keyword keywords.Tuple ∷ sign signs.OpenBrace ∷ name k ∷ (ws
+    ++ (sign signs.CloseBrace ∷ sign signs.CloseBrace ∷ sign signs.Semicolon ∷ []))
+
+-- 9223372036854775808 is too large a number, so that no tree is spelled
+pub too_large_unspelled : (t : Statement) → Spells (number_written (number 9223372036854775808 ∷ [])) t → ⊥
+unfolding reading
+too_large_unspelled = none_spelled (number_written (number 9223372036854775808 ∷ [])) refl
+
+-- with a minus it is the least number
+pub least_number_spelled : Spells (number_written (sign signs.Minus ∷ number 9223372036854775808 ∷ [])) (write (single (literal None (minus 9223372036854775808 ∷ []))))
+least_number_spelled = record { are = refl; stands = ((((omega arith, tt), tt), (λ e. absurd cc)), omega arith) }
+
+-- a statement's tokens, each with its bytes and its place in the script; a reserved word may be in any case
+pub one_statement_cut : statements 0 (codes "Write  R;\n") ≡ (
+    record { kind = kinds.Reserved keywords.Write; text = codes "Write"; start = 0; stop = 5 }
     ∷ record { kind = kinds.Name; text = codes "R"; start = 7; stop = 8 }
     ∷ record { kind = kinds.Sign signs.Semicolon; text = codes ";"; start = 8; stop = 9 } ∷ []) ∷ []
 unfolding computing
@@ -292,5 +312,5 @@ bad_token_answers stop = one_refused stop (codes "WRITE ?;") _ causes.Scan refl 
 
 -- tokens left without a semicolon are a statement that no tree spells
 pub unended_answers : (stop : Bool) → Answers stop (codes "WRITE 1") (record { database = []; text = codes "REFUSED 2 SYNTAX\n"; statements = 1; refusals = 1 })
-unfolding computing whole_in statement_in closed_in body_in write_in expression_in operand_in name_in after_keyword after_sign
+unfolding computing reading
 unended_answers stop = one_refused stop (codes "WRITE 1") _ causes.Syntax refl (unspelled refl (none_spelled _ refl))
