@@ -1,18 +1,22 @@
 -- A worked example of a script whose names have no letter: that they are names needs no table of characters.
 use Rattle.std.proofs.Common.{◌≡◌, ℕ, pos, Bool, true, false, ◌||◌, List, [], ◌∷◌, Option, Some, None, refl, codes, arith}
 use Rattle.std.specs.Fmt.{digits}
+use Rattle.std.specs.Io.KnownBytes.{Appends}
 use Rattle.std.specs.List.{AllByRecursion}
 use Rattle.std.specs.Str.{chars, is_utf8}
 use Rattle.td_tree.specs.Keywords.{keyword_of}
 use Rattle.td_tree.specs.Names.{is_name, is_word_start, is_word_more}
+use Rattle.td_tree.specs.Statements.{statements}
 use Rattle.td_types.specs.Types as types
 use Rattle.td_types.specs.Types.{Attributes}
 use Rattle.td_value.specs.Values.{Entries, integer}
+use Rattle.td.specs.Database.{Database}
 use Rattle.td.specs.Grammar.{IsStatement}
 use Rattle.td.specs.Machine.{Progress, begun}
+use Rattle.td.specs.Moves.{IsLeft}
 use Rattle.td.specs.Trees.{TupleLiteral, relvar, literal, Statement, single, union, define, assign, write}
 use Rattle.td.specs.Words.{name, name_word}
-use Rattle.td.proofs.WorkedRuns.{Answers, IsCutInto, after_trees, answers, computing, cut_into}
+use Rattle.td.proofs.WorkedRuns.{Answers, IsCutInto, after_trees, answers, computing, cut_into, left_so}
 
 or_true : (b : Bool) → (b || true) ≡ true
 or_true true = refl
@@ -94,3 +98,9 @@ line_trees_do false = refl
 -- from the bytes of the script to the bytes of its answers, with `stop` or without
 pub line_script_answers : (stop : Bool) → Answers stop line_script line_progress
 line_script_answers stop = answers stop line_script line_trees line_progress line_script_cut (line_trees_do stop)
+
+-- what a run of it leaves of the empty database, by the contract of `run`
+pub line_script_left : (stop : Bool) (new : Database) (before after : Option (List ℕ)) (count refused : ℕ)
+    → IsLeft stop [] (statements 0 line_script) new before after count refused
+    → (new ≡ line_progress.database) × Appends before after (codes "OK\nOK\nRELATION {__ INTEGER} {TUPLE {__ 1}, TUPLE {__ 2}}\n") × (count ≡ 3) × (refused ≡ 0)
+line_script_left stop new before after count refused = left_so stop line_script line_progress new before after count refused (line_script_answers stop)

@@ -1,6 +1,7 @@
 -- Worked examples, from the bytes of a script to the bytes of its answers.
 use Rattle.std.proofs.Common.{◌≡◌, ◌≢◌, ℕ, ◌≤◌, Bool, true, false, List, [], ◌∷◌, ◌++◌, Option, Some, None, map, refl, sym, ap, ◌∙◌, subst, codes, arith, if◌then◌else◌}
 use Rattle.std.specs.Fmt.{digits}
+use Rattle.std.specs.Io.KnownBytes.{Appends}
 use Rattle.std.specs.List.{AllByRecursion}
 use Rattle.std.specs.Str.{chars, is_utf8}
 use Rattle.td_tree.specs.declared.cause.Cause.{Cause}
@@ -12,8 +13,10 @@ use Rattle.td_tree.specs.Keywords.{keyword_of}
 use Rattle.td_tree.specs.Names.{is_name}
 use Rattle.td_tree.specs.Pieces.{sign_at, longer_sign, opens, goes_on, word_kind}
 use Rattle.td_tree.specs.Statements.{Entry, tokens, statements}
+use Rattle.td.specs.Database.{Database}
 use Rattle.td.specs.Grammar.{IsStatement, Spells, statement_words}
 use Rattle.td.specs.Machine.{Progress, Runs, nothing, stopped, next, Steps, scanned, unspelled, spelled, and_then, begun, has_stopped, is_bad_in, refused, stepped, words_in}
+use Rattle.td.specs.Moves.{IsLeft}
 use Rattle.td.specs.Reading.{whole_in, statement_in, closed_in, body_in, write_in, expression_in, unions_from, operand_in, relation_in, begins_tuples, tuples_in, with_heading_in, any_tuples_in, tuple_in, attributes_in, attribute_in, numeral_in, magnitude_in, heading_in, braced_in, any_items, some_items, items_from, goes_on as goes_on_in, name_in, after_keyword, after_sign}
 use Rattle.td.specs.Trees.{Statement, empty, write, single, literal}
 use Rattle.td.specs.Words.{Word, keyword, sign, name, number, other, name_word}
@@ -76,6 +79,15 @@ answers stop script trees progress cut is =
     let runs : Runs stop (begun []) (statements 0 script) progress =
         subst (λ (p : Progress). Runs stop (begun []) (statements 0 script) p) is (runs_as_spelled stop (begun []) (statements 0 script) trees cut.words_are cut.stand) in
     record { runs = runs; alone = λ p other. one_outcome stop (begun []) (statements 0 script) p progress other runs }
+
+-- what is left after bytes that have these answers, as the contract of `run` says it, is this
+pub left_so : (stop : Bool) (script : List ℕ) (progress : Progress) (new : Database) (before after : Option (List ℕ)) (count refused : ℕ)
+    → Answers stop script progress → IsLeft stop [] (statements 0 script) new before after count refused
+    → (new ≡ progress.database) × Appends before after progress.text × (count ≡ progress.statements) × (refused ≡ progress.refusals)
+left_so stop script progress new before after count refused answered left =
+    let same = answered.alone left.progress left.runs in
+    (left.database_is ∙ ap (λ (p : Progress). p.database) same, subst (λ (p : Progress). Appends before after p.text) same left.written,
+    left.statements_are ∙ ap (λ (p : Progress). p.statements) same, left.refused_are ∙ ap (λ (p : Progress). p.refusals) same)
 
 -- ---- from bytes to trees
 
