@@ -1,12 +1,12 @@
 -- Worked examples: what the set machine does with some short scripts, computed from its definitions.
-use Rattle.std.proofs.Common.{◌≡◌, ℕ, ◌+◌, pos, Bool, true, false, List, [], ◌∷◌, ◌++◌, Option, Some, None, refl, codes}
+use Rattle.std.proofs.Common.{◌≡◌, ℕ, pos, true, false, List, [], ◌∷◌, Some, None, refl, codes}
 use Rattle.std.specs.Fmt.{digits}
 use Rattle.td_tree.specs.declared.cause.Cause.TheVariants as causes
 use Rattle.td_types.specs.Types as types
 use Rattle.td_types.specs.Types.{Attributes}
 use Rattle.td_value.specs.Values.{Entries, integer}
-use Rattle.td.specs.Database.{Database, Relvar}
-use Rattle.td.specs.Machine.{Step, accepted, refused, key_refused, stepped}
+use Rattle.td.specs.Database.{Database}
+use Rattle.td.specs.Machine.{stepped}
 use Rattle.td.specs.Trees.{TupleLiteral, relvar, literal, Statement, single, union, define, assign, write}
 
 -- ---- the parts of the examples

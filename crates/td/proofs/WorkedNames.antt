@@ -1,9 +1,9 @@
 -- A worked example of a script whose names have no letter: that they are names needs no table of characters.
-use Rattle.std.proofs.Common.{◌≡◌, ℕ, pos, Bool, true, false, ◌||◌, List, [], ◌∷◌, Option, Some, None, refl, codes, arith}
+use Rattle.std.proofs.Common.{◌≡◌, ℕ, pos, Bool, true, false, ◌||◌, List, [], ◌∷◌, Option, None, refl, codes, arith}
 use Rattle.std.specs.Fmt.{digits}
 use Rattle.std.specs.Io.KnownBytes.{Appends}
 use Rattle.std.specs.List.{AllByRecursion}
-use Rattle.std.specs.Str.{chars, is_utf8}
+use Rattle.std.specs.Str.{chars}
 use Rattle.td_tree.specs.Keywords.{keyword_of}
 use Rattle.td_tree.specs.Names.{is_name, is_word_start, is_word_more}
 use Rattle.td_tree.specs.Statements.{statements}

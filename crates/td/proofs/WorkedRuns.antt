@@ -1,5 +1,5 @@
 -- Worked examples, from the bytes of a script to the bytes of its answers.
-use Rattle.std.proofs.Common.{◌≡◌, ◌≢◌, ℕ, ◌≤◌, Bool, true, false, List, [], ◌∷◌, ◌++◌, Option, Some, None, map, refl, sym, ap, ◌∙◌, subst, codes, arith, if◌then◌else◌}
+use Rattle.std.proofs.Common.{◌≡◌, ℕ, Bool, true, false, List, [], ◌∷◌, ◌++◌, Option, None, map, refl, sym, ap, ◌∙◌, subst, codes, arith, if◌then◌else◌}
 use Rattle.std.specs.Fmt.{digits}
 use Rattle.std.specs.Io.KnownBytes.{Appends}
 use Rattle.std.specs.List.{AllByRecursion}
@@ -57,8 +57,10 @@ runs_as_spelled stop p (s ∷ ss) (t ∷ ts) is stand =
   where
     good : is_bad_in s ≡ false
     good = ap (λ (xs : List (Bool × List Word)). (first_of_all (false, []) xs).0) is
+
     words : words_in s ≡ statement_words t
     words = ap (λ (xs : List (Bool × List Word)). (first_of_all (false, []) xs).1) is
+
     by_test : Runs stop (and_then p (stepped p.database t)) ss (after_trees stop (and_then p (stepped p.database t)) ts)
         → (b : Bool) → has_stopped stop p ≡ b → Runs stop p (s ∷ ss) (after_trees stop p (t ∷ ts))
     by_test rest true e = rw e (stopped e)
@@ -77,7 +79,7 @@ pub record Answers (stop : Bool) (script : List ℕ) (progress : Progress) : Typ
 pub answers : (stop : Bool) (script : List ℕ) (trees : List Statement) (progress : Progress) → IsCutInto script trees → after_trees stop (begun []) trees ≡ progress → Answers stop script progress
 answers stop script trees progress cut is =
     let runs : Runs stop (begun []) (statements 0 script) progress =
-        subst (λ (p : Progress). Runs stop (begun []) (statements 0 script) p) is (runs_as_spelled stop (begun []) (statements 0 script) trees cut.words_are cut.stand) in
+    subst (λ (p : Progress). Runs stop (begun []) (statements 0 script) p) is (runs_as_spelled stop (begun []) (statements 0 script) trees cut.words_are cut.stand) in
     record { runs = runs; alone = λ p other. one_outcome stop (begun []) (statements 0 script) p progress other runs }
 
 -- what is left after bytes that have these answers, as the contract of `run` says it, is this
@@ -85,9 +87,12 @@ pub left_so : (stop : Bool) (script : List ℕ) (progress : Progress) (new : Dat
     → Answers stop script progress → IsLeft stop [] (statements 0 script) new before after count refused
     → (new ≡ progress.database) × Appends before after progress.text × (count ≡ progress.statements) × (refused ≡ progress.refusals)
 left_so stop script progress new before after count refused answered left =
-    let same = answered.alone left.progress left.runs in
-    (left.database_is ∙ ap (λ (p : Progress). p.database) same, subst (λ (p : Progress). Appends before after p.text) same left.written,
-    left.statements_are ∙ ap (λ (p : Progress). p.statements) same, left.refused_are ∙ ap (λ (p : Progress). p.refusals) same)
+    let same = answered.alone left.progress left.runs in (
+      left.database_is ∙ ap (λ (p : Progress). p.database) same,
+      subst (λ (p : Progress). Appends before after p.text) same left.written,
+      left.statements_are ∙ ap (λ (p : Progress). p.statements) same,
+      left.refused_are ∙ ap (λ (p : Progress). p.refusals) same,
+    )
 
 -- ---- from bytes to trees
 
@@ -310,7 +315,7 @@ one_refused : (stop : Bool) (script : List ℕ) (s : List Entry) (cause : Cause)
     → Answers stop script (and_then (begun []) (refused [] cause))
 one_refused stop script s cause is step =
     let runs : Runs stop (begun []) (statements 0 script) (and_then (begun []) (refused [] cause)) =
-        subst (λ ss. Runs stop (begun []) ss (and_then (begun []) (refused [] cause))) (sym is) (next (refused [] cause) (not_stopped stop) step nothing) in
+    subst (λ ss. Runs stop (begun []) ss (and_then (begun []) (refused [] cause))) (sym is) (next (refused [] cause) (not_stopped stop) step nothing) in
     record { runs = runs; alone = λ p other. one_outcome stop (begun []) (statements 0 script) p _ other runs }
   where
     not_stopped : (b : Bool) → has_stopped b (begun []) ≡ false
