@@ -11,9 +11,11 @@ use Rattle.td.specs.Trees.{TupleLiteral, relvar, literal, Statement, single, uni
 
 -- ---- the parts of the examples
 
+-- the name K
 abbrev pub k : List ℕ
 k = codes "K"
 
+-- the name R
 abbrev pub r : List ℕ
 r = codes "R"
 
@@ -51,6 +53,7 @@ add_two = assign r (union (single (relvar r)) (literal None (tuple 2 ∷ tuple 1
 abbrev pub write_r : Statement
 write_r = write (single (relvar r))
 
+-- the database of R with the key {K}
 abbrev pub keyed : List Entries → Database
 keyed = database ((k ∷ []) ∷ [])
 
@@ -123,10 +126,11 @@ written_after_refusal = refl
 
 -- ---- other statements
 
--- TUPLE {A a, B b}, and with the attributes the other way round
+-- TUPLE {A a, B b}
 abbrev pub pair : ℕ → ℕ → TupleLiteral
 pair a b = record { name = codes "A"; numeral = record { minus = false; magnitude = a } } ∷ record { name = codes "B"; numeral = record { minus = false; magnitude = b } } ∷ []
 
+-- TUPLE {B b, A a}
 abbrev pub turned_pair : ℕ → ℕ → TupleLiteral
 turned_pair a b = record { name = codes "B"; numeral = record { minus = false; magnitude = b } } ∷ record { name = codes "A"; numeral = record { minus = false; magnitude = a } } ∷ []
 
@@ -142,10 +146,11 @@ pub minus_nought_is_nought : stepped [] (write (single (literal None (minus 0 �
 unfolding digits
 minus_nought_is_nought = refl
 
--- the relation without attributes that has a tuple, and the one that has none
+-- the relation without attributes that has a tuple
 pub empty_tuple_written : stepped [] (write (single (literal None ([] ∷ [])))) ≡ record { database = []; cause = None; text = codes "RELATION {} {TUPLE {}}\n" }
 empty_tuple_written = refl
 
+-- the one that has none
 pub no_tuple_written : stepped [] (write (single (literal (Some []) []))) ≡ record { database = []; cause = None; text = codes "RELATION {} {}\n" }
 no_tuple_written = refl
 

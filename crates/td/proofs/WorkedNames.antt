@@ -18,17 +18,21 @@ use Rattle.td.specs.Trees.{TupleLiteral, relvar, literal, Statement, single, uni
 use Rattle.td.specs.Words.{name, name_word}
 use Rattle.td.proofs.WorkedRuns.{Answers, IsCutInto, after_trees, answers, computing, cut_into, left_so}
 
+-- a test or true is true
 or_true : (b : Bool) → (b || true) ≡ true
 or_true true = refl
 or_true false = refl
 
+-- so is that or false
 also_or_true : (b : Bool) → ((b || true) || false) ≡ true
 also_or_true true = refl
 also_or_true false = refl
 
+-- `_` begins a word
 line_starts : is_word_start 95 ≡ true
 line_starts = or_true _
 
+-- and goes on with one
 line_goes_on : is_word_more 95 ≡ true
 line_goes_on = also_or_true _
 
@@ -42,16 +46,19 @@ pub two_lines_are_name : is_name (codes "__") ≡ true
 unfolding is_name chars keyword_of
 two_lines_are_name = rw (line_starts, line_goes_on) refl
 
+-- `_` is seen as a name
 line_seen : name_word (codes "_") ≡ name (codes "_")
 unfolding computing
 line_seen = rw line_is_name refl
 
+-- so is `__`
 two_lines_seen : name_word (codes "__") ≡ name (codes "__")
 unfolding computing
 two_lines_seen = rw two_lines_are_name refl
 
 -- ---- the script
 
+-- the script, with `_` for the relvar and `__` for its attribute
 abbrev pub line_script : List ℕ
 line_script = codes "VAR _ BASE RELATION {__ INTEGER} KEY {__}; _ := _ UNION RELATION {TUPLE {__ 2}, TUPLE {__ 1}}; WRITE _;"
 
@@ -59,12 +66,14 @@ line_script = codes "VAR _ BASE RELATION {__ INTEGER} KEY {__}; _ := _ UNION REL
 abbrev pub tuple : ℕ → TupleLiteral
 tuple n = record { name = codes "__"; numeral = record { minus = false; magnitude = n } } ∷ []
 
+-- its three trees
 abbrev pub line_trees : List Statement
 line_trees =
     define (codes "_") (codes "__" ∷ []) ((codes "__" ∷ []) ∷ [])
     ∷ assign (codes "_") (union (single (relvar (codes "_"))) (literal None (tuple 2 ∷ tuple 1 ∷ [])))
     ∷ write (single (relvar (codes "_"))) ∷ []
 
+-- they are in range, and none is too high
 stand : AllByRecursion IsStatement line_trees
 stand = (tt, (((tt, (((omega arith, tt), ((omega arith, tt), tt)), (λ e. absurd cc))), omega arith), ((tt, omega arith), tt)))
 
@@ -90,6 +99,7 @@ line_progress = record {
   refusals = 0;
 }
 
+-- the trees do this
 line_trees_do : (stop : Bool) → after_trees stop (begun []) line_trees ≡ line_progress
 unfolding digits
 line_trees_do true = refl

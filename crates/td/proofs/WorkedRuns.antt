@@ -39,10 +39,12 @@ abbrev pub after_trees : Bool → Progress → List Statement → Progress
 after_trees stop p [] = p
 after_trees stop p (t ∷ ts) = if has_stopped stop p then p else after_trees stop (and_then p (stepped p.database t)) ts
 
+-- the first item, or d where there is none
 abbrev first_of_all : {A : Type 0} → A → List A → A
 first_of_all d [] = d
 first_of_all d (x ∷ xs) = x
 
+-- the items after the first
 abbrev others : {A : Type 0} → List A → List A
 others [] = []
 others (x ∷ xs) = xs
@@ -71,11 +73,12 @@ pub record IsCutInto (script : List ℕ) (trees : List Statement) : Type 0 where
   pub words_are : read (statements 0 script) ≡ spell trees
   pub stand : AllByRecursion IsStatement trees
 
--- bytes that spell trees run as the trees do, and in no other way
+-- a run of these bytes from the empty database does this, and nothing else
 pub record Answers (stop : Bool) (script : List ℕ) (progress : Progress) : Type 0 where
   pub runs : Runs stop (begun []) (statements 0 script) progress
   pub alone : (p : Progress) → Runs stop (begun []) (statements 0 script) p → p ≡ progress
 
+-- statements that spell trees answer as the trees do
 pub answers : (stop : Bool) (script : List ℕ) (trees : List Statement) (progress : Progress) → IsCutInto script trees → after_trees stop (begun []) trees ≡ progress → Answers stop script progress
 answers stop script trees progress cut is =
     let runs : Runs stop (begun []) (statements 0 script) progress =
@@ -106,7 +109,7 @@ unfoldable pub reading : Unit {0}
 unfolding whole_in statement_in closed_in body_in write_in expression_in unions_from operand_in relation_in begins_tuples tuples_in with_heading_in any_tuples_in tuple_in attributes_in attribute_in numeral_in magnitude_in heading_in braced_in any_items some_items items_from goes_on_in name_in after_keyword after_sign
 reading = tt
 
--- these are names
+-- these are names: which letters may be in one is read from a table that this crate does not have, so that it is supposed
 abbrev pub AreNames : List (List ℕ) → Type 0
 AreNames = AllByRecursion (λ n. is_name n ≡ true)
 
@@ -115,16 +118,20 @@ abbrev pub seen : Word → Word
 seen (name n) = name_word n
 seen w = w
 
+-- its bytes are a name, where the word is one
 abbrev pub IsSeen : Word → Type 0
 IsSeen (name n) = name_word n ≡ name n
 IsSeen w = Unit {0}
 
+-- every name in these trees is one
 abbrev pub AreSeen : List Statement → Type 0
 AreSeen = AllByRecursion (λ t. AllByRecursion IsSeen (statement_words t))
 
+-- the words of trees as their bytes are seen
 abbrev pub spell_seen : List Statement → List (Bool × List Word)
 spell_seen = map (λ t. (false, map seen (statement_words t)))
 
+-- where the names are names, the words are seen as they are
 seen_same : (ws : List Word) → AllByRecursion IsSeen ws → map seen ws ≡ ws
 seen_same [] h = refl
 seen_same (keyword j ∷ ws) h = ap (λ vs. keyword j ∷ vs) (seen_same ws h.1)
@@ -133,13 +140,16 @@ seen_same (name n ∷ ws) h = λ i. h.0 i ∷ seen_same ws h.1 i
 seen_same (number n ∷ ws) h = ap (λ vs. number n ∷ vs) (seen_same ws h.1)
 seen_same (other ∷ ws) h = ap (λ vs. other ∷ vs) (seen_same ws h.1)
 
+-- so are the words of trees
 all_seen : (ts : List Statement) → AreSeen ts → spell_seen ts ≡ spell ts
 all_seen [] h = refl
 all_seen (t ∷ ts) h = λ i. (false, seen_same (statement_words t) h.0 i) ∷ all_seen ts h.1 i
 
+-- bytes are cut into trees whose words are seen in them
 pub cut_into : (script : List ℕ) (ts : List Statement) → read (statements 0 script) ≡ spell_seen ts → AreSeen ts → AllByRecursion IsStatement ts → IsCutInto script ts
 cut_into script ts is names stand = record { words_are = is ∙ all_seen ts names; stand = stand }
 
+-- K, R, Q and X are seen as names where they are names
 k_seen : is_name k ≡ true → name_word k ≡ name k
 unfolding computing
 k_seen named = rw named refl
@@ -156,6 +166,7 @@ x_seen : is_name (codes "X") ≡ true → name_word (codes "X") ≡ name (codes 
 unfolding computing
 x_seen named = rw named refl
 
+-- the trees of the examples are in range, and none is too high
 add_stands : IsStatement add_two
 add_stands = ((tt, (((omega arith, tt), ((omega arith, tt), tt)), (λ e. absurd cc))), omega arith)
 
@@ -165,18 +176,20 @@ write_stands = (tt, omega arith)
 other_stands : IsStatement other_heading
 other_stands = (((((omega arith, tt), tt)), (λ e. absurd cc)), omega arith)
 
--- the words of each statement of the first script spell its tree
+-- the words of the first script's definition spell its tree
 pub definition_spelled : Spells (
     keyword keywords.Var ∷ name r ∷ keyword keywords.Base ∷ keyword keywords.Relation ∷ sign signs.OpenBrace ∷ name k ∷ keyword keywords.Integer ∷ sign signs.CloseBrace
     ∷ keyword keywords.Key ∷ sign signs.OpenBrace ∷ name k ∷ sign signs.CloseBrace ∷ sign signs.Semicolon ∷ []) define_r
 definition_spelled = record { are = refl; stands = tt }
 
+-- its assignment
 pub assignment_spelled : Spells (
     name r ∷ sign signs.Assign ∷ name r ∷ keyword keywords.Union ∷ keyword keywords.Relation ∷ sign signs.OpenBrace
     ∷ keyword keywords.Tuple ∷ sign signs.OpenBrace ∷ name k ∷ number 2 ∷ sign signs.CloseBrace ∷ sign signs.Comma
     ∷ keyword keywords.Tuple ∷ sign signs.OpenBrace ∷ name k ∷ number 1 ∷ sign signs.CloseBrace ∷ sign signs.CloseBrace ∷ sign signs.Semicolon ∷ []) add_two
 assignment_spelled = record { are = refl; stands = add_stands }
 
+-- its writing
 pub writing_spelled : Spells (keyword keywords.Write ∷ name r ∷ sign signs.Semicolon ∷ []) write_r
 writing_spelled = record { are = refl; stands = write_stands }
 
@@ -208,6 +221,7 @@ one_statement_cut = refl
 
 -- ---- the first script
 
+-- the first script
 abbrev pub first_script : List ℕ
 first_script = codes "VAR R BASE RELATION {K INTEGER} KEY {K}; R := R UNION RELATION {TUPLE {K 2}, TUPLE {K 1}}; WRITE R;"
 
@@ -226,6 +240,7 @@ first_progress = record {
   refusals = 0;
 }
 
+-- its trees do this
 first_trees_do : (stop : Bool) → after_trees stop (begun []) (define_r ∷ add_two ∷ write_r ∷ []) ≡ first_progress
 unfolding digits
 first_trees_do true = refl
@@ -237,6 +252,7 @@ first_script_answers stop named = answers stop first_script _ first_progress (fi
 
 -- ---- a refused statement in the middle
 
+-- its second statement has another heading than R
 abbrev pub middle_script : List ℕ
 middle_script = codes "VAR R BASE RELATION {K INTEGER} KEY {K}; R := RELATION {TUPLE {X 1}}; WRITE R;"
 
@@ -268,6 +284,7 @@ stop_ends_the_run named = answers true middle_script _ _ (middle_script_cut name
 
 -- ---- a key that does not hold, and a name that is unknown
 
+-- its second statement breaks the empty key, and its fourth names no relvar
 abbrev pub key_script : List ℕ
 key_script = codes "VAR R BASE RELATION {K INTEGER} KEY {}; R := RELATION {TUPLE {K 1}, TUPLE {K 2}}; WRITE R; WRITE Q;"
 
