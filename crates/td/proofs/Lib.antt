@@ -20,3 +20,6 @@ pub mod Stepping
 pub mod ToldLaws
 pub mod Turns
 pub mod Unions
+pub mod Worked
+pub mod WorkedNames
+pub mod WorkedRuns
