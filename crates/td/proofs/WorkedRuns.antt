@@ -12,6 +12,7 @@ use Rattle.td_tree.specs.declared.token.Sign.TheVariants as signs
 use Rattle.td_tree.specs.Keywords.{keyword_of}
 use Rattle.td_tree.specs.Names.{is_name}
 use Rattle.td_tree.specs.Pieces.{sign_at, longer_sign, opens, goes_on, word_kind}
+use Rattle.td_tree.proofs.Letters.{k_is_name, q_is_name, r_is_name, x_is_name}
 use Rattle.td_tree.specs.Statements.{Entry, tokens, statements}
 use Rattle.td.specs.Database.{Database}
 use Rattle.td.specs.Grammar.{IsStatement, Spells, statement_words}
@@ -109,10 +110,6 @@ unfoldable pub reading : Unit {0}
 unfolding whole_in statement_in closed_in body_in write_in expression_in unions_from operand_in relation_in begins_tuples tuples_in with_heading_in any_tuples_in tuple_in attributes_in attribute_in numeral_in magnitude_in heading_in braced_in any_items some_items items_from goes_on_in name_in after_keyword after_sign
 reading = tt
 
--- these are names: which letters may be in one is read from a table that this crate does not have, so that it is supposed
-abbrev pub AreNames : List (List ℕ) → Type 0
-AreNames = AllByRecursion (λ n. is_name n ≡ true)
-
 -- a name as its bytes are seen: they may be no name
 abbrev pub seen : Word → Word
 seen (name n) = name_word n
@@ -150,21 +147,21 @@ pub cut_into : (script : List ℕ) (ts : List Statement) → read (statements 0 
 cut_into script ts is names stand = record { words_are = is ∙ all_seen ts names; stand = stand }
 
 -- K, R, Q and X are seen as names where they are names
-k_seen : is_name k ≡ true → name_word k ≡ name k
+k_seen : name_word k ≡ name k
 unfolding computing
-k_seen named = rw named refl
+k_seen = rw k_is_name refl
 
-r_seen : is_name r ≡ true → name_word r ≡ name r
+r_seen : name_word r ≡ name r
 unfolding computing
-r_seen named = rw named refl
+r_seen = rw r_is_name refl
 
-q_seen : is_name (codes "Q") ≡ true → name_word (codes "Q") ≡ name (codes "Q")
+q_seen : name_word (codes "Q") ≡ name (codes "Q")
 unfolding computing
-q_seen named = rw named refl
+q_seen = rw q_is_name refl
 
-x_seen : is_name (codes "X") ≡ true → name_word (codes "X") ≡ name (codes "X")
+x_seen : name_word (codes "X") ≡ name (codes "X")
 unfolding computing
-x_seen named = rw named refl
+x_seen = rw x_is_name refl
 
 -- the trees of the examples are in range, and none is too high
 add_stands : IsStatement add_two
@@ -226,9 +223,9 @@ abbrev pub first_script : List ℕ
 first_script = codes "VAR R BASE RELATION {K INTEGER} KEY {K}; R := R UNION RELATION {TUPLE {K 2}, TUPLE {K 1}}; WRITE R;"
 
 -- its bytes are its three statements
-pub first_script_cut : AreNames (k ∷ r ∷ []) → IsCutInto first_script (define_r ∷ add_two ∷ write_r ∷ [])
+pub first_script_cut : IsCutInto first_script (define_r ∷ add_two ∷ write_r ∷ [])
 unfolding computing
-first_script_cut named = let k_is = k_seen named.0 in let r_is = r_seen named.1.0 in
+first_script_cut = let k_is = k_seen in let r_is = r_seen in
     cut_into first_script _ refl (assumption (k_is, r_is)) (tt, (add_stands, (write_stands, tt)))
 
 -- the database and the answers of the first script
@@ -247,8 +244,8 @@ first_trees_do true = refl
 first_trees_do false = refl
 
 -- its answers, with `stop` or without: all three statements are accepted
-pub first_script_answers : (stop : Bool) → AreNames (k ∷ r ∷ []) → Answers stop first_script first_progress
-first_script_answers stop named = answers stop first_script _ first_progress (first_script_cut named) (first_trees_do stop)
+pub first_script_answers : (stop : Bool) → Answers stop first_script first_progress
+first_script_answers stop = answers stop first_script _ first_progress first_script_cut (first_trees_do stop)
 
 -- ---- a refused statement in the middle
 
@@ -257,30 +254,30 @@ abbrev pub middle_script : List ℕ
 middle_script = codes "VAR R BASE RELATION {K INTEGER} KEY {K}; R := RELATION {TUPLE {X 1}}; WRITE R;"
 
 -- its bytes are its three statements
-pub middle_script_cut : AreNames (k ∷ r ∷ codes "X" ∷ []) → IsCutInto middle_script (define_r ∷ other_heading ∷ write_r ∷ [])
+pub middle_script_cut : IsCutInto middle_script (define_r ∷ other_heading ∷ write_r ∷ [])
 unfolding computing
-middle_script_cut named = let k_is = k_seen named.0 in let r_is = r_seen named.1.0 in let x_is = x_seen named.1.1.0 in
+middle_script_cut = let k_is = k_seen in let r_is = r_seen in let x_is = x_seen in
     cut_into middle_script _ refl (assumption (k_is, r_is, x_is)) (tt, (other_stands, (write_stands, tt)))
 
 -- without `stop` what stands after the refused statement is answered too, on the database of before
-pub middle_script_goes_on : AreNames (k ∷ r ∷ codes "X" ∷ []) → Answers false middle_script (record {
+pub middle_script_goes_on : Answers false middle_script (record {
   database = keyed [];
   text = codes "OK\nREFUSED 6 HEADING\nRELATION {K INTEGER} {}\n";
   statements = 3;
   refusals = 1;
 })
 unfolding digits
-middle_script_goes_on named = answers false middle_script _ _ (middle_script_cut named) refl
+middle_script_goes_on = answers false middle_script _ _ middle_script_cut refl
 
 -- with `stop` the refused statement is the last that is answered
-pub stop_ends_the_run : AreNames (k ∷ r ∷ codes "X" ∷ []) → Answers true middle_script (record {
+pub stop_ends_the_run : Answers true middle_script (record {
   database = keyed [];
   text = codes "OK\nREFUSED 6 HEADING\n";
   statements = 2;
   refusals = 1;
 })
 unfolding digits
-stop_ends_the_run named = answers true middle_script _ _ (middle_script_cut named) refl
+stop_ends_the_run = answers true middle_script _ _ middle_script_cut refl
 
 -- ---- a key that does not hold, and a name that is unknown
 
@@ -289,30 +286,30 @@ abbrev pub key_script : List ℕ
 key_script = codes "VAR R BASE RELATION {K INTEGER} KEY {}; R := RELATION {TUPLE {K 1}, TUPLE {K 2}}; WRITE R; WRITE Q;"
 
 -- its bytes are its four statements
-pub key_script_cut : AreNames (k ∷ r ∷ codes "Q" ∷ []) → IsCutInto key_script (define_single ∷ two_tuples ∷ write_r ∷ write_q ∷ [])
+pub key_script_cut : IsCutInto key_script (define_single ∷ two_tuples ∷ write_r ∷ write_q ∷ [])
 unfolding computing
-key_script_cut named = let k_is = k_seen named.0 in let r_is = r_seen named.1.0 in let q_is = q_seen named.1.1.0 in
+key_script_cut = let k_is = k_seen in let r_is = r_seen in let q_is = q_seen in
     cut_into key_script _ refl (assumption (k_is, r_is, q_is)) (tt, (two_stand, (write_stands, ((tt, omega arith), tt))))
 
 -- without `stop` all four are answered: two are refused, and R stays empty
-pub key_script_goes_on : AreNames (k ∷ r ∷ codes "Q" ∷ []) → Answers false key_script (record {
+pub key_script_goes_on : Answers false key_script (record {
   database = single_keyed;
   text = codes "OK\nREFUSED 30 KEY R\nRELATION {K INTEGER} {}\nREFUSED 3 NAME_UNKNOWN\n";
   statements = 4;
   refusals = 2;
 })
 unfolding digits
-key_script_goes_on named = answers false key_script _ _ (key_script_cut named) refl
+key_script_goes_on = answers false key_script _ _ key_script_cut refl
 
 -- with `stop` the statement that breaks the key is the last
-pub key_script_stops : AreNames (k ∷ r ∷ codes "Q" ∷ []) → Answers true key_script (record {
+pub key_script_stops : Answers true key_script (record {
   database = single_keyed;
   text = codes "OK\nREFUSED 30 KEY R\n";
   statements = 2;
   refusals = 1;
 })
 unfolding digits
-key_script_stops named = answers true key_script _ _ (key_script_cut named) refl
+key_script_stops = answers true key_script _ _ key_script_cut refl
 
 -- ---- scripts of one statement or none
 

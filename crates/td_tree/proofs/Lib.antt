@@ -6,6 +6,7 @@ pub mod EndOfStatement
 pub mod FrontLaws
 pub mod HeldLaws
 pub mod KindLaws
+pub mod Letters
 pub mod PieceLaws
 pub mod SliceLaws
 pub mod StableBytes
