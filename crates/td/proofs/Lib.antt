@@ -21,5 +21,4 @@ pub mod ToldLaws
 pub mod Turns
 pub mod Unions
 pub mod Worked
-pub mod WorkedNames
 pub mod WorkedRuns

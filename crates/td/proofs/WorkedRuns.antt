@@ -10,9 +10,8 @@ use Rattle.td_tree.specs.declared.keyword.Keyword.TheVariants as keywords
 use Rattle.td_tree.specs.declared.token.Kind.TheVariants as kinds
 use Rattle.td_tree.specs.declared.token.Sign.TheVariants as signs
 use Rattle.td_tree.specs.Keywords.{keyword_of}
-use Rattle.td_tree.specs.Names.{is_name}
-use Rattle.td_tree.specs.Pieces.{sign_at, longer_sign, opens, goes_on, word_kind}
-use Rattle.td_tree.proofs.Letters.{k_is_name, q_is_name, r_is_name, x_is_name}
+use Rattle.td_tree.specs.Pieces.{sign_at, sign_goes_on, opens, goes_on, word_kind}
+use Rattle.td_tree.proofs.Letters.{letters, k_is_name, q_is_name, r_is_name, x_is_name}
 use Rattle.td_tree.specs.Statements.{Entry, tokens, statements}
 use Rattle.td.specs.Database.{Database}
 use Rattle.td.specs.Grammar.{IsStatement, Spells, statement_words}
@@ -102,7 +101,7 @@ left_so stop script progress new before after count refused answered left =
 
 -- `unfolding computing` lets `refl` compute the tokens and the words of a script
 unfoldable pub computing : Unit {0}
-unfolding tokens statements chars is_utf8 lib.Utf8.encode keyword_of sign_at longer_sign opens goes_on word_kind digits
+unfolding tokens statements chars is_utf8 lib.Utf8.encode keyword_of sign_at sign_goes_on opens goes_on word_kind letters digits
 computing = tt
 
 -- `unfolding reading` lets `refl` compute that words spell no tree
@@ -246,6 +245,12 @@ first_trees_do false = refl
 -- its answers, with `stop` or without: all three statements are accepted
 pub first_script_answers : (stop : Bool) → Answers stop first_script first_progress
 first_script_answers stop = answers stop first_script _ first_progress first_script_cut (first_trees_do stop)
+
+-- what a run of it leaves of the empty database, by the contract of `run`
+pub first_script_left : (stop : Bool) (new : Database) (before after : Option (List ℕ)) (count refused : ℕ)
+    → IsLeft stop [] (statements 0 first_script) new before after count refused
+    → (new ≡ first_progress.database) × Appends before after (codes "OK\nOK\nRELATION {K INTEGER} {TUPLE {K 1}, TUPLE {K 2}}\n") × (count ≡ 3) × (refused ≡ 0)
+first_script_left stop new before after count refused = left_so stop first_script first_progress new before after count refused (first_script_answers stop)
 
 -- ---- a refused statement in the middle
 

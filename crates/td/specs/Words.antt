@@ -8,7 +8,7 @@ use Rattle.td_tree.specs.declared.keyword.Keyword.{Keyword}
 use Rattle.td_tree.specs.declared.token.Kind.{Kind}
 use Rattle.td_tree.specs.declared.token.Kind.TheVariants as kinds
 use Rattle.td_tree.specs.declared.token.Sign.{Sign}
-use Rattle.td_scan.specs.declared.token.Token.{Token}
+use Rattle.td_tree.specs.Statements.{Entry}
 use Rattle.td.specs.Numbers.{decimal_value}
 
 -- a token without its spelling: a reserved word in any case is that word, digits are their number
@@ -31,7 +31,8 @@ word_of (kinds.Sign s) text = sign s
 word_of kinds.Name text = name_word text
 word_of kinds.Number text = number_word text
 word_of kinds.Component text = other
+word_of kinds.Text text = other
 word_of kinds.Bad text = other
 
-abbrev pub words : List Token → List Word
-words = map (λ token. word_of token.kind token.text.now)
+abbrev pub words : List Entry → List Word
+words = map (λ (token : Entry). word_of token.kind token.text)

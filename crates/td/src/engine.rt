@@ -1,6 +1,5 @@
 //! The engine of the first path: base relvars of INTEGER attributes, assignment and WRITE.
 ghost use Rattle.std.specs.Prelude.{◌≡◌, [], IfOk, OnErr};
-ghost use Rattle.td_scan.specs.Entries.{entries};
 ghost use Rattle.td.specs.Steps.{IsStep};
 
 pub mod answer;
@@ -54,7 +53,7 @@ impl Engine {
     /// Runs the statement that the tokens are. A statement that is refused or finds no memory
     /// leaves the database as it was.
     pub fn step(&mut self, alloc: Global, tokens: &[Token<'_>]) -> Result<Answer, AllocError>
-        ensures step { IfOk result (λ answer. IsStep self.old (entries tokens.now) answer self.new) }
+        ensures step { IfOk result (λ answer. IsStep self.old tokens.now answer self.new) }
         ensures err { OnErr result (self.new ≡ self.old) }
     {
         match parse_statement(alloc, tokens) {

@@ -1,15 +1,18 @@
 -- The piece at the front, and the tokens of the bytes.
-use Rattle.std.proofs.Common.{◌≡◌, ℕ, ◌+◌, ◌<◌, ◌≤◌, List, [], ◌∷◌, ◌++◌, length, take, drop, refl, sym, ap, ◌∙◌, subst, arith, true, Some, None, append_assoc, append-nil, length-append}
+use Rattle.std.proofs.Common.{Option, ◌≡◌, ℕ, ◌+◌, ◌<◌, ◌≤◌, List, [], ◌∷◌, ◌++◌, length, take, drop, refl, sym, ap, ◌∙◌, subst, arith, true, Some, None, append_assoc, append-nil, length-append}
 use Rattle.std.specs.Prelude.{option_and_then, ◌==◌}
 use Rattle.std.proofs.lemmas.Bool.Decides.{nat_tests}
 use Rattle.std.proofs.lemmas.Grind.{flat_map-append}
 use Rattle.td_tree.specs.declared.piece.Piece.{Piece}
+use Rattle.td_tree.specs.declared.token.Kind.{Kind}
 use Rattle.td_tree.specs.Division.{run, divide, divide_from}
 use Rattle.td_tree.specs.Pieces.{begins, continues, pieces, kind_after, kind_of, state}
-use Rattle.td_tree.specs.Statements.{entry_of, tokens, tokens_from}
+use Rattle.td_tree.specs.Spans.{AreOfTheirKind}
+use Rattle.td_tree.specs.Statements.{Entry, entry_of, tokens, tokens_from}
 use Rattle.td_tree.specs.Symbols.{Symbol, symbols, spell}
 use Rattle.td_tree.proofs.DivisionLaws.{state-append}
 use Rattle.td_tree.proofs.PieceLaws.{size, taken_off}
+use Rattle.td_tree.proofs.SliceLaws.{kinds}
 use Rattle.td_scan.specs.Fronts.{end_from, first_end}
 
 -- the first piece, and the pieces of the rest
@@ -65,3 +68,14 @@ pub no_bytes : (bs : List ℕ) (at : ℕ) → (length bs == 0) ≡ true → toke
 unfolding tokens
 no_bytes [] at none = refl
 no_bytes (b ∷ bs) at none = absurd (let some : 0 < length (b ∷ bs) = omega arith in grind (arith, nat_tests))
+
+-- a token is of its kind
+said_first : (o : Option Kind) (at : ℕ) (text : List ℕ) (rest : List Entry) (kind : Kind) → o ≡ Some kind → AreOfTheirKind (entry_of o at text ++ rest) → kind_of (symbols text) ≡ Some kind
+said_first None at text rest kind is are = absurd cc
+said_first (Some k) at text rest kind is are = are.0 ∙ is
+
+pub kind_said : (bytes : List ℕ) (at n : ℕ) (piece : Piece) (kind : Kind) (text : List ℕ) → text ≡ take n bytes → kind_after piece text ≡ Some kind
+    → tokens at bytes ≡ entry_of (kind_after piece (take n bytes)) at (take n bytes) ++ tokens (at + n) (drop n bytes) → kind_of (symbols text) ≡ Some kind
+kind_said bytes at n piece kind text front is all =
+    subst (λ t. kind_of (symbols t) ≡ Some kind) (sym front)
+    (said_first (kind_after piece (take n bytes)) at (take n bytes) (tokens (at + n) (drop n bytes)) kind (sym (ap (kind_after piece) front) ∙ is) (subst AreOfTheirKind all (kinds at bytes)))

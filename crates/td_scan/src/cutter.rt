@@ -1,6 +1,5 @@
 //! The cutter of a script into statements.
 ghost use Rattle.std.specs.Prelude.{◌≡◌, ◌+◌, ◌-◌, ◌<◌, ◌≤◌, ◌^◌, [], ◌++◌, length, IfOk, OnOk, OnErr, IsFalse, false, true, option_map};
-ghost use Rattle.td_scan.specs.Entries.{entries};
 ghost use Rattle.td_tree.specs.Statements.{Held, after, behind, first_statement, is_end};
 
 use crate::token::{Token, first_token};
@@ -23,18 +22,19 @@ fn first_tokens<'a>(
     finished: bool,
 ) -> Result<Option<Vec<Token<'a>>>, AllocError>
     requires { offset + length bytes.now < 2 ^ 64 }
-    ensures { IfOk result (λ found. option_map (λ v. entries v.items) found
+    ensures { IfOk result (λ found. option_map (λ v. v.items) found
         ≡ first_statement (record { bytes = bytes.now; offset = offset; finished = finished })) }
 {
     let mut tokens = Vec::new(alloc);
     let mut start = offset;
     let mut rest = bytes;
     while let Some(found) = first_token(rest, start) {
+        let ended = is_end(found.token.kind());
+        start = found.token.stop();
         tokens.push(found.token)?;
-        if is_end(found.token.kind) {
+        if ended {
             return Ok(Some(tokens));
         }
-        start = found.token.stop;
         rest = found.rest;
     }
     if finished && !tokens.is_empty() {
@@ -53,8 +53,8 @@ fn first_end(bytes: &[u8], offset: u64, finished: bool) -> u64
     let mut start = offset;
     let mut rest = bytes;
     while let Some(found) = first_token(rest, start) {
-        start = found.token.stop;
-        if is_end(found.token.kind) {
+        start = found.token.stop();
+        if is_end(found.token.kind()) {
             return start;
         }
         rest = found.rest;
@@ -129,7 +129,7 @@ impl Cutter {
 
     /// The tokens of the first statement.
     pub fn next_statement(&self) -> Result<Option<Vec<Token<'_>>>, AllocError>
-        ensures { IfOk result (λ found. option_map (λ v. entries v.items) found ≡ first_statement self.now) }
+        ensures { IfOk result (λ found. option_map (λ v. v.items) found ≡ first_statement self.now) }
     {
         let alloc = *self.bytes.allocator();
         let (_, held) = self.bytes.split_at(self.taken);

@@ -1,22 +1,68 @@
 //! Tokens.
-ghost use Rattle.std.specs.Prelude.{◌≡◌, ◌+◌, ◌<◌, ◌^◌, ◌∷◌, [], length, IfSome, IfNone};
-ghost use Rattle.td_scan.specs.Entries.{entry};
+ghost use Rattle.std.specs.Prelude.{Some, ◌≡◌, ◌+◌, ◌<◌, ◌^◌, ◌∷◌, [], length, IfSome, IfNone};
+ghost use Rattle.td_tree.specs.Pieces.{kind_of};
 ghost use Rattle.td_tree.specs.Statements.{tokens};
+ghost use Rattle.td_tree.specs.Symbols.{symbols};
 
 use crate::piece::first_piece;
+use std::marker::Model;
 use td_tree::token::Kind;
 
-/// A token, with the bytes that it is and where they begin and end in the script.
-#[derive(Clone, Copy, Debug)]
+/// A token: what it is, the bytes that it is, and where they begin and end in the script. What it is, its bytes say.
+#[derive(Drop)]
 pub struct Token<'a> {
-    pub kind: Kind,
-    pub text: &'a [u8],
-    pub start: u64,
-    pub stop: u64,
+    kind: Kind,
+    text: &'a [u8],
+    start: u64,
+    stop: u64,
+}
+
+impl<'a> Model for Token<'a> {
+    ghost use Rattle.std.specs.Prelude.{Some, ◌≡◌, Some};
+    ghost use Rattle.td_tree.specs.Pieces.{kind_of};
+    ghost use Rattle.td_tree.specs.Statements.{Entry};
+    ghost use Rattle.td_tree.specs.Symbols.{symbols};
+
+    ghost Value = { Entry };
+
+    ghost view = { λ t. record { kind = t.kind; text = t.text.now; start = t.start; stop = t.stop } };
+
+    ghost invariant = { λ t. kind_of (symbols t.text.now) ≡ Some t.kind };
+}
+
+impl<'a> Token<'a> {
+    /// What it is.
+    pub fn kind(&self) -> Kind
+        ensures value { result ≡ self.now.kind }
+        ensures said { kind_of (symbols self.now.text) ≡ Some result }
+    {
+        self.kind
+    }
+
+    /// The bytes that it is.
+    pub fn text(&self) -> &'a [u8]
+        ensures { result.now ≡ self.now.text }
+    {
+        self.text
+    }
+
+    /// Where they begin in the script, in bytes.
+    pub fn start(&self) -> u64
+        ensures { result ≡ self.now.start }
+    {
+        self.start
+    }
+
+    /// Where they end in the script, in bytes.
+    pub fn stop(&self) -> u64
+        ensures { result ≡ self.now.stop }
+    {
+        self.stop
+    }
 }
 
 /// A token, and the bytes behind it.
-#[derive(Clone, Copy)]
+#[derive(Drop)]
 pub(crate) struct Found<'a> {
     pub(crate) token: Token<'a>,
     pub(crate) rest: &'a [u8],
@@ -25,7 +71,7 @@ pub(crate) struct Found<'a> {
 /// The first token of the bytes, which begin at this offset of a script.
 pub(crate) fn first_token<'a>(bytes: &'a [u8], offset: u64) -> Option<Found<'a>>
     requires { offset + length bytes.now < 2 ^ 64 }
-    ensures found { IfSome result (λ f. tokens offset bytes.now ≡ entry f.token ∷ tokens f.token.stop f.rest.now) }
+    ensures found { IfSome result (λ f. tokens offset bytes.now ≡ f.token ∷ tokens f.token.stop f.rest.now) }
     ensures place { IfSome result (λ f. f.token.stop + length f.rest.now ≡ offset + length bytes.now) }
     ensures shorter { IfSome result (λ f. length f.rest.now < length bytes.now) }
     ensures none { IfNone result (tokens offset bytes.now ≡ []) }

@@ -1,6 +1,7 @@
 -- A `;` is one piece that nothing lengthens, so that what it ends is the same in every continuation.
 use Rattle.std.proofs.Common.{◌≡◌, ℕ, List, [], ◌∷◌, ◌++◌, refl, sym, ap, ◌∙◌, true, false, Option, Some, None, if◌then◌else◌}
 use Rattle.std.specs.Prelude.{option_and_then}
+use Rattle.std.specs.Str.{is_utf8}
 use Rattle.td_tree.specs.declared.piece.Piece.{Piece}
 use Rattle.td_tree.specs.declared.piece.Piece.TheVariants as pieces_are
 use Rattle.td_tree.specs.declared.token.Kind.TheVariants as kinds
@@ -9,7 +10,7 @@ use Rattle.td_tree.specs.declared.token.Sign.TheVariants as signs
 use Rattle.td_tree.specs.Division.{up_to, IsDivision}
 use Rattle.td_tree.specs.Keywords.{keyword_of}
 use Rattle.td_tree.specs.Names.{begins_the}
-use Rattle.td_tree.specs.Pieces.{begins, continues, goes_on, longer_sign, pieces, kind_after, state, word_kind, word_kind_of}
+use Rattle.td_tree.specs.Pieces.{begins, continues, goes_on, sign_goes_on, pieces, kind_after, state, text_kind, word_kind, word_kind_of}
 use Rattle.td_tree.specs.Spellings.{characters}
 use Rattle.td_tree.specs.Statements.{is_end}
 use Rattle.td_tree.specs.Symbols.{Symbol, symbols, spell}
@@ -25,6 +26,9 @@ word_is_no_end text = elim (keyword_of text) as (λ o. is_end (word_kind_of o (b
   | None ↦ (elim (begins_the text) as (λ b. is_end (if b then kinds.Component else kinds.Name) ≡ false) [ true ↦ refl | false ↦ refl ])
 ]
 
+text_is_no_end : (text : List ℕ) → is_end (text_kind text) ≡ false
+text_is_no_end text = elim (is_utf8 text) as (λ b. is_end (if b then kinds.Text else kinds.Bad) ≡ false) [ true ↦ refl | false ↦ refl ]
+
 semicolon_kind : (a : Sign) → is_end (kinds.Sign a) ≡ true → a ≡ signs.Semicolon
 semicolon_kind signs.Semicolon e = refl
 semicolon_kind _ e = absurd cc
@@ -35,13 +39,12 @@ semicolon_state pieces_are.Blank text e = absurd cc
 semicolon_state pieces_are.Word text e = let wrong : false ≡ true = sym (word_is_no_end text) ∙ e in absurd cc
 semicolon_state pieces_are.Number text e = absurd cc
 semicolon_state (pieces_are.Sign a) text e = ap pieces_are.Sign (semicolon_kind a e)
-semicolon_state pieces_are.Bar text e = absurd cc
-semicolon_state pieces_are.Bad text e = absurd cc
+semicolon_state pieces_are.Text text e = let wrong : false ≡ true = sym (text_is_no_end text) ∙ e in absurd cc
+semicolon_state _ text e = absurd cc
 
 nothing_longer : (c : Option ℕ) → goes_on (pieces_are.Sign signs.Semicolon) c ≡ None
-unfolding goes_on longer_sign
-nothing_longer None = refl
-nothing_longer (Some k) = refl
+unfolding goes_on sign_goes_on
+nothing_longer c = refl
 
 -- nothing lengthens a `;`
 pub closed : (p : List Symbol) (t : Piece) (x : Symbol) → ends_piece p ≡ true → state p ≡ Some t → continues t x ≡ None

@@ -2,11 +2,13 @@
 ghost use Rattle.std.specs.Prelude.{◌≡◌, ◌+◌, ◌++◌, ◌↔◌, ℕ, List, Some, length};
 ghost use Rattle.std.specs.List.{flat_map};
 ghost use Rattle.td_tree.specs.declared.piece.Piece.{Piece};
-ghost use Rattle.td_tree.specs.Pieces.{AreLongest, pieces, state};
-ghost use Rattle.td_tree.specs.Spans.{AreOfTheirKind, AreSlices, Ascends};
+ghost use Rattle.td_tree.specs.declared.token.Kind.TheVariants as kinds;
+ghost use Rattle.td_tree.specs.Pieces.{AreLongest, kind_of, pieces, state, text_kind};
+ghost use Rattle.td_tree.specs.Spans.{AreOfTheirKind, AreSlices, AreTexts, Ascends};
 ghost use Rattle.td_tree.specs.Spellings.{IsSpelled, characters};
 ghost use Rattle.td_tree.specs.Statements.{AreStatements, Entry, first_ended, statements, tokens};
 ghost use Rattle.td_tree.specs.Symbols.{AreSymbols, Symbol, symbols};
+ghost use Rattle.td_tree.specs.TextTokens.{IsQuotedText, content, quoted};
 
 /// The symbols of bytes spell them, each a character of UTF-8, or one byte where none begins.
 #[tactic(auto, using(crate::proofs::DecodeLaws::are_symbols))]
@@ -26,8 +28,8 @@ pub fn one_division()
     ensures { (ps : List (List Symbol)) (bytes : List ℕ) → AreLongest ps bytes → ps ≡ pieces bytes }
 {}
 
-/// A piece is what the language's words say of its characters: a blank, a word, a number, a sign, or one
-/// symbol that is none of these.
+/// A piece is what the language's words say of its characters: a blank, a comment, a word, a number, a text, a
+/// sign, a comment or a text that nothing ends, or one symbol that begins none of these.
 #[tactic(auto, using(crate::proofs::KindLaws::as_spelled))]
 pub fn pieces_are_as_spelled()
     ensures { (p : List Symbol) (piece : Piece) → (state p ≡ Some piece) ↔ IsSpelled piece (characters p) }
@@ -43,6 +45,30 @@ pub fn tokens_are_slices()
 #[tactic(auto, using(crate::proofs::SliceLaws::kinds))]
 pub fn tokens_are_of_their_kind()
     ensures { (at : ℕ) (bytes : List ℕ) → AreOfTheirKind (tokens at bytes) }
+{}
+
+/// Bytes are a text exactly where they are a text in quotes that says UTF-8.
+#[tactic(auto, using(crate::proofs::QuotedLaws::are_quoted))]
+pub fn texts_are_quoted()
+    ensures { (text : List ℕ) → (kind_of (symbols text) ≡ Some kinds.Text) ↔ IsQuotedText text }
+{}
+
+/// So are the texts among the tokens.
+#[tactic(auto, using(crate::proofs::QuotedLaws::texts))]
+pub fn tokens_are_texts()
+    ensures { (at : ℕ) (bytes : List ℕ) → AreTexts (tokens at bytes) }
+{}
+
+/// A text in quotes is one token: a text where it says UTF-8, else a bad one.
+#[tactic(auto, using(crate::proofs::QuotedLaws::quoted_kind))]
+pub fn quoted_is_one_token()
+    ensures { (said : List ℕ) → kind_of (symbols (quoted said)) ≡ Some (text_kind said) }
+{}
+
+/// A text in quotes says what stands between its quotes.
+#[tactic(auto, using(crate::proofs::TextTokenLaws::content_quoted))]
+pub fn quoted_says()
+    ensures { (said : List ℕ) → content (quoted said) ≡ said }
 {}
 
 /// Spans ascend.

@@ -2,11 +2,19 @@
 #![tactic(auto)]
 
 pub mod cause;
+mod copy;
+pub mod expression;
 pub mod fault;
+pub mod height;
 pub mod keyword;
 pub mod laws;
 pub mod name;
+pub mod operator;
 pub mod piece;
+pub mod print;
+pub mod statement;
 #[cfg(test)]
 mod tests;
 pub mod token;
+pub mod tree_laws;
+pub mod type_tree;

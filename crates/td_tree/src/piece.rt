@@ -1,7 +1,8 @@
 //! The pieces that a script is divided into: how one begins, how it goes on, and what it is.
 ghost use Rattle.std.specs.Prelude.{◌≡◌};
-ghost use Rattle.td_tree.specs.Pieces.{goes_on, is_blank, kind_after, longer_sign, opens, sign_at, starts_word, continues_word};
+ghost use Rattle.td_tree.specs.Pieces.{goes_on, is_blank, kind_after, opens, sign_at, sign_goes_on};
 
+use crate::name::{is_word_more, is_word_start};
 use crate::token::{Kind, Sign};
 
 /// A piece so far. At each place of a script the longest piece is taken.
@@ -14,6 +15,18 @@ pub enum Piece {
     Sign(Sign),
     /// A `|` that no other has followed yet.
     Bar,
+    /// A text in quotes that no quote ends yet.
+    OpenText,
+    /// A text in quotes that its last quote ends, unless one more quote follows.
+    Text,
+    /// A comment that begins with `//`.
+    LineComment,
+    /// A comment that begins with `/*` and that no `*/` ends yet.
+    OpenComment,
+    /// The same where its last character is a `*`, so that a `/` ends it.
+    StarredComment,
+    /// A comment from `/*` to `*/`.
+    Comment,
     /// What begins no other piece.
     Bad,
 }
@@ -27,17 +40,18 @@ impl Piece {
         let Some(character) = character else {
             return Piece::Bad;
         };
-        if starts_word(character) {
-            Piece::Word
+        if is_blank(character) {
+            Piece::Blank
         } else if character.is_ascii_digit() {
             Piece::Number
-        } else if is_blank(character) {
-            Piece::Blank
+        } else if character == '\'' {
+            Piece::OpenText
         } else if character == '|' {
             Piece::Bar
         } else {
             match sign_at(character) {
                 Some(sign) => Piece::Sign(sign),
+                None if is_word_start(character) => Piece::Word,
                 None => Piece::Bad,
             }
         }
@@ -48,26 +62,38 @@ impl Piece {
     pub fn goes_on(self, character: Option<char>) -> Option<Piece>
         ensures { result ≡ goes_on self character }
     {
-        let character = character?;
-        match self {
-            Piece::Word if continues_word(character) => Some(Piece::Word),
-            Piece::Number if character.is_ascii_digit() => Some(Piece::Number),
-            Piece::Sign(sign) => longer_sign(sign, character).map(Piece::Sign),
-            Piece::Bar if character == '|' => Some(Piece::Sign(Sign::Concatenate)),
+        match (self, character) {
+            (Piece::Word, Some(c)) if is_word_more(c) => Some(Piece::Word),
+            (Piece::Number, Some(c)) if c.is_ascii_digit() => Some(Piece::Number),
+            (Piece::Sign(sign), _) => sign_goes_on(sign, character),
+            (Piece::Bar, Some('|')) => Some(Piece::Sign(Sign::Concatenate)),
+            (Piece::OpenText, Some('\'')) => Some(Piece::Text),
+            (Piece::OpenText, _) => Some(Piece::OpenText),
+            (Piece::Text, Some('\'')) => Some(Piece::OpenText),
+            (Piece::LineComment, Some('\n')) => None,
+            (Piece::LineComment, _) => Some(Piece::LineComment),
+            (Piece::StarredComment, Some('/')) => Some(Piece::Comment),
+            (Piece::OpenComment | Piece::StarredComment, Some('*')) => Some(Piece::StarredComment),
+            (Piece::OpenComment | Piece::StarredComment, _) => Some(Piece::OpenComment),
             _ => None,
         }
     }
 
-    /// What the piece is, with these bytes; `None` for a blank, which is no token.
+    /// What the piece is, with these bytes; `None` for a blank or a comment, which are no tokens.
     pub fn kind(self, text: &[u8]) -> Option<Kind>
         ensures { result ≡ kind_after self text.now }
     {
         match self {
-            Piece::Blank => None,
+            Piece::Blank | Piece::LineComment | Piece::Comment => None,
             Piece::Word => Some(Kind::of_word(text)),
             Piece::Number => Some(Kind::Number),
             Piece::Sign(sign) => Some(Kind::Sign(sign)),
-            Piece::Bar | Piece::Bad => Some(Kind::Bad),
+            Piece::Text => Some(Kind::of_text(text)),
+            Piece::Bar
+            | Piece::OpenText
+            | Piece::OpenComment
+            | Piece::StarredComment
+            | Piece::Bad => Some(Kind::Bad),
         }
     }
 }
@@ -76,21 +102,11 @@ impl Piece {
 fn is_blank(character: char) -> bool
     ensures { result ≡ is_blank character }
 {
-    character == ' ' || character == '\t' || character == '\r' || character == '\n'
-}
-
-/// Whether a word of a script may begin with the character.
-fn starts_word(character: char) -> bool
-    ensures { result ≡ starts_word character }
-{
-    character.is_ascii_alphabetic() || character == '_'
-}
-
-/// Whether a word of a script may go on with the character.
-fn continues_word(character: char) -> bool
-    ensures { result ≡ continues_word character }
-{
-    character.is_ascii_alphanumeric() || character == '_' || character == '#'
+    character == ' '
+        || character == '\t'
+        || character == '\r'
+        || character == '\n'
+        || character == '\u{feff}'
 }
 
 /// The sign that the character is by itself.
@@ -117,16 +133,18 @@ fn sign_at(character: char) -> Option<Sign>
     }
 }
 
-/// The longer sign that the character makes of a sign.
-#[tactic(auto, unfolding(crate::specs::Pieces::longer_sign))]
-fn longer_sign(sign: Sign, character: char) -> Option<Sign>
-    ensures { result ≡ longer_sign sign character }
+/// The piece that begins with a sign and goes on with the character.
+#[tactic(auto, unfolding(crate::specs::Pieces::sign_goes_on))]
+fn sign_goes_on(sign: Sign, character: Option<char>) -> Option<Piece>
+    ensures { result ≡ sign_goes_on sign character }
 {
     match (sign, character) {
-        (Sign::Colon, '=') => Some(Sign::Assign),
-        (Sign::Less, '=') => Some(Sign::LessOrEqual),
-        (Sign::Less, '>') => Some(Sign::NotEqual),
-        (Sign::Greater, '=') => Some(Sign::GreaterOrEqual),
+        (Sign::Colon, Some('=')) => Some(Piece::Sign(Sign::Assign)),
+        (Sign::Less, Some('=')) => Some(Piece::Sign(Sign::LessOrEqual)),
+        (Sign::Less, Some('>')) => Some(Piece::Sign(Sign::NotEqual)),
+        (Sign::Greater, Some('=')) => Some(Piece::Sign(Sign::GreaterOrEqual)),
+        (Sign::Divide, Some('/')) => Some(Piece::LineComment),
+        (Sign::Divide, Some('*')) => Some(Piece::OpenComment),
         _ => None,
     }
 }

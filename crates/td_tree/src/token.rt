@@ -1,6 +1,6 @@
 //! What a token is.
 ghost use Rattle.std.specs.Prelude.{◌≡◌};
-ghost use Rattle.td_tree.specs.Pieces.{word_kind};
+ghost use Rattle.td_tree.specs.Pieces.{text_kind, word_kind};
 ghost use Rattle.td_tree.specs.Signs.{sign_text};
 
 use crate::keyword::Keyword;
@@ -70,8 +70,10 @@ pub enum Kind {
     Name,
     /// Decimal digits.
     Number,
+    /// A text in quotes, in UTF-8.
+    Text,
     Sign(Sign),
-    /// What begins no other token.
+    /// What begins no other token, what nothing ends, and a text in quotes that is not UTF-8.
     Bad,
 }
 
@@ -85,6 +87,16 @@ impl Kind {
             Some(keyword) => Kind::Reserved(keyword),
             None if begins_the(text) => Kind::Component,
             None => Kind::Name,
+        }
+    }
+    /// What a text in quotes with these bytes is.
+    #[tactic(auto, using(crate::proofs::FrontLaws::valid, crate::proofs::FrontLaws::invalid))]
+    pub fn of_text(text: &[u8]) -> Kind
+        ensures { result ≡ text_kind text.now }
+    {
+        match str::from_utf8(text) {
+            Ok(_) => Kind::Text,
+            Err(_) => Kind::Bad,
         }
     }
 }

@@ -2,7 +2,8 @@
 use Rattle.std.proofs.Common.{◌≡◌, ℕ, ◌<◌, ◌+◌, Bool, true, false, cond, eqb, List, [], ◌∷◌, ◌++◌, length, get_or, drop, refl, sym, ap, ◌∙◌, append_assoc}
 use Rattle.std.specs.List.{slice_split, onto_first}
 use Rattle.std.proofs.lemmas.List.{at_drop_more}
-use Rattle.td_value.specs.Literal.{doubled, quotes_if}
+use Rattle.td_value.specs.Literal.{quotes_if}
+use Rattle.td_tree.specs.TextTokens.{doubled}
 
 -- the pieces with two quotes between
 abbrev pub joined : Bool → List (List ℕ) → List ℕ

@@ -10,7 +10,8 @@ use Rattle.std.proofs.lemmas.Int.{ints}
 use Rattle.td_types.specs.Types as types
 use Rattle.td_types.specs.Types.{Attrs, Type', attr, no_attrs}
 use Rattle.td_types.specs.Texts.{comma_if, type_text}
-use Rattle.td_value.specs.Literal.{doubled, literal, fields_literal, parts_literal, rows_literal}
+use Rattle.td_tree.specs.TextTokens.{doubled}
+use Rattle.td_value.specs.Literal.{literal, fields_literal, parts_literal, rows_literal}
 use Rattle.td_value.specs.Laws.{AreFieldsDeclared, ArePartsDeclared, AreRowsDeclared, IsDeclared, parts_types}
 use Rattle.td_value.specs.Values.{Val, boolean, integer, text, user, tuple, relation, Parts, no_parts, part, Fields, no_fields, field, Rows, no_rows, row, AreFields, AreRows, AreValues, IsInRange, IsValue, fields_type, type_of}
 

@@ -1,15 +1,11 @@
 -- The literal of a value (Tutorial D's selectors in one spelling, which is this project's own).
-use Rattle.std.specs.Prelude.{ℕ, Bool, true, false, List, [], ◌∷◌, ◌++◌, codes, if◌then◌else◌, ◌==◌}
+use Rattle.std.specs.Prelude.{ℕ, Bool, true, false, List, [], ◌++◌, codes, if◌then◌else◌}
 use Rattle.std.specs.Fmt.{signed_decimal}
+use Rattle.td_tree.specs.TextTokens.{quoted}
 use Rattle.td_types.specs.Types as types
 use Rattle.td_types.specs.Texts.{comma_if, type_text}
 use Rattle.td_value.specs.Values.{Val, boolean, integer, text, user, tuple, relation, Parts, no_parts, part, Fields, no_fields, field, Rows, no_rows, row, Entries, Relation, pack_fields, pack_rows}
 use Rattle.td_types.specs.Types.{pack}
-
--- a text with each quote doubled
-abbrev pub doubled : List ℕ → List ℕ
-doubled [] = []
-doubled (b ∷ bs) = if b == 39 then 39 ∷ 39 ∷ doubled bs else b ∷ doubled bs
 
 -- the two quotes before a piece of a text that another piece stands before
 abbrev pub quotes_if : Bool → List ℕ
@@ -21,7 +17,7 @@ abbrev mutual
   pub literal : Val → List ℕ
   literal (boolean b) = if b then codes "TRUE" else codes "FALSE"
   literal (integer z) = signed_decimal z
-  literal (text s) = codes "'" ++ doubled s ++ codes "'"
+  literal (text s) = quoted s
   literal (user n ps) = n ++ codes "(" ++ parts_literal false ps ++ codes ")"
   literal (tuple fs) = codes "TUPLE {" ++ fields_literal false fs ++ codes "}"
   literal (relation h rs) = type_text (types.relation h) ++ codes " {" ++ rows_literal false rs ++ codes "}"

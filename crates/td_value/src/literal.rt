@@ -3,7 +3,8 @@ ghost use Rattle.std.specs.Prelude.{◌≡◌, ◌++◌, IfOk, OnOk, codes, fals
 ghost use Rattle.std.specs.Fmt.{signed_decimal};
 ghost use Rattle.std.specs.String.{string_bytes};
 ghost use Rattle.td_types.specs.Texts.{comma_if};
-ghost use Rattle.td_value.specs.Literal.{doubled, fields_literal, literal, quotes_if, relation_literal, tuple_literal};
+ghost use Rattle.td_tree.specs.TextTokens.{doubled, quoted};
+ghost use Rattle.td_value.specs.Literal.{fields_literal, literal, quotes_if, relation_literal, tuple_literal};
 ghost use Rattle.td_value.specs.Values.{pack_fields, pack_parts, user};
 ghost use Rattle.td_value.specs.Views.{entries_of};
 
@@ -51,7 +52,7 @@ fn put_doubled(out: &mut String, content: &str) -> Result<(), AllocError>
 }
 
 fn put_text(out: &mut String, content: &str) -> Result<(), AllocError>
-    ensures { OnOk result (string_bytes out.new ≡ string_bytes out.old ++ (codes "'" ++ doubled content.now ++ codes "'")) }
+    ensures { OnOk result (string_bytes out.new ≡ string_bytes out.old ++ quoted content.now) }
 {
     out.push_str("'")?;
     put_doubled(out, content)?;

@@ -77,7 +77,7 @@ impl<'a, 't> Cursor<'a, 't> {
         ensures { Eats (after_sign sign (words self.old.rest.now)) result (words self.old.rest.now) (words self.new.rest.now) }
     {
         match self.rest {
-            [token, rest @ ..] if is_sign(token.kind, sign) => {
+            [token, rest @ ..] if is_sign(token.kind(), sign) => {
                 self.rest = rest;
                 true
             }
@@ -91,7 +91,7 @@ impl<'a, 't> Cursor<'a, 't> {
         ensures { Eats (after_keyword keyword (words self.old.rest.now)) result (words self.old.rest.now) (words self.new.rest.now) }
     {
         match self.rest {
-            [token, rest @ ..] if is_keyword(token.kind, keyword) => {
+            [token, rest @ ..] if is_keyword(token.kind(), keyword) => {
                 self.rest = rest;
                 true
             }
@@ -136,7 +136,7 @@ impl<'a, 't> Cursor<'a, 't> {
         ensures { result ≡ begins_tuples (words self.now.rest.now) }
     {
         match self.rest {
-            [_, second, ..] => is_keyword(second.kind, Keyword::Tuple),
+            [_, second, ..] => is_keyword(second.kind(), Keyword::Tuple),
             _ => false,
         }
     }
@@ -149,7 +149,7 @@ impl<'a, 't> Cursor<'a, 't> {
         let [token, rest @ ..] = self.rest else {
             return Err(SYNTAX);
         };
-        let Some(text) = name_text(token.kind, token.text) else {
+        let Some(text) = name_text(token.kind(), token.text()) else {
             return Err(SYNTAX);
         };
         self.rest = rest;
@@ -164,7 +164,7 @@ impl<'a, 't> Cursor<'a, 't> {
         let [token, rest @ ..] = self.rest else {
             return Err(SYNTAX);
         };
-        let Some(magnitude) = number_value(token.kind, token.text) else {
+        let Some(magnitude) = number_value(token.kind(), token.text()) else {
             return Err(SYNTAX);
         };
         if magnitude == MAX_MAGNITUDE && !minus {

@@ -5,6 +5,7 @@ ghost use Rattle.td.specs.Reading.{Moves, any_tuples_in, attribute_in, attribute
 ghost use Rattle.td.specs.TreeViews.{attribute_of, attributes_of, expression_of, literal_of, operand_of, statement_of, tuple_of, tuples_of};
 ghost use Rattle.td.specs.Parsing.{Gives, Parses, has_bad, is_bad};
 ghost use Rattle.td.specs.Words.{words};
+ghost use Rattle.td_tree.specs.Statements.{Entry};
 
 use crate::engine::cursor::{Cursor, SYNTAX};
 use crate::engine::tree::{
@@ -317,10 +318,10 @@ fn statement(alloc: Global, tokens: &mut Cursor<'_, '_>) -> Result<Statement, Fa
 
 /// Whether one of the tokens is bad.
 fn has_bad(tokens: &[Token<'_>]) -> bool
-    ensures { result ≡ has_bad (map (λ token. token.kind) tokens.now) }
+    ensures { result ≡ has_bad (map (λ (token : Entry). token.kind) tokens.now) }
 {
     for token in tokens {
-        if is_bad(token.kind) {
+        if is_bad(token.kind()) {
             return true;
         }
     }
@@ -350,7 +351,7 @@ fn whole(alloc: Global, tokens: &[Token<'_>]) -> Result<Statement, Fault>
 /// The statement that the tokens spell: SCAN where one of them is bad, else SYNTAX where they
 /// spell none.
 pub fn parse_statement(alloc: Global, tokens: &[Token<'_>]) -> Result<Statement, Fault>
-    ensures { Parses (map (λ token. token.kind) tokens.now) (words tokens.now) result }
+    ensures { Parses (map (λ (token : Entry). token.kind) tokens.now) (words tokens.now) result }
 {
     if has_bad(tokens) {
         return Err(Fault::Refused(Cause::Scan));

@@ -1,0 +1,11 @@
+use Rattle.std.proofs.Common.{◌≡◌, [], ◌∷◌, ◌++◌, drop, map}
+use Rattle.td_tree.proofs.Writing.{listed}
+use Rattle.td_tree.specs.Lexemes as lexeme
+use Rattle.td_tree.specs.Prints.{name_lexemes}
+use Rattle.td_tree.specs.Written.{written}
+use Rattle.td_tree.proofs.print.words.Printer.names.Given as goal
+
+abbrev pub invariant-loop-name : goal.invariant-loop-name
+invariant-loop-name l =
+    l.out ++ written (listed l.later (map (λ n. lexeme.name n ∷ []) (drop l.name-index l.names)))
+    ≡ l.initial.out ++ written (name_lexemes l.names)

@@ -1,0 +1,19 @@
+-- What a printer has written of a list of lexemes.
+use Rattle.std.specs.Prelude.{ℕ, Bool, true, false, List, [], ◌∷◌, ◌++◌, codes}
+use Rattle.std.specs.List.{flat_map}
+use Rattle.td_tree.specs.declared.token.Sign.TheVariants as signs
+use Rattle.td_tree.specs.Lexemes.{Lexeme, sign, printed}
+
+-- each lexeme with a space behind it
+abbrev pub written : List Lexeme → List ℕ
+written = flat_map (λ (l : Lexeme). printed l ++ codes " ")
+
+-- what stands before an item: a comma where another item stands before it
+abbrev pub comma_if : Bool → List Lexeme
+comma_if true = sign signs.Comma ∷ []
+comma_if false = []
+
+-- what stands between the quotes: two quotes before a piece that another stands before
+abbrev pub quotes_if : Bool → List ℕ
+quotes_if true = codes "''"
+quotes_if false = []

@@ -1,0 +1,212 @@
+//! Copies of types and expressions. A text and a name share their bytes with their copies.
+ghost use Rattle.std.specs.Prelude.{◌≡◌, IfOk, map};
+ghost use Rattle.td_tree.specs.Trees as trees;
+ghost use Rattle.td_tree.specs.TreeViews.{attributes_of, heading_of, literal_of, named_of, postfix_of, renaming_of, summaries_of, tree_of, trees_of, type_of, with_summary};
+
+use crate::expression::{Attributes, Expr, Literal, NamedExpr, Postfix, Renaming, Summary};
+use crate::name::Name;
+use crate::type_tree::{AttributeTree, TypeTree};
+use std::alloc::AllocError;
+
+impl TypeTree {
+    /// The same type again.
+    #[cycle(copy_type)]
+    pub fn try_clone(&self) -> Result<TypeTree, AllocError>
+        ensures { IfOk result (λ copy. type_of copy ≡ type_of self.now) }
+    {
+        match self {
+            TypeTree::Integer => Ok(TypeTree::Integer),
+            TypeTree::Char => Ok(TypeTree::Char),
+            TypeTree::Boolean => Ok(TypeTree::Boolean),
+            TypeTree::User(name) => Ok(TypeTree::User(name.try_clone()?)),
+            TypeTree::Tuple(heading) => { Ok(TypeTree::Tuple(copy_heading(heading)?)) }
+            TypeTree::Relation(heading) => { Ok(TypeTree::Relation(copy_heading(heading)?)) }
+        }
+    }
+}
+
+#[cycle(copy_type)]
+fn copy_heading(heading: &Vec<AttributeTree>) -> Result<Vec<AttributeTree>, AllocError>
+    ensures { IfOk result (λ copy. heading_of copy.items ≡ heading_of heading.now.items) }
+{
+    let mut copy = Vec::with_capacity(*heading.allocator(), heading.len())?;
+    for attribute in heading {
+        let name = attribute.name.try_clone()?;
+        let ty = attribute.ty.try_clone()?;
+        copy.push(AttributeTree { name, ty })?;
+    }
+    Ok(copy)
+}
+
+impl Literal {
+    /// The same literal again.
+    pub fn try_clone(&self) -> Result<Literal, AllocError>
+        ensures { IfOk result (λ copy. literal_of copy ≡ literal_of self.now) }
+    {
+        match self {
+            Literal::Number { minus, magnitude } => Ok(Literal::Number {
+                minus: *minus,
+                magnitude: *magnitude,
+            }),
+            Literal::Text(content) => Ok(Literal::Text(content.clone()?)),
+            Literal::Truth(value) => Ok(Literal::Truth(*value)),
+            Literal::TableDee => Ok(Literal::TableDee),
+            Literal::TableDum => Ok(Literal::TableDum),
+        }
+    }
+}
+
+fn copy_names(names: &Vec<Name>) -> Result<Vec<Name>, AllocError>
+    ensures { IfOk result (λ copy. copy.items ≡ names.now.items) }
+{
+    let mut copy = Vec::with_capacity(*names.allocator(), names.len())?;
+    for name in names {
+        copy.push(name.try_clone()?)?;
+    }
+    Ok(copy)
+}
+
+impl Attributes {
+    /// The same attributes again.
+    pub fn try_clone(&self) -> Result<Attributes, AllocError>
+        ensures { IfOk result (λ copy. attributes_of copy ≡ attributes_of self.now) }
+    {
+        match self {
+            Attributes::Only(names) => Ok(Attributes::Only(copy_names(names)?)),
+            Attributes::AllBut(names) => { Ok(Attributes::AllBut(copy_names(names)?)) }
+        }
+    }
+}
+
+fn copy_renamings(renamings: &Vec<Renaming>) -> Result<Vec<Renaming>, AllocError>
+    ensures { IfOk result (λ copy. map renaming_of copy.items ≡ map renaming_of renamings.now.items) }
+{
+    let mut copy = Vec::with_capacity(*renamings.allocator(), renamings.len())?;
+    for renaming in renamings {
+        let old = renaming.old.try_clone()?;
+        let new = renaming.new.try_clone()?;
+        copy.push(Renaming { old, new })?;
+    }
+    Ok(copy)
+}
+
+impl Postfix {
+    /// The same operator again.
+    pub fn try_clone(&self) -> Result<Postfix, AllocError>
+        ensures { IfOk result (λ copy. postfix_of copy ≡ postfix_of self.now) }
+    {
+        match self {
+            Postfix::Project(attributes) => Ok(Postfix::Project(attributes.try_clone()?)),
+            Postfix::Rename(renamings) => { Ok(Postfix::Rename(copy_renamings(renamings)?)) }
+            Postfix::Group(attributes, name) => {
+                Ok(Postfix::Group(attributes.try_clone()?, name.try_clone()?))
+            }
+            Postfix::Ungroup(name) => Ok(Postfix::Ungroup(name.try_clone()?)),
+            Postfix::Wrap(attributes, name) => {
+                Ok(Postfix::Wrap(attributes.try_clone()?, name.try_clone()?))
+            }
+            Postfix::Unwrap(name) => Ok(Postfix::Unwrap(name.try_clone()?)),
+        }
+    }
+}
+
+impl Expr {
+    /// The same expression again.
+    #[cycle(copy)]
+    pub fn try_clone(&self) -> Result<Expr, AllocError>
+        ensures { IfOk result (λ copy. tree_of copy ≡ tree_of self.now) }
+    {
+        match self {
+            Expr::Literal(value) => Ok(Expr::Literal(value.try_clone()?)),
+            Expr::Name(name) => Ok(Expr::Name(name.try_clone()?)),
+            Expr::Parentheses(inner) => Ok(Expr::Parentheses(boxed(inner)?)),
+            Expr::Prefix(op, operand) => Ok(Expr::Prefix(*op, boxed(operand)?)),
+            Expr::Extract(name, operand) => Ok(Expr::Extract(name.try_clone()?, boxed(operand)?)),
+            Expr::Binary(left, op, right) => Ok(Expr::Binary(boxed(left)?, *op, boxed(right)?)),
+            Expr::Compare(left, op, right) => Ok(Expr::Compare(boxed(left)?, *op, boxed(right)?)),
+            Expr::Postfix(operand, op) => Ok(Expr::Postfix(boxed(operand)?, op.try_clone()?)),
+            Expr::Select(ty, arguments) => Ok(Expr::Select(ty.try_clone()?, copy_list(arguments)?)),
+            Expr::Component(rest, operand) => Ok(Expr::Component(rest.clone()?, boxed(operand)?)),
+            Expr::Measure(op, operand) => Ok(Expr::Measure(*op, boxed(operand)?)),
+            Expr::Aggregate(op, left, right) => Ok(Expr::Aggregate(
+                *op,
+                boxed(left)?,
+                boxed(right)?,
+            )),
+            Expr::Relation(elements) => Ok(Expr::Relation(copy_list(elements)?)),
+            Expr::HeadedRelation(heading, elements) => {
+                Ok(Expr::HeadedRelation(copy_heading(heading)?, copy_list(elements)?))
+            }
+            Expr::Tuple(parts) => Ok(Expr::Tuple(copy_parts(parts)?)),
+            Expr::Extend(operand, parts) => Ok(Expr::Extend(boxed(operand)?, copy_parts(parts)?)),
+            Expr::SummarizePer(operand, per, summaries) => {
+                Ok(Expr::SummarizePer(boxed(operand)?, boxed(per)?, copy_summaries(summaries)?))
+            }
+            Expr::SummarizeBy(operand, by, summaries) => {
+                let by = by.try_clone()?;
+                Ok(Expr::SummarizeBy(boxed(operand)?, by, copy_summaries(summaries)?))
+            }
+            Expr::If(condition, consequent, alternative) => {
+                Ok(Expr::If(boxed(condition)?, boxed(consequent)?, boxed(alternative)?))
+            }
+        }
+    }
+}
+
+/// The same expression in a box of its own.
+#[cycle(copy)]
+fn boxed(expression: &Box<Expr>) -> Result<Box<Expr>, AllocError>
+    ensures { IfOk result (λ copy. tree_of copy.value ≡ tree_of expression.now.value) }
+{
+    let copy = expression.try_clone()?;
+    Ok(Box::new(*Box::allocator(expression), copy)?)
+}
+
+#[cycle(copy)]
+fn copy_list(expressions: &Vec<Expr>) -> Result<Vec<Expr>, AllocError>
+    ensures { IfOk result (λ copy. trees_of copy.items ≡ trees_of expressions.now.items) }
+{
+    let mut copy = Vec::with_capacity(*expressions.allocator(), expressions.len())?;
+    for expression in expressions {
+        copy.push(expression.try_clone()?)?;
+    }
+    Ok(copy)
+}
+
+#[cycle(copy)]
+fn copy_parts(parts: &Vec<NamedExpr>) -> Result<Vec<NamedExpr>, AllocError>
+    ensures { IfOk result (λ copy. named_of copy.items ≡ named_of parts.now.items) }
+{
+    let mut copy = Vec::with_capacity(*parts.allocator(), parts.len())?;
+    for part in parts {
+        let name = part.name.try_clone()?;
+        let value = part.value.try_clone()?;
+        copy.push(NamedExpr { name, value })?;
+    }
+    Ok(copy)
+}
+
+#[cycle(copy)]
+fn copy_summaries(summaries: &Vec<Summary>) -> Result<Vec<Summary>, AllocError>
+    ensures { IfOk result (λ copy. summaries_of copy.items ≡ summaries_of summaries.now.items) }
+{
+    let mut copy = Vec::with_capacity(*summaries.allocator(), summaries.len())?;
+    for summary in summaries {
+        copy.push(summary.try_clone()?)?;
+    }
+    Ok(copy)
+}
+
+impl Summary {
+    #[cycle(copy)]
+    fn try_clone(&self) -> Result<Summary, AllocError>
+        ensures { IfOk result (λ copy. (rest : trees.Summaries) → with_summary copy rest ≡ with_summary self.now rest) }
+    {
+        match self {
+            Summary::Count(name) => Ok(Summary::Count(name.try_clone()?)),
+            Summary::Of(op, value, name) => {
+                Ok(Summary::Of(*op, value.try_clone()?, name.try_clone()?))
+            }
+        }
+    }
+}

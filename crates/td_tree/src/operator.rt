@@ -1,0 +1,114 @@
+//! The operators of expressions, and the levels at which they bind.
+ghost use Rattle.std.specs.Prelude.{◌≡◌};
+ghost use Rattle.td_tree.specs.Grammar.{aggregate_word, measure_word};
+
+use crate::keyword::Keyword;
+
+/// How loosely an expression binds, the loosest first.
+#[derive(Clone, Copy, Debug, PartialEq, Eq)]
+pub enum Level {
+    /// `WHERE`
+    Restriction,
+    /// `OR`
+    Disjunction,
+    /// `AND`
+    Conjunction,
+    /// `NOT`
+    Negation,
+    /// `=` and its kin, `IN`
+    Comparison,
+    /// `UNION` and its kin
+    Relational,
+    /// `+`, `-`, `||`
+    Additive,
+    /// `*`, `/`
+    Multiplicative,
+    /// What stands before its operand.
+    Prefixed,
+    /// What stands behind its operand.
+    Postfixed,
+    /// What needs no other to be whole.
+    Primary,
+}
+
+/// An operator between two operands, which groups to the left.
+#[derive(Clone, Copy, Debug, PartialEq, Eq)]
+pub enum Operator {
+    Where,
+    Or,
+    And,
+    Union,
+    Intersect,
+    Minus,
+    Join,
+    Times,
+    Compose,
+    Matching,
+    NotMatching,
+    Add,
+    Subtract,
+    Concatenate,
+    Multiply,
+    Divide,
+}
+
+/// A comparison between two operands, which does not group.
+#[derive(Clone, Copy, Debug, PartialEq, Eq)]
+pub enum Comparison {
+    Equal,
+    NotEqual,
+    Less,
+    LessOrEqual,
+    Greater,
+    GreaterOrEqual,
+    In,
+}
+
+/// An operator before its operand.
+#[derive(Clone, Copy, Debug, PartialEq, Eq)]
+pub enum Prefix {
+    Not,
+    Negate,
+    TransitiveClosure,
+    TupleFrom,
+}
+
+/// What is asked of a relation alone.
+#[derive(Clone, Copy, Debug, PartialEq, Eq)]
+pub enum Measure {
+    Count,
+    IsEmpty,
+}
+
+/// An aggregate of the values of an expression.
+#[derive(Clone, Copy, Debug, PartialEq, Eq)]
+pub enum Aggregate {
+    Sum,
+    Max,
+    Min,
+}
+
+impl Measure {
+    /// The reserved word that asks it.
+    pub fn keyword(self) -> Keyword
+        ensures { result ≡ measure_word self }
+    {
+        match self {
+            Measure::Count => Keyword::Count,
+            Measure::IsEmpty => Keyword::IsEmpty,
+        }
+    }
+}
+
+impl Aggregate {
+    /// The reserved word that asks it.
+    pub fn keyword(self) -> Keyword
+        ensures { result ≡ aggregate_word self }
+    {
+        match self {
+            Aggregate::Sum => Keyword::Sum,
+            Aggregate::Max => Keyword::Max,
+            Aggregate::Min => Keyword::Min,
+        }
+    }
+}

@@ -1,0 +1,245 @@
+//! The texts of types and expressions: their lexemes with one space between.
+ghost use Rattle.std.specs.Prelude.{◌≡◌, ◌∷◌, ◌++◌, [], IfOk};
+ghost use Rattle.std.specs.String.{string_bytes};
+ghost use Rattle.td_tree.specs.declared.keyword.Keyword.TheVariants as k;
+ghost use Rattle.td_tree.specs.declared.token.Sign.TheVariants as signs;
+ghost use Rattle.td_tree.specs.Grammar.{aggregate_word};
+ghost use Rattle.td_tree.specs.Lexemes.{keyword, sign};
+ghost use Rattle.td_tree.specs.Lists.{braced, parenthesized};
+ghost use Rattle.td_tree.specs.Prints.{addition_lexemes, all_lexemes, commas, heading_lexemes, lexemes_of, part_lexemes, print, summary_lexemes, type_lexemes, type_print};
+ghost use Rattle.td_tree.specs.TreeViews.{heading_of, named_of, summaries_of, tree_of, trees_of, type_of};
+ghost use Rattle.td_tree.specs.Written.{written};
+
+mod words;
+
+use crate::expression::{Expr, NamedExpr, Summary};
+use crate::keyword::Keyword;
+use crate::operator::Aggregate;
+use crate::token::Sign;
+use crate::type_tree::{AttributeTree, TypeTree};
+use std::alloc::{AllocError, Global};
+use words::Printer;
+
+/// The text of the type.
+pub fn print_type(alloc: Global, ty: &TypeTree) -> Result<String, AllocError>
+    ensures { IfOk result (λ text. string_bytes text ≡ type_print (type_of ty.now)) }
+{
+    Ok(Printer::new(alloc).ty(ty)?.finish())
+}
+
+/// The text of the expression.
+pub fn print_expr(alloc: Global, expression: &Expr) -> Result<String, AllocError>
+    ensures { IfOk result (λ text. string_bytes text ≡ print (tree_of expression.now)) }
+{
+    Ok(Printer::new(alloc).expr(expression)?.finish())
+}
+
+impl Printer {
+    #[cycle(type_printer)]
+    fn ty(self, ty: &TypeTree) -> Result<Printer, AllocError>
+        ensures { IfOk result (λ out. out ≡ self ++ written (type_lexemes (type_of ty.now))) }
+    {
+        match ty {
+            TypeTree::Integer => self.keyword(Keyword::Integer),
+            TypeTree::Char => self.keyword(Keyword::Char),
+            TypeTree::Boolean => self.keyword(Keyword::Boolean),
+            TypeTree::User(name) => self.name(name),
+            TypeTree::Tuple(heading) => self.keyword(Keyword::Tuple)?.heading(heading),
+            TypeTree::Relation(heading) => self.keyword(Keyword::Relation)?.heading(heading),
+        }
+    }
+
+    #[cycle(type_printer)]
+    fn heading(self, heading: &[AttributeTree]) -> Result<Printer, AllocError>
+        ensures { IfOk result (λ out. out ≡ self ++ written (heading_lexemes (heading_of heading.now))) }
+    {
+        let mut out = self.sign(Sign::OpenBrace)?;
+        let mut later = false;
+        for attribute in heading {
+            out = out.comma(later)?.name(&attribute.name)?.ty(&attribute.ty)?;
+            later = true;
+        }
+        out.sign(Sign::CloseBrace)
+    }
+
+    fn relation_type(self, heading: &[AttributeTree]) -> Result<Printer, AllocError>
+        ensures { IfOk result (λ out. out ≡ self ++ written (keyword k.Relation ∷ heading_lexemes (heading_of heading.now))) }
+    {
+        self.keyword(Keyword::Relation)?.heading(heading)
+    }
+
+    #[cycle(printer)]
+    fn expr(self, expression: &Expr) -> Result<Printer, AllocError>
+        ensures { IfOk result (λ out. out ≡ self ++ written (lexemes_of (tree_of expression.now))) }
+    {
+        match expression {
+            Expr::Literal(value) => self.literal(value),
+            Expr::Name(name) => self.name(name),
+            Expr::Parentheses(inner) => self.parenthesized(inner),
+            Expr::Prefix(op, operand) => self.prefix(*op)?.expr(operand),
+            Expr::Extract(name, operand) => self.name(name)?.after(Keyword::From, operand),
+            Expr::Binary(left, op, right) => self.expr(left)?.operator(*op)?.expr(right),
+            Expr::Compare(left, op, right) => self.expr(left)?.comparison(*op)?.expr(right),
+            Expr::Postfix(operand, op) => self.expr(operand)?.postfix(op),
+            Expr::Select(ty, arguments) => self.name(ty)?.arguments(arguments),
+            Expr::Component(rest, operand) => self.component(rest)?.parenthesized(operand),
+            Expr::Measure(op, operand) => self.keyword(op.keyword())?.parenthesized(operand),
+            Expr::Aggregate(op, left, right) => self.aggregated(*op, left)?.over(right),
+            Expr::Relation(elements) => self.keyword(Keyword::Relation)?.elements(elements),
+            Expr::HeadedRelation(heading, elements) => {
+                self.relation_type(heading)?.elements(elements)
+            }
+            Expr::Tuple(parts) => self.keyword(Keyword::Tuple)?.parts(parts),
+            Expr::Extend(operand, parts) => self.after(Keyword::Extend, operand)?.additions(parts),
+            Expr::SummarizePer(operand, per, added) => {
+                let out = self.after(Keyword::Summarize, operand)?;
+                out.per(per)?.summaries(added)
+            }
+            Expr::SummarizeBy(operand, by, added) => {
+                let out = self.after(Keyword::Summarize, operand)?;
+                out.keyword(Keyword::By)?.attributes(by)?.summaries(added)
+            }
+            Expr::If(condition, yes, no) => {
+                let out = self.after(Keyword::If, condition)?;
+                out.after(Keyword::Then, yes)?.alternative(no)
+            }
+        }
+    }
+
+    #[cycle(printer)]
+    fn parenthesized(self, inner: &Expr) -> Result<Printer, AllocError>
+        ensures { IfOk result (λ out. out ≡ self ++ written (parenthesized (lexemes_of (tree_of inner.now)))) }
+    {
+        let out = self.sign(Sign::OpenParenthesis)?;
+        out.expr(inner)?.sign(Sign::CloseParenthesis)
+    }
+
+    /// The word and the expression behind it.
+    #[cycle(printer)]
+    fn after(self, word: Keyword, expression: &Expr) -> Result<Printer, AllocError>
+        ensures { IfOk result (λ out. out ≡ self ++ written (keyword word ∷ lexemes_of (tree_of expression.now))) }
+    {
+        self.keyword(word)?.expr(expression)
+    }
+
+    /// The word of an aggregate, and its first argument in an open parenthesis.
+    #[cycle(printer)]
+    fn aggregated(self, op: Aggregate, operand: &Expr) -> Result<Printer, AllocError>
+        ensures { IfOk result (λ out. out ≡ self ++ written (keyword (aggregate_word op) ∷ (sign signs.OpenParenthesis ∷ lexemes_of (tree_of operand.now)))) }
+    {
+        self.keyword(op.keyword())?
+            .sign(Sign::OpenParenthesis)?
+            .expr(operand)
+    }
+
+    /// The second argument of an aggregate, and the parenthesis that closes.
+    #[cycle(printer)]
+    fn over(self, value: &Expr) -> Result<Printer, AllocError>
+        ensures { IfOk result (λ out. out ≡ self ++ written (sign signs.Comma ∷ (lexemes_of (tree_of value.now) ++ (sign signs.CloseParenthesis ∷ [])))) }
+    {
+        self.sign(Sign::Comma)?
+            .expr(value)?
+            .sign(Sign::CloseParenthesis)
+    }
+
+    #[cycle(printer)]
+    fn per(self, per: &Expr) -> Result<Printer, AllocError>
+        ensures { IfOk result (λ out. out ≡ self ++ written (keyword k.Per ∷ parenthesized (lexemes_of (tree_of per.now)))) }
+    {
+        self.keyword(Keyword::Per)?.parenthesized(per)
+    }
+
+    #[cycle(printer)]
+    fn alternative(self, no: &Expr) -> Result<Printer, AllocError>
+        ensures { IfOk result (λ out. out ≡ self ++ written (keyword k.Else ∷ (lexemes_of (tree_of no.now) ++ (keyword k.End ∷ (keyword k.If ∷ []))))) }
+    {
+        self.after(Keyword::Else, no)?
+            .keyword(Keyword::End)?
+            .keyword(Keyword::If)
+    }
+
+    #[cycle(printer)]
+    fn arguments(self, arguments: &[Expr]) -> Result<Printer, AllocError>
+        ensures { IfOk result (λ out. out ≡ self ++ written (parenthesized (commas (all_lexemes (trees_of arguments.now))))) }
+    {
+        let mut out = self.sign(Sign::OpenParenthesis)?;
+        let mut later = false;
+        for argument in arguments {
+            out = out.comma(later)?.expr(argument)?;
+            later = true;
+        }
+        out.sign(Sign::CloseParenthesis)
+    }
+
+    #[cycle(printer)]
+    fn elements(self, elements: &[Expr]) -> Result<Printer, AllocError>
+        ensures { IfOk result (λ out. out ≡ self ++ written (braced (commas (all_lexemes (trees_of elements.now))))) }
+    {
+        let mut out = self.sign(Sign::OpenBrace)?;
+        let mut later = false;
+        for element in elements {
+            out = out.comma(later)?.expr(element)?;
+            later = true;
+        }
+        out.sign(Sign::CloseBrace)
+    }
+
+    /// Each name and its expression, in braces.
+    #[cycle(printer)]
+    fn parts(self, parts: &[NamedExpr]) -> Result<Printer, AllocError>
+        ensures { IfOk result (λ out. out ≡ self ++ written (braced (commas (part_lexemes (named_of parts.now))))) }
+    {
+        let mut out = self.sign(Sign::OpenBrace)?;
+        let mut later = false;
+        for part in parts {
+            out = out.comma(later)?.name(&part.name)?.expr(&part.value)?;
+            later = true;
+        }
+        out.sign(Sign::CloseBrace)
+    }
+
+    /// `ADD` and each expression with `AS` and its name, in parentheses.
+    #[cycle(printer)]
+    fn additions(self, parts: &[NamedExpr]) -> Result<Printer, AllocError>
+        ensures { IfOk result (λ out. out ≡ self ++ written (keyword k.Add ∷ parenthesized (commas (addition_lexemes (named_of parts.now))))) }
+    {
+        let mut out = self.keyword(Keyword::Add)?.sign(Sign::OpenParenthesis)?;
+        let mut later = false;
+        for part in parts {
+            out = out.comma(later)?.expr(&part.value)?.alias(&part.name)?;
+            later = true;
+        }
+        out.sign(Sign::CloseParenthesis)
+    }
+
+    /// `ADD` and each aggregate with `AS` and its name, in parentheses.
+    #[cycle(printer)]
+    fn summaries(self, added: &[Summary]) -> Result<Printer, AllocError>
+        ensures { IfOk result (λ out. out ≡ self ++ written (keyword k.Add ∷ parenthesized (commas (summary_lexemes (summaries_of added.now))))) }
+    {
+        let mut out = self.keyword(Keyword::Add)?.sign(Sign::OpenParenthesis)?;
+        let mut later = false;
+        for summary in added {
+            out = out.comma(later)?.summary(summary)?;
+            later = true;
+        }
+        out.sign(Sign::CloseParenthesis)
+    }
+
+    #[cycle(printer)]
+    fn summary(self, summary: &Summary) -> Result<Printer, AllocError>
+        ensures { IfOk result (λ out. out ≡ self ++ written (commas (summary_lexemes (summaries_of (summary.now ∷ []))))) }
+    {
+        match summary {
+            Summary::Count(name) => {
+                let out = self.keyword(Keyword::Count)?.sign(Sign::OpenParenthesis)?;
+                out.sign(Sign::CloseParenthesis)?.alias(name)
+            }
+            Summary::Of(op, value, name) => {
+                self.keyword(op.keyword())?
+                    .parenthesized(value)?
+                    .alias(name)
+            }
+        }
+    }
+}

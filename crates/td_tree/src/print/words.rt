@@ -1,0 +1,289 @@
+//! Writers of what holds no expression.
+ghost use Rattle.std.specs.Prelude.{◌≡◌, ◌∷◌, ◌++◌, [], IfOk, List, codes, map};
+ghost use Rattle.std.specs.Rc.{rc_str_bytes};
+ghost use Rattle.std.specs.String.{string_bytes};
+ghost use Rattle.td_tree.specs.declared.keyword.Keyword.TheVariants as k;
+ghost use Rattle.td_tree.specs.Grammar.{comparison_word, operator_words};
+ghost use Rattle.td_tree.specs.Lexemes.{Lexeme, spaced};
+ghost use Rattle.td_tree.specs.Lexemes as lexeme;
+ghost use Rattle.td_tree.specs.Lists.{parenthesized};
+ghost use Rattle.td_tree.specs.Prints.{as_lexemes, attributes_lexemes, commas, literal_lexemes, name_lexemes, postfix_lexemes, prefix_words, renaming_lexemes};
+ghost use Rattle.td_tree.specs.TextTokens.{doubled};
+ghost use Rattle.td_tree.specs.TreeViews.{attributes_of, literal_of, postfix_of, renaming_of};
+ghost use Rattle.td_tree.specs.Written.{comma_if, quotes_if, written};
+
+use crate::expression::{Attributes, Literal, Postfix, Renaming};
+use crate::keyword::Keyword;
+use crate::name::Name;
+use crate::operator::{Comparison, Operator, Prefix};
+use crate::token::Sign;
+use std::alloc::{AllocError, Global};
+use std::marker::Model;
+use std::rc::RcStr;
+
+/// A text that grows, seen as its bytes: lexemes, with a space behind each one.
+#[derive(Drop)]
+pub(super) struct Printer {
+    out: String,
+}
+
+impl Model for Printer {
+    ghost use Rattle.std.specs.Prelude.{ℕ, List};
+    ghost use Rattle.std.specs.String.{string_bytes};
+
+    ghost Value = { List ℕ };
+
+    ghost view = { λ a. string_bytes a.out };
+}
+
+impl Printer {
+    pub(super) fn new(alloc: Global) -> Printer
+        ensures { result ≡ [] }
+    {
+        Printer {
+            out: String::new(alloc),
+        }
+    }
+
+    /// The text without the space behind its last lexeme.
+    pub(super) fn finish(self) -> String
+        ensures { (ls : List Lexeme) → self ≡ written ls → string_bytes result ≡ spaced ls }
+    {
+        let mut out = self.out;
+        out.pop();
+        out
+    }
+
+    fn raw(mut self, text: &str) -> Result<Printer, AllocError>
+        ensures { IfOk result (λ out. out ≡ self ++ text.now) }
+    {
+        self.out.push_str(text)?;
+        Ok(self)
+    }
+
+    fn token(self, text: &str) -> Result<Printer, AllocError>
+        ensures { IfOk result (λ out. out ≡ self ++ (text.now ++ codes " ")) }
+    {
+        self.raw(text)?.raw(" ")
+    }
+
+    pub(super) fn keyword(self, keyword: Keyword) -> Result<Printer, AllocError>
+        ensures { IfOk result (λ out. out ≡ self ++ written (lexeme.keyword keyword ∷ [])) }
+    {
+        self.token(keyword.word())
+    }
+
+    pub(super) fn sign(self, sign: Sign) -> Result<Printer, AllocError>
+        ensures { IfOk result (λ out. out ≡ self ++ written (lexeme.sign sign ∷ [])) }
+    {
+        self.token(sign.text())
+    }
+
+    pub(super) fn name(self, name: &Name) -> Result<Printer, AllocError>
+        ensures { IfOk result (λ out. out ≡ self ++ written (lexeme.name name.now ∷ [])) }
+    {
+        self.token(name.as_str())
+    }
+
+    /// A word that names a component: `THE_` and the rest of it.
+    pub(super) fn component(self, rest: &RcStr) -> Result<Printer, AllocError>
+        ensures { IfOk result (λ out. out ≡ self ++ written (lexeme.component (rc_str_bytes rest.now) ∷ [])) }
+    {
+        self.raw("THE_")?.token(rest.as_str())
+    }
+
+    fn number(self, n: u64) -> Result<Printer, AllocError>
+        ensures { IfOk result (λ out. out ≡ self ++ written (lexeme.number n ∷ [])) }
+    {
+        let mut buffer = itoa::Buffer::new();
+        self.token(buffer.format(n))
+    }
+
+    fn quotes(self, later: bool) -> Result<Printer, AllocError>
+        ensures { IfOk result (λ out. out ≡ self ++ quotes_if later) }
+    {
+        if later { self.raw("''") } else { Ok(self) }
+    }
+
+    /// The text with each quote doubled: its pieces between quotes, with two quotes between.
+    fn doubled(self, content: &str) -> Result<Printer, AllocError>
+        ensures { IfOk result (λ out. out ≡ self ++ doubled content.now) }
+    {
+        let mut out = self;
+        let mut later = false;
+        for piece in content.split('\'') {
+            out = out.quotes(later)?.raw(piece)?;
+            later = true;
+        }
+        Ok(out)
+    }
+
+    fn quoted(self, content: &str) -> Result<Printer, AllocError>
+        ensures { IfOk result (λ out. out ≡ self ++ written (lexeme.text content.now ∷ [])) }
+    {
+        self.raw("'")?.doubled(content)?.token("'")
+    }
+
+    pub(super) fn literal(self, literal: &Literal) -> Result<Printer, AllocError>
+        ensures { IfOk result (λ out. out ≡ self ++ written (literal_lexemes (literal_of literal.now))) }
+    {
+        match literal {
+            Literal::Number {
+                minus: true,
+                magnitude,
+            } => self.sign(Sign::Minus)?.number(*magnitude),
+            Literal::Number {
+                minus: false,
+                magnitude,
+            } => self.number(*magnitude),
+            Literal::Text(content) => self.quoted(content.as_str()),
+            Literal::Truth(true) => self.keyword(Keyword::True),
+            Literal::Truth(false) => self.keyword(Keyword::False),
+            Literal::TableDee => self.keyword(Keyword::TableDee),
+            Literal::TableDum => self.keyword(Keyword::TableDum),
+        }
+    }
+
+    /// What stands before an item.
+    pub(super) fn comma(self, later: bool) -> Result<Printer, AllocError>
+        ensures { IfOk result (λ out. out ≡ self ++ written (comma_if later)) }
+    {
+        if later {
+            self.sign(Sign::Comma)
+        } else {
+            Ok(self)
+        }
+    }
+
+    fn names(self, names: &[Name]) -> Result<Printer, AllocError>
+        ensures { IfOk result (λ out. out ≡ self ++ written (name_lexemes names.now)) }
+    {
+        let mut out = self;
+        let mut later = false;
+        for name in names {
+            out = out.comma(later)?.name(name)?;
+            later = true;
+        }
+        Ok(out)
+    }
+
+    fn all_but(self, names: &[Name]) -> Result<Printer, AllocError>
+        ensures { IfOk result (λ out. out ≡ self ++ written (lexeme.keyword k.All ∷ (lexeme.keyword k.But ∷ name_lexemes names.now))) }
+    {
+        self.keyword(Keyword::All)?
+            .keyword(Keyword::But)?
+            .names(names)
+    }
+
+    pub(super) fn attributes(self, attributes: &Attributes) -> Result<Printer, AllocError>
+        ensures { IfOk result (λ out. out ≡ self ++ written (attributes_lexemes (attributes_of attributes.now))) }
+    {
+        let out = self.sign(Sign::OpenBrace)?;
+        let out = match attributes {
+            Attributes::Only(names) => out.names(names)?,
+            Attributes::AllBut(names) => out.all_but(names)?,
+        };
+        out.sign(Sign::CloseBrace)
+    }
+
+    /// `AS` and a name.
+    pub(super) fn alias(self, name: &Name) -> Result<Printer, AllocError>
+        ensures { IfOk result (λ out. out ≡ self ++ written (as_lexemes name.now)) }
+    {
+        self.keyword(Keyword::As)?.name(name)
+    }
+
+    fn renamings(self, renamings: &[Renaming]) -> Result<Printer, AllocError>
+        ensures { IfOk result (λ out. out ≡ self ++ written (parenthesized (commas (map renaming_lexemes (map renaming_of renamings.now))))) }
+    {
+        let mut out = self.sign(Sign::OpenParenthesis)?;
+        let mut later = false;
+        for renaming in renamings {
+            out = out.comma(later)?.name(&renaming.old)?.alias(&renaming.new)?;
+            later = true;
+        }
+        out.sign(Sign::CloseParenthesis)
+    }
+
+    /// Attributes and the name of the one that they become, in parentheses.
+    fn gathering(self, attributes: &Attributes, name: &Name) -> Result<Printer, AllocError>
+        ensures { IfOk result (λ out. out ≡ self ++ written (parenthesized (attributes_lexemes (attributes_of attributes.now) ++ as_lexemes name.now))) }
+    {
+        let out = self.sign(Sign::OpenParenthesis)?;
+        out.attributes(attributes)?
+            .alias(name)?
+            .sign(Sign::CloseParenthesis)
+    }
+
+    fn parenthesized_name(self, name: &Name) -> Result<Printer, AllocError>
+        ensures { IfOk result (λ out. out ≡ self ++ written (parenthesized (lexeme.name name.now ∷ []))) }
+    {
+        let out = self.sign(Sign::OpenParenthesis)?;
+        out.name(name)?.sign(Sign::CloseParenthesis)
+    }
+
+    pub(super) fn postfix(self, op: &Postfix) -> Result<Printer, AllocError>
+        ensures { IfOk result (λ out. out ≡ self ++ written (postfix_lexemes (postfix_of op.now))) }
+    {
+        match op {
+            Postfix::Project(attributes) => self.attributes(attributes),
+            Postfix::Rename(renamings) => self.keyword(Keyword::Rename)?.renamings(renamings),
+            Postfix::Group(attributes, name) => {
+                self.keyword(Keyword::Group)?.gathering(attributes, name)
+            }
+            Postfix::Ungroup(name) => self.keyword(Keyword::Ungroup)?.parenthesized_name(name),
+            Postfix::Wrap(attributes, name) => {
+                self.keyword(Keyword::Wrap)?.gathering(attributes, name)
+            }
+            Postfix::Unwrap(name) => self.keyword(Keyword::Unwrap)?.parenthesized_name(name),
+        }
+    }
+
+    pub(super) fn prefix(self, op: Prefix) -> Result<Printer, AllocError>
+        ensures { IfOk result (λ out. out ≡ self ++ written (prefix_words op)) }
+    {
+        match op {
+            Prefix::Not => self.keyword(Keyword::Not),
+            Prefix::Negate => self.sign(Sign::Minus),
+            Prefix::TransitiveClosure => self.keyword(Keyword::Tclose),
+            Prefix::TupleFrom => self.keyword(Keyword::Tuple)?.keyword(Keyword::From),
+        }
+    }
+
+    pub(super) fn operator(self, op: Operator) -> Result<Printer, AllocError>
+        ensures { IfOk result (λ out. out ≡ self ++ written (operator_words op)) }
+    {
+        match op {
+            Operator::Where => self.keyword(Keyword::Where),
+            Operator::Or => self.keyword(Keyword::Or),
+            Operator::And => self.keyword(Keyword::And),
+            Operator::Union => self.keyword(Keyword::Union),
+            Operator::Intersect => self.keyword(Keyword::Intersect),
+            Operator::Minus => self.keyword(Keyword::Minus),
+            Operator::Join => self.keyword(Keyword::Join),
+            Operator::Times => self.keyword(Keyword::Times),
+            Operator::Compose => self.keyword(Keyword::Compose),
+            Operator::Matching => self.keyword(Keyword::Matching),
+            Operator::NotMatching => self.keyword(Keyword::Not)?.keyword(Keyword::Matching),
+            Operator::Add => self.sign(Sign::Plus),
+            Operator::Subtract => self.sign(Sign::Minus),
+            Operator::Concatenate => self.sign(Sign::Concatenate),
+            Operator::Multiply => self.sign(Sign::Times),
+            Operator::Divide => self.sign(Sign::Divide),
+        }
+    }
+
+    pub(super) fn comparison(self, op: Comparison) -> Result<Printer, AllocError>
+        ensures { IfOk result (λ out. out ≡ self ++ written (comparison_word op ∷ [])) }
+    {
+        match op {
+            Comparison::Equal => self.sign(Sign::Equal),
+            Comparison::NotEqual => self.sign(Sign::NotEqual),
+            Comparison::Less => self.sign(Sign::Less),
+            Comparison::LessOrEqual => self.sign(Sign::LessOrEqual),
+            Comparison::Greater => self.sign(Sign::Greater),
+            Comparison::GreaterOrEqual => self.sign(Sign::GreaterOrEqual),
+            Comparison::In => self.keyword(Keyword::In),
+        }
+    }
+}

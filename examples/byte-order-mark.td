@@ -1,0 +1,1 @@
+﻿WRITE RELATION {TUPLE {K 1}};

@@ -1,0 +1,2 @@
+VAR größe BASE RELATION {été INTEGER, λ#1 INTEGER} KEY {été};
+WRITE größe UNION RELATION {TUPLE {λ#1 2, été 1}};
