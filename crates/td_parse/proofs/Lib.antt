@@ -1,0 +1,7 @@
+pub mod Beginnings
+pub mod Decimals
+pub mod Highest
+pub mod Parses
+pub mod Seen
+pub mod Turns
+pub mod Views

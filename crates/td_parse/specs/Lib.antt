@@ -1,0 +1,4 @@
+pub mod FoundSummaries
+pub mod Nests
+pub mod Parsing
+pub mod Views

@@ -1,0 +1,105 @@
+-- What the parser's functions return and leave, by what reading gives of the lexemes before them.
+use Rattle.std.specs.Prelude.{◌≡◌, ℕ, Bool, true, false, List, [], ◌∷◌, drop, Option, Some, None, Result, Ok, Err}
+use Rattle.std.specs.List.{list_any}
+use Rattle.td_tree.specs.declared.cause.Cause.TheVariants as causes
+use Rattle.td_tree.specs.declared.fault.Fault.{Fault}
+use Rattle.td_tree.specs.declared.fault.Fault.TheVariants as faults
+use Rattle.td_tree.specs.declared.keyword.Keyword.{Keyword}
+use Rattle.td_tree.specs.declared.statement.Statement as code
+use Rattle.td_tree.specs.declared.token.Kind.{Kind}
+use Rattle.td_tree.specs.declared.token.Kind.TheVariants as kinds
+use Rattle.td_tree.specs.Lexemes.{Lexeme, keyword, sign, name, component, number, text, bad}
+use Rattle.td_tree.specs.Numbers.{decimal_value}
+use Rattle.td_tree.specs.StatementGrammar.{StatementSpelling}
+use Rattle.td_tree.specs.Trees as trees
+use Rattle.td_tree.specs.ReadingSteps.{ReadOf}
+use Rattle.td_tree.specs.Statements.{Entry}
+use Rattle.td_tree.specs.TextTokens.{content}
+use Rattle.td_tree.specs.TokenLexemes.{lexemes}
+use Rattle.td_tree.specs.TreeViews.{statement_of}
+
+-- ---- tokens
+
+-- what the grammar sees of bytes that are a token of this kind
+abbrev pub seen_as : Kind → List ℕ → Lexeme
+seen_as (kinds.Reserved k) t = keyword k
+seen_as kinds.Component t = component (drop 4 t)
+seen_as kinds.Name t = name t
+seen_as kinds.Number t = number (decimal_value t)
+seen_as kinds.Text t = text (content t)
+seen_as (kinds.Sign s) t = sign s
+seen_as kinds.Bad t = bad
+
+-- ---- outcomes
+
+-- the first token was taken, of this kind and with these bytes, or there is none
+abbrev pub Takes : List Lexeme → Option (Kind × List ℕ) → List Lexeme → Type 0
+Takes old (Some token) new = old ≡ seen_as token.0 token.1 ∷ new
+Takes old None new = (old ≡ []) × (new ≡ old)
+
+-- no reserved word comes first
+abbrev pub begins_otherwise : List Lexeme → Bool
+begins_otherwise (keyword w ∷ ts) = false
+begins_otherwise _ = true
+
+-- the reserved word that came first was taken, or none came first
+abbrev pub TakesWord : List Lexeme → Option Keyword → List Lexeme → Type 0
+TakesWord old (Some w) new = old ≡ keyword w ∷ new
+TakesWord old None new = (begins_otherwise old ≡ true) × (new ≡ old)
+
+-- the word was taken, or it does not come next
+abbrev pub Eats : Option (List Lexeme) → Bool → List Lexeme → List Lexeme → Type 0
+Eats after true old new = after ≡ Some new
+Eats after false old new = (after ≡ None) × (new ≡ old)
+
+-- the word was taken, or the grammar spells nothing
+abbrev pub Expects : Option (List Lexeme) → Result (Unit {0}) Fault → List Lexeme → Type 0
+Expects after (Ok x) new = after ≡ Some new
+Expects after (Err (faults.Refused cause)) new = (after ≡ None) × (cause ≡ causes.Syntax)
+Expects after (Err faults.Memory) new = ⊥
+
+-- what was found is what reading gives, and the rest is left
+abbrev pub Finds : {X : Type 0} → Option X → List Lexeme → ReadOf X → Type 0
+Finds (Some x) new read = read ≡ Some (x, new)
+Finds None new read = read ≡ None
+
+-- so too, and where nothing is found nothing is taken
+abbrev pub Tries : {X : Type 0} → Option X → List Lexeme → List Lexeme → ReadOf X → Type 0
+Tries (Some x) old new read = read ≡ Some (x, new)
+Tries None old new read = (read ≡ None) × (new ≡ old)
+
+-- what a function over a cursor returned and left is what reading gives, unless memory ran out
+abbrev pub Moves : {X Y : Type 0} → (X → Y) → Result X Fault → List Lexeme → ReadOf Y → Type 0
+Moves view (Ok x) new read = read ≡ Some (view x, new)
+Moves view (Err (faults.Refused cause)) new read = (read ≡ None) × (cause ≡ causes.Syntax)
+Moves view (Err faults.Memory) new read = Unit {0}
+
+-- what was returned is what reading all gives, unless memory ran out
+abbrev pub Gives : {X Y : Type 0} → (X → Y) → Result X Fault → Option Y → Type 0
+Gives view (Ok x) read = read ≡ Some (view x)
+Gives view (Err (faults.Refused cause)) read = (read ≡ None) × (cause ≡ causes.Syntax)
+Gives view (Err faults.Memory) read = Unit {0}
+
+abbrev pub is_bad : Kind → Bool
+is_bad kinds.Bad = true
+is_bad _ = false
+
+-- one of the tokens is bad
+abbrev pub has_bad : List Entry → Bool
+has_bad = list_any (λ (token : Entry). is_bad token.kind)
+
+-- the grammar spells this statement by these lexemes, and no other
+abbrev pub SpellsOnly : List Lexeme → trees.Statement → Type 0
+SpellsOnly xs s = StatementSpelling xs s × ((t : trees.Statement) → StatementSpelling xs t → t ≡ s)
+
+-- the grammar spells no statement by these lexemes
+abbrev pub SpellsNone : List Lexeme → Type 0
+SpellsNone xs = (t : trees.Statement) → StatementSpelling xs t → ⊥
+
+-- SCAN where a token is bad; else the one statement that the tokens spell, or SYNTAX where they spell none; memory may run out
+abbrev pub Parses : List Entry → Result code.Statement Fault → Type 0
+Parses tokens (Ok s) = (has_bad tokens ≡ false) × SpellsOnly (lexemes tokens) (statement_of s)
+Parses tokens (Err faults.Memory) = Unit {0}
+Parses tokens (Err (faults.Refused causes.Scan)) = has_bad tokens ≡ true
+Parses tokens (Err (faults.Refused causes.Syntax)) = (has_bad tokens ≡ false) × SpellsNone (lexemes tokens)
+Parses tokens (Err (faults.Refused cause)) = ⊥

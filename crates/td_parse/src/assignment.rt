@@ -1,0 +1,158 @@
+//! Assignments.
+ghost use Rattle.std.specs.Prelude.{map, option_map};
+ghost use Rattle.td_parse.specs.Parsing.{Moves};
+ghost use Rattle.td_parse.specs.Views.{named_part_of};
+ghost use Rattle.td_tree.specs.ReadingStatements as reading;
+ghost use Rattle.td_tree.specs.ReadingSteps.{enclosed, separated};
+ghost use Rattle.td_tree.specs.TreeViews.{assignment_of, statement_of, tree_of};
+
+use crate::cursor::{Cursor, SYNTAX};
+use crate::grammar::MAX_HEIGHT;
+use crate::levels;
+use crate::names::name;
+use crate::word::name_of;
+use std::alloc::Global;
+use td_tree::expression::{Expr, NamedExpr};
+use td_tree::fault::Fault;
+use td_tree::keyword::Keyword;
+use td_tree::operator::Level;
+use td_tree::statement::{Assignment, Statement};
+use td_tree::token::{Kind, Sign};
+
+/// An expression.
+pub fn expression(alloc: Global, tokens: &mut Cursor<'_, '_>) -> Result<Expr, Fault>
+    ensures { Moves tree_of result tokens.new (reading.expression tokens.old) }
+{
+    let found = levels::expression(alloc, MAX_HEIGHT, Level::Restriction, tokens)?;
+    Ok(found.into_tree())
+}
+
+/// `[WHERE e1]`
+#[tactic(auto, unfolding(td_tree::specs::ReadingStatements::condition, td_tree::specs::ReadingSteps::optional))]
+fn condition(alloc: Global, tokens: &mut Cursor<'_, '_>) -> Result<Option<Expr>, Fault>
+    ensures { Moves (option_map tree_of) result tokens.new (reading.condition tokens.old) }
+{
+    if !tokens.keyword(Keyword::Where) {
+        return Ok(None);
+    }
+    let found = levels::expression(alloc, MAX_HEIGHT, Level::Disjunction, tokens)?;
+    Ok(Some(found.into_tree()))
+}
+
+/// `':=' e`
+#[tactic(auto, unfolding(td_tree::specs::ReadingStatements::source))]
+fn source(alloc: Global, tokens: &mut Cursor<'_, '_>) -> Result<Expr, Fault>
+    ensures { Moves tree_of result tokens.new (reading.source tokens.old) }
+{
+    tokens.expect_sign(Sign::Assign)?;
+    expression(alloc, tokens)
+}
+
+/// `name ':=' e`
+#[tactic(auto, unfolding(td_tree::specs::ReadingStatements::setting))]
+fn setting(alloc: Global, tokens: &mut Cursor<'_, '_>) -> Result<NamedExpr, Fault>
+    ensures { Moves named_part_of result tokens.new (reading.setting tokens.old) }
+{
+    let name = name(alloc, tokens)?;
+    let value = source(alloc, tokens)?;
+    Ok(NamedExpr { name, value })
+}
+
+/// `(name ':=' e),+`
+#[tactic(auto, unfolding(td_tree::specs::ReadingSteps::separated, td_tree::specs::ReadingSteps::separated_from))]
+fn settings(alloc: Global, tokens: &mut Cursor<'_, '_>) -> Result<Vec<NamedExpr>, Fault>
+    ensures { Moves (λ v. map named_part_of v.items) result tokens.new (separated reading.setting tokens.old) }
+{
+    let mut items = Vec::new(alloc);
+    let limit = tokens.turns();
+    for _turn in 0..limit {
+        items.push(setting(alloc, tokens)?)?;
+        if !tokens.sign(Sign::Comma) {
+            return Ok(items);
+        }
+    }
+    Err(SYNTAX)
+}
+
+/// `'(' (name ':=' e),+ ')'`
+#[tactic(auto, unfolding(td_tree::specs::ReadingSteps::enclosed, td_tree::specs::ReadingSteps::up_to))]
+fn enclosed_settings(alloc: Global, tokens: &mut Cursor<'_, '_>) -> Result<Vec<NamedExpr>, Fault>
+    ensures { Moves (λ v. map named_part_of v.items) result tokens.new (enclosed (separated reading.setting) tokens.old) }
+{
+    tokens.expect_sign(Sign::OpenParenthesis)?;
+    let settings = settings(alloc, tokens)?;
+    tokens.expect_sign(Sign::CloseParenthesis)?;
+    Ok(settings)
+}
+
+/// `name e`, after `INSERT`
+#[tactic(auto, unfolding(td_tree::specs::ReadingStatements::insertion))]
+fn insertion(alloc: Global, tokens: &mut Cursor<'_, '_>) -> Result<Assignment, Fault>
+    ensures { Moves assignment_of result tokens.new (reading.insertion tokens.old) }
+{
+    let target = name(alloc, tokens)?;
+    let source = expression(alloc, tokens)?;
+    Ok(Assignment::Insert(target, source))
+}
+
+/// `name [WHERE e1]`, after `DELETE`
+#[tactic(auto, unfolding(td_tree::specs::ReadingStatements::deletion))]
+fn deletion(alloc: Global, tokens: &mut Cursor<'_, '_>) -> Result<Assignment, Fault>
+    ensures { Moves assignment_of result tokens.new (reading.deletion tokens.old) }
+{
+    let target = name(alloc, tokens)?;
+    let condition = condition(alloc, tokens)?;
+    Ok(Assignment::Delete(target, condition))
+}
+
+/// `name [WHERE e1] '(' (name ':=' e),+ ')'`, after `UPDATE`
+#[tactic(auto, unfolding(td_tree::specs::ReadingStatements::changing), using(crate::proofs::Views::named_from_of))]
+fn changing(alloc: Global, tokens: &mut Cursor<'_, '_>) -> Result<Assignment, Fault>
+    ensures { Moves assignment_of result tokens.new (reading.changing tokens.old) }
+{
+    let target = name(alloc, tokens)?;
+    let condition = condition(alloc, tokens)?;
+    let settings = enclosed_settings(alloc, tokens)?;
+    Ok(Assignment::Update(target, condition, settings))
+}
+
+/// An assignment.
+#[tactic(auto, unfolding(td_tree::specs::ReadingStatements::assignment, td_tree::specs::ReadingStatements::assignment_of_word))]
+fn assignment(alloc: Global, tokens: &mut Cursor<'_, '_>) -> Result<Assignment, Fault>
+    ensures { Moves assignment_of result tokens.new (reading.assignment tokens.old) }
+{
+    match tokens.take() {
+        Some((Kind::Name, text)) => {
+            let target = name_of(alloc, text)?;
+            Ok(Assignment::Assign(target, source(alloc, tokens)?))
+        }
+        Some((Kind::Reserved(Keyword::Insert), _)) => insertion(alloc, tokens),
+        Some((Kind::Reserved(Keyword::Delete), _)) => deletion(alloc, tokens),
+        Some((Kind::Reserved(Keyword::Update), _)) => changing(alloc, tokens),
+        _ => Err(SYNTAX),
+    }
+}
+
+/// `assignment,+`
+#[tactic(auto, unfolding(td_tree::specs::ReadingSteps::separated, td_tree::specs::ReadingSteps::separated_from))]
+fn some_assignments(alloc: Global, tokens: &mut Cursor<'_, '_>) -> Result<Vec<Assignment>, Fault>
+    ensures { Moves (λ v. map assignment_of v.items) result tokens.new (separated reading.assignment tokens.old) }
+{
+    let mut items = Vec::new(alloc);
+    let limit = tokens.turns();
+    for _turn in 0..limit {
+        items.push(assignment(alloc, tokens)?)?;
+        if !tokens.sign(Sign::Comma) {
+            return Ok(items);
+        }
+    }
+    Err(SYNTAX)
+}
+
+/// Assignments, all at once.
+#[tactic(auto, unfolding(td_tree::specs::ReadingStatements::assignments))]
+pub fn assignments(alloc: Global, tokens: &mut Cursor<'_, '_>) -> Result<Statement, Fault>
+    ensures { Moves statement_of result tokens.new (reading.assignments tokens.old) }
+{
+    Ok(Statement::Assign(some_assignments(alloc, tokens)?))
+}

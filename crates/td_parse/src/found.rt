@@ -1,0 +1,281 @@
+//! Expressions that were read, with their heights.
+ghost use Rattle.std.specs.Prelude.{◌≡◌, ◌<◌, ◌-◌, ◌^◌, map, min, nat_le, IfOk};
+ghost use Rattle.std.specs.Rc.{rc_str_bytes};
+ghost use Rattle.td_parse.specs.Views.{item_of, named_part_of};
+ghost use Rattle.td_tree.specs.Heights as heights;
+ghost use Rattle.td_tree.specs.Reading.{named_from, summaries_from, trees_from};
+ghost use Rattle.td_tree.specs.Trees as trees;
+ghost use Rattle.td_tree.specs.TreeViews.{attributes_of, heading_of, literal_of, postfix_of, tree_of};
+
+use crate::parts::{Elements, NamedParts, Summaries};
+use std::alloc::{AllocError, Global};
+use std::marker::Model;
+use std::rc::RcStr;
+use td_tree::expression::{Attributes, Expr, Literal, Postfix};
+use td_tree::height::highest_type;
+use td_tree::name::Name;
+use td_tree::operator::{Aggregate, Comparison, Measure, Operator, Prefix};
+use td_tree::type_tree::AttributeTree;
+
+/// An expression, and how high it is. `u64::MAX` stands for what is greater.
+#[derive(Drop)]
+pub struct Found {
+    tree: Expr,
+    height: u64,
+}
+
+impl Model for Found {
+    ghost use Rattle.std.specs.Prelude.{◌≡◌, ◌-◌, ◌^◌, min};
+    ghost use Rattle.std.specs.Coded.{codes};
+    ghost use Rattle.td_tree.specs.contracts.expression.Expr as expr;
+    ghost use Rattle.td_tree.specs.declared.expression.Expr.{Expr};
+    ghost use Rattle.td_tree.specs.Heights as heights;
+    ghost use Rattle.td_tree.specs.TreeViews.{tree_of};
+
+    ghost Value = { Expr };
+
+    ghost coded = { Prim.hlevel (codes, expr.the_row.coded) };
+
+    ghost view = { λ f. f.tree };
+
+    ghost invariant = { λ f. f.height ≡ min (heights.height (tree_of f.tree)) (2 ^ 64 - 1) };
+}
+
+impl Found {
+    /// The expression alone.
+    pub fn into_tree(self) -> Expr
+        ensures { result ≡ self }
+    {
+        self.tree
+    }
+
+    /// How high it is.
+    pub fn height(&self) -> u64
+        ensures { result ≡ min (heights.height (tree_of self.now)) (2 ^ 64 - 1) }
+    {
+        self.height
+    }
+
+    /// Whether it is at most so high.
+    pub fn fits(&self, limit: u64) -> bool
+        requires { limit < 2 ^ 64 - 1 }
+        ensures { result ≡ nat_le (heights.height (tree_of self.now)) limit }
+    {
+        self.height <= limit
+    }
+
+    /// A literal.
+    pub fn literal(value: Literal) -> Found
+        ensures { tree_of result ≡ trees.literal (literal_of value) }
+    {
+        let tree = Expr::Literal(value);
+        Found { tree, height: 1 }
+    }
+
+    /// A name.
+    pub fn name(name: Name) -> Found
+        ensures { tree_of result ≡ trees.name name }
+    {
+        let tree = Expr::Name(name);
+        Found { tree, height: 1 }
+    }
+
+    /// `(e)`
+    pub fn parentheses(alloc: Global, inner: Found) -> Result<Found, AllocError>
+        ensures { IfOk result (λ e. tree_of e ≡ trees.parentheses (tree_of inner)) }
+    {
+        let height = inner.height.saturating_add(1);
+        let tree = Expr::parentheses(alloc, inner.tree)?;
+        Ok(Found { tree, height })
+    }
+
+    /// An operator before its operand.
+    pub fn prefix(alloc: Global, op: Prefix, operand: Found) -> Result<Found, AllocError>
+        ensures { IfOk result (λ e. tree_of e ≡ trees.prefix op (tree_of operand)) }
+    {
+        let height = operand.height.saturating_add(1);
+        let tree = Expr::prefix(alloc, op, operand.tree)?;
+        Ok(Found { tree, height })
+    }
+
+    /// `A FROM t`
+    pub fn extract(alloc: Global, attribute: Name, operand: Found) -> Result<Found, AllocError>
+        ensures { IfOk result (λ e. tree_of e ≡ trees.extract attribute (tree_of operand)) }
+    {
+        let height = operand.height.saturating_add(1);
+        let tree = Expr::extract(alloc, attribute, operand.tree)?;
+        Ok(Found { tree, height })
+    }
+
+    /// An operator between its operands.
+    pub fn binary(
+        alloc: Global,
+        left: Found,
+        op: Operator,
+        right: Found,
+    ) -> Result<Found, AllocError>
+        ensures { IfOk result (λ e. tree_of e ≡ trees.binary (tree_of left) op (tree_of right)) }
+    {
+        let height = left.height.max(right.height).saturating_add(1);
+        let tree = Expr::binary(alloc, left.tree, op, right.tree)?;
+        Ok(Found { tree, height })
+    }
+
+    /// A comparison of two operands.
+    pub fn compare(
+        alloc: Global,
+        left: Found,
+        op: Comparison,
+        right: Found,
+    ) -> Result<Found, AllocError>
+        ensures { IfOk result (λ e. tree_of e ≡ trees.compare (tree_of left) op (tree_of right)) }
+    {
+        let height = left.height.max(right.height).saturating_add(1);
+        let tree = Expr::compare(alloc, left.tree, op, right.tree)?;
+        Ok(Found { tree, height })
+    }
+
+    /// An operator behind its operand.
+    pub fn postfix(alloc: Global, operand: Found, op: Postfix) -> Result<Found, AllocError>
+        ensures { IfOk result (λ e. tree_of e ≡ trees.postfix (tree_of operand) (postfix_of op)) }
+    {
+        let height = operand.height.saturating_add(1);
+        let tree = Expr::postfix(alloc, operand.tree, op)?;
+        Ok(Found { tree, height })
+    }
+
+    /// `T(e, ..)`
+    #[tactic(auto, using(crate::proofs::Views::trees_from_of))]
+    pub fn select(ty: Name, arguments: Elements) -> Found
+        ensures { tree_of result ≡ trees.select ty (trees_from (map tree_of arguments)) }
+    {
+        let height = arguments.height.saturating_add(1);
+        let tree = Expr::select(ty, arguments.items);
+        Found { tree, height }
+    }
+
+    /// `THE_C(e)`, by what follows `THE_`.
+    pub fn component(alloc: Global, rest: RcStr, operand: Found) -> Result<Found, AllocError>
+        ensures { IfOk result (λ e. tree_of e ≡ trees.component (rc_str_bytes rest) (tree_of operand)) }
+    {
+        let height = operand.height.saturating_add(1);
+        let tree = Expr::component(alloc, rest, operand.tree)?;
+        Ok(Found { tree, height })
+    }
+
+    /// `COUNT(e)` or `IS_EMPTY(e)`
+    pub fn measure(alloc: Global, op: Measure, operand: Found) -> Result<Found, AllocError>
+        ensures { IfOk result (λ e. tree_of e ≡ trees.measure op (tree_of operand)) }
+    {
+        let height = operand.height.saturating_add(1);
+        let tree = Expr::measure(alloc, op, operand.tree)?;
+        Ok(Found { tree, height })
+    }
+
+    /// `SUM(e, v)`, `MAX(e, v)` or `MIN(e, v)`
+    pub fn aggregate(
+        alloc: Global,
+        op: Aggregate,
+        operand: Found,
+        value: Found,
+    ) -> Result<Found, AllocError>
+        ensures { IfOk result (λ e. tree_of e ≡ trees.aggregate op (tree_of operand) (tree_of value)) }
+    {
+        let height = operand.height.max(value.height).saturating_add(1);
+        let tree = Expr::aggregate(alloc, op, operand.tree, value.tree)?;
+        Ok(Found { tree, height })
+    }
+
+    /// `RELATION {t, ..}`
+    #[tactic(auto, using(crate::proofs::Views::trees_from_of))]
+    pub fn relation(elements: Elements) -> Found
+        ensures { tree_of result ≡ trees.relation (trees_from (map tree_of elements)) }
+    {
+        let height = elements.height.saturating_add(1);
+        let tree = Expr::relation(elements.items);
+        Found { tree, height }
+    }
+
+    /// `RELATION {A INTEGER, ..} {t, ..}`
+    #[tactic(auto, using(crate::proofs::Views::trees_from_of))]
+    pub fn headed_relation(heading: Vec<AttributeTree>, elements: Elements) -> Found
+        ensures { tree_of result ≡ trees.headed_relation (heading_of heading.items) (trees_from (map tree_of elements)) }
+    {
+        let highest = highest_type(heading.as_slice()).saturating_add(1);
+        let height = highest.max(elements.height).saturating_add(1);
+        let tree = Expr::headed_relation(heading, elements.items);
+        Found { tree, height }
+    }
+
+    /// `TUPLE {A e, ..}`
+    #[tactic(auto, using(crate::proofs::Views::named_from_of))]
+    pub fn tuple(parts: NamedParts) -> Found
+        ensures { tree_of result ≡ trees.tuple (named_from (map named_part_of parts)) }
+    {
+        let height = parts.height.saturating_add(1);
+        let tree = Expr::tuple(parts.items);
+        Found { tree, height }
+    }
+
+    /// `EXTEND e ADD (v AS A, ..)`
+    #[tactic(auto, using(crate::proofs::Views::named_from_of))]
+    pub fn extend(alloc: Global, operand: Found, parts: NamedParts) -> Result<Found, AllocError>
+        ensures { IfOk result (λ e. tree_of e ≡ trees.extend (tree_of operand) (named_from (map named_part_of parts))) }
+    {
+        let height = operand.height.max(parts.height).saturating_add(1);
+        let tree = Expr::extend(alloc, operand.tree, parts.items)?;
+        Ok(Found { tree, height })
+    }
+
+    /// `SUMMARIZE e PER (p) ADD (..)`
+    #[tactic(auto, using(crate::proofs::Views::summaries_from_of))]
+    pub fn summarize_per(
+        alloc: Global,
+        operand: Found,
+        per: Found,
+        summaries: Summaries,
+    ) -> Result<Found, AllocError>
+        ensures { IfOk result (λ e. tree_of e ≡ trees.summarize_per (tree_of operand) (tree_of per) (summaries_from (map item_of summaries))) }
+    {
+        let height = operand
+            .height
+            .max(per.height)
+            .max(summaries.height)
+            .saturating_add(1);
+        let tree = Expr::summarize_per(alloc, operand.tree, per.tree, summaries.items)?;
+        Ok(Found { tree, height })
+    }
+
+    /// `SUMMARIZE e BY {..} ADD (..)`
+    #[tactic(auto, using(crate::proofs::Views::summaries_from_of))]
+    pub fn summarize_by(
+        alloc: Global,
+        operand: Found,
+        by: Attributes,
+        summaries: Summaries,
+    ) -> Result<Found, AllocError>
+        ensures { IfOk result (λ e. tree_of e ≡ trees.summarize_by (tree_of operand) (attributes_of by) (summaries_from (map item_of summaries))) }
+    {
+        let height = operand.height.max(summaries.height).saturating_add(1);
+        let tree = Expr::summarize_by(alloc, operand.tree, by, summaries.items)?;
+        Ok(Found { tree, height })
+    }
+
+    /// `IF c THEN a ELSE b END IF`
+    pub fn choice(
+        alloc: Global,
+        condition: Found,
+        consequent: Found,
+        alternative: Found,
+    ) -> Result<Found, AllocError>
+        ensures { IfOk result (λ e. tree_of e ≡ trees.choice (tree_of condition) (tree_of consequent) (tree_of alternative)) }
+    {
+        let height = condition
+            .height
+            .max(consequent.height)
+            .max(alternative.height)
+            .saturating_add(1);
+        let tree = Expr::choice(alloc, condition.tree, consequent.tree, alternative.tree)?;
+        Ok(Found { tree, height })
+    }
+}

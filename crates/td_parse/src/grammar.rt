@@ -1,0 +1,51 @@
+//! The rules that hold expressions take the parser of those as a parameter, so that each is proved by itself.
+ghost use Rattle.std.specs.Prelude.{◌≡◌, suc, nat_le};
+ghost use Rattle.td_parse.specs.Nests.{Nests};
+ghost use Rattle.td_parse.specs.Parsing.{Moves};
+ghost use Rattle.td_tree.specs.Heights.{height};
+ghost use Rattle.td_tree.specs.Reading.{read};
+ghost use Rattle.td_tree.specs.TreeViews.{tree_of};
+
+use crate::cursor::Cursor;
+use crate::found::Found;
+use std::alloc::Global;
+use td_tree::fault::Fault;
+use td_tree::operator::Level;
+
+/// How high an expression may be.
+pub const MAX_HEIGHT: u8 = 200;
+
+/// The rules for an expression that is at most one higher than `depth`.
+#[derive(Clone, Copy)]
+pub struct Grammar<F> {
+    pub alloc: Global,
+    /// How high its parts may be.
+    pub depth: u8,
+    /// Reads a part.
+    pub inner: F,
+}
+
+impl<F: Fn(Global, u8, Level, &mut Cursor<'_, '_>) -> Result<Found, Fault>> Grammar<F> {
+    /// A part that stands at this level.
+    pub fn inner(&self, level: Level, tokens: &mut Cursor<'_, '_>) -> Result<Found, Fault>
+        requires { Nests self.now.depth (F.pre self.now.inner) (F.post self.now.inner) }
+        ensures { Moves tree_of result tokens.new (read self.now.depth level tokens.old) }
+    {
+        (self.inner)(self.alloc, self.depth, level, tokens)
+    }
+
+    /// A part, whatever it is.
+    pub fn expression(&self, tokens: &mut Cursor<'_, '_>) -> Result<Found, Fault>
+        requires { Nests self.now.depth (F.pre self.now.inner) (F.post self.now.inner) }
+        ensures { Moves tree_of result tokens.new (read self.now.depth Level.Restriction tokens.old) }
+    {
+        self.inner(Level::Restriction, tokens)
+    }
+
+    /// Whether an expression is low enough.
+    pub fn fits(&self, found: &Found) -> bool
+        ensures { result ≡ nat_le (height (tree_of found.now)) (suc self.now.depth) }
+    {
+        found.fits(u64::from(self.depth) + 1)
+    }
+}

@@ -1,0 +1,21 @@
+//! The statement that tokens spell.
+#![tactic(auto)]
+
+mod assignment;
+mod cursor;
+mod definition;
+mod found;
+mod grammar;
+mod levels;
+mod lists;
+mod names;
+mod operators;
+mod parts;
+mod postfix;
+mod primary;
+pub mod statement;
+mod summarize;
+#[cfg(test)]
+mod tests;
+mod types;
+mod word;

@@ -1,0 +1,138 @@
+//! Lists of expressions.
+ghost use Rattle.std.specs.Prelude.{map};
+ghost use Rattle.td_parse.specs.Nests.{Nests};
+ghost use Rattle.td_parse.specs.Parsing.{Moves};
+ghost use Rattle.td_parse.specs.Views.{named_part_of};
+ghost use Rattle.td_tree.specs.Lexemes as lexeme;
+ghost use Rattle.td_tree.specs.Reading as reading;
+ghost use Rattle.td_tree.specs.Reading.{read};
+ghost use Rattle.td_tree.specs.ReadingSteps.{enclosed, listed_to, separated};
+ghost use Rattle.td_tree.specs.TreeViews.{tree_of};
+
+use crate::cursor::{Cursor, SYNTAX};
+use crate::found::Found;
+use crate::grammar::Grammar;
+use crate::names::{alias, name};
+use crate::parts::{Elements, NamedParts};
+use std::alloc::Global;
+use td_tree::fault::Fault;
+use td_tree::name::Name;
+use td_tree::operator::Level;
+use td_tree::token::Sign;
+
+impl<F: Fn(Global, u8, Level, &mut Cursor<'_, '_>) -> Result<Found, Fault>> Grammar<F> {
+    /// `e,+`
+    #[tactic(auto, unfolding(td_tree::specs::ReadingSteps::separated, td_tree::specs::ReadingSteps::separated_from))]
+    pub fn elements(&self, tokens: &mut Cursor<'_, '_>) -> Result<Elements, Fault>
+        requires { Nests self.now.depth (F.pre self.now.inner) (F.post self.now.inner) }
+        ensures { Moves (map tree_of) result tokens.new (separated (read self.now.depth Level.Restriction) tokens.old) }
+    {
+        let mut items = Elements::new(self.alloc);
+        let limit = tokens.turns();
+        for _turn in 0..limit {
+            items.push(self.expression(tokens)?)?;
+            if !tokens.sign(Sign::Comma) {
+                return Ok(items);
+            }
+        }
+        Err(SYNTAX)
+    }
+
+    /// `e,*` and the sign that closes them.
+    #[tactic(auto, unfolding(td_tree::specs::ReadingSteps::listed_to, td_tree::specs::ReadingSteps::up_to))]
+    pub fn elements_to(&self, close: Sign, tokens: &mut Cursor<'_, '_>) -> Result<Elements, Fault>
+        requires { Nests self.now.depth (F.pre self.now.inner) (F.post self.now.inner) }
+        ensures { Moves (map tree_of) result tokens.new (listed_to (lexeme.sign close) (read self.now.depth Level.Restriction) tokens.old) }
+    {
+        if tokens.sign(close) {
+            return Ok(Elements::new(self.alloc));
+        }
+        let items = self.elements(tokens)?;
+        tokens.expect_sign(close)?;
+        Ok(items)
+    }
+
+    /// `name e`
+    #[tactic(auto, unfolding(td_tree::specs::Reading::part))]
+    fn part(&self, tokens: &mut Cursor<'_, '_>) -> Result<(Name, Found), Fault>
+        requires { Nests self.now.depth (F.pre self.now.inner) (F.post self.now.inner) }
+        ensures { Moves (λ x. (x.0, tree_of x.1)) result tokens.new (reading.part (read self.now.depth) self.now.depth tokens.old) }
+    {
+        let name = name(self.alloc, tokens)?;
+        let value = self.expression(tokens)?;
+        Ok((name, value))
+    }
+
+    /// `(name e),+`
+    #[tactic(auto, unfolding(td_tree::specs::ReadingSteps::separated, td_tree::specs::ReadingSteps::separated_from))]
+    fn parts(&self, tokens: &mut Cursor<'_, '_>) -> Result<NamedParts, Fault>
+        requires { Nests self.now.depth (F.pre self.now.inner) (F.post self.now.inner) }
+        ensures { Moves (map named_part_of) result tokens.new (separated (reading.part (read self.now.depth) self.now.depth) tokens.old) }
+    {
+        let mut items = NamedParts::new(self.alloc);
+        let limit = tokens.turns();
+        for _turn in 0..limit {
+            let (name, value) = self.part(tokens)?;
+            items.push(name, value)?;
+            if !tokens.sign(Sign::Comma) {
+                return Ok(items);
+            }
+        }
+        Err(SYNTAX)
+    }
+
+    /// `(name e),* '}'`
+    #[tactic(auto, unfolding(td_tree::specs::ReadingSteps::listed_to, td_tree::specs::ReadingSteps::up_to))]
+    pub fn parts_to_brace(&self, tokens: &mut Cursor<'_, '_>) -> Result<NamedParts, Fault>
+        requires { Nests self.now.depth (F.pre self.now.inner) (F.post self.now.inner) }
+        ensures { Moves (map named_part_of) result tokens.new (listed_to (lexeme.sign Sign.CloseBrace) (reading.part (read self.now.depth) self.now.depth) tokens.old) }
+    {
+        if tokens.sign(Sign::CloseBrace) {
+            return Ok(NamedParts::new(self.alloc));
+        }
+        let items = self.parts(tokens)?;
+        tokens.expect_sign(Sign::CloseBrace)?;
+        Ok(items)
+    }
+
+    /// `e AS name`
+    #[tactic(auto, unfolding(td_tree::specs::Reading::addition))]
+    fn addition(&self, tokens: &mut Cursor<'_, '_>) -> Result<(Name, Found), Fault>
+        requires { Nests self.now.depth (F.pre self.now.inner) (F.post self.now.inner) }
+        ensures { Moves (λ x. (x.0, tree_of x.1)) result tokens.new (reading.addition (read self.now.depth) self.now.depth tokens.old) }
+    {
+        let value = self.expression(tokens)?;
+        let name = alias(self.alloc, tokens)?;
+        Ok((name, value))
+    }
+
+    /// `(e AS name),+`
+    #[tactic(auto, unfolding(td_tree::specs::ReadingSteps::separated, td_tree::specs::ReadingSteps::separated_from))]
+    fn additions(&self, tokens: &mut Cursor<'_, '_>) -> Result<NamedParts, Fault>
+        requires { Nests self.now.depth (F.pre self.now.inner) (F.post self.now.inner) }
+        ensures { Moves (map named_part_of) result tokens.new (separated (reading.addition (read self.now.depth) self.now.depth) tokens.old) }
+    {
+        let mut items = NamedParts::new(self.alloc);
+        let limit = tokens.turns();
+        for _turn in 0..limit {
+            let (name, value) = self.addition(tokens)?;
+            items.push(name, value)?;
+            if !tokens.sign(Sign::Comma) {
+                return Ok(items);
+            }
+        }
+        Err(SYNTAX)
+    }
+
+    /// `'(' (e AS name),+ ')'`
+    #[tactic(auto, unfolding(td_tree::specs::ReadingSteps::enclosed, td_tree::specs::ReadingSteps::up_to))]
+    pub fn enclosed_additions(&self, tokens: &mut Cursor<'_, '_>) -> Result<NamedParts, Fault>
+        requires { Nests self.now.depth (F.pre self.now.inner) (F.post self.now.inner) }
+        ensures { Moves (map named_part_of) result tokens.new (enclosed (separated (reading.addition (read self.now.depth) self.now.depth)) tokens.old) }
+    {
+        tokens.expect_sign(Sign::OpenParenthesis)?;
+        let items = self.additions(tokens)?;
+        tokens.expect_sign(Sign::CloseParenthesis)?;
+        Ok(items)
+    }
+}

@@ -1,0 +1,164 @@
+//! Lists of expressions that were read, each with the height of its highest.
+ghost use Rattle.std.specs.Prelude.{◌≡◌, ◌∷◌, ◌++◌, [], OnOk};
+ghost use Rattle.td_parse.specs.FoundSummaries.{summary_of};
+
+use crate::found::Found;
+use std::alloc::{AllocError, Global};
+use std::marker::Model;
+use td_tree::expression::{Expr, NamedExpr, Summary};
+use td_tree::name::Name;
+use td_tree::operator::Aggregate;
+
+/// Expressions.
+#[derive(Drop)]
+pub struct Elements {
+    pub(crate) items: Vec<Expr>,
+    pub(crate) height: u64,
+}
+
+impl Model for Elements {
+    ghost use Rattle.std.specs.Prelude.{◌≡◌, ◌-◌, ◌^◌, min, List};
+    ghost use Rattle.std.specs.Coded.{codes};
+    ghost use Rattle.td_tree.specs.contracts.expression.Expr as expr;
+    ghost use Rattle.td_tree.specs.declared.expression.Expr.{Expr};
+    ghost use Rattle.td_tree.specs.Heights.{highest};
+    ghost use Rattle.td_tree.specs.TreeViews.{trees_of};
+
+    ghost Value = { List Expr };
+
+    ghost coded = { Prim.hlevel (codes, expr.the_row.coded) };
+
+    ghost view = { λ e. e.items.items };
+
+    ghost invariant = { λ e. e.height ≡ min (highest (trees_of e.items.items)) (2 ^ 64 - 1) };
+}
+
+impl Elements {
+    /// None.
+    pub fn new(alloc: Global) -> Elements
+        ensures { result ≡ [] }
+    {
+        Elements {
+            items: Vec::new(alloc),
+            height: 0,
+        }
+    }
+
+    /// One more, behind the others.
+    #[tactic(auto, using(crate::proofs::Highest::highest_push))]
+    pub fn push(&mut self, found: Found) -> Result<(), AllocError>
+        ensures { OnOk result (self.new ≡ self.old ++ (found ∷ [])) }
+    {
+        let height = self.height.max(found.height());
+        self.items.push(found.into_tree())?;
+        self.height = height;
+        Ok(())
+    }
+}
+
+/// Expressions with their names.
+#[derive(Drop)]
+pub struct NamedParts {
+    pub(crate) items: Vec<NamedExpr>,
+    pub(crate) height: u64,
+}
+
+impl Model for NamedParts {
+    ghost use Rattle.std.specs.Prelude.{◌≡◌, ◌-◌, ◌^◌, min, List};
+    ghost use Rattle.std.specs.Coded.{codes};
+    ghost use Rattle.td_tree.specs.contracts.expression.NamedExpr as named_expr;
+    ghost use Rattle.td_tree.specs.declared.expression.NamedExpr.{NamedExpr};
+    ghost use Rattle.td_tree.specs.Heights.{highest_named};
+    ghost use Rattle.td_tree.specs.TreeViews.{named_of};
+
+    ghost Value = { List NamedExpr };
+
+    ghost coded = { Prim.hlevel (codes, named_expr.the_row.coded) };
+
+    ghost view = { λ p. p.items.items };
+
+    ghost invariant = { λ p. p.height ≡ min (highest_named (named_of p.items.items)) (2 ^ 64 - 1) };
+}
+
+impl NamedParts {
+    /// None.
+    pub fn new(alloc: Global) -> NamedParts
+        ensures { result ≡ [] }
+    {
+        NamedParts {
+            items: Vec::new(alloc),
+            height: 0,
+        }
+    }
+
+    /// One more, behind the others.
+    #[tactic(auto, using(crate::proofs::Highest::highest_named_push))]
+    pub fn push(&mut self, name: Name, value: Found) -> Result<(), AllocError>
+        ensures { OnOk result (self.new ≡ self.old ++ (record { name = name; value = value } ∷ [])) }
+    {
+        let height = self.height.max(value.height());
+        let value = value.into_tree();
+        self.items.push(NamedExpr { name, value })?;
+        self.height = height;
+        Ok(())
+    }
+}
+
+/// An attribute that `SUMMARIZE` adds.
+#[derive(Drop)]
+pub enum FoundSummary {
+    Count(Name),
+    Of(Aggregate, Found, Name),
+}
+
+/// What `SUMMARIZE` adds.
+#[derive(Drop)]
+pub struct Summaries {
+    pub(crate) items: Vec<Summary>,
+    pub(crate) height: u64,
+}
+
+impl Model for Summaries {
+    ghost use Rattle.std.specs.Prelude.{◌≡◌, ◌-◌, ◌^◌, min, List};
+    ghost use Rattle.std.specs.Coded.{codes};
+    ghost use Rattle.td_tree.specs.contracts.expression.Summary as summary;
+    ghost use Rattle.td_tree.specs.declared.expression.Summary.{Summary};
+    ghost use Rattle.td_tree.specs.Heights.{highest_summary};
+    ghost use Rattle.td_tree.specs.TreeViews.{summaries_of};
+
+    ghost Value = { List Summary };
+
+    ghost coded = { Prim.hlevel (codes, summary.the_row.coded) };
+
+    ghost view = { λ s. s.items.items };
+
+    ghost invariant = { λ s. s.height ≡ min (highest_summary (summaries_of s.items.items)) (2 ^ 64 - 1) };
+}
+
+impl Summaries {
+    /// None.
+    pub fn new(alloc: Global) -> Summaries
+        ensures { result ≡ [] }
+    {
+        Summaries {
+            items: Vec::new(alloc),
+            height: 0,
+        }
+    }
+
+    /// One more, behind the others.
+    #[tactic(auto, using(crate::proofs::Highest::highest_summary_push))]
+    pub fn push(&mut self, found: FoundSummary) -> Result<(), AllocError>
+        ensures { OnOk result (self.new ≡ self.old ++ (summary_of found ∷ [])) }
+    {
+        match found {
+            FoundSummary::Count(name) => self.items.push(Summary::Count(name))?,
+            FoundSummary::Of(op, value, name) => {
+                let height = self.height.max(value.height());
+                self.items.push(Summary::Of(op, value.into_tree(), name))?;
+                self.height = height;
+            }
+        }
+        Ok(())
+    }
+}

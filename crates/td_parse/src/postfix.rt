@@ -1,0 +1,104 @@
+//! Operators behind their operand.
+ghost use Rattle.std.specs.Prelude.{◌≡◌, map};
+ghost use Rattle.td_parse.specs.Parsing.{Moves};
+ghost use Rattle.td_tree.specs.Reading as reading;
+ghost use Rattle.td_tree.specs.ReadingOperators.{postfix_at};
+ghost use Rattle.td_tree.specs.ReadingSteps.{enclosed, read_name, read_renaming, separated};
+ghost use Rattle.td_tree.specs.TreeViews.{attributes_of, postfix_of, renaming_of};
+
+use crate::cursor::{Cursor, SYNTAX};
+use crate::names::{alias, attributes, name, renamings};
+use std::alloc::Global;
+use td_tree::expression::{Attributes, Postfix, Renaming};
+use td_tree::fault::Fault;
+use td_tree::keyword::Keyword;
+use td_tree::name::Name;
+use td_tree::token::{Kind, Sign};
+
+/// Whether an operator behind its operand comes next.
+#[tactic(auto, unfolding(td_tree::specs::ReadingOperators::postfix_at))]
+pub fn begins_postfix(tokens: &Cursor<'_, '_>) -> bool
+    ensures { result ≡ postfix_at tokens.now }
+{
+    match tokens.ahead().take() {
+        Some((Kind::Sign(sign), _)) => matches!(sign, Sign::OpenBrace),
+        Some((Kind::Reserved(word), _)) => matches!(
+            word,
+            Keyword::Rename | Keyword::Group | Keyword::Ungroup | Keyword::Wrap | Keyword::Unwrap
+        ),
+        _ => false,
+    }
+}
+
+/// `'(' name ')'`
+#[tactic(auto, unfolding(td_tree::specs::ReadingSteps::enclosed, td_tree::specs::ReadingSteps::up_to))]
+fn enclosed_name(alloc: Global, tokens: &mut Cursor<'_, '_>) -> Result<Name, Fault>
+    ensures { Moves (λ n. n) result tokens.new (enclosed read_name tokens.old) }
+{
+    tokens.expect_sign(Sign::OpenParenthesis)?;
+    let name = name(alloc, tokens)?;
+    tokens.expect_sign(Sign::CloseParenthesis)?;
+    Ok(name)
+}
+
+/// `'(' (name AS name),+ ')'`
+#[tactic(auto, unfolding(td_tree::specs::ReadingSteps::enclosed, td_tree::specs::ReadingSteps::up_to))]
+fn enclosed_renamings(alloc: Global, tokens: &mut Cursor<'_, '_>) -> Result<Vec<Renaming>, Fault>
+    ensures { Moves (λ v. map renaming_of v.items) result tokens.new (enclosed (separated read_renaming) tokens.old) }
+{
+    tokens.expect_sign(Sign::OpenParenthesis)?;
+    let renamings = renamings(alloc, tokens)?;
+    tokens.expect_sign(Sign::CloseParenthesis)?;
+    Ok(renamings)
+}
+
+/// `'(' attrs AS name ')'`
+#[tactic(auto, unfolding(td_tree::specs::ReadingSteps::enclosed, td_tree::specs::ReadingSteps::up_to, td_tree::specs::Reading::named_attributes))]
+fn enclosed_attributes(
+    alloc: Global,
+    tokens: &mut Cursor<'_, '_>,
+) -> Result<(Attributes, Name), Fault>
+    ensures { Moves (λ x. (attributes_of x.0, x.1)) result tokens.new (enclosed reading.named_attributes tokens.old) }
+{
+    tokens.expect_sign(Sign::OpenParenthesis)?;
+    let attributes = attributes(alloc, tokens)?;
+    let name = alias(alloc, tokens)?;
+    tokens.expect_sign(Sign::CloseParenthesis)?;
+    Ok((attributes, name))
+}
+
+/// An operator that begins with this word, after it.
+#[tactic(auto, unfolding(td_tree::specs::Reading::postfix_of_word))]
+fn postfix_of_word(
+    alloc: Global,
+    word: Keyword,
+    tokens: &mut Cursor<'_, '_>,
+) -> Result<Postfix, Fault>
+    ensures { Moves postfix_of result tokens.new (reading.postfix_of_word word tokens.old) }
+{
+    match word {
+        Keyword::Rename => Ok(Postfix::Rename(enclosed_renamings(alloc, tokens)?)),
+        Keyword::Group => {
+            let (attributes, name) = enclosed_attributes(alloc, tokens)?;
+            Ok(Postfix::Group(attributes, name))
+        }
+        Keyword::Wrap => {
+            let (attributes, name) = enclosed_attributes(alloc, tokens)?;
+            Ok(Postfix::Wrap(attributes, name))
+        }
+        Keyword::Ungroup => Ok(Postfix::Ungroup(enclosed_name(alloc, tokens)?)),
+        Keyword::Unwrap => Ok(Postfix::Unwrap(enclosed_name(alloc, tokens)?)),
+        _ => Err(SYNTAX),
+    }
+}
+
+/// An operator behind its operand.
+#[tactic(auto, unfolding(td_tree::specs::Reading::read_postfix), using(crate::proofs::Beginnings::projection))]
+pub fn postfix(alloc: Global, tokens: &mut Cursor<'_, '_>) -> Result<Postfix, Fault>
+    ensures { Moves postfix_of result tokens.new (reading.read_postfix tokens.old) }
+{
+    match tokens.word() {
+        Some(word) => postfix_of_word(alloc, word, tokens),
+        None => Ok(Postfix::Project(attributes(alloc, tokens)?)),
+    }
+}

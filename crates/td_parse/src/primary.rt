@@ -1,0 +1,249 @@
+//! Primary expressions.
+ghost use Rattle.std.specs.Prelude.{◌≡◌, Some, None, map, nat_le, option_map, if◌then◌else◌};
+ghost use Rattle.td_parse.specs.Nests.{Nests};
+ghost use Rattle.td_parse.specs.Parsing.{Moves};
+ghost use Rattle.td_tree.specs.Lexemes as lexeme;
+ghost use Rattle.td_tree.specs.Numbers.{decimal_value, numeral_limit};
+ghost use Rattle.td_tree.specs.Pieces.{kind_of};
+ghost use Rattle.td_tree.specs.Reading as reading;
+ghost use Rattle.td_tree.specs.Reading.{read};
+ghost use Rattle.td_tree.specs.ReadingSteps.{up_to};
+ghost use Rattle.std.specs.Rc.{rc_str_bytes};
+ghost use Rattle.td_tree.specs.Symbols.{symbols};
+ghost use Rattle.td_tree.specs.Trees as trees;
+ghost use Rattle.td_tree.specs.TreeViews.{tree_of};
+
+use crate::cursor::{Cursor, SYNTAX};
+use crate::found::Found;
+use crate::grammar::Grammar;
+use crate::operators::{begins_heading, call};
+use crate::types::relation_heading;
+use crate::word::{MAX_MAGNITUDE, component_of, name_of, number_of, text_of};
+use std::alloc::Global;
+use std::rc::RcStr;
+use td_tree::expression::Literal;
+use td_tree::fault::Fault;
+use td_tree::keyword::Keyword;
+use td_tree::name::Name;
+use td_tree::operator::{Aggregate, Level, Measure};
+use td_tree::token::{Kind, Sign};
+
+/// A number that a literal spells, after a minus or not.
+fn numeral(minus: bool, text: &[u8]) -> Option<Found>
+    requires { kind_of (symbols text.now) ≡ Some Kind.Number }
+    ensures { option_map tree_of result ≡ (if nat_le (decimal_value text.now) (numeral_limit minus) then Some (trees.literal (trees.number minus (decimal_value text.now))) else None) }
+{
+    let magnitude = number_of(text)?;
+    if magnitude == MAX_MAGNITUDE && !minus {
+        return None;
+    }
+    Some(Found::literal(Literal::Number { minus, magnitude }))
+}
+
+/// After `-`: a number.
+#[tactic(auto, unfolding(td_tree::specs::Reading::negative, td_tree::specs::Reading::numeral))]
+fn negative(tokens: &mut Cursor<'_, '_>) -> Result<Found, Fault>
+    ensures { Moves tree_of result tokens.new (reading.negative tokens.old) }
+{
+    match tokens.take() {
+        Some((Kind::Number, text)) => numeral(true, text).ok_or(SYNTAX),
+        _ => Err(SYNTAX),
+    }
+}
+
+impl<F: Fn(Global, u8, Level, &mut Cursor<'_, '_>) -> Result<Found, Fault>> Grammar<F> {
+    /// `e` and the sign that closes it.
+    #[tactic(auto, unfolding(td_tree::specs::ReadingSteps::up_to))]
+    fn up_to_sign(&self, close: Sign, tokens: &mut Cursor<'_, '_>) -> Result<Found, Fault>
+        requires { Nests self.now.depth (F.pre self.now.inner) (F.post self.now.inner) }
+        ensures { Moves tree_of result tokens.new (up_to (lexeme.sign close) (read self.now.depth Level.Restriction) tokens.old) }
+    {
+        let found = self.expression(tokens)?;
+        tokens.expect_sign(close)?;
+        Ok(found)
+    }
+
+    /// `e` and the word that closes it.
+    #[tactic(auto, unfolding(td_tree::specs::ReadingSteps::up_to))]
+    fn up_to_word(&self, close: Keyword, tokens: &mut Cursor<'_, '_>) -> Result<Found, Fault>
+        requires { Nests self.now.depth (F.pre self.now.inner) (F.post self.now.inner) }
+        ensures { Moves tree_of result tokens.new (up_to (lexeme.keyword close) (read self.now.depth Level.Restriction) tokens.old) }
+    {
+        let found = self.expression(tokens)?;
+        tokens.expect_keyword(close)?;
+        Ok(found)
+    }
+
+    /// After a name: it stands alone, or selects a value of a type.
+    #[tactic(auto, unfolding(td_tree::specs::Reading::named))]
+    fn named(&self, name: Name, tokens: &mut Cursor<'_, '_>) -> Result<Found, Fault>
+        requires { Nests self.now.depth (F.pre self.now.inner) (F.post self.now.inner) }
+        ensures { Moves tree_of result tokens.new (reading.named (read self.now.depth) self.now.depth name tokens.old) }
+    {
+        if call(tokens) {
+            let arguments = self.elements_to(Sign::CloseParenthesis, tokens)?;
+            Ok(Found::select(name, arguments))
+        } else {
+            Ok(Found::name(name))
+        }
+    }
+
+    /// After a THE word.
+    #[tactic(auto, unfolding(td_tree::specs::Reading::component_of))]
+    fn component(&self, rest: RcStr, tokens: &mut Cursor<'_, '_>) -> Result<Found, Fault>
+        requires { Nests self.now.depth (F.pre self.now.inner) (F.post self.now.inner) }
+        ensures { Moves tree_of result tokens.new (reading.component_of (read self.now.depth) self.now.depth (rc_str_bytes rest) tokens.old) }
+    {
+        let operand = self.enclosed_expression(tokens)?;
+        Ok(Found::component(self.alloc, rest, operand)?)
+    }
+
+    /// After `(`.
+    #[tactic(auto, unfolding(td_tree::specs::Reading::parenthesized))]
+    fn parenthesized(&self, tokens: &mut Cursor<'_, '_>) -> Result<Found, Fault>
+        requires { Nests self.now.depth (F.pre self.now.inner) (F.post self.now.inner) }
+        ensures { Moves tree_of result tokens.new (reading.parenthesized (read self.now.depth) self.now.depth tokens.old) }
+    {
+        let inner = self.up_to_sign(Sign::CloseParenthesis, tokens)?;
+        Ok(Found::parentheses(self.alloc, inner)?)
+    }
+
+    /// After `COUNT` or `IS_EMPTY`.
+    #[tactic(auto, unfolding(td_tree::specs::Reading::measured))]
+    fn measured(&self, op: Measure, tokens: &mut Cursor<'_, '_>) -> Result<Found, Fault>
+        requires { Nests self.now.depth (F.pre self.now.inner) (F.post self.now.inner) }
+        ensures { Moves tree_of result tokens.new (reading.measured (read self.now.depth) self.now.depth op tokens.old) }
+    {
+        let operand = self.enclosed_expression(tokens)?;
+        Ok(Found::measure(self.alloc, op, operand)?)
+    }
+
+    /// After `SUM`, `MAX` or `MIN`.
+    #[tactic(auto, unfolding(td_tree::specs::Reading::aggregated))]
+    fn aggregated(&self, op: Aggregate, tokens: &mut Cursor<'_, '_>) -> Result<Found, Fault>
+        requires { Nests self.now.depth (F.pre self.now.inner) (F.post self.now.inner) }
+        ensures { Moves tree_of result tokens.new (reading.aggregated (read self.now.depth) self.now.depth op tokens.old) }
+    {
+        tokens.expect_sign(Sign::OpenParenthesis)?;
+        let operand = self.up_to_sign(Sign::Comma, tokens)?;
+        let value = self.up_to_sign(Sign::CloseParenthesis, tokens)?;
+        Ok(Found::aggregate(self.alloc, op, operand, value)?)
+    }
+
+    /// `heading '{' e,* '}'`
+    #[tactic(auto, unfolding(td_tree::specs::Reading::headed_relation))]
+    fn headed_relation(&self, tokens: &mut Cursor<'_, '_>) -> Result<Found, Fault>
+        requires { Nests self.now.depth (F.pre self.now.inner) (F.post self.now.inner) }
+        ensures { Moves tree_of result tokens.new (reading.headed_relation (read self.now.depth) self.now.depth tokens.old) }
+    {
+        let heading = relation_heading(self.alloc, self.depth, tokens)?;
+        tokens.expect_sign(Sign::OpenBrace)?;
+        let elements = self.elements_to(Sign::CloseBrace, tokens)?;
+        Ok(Found::headed_relation(heading, elements))
+    }
+
+    /// `'{' e,+ '}'`
+    #[tactic(auto, unfolding(td_tree::specs::Reading::elements, td_tree::specs::ReadingSteps::up_to))]
+    fn bare_relation(&self, tokens: &mut Cursor<'_, '_>) -> Result<Found, Fault>
+        requires { Nests self.now.depth (F.pre self.now.inner) (F.post self.now.inner) }
+        ensures { Moves tree_of result tokens.new (reading.elements (read self.now.depth) self.now.depth tokens.old) }
+    {
+        tokens.expect_sign(Sign::OpenBrace)?;
+        let elements = self.elements(tokens)?;
+        tokens.expect_sign(Sign::CloseBrace)?;
+        Ok(Found::relation(elements))
+    }
+
+    /// After `RELATION`.
+    #[tactic(auto, unfolding(td_tree::specs::Reading::relation))]
+    fn relation(&self, tokens: &mut Cursor<'_, '_>) -> Result<Found, Fault>
+        requires { Nests self.now.depth (F.pre self.now.inner) (F.post self.now.inner) }
+        ensures { Moves tree_of result tokens.new (reading.relation (read self.now.depth) self.now.depth tokens.old) }
+    {
+        if begins_heading(tokens) {
+            self.headed_relation(tokens)
+        } else {
+            self.bare_relation(tokens)
+        }
+    }
+
+    /// After `TUPLE`.
+    #[tactic(auto, unfolding(td_tree::specs::Reading::tuple))]
+    fn tuple(&self, tokens: &mut Cursor<'_, '_>) -> Result<Found, Fault>
+        requires { Nests self.now.depth (F.pre self.now.inner) (F.post self.now.inner) }
+        ensures { Moves tree_of result tokens.new (reading.tuple (read self.now.depth) self.now.depth tokens.old) }
+    {
+        tokens.expect_sign(Sign::OpenBrace)?;
+        Ok(Found::tuple(self.parts_to_brace(tokens)?))
+    }
+
+    /// After `EXTEND`.
+    #[tactic(auto, unfolding(td_tree::specs::Reading::extension))]
+    fn extension(&self, tokens: &mut Cursor<'_, '_>) -> Result<Found, Fault>
+        requires { Nests self.now.depth (F.pre self.now.inner) (F.post self.now.inner) }
+        ensures { Moves tree_of result tokens.new (reading.extension (read self.now.depth) self.now.depth tokens.old) }
+    {
+        let operand = self.up_to_word(Keyword::Add, tokens)?;
+        let additions = self.enclosed_additions(tokens)?;
+        Ok(Found::extend(self.alloc, operand, additions)?)
+    }
+
+    /// After `IF`.
+    #[tactic(auto, unfolding(td_tree::specs::Reading::choice))]
+    fn choice(&self, tokens: &mut Cursor<'_, '_>) -> Result<Found, Fault>
+        requires { Nests self.now.depth (F.pre self.now.inner) (F.post self.now.inner) }
+        ensures { Moves tree_of result tokens.new (reading.choice (read self.now.depth) self.now.depth tokens.old) }
+    {
+        let condition = self.up_to_word(Keyword::Then, tokens)?;
+        let consequent = self.up_to_word(Keyword::Else, tokens)?;
+        let alternative = self.up_to_word(Keyword::End, tokens)?;
+        tokens.expect_keyword(Keyword::If)?;
+        Ok(Found::choice(self.alloc, condition, consequent, alternative)?)
+    }
+
+    /// After its first word.
+    #[tactic(auto, unfolding(td_tree::specs::Reading::primary_of_word))]
+    fn primary_of_word(&self, word: Keyword, tokens: &mut Cursor<'_, '_>) -> Result<Found, Fault>
+        requires { Nests self.now.depth (F.pre self.now.inner) (F.post self.now.inner) }
+        ensures { Moves tree_of result tokens.new (reading.primary_of_word (read self.now.depth) self.now.depth word tokens.old) }
+    {
+        match word {
+            Keyword::True => Ok(Found::literal(Literal::Truth(true))),
+            Keyword::False => Ok(Found::literal(Literal::Truth(false))),
+            Keyword::TableDee => Ok(Found::literal(Literal::TableDee)),
+            Keyword::TableDum => Ok(Found::literal(Literal::TableDum)),
+            Keyword::Count => self.measured(Measure::Count, tokens),
+            Keyword::IsEmpty => self.measured(Measure::IsEmpty, tokens),
+            Keyword::Sum => self.aggregated(Aggregate::Sum, tokens),
+            Keyword::Max => self.aggregated(Aggregate::Max, tokens),
+            Keyword::Min => self.aggregated(Aggregate::Min, tokens),
+            Keyword::Relation => self.relation(tokens),
+            Keyword::Tuple => self.tuple(tokens),
+            Keyword::Extend => self.extension(tokens),
+            Keyword::Summarize => self.summarized(tokens),
+            Keyword::If => self.choice(tokens),
+            _ => Err(SYNTAX),
+        }
+    }
+
+    /// An expression that needs no other to be whole.
+    #[tactic(auto, unfolding(td_tree::specs::Reading::primary, td_tree::specs::Reading::primary_of_sign, td_tree::specs::Reading::numeral))]
+    pub fn primary(&self, tokens: &mut Cursor<'_, '_>) -> Result<Found, Fault>
+        requires { Nests self.now.depth (F.pre self.now.inner) (F.post self.now.inner) }
+        ensures { Moves tree_of result tokens.new (reading.primary (read self.now.depth) self.now.depth tokens.old) }
+    {
+        let Some((kind, text)) = tokens.take() else {
+            return Err(SYNTAX);
+        };
+        match kind {
+            Kind::Reserved(word) => self.primary_of_word(word, tokens),
+            Kind::Sign(Sign::OpenParenthesis) => self.parenthesized(tokens),
+            Kind::Sign(Sign::Minus) => negative(tokens),
+            Kind::Name => self.named(name_of(self.alloc, text)?, tokens),
+            Kind::Component => self.component(component_of(self.alloc, text)?, tokens),
+            Kind::Number => numeral(false, text).ok_or(SYNTAX),
+            Kind::Text => Ok(Found::literal(Literal::Text(text_of(self.alloc, text)?))),
+            _ => Err(SYNTAX),
+        }
+    }
+}

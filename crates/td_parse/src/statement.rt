@@ -1,0 +1,106 @@
+//! Statements.
+ghost use Rattle.std.specs.Prelude.{◌≡◌};
+ghost use Rattle.td_parse.specs.Parsing.{Gives, Moves, Parses, has_bad, is_bad};
+ghost use Rattle.td_tree.specs.ReadingStatements as reading;
+ghost use Rattle.td_tree.specs.ReadingStatements.{read_statement};
+ghost use Rattle.td_tree.specs.TokenLexemes.{lexemes};
+ghost use Rattle.td_tree.specs.TreeViews.{statement_of};
+
+use crate::assignment::{assignments, expression};
+use crate::cursor::{Cursor, SYNTAX};
+use crate::definition::{constraint_definition, drop, type_definition, variable};
+use std::alloc::Global;
+use td_scan::token::Token;
+use td_tree::cause::Cause;
+use td_tree::fault::Fault;
+use td_tree::keyword::Keyword;
+use td_tree::statement::Statement;
+use td_tree::token::{Kind, Sign};
+
+/// `TRANSACTION`, after `BEGIN`
+#[tactic(auto, unfolding(td_tree::specs::ReadingStatements::body_of_word))]
+fn begin(tokens: &mut Cursor<'_, '_>) -> Result<Statement, Fault>
+    ensures { Moves statement_of result tokens.new (reading.body_of_word Keyword.Begin tokens.old) }
+{
+    tokens.expect_keyword(Keyword::Transaction)?;
+    Ok(Statement::BeginTransaction)
+}
+
+/// A statement without its end.
+#[tactic(auto, unfolding(td_tree::specs::ReadingStatements::body, td_tree::specs::ReadingStatements::body_of_word), using(crate::proofs::Beginnings::assignments_alone))]
+fn body(alloc: Global, tokens: &mut Cursor<'_, '_>) -> Result<Statement, Fault>
+    ensures { Moves statement_of result tokens.new (reading.body tokens.old) }
+{
+    let before = tokens.ahead();
+    match tokens.word() {
+        Some(Keyword::Type) => type_definition(alloc, tokens),
+        Some(Keyword::Drop) => drop(alloc, tokens),
+        Some(Keyword::Var) => variable(alloc, tokens),
+        Some(Keyword::Constraint) => constraint_definition(alloc, tokens),
+        Some(Keyword::Begin) => begin(tokens),
+        Some(Keyword::Commit) => Ok(Statement::Commit),
+        Some(Keyword::Rollback) => Ok(Statement::Rollback),
+        Some(Keyword::Write) => Ok(Statement::Write(expression(alloc, tokens)?)),
+        Some(Keyword::Dump) => Ok(Statement::Dump),
+        _ => {
+            *tokens = before;
+            assignments(alloc, tokens)
+        }
+    }
+}
+
+/// A statement before its semicolon, or nothing.
+#[tactic(auto, unfolding(td_tree::specs::ReadingStatements::read_body))]
+fn body_or_none(alloc: Global, tokens: &mut Cursor<'_, '_>) -> Result<Statement, Fault>
+    ensures { Moves statement_of result tokens.new (reading.read_body tokens.old) }
+{
+    if tokens.ahead().sign(Sign::Semicolon) {
+        return Ok(Statement::Empty);
+    }
+    body(alloc, tokens)
+}
+
+/// The statement that all the tokens are.
+#[tactic(auto, unfolding(td_tree::specs::ReadingStatements::read_statement, td_tree::specs::ReadingSteps::up_to))]
+fn whole(alloc: Global, tokens: &[Token<'_>]) -> Result<Statement, Fault>
+    ensures { Gives statement_of result (read_statement (lexemes tokens.now)) }
+{
+    let mut tokens = Cursor::new(tokens);
+    let statement = body_or_none(alloc, &mut tokens)?;
+    tokens.expect_sign(Sign::Semicolon)?;
+    if tokens.is_empty() {
+        Ok(statement)
+    } else {
+        Err(SYNTAX)
+    }
+}
+
+/// Whether a token of this kind is bad.
+fn is_bad(kind: Kind) -> bool
+    ensures { result ≡ is_bad kind }
+{
+    matches!(kind, Kind::Bad)
+}
+
+/// Whether one of the tokens is bad.
+fn has_bad(tokens: &[Token<'_>]) -> bool
+    ensures { result ≡ has_bad tokens.now }
+{
+    for token in tokens {
+        if is_bad(token.kind()) {
+            return true;
+        }
+    }
+    false
+}
+
+/// The statement that the tokens spell: SCAN where one of them is bad, else SYNTAX where they
+/// spell none.
+pub fn parse_statement(alloc: Global, tokens: &[Token<'_>]) -> Result<Statement, Fault>
+    ensures { Parses tokens.now result }
+{
+    if has_bad(tokens) {
+        return Err(Fault::Refused(Cause::Scan));
+    }
+    whole(alloc, tokens)
+}

@@ -1,0 +1,153 @@
+//! `SUMMARIZE`.
+ghost use Rattle.std.specs.Prelude.{map};
+ghost use Rattle.td_parse.specs.FoundSummaries.{summary_of};
+ghost use Rattle.td_parse.specs.Nests.{Nests};
+ghost use Rattle.td_parse.specs.Parsing.{Moves};
+ghost use Rattle.td_parse.specs.Views.{item_of};
+ghost use Rattle.td_tree.specs.Reading as reading;
+ghost use Rattle.td_tree.specs.Reading.{read, summaries_from};
+ghost use Rattle.td_tree.specs.ReadingSteps.{enclosed, separated};
+ghost use Rattle.td_tree.specs.TreeViews.{tree_of};
+
+use crate::cursor::{Cursor, SYNTAX};
+use crate::found::Found;
+use crate::grammar::Grammar;
+use crate::names::{alias, attributes};
+use crate::parts::{FoundSummary, Summaries};
+use std::alloc::Global;
+use td_tree::fault::Fault;
+use td_tree::keyword::Keyword;
+use td_tree::operator::{Aggregate, Level};
+use td_tree::token::{Kind, Sign};
+
+/// `'(' ')' AS name`, after `COUNT`
+#[tactic(auto, unfolding(td_tree::specs::Reading::count_summary))]
+fn count_summary(alloc: Global, tokens: &mut Cursor<'_, '_>) -> Result<FoundSummary, Fault>
+    ensures { Moves (λ s. item_of (summary_of s)) result tokens.new (reading.count_summary (read 0) 0 tokens.old) }
+{
+    tokens.expect_sign(Sign::OpenParenthesis)?;
+    tokens.expect_sign(Sign::CloseParenthesis)?;
+    Ok(FoundSummary::Count(alias(alloc, tokens)?))
+}
+
+impl<F: Fn(Global, u8, Level, &mut Cursor<'_, '_>) -> Result<Found, Fault>> Grammar<F> {
+    /// `'(' e ')'`
+    #[tactic(auto, unfolding(td_tree::specs::ReadingSteps::enclosed, td_tree::specs::ReadingSteps::up_to))]
+    pub fn enclosed_expression(&self, tokens: &mut Cursor<'_, '_>) -> Result<Found, Fault>
+        requires { Nests self.now.depth (F.pre self.now.inner) (F.post self.now.inner) }
+        ensures { Moves tree_of result tokens.new (enclosed (read self.now.depth Level.Restriction) tokens.old) }
+    {
+        tokens.expect_sign(Sign::OpenParenthesis)?;
+        let found = self.expression(tokens)?;
+        tokens.expect_sign(Sign::CloseParenthesis)?;
+        Ok(found)
+    }
+
+    /// `'(' e ')' AS name`, after `SUM`, `MAX` or `MIN`
+    #[tactic(auto, unfolding(td_tree::specs::Reading::sum_summary))]
+    fn sum_summary(&self, op: Aggregate, tokens: &mut Cursor<'_, '_>) -> Result<FoundSummary, Fault>
+        requires { Nests self.now.depth (F.pre self.now.inner) (F.post self.now.inner) }
+        ensures { Moves (λ s. item_of (summary_of s)) result tokens.new (reading.sum_summary (read self.now.depth) self.now.depth op tokens.old) }
+    {
+        let value = self.enclosed_expression(tokens)?;
+        let name = alias(self.alloc, tokens)?;
+        Ok(FoundSummary::Of(op, value, name))
+    }
+
+    /// What is added, after its first word.
+    #[tactic(auto, unfolding(td_tree::specs::Reading::summary_of_word, td_tree::specs::Reading::count_summary))]
+    fn summary_of_word(
+        &self,
+        word: Keyword,
+        tokens: &mut Cursor<'_, '_>,
+    ) -> Result<FoundSummary, Fault>
+        requires { Nests self.now.depth (F.pre self.now.inner) (F.post self.now.inner) }
+        ensures { Moves (λ s. item_of (summary_of s)) result tokens.new (reading.summary_of_word (read self.now.depth) self.now.depth word tokens.old) }
+    {
+        match word {
+            Keyword::Count => count_summary(self.alloc, tokens),
+            Keyword::Sum => self.sum_summary(Aggregate::Sum, tokens),
+            Keyword::Max => self.sum_summary(Aggregate::Max, tokens),
+            Keyword::Min => self.sum_summary(Aggregate::Min, tokens),
+            _ => Err(SYNTAX),
+        }
+    }
+
+    /// `COUNT '(' ')' AS name` or `(SUM | MAX | MIN) '(' e ')' AS name`
+    #[tactic(auto, unfolding(td_tree::specs::Reading::summary))]
+    fn summary(&self, tokens: &mut Cursor<'_, '_>) -> Result<FoundSummary, Fault>
+        requires { Nests self.now.depth (F.pre self.now.inner) (F.post self.now.inner) }
+        ensures { Moves (λ s. item_of (summary_of s)) result tokens.new (reading.summary (read self.now.depth) self.now.depth tokens.old) }
+    {
+        match tokens.take() {
+            Some((Kind::Reserved(word), _)) => self.summary_of_word(word, tokens),
+            _ => Err(SYNTAX),
+        }
+    }
+
+    /// `item,+`
+    #[tactic(auto, unfolding(td_tree::specs::ReadingSteps::separated, td_tree::specs::ReadingSteps::separated_from))]
+    fn some_summaries(&self, tokens: &mut Cursor<'_, '_>) -> Result<Summaries, Fault>
+        requires { Nests self.now.depth (F.pre self.now.inner) (F.post self.now.inner) }
+        ensures { Moves (map item_of) result tokens.new (separated (reading.summary (read self.now.depth) self.now.depth) tokens.old) }
+    {
+        let mut items = Summaries::new(self.alloc);
+        let limit = tokens.turns();
+        for _turn in 0..limit {
+            items.push(self.summary(tokens)?)?;
+            if !tokens.sign(Sign::Comma) {
+                return Ok(items);
+            }
+        }
+        Err(SYNTAX)
+    }
+
+    /// `ADD '(' item,+ ')'`
+    #[tactic(auto, unfolding(td_tree::specs::Reading::summaries, td_tree::specs::ReadingSteps::enclosed, td_tree::specs::ReadingSteps::up_to))]
+    fn summaries(&self, tokens: &mut Cursor<'_, '_>) -> Result<Summaries, Fault>
+        requires { Nests self.now.depth (F.pre self.now.inner) (F.post self.now.inner) }
+        ensures { Moves (λ s. summaries_from (map item_of s)) result tokens.new (reading.summaries (read self.now.depth) self.now.depth tokens.old) }
+    {
+        tokens.expect_keyword(Keyword::Add)?;
+        tokens.expect_sign(Sign::OpenParenthesis)?;
+        let items = self.some_summaries(tokens)?;
+        tokens.expect_sign(Sign::CloseParenthesis)?;
+        Ok(items)
+    }
+
+    /// `'(' e ')' ADD '(' item,+ ')'`, after `SUMMARIZE e PER`
+    #[tactic(auto, unfolding(td_tree::specs::Reading::summary_per))]
+    fn summary_per(&self, operand: Found, tokens: &mut Cursor<'_, '_>) -> Result<Found, Fault>
+        requires { Nests self.now.depth (F.pre self.now.inner) (F.post self.now.inner) }
+        ensures { Moves tree_of result tokens.new (reading.summary_per (read self.now.depth) self.now.depth (tree_of operand) tokens.old) }
+    {
+        let per = self.enclosed_expression(tokens)?;
+        let items = self.summaries(tokens)?;
+        Ok(Found::summarize_per(self.alloc, operand, per, items)?)
+    }
+
+    /// `attrs ADD '(' item,+ ')'`, after `SUMMARIZE e BY`
+    #[tactic(auto, unfolding(td_tree::specs::Reading::summary_by))]
+    fn summary_by(&self, operand: Found, tokens: &mut Cursor<'_, '_>) -> Result<Found, Fault>
+        requires { Nests self.now.depth (F.pre self.now.inner) (F.post self.now.inner) }
+        ensures { Moves tree_of result tokens.new (reading.summary_by (read self.now.depth) self.now.depth (tree_of operand) tokens.old) }
+    {
+        let by = attributes(self.alloc, tokens)?;
+        let items = self.summaries(tokens)?;
+        Ok(Found::summarize_by(self.alloc, operand, by, items)?)
+    }
+
+    /// After `SUMMARIZE`.
+    #[tactic(auto, unfolding(td_tree::specs::Reading::summarized))]
+    pub fn summarized(&self, tokens: &mut Cursor<'_, '_>) -> Result<Found, Fault>
+        requires { Nests self.now.depth (F.pre self.now.inner) (F.post self.now.inner) }
+        ensures { Moves tree_of result tokens.new (reading.summarized (read self.now.depth) self.now.depth tokens.old) }
+    {
+        let operand = self.expression(tokens)?;
+        if tokens.keyword(Keyword::Per) {
+            return self.summary_per(operand, tokens);
+        }
+        tokens.expect_keyword(Keyword::By)?;
+        self.summary_by(operand, tokens)
+    }
+}

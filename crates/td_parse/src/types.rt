@@ -1,0 +1,120 @@
+//! Types and headings.
+ghost use Rattle.td_parse.specs.Parsing.{Moves};
+ghost use Rattle.td_tree.specs.ReadingSteps.{listed_to, separated};
+ghost use Rattle.td_tree.specs.ReadingTypes as reading;
+ghost use Rattle.td_tree.specs.ReadingTypes.{read_type};
+ghost use Rattle.td_tree.specs.TreeViews.{heading_of, type_of};
+ghost use Rattle.td_parse.specs.Views.{attribute_of, attributes_of};
+ghost use Rattle.td_tree.specs.Lexemes.{sign};
+
+use crate::cursor::{Cursor, SYNTAX};
+use crate::names::name;
+use crate::word::name_of;
+use std::alloc::Global;
+use td_tree::fault::Fault;
+use td_tree::keyword::Keyword;
+use td_tree::token::{Kind, Sign};
+use td_tree::type_tree::{AttributeTree, TypeTree};
+
+/// A type that is at most so high.
+#[cycle(types)]
+#[tactic(auto, unfolding(td_tree::specs::ReadingTypes::read_type, td_tree::specs::ReadingTypes::type_of_first))]
+pub fn type_tree(alloc: Global, depth: u8, tokens: &mut Cursor<'_, '_>) -> Result<TypeTree, Fault>
+    ensures { Moves type_of result tokens.new (read_type depth tokens.old) }
+{
+    if depth == 0 {
+        return Err(SYNTAX);
+    }
+    match tokens.take() {
+        Some((Kind::Reserved(word), _)) => type_of_word(alloc, depth - 1, word, tokens),
+        Some((Kind::Name, text)) => Ok(TypeTree::User(name_of(alloc, text)?)),
+        _ => Err(SYNTAX),
+    }
+}
+
+/// A type after its first word.
+#[cycle(types)]
+#[tactic(auto, unfolding(td_tree::specs::ReadingTypes::type_of_word))]
+fn type_of_word(
+    alloc: Global,
+    depth: u8,
+    word: Keyword,
+    tokens: &mut Cursor<'_, '_>,
+) -> Result<TypeTree, Fault>
+    ensures { Moves type_of result tokens.new (reading.type_of_word (read_type depth) word tokens.old) }
+{
+    match word {
+        Keyword::Integer => Ok(TypeTree::Integer),
+        Keyword::Char => Ok(TypeTree::Char),
+        Keyword::Boolean => Ok(TypeTree::Boolean),
+        Keyword::Relation => Ok(TypeTree::relation_type(heading(alloc, depth, tokens)?)),
+        Keyword::Tuple => Ok(TypeTree::tuple_type(heading(alloc, depth, tokens)?)),
+        _ => Err(SYNTAX),
+    }
+}
+
+/// `'{' (name type),* '}'`, of types at most so high
+#[cycle(types)]
+#[tactic(auto, unfolding(td_tree::specs::ReadingTypes::heading, td_tree::specs::ReadingSteps::listed_to, td_tree::specs::ReadingSteps::up_to), using(crate::proofs::Views::attributes_from_of))]
+fn heading(
+    alloc: Global,
+    depth: u8,
+    tokens: &mut Cursor<'_, '_>,
+) -> Result<Vec<AttributeTree>, Fault>
+    ensures { Moves (λ v. heading_of v.items) result tokens.new (reading.heading (read_type depth) tokens.old) }
+{
+    tokens.expect_sign(Sign::OpenBrace)?;
+    if tokens.sign(Sign::CloseBrace) {
+        return Ok(Vec::new(alloc));
+    }
+    let attributes = attributes(alloc, depth, tokens)?;
+    tokens.expect_sign(Sign::CloseBrace)?;
+    Ok(attributes)
+}
+
+/// `(name type),+`, of types at most so high
+#[cycle(types)]
+#[tactic(auto, unfolding(td_tree::specs::ReadingSteps::separated, td_tree::specs::ReadingSteps::separated_from))]
+pub fn attributes(
+    alloc: Global,
+    depth: u8,
+    tokens: &mut Cursor<'_, '_>,
+) -> Result<Vec<AttributeTree>, Fault>
+    ensures { Moves (λ v. attributes_of v.items) result tokens.new (separated (reading.attribute (read_type depth)) tokens.old) }
+{
+    let mut items = Vec::new(alloc);
+    let limit = tokens.turns();
+    for _turn in 0..limit {
+        items.push(attribute(alloc, depth, tokens)?)?;
+        if !tokens.sign(Sign::Comma) {
+            return Ok(items);
+        }
+    }
+    Err(SYNTAX)
+}
+
+/// `name type`, of a type at most so high
+#[cycle(types)]
+#[tactic(auto, unfolding(td_tree::specs::ReadingTypes::attribute))]
+fn attribute(alloc: Global, depth: u8, tokens: &mut Cursor<'_, '_>) -> Result<AttributeTree, Fault>
+    ensures { Moves attribute_of result tokens.new (reading.attribute (read_type depth) tokens.old) }
+{
+    let name = name(alloc, tokens)?;
+    let ty = type_tree(alloc, depth, tokens)?;
+    Ok(AttributeTree { name, ty })
+}
+
+/// A heading whose relation type is at most so high.
+#[tactic(auto, unfolding(td_tree::specs::ReadingTypes::relation_heading))]
+pub fn relation_heading(
+    alloc: Global,
+    depth: u8,
+    tokens: &mut Cursor<'_, '_>,
+) -> Result<Vec<AttributeTree>, Fault>
+    ensures { Moves (λ v. heading_of v.items) result tokens.new (reading.relation_heading depth tokens.old) }
+{
+    if depth == 0 {
+        return Err(SYNTAX);
+    }
+    heading(alloc, depth - 1, tokens)
+}
