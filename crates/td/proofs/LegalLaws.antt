@@ -9,8 +9,9 @@ use Rattle.td_value.specs.Sets.{put_in, set_of, set_of-ascends}
 use Rattle.td_value.specs.ValueOrder.{tuple_order_same, tuple_order_total}
 use Rattle.td_value.specs.Values.{Entries, Relation, heading_of, tuple_order}
 use Rattle.td.specs.Database.{Database, Relvar, relvar_at, same_heading, target_holds, with_body}
+use Rattle.td.specs.FirstPath.{first_path}
 use Rattle.td.specs.Legality.{IsBody, IsLegal}
-use Rattle.td.specs.Machine.{Progress, Runs, nothing, stopped, next, Step, Steps, scanned, unspelled, spelled, assignable, by_outcome, declared, new_relvar, stepped, unless_broken}
+use Rattle.td.specs.Machine.{Progress, Runs, nothing, stopped, next, Step, Steps, scanned, unspelled, spelled, assignable, by_outcome, declared, new_relvar, stepped, stepped_if, unless_broken}
 use Rattle.td.specs.Meaning.{are_distinct_if, are_tuples, have_heading, heading_meaning, is_relation, known, literal_heading, literal_meaning, meaning, operand_meaning, tuple_values, union_of}
 use Rattle.td.specs.Trees.{Operand, relvar, literal, Expression, single, union, Statement, empty, define, assign, write, TupleLiteral}
 use Rattle.td.proofs.Done.{assigned_says, declared_says}
@@ -149,10 +150,14 @@ stepped_legal db (define n names keys) l = define_legal db n names keys l
 stepped_legal db (assign n e) l = assign_legal db n e l
 stepped_legal db (write e) l = outcome_legal db (meaning db e) _ l (λ r v. l)
 
+if_legal : (db : Database) (o : Option Statement) → IsLegal db → IsLegal (stepped_if db o).database
+if_legal db None l = l
+if_legal db (Some t) l = stepped_legal db t l
+
 step_legal : (db : Database) (tokens : List Entry) (step : Step) → IsLegal db → Steps db tokens step → IsLegal step.database
 step_legal db tokens step l (scanned e) = l
 step_legal db tokens step l (unspelled e f) = l
-step_legal db tokens step l (spelled t e f) = stepped_legal db t l
+step_legal db tokens step l (spelled t e f) = if_legal db (first_path t) l
 
 pub legal_runs : (stop : Bool) (p q : Progress) (script : List (List Entry)) → IsLegal p.database → Runs stop p script q → IsLegal q.database
 legal_runs stop p q script l nothing = l

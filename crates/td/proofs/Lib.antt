@@ -1,6 +1,5 @@
-pub mod Again
-pub mod Decimals
 pub mod Done
+pub mod FirstPaths
 pub mod Headings
 pub mod Joins
 pub mod Kept
@@ -9,16 +8,12 @@ pub mod Legal
 pub mod LegalLaws
 pub mod Literals
 pub mod Moving
-pub mod Names
-pub mod Parses
 pub mod Places
 pub mod Runs
 pub mod Seen
-pub mod Sound
+pub mod Spelled
 pub mod Static
 pub mod Stepping
 pub mod ToldLaws
-pub mod Turns
 pub mod Unions
 pub mod Worked
-pub mod WorkedRuns

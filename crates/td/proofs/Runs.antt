@@ -3,10 +3,12 @@ use Rattle.std.proofs.Common.{◌≡◌, Bool, true, false, List, [], ◌∷◌,
 use Rattle.td_tree.specs.Statements.{Entry}
 use Rattle.td_tree.specs.declared.cause.Cause.TheVariants as causes
 use Rattle.td.specs.Database.{Database}
-use Rattle.td.specs.Machine.{Progress, Step, Steps, scanned, unspelled, spelled, Runs, nothing, stopped, next, and_then, has_stopped, refused, stepped, is_bad_in, words_in}
-use Rattle.td.specs.Reading.{whole_in}
-use Rattle.td.proofs.Parses.{none_spelled, one_tree}
-use Rattle.td.proofs.Parses.{spelled as is_spelled}
+use Rattle.td.specs.Machine.{Progress, Step, Steps, scanned, unspelled, spelled, Runs, nothing, stopped, next, and_then, has_stopped, refused, tree_step}
+use Rattle.td_parse.specs.Parsing.{has_bad}
+use Rattle.td_tree.specs.ReadingStatements.{read_statement}
+use Rattle.td_tree.specs.TokenLexemes.{lexemes}
+use Rattle.td_tree.proofs.OneTree.{one_statement}
+use Rattle.td.proofs.Spelled.{none_spelled, is_spelled}
 
 -- after a stop nothing is run
 pub runs_stopped : (stop : Bool) (p : Progress) (ss : List (List Entry)) → has_stopped stop p ≡ true → Runs stop p ss p
@@ -34,7 +36,7 @@ one_step db tokens s t (unspelled a none) (unspelled b also) = refl
 one_step db tokens s t (unspelled a none) (spelled u b is) = absurd (none u is)
 one_step db tokens s t (spelled w a is) (scanned b) = let e : false ≡ true = sym a ∙ b in absurd cc
 one_step db tokens s t (spelled w a is) (unspelled b none) = absurd (none w is)
-one_step db tokens s t (spelled w a is) (spelled u b also) = ap (stepped db) (one_tree (words_in tokens) w u is also)
+one_step db tokens s t (spelled w a is) (spelled u b also) = ap (tree_step db) (one_statement (lexemes tokens) w u is also)
 
 -- a list of statements has one outcome
 pub one_outcome : (stop : Bool) (p : Progress) (ss : List (List Entry)) (q r : Progress) → Runs stop p ss q → Runs stop p ss r → q ≡ r
@@ -48,11 +50,11 @@ one_outcome stop p (s ∷ ss) q r (next step goes steps rest) (next other also d
 -- what a list of tokens does
 some_step : (db : Database) (tokens : List Entry) → (s : Step) × Steps db tokens s
 some_step db tokens =
-    (elim (is_bad_in tokens) as (λ b. is_bad_in tokens ≡ b → (s : Step) × Steps db tokens s) [
+    (elim (has_bad tokens) as (λ b. has_bad tokens ≡ b → (s : Step) × Steps db tokens s) [
       | true ↦ λ bad. (refused db causes.Scan, scanned bad)
-      | false ↦ λ good. (elim (whole_in (words_in tokens)) as (λ o. whole_in (words_in tokens) ≡ o → (s : Step) × Steps db tokens s) [
-        | None ↦ λ none. (refused db causes.Syntax, unspelled good (none_spelled (words_in tokens) none))
-        | Some t ↦ λ some. (stepped db t, spelled t good (is_spelled (words_in tokens) t some))
+      | false ↦ λ good. (elim (read_statement (lexemes tokens)) as (λ o. read_statement (lexemes tokens) ≡ o → (s : Step) × Steps db tokens s) [
+        | None ↦ λ none. (refused db causes.Syntax, unspelled good (none_spelled (lexemes tokens) none))
+        | Some t ↦ λ some. (tree_step db t, spelled t good (is_spelled (lexemes tokens) t some))
       ]) refl
     ]) refl
 

@@ -3,18 +3,20 @@
 use Rattle.std.specs.Prelude.{◌≡◌, ℕ, ◌+◌, Bool, true, false, ◌&&◌, List, [], ◌∷◌, ◌++◌, Option, Some, None, map, codes, decimal, nat_lt, if◌then◌else◌}
 use Rattle.td_tree.specs.Causes.{name_of, number_of}
 use Rattle.td_tree.specs.Outcomes.{Only, Outcome, Valued, Refused, least, with_value, with_both}
+use Rattle.td_tree.specs.StatementGrammar.{StatementSpelling}
 use Rattle.td_tree.specs.Statements.{Entry}
+use Rattle.td_tree.specs.TokenLexemes.{lexemes}
+use Rattle.td_tree.specs.Trees as tree
 use Rattle.td_tree.specs.declared.cause.Cause.{Cause}
 use Rattle.td_tree.specs.declared.cause.Cause.TheVariants as causes
+use Rattle.td_parse.specs.Parsing.{SpellsNone, has_bad}
 use Rattle.td_types.specs.Types.{Attributes}
 use Rattle.td_value.specs.Literal.{relation_literal}
 use Rattle.td_value.specs.Values.{Relation}
 use Rattle.td.specs.Database.{Database, Relvar, keys_fit, keys_hold, relvar_at, same_heading, with_body}
-use Rattle.td.specs.Grammar.{Spells}
+use Rattle.td.specs.FirstPath.{first_path}
 use Rattle.td.specs.Meaning.{heading_meaning, known, meaning}
-use Rattle.td.specs.Parsing.{has_bad}
 use Rattle.td.specs.Trees.{Statement, empty, define, assign, write}
-use Rattle.td.specs.Words.{Word, word_of}
 
 -- what a statement does: the database after it, why it is refused, if it is, and the text of its answer
 pub record Step : Type 0 where
@@ -92,17 +94,19 @@ stepped db (define n names keys) = by_outcome db (declared db n names keys) (λ 
 stepped db (assign n e) = by_outcome db (with_both (known (relvar_at n db)) (meaning db e) assignable) (λ source. changed db (with_body n source db))
 stepped db (write e) = by_outcome db (meaning db e) (λ r. accepted db (relation_literal r))
 
-abbrev pub words_in : List Entry → List Word
-words_in = map (λ token. word_of token.kind token.text)
+-- a tree that is none of the first path's is SYNTAX
+abbrev pub stepped_if : Database → Option Statement → Step
+stepped_if db None = refused db causes.Syntax
+stepped_if db (Some t) = stepped db t
 
-abbrev pub is_bad_in : List Entry → Bool
-is_bad_in tokens = has_bad (map (λ token. token.kind) tokens)
+abbrev pub tree_step : Database → tree.Statement → Step
+tree_step db t = stepped_if db (first_path t)
 
 -- what a list of tokens does: SCAN where one is bad, else SYNTAX where they spell no tree, else what their tree means
 pub data Steps (db : Database) (tokens : List Entry) : Step → Type 0 where
-  scanned : is_bad_in tokens ≡ true → Steps db tokens (refused db causes.Scan)
-  unspelled : is_bad_in tokens ≡ false → ((t : Statement) → Spells (words_in tokens) t → ⊥) → Steps db tokens (refused db causes.Syntax)
-  spelled : (t : Statement) → is_bad_in tokens ≡ false → Spells (words_in tokens) t → Steps db tokens (stepped db t)
+  scanned : has_bad tokens ≡ true → Steps db tokens (refused db causes.Scan)
+  unspelled : has_bad tokens ≡ false → SpellsNone (lexemes tokens) → Steps db tokens (refused db causes.Syntax)
+  spelled : (t : tree.Statement) → has_bad tokens ≡ false → StatementSpelling (lexemes tokens) t → Steps db tokens (tree_step db t)
 
 -- ---- runs
 

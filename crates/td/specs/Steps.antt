@@ -1,10 +1,14 @@
 -- What the engine answers (this project's own).
-use Rattle.std.specs.Prelude.{◌≡◌, List, is_none}
+use Rattle.std.specs.Prelude.{◌≡◌, List, is_none, Result, Ok, Err}
 use Rattle.std.specs.String.{string_bytes}
+use Rattle.td_tree.specs.declared.fault.Fault.{Fault}
+use Rattle.td_tree.specs.declared.fault.Fault.TheVariants as faults
 use Rattle.td_tree.specs.Statements.{Entry}
 use Rattle.td.specs.Database.{Database}
-use Rattle.td.specs.Machine.{Step, Steps}
+use Rattle.td.specs.Machine.{Step, Steps, refused, stepped}
+use Rattle.td.specs.TreeViews.{statement_of}
 use Rattle.td.specs.declared.engine.answer.Answer as code
+use Rattle.td.specs.declared.engine.tree.Statement.{Statement}
 
 -- the step that an answer and a database stand for
 abbrev pub step_of : code.Answer → Database → Step
@@ -19,3 +23,9 @@ pub record IsStep (old : Database) (tokens : List Entry) (answer : code.Answer) 
 pub record Does (step : Step) (answer : code.Answer) (new : Database) : Type 0 where
   pub is : step_of answer new ≡ step
   pub accepted : answer.accepted ≡ is_none answer.cause
+
+-- a tree that means what the tokens do, or why they are refused on every database; memory may run out
+abbrev pub IsParsed : List Entry → Result Statement Fault → Type 0
+IsParsed tokens (Ok statement) = (db : Database) → Steps db tokens (stepped db (statement_of statement))
+IsParsed tokens (Err (faults.Refused cause)) = (db : Database) → Steps db tokens (refused db cause)
+IsParsed tokens (Err faults.Memory) = Unit {0}

@@ -3,20 +3,19 @@ ghost use Rattle.std.specs.Prelude.{◌≡◌, [], IfOk, OnErr};
 ghost use Rattle.td.specs.Steps.{IsStep};
 
 pub mod answer;
-pub mod cursor;
 pub mod database;
 pub mod expression;
+pub mod first_path;
 pub mod keys;
 pub mod literal;
 pub mod number;
-pub mod parse;
 pub mod relvar;
 pub mod statement;
 pub mod tree;
 
 use crate::engine::answer::Answer;
 use crate::engine::database::Database;
-use crate::engine::parse::parse_statement;
+use crate::engine::first_path::parse;
 use crate::engine::statement::execute;
 use std::alloc::{AllocError, Global};
 use std::marker::Model;
@@ -56,7 +55,7 @@ impl Engine {
         ensures step { IfOk result (λ answer. IsStep self.old tokens.now answer self.new) }
         ensures err { OnErr result (self.new ≡ self.old) }
     {
-        match parse_statement(alloc, tokens) {
+        match parse(alloc, tokens) {
             Ok(statement) => execute(alloc, &mut self.database, statement),
             Err(Fault::Refused(cause)) => Answer::refused(alloc, cause),
             Err(Fault::Memory) => Err(AllocError),

@@ -1,7 +1,7 @@
 //! The trees of the first path's grammar.
-ghost use Rattle.std.specs.Prelude.{◌≡◌, ◌≤◌, map, OnOk};
+ghost use Rattle.std.specs.Prelude.{◌≡◌, OnOk};
 ghost use Rattle.td.specs.Trees as spec;
-ghost use Rattle.td.specs.TreeViews.{expression_of, operand_of, tuples_of};
+ghost use Rattle.td.specs.TreeViews.{expression_of, operand_of};
 
 use crate::engine::number::Numeral;
 use std::alloc::{AllocError, Global};
@@ -65,45 +65,6 @@ pub enum Statement {
     Define(Definition),
     Assign(Assignment),
     Write(Expression),
-}
-
-/// The height of a node over this many names or numbers.
-fn height_over(parts: usize) -> u64
-    ensures value { result ≡ spec.height_over parts }
-    ensures low { result ≤ 2 }
-{
-    if parts == 0 { 1 } else { 2 }
-}
-
-/// How high the highest of these tuples is; 0 where there is none.
-fn highest(tuples: &[TupleLiteral]) -> u64
-    ensures value { result ≡ spec.highest (map spec.tuple_height (tuples_of tuples.now)) }
-    ensures low { result ≤ 2 }
-{
-    let mut height = 0;
-    for tuple in tuples {
-        height = height.max(height_over(tuple.attributes.len()));
-    }
-    height
-}
-
-impl Operand {
-    /// One more than the highest part: the written heading, as a relation type, and the tuples.
-    pub fn height(&self) -> u64
-        ensures value { result ≡ spec.operand_height (operand_of self.now) }
-        ensures low { result ≤ 3 }
-    {
-        match self {
-            Operand::Relvar(_) => 1,
-            Operand::Literal(literal) => {
-                let heading = match &literal.heading {
-                    Some(names) => height_over(names.len()),
-                    None => 0,
-                };
-                heading.max(highest(&literal.tuples)) + 1
-            }
-        }
-    }
 }
 
 impl Expression {

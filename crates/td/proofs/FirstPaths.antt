@@ -1,0 +1,21 @@
+-- Items taken one after another, where each is there.
+use Rattle.std.proofs.Common.{◌≡◌, List, [], ◌∷◌, ◌++◌, Option, Some, None, refl, sym, ap}
+use Rattle.std.specs.Prelude.{option_map}
+use Rattle.std.proofs.lemmas.List.{append_assoc, append-nil}
+use Rattle.td.specs.FirstPath.{both}
+
+-- the items before, and those of the rest, where they are there
+abbrev pub behind : {A : Type 0} → List A → Option (List A) → Option (List A)
+behind done rest = option_map (λ others. done ++ others) rest
+
+pub none_before : {A : Type 0} (o : Option (List A)) → behind [] o ≡ o
+none_before None = refl
+none_before (Some xs) = refl
+
+pub none_behind : {A : Type 0} (done : List A) → behind done (Some []) ≡ Some done
+none_behind done = ap Some (append-nil done)
+
+-- one item more
+pub one_more : {A B : Type 0} (make : A → B) (done : List B) (x : A) (o : Option (List B)) → behind done (both (λ y others. make y ∷ others) (Some x) o) ≡ behind (done ++ (make x ∷ [])) o
+one_more make done x None = refl
+one_more make done x (Some xs) = ap Some (sym (append_assoc done (make x ∷ []) xs))

@@ -1,0 +1,8 @@
+use Rattle.std.proofs.Common.{◌≡◌, drop}
+use Rattle.td_tree.specs.TreeViews.{heading_of}
+use Rattle.td.specs.FirstPath.{names_in}
+use Rattle.td.proofs.FirstPaths.{behind}
+use Rattle.td.proofs.engine.first_path.names.Given as goal
+
+abbrev pub invariant-loop-attribute : goal.invariant-loop-attribute
+invariant-loop-attribute l = behind l.names.items (names_in (heading_of (drop l.attribute-index l.heading))) ≡ names_in (heading_of l.heading)
