@@ -1,3 +1,4 @@
+pub mod Computing
 pub mod Done
 pub mod FirstPaths
 pub mod Headings
@@ -17,3 +18,5 @@ pub mod Stepping
 pub mod ToldLaws
 pub mod Unions
 pub mod Worked
+pub mod WorkedRuns
+pub mod WorkedTrees
