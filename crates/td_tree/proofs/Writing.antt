@@ -46,10 +46,6 @@ pub both_put : (old mid new : List ℕ) (xs ys : List Lexeme) → mid ≡ old ++
 both_put old mid new xs ys first last =
     last ∙ ap (λ m. m ++ written ys) first ∙ append_assoc old (written xs) (written ys) ∙ ap (λ w. old ++ w) (sym (written_append xs ys))
 
--- what the last call put, as what it stands for
-pub same_put : {E : Type 0} (r : Result (List ℕ) E) (old : List ℕ) (xs zs : List Lexeme) → xs ≡ zs → IfOk r (λ out. out ≡ old ++ written xs) → IfOk r (λ out. out ≡ old ++ written zs)
-same_put r old xs zs e put = subst (λ w. IfOk r (λ out. out ≡ old ++ written w)) e put
-
 -- what is put before, and by the last call
 pub last_put : {E : Type 0} (r : Result (List ℕ) E) (old mid : List ℕ) (xs ys zs : List Lexeme) → xs ++ ys ≡ zs
     → mid ≡ old ++ written xs → IfOk r (λ out. out ≡ mid ++ written ys) → IfOk r (λ out. out ≡ old ++ written zs)
