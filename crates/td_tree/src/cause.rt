@@ -6,42 +6,43 @@ use thiserror::Error;
 
 /// Why a statement is refused. Its number and its name stand in the answer.
 #[derive(Clone, Copy, Debug, PartialEq, Eq, Error)]
+#[error("refused: {}", self.name())]
 pub enum Cause {
-    #[error("a token is bad")]
+    /// A token is bad.
     Scan,
-    #[error("the grammar spells no such statement")]
+    /// The grammar spells no such statement.
     Syntax,
-    #[error("a name is not known")]
+    /// A name is not known.
     NameUnknown,
-    #[error("a name is taken")]
+    /// A name is taken.
     NameTaken,
-    #[error("a type does not fit")]
+    /// A type does not fit.
     TypeMismatch,
-    #[error("a heading does not fit")]
+    /// A heading does not fit.
     Heading,
-    #[error("a declaration of keys does not fit")]
+    /// A declaration of keys does not fit.
     KeyDeclaration,
-    #[error("a declared type is too deep")]
+    /// A declared type is too deep.
     Rank,
-    #[error("another entry mentions what is dropped")]
+    /// Another entry mentions what is dropped.
     InUse,
-    #[error("a virtual relvar takes no assignment")]
+    /// A virtual relvar takes no assignment.
     NotAssignable,
-    #[error("too many transactions are open, or none is")]
+    /// Too many transactions are open, or none is.
     Transaction,
-    #[error("a number is out of range")]
+    /// A number is out of range.
     Overflow,
-    #[error("a divisor is zero")]
+    /// A divisor is zero.
     ZeroDivisor,
-    #[error("an aggregate of nothing has no value")]
+    /// An aggregate of nothing has no value.
     EmptyAggregate,
-    #[error("a relation has not exactly one tuple")]
+    /// A relation has not exactly one tuple.
     NotOneTuple,
-    #[error("a type constraint is false")]
+    /// A type constraint is false.
     TypeConstraint,
-    #[error("a key does not hold")]
+    /// A key does not hold.
     Key,
-    #[error("a constraint is false")]
+    /// A constraint is false.
     Constraint,
 }
 

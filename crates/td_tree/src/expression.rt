@@ -98,34 +98,56 @@ pub enum Summary {
     Of(Aggregate, Expr, Name),
 }
 
+/// An expression in a box.
+fn boxed(alloc: Global, expression: Expr) -> Result<Box<Expr>, AllocError>
+    ensures { IfOk result (λ boxed. boxed.value ≡ expression) }
+{
+    Ok(Box::new(alloc, expression)?)
+}
+
+/// Two expressions, each in a box.
+fn boxed_both(
+    alloc: Global,
+    first: Expr,
+    second: Expr,
+) -> Result<(Box<Expr>, Box<Expr>), AllocError>
+    ensures first { IfOk result (λ both. both.0.value ≡ first) }
+    ensures second { IfOk result (λ both. both.1.value ≡ second) }
+{
+    let first = boxed(alloc, first)?;
+    let second = boxed(alloc, second)?;
+    Ok((first, second))
+}
+
 /// Trees made of their parts.
 impl Expr {
     /// `(e)`
     pub fn parentheses(alloc: Global, inner: Expr) -> Result<Expr, AllocError>
         ensures { IfOk result (λ e. tree_of e ≡ trees.parentheses (tree_of inner)) }
     {
-        Ok(Expr::Parentheses(Box::new(alloc, inner)?))
+        Ok(Expr::Parentheses(boxed(alloc, inner)?))
     }
 
     /// An operator before its operand.
     pub fn prefix(alloc: Global, op: Prefix, operand: Expr) -> Result<Expr, AllocError>
         ensures { IfOk result (λ e. tree_of e ≡ trees.prefix op (tree_of operand)) }
     {
-        Ok(Expr::Prefix(op, Box::new(alloc, operand)?))
+        Ok(Expr::Prefix(op, boxed(alloc, operand)?))
     }
 
     /// `A FROM t`
     pub fn extract(alloc: Global, attribute: Name, operand: Expr) -> Result<Expr, AllocError>
         ensures { IfOk result (λ e. tree_of e ≡ trees.extract attribute (tree_of operand)) }
     {
-        Ok(Expr::Extract(attribute, Box::new(alloc, operand)?))
+        Ok(Expr::Extract(attribute, boxed(alloc, operand)?))
     }
 
     /// An operator between its operands.
     pub fn binary(alloc: Global, left: Expr, op: Operator, right: Expr) -> Result<Expr, AllocError>
         ensures { IfOk result (λ e. tree_of e ≡ trees.binary (tree_of left) op (tree_of right)) }
     {
-        Ok(Expr::Binary(Box::new(alloc, left)?, op, Box::new(alloc, right)?))
+        let (left, right) = boxed_both(alloc, left, right)?;
+        Ok(Expr::Binary(left, op, right))
     }
 
     /// A comparison of two operands.
@@ -137,14 +159,15 @@ impl Expr {
     ) -> Result<Expr, AllocError>
         ensures { IfOk result (λ e. tree_of e ≡ trees.compare (tree_of left) op (tree_of right)) }
     {
-        Ok(Expr::Compare(Box::new(alloc, left)?, op, Box::new(alloc, right)?))
+        let (left, right) = boxed_both(alloc, left, right)?;
+        Ok(Expr::Compare(left, op, right))
     }
 
     /// An operator behind its operand.
     pub fn postfix(alloc: Global, operand: Expr, op: Postfix) -> Result<Expr, AllocError>
         ensures { IfOk result (λ e. tree_of e ≡ trees.postfix (tree_of operand) (postfix_of op)) }
     {
-        Ok(Expr::Postfix(Box::new(alloc, operand)?, op))
+        Ok(Expr::Postfix(boxed(alloc, operand)?, op))
     }
 
     /// `T(e, ..)`
@@ -158,14 +181,14 @@ impl Expr {
     pub fn component(alloc: Global, rest: RcStr, operand: Expr) -> Result<Expr, AllocError>
         ensures { IfOk result (λ e. tree_of e ≡ trees.component (rc_str_bytes rest) (tree_of operand)) }
     {
-        Ok(Expr::Component(rest, Box::new(alloc, operand)?))
+        Ok(Expr::Component(rest, boxed(alloc, operand)?))
     }
 
     /// `COUNT(e)` or `IS_EMPTY(e)`
     pub fn measure(alloc: Global, op: Measure, operand: Expr) -> Result<Expr, AllocError>
         ensures { IfOk result (λ e. tree_of e ≡ trees.measure op (tree_of operand)) }
     {
-        Ok(Expr::Measure(op, Box::new(alloc, operand)?))
+        Ok(Expr::Measure(op, boxed(alloc, operand)?))
     }
 
     /// `SUM(e, v)`, `MAX(e, v)` or `MIN(e, v)`
@@ -177,7 +200,8 @@ impl Expr {
     ) -> Result<Expr, AllocError>
         ensures { IfOk result (λ e. tree_of e ≡ trees.aggregate op (tree_of operand) (tree_of value)) }
     {
-        Ok(Expr::Aggregate(op, Box::new(alloc, operand)?, Box::new(alloc, value)?))
+        let (operand, value) = boxed_both(alloc, operand, value)?;
+        Ok(Expr::Aggregate(op, operand, value))
     }
 
     /// `RELATION {t, ..}`
@@ -209,7 +233,7 @@ impl Expr {
     pub fn extend(alloc: Global, operand: Expr, parts: Vec<NamedExpr>) -> Result<Expr, AllocError>
         ensures { IfOk result (λ e. tree_of e ≡ trees.extend (tree_of operand) (named_of parts.items)) }
     {
-        Ok(Expr::Extend(Box::new(alloc, operand)?, parts))
+        Ok(Expr::Extend(boxed(alloc, operand)?, parts))
     }
 
     /// `SUMMARIZE e PER (p) ADD (..)`
@@ -222,7 +246,8 @@ impl Expr {
     ) -> Result<Expr, AllocError>
         ensures { IfOk result (λ e. tree_of e ≡ trees.summarize_per (tree_of operand) (tree_of per) (summaries_of summaries.items)) }
     {
-        Ok(Expr::SummarizePer(Box::new(alloc, operand)?, Box::new(alloc, per)?, summaries))
+        let (operand, per) = boxed_both(alloc, operand, per)?;
+        Ok(Expr::SummarizePer(operand, per, summaries))
     }
 
     /// `SUMMARIZE e BY {..} ADD (..)`
@@ -234,7 +259,7 @@ impl Expr {
     ) -> Result<Expr, AllocError>
         ensures { IfOk result (λ e. tree_of e ≡ trees.summarize_by (tree_of operand) (attributes_of by) (summaries_of summaries.items)) }
     {
-        Ok(Expr::SummarizeBy(Box::new(alloc, operand)?, by, summaries))
+        Ok(Expr::SummarizeBy(boxed(alloc, operand)?, by, summaries))
     }
 
     /// `IF c THEN a ELSE b END IF`
@@ -246,10 +271,8 @@ impl Expr {
     ) -> Result<Expr, AllocError>
         ensures { IfOk result (λ e. tree_of e ≡ trees.choice (tree_of condition) (tree_of consequent) (tree_of alternative)) }
     {
-        Ok(Expr::If(
-            Box::new(alloc, condition)?,
-            Box::new(alloc, consequent)?,
-            Box::new(alloc, alternative)?,
-        ))
+        let condition = boxed(alloc, condition)?;
+        let (consequent, alternative) = boxed_both(alloc, consequent, alternative)?;
+        Ok(Expr::If(condition, consequent, alternative))
     }
 }

@@ -6,5 +6,5 @@ use Rattle.td_tree.proofs.expression.Expr.summarize_by.Goals as goal
 
 pub returns : goal.returns
 returns c =
-    summarize_by_is c.in_ok-new.field-0 c.args.by c.args.summaries
-    ∙ ap (λ x. trees.summarize_by (tree_of x) (attributes_of c.args.by) (summaries_of c.args.summaries.items)) c.in_ok-new.ensures.ok
+    summarize_by_is c.in_ok-boxed.field-0 c.args.by c.args.summaries
+    ∙ ap (λ x. trees.summarize_by (tree_of x) (attributes_of c.args.by) (summaries_of c.args.summaries.items)) c.in_ok-boxed.ensures
