@@ -10,6 +10,7 @@ use crate::cursor::{Cursor, SYNTAX};
 use crate::grammar::MAX_HEIGHT;
 use crate::levels;
 use crate::names::name;
+use crate::steps::{both, closed};
 use crate::word::name_of;
 use std::alloc::Global;
 use td_tree::expression::{Expr, NamedExpr};
@@ -81,8 +82,7 @@ fn enclosed_settings(alloc: Global, tokens: &mut Cursor<'_, '_>) -> Result<Vec<N
 {
     tokens.expect_sign(Sign::OpenParenthesis)?;
     let settings = settings(alloc, tokens)?;
-    tokens.expect_sign(Sign::CloseParenthesis)?;
-    Ok(settings)
+    closed(settings, Sign::CloseParenthesis, tokens)
 }
 
 /// `name e`, after `INSERT`
@@ -112,7 +112,7 @@ fn changing(alloc: Global, tokens: &mut Cursor<'_, '_>) -> Result<Assignment, Fa
 {
     let target = name(alloc, tokens)?;
     let condition = condition(alloc, tokens)?;
-    let settings = enclosed_settings(alloc, tokens)?;
+    let (condition, settings) = both(condition, enclosed_settings(alloc, tokens))?;
     Ok(Assignment::Update(target, condition, settings))
 }
 

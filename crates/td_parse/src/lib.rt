@@ -14,6 +14,7 @@ mod parts;
 mod postfix;
 mod primary;
 pub mod statement;
+mod steps;
 mod summarize;
 #[cfg(test)]
 mod tests;

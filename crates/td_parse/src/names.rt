@@ -6,6 +6,7 @@ ghost use Rattle.td_tree.specs.ReadingSteps.{read_name, separated};
 ghost use Rattle.td_tree.specs.TreeViews.{attributes_of, renaming_of};
 
 use crate::cursor::{Cursor, SYNTAX};
+use crate::steps::closed;
 use crate::word::name_of;
 use std::alloc::Global;
 use td_tree::expression::{Attributes, Renaming};
@@ -59,8 +60,7 @@ fn names_to_brace(alloc: Global, tokens: &mut Cursor<'_, '_>) -> Result<Vec<Name
         return Ok(Vec::new(alloc));
     }
     let items = some_names(alloc, tokens)?;
-    tokens.expect_sign(Sign::CloseBrace)?;
-    Ok(items)
+    closed(items, Sign::CloseBrace, tokens)
 }
 
 /// `'{' name,* '}'`

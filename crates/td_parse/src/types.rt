@@ -9,6 +9,7 @@ ghost use Rattle.td_tree.specs.Lexemes.{sign};
 
 use crate::cursor::{Cursor, SYNTAX};
 use crate::names::name;
+use crate::steps::closed;
 use crate::word::name_of;
 use std::alloc::Global;
 use td_tree::fault::Fault;
@@ -68,8 +69,7 @@ fn heading(
         return Ok(Vec::new(alloc));
     }
     let attributes = attributes(alloc, depth, tokens)?;
-    tokens.expect_sign(Sign::CloseBrace)?;
-    Ok(attributes)
+    closed(attributes, Sign::CloseBrace, tokens)
 }
 
 /// `(name type),+`, of types at most so high
