@@ -11,7 +11,6 @@ use crate::grammar::MAX_HEIGHT;
 use crate::levels;
 use crate::names::name;
 use crate::steps::{both, closed};
-use crate::word::name_of;
 use std::alloc::Global;
 use td_tree::expression::{Expr, NamedExpr};
 use td_tree::fault::Fault;
@@ -123,7 +122,7 @@ fn assignment(alloc: Global, tokens: &mut Cursor<'_, '_>) -> Result<Assignment, 
 {
     match tokens.take() {
         Some((Kind::Name, text)) => {
-            let target = name_of(alloc, text)?;
+            let target = tokens.name_of(alloc, text)?;
             Ok(Assignment::Assign(target, source(alloc, tokens)?))
         }
         Some((Kind::Reserved(Keyword::Insert), _)) => insertion(alloc, tokens),

@@ -1,6 +1,7 @@
 //! The statement that tokens spell.
 #![tactic(auto)]
 
+mod ahead;
 mod assignment;
 mod cursor;
 mod definition;
@@ -8,6 +9,7 @@ mod found;
 mod grammar;
 mod levels;
 mod lists;
+mod met;
 mod names;
 mod operators;
 mod parts;

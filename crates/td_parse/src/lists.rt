@@ -69,12 +69,13 @@ impl<F: Fn(Global, u8, Level, &mut Cursor<'_, '_>) -> Result<Found, Fault>> Gram
         requires { Nests self.now.depth (F.pre self.now.inner) (F.post self.now.inner) }
         ensures { Moves (map named_part_of) result tokens.new (separated (reading.part (read self.now.depth) self.now.depth) tokens.old) }
     {
-        let mut items = NamedParts::new(self.alloc);
+        let mut items = NamedParts::with_room(self.alloc, tokens.parts())?;
         let limit = tokens.turns();
         for _turn in 0..limit {
             let (name, value) = self.part(tokens)?;
             items.push(name, value)?;
             if !tokens.sign(Sign::Comma) {
+                tokens.keep_parts(items.count());
                 return Ok(items);
             }
         }

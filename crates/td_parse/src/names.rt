@@ -7,7 +7,6 @@ ghost use Rattle.td_tree.specs.TreeViews.{attributes_of, renaming_of};
 
 use crate::cursor::{Cursor, SYNTAX};
 use crate::steps::closed;
-use crate::word::name_of;
 use std::alloc::Global;
 use td_tree::expression::{Attributes, Renaming};
 use td_tree::fault::Fault;
@@ -21,7 +20,7 @@ pub fn name(alloc: Global, tokens: &mut Cursor<'_, '_>) -> Result<Name, Fault>
     ensures { Moves (λ n. n) result tokens.new (read_name tokens.old) }
 {
     match tokens.take() {
-        Some((Kind::Name, text)) => Ok(name_of(alloc, text)?),
+        Some((Kind::Name, text)) => Ok(tokens.name_of(alloc, text)?),
         _ => Err(SYNTAX),
     }
 }

@@ -19,7 +19,7 @@ use crate::grammar::Grammar;
 use crate::operators::{begins_heading, call};
 use crate::steps::{both, closed, ended};
 use crate::types::relation_heading;
-use crate::word::{MAX_MAGNITUDE, component_of, name_of, number_of, text_of};
+use crate::word::{MAX_MAGNITUDE, component_of, number_of, text_of};
 use std::alloc::Global;
 use std::rc::RcStr;
 use td_tree::expression::Literal;
@@ -240,7 +240,7 @@ impl<F: Fn(Global, u8, Level, &mut Cursor<'_, '_>) -> Result<Found, Fault>> Gram
             Kind::Reserved(word) => self.primary_of_word(word, tokens),
             Kind::Sign(Sign::OpenParenthesis) => self.parenthesized(tokens),
             Kind::Sign(Sign::Minus) => negative(tokens),
-            Kind::Name => self.named(name_of(self.alloc, text)?, tokens),
+            Kind::Name => self.named(tokens.name_of(self.alloc, text)?, tokens),
             Kind::Component => self.component(component_of(self.alloc, text)?, tokens),
             Kind::Number => numeral(false, text).ok_or(SYNTAX),
             Kind::Text => Ok(Found::literal(Literal::Text(text_of(self.alloc, text)?))),

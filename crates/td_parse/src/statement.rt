@@ -44,7 +44,7 @@ fn body(alloc: Global, tokens: &mut Cursor<'_, '_>) -> Result<Statement, Fault>
         Some(Keyword::Write) => Ok(Statement::Write(expression(alloc, tokens)?)),
         Some(Keyword::Dump) => Ok(Statement::Dump),
         _ => {
-            *tokens = before;
+            tokens.go_to(before);
             assignments(alloc, tokens)
         }
     }
@@ -66,7 +66,7 @@ fn body_or_none(alloc: Global, tokens: &mut Cursor<'_, '_>) -> Result<Statement,
 fn whole(alloc: Global, tokens: &[Token<'_>]) -> Result<Statement, Fault>
     ensures { Gives statement_of result (read_statement (lexemes tokens.now)) }
 {
-    let mut tokens = Cursor::new(tokens);
+    let mut tokens = Cursor::new(alloc, tokens);
     let statement = body_or_none(alloc, &mut tokens)?;
     let statement = closed(statement, Sign::Semicolon, &mut tokens)?;
     kept(statement, tokens.is_empty())

@@ -11,7 +11,7 @@ struct Shape<'a> {
     close: &'a [u8],
     end: &'a [u8],
     /// How many times at most.
-    most: usize,
+    most: u8,
 }
 
 fn repeat(script: &mut Vec<u8>, text: &[u8], count: usize) -> Result<(), AllocError> {
@@ -33,8 +33,9 @@ fn statement(alloc: Global, shape: &Shape<'_>, count: usize) -> Result<Vec<u8>, 
 }
 
 fn takes_at_most(alloc: Global, shape: &Shape<'_>) -> Result<bool, AllocError> {
-    let highest = statement(alloc, shape, shape.most)?;
-    let too_high = statement(alloc, shape, shape.most + 1)?;
+    let most = usize::from(shape.most);
+    let highest = statement(alloc, shape, most)?;
+    let too_high = statement(alloc, shape, most + 1)?;
     Ok(is_taken(alloc, highest.as_slice()) && is_refused(alloc, too_high.as_slice(), Cause::Syntax))
 }
 

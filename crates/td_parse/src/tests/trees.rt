@@ -3,14 +3,25 @@ use td_tree::expression::{Expr, Literal};
 use td_tree::operator::{Comparison, Operator, Prefix};
 use td_tree::statement::{Assignment, Statement};
 
-fn is_one(statement: &Statement) -> bool {
-    matches!(
-        statement,
-        Statement::Write(Expr::Literal(Literal::Number {
-            minus: false,
-            magnitude: 1,
-        }))
-    )
+fn is_one(literal: &Literal) -> bool {
+    match literal {
+        Literal::Number { minus, magnitude } => !*minus && *magnitude == 1,
+        _ => false,
+    }
+}
+
+fn is_literal_one(tree: &Expr) -> bool {
+    match tree {
+        Expr::Literal(literal) => is_one(literal),
+        _ => false,
+    }
+}
+
+fn writes_one(statement: &Statement) -> bool {
+    match statement {
+        Statement::Write(tree) => is_literal_one(tree),
+        _ => false,
+    }
 }
 
 fn is_binary(tree: &Expr, operator: Operator) -> bool {
@@ -54,15 +65,30 @@ fn is_conjunction(tree: &Expr) -> bool {
     }
 }
 
-fn is_restriction(statement: &Statement) -> bool {
-    match statement {
-        Statement::Write(Expr::Binary(left, Operator::Where, _)) => is_conjunction(left),
+/// `NOT A = B - C - D * E AND TRUE WHERE X`
+fn is_restriction(tree: &Expr) -> bool {
+    match tree {
+        Expr::Binary(left, Operator::Where, _) => is_conjunction(left),
         _ => false,
     }
 }
 
+fn writes_restriction(statement: &Statement) -> bool {
+    match statement {
+        Statement::Write(tree) => is_restriction(tree),
+        _ => false,
+    }
+}
+
+fn is_name(tree: &Expr) -> bool {
+    matches!(tree, Expr::Name(_))
+}
+
 fn is_update_by_name(assignment: &Assignment) -> bool {
-    matches!(assignment, Assignment::Update(_, Some(Expr::Name(_)), _))
+    match assignment {
+        Assignment::Update(_, Some(condition), _) => is_name(condition),
+        _ => false,
+    }
 }
 
 fn is_one_update(statement: &Statement) -> bool {
@@ -77,14 +103,18 @@ fn is_one_update(statement: &Statement) -> bool {
 
 #[test]
 fn a_number_is_written(rt: HostRuntime) {
-    let found = passes(rt.alloc(), b"WRITE 1 ;", |statement| is_one(statement));
+    let found = passes(rt.alloc(), b"WRITE 1 ;", |statement| writes_one(statement));
     assert!(rt; found == Ok(true));
 }
 
 #[test]
 fn operators_bind_and_group(rt: HostRuntime) {
     let script = b"WRITE NOT A = B - C - D * E AND TRUE WHERE X;";
-    let found = passes(rt.alloc(), script, |statement| is_restriction(statement));
+    let found = passes(
+        rt.alloc(),
+        script,
+        |statement| writes_restriction(statement),
+    );
     assert!(rt; found == Ok(true));
 }
 
