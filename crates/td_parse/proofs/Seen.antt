@@ -8,7 +8,7 @@ use lib.Pointwise.{pointwise}
 use Rattle.std.proofs.lemmas.Str.{IsUtf8-from_is_utf8}
 use Rattle.td_tree.specs.declared.token.Kind.{Kind}
 use Rattle.td_tree.specs.declared.token.Kind.TheVariants as kinds
-use Rattle.td_tree.specs.Lexemes.{Lexeme, keyword, sign, name, component, number, text, bad}
+use Rattle.td_tree.specs.Lexemes.{Lexeme, name, component, number, text, bad}
 use Rattle.td_tree.specs.Names.{begins_the, is_name, is_word}
 use Rattle.td_tree.specs.Numbers.{decimal_value}
 use Rattle.td_tree.specs.Pieces.{kind_of}

@@ -58,6 +58,23 @@ Expects after (Ok x) new = after ≡ Some new
 Expects after (Err (faults.Refused cause)) new = (after ≡ None) × (cause ≡ causes.Syntax)
 Expects after (Err faults.Memory) new = ⊥
 
+-- what was read is kept where the word that has to follow was taken
+abbrev pub Keeps : {X : Type 0} → X → Option (List Lexeme) → Result X Fault → List Lexeme → Type 0
+Keeps item after (Ok x) new = (after ≡ Some new) × (x ≡ item)
+Keeps item after (Err (faults.Refused cause)) new = (after ≡ None) × (cause ≡ causes.Syntax)
+Keeps item after (Err faults.Memory) new = ⊥
+
+-- what was read is kept where the test is passed
+abbrev pub Fits : {X : Type 0} → X → Bool → Result X Fault → Type 0
+Fits item test (Ok x) = (test ≡ true) × (x ≡ item)
+Fits item test (Err (faults.Refused cause)) = (test ≡ false) × (cause ≡ causes.Syntax)
+Fits item test (Err faults.Memory) = ⊥
+
+-- what was read is kept with what was read next
+abbrev pub Both : {X Y : Type 0} → X → Result Y Fault → Result (X × Y) Fault → Type 0
+Both first next (Ok x) = (next ≡ Ok x.1) × (x.0 ≡ first)
+Both first next (Err fault) = next ≡ Err fault
+
 -- what was found is what reading gives, and the rest is left
 abbrev pub Finds : {X : Type 0} → Option X → List Lexeme → ReadOf X → Type 0
 Finds (Some x) new read = read ≡ Some (x, new)

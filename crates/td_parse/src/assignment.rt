@@ -10,7 +10,7 @@ use crate::cursor::{Cursor, SYNTAX};
 use crate::grammar::MAX_HEIGHT;
 use crate::levels;
 use crate::names::name;
-use crate::word::name_of;
+use crate::steps::{both, closed};
 use std::alloc::Global;
 use td_tree::expression::{Expr, NamedExpr};
 use td_tree::fault::Fault;
@@ -81,8 +81,7 @@ fn enclosed_settings(alloc: Global, tokens: &mut Cursor<'_, '_>) -> Result<Vec<N
 {
     tokens.expect_sign(Sign::OpenParenthesis)?;
     let settings = settings(alloc, tokens)?;
-    tokens.expect_sign(Sign::CloseParenthesis)?;
-    Ok(settings)
+    closed(settings, Sign::CloseParenthesis, tokens)
 }
 
 /// `name e`, after `INSERT`
@@ -112,7 +111,7 @@ fn changing(alloc: Global, tokens: &mut Cursor<'_, '_>) -> Result<Assignment, Fa
 {
     let target = name(alloc, tokens)?;
     let condition = condition(alloc, tokens)?;
-    let settings = enclosed_settings(alloc, tokens)?;
+    let (condition, settings) = both(condition, enclosed_settings(alloc, tokens))?;
     Ok(Assignment::Update(target, condition, settings))
 }
 
@@ -123,7 +122,7 @@ fn assignment(alloc: Global, tokens: &mut Cursor<'_, '_>) -> Result<Assignment, 
 {
     match tokens.take() {
         Some((Kind::Name, text)) => {
-            let target = name_of(alloc, text)?;
+            let target = tokens.name_of(alloc, text)?;
             Ok(Assignment::Assign(target, source(alloc, tokens)?))
         }
         Some((Kind::Reserved(Keyword::Insert), _)) => insertion(alloc, tokens),

@@ -1,17 +1,21 @@
 //! The tokens that are left to read.
-ghost use Rattle.std.specs.Prelude.{◌≡◌, Some, suc, length, IfSome, eqb, option_map};
-ghost use Rattle.td_parse.specs.Parsing.{Eats, Expects, Finds, Moves, Takes, TakesWord, Tries};
+ghost use Rattle.std.specs.Prelude.{◌≡◌, Some, suc, length, IfOk, IfSome, eqb, option_map};
+ghost use Rattle.td_parse.specs.Parsing.{Eats, Expects, Takes, TakesWord};
 ghost use Rattle.td_tree.specs.Lexemes as lexeme;
 ghost use Rattle.td_tree.specs.Pieces.{kind_of};
 ghost use Rattle.td_tree.specs.ReadingSteps.{expect};
 ghost use Rattle.td_tree.specs.Symbols.{symbols};
 ghost use Rattle.td_tree.specs.TokenLexemes.{lexemes};
 
+use crate::ahead::Ahead;
+use crate::met::MetNames;
+use std::alloc::{AllocError, Global};
 use std::marker::Model;
 use td_scan::token::Token;
 use td_tree::cause::Cause;
 use td_tree::fault::Fault;
 use td_tree::keyword::Keyword;
+use td_tree::name::Name;
 use td_tree::token::{Kind, Sign};
 
 /// What is answered where the grammar spells nothing.
@@ -20,91 +24,81 @@ pub const SYNTAX: Fault = Fault::Refused(Cause::Syntax);
 /// The tokens that are left, seen as their lexemes.
 #[derive(Drop)]
 pub struct Cursor<'a, 't> {
-    rest: &'a [Token<'t>],
+    left: Ahead<'a, 't>,
+    names: MetNames,
+    /// How many parts the tuple that was read last has.
+    parts: usize,
 }
 
 impl<'a, 't> Model for Cursor<'a, 't> {
     ghost use Rattle.std.specs.Prelude.{List};
     ghost use Rattle.td_tree.specs.Lexemes.{Lexeme};
-    ghost use Rattle.td_tree.specs.TokenLexemes.{lexemes};
 
     ghost Value = { List Lexeme };
 
-    ghost view = { λ c. lexemes c.rest.now };
+    ghost view = { λ c. c.left };
 }
 
 impl<'a, 't> Cursor<'a, 't> {
     /// All of these tokens.
-    pub fn new(tokens: &'a [Token<'t>]) -> Cursor<'a, 't>
+    pub fn new(alloc: Global, tokens: &'a [Token<'t>]) -> Cursor<'a, 't>
         ensures { result ≡ lexemes tokens.now }
     {
-        Cursor { rest: tokens }
+        Cursor {
+            left: Ahead::new(tokens),
+            names: MetNames::new(alloc),
+            parts: 0,
+        }
     }
 
     /// Whether none is left.
     pub fn is_empty(&self) -> bool
         ensures { result ≡ eqb (length self.now) 0 }
     {
-        self.rest.is_empty()
+        self.left.is_empty()
     }
 
     /// One more than there are tokens left.
     pub fn turns(&self) -> usize
         ensures { result ≡ suc (length self.now) }
     {
-        self.rest.len() + 1
+        self.left.turns()
     }
 
     /// The same tokens, to look ahead.
-    pub fn ahead(&self) -> Cursor<'a, 't>
+    pub fn ahead(&self) -> Ahead<'a, 't>
         ensures { result ≡ self.now }
     {
-        Cursor { rest: self.rest }
+        self.left.again()
+    }
+
+    /// Goes to where looking ahead has come.
+    pub fn go_to(&mut self, place: Ahead<'a, 't>)
+        ensures { self.new ≡ place.entry }
+    {
+        self.left = place;
     }
 
     /// Takes the next token: what it is, and its bytes.
-    #[tactic(auto, using(crate::proofs::Seen::seen))]
     pub fn take(&mut self) -> Option<(Kind, &'t [u8])>
         ensures taken { Takes self.old (option_map (λ t. (t.0, t.1.now)) result) self.new }
         ensures said { IfSome result (λ t. kind_of (symbols t.1.now) ≡ Some t.0) }
     {
-        match self.rest {
-            [token, rest @ ..] => {
-                self.rest = rest;
-                Some((token.kind(), token.text()))
-            }
-            [] => None,
-        }
+        self.left.take()
     }
 
     /// Takes this sign, if it comes next.
-    #[tactic(auto, unfolding(td_tree::specs::ReadingSteps::expect))]
     pub fn sign(&mut self, sign: Sign) -> bool
         ensures { Eats (expect (lexeme.sign sign) self.old) result self.old self.new }
     {
-        let mut ahead = self.ahead();
-        match ahead.take() {
-            Some((Kind::Sign(found), _)) if found == sign => {
-                *self = ahead;
-                true
-            }
-            _ => false,
-        }
+        self.left.sign(sign)
     }
 
     /// Takes this reserved word, if it comes next.
-    #[tactic(auto, unfolding(td_tree::specs::ReadingSteps::expect))]
     pub fn keyword(&mut self, word: Keyword) -> bool
         ensures { Eats (expect (lexeme.keyword word) self.old) result self.old self.new }
     {
-        let mut ahead = self.ahead();
-        match ahead.take() {
-            Some((Kind::Reserved(found), _)) if found == word => {
-                *self = ahead;
-                true
-            }
-            _ => false,
-        }
+        self.left.keyword(word)
     }
 
     /// Takes this sign.
@@ -132,10 +126,31 @@ impl<'a, 't> Cursor<'a, 't> {
         let mut ahead = self.ahead();
         match ahead.take() {
             Some((Kind::Reserved(word), _)) => {
-                *self = ahead;
+                self.go_to(ahead);
                 Some(word)
             }
             _ => None,
         }
+    }
+
+    /// The name that a token with these bytes is. One text stands for all places of a name.
+    pub fn name_of(&mut self, alloc: Global, text: &[u8]) -> Result<Name, AllocError>
+        requires { kind_of (symbols text.now) ≡ Some Kind.Name }
+        ensures name { IfOk result (λ n. n ≡ text.now) }
+        ensures stays { self.new ≡ self.old }
+    {
+        self.names.name_of(alloc, text)
+    }
+
+    /// How many parts a tuple may have that comes next, by the one before.
+    pub fn parts(&self) -> usize {
+        self.parts
+    }
+
+    /// Keeps how many parts a tuple has.
+    pub fn keep_parts(&mut self, count: usize)
+        ensures { self.new ≡ self.old }
+    {
+        self.parts = count;
     }
 }

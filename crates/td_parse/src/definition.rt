@@ -10,6 +10,7 @@ use crate::assignment::expression;
 use crate::cursor::{Cursor, SYNTAX};
 use crate::grammar::MAX_HEIGHT;
 use crate::names::{name, names};
+use crate::steps::{both, closed};
 use crate::types::{attributes, relation_heading};
 use std::alloc::Global;
 use td_tree::expression::Expr;
@@ -37,8 +38,7 @@ fn enclosed_expression(alloc: Global, tokens: &mut Cursor<'_, '_>) -> Result<Exp
 {
     tokens.expect_sign(Sign::OpenParenthesis)?;
     let found = expression(alloc, tokens)?;
-    tokens.expect_sign(Sign::CloseParenthesis)?;
-    Ok(found)
+    closed(found, Sign::CloseParenthesis, tokens)
 }
 
 /// `[INIT '(' e ')']`
@@ -91,8 +91,7 @@ pub fn type_definition(alloc: Global, tokens: &mut Cursor<'_, '_>) -> Result<Sta
     tokens.expect_keyword(Keyword::Possrep)?;
     tokens.expect_sign(Sign::OpenBrace)?;
     let definition = components(alloc, name, tokens)?;
-    tokens.expect_sign(Sign::CloseBrace)?;
-    Ok(definition)
+    closed(definition, Sign::CloseBrace, tokens)
 }
 
 /// `RELATION heading [INIT '(' e ')'] (KEY names)*`, of the relvar with this name
@@ -106,8 +105,8 @@ fn base_definition(
 {
     tokens.expect_keyword(Keyword::Relation)?;
     let heading = relation_heading(alloc, MAX_HEIGHT, tokens)?;
-    let init = init(alloc, tokens)?;
-    let keys = keys(alloc, tokens)?;
+    let parts = both(heading, init(alloc, tokens))?;
+    let ((heading, init), keys) = both(parts, keys(alloc, tokens))?;
     Ok(Statement::DefineBase(BaseDefinition {
         name,
         heading,
@@ -126,7 +125,7 @@ fn virtual_definition(
     ensures { Moves statement_of result tokens.new (reading.virtual_definition name tokens.old) }
 {
     let expression = enclosed_expression(alloc, tokens)?;
-    let keys = keys(alloc, tokens)?;
+    let (expression, keys) = both(expression, keys(alloc, tokens))?;
     Ok(Statement::DefineVirtual(VirtualDefinition {
         name,
         expression,

@@ -1,13 +1,14 @@
 //! The rules that hold expressions take the parser of those as a parameter, so that each is proved by itself.
 ghost use Rattle.std.specs.Prelude.{◌≡◌, suc, nat_le};
 ghost use Rattle.td_parse.specs.Nests.{Nests};
-ghost use Rattle.td_parse.specs.Parsing.{Moves};
+ghost use Rattle.td_parse.specs.Parsing.{Fits, Moves};
 ghost use Rattle.td_tree.specs.Heights.{height};
 ghost use Rattle.td_tree.specs.Reading.{read};
 ghost use Rattle.td_tree.specs.TreeViews.{tree_of};
 
 use crate::cursor::Cursor;
 use crate::found::Found;
+use crate::steps::kept;
 use std::alloc::Global;
 use td_tree::fault::Fault;
 use td_tree::operator::Level;
@@ -43,9 +44,17 @@ impl<F: Fn(Global, u8, Level, &mut Cursor<'_, '_>) -> Result<Found, Fault>> Gram
     }
 
     /// Whether an expression is low enough.
-    pub fn fits(&self, found: &Found) -> bool
+    fn fits(&self, found: &Found) -> bool
         ensures { result ≡ nat_le (height (tree_of found.now)) (suc self.now.depth) }
     {
         found.fits(u64::from(self.depth) + 1)
+    }
+
+    /// An expression, if it is low enough.
+    pub fn low(&self, found: Found) -> Result<Found, Fault>
+        ensures { Fits found (nat_le (height (tree_of found)) (suc self.now.depth)) result }
+    {
+        let fits = self.fits(&found);
+        kept(found, fits)
     }
 }

@@ -11,6 +11,7 @@ use crate::found::Found;
 use crate::grammar::Grammar;
 use crate::operators::{comparison, extraction, operator, prefix, tighter};
 use crate::postfix::{begins_postfix, postfix};
+use crate::steps::{both, kept};
 use std::alloc::Global;
 use td_tree::fault::Fault;
 use td_tree::keyword::Keyword;
@@ -28,13 +29,11 @@ impl<F: Fn(Global, u8, Level, &mut Cursor<'_, '_>) -> Result<Found, Fault>> Gram
             if !begins_postfix(tokens) {
                 return Ok(left);
             }
-            let op = postfix(self.alloc, tokens)?;
-            left = Found::postfix(self.alloc, left, op)?;
-            if !self.fits(&left) {
-                return Err(SYNTAX);
-            }
+            let op = postfix(self.alloc, tokens);
+            let (operand, op) = both(left, op)?;
+            left = self.low(Found::postfix(self.alloc, operand, op)?)?;
         }
-        Err(SYNTAX)
+        kept(left, false)
     }
 
     /// A primary expression with what stands behind it.
@@ -90,13 +89,11 @@ impl<F: Fn(Global, u8, Level, &mut Cursor<'_, '_>) -> Result<Found, Fault>> Gram
             let Some(op) = operator(level, tokens) else {
                 return Ok(left);
             };
-            let right = self.inner(tighter(level), tokens)?;
-            left = Found::binary(self.alloc, left, op, right)?;
-            if !self.fits(&left) {
-                return Err(SYNTAX);
-            }
+            let right = self.inner(tighter(level), tokens);
+            let (operand, right) = both(left, right)?;
+            left = self.low(Found::binary(self.alloc, operand, op, right)?)?;
         }
-        Err(SYNTAX)
+        kept(left, false)
     }
 
     /// Operands with `*` and `/`.
@@ -139,13 +136,9 @@ impl<F: Fn(Global, u8, Level, &mut Cursor<'_, '_>) -> Result<Found, Fault>> Gram
         let Some(op) = comparison(tokens) else {
             return Ok(left);
         };
-        let right = self.inner(Level::Relational, tokens)?;
-        let whole = Found::compare(self.alloc, left, op, right)?;
-        if self.fits(&whole) {
-            Ok(whole)
-        } else {
-            Err(SYNTAX)
-        }
+        let right = self.inner(Level::Relational, tokens);
+        let (left, right) = both(left, right)?;
+        self.low(Found::compare(self.alloc, left, op, right)?)
     }
 
     /// A comparison with `NOT` before it, or without.

@@ -1,6 +1,7 @@
 //! The statement that tokens spell.
 #![tactic(auto)]
 
+mod ahead;
 mod assignment;
 mod cursor;
 mod definition;
@@ -8,12 +9,14 @@ mod found;
 mod grammar;
 mod levels;
 mod lists;
+mod met;
 mod names;
 mod operators;
 mod parts;
 mod postfix;
 mod primary;
 pub mod statement;
+mod steps;
 mod summarize;
 #[cfg(test)]
 mod tests;

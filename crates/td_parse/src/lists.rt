@@ -14,6 +14,7 @@ use crate::found::Found;
 use crate::grammar::Grammar;
 use crate::names::{alias, name};
 use crate::parts::{Elements, NamedParts};
+use crate::steps::{both, closed};
 use std::alloc::Global;
 use td_tree::fault::Fault;
 use td_tree::name::Name;
@@ -48,8 +49,7 @@ impl<F: Fn(Global, u8, Level, &mut Cursor<'_, '_>) -> Result<Found, Fault>> Gram
             return Ok(Elements::new(self.alloc));
         }
         let items = self.elements(tokens)?;
-        tokens.expect_sign(close)?;
-        Ok(items)
+        closed(items, close, tokens)
     }
 
     /// `name e`
@@ -69,12 +69,13 @@ impl<F: Fn(Global, u8, Level, &mut Cursor<'_, '_>) -> Result<Found, Fault>> Gram
         requires { Nests self.now.depth (F.pre self.now.inner) (F.post self.now.inner) }
         ensures { Moves (map named_part_of) result tokens.new (separated (reading.part (read self.now.depth) self.now.depth) tokens.old) }
     {
-        let mut items = NamedParts::new(self.alloc);
+        let mut items = NamedParts::with_room(self.alloc, tokens.parts())?;
         let limit = tokens.turns();
         for _turn in 0..limit {
             let (name, value) = self.part(tokens)?;
             items.push(name, value)?;
             if !tokens.sign(Sign::Comma) {
+                tokens.keep_parts(items.count());
                 return Ok(items);
             }
         }
@@ -91,8 +92,7 @@ impl<F: Fn(Global, u8, Level, &mut Cursor<'_, '_>) -> Result<Found, Fault>> Gram
             return Ok(NamedParts::new(self.alloc));
         }
         let items = self.parts(tokens)?;
-        tokens.expect_sign(Sign::CloseBrace)?;
-        Ok(items)
+        closed(items, Sign::CloseBrace, tokens)
     }
 
     /// `e AS name`
@@ -102,7 +102,7 @@ impl<F: Fn(Global, u8, Level, &mut Cursor<'_, '_>) -> Result<Found, Fault>> Gram
         ensures { Moves (λ x. (x.0, tree_of x.1)) result tokens.new (reading.addition (read self.now.depth) self.now.depth tokens.old) }
     {
         let value = self.expression(tokens)?;
-        let name = alias(self.alloc, tokens)?;
+        let (value, name) = both(value, alias(self.alloc, tokens))?;
         Ok((name, value))
     }
 
@@ -132,7 +132,6 @@ impl<F: Fn(Global, u8, Level, &mut Cursor<'_, '_>) -> Result<Found, Fault>> Gram
     {
         tokens.expect_sign(Sign::OpenParenthesis)?;
         let items = self.additions(tokens)?;
-        tokens.expect_sign(Sign::CloseParenthesis)?;
-        Ok(items)
+        closed(items, Sign::CloseParenthesis, tokens)
     }
 }

@@ -6,7 +6,7 @@ ghost use Rattle.td_tree.specs.ReadingSteps.{read_name, separated};
 ghost use Rattle.td_tree.specs.TreeViews.{attributes_of, renaming_of};
 
 use crate::cursor::{Cursor, SYNTAX};
-use crate::word::name_of;
+use crate::steps::closed;
 use std::alloc::Global;
 use td_tree::expression::{Attributes, Renaming};
 use td_tree::fault::Fault;
@@ -20,7 +20,7 @@ pub fn name(alloc: Global, tokens: &mut Cursor<'_, '_>) -> Result<Name, Fault>
     ensures { Moves (λ n. n) result tokens.new (read_name tokens.old) }
 {
     match tokens.take() {
-        Some((Kind::Name, text)) => Ok(name_of(alloc, text)?),
+        Some((Kind::Name, text)) => Ok(tokens.name_of(alloc, text)?),
         _ => Err(SYNTAX),
     }
 }
@@ -59,8 +59,7 @@ fn names_to_brace(alloc: Global, tokens: &mut Cursor<'_, '_>) -> Result<Vec<Name
         return Ok(Vec::new(alloc));
     }
     let items = some_names(alloc, tokens)?;
-    tokens.expect_sign(Sign::CloseBrace)?;
-    Ok(items)
+    closed(items, Sign::CloseBrace, tokens)
 }
 
 /// `'{' name,* '}'`

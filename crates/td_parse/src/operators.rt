@@ -4,8 +4,8 @@ ghost use Rattle.td_parse.specs.Parsing.{Eats, Finds, Tries};
 ghost use Rattle.td_tree.specs.Grammar as grammar;
 ghost use Rattle.td_tree.specs.ReadingOperators as reading;
 
+use crate::ahead::Ahead;
 use crate::cursor::Cursor;
-use crate::word::name_of;
 use std::alloc::{AllocError, Global};
 use td_tree::keyword::Keyword;
 use td_tree::name::Name;
@@ -85,7 +85,7 @@ pub fn tighter(level: Level) -> Level
 }
 
 /// Takes an operator, at whatever level.
-fn any_operator(tokens: &mut Cursor<'_, '_>) -> Option<Operator>
+fn any_operator(tokens: &mut Ahead<'_, '_>) -> Option<Operator>
     ensures { Finds result tokens.new (reading.any_operator tokens.old) }
 {
     match tokens.take()? {
@@ -112,7 +112,7 @@ pub fn operator(level: Level, tokens: &mut Cursor<'_, '_>) -> Option<Operator>
     if level_of(op) != level {
         return None;
     }
-    *tokens = ahead;
+    tokens.go_to(ahead);
     Some(op)
 }
 
@@ -150,22 +150,22 @@ pub fn comparison(tokens: &mut Cursor<'_, '_>) -> Option<Comparison>
         (Kind::Sign(sign), _) => comparison_of_sign(sign),
         _ => None,
     }?;
-    *tokens = ahead;
+    tokens.go_to(ahead);
     Some(op)
 }
 
 // ---- before an operand
 
 /// Whether a number comes next.
-fn begins_with_number(tokens: &Cursor<'_, '_>) -> bool
+fn begins_with_number(tokens: &Ahead<'_, '_>) -> bool
     ensures { result ≡ reading.begins_with_number tokens.now }
 {
-    matches!(tokens.ahead().take(), Some((Kind::Number, _)))
+    matches!(tokens.again().take(), Some((Kind::Number, _)))
 }
 
 /// Takes an operator that stands before its operand.
 #[tactic(auto, unfolding(td_tree::specs::ReadingOperators::prefix_at))]
-fn any_prefix(tokens: &mut Cursor<'_, '_>) -> Option<Prefix>
+fn any_prefix(tokens: &mut Ahead<'_, '_>) -> Option<Prefix>
     ensures { Finds result tokens.new (reading.prefix_at tokens.old) }
 {
     match tokens.take()? {
@@ -184,7 +184,7 @@ pub fn prefix(tokens: &mut Cursor<'_, '_>) -> Option<Prefix>
 {
     let mut ahead = tokens.ahead();
     let op = any_prefix(&mut ahead)?;
-    *tokens = ahead;
+    tokens.go_to(ahead);
     Some(op)
 }
 
@@ -200,17 +200,17 @@ pub fn extraction(alloc: Global, tokens: &mut Cursor<'_, '_>) -> Result<Option<N
     if !ahead.keyword(Keyword::From) {
         return Ok(None);
     }
-    *tokens = ahead;
-    Ok(Some(name_of(alloc, text)?))
+    tokens.go_to(ahead);
+    Ok(Some(tokens.name_of(alloc, text)?))
 }
 
 // ---- after a first word
 
 /// Whether a name and `:=` come next.
-fn begins_setting(tokens: &Cursor<'_, '_>) -> bool
+fn begins_setting(tokens: &Ahead<'_, '_>) -> bool
     ensures { result ≡ reading.name_and reading.is_assign tokens.now }
 {
-    let mut ahead = tokens.ahead();
+    let mut ahead = tokens.again();
     let Some((Kind::Name, _)) = ahead.take() else {
         return false;
     };
@@ -226,15 +226,15 @@ pub fn call(tokens: &mut Cursor<'_, '_>) -> bool
     if !ahead.sign(Sign::OpenParenthesis) || begins_setting(&ahead) {
         return false;
     }
-    *tokens = ahead;
+    tokens.go_to(ahead);
     true
 }
 
 /// Whether a name and what begins a type come next.
-fn begins_attribute(tokens: &Cursor<'_, '_>) -> bool
+fn begins_attribute(tokens: &Ahead<'_, '_>) -> bool
     ensures { result ≡ reading.name_and reading.begins_type tokens.now }
 {
-    let mut ahead = tokens.ahead();
+    let mut ahead = tokens.again();
     let Some((Kind::Name, _)) = ahead.take() else {
         return false;
     };

@@ -1,5 +1,5 @@
 //! Lists of expressions that were read, each with the height of its highest.
-ghost use Rattle.std.specs.Prelude.{◌≡◌, ◌∷◌, ◌++◌, [], OnOk};
+ghost use Rattle.std.specs.Prelude.{◌≡◌, ◌∷◌, ◌++◌, [], length, IfOk, OnOk};
 ghost use Rattle.td_parse.specs.FoundSummaries.{summary_of};
 
 use crate::found::Found;
@@ -89,6 +89,23 @@ impl NamedParts {
             items: Vec::new(alloc),
             height: 0,
         }
+    }
+
+    /// None, with room for so many.
+    pub fn with_room(alloc: Global, count: usize) -> Result<NamedParts, AllocError>
+        ensures { IfOk result (λ parts. parts ≡ []) }
+    {
+        Ok(NamedParts {
+            items: Vec::with_capacity(alloc, count)?,
+            height: 0,
+        })
+    }
+
+    /// How many there are.
+    pub fn count(&self) -> usize
+        ensures { result ≡ length self.now }
+    {
+        self.items.len()
     }
 
     /// One more, behind the others.

@@ -8,6 +8,7 @@ ghost use Rattle.td_tree.specs.TreeViews.{attributes_of, postfix_of, renaming_of
 
 use crate::cursor::{Cursor, SYNTAX};
 use crate::names::{alias, attributes, name, renamings};
+use crate::steps::{both, closed};
 use std::alloc::Global;
 use td_tree::expression::{Attributes, Postfix, Renaming};
 use td_tree::fault::Fault;
@@ -37,8 +38,7 @@ fn enclosed_name(alloc: Global, tokens: &mut Cursor<'_, '_>) -> Result<Name, Fau
 {
     tokens.expect_sign(Sign::OpenParenthesis)?;
     let name = name(alloc, tokens)?;
-    tokens.expect_sign(Sign::CloseParenthesis)?;
-    Ok(name)
+    closed(name, Sign::CloseParenthesis, tokens)
 }
 
 /// `'(' (name AS name),+ ')'`
@@ -48,8 +48,7 @@ fn enclosed_renamings(alloc: Global, tokens: &mut Cursor<'_, '_>) -> Result<Vec<
 {
     tokens.expect_sign(Sign::OpenParenthesis)?;
     let renamings = renamings(alloc, tokens)?;
-    tokens.expect_sign(Sign::CloseParenthesis)?;
-    Ok(renamings)
+    closed(renamings, Sign::CloseParenthesis, tokens)
 }
 
 /// `'(' attrs AS name ')'`
@@ -62,9 +61,8 @@ fn enclosed_attributes(
 {
     tokens.expect_sign(Sign::OpenParenthesis)?;
     let attributes = attributes(alloc, tokens)?;
-    let name = alias(alloc, tokens)?;
-    tokens.expect_sign(Sign::CloseParenthesis)?;
-    Ok((attributes, name))
+    let named = both(attributes, alias(alloc, tokens))?;
+    closed(named, Sign::CloseParenthesis, tokens)
 }
 
 /// An operator that begins with this word, after it.

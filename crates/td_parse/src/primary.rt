@@ -17,8 +17,9 @@ use crate::cursor::{Cursor, SYNTAX};
 use crate::found::Found;
 use crate::grammar::Grammar;
 use crate::operators::{begins_heading, call};
+use crate::steps::{both, closed, ended};
 use crate::types::relation_heading;
-use crate::word::{MAX_MAGNITUDE, component_of, name_of, number_of, text_of};
+use crate::word::{MAX_MAGNITUDE, component_of, number_of, text_of};
 use std::alloc::Global;
 use std::rc::RcStr;
 use td_tree::expression::Literal;
@@ -54,13 +55,12 @@ fn negative(tokens: &mut Cursor<'_, '_>) -> Result<Found, Fault>
 impl<F: Fn(Global, u8, Level, &mut Cursor<'_, '_>) -> Result<Found, Fault>> Grammar<F> {
     /// `e` and the sign that closes it.
     #[tactic(auto, unfolding(td_tree::specs::ReadingSteps::up_to))]
-    fn up_to_sign(&self, close: Sign, tokens: &mut Cursor<'_, '_>) -> Result<Found, Fault>
+    pub fn up_to_sign(&self, close: Sign, tokens: &mut Cursor<'_, '_>) -> Result<Found, Fault>
         requires { Nests self.now.depth (F.pre self.now.inner) (F.post self.now.inner) }
         ensures { Moves tree_of result tokens.new (up_to (lexeme.sign close) (read self.now.depth Level.Restriction) tokens.old) }
     {
         let found = self.expression(tokens)?;
-        tokens.expect_sign(close)?;
-        Ok(found)
+        closed(found, close, tokens)
     }
 
     /// `e` and the word that closes it.
@@ -70,8 +70,7 @@ impl<F: Fn(Global, u8, Level, &mut Cursor<'_, '_>) -> Result<Found, Fault>> Gram
         ensures { Moves tree_of result tokens.new (up_to (lexeme.keyword close) (read self.now.depth Level.Restriction) tokens.old) }
     {
         let found = self.expression(tokens)?;
-        tokens.expect_keyword(close)?;
-        Ok(found)
+        ended(found, close, tokens)
     }
 
     /// After a name: it stands alone, or selects a value of a type.
@@ -126,7 +125,8 @@ impl<F: Fn(Global, u8, Level, &mut Cursor<'_, '_>) -> Result<Found, Fault>> Gram
     {
         tokens.expect_sign(Sign::OpenParenthesis)?;
         let operand = self.up_to_sign(Sign::Comma, tokens)?;
-        let value = self.up_to_sign(Sign::CloseParenthesis, tokens)?;
+        let value = self.up_to_sign(Sign::CloseParenthesis, tokens);
+        let (operand, value) = both(operand, value)?;
         Ok(Found::aggregate(self.alloc, op, operand, value)?)
     }
 
@@ -150,7 +150,7 @@ impl<F: Fn(Global, u8, Level, &mut Cursor<'_, '_>) -> Result<Found, Fault>> Gram
     {
         tokens.expect_sign(Sign::OpenBrace)?;
         let elements = self.elements(tokens)?;
-        tokens.expect_sign(Sign::CloseBrace)?;
+        let elements = closed(elements, Sign::CloseBrace, tokens)?;
         Ok(Found::relation(elements))
     }
 
@@ -184,7 +184,7 @@ impl<F: Fn(Global, u8, Level, &mut Cursor<'_, '_>) -> Result<Found, Fault>> Gram
         ensures { Moves tree_of result tokens.new (reading.extension (read self.now.depth) self.now.depth tokens.old) }
     {
         let operand = self.up_to_word(Keyword::Add, tokens)?;
-        let additions = self.enclosed_additions(tokens)?;
+        let (operand, additions) = both(operand, self.enclosed_additions(tokens))?;
         Ok(Found::extend(self.alloc, operand, additions)?)
     }
 
@@ -195,9 +195,10 @@ impl<F: Fn(Global, u8, Level, &mut Cursor<'_, '_>) -> Result<Found, Fault>> Gram
         ensures { Moves tree_of result tokens.new (reading.choice (read self.now.depth) self.now.depth tokens.old) }
     {
         let condition = self.up_to_word(Keyword::Then, tokens)?;
-        let consequent = self.up_to_word(Keyword::Else, tokens)?;
-        let alternative = self.up_to_word(Keyword::End, tokens)?;
-        tokens.expect_keyword(Keyword::If)?;
+        let consequent = self.up_to_word(Keyword::Else, tokens);
+        let parts = both(condition, consequent)?;
+        let parts = both(parts, self.up_to_word(Keyword::End, tokens))?;
+        let ((condition, consequent), alternative) = ended(parts, Keyword::If, tokens)?;
         Ok(Found::choice(self.alloc, condition, consequent, alternative)?)
     }
 
@@ -239,7 +240,7 @@ impl<F: Fn(Global, u8, Level, &mut Cursor<'_, '_>) -> Result<Found, Fault>> Gram
             Kind::Reserved(word) => self.primary_of_word(word, tokens),
             Kind::Sign(Sign::OpenParenthesis) => self.parenthesized(tokens),
             Kind::Sign(Sign::Minus) => negative(tokens),
-            Kind::Name => self.named(name_of(self.alloc, text)?, tokens),
+            Kind::Name => self.named(tokens.name_of(self.alloc, text)?, tokens),
             Kind::Component => self.component(component_of(self.alloc, text)?, tokens),
             Kind::Number => numeral(false, text).ok_or(SYNTAX),
             Kind::Text => Ok(Found::literal(Literal::Text(text_of(self.alloc, text)?))),

@@ -7,8 +7,9 @@ ghost use Rattle.td_tree.specs.TokenLexemes.{lexemes};
 ghost use Rattle.td_tree.specs.TreeViews.{statement_of};
 
 use crate::assignment::{assignments, expression};
-use crate::cursor::{Cursor, SYNTAX};
+use crate::cursor::Cursor;
 use crate::definition::{constraint_definition, drop, type_definition, variable};
+use crate::steps::{closed, kept};
 use std::alloc::Global;
 use td_scan::token::Token;
 use td_tree::cause::Cause;
@@ -43,7 +44,7 @@ fn body(alloc: Global, tokens: &mut Cursor<'_, '_>) -> Result<Statement, Fault>
         Some(Keyword::Write) => Ok(Statement::Write(expression(alloc, tokens)?)),
         Some(Keyword::Dump) => Ok(Statement::Dump),
         _ => {
-            *tokens = before;
+            tokens.go_to(before);
             assignments(alloc, tokens)
         }
     }
@@ -65,14 +66,10 @@ fn body_or_none(alloc: Global, tokens: &mut Cursor<'_, '_>) -> Result<Statement,
 fn whole(alloc: Global, tokens: &[Token<'_>]) -> Result<Statement, Fault>
     ensures { Gives statement_of result (read_statement (lexemes tokens.now)) }
 {
-    let mut tokens = Cursor::new(tokens);
+    let mut tokens = Cursor::new(alloc, tokens);
     let statement = body_or_none(alloc, &mut tokens)?;
-    tokens.expect_sign(Sign::Semicolon)?;
-    if tokens.is_empty() {
-        Ok(statement)
-    } else {
-        Err(SYNTAX)
-    }
+    let statement = closed(statement, Sign::Semicolon, &mut tokens)?;
+    kept(statement, tokens.is_empty())
 }
 
 /// Whether a token of this kind is bad.

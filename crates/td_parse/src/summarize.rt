@@ -14,6 +14,7 @@ use crate::found::Found;
 use crate::grammar::Grammar;
 use crate::names::{alias, attributes};
 use crate::parts::{FoundSummary, Summaries};
+use crate::steps::{both, closed, ended};
 use std::alloc::Global;
 use td_tree::fault::Fault;
 use td_tree::keyword::Keyword;
@@ -32,15 +33,13 @@ fn count_summary(alloc: Global, tokens: &mut Cursor<'_, '_>) -> Result<FoundSumm
 
 impl<F: Fn(Global, u8, Level, &mut Cursor<'_, '_>) -> Result<Found, Fault>> Grammar<F> {
     /// `'(' e ')'`
-    #[tactic(auto, unfolding(td_tree::specs::ReadingSteps::enclosed, td_tree::specs::ReadingSteps::up_to))]
+    #[tactic(auto, unfolding(td_tree::specs::ReadingSteps::enclosed))]
     pub fn enclosed_expression(&self, tokens: &mut Cursor<'_, '_>) -> Result<Found, Fault>
         requires { Nests self.now.depth (F.pre self.now.inner) (F.post self.now.inner) }
         ensures { Moves tree_of result tokens.new (enclosed (read self.now.depth Level.Restriction) tokens.old) }
     {
         tokens.expect_sign(Sign::OpenParenthesis)?;
-        let found = self.expression(tokens)?;
-        tokens.expect_sign(Sign::CloseParenthesis)?;
-        Ok(found)
+        self.up_to_sign(Sign::CloseParenthesis, tokens)
     }
 
     /// `'(' e ')' AS name`, after `SUM`, `MAX` or `MIN`
@@ -50,7 +49,7 @@ impl<F: Fn(Global, u8, Level, &mut Cursor<'_, '_>) -> Result<Found, Fault>> Gram
         ensures { Moves (λ s. item_of (summary_of s)) result tokens.new (reading.sum_summary (read self.now.depth) self.now.depth op tokens.old) }
     {
         let value = self.enclosed_expression(tokens)?;
-        let name = alias(self.alloc, tokens)?;
+        let (value, name) = both(value, alias(self.alloc, tokens))?;
         Ok(FoundSummary::Of(op, value, name))
     }
 
@@ -111,8 +110,7 @@ impl<F: Fn(Global, u8, Level, &mut Cursor<'_, '_>) -> Result<Found, Fault>> Gram
         tokens.expect_keyword(Keyword::Add)?;
         tokens.expect_sign(Sign::OpenParenthesis)?;
         let items = self.some_summaries(tokens)?;
-        tokens.expect_sign(Sign::CloseParenthesis)?;
-        Ok(items)
+        closed(items, Sign::CloseParenthesis, tokens)
     }
 
     /// `'(' e ')' ADD '(' item,+ ')'`, after `SUMMARIZE e PER`
@@ -121,8 +119,9 @@ impl<F: Fn(Global, u8, Level, &mut Cursor<'_, '_>) -> Result<Found, Fault>> Gram
         requires { Nests self.now.depth (F.pre self.now.inner) (F.post self.now.inner) }
         ensures { Moves tree_of result tokens.new (reading.summary_per (read self.now.depth) self.now.depth (tree_of operand) tokens.old) }
     {
-        let per = self.enclosed_expression(tokens)?;
-        let items = self.summaries(tokens)?;
+        let per = self.enclosed_expression(tokens);
+        let operands = both(operand, per)?;
+        let ((operand, per), items) = both(operands, self.summaries(tokens))?;
         Ok(Found::summarize_per(self.alloc, operand, per, items)?)
     }
 
@@ -132,8 +131,8 @@ impl<F: Fn(Global, u8, Level, &mut Cursor<'_, '_>) -> Result<Found, Fault>> Gram
         requires { Nests self.now.depth (F.pre self.now.inner) (F.post self.now.inner) }
         ensures { Moves tree_of result tokens.new (reading.summary_by (read self.now.depth) self.now.depth (tree_of operand) tokens.old) }
     {
-        let by = attributes(self.alloc, tokens)?;
-        let items = self.summaries(tokens)?;
+        let operands = both(operand, attributes(self.alloc, tokens))?;
+        let ((operand, by), items) = both(operands, self.summaries(tokens))?;
         Ok(Found::summarize_by(self.alloc, operand, by, items)?)
     }
 
@@ -147,7 +146,7 @@ impl<F: Fn(Global, u8, Level, &mut Cursor<'_, '_>) -> Result<Found, Fault>> Gram
         if tokens.keyword(Keyword::Per) {
             return self.summary_per(operand, tokens);
         }
-        tokens.expect_keyword(Keyword::By)?;
+        let operand = ended(operand, Keyword::By, tokens)?;
         self.summary_by(operand, tokens)
     }
 }

@@ -9,7 +9,6 @@ use crate::statement::parse_statement;
 use std::alloc::Global;
 use td_scan::cutter::Cutter;
 use td_tree::cause::Cause;
-use td_tree::expression::Expr;
 use td_tree::fault::Fault;
 use td_tree::statement::Statement;
 
@@ -24,16 +23,24 @@ fn parse(alloc: Global, script: &[u8]) -> Result<Statement, Fault> {
     }
 }
 
-/// What WRITE writes, if the script is one.
-fn written(alloc: Global, script: &[u8]) -> Option<Expr> {
-    match parse(alloc, script) {
-        Ok(Statement::Write(expression)) => Some(expression),
-        _ => None,
-    }
+/// Whether the statement of the script passes the test.
+fn passes<P: FnOnce(&Statement) -> bool>(
+    alloc: Global,
+    script: &[u8],
+    test: P,
+) -> Result<bool, Fault>
+    requires { P.IsAlwaysCallable test }
+{
+    let statement = parse(alloc, script)?;
+    Ok(test(&statement))
+}
+
+fn is_taken(alloc: Global, script: &[u8]) -> bool {
+    passes(alloc, script, |_| true).is_ok()
 }
 
 fn is_refused(alloc: Global, script: &[u8], cause: Cause) -> bool {
-    match parse(alloc, script) {
+    match passes(alloc, script, |_| true) {
         Err(fault) => fault == Fault::Refused(cause),
         Ok(_) => false,
     }

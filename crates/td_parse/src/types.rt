@@ -9,7 +9,7 @@ ghost use Rattle.td_tree.specs.Lexemes.{sign};
 
 use crate::cursor::{Cursor, SYNTAX};
 use crate::names::name;
-use crate::word::name_of;
+use crate::steps::closed;
 use std::alloc::Global;
 use td_tree::fault::Fault;
 use td_tree::keyword::Keyword;
@@ -27,7 +27,7 @@ pub fn type_tree(alloc: Global, depth: u8, tokens: &mut Cursor<'_, '_>) -> Resul
     }
     match tokens.take() {
         Some((Kind::Reserved(word), _)) => type_of_word(alloc, depth - 1, word, tokens),
-        Some((Kind::Name, text)) => Ok(TypeTree::User(name_of(alloc, text)?)),
+        Some((Kind::Name, text)) => Ok(TypeTree::User(tokens.name_of(alloc, text)?)),
         _ => Err(SYNTAX),
     }
 }
@@ -68,8 +68,7 @@ fn heading(
         return Ok(Vec::new(alloc));
     }
     let attributes = attributes(alloc, depth, tokens)?;
-    tokens.expect_sign(Sign::CloseBrace)?;
-    Ok(attributes)
+    closed(attributes, Sign::CloseBrace, tokens)
 }
 
 /// `(name type),+`, of types at most so high

@@ -1,7 +1,6 @@
-use super::{is_refused, parse};
+use super::{is_refused, is_taken};
 use std::alloc::{AllocError, Global};
 use td_tree::cause::Cause;
-use td_tree::fault::Fault;
 
 /// A statement in which something is repeated.
 #[derive(Drop)]
@@ -11,6 +10,8 @@ struct Shape<'a> {
     middle: &'a [u8],
     close: &'a [u8],
     end: &'a [u8],
+    /// How many times at most.
+    most: u8,
 }
 
 fn repeat(script: &mut Vec<u8>, text: &[u8], count: usize) -> Result<(), AllocError> {
@@ -31,80 +32,62 @@ fn statement(alloc: Global, shape: &Shape<'_>, count: usize) -> Result<Vec<u8>, 
     Ok(script)
 }
 
-fn is_taken(alloc: Global, shape: &Shape<'_>, count: usize) -> Result<bool, Fault> {
-    let script = statement(alloc, shape, count)?;
-    Ok(parse(alloc, script.as_slice()).is_ok())
+fn takes_at_most(alloc: Global, shape: &Shape<'_>) -> Result<bool, AllocError> {
+    let most = usize::from(shape.most);
+    let highest = statement(alloc, shape, most)?;
+    let too_high = statement(alloc, shape, most + 1)?;
+    Ok(is_taken(alloc, highest.as_slice()) && is_refused(alloc, too_high.as_slice(), Cause::Syntax))
 }
 
-fn is_too_high(alloc: Global, shape: &Shape<'_>, count: usize) -> Result<bool, Fault> {
-    let script = statement(alloc, shape, count)?;
-    Ok(is_refused(alloc, script.as_slice(), Cause::Syntax))
-}
-
-#[test]
-fn parentheses_are_at_most_199(rt: HostRuntime) {
-    let shape = Shape {
+const SHAPES: [Shape<'static>; 5] = [
+    Shape {
         start: b"WRITE ",
         open: b"(",
         middle: b"1",
         close: b")",
         end: b";",
-    };
-    assert!(rt; is_taken(rt.alloc(), &shape, 199).unwrap_or(false));
-    assert!(rt; is_too_high(rt.alloc(), &shape, 200).unwrap_or(false));
-}
-
-#[test]
-fn a_sum_is_of_at_most_200_numbers(rt: HostRuntime) {
-    let shape = Shape {
+        most: 199,
+    },
+    Shape {
         start: b"WRITE ",
         open: b"1 + ",
         middle: b"1",
         close: b"",
         end: b";",
-    };
-    assert!(rt; is_taken(rt.alloc(), &shape, 199).unwrap_or(false));
-    assert!(rt; is_too_high(rt.alloc(), &shape, 200).unwrap_or(false));
-}
-
-/// The heading is a part of the literal, by its relation type.
-#[test]
-fn a_literal_has_a_heading_of_at_most_198_relations(rt: HostRuntime) {
-    let shape = Shape {
+        most: 199,
+    },
+    // the heading is a part of the literal, by its relation type
+    Shape {
         start: b"WRITE ",
         open: b"RELATION {A ",
         middle: b"INTEGER",
         close: b"}",
         end: b" {};",
-    };
-    assert!(rt; is_taken(rt.alloc(), &shape, 198).unwrap_or(false));
-    assert!(rt; is_too_high(rt.alloc(), &shape, 199).unwrap_or(false));
-}
-
-/// The heading counts as its relation type: with the relvar's own it has one relation more.
-#[test]
-fn a_relvar_has_at_most_198_relations_within_its_own(rt: HostRuntime) {
-    let shape = Shape {
+        most: 198,
+    },
+    // the heading counts as its relation type: with the relvar's own it has one relation more
+    Shape {
         start: b"VAR R BASE RELATION {A ",
         open: b"RELATION {A ",
         middle: b"INTEGER",
         close: b"}",
         end: b"};",
-    };
-    assert!(rt; is_taken(rt.alloc(), &shape, 198).unwrap_or(false));
-    assert!(rt; is_too_high(rt.alloc(), &shape, 199).unwrap_or(false));
-}
-
-/// No relation type stands around the components of a type.
-#[test]
-fn a_component_has_at_most_199_relations(rt: HostRuntime) {
-    let shape = Shape {
+        most: 198,
+    },
+    // no relation type stands around the components of a type
+    Shape {
         start: b"TYPE T POSSREP {A ",
         open: b"RELATION {A ",
         middle: b"INTEGER",
         close: b"}",
         end: b"};",
-    };
-    assert!(rt; is_taken(rt.alloc(), &shape, 199).unwrap_or(false));
-    assert!(rt; is_too_high(rt.alloc(), &shape, 200).unwrap_or(false));
+        most: 199,
+    },
+];
+
+#[test]
+fn what_is_not_too_high(rt: HostRuntime) {
+    for shape in SHAPES {
+        assert!(rt; takes_at_most(rt.alloc(), &shape) == Ok(true));
+    }
 }

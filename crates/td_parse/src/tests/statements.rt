@@ -1,4 +1,4 @@
-use super::{is_refused, parse};
+use super::{is_refused, is_taken};
 use td_tree::cause::Cause;
 
 const ACCEPTED: [&str; 24] = [
@@ -80,13 +80,16 @@ const REFUSED: [&str; 42] = [
 #[test]
 fn what_the_grammar_spells(rt: HostRuntime) {
     for script in ACCEPTED {
-        assert!(rt; parse(rt.alloc(), script.as_bytes()).is_ok());
+        assert!(rt; is_taken(rt.alloc(), script.as_bytes()), "{script}");
     }
 }
 
 #[test]
 fn what_it_does_not_spell(rt: HostRuntime) {
     for script in REFUSED {
-        assert!(rt; is_refused(rt.alloc(), script.as_bytes(), Cause::Syntax));
+        assert!(rt;
+            is_refused(rt.alloc(), script.as_bytes(), Cause::Syntax),
+            "{script}"
+        );
     }
 }

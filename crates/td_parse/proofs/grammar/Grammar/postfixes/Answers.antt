@@ -11,11 +11,5 @@ loop-turn-preserved g c =
     let e = one_more (λ n. postfixes (read c.args.self.now.depth) c.args.self.now.depth n (tree_of c.loop-turn.left) c.loop-turn.tokens) (c.from-limit.result + 1) c.loop-turn._turn (omega arith) in
     first_of (search rules, grind (arith, common_steps))
 
-pub returns-then-not-fits : goal.returns-then-not-fits
-unfolding postfixes
-returns-then-not-fits g c =
-    let e = one_more (λ n. postfixes (read c.args.self.now.depth) c.args.self.now.depth n (tree_of c.loop-turn.left) c.loop-turn.tokens) (c.from-limit.result + 1) c.loop-turn._turn (omega arith) in
-    first_of (search rules, grind (arith, common_steps))
-
 pub loop-turn-init : goal.loop-turn-init
 loop-turn-init g c = rw c.from-limit.ensures (first_of (search rules, grind (arith, common_steps)))

@@ -1,0 +1,39 @@
+//! What was read, and what has to follow it.
+ghost use Rattle.td_parse.specs.Parsing.{Both, Fits, Keeps};
+ghost use Rattle.td_tree.specs.Lexemes as lexeme;
+ghost use Rattle.td_tree.specs.ReadingSteps.{expect};
+
+use crate::cursor::{Cursor, SYNTAX};
+use td_tree::fault::Fault;
+use td_tree::keyword::Keyword;
+use td_tree::token::Sign;
+
+/// What was read, if this sign closes it.
+pub fn closed<T: Drop>(item: T, close: Sign, tokens: &mut Cursor<'_, '_>) -> Result<T, Fault>
+    ensures { Keeps item (expect (lexeme.sign close) tokens.old) result tokens.new }
+{
+    tokens.expect_sign(close)?;
+    Ok(item)
+}
+
+/// What was read, if this word ends it.
+pub fn ended<T: Drop>(item: T, end: Keyword, tokens: &mut Cursor<'_, '_>) -> Result<T, Fault>
+    ensures { Keeps item (expect (lexeme.keyword end) tokens.old) result tokens.new }
+{
+    tokens.expect_keyword(end)?;
+    Ok(item)
+}
+
+/// What was read, if it fits.
+pub fn kept<T: Drop>(item: T, fits: bool) -> Result<T, Fault>
+    ensures { Fits item fits result }
+{
+    if fits { Ok(item) } else { Err(SYNTAX) }
+}
+
+/// What was read first, and what was read next.
+pub fn both<T: Drop, U: Drop>(first: T, next: Result<U, Fault>) -> Result<(T, U), Fault>
+    ensures { Both first next result }
+{
+    Ok((first, next?))
+}
