@@ -1,1 +1,3 @@
 pub mod Attributes
+pub mod DistinctNames
+pub mod Made
