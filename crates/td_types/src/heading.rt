@@ -92,26 +92,27 @@ impl Heading {
     pub fn get(&self, name: &Name) -> Option<&Ty>
         ensures { option_map (λ t. type_of t.now) result ≡ type_at name.now self.now }
     {
-        for attribute in &self.attributes {
-            if attribute.name == *name {
-                return Some(&attribute.ty);
-            }
-        }
-        None
+        let place = self.search(name).ok()?;
+        let (_, ty) = self.at(place)?;
+        Some(ty)
+    }
+
+    /// Where the attribute of that name is, or else where it would be.
+    fn search(&self, name: &Name) -> Result<usize, usize>
+        ensures found { IfOk result (λ place. (place ≡ prefix_len (λ a. is_lt (slice_cmp nat_cmp a.0 name.now)) self.now) × (option_map (λ a. a.1) (slice_get self.now place) ≡ type_at name.now self.now)) }
+        ensures missing { IfErr result (λ place. (place ≡ prefix_len (λ a. is_lt (slice_cmp nat_cmp a.0 name.now)) self.now) × (type_at name.now self.now ≡ None)) }
+    {
+        self.attributes
+            .binary_search_by(|attribute| attribute.name.cmp(name))
     }
 
     /// How many attributes stand before the name.
     fn place_of(&self, name: &Name) -> usize
         ensures { result ≡ prefix_len (λ a. is_lt (slice_cmp nat_cmp a.0 name.now)) self.now }
     {
-        let mut place = 0;
-        for attribute in &self.attributes {
-            if attribute.name >= *name {
-                return place;
-            }
-            place += 1;
+        match self.search(name) {
+            Ok(place) | Err(place) => place,
         }
-        place
     }
 
     /// The heading with the attribute, unless it has one of that name.
