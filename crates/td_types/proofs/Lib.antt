@@ -1,1 +1,4 @@
 pub mod Attributes
+pub mod DistinctNames
+pub mod Made
+pub mod Search

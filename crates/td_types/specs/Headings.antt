@@ -70,6 +70,10 @@ can_rename renamings heading = has_attributes (map (λ r. r.0) renamings) headin
 abbrev pub with_attribute : Attributes → Attribute → Attributes
 with_attribute heading a = put (slice_cmp nat_cmp) a.0 a.1 heading
 
+-- the heading that the attributes make, one put in its place after another
+abbrev pub heading_from : List Attribute → Attributes
+heading_from = fold with_attribute []
+
 -- the attributes of every other name
 abbrev pub without_attribute : List ℕ → Attributes → Attributes
 without_attribute name = filter (λ a. not (same_name a.0 name))

@@ -1,5 +1,5 @@
 -- What a type and a heading of the code stand for.
-use Rattle.std.specs.Prelude.{List, map}
+use Rattle.std.specs.Prelude.{ℕ, List, map}
 use Rattle.td_types.specs.Types
 use Rattle.td_types.specs.Types.{Type', boolean, integer, text, user, tuple, relation, Attributes, pack}
 use Rattle.td_types.specs.declared.ty.Attribute.{Attribute}
@@ -18,6 +18,10 @@ type_of (Rel h) = relation (pack h)
 -- the name and the type of an attribute of the code
 abbrev pub attribute_of : Attribute → Types.Attribute
 attribute_of a = (a.name, type_of a.ty)
+
+-- the attributes that pairs of the code, of a name and a type, are
+abbrev pub pairs_of : List (List ℕ × Ty) → Attributes
+pairs_of = map (λ a. (a.0, type_of a.1))
 
 abbrev pub attributes_of : List Attribute → Attributes
 attributes_of = map attribute_of

@@ -3,10 +3,11 @@ ghost use Rattle.std.specs.Prelude.{◌≡◌, ◌↔◌, Bool, true, false, IfE
 ghost use Rattle.std.specs.List.{prefix_len};
 ghost use Rattle.std.specs.Ordering.{is_lt, nat_cmp};
 ghost use Rattle.std.specs.Cmp.Lexicographic.{slice_cmp};
-ghost use Rattle.td_types.specs.Headings.{AgreementIsOneType, IsMap, TypesDetermineHeading, add_missing, has_attribute, heading_fault, with_attribute};
-ghost use Rattle.td_types.specs.Types.{IsAscending, IsHeading, pack, same_name, type_at};
-ghost use Rattle.td_types.specs.Views.{type_of};
+ghost use Rattle.td_types.specs.Headings.{AgreementIsOneType, IsMap, TypesDetermineHeading, add_missing, are_distinct, has_attribute, heading_fault, heading_from, with_attribute};
+ghost use Rattle.td_types.specs.Types.{IsAscending, IsHeading, names_of, pack, same_name, type_at};
+ghost use Rattle.td_types.specs.Views.{pairs_of, type_of};
 
+use crate::names::repeats_a_name;
 use crate::ty::{Attribute, Heading, Ty};
 use std::alloc::{AllocError, Global};
 use td_tree::cause::Cause;
@@ -23,6 +24,20 @@ pub fn agreement_is_one_type()
     ensures { AgreementIsOneType }
 {}
 
+/// The heading of attributes whose names ascend.
+fn from_sorted(alloc: Global, pairs: Vec<(Name, Ty)>) -> Result<Heading, AllocError>
+    requires { IsAscending (pairs_of pairs.items) }
+    ensures { IfOk result (λ h. h ≡ pairs_of pairs.items) }
+{
+    let mut attributes = Vec::with_capacity(alloc, pairs.len())?;
+    for (name, ty) in pairs {
+        let _ = name.as_str();
+        ty.reveal();
+        attributes.push(Attribute { name, ty })?;
+    }
+    Ok(Heading { attributes })
+}
+
 impl Heading {
     /// The heading without attributes.
     pub fn empty(alloc: Global) -> Heading
@@ -30,6 +45,22 @@ impl Heading {
     {
         Heading {
             attributes: Vec::new(alloc),
+        }
+    }
+
+    /// The heading that gives each name its type: refused where a name comes twice.
+    pub fn new(alloc: Global, attributes: Vec<(Name, Ty)>) -> Result<Heading, Fault>
+        ensures accepted { OnOk result (are_distinct (names_of (pairs_of attributes.items)) ≡ true) }
+        ensures value { IfOk result (λ h. h ≡ heading_from (pairs_of attributes.items)) }
+        ensures types { IfOk result (λ h. IsMap h (λ n. type_at n (pairs_of attributes.items))) }
+        ensures fault { IfErr result (λ e. e ≡ heading_fault (not (are_distinct (names_of (pairs_of attributes.items))))) }
+    {
+        let mut sorted = attributes;
+        sorted.sort_unstable();
+        if repeats_a_name(&sorted) {
+            Err(Fault::Refused(Cause::Heading))
+        } else {
+            Ok(from_sorted(alloc, sorted)?)
         }
     }
 
@@ -61,26 +92,27 @@ impl Heading {
     pub fn get(&self, name: &Name) -> Option<&Ty>
         ensures { option_map (λ t. type_of t.now) result ≡ type_at name.now self.now }
     {
-        for attribute in &self.attributes {
-            if attribute.name == *name {
-                return Some(&attribute.ty);
-            }
-        }
-        None
+        let place = self.search(name).ok()?;
+        let (_, ty) = self.at(place)?;
+        Some(ty)
+    }
+
+    /// Where the attribute of that name is, or else where it would be.
+    fn search(&self, name: &Name) -> Result<usize, usize>
+        ensures found { IfOk result (λ place. (place ≡ prefix_len (λ a. is_lt (slice_cmp nat_cmp a.0 name.now)) self.now) × (option_map (λ a. a.1) (slice_get self.now place) ≡ type_at name.now self.now)) }
+        ensures missing { IfErr result (λ place. (place ≡ prefix_len (λ a. is_lt (slice_cmp nat_cmp a.0 name.now)) self.now) × (type_at name.now self.now ≡ None)) }
+    {
+        self.attributes
+            .binary_search_by(|attribute| attribute.name.cmp(name))
     }
 
     /// How many attributes stand before the name.
     fn place_of(&self, name: &Name) -> usize
         ensures { result ≡ prefix_len (λ a. is_lt (slice_cmp nat_cmp a.0 name.now)) self.now }
     {
-        let mut place = 0;
-        for attribute in &self.attributes {
-            if attribute.name >= *name {
-                return place;
-            }
-            place += 1;
+        match self.search(name) {
+            Ok(place) | Err(place) => place,
         }
-        place
     }
 
     /// The heading with the attribute, unless it has one of that name.

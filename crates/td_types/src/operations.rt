@@ -1,35 +1,15 @@
 //! Operations that make a heading of headings: each refuses by the cause of headings, or wants memory.
 ghost use Rattle.std.specs.Prelude.{◌≡◌, Bool, true, false, IfErr, IfOk, None, OnOk, Option, Some, if◌then◌else◌, not};
 ghost use Rattle.std.specs.List.{list_all};
-ghost use Rattle.td_types.specs.Headings.{IsMap, agree, are_distinct, common_part, has_attribute, has_attributes, has_name, has_projection, heading_fault, heading_union, projection, without_attribute};
+ghost use Rattle.td_types.specs.Headings.{IsMap, agree, common_part, has_attribute, has_attributes, has_name, has_projection, heading_fault, heading_union, projection, without_attribute};
 ghost use Rattle.td_types.specs.Types.{same_name, type_at};
 ghost use Rattle.td_types.specs.Views.{type_of};
 
+use crate::names::{are_distinct, is_among};
 use crate::ty::{Attribute, Heading};
 use td_tree::cause::Cause;
 use td_tree::fault::Fault;
 use td_tree::name::Name;
-
-/// Whether the name is one of the names.
-fn is_among(name: &Name, names: &[Name]) -> bool
-    ensures { result ≡ has_name name.now names.now }
-{
-    names.contains(name)
-}
-
-/// Whether no name comes twice.
-fn are_distinct(names: &[Name]) -> bool
-    ensures { result ≡ are_distinct names.now }
-{
-    let mut rest = names;
-    while let [name, later @ ..] = rest {
-        if is_among(name, later) {
-            return false;
-        }
-        rest = later;
-    }
-    true
-}
 
 impl Heading {
     /// Whether there is an attribute of each name.

@@ -11,7 +11,7 @@ use Rattle.td_types.specs.Types.{Type', attr, pack}
 use Rattle.td_types.specs.Headings.{with_attribute}
 use Rattle.td_value.specs.Values.{Val, Entries, fields_type, heading_of, pack_fields, type_of}
 use Rattle.td_value.specs.Views.{entries_of}
-use Rattle.td_value.proofs.Names.{name_cmp}
+use Rattle.td_types.proofs.DistinctNames.{name_cmp}
 
 pub fields_type-heading : (es : Entries) → fields_type (pack_fields es) ≡ pack (heading_of es)
 fields_type-heading [] = refl

@@ -8,7 +8,7 @@ use Rattle.td_value.specs.Values.{Val, AreFields, Entries, IsTuple, names_of, pa
 use Rattle.td_value.specs.ValueCode.{unpack_pack_fields}
 use Rattle.td_value.specs.Views.{entries_of}
 use Rattle.td_value.proofs.HeadingOf.{zip-append}
-use Rattle.td_value.proofs.Names.{name_cmp}
+use Rattle.td_types.proofs.DistinctNames.{name_cmp}
 use Rattle.td_value.proofs.Zips.{IsTuple-from}
 
 module _ (p : List ℕ × Val → Bool) where

@@ -3,7 +3,6 @@ pub mod Headed
 pub mod HeadingOf
 pub mod Kept
 pub mod Maps
-pub mod Names
 pub mod Pieces
 pub mod Rows
 pub mod Unread

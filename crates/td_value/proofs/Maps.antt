@@ -14,7 +14,7 @@ use Rattle.td_types.specs.Headings.{are_distinct, has_name}
 use Rattle.td_value.specs.Sets.{is_set_of, put_in}
 use Rattle.td_value.specs.Values.{Val, Entries, entry_order, names_of, tuple_of, value_at}
 use Rattle.td_value.specs.ValueOrder.{entry_order_total, entry_order_same}
-use Rattle.td_value.proofs.Names.{name_cmp, first_of, second_of}
+use Rattle.td_types.proofs.DistinctNames.{name_cmp, first_of, second_of}
 
 rising_entries : (e : List ℕ × Val) (es : Entries) → AllByRecursion (λ m. name_cmp e.0 m ≡ Less) (names_of es) → AllByRecursion (λ f. entry_order e f ≡ Less) es
 rising_entries e [] h = tt

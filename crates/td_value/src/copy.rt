@@ -39,29 +39,23 @@ impl Value {
 }
 
 impl Tuple {
-    /// The same tuple again, which shares this one's names.
+    /// The same tuple again, which shares this one's names and values.
     pub fn try_clone(&self) -> Result<Tuple, AllocError>
         ensures { IfOk result (λ t. t ≡ self.now) }
     {
         let names = self.names.clone()?;
-        let mut values = Vec::with_capacity(*self.values.allocator(), self.values.len())?;
-        for v in &self.values {
-            values.push(v.try_clone()?)?;
-        }
+        let values = self.values.clone()?;
         Ok(Tuple { names, values })
     }
 }
 
 impl Rel {
-    /// The same relation again.
+    /// The same relation again, which shares this one's tuples.
     pub fn try_clone(&self) -> Result<Rel, AllocError>
         ensures { IfOk result (λ r. r ≡ self.now) }
     {
         let heading = self.heading.try_clone()?;
-        let mut rows = Vec::with_capacity(*self.rows.allocator(), self.rows.len())?;
-        for t in &self.rows {
-            rows.push(t.try_clone()?)?;
-        }
+        let rows = self.rows.clone()?;
         Ok(Rel { heading, rows })
     }
 }

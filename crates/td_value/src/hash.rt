@@ -1,7 +1,7 @@
 //! The hashes of values.
 ghost use Rattle.std.specs.Prelude.{◌≡◌, fold};
-ghost use Rattle.td_value.specs.Hashes.{fed_value, fed_parts, fed_tuple, fed_relation};
-ghost use Rattle.td_value.specs.Values.{pack_parts, user};
+ghost use Rattle.td_value.specs.Hashes.{fed_value, fed_parts, fed_rows, fed_tuple, fed_relation};
+ghost use Rattle.td_value.specs.Values.{pack_parts, pack_rows, user};
 
 use crate::value::{Node, Rel, Tuple, User, Value};
 use std::hash::{Hash, Hasher};
@@ -49,7 +49,14 @@ fn feed_parts<H: Hasher>(values: &[Value], state: &mut H)
 fn feed_rel<H: Hasher>(r: &Rel, state: &mut H)
     ensures { state.new ≡ fold H.write state.old (fed_relation r.now) }
 {
-    for t in &r.rows {
+    feed_rows(&r.rows, state);
+}
+
+#[cycle(feed)]
+fn feed_rows<H: Hasher>(rows: &[Tuple], state: &mut H)
+    ensures { state.new ≡ fold H.write state.old (fed_rows (pack_rows rows.now)) }
+{
+    for t in rows {
         feed_tuple(t, state);
     }
     state.write_u8(1);

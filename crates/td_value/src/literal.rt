@@ -4,8 +4,8 @@ ghost use Rattle.std.specs.Fmt.{signed_decimal};
 ghost use Rattle.std.specs.String.{string_bytes};
 ghost use Rattle.td_types.specs.Texts.{comma_if};
 ghost use Rattle.td_tree.specs.TextTokens.{doubled, quoted};
-ghost use Rattle.td_value.specs.Literal.{fields_literal, literal, quotes_if, relation_literal, tuple_literal};
-ghost use Rattle.td_value.specs.Values.{pack_fields, pack_parts, user};
+ghost use Rattle.td_value.specs.Literal.{fields_literal, literal, quotes_if, relation_literal, rows_literal, tuple_literal};
+ghost use Rattle.td_value.specs.Values.{pack_fields, pack_parts, pack_rows, user};
 ghost use Rattle.td_value.specs.Views.{entries_of};
 
 use crate::value::{Node, Rel, Tuple, User, Value};
@@ -122,13 +122,21 @@ fn write_relation(r: &Rel, out: &mut String) -> Result<(), AllocError>
 {
     put_relation_type(out, &r.heading)?;
     out.push_str(" {")?;
+    write_rows(&r.rows, out)?;
+    out.push_str("}")
+}
+
+#[cycle(write)]
+fn write_rows(rows: &[Tuple], out: &mut String) -> Result<(), AllocError>
+    ensures { OnOk result (string_bytes out.new ≡ string_bytes out.old ++ rows_literal false (pack_rows rows.now)) }
+{
     let mut later = false;
-    for t in &r.rows {
+    for t in rows {
         put_comma(out, later)?;
         write_tuple(t, out)?;
         later = true;
     }
-    out.push_str("}")
+    Ok(())
 }
 
 impl Value {

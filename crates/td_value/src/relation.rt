@@ -37,6 +37,17 @@ fn share_names(rows: &mut [Tuple]) -> Result<(), AllocError>
     Ok(())
 }
 
+/// The tuples again, in a list of their own.
+fn copied(rows: &Vec<Tuple>) -> Result<Vec<Tuple>, AllocError>
+    ensures { IfOk result (λ copy. copy.items ≡ rows.now.items) }
+{
+    let mut copy = Vec::with_capacity(*rows.allocator(), rows.len())?;
+    for row in rows {
+        copy.push(row.try_clone()?)?;
+    }
+    Ok(copy)
+}
+
 impl Rel {
     /// The relation with that heading whose body is the set of the tuples.
     pub fn new(heading: Heading, mut rows: Vec<Tuple>) -> Result<Rel, AllocError>
@@ -47,6 +58,7 @@ impl Rel {
         rows.dedup();
         rows.shrink_to_fit();
         share_names(&mut rows)?;
+        let rows = Rc::new(*rows.allocator(), rows)?;
         Ok(Rel { heading, rows })
     }
 
@@ -66,12 +78,15 @@ impl Rel {
         &self.rows
     }
 
-    /// The tuples, ascending, in place of the relation.
-    pub fn into_rows(self) -> Vec<Tuple>
-        ensures rows { result.items ≡ self.rows }
-        ensures headed { All (IsTupleOf self.heading) result.items }
+    /// The tuples, ascending, in place of the relation. It wants memory where a copy shares them.
+    pub fn into_rows(self) -> Result<Vec<Tuple>, AllocError>
+        ensures rows { IfOk result (λ rows. rows.items ≡ self.rows) }
+        ensures headed { IfOk result (λ rows. All (IsTupleOf self.heading) rows.items) }
     {
         let Rel { heading: _, rows } = self;
-        rows
+        match Rc::try_unwrap(rows) {
+            Ok(rows) => Ok(rows),
+            Err(shared) => copied(&shared),
+        }
     }
 }

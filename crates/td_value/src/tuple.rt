@@ -1,11 +1,11 @@
 //! Tuples.
-ghost use Rattle.std.specs.Prelude.{◌≡◌, ◌∷◌, List, ℕ, IfErr, IfOk, OnOk, filter, length, not, true};
+ghost use Rattle.std.specs.Prelude.{◌≡◌, ◌∷◌, List, ℕ, IfErr, IfOk, IsTrue, OnOk, filter, length, not, true};
 ghost use Rattle.std.specs.Ordering.{is_lt, nat_cmp};
 ghost use Rattle.std.specs.Cmp.Lexicographic.{slice_cmp};
 ghost use Rattle.std.specs.List.Sorted.{IsSortedBy, IsStrictlySortedBy};
 ghost use Rattle.td_types.specs.Headings.{are_distinct, has_name, heading_fault};
-ghost use Rattle.td_value.specs.Values.{IsTuple, names_of, tuple_of, value_at};
-ghost use Rattle.td_value.specs.Views.{entries_of};
+ghost use Rattle.td_value.specs.Values.{AreFields, IsTuple, names_of, pack_fields, tuple_of, value_at};
+ghost use Rattle.td_value.specs.Views.{entries_of, values_of};
 
 use crate::value::{Tuple, Value};
 use std::alloc::{AllocError, Global};
@@ -13,36 +13,25 @@ use std::rc::Rc;
 use td_tree::cause::Cause;
 use td_tree::fault::Fault;
 use td_tree::name::Name;
-
-/// Whether a name comes twice in a list that is sorted by its names.
-fn repeats_a_name(entries: &[(Name, Value)]) -> bool
-    requires { IsSortedBy (λ x y. is_lt (slice_cmp nat_cmp x.0 y.0)) entries.now }
-    ensures { result ≡ not (are_distinct (names_of entries.now)) }
-{
-    match entries {
-        [] => false,
-        [first, rest @ ..] => repeats_after(first, rest),
-    }
-}
-
-/// The same of a list by its first entry and the rest.
-fn repeats_after(first: &(Name, Value), rest: &[(Name, Value)]) -> bool
-    requires { IsSortedBy (λ x y. is_lt (slice_cmp nat_cmp x.0 y.0)) (first.now ∷ rest.now) }
-    ensures { result ≡ not (are_distinct (names_of (first.now ∷ rest.now))) }
-{
-    let mut before = first;
-    for entry in rest {
-        if entry.0 == before.0 {
-            return true;
-        }
-        before = entry;
-    }
-    false
-}
+use td_types::names::{is_among, repeats_a_name};
 
 impl Tuple {
     /// The tuple that gives each name its value, where no name comes twice.
     pub fn new(alloc: Global, entries: Vec<(Name, Value)>) -> Result<Tuple, Fault>
+        ensures accepted { OnOk result (are_distinct (names_of entries.items) ≡ true) }
+        ensures tuple { IfOk result (λ t. t ≡ tuple_of entries.items) }
+        ensures values { IfOk result (λ t. (name : List ℕ) → value_at name t ≡ value_at name entries.items) }
+        ensures fault { IfErr result (λ e. e ≡ heading_fault (not (are_distinct (names_of entries.items)))) }
+    {
+        Tuple::new_like(alloc, None, entries)
+    }
+
+    /// The same. Where the names are those of the other tuple, it shares that one's list of names.
+    pub fn new_like(
+        alloc: Global,
+        like: Option<&Tuple>,
+        entries: Vec<(Name, Value)>,
+    ) -> Result<Tuple, Fault>
         ensures accepted { OnOk result (are_distinct (names_of entries.items) ≡ true) }
         ensures tuple { IfOk result (λ t. t ≡ tuple_of entries.items) }
         ensures values { IfOk result (λ t. (name : List ℕ) → value_at name t ≡ value_at name entries.items) }
@@ -53,32 +42,78 @@ impl Tuple {
         if repeats_a_name(&sorted) {
             return Err(Fault::Refused(Cause::Heading));
         }
-        Ok(from_sorted(alloc, sorted)?)
+        Ok(from_sorted(alloc, like, sorted)?)
     }
 }
 
 /// The tuple of entries whose names ascend.
-fn from_sorted(alloc: Global, entries: Vec<(Name, Value)>) -> Result<Tuple, AllocError>
+fn from_sorted(
+    alloc: Global,
+    like: Option<&Tuple>,
+    entries: Vec<(Name, Value)>,
+) -> Result<Tuple, AllocError>
     requires { IsStrictlySortedBy (slice_cmp nat_cmp) (names_of entries.items) }
     ensures { IfOk result (λ t. t ≡ entries.items) }
 {
+    let names = listed_names(alloc, like, &entries)?;
+    let values = Rc::new(alloc, values_alone(alloc, entries)?)?;
+    Ok(Tuple { names, values })
+}
+
+/// The list of the entries' names: the tuple's own where that is the same.
+fn listed_names(
+    alloc: Global,
+    like: Option<&Tuple>,
+    entries: &[(Name, Value)],
+) -> Result<Rc<Vec<Name>>, AllocError>
+    ensures { IfOk result (λ names. names.value.items ≡ names_of entries.now) }
+{
+    match like {
+        Some(like) if are_names_of(&like.names, entries) => like.names.clone(),
+        _ => Ok(Rc::new(alloc, own_names(alloc, entries)?)?),
+    }
+}
+
+/// Whether the names are those of the entries, in the same order.
+fn are_names_of(names: &[Name], entries: &[(Name, Value)]) -> bool
+    ensures { IsTrue result → (names.now ≡ names_of entries.now) }
+{
+    if names.len() != entries.len() {
+        return false;
+    }
+    let mut place = 0;
+    for name in names {
+        if entries[place].0 != *name {
+            return false;
+        }
+        place += 1;
+    }
+    true
+}
+
+/// The names of the entries.
+fn own_names(alloc: Global, entries: &[(Name, Value)]) -> Result<Vec<Name>, AllocError>
+    ensures { IfOk result (λ names. names.items ≡ names_of entries.now) }
+{
     let mut names = Vec::with_capacity(alloc, entries.len())?;
+    for (name, _) in entries {
+        names.push(name.try_clone()?)?;
+    }
+    Ok(names)
+}
+
+/// The values of the entries.
+fn values_alone(alloc: Global, entries: Vec<(Name, Value)>) -> Result<Vec<Value>, AllocError>
+    ensures values { IfOk result (λ values. values.items ≡ values_of entries.items) }
+    ensures valid { OnOk result (AreFields (pack_fields entries.items)) }
+{
     let mut values = Vec::with_capacity(alloc, entries.len())?;
     for (name, value) in entries {
         let _ = name.as_str();
         let _ = &value.node;
-        names.push(name)?;
         values.push(value)?;
     }
-    let names = Rc::new(alloc, names)?;
-    Ok(Tuple { names, values })
-}
-
-/// Whether the name is one of the names.
-fn is_among(name: &Name, names: &[Name]) -> bool
-    ensures { result ≡ has_name name.now names.now }
-{
-    names.iter().any(|other| other == name)
+    Ok(values)
 }
 
 /// The tuple of the entries whose names are wanted.
@@ -104,10 +139,8 @@ fn kept_entries(
         place += 1;
     }
     let names = Rc::new(alloc, kept_names)?;
-    Ok(Tuple {
-        names,
-        values: kept_values,
-    })
+    let values = Rc::new(alloc, kept_values)?;
+    Ok(Tuple { names, values })
 }
 
 impl Tuple {

@@ -45,20 +45,20 @@ pub struct User {
 }
 
 /// A finite map from names to values, seen as its entries in name order. The tuples of one relation share one list of
-/// names.
+/// names, and copies of a tuple share its values too.
 #[cycle(value)]
 #[derive(Drop)]
 pub struct Tuple {
     pub(crate) names: Rc<Vec<Name>>,
-    pub(crate) values: Vec<Value>,
+    pub(crate) values: Rc<Vec<Value>>,
 }
 
-/// A heading with a set of tuples, seen as the strictly ascending list of them.
+/// A heading with a set of tuples, seen as the strictly ascending list of them. Copies of a relation share its tuples.
 #[cycle(value)]
 #[derive(Drop)]
 pub struct Rel {
     pub(crate) heading: Heading,
-    pub(crate) rows: Vec<Tuple>,
+    pub(crate) rows: Rc<Vec<Tuple>>,
 }
 
 impl Model for Value {
@@ -114,15 +114,15 @@ impl Model for Tuple {
 
     ghost use Rattle.td_value.specs.Views.{entries_of};
 
-    ghost view = { λ a. entries_of a.names.value.items a.values.items };
+    ghost view = { λ a. entries_of a.names.value.items a.values.value.items };
 
-    ghost invariant = { λ a. (length a.names.value.items ≡ length a.values.items) × IsTuple (entries_of a.names.value.items a.values.items) };
+    ghost invariant = { λ a. (length a.names.value.items ≡ length a.values.value.items) × IsTuple (entries_of a.names.value.items a.values.value.items) };
 
     ghost size = { tuple_depth };
 
     ghost use Rattle.td_value.specs.Falls.{fields_fall};
 
-    ghost size_decreases = { λ a h. fields_fall a.names.value.items a.values.items h.0 };
+    ghost size_decreases = { λ a h. fields_fall a.names.value.items a.values.value.items h.0 };
 }
 
 impl Model for Rel {
@@ -135,15 +135,15 @@ impl Model for Rel {
 
     ghost use Rattle.td_value.specs.Views.{relation_of};
 
-    ghost view = { λ a. relation_of a.heading a.rows.items };
+    ghost view = { λ a. relation_of a.heading a.rows.value.items };
 
-    ghost invariant = { λ a. IsRelation (relation_of a.heading a.rows.items) };
+    ghost invariant = { λ a. IsRelation (relation_of a.heading a.rows.value.items) };
 
     ghost size = { relation_depth };
 
     ghost use Rattle.td_value.specs.Falls.{relation_falls};
 
-    ghost size_decreases = { λ a h. relation_falls a.rows.items };
+    ghost size_decreases = { λ a h. relation_falls a.rows.value.items };
 }
 
 impl Value {

@@ -37,8 +37,9 @@ fn union(left: Rel, right: Rel) -> Result<Rel, Fault>
         return Err(Fault::Refused(Cause::Heading));
     }
     let heading = left.heading().try_clone()?;
-    let mut tuples = left.into_rows();
-    tuples.append(&mut right.into_rows())?;
+    let mut tuples = left.into_rows()?;
+    let mut others = right.into_rows()?;
+    tuples.append(&mut others)?;
     Ok(Rel::new(heading, tuples)?)
 }
 

@@ -12,5 +12,5 @@ invariant-write_entries-loop-v l =
     (l.place ≡ l.v-index)
     × (string_bytes l.out ++ fields_literal l.later (pack_fields (entries_of (drop l.place l.names) (drop l.place l.values))) ≡ string_bytes l.initial.out ++ fields_literal false (pack_fields (entries_of l.names l.values)))
 
-abbrev pub invariant-write_relation-loop-t : goal.invariant-write_relation-loop-t
-invariant-write_relation-loop-t l = string_bytes l.out ++ rows_literal l.later (pack_rows (drop l.t-index l.t-items)) ≡ string_bytes l.initial.out ++ rows_literal false (pack_rows l.t-items)
+abbrev pub invariant-write_rows-loop-t : goal.invariant-write_rows-loop-t
+invariant-write_rows-loop-t l = string_bytes l.out ++ rows_literal l.later (pack_rows (drop l.t-index l.rows)) ≡ string_bytes l.initial.out ++ rows_literal false (pack_rows l.rows)

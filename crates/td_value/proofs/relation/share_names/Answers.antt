@@ -12,5 +12,5 @@ contains_first xs x e = (0, slice_get_within xs 0 x e, get_or_from_slice_get xs 
 pub loop-place-init : goal.loop-place-init
 loop-place-init c =
     let inside = c.first-2.inside in
-    let own = ap (λ v. v.items) c.in_ok-names.ensures.cases ∙ sym (zip_names inside.names.value.items inside.values.items c.first-2.invariant.0) ∙ ap names_of c.first-2.view_is in
+    let own = ap (λ v. v.items) c.in_ok-names.ensures.cases ∙ sym (zip_names inside.names.value.items inside.values.value.items c.first-2.invariant.0) ∙ ap names_of c.first-2.view_is in
     (refl, λ t k. own ∙ c.requires c.in-Some.first.now t (contains_first c.args.rows.now c.in-Some.first.now (sym c.in-Some.ensures.value)) k)

@@ -48,4 +48,5 @@ invariant_of-result c =
     let kept = all_kept p c.args.names.now c.args.values.now c.loop-v.place (entries_of c.loop-v.kept_names.items c.loop-v.kept_values.items) c.requires.same (omega (arith, c.loop-v.invariant.0, c.loop-v-test.false)) c.loop-v.invariant.2 in
     let names : c.in_ok-names.names.value.items ≡ c.loop-v.kept_names.items = ap (λ v. v.items) c.in_ok-names.ensures.ok in
     let valid : IsTuple (entries_of c.loop-v.kept_names.items c.loop-v.kept_values.items) = subst IsTuple (sym kept) (IsTuple-filter p (entries_of c.args.names.now c.args.values.now) c.requires.valid) in
-    subst (λ ns. (length ns ≡ length c.loop-v.kept_values.items) × IsTuple (entries_of ns c.loop-v.kept_values.items)) (sym names) (c.loop-v.invariant.1, valid)
+    let values : c.in_ok-values.values.value.items ≡ c.loop-v.kept_values.items = ap (λ v. v.items) c.in_ok-values.ensures.ok in
+    rw (names, values) (c.loop-v.invariant.1, valid)

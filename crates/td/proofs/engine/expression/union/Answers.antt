@@ -9,4 +9,4 @@ new-requires c =
     let heading = c.in_ok-heading.ensures ∙ c.heading-3.ensures in
     let same : c.args.left.heading ≡ c.args.right.heading = sym c.heading.ensures ∙ (one_heading _ _ _ c.ne.ensures c.if-ne.false ∙ c.heading-2.ensures) in
     rw (c.in_ok-append.ensures.items, heading)
-    (All-append (IsTupleOf c.args.left.heading) _ _ c.into_rows-tuples.ensures.headed (rw same c.into_rows.ensures.headed))
+    (All-append (IsTupleOf c.args.left.heading) _ _ c.in_ok-tuples.ensures.headed (rw same c.in_ok-others.ensures.headed))

@@ -48,11 +48,11 @@ invariant_of-result c =
     let up = c.sort_unstable_by.ensures.sorted (λ s t. is_lt (by_values s t)) (ranks_by by_values_total (λ s. s)) (answers_always _ _ _ (λ f a r q k. ap is_lt (search rules))) in
     let is = c.shrink_to_fit.ensures.items ∙ dedup_is (eq_by_cmp tuple_order) _ _ c.dedup.ensures.filtered in
     let whole = restored _ _ _ c.shrink_to_fit.new.self.items (ap length c.in_ok-share_names.ensures ∙ c.deref_mut.ensures.len) (c.in_ok-share_names.ensures ∙ c.deref_mut.ensures.value) in
-    subst (λ ts. IsRelation (relation_of c.args.heading ts)) (sym whole) (is_relation c.args.heading c.args.rows.items c.sort_unstable_by.new.self.items c.shrink_to_fit.new.self.items c.requires c.sort_unstable_by.ensures.permutation up is)
+    subst (λ ts. IsRelation (relation_of c.args.heading ts)) (sym (ap (λ v. v.items) c.in_ok-rows.ensures.ok ∙ whole)) (is_relation c.args.heading c.args.rows.items c.sort_unstable_by.new.self.items c.shrink_to_fit.new.self.items c.requires c.sort_unstable_by.ensures.permutation up is)
 
 pub returns : goal.returns
 returns c =
     let up = c.sort_unstable_by.ensures.sorted (λ s t. is_lt (by_values s t)) (ranks_by by_values_total (λ s. s)) (answers_always _ _ _ (λ f a r q k. ap is_lt (search rules))) in
     let is = c.shrink_to_fit.ensures.items ∙ dedup_is (eq_by_cmp tuple_order) _ _ c.dedup.ensures.filtered in
     let whole = restored _ _ _ c.shrink_to_fit.new.self.items (ap length c.in_ok-share_names.ensures ∙ c.deref_mut.ensures.len) (c.in_ok-share_names.ensures ∙ c.deref_mut.ensures.value) in
-    ap (relation_of c.args.heading) (whole ∙ is_set c.args.heading c.args.rows.items c.sort_unstable_by.new.self.items c.shrink_to_fit.new.self.items c.requires c.sort_unstable_by.ensures.permutation up is)
+    ap (relation_of c.args.heading) (ap (λ v. v.items) c.in_ok-rows.ensures.ok ∙ whole ∙ is_set c.args.heading c.args.rows.items c.sort_unstable_by.new.self.items c.shrink_to_fit.new.self.items c.requires c.sort_unstable_by.ensures.permutation up is)

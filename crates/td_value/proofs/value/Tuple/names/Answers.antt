@@ -6,4 +6,4 @@ use Rattle.td_value.proofs.value.Tuple.names.Goals as goal
 pub returns-clause-names : goal.returns-clause-names
 returns-clause-names c =
     c.as_slice.ensures.value ∙ ap (λ v. v.items) c.deref.ensures
-    ∙ sym (zip_names c.self.inside.names.value.items c.self.inside.values.items c.self.invariant.0) ∙ ap names_of c.self.view_is
+    ∙ sym (zip_names c.self.inside.names.value.items c.self.inside.values.value.items c.self.invariant.0) ∙ ap names_of c.self.view_is

@@ -8,8 +8,8 @@ use Rattle.std.proofs.lemmas.List.Sorted.{IsPermutation-map}
 use Rattle.td_types.specs.Headings.{are_distinct, heading_fault}
 use Rattle.td_value.specs.Values.{Entries, entry_order, names_of, value_at}
 use Rattle.td_value.proofs.Maps.{sorted_is_tuple_of, value_at-tuple_of}
-use Rattle.td_value.proofs.Names.{Sorted, distinct_permuted, rising}
-use Rattle.td_value.proofs.value.Tuple.new.Goals as goal
+use Rattle.td_types.proofs.DistinctNames.{Sorted, distinct_permuted, rising}
+use Rattle.td_value.proofs.value.Tuple.new_like.Goals as goal
 
 same_distinct : (es fs : Entries) → IsPermutation es fs → are_distinct (names_of es) ≡ are_distinct (names_of fs)
 same_distinct es fs p = distinct_permuted (names_of es) (names_of fs) (IsPermutation-map (λ e. e.0) es fs p)

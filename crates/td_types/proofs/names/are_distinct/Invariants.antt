@@ -1,6 +1,6 @@
 use Rattle.std.proofs.Common.{◌≡◌, length}
 use Rattle.td_types.specs.Headings.{are_distinct}
-use Rattle.td.proofs.engine.keys.are_distinct.Given as goal
+use Rattle.td_types.proofs.names.are_distinct.Given as goal
 
 abbrev pub invariant-loop-rest : goal.invariant-loop-rest
 invariant-loop-rest l = are_distinct l.rest ≡ are_distinct l.names

@@ -3,10 +3,10 @@ use Rattle.std.proofs.Common.{◌≡◌, ℕ, suc, ◌+◌, ◌≤◌, Bool, tru
 use Rattle.std.specs.Prelude.{not, ◌&&◌}
 use Rattle.std.specs.declared.cmp.Ordering.{Ordering}
 use Rattle.std.specs.declared.cmp.Ordering.TheVariants.{Less, Equal, Greater}
-use Rattle.std.specs.Ordering.{nat_cmp, is_lt, is_eq, ordering_reverse}
+use Rattle.std.specs.Ordering.{nat_cmp, is_lt, is_eq, ordering_reverse, ordering_then}
 use Rattle.std.specs.Cmp.Lexicographic.{slice_cmp, texts_ties, same_text}
 use Rattle.std.specs.List.{AllByRecursion, count_by}
-use Rattle.std.specs.List.Sorted.{IsPermutation, IsSortedBy, IsStrictlySortedBy}
+use Rattle.std.specs.List.Sorted.{IsPermutation, IsSorted, IsSortedBy, IsStrictlySortedBy}
 use Rattle.std.proofs.lemmas.Cmp.{nat_list_cmp_total, nat_list_eq_equiv, alike_right}
 use Rattle.std.proofs.lemmas.List.Sorted.{sum_by-IsPermutation}
 use Rattle.std.proofs.lemmas.List.Sums.{sum_by-cons}
@@ -74,6 +74,16 @@ module _ {X : Type 0} (key : X → List ℕ) where
       by_test rest true e = absurd (true≢false (sym d ∙ distinct_same x y ys e))
       by_test rest false e =
           (above (key x) y ys (tail_sorted x (y ∷ ys) h) (below_from (key y) (key x) (first_sorted x y ys h) e), rest (sym (distinct_apart x y ys h e) ∙ d))
+
+-- ---- what is sorted by names and then by something else
+
+first_not_less : (o p : Ordering) → is_lt (ordering_then o p) ≡ false → is_lt o ≡ false
+first_not_less Less p h = h
+first_not_less Equal p h = refl
+first_not_less Greater p h = refl
+
+pub sorted_by_names : {X : Type 0} (key : X → List ℕ) (rest : X → X → Ordering) (xs : List X) → IsSorted (λ x y. ordering_then (name_cmp (key x) (key y)) (rest x y)) xs → Sorted key xs
+sorted_by_names key rest xs h = λ k d l u. first_not_less _ _ (h k d l u)
 
 -- ---- distinct names in another order
 

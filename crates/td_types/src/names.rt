@@ -1,0 +1,55 @@
+//! Names in lists: whether one is there, and whether one comes twice.
+ghost use Rattle.std.specs.Prelude.{◌≡◌, ◌∷◌, map, not};
+ghost use Rattle.std.specs.Ordering.{is_lt, nat_cmp};
+ghost use Rattle.std.specs.Cmp.Lexicographic.{slice_cmp};
+ghost use Rattle.std.specs.List.Sorted.{IsSortedBy};
+ghost use Rattle.td_types.specs.Headings.{are_distinct, has_name};
+
+use td_tree::name::Name;
+
+/// Whether the name is one of the names.
+pub fn is_among(name: &Name, names: &[Name]) -> bool
+    ensures { result ≡ has_name name.now names.now }
+{
+    names.contains(name)
+}
+
+/// Whether no name comes twice.
+pub fn are_distinct(names: &[Name]) -> bool
+    ensures { result ≡ are_distinct names.now }
+{
+    let mut rest = names;
+    while let [name, later @ ..] = rest {
+        if is_among(name, later) {
+            return false;
+        }
+        rest = later;
+    }
+    true
+}
+
+/// Whether a name comes twice in a list that is sorted by its names.
+pub fn repeats_a_name<T>(entries: &[(Name, T)]) -> bool
+    requires { IsSortedBy (λ x y. is_lt (slice_cmp nat_cmp x.0 y.0)) entries.now }
+    ensures { result ≡ not (are_distinct (map (λ e. e.0) entries.now)) }
+{
+    match entries {
+        [] => false,
+        [first, rest @ ..] => repeats_after(first, rest),
+    }
+}
+
+/// The same of a list by its first entry and the rest.
+fn repeats_after<T>(first: &(Name, T), rest: &[(Name, T)]) -> bool
+    requires { IsSortedBy (λ x y. is_lt (slice_cmp nat_cmp x.0 y.0)) (first.now ∷ rest.now) }
+    ensures { result ≡ not (are_distinct (map (λ e. e.0) (first.now ∷ rest.now))) }
+{
+    let mut before = first;
+    for entry in rest {
+        if entry.0 == before.0 {
+            return true;
+        }
+        before = entry;
+    }
+    false
+}
