@@ -1,2 +1,3 @@
 pub mod FirstLaws
+pub mod LastLaws
 pub mod ScanLaws

@@ -1,9 +1,10 @@
 -- What stands at the front of bytes, as the scanner finds it.
-use Rattle.std.specs.Prelude.{ℕ, suc, ◌+◌, List, [], ◌∷◌, length, Some, None}
+use Rattle.std.specs.Prelude.{ℕ, suc, ◌+◌, ◌-◌, List, [], ◌∷◌, length, Option, Some, None, option_map, slice_get}
 use Rattle.std.specs.Str.{continuation_len}
 use Rattle.td_tree.specs.declared.piece.Piece.{Piece}
 use Rattle.td_tree.specs.declared.piece.Piece.TheVariants.{Bad}
 use Rattle.td_tree.specs.Pieces.{begins, continues}
+use Rattle.td_tree.specs.Statements.{Entry}
 use Rattle.td_tree.specs.Symbols.{Symbol}
 
 -- how many bytes a character takes that begins with this one
@@ -18,3 +19,7 @@ end_from n piece (s ∷ ss) = elim (continues piece s) as (λ _. ℕ × Piece) [
 abbrev pub first_end : List Symbol → ℕ × Piece
 first_end [] = (0, Bad)
 first_end (s ∷ ss) = end_from (length s.text) (begins s) ss
+
+-- where the last of the tokens ends, if there is one
+abbrev pub end_of_last : List Entry → Option ℕ
+end_of_last tokens = option_map (λ t. t.stop) (slice_get tokens (length tokens - 1))

@@ -1,5 +1,6 @@
 //! The cutter of a script into statements.
-ghost use Rattle.std.specs.Prelude.{◌≡◌, ◌+◌, ◌-◌, ◌<◌, ◌≤◌, ◌^◌, [], ◌++◌, length, IfOk, OnOk, OnErr, IsFalse, false, true, option_map};
+ghost use Rattle.std.specs.Prelude.{◌≡◌, ◌+◌, ◌-◌, ◌<◌, ◌≤◌, ◌^◌, [], ◌++◌, length, IfOk, IfSome, OnOk, OnErr, IsFalse, Some, false, true, option_map};
+ghost use Rattle.td_scan.specs.Fronts.{end_of_last};
 ghost use Rattle.td_tree.specs.Statements.{Held, after, behind, first_statement, is_end};
 
 use crate::token::{Token, first_token};
@@ -46,9 +47,7 @@ fn first_tokens<'a>(
 /// Where the first statement of the bytes ends, which begin at this offset of a script.
 fn first_end(bytes: &[u8], offset: u64, finished: bool) -> u64
     requires { offset + length bytes.now < 2 ^ 64 }
-    ensures is { result ≡ behind (record { bytes = bytes.now; offset = offset; finished = finished }) }
-    ensures from { offset ≤ result }
-    ensures within { result ≤ offset + length bytes.now }
+    ensures { result ≡ behind (record { bytes = bytes.now; offset = offset; finished = finished }) }
 {
     let mut start = offset;
     let mut rest = bytes;
@@ -128,8 +127,10 @@ impl Cutter {
     }
 
     /// The tokens of the first statement.
+    #[tactic(auto, using(crate::proofs::LastLaws::last_stop))]
     pub fn next_statement(&self) -> Result<Option<Vec<Token<'_>>>, AllocError>
-        ensures { IfOk result (λ found. option_map (λ v. v.items) found ≡ first_statement self.now) }
+        ensures is { IfOk result (λ found. option_map (λ v. v.items) found ≡ first_statement self.now) }
+        ensures end { IfOk result (λ found. IfSome found (λ v. end_of_last v.items ≡ Some (behind self.now))) }
     {
         let alloc = *self.bytes.allocator();
         let (_, held) = self.bytes.split_at(self.taken);
@@ -142,7 +143,16 @@ impl Cutter {
     {
         let (_, held) = self.bytes.split_at(self.taken);
         let end = first_end(held, self.offset, self.finished);
-        self.taken += (end - self.offset) as usize;
+        self.take_to(end);
+    }
+
+    /// Takes the first statement off, of which it is known where it ends.
+    pub fn take_to(&mut self, end: u64)
+        requires { end ≡ behind self.old }
+        ensures { self.new ≡ after self.old }
+    {
+        let kept = self.bytes.len() - self.taken - (end - self.offset) as usize;
+        self.taken = self.bytes.len() - kept;
         self.offset = end;
     }
 }

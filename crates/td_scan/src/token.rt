@@ -8,26 +8,26 @@ use crate::piece::first_piece;
 use std::marker::Model;
 use td_tree::token::Kind;
 
-/// A token: what it is, the bytes that it is, and where they begin and end in the script. What it is, its bytes say.
+/// A token: what it is, the bytes that it is, and where they begin and end in the script. What it is, its bytes say, and
+/// where it ends, their number.
 #[derive(Drop)]
 pub struct Token<'a> {
-    kind: Kind,
     text: &'a [u8],
     start: u64,
-    stop: u64,
+    kind: Kind,
 }
 
 impl<'a> Model for Token<'a> {
-    ghost use Rattle.std.specs.Prelude.{Some, ◌≡◌, Some};
+    ghost use Rattle.std.specs.Prelude.{Some, ◌≡◌, ◌+◌, ◌<◌, ◌^◌, length};
     ghost use Rattle.td_tree.specs.Pieces.{kind_of};
     ghost use Rattle.td_tree.specs.Statements.{Entry};
     ghost use Rattle.td_tree.specs.Symbols.{symbols};
 
     ghost Value = { Entry };
 
-    ghost view = { λ t. record { kind = t.kind; text = t.text.now; start = t.start; stop = t.stop } };
+    ghost view = { λ t. record { kind = t.kind; text = t.text.now; start = t.start; stop = t.start + length t.text.now } };
 
-    ghost invariant = { λ t. kind_of (symbols t.text.now) ≡ Some t.kind };
+    ghost invariant = { λ t. (kind_of (symbols t.text.now) ≡ Some t.kind) × (t.start + length t.text.now < 2 ^ 64) };
 }
 
 impl<'a> Token<'a> {
@@ -57,7 +57,7 @@ impl<'a> Token<'a> {
     pub fn stop(&self) -> u64
         ensures { result ≡ self.now.stop }
     {
-        self.stop
+        self.start + self.text.len() as u64
     }
 }
 
@@ -81,19 +81,13 @@ pub(crate) fn first_token<'a>(bytes: &'a [u8], offset: u64) -> Option<Found<'a>>
     while !rest.is_empty() {
         let first = first_piece(rest);
         let (text, after) = rest.split_at(first.length);
-        let stop = start + first.length as u64;
         if let Some(kind) = first.piece.kind(text) {
             return Some(Found {
-                token: Token {
-                    kind,
-                    text,
-                    start,
-                    stop,
-                },
+                token: Token { text, start, kind },
                 rest: after,
             });
         }
-        start = stop;
+        start += first.length as u64;
         rest = after;
     }
     None

@@ -1,4 +1,4 @@
-use Rattle.std.proofs.Common.{◌≡◌, ◌+◌, ◌≤◌, length}
+use Rattle.std.proofs.Common.{◌≡◌, ◌+◌, length}
 use Rattle.td_tree.specs.Statements.{behind, tokens}
 use Rattle.td_scan.proofs.ScanLaws.{reached}
 use Rattle.td_scan.proofs.cutter.first_end.Given as goal
@@ -6,7 +6,6 @@ use Rattle.td_scan.proofs.cutter.first_end.Given as goal
 abbrev pub invariant-loop-found : goal.invariant-loop-found
 invariant-loop-found l = record {
   place : l.start + length l.rest ≡ l.offset + length l.bytes;
-  from : l.offset ≤ l.start;
   so_far : reached l.finished l.offset l.start (tokens l.start l.rest) ≡ behind (record { bytes = l.bytes; offset = l.offset; finished = l.finished });
 }
 

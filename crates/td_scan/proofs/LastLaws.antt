@@ -1,0 +1,35 @@
+-- Where the first statement ends, and the last of its tokens.
+use Rattle.std.proofs.Common.{◌≡◌, ◌+◌, ◌-◌, ◌≤◌, ℕ, suc, List, [], ◌∷◌, length, drop, Some, refl, sym, ap, ◌∙◌, arith, length-drop}
+use Rattle.std.specs.Prelude.{option_map, slice_get}
+use Rattle.td_scan.specs.Fronts.{end_of_last}
+use Rattle.td_tree.specs.Statements.{Entry, Held, after, behind, end_of, first_statement}
+use Rattle.td_tree.proofs.TakenLaws.{behind_first, fewer_bytes, first_within}
+
+-- ---- the last token
+
+end_of_some : (at : ℕ) (t : Entry) (ts : List Entry) → end_of_last (t ∷ ts) ≡ Some (end_of at (t ∷ ts))
+end_of_some at t [] = refl
+end_of_some at t (u ∷ us) =
+    ap (λ n. option_map (λ (e : Entry). e.stop) (slice_get (t ∷ u ∷ us) n)) (let n : length (t ∷ u ∷ us) - 1 ≡ suc (length (u ∷ us) - 1) = omega arith in n) ∙ end_of_some t.stop u us
+
+-- a statement has a token
+none_taken : (h : Held) → first_statement h ≡ Some [] → length (after h).bytes ≡ length h.bytes
+none_taken h e =
+    let none : behind h - h.offset ≡ 0 = omega (arith, behind_first h [] e) in
+    ap (λ n. length (drop n h.bytes)) none
+
+pub last_stop : (h : Held) (first : List Entry) → first_statement h ≡ Some first → end_of_last first ≡ Some (behind h)
+last_stop h [] e = absurd (omega (arith, fewer_bytes h [] e, none_taken h e))
+last_stop h (t ∷ ts) e = end_of_some h.offset t ts ∙ ap Some (sym (behind_first h (t ∷ ts) e))
+
+-- ---- what is taken off
+
+pub record Taken (items : List ℕ) (taken offset end : ℕ) : Type 0 where
+  pub from : offset ≤ end
+  pub within : taken + (end - offset) ≤ length items
+
+-- with what was taken off before, the first statement is no longer than all
+pub taken_within : (items : List ℕ) (taken : ℕ) (h : Held) (end : ℕ) → taken ≤ length items → h.bytes ≡ drop taken items → end ≡ behind h → Taken items taken h.offset end
+taken_within items taken h end some held is =
+    let w = first_within h in
+    record { from = omega (arith, is, w.stop); within = omega (arith, some, is, w.within, ap length held, length-drop taken items) }
