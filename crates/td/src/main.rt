@@ -6,8 +6,6 @@ mod laws;
 mod line;
 mod program;
 mod run;
-#[cfg(test)]
-mod script_tests;
 mod session;
 mod sink;
 mod source;

@@ -18,7 +18,5 @@ mod primary;
 pub mod statement;
 mod steps;
 mod summarize;
-#[cfg(test)]
-mod tests;
 mod types;
 mod word;

@@ -5,6 +5,4 @@ pub mod cutter;
 pub mod laws;
 mod piece;
 mod symbol;
-#[cfg(test)]
-mod tests;
 pub mod token;

@@ -13,8 +13,6 @@ pub mod operator;
 pub mod piece;
 pub mod print;
 pub mod statement;
-#[cfg(test)]
-mod tests;
 pub mod token;
 pub mod tree_laws;
 pub mod type_tree;

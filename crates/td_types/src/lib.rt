@@ -8,7 +8,5 @@ pub mod names;
 pub mod operations;
 mod order;
 pub mod rename;
-#[cfg(test)]
-mod tests;
 pub mod text;
 pub mod ty;

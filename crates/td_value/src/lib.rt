@@ -8,8 +8,6 @@ mod literal;
 mod order;
 mod relation;
 mod relation_order;
-#[cfg(test)]
-mod tests;
 mod tuple;
 mod tuple_order;
 mod types;

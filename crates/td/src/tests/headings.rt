@@ -1,6 +1,6 @@
 //! Each call that can want memory, with ample memory, and the texts of types.
-use crate::text::{put_relation_type, type_text};
-use crate::ty::{Heading, Ty};
+use td_types::text::{put_relation_type, type_text};
+use td_types::ty::{Heading, Ty};
 use std::alloc::{AllocError, Global};
 use std::collections::HashSet;
 use std::test::Fail;

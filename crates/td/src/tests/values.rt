@@ -3,7 +3,7 @@ ghost use Rattle.std.specs.Prelude.{IsTrue};
 ghost use Rattle.std.specs.List.{All};
 ghost use Rattle.td_value.specs.Values.{IsTupleOf};
 
-use crate::value::{Node, Rel, Tuple, User, Value};
+use td_value::value::{Node, Rel, Tuple, User, Value};
 use std::alloc::Global;
 use std::test::Fail;
 use td_tree::cause::Cause;

@@ -1,10 +1,10 @@
-use crate::cause::Cause;
-use crate::expression::{Expr, Literal};
-use crate::fault::Fault;
-use crate::name::{Name, is_name};
-use crate::operator::{Comparison, Measure, Operator, Prefix};
-use crate::print::{print_expr, print_type};
-use crate::type_tree::{AttributeTree, TypeTree};
+use td_tree::cause::Cause;
+use td_tree::expression::{Expr, Literal};
+use td_tree::fault::Fault;
+use td_tree::name::{Name, is_name};
+use td_tree::operator::{Comparison, Measure, Operator, Prefix};
+use td_tree::print::{print_expr, print_type};
+use td_tree::type_tree::{AttributeTree, TypeTree};
 use std::alloc::Global;
 use std::rc::RcStr;
 use std::test::Fail;

@@ -2,7 +2,7 @@ use Rattle.std.proofs.Common.{subst}
 use Rattle.std.proofs.lemmas.List.{take_all, take_more}
 use Rattle.std.proofs.lemmas.List.Elements.{All-push}
 use Rattle.td_value.specs.Values.{IsTupleOf}
-use Rattle.td_value.proofs.tests.have_heading.Goals as goal
+use Rattle.td.proofs.tests.values.have_heading.Goals as goal
 
 pub loop-tuple-preserved : goal.loop-tuple-preserved
 loop-tuple-preserved c =

@@ -5,7 +5,7 @@ mod statements;
 mod trees;
 mod types;
 
-use crate::statement::parse_statement;
+use td_parse::statement::parse_statement;
 use std::alloc::Global;
 use td_scan::cutter::Cutter;
 use td_tree::cause::Cause;

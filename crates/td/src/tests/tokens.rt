@@ -1,5 +1,5 @@
-use crate::cutter::Cutter;
-use crate::token::Token;
+use td_scan::cutter::Cutter;
+use td_scan::token::Token;
 use td_tree::keyword::Keyword;
 use td_tree::token::{Kind, Sign};
 
