@@ -1,19 +1,16 @@
-use Rattle.std.proofs.Common.{rules, arith, suc, length, map}
-use Rattle.std.proofs.lemmas.Grind.{common_steps}
-use Rattle.std.proofs.lemmas.List.{map_push}
-use Rattle.td_tree.specs.ReadingSteps.{separated, separated_from}
-use Rattle.td_tree.specs.Reading.{addition, read}
+use Rattle.std.proofs.Common.{refl}
+use Rattle.td_parse.proofs.Separated.{begins, ends, goes_on, ran_out}
 use Rattle.td_parse.specs.Views.{named_part_of}
-use Rattle.td_parse.proofs.Turns.{one_more}
 use Rattle.td_parse.proofs.grammar.Grammar.additions.Goals as goal
 
 pub loop-turn-init : goal.loop-turn-init
-unfolding separated
-loop-turn-init g c = rw c.turns-limit.ensures (first_of (search rules, grind (arith, common_steps)))
+loop-turn-init g c = begins _ named_part_of _ _ _ c.turns-limit.ensures c.new-items.ensures
 
 pub loop-turn-preserved : goal.loop-turn-preserved
-unfolding separated_from
-loop-turn-preserved g c =
-    let e = one_more (λ n. separated_from (addition (read c.args.self.now.depth) c.args.self.now.depth) n (map named_part_of c.loop-turn.items) c.loop-turn.tokens) (suc (length c.args.tokens.now)) c.loop-turn._turn (omega arith) in
-    let p = map_push named_part_of c.loop-turn.items (record { name = c.in_ok-name.name; value = c.in_ok-name.value }) in
-    first_of (search rules, grind (arith, common_steps))
+loop-turn-preserved g c = goes_on _ named_part_of _ _ _ _ _ (record { name = c.in_ok-name.name; value = c.in_ok-name.value }) _ _ _ c.loop-turn-test.true c.loop-turn.invariant c.in_ok-name.ensures c.if-not-sign.ensures c.in_ok-push.ensures
+
+pub returns-then-not-sign : goal.returns-then-not-sign
+returns-then-not-sign g c = ends _ named_part_of _ _ _ _ _ (record { name = c.in_ok-name.name; value = c.in_ok-name.value }) _ _ _ c.loop-turn-test.true c.loop-turn.invariant c.in_ok-name.ensures c.if-not-sign.ensures c.in_ok-push.ensures
+
+pub returns : goal.returns
+returns g c = (ran_out _ named_part_of _ _ _ _ _ c.loop-turn-test.false c.loop-turn.invariant, refl)

@@ -1,20 +1,15 @@
-use Rattle.std.proofs.Common.{rules, arith, suc, length, map}
-use Rattle.std.proofs.lemmas.Grind.{common_steps}
-use Rattle.std.proofs.lemmas.List.{map_push}
-use Rattle.td_tree.specs.ReadingSteps.{separated, separated_from}
-use Rattle.td_tree.specs.declared.operator.Level.TheVariants as levels
-use Rattle.td_tree.specs.Reading.{read}
-use Rattle.td_tree.specs.TreeViews.{tree_of}
-use Rattle.td_parse.proofs.Turns.{one_more}
+use Rattle.std.proofs.Common.{refl}
+use Rattle.td_parse.proofs.Separated.{begins, ends, goes_on, ran_out}
 use Rattle.td_parse.proofs.grammar.Grammar.elements.Goals as goal
 
 pub loop-turn-init : goal.loop-turn-init
-unfolding separated
-loop-turn-init g c = rw c.turns-limit.ensures (first_of (search rules, grind (arith, common_steps)))
+loop-turn-init g c = begins _ _ _ _ _ c.turns-limit.ensures c.new-items.ensures
 
 pub loop-turn-preserved : goal.loop-turn-preserved
-unfolding separated_from
-loop-turn-preserved g c =
-    let e = one_more (λ n. separated_from (read c.args.self.now.depth levels.Restriction) n (map tree_of c.loop-turn.items) c.loop-turn.tokens) (suc (length c.args.tokens.now)) c.loop-turn._turn (omega arith) in
-    let p = map_push tree_of c.loop-turn.items c.in_ok-expression.field-0 in
-    first_of (search rules, grind (arith, common_steps))
+loop-turn-preserved g c = goes_on _ _ _ _ _ _ _ _ _ _ _ c.loop-turn-test.true c.loop-turn.invariant c.in_ok-expression.ensures c.if-not-sign.ensures c.in_ok-push.ensures
+
+pub returns-then-not-sign : goal.returns-then-not-sign
+returns-then-not-sign g c = ends _ _ _ _ _ _ _ _ _ _ _ c.loop-turn-test.true c.loop-turn.invariant c.in_ok-expression.ensures c.if-not-sign.ensures c.in_ok-push.ensures
+
+pub returns : goal.returns
+returns g c = (ran_out _ _ _ _ _ _ _ c.loop-turn-test.false c.loop-turn.invariant, refl)

@@ -1,20 +1,17 @@
-use Rattle.std.proofs.Common.{rules, arith, suc, length, map}
-use Rattle.std.proofs.lemmas.Grind.{common_steps}
-use Rattle.std.proofs.lemmas.List.{map_push}
-use Rattle.td_tree.specs.ReadingSteps.{separated, separated_from}
-use Rattle.td_tree.specs.Reading.{read, summary}
+use Rattle.std.proofs.Common.{refl}
+use Rattle.td_parse.proofs.Separated.{begins, ends, goes_on, ran_out}
 use Rattle.td_parse.specs.FoundSummaries.{summary_of}
 use Rattle.td_parse.specs.Views.{item_of}
-use Rattle.td_parse.proofs.Turns.{one_more}
 use Rattle.td_parse.proofs.grammar.Grammar.some_summaries.Goals as goal
 
 pub loop-turn-init : goal.loop-turn-init
-unfolding separated
-loop-turn-init g c = rw c.turns-limit.ensures (first_of (search rules, grind (arith, common_steps)))
+loop-turn-init g c = begins _ item_of _ _ _ c.turns-limit.ensures c.new-items.ensures
 
 pub loop-turn-preserved : goal.loop-turn-preserved
-unfolding separated_from
-loop-turn-preserved g c =
-    let e = one_more (λ n. separated_from (summary (read c.args.self.now.depth) c.args.self.now.depth) n (map item_of c.loop-turn.items) c.loop-turn.tokens) (suc (length c.args.tokens.now)) c.loop-turn._turn (omega arith) in
-    let p = map_push item_of c.loop-turn.items (summary_of c.in_ok-summary.field-0) in
-    first_of (search rules, grind (arith, common_steps))
+loop-turn-preserved g c = goes_on _ item_of _ _ _ _ _ (summary_of c.in_ok-summary.field-0) _ _ _ c.loop-turn-test.true c.loop-turn.invariant c.in_ok-summary.ensures c.if-not-sign.ensures c.in_ok-push.ensures
+
+pub returns-then-not-sign : goal.returns-then-not-sign
+returns-then-not-sign g c = ends _ item_of _ _ _ _ _ (summary_of c.in_ok-summary.field-0) _ _ _ c.loop-turn-test.true c.loop-turn.invariant c.in_ok-summary.ensures c.if-not-sign.ensures c.in_ok-push.ensures
+
+pub returns : goal.returns
+returns g c = (ran_out _ item_of _ _ _ _ _ c.loop-turn-test.false c.loop-turn.invariant, refl)

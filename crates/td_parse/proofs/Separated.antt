@@ -1,0 +1,35 @@
+-- Lists with commas between, read item by item in a loop.
+use Rattle.std.proofs.Common.{◌≡◌, ℕ, suc, ◌+◌, ◌-◌, ◌<◌, ◌≤◌, List, [], ◌∷◌, ◌++◌, length, map, Some, None, refl, ◌∙◌, arith}
+use Rattle.std.proofs.lemmas.List.{map_push}
+use Rattle.td_tree.specs.declared.token.Sign.TheVariants as signs
+use Rattle.td_tree.specs.Lexemes.{Lexeme, sign}
+use Rattle.td_tree.specs.ReadingSteps.{ReadOf, expect, separated, separated_from}
+use Rattle.td_parse.proofs.Turns.{no_more, one_more}
+
+-- before the first item
+pub begins : {A X : Type 0} (item : List Lexeme → ReadOf A) (view : X → A) (n : ℕ) (before : List X) (ts : List Lexeme)
+    → n ≡ suc (length ts) → before ≡ [] → separated item ts ≡ separated_from item (n - 0) (map view before) ts
+unfolding separated
+begins item view n before ts turns none = let e : n - 0 ≡ suc (length ts) = omega arith in rw (e, none) refl
+
+-- an item and a comma were read: the list goes on behind them
+pub goes_on : {A X : Type 0} (item : List Lexeme → ReadOf A) (view : X → A) (all : ReadOf (List A)) (n k : ℕ) (before more : List X) (x : X) (ts rest after : List Lexeme)
+    → k < n → all ≡ separated_from item (n - k) (map view before) ts → item ts ≡ Some (view x, rest) → expect (sign signs.Comma) rest ≡ Some after
+    → more ≡ before ++ (x ∷ []) → all ≡ separated_from item (n - (k + 1)) (map view more) after
+unfolding separated_from
+goes_on item view all n k before more x ts rest after lt so_far read comma grown =
+    so_far ∙ (one_more (λ m. separated_from item m (map view before) ts) n k lt ∙ rw (read, comma, grown, map_push view before x) refl)
+
+-- an item was read, and no comma: it is the last
+pub ends : {A X : Type 0} (item : List Lexeme → ReadOf A) (view : X → A) (all : ReadOf (List A)) (n k : ℕ) (before more : List X) (x : X) (ts rest left : List Lexeme)
+    → k < n → all ≡ separated_from item (n - k) (map view before) ts → item ts ≡ Some (view x, rest)
+    → (expect (sign signs.Comma) rest ≡ None) × (left ≡ rest) → more ≡ before ++ (x ∷ []) → all ≡ Some (map view more, left)
+unfolding separated_from
+ends item view all n k before more x ts rest left lt so_far read none grown =
+    so_far ∙ (one_more (λ m. separated_from item m (map view before) ts) n k lt ∙ rw (read, none.0, none.1, grown, map_push view before x) refl)
+
+-- no turn is left
+pub ran_out : {A X : Type 0} (item : List Lexeme → ReadOf A) (view : X → A) (all : ReadOf (List A)) (n k : ℕ) (before : List X) (ts : List Lexeme)
+    → n ≤ k → all ≡ separated_from item (n - k) (map view before) ts → all ≡ None
+unfolding separated_from
+ran_out item view all n k before ts le so_far = so_far ∙ no_more (λ m. separated_from item m (map view before) ts) n k le
