@@ -1,61 +1,31 @@
--- Headings of distinct names.
-use Rattle.std.proofs.Common.{◌≡◌, ℕ, Bool, true, false, not, ◌&&◌, ◌||◌, List, [], ◌∷◌, refl, sym, ap, ◌∙◌, subst, Option, Some, Result, Ok, Err, if◌then◌else◌}
-use Rattle.std.specs.List.{list_all}
-use Rattle.std.specs.Prelude.{IfErr, is_some}
-use Rattle.td_types.specs.Headings.{IsMap, are_distinct, has_attribute, has_name, heading_fault, with_attribute}
-use Rattle.td_types.specs.HeadingLaws.{same_name-flips}
+-- Headings of integers, and the names of tuples as they are written.
+use Rattle.std.proofs.Common.{◌≡◌, ℕ, Bool, true, false, List, [], ◌∷◌, refl, sym, ap, ◌∙◌, subst, Result, Ok, Err, fold, map}
+use Rattle.std.specs.Prelude.{IfErr, not}
+use Rattle.td_types.specs.Headings.{heading_fault, heading_from, with_attribute}
+use Rattle.td_types.specs.Types as heads
+use Rattle.td_types.specs.Types.{Attributes, integer}
 use Rattle.td_value.specs.Values.{Entries, names_of}
 use Rattle.td_tree.specs.declared.cause.Cause.TheVariants as cause
 use Rattle.td_tree.specs.declared.fault.Fault.{Fault}
 use Rattle.td.specs.Answering.{RefusesBy}
-use Rattle.td.specs.Meaning.{attribute_names, written}
+use Rattle.td.specs.Meaning.{attribute_names, integer_heading, written}
 use Rattle.td.specs.Trees.{TupleLiteral}
-use Rattle.td_types.specs.Types.{Attributes, Type', integer, same_name, type_at}
 
-abbrev pub with_integer : Attributes → List ℕ → Attributes
-with_integer heading n = with_attribute heading (n, integer)
+-- names, each with the type INTEGER
+abbrev pub integers : List (List ℕ) → Attributes
+integers = map (λ n. (n, integer))
 
--- whether the heading has none of the names
-abbrev pub are_fresh : Attributes → List (List ℕ) → Bool
-are_fresh h = list_all (λ n. not (has_attribute n h))
+pub integers-names : (ns : List (List ℕ)) → heads.names_of (integers ns) ≡ ns
+integers-names [] = refl
+integers-names (n ∷ ns) = ap (λ r. n ∷ r) (integers-names ns)
 
-fresh_empty : (ns : List (List ℕ)) → are_fresh [] ns ≡ true
-fresh_empty [] = refl
-fresh_empty (n ∷ ns) = fresh_empty ns
+put_in_turn : (h : Attributes) (ns : List (List ℕ)) → fold with_attribute h (integers ns) ≡ fold (λ heading n. with_attribute heading (n, integer)) h ns
+put_in_turn h [] = refl
+put_in_turn h (n ∷ ns) = put_in_turn (with_attribute h (n, integer)) ns
 
-pub fresh_first : (ns : List (List ℕ)) → (are_fresh [] ns && are_distinct ns) ≡ are_distinct ns
-fresh_first ns = rw (fresh_empty ns) refl
-
-sorted_out : (a b c d : Bool) → (not (a || b) && (c && not d)) ≡ ((not b && c) && not (a || d))
-sorted_out true true c d = refl
-sorted_out true false true d = refl
-sorted_out true false false d = refl
-sorted_out false true c d = refl
-sorted_out false false c d = refl
-
-of_some : (b : Bool) (t : Type') (o : Option Type') → is_some (if b then Some t else o) ≡ (b || is_some o)
-of_some true t o = refl
-of_some false t o = refl
-
--- with one name more, the names that are left are fresh where they were and that name is not among them
-pub fresh_more : (h more : Attributes) (n : List ℕ) (t : Type') → IsMap more (λ m. if same_name n m then Some t else type_at m h) → (ns : List (List ℕ))
-    → are_fresh more ns ≡ (are_fresh h ns && not (has_name n ns))
-fresh_more h more n t is [] = refl
-fresh_more h more n t is (m ∷ ms) =
-    rw (is m, of_some (same_name n m) t (type_at m h), fresh_more h more n t is ms, same_name-flips n m)
-    (sorted_out (same_name m n) (has_attribute m h) (are_fresh h ms) (has_name n ms))
-
-grouped : (a b c : Bool) → ((a && not b) && c) ≡ ((true && a) && (not b && c))
-grouped true b c = refl
-grouped false b c = refl
-
-pub distinct_more : (h more : Attributes) (n : List ℕ) (t : Type') → IsMap more (λ m. if same_name n m then Some t else type_at m h) → has_attribute n h ≡ false → (ns : List (List ℕ))
-    → (are_fresh more ns && are_distinct ns) ≡ (are_fresh h (n ∷ ns) && are_distinct (n ∷ ns))
-distinct_more h more n t is new ns = rw (fresh_more h more n t is ns, new) (grouped (are_fresh h ns) (has_name n ns) (are_distinct ns))
-
--- a name that the heading has is not fresh
-pub not_fresh : (h : Attributes) (n : List ℕ) (ns : List (List ℕ)) → has_attribute n h ≡ true → (are_fresh h (n ∷ ns) && are_distinct (n ∷ ns)) ≡ false
-not_fresh h n ns has = rw has refl
+-- the heading that they make
+pub integers-heading : (ns : List (List ℕ)) → heading_from (integers ns) ≡ integer_heading ns
+integers-heading ns = put_in_turn [] ns
 
 -- the names as they are written
 pub written_names : (t : TupleLiteral) → names_of (written t) ≡ attribute_names t

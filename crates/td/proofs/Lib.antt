@@ -1,3 +1,4 @@
+pub mod Apart
 pub mod Computing
 pub mod Done
 pub mod FirstPaths
@@ -5,13 +6,13 @@ pub mod Headings
 pub mod Joins
 pub mod Kept
 pub mod KeyLaws
+pub mod KeyParts
 pub mod Legal
 pub mod LegalLaws
 pub mod Literals
 pub mod Moving
 pub mod Places
 pub mod Runs
-pub mod Seen
 pub mod Spelled
 pub mod Static
 pub mod Stepping

@@ -1,38 +1,24 @@
 //! The candidate keys of relvars.
-ghost use Rattle.std.specs.Prelude.{◌≡◌, ◌&&◌, IfOk, map};
-ghost use Rattle.std.specs.List.{list_all};
-ghost use Rattle.td_types.specs.Headings.{are_distinct, has_attributes, has_name};
+ghost use Rattle.std.specs.Prelude.{◌≡◌, ◌&&◌, IfOk, map, option_map};
+ghost use Rattle.std.specs.List.{IsAllAdjacentAnswer, list_all, slice_get};
+ghost use Rattle.std.specs.List.Sorted.{IsPermutation, IsSortedBy};
+ghost use Rattle.std.specs.Option.{option_cmp};
+ghost use Rattle.std.specs.Ordering.{is_lt};
+ghost use Rattle.td_types.specs.Headings.{are_distinct, has_attributes};
+ghost use Rattle.td_value.specs.Values.{order};
+ghost use Rattle.td_value.specs.Views.{values_of};
 ghost use Rattle.td.specs.Database.{are_apart, are_keys, includes, key_holds, keys_fit, keys_hold};
+ghost use Rattle.td.specs.KeyParts.{by_places, places_from};
 
 #[cfg(test)]
 mod tests;
 
 use std::alloc::{AllocError, Global};
-use std::collections::HashSet;
+use std::cmp::Ordering;
 use td_tree::name::Name;
+use td_types::names::{are_distinct, is_among};
 use td_types::ty::Heading;
-use td_value::value::Tuple;
-
-/// Whether the name is one of the names.
-fn is_among(name: &Name, names: &[Name]) -> bool
-    ensures { result ≡ has_name name.now names.now }
-{
-    names.contains(name)
-}
-
-/// Whether no name comes twice.
-fn are_distinct(names: &[Name]) -> bool
-    ensures { result ≡ are_distinct names.now }
-{
-    let mut rest = names;
-    while let [name, later @ ..] = rest {
-        if is_among(name, later) {
-            return false;
-        }
-        rest = later;
-    }
-    true
-}
+use td_value::value::{Rel, Tuple, Value};
 
 /// Whether each name is an attribute of the heading.
 fn are_attributes(names: &[Name], heading: &Heading) -> bool
@@ -96,26 +82,92 @@ pub fn keys_fit(heading: &Heading, keys: &[Vec<Name>]) -> bool
     !keys.is_empty() && are_keys(heading, keys)
 }
 
-/// Whether no two of the tuples agree on the names of the key.
-fn key_holds(alloc: Global, key: &[Name], tuples: &[Tuple]) -> Result<bool, AllocError>
-    ensures { IfOk result (λ b. b ≡ key_holds key.now tuples.now) }
+/// The places of those of the names that are in the key.
+fn places_of(alloc: Global, names: &[Name], key: &[Name]) -> Result<Vec<usize>, AllocError>
+    ensures { IfOk result (λ places. places.items ≡ places_from 0 key.now names.now) }
 {
-    let mut seen = HashSet::with_capacity(alloc, tuples.len())?;
-    for tuple in tuples {
-        let part = tuple.project(key)?;
-        if !seen.insert(part)? {
-            return Ok(false);
+    let mut places = Vec::with_capacity(alloc, key.len())?;
+    let mut place = 0;
+    for name in names {
+        if is_among(name, key) {
+            places.push(place)?;
         }
+        place += 1;
     }
-    Ok(true)
+    Ok(places)
 }
 
-/// Whether each of the keys holds: no two of the tuples agree on its names.
-pub fn keys_hold(alloc: Global, keys: &[Vec<Name>], tuples: &[Tuple]) -> Result<bool, AllocError>
-    ensures { IfOk result (λ b. b ≡ keys_hold (map (λ key. key.items) keys.now) tuples.now) }
+/// The tuple's value at a place.
+fn value_at(tuple: &Tuple, place: usize) -> Option<&Value>
+    ensures { option_map (λ v. v.now) result ≡ slice_get (values_of tuple.now) place }
+{
+    tuple.values().get(place)
+}
+
+/// How a value that may be there stands to another one: none is before any.
+fn compare_found(value: Option<&Value>, other: Option<&Value>) -> Ordering
+    ensures { result ≡ option_cmp order (option_map (λ v. v.now) value.entry) (option_map (λ v. v.now) other.entry) }
+{
+    match (value, other) {
+        (Some(value), Some(other)) => value.cmp(other),
+        (Some(_), None) => Ordering::Greater,
+        (None, Some(_)) => Ordering::Less,
+        (None, None) => Ordering::Equal,
+    }
+}
+
+/// How two tuples stand by their values at the places.
+fn compare_at(places: &[usize], tuple: &Tuple, other: &Tuple) -> Ordering
+    ensures { result ≡ by_places places.now tuple.now other.now }
+{
+    for place in places {
+        match compare_found(value_at(tuple, *place), value_at(other, *place)) {
+            Ordering::Equal => {}
+            order => return order,
+        }
+    }
+    Ordering::Equal
+}
+
+/// Whether each of the tuples is before the next by its values at the places.
+fn ascend_at(places: &[usize], tuples: &[Tuple]) -> bool
+    ensures { IsAllAdjacentAnswer (λ s t b. b ≡ is_lt (by_places places.now s t)) tuples.now result }
+{
+    tuples.is_sorted_by(|tuple, next| compare_at(places, tuple, next).is_lt())
+}
+
+/// The tuples, sorted by their values at the places.
+fn sorted_at(places: &[usize], body: &Rel) -> Result<Vec<Tuple>, AllocError>
+    ensures permutation { IfOk result (λ v. IsPermutation body.now.rows v.items) }
+    ensures sorted { IfOk result (λ v. IsSortedBy (λ s t. is_lt (by_places places.now s t)) v.items) }
+{
+    let mut tuples = body.try_clone()?.into_rows()?;
+    tuples.sort_unstable_by(|tuple, other| compare_at(places, tuple, other));
+    Ok(tuples)
+}
+
+/// Whether no two tuples of the relation agree on the names of the key.
+fn key_holds(alloc: Global, key: &[Name], body: &Rel) -> Result<bool, AllocError>
+    ensures { IfOk result (λ b. b ≡ key_holds key.now body.now.rows) }
+{
+    let rows = body.rows();
+    let Some(first) = rows.first() else {
+        return Ok(true);
+    };
+    let places = places_of(alloc, first.names(), key)?;
+    if ascend_at(&places, rows) {
+        return Ok(true);
+    }
+    let sorted = sorted_at(&places, body)?;
+    Ok(ascend_at(&places, &sorted))
+}
+
+/// Whether each of the keys holds: no two tuples of the relation agree on its names.
+pub fn keys_hold(alloc: Global, keys: &[Vec<Name>], body: &Rel) -> Result<bool, AllocError>
+    ensures { IfOk result (λ b. b ≡ keys_hold (map (λ key. key.items) keys.now) body.now.rows) }
 {
     for key in keys {
-        if !key_holds(alloc, key, tuples)? {
+        if !key_holds(alloc, key, body)? {
             return Ok(false);
         }
     }

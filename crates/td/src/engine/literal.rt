@@ -1,10 +1,12 @@
 //! The relations that literals mean.
-ghost use Rattle.std.specs.Prelude.{◌≡◌, IfErr, IfOk, IsTrue, OnOk, false, true};
+ghost use Rattle.std.specs.Prelude.{◌≡◌, IfErr, IfOk, IsTrue, OnOk, false, map, true};
 ghost use Rattle.std.specs.List.{All};
 ghost use Rattle.td_value.specs.Sets.{set_of};
 ghost use Rattle.td_value.specs.Values.{IsTupleOf, tuple_order};
 ghost use Rattle.td_value.specs.Views.{relation_of};
 ghost use Rattle.td_types.specs.Headings.{are_distinct};
+ghost use Rattle.td_types.specs.Types as types;
+ghost use Rattle.td_types.specs.Views.{pairs_of};
 ghost use Rattle.td.specs.Answering.{Answers, RefusesBy};
 ghost use Rattle.td.specs.Meaning as spec;
 ghost use Rattle.td.specs.Meaning.{are_distinct_if, are_tuples, attribute_names, have_heading, literal_meaning, tuple_values, written};
@@ -18,17 +20,26 @@ use td_tree::name::Name;
 use td_types::ty::{Heading, Ty};
 use td_value::value::{Rel, Tuple, Value};
 
+/// The names, each with the type INTEGER.
+fn integers(alloc: Global, names: &[Name]) -> Result<Vec<(Name, Ty)>, AllocError>
+    ensures { IfOk result (λ v. pairs_of v.items ≡ map (λ n. (n, types.integer)) names.now) }
+{
+    let mut attributes = Vec::with_capacity(alloc, names.len())?;
+    for name in names {
+        let name = name.try_clone()?;
+        attributes.push((name, Ty::Int))?;
+    }
+    Ok(attributes)
+}
+
 /// The heading of these names, each of type INTEGER; HEADING where a name comes twice.
 pub fn integer_heading(alloc: Global, names: &[Name]) -> Result<Heading, Fault>
     ensures distinct { OnOk result (are_distinct names.now ≡ true) }
     ensures value { IfOk result (λ h. h ≡ spec.integer_heading names.now) }
     ensures fault { IfErr result (RefusesBy Cause.Heading (are_distinct names.now ≡ false)) }
 {
-    let mut heading = Heading::empty(alloc);
-    for name in names {
-        heading = heading.with(name.try_clone()?, Ty::Int)?;
-    }
-    Ok(heading)
+    let attributes = integers(alloc, names)?;
+    Heading::new(alloc, attributes)
 }
 
 /// The names with their values, in the order written.
@@ -44,14 +55,19 @@ fn entries(alloc: Global, attributes: &[AttributeValue]) -> Result<Vec<(Name, Va
     Ok(entries)
 }
 
-/// The tuple that a literal means; HEADING where a name comes twice.
-fn tuple_value(alloc: Global, literal: &TupleLiteral) -> Result<Tuple, Fault>
+/// The tuple that a literal means; HEADING where a name comes twice. It shares the names of the
+/// tuple before it where it has the same.
+fn tuple_value(
+    alloc: Global,
+    before: Option<&Tuple>,
+    literal: &TupleLiteral,
+) -> Result<Tuple, Fault>
     ensures distinct { OnOk result (are_distinct (attribute_names (tuple_of literal.now)) ≡ true) }
     ensures value { IfOk result (λ t. t ≡ spec.tuple_value (tuple_of literal.now)) }
     ensures fault { IfErr result (RefusesBy Cause.Heading (are_distinct (attribute_names (tuple_of literal.now)) ≡ false)) }
 {
     let entries = entries(alloc, &literal.attributes)?;
-    Tuple::new(alloc, entries)
+    Tuple::new_like(alloc, before, entries)
 }
 
 /// The tuples that literals mean; HEADING where a name comes twice in one.
@@ -62,7 +78,7 @@ fn tuples_value(alloc: Global, literals: &[TupleLiteral]) -> Result<Vec<Tuple>, 
 {
     let mut tuples = Vec::with_capacity(alloc, literals.len())?;
     for literal in literals {
-        let tuple = tuple_value(alloc, literal)?;
+        let tuple = tuple_value(alloc, tuples.last(), literal)?;
         tuples.push(tuple)?;
     }
     Ok(tuples)
@@ -108,7 +124,7 @@ fn have_heading(tuples: &[Tuple], heading: &Heading) -> bool
 }
 
 /// The relation with these tuples; HEADING where they have not all that heading.
-fn headed(heading: Heading, tuples: Vec<Tuple>) -> Result<Rel, Fault>
+pub fn headed(heading: Heading, tuples: Vec<Tuple>) -> Result<Rel, Fault>
     ensures fit { OnOk result (have_heading heading tuples.items ≡ true) }
     ensures value { IfOk result (λ r. r ≡ relation_of heading (set_of tuple_order tuples.items)) }
     ensures fault { IfErr result (RefusesBy Cause.Heading (have_heading heading tuples.items ≡ false)) }

@@ -116,7 +116,7 @@ fn target_holds(
     ensures legal { is_legal database.now ≡ true }
 {
     match database.get(target) {
-        Some(relvar) => keys_hold(alloc, &relvar.keys, body.rows()),
+        Some(relvar) => keys_hold(alloc, &relvar.keys, body),
         None => Ok(true),
     }
 }

@@ -1,11 +1,12 @@
 //! Keys that hold and keys that do not, with ample memory.
 use crate::engine::keys::keys_hold;
+use crate::engine::literal::headed;
 use std::alloc::Global;
 use std::test::Fail;
 use td_tree::cause::Cause;
 use td_tree::fault::Fault;
 use td_tree::name::{Name, is_name};
-use td_value::value::{Tuple, Value};
+use td_value::value::{Rel, Tuple, Value};
 
 fn name(alloc: Global, text: &str) -> Result<Name, Fault> {
     if !is_name(text) {
@@ -22,6 +23,15 @@ fn tuple(alloc: Global, a: i64, b: i64) -> Result<Tuple, Fault> {
     Tuple::new(alloc, pairs)
 }
 
+/// The relation of those tuples.
+fn relation(alloc: Global, pairs: &[(i64, i64)]) -> Result<Rel, Fault> {
+    let mut tuples = Vec::new(alloc);
+    for (a, b) in pairs {
+        tuples.push(tuple(alloc, *a, *b)?)?;
+    }
+    headed(tuple(alloc, 0, 0)?.heading(alloc)?, tuples)
+}
+
 /// The key of the names.
 fn key(alloc: Global, texts: &[&str]) -> Result<Vec<Name>, Fault> {
     let mut names = Vec::new(alloc);
@@ -34,19 +44,19 @@ fn key(alloc: Global, texts: &[&str]) -> Result<Vec<Name>, Fault> {
 #[test]
 fn no_two_tuples_agree_on_a_key(rt: HostRuntime) -> Result<(), Fail> {
     let alloc = rt.alloc();
-    let tuples = [
-        tuple(alloc, 1, 2)?,
-        tuple(alloc, 2, 2)?,
-        tuple(alloc, 3, 1)?,
-    ];
+    let one = relation(alloc, &[(1, 2)])?;
+    let r = relation(alloc, &[(1, 2), (2, 2), (3, 1)])?;
+    let falling = relation(alloc, &[(1, 3), (2, 2), (3, 1)])?;
     let (a, b, both) = (
         key(alloc, &["A"])?,
         key(alloc, &["B"])?,
         key(alloc, &["A", "B"])?,
     );
-    assert!(rt; keys_hold(alloc, &[both], &tuples)?);
-    assert!(rt; !keys_hold(alloc, &[key(alloc, &[])?], &tuples)?);
-    assert!(rt; keys_hold(alloc, &[key(alloc, &[])?], &tuples[..1])?);
-    assert!(rt; !keys_hold(alloc, &[a, b], &tuples)?);
+    assert!(rt; keys_hold(alloc, &[both], &r)?);
+    assert!(rt; !keys_hold(alloc, &[key(alloc, &[])?], &r)?);
+    assert!(rt; keys_hold(alloc, &[key(alloc, &[])?], &one)?);
+    let keys = [a, b];
+    assert!(rt; !keys_hold(alloc, &keys, &r)?);
+    assert!(rt; keys_hold(alloc, &keys, &falling)?);
     Ok(())
 }
