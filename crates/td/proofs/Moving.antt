@@ -1,40 +1,36 @@
 -- What a run leaves after one statement more, at its end, and at a fault.
-use Rattle.std.proofs.Common.{◌≡◌, ℕ, ◌+◌, ◌-◌, ◌<◌, ◌&&◌, Bool, true, false, nat_lt, if◌then◌else◌, List, [], ◌∷◌, ◌++◌, length, take, Option, Some, None, IfSome, refl, sym, ap, ◌∙◌, subst, arith, append_assoc, length-append, is_none, ◌⊎◌, inl, inr}
+use Rattle.std.proofs.Common.{◌≡◌, ℕ, ◌+◌, ◌-◌, ◌<◌, ◌&&◌, Bool, true, false, nat_lt, if◌then◌else◌, List, [], ◌∷◌, ◌++◌, length, take, Option, Some, None, Result, IfSome, refl, sym, ap, ◌∙◌, subst, arith, append_assoc, length-append, is_none, ◌⊎◌, inl, inr}
 use Rattle.std.proofs.KnownBytes.{Appends-trans, Appends-nil}
 use Rattle.std.proofs.Math.Seq.{take-append_seam, take-append-add}
 use Rattle.std.specs.Io.KnownBytes.{Appends}
 use Rattle.std.specs.String.{string_bytes}
 use Rattle.td_tree.specs.Statements.{Entry, Held, after, first_statement, statements}
 use Rattle.td_tree.specs.declared.cause.Cause.{Cause}
-use Rattle.td_tree.proofs.TakenLaws.{fewer_bytes, first_and_after, no_statement}
+use Rattle.td_tree.specs.declared.fault.Fault.{Fault}
+use Rattle.td_tree.proofs.TakenLaws.{fewer_bytes, first_and_after}
 use Rattle.td.specs.Database.{Database}
 use Rattle.td.specs.Faults.{IfMemory, IfWrite}
 use Rattle.td.specs.Machine.{Progress, Step, Steps, Runs, nothing, next, and_then, begun, has_stopped, refusals_of}
-use Rattle.td.specs.Moves.{HasRun, HasRunCut, IsAnswered, IsLeft, Reached}
-use Rattle.td.specs.Steps.{IsStep, step_of}
+use Rattle.td.specs.Moves.{HasRun, HasRunCut, IsLeft, IsReading, Reached}
+use Rattle.td.specs.Steps.{IsParsed, IsStep, step_of}
 use Rattle.td.specs.Told.{AppendsIfTold}
 use Rattle.td.specs.declared.engine.answer.Answer as code
+use Rattle.td.specs.declared.engine.tree.Statement.{Statement}
 use Rattle.td.specs.declared.run.RunFault.{RunFault}
 use Rattle.td.specs.declared.run.RunFault.TheVariants.{Memory, Read, ReadLimit, Write}
 use Rattle.td.proofs.Runs.{runs_append, runs_stopped}
 use Rattle.td.proofs.ToldLaws.{told_after}
 
--- a statement that is answered is the first of those held
-pub record Answered (o : Option (List Entry)) (old : Database) (answer : code.Answer) (new : Database) : Type 0 where
+-- the first of those held was run
+pub record Answered (held : Held) (old : Database) (answer : code.Answer) (new : Database) : Type 0 where
   pub statement : List Entry
-  pub is : o ≡ Some statement
+  pub is : first_statement held ≡ Some statement
   pub step : IsStep old statement answer new
 
-pub answered_some : (o : Option (List Entry)) (old : Database) (answer : code.Answer) (new : Database) → IsAnswered o old (Some answer) new → Answered o old answer new
-answered_some None old answer new h = absurd h
-answered_some (Some s) old answer new h = record { statement = s; is = refl; step = h }
-
-pub answered_none : (o : Option (List Entry)) (old new : Database) → IsAnswered o old None new → (o ≡ None) × (new ≡ old)
-answered_none None old new h = (refl, h)
-answered_none (Some s) old new h = absurd h
-
-pub answered_by : (o : Option (List Entry)) (old : Database) (found other : Option code.Answer) (new : Database) → IsAnswered o old found new → found ≡ other → IsAnswered o old other new
-answered_by o old found other new h same = subst (λ (f : Option code.Answer). IsAnswered o old f new) same h
+-- it was read, and what it was read as was carried out
+pub answered : (held : Held) (parsed : Result Statement Fault) (end : ℕ) (old : Database) (answer : code.Answer) (new : Database) → IsReading held parsed end
+    → ((tokens : List Entry) → IsParsed tokens parsed → IsStep old tokens answer new) → Answered held old answer new
+answered held parsed end old answer new r does = record { statement = r.statement; is = r.is; step = does r.statement r.means }
 
 -- the counts of refusals agree
 refused_more : (cause : Option Cause) (accepted : Bool) (refused more : ℕ) → accepted ≡ is_none cause → more ≡ refused + (if accepted then 0 else 1) → more ≡ refused + refusals_of cause
@@ -69,11 +65,10 @@ next_of : (script run : List (List Entry)) (held : Held) (x : List Entry) → sc
 next_of script run held x h first = h ∙ ap (λ t. run ++ t) (first_and_after held x first)
 
 pub reached_more : (stop : Bool) (old : Database) (script : List (List Entry)) (held : Held) (db new : Database) (answer : code.Answer) (before mid last : Option (List ℕ)) (count more refused more_refused : ℕ)
-    → (stop && nat_lt 0 refused) ≡ false → Reached stop old script held db before mid count refused → IsAnswered (first_statement held) db (Some answer) new
+    → (stop && nat_lt 0 refused) ≡ false → Reached stop old script held db before mid count refused → Answered held db answer new
     → Appends mid last (string_bytes answer.text) → more ≡ count + 1 → more_refused ≡ refused + (if answer.accepted then 0 else 1)
     → Reached stop old script (after held) new before last more more_refused
-reached_more stop old script held db new answer before mid last count more refused more_refused goes r answered wrote counted refusals =
-    let a = answered_some (first_statement held) db answer new answered in
+reached_more stop old script held db new answer before mid last count more refused more_refused goes r a wrote counted refusals =
     record {
       run = r.run ++ (a.statement ∷ []);
       cut = next_of script r.run held a.statement r.cut a.is ∙ sym (append_assoc r.run (a.statement ∷ []) (statements (after held).offset (after held).bytes));
@@ -124,11 +119,10 @@ has_run stop old script held db new before last count refused same r = record {
 
 -- one statement more was run, and its text is cut
 pub has_run_cut : (stop : Bool) (old : Database) (script : List (List Entry)) (held : Held) (db new : Database) (answer : code.Answer) (before mid last : Option (List ℕ)) (count refused done n : ℕ)
-    → (stop && nat_lt 0 refused) ≡ false → Reached stop old script held db before mid count refused → IsAnswered (first_statement held) db (Some answer) new
+    → (stop && nat_lt 0 refused) ≡ false → Reached stop old script held db before mid count refused → Answered held db answer new
     → AppendsIfTold mid last (take n (string_bytes answer.text)) → done ≡ count + 1
     → HasRunCut stop old script done new before last
-has_run_cut stop old script held db new answer before mid last count refused done n goes r answered cut counted =
-    let a = answered_some (first_statement held) db answer new answered in
+has_run_cut stop old script held db new answer before mid last count refused done n goes r a cut counted =
     let rest : List (List Entry) = statements (after held).offset (after held).bytes in
     let p : Progress = r.left.progress in
     let all : script ≡ r.run ++ (a.statement ∷ rest) = next_of script r.run held a.statement r.cut a.is in
@@ -176,11 +170,5 @@ none_run_at stop old left before (ReadLimit done) h = tt
 none_run_at stop old left before (Write done) h = tt
 
 -- a statement that was taken off took bytes off
-pub fewer_held : (held now : Held) (old : Database) (answer : code.Answer) (new : Database) → IsAnswered (first_statement held) old (Some answer) new → now ≡ after held → length now.bytes < length held.bytes
-fewer_held held now old answer new answered same =
-    let a = answered_some (first_statement held) old answer new answered in
-    omega (arith, fewer_bytes held a.statement a.is, ap (λ h. length h.bytes) same)
-
--- where none is held none is left
-pub none_held : (held : Held) (old new : Database) → IsAnswered (first_statement held) old None new → held.finished ≡ true → statements held.offset held.bytes ≡ []
-none_held held old new answered fed = no_statement held (answered_none (first_statement held) old new answered).0 fed
+pub fewer_held : (held now : Held) (old : Database) (answer : code.Answer) (new : Database) → Answered held old answer new → now ≡ after held → length now.bytes < length held.bytes
+fewer_held held now old answer new a same = omega (arith, fewer_bytes held a.statement a.is, ap (λ h. length h.bytes) same)

@@ -40,18 +40,24 @@ parsed ts t (Err (faults.Refused cause)) parses gives =
 
 -- ---- the engine's step
 
--- what the tree means was done
-pub parsed_is : {E : Type 0} (db new : Database) (ts : List Entry) (statement : Statement) (r : Result code.Answer E) → IsParsed ts (Ok statement)
-    → IfOk r (λ a. Does (stepped db (statement_of statement)) a new) → IfOk r (λ a. IsStep db ts a new)
-parsed_is db new ts statement (Err e) parses does = tt
-parsed_is db new ts statement (Ok a) parses does =
-    record { step = subst (λ s. Steps db ts s) (sym does.is) (parses db); accepted = does.accepted }
+-- what the tree means was done: a step of all tokens that were read as it
+pub parsed_is : {E : Type 0} (db new : Database) (statement : Statement) (r : Result code.Answer E)
+    → IfOk r (λ a. Does (stepped db (statement_of statement)) a new) → IfOk r (λ a. (ts : List Entry) → IsParsed ts (Ok statement) → IsStep db ts a new)
+parsed_is db new statement (Err e) does = tt
+parsed_is db new statement (Ok a) does =
+    λ ts parses. record { step = subst (λ s. Steps db ts s) (sym does.is) (parses db); accepted = does.accepted }
 
--- the tokens are refused
-pub refused_is : {E : Type 0} (db : Database) (ts : List Entry) (cause : Cause) (r : Result code.Answer E) → IsParsed ts (Err (faults.Refused cause))
+-- tokens that were refused by the cause are refused, on every database
+pub refused_is : {E : Type 0} (cause : Cause) (r : Result code.Answer E)
     → IfOk r (λ a. (a.accepted ≡ false) × (a.cause ≡ Some cause)) → IfOk r (λ a. string_bytes a.text ≡ line (refusal_text cause))
-    → IfOk r (λ a. IsStep db ts a db)
-refused_is db ts cause (Err e) parses flag printed = tt
-refused_is db ts cause (Ok a) parses flag printed =
+    → IfOk r (λ a. (db : Database) (ts : List Entry) → IsParsed ts (Err (faults.Refused cause)) → IsStep db ts a db)
+refused_is cause (Err e) flag printed = tt
+refused_is cause (Ok a) flag printed =
+    λ db ts parses.
     let does = refused_does db cause a flag printed in
     record { step = subst (λ s. Steps db ts s) (sym does.is) (parses db); accepted = does.accepted }
+
+pub refused_on : {E : Type 0} (r : Result code.Answer E) (fault : Fault) (now : Database)
+    → IfOk r (λ a. (db : Database) (ts : List Entry) → IsParsed ts (Err fault) → IsStep db ts a db) → IfOk r (λ a. (ts : List Entry) → IsParsed ts (Err fault) → IsStep now ts a now)
+refused_on (Err e) fault now does = tt
+refused_on (Ok a) fault now does = does now

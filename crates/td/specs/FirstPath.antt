@@ -25,10 +25,14 @@ numeral_in _ = None
 abbrev pub valued : Text → Numeral → AttributeValue
 valued n v = record { name = n; numeral = v }
 
+-- a name with a number
+abbrev pub attribute_in : Text → Tree → Option AttributeValue
+attribute_in n value = option_map (valued n) (numeral_in value)
+
 -- names with numbers
 abbrev pub attributes_in : NamedTrees → Option TupleLiteral
 attributes_in tree.none_named = Some []
-attributes_in (tree.more_named n value rest) = both (λ v others. valued n v ∷ others) (numeral_in value) (attributes_in rest)
+attributes_in (tree.more_named n value rest) = both (λ a others. a ∷ others) (attribute_in n value) (attributes_in rest)
 
 -- a tuple of numbers
 abbrev pub tuple_in : Tree → Option TupleLiteral

@@ -1,12 +1,13 @@
 -- What a run leaves (this project's own, in the words of the set machine).
-use Rattle.std.specs.Prelude.{◌≡◌, ℕ, ◌-◌, ◌<◌, ◌≤◌, Bool, List, ◌++◌, length, take, Option, None, Some}
+use Rattle.std.specs.Prelude.{◌≡◌, ℕ, ◌-◌, ◌<◌, ◌≤◌, Bool, List, ◌++◌, length, take, Option, Some, Result}
 use Rattle.std.specs.Io.KnownBytes.{Appends}
-use Rattle.td_tree.specs.Statements.{Entry, Held, statements}
+use Rattle.td_tree.specs.declared.fault.Fault.{Fault}
+use Rattle.td_tree.specs.Statements.{Entry, Held, behind, first_statement, statements}
 use Rattle.td.specs.Database.{Database}
 use Rattle.td.specs.Machine.{Progress, Runs, begun}
-use Rattle.td.specs.Steps.{IsStep}
+use Rattle.td.specs.Steps.{IsParsed}
 use Rattle.td.specs.Told.{AppendsIfTold}
-use Rattle.td.specs.declared.engine.answer.Answer as code
+use Rattle.td.specs.declared.engine.tree.Statement.{Statement}
 
 -- these statements were run from the old database: the new one, what was written after what was there, and the two counts
 pub record IsLeft (stop : Bool) (old : Database) (script : List (List Entry)) (new : Database) (before after : Option (List ℕ)) (count refused : ℕ) : Type 0 where
@@ -45,9 +46,9 @@ pub record Reached (stop : Bool) (old : Database) (script : List (List Entry)) (
   pub left : IsLeft stop old run new before after count refused
   pub each : length run ≡ count
 
--- the statement, where there is one, was run; where there is none the database is the same
-abbrev pub IsAnswered : Option (List Entry) → Database → Option code.Answer → Database → Type 0
-IsAnswered (Some statement) old (Some answer) new = IsStep old statement answer new
-IsAnswered (Some statement) old None new = ⊥
-IsAnswered None old (Some answer) new = ⊥
-IsAnswered None old None new = new ≡ old
+-- the first of the statements held was read, and it ends here
+pub record IsReading (held : Held) (parsed : Result Statement Fault) (end : ℕ) : Type 0 where
+  pub statement : List Entry
+  pub is : first_statement held ≡ Some statement
+  pub means : IsParsed statement parsed
+  pub ends : end ≡ behind held

@@ -1,6 +1,8 @@
 //! The engine of the first path: base relvars of INTEGER attributes, assignment and WRITE.
-ghost use Rattle.std.specs.Prelude.{◌≡◌, [], IfOk, OnErr};
-ghost use Rattle.td.specs.Steps.{IsStep};
+ghost use Rattle.std.specs.Prelude.{◌≡◌, [], List, Err, IfOk, OnErr};
+ghost use Rattle.td_tree.specs.Statements.{Entry};
+ghost use Rattle.td.specs.Database as databases;
+ghost use Rattle.td.specs.Steps.{IsParsed, IsStep};
 
 pub mod answer;
 pub mod database;
@@ -17,10 +19,21 @@ use crate::engine::answer::Answer;
 use crate::engine::database::Database;
 use crate::engine::first_path::parse;
 use crate::engine::statement::execute;
+use crate::engine::tree::Statement;
 use std::alloc::{AllocError, Global};
 use std::marker::Model;
 use td_scan::token::Token;
 use td_tree::fault::Fault;
+
+/// The answer to tokens that are refused.
+fn refusal(alloc: Global, fault: Fault) -> Result<Answer, AllocError>
+    ensures { IfOk result (λ answer. (db : databases.Database) (tokens : List Entry) → IsParsed tokens (Err fault) → IsStep db tokens answer db) }
+{
+    match fault {
+        Fault::Refused(cause) => Answer::refused(alloc, cause),
+        Fault::Memory => Err(AllocError),
+    }
+}
 
 /// An engine, seen as its database: it changes by statements alone.
 #[derive(Drop)]
@@ -55,10 +68,21 @@ impl Engine {
         ensures step { IfOk result (λ answer. IsStep self.old tokens.now answer self.new) }
         ensures err { OnErr result (self.new ≡ self.old) }
     {
-        match parse(alloc, tokens) {
+        self.carry_out(alloc, parse(alloc, tokens))
+    }
+
+    /// The same, for what its tokens were read as: they need not be kept so long.
+    pub fn carry_out(
+        &mut self,
+        alloc: Global,
+        parsed: Result<Statement, Fault>,
+    ) -> Result<Answer, AllocError>
+        ensures step { IfOk result (λ answer. (tokens : List Entry) → IsParsed tokens parsed → IsStep self.old tokens answer self.new) }
+        ensures err { OnErr result (self.new ≡ self.old) }
+    {
+        match parsed {
             Ok(statement) => execute(alloc, &mut self.database, statement),
-            Err(Fault::Refused(cause)) => Answer::refused(alloc, cause),
-            Err(Fault::Memory) => Err(AllocError),
+            Err(fault) => refusal(alloc, fault),
         }
     }
 }

@@ -1,18 +1,20 @@
 //! Whole runs: a script is read, each statement is run, each answer is written.
-ghost use Rattle.std.specs.Prelude.{◌≡◌, ℕ, ◌+◌, ◌<◌, ◌≤◌, ◌^◌, ◌&&◌, Bool, true, false, nat_lt, if◌then◌else◌, List, [], length, Option, IfOk, IfErr, IfSome, IsOk, OnOk, OnErr};
+ghost use Rattle.std.specs.Prelude.{◌≡◌, ℕ, ◌+◌, ◌<◌, ◌≤◌, ◌^◌, ◌&&◌, Bool, true, false, nat_lt, if◌then◌else◌, List, [], length, Option, None, IfOk, IfErr, IfNone, IfSome, IsOk, OnOk};
 ghost use Rattle.std.specs.Io.KnownBytes.{Appends, Consumes, IsAtEnd};
-ghost use Rattle.td_tree.specs.Statements.{Entry, after, first_statement, statements};
+ghost use Rattle.td_tree.specs.Statements.{Entry, first_statement, statements};
 ghost use Rattle.td.specs.Database.{Database};
 ghost use Rattle.td.specs.Faults.{IfMemory, IfNotMemory, IfRead, IfReadLimit, IfWrite};
-ghost use Rattle.td.specs.Moves.{HasRun, HasRunCut, IsAnswered, IsLeft, Reached};
+ghost use Rattle.td.specs.Moves.{HasRun, HasRunCut, IsLeft, IsReading, Reached};
 ghost use Rattle.td.specs.Told.{GaveAtMost, GaveMoreThan};
 
 use crate::engine::Engine;
-use crate::engine::answer::Answer;
+use crate::engine::first_path::parse;
+use crate::engine::tree::Statement;
 use crate::sink::{Sink, put_all};
 use crate::source::{Broken, Source};
 use std::alloc::{AllocError, Global};
 use td_scan::cutter::Cutter;
+use td_tree::fault::Fault;
 
 /// The most bytes that a script may have.
 pub const SCRIPT_LIMIT: u64 = 1_073_741_824;
@@ -96,23 +98,27 @@ fn read_all<R: Source>(alloc: Global, reader: &mut R) -> Result<Cutter, RunFault
     Err(RunFault::ReadLimit { done: 0 })
 }
 
-/// Runs the first statement of those held and answers it, if there is one.
-fn next_answer(
-    alloc: Global,
-    engine: &mut Engine,
-    cutter: &Cutter,
-) -> Result<Option<Answer>, AllocError>
-    ensures answered { IfOk result (λ found. IsAnswered (first_statement cutter.now) engine.old found engine.new) }
-    ensures err { OnErr result (engine.new ≡ engine.old) }
+/// The first statement of those held, read, and where it ends in the script.
+#[derive(Drop)]
+struct Reading {
+    parsed: Result<Statement, Fault>,
+    end: u64,
+}
+
+/// Reads the first statement of those held, if there is one. Its tokens are let go.
+fn read_first(alloc: Global, cutter: &Cutter) -> Result<Option<Reading>, AllocError>
+    ensures some { IfOk result (λ found. IfSome found (λ reading. IsReading cutter.now reading.parsed reading.end)) }
+    ensures none { IfOk result (λ found. IfNone found (first_statement cutter.now ≡ None)) }
 {
-    match cutter.next_statement() {
-        Ok(Some(tokens)) => match engine.step(alloc, tokens.as_slice()) {
-            Ok(answer) => Ok(Some(answer)),
-            Err(error) => Err(error),
-        },
-        Ok(None) => Ok(None),
-        Err(error) => Err(error),
-    }
+    let Some(tokens) = cutter.next_statement()? else {
+        return Ok(None);
+    };
+    let Some(last) = tokens.last() else {
+        unreachable!()
+    };
+    let end = last.stop();
+    let parsed = parse(alloc, tokens.as_slice());
+    Ok(Some(Reading { parsed, end }))
 }
 
 /// Runs the first statement of those held, takes it off and writes its answer whole. It answers
@@ -149,12 +155,15 @@ fn run_one<W: Sink>(
     ensures limit { IfErr result (IfReadLimit (λ done. ⊥)) }
 {
     let done = report.statements;
-    let answer = match next_answer(alloc, engine, cutter) {
-        Ok(Some(answer)) => answer,
+    let reading = match read_first(alloc, cutter) {
+        Ok(Some(reading)) => reading,
         Ok(None) => return Ok(false),
         Err(_) => return Err(RunFault::Memory { done }),
     };
-    cutter.take_statement();
+    cutter.take_to(reading.end);
+    let Ok(answer) = engine.carry_out(alloc, reading.parsed) else {
+        return Err(RunFault::Memory { done });
+    };
     report.count(answer.accepted);
     let done = report.statements;
     match put_all(writer, answer.text.as_bytes()) {

@@ -1,18 +1,18 @@
 //! The first path's trees among all: what its grammar doesn't spell is SYNTAX.
-ghost use Rattle.std.specs.Prelude.{◌≡◌, IfOk, map, option_map};
+ghost use Rattle.std.specs.Prelude.{map, option_map};
 ghost use Rattle.td_parse.specs.Parsing.{Gives};
 ghost use Rattle.td_tree.specs.TreeViews.{assignment_of, heading_of, named_of, tree_of, trees_of, type_of};
 ghost use Rattle.td_tree.specs.TreeViews as tree_views;
 ghost use Rattle.td.specs.FirstPath as spec;
 ghost use Rattle.td.specs.Steps.{IsParsed};
-ghost use Rattle.td.specs.TreeViews.{attributes_of, expression_of, numeral_of, operand_of, statement_of, tuple_of, tuples_of};
+ghost use Rattle.td.specs.TreeViews.{attribute_of, attributes_of, expression_of, numeral_of, operand_of, statement_of, tuple_of, tuples_of};
 
 use crate::engine::number::Numeral;
 use crate::engine::tree::{
     Assignment, AttributeValue, Definition, Expression, Operand, RelationLiteral, Statement,
     TupleLiteral,
 };
-use std::alloc::{AllocError, Global};
+use std::alloc::Global;
 use td_parse::statement::parse_statement;
 use td_scan::token::Token;
 use td_tree::cause::Cause;
@@ -41,24 +41,37 @@ fn numeral(tree: &Expr) -> Result<Numeral, Fault>
     }
 }
 
+/// An attribute's name with its number.
+#[tactic(auto, using(crate::proofs::FirstPaths::no_attribute))]
+fn attribute(part: NamedExpr) -> Result<AttributeValue, Fault>
+    ensures { Gives attribute_of result (spec.attribute_in part.name (tree_of part.value)) }
+{
+    match numeral(&part.value) {
+        Ok(numeral) => Ok(AttributeValue {
+            name: part.name,
+            numeral,
+        }),
+        Err(fault) => Err(fault),
+    }
+}
+
 /// A tuple of numbers, by its parts.
 #[tactic(auto, using(crate::proofs::FirstPaths::none_before, crate::proofs::FirstPaths::none_behind, crate::proofs::FirstPaths::one_more))]
-fn attributes(alloc: Global, parts: &[NamedExpr]) -> Result<TupleLiteral, Fault>
-    ensures { Gives tuple_of result (spec.attributes_in (named_of parts.now)) }
+fn attributes(alloc: Global, parts: Vec<NamedExpr>) -> Result<TupleLiteral, Fault>
+    ensures { Gives tuple_of result (spec.attributes_in (named_of parts.items)) }
 {
     let mut attributes = Vec::with_capacity(alloc, parts.len())?;
     for part in parts {
-        let numeral = numeral(&part.value)?;
-        let name = part.name.try_clone()?;
-        attributes.push(AttributeValue { name, numeral })?;
+        let attribute = attribute(part)?;
+        attributes.push(attribute)?;
     }
     Ok(TupleLiteral { attributes })
 }
 
 /// A tuple of numbers.
 #[tactic(auto, using(td_tree::proofs::Rows::tuple_is))]
-fn tuple(alloc: Global, tree: &Expr) -> Result<TupleLiteral, Fault>
-    ensures { Gives tuple_of result (spec.tuple_in (tree_of tree.now)) }
+fn tuple(alloc: Global, tree: Expr) -> Result<TupleLiteral, Fault>
+    ensures { Gives tuple_of result (spec.tuple_in (tree_of tree)) }
 {
     match tree {
         Expr::Tuple(parts) => attributes(alloc, parts),
@@ -68,8 +81,8 @@ fn tuple(alloc: Global, tree: &Expr) -> Result<TupleLiteral, Fault>
 
 /// Tuples of numbers.
 #[tactic(auto, using(crate::proofs::FirstPaths::none_before, crate::proofs::FirstPaths::none_behind, crate::proofs::FirstPaths::one_more))]
-fn tuples(alloc: Global, elements: &[Expr]) -> Result<Vec<TupleLiteral>, Fault>
-    ensures { Gives (λ v. tuples_of v.items) result (spec.tuples_in (trees_of elements.now)) }
+fn tuples(alloc: Global, elements: Vec<Expr>) -> Result<Vec<TupleLiteral>, Fault>
+    ensures { Gives (λ v. tuples_of v.items) result (spec.tuples_in (trees_of elements.items)) }
 {
     let mut tuples = Vec::with_capacity(alloc, elements.len())?;
     for element in elements {
@@ -80,19 +93,19 @@ fn tuples(alloc: Global, elements: &[Expr]) -> Result<Vec<TupleLiteral>, Fault>
 }
 
 /// The name of an attribute of type INTEGER.
-fn integer_name(attribute: &AttributeTree) -> Result<Name, Fault>
-    ensures { Gives (λ n. n) result (spec.integer_name attribute.now.name (type_of attribute.now.ty)) }
+fn integer_name(attribute: AttributeTree) -> Result<Name, Fault>
+    ensures { Gives (λ n. n) result (spec.integer_name attribute.name (type_of attribute.ty)) }
 {
     match attribute.ty {
-        TypeTree::Integer => Ok(attribute.name.try_clone()?),
+        TypeTree::Integer => Ok(attribute.name),
         _ => Err(SYNTAX),
     }
 }
 
 /// The names of a heading of INTEGER attributes.
 #[tactic(auto, using(crate::proofs::FirstPaths::none_before, crate::proofs::FirstPaths::none_behind, crate::proofs::FirstPaths::one_more))]
-fn names(alloc: Global, heading: &[AttributeTree]) -> Result<Vec<Name>, Fault>
-    ensures { Gives (λ v. v.items) result (spec.names_in (heading_of heading.now)) }
+fn names(alloc: Global, heading: Vec<AttributeTree>) -> Result<Vec<Name>, Fault>
+    ensures { Gives (λ v. v.items) result (spec.names_in (heading_of heading.items)) }
 {
     let mut names = Vec::with_capacity(alloc, heading.len())?;
     for attribute in heading {
@@ -103,8 +116,8 @@ fn names(alloc: Global, heading: &[AttributeTree]) -> Result<Vec<Name>, Fault>
 }
 
 /// A relation with its heading.
-fn headed(alloc: Global, heading: &[AttributeTree], elements: &[Expr]) -> Result<Operand, Fault>
-    ensures { Gives operand_of result (spec.headed_in (heading_of heading.now) (trees_of elements.now)) }
+fn headed(alloc: Global, heading: Vec<AttributeTree>, elements: Vec<Expr>) -> Result<Operand, Fault>
+    ensures { Gives operand_of result (spec.headed_in (heading_of heading.items) (trees_of elements.items)) }
 {
     let heading = names(alloc, heading)?;
     let tuples = tuples(alloc, elements)?;
@@ -116,11 +129,11 @@ fn headed(alloc: Global, heading: &[AttributeTree], elements: &[Expr]) -> Result
 
 /// A relvar's name, or a relation as it is written.
 #[tactic(auto, using(td_tree::proofs::Rows::relation_is, td_tree::proofs::Rows::headed_relation_is))]
-fn operand(alloc: Global, tree: &Expr) -> Result<Operand, Fault>
-    ensures { Gives operand_of result (spec.operand_in (tree_of tree.now)) }
+fn operand(alloc: Global, tree: Expr) -> Result<Operand, Fault>
+    ensures { Gives operand_of result (spec.operand_in (tree_of tree)) }
 {
     match tree {
-        Expr::Name(name) => Ok(Operand::Relvar(name.try_clone()?)),
+        Expr::Name(name) => Ok(Operand::Relvar(name)),
         Expr::Relation(elements) => Ok(Operand::Literal(RelationLiteral {
             heading: None,
             tuples: tuples(alloc, elements)?,
@@ -143,51 +156,33 @@ fn joined(left: Expression, operator: Operator, right: Operand) -> Result<Expres
 }
 
 /// Operands with UNION between.
-fn expression(alloc: Global, tree: &Expr) -> Result<Expression, Fault>
-    ensures { Gives expression_of result (spec.expression_in (tree_of tree.now)) }
+fn expression(alloc: Global, tree: Expr) -> Result<Expression, Fault>
+    ensures { Gives expression_of result (spec.expression_in (tree_of tree)) }
 {
     match tree {
         Expr::Binary(left, operator, right) => {
-            let left = expression(alloc, left)?;
-            let right = operand(alloc, right)?;
-            joined(left, *operator, right)
+            let left = expression(alloc, Box::into_inner(left))?;
+            let right = operand(alloc, Box::into_inner(right))?;
+            joined(left, operator, right)
         }
-        _ => Ok(Expression::single(alloc, operand(alloc, tree)?)),
+        other => Ok(Expression::single(alloc, operand(alloc, other)?)),
     }
-}
-
-/// A copy of names.
-fn copied(alloc: Global, names: &[Name]) -> Result<Vec<Name>, AllocError>
-    ensures { IfOk result (λ copy. copy.items ≡ names.now) }
-{
-    let mut copy = Vec::with_capacity(alloc, names.len())?;
-    for name in names {
-        copy.push(name.try_clone()?)?;
-    }
-    Ok(copy)
-}
-
-/// A copy of the names of keys.
-fn copied_keys(alloc: Global, keys: &[Vec<Name>]) -> Result<Vec<Vec<Name>>, AllocError>
-    ensures { IfOk result (λ copy. map (λ key. key.items) copy.items ≡ map (λ key. key.items) keys.now) }
-{
-    let mut copy = Vec::with_capacity(alloc, keys.len())?;
-    for key in keys {
-        copy.push(copied(alloc, key)?)?;
-    }
-    Ok(copy)
 }
 
 /// A definition of a base relvar without an initial value.
-fn definition(alloc: Global, tree: &trees::BaseDefinition) -> Result<Statement, Fault>
-    ensures { Gives statement_of result (spec.definition_in tree.now.name (heading_of tree.now.heading.items) (option_map tree_of tree.now.init) (map (λ key. key.items) tree.now.keys.items)) }
+fn definition(alloc: Global, tree: trees::BaseDefinition) -> Result<Statement, Fault>
+    ensures { Gives statement_of result (spec.definition_in tree.name (heading_of tree.heading.items) (option_map tree_of tree.init) (map (λ key. key.items) tree.keys.items)) }
 {
-    if tree.init.is_some() {
+    let trees::BaseDefinition {
+        name,
+        heading,
+        init,
+        keys,
+    } = tree;
+    if init.is_some() {
         return Err(SYNTAX);
     }
-    let name = tree.name.try_clone()?;
-    let heading = names(alloc, &tree.heading)?;
-    let keys = copied_keys(alloc, &tree.keys)?;
+    let heading = names(alloc, heading)?;
     Ok(Statement::Define(Definition {
         name,
         heading,
@@ -196,12 +191,12 @@ fn definition(alloc: Global, tree: &trees::BaseDefinition) -> Result<Statement, 
 }
 
 /// One assignment.
-fn assignment(alloc: Global, tree: &trees::Assignment) -> Result<Statement, Fault>
-    ensures { Gives statement_of result (spec.assignment_in (assignment_of tree.now)) }
+fn assignment(alloc: Global, tree: trees::Assignment) -> Result<Statement, Fault>
+    ensures { Gives statement_of result (spec.assignment_in (assignment_of tree)) }
 {
     match tree {
         trees::Assignment::Assign(target, source) => Ok(Statement::Assign(Assignment {
-            target: target.try_clone()?,
+            target,
             source: expression(alloc, source)?,
         })),
         _ => Err(SYNTAX),
@@ -209,18 +204,22 @@ fn assignment(alloc: Global, tree: &trees::Assignment) -> Result<Statement, Faul
 }
 
 /// One assignment, alone.
-fn assignments(alloc: Global, trees: &[trees::Assignment]) -> Result<Statement, Fault>
-    ensures { Gives statement_of result (spec.assignments_in (map assignment_of trees.now)) }
+fn assignments(alloc: Global, trees: Vec<trees::Assignment>) -> Result<Statement, Fault>
+    ensures { Gives statement_of result (spec.assignments_in (map assignment_of trees.items)) }
 {
-    match trees {
-        [tree] => assignment(alloc, tree),
-        _ => Err(SYNTAX),
+    let mut trees = trees;
+    if trees.len() != 1 {
+        return Err(SYNTAX);
+    }
+    match trees.pop() {
+        Some(tree) => assignment(alloc, tree),
+        None => Err(SYNTAX),
     }
 }
 
 /// The first path's tree, where the statement is one.
-fn first_path(alloc: Global, tree: &trees::Statement) -> Result<Statement, Fault>
-    ensures { Gives statement_of result (spec.first_path (tree_views.statement_of tree.now)) }
+fn first_path(alloc: Global, tree: trees::Statement) -> Result<Statement, Fault>
+    ensures { Gives statement_of result (spec.first_path (tree_views.statement_of tree)) }
 {
     match tree {
         trees::Statement::Empty => Ok(Statement::Empty),
@@ -238,5 +237,5 @@ pub fn parse(alloc: Global, tokens: &[Token<'_>]) -> Result<Statement, Fault>
     ensures { IsParsed tokens.now result }
 {
     let tree = parse_statement(alloc, tokens)?;
-    first_path(alloc, &tree)
+    first_path(alloc, tree)
 }

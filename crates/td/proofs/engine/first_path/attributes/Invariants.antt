@@ -1,4 +1,5 @@
-use Rattle.std.proofs.Common.{◌≡◌, drop}
+use Rattle.std.proofs.Common.{◌≡◌}
+use Rattle.std.specs.Vec.Iter.{into_iter_items}
 use Rattle.td_tree.specs.TreeViews.{named_of}
 use Rattle.td.specs.FirstPath.{attributes_in}
 use Rattle.td.specs.TreeViews.{attributes_of}
@@ -6,4 +7,4 @@ use Rattle.td.proofs.FirstPaths.{behind}
 use Rattle.td.proofs.engine.first_path.attributes.Given as goal
 
 abbrev pub invariant-loop-part : goal.invariant-loop-part
-invariant-loop-part l = behind (attributes_of l.attributes.items) (attributes_in (named_of (drop l.part-index l.parts))) ≡ attributes_in (named_of l.parts)
+invariant-loop-part l = behind (attributes_of l.attributes.items) (attributes_in (named_of (into_iter_items l.part-iterator))) ≡ attributes_in (named_of l.fn.parts.items)
