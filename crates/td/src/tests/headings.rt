@@ -1,12 +1,12 @@
 //! Each call that can want memory, with ample memory, and the texts of types.
-use td_types::text::{put_relation_type, type_text};
-use td_types::ty::{Heading, Ty};
 use std::alloc::{AllocError, Global};
 use std::collections::HashSet;
 use std::test::Fail;
 use td_tree::cause::Cause;
 use td_tree::fault::Fault;
 use td_tree::name::{Name, is_name};
+use td_types::text::{put_relation_type, type_text};
+use td_types::ty::{Heading, Ty};
 
 fn name(alloc: Global, text: &str) -> Result<Name, Fault> {
     if !is_name(text) {
@@ -30,27 +30,57 @@ fn shown(alloc: Global, heading: &Heading) -> Result<String, AllocError> {
     Ok(text)
 }
 
+/// Whether the heading is of integers of these names.
+fn is_of(alloc: Global, heading: &Heading, names: &[&str]) -> Result<bool, Fault> {
+    Ok(*heading == integers(alloc, names)?)
+}
+
 #[test]
-fn one_heading_makes_another(rt: HostRuntime) -> Result<(), Fail> {
+fn a_heading_and_its_text(rt: HostRuntime) -> Result<(), Fail> {
     let alloc = rt.alloc();
-    let (a, b, c) = (name(alloc, "A")?, name(alloc, "B")?, name(alloc, "C")?);
-    let h = integers(alloc, &["B", "A"])?;
-    let without = h.without(&b)?;
-    let project = h.project(&[a.try_clone()?])?;
-    let rename = h.rename(&[(a, c)])?;
+    let heading = integers(alloc, &["B", "A"])?;
     assert_eq!(rt;
-        shown(alloc, &h)?.as_str(),
+        shown(alloc, &heading)?.as_str(),
         "RELATION {A INTEGER, B INTEGER}"
     );
-    assert_eq!(rt; shown(alloc, &without)?.as_str(), "RELATION {A INTEGER}");
-    assert!(rt; project == without);
-    assert!(rt; h.common(&h)? == h);
-    assert!(rt; h.union(&h)? == h);
-    assert!(rt; h.try_clone()? == h);
-    assert_eq!(rt;
-        shown(alloc, &rename)?.as_str(),
-        "RELATION {B INTEGER, C INTEGER}"
-    );
+    assert!(rt; is_of(alloc, &heading.try_clone()?, &["A", "B"])?);
+    Ok(())
+}
+
+#[test]
+fn a_heading_has_parts(rt: HostRuntime) -> Result<(), Fail> {
+    let alloc = rt.alloc();
+    let heading = integers(alloc, &["A", "B"])?;
+    assert!(rt; is_of(alloc, &heading.without(&name(alloc, "B")?)?, &["A"])?);
+    assert!(rt; is_of(alloc, &heading.project(&[name(alloc, "A")?])?, &["A"])?);
+    Ok(())
+}
+
+#[test]
+fn a_heading_with_itself(rt: HostRuntime) -> Result<(), Fail> {
+    let alloc = rt.alloc();
+    let heading = integers(alloc, &["A", "B"])?;
+    assert!(rt; heading.common(&heading)? == heading);
+    assert!(rt; heading.union(&heading)? == heading);
+    Ok(())
+}
+
+#[test]
+fn an_attribute_is_renamed(rt: HostRuntime) -> Result<(), Fail> {
+    let alloc = rt.alloc();
+    let renaming = [(name(alloc, "A")?, name(alloc, "C")?)];
+    let renamed = integers(alloc, &["A", "B"])?.rename(&renaming)?;
+    assert!(rt; is_of(alloc, &renamed, &["B", "C"])?);
+    Ok(())
+}
+
+#[test]
+fn a_heading_by_one_list(rt: HostRuntime) -> Result<(), Fail> {
+    let alloc = rt.alloc();
+    let mut attributes = Vec::new(alloc);
+    attributes.push((name(alloc, "B")?, Ty::Int))?;
+    attributes.push((name(alloc, "A")?, Ty::Int))?;
+    assert!(rt; is_of(alloc, &Heading::new(alloc, attributes)?, &["A", "B"])?);
     Ok(())
 }
 

@@ -1,12 +1,13 @@
 mod heights;
 mod operators;
 mod primaries;
+mod prints;
 mod statements;
 mod trees;
 mod types;
 
-use td_parse::statement::parse_statement;
 use std::alloc::Global;
+use td_parse::statement::parse_statement;
 use td_scan::cutter::Cutter;
 use td_tree::cause::Cause;
 use td_tree::fault::Fault;

@@ -3,13 +3,13 @@ ghost use Rattle.std.specs.Prelude.{IsTrue};
 ghost use Rattle.std.specs.List.{All};
 ghost use Rattle.td_value.specs.Values.{IsTupleOf};
 
-use td_value::value::{Node, Rel, Tuple, User, Value};
 use std::alloc::Global;
 use std::test::Fail;
 use td_tree::cause::Cause;
 use td_tree::fault::Fault;
 use td_tree::name::{Name, is_name};
 use td_types::ty::{Heading, Ty};
+use td_value::value::{Node, Rel, Tuple, User, Value};
 
 fn name(alloc: Global, text: &str) -> Result<Name, Fault> {
     if !is_name(text) {

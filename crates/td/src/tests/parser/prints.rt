@@ -1,0 +1,63 @@
+//! Expressions that are read, copied and printed.
+use super::passes;
+use std::alloc::{AllocError, Global};
+use td_tree::expression::Expr;
+use td_tree::print::print_expr;
+use td_tree::statement::Statement;
+
+/// A script that writes an expression, with the expression's text and height.
+struct Row {
+    script: &'static str,
+    text: &'static str,
+    height: u64,
+}
+
+const ROWS: [Row; 4] = [
+    Row {
+        script: "WRITE COUNT(P)<10;",
+        text: "COUNT ( P ) < 10",
+        height: 3,
+    },
+    Row {
+        script: "WRITE a+007*-3;",
+        text: "a + 7 * - 3",
+        height: 3,
+    },
+    Row {
+        script: "WRITE R where not A=-5 or the_q(B)=1;",
+        text: "R WHERE NOT A = - 5 OR THE_q ( B ) = 1",
+        height: 5,
+    },
+    Row {
+        script: "WRITE --0;",
+        text: "- - 0",
+        height: 2,
+    },
+];
+
+/// Whether a copy of the expression has this text and height.
+fn is_printed(alloc: Global, tree: &Expr, row: &Row) -> Result<bool, AllocError> {
+    let copy = tree.try_clone()?;
+    let text = print_expr(alloc, &copy)?;
+    Ok(text.as_str() == row.text && copy.height() == row.height)
+}
+
+fn writes(alloc: Global, statement: &Statement, row: &Row) -> bool {
+    match statement {
+        Statement::Write(tree) => is_printed(alloc, tree, row) == Ok(true),
+        _ => false,
+    }
+}
+
+#[test]
+fn expressions_are_printed(rt: HostRuntime) {
+    let alloc = rt.alloc();
+    for row in &ROWS {
+        let found = passes(
+            alloc,
+            row.script.as_bytes(),
+            |statement| writes(alloc, statement, row),
+        );
+        assert!(rt; found == Ok(true));
+    }
+}
