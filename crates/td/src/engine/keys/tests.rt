@@ -2,7 +2,6 @@
 use crate::engine::keys::keys_hold;
 use crate::engine::literal::headed;
 use std::alloc::Global;
-use std::test::Fail;
 use td_tree::cause::Cause;
 use td_tree::fault::Fault;
 use td_tree::name::{Name, is_name};
@@ -41,22 +40,21 @@ fn key(alloc: Global, texts: &[&str]) -> Result<Vec<Name>, Fault> {
     Ok(names)
 }
 
+/// Whether the key of these names holds of the relation of these tuples.
+fn holds(alloc: Global, texts: &[&str], pairs: &[(i64, i64)]) -> Result<bool, Fault> {
+    let body = relation(alloc, pairs)?;
+    let keys = [key(alloc, texts)?];
+    Ok(keys_hold(alloc, &keys, &body)?)
+}
+
 #[test]
-fn no_two_tuples_agree_on_a_key(rt: HostRuntime) -> Result<(), Fail> {
+fn no_two_tuples_agree_on_a_key(rt: HostRuntime) {
     let alloc = rt.alloc();
-    let one = relation(alloc, &[(1, 2)])?;
-    let r = relation(alloc, &[(1, 2), (2, 2), (3, 1)])?;
-    let falling = relation(alloc, &[(1, 3), (2, 2), (3, 1)])?;
-    let (a, b, both) = (
-        key(alloc, &["A"])?,
-        key(alloc, &["B"])?,
-        key(alloc, &["A", "B"])?,
-    );
-    assert!(rt; keys_hold(alloc, &[both], &r)?);
-    assert!(rt; !keys_hold(alloc, &[key(alloc, &[])?], &r)?);
-    assert!(rt; keys_hold(alloc, &[key(alloc, &[])?], &one)?);
-    let keys = [a, b];
-    assert!(rt; !keys_hold(alloc, &keys, &r)?);
-    assert!(rt; keys_hold(alloc, &keys, &falling)?);
-    Ok(())
+    let pairs = [(1, 2), (2, 2), (3, 1)];
+    assert!(rt; holds(alloc, &["A", "B"], &pairs) == Ok(true));
+    assert!(rt; holds(alloc, &["A"], &pairs) == Ok(true));
+    assert!(rt; holds(alloc, &["B"], &pairs) == Ok(false));
+    assert!(rt; holds(alloc, &["B"], &[(1, 3), (2, 2), (3, 1)]) == Ok(true));
+    assert!(rt; holds(alloc, &[], &pairs) == Ok(false));
+    assert!(rt; holds(alloc, &[], &[(1, 2)]) == Ok(true));
 }
