@@ -24,7 +24,7 @@ read_crates() {
         crates+=("$name")
         needs[$name]=${BASH_REMATCH[2]}
         stage[$name]=waiting
-    done <"$top/crates.txt"
+    done <crates.txt
 }
 
 # Whether a crate waits for no other any more.
@@ -36,11 +36,37 @@ is_ready() {
     done
 }
 
+# Makes a place where a crate is built by itself, since rt keeps all crates below it from others while it works: the crate
+# with what is kept of it, and the libraries below it.
+lay_out() {
+    local crate place=$places/$1
+    mkdir -p "$place/crates"
+    cp crates.txt HANDLES "$place"
+    for crate in "${crates[@]}"; do
+        mkdir -p "$place/crates/$crate"
+        find "crates/$crate" -mindepth 1 -maxdepth 1 ! -name out -exec cp -a -t "$place/crates/$crate" {} +
+        if [ "${stage[$crate]}" = built ]; then
+            mkdir -p "$place/crates/$crate/out"
+            cp -al "crates/$crate/out/rlib" "$place/crates/$crate/out" 2>/dev/null ||
+                cp -a "crates/$crate/out/rlib" "$place/crates/$crate/out"
+        fi
+    done
+    [ ! -e "crates/$1/out" ] || mv "crates/$1/out" "$place/crates/$1"
+}
+
+# Takes what was built, or kept, out of a crate's place.
+take_back() {
+    local out=$places/$1/crates/$1/out
+    [ ! -e "$out" ] || mv "$out" "crates/$1"
+    rm -rf "${places:?}/$1"
+}
+
 # Builds td itself by a run of it, and every other crate as a library.
 start() {
     local name=$1 words=(lib --jobs "$(nproc)")
     [ "$name" = td ] && words=(run --jobs "$(nproc)" -- run)
-    (cd "$top/crates/$name" && exec rt "${words[@]}") </dev/null >"$logs/$name" 2>&1 &
+    lay_out "$name"
+    (cd "$places/$name/crates/$name" && exec rt "${words[@]}") </dev/null >"$places/$name.log" 2>&1 &
     built_by[$!]=$name
     stage[$name]=building
     begun=$((begun + 1))
@@ -54,26 +80,40 @@ build() {
             is_ready "$name" && start "$name"
         done
         if ! wait -n -p ended; then
-            cat "$logs/${built_by[$ended]}" >&2
+            cat "$places/${built_by[$ended]}.log" >&2
             return 1
         fi
+        take_back "${built_by[$ended]}"
         stage[${built_by[$ended]}]=built
         left=$((left - 1))
     done
 }
 
-if ! is_current; then
-    logs=$(mktemp -d)
-    trap 'rm -rf "$logs"' EXIT
-    trap 'kill $(jobs -p) 2>/dev/null; exit 3' INT TERM
+# Ends what still builds, and keeps what it has done so far.
+leave() {
+    local name
+    kill $(jobs -p) 2>/dev/null
+    wait
+    for name in "${crates[@]}"; do
+        [ "${stage[$name]}" = building ] && take_back "$name"
+    done
+    rm -rf "$places"
+}
+
+build_all() {
+    cd "$top" || return 1
+    places=$(mktemp -d) || return 1
+    trap leave EXIT
+    trap 'exit 1' INT TERM
     read_crates
-    if ! build; then
-        kill $(jobs -p) 2>/dev/null
+    build
+}
+
+if ! is_current; then
+    if ! (build_all); then
         echo "td: cannot be built" >&2
         exit 3
     fi
     touch "$stamp"
-    rm -rf "$logs"
-    trap - EXIT INT TERM
 fi
 exec "$binary" "$@"
