@@ -1,6 +1,7 @@
 -- The children of a tree, as the code stores them, are the list of their vector.
-use Rattle.std.proofs.Common.{◌≡◌, refl, ap, ◌∙◌}
+use Rattle.std.proofs.Common.{◌≡◌, refl, sym, ap, subst, ◌∙◌, Result}
 use Rattle.std.specs.Global.{Box, Vec}
+use Rattle.td_tree.specs.Copies.{Copied}
 use Rattle.td_tree.specs.declared.expression.Attributes.{Attributes}
 use Rattle.td_tree.specs.declared.expression.Expr.{Expr, Row_of-Expr, end_of-Expr, more_of-Expr, items-the_row-Expr, items_hidden-the_row-Expr-0, Row_of-NamedExpr, end_of-NamedExpr, more_of-NamedExpr, items-the_row-NamedExpr, items_hidden-the_row-NamedExpr-1, Row_of-Summary, end_of-Summary, more_of-Summary, items-the_row-Summary, items_hidden-the_row-Summary-2}
 use Rattle.td_tree.specs.declared.expression.Expr.TheVariants as e
@@ -93,3 +94,7 @@ pub summarize_by_is : (b : Box Expr) (by : Attributes) (v : Vec Summary) → tre
 summarize_by_is b by v =
     let row = summary_row (e.SummarizeBy b by v) in
     ap (trees.summarize_by (tree_of b.value) (attributes_of by)) (summary_rows row.0 row.1 ∙ ap summaries_of (items_hidden-the_row-Summary-2 v))
+
+-- a copy of a tree is one of what is the same tree
+pub copied_as : {E : Type 0} (result : Result Expr E) (a b : trees.Tree) → Copied result a → b ≡ a → Copied result b
+copied_as result a b copied same = subst (λ t. Copied result t) (sym same) copied

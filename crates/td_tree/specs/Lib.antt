@@ -1,5 +1,6 @@
 pub mod Calls
 pub mod Causes
+pub mod Copies
 pub mod Division
 pub mod Grammar
 pub mod Hashes

@@ -2,11 +2,11 @@
 ghost use Rattle.std.specs.Prelude.{◌≡◌};
 ghost use Rattle.td_tree.specs.Causes.{name_of, number_of};
 
-use thiserror::Error;
+use std::error::Error;
+use std::fmt::{Display, Formatter, Write};
 
 /// Why a statement is refused. Its number and its name stand in the answer.
-#[derive(Clone, Copy, Debug, PartialEq, Eq, Error)]
-#[error("refused: {}", self.name())]
+#[derive(Clone, Copy, Debug, PartialEq, Eq)]
 pub enum Cause {
     /// A token is bad.
     Scan,
@@ -99,3 +99,11 @@ impl Cause {
         }
     }
 }
+
+impl Display for Cause {
+    fn fmt<W: Write>(&self, f: &mut Formatter<W>) -> std::fmt::Result {
+        f.write_fmt(format_args!("refused: {}", self.name()))
+    }
+}
+
+impl Error for Cause {}

@@ -3,8 +3,10 @@ ghost use Rattle.std.specs.Prelude.{◌≡◌, IfOk, map};
 ghost use Rattle.td_tree.specs.Trees as trees;
 ghost use Rattle.td_tree.specs.TreeViews.{attributes_of, heading_of, literal_of, named_of, postfix_of, renaming_of, summaries_of, tree_of, trees_of, type_of, with_summary};
 
+use crate::both::both;
 use crate::expression::{Attributes, Expr, Literal, NamedExpr, Postfix, Renaming, Summary};
 use crate::name::Name;
+use crate::remade;
 use crate::type_tree::{AttributeTree, TypeTree};
 use std::alloc::AllocError;
 
@@ -99,11 +101,13 @@ impl Postfix {
             Postfix::Project(attributes) => Ok(Postfix::Project(attributes.try_clone()?)),
             Postfix::Rename(renamings) => { Ok(Postfix::Rename(copy_renamings(renamings)?)) }
             Postfix::Group(attributes, name) => {
-                Ok(Postfix::Group(attributes.try_clone()?, name.try_clone()?))
+                let (attributes, name) = both(attributes.try_clone(), name.try_clone())?;
+                Ok(Postfix::Group(attributes, name))
             }
             Postfix::Ungroup(name) => Ok(Postfix::Ungroup(name.try_clone()?)),
             Postfix::Wrap(attributes, name) => {
-                Ok(Postfix::Wrap(attributes.try_clone()?, name.try_clone()?))
+                let (attributes, name) = both(attributes.try_clone(), name.try_clone())?;
+                Ok(Postfix::Wrap(attributes, name))
             }
             Postfix::Unwrap(name) => Ok(Postfix::Unwrap(name.try_clone()?)),
         }
@@ -117,49 +121,87 @@ impl Expr {
         ensures { IfOk result (λ copy. tree_of copy ≡ tree_of self.now) }
     {
         match self {
-            Expr::Literal(value) => Ok(Expr::Literal(value.try_clone()?)),
-            Expr::Name(name) => Ok(Expr::Name(name.try_clone()?)),
-            Expr::Parentheses(inner) => Ok(Expr::Parentheses(boxed(inner)?)),
-            Expr::Prefix(op, operand) => Ok(Expr::Prefix(*op, boxed(operand)?)),
-            Expr::Extract(name, operand) => Ok(Expr::Extract(name.try_clone()?, boxed(operand)?)),
-            Expr::Binary(left, op, right) => Ok(Expr::Binary(boxed(left)?, *op, boxed(right)?)),
-            Expr::Compare(left, op, right) => Ok(Expr::Compare(boxed(left)?, *op, boxed(right)?)),
-            Expr::Postfix(operand, op) => Ok(Expr::Postfix(boxed(operand)?, op.try_clone()?)),
-            Expr::Select(ty, arguments) => Ok(Expr::Select(ty.try_clone()?, copy_list(arguments)?)),
-            Expr::Component(rest, operand) => Ok(Expr::Component(rest.clone()?, boxed(operand)?)),
-            Expr::Measure(op, operand) => Ok(Expr::Measure(*op, boxed(operand)?)),
-            Expr::Aggregate(op, left, right) => Ok(Expr::Aggregate(
+            Expr::Literal(value) => remade::literal(value.try_clone()),
+            Expr::Name(name) => remade::name(name.try_clone()),
+            Expr::Parentheses(inner) => remade::parentheses(
+                *Box::allocator(inner),
+                inner.try_clone(),
+            ),
+            Expr::Prefix(op, operand) => remade::prefix(
+                *Box::allocator(operand),
                 *op,
-                boxed(left)?,
-                boxed(right)?,
-            )),
-            Expr::Relation(elements) => Ok(Expr::Relation(copy_list(elements)?)),
-            Expr::HeadedRelation(heading, elements) => {
-                Ok(Expr::HeadedRelation(copy_heading(heading)?, copy_list(elements)?))
-            }
-            Expr::Tuple(parts) => Ok(Expr::Tuple(copy_parts(parts)?)),
-            Expr::Extend(operand, parts) => Ok(Expr::Extend(boxed(operand)?, copy_parts(parts)?)),
-            Expr::SummarizePer(operand, per, summaries) => {
-                Ok(Expr::SummarizePer(boxed(operand)?, boxed(per)?, copy_summaries(summaries)?))
-            }
-            Expr::SummarizeBy(operand, by, summaries) => {
-                let by = by.try_clone()?;
-                Ok(Expr::SummarizeBy(boxed(operand)?, by, copy_summaries(summaries)?))
-            }
-            Expr::If(condition, consequent, alternative) => {
-                Ok(Expr::If(boxed(condition)?, boxed(consequent)?, boxed(alternative)?))
-            }
+                operand.try_clone(),
+            ),
+            Expr::Extract(name, operand) => remade::extract(
+                *Box::allocator(operand),
+                name.try_clone(),
+                operand.try_clone(),
+            ),
+            Expr::Binary(left, op, right) => remade::binary(
+                *Box::allocator(left),
+                left.try_clone(),
+                *op,
+                right.try_clone(),
+            ),
+            Expr::Compare(left, op, right) => remade::compare(
+                *Box::allocator(left),
+                left.try_clone(),
+                *op,
+                right.try_clone(),
+            ),
+            Expr::Postfix(operand, op) => remade::postfix(
+                *Box::allocator(operand),
+                operand.try_clone(),
+                op.try_clone(),
+            ),
+            Expr::Select(ty, arguments) => remade::select(ty.try_clone(), copy_list(arguments)),
+            Expr::Component(rest, operand) => remade::component(
+                *Box::allocator(operand),
+                rest.clone(),
+                operand.try_clone(),
+            ),
+            Expr::Measure(op, operand) => remade::measure(
+                *Box::allocator(operand),
+                *op,
+                operand.try_clone(),
+            ),
+            Expr::Aggregate(op, left, right) => remade::aggregate(
+                *Box::allocator(left),
+                *op,
+                left.try_clone(),
+                right.try_clone(),
+            ),
+            Expr::Relation(elements) => remade::relation(copy_list(elements)),
+            Expr::HeadedRelation(heading, elements) => remade::headed_relation(
+                copy_heading(heading),
+                copy_list(elements),
+            ),
+            Expr::Tuple(parts) => remade::tuple(copy_parts(parts)),
+            Expr::Extend(operand, parts) => remade::extend(
+                *Box::allocator(operand),
+                operand.try_clone(),
+                copy_parts(parts),
+            ),
+            Expr::SummarizePer(operand, per, summaries) => remade::summarize_per(
+                *Box::allocator(operand),
+                operand.try_clone(),
+                per.try_clone(),
+                copy_summaries(summaries),
+            ),
+            Expr::SummarizeBy(operand, by, summaries) => remade::summarize_by(
+                *Box::allocator(operand),
+                operand.try_clone(),
+                by.try_clone(),
+                copy_summaries(summaries),
+            ),
+            Expr::If(condition, consequent, alternative) => remade::choice(
+                *Box::allocator(condition),
+                condition.try_clone(),
+                consequent.try_clone(),
+                alternative.try_clone(),
+            ),
         }
     }
-}
-
-/// The same expression in a box of its own.
-#[cycle(copy)]
-fn boxed(expression: &Box<Expr>) -> Result<Box<Expr>, AllocError>
-    ensures { IfOk result (λ copy. tree_of copy.value ≡ tree_of expression.now.value) }
-{
-    let copy = expression.try_clone()?;
-    Ok(Box::new(*Box::allocator(expression), copy)?)
 }
 
 #[cycle(copy)]
@@ -205,7 +247,8 @@ impl Summary {
         match self {
             Summary::Count(name) => Ok(Summary::Count(name.try_clone()?)),
             Summary::Of(op, value, name) => {
-                Ok(Summary::Of(*op, value.try_clone()?, name.try_clone()?))
+                let (value, name) = both(value.try_clone(), name.try_clone())?;
+                Ok(Summary::Of(*op, value, name))
             }
         }
     }

@@ -4,6 +4,7 @@ ghost use Rattle.std.specs.Rc.{rc_str_bytes};
 ghost use Rattle.td_tree.specs.Trees as trees;
 ghost use Rattle.td_tree.specs.TreeViews.{attributes_of, heading_of, named_of, postfix_of, summaries_of, tree_of, trees_of};
 
+use crate::both::both;
 use crate::name::Name;
 use crate::operator::{Aggregate, Comparison, Measure, Operator, Prefix};
 use crate::type_tree::AttributeTree;
@@ -114,9 +115,7 @@ fn boxed_both(
     ensures first { IfOk result (λ both. both.0.value ≡ first) }
     ensures second { IfOk result (λ both. both.1.value ≡ second) }
 {
-    let first = boxed(alloc, first)?;
-    let second = boxed(alloc, second)?;
-    Ok((first, second))
+    both(boxed(alloc, first), boxed(alloc, second))
 }
 
 /// Trees made of their parts.
@@ -271,8 +270,12 @@ impl Expr {
     ) -> Result<Expr, AllocError>
         ensures { IfOk result (λ e. tree_of e ≡ trees.choice (tree_of condition) (tree_of consequent) (tree_of alternative)) }
     {
-        let condition = boxed(alloc, condition)?;
-        let (consequent, alternative) = boxed_both(alloc, consequent, alternative)?;
-        Ok(Expr::If(condition, consequent, alternative))
+        let consequents = boxed_both(alloc, consequent, alternative);
+        match both(boxed(alloc, condition), consequents) {
+            Ok((condition, (consequent, alternative))) => {
+                Ok(Expr::If(condition, consequent, alternative))
+            }
+            Err(error) => Err(error),
+        }
     }
 }

@@ -1,6 +1,7 @@
 //! Names, causes and tokens of Tutorial D.
 #![tactic(auto)]
 
+mod both;
 pub mod cause;
 mod copy;
 pub mod expression;
@@ -12,6 +13,7 @@ pub mod name;
 pub mod operator;
 pub mod piece;
 pub mod print;
+mod remade;
 pub mod statement;
 pub mod token;
 pub mod tree_laws;

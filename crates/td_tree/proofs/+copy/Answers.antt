@@ -1,6 +1,6 @@
-use Rattle.std.proofs.Common.{sym, ap, ◌∙◌}
+use Rattle.std.proofs.Common.{ap, ◌∙◌}
 use Rattle.td_tree.proofs.Pushes.{one_more, one_tree, then_trees, trees_push, one_named, then_named, named_push, one_summary, then_summaries, summaries_push}
-use Rattle.td_tree.proofs.Rows.{extend_is, headed_relation_is, relation_is, select_is, summarize_by_is, summarize_per_is, tuple_is}
+use Rattle.td_tree.proofs.Rows.{copied_as, extend_is, headed_relation_is, relation_is, select_is, summarize_by_is, summarize_per_is, tuple_is}
 use Rattle.td_tree.specs.Trees as trees
 use Rattle.td_tree.specs.TreeViews.{named_of, summaries_of, tree_of, trees_of}
 use Rattle.td_tree.proofs.+copy.Goals as goal
@@ -23,44 +23,26 @@ copy::copy_summaries-loop-summary-preserved t c =
     ∙ one_more summaries_of one_summary then_summaries summaries_push c.deref-summary-items.result.now c.loop-summary.copy.items c.loop-summary.summary-index
     c.summary-item.result _ c.loop-summary.invariant c.loop-summary-test.true c.summary-item.is (c.in_ok-try_clone.ensures trees.no_summaries)
 
-pub expression::Expr::try_clone-returns-in_ok-copy_list-in-Select : goal.expression::Expr::try_clone-returns-in_ok-copy_list-in-Select
-expression::Expr::try_clone-returns-in_ok-copy_list-in-Select t c =
-    select_is c.in_ok-try_clone-in-Select.field-0 c.in_ok-copy_list-in-Select.field-0
-    ∙ (cc (c.in_ok-try_clone-in-Select.ensures, c.in_ok-copy_list-in-Select.ensures))
-    ∙ sym (ap tree_of c.in-Select.is ∙ select_is c.in-Select.ty c.in-Select.arguments)
+pub expression::Expr::try_clone-returns-in-Postfix : goal.expression::Expr::try_clone-returns-in-Postfix
+expression::Expr::try_clone-returns-in-Postfix t c = copied_as _ _ _ (c.postfix.ensures _ _ c.try_clone-in-Postfix.ensures c.try_clone-in-Postfix-2.ensures) (ap tree_of c.in-Postfix.is ∙ cc (c.deref-in-Postfix.ensures))
 
-pub expression::Expr::try_clone-returns-in_ok-copy_list-in-Relation : goal.expression::Expr::try_clone-returns-in_ok-copy_list-in-Relation
-expression::Expr::try_clone-returns-in_ok-copy_list-in-Relation t c =
-    relation_is c.in_ok-copy_list-in-Relation.field-0
-    ∙ (cc (c.in_ok-copy_list-in-Relation.ensures))
-    ∙ sym (ap tree_of c.in-Relation.is ∙ relation_is c.in-Relation.elements)
+pub expression::Expr::try_clone-returns-in-Select : goal.expression::Expr::try_clone-returns-in-Select
+expression::Expr::try_clone-returns-in-Select t c = copied_as _ _ _ (c.select.ensures _ _ c.try_clone-in-Select.ensures c.copy_list.ensures) (ap tree_of c.in-Select.is ∙ select_is c.in-Select.ty c.in-Select.arguments)
 
-pub expression::Expr::try_clone-returns-in_ok-copy_list-in-HeadedRelation : goal.expression::Expr::try_clone-returns-in_ok-copy_list-in-HeadedRelation
-expression::Expr::try_clone-returns-in_ok-copy_list-in-HeadedRelation t c =
-    headed_relation_is c.in_ok-copy_heading-in-HeadedRelation.field-0 c.in_ok-copy_list-in-HeadedRelation.field-0
-    ∙ (cc (c.in_ok-copy_heading-in-HeadedRelation.ensures, c.in_ok-copy_list-in-HeadedRelation.ensures))
-    ∙ sym (ap tree_of c.in-HeadedRelation.is ∙ headed_relation_is c.in-HeadedRelation.heading c.in-HeadedRelation.elements)
+pub expression::Expr::try_clone-returns-in-Relation : goal.expression::Expr::try_clone-returns-in-Relation
+expression::Expr::try_clone-returns-in-Relation t c = copied_as _ _ _ (c.relation.ensures _ c.copy_list-in-Relation.ensures) (ap tree_of c.in-Relation.is ∙ relation_is c.in-Relation.elements)
 
-pub expression::Expr::try_clone-returns-in_ok-copy_parts-in-Tuple : goal.expression::Expr::try_clone-returns-in_ok-copy_parts-in-Tuple
-expression::Expr::try_clone-returns-in_ok-copy_parts-in-Tuple t c =
-    tuple_is c.in_ok-copy_parts-in-Tuple.field-0
-    ∙ (cc (c.in_ok-copy_parts-in-Tuple.ensures))
-    ∙ sym (ap tree_of c.in-Tuple.is ∙ tuple_is c.in-Tuple.parts)
+pub expression::Expr::try_clone-returns-in-HeadedRelation : goal.expression::Expr::try_clone-returns-in-HeadedRelation
+expression::Expr::try_clone-returns-in-HeadedRelation t c = copied_as _ _ _ (c.headed_relation.ensures _ _ c.copy_heading.ensures c.copy_list-in-HeadedRelation.ensures) (ap tree_of c.in-HeadedRelation.is ∙ headed_relation_is c.in-HeadedRelation.heading c.in-HeadedRelation.elements)
 
-pub expression::Expr::try_clone-returns-in_ok-copy_parts-in-Extend : goal.expression::Expr::try_clone-returns-in_ok-copy_parts-in-Extend
-expression::Expr::try_clone-returns-in_ok-copy_parts-in-Extend t c =
-    extend_is c.in_ok-boxed-in-Extend.field-0 c.in_ok-copy_parts-in-Extend.field-0
-    ∙ (cc (c.in_ok-boxed-in-Extend.ensures, c.in_ok-copy_parts-in-Extend.ensures))
-    ∙ sym (ap tree_of c.in-Extend.is ∙ extend_is c.in-Extend.operand c.in-Extend.parts)
+pub expression::Expr::try_clone-returns-in-Tuple : goal.expression::Expr::try_clone-returns-in-Tuple
+expression::Expr::try_clone-returns-in-Tuple t c = copied_as _ _ _ (c.tuple.ensures _ c.copy_parts.ensures) (ap tree_of c.in-Tuple.is ∙ tuple_is c.in-Tuple.parts)
 
-pub expression::Expr::try_clone-returns-in_ok-copy_summaries-in-SummarizePer : goal.expression::Expr::try_clone-returns-in_ok-copy_summaries-in-SummarizePer
-expression::Expr::try_clone-returns-in_ok-copy_summaries-in-SummarizePer t c =
-    summarize_per_is c.in_ok-boxed-in-SummarizePer.field-0 c.in_ok-boxed-in-SummarizePer-2.field-0 c.in_ok-copy_summaries-in-SummarizePer.field-0
-    ∙ (cc (c.in_ok-boxed-in-SummarizePer.ensures, c.in_ok-boxed-in-SummarizePer-2.ensures, c.in_ok-copy_summaries-in-SummarizePer.ensures))
-    ∙ sym (ap tree_of c.in-SummarizePer.is ∙ summarize_per_is c.in-SummarizePer.operand c.in-SummarizePer.per c.in-SummarizePer.summaries)
+pub expression::Expr::try_clone-returns-in-Extend : goal.expression::Expr::try_clone-returns-in-Extend
+expression::Expr::try_clone-returns-in-Extend t c = copied_as _ _ _ (c.extend.ensures _ _ c.try_clone-in-Extend.ensures c.copy_parts-in-Extend.ensures) (ap tree_of c.in-Extend.is ∙ extend_is c.in-Extend.operand c.in-Extend.parts ∙ cc (c.deref-in-Extend.ensures))
 
-pub expression::Expr::try_clone-returns-in_ok-copy_summaries-in-SummarizeBy : goal.expression::Expr::try_clone-returns-in_ok-copy_summaries-in-SummarizeBy
-expression::Expr::try_clone-returns-in_ok-copy_summaries-in-SummarizeBy t c =
-    summarize_by_is c.in_ok-boxed-in-SummarizeBy.field-0 c.in_ok-by-in-SummarizeBy.by c.in_ok-copy_summaries-in-SummarizeBy.field-0
-    ∙ (cc (c.in_ok-boxed-in-SummarizeBy.ensures, c.in_ok-by-in-SummarizeBy.ensures, c.in_ok-copy_summaries-in-SummarizeBy.ensures))
-    ∙ sym (ap tree_of c.in-SummarizeBy.is ∙ summarize_by_is c.in-SummarizeBy.operand c.in-SummarizeBy.by c.in-SummarizeBy.summaries)
+pub expression::Expr::try_clone-returns-in-SummarizePer : goal.expression::Expr::try_clone-returns-in-SummarizePer
+expression::Expr::try_clone-returns-in-SummarizePer t c = copied_as _ _ _ (c.summarize_per.ensures _ _ _ c.try_clone-in-SummarizePer.ensures c.try_clone-in-SummarizePer-2.ensures c.copy_summaries.ensures) (ap tree_of c.in-SummarizePer.is ∙ summarize_per_is c.in-SummarizePer.operand c.in-SummarizePer.per c.in-SummarizePer.summaries ∙ cc (c.deref-in-SummarizePer.ensures, c.deref-in-SummarizePer-2.ensures))
+
+pub expression::Expr::try_clone-returns-in-SummarizeBy : goal.expression::Expr::try_clone-returns-in-SummarizeBy
+expression::Expr::try_clone-returns-in-SummarizeBy t c = copied_as _ _ _ (c.summarize_by.ensures _ _ _ c.try_clone-in-SummarizeBy.ensures c.try_clone-in-SummarizeBy-2.ensures c.copy_summaries-in-SummarizeBy.ensures) (ap tree_of c.in-SummarizeBy.is ∙ summarize_by_is c.in-SummarizeBy.operand c.in-SummarizeBy.by c.in-SummarizeBy.summaries ∙ cc (c.deref-in-SummarizeBy.ensures))
