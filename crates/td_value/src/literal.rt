@@ -121,14 +121,14 @@ fn write_tuple(t: &Tuple, out: &mut String) -> Result<(), AllocError>
     ensures { OnOk result (string_bytes out.new ≡ string_bytes out.old ++ tuple_literal t.now) }
 {
     out.push_str("TUPLE {")?;
-    write_entries(&t.names, &t.values, out)?;
-    out.push_str("}")
+    write_entries(&t.names, &t.values, out)
 }
 
+/// Puts the entries, and closes them.
 #[cycle(write)]
 fn write_entries(names: &[Name], values: &[Value], out: &mut String) -> Result<(), AllocError>
     requires { length names.now ≡ length values.now }
-    ensures { OnOk result (string_bytes out.new ≡ string_bytes out.old ++ fields_literal false (pack_fields (entries_of names.now values.now))) }
+    ensures { OnOk result (string_bytes out.new ≡ string_bytes out.old ++ fields_literal false (pack_fields (entries_of names.now values.now)) ++ codes "}") }
 {
     let mut place = 0;
     let mut later = false;
@@ -138,7 +138,7 @@ fn write_entries(names: &[Name], values: &[Value], out: &mut String) -> Result<(
         later = true;
         place += 1;
     }
-    Ok(())
+    out.push_str("}")
 }
 
 #[cycle(write)]
@@ -146,13 +146,13 @@ fn write_relation(r: &Rel, out: &mut String) -> Result<(), AllocError>
     ensures { OnOk result (string_bytes out.new ≡ string_bytes out.old ++ relation_literal r.now) }
 {
     put_selected_type(out, &r.heading)?;
-    write_rows(&r.rows, out)?;
-    out.push_str("}")
+    write_rows(&r.rows, out)
 }
 
+/// Puts the tuples, and closes them.
 #[cycle(write)]
 fn write_rows(rows: &[Tuple], out: &mut String) -> Result<(), AllocError>
-    ensures { OnOk result (string_bytes out.new ≡ string_bytes out.old ++ rows_literal false (pack_rows rows.now)) }
+    ensures { OnOk result (string_bytes out.new ≡ string_bytes out.old ++ rows_literal false (pack_rows rows.now) ++ codes "}") }
 {
     let mut later = false;
     for t in rows {
@@ -160,7 +160,7 @@ fn write_rows(rows: &[Tuple], out: &mut String) -> Result<(), AllocError>
         write_tuple(t, out)?;
         later = true;
     }
-    Ok(())
+    out.push_str("}")
 }
 
 impl Value {
