@@ -1,40 +1,31 @@
 //! Copies of values, which can fail for want of memory.
 ghost use Rattle.std.specs.Prelude.{◌≡◌, IfOk};
+ghost use Rattle.td_value.specs.Views.{node_value};
 
 use crate::value::{Node, Rel, Tuple, Value};
 use std::alloc::AllocError;
+
+/// The same node again.
+fn node_again(node: &Node) -> Result<Node, AllocError>
+    ensures { IfOk result (λ n. node_value n ≡ node_value node.now) }
+{
+    match node {
+        Node::Bool(b) => Ok(Node::Bool(*b)),
+        Node::Int(n) => Ok(Node::Int(*n)),
+        Node::Text(s) => Ok(Node::Text(s.clone()?)),
+        Node::User(u) => Ok(Node::User(u.clone()?)),
+        Node::Tup(t) => Ok(Node::Tup(t.clone()?)),
+        Node::Rel(r) => Ok(Node::Rel(r.clone()?)),
+    }
+}
 
 impl Value {
     /// The same value again, which shares what this one is made of.
     pub fn try_clone(&self) -> Result<Value, AllocError>
         ensures { IfOk result (λ w. w ≡ self.now) }
     {
-        match &self.node {
-            Node::Bool(b) => {
-                let node = Node::Bool(*b);
-                Ok(Value { node })
-            }
-            Node::Int(n) => {
-                let node = Node::Int(*n);
-                Ok(Value { node })
-            }
-            Node::Text(s) => {
-                let node = Node::Text(s.clone()?);
-                Ok(Value { node })
-            }
-            Node::User(u) => {
-                let node = Node::User(u.clone()?);
-                Ok(Value { node })
-            }
-            Node::Tup(t) => {
-                let node = Node::Tup(t.clone()?);
-                Ok(Value { node })
-            }
-            Node::Rel(r) => {
-                let node = Node::Rel(r.clone()?);
-                Ok(Value { node })
-            }
-        }
+        let node = node_again(&self.node)?;
+        Ok(Value { node })
     }
 }
 

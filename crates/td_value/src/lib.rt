@@ -4,6 +4,7 @@
 mod copy;
 mod hash;
 pub mod laws;
+mod lists;
 mod literal;
 mod order;
 mod relation;

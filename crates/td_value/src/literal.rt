@@ -2,7 +2,9 @@
 ghost use Rattle.std.specs.Prelude.{◌≡◌, ◌++◌, IfOk, OnOk, codes, false, length};
 ghost use Rattle.std.specs.Fmt.{signed_decimal};
 ghost use Rattle.std.specs.String.{string_bytes};
-ghost use Rattle.td_types.specs.Texts.{comma_if};
+ghost use Rattle.td_types.specs.Texts.{comma_if, type_text};
+ghost use Rattle.td_types.specs.Types.{pack};
+ghost use Rattle.td_types.specs.Types as types;
 ghost use Rattle.td_tree.specs.TextTokens.{doubled, quoted};
 ghost use Rattle.td_value.specs.Literal.{fields_literal, literal, quotes_if, relation_literal, rows_literal, tuple_literal};
 ghost use Rattle.td_value.specs.Values.{pack_fields, pack_parts, pack_rows, user};
@@ -12,6 +14,7 @@ use crate::value::{Node, Rel, Tuple, User, Value};
 use std::alloc::{AllocError, Global};
 use td_tree::name::Name;
 use td_types::text::put_relation_type;
+use td_types::ty::Heading;
 
 fn put_comma(out: &mut String, later: bool) -> Result<(), AllocError>
     ensures { OnOk result (string_bytes out.new ≡ string_bytes out.old ++ comma_if later) }
@@ -59,6 +62,31 @@ fn put_text(out: &mut String, content: &str) -> Result<(), AllocError>
     out.push_str("'")
 }
 
+/// Puts the name of a user value's type, and opens its components.
+fn put_selector(out: &mut String, name: &Name) -> Result<(), AllocError>
+    ensures { OnOk result (string_bytes out.new ≡ string_bytes out.old ++ name.now ++ codes "(") }
+{
+    out.push_str(name.as_str())?;
+    out.push_str("(")
+}
+
+/// Puts the name of an attribute before its value.
+fn put_field_name(out: &mut String, later: bool, name: &Name) -> Result<(), AllocError>
+    ensures { OnOk result (string_bytes out.new ≡ string_bytes out.old ++ comma_if later ++ name.now ++ codes " ") }
+{
+    put_comma(out, later)?;
+    out.push_str(name.as_str())?;
+    out.push_str(" ")
+}
+
+/// Puts the type of a relation, and opens its tuples.
+fn put_selected_type(out: &mut String, heading: &Heading) -> Result<(), AllocError>
+    ensures { OnOk result (string_bytes out.new ≡ string_bytes out.old ++ type_text (types.relation (pack heading.now)) ++ codes " {") }
+{
+    put_relation_type(out, heading)?;
+    out.push_str(" {")
+}
+
 #[cycle(write)]
 fn write_value(v: &Value, out: &mut String) -> Result<(), AllocError>
     ensures { OnOk result (string_bytes out.new ≡ string_bytes out.old ++ literal v.now) }
@@ -78,8 +106,7 @@ fn write_value(v: &Value, out: &mut String) -> Result<(), AllocError>
 fn write_user(u: &User, out: &mut String) -> Result<(), AllocError>
     ensures { OnOk result (string_bytes out.new ≡ string_bytes out.old ++ literal (user u.now.name (pack_parts u.now.components))) }
 {
-    out.push_str(u.name.as_str())?;
-    out.push_str("(")?;
+    put_selector(out, &u.name)?;
     let mut later = false;
     for v in &u.components {
         put_comma(out, later)?;
@@ -94,41 +121,38 @@ fn write_tuple(t: &Tuple, out: &mut String) -> Result<(), AllocError>
     ensures { OnOk result (string_bytes out.new ≡ string_bytes out.old ++ tuple_literal t.now) }
 {
     out.push_str("TUPLE {")?;
-    write_entries(&t.names, &t.values, out)?;
-    out.push_str("}")
+    write_entries(&t.names, &t.values, out)
 }
 
+/// Puts the entries, and closes them.
 #[cycle(write)]
 fn write_entries(names: &[Name], values: &[Value], out: &mut String) -> Result<(), AllocError>
     requires { length names.now ≡ length values.now }
-    ensures { OnOk result (string_bytes out.new ≡ string_bytes out.old ++ fields_literal false (pack_fields (entries_of names.now values.now))) }
+    ensures { OnOk result (string_bytes out.new ≡ string_bytes out.old ++ fields_literal false (pack_fields (entries_of names.now values.now)) ++ codes "}") }
 {
     let mut place = 0;
     let mut later = false;
     for v in values {
-        put_comma(out, later)?;
-        out.push_str(names[place].as_str())?;
-        out.push_str(" ")?;
+        put_field_name(out, later, &names[place])?;
         write_value(v, out)?;
         later = true;
         place += 1;
     }
-    Ok(())
+    out.push_str("}")
 }
 
 #[cycle(write)]
 fn write_relation(r: &Rel, out: &mut String) -> Result<(), AllocError>
     ensures { OnOk result (string_bytes out.new ≡ string_bytes out.old ++ relation_literal r.now) }
 {
-    put_relation_type(out, &r.heading)?;
-    out.push_str(" {")?;
-    write_rows(&r.rows, out)?;
-    out.push_str("}")
+    put_selected_type(out, &r.heading)?;
+    write_rows(&r.rows, out)
 }
 
+/// Puts the tuples, and closes them.
 #[cycle(write)]
 fn write_rows(rows: &[Tuple], out: &mut String) -> Result<(), AllocError>
-    ensures { OnOk result (string_bytes out.new ≡ string_bytes out.old ++ rows_literal false (pack_rows rows.now)) }
+    ensures { OnOk result (string_bytes out.new ≡ string_bytes out.old ++ rows_literal false (pack_rows rows.now) ++ codes "}") }
 {
     let mut later = false;
     for t in rows {
@@ -136,7 +160,7 @@ fn write_rows(rows: &[Tuple], out: &mut String) -> Result<(), AllocError>
         write_tuple(t, out)?;
         later = true;
     }
-    Ok(())
+    out.push_str("}")
 }
 
 impl Value {

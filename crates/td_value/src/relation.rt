@@ -1,10 +1,11 @@
 //! Relations.
 ghost use Rattle.std.specs.Prelude.{◌≡◌, IfOk, OnOk};
-ghost use Rattle.std.specs.List.{All};
+ghost use Rattle.std.specs.List.{All, Contains};
 ghost use Rattle.td_value.specs.Sets.{set_of};
-ghost use Rattle.td_value.specs.Values.{HaveSameNames, IsAscendingRows, IsTupleOf, names_of, tuple_order};
+ghost use Rattle.td_value.specs.Values.{Entries, HaveSameNames, IsAscendingRows, IsTupleOf, names_of, tuple_order};
 ghost use Rattle.td_value.specs.Views.{relation_of};
 
+use crate::lists::put;
 use crate::order::compare_by_values;
 use crate::value::{Rel, Tuple};
 use std::alloc::AllocError;
@@ -21,6 +22,18 @@ fn take_names(row: &mut Tuple, names: &Rc<Vec<Name>>) -> Result<(), AllocError>
     Ok(())
 }
 
+/// Takes the list of the same names in place of the own one of each tuple but the first.
+fn take_names_after_first(rows: &mut [Tuple], names: &Rc<Vec<Name>>) -> Result<(), AllocError>
+    requires { (t : Entries) → Contains rows.old t → names.now.value.items ≡ names_of t }
+    ensures { OnOk result (rows.new ≡ rows.old) }
+{
+    for place in 1..rows.len() {
+        let row = &mut rows[place];
+        take_names(row, names)?;
+    }
+    Ok(())
+}
+
 /// Lets all tuples share the first one's list of names.
 fn share_names(rows: &mut [Tuple]) -> Result<(), AllocError>
     requires { HaveSameNames rows.old }
@@ -30,11 +43,7 @@ fn share_names(rows: &mut [Tuple]) -> Result<(), AllocError>
         return Ok(());
     };
     let names = first.names.clone()?;
-    for place in 1..rows.len() {
-        let row = &mut rows[place];
-        take_names(row, &names)?;
-    }
-    Ok(())
+    take_names_after_first(rows, &names)
 }
 
 /// The tuples again, in a list of their own.
@@ -43,7 +52,7 @@ fn copied(rows: &Vec<Tuple>) -> Result<Vec<Tuple>, AllocError>
 {
     let mut copy = Vec::with_capacity(*rows.allocator(), rows.len())?;
     for row in rows {
-        copy.push(row.try_clone()?)?;
+        put(&mut copy, row.try_clone()?)?;
     }
     Ok(copy)
 }

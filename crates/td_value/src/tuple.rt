@@ -1,5 +1,5 @@
 //! Tuples.
-ghost use Rattle.std.specs.Prelude.{◌≡◌, ◌∷◌, List, ℕ, IfErr, IfOk, IsTrue, OnOk, filter, length, not, true};
+ghost use Rattle.std.specs.Prelude.{◌≡◌, ◌∷◌, ◌++◌, [], List, ℕ, IfErr, IfOk, IsTrue, OnOk, filter, length, not, true};
 ghost use Rattle.std.specs.Ordering.{is_lt, nat_cmp};
 ghost use Rattle.std.specs.Cmp.Lexicographic.{slice_cmp};
 ghost use Rattle.std.specs.List.Sorted.{IsSortedBy, IsStrictlySortedBy};
@@ -7,6 +7,7 @@ ghost use Rattle.td_types.specs.Headings.{are_distinct, has_name, heading_fault}
 ghost use Rattle.td_value.specs.Values.{AreFields, IsTuple, names_of, pack_fields, tuple_of, value_at};
 ghost use Rattle.td_value.specs.Views.{entries_of, values_of};
 
+use crate::lists::put;
 use crate::value::{Tuple, Value};
 use std::alloc::{AllocError, Global};
 use std::rc::Rc;
@@ -97,7 +98,7 @@ fn own_names(alloc: Global, entries: &[(Name, Value)]) -> Result<Vec<Name>, Allo
 {
     let mut names = Vec::with_capacity(alloc, entries.len())?;
     for (name, _) in entries {
-        names.push(name.try_clone()?)?;
+        put(&mut names, name.try_clone()?)?;
     }
     Ok(names)
 }
@@ -111,9 +112,59 @@ fn values_alone(alloc: Global, entries: Vec<(Name, Value)>) -> Result<Vec<Value>
     for (name, value) in entries {
         let _ = name.as_str();
         let _ = &value.node;
-        values.push(value)?;
+        put(&mut values, value)?;
     }
     Ok(values)
+}
+
+/// Puts copies of the name and the value after the others.
+fn keep_entry(
+    name: &Name,
+    value: &Value,
+    names: &mut Vec<Name>,
+    values: &mut Vec<Value>,
+) -> Result<(), AllocError>
+    ensures names { OnOk result (names.new.items ≡ names.old.items ++ name.now ∷ []) }
+    ensures values { OnOk result (values.new.items ≡ values.old.items ++ value.now ∷ []) }
+{
+    put(names, name.try_clone()?)?;
+    put(values, value.try_clone()?)
+}
+
+/// Puts the entries whose names are wanted into the empty lists of names and of values.
+fn keep_entries(
+    names: &[Name],
+    values: &[Value],
+    wanted: &[Name],
+    kept_names: &mut Vec<Name>,
+    kept_values: &mut Vec<Value>,
+) -> Result<(), AllocError>
+    requires same { length names.now ≡ length values.now }
+    requires no_names { kept_names.old.items ≡ [] }
+    requires no_values { kept_values.old.items ≡ [] }
+    ensures lengths { OnOk result (length kept_names.new.items ≡ length kept_values.new.items) }
+    ensures kept { OnOk result (entries_of kept_names.new.items kept_values.new.items ≡ filter (λ e. has_name e.0 wanted.now) (entries_of names.now values.now)) }
+{
+    let mut place = 0;
+    for v in values {
+        let name = &names[place];
+        if is_among(name, wanted) {
+            keep_entry(name, v, kept_names, kept_values)?;
+        }
+        place += 1;
+    }
+    Ok(())
+}
+
+/// The tuple of the names with the values.
+fn from_lists(alloc: Global, names: Vec<Name>, values: Vec<Value>) -> Result<Tuple, AllocError>
+    requires same { length names.items ≡ length values.items }
+    requires valid { IsTuple (entries_of names.items values.items) }
+    ensures { IfOk result (λ t. t ≡ entries_of names.items values.items) }
+{
+    let names = Rc::new(alloc, names)?;
+    let values = Rc::new(alloc, values)?;
+    Ok(Tuple { names, values })
 }
 
 /// The tuple of the entries whose names are wanted.
@@ -129,18 +180,8 @@ fn kept_entries(
 {
     let mut kept_names = Vec::with_capacity(alloc, wanted.len())?;
     let mut kept_values = Vec::with_capacity(alloc, wanted.len())?;
-    let mut place = 0;
-    for v in values {
-        let name = &names[place];
-        if is_among(name, wanted) {
-            kept_names.push(name.try_clone()?)?;
-            kept_values.push(v.try_clone()?)?;
-        }
-        place += 1;
-    }
-    let names = Rc::new(alloc, kept_names)?;
-    let values = Rc::new(alloc, kept_values)?;
-    Ok(Tuple { names, values })
+    keep_entries(names, values, wanted, &mut kept_names, &mut kept_values)?;
+    from_lists(alloc, kept_names, kept_values)
 }
 
 impl Tuple {

@@ -1,5 +1,5 @@
 //! The types of values.
-ghost use Rattle.std.specs.Prelude.{◌≡◌, ◌↔◌, IfOk, IsTrue, length};
+ghost use Rattle.std.specs.Prelude.{◌≡◌, ◌↔◌, IfOk, IsOk, IsTrue, OnOk, length};
 ghost use Rattle.std.specs.Ordering.{eq_by_cmp, is_eq};
 ghost use Rattle.td_types.specs.Headings.{with_attribute};
 ghost use Rattle.td_types.specs.TypeOrder.{heading_cmp};
@@ -9,7 +9,7 @@ ghost use Rattle.td_types.specs.Views as heads;
 ghost use Rattle.td_value.specs.Values.{IsTuple, IsTupleOf, fields_type, heading_of, pack_fields, type_of};
 ghost use Rattle.td_value.specs.Views.{entries_of};
 
-use crate::value::{Node, Rel, Tuple, Value};
+use crate::value::{Node, Rel, Tuple, User, Value};
 use std::alloc::{AllocError, Global};
 use td_tree::name::Name;
 use td_types::ty::{Heading, Ty};
@@ -57,14 +57,28 @@ fn entries_have_heading(names: &[Name], values: &[Value], heading: &Heading) -> 
     heading.at(place).is_none()
 }
 
-/// The heading with one more attribute, of a name that it lacks.
-fn add_attribute(heading: Heading, name: Name, ty: Ty) -> Result<Heading, AllocError>
-    ensures { IfOk result (λ h. h ≡ with_attribute heading (name, heads.type_of ty)) }
+/// The heading with one more attribute, of a name that it lacks, if the type was found.
+fn add_attribute(
+    heading: Heading,
+    name: &Name,
+    ty: Result<Ty, AllocError>,
+) -> Result<Heading, AllocError>
+    ensures found { OnOk result (IsOk ty) }
+    ensures more { IfOk result (λ h. IfOk ty (λ t. h ≡ with_attribute heading (name.now, heads.type_of t))) }
 {
+    let ty = ty?;
+    let name = name.try_clone()?;
     match heading.with(name, ty) {
         Ok(more) => Ok(more),
         Err(_) => Err(AllocError),
     }
+}
+
+/// The type of the user value.
+fn user_type(u: &User) -> Result<Ty, AllocError>
+    ensures { IfOk result (λ t. heads.type_of t ≡ types.user u.now.name) }
+{
+    Ok(Ty::User(u.name.try_clone()?))
 }
 
 #[cycle(find)]
@@ -75,9 +89,9 @@ fn find_type(alloc: Global, v: &Value) -> Result<Ty, AllocError>
         Node::Bool(_) => Ok(Ty::Bool),
         Node::Int(_) => Ok(Ty::Int),
         Node::Text(_) => Ok(Ty::Text),
-        Node::User(u) => Ok(Ty::User(u.name().try_clone()?)),
+        Node::User(u) => user_type(u),
         Node::Tup(t) => Ok(Ty::Tup(find_heading(alloc, t)?)),
-        Node::Rel(r) => Ok(Ty::Rel(r.heading().try_clone()?)),
+        Node::Rel(r) => r.type_of(),
     }
 }
 
@@ -97,9 +111,7 @@ fn entries_heading(alloc: Global, names: &[Name], values: &[Value]) -> Result<He
     let mut heading = Heading::empty(alloc);
     let mut place = 0;
     for v in values {
-        let name = names[place].try_clone()?;
-        let ty = find_type(alloc, v)?;
-        heading = add_attribute(heading, name, ty)?;
+        heading = add_attribute(heading, &names[place], find_type(alloc, v))?;
         place += 1;
     }
     Ok(heading)

@@ -1,9 +1,11 @@
-use Rattle.std.proofs.Common.{◌≡◌, ◌∙◌, ap, sym, subst, arith, length, get_or, ℕ, List}
+use Rattle.std.proofs.Common.{◌≡◌, ◌∙◌, ap, sym, subst, arith, length, get_or, ℕ, List, Result, Ok, Err, true≢false}
+use Rattle.std.specs.Prelude.{IfOk, IsOk}
 use Rattle.std.specs.Cmp.Lexicographic.{slice_cmp}
 use Rattle.std.specs.Ordering.{nat_cmp}
 use Rattle.std.specs.List.Sorted.{IsStrictlySortedBy}
 use Rattle.td_types.specs.Types as types
-use Rattle.td_types.specs.Types.{pack}
+use Rattle.td_types.specs.Types.{Type', pack}
+use Rattle.td_types.specs.Views as heads
 use Rattle.td_types.specs.Headings.{with_attribute}
 use Rattle.td_value.specs.Values.{Val, IsTuple, heading_of, names_of, type_of}
 use Rattle.td_value.specs.ValueCode.{unpack_pack_fields}
@@ -15,12 +17,18 @@ use Rattle.td_value.proofs.types.+find.Goals as goal
 ascending : (ns : List (List ℕ)) (vs : List Val) → length ns ≡ length vs → IsTuple (entries_of ns vs) → IsStrictlySortedBy (slice_cmp nat_cmp) ns
 ascending ns vs e h = subst (IsStrictlySortedBy (slice_cmp nat_cmp)) (ap names_of (unpack_pack_fields (entries_of ns vs)) ∙ zip_names ns vs e) h.1
 
+-- what is made of a type that was found
+from_found : {X Y E : Type 0} (r : Result X E) (t : X → Type') (h : Y) (f : Type' → Y) (x : Type') → IsOk r → IfOk r (λ y. h ≡ f (t y)) → IfOk r (λ y. t y ≡ x) → h ≡ f x
+from_found (Ok y) t h f x ok more same = more ∙ ap f same
+from_found (Err e) t h f x ok more same = absurd (true≢false (sym ok))
+
 pub entries_heading-loop-v-preserved : goal.entries_heading-loop-v-preserved
 entries_heading-loop-v-preserved t c =
     let more = heading_more c.args.names.now c.args.values.now c.loop-v.place c.index-names-place.result c.v-item.result c.requires.same (omega (arith, c.loop-v.invariant.0, c.loop-v-test.true))
     c.index-names-place.is (subst (λ k. c.v-item.result ≡ get_or c.args.values.now k c.v-item.result) (sym c.loop-v.invariant.0) c.v-item.is) (ascending _ _ c.requires.same c.requires.valid) in (
       omega (arith, c.loop-v.invariant.0),
-      c.in_ok-heading.ensures ∙ (λ i. with_attribute (c.loop-v.invariant.1 i) (c.in_ok-name.ensures i, c.in_ok-ty.ensures i)) ∙ more,
+      from_found c.find_type.result heads.type_of _ (λ t. with_attribute c.loop-v.heading (c.index-names-place.result, t)) _ c.in_ok-heading.ensures.found c.in_ok-heading.ensures.more c.find_type.ensures
+          ∙ ap (λ h. with_attribute h (c.index-names-place.result, type_of c.v-item.result)) c.loop-v.invariant.1 ∙ more,
     )
 
 pub find_type-returns-in_ok-find_heading-in-Tup : goal.find_type-returns-in_ok-find_heading-in-Tup

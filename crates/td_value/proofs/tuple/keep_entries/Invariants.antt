@@ -1,7 +1,7 @@
 use Rattle.std.proofs.Common.{◌≡◌, ◌++◌, length, drop, filter}
 use Rattle.td_types.specs.Headings.{has_name}
 use Rattle.td_value.specs.Views.{entries_of}
-use Rattle.td_value.proofs.tuple.kept_entries.Given as goal
+use Rattle.td_value.proofs.tuple.keep_entries.Given as goal
 
 abbrev pub invariant-loop-v : goal.invariant-loop-v
 invariant-loop-v l =
