@@ -1,13 +1,8 @@
 -- Items taken one after another, where each is there.
-use Rattle.std.proofs.Common.{◌≡◌, List, [], ◌∷◌, ◌++◌, Option, Some, None, Err, refl, sym, ap}
+use Rattle.std.proofs.Common.{◌≡◌, List, [], ◌∷◌, ◌++◌, Option, Some, None, refl, sym, ap, map, ◌∙◌}
 use Rattle.std.specs.Prelude.{option_map}
-use Rattle.std.proofs.lemmas.List.{append_assoc, append-nil}
-use Rattle.td_parse.specs.Parsing.{Gives}
-use Rattle.td_tree.specs.Trees.{Text, Tree}
-use Rattle.td_tree.specs.declared.fault.Fault.{Fault}
-use Rattle.td_tree.specs.declared.fault.Fault.TheVariants as faults
-use Rattle.td.specs.FirstPath.{both, attribute_in, numeral_in, valued}
-use Rattle.td.specs.TreeViews.{attribute_of, numeral_of}
+use Rattle.std.proofs.lemmas.List.{append_assoc, append-nil, map-append}
+use Rattle.td.specs.FirstPath.{both}
 
 -- the items before, and those of the rest, where they are there
 abbrev pub behind : {A : Type 0} → List A → Option (List A) → Option (List A)
@@ -25,7 +20,9 @@ pub one_more : {A B : Type 0} (make : A → B) (done : List B) (x : A) (o : Opti
 one_more make done x None = refl
 one_more make done x (Some xs) = ap Some (sym (append_assoc done (make x ∷ []) xs))
 
--- a name with no number is no attribute
-pub no_attribute : (n : Text) (value : Tree) (fault : Fault) → Gives numeral_of (Err fault) (numeral_in value) → Gives attribute_of (Err fault) (attribute_in n value)
-no_attribute n value faults.Memory h = tt
-no_attribute n value (faults.Refused cause) h = (ap (option_map (valued n)) h.0, h.1)
+-- one item more was taken, as it is seen
+pub one_taken : {A B : Type 0} (view : A → B) (done : List A) (x : A) (new : List A) (o : Option B) (rest all whole : Option (List B)) → new ≡ done ++ (x ∷ []) → o ≡ Some (view x)
+    → all ≡ both (λ y others. y ∷ others) o rest → behind (map view done) all ≡ whole → behind (map view new) rest ≡ whole
+one_taken view done x new o rest all whole n e a w =
+    ap (λ xs. behind (map view xs) rest) n ∙ ap (λ ys. behind ys rest) (map-append view done (x ∷ [])) ∙ sym (one_more (λ y. y) (map view done) (view x) rest)
+    ∙ ap (λ p. behind (map view done) (both (λ y others. y ∷ others) p rest)) (sym e) ∙ ap (λ p. behind (map view done) p) (sym a) ∙ w

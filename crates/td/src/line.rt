@@ -1,5 +1,5 @@
 //! The words of the command line.
-ghost use Rattle.std.specs.Prelude.{◌≡◌, IfOk, IfSome, List, map, false};
+ghost use Rattle.std.specs.Prelude.{◌≡◌, IfOk, IfSome, List, Ok, Some, map, false};
 ghost use Rattle.clap.specs.Words.{app_of, subcommand_of, subcommand_rows_of};
 ghost use Rattle.clap.specs.declared.builder.command.Command.TheViews.{out-Command};
 ghost use Rattle.td.specs.CommandLine.{IsSaidBy, mode_word, part_app, td_app};
@@ -34,8 +34,9 @@ fn part<'a>(alloc: Global, name: &'a str) -> Result<Command<'a>, AllocError>
     let stop = Arg::new(alloc, "stop")
         .long("stop")
         .action(ArgAction::SetTrue);
-    let file = Arg::new(alloc, "file");
-    Command::new(alloc, name).arg(stop)?.arg(file)
+    Command::new(alloc, name)
+        .arg(stop)?
+        .arg(Arg::new(alloc, "file"))
 }
 
 /// The whole command.
@@ -66,15 +67,37 @@ fn line_of<'a>(matches: &ArgMatches<'a>) -> Option<Line<'a>>
     })
 }
 
+/// What the words say to the command, where they say a subcommand.
+fn said<'a>(command: &mut Command<'a>, words: &'a [&'a str]) -> Result<Option<Line<'a>>, Error>
+    ensures { app_of command.old ≡ td_app → IfOk result (λ line. IfSome line (λ l. IsSaidBy l (subcommand_of td_app (map (λ s. s.now) words.entry.now)))) }
+{
+    let matches = command.try_get_matches_from_mut(words)?;
+    let line = line_of(&matches);
+    drop(matches);
+    Ok(line)
+}
+
+/// What was said; an error where it is no subcommand.
+fn wanted<'a>(
+    line: Result<Option<Line<'a>>, Error>,
+    command: &mut Command<'_>,
+) -> Result<Line<'a>, Error>
+    ensures { IfOk result (λ l. line.entry ≡ Ok (Some l)) }
+{
+    match line? {
+        Some(line) => Ok(line),
+        None => Err(command.error(ErrorKind::MissingSubcommand, "run is wanted")?),
+    }
+}
+
 /// Reads the words of the command line, of which the first is the program's name. What it
 /// refuses is refused by `clap`, in its words.
 pub fn read_line<'a>(alloc: Global, words: &'a [&'a str]) -> Result<Line<'a>, Error>
     ensures { IfOk result (λ line. IsSaidBy line (subcommand_of td_app (map (λ s. s.now) words.entry.now))) }
 {
     let mut command = command(alloc)?;
-    let matches = command.try_get_matches_from_mut(words)?;
-    match line_of(&matches) {
-        Some(line) => Ok(line),
-        None => Err(command.error(ErrorKind::MissingSubcommand, "run is wanted")?),
-    }
+    let line = said(&mut command, words);
+    let line = wanted(line, &mut command);
+    drop(command);
+    line
 }

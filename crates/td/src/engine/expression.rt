@@ -1,8 +1,9 @@
 //! The relations that expressions mean.
-ghost use Rattle.std.specs.Prelude.{◌≡◌};
+ghost use Rattle.std.specs.Prelude.{◌≡◌, ◌++◌, IfOk, Ok};
+ghost use Rattle.std.specs.List.{All};
 ghost use Rattle.td_tree.specs.Outcomes as outcomes;
 ghost use Rattle.td_tree.specs.Outcomes.{Outcome, with_both};
-ghost use Rattle.td_value.specs.Values.{Relation};
+ghost use Rattle.td_value.specs.Values.{IsTupleOf, Relation};
 ghost use Rattle.td.specs.Answering.{Answers};
 ghost use Rattle.td.specs.Meaning as spec;
 ghost use Rattle.td.specs.Meaning.{meaning, operand_meaning};
@@ -11,10 +12,10 @@ ghost use Rattle.td.specs.TreeViews.{expression_of, operand_of};
 use crate::engine::database::Database;
 use crate::engine::literal::literal_value;
 use crate::engine::tree::{Expression, Operand};
-use std::alloc::Global;
+use std::alloc::{AllocError, Global};
 use td_tree::cause::Cause;
 use td_tree::fault::Fault;
-use td_value::value::Rel;
+use td_value::value::{Rel, Tuple};
 
 /// The relation that an operand means; NAME_UNKNOWN where there is no such relvar.
 fn operand_value(alloc: Global, database: &Database, operand: &Operand) -> Result<Rel, Fault>
@@ -29,6 +30,27 @@ fn operand_value(alloc: Global, database: &Database, operand: &Operand) -> Resul
     }
 }
 
+/// The tuples of the one relation and then those of the other.
+fn tuples_of_both(left: Rel, right: Rel) -> Result<Vec<Tuple>, AllocError>
+    ensures tuples { IfOk result (λ v. v.items ≡ left.rows ++ right.rows) }
+    ensures headed { left.heading ≡ right.heading → IfOk result (λ v. All (IsTupleOf left.heading) v.items) }
+{
+    let mut tuples = left.into_rows()?;
+    let mut others = right.into_rows()?;
+    tuples.append(&mut others)?;
+    Ok(tuples)
+}
+
+/// What was found first, and what was found next.
+fn both<T: Drop, U: Drop>(
+    first: Result<T, AllocError>,
+    next: Result<U, AllocError>,
+) -> Result<(T, U), AllocError>
+    ensures { IfOk result (λ both. (first ≡ Ok both.0) × (next ≡ Ok both.1)) }
+{
+    Ok((first?, next?))
+}
+
 /// The union of two relations; HEADING where their headings are not one.
 fn union(left: Rel, right: Rel) -> Result<Rel, Fault>
     ensures { Answers result (spec.union_of left right) }
@@ -36,10 +58,8 @@ fn union(left: Rel, right: Rel) -> Result<Rel, Fault>
     if left.heading() != right.heading() {
         return Err(Fault::Refused(Cause::Heading));
     }
-    let heading = left.heading().try_clone()?;
-    let mut tuples = left.into_rows()?;
-    let mut others = right.into_rows()?;
-    tuples.append(&mut others)?;
+    let heading = left.heading().try_clone();
+    let (heading, tuples) = both(heading, tuples_of_both(left, right))?;
     Ok(Rel::new(heading, tuples)?)
 }
 

@@ -1,10 +1,14 @@
 //! The first path's trees among all: what its grammar doesn't spell is SYNTAX.
-ghost use Rattle.std.specs.Prelude.{map, option_map};
+ghost use Rattle.std.specs.Prelude.{◌≡◌, Err, List, None, Option, map, option_map};
 ghost use Rattle.td_parse.specs.Parsing.{Gives};
+ghost use Rattle.td_tree.specs.declared.cause.Cause.TheVariants as causes;
+ghost use Rattle.td_tree.specs.declared.fault.Fault.TheVariants as faults;
+ghost use Rattle.td_tree.specs.Trees.{Text};
 ghost use Rattle.td_tree.specs.TreeViews.{assignment_of, heading_of, named_of, tree_of, trees_of, type_of};
 ghost use Rattle.td_tree.specs.TreeViews as tree_views;
 ghost use Rattle.td.specs.FirstPath as spec;
 ghost use Rattle.td.specs.Steps.{IsParsed};
+ghost use Rattle.td.specs.Trees as written;
 ghost use Rattle.td.specs.TreeViews.{attribute_of, attributes_of, expression_of, numeral_of, operand_of, statement_of, tuple_of, tuples_of};
 
 use crate::engine::number::Numeral;
@@ -26,6 +30,13 @@ use td_tree::type_tree::{AttributeTree, TypeTree};
 /// What the first path's grammar doesn't spell.
 const SYNTAX: Fault = Fault::Refused(Cause::Syntax);
 
+/// The refusal of a tree that the grammar doesn't spell.
+fn unspelled<T: Drop, U: Drop>(_tree: T) -> Result<U, Fault>
+    ensures { result ≡ Err (faults.Refused causes.Syntax) }
+{
+    Err(SYNTAX)
+}
+
 /// A number as it is written.
 fn numeral(tree: &Expr) -> Result<Numeral, Fault>
     ensures { Gives numeral_of result (spec.numeral_in (tree_of tree.now)) }
@@ -41,18 +52,24 @@ fn numeral(tree: &Expr) -> Result<Numeral, Fault>
     }
 }
 
+/// A name with its number.
+fn valued(name: Name, numeral: Result<Numeral, Fault>) -> Result<AttributeValue, Fault>
+    ensures { (o : Option written.Numeral) → Gives numeral_of numeral o → Gives attribute_of result (option_map (spec.valued name) o) }
+{
+    Ok(AttributeValue {
+        name,
+        numeral: numeral?,
+    })
+}
+
 /// An attribute's name with its number.
-#[tactic(auto, using(crate::proofs::FirstPaths::no_attribute))]
 fn attribute(part: NamedExpr) -> Result<AttributeValue, Fault>
     ensures { Gives attribute_of result (spec.attribute_in part.name (tree_of part.value)) }
 {
-    match numeral(&part.value) {
-        Ok(numeral) => Ok(AttributeValue {
-            name: part.name,
-            numeral,
-        }),
-        Err(fault) => Err(fault),
-    }
+    let NamedExpr { name, value } = part;
+    let numeral = numeral(&value);
+    drop(value);
+    valued(name, numeral)
 }
 
 /// A tuple of numbers, by its parts.
@@ -75,7 +92,7 @@ fn tuple(alloc: Global, tree: Expr) -> Result<TupleLiteral, Fault>
 {
     match tree {
         Expr::Tuple(parts) => attributes(alloc, parts),
-        _ => Err(SYNTAX),
+        other => unspelled(other),
     }
 }
 
@@ -115,6 +132,16 @@ fn names(alloc: Global, heading: Vec<AttributeTree>) -> Result<Vec<Name>, Fault>
     Ok(names)
 }
 
+/// A relation without its heading.
+fn unheaded(tuples: Result<Vec<TupleLiteral>, Fault>) -> Result<Operand, Fault>
+    ensures { (o : Option (List written.TupleLiteral)) → Gives (λ v. tuples_of v.items) tuples o → Gives operand_of result (option_map (written.literal None) o) }
+{
+    Ok(Operand::Literal(RelationLiteral {
+        heading: None,
+        tuples: tuples?,
+    }))
+}
+
 /// A relation with its heading.
 fn headed(alloc: Global, heading: Vec<AttributeTree>, elements: Vec<Expr>) -> Result<Operand, Fault>
     ensures { Gives operand_of result (spec.headed_in (heading_of heading.items) (trees_of elements.items)) }
@@ -134,12 +161,9 @@ fn operand(alloc: Global, tree: Expr) -> Result<Operand, Fault>
 {
     match tree {
         Expr::Name(name) => Ok(Operand::Relvar(name)),
-        Expr::Relation(elements) => Ok(Operand::Literal(RelationLiteral {
-            heading: None,
-            tuples: tuples(alloc, elements)?,
-        })),
+        Expr::Relation(elements) => unheaded(tuples(alloc, elements)),
         Expr::HeadedRelation(heading, elements) => headed(alloc, heading, elements),
-        _ => Err(SYNTAX),
+        other => unspelled(other),
     }
 }
 
@@ -169,24 +193,45 @@ fn expression(alloc: Global, tree: Expr) -> Result<Expression, Fault>
     }
 }
 
+/// A definition with the names of its heading.
+fn defined(
+    name: Name,
+    heading: Result<Vec<Name>, Fault>,
+    keys: Vec<Vec<Name>>,
+) -> Result<Statement, Fault>
+    ensures { (o : Option (List Text)) → Gives (λ v. v.items) heading o → Gives statement_of result (option_map (λ names. written.define name names (map (λ key. key.items) keys.items)) o) }
+{
+    Ok(Statement::Define(Definition {
+        name,
+        heading: heading?,
+        keys,
+    }))
+}
+
 /// A definition of a base relvar without an initial value.
 fn definition(alloc: Global, tree: trees::BaseDefinition) -> Result<Statement, Fault>
     ensures { Gives statement_of result (spec.definition_in tree.name (heading_of tree.heading.items) (option_map tree_of tree.init) (map (λ key. key.items) tree.keys.items)) }
 {
+    if tree.init.is_some() {
+        return unspelled(tree);
+    }
     let trees::BaseDefinition {
         name,
         heading,
         init,
         keys,
     } = tree;
-    if init.is_some() {
-        return Err(SYNTAX);
-    }
-    let heading = names(alloc, heading)?;
-    Ok(Statement::Define(Definition {
-        name,
-        heading,
-        keys,
+    drop(init);
+    defined(name, names(alloc, heading), keys)
+}
+
+/// An assignment of an expression.
+fn assigned(target: Name, source: Result<Expression, Fault>) -> Result<Statement, Fault>
+    ensures { (o : Option written.Expression) → Gives expression_of source o → Gives statement_of result (option_map (written.assign target) o) }
+{
+    Ok(Statement::Assign(Assignment {
+        target,
+        source: source?,
     }))
 }
 
@@ -195,11 +240,8 @@ fn assignment(alloc: Global, tree: trees::Assignment) -> Result<Statement, Fault
     ensures { Gives statement_of result (spec.assignment_in (assignment_of tree)) }
 {
     match tree {
-        trees::Assignment::Assign(target, source) => Ok(Statement::Assign(Assignment {
-            target,
-            source: expression(alloc, source)?,
-        })),
-        _ => Err(SYNTAX),
+        trees::Assignment::Assign(target, source) => assigned(target, expression(alloc, source)),
+        other => unspelled(other),
     }
 }
 
@@ -217,6 +259,13 @@ fn assignments(alloc: Global, trees: Vec<trees::Assignment>) -> Result<Statement
     }
 }
 
+/// A statement that writes an expression.
+fn shown(expression: Result<Expression, Fault>) -> Result<Statement, Fault>
+    ensures { (o : Option written.Expression) → Gives expression_of expression o → Gives statement_of result (option_map written.write o) }
+{
+    Ok(Statement::Write(expression?))
+}
+
 /// The first path's tree, where the statement is one.
 fn first_path(alloc: Global, tree: trees::Statement) -> Result<Statement, Fault>
     ensures { Gives statement_of result (spec.first_path (tree_views.statement_of tree)) }
@@ -225,8 +274,8 @@ fn first_path(alloc: Global, tree: trees::Statement) -> Result<Statement, Fault>
         trees::Statement::Empty => Ok(Statement::Empty),
         trees::Statement::DefineBase(tree) => definition(alloc, tree),
         trees::Statement::Assign(trees) => assignments(alloc, trees),
-        trees::Statement::Write(tree) => Ok(Statement::Write(expression(alloc, tree)?)),
-        _ => Err(SYNTAX),
+        trees::Statement::Write(tree) => shown(expression(alloc, tree)),
+        other => unspelled(other),
     }
 }
 
