@@ -1,5 +1,6 @@
 //! Copies of types and expressions. A text and a name share their bytes with their copies.
 ghost use Rattle.std.specs.Prelude.{◌≡◌, IfOk, map};
+ghost use Rattle.td_tree.specs.Copies.{Boxed};
 ghost use Rattle.td_tree.specs.Trees as trees;
 ghost use Rattle.td_tree.specs.TreeViews.{attributes_of, heading_of, literal_of, named_of, postfix_of, renaming_of, summaries_of, tree_of, trees_of, type_of, with_summary};
 
@@ -123,85 +124,42 @@ impl Expr {
         match self {
             Expr::Literal(value) => remade::literal(value.try_clone()),
             Expr::Name(name) => remade::name(name.try_clone()),
-            Expr::Parentheses(inner) => remade::parentheses(
-                *Box::allocator(inner),
-                inner.try_clone(),
-            ),
-            Expr::Prefix(op, operand) => remade::prefix(
-                *Box::allocator(operand),
-                *op,
-                operand.try_clone(),
-            ),
-            Expr::Extract(name, operand) => remade::extract(
-                *Box::allocator(operand),
-                name.try_clone(),
-                operand.try_clone(),
-            ),
-            Expr::Binary(left, op, right) => remade::binary(
-                *Box::allocator(left),
-                left.try_clone(),
-                *op,
-                right.try_clone(),
-            ),
-            Expr::Compare(left, op, right) => remade::compare(
-                *Box::allocator(left),
-                left.try_clone(),
-                *op,
-                right.try_clone(),
-            ),
-            Expr::Postfix(operand, op) => remade::postfix(
-                *Box::allocator(operand),
-                operand.try_clone(),
-                op.try_clone(),
-            ),
+            Expr::Parentheses(inner) => remade::parentheses(boxed(inner)),
+            Expr::Prefix(op, operand) => remade::prefix(*op, boxed(operand)),
+            Expr::Extract(name, operand) => remade::extract(name.try_clone(), boxed(operand)),
+            Expr::Binary(left, op, right) => remade::binary(boxed(left), *op, boxed(right)),
+            Expr::Compare(left, op, right) => remade::compare(boxed(left), *op, boxed(right)),
+            Expr::Postfix(operand, op) => remade::postfix(boxed(operand), op.try_clone()),
             Expr::Select(ty, arguments) => remade::select(ty.try_clone(), copy_list(arguments)),
-            Expr::Component(rest, operand) => remade::component(
-                *Box::allocator(operand),
-                rest.clone(),
-                operand.try_clone(),
-            ),
-            Expr::Measure(op, operand) => remade::measure(
-                *Box::allocator(operand),
-                *op,
-                operand.try_clone(),
-            ),
-            Expr::Aggregate(op, left, right) => remade::aggregate(
-                *Box::allocator(left),
-                *op,
-                left.try_clone(),
-                right.try_clone(),
-            ),
+            Expr::Component(rest, operand) => remade::component(rest.clone(), boxed(operand)),
+            Expr::Measure(op, operand) => remade::measure(*op, boxed(operand)),
+            Expr::Aggregate(op, left, right) => remade::aggregate(*op, boxed(left), boxed(right)),
             Expr::Relation(elements) => remade::relation(copy_list(elements)),
-            Expr::HeadedRelation(heading, elements) => remade::headed_relation(
-                copy_heading(heading),
-                copy_list(elements),
-            ),
+            Expr::HeadedRelation(heading, elements) => {
+                remade::headed_relation(copy_heading(heading), copy_list(elements))
+            }
             Expr::Tuple(parts) => remade::tuple(copy_parts(parts)),
-            Expr::Extend(operand, parts) => remade::extend(
-                *Box::allocator(operand),
-                operand.try_clone(),
-                copy_parts(parts),
-            ),
-            Expr::SummarizePer(operand, per, summaries) => remade::summarize_per(
-                *Box::allocator(operand),
-                operand.try_clone(),
-                per.try_clone(),
-                copy_summaries(summaries),
-            ),
-            Expr::SummarizeBy(operand, by, summaries) => remade::summarize_by(
-                *Box::allocator(operand),
-                operand.try_clone(),
-                by.try_clone(),
-                copy_summaries(summaries),
-            ),
-            Expr::If(condition, consequent, alternative) => remade::choice(
-                *Box::allocator(condition),
-                condition.try_clone(),
-                consequent.try_clone(),
-                alternative.try_clone(),
-            ),
+            Expr::Extend(operand, parts) => remade::extend(boxed(operand), copy_parts(parts)),
+            Expr::SummarizePer(operand, per, added) => {
+                remade::summarize_per(boxed(operand), boxed(per), copy_summaries(added))
+            }
+            Expr::SummarizeBy(operand, by, added) => {
+                remade::summarize_by(boxed(operand), by.try_clone(), copy_summaries(added))
+            }
+            Expr::If(condition, yes, no) => {
+                remade::choice(boxed(condition), boxed(yes), boxed(no))
+            }
         }
     }
+}
+
+/// The same expression in a box of its own.
+#[cycle(copy)]
+fn boxed(expression: &Box<Expr>) -> Result<Box<Expr>, AllocError>
+    ensures { Boxed result (tree_of expression.now.value) }
+{
+    let copy = expression.try_clone()?;
+    Ok(Box::new(*Box::allocator(expression), copy)?)
 }
 
 #[cycle(copy)]

@@ -1,16 +1,16 @@
 //! Expressions made again, of what copies of their parts gave.
 ghost use Rattle.std.specs.Prelude.{◌≡◌, IfOk};
 ghost use Rattle.std.specs.Rc.{rc_str_bytes};
-ghost use Rattle.td_tree.specs.Copies.{Copied};
+ghost use Rattle.td_tree.specs.Copies.{Boxed, Copied};
 ghost use Rattle.td_tree.specs.Trees as trees;
-ghost use Rattle.td_tree.specs.TreeViews.{attributes_of, heading_of, literal_of, named_of, postfix_of, summaries_of, trees_of};
+ghost use Rattle.td_tree.specs.TreeViews.{attributes_of, heading_of, literal_of, named_of, postfix_of, summaries_of, tree_of, trees_of};
 
 use crate::both::both;
 use crate::expression::{Attributes, Expr, Literal, NamedExpr, Postfix, Summary};
 use crate::name::Name;
 use crate::operator::{Aggregate, Comparison, Measure, Operator, Prefix};
 use crate::type_tree::AttributeTree;
-use std::alloc::{AllocError, Global};
+use std::alloc::AllocError;
 use std::rc::RcStr;
 
 /// A literal.
@@ -28,77 +28,69 @@ pub fn name(name: Result<Name, AllocError>) -> Result<Expr, AllocError>
 }
 
 /// `(e)`
-pub fn parentheses(alloc: Global, inner: Result<Expr, AllocError>) -> Result<Expr, AllocError>
-    ensures { (i : trees.Tree) → Copied inner i → Copied result (trees.parentheses i) }
+pub fn parentheses(inner: Result<Box<Expr>, AllocError>) -> Result<Expr, AllocError>
+    ensures { (i : trees.Tree) → Boxed inner i → Copied result (trees.parentheses i) }
 {
-    Expr::parentheses(alloc, inner?)
+    Ok(Expr::Parentheses(inner?))
 }
 
 /// An operator before its operand.
-pub fn prefix(
-    alloc: Global,
-    op: Prefix,
-    operand: Result<Expr, AllocError>,
-) -> Result<Expr, AllocError>
-    ensures { (o : trees.Tree) → Copied operand o → Copied result (trees.prefix op o) }
+pub fn prefix(op: Prefix, operand: Result<Box<Expr>, AllocError>) -> Result<Expr, AllocError>
+    ensures { (o : trees.Tree) → Boxed operand o → Copied result (trees.prefix op o) }
 {
-    Expr::prefix(alloc, op, operand?)
+    Ok(Expr::Prefix(op, operand?))
 }
 
 /// `A FROM t`
 pub fn extract(
-    alloc: Global,
     name: Result<Name, AllocError>,
-    operand: Result<Expr, AllocError>,
+    operand: Result<Box<Expr>, AllocError>,
 ) -> Result<Expr, AllocError>
-    ensures { (n : trees.Text) → (o : trees.Tree) → IfOk name (λ x. x ≡ n) → Copied operand o → Copied result (trees.extract n o) }
+    ensures { (n : trees.Text) → (o : trees.Tree) → IfOk name (λ x. x ≡ n) → Boxed operand o → Copied result (trees.extract n o) }
 {
     match both(name, operand) {
-        Ok((name, operand)) => Expr::extract(alloc, name, operand),
+        Ok((name, operand)) => Ok(Expr::Extract(name, operand)),
         Err(error) => Err(error),
     }
 }
 
 /// An operator between its operands.
 pub fn binary(
-    alloc: Global,
-    left: Result<Expr, AllocError>,
+    left: Result<Box<Expr>, AllocError>,
     op: Operator,
-    right: Result<Expr, AllocError>,
+    right: Result<Box<Expr>, AllocError>,
 ) -> Result<Expr, AllocError>
-    ensures { (l : trees.Tree) → (r : trees.Tree) → Copied left l → Copied right r → Copied result (trees.binary l op r) }
+    ensures { (l : trees.Tree) → (r : trees.Tree) → Boxed left l → Boxed right r → Copied result (trees.binary l op r) }
 {
     match both(left, right) {
-        Ok((left, right)) => Expr::binary(alloc, left, op, right),
+        Ok((left, right)) => Ok(Expr::Binary(left, op, right)),
         Err(error) => Err(error),
     }
 }
 
 /// A comparison of two operands.
 pub fn compare(
-    alloc: Global,
-    left: Result<Expr, AllocError>,
+    left: Result<Box<Expr>, AllocError>,
     op: Comparison,
-    right: Result<Expr, AllocError>,
+    right: Result<Box<Expr>, AllocError>,
 ) -> Result<Expr, AllocError>
-    ensures { (l : trees.Tree) → (r : trees.Tree) → Copied left l → Copied right r → Copied result (trees.compare l op r) }
+    ensures { (l : trees.Tree) → (r : trees.Tree) → Boxed left l → Boxed right r → Copied result (trees.compare l op r) }
 {
     match both(left, right) {
-        Ok((left, right)) => Expr::compare(alloc, left, op, right),
+        Ok((left, right)) => Ok(Expr::Compare(left, op, right)),
         Err(error) => Err(error),
     }
 }
 
 /// An operator behind its operand.
 pub fn postfix(
-    alloc: Global,
-    operand: Result<Expr, AllocError>,
+    operand: Result<Box<Expr>, AllocError>,
     op: Result<Postfix, AllocError>,
 ) -> Result<Expr, AllocError>
-    ensures { (o : trees.Tree) → (p : trees.Postfix) → Copied operand o → IfOk op (λ x. postfix_of x ≡ p) → Copied result (trees.postfix o p) }
+    ensures { (o : trees.Tree) → (p : trees.Postfix) → Boxed operand o → IfOk op (λ x. postfix_of x ≡ p) → Copied result (trees.postfix o p) }
 {
     match both(operand, op) {
-        Ok((operand, op)) => Expr::postfix(alloc, operand, op),
+        Ok((operand, op)) => Ok(Expr::Postfix(operand, op)),
         Err(error) => Err(error),
     }
 }
@@ -118,40 +110,34 @@ pub fn select(
 
 /// `THE_C(e)`
 pub fn component(
-    alloc: Global,
     rest: Result<RcStr, AllocError>,
-    operand: Result<Expr, AllocError>,
+    operand: Result<Box<Expr>, AllocError>,
 ) -> Result<Expr, AllocError>
-    ensures { (t : trees.Text) → (o : trees.Tree) → IfOk rest (λ x. rc_str_bytes x ≡ t) → Copied operand o → Copied result (trees.component t o) }
+    ensures { (t : trees.Text) → (o : trees.Tree) → IfOk rest (λ x. rc_str_bytes x ≡ t) → Boxed operand o → Copied result (trees.component t o) }
 {
     match both(rest, operand) {
-        Ok((rest, operand)) => Expr::component(alloc, rest, operand),
+        Ok((rest, operand)) => Ok(Expr::Component(rest, operand)),
         Err(error) => Err(error),
     }
 }
 
 /// `COUNT(e)` or `IS_EMPTY(e)`
-pub fn measure(
-    alloc: Global,
-    op: Measure,
-    operand: Result<Expr, AllocError>,
-) -> Result<Expr, AllocError>
-    ensures { (o : trees.Tree) → Copied operand o → Copied result (trees.measure op o) }
+pub fn measure(op: Measure, operand: Result<Box<Expr>, AllocError>) -> Result<Expr, AllocError>
+    ensures { (o : trees.Tree) → Boxed operand o → Copied result (trees.measure op o) }
 {
-    Expr::measure(alloc, op, operand?)
+    Ok(Expr::Measure(op, operand?))
 }
 
 /// `SUM(e, v)`, `MAX(e, v)` or `MIN(e, v)`
 pub fn aggregate(
-    alloc: Global,
     op: Aggregate,
-    operand: Result<Expr, AllocError>,
-    value: Result<Expr, AllocError>,
+    operand: Result<Box<Expr>, AllocError>,
+    value: Result<Box<Expr>, AllocError>,
 ) -> Result<Expr, AllocError>
-    ensures { (o : trees.Tree) → (v : trees.Tree) → Copied operand o → Copied value v → Copied result (trees.aggregate op o v) }
+    ensures { (o : trees.Tree) → (v : trees.Tree) → Boxed operand o → Boxed value v → Copied result (trees.aggregate op o v) }
 {
     match both(operand, value) {
-        Ok((operand, value)) => Expr::aggregate(alloc, op, operand, value),
+        Ok((operand, value)) => Ok(Expr::Aggregate(op, operand, value)),
         Err(error) => Err(error),
     }
 }
@@ -184,65 +170,65 @@ pub fn tuple(parts: Result<Vec<NamedExpr>, AllocError>) -> Result<Expr, AllocErr
 }
 
 /// `EXTEND e ADD (v AS A, ..)`
+#[tactic(auto, using(crate::proofs::Rows::extend_is))]
 pub fn extend(
-    alloc: Global,
-    operand: Result<Expr, AllocError>,
+    operand: Result<Box<Expr>, AllocError>,
     parts: Result<Vec<NamedExpr>, AllocError>,
 ) -> Result<Expr, AllocError>
-    ensures { (o : trees.Tree) → (ps : trees.NamedTrees) → Copied operand o → IfOk parts (λ x. named_of x.items ≡ ps) → Copied result (trees.extend o ps) }
+    ensures { (o : trees.Tree) → (ps : trees.NamedTrees) → Boxed operand o → IfOk parts (λ x. named_of x.items ≡ ps) → Copied result (trees.extend o ps) }
 {
     match both(operand, parts) {
-        Ok((operand, parts)) => Expr::extend(alloc, operand, parts),
+        Ok((operand, parts)) => Ok(Expr::Extend(operand, parts)),
         Err(error) => Err(error),
     }
 }
 
 /// `SUMMARIZE e PER (p) ADD (..)`
+#[tactic(auto, using(crate::proofs::Rows::summarize_per_is))]
 pub fn summarize_per(
-    alloc: Global,
-    operand: Result<Expr, AllocError>,
-    per: Result<Expr, AllocError>,
-    summaries: Result<Vec<Summary>, AllocError>,
+    operand: Result<Box<Expr>, AllocError>,
+    per: Result<Box<Expr>, AllocError>,
+    added: Result<Vec<Summary>, AllocError>,
 ) -> Result<Expr, AllocError>
-    ensures { (o : trees.Tree) → (p : trees.Tree) → (ss : trees.Summaries) → Copied operand o → Copied per p → IfOk summaries (λ x. summaries_of x.items ≡ ss) → Copied result (trees.summarize_per o p ss) }
+    ensures { (o : trees.Tree) → (p : trees.Tree) → (ss : trees.Summaries) → Boxed operand o → Boxed per p → IfOk added (λ x. summaries_of x.items ≡ ss) → Copied result (trees.summarize_per o p ss) }
 {
-    match both(operand, both(per, summaries)) {
-        Ok((operand, (per, summaries))) => Expr::summarize_per(alloc, operand, per, summaries),
+    match both(operand, both(per, added)) {
+        Ok((operand, (per, added))) => Ok(Expr::SummarizePer(operand, per, added)),
         Err(error) => Err(error),
     }
 }
 
+/// `SUMMARIZE e BY {..} ADD (..)`, of its parts.
+fn summarized_by(operand: Box<Expr>, by: Attributes, added: Vec<Summary>) -> Expr
+    ensures { tree_of result ≡ trees.summarize_by (tree_of operand.value) (attributes_of by) (summaries_of added.items) }
+{
+    Expr::SummarizeBy(operand, by, added)
+}
+
 /// `SUMMARIZE e BY {..} ADD (..)`
 pub fn summarize_by(
-    alloc: Global,
-    operand: Result<Expr, AllocError>,
+    operand: Result<Box<Expr>, AllocError>,
     by: Result<Attributes, AllocError>,
-    summaries: Result<Vec<Summary>, AllocError>,
+    added: Result<Vec<Summary>, AllocError>,
 ) -> Result<Expr, AllocError>
-    ensures { (o : trees.Tree) → (b : trees.Attributes) → (ss : trees.Summaries) → Copied operand o → IfOk by (λ x. attributes_of x ≡ b) → IfOk summaries (λ x. summaries_of x.items ≡ ss) → Copied result (trees.summarize_by o b ss) }
+    ensures { (o : trees.Tree) → (b : trees.Attributes) → (ss : trees.Summaries) → Boxed operand o → IfOk by (λ x. attributes_of x ≡ b) → IfOk added (λ x. summaries_of x.items ≡ ss) → Copied result (trees.summarize_by o b ss) }
 {
-    match both(operand, both(by, summaries)) {
-        Ok((operand, (by, summaries))) => Expr::summarize_by(alloc, operand, by, summaries),
+    match both(operand, both(by, added)) {
+        Ok((operand, (by, added))) => Ok(summarized_by(operand, by, added)),
         Err(error) => Err(error),
     }
 }
 
 /// `IF c THEN a ELSE b END IF`
 pub fn choice(
-    alloc: Global,
-    condition: Result<Expr, AllocError>,
-    consequent: Result<Expr, AllocError>,
-    alternative: Result<Expr, AllocError>,
+    condition: Result<Box<Expr>, AllocError>,
+    yes: Result<Box<Expr>, AllocError>,
+    no: Result<Box<Expr>, AllocError>,
 ) -> Result<Expr, AllocError>
-    ensures { (i : trees.Tree) → (t : trees.Tree) → (e : trees.Tree) → Copied condition i → Copied consequent t → Copied alternative e → Copied result (trees.choice i t e) }
+    ensures { (i : trees.Tree) → (t : trees.Tree) → (e : trees.Tree) → Boxed condition i → Boxed yes t → Boxed no e → Copied result (trees.choice i t e) }
 {
-    match both(condition, both(consequent, alternative)) {
-        Ok((condition, (consequent, alternative))) => Expr::choice(
-            alloc,
-            condition,
-            consequent,
-            alternative,
-        ),
+    match both(condition, both(yes, no)) {
+        Ok((condition, (yes, no))) => Ok(Expr::If(condition, yes, no)),
         Err(error) => Err(error),
     }
 }
