@@ -1,5 +1,5 @@
 -- From a tree to the step of its tokens.
-use Rattle.std.proofs.Common.{◌≡◌, false, List, Option, None, Some, Result, Ok, Err, sym, ap, ◌∙◌, subst, IfOk}
+use Rattle.std.proofs.Common.{◌≡◌, false, List, Some, Result, Ok, Err, sym, subst, IfOk}
 use Rattle.std.specs.String.{string_bytes}
 use Rattle.td_parse.specs.Parsing.{Gives, Parses}
 use Rattle.td_tree.specs.Statements.{Entry}

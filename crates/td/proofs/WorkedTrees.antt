@@ -1,5 +1,5 @@
 -- Worked examples: the lexemes of some statements, the trees that they spell, and what the first path sees of them.
-use Rattle.std.proofs.Common.{◌≡◌, ℕ, true, false, List, [], ◌∷◌, ◌++◌, Option, Some, None, refl, codes}
+use Rattle.std.proofs.Common.{◌≡◌, ℕ, true, false, List, [], ◌∷◌, ◌++◌, Some, None, refl, codes}
 use Rattle.td_tree.specs.declared.keyword.Keyword.TheVariants as keywords
 use Rattle.td_tree.specs.declared.operator.Operator.TheVariants as operators
 use Rattle.td_tree.specs.declared.token.Sign.TheVariants as signs

@@ -1,6 +1,6 @@
 -- The set machine: what a statement does to a database, and what it answers (the chapter's; causes, the order of checks
 -- and the texts are this project's own).
-use Rattle.std.specs.Prelude.{◌≡◌, ℕ, ◌+◌, Bool, true, false, ◌&&◌, List, [], ◌∷◌, ◌++◌, Option, Some, None, map, codes, decimal, nat_lt, if◌then◌else◌}
+use Rattle.std.specs.Prelude.{◌≡◌, ℕ, ◌+◌, Bool, true, false, ◌&&◌, List, [], ◌∷◌, ◌++◌, Option, Some, None, codes, decimal, nat_lt, if◌then◌else◌}
 use Rattle.td_tree.specs.Causes.{name_of, number_of}
 use Rattle.td_tree.specs.Outcomes.{Only, Outcome, Valued, Refused, least, with_value, with_both}
 use Rattle.td_tree.specs.StatementGrammar.{StatementSpelling}

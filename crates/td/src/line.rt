@@ -34,9 +34,8 @@ fn part<'a>(alloc: Global, name: &'a str) -> Result<Command<'a>, AllocError>
     let stop = Arg::new(alloc, "stop")
         .long("stop")
         .action(ArgAction::SetTrue);
-    Command::new(alloc, name)
-        .arg(stop)?
-        .arg(Arg::new(alloc, "file"))
+    let file = Arg::new(alloc, "file");
+    Command::new(alloc, name).arg(stop)?.arg(file)
 }
 
 /// The whole command.
