@@ -27,23 +27,26 @@ pub struct Line<'a> {
 }
 
 /// A subcommand: a flag `--stop` and the file.
-fn part<'a>(alloc: Global, name: &'a str) -> Result<Command<'a>, AllocError>
+fn part<'a>(alloc: Global, name: &'a str, about: &'a str) -> Result<Command<'a>, AllocError>
     ensures app { IfOk result (λ c. app_of c ≡ part_app name.entry.now) }
     ensures local { IfOk result (λ c. (out-Command c).has_globals ≡ false) }
 {
     let stop = Arg::new(alloc, "stop")
         .long("stop")
-        .action(ArgAction::SetTrue);
-    let file = Arg::new(alloc, "file");
-    Command::new(alloc, name).arg(stop)?.arg(file)
+        .action(ArgAction::SetTrue)
+        .help("Ends the run at the first refused statement");
+    let file = Arg::new(alloc, "file")
+        .help("The script; without it, or where it is '-', the script is standard input");
+    Command::new(alloc, name).about(about).arg(stop)?.arg(file)
 }
 
 /// The whole command.
 fn command<'a>(alloc: Global) -> Result<Command<'a>, AllocError>
     ensures app { IfOk result (λ c. app_of c ≡ td_app) }
 {
-    let run = part(alloc, "run")?;
+    let run = part(alloc, "run", "Runs a script and writes an answer for each statement")?;
     Command::new(alloc, "td")
+        .about("An engine for Tutorial D")
         .subcommand_required(true)
         .subcommand(run)
 }

@@ -10,6 +10,9 @@ use std::alloc::{AllocError, Global};
 use std::rt::{Env, Files};
 use std::{env, fs, io};
 
+/// The status of a wrong command line.
+const WRONG_LINE: u8 = 2;
+
 /// The status where a file, the output or memory failed.
 const FAILED: u8 = 3;
 
@@ -76,19 +79,36 @@ fn out_of_memory<R: Eprint>(rt: &R) -> u8 {
     FAILED
 }
 
+/// Says why there are no words: one of them is no text, or memory was refused.
+fn refuse_words<R: Eprint>(rt: &R, error: &io::Error) -> u8 {
+    if error.kind() != io::ErrorKind::InvalidData {
+        return out_of_memory(rt);
+    }
+    let _ = eprintln!(rt; "td: a word of the command line is not UTF-8");
+    WRONG_LINE
+}
+
 /// Prints what `clap` says to the words: help, or why they are refused.
 fn answer_words<R: Print + Eprint>(rt: &R, error: &Error) -> u8 {
     if error.kind() == ErrorKind::OutOfMemory {
         return out_of_memory(rt);
     }
-    let _ = error.print(rt);
-    if error.use_stderr() { 2 } else { 0 }
+    let printed = error.print(rt);
+    if error.use_stderr() {
+        return WRONG_LINE;
+    }
+    if printed.is_err() {
+        let _ = eprintln!(rt; "td: help cannot be written");
+        return FAILED;
+    }
+    0
 }
 
 /// Runs what the command line says, and answers the status to exit with.
 pub fn status<R: Files + Env + Input + Print + Eprint + AllocGlobal>(rt: &R) -> u8 {
-    let Ok(words) = words_of(rt) else {
-        return out_of_memory(rt);
+    let words = match words_of(rt) {
+        Ok(words) => words,
+        Err(error) => return refuse_words(rt, &error),
     };
     let Ok(texts) = texts_of(rt.alloc(), words.as_slice()) else {
         return out_of_memory(rt);

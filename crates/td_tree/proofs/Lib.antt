@@ -21,6 +21,7 @@ pub mod EndOfStatement
 pub mod FrontLaws
 pub mod HeldLaws
 pub mod KindLaws
+pub mod LeastCauses
 pub mod Letters
 pub mod OneTree
 pub mod OtherTexts

@@ -1,5 +1,5 @@
 -- Sets of causes, and what has a value or such a set (this project's own).
-use Rattle.std.specs.Prelude.{◌≡◌, nat_le, Option, None, Some, if◌then◌else◌, ◌⊎◌}
+use Rattle.std.specs.Prelude.{◌≡◌, ◌≤◌, nat_le, Option, None, Some, if◌then◌else◌, ◌⊎◌}
 use Rattle.td_tree.specs.Causes.{number_of}
 use Rattle.td_tree.specs.declared.cause.Cause.{Cause}
 
@@ -41,3 +41,9 @@ with_both (Valued x) (Valued y) f = f x y
 with_both (Valued x) (Refused ds) f = Refused ds
 with_both (Refused cs) (Valued y) f = Refused cs
 with_both (Refused cs) (Refused ds) f = Refused (Union cs ds)
+
+-- ---- laws
+
+-- the cause that is named is one of the set, and none of the set has a lesser number
+abbrev pub LeastIsNamed : Type 0
+LeastIsNamed = (cs : Causes) → Has cs (least cs) × ((c : Cause) → Has cs c → number_of (least cs) ≤ number_of c)

@@ -1,14 +1,20 @@
-//! Laws of pieces, tokens and statements.
+//! Laws of causes, pieces, tokens and statements.
 ghost use Rattle.std.specs.Prelude.{◌≡◌, ◌+◌, ◌++◌, ◌↔◌, ℕ, List, Some, length};
 ghost use Rattle.std.specs.List.{flat_map};
 ghost use Rattle.td_tree.specs.declared.piece.Piece.{Piece};
 ghost use Rattle.td_tree.specs.declared.token.Kind.TheVariants as kinds;
+ghost use Rattle.td_tree.specs.Outcomes.{LeastIsNamed};
 ghost use Rattle.td_tree.specs.Pieces.{AreLongest, kind_of, pieces, state, text_kind};
 ghost use Rattle.td_tree.specs.Spans.{AreOfTheirKind, AreSlices, AreTexts, Ascends};
 ghost use Rattle.td_tree.specs.Spellings.{IsSpelled, characters};
 ghost use Rattle.td_tree.specs.Statements.{AreStatements, Entry, first_ended, statements, tokens};
 ghost use Rattle.td_tree.specs.Symbols.{AreSymbols, Symbol, symbols};
 ghost use Rattle.td_tree.specs.TextTokens.{IsQuotedText, content, quoted};
+
+/// The cause that is named is one of those that there are, and none of them has a lesser number.
+pub fn the_least_cause_is_named()
+    ensures { LeastIsNamed }
+{}
 
 /// The symbols of bytes spell them, each a character of UTF-8, or one byte where none begins.
 #[tactic(auto, using(crate::proofs::DecodeLaws::are_symbols))]
