@@ -3,7 +3,9 @@ pub mod Headed
 pub mod HeadingOf
 pub mod Kept
 pub mod Maps
+pub mod Members
 pub mod Pieces
 pub mod Rows
+pub mod Typed
 pub mod Unread
 pub mod Zips

@@ -7,7 +7,7 @@ use Rattle.std.specs.Cmp.Lexicographic.{slice_cmp}
 use Rattle.std.specs.List.Sorted.{IsStrictlySortedBy}
 use Rattle.std.specs.List.{Contains}
 use Rattle.td_tree.specs.Names.{IsName}
-use Rattle.td_types.specs.Types.{Type', same_name, Attrs, no_attrs, attr, Attributes, attrs_cmp, pack}
+use Rattle.td_types.specs.Types.{Type', IsHeading, same_name, Attrs, no_attrs, attr, Attributes, attrs_cmp, pack}
 use Rattle.td_types.specs.Types as types
 use Rattle.td_value.specs.Sets.{set_of}
 
@@ -162,7 +162,8 @@ names_of = map (λ e. e.0)
 abbrev pub IsAscendingRows : List Entries → Type 0
 IsAscendingRows = IsStrictlySortedBy tuple_order
 
--- numbers are in range, texts are UTF-8, names are names and ascend, tuples ascend and have their relation's heading
+-- numbers are in range, texts are UTF-8, names are names and ascend, tuples ascend and have their relation's heading, which
+-- is one
 abbrev mutual
   pub IsValue : Val → Type 0
   IsValue (boolean b) = Unit {0}
@@ -170,7 +171,7 @@ abbrev mutual
   IsValue (text s) = IsUtf8 s
   IsValue (user n ps) = IsName n × AreValues ps
   IsValue (tuple fs) = AreFields fs × IsStrictlySortedBy (slice_cmp nat_cmp) (names_of (unpack_fields fs))
-  IsValue (relation h rs) = AreRows h rs × IsAscendingRows (unpack_rows rs)
+  IsValue (relation h rs) = AreRows h rs × IsAscendingRows (unpack_rows rs) × IsHeading h
 
   pub AreValues : Parts → Type 0
   AreValues no_parts = Unit {0}

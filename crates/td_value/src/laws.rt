@@ -1,5 +1,5 @@
-//! What the order of values and their literals are to their callers: each function has its contract alone.
-ghost use Rattle.td_value.specs.Laws.{EqualityIsSameness, LiteralsTellValuesApart, RelationsCompareByRows, TuplesCompareByValues, UserValuesCompareByComponents};
+//! What sets of tuples, the order of values and their literals are to their callers: each function has its contract alone.
+ghost use Rattle.td_value.specs.Laws.{EqualityIsSameness, LiteralsTellValuesApart, RelationsAreTheirMembers, RelationsCompareByRows, SetsHaveTheMembersOfTheirLists, TuplesCompareByValues, TypesOfValuesAreTypes, UserValuesCompareByComponents};
 
 /// `==` on values, on tuples and on relations tells whether they are the same.
 pub fn equality_is_sameness()
@@ -24,4 +24,19 @@ pub fn relations_compare_by_rows()
 /// Two values of one type have one literal only where they are equal.
 pub fn literals_tell_values_apart()
     ensures { LiteralsTellValuesApart }
+{}
+
+/// The type of a value is a type: names in it are names, and its headings are headings.
+pub fn types_of_values_are_types()
+    ensures { TypesOfValuesAreTypes }
+{}
+
+/// The set of a list of tuples has the members of the list, and no other.
+pub fn sets_have_the_members_of_their_lists()
+    ensures { SetsHaveTheMembersOfTheirLists }
+{}
+
+/// A relation is its heading and its members: two of one heading with the same members are one.
+pub fn relations_are_their_members()
+    ensures { RelationsAreTheirMembers }
 {}

@@ -63,6 +63,7 @@ impl Rel {
         requires { All (IsTupleOf heading) rows.items }
         ensures { IfOk result (λ r. r ≡ relation_of heading (set_of tuple_order rows.items)) }
     {
+        let _ = heading.len();
         rows.sort_unstable_by(|a, b| compare_by_values(a, b));
         rows.dedup();
         rows.shrink_to_fit();

@@ -1,0 +1,40 @@
+-- Sets of tuples by their members.
+use Rattle.std.proofs.Common.{◌≡◌, ◌∙◌, refl, sym, subst, Bool, true, false, List}
+use Rattle.std.specs.List.{Contains}
+use Rattle.std.specs.List.Sorted.{IsStrictlySortedBy}
+use Rattle.std.proofs.lemmas.Cmp.{eq_by_cmp_equiv}
+use Rattle.std.proofs.lemmas.Map.Views.{Contains-from_any, list_any-from_Contains}
+use Rattle.td_value.specs.Laws.{RelationsAreTheirMembers, SetsHaveTheMembersOfTheirLists}
+use Rattle.td_value.specs.Sets.{has, has-set_of, same_members, set_of}
+use Rattle.td_value.specs.ValueCode.{unpack_pack_rows}
+use Rattle.td_value.specs.Values.{Entries, IsRelation, Relation, tuple_order}
+use Rattle.td_value.specs.ValueOrder.{tuple_Decides, tuple_order_same, tuple_order_total}
+
+-- a list contains what the test finds
+contained : (t : Entries) (ts : List Entries) → has tuple_order t ts ≡ true → Contains ts t
+contained t ts found = Contains-from_any (λ s u e. (tuple_Decides s u).0 e) t ts found
+
+-- the test finds what a list contains
+found : (t : Entries) (ts : List Entries) → Contains ts t → has tuple_order t ts ≡ true
+found t ts c = list_any-from_Contains (eq_by_cmp_equiv tuple_order_total) t ts c
+
+pub set_members : SetsHaveTheMembersOfTheirLists
+set_members ts t =
+    let same = has-set_of tuple_order tuple_order_total tuple_order_same t ts in
+    ((λ c. contained t ts (sym same ∙ found t (set_of tuple_order ts) c)), (λ c. contained t (set_of tuple_order ts) (same ∙ found t ts c)))
+
+-- two tests that find the same are one
+one_test : (b c : Bool) → (b ≡ true → c ≡ true) → (c ≡ true → b ≡ true) → b ≡ c
+one_test true c f g = sym (f refl)
+one_test false true f g = g refl
+one_test false false f g = refl
+
+ascends : (r : Relation) → IsRelation r → IsStrictlySortedBy tuple_order r.rows
+ascends r p = subst (IsStrictlySortedBy tuple_order) (unpack_pack_rows r.rows) p.1
+
+pub by_members : RelationsAreTheirMembers
+by_members r s p q heading members =
+    let tests : (t : Entries) → has tuple_order t r.rows ≡ has tuple_order t s.rows = λ t. one_test (has tuple_order t r.rows) (has tuple_order t s.rows)
+    (λ h. found t s.rows ((members t).0 (contained t r.rows h))) (λ h. found t r.rows ((members t).1 (contained t s.rows h))) in
+    let rows : r.rows ≡ s.rows = same_members tuple_order tuple_order_total tuple_order_same r.rows s.rows (ascends r p) (ascends s q) tests in
+    λ i. record { heading = heading i; rows = rows i }
