@@ -35,8 +35,9 @@ fn part<'a>(alloc: Global, name: &'a str, about: &'a str) -> Result<Command<'a>,
         .long("stop")
         .action(ArgAction::SetTrue)
         .help("Ends the run at the first refused statement");
-    let file = Arg::new(alloc, "file")
-        .help("The script; without it, or where it is '-', the script is standard input");
+    let file = Arg::new(alloc, "file").help(
+        "The script; without it, or where it is '-', the script is standard input",
+    );
     Command::new(alloc, name).about(about).arg(stop)?.arg(file)
 }
 
@@ -44,7 +45,11 @@ fn part<'a>(alloc: Global, name: &'a str, about: &'a str) -> Result<Command<'a>,
 fn command<'a>(alloc: Global) -> Result<Command<'a>, AllocError>
     ensures app { IfOk result (λ c. app_of c ≡ td_app) }
 {
-    let run = part(alloc, "run", "Runs a script and writes an answer for each statement")?;
+    let run = part(
+        alloc,
+        "run",
+        "Runs a script and writes an answer for each statement",
+    )?;
     Command::new(alloc, "td")
         .about("An engine for Tutorial D")
         .subcommand_required(true)
