@@ -1,7 +1,9 @@
 -- Sets of causes, and what has a value or such a set (this project's own).
-use Rattle.std.specs.Prelude.{◌≡◌, ◌≤◌, nat_le, Option, None, Some, if◌then◌else◌, ◌⊎◌}
+use Rattle.std.specs.Prelude.{◌≡◌, ◌≤◌, nat_le, Bool, List, [], ◌∷◌, Option, None, Some, Result, Ok, Err, if◌then◌else◌, ◌⊎◌}
 use Rattle.td_tree.specs.Causes.{number_of}
 use Rattle.td_tree.specs.declared.cause.Cause.{Cause}
+use Rattle.td_tree.specs.declared.fault.Fault.{Fault}
+use Rattle.td_tree.specs.declared.fault.Fault.TheVariants as faults
 
 -- a nonempty set of causes: one, or the union of two such sets
 pub data Causes : Type 0 where
@@ -41,6 +43,26 @@ with_both (Valued x) (Valued y) f = f x y
 with_both (Valued x) (Refused ds) f = Refused ds
 with_both (Refused cs) (Valued y) f = Refused cs
 with_both (Refused cs) (Refused ds) f = Refused (Union cs ds)
+
+-- the values of a list of outcomes; the causes of all count
+abbrev pub gathered : {A : Type 0} → List (Outcome A) → Outcome (List A)
+gathered [] = Valued []
+gathered (o ∷ os) = with_both o (gathered os) (λ x xs. Valued (x ∷ xs))
+
+-- what follows where there is a value of each
+abbrev pub with_all : {A B : Type 0} → List (Outcome A) → (List A → Outcome B) → Outcome B
+with_all os f = with_value (gathered os) f
+
+-- the value where the test holds, else that cause
+abbrev pub value_if : {A : Type 0} → Bool → A → Cause → Outcome A
+value_if test x cause = if test then Valued x else Refused (Only cause)
+
+-- what a call answers of an outcome: the value, as the view shows it, or the least of the causes; want of memory says
+-- nothing
+abbrev pub Answers : {X A : Type 0} → (X → A) → Result X Fault → Outcome A → Type 0
+Answers view (Ok x) o = o ≡ Valued (view x)
+Answers view (Err (faults.Refused cause)) o = named_cause o ≡ Some cause
+Answers view (Err faults.Memory) o = Unit {0}
 
 -- ---- laws
 
