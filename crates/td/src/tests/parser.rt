@@ -36,10 +36,6 @@ fn passes<P: FnOnce(&Statement) -> bool>(
     Ok(test(&statement))
 }
 
-fn is_taken(alloc: Global, script: &[u8]) -> bool {
-    passes(alloc, script, |_| true).is_ok()
-}
-
 fn is_refused(alloc: Global, script: &[u8], cause: Cause) -> bool {
     match passes(alloc, script, |_| true) {
         Err(fault) => fault == Fault::Refused(cause),

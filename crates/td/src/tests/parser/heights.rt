@@ -1,4 +1,5 @@
-use super::{is_refused, is_taken};
+use super::is_refused;
+use super::prints::is_spelled;
 use std::alloc::{AllocError, Global};
 use td_tree::cause::Cause;
 
@@ -36,7 +37,10 @@ fn takes_at_most(alloc: Global, shape: &Shape<'_>) -> Result<bool, AllocError> {
     let most = usize::from(shape.most);
     let highest = statement(alloc, shape, most)?;
     let too_high = statement(alloc, shape, most + 1)?;
-    Ok(is_taken(alloc, highest.as_slice()) && is_refused(alloc, too_high.as_slice(), Cause::Syntax))
+    Ok(
+        is_spelled(alloc, highest.as_slice())
+            && is_refused(alloc, too_high.as_slice(), Cause::Syntax),
+    )
 }
 
 const SHAPES: [Shape<'static>; 5] = [

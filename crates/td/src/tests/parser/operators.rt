@@ -1,4 +1,5 @@
-use super::{is_refused, is_taken};
+use super::is_refused;
+use super::prints::is_spelled;
 use td_tree::cause::Cause;
 
 const ACCEPTED: [&str; 31] = [
@@ -72,7 +73,7 @@ const REFUSED: [&str; 27] = [
 #[test]
 fn what_the_grammar_spells(rt: HostRuntime) {
     for script in ACCEPTED {
-        assert!(rt; is_taken(rt.alloc(), script.as_bytes()), "{script}");
+        assert!(rt; is_spelled(rt.alloc(), script.as_bytes()), "{script}");
     }
 }
 

@@ -1,7 +1,8 @@
-//! Expressions that are read, copied and printed.
-use super::passes;
+//! Expressions that are read, copied, printed and read again.
+use super::{parse, passes};
 use std::alloc::{AllocError, Global};
 use td_tree::expression::Expr;
+use td_tree::fault::Fault;
 use td_tree::print::print_expr;
 use td_tree::statement::Statement;
 
@@ -47,6 +48,41 @@ fn writes(alloc: Global, statement: &Statement, row: &Row) -> bool {
         Statement::Write(tree) => is_printed(alloc, tree, row) == Ok(true),
         _ => false,
     }
+}
+
+/// `WRITE e;`, by the text of `e`.
+fn written(alloc: Global, text: &str) -> Result<Vec<u8>, AllocError> {
+    let mut script = Vec::new(alloc);
+    script.extend_from_slice(b"WRITE ")?;
+    script.extend_from_slice(text.as_bytes())?;
+    script.extend_from_slice(b";")?;
+    Ok(script)
+}
+
+/// Whether the expression's copy is printed as a text that is read as an expression of the same print and height.
+fn is_read_again(alloc: Global, tree: &Expr) -> Result<bool, Fault> {
+    let copy = tree.try_clone()?;
+    let text = print_expr(alloc, &copy)?;
+    let script = written(alloc, text.as_str())?;
+    match parse(alloc, script.as_slice())? {
+        Statement::Write(again) => {
+            let print = print_expr(alloc, &again)?;
+            Ok(print.as_str() == text.as_str() && again.height() == tree.height())
+        }
+        _ => Ok(false),
+    }
+}
+
+fn reads_again(alloc: Global, statement: &Statement) -> bool {
+    match statement {
+        Statement::Write(tree) => is_read_again(alloc, tree) == Ok(true),
+        _ => true,
+    }
+}
+
+/// Whether the statement is spelled; what one writes is copied, printed and read again too.
+pub fn is_spelled(alloc: Global, script: &[u8]) -> bool {
+    passes(alloc, script, |statement| reads_again(alloc, statement)) == Ok(true)
 }
 
 #[test]
