@@ -5,9 +5,9 @@ use Rattle.td_tree.specs.declared.cause.Cause.TheVariants as causes
 use Rattle.td.specs.Database.{Database}
 use Rattle.td.specs.Machine.{Progress, Step, Steps, scanned, unspelled, spelled, Runs, nothing, stopped, next, and_then, has_stopped, refused, tree_step}
 use Rattle.td_parse.specs.Parsing.{has_bad}
-use Rattle.td_tree.specs.ReadingStatements.{read_statement}
+use Rattle.td_parse.specs.ReadingStatements.{read_statement}
 use Rattle.td_tree.specs.TokenLexemes.{lexemes}
-use Rattle.td_tree.proofs.OneTree.{one_statement}
+use Rattle.td_parse.proofs.OneTree.{one_statement}
 use Rattle.td.proofs.Spelled.{none_spelled, is_spelled}
 
 -- after a stop nothing is run

@@ -2,9 +2,9 @@
 use Rattle.std.proofs.Common.{◌≡◌, List, [], ◌∷◌, true, refl, Some}
 use Rattle.td_tree.specs.Lexemes as lexeme
 use Rattle.td_tree.specs.Lexemes.{Lexeme}
-use Rattle.td_tree.specs.Reading.{read_postfix}
-use Rattle.td_tree.specs.ReadingStatements.{assignments, body}
-use Rattle.td_tree.specs.ReadingSteps.{◌>>=◌, attribute_list}
+use Rattle.td_parse.specs.Reading.{read_postfix}
+use Rattle.td_parse.specs.ReadingStatements.{assignments, body}
+use Rattle.td_parse.specs.ReadingSteps.{◌>>=◌, attribute_list}
 use Rattle.td_tree.specs.Trees as tree
 use Rattle.td_parse.specs.Parsing.{begins_otherwise}
 

@@ -4,13 +4,13 @@ use Rattle.td_tree.specs.declared.fault.Fault.{Fault}
 use Rattle.td_tree.specs.declared.fault.Fault.TheVariants as faults
 use Rattle.td_tree.specs.declared.statement.Statement.{Statement}
 use Rattle.td_tree.specs.Lexemes.{Lexeme}
-use Rattle.td_tree.specs.ReadingStatements.{read_statement}
+use Rattle.td_parse.specs.ReadingStatements.{read_statement}
 use Rattle.td_tree.specs.Statements.{Entry}
 use Rattle.td_tree.specs.TokenLexemes.{lexemes}
 use Rattle.td_tree.specs.Trees as trees
 use Rattle.td_tree.specs.TreeViews.{statement_of}
-use Rattle.td_tree.proofs.OneTree.{one_statement}
-use Rattle.td_tree.proofs.ReadingLaws.{reads_statements}
+use Rattle.td_parse.proofs.OneTree.{one_statement}
+use Rattle.td_parse.proofs.ReadingLaws.{reads_statements}
 use Rattle.td_parse.specs.Parsing.{Gives, Parses, SpellsNone, SpellsOnly, has_bad}
 
 spells_only : (xs : List Lexeme) (s : trees.Statement) → read_statement xs ≡ Some s → SpellsOnly xs s

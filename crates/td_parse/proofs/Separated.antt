@@ -3,7 +3,7 @@ use Rattle.std.proofs.Common.{◌≡◌, ℕ, suc, ◌+◌, ◌-◌, ◌<◌, �
 use Rattle.std.proofs.lemmas.List.{map_push}
 use Rattle.td_tree.specs.declared.token.Sign.TheVariants as signs
 use Rattle.td_tree.specs.Lexemes.{Lexeme, sign}
-use Rattle.td_tree.specs.ReadingSteps.{ReadOf, expect, separated, separated_from}
+use Rattle.td_parse.specs.ReadingSteps.{ReadOf, expect, separated, separated_from}
 use Rattle.td_parse.proofs.Turns.{no_more, one_more}
 
 -- before the first item

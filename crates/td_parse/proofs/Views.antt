@@ -5,8 +5,8 @@ use Rattle.td_tree.specs.declared.expression.NamedExpr.{NamedExpr}
 use Rattle.td_tree.specs.declared.expression.Summary.{Summary}
 use Rattle.td_tree.specs.declared.expression.Summary.TheVariants as s
 use Rattle.td_tree.specs.declared.type_tree.AttributeTree.{AttributeTree}
-use Rattle.td_tree.specs.Reading.{named_from, summaries_from, trees_from}
-use Rattle.td_tree.specs.ReadingTypes.{attributes_from}
+use Rattle.td_parse.specs.Reading.{named_from, summaries_from, trees_from}
+use Rattle.td_parse.specs.ReadingTypes.{attributes_from}
 use Rattle.td_tree.specs.Trees as tree
 use Rattle.td_tree.specs.TreeViews.{heading_of, named_of, summaries_of, tree_of, trees_of, type_of}
 use Rattle.td_parse.specs.Views.{attributes_of, item_of, named_part_of}

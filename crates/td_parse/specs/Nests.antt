@@ -6,7 +6,7 @@ use Rattle.td_tree.specs.declared.expression.Expr.{Expr}
 use Rattle.td_tree.specs.declared.fault.Fault.{Fault}
 use Rattle.td_tree.specs.declared.operator.Level.{Level}
 use Rattle.td_tree.specs.Lexemes.{Lexeme}
-use Rattle.td_tree.specs.Reading.{read}
+use Rattle.td_parse.specs.Reading.{read}
 use Rattle.td_tree.specs.TreeViews.{tree_of}
 use Rattle.td_parse.specs.Parsing.{Moves}
 

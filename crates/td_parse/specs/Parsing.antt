@@ -12,7 +12,7 @@ use Rattle.td_tree.specs.Lexemes.{Lexeme, keyword, sign, name, component, number
 use Rattle.td_tree.specs.Numbers.{decimal_value}
 use Rattle.td_tree.specs.StatementGrammar.{StatementSpelling}
 use Rattle.td_tree.specs.Trees as trees
-use Rattle.td_tree.specs.ReadingSteps.{ReadOf}
+use Rattle.td_parse.specs.ReadingSteps.{ReadOf}
 use Rattle.td_tree.specs.Statements.{Entry}
 use Rattle.td_tree.specs.TextTokens.{content}
 use Rattle.td_tree.specs.TokenLexemes.{lexemes}

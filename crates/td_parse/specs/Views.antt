@@ -4,7 +4,7 @@ use Rattle.td_tree.specs.declared.expression.NamedExpr.{NamedExpr}
 use Rattle.td_tree.specs.declared.expression.Summary.{Summary}
 use Rattle.td_tree.specs.declared.expression.Summary.TheVariants as s
 use Rattle.td_tree.specs.declared.type_tree.AttributeTree.{AttributeTree}
-use Rattle.td_tree.specs.Reading.{SummaryItem, count_item, sum_item}
+use Rattle.td_parse.specs.Reading.{SummaryItem, count_item, sum_item}
 use Rattle.td_tree.specs.TreeViews.{tree_of, type_of}
 use Rattle.td_tree.specs.Trees.{Text, Tree, TypeTree}
 

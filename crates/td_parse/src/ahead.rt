@@ -3,7 +3,7 @@ ghost use Rattle.std.specs.Prelude.{◌≡◌, Some, IfSome, eqb, length, option
 ghost use Rattle.td_parse.specs.Parsing.{Eats, Takes};
 ghost use Rattle.td_tree.specs.Lexemes as lexeme;
 ghost use Rattle.td_tree.specs.Pieces.{kind_of};
-ghost use Rattle.td_tree.specs.ReadingSteps.{expect};
+ghost use Rattle.td_parse.specs.ReadingSteps.{expect};
 ghost use Rattle.td_tree.specs.Symbols.{symbols};
 ghost use Rattle.td_tree.specs.TokenLexemes.{lexemes};
 
@@ -73,7 +73,7 @@ impl<'a, 't> Ahead<'a, 't> {
     }
 
     /// Takes this sign, if it comes next.
-    #[tactic(auto, unfolding(td_tree::specs::ReadingSteps::expect))]
+    #[tactic(auto, unfolding(crate::specs::ReadingSteps::expect))]
     pub fn sign(&mut self, sign: Sign) -> bool
         ensures { Eats (expect (lexeme.sign sign) self.old) result self.old self.new }
     {
@@ -88,7 +88,7 @@ impl<'a, 't> Ahead<'a, 't> {
     }
 
     /// Takes this reserved word, if it comes next.
-    #[tactic(auto, unfolding(td_tree::specs::ReadingSteps::expect))]
+    #[tactic(auto, unfolding(crate::specs::ReadingSteps::expect))]
     pub fn keyword(&mut self, word: Keyword) -> bool
         ensures { Eats (expect (lexeme.keyword word) self.old) result self.old self.new }
     {

@@ -2,12 +2,12 @@
 ghost use Rattle.std.specs.Prelude.{map, option_map};
 ghost use Rattle.td_parse.specs.Parsing.{Moves};
 ghost use Rattle.td_parse.specs.Views.{named_part_of};
-ghost use Rattle.td_tree.specs.ReadingStatements as reading;
-ghost use Rattle.td_tree.specs.ReadingSteps.{enclosed, separated};
+ghost use Rattle.td_parse.specs.ReadingStatements as reading;
+ghost use Rattle.td_parse.specs.ReadingSteps.{enclosed, separated};
 ghost use Rattle.td_tree.specs.TreeViews.{assignment_of, statement_of, tree_of};
 
 use crate::cursor::{Cursor, SYNTAX};
-use crate::grammar::MAX_HEIGHT;
+use crate::grammar::{LOOSEST, MAX_HEIGHT};
 use crate::levels;
 use crate::names::name;
 use crate::steps::{both, closed};
@@ -23,12 +23,12 @@ use td_tree::token::{Kind, Sign};
 pub fn expression(alloc: Global, tokens: &mut Cursor<'_, '_>) -> Result<Expr, Fault>
     ensures { Moves tree_of result tokens.new (reading.expression tokens.old) }
 {
-    let found = levels::expression(alloc, MAX_HEIGHT, Level::Restriction, tokens)?;
+    let found = levels::expression(alloc, MAX_HEIGHT, LOOSEST, tokens)?;
     Ok(found.into_tree())
 }
 
 /// `[WHERE e1]`
-#[tactic(auto, unfolding(td_tree::specs::ReadingStatements::condition, td_tree::specs::ReadingSteps::optional))]
+#[tactic(auto, unfolding(crate::specs::ReadingStatements::condition, crate::specs::ReadingSteps::optional))]
 fn condition(alloc: Global, tokens: &mut Cursor<'_, '_>) -> Result<Option<Expr>, Fault>
     ensures { Moves (option_map tree_of) result tokens.new (reading.condition tokens.old) }
 {
@@ -40,7 +40,7 @@ fn condition(alloc: Global, tokens: &mut Cursor<'_, '_>) -> Result<Option<Expr>,
 }
 
 /// `':=' e`
-#[tactic(auto, unfolding(td_tree::specs::ReadingStatements::source))]
+#[tactic(auto, unfolding(crate::specs::ReadingStatements::source))]
 fn source(alloc: Global, tokens: &mut Cursor<'_, '_>) -> Result<Expr, Fault>
     ensures { Moves tree_of result tokens.new (reading.source tokens.old) }
 {
@@ -49,7 +49,7 @@ fn source(alloc: Global, tokens: &mut Cursor<'_, '_>) -> Result<Expr, Fault>
 }
 
 /// `name ':=' e`
-#[tactic(auto, unfolding(td_tree::specs::ReadingStatements::setting))]
+#[tactic(auto, unfolding(crate::specs::ReadingStatements::setting))]
 fn setting(alloc: Global, tokens: &mut Cursor<'_, '_>) -> Result<NamedExpr, Fault>
     ensures { Moves named_part_of result tokens.new (reading.setting tokens.old) }
 {
@@ -59,7 +59,7 @@ fn setting(alloc: Global, tokens: &mut Cursor<'_, '_>) -> Result<NamedExpr, Faul
 }
 
 /// `(name ':=' e),+`
-#[tactic(auto, unfolding(td_tree::specs::ReadingSteps::separated, td_tree::specs::ReadingSteps::separated_from))]
+#[tactic(auto, unfolding(crate::specs::ReadingSteps::separated, crate::specs::ReadingSteps::separated_from))]
 fn settings(alloc: Global, tokens: &mut Cursor<'_, '_>) -> Result<Vec<NamedExpr>, Fault>
     ensures { Moves (λ v. map named_part_of v.items) result tokens.new (separated reading.setting tokens.old) }
 {
@@ -75,7 +75,7 @@ fn settings(alloc: Global, tokens: &mut Cursor<'_, '_>) -> Result<Vec<NamedExpr>
 }
 
 /// `'(' (name ':=' e),+ ')'`
-#[tactic(auto, unfolding(td_tree::specs::ReadingSteps::enclosed, td_tree::specs::ReadingSteps::up_to))]
+#[tactic(auto, unfolding(crate::specs::ReadingSteps::enclosed, crate::specs::ReadingSteps::up_to))]
 fn enclosed_settings(alloc: Global, tokens: &mut Cursor<'_, '_>) -> Result<Vec<NamedExpr>, Fault>
     ensures { Moves (λ v. map named_part_of v.items) result tokens.new (enclosed (separated reading.setting) tokens.old) }
 {
@@ -85,7 +85,7 @@ fn enclosed_settings(alloc: Global, tokens: &mut Cursor<'_, '_>) -> Result<Vec<N
 }
 
 /// `name e`, after `INSERT`
-#[tactic(auto, unfolding(td_tree::specs::ReadingStatements::insertion))]
+#[tactic(auto, unfolding(crate::specs::ReadingStatements::insertion))]
 fn insertion(alloc: Global, tokens: &mut Cursor<'_, '_>) -> Result<Assignment, Fault>
     ensures { Moves assignment_of result tokens.new (reading.insertion tokens.old) }
 {
@@ -95,7 +95,7 @@ fn insertion(alloc: Global, tokens: &mut Cursor<'_, '_>) -> Result<Assignment, F
 }
 
 /// `name [WHERE e1]`, after `DELETE`
-#[tactic(auto, unfolding(td_tree::specs::ReadingStatements::deletion))]
+#[tactic(auto, unfolding(crate::specs::ReadingStatements::deletion))]
 fn deletion(alloc: Global, tokens: &mut Cursor<'_, '_>) -> Result<Assignment, Fault>
     ensures { Moves assignment_of result tokens.new (reading.deletion tokens.old) }
 {
@@ -105,7 +105,7 @@ fn deletion(alloc: Global, tokens: &mut Cursor<'_, '_>) -> Result<Assignment, Fa
 }
 
 /// `name [WHERE e1] '(' (name ':=' e),+ ')'`, after `UPDATE`
-#[tactic(auto, unfolding(td_tree::specs::ReadingStatements::changing), using(crate::proofs::Views::named_from_of))]
+#[tactic(auto, unfolding(crate::specs::ReadingStatements::changing), using(crate::proofs::Views::named_from_of))]
 fn changing(alloc: Global, tokens: &mut Cursor<'_, '_>) -> Result<Assignment, Fault>
     ensures { Moves assignment_of result tokens.new (reading.changing tokens.old) }
 {
@@ -116,7 +116,7 @@ fn changing(alloc: Global, tokens: &mut Cursor<'_, '_>) -> Result<Assignment, Fa
 }
 
 /// An assignment.
-#[tactic(auto, unfolding(td_tree::specs::ReadingStatements::assignment, td_tree::specs::ReadingStatements::assignment_of_word))]
+#[tactic(auto, unfolding(crate::specs::ReadingStatements::assignment, crate::specs::ReadingStatements::assignment_of_word))]
 fn assignment(alloc: Global, tokens: &mut Cursor<'_, '_>) -> Result<Assignment, Fault>
     ensures { Moves assignment_of result tokens.new (reading.assignment tokens.old) }
 {
@@ -133,7 +133,7 @@ fn assignment(alloc: Global, tokens: &mut Cursor<'_, '_>) -> Result<Assignment, 
 }
 
 /// `assignment,+`
-#[tactic(auto, unfolding(td_tree::specs::ReadingSteps::separated, td_tree::specs::ReadingSteps::separated_from))]
+#[tactic(auto, unfolding(crate::specs::ReadingSteps::separated, crate::specs::ReadingSteps::separated_from))]
 fn some_assignments(alloc: Global, tokens: &mut Cursor<'_, '_>) -> Result<Vec<Assignment>, Fault>
     ensures { Moves (λ v. map assignment_of v.items) result tokens.new (separated reading.assignment tokens.old) }
 {
@@ -149,7 +149,7 @@ fn some_assignments(alloc: Global, tokens: &mut Cursor<'_, '_>) -> Result<Vec<As
 }
 
 /// Assignments, all at once.
-#[tactic(auto, unfolding(td_tree::specs::ReadingStatements::assignments))]
+#[tactic(auto, unfolding(crate::specs::ReadingStatements::assignments))]
 pub fn assignments(alloc: Global, tokens: &mut Cursor<'_, '_>) -> Result<Statement, Fault>
     ensures { Moves statement_of result tokens.new (reading.assignments tokens.old) }
 {

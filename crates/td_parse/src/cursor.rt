@@ -3,7 +3,7 @@ ghost use Rattle.std.specs.Prelude.{◌≡◌, Some, suc, length, IfOk, IfSome, 
 ghost use Rattle.td_parse.specs.Parsing.{Eats, Expects, Takes, TakesWord};
 ghost use Rattle.td_tree.specs.Lexemes as lexeme;
 ghost use Rattle.td_tree.specs.Pieces.{kind_of};
-ghost use Rattle.td_tree.specs.ReadingSteps.{expect};
+ghost use Rattle.td_parse.specs.ReadingSteps.{expect};
 ghost use Rattle.td_tree.specs.Symbols.{symbols};
 ghost use Rattle.td_tree.specs.TokenLexemes.{lexemes};
 

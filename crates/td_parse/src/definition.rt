@@ -2,8 +2,8 @@
 ghost use Rattle.std.specs.Prelude.{map, option_map};
 ghost use Rattle.td_parse.specs.Parsing.{Moves};
 ghost use Rattle.td_tree.specs.Lexemes as lexeme;
-ghost use Rattle.td_tree.specs.ReadingStatements as reading;
-ghost use Rattle.td_tree.specs.ReadingSteps.{enclosed, optional};
+ghost use Rattle.td_parse.specs.ReadingStatements as reading;
+ghost use Rattle.td_parse.specs.ReadingSteps.{enclosed, optional};
 ghost use Rattle.td_tree.specs.TreeViews.{statement_of, tree_of};
 
 use crate::assignment::expression;
@@ -21,7 +21,7 @@ use td_tree::statement::{BaseDefinition, Statement, TypeDefinition, VirtualDefin
 use td_tree::token::{Kind, Sign};
 
 /// `[CONSTRAINT e]`
-#[tactic(auto, unfolding(td_tree::specs::ReadingSteps::optional))]
+#[tactic(auto, unfolding(crate::specs::ReadingSteps::optional))]
 fn constraint(alloc: Global, tokens: &mut Cursor<'_, '_>) -> Result<Option<Expr>, Fault>
     ensures { Moves (option_map tree_of) result tokens.new (optional (lexeme.keyword Keyword.Constraint) reading.expression tokens.old) }
 {
@@ -32,7 +32,7 @@ fn constraint(alloc: Global, tokens: &mut Cursor<'_, '_>) -> Result<Option<Expr>
 }
 
 /// `'(' e ')'`
-#[tactic(auto, unfolding(td_tree::specs::ReadingSteps::enclosed, td_tree::specs::ReadingSteps::up_to))]
+#[tactic(auto, unfolding(crate::specs::ReadingSteps::enclosed, crate::specs::ReadingSteps::up_to))]
 fn enclosed_expression(alloc: Global, tokens: &mut Cursor<'_, '_>) -> Result<Expr, Fault>
     ensures { Moves tree_of result tokens.new (enclosed reading.expression tokens.old) }
 {
@@ -42,7 +42,7 @@ fn enclosed_expression(alloc: Global, tokens: &mut Cursor<'_, '_>) -> Result<Exp
 }
 
 /// `[INIT '(' e ')']`
-#[tactic(auto, unfolding(td_tree::specs::ReadingSteps::optional))]
+#[tactic(auto, unfolding(crate::specs::ReadingSteps::optional))]
 fn init(alloc: Global, tokens: &mut Cursor<'_, '_>) -> Result<Option<Expr>, Fault>
     ensures { Moves (option_map tree_of) result tokens.new (optional (lexeme.keyword Keyword.Init) (enclosed reading.expression) tokens.old) }
 {
@@ -53,7 +53,7 @@ fn init(alloc: Global, tokens: &mut Cursor<'_, '_>) -> Result<Option<Expr>, Faul
 }
 
 /// `(KEY names)*`
-#[tactic(auto, unfolding(td_tree::specs::ReadingStatements::keys, td_tree::specs::ReadingSteps::repeated, td_tree::specs::ReadingSteps::repeated_from))]
+#[tactic(auto, unfolding(crate::specs::ReadingStatements::keys, crate::specs::ReadingSteps::repeated, crate::specs::ReadingSteps::repeated_from))]
 fn keys(alloc: Global, tokens: &mut Cursor<'_, '_>) -> Result<Vec<Vec<Name>>, Fault>
     ensures { Moves (λ v. map (λ key. key.items) v.items) result tokens.new (reading.keys tokens.old) }
 {
@@ -69,7 +69,7 @@ fn keys(alloc: Global, tokens: &mut Cursor<'_, '_>) -> Result<Vec<Vec<Name>>, Fa
 }
 
 /// `attr,+ [CONSTRAINT e]`, of the type with this name
-#[tactic(auto, unfolding(td_tree::specs::ReadingStatements::components), using(crate::proofs::Views::attributes_from_of))]
+#[tactic(auto, unfolding(crate::specs::ReadingStatements::components), using(crate::proofs::Views::attributes_from_of))]
 fn components(alloc: Global, name: Name, tokens: &mut Cursor<'_, '_>) -> Result<Statement, Fault>
     ensures { Moves statement_of result tokens.new (reading.components name tokens.old) }
 {
@@ -83,7 +83,7 @@ fn components(alloc: Global, name: Name, tokens: &mut Cursor<'_, '_>) -> Result<
 }
 
 /// `name POSSREP '{' attr,+ [CONSTRAINT e] '}'`, after `TYPE`
-#[tactic(auto, unfolding(td_tree::specs::ReadingStatements::type_definition, td_tree::specs::ReadingSteps::up_to))]
+#[tactic(auto, unfolding(crate::specs::ReadingStatements::type_definition, crate::specs::ReadingSteps::up_to))]
 pub fn type_definition(alloc: Global, tokens: &mut Cursor<'_, '_>) -> Result<Statement, Fault>
     ensures { Moves statement_of result tokens.new (reading.type_definition tokens.old) }
 {
@@ -95,7 +95,7 @@ pub fn type_definition(alloc: Global, tokens: &mut Cursor<'_, '_>) -> Result<Sta
 }
 
 /// `RELATION heading [INIT '(' e ')'] (KEY names)*`, of the relvar with this name
-#[tactic(auto, unfolding(td_tree::specs::ReadingStatements::base_definition))]
+#[tactic(auto, unfolding(crate::specs::ReadingStatements::base_definition))]
 fn base_definition(
     alloc: Global,
     name: Name,
@@ -116,7 +116,7 @@ fn base_definition(
 }
 
 /// `'(' e ')' (KEY names)*`, of the relvar with this name
-#[tactic(auto, unfolding(td_tree::specs::ReadingStatements::virtual_definition))]
+#[tactic(auto, unfolding(crate::specs::ReadingStatements::virtual_definition))]
 fn virtual_definition(
     alloc: Global,
     name: Name,
@@ -134,7 +134,7 @@ fn virtual_definition(
 }
 
 /// After `VAR` and a name.
-#[tactic(auto, unfolding(td_tree::specs::ReadingStatements::variable, td_tree::specs::ReadingStatements::definition_of_word))]
+#[tactic(auto, unfolding(crate::specs::ReadingStatements::variable, crate::specs::ReadingStatements::definition_of_word))]
 fn variable_named(
     alloc: Global,
     name: Name,
@@ -152,7 +152,7 @@ fn variable_named(
 }
 
 /// After `VAR`.
-#[tactic(auto, unfolding(td_tree::specs::ReadingStatements::body_of_word))]
+#[tactic(auto, unfolding(crate::specs::ReadingStatements::body_of_word))]
 pub fn variable(alloc: Global, tokens: &mut Cursor<'_, '_>) -> Result<Statement, Fault>
     ensures { Moves statement_of result tokens.new (reading.body_of_word Keyword.Var tokens.old) }
 {
@@ -161,7 +161,7 @@ pub fn variable(alloc: Global, tokens: &mut Cursor<'_, '_>) -> Result<Statement,
 }
 
 /// `name e`, after `CONSTRAINT`
-#[tactic(auto, unfolding(td_tree::specs::ReadingStatements::constraint_definition))]
+#[tactic(auto, unfolding(crate::specs::ReadingStatements::constraint_definition))]
 pub fn constraint_definition(alloc: Global, tokens: &mut Cursor<'_, '_>) -> Result<Statement, Fault>
     ensures { Moves statement_of result tokens.new (reading.constraint_definition tokens.old) }
 {
@@ -171,7 +171,7 @@ pub fn constraint_definition(alloc: Global, tokens: &mut Cursor<'_, '_>) -> Resu
 }
 
 /// After `DROP`.
-#[tactic(auto, unfolding(td_tree::specs::ReadingStatements::drop, td_tree::specs::ReadingStatements::drop_of_word))]
+#[tactic(auto, unfolding(crate::specs::ReadingStatements::drop, crate::specs::ReadingStatements::drop_of_word))]
 pub fn drop(alloc: Global, tokens: &mut Cursor<'_, '_>) -> Result<Statement, Fault>
     ensures { Moves statement_of result tokens.new (reading.drop tokens.old) }
 {

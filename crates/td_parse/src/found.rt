@@ -3,15 +3,15 @@ ghost use Rattle.std.specs.Prelude.{◌≡◌, ◌<◌, ◌-◌, ◌^◌, map, m
 ghost use Rattle.std.specs.Rc.{rc_str_bytes};
 ghost use Rattle.td_parse.specs.Views.{item_of, named_part_of};
 ghost use Rattle.td_tree.specs.Heights as heights;
-ghost use Rattle.td_tree.specs.Reading.{named_from, summaries_from, trees_from};
+ghost use Rattle.td_parse.specs.Reading.{named_from, summaries_from, trees_from};
 ghost use Rattle.td_tree.specs.Trees as trees;
-ghost use Rattle.td_tree.specs.TreeViews.{attributes_of, heading_of, literal_of, postfix_of, tree_of};
+ghost use Rattle.td_tree.specs.TreeViews.{attributes_of, heading_of, literal_of, postfix_of, summaries_of, tree_of, trees_of};
 
 use crate::parts::{Elements, NamedParts, Summaries};
 use std::alloc::{AllocError, Global};
 use std::marker::Model;
 use std::rc::RcStr;
-use td_tree::expression::{Attributes, Expr, Literal, Postfix};
+use td_tree::expression::{Attributes, Expr, Literal, Postfix, Summary};
 use td_tree::height::highest_type;
 use td_tree::name::Name;
 use td_tree::operator::{Aggregate, Comparison, Measure, Operator, Prefix};
@@ -39,6 +39,54 @@ impl Model for Found {
     ghost view = { λ f. f.tree };
 
     ghost invariant = { λ f. f.height ≡ min (heights.height (tree_of f.tree)) (2 ^ 64 - 1) };
+}
+
+/// A part in a box.
+fn boxed<T: Drop>(alloc: Global, part: T) -> Result<Box<T>, AllocError>
+    ensures { IfOk result (λ b. b.value ≡ part) }
+{
+    Ok(Box::new(alloc, part)?)
+}
+
+/// A part in a box, with what was boxed before it.
+fn boxed_with<T: Drop, U: Drop>(
+    alloc: Global,
+    part: T,
+    before: U,
+) -> Result<(Box<T>, U), AllocError>
+    ensures part { IfOk result (λ both. both.0.value ≡ part) }
+    ensures before { IfOk result (λ both. both.1 ≡ before) }
+{
+    let part = boxed(alloc, part)?;
+    Ok((part, before))
+}
+
+/// Two parts, each in a box.
+fn boxed_both<T: Drop, U: Drop>(
+    alloc: Global,
+    first: T,
+    second: U,
+) -> Result<(Box<T>, Box<U>), AllocError>
+    ensures first { IfOk result (λ both. both.0.value ≡ first) }
+    ensures second { IfOk result (λ both. both.1.value ≡ second) }
+{
+    let second = boxed(alloc, second)?;
+    boxed_with(alloc, first, second)
+}
+
+/// `T(e, ..)`
+fn selected(ty: Name, arguments: Vec<Expr>) -> Expr
+    ensures { tree_of result ≡ trees.select ty (trees_of arguments.items) }
+{
+    Expr::Select(ty, arguments)
+}
+
+/// `SUMMARIZE e BY {..} ADD (..)`
+fn summarized_by(operand: Box<Expr>, by: Attributes, added: Vec<Summary>) -> Expr
+    ensures { tree_of result
+        ≡ trees.summarize_by (tree_of operand.value) (attributes_of by) (summaries_of added.items) }
+{
+    Expr::SummarizeBy(operand, by, added)
 }
 
 impl Found {
@@ -85,7 +133,8 @@ impl Found {
         ensures { IfOk result (λ e. tree_of e ≡ trees.parentheses (tree_of inner)) }
     {
         let height = inner.height.saturating_add(1);
-        let tree = Expr::parentheses(alloc, inner.tree)?;
+        let inner = boxed(alloc, inner.tree)?;
+        let tree = Expr::Parentheses(inner);
         Ok(Found { tree, height })
     }
 
@@ -94,7 +143,8 @@ impl Found {
         ensures { IfOk result (λ e. tree_of e ≡ trees.prefix op (tree_of operand)) }
     {
         let height = operand.height.saturating_add(1);
-        let tree = Expr::prefix(alloc, op, operand.tree)?;
+        let operand = boxed(alloc, operand.tree)?;
+        let tree = Expr::Prefix(op, operand);
         Ok(Found { tree, height })
     }
 
@@ -103,7 +153,8 @@ impl Found {
         ensures { IfOk result (λ e. tree_of e ≡ trees.extract attribute (tree_of operand)) }
     {
         let height = operand.height.saturating_add(1);
-        let tree = Expr::extract(alloc, attribute, operand.tree)?;
+        let operand = boxed(alloc, operand.tree)?;
+        let tree = Expr::Extract(attribute, operand);
         Ok(Found { tree, height })
     }
 
@@ -117,7 +168,8 @@ impl Found {
         ensures { IfOk result (λ e. tree_of e ≡ trees.binary (tree_of left) op (tree_of right)) }
     {
         let height = left.height.max(right.height).saturating_add(1);
-        let tree = Expr::binary(alloc, left.tree, op, right.tree)?;
+        let (left, right) = boxed_both(alloc, left.tree, right.tree)?;
+        let tree = Expr::Binary(left, op, right);
         Ok(Found { tree, height })
     }
 
@@ -131,7 +183,8 @@ impl Found {
         ensures { IfOk result (λ e. tree_of e ≡ trees.compare (tree_of left) op (tree_of right)) }
     {
         let height = left.height.max(right.height).saturating_add(1);
-        let tree = Expr::compare(alloc, left.tree, op, right.tree)?;
+        let (left, right) = boxed_both(alloc, left.tree, right.tree)?;
+        let tree = Expr::Compare(left, op, right);
         Ok(Found { tree, height })
     }
 
@@ -140,7 +193,8 @@ impl Found {
         ensures { IfOk result (λ e. tree_of e ≡ trees.postfix (tree_of operand) (postfix_of op)) }
     {
         let height = operand.height.saturating_add(1);
-        let tree = Expr::postfix(alloc, operand.tree, op)?;
+        let operand = boxed(alloc, operand.tree)?;
+        let tree = Expr::Postfix(operand, op);
         Ok(Found { tree, height })
     }
 
@@ -150,7 +204,7 @@ impl Found {
         ensures { tree_of result ≡ trees.select ty (trees_from (map tree_of arguments)) }
     {
         let height = arguments.height.saturating_add(1);
-        let tree = Expr::select(ty, arguments.items);
+        let tree = selected(ty, arguments.items);
         Found { tree, height }
     }
 
@@ -159,7 +213,8 @@ impl Found {
         ensures { IfOk result (λ e. tree_of e ≡ trees.component (rc_str_bytes rest) (tree_of operand)) }
     {
         let height = operand.height.saturating_add(1);
-        let tree = Expr::component(alloc, rest, operand.tree)?;
+        let operand = boxed(alloc, operand.tree)?;
+        let tree = Expr::Component(rest, operand);
         Ok(Found { tree, height })
     }
 
@@ -168,7 +223,8 @@ impl Found {
         ensures { IfOk result (λ e. tree_of e ≡ trees.measure op (tree_of operand)) }
     {
         let height = operand.height.saturating_add(1);
-        let tree = Expr::measure(alloc, op, operand.tree)?;
+        let operand = boxed(alloc, operand.tree)?;
+        let tree = Expr::Measure(op, operand);
         Ok(Found { tree, height })
     }
 
@@ -182,53 +238,55 @@ impl Found {
         ensures { IfOk result (λ e. tree_of e ≡ trees.aggregate op (tree_of operand) (tree_of value)) }
     {
         let height = operand.height.max(value.height).saturating_add(1);
-        let tree = Expr::aggregate(alloc, op, operand.tree, value.tree)?;
+        let (operand, value) = boxed_both(alloc, operand.tree, value.tree)?;
+        let tree = Expr::Aggregate(op, operand, value);
         Ok(Found { tree, height })
     }
 
     /// `RELATION {t, ..}`
-    #[tactic(auto, using(crate::proofs::Views::trees_from_of))]
+    #[tactic(auto, using(crate::proofs::Views::trees_from_of, td_tree::proofs::Rows::relation_is))]
     pub fn relation(elements: Elements) -> Found
         ensures { tree_of result ≡ trees.relation (trees_from (map tree_of elements)) }
     {
         let height = elements.height.saturating_add(1);
-        let tree = Expr::relation(elements.items);
+        let tree = Expr::Relation(elements.items);
         Found { tree, height }
     }
 
     /// `RELATION {A INTEGER, ..} {t, ..}`
-    #[tactic(auto, using(crate::proofs::Views::trees_from_of))]
+    #[tactic(auto, using(crate::proofs::Views::trees_from_of, td_tree::proofs::Rows::headed_relation_is))]
     pub fn headed_relation(heading: Vec<AttributeTree>, elements: Elements) -> Found
         ensures { tree_of result ≡ trees.headed_relation (heading_of heading.items) (trees_from (map tree_of elements)) }
     {
         let highest = highest_type(heading.as_slice()).saturating_add(1);
         let height = highest.max(elements.height).saturating_add(1);
-        let tree = Expr::headed_relation(heading, elements.items);
+        let tree = Expr::HeadedRelation(heading, elements.items);
         Found { tree, height }
     }
 
     /// `TUPLE {A e, ..}`
-    #[tactic(auto, using(crate::proofs::Views::named_from_of))]
+    #[tactic(auto, using(crate::proofs::Views::named_from_of, td_tree::proofs::Rows::tuple_is))]
     pub fn tuple(parts: NamedParts) -> Found
         ensures { tree_of result ≡ trees.tuple (named_from (map named_part_of parts)) }
     {
         let height = parts.height.saturating_add(1);
-        let tree = Expr::tuple(parts.items);
+        let tree = Expr::Tuple(parts.items);
         Found { tree, height }
     }
 
     /// `EXTEND e ADD (v AS A, ..)`
-    #[tactic(auto, using(crate::proofs::Views::named_from_of))]
+    #[tactic(auto, using(crate::proofs::Views::named_from_of, td_tree::proofs::Rows::extend_is))]
     pub fn extend(alloc: Global, operand: Found, parts: NamedParts) -> Result<Found, AllocError>
         ensures { IfOk result (λ e. tree_of e ≡ trees.extend (tree_of operand) (named_from (map named_part_of parts))) }
     {
         let height = operand.height.max(parts.height).saturating_add(1);
-        let tree = Expr::extend(alloc, operand.tree, parts.items)?;
+        let operand = boxed(alloc, operand.tree)?;
+        let tree = Expr::Extend(operand, parts.items);
         Ok(Found { tree, height })
     }
 
     /// `SUMMARIZE e PER (p) ADD (..)`
-    #[tactic(auto, using(crate::proofs::Views::summaries_from_of))]
+    #[tactic(auto, using(crate::proofs::Views::summaries_from_of, td_tree::proofs::Rows::summarize_per_is))]
     pub fn summarize_per(
         alloc: Global,
         operand: Found,
@@ -242,7 +300,8 @@ impl Found {
             .max(per.height)
             .max(summaries.height)
             .saturating_add(1);
-        let tree = Expr::summarize_per(alloc, operand.tree, per.tree, summaries.items)?;
+        let (operand, per) = boxed_both(alloc, operand.tree, per.tree)?;
+        let tree = Expr::SummarizePer(operand, per, summaries.items);
         Ok(Found { tree, height })
     }
 
@@ -257,7 +316,8 @@ impl Found {
         ensures { IfOk result (λ e. tree_of e ≡ trees.summarize_by (tree_of operand) (attributes_of by) (summaries_from (map item_of summaries))) }
     {
         let height = operand.height.max(summaries.height).saturating_add(1);
-        let tree = Expr::summarize_by(alloc, operand.tree, by, summaries.items)?;
+        let operand = boxed(alloc, operand.tree)?;
+        let tree = summarized_by(operand, by, summaries.items);
         Ok(Found { tree, height })
     }
 
@@ -275,7 +335,9 @@ impl Found {
             .max(consequent.height)
             .max(alternative.height)
             .saturating_add(1);
-        let tree = Expr::choice(alloc, condition.tree, consequent.tree, alternative.tree)?;
+        let branches = boxed_both(alloc, consequent.tree, alternative.tree)?;
+        let (condition, (consequent, alternative)) = boxed_with(alloc, condition.tree, branches)?;
+        let tree = Expr::If(condition, consequent, alternative);
         Ok(Found { tree, height })
     }
 }

@@ -1,9 +1,10 @@
 //! The rules that hold expressions take the parser of those as a parameter, so that each is proved by itself.
 ghost use Rattle.std.specs.Prelude.{◌≡◌, suc, nat_le};
+ghost use Rattle.td_tree.specs.Grammar.{loosest};
 ghost use Rattle.td_parse.specs.Nests.{Nests};
 ghost use Rattle.td_parse.specs.Parsing.{Fits, Moves};
 ghost use Rattle.td_tree.specs.Heights.{height};
-ghost use Rattle.td_tree.specs.Reading.{read};
+ghost use Rattle.td_parse.specs.Reading.{read};
 ghost use Rattle.td_tree.specs.TreeViews.{tree_of};
 
 use crate::cursor::Cursor;
@@ -15,6 +16,9 @@ use td_tree::operator::Level;
 
 /// How high an expression may be.
 pub const MAX_HEIGHT: u8 = 200;
+
+/// The level of a whole expression.
+pub const LOOSEST: Level = Level::Restriction;
 
 /// The rules for an expression that is at most one higher than `depth`.
 #[derive(Clone, Copy)]
@@ -38,9 +42,9 @@ impl<F: Fn(Global, u8, Level, &mut Cursor<'_, '_>) -> Result<Found, Fault>> Gram
     /// A part, whatever it is.
     pub fn expression(&self, tokens: &mut Cursor<'_, '_>) -> Result<Found, Fault>
         requires { Nests self.now.depth (F.pre self.now.inner) (F.post self.now.inner) }
-        ensures { Moves tree_of result tokens.new (read self.now.depth Level.Restriction tokens.old) }
+        ensures { Moves tree_of result tokens.new (read self.now.depth loosest tokens.old) }
     {
-        self.inner(Level::Restriction, tokens)
+        self.inner(LOOSEST, tokens)
     }
 
     /// Whether an expression is low enough.

@@ -2,8 +2,8 @@
 ghost use Rattle.std.specs.Prelude.{◌≡◌, suc};
 ghost use Rattle.td_parse.specs.Nests.{Nests};
 ghost use Rattle.td_parse.specs.Parsing.{Moves};
-ghost use Rattle.td_tree.specs.Reading as reading;
-ghost use Rattle.td_tree.specs.Reading.{read};
+ghost use Rattle.td_parse.specs.Reading as reading;
+ghost use Rattle.td_parse.specs.Reading.{read};
 ghost use Rattle.td_tree.specs.TreeViews.{tree_of};
 
 use crate::cursor::{Cursor, SYNTAX};
@@ -19,7 +19,7 @@ use td_tree::operator::{Level, Prefix};
 
 impl<F: Fn(Global, u8, Level, &mut Cursor<'_, '_>) -> Result<Found, Fault>> Grammar<F> {
     /// Goes on with operators behind the operand.
-    #[tactic(auto, unfolding(td_tree::specs::Reading::postfixes))]
+    #[tactic(auto, unfolding(crate::specs::Reading::postfixes))]
     fn postfixes(&self, first: Found, tokens: &mut Cursor<'_, '_>) -> Result<Found, Fault>
         ensures { Moves tree_of result tokens.new (reading.postfixes (read self.now.depth) self.now.depth (suc self.now.depth) (tree_of first) tokens.old) }
     {
@@ -37,7 +37,7 @@ impl<F: Fn(Global, u8, Level, &mut Cursor<'_, '_>) -> Result<Found, Fault>> Gram
     }
 
     /// A primary expression with what stands behind it.
-    #[tactic(auto, unfolding(td_tree::specs::Reading::postfixed))]
+    #[tactic(auto, unfolding(crate::specs::Reading::postfixed))]
     fn postfixed(&self, tokens: &mut Cursor<'_, '_>) -> Result<Found, Fault>
         requires { Nests self.now.depth (F.pre self.now.inner) (F.post self.now.inner) }
         ensures { Moves tree_of result tokens.new (reading.postfixed (read self.now.depth) self.now.depth tokens.old) }
@@ -47,7 +47,7 @@ impl<F: Fn(Global, u8, Level, &mut Cursor<'_, '_>) -> Result<Found, Fault>> Gram
     }
 
     /// After an operator that stands before its operand, which is at this level.
-    #[tactic(auto, unfolding(td_tree::specs::Reading::applied))]
+    #[tactic(auto, unfolding(crate::specs::Reading::applied))]
     fn applied(&self, level: Level, op: Prefix, tokens: &mut Cursor<'_, '_>) -> Result<Found, Fault>
         requires { Nests self.now.depth (F.pre self.now.inner) (F.post self.now.inner) }
         ensures { Moves tree_of result tokens.new (reading.applied (read self.now.depth) self.now.depth level op tokens.old) }
@@ -57,7 +57,7 @@ impl<F: Fn(Global, u8, Level, &mut Cursor<'_, '_>) -> Result<Found, Fault>> Gram
     }
 
     /// What stands before its operand.
-    #[tactic(auto, unfolding(td_tree::specs::Reading::prefixed, td_tree::specs::Reading::extracted))]
+    #[tactic(auto, unfolding(crate::specs::Reading::prefixed, crate::specs::Reading::extracted))]
     fn prefixed(&self, tokens: &mut Cursor<'_, '_>) -> Result<Found, Fault>
         requires { Nests self.now.depth (F.pre self.now.inner) (F.post self.now.inner) }
         ensures { Moves tree_of result tokens.new (reading.prefixed (read self.now.depth) self.now.depth tokens.old) }
@@ -73,7 +73,7 @@ impl<F: Fn(Global, u8, Level, &mut Cursor<'_, '_>) -> Result<Found, Fault>> Gram
     }
 
     /// Goes on with the operators of a level.
-    #[tactic(auto, unfolding(td_tree::specs::Reading::operations))]
+    #[tactic(auto, unfolding(crate::specs::Reading::operations))]
     fn operations(
         &self,
         level: Level,
@@ -97,7 +97,7 @@ impl<F: Fn(Global, u8, Level, &mut Cursor<'_, '_>) -> Result<Found, Fault>> Gram
     }
 
     /// Operands with `*` and `/`.
-    #[tactic(auto, unfolding(td_tree::specs::Reading::multiplicative, td_tree::specs::Reading::chain))]
+    #[tactic(auto, unfolding(crate::specs::Reading::multiplicative, crate::specs::Reading::chain))]
     fn multiplicative(&self, tokens: &mut Cursor<'_, '_>) -> Result<Found, Fault>
         requires { Nests self.now.depth (F.pre self.now.inner) (F.post self.now.inner) }
         ensures { Moves tree_of result tokens.new (reading.multiplicative (read self.now.depth) self.now.depth tokens.old) }
@@ -107,7 +107,7 @@ impl<F: Fn(Global, u8, Level, &mut Cursor<'_, '_>) -> Result<Found, Fault>> Gram
     }
 
     /// Operands with `+`, `-` and `||`.
-    #[tactic(auto, unfolding(td_tree::specs::Reading::additive, td_tree::specs::Reading::chain))]
+    #[tactic(auto, unfolding(crate::specs::Reading::additive, crate::specs::Reading::chain))]
     fn additive(&self, tokens: &mut Cursor<'_, '_>) -> Result<Found, Fault>
         requires { Nests self.now.depth (F.pre self.now.inner) (F.post self.now.inner) }
         ensures { Moves tree_of result tokens.new (reading.additive (read self.now.depth) self.now.depth tokens.old) }
@@ -117,7 +117,7 @@ impl<F: Fn(Global, u8, Level, &mut Cursor<'_, '_>) -> Result<Found, Fault>> Gram
     }
 
     /// Operands with `UNION` and its kin.
-    #[tactic(auto, unfolding(td_tree::specs::Reading::relational, td_tree::specs::Reading::chain))]
+    #[tactic(auto, unfolding(crate::specs::Reading::relational, crate::specs::Reading::chain))]
     fn relational(&self, tokens: &mut Cursor<'_, '_>) -> Result<Found, Fault>
         requires { Nests self.now.depth (F.pre self.now.inner) (F.post self.now.inner) }
         ensures { Moves tree_of result tokens.new (reading.relational (read self.now.depth) self.now.depth tokens.old) }
@@ -127,7 +127,7 @@ impl<F: Fn(Global, u8, Level, &mut Cursor<'_, '_>) -> Result<Found, Fault>> Gram
     }
 
     /// An operand, or a comparison of two.
-    #[tactic(auto, unfolding(td_tree::specs::Reading::compared, td_tree::specs::Reading::compared_to))]
+    #[tactic(auto, unfolding(crate::specs::Reading::compared, crate::specs::Reading::compared_to))]
     fn compared(&self, tokens: &mut Cursor<'_, '_>) -> Result<Found, Fault>
         requires { Nests self.now.depth (F.pre self.now.inner) (F.post self.now.inner) }
         ensures { Moves tree_of result tokens.new (reading.compared (read self.now.depth) self.now.depth tokens.old) }
@@ -142,7 +142,7 @@ impl<F: Fn(Global, u8, Level, &mut Cursor<'_, '_>) -> Result<Found, Fault>> Gram
     }
 
     /// A comparison with `NOT` before it, or without.
-    #[tactic(auto, unfolding(td_tree::specs::Reading::negated))]
+    #[tactic(auto, unfolding(crate::specs::Reading::negated))]
     fn negated(&self, tokens: &mut Cursor<'_, '_>) -> Result<Found, Fault>
         requires { Nests self.now.depth (F.pre self.now.inner) (F.post self.now.inner) }
         ensures { Moves tree_of result tokens.new (reading.negated (read self.now.depth) self.now.depth tokens.old) }
@@ -155,7 +155,7 @@ impl<F: Fn(Global, u8, Level, &mut Cursor<'_, '_>) -> Result<Found, Fault>> Gram
     }
 
     /// Operands with `AND`.
-    #[tactic(auto, unfolding(td_tree::specs::Reading::conjunction, td_tree::specs::Reading::chain))]
+    #[tactic(auto, unfolding(crate::specs::Reading::conjunction, crate::specs::Reading::chain))]
     fn conjunction(&self, tokens: &mut Cursor<'_, '_>) -> Result<Found, Fault>
         requires { Nests self.now.depth (F.pre self.now.inner) (F.post self.now.inner) }
         ensures { Moves tree_of result tokens.new (reading.conjunction (read self.now.depth) self.now.depth tokens.old) }
@@ -165,7 +165,7 @@ impl<F: Fn(Global, u8, Level, &mut Cursor<'_, '_>) -> Result<Found, Fault>> Gram
     }
 
     /// Operands with `OR`.
-    #[tactic(auto, unfolding(td_tree::specs::Reading::disjunction, td_tree::specs::Reading::chain))]
+    #[tactic(auto, unfolding(crate::specs::Reading::disjunction, crate::specs::Reading::chain))]
     fn disjunction(&self, tokens: &mut Cursor<'_, '_>) -> Result<Found, Fault>
         requires { Nests self.now.depth (F.pre self.now.inner) (F.post self.now.inner) }
         ensures { Moves tree_of result tokens.new (reading.disjunction (read self.now.depth) self.now.depth tokens.old) }
@@ -175,7 +175,7 @@ impl<F: Fn(Global, u8, Level, &mut Cursor<'_, '_>) -> Result<Found, Fault>> Gram
     }
 
     /// Operands with `WHERE`.
-    #[tactic(auto, unfolding(td_tree::specs::Reading::restriction, td_tree::specs::Reading::chain))]
+    #[tactic(auto, unfolding(crate::specs::Reading::restriction, crate::specs::Reading::chain))]
     fn restriction(&self, tokens: &mut Cursor<'_, '_>) -> Result<Found, Fault>
         requires { Nests self.now.depth (F.pre self.now.inner) (F.post self.now.inner) }
         ensures { Moves tree_of result tokens.new (reading.restriction (read self.now.depth) self.now.depth tokens.old) }
@@ -185,7 +185,7 @@ impl<F: Fn(Global, u8, Level, &mut Cursor<'_, '_>) -> Result<Found, Fault>> Gram
     }
 
     /// An expression of this level.
-    #[tactic(auto, unfolding(td_tree::specs::Reading::by_level))]
+    #[tactic(auto, unfolding(crate::specs::Reading::by_level))]
     pub fn by_level(&self, level: Level, tokens: &mut Cursor<'_, '_>) -> Result<Found, Fault>
         requires { Nests self.now.depth (F.pre self.now.inner) (F.post self.now.inner) }
         ensures { Moves tree_of result tokens.new (reading.by_level (read self.now.depth) self.now.depth level tokens.old) }
@@ -207,7 +207,7 @@ impl<F: Fn(Global, u8, Level, &mut Cursor<'_, '_>) -> Result<Found, Fault>> Gram
 }
 
 /// An expression of this level that is at most so high.
-#[tactic(auto, unfolding(td_tree::specs::Reading::read))]
+#[tactic(auto, unfolding(crate::specs::Reading::read))]
 pub fn expression(
     alloc: Global,
     depth: u8,

@@ -7,6 +7,7 @@ mod cursor;
 mod definition;
 mod found;
 mod grammar;
+pub mod laws;
 mod levels;
 mod lists;
 mod met;

@@ -1,12 +1,13 @@
 //! Lists of expressions.
 ghost use Rattle.std.specs.Prelude.{map};
+ghost use Rattle.td_tree.specs.Grammar.{loosest};
 ghost use Rattle.td_parse.specs.Nests.{Nests};
 ghost use Rattle.td_parse.specs.Parsing.{Moves};
 ghost use Rattle.td_parse.specs.Views.{named_part_of};
 ghost use Rattle.td_tree.specs.Lexemes as lexeme;
-ghost use Rattle.td_tree.specs.Reading as reading;
-ghost use Rattle.td_tree.specs.Reading.{read};
-ghost use Rattle.td_tree.specs.ReadingSteps.{enclosed, listed_to, separated};
+ghost use Rattle.td_parse.specs.Reading as reading;
+ghost use Rattle.td_parse.specs.Reading.{read};
+ghost use Rattle.td_parse.specs.ReadingSteps.{enclosed, listed_to, separated};
 ghost use Rattle.td_tree.specs.TreeViews.{tree_of};
 
 use crate::cursor::{Cursor, SYNTAX};
@@ -23,10 +24,10 @@ use td_tree::token::Sign;
 
 impl<F: Fn(Global, u8, Level, &mut Cursor<'_, '_>) -> Result<Found, Fault>> Grammar<F> {
     /// `e,+`
-    #[tactic(auto, unfolding(td_tree::specs::ReadingSteps::separated, td_tree::specs::ReadingSteps::separated_from))]
+    #[tactic(auto, unfolding(crate::specs::ReadingSteps::separated, crate::specs::ReadingSteps::separated_from))]
     pub fn elements(&self, tokens: &mut Cursor<'_, '_>) -> Result<Elements, Fault>
         requires { Nests self.now.depth (F.pre self.now.inner) (F.post self.now.inner) }
-        ensures { Moves (map tree_of) result tokens.new (separated (read self.now.depth Level.Restriction) tokens.old) }
+        ensures { Moves (map tree_of) result tokens.new (separated (read self.now.depth loosest) tokens.old) }
     {
         let mut items = Elements::new(self.alloc);
         let limit = tokens.turns();
@@ -40,10 +41,10 @@ impl<F: Fn(Global, u8, Level, &mut Cursor<'_, '_>) -> Result<Found, Fault>> Gram
     }
 
     /// `e,*` and the sign that closes them.
-    #[tactic(auto, unfolding(td_tree::specs::ReadingSteps::listed_to, td_tree::specs::ReadingSteps::up_to))]
+    #[tactic(auto, unfolding(crate::specs::ReadingSteps::listed_to, crate::specs::ReadingSteps::up_to))]
     pub fn elements_to(&self, close: Sign, tokens: &mut Cursor<'_, '_>) -> Result<Elements, Fault>
         requires { Nests self.now.depth (F.pre self.now.inner) (F.post self.now.inner) }
-        ensures { Moves (map tree_of) result tokens.new (listed_to (lexeme.sign close) (read self.now.depth Level.Restriction) tokens.old) }
+        ensures { Moves (map tree_of) result tokens.new (listed_to (lexeme.sign close) (read self.now.depth loosest) tokens.old) }
     {
         if tokens.sign(close) {
             return Ok(Elements::new(self.alloc));
@@ -53,7 +54,7 @@ impl<F: Fn(Global, u8, Level, &mut Cursor<'_, '_>) -> Result<Found, Fault>> Gram
     }
 
     /// `name e`
-    #[tactic(auto, unfolding(td_tree::specs::Reading::part))]
+    #[tactic(auto, unfolding(crate::specs::Reading::part))]
     fn part(&self, tokens: &mut Cursor<'_, '_>) -> Result<(Name, Found), Fault>
         requires { Nests self.now.depth (F.pre self.now.inner) (F.post self.now.inner) }
         ensures { Moves (λ x. (x.0, tree_of x.1)) result tokens.new (reading.part (read self.now.depth) self.now.depth tokens.old) }
@@ -64,7 +65,7 @@ impl<F: Fn(Global, u8, Level, &mut Cursor<'_, '_>) -> Result<Found, Fault>> Gram
     }
 
     /// `(name e),+`
-    #[tactic(auto, unfolding(td_tree::specs::ReadingSteps::separated, td_tree::specs::ReadingSteps::separated_from))]
+    #[tactic(auto, unfolding(crate::specs::ReadingSteps::separated, crate::specs::ReadingSteps::separated_from))]
     fn parts(&self, tokens: &mut Cursor<'_, '_>) -> Result<NamedParts, Fault>
         requires { Nests self.now.depth (F.pre self.now.inner) (F.post self.now.inner) }
         ensures { Moves (map named_part_of) result tokens.new (separated (reading.part (read self.now.depth) self.now.depth) tokens.old) }
@@ -83,7 +84,7 @@ impl<F: Fn(Global, u8, Level, &mut Cursor<'_, '_>) -> Result<Found, Fault>> Gram
     }
 
     /// `(name e),* '}'`
-    #[tactic(auto, unfolding(td_tree::specs::ReadingSteps::listed_to, td_tree::specs::ReadingSteps::up_to))]
+    #[tactic(auto, unfolding(crate::specs::ReadingSteps::listed_to, crate::specs::ReadingSteps::up_to))]
     pub fn parts_to_brace(&self, tokens: &mut Cursor<'_, '_>) -> Result<NamedParts, Fault>
         requires { Nests self.now.depth (F.pre self.now.inner) (F.post self.now.inner) }
         ensures { Moves (map named_part_of) result tokens.new (listed_to (lexeme.sign Sign.CloseBrace) (reading.part (read self.now.depth) self.now.depth) tokens.old) }
@@ -96,7 +97,7 @@ impl<F: Fn(Global, u8, Level, &mut Cursor<'_, '_>) -> Result<Found, Fault>> Gram
     }
 
     /// `e AS name`
-    #[tactic(auto, unfolding(td_tree::specs::Reading::addition))]
+    #[tactic(auto, unfolding(crate::specs::Reading::addition))]
     fn addition(&self, tokens: &mut Cursor<'_, '_>) -> Result<(Name, Found), Fault>
         requires { Nests self.now.depth (F.pre self.now.inner) (F.post self.now.inner) }
         ensures { Moves (λ x. (x.0, tree_of x.1)) result tokens.new (reading.addition (read self.now.depth) self.now.depth tokens.old) }
@@ -107,7 +108,7 @@ impl<F: Fn(Global, u8, Level, &mut Cursor<'_, '_>) -> Result<Found, Fault>> Gram
     }
 
     /// `(e AS name),+`
-    #[tactic(auto, unfolding(td_tree::specs::ReadingSteps::separated, td_tree::specs::ReadingSteps::separated_from))]
+    #[tactic(auto, unfolding(crate::specs::ReadingSteps::separated, crate::specs::ReadingSteps::separated_from))]
     fn additions(&self, tokens: &mut Cursor<'_, '_>) -> Result<NamedParts, Fault>
         requires { Nests self.now.depth (F.pre self.now.inner) (F.post self.now.inner) }
         ensures { Moves (map named_part_of) result tokens.new (separated (reading.addition (read self.now.depth) self.now.depth) tokens.old) }
@@ -125,7 +126,7 @@ impl<F: Fn(Global, u8, Level, &mut Cursor<'_, '_>) -> Result<Found, Fault>> Gram
     }
 
     /// `'(' (e AS name),+ ')'`
-    #[tactic(auto, unfolding(td_tree::specs::ReadingSteps::enclosed, td_tree::specs::ReadingSteps::up_to))]
+    #[tactic(auto, unfolding(crate::specs::ReadingSteps::enclosed, crate::specs::ReadingSteps::up_to))]
     pub fn enclosed_additions(&self, tokens: &mut Cursor<'_, '_>) -> Result<NamedParts, Fault>
         requires { Nests self.now.depth (F.pre self.now.inner) (F.post self.now.inner) }
         ensures { Moves (map named_part_of) result tokens.new (enclosed (separated (reading.addition (read self.now.depth) self.now.depth)) tokens.old) }

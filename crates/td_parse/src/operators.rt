@@ -2,7 +2,7 @@
 ghost use Rattle.std.specs.Prelude.{◌≡◌, IfOk};
 ghost use Rattle.td_parse.specs.Parsing.{Eats, Finds, Tries};
 ghost use Rattle.td_tree.specs.Grammar as grammar;
-ghost use Rattle.td_tree.specs.ReadingOperators as reading;
+ghost use Rattle.td_parse.specs.ReadingOperators as reading;
 
 use crate::ahead::Ahead;
 use crate::cursor::Cursor;
@@ -103,7 +103,7 @@ fn any_operator(tokens: &mut Ahead<'_, '_>) -> Option<Operator>
 }
 
 /// Takes an operator that stands at this level, if one comes next.
-#[tactic(auto, unfolding(td_tree::specs::ReadingOperators::operator_at))]
+#[tactic(auto, unfolding(crate::specs::ReadingOperators::operator_at))]
 pub fn operator(level: Level, tokens: &mut Cursor<'_, '_>) -> Option<Operator>
     ensures { Tries result tokens.old tokens.new (reading.operator_at level tokens.old) }
 {
@@ -140,7 +140,7 @@ fn comparison_of_sign(sign: Sign) -> Option<Comparison>
 }
 
 /// Takes a comparison, if one comes next.
-#[tactic(auto, unfolding(td_tree::specs::ReadingOperators::comparison_at))]
+#[tactic(auto, unfolding(crate::specs::ReadingOperators::comparison_at))]
 pub fn comparison(tokens: &mut Cursor<'_, '_>) -> Option<Comparison>
     ensures { Tries result tokens.old tokens.new (reading.comparison_at tokens.old) }
 {
@@ -164,7 +164,7 @@ fn begins_with_number(tokens: &Ahead<'_, '_>) -> bool
 }
 
 /// Takes an operator that stands before its operand.
-#[tactic(auto, unfolding(td_tree::specs::ReadingOperators::prefix_at))]
+#[tactic(auto, unfolding(crate::specs::ReadingOperators::prefix_at))]
 fn any_prefix(tokens: &mut Ahead<'_, '_>) -> Option<Prefix>
     ensures { Finds result tokens.new (reading.prefix_at tokens.old) }
 {
@@ -189,7 +189,7 @@ pub fn prefix(tokens: &mut Cursor<'_, '_>) -> Option<Prefix>
 }
 
 /// Takes a name and `FROM`, if these come next.
-#[tactic(auto, unfolding(td_tree::specs::ReadingOperators::extraction_at))]
+#[tactic(auto, unfolding(crate::specs::ReadingOperators::extraction_at))]
 pub fn extraction(alloc: Global, tokens: &mut Cursor<'_, '_>) -> Result<Option<Name>, AllocError>
     ensures { IfOk result (λ n. Tries n tokens.old tokens.new (reading.extraction_at tokens.old)) }
 {
@@ -218,7 +218,7 @@ fn begins_setting(tokens: &Ahead<'_, '_>) -> bool
 }
 
 /// After a name: takes the parenthesis that opens a call's arguments, if it comes next.
-#[tactic(auto, unfolding(td_tree::specs::ReadingOperators::call_at))]
+#[tactic(auto, unfolding(crate::specs::ReadingOperators::call_at))]
 pub fn call(tokens: &mut Cursor<'_, '_>) -> bool
     ensures { Eats (reading.call_at tokens.old) result tokens.old tokens.new }
 {
@@ -249,7 +249,7 @@ fn begins_attribute(tokens: &Ahead<'_, '_>) -> bool
 }
 
 /// After `RELATION`: whether a heading comes next, and not the elements.
-#[tactic(auto, unfolding(td_tree::specs::ReadingOperators::heading_at))]
+#[tactic(auto, unfolding(crate::specs::ReadingOperators::heading_at))]
 pub fn begins_heading(tokens: &Cursor<'_, '_>) -> bool
     ensures { result ≡ reading.heading_at tokens.now }
 {

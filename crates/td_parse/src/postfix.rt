@@ -1,9 +1,9 @@
 //! Operators behind their operand.
 ghost use Rattle.std.specs.Prelude.{◌≡◌, map};
 ghost use Rattle.td_parse.specs.Parsing.{Moves};
-ghost use Rattle.td_tree.specs.Reading as reading;
-ghost use Rattle.td_tree.specs.ReadingOperators.{postfix_at};
-ghost use Rattle.td_tree.specs.ReadingSteps.{enclosed, read_name, read_renaming, separated};
+ghost use Rattle.td_parse.specs.Reading as reading;
+ghost use Rattle.td_parse.specs.ReadingOperators.{postfix_at};
+ghost use Rattle.td_parse.specs.ReadingSteps.{enclosed, read_name, read_renaming, separated};
 ghost use Rattle.td_tree.specs.TreeViews.{attributes_of, postfix_of, renaming_of};
 
 use crate::cursor::{Cursor, SYNTAX};
@@ -17,7 +17,7 @@ use td_tree::name::Name;
 use td_tree::token::{Kind, Sign};
 
 /// Whether an operator behind its operand comes next.
-#[tactic(auto, unfolding(td_tree::specs::ReadingOperators::postfix_at))]
+#[tactic(auto, unfolding(crate::specs::ReadingOperators::postfix_at))]
 pub fn begins_postfix(tokens: &Cursor<'_, '_>) -> bool
     ensures { result ≡ postfix_at tokens.now }
 {
@@ -32,7 +32,7 @@ pub fn begins_postfix(tokens: &Cursor<'_, '_>) -> bool
 }
 
 /// `'(' name ')'`
-#[tactic(auto, unfolding(td_tree::specs::ReadingSteps::enclosed, td_tree::specs::ReadingSteps::up_to))]
+#[tactic(auto, unfolding(crate::specs::ReadingSteps::enclosed, crate::specs::ReadingSteps::up_to))]
 fn enclosed_name(alloc: Global, tokens: &mut Cursor<'_, '_>) -> Result<Name, Fault>
     ensures { Moves (λ n. n) result tokens.new (enclosed read_name tokens.old) }
 {
@@ -42,7 +42,7 @@ fn enclosed_name(alloc: Global, tokens: &mut Cursor<'_, '_>) -> Result<Name, Fau
 }
 
 /// `'(' (name AS name),+ ')'`
-#[tactic(auto, unfolding(td_tree::specs::ReadingSteps::enclosed, td_tree::specs::ReadingSteps::up_to))]
+#[tactic(auto, unfolding(crate::specs::ReadingSteps::enclosed, crate::specs::ReadingSteps::up_to))]
 fn enclosed_renamings(alloc: Global, tokens: &mut Cursor<'_, '_>) -> Result<Vec<Renaming>, Fault>
     ensures { Moves (λ v. map renaming_of v.items) result tokens.new (enclosed (separated read_renaming) tokens.old) }
 {
@@ -52,7 +52,7 @@ fn enclosed_renamings(alloc: Global, tokens: &mut Cursor<'_, '_>) -> Result<Vec<
 }
 
 /// `'(' attrs AS name ')'`
-#[tactic(auto, unfolding(td_tree::specs::ReadingSteps::enclosed, td_tree::specs::ReadingSteps::up_to, td_tree::specs::Reading::named_attributes))]
+#[tactic(auto, unfolding(crate::specs::ReadingSteps::enclosed, crate::specs::ReadingSteps::up_to, crate::specs::Reading::named_attributes))]
 fn enclosed_attributes(
     alloc: Global,
     tokens: &mut Cursor<'_, '_>,
@@ -66,7 +66,7 @@ fn enclosed_attributes(
 }
 
 /// An operator that begins with this word, after it.
-#[tactic(auto, unfolding(td_tree::specs::Reading::postfix_of_word))]
+#[tactic(auto, unfolding(crate::specs::Reading::postfix_of_word))]
 fn postfix_of_word(
     alloc: Global,
     word: Keyword,
@@ -91,7 +91,7 @@ fn postfix_of_word(
 }
 
 /// An operator behind its operand.
-#[tactic(auto, unfolding(td_tree::specs::Reading::read_postfix), using(crate::proofs::Beginnings::projection))]
+#[tactic(auto, unfolding(crate::specs::Reading::read_postfix), using(crate::proofs::Beginnings::projection))]
 pub fn postfix(alloc: Global, tokens: &mut Cursor<'_, '_>) -> Result<Postfix, Fault>
     ensures { Moves postfix_of result tokens.new (reading.read_postfix tokens.old) }
 {

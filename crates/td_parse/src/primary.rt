@@ -1,13 +1,14 @@
 //! Primary expressions.
 ghost use Rattle.std.specs.Prelude.{◌≡◌, Some, None, map, nat_le, option_map, if◌then◌else◌};
+ghost use Rattle.td_tree.specs.Grammar.{loosest};
 ghost use Rattle.td_parse.specs.Nests.{Nests};
 ghost use Rattle.td_parse.specs.Parsing.{Moves};
 ghost use Rattle.td_tree.specs.Lexemes as lexeme;
 ghost use Rattle.td_tree.specs.Numbers.{decimal_value, numeral_limit};
 ghost use Rattle.td_tree.specs.Pieces.{kind_of};
-ghost use Rattle.td_tree.specs.Reading as reading;
-ghost use Rattle.td_tree.specs.Reading.{read};
-ghost use Rattle.td_tree.specs.ReadingSteps.{up_to};
+ghost use Rattle.td_parse.specs.Reading as reading;
+ghost use Rattle.td_parse.specs.Reading.{read};
+ghost use Rattle.td_parse.specs.ReadingSteps.{up_to};
 ghost use Rattle.std.specs.Rc.{rc_str_bytes};
 ghost use Rattle.td_tree.specs.Symbols.{symbols};
 ghost use Rattle.td_tree.specs.Trees as trees;
@@ -42,7 +43,7 @@ fn numeral(minus: bool, text: &[u8]) -> Option<Found>
 }
 
 /// After `-`: a number.
-#[tactic(auto, unfolding(td_tree::specs::Reading::negative, td_tree::specs::Reading::numeral))]
+#[tactic(auto, unfolding(crate::specs::Reading::negative, crate::specs::Reading::numeral))]
 fn negative(tokens: &mut Cursor<'_, '_>) -> Result<Found, Fault>
     ensures { Moves tree_of result tokens.new (reading.negative tokens.old) }
 {
@@ -54,27 +55,27 @@ fn negative(tokens: &mut Cursor<'_, '_>) -> Result<Found, Fault>
 
 impl<F: Fn(Global, u8, Level, &mut Cursor<'_, '_>) -> Result<Found, Fault>> Grammar<F> {
     /// `e` and the sign that closes it.
-    #[tactic(auto, unfolding(td_tree::specs::ReadingSteps::up_to))]
+    #[tactic(auto, unfolding(crate::specs::ReadingSteps::up_to))]
     pub fn up_to_sign(&self, close: Sign, tokens: &mut Cursor<'_, '_>) -> Result<Found, Fault>
         requires { Nests self.now.depth (F.pre self.now.inner) (F.post self.now.inner) }
-        ensures { Moves tree_of result tokens.new (up_to (lexeme.sign close) (read self.now.depth Level.Restriction) tokens.old) }
+        ensures { Moves tree_of result tokens.new (up_to (lexeme.sign close) (read self.now.depth loosest) tokens.old) }
     {
         let found = self.expression(tokens)?;
         closed(found, close, tokens)
     }
 
     /// `e` and the word that closes it.
-    #[tactic(auto, unfolding(td_tree::specs::ReadingSteps::up_to))]
+    #[tactic(auto, unfolding(crate::specs::ReadingSteps::up_to))]
     fn up_to_word(&self, close: Keyword, tokens: &mut Cursor<'_, '_>) -> Result<Found, Fault>
         requires { Nests self.now.depth (F.pre self.now.inner) (F.post self.now.inner) }
-        ensures { Moves tree_of result tokens.new (up_to (lexeme.keyword close) (read self.now.depth Level.Restriction) tokens.old) }
+        ensures { Moves tree_of result tokens.new (up_to (lexeme.keyword close) (read self.now.depth loosest) tokens.old) }
     {
         let found = self.expression(tokens)?;
         ended(found, close, tokens)
     }
 
     /// After a name: it stands alone, or selects a value of a type.
-    #[tactic(auto, unfolding(td_tree::specs::Reading::named))]
+    #[tactic(auto, unfolding(crate::specs::Reading::named))]
     fn named(&self, name: Name, tokens: &mut Cursor<'_, '_>) -> Result<Found, Fault>
         requires { Nests self.now.depth (F.pre self.now.inner) (F.post self.now.inner) }
         ensures { Moves tree_of result tokens.new (reading.named (read self.now.depth) self.now.depth name tokens.old) }
@@ -88,7 +89,7 @@ impl<F: Fn(Global, u8, Level, &mut Cursor<'_, '_>) -> Result<Found, Fault>> Gram
     }
 
     /// After a THE word.
-    #[tactic(auto, unfolding(td_tree::specs::Reading::component_of))]
+    #[tactic(auto, unfolding(crate::specs::Reading::component_of))]
     fn component(&self, rest: RcStr, tokens: &mut Cursor<'_, '_>) -> Result<Found, Fault>
         requires { Nests self.now.depth (F.pre self.now.inner) (F.post self.now.inner) }
         ensures { Moves tree_of result tokens.new (reading.component_of (read self.now.depth) self.now.depth (rc_str_bytes rest) tokens.old) }
@@ -98,7 +99,7 @@ impl<F: Fn(Global, u8, Level, &mut Cursor<'_, '_>) -> Result<Found, Fault>> Gram
     }
 
     /// After `(`.
-    #[tactic(auto, unfolding(td_tree::specs::Reading::parenthesized))]
+    #[tactic(auto, unfolding(crate::specs::Reading::parenthesized))]
     fn parenthesized(&self, tokens: &mut Cursor<'_, '_>) -> Result<Found, Fault>
         requires { Nests self.now.depth (F.pre self.now.inner) (F.post self.now.inner) }
         ensures { Moves tree_of result tokens.new (reading.parenthesized (read self.now.depth) self.now.depth tokens.old) }
@@ -108,7 +109,7 @@ impl<F: Fn(Global, u8, Level, &mut Cursor<'_, '_>) -> Result<Found, Fault>> Gram
     }
 
     /// After `COUNT` or `IS_EMPTY`.
-    #[tactic(auto, unfolding(td_tree::specs::Reading::measured))]
+    #[tactic(auto, unfolding(crate::specs::Reading::measured))]
     fn measured(&self, op: Measure, tokens: &mut Cursor<'_, '_>) -> Result<Found, Fault>
         requires { Nests self.now.depth (F.pre self.now.inner) (F.post self.now.inner) }
         ensures { Moves tree_of result tokens.new (reading.measured (read self.now.depth) self.now.depth op tokens.old) }
@@ -118,7 +119,7 @@ impl<F: Fn(Global, u8, Level, &mut Cursor<'_, '_>) -> Result<Found, Fault>> Gram
     }
 
     /// After `SUM`, `MAX` or `MIN`.
-    #[tactic(auto, unfolding(td_tree::specs::Reading::aggregated))]
+    #[tactic(auto, unfolding(crate::specs::Reading::aggregated))]
     fn aggregated(&self, op: Aggregate, tokens: &mut Cursor<'_, '_>) -> Result<Found, Fault>
         requires { Nests self.now.depth (F.pre self.now.inner) (F.post self.now.inner) }
         ensures { Moves tree_of result tokens.new (reading.aggregated (read self.now.depth) self.now.depth op tokens.old) }
@@ -131,7 +132,7 @@ impl<F: Fn(Global, u8, Level, &mut Cursor<'_, '_>) -> Result<Found, Fault>> Gram
     }
 
     /// `heading '{' e,* '}'`
-    #[tactic(auto, unfolding(td_tree::specs::Reading::headed_relation))]
+    #[tactic(auto, unfolding(crate::specs::Reading::headed_relation))]
     fn headed_relation(&self, tokens: &mut Cursor<'_, '_>) -> Result<Found, Fault>
         requires { Nests self.now.depth (F.pre self.now.inner) (F.post self.now.inner) }
         ensures { Moves tree_of result tokens.new (reading.headed_relation (read self.now.depth) self.now.depth tokens.old) }
@@ -143,7 +144,7 @@ impl<F: Fn(Global, u8, Level, &mut Cursor<'_, '_>) -> Result<Found, Fault>> Gram
     }
 
     /// `'{' e,+ '}'`
-    #[tactic(auto, unfolding(td_tree::specs::Reading::elements, td_tree::specs::ReadingSteps::up_to))]
+    #[tactic(auto, unfolding(crate::specs::Reading::elements, crate::specs::ReadingSteps::up_to))]
     fn bare_relation(&self, tokens: &mut Cursor<'_, '_>) -> Result<Found, Fault>
         requires { Nests self.now.depth (F.pre self.now.inner) (F.post self.now.inner) }
         ensures { Moves tree_of result tokens.new (reading.elements (read self.now.depth) self.now.depth tokens.old) }
@@ -155,7 +156,7 @@ impl<F: Fn(Global, u8, Level, &mut Cursor<'_, '_>) -> Result<Found, Fault>> Gram
     }
 
     /// After `RELATION`.
-    #[tactic(auto, unfolding(td_tree::specs::Reading::relation))]
+    #[tactic(auto, unfolding(crate::specs::Reading::relation))]
     fn relation(&self, tokens: &mut Cursor<'_, '_>) -> Result<Found, Fault>
         requires { Nests self.now.depth (F.pre self.now.inner) (F.post self.now.inner) }
         ensures { Moves tree_of result tokens.new (reading.relation (read self.now.depth) self.now.depth tokens.old) }
@@ -168,7 +169,7 @@ impl<F: Fn(Global, u8, Level, &mut Cursor<'_, '_>) -> Result<Found, Fault>> Gram
     }
 
     /// After `TUPLE`.
-    #[tactic(auto, unfolding(td_tree::specs::Reading::tuple))]
+    #[tactic(auto, unfolding(crate::specs::Reading::tuple))]
     fn tuple(&self, tokens: &mut Cursor<'_, '_>) -> Result<Found, Fault>
         requires { Nests self.now.depth (F.pre self.now.inner) (F.post self.now.inner) }
         ensures { Moves tree_of result tokens.new (reading.tuple (read self.now.depth) self.now.depth tokens.old) }
@@ -178,7 +179,7 @@ impl<F: Fn(Global, u8, Level, &mut Cursor<'_, '_>) -> Result<Found, Fault>> Gram
     }
 
     /// After `EXTEND`.
-    #[tactic(auto, unfolding(td_tree::specs::Reading::extension))]
+    #[tactic(auto, unfolding(crate::specs::Reading::extension))]
     fn extension(&self, tokens: &mut Cursor<'_, '_>) -> Result<Found, Fault>
         requires { Nests self.now.depth (F.pre self.now.inner) (F.post self.now.inner) }
         ensures { Moves tree_of result tokens.new (reading.extension (read self.now.depth) self.now.depth tokens.old) }
@@ -189,7 +190,7 @@ impl<F: Fn(Global, u8, Level, &mut Cursor<'_, '_>) -> Result<Found, Fault>> Gram
     }
 
     /// After `IF`.
-    #[tactic(auto, unfolding(td_tree::specs::Reading::choice))]
+    #[tactic(auto, unfolding(crate::specs::Reading::choice))]
     fn choice(&self, tokens: &mut Cursor<'_, '_>) -> Result<Found, Fault>
         requires { Nests self.now.depth (F.pre self.now.inner) (F.post self.now.inner) }
         ensures { Moves tree_of result tokens.new (reading.choice (read self.now.depth) self.now.depth tokens.old) }
@@ -203,7 +204,7 @@ impl<F: Fn(Global, u8, Level, &mut Cursor<'_, '_>) -> Result<Found, Fault>> Gram
     }
 
     /// After its first word.
-    #[tactic(auto, unfolding(td_tree::specs::Reading::primary_of_word))]
+    #[tactic(auto, unfolding(crate::specs::Reading::primary_of_word))]
     fn primary_of_word(&self, word: Keyword, tokens: &mut Cursor<'_, '_>) -> Result<Found, Fault>
         requires { Nests self.now.depth (F.pre self.now.inner) (F.post self.now.inner) }
         ensures { Moves tree_of result tokens.new (reading.primary_of_word (read self.now.depth) self.now.depth word tokens.old) }
@@ -228,7 +229,7 @@ impl<F: Fn(Global, u8, Level, &mut Cursor<'_, '_>) -> Result<Found, Fault>> Gram
     }
 
     /// An expression that needs no other to be whole.
-    #[tactic(auto, unfolding(td_tree::specs::Reading::primary, td_tree::specs::Reading::primary_of_sign, td_tree::specs::Reading::numeral))]
+    #[tactic(auto, unfolding(crate::specs::Reading::primary, crate::specs::Reading::primary_of_sign, crate::specs::Reading::numeral))]
     pub fn primary(&self, tokens: &mut Cursor<'_, '_>) -> Result<Found, Fault>
         requires { Nests self.now.depth (F.pre self.now.inner) (F.post self.now.inner) }
         ensures { Moves tree_of result tokens.new (reading.primary (read self.now.depth) self.now.depth tokens.old) }

@@ -1,8 +1,8 @@
 //! Statements.
 ghost use Rattle.std.specs.Prelude.{◌≡◌};
 ghost use Rattle.td_parse.specs.Parsing.{Gives, Moves, Parses, has_bad, is_bad};
-ghost use Rattle.td_tree.specs.ReadingStatements as reading;
-ghost use Rattle.td_tree.specs.ReadingStatements.{read_statement};
+ghost use Rattle.td_parse.specs.ReadingStatements as reading;
+ghost use Rattle.td_parse.specs.ReadingStatements.{read_statement};
 ghost use Rattle.td_tree.specs.TokenLexemes.{lexemes};
 ghost use Rattle.td_tree.specs.TreeViews.{statement_of};
 
@@ -19,7 +19,7 @@ use td_tree::statement::Statement;
 use td_tree::token::{Kind, Sign};
 
 /// `TRANSACTION`, after `BEGIN`
-#[tactic(auto, unfolding(td_tree::specs::ReadingStatements::body_of_word))]
+#[tactic(auto, unfolding(crate::specs::ReadingStatements::body_of_word))]
 fn begin(tokens: &mut Cursor<'_, '_>) -> Result<Statement, Fault>
     ensures { Moves statement_of result tokens.new (reading.body_of_word Keyword.Begin tokens.old) }
 {
@@ -28,7 +28,7 @@ fn begin(tokens: &mut Cursor<'_, '_>) -> Result<Statement, Fault>
 }
 
 /// A statement without its end.
-#[tactic(auto, unfolding(td_tree::specs::ReadingStatements::body, td_tree::specs::ReadingStatements::body_of_word), using(crate::proofs::Beginnings::assignments_alone))]
+#[tactic(auto, unfolding(crate::specs::ReadingStatements::body, crate::specs::ReadingStatements::body_of_word), using(crate::proofs::Beginnings::assignments_alone))]
 fn body(alloc: Global, tokens: &mut Cursor<'_, '_>) -> Result<Statement, Fault>
     ensures { Moves statement_of result tokens.new (reading.body tokens.old) }
 {
@@ -51,7 +51,7 @@ fn body(alloc: Global, tokens: &mut Cursor<'_, '_>) -> Result<Statement, Fault>
 }
 
 /// A statement before its semicolon, or nothing.
-#[tactic(auto, unfolding(td_tree::specs::ReadingStatements::read_body))]
+#[tactic(auto, unfolding(crate::specs::ReadingStatements::read_body))]
 fn body_or_none(alloc: Global, tokens: &mut Cursor<'_, '_>) -> Result<Statement, Fault>
     ensures { Moves statement_of result tokens.new (reading.read_body tokens.old) }
 {
@@ -62,7 +62,7 @@ fn body_or_none(alloc: Global, tokens: &mut Cursor<'_, '_>) -> Result<Statement,
 }
 
 /// The statement that all the tokens are.
-#[tactic(auto, unfolding(td_tree::specs::ReadingStatements::read_statement, td_tree::specs::ReadingSteps::up_to))]
+#[tactic(auto, unfolding(crate::specs::ReadingStatements::read_statement, crate::specs::ReadingSteps::up_to))]
 fn whole(alloc: Global, tokens: &[Token<'_>]) -> Result<Statement, Fault>
     ensures { Gives statement_of result (read_statement (lexemes tokens.now)) }
 {

@@ -1,12 +1,13 @@
 //! `SUMMARIZE`.
 ghost use Rattle.std.specs.Prelude.{map};
+ghost use Rattle.td_tree.specs.Grammar.{loosest};
 ghost use Rattle.td_parse.specs.FoundSummaries.{summary_of};
 ghost use Rattle.td_parse.specs.Nests.{Nests};
 ghost use Rattle.td_parse.specs.Parsing.{Moves};
 ghost use Rattle.td_parse.specs.Views.{item_of};
-ghost use Rattle.td_tree.specs.Reading as reading;
-ghost use Rattle.td_tree.specs.Reading.{read, summaries_from};
-ghost use Rattle.td_tree.specs.ReadingSteps.{enclosed, separated};
+ghost use Rattle.td_parse.specs.Reading as reading;
+ghost use Rattle.td_parse.specs.Reading.{read, summaries_from};
+ghost use Rattle.td_parse.specs.ReadingSteps.{enclosed, separated};
 ghost use Rattle.td_tree.specs.TreeViews.{tree_of};
 
 use crate::cursor::{Cursor, SYNTAX};
@@ -22,7 +23,7 @@ use td_tree::operator::{Aggregate, Level};
 use td_tree::token::{Kind, Sign};
 
 /// `'(' ')' AS name`, after `COUNT`
-#[tactic(auto, unfolding(td_tree::specs::Reading::count_summary))]
+#[tactic(auto, unfolding(crate::specs::Reading::count_summary))]
 fn count_summary(alloc: Global, tokens: &mut Cursor<'_, '_>) -> Result<FoundSummary, Fault>
     ensures { Moves (λ s. item_of (summary_of s)) result tokens.new (reading.count_summary (read 0) 0 tokens.old) }
 {
@@ -33,17 +34,17 @@ fn count_summary(alloc: Global, tokens: &mut Cursor<'_, '_>) -> Result<FoundSumm
 
 impl<F: Fn(Global, u8, Level, &mut Cursor<'_, '_>) -> Result<Found, Fault>> Grammar<F> {
     /// `'(' e ')'`
-    #[tactic(auto, unfolding(td_tree::specs::ReadingSteps::enclosed))]
+    #[tactic(auto, unfolding(crate::specs::ReadingSteps::enclosed))]
     pub fn enclosed_expression(&self, tokens: &mut Cursor<'_, '_>) -> Result<Found, Fault>
         requires { Nests self.now.depth (F.pre self.now.inner) (F.post self.now.inner) }
-        ensures { Moves tree_of result tokens.new (enclosed (read self.now.depth Level.Restriction) tokens.old) }
+        ensures { Moves tree_of result tokens.new (enclosed (read self.now.depth loosest) tokens.old) }
     {
         tokens.expect_sign(Sign::OpenParenthesis)?;
         self.up_to_sign(Sign::CloseParenthesis, tokens)
     }
 
     /// `'(' e ')' AS name`, after `SUM`, `MAX` or `MIN`
-    #[tactic(auto, unfolding(td_tree::specs::Reading::sum_summary))]
+    #[tactic(auto, unfolding(crate::specs::Reading::sum_summary))]
     fn sum_summary(&self, op: Aggregate, tokens: &mut Cursor<'_, '_>) -> Result<FoundSummary, Fault>
         requires { Nests self.now.depth (F.pre self.now.inner) (F.post self.now.inner) }
         ensures { Moves (λ s. item_of (summary_of s)) result tokens.new (reading.sum_summary (read self.now.depth) self.now.depth op tokens.old) }
@@ -54,7 +55,7 @@ impl<F: Fn(Global, u8, Level, &mut Cursor<'_, '_>) -> Result<Found, Fault>> Gram
     }
 
     /// What is added, after its first word.
-    #[tactic(auto, unfolding(td_tree::specs::Reading::summary_of_word, td_tree::specs::Reading::count_summary))]
+    #[tactic(auto, unfolding(crate::specs::Reading::summary_of_word, crate::specs::Reading::count_summary))]
     fn summary_of_word(
         &self,
         word: Keyword,
@@ -73,7 +74,7 @@ impl<F: Fn(Global, u8, Level, &mut Cursor<'_, '_>) -> Result<Found, Fault>> Gram
     }
 
     /// `COUNT '(' ')' AS name` or `(SUM | MAX | MIN) '(' e ')' AS name`
-    #[tactic(auto, unfolding(td_tree::specs::Reading::summary))]
+    #[tactic(auto, unfolding(crate::specs::Reading::summary))]
     fn summary(&self, tokens: &mut Cursor<'_, '_>) -> Result<FoundSummary, Fault>
         requires { Nests self.now.depth (F.pre self.now.inner) (F.post self.now.inner) }
         ensures { Moves (λ s. item_of (summary_of s)) result tokens.new (reading.summary (read self.now.depth) self.now.depth tokens.old) }
@@ -85,7 +86,7 @@ impl<F: Fn(Global, u8, Level, &mut Cursor<'_, '_>) -> Result<Found, Fault>> Gram
     }
 
     /// `item,+`
-    #[tactic(auto, unfolding(td_tree::specs::ReadingSteps::separated, td_tree::specs::ReadingSteps::separated_from))]
+    #[tactic(auto, unfolding(crate::specs::ReadingSteps::separated, crate::specs::ReadingSteps::separated_from))]
     fn some_summaries(&self, tokens: &mut Cursor<'_, '_>) -> Result<Summaries, Fault>
         requires { Nests self.now.depth (F.pre self.now.inner) (F.post self.now.inner) }
         ensures { Moves (map item_of) result tokens.new (separated (reading.summary (read self.now.depth) self.now.depth) tokens.old) }
@@ -102,7 +103,7 @@ impl<F: Fn(Global, u8, Level, &mut Cursor<'_, '_>) -> Result<Found, Fault>> Gram
     }
 
     /// `ADD '(' item,+ ')'`
-    #[tactic(auto, unfolding(td_tree::specs::Reading::summaries, td_tree::specs::ReadingSteps::enclosed, td_tree::specs::ReadingSteps::up_to))]
+    #[tactic(auto, unfolding(crate::specs::Reading::summaries, crate::specs::ReadingSteps::enclosed, crate::specs::ReadingSteps::up_to))]
     fn summaries(&self, tokens: &mut Cursor<'_, '_>) -> Result<Summaries, Fault>
         requires { Nests self.now.depth (F.pre self.now.inner) (F.post self.now.inner) }
         ensures { Moves (λ s. summaries_from (map item_of s)) result tokens.new (reading.summaries (read self.now.depth) self.now.depth tokens.old) }
@@ -114,7 +115,7 @@ impl<F: Fn(Global, u8, Level, &mut Cursor<'_, '_>) -> Result<Found, Fault>> Gram
     }
 
     /// `'(' e ')' ADD '(' item,+ ')'`, after `SUMMARIZE e PER`
-    #[tactic(auto, unfolding(td_tree::specs::Reading::summary_per))]
+    #[tactic(auto, unfolding(crate::specs::Reading::summary_per))]
     fn summary_per(&self, operand: Found, tokens: &mut Cursor<'_, '_>) -> Result<Found, Fault>
         requires { Nests self.now.depth (F.pre self.now.inner) (F.post self.now.inner) }
         ensures { Moves tree_of result tokens.new (reading.summary_per (read self.now.depth) self.now.depth (tree_of operand) tokens.old) }
@@ -126,7 +127,7 @@ impl<F: Fn(Global, u8, Level, &mut Cursor<'_, '_>) -> Result<Found, Fault>> Gram
     }
 
     /// `attrs ADD '(' item,+ ')'`, after `SUMMARIZE e BY`
-    #[tactic(auto, unfolding(td_tree::specs::Reading::summary_by))]
+    #[tactic(auto, unfolding(crate::specs::Reading::summary_by))]
     fn summary_by(&self, operand: Found, tokens: &mut Cursor<'_, '_>) -> Result<Found, Fault>
         requires { Nests self.now.depth (F.pre self.now.inner) (F.post self.now.inner) }
         ensures { Moves tree_of result tokens.new (reading.summary_by (read self.now.depth) self.now.depth (tree_of operand) tokens.old) }
@@ -137,7 +138,7 @@ impl<F: Fn(Global, u8, Level, &mut Cursor<'_, '_>) -> Result<Found, Fault>> Gram
     }
 
     /// After `SUMMARIZE`.
-    #[tactic(auto, unfolding(td_tree::specs::Reading::summarized))]
+    #[tactic(auto, unfolding(crate::specs::Reading::summarized))]
     pub fn summarized(&self, tokens: &mut Cursor<'_, '_>) -> Result<Found, Fault>
         requires { Nests self.now.depth (F.pre self.now.inner) (F.post self.now.inner) }
         ensures { Moves tree_of result tokens.new (reading.summarized (read self.now.depth) self.now.depth tokens.old) }

@@ -1,8 +1,10 @@
 //! Types and headings.
+ghost use Rattle.std.specs.Prelude.{◌≡◌};
 ghost use Rattle.td_parse.specs.Parsing.{Moves};
-ghost use Rattle.td_tree.specs.ReadingSteps.{listed_to, separated};
-ghost use Rattle.td_tree.specs.ReadingTypes as reading;
-ghost use Rattle.td_tree.specs.ReadingTypes.{read_type};
+ghost use Rattle.td_parse.specs.ReadingSteps.{listed_to, separated};
+ghost use Rattle.td_parse.specs.ReadingTypes as reading;
+ghost use Rattle.td_parse.specs.ReadingTypes.{read_type};
+ghost use Rattle.td_tree.specs.Trees as trees;
 ghost use Rattle.td_tree.specs.TreeViews.{heading_of, type_of};
 ghost use Rattle.td_parse.specs.Views.{attribute_of, attributes_of};
 ghost use Rattle.td_tree.specs.Lexemes.{sign};
@@ -16,9 +18,25 @@ use td_tree::keyword::Keyword;
 use td_tree::token::{Kind, Sign};
 use td_tree::type_tree::{AttributeTree, TypeTree};
 
+/// `TUPLE {A INTEGER, ..}`
+#[tactic(auto, using(td_tree::proofs::Rows::tuple_type_is))]
+fn tuple_type(heading: Vec<AttributeTree>) -> TypeTree
+    ensures { type_of result ≡ trees.tuple_type (heading_of heading.items) }
+{
+    TypeTree::Tuple(heading)
+}
+
+/// `RELATION {A INTEGER, ..}`
+#[tactic(auto, using(td_tree::proofs::Rows::relation_type_is))]
+fn relation_type(heading: Vec<AttributeTree>) -> TypeTree
+    ensures { type_of result ≡ trees.relation_type (heading_of heading.items) }
+{
+    TypeTree::Relation(heading)
+}
+
 /// A type that is at most so high.
 #[cycle(types)]
-#[tactic(auto, unfolding(td_tree::specs::ReadingTypes::read_type, td_tree::specs::ReadingTypes::type_of_first))]
+#[tactic(auto, unfolding(crate::specs::ReadingTypes::read_type, crate::specs::ReadingTypes::type_of_first))]
 pub fn type_tree(alloc: Global, depth: u8, tokens: &mut Cursor<'_, '_>) -> Result<TypeTree, Fault>
     ensures { Moves type_of result tokens.new (read_type depth tokens.old) }
 {
@@ -34,7 +52,7 @@ pub fn type_tree(alloc: Global, depth: u8, tokens: &mut Cursor<'_, '_>) -> Resul
 
 /// A type after its first word.
 #[cycle(types)]
-#[tactic(auto, unfolding(td_tree::specs::ReadingTypes::type_of_word))]
+#[tactic(auto, unfolding(crate::specs::ReadingTypes::type_of_word))]
 fn type_of_word(
     alloc: Global,
     depth: u8,
@@ -47,15 +65,15 @@ fn type_of_word(
         Keyword::Integer => Ok(TypeTree::Integer),
         Keyword::Char => Ok(TypeTree::Char),
         Keyword::Boolean => Ok(TypeTree::Boolean),
-        Keyword::Relation => Ok(TypeTree::relation_type(heading(alloc, depth, tokens)?)),
-        Keyword::Tuple => Ok(TypeTree::tuple_type(heading(alloc, depth, tokens)?)),
+        Keyword::Relation => Ok(relation_type(heading(alloc, depth, tokens)?)),
+        Keyword::Tuple => Ok(tuple_type(heading(alloc, depth, tokens)?)),
         _ => Err(SYNTAX),
     }
 }
 
 /// `'{' (name type),* '}'`, of types at most so high
 #[cycle(types)]
-#[tactic(auto, unfolding(td_tree::specs::ReadingTypes::heading, td_tree::specs::ReadingSteps::listed_to, td_tree::specs::ReadingSteps::up_to), using(crate::proofs::Views::attributes_from_of))]
+#[tactic(auto, unfolding(crate::specs::ReadingTypes::heading, crate::specs::ReadingSteps::listed_to, crate::specs::ReadingSteps::up_to), using(crate::proofs::Views::attributes_from_of))]
 fn heading(
     alloc: Global,
     depth: u8,
@@ -73,7 +91,7 @@ fn heading(
 
 /// `(name type),+`, of types at most so high
 #[cycle(types)]
-#[tactic(auto, unfolding(td_tree::specs::ReadingSteps::separated, td_tree::specs::ReadingSteps::separated_from))]
+#[tactic(auto, unfolding(crate::specs::ReadingSteps::separated, crate::specs::ReadingSteps::separated_from))]
 pub fn attributes(
     alloc: Global,
     depth: u8,
@@ -94,7 +112,7 @@ pub fn attributes(
 
 /// `name type`, of a type at most so high
 #[cycle(types)]
-#[tactic(auto, unfolding(td_tree::specs::ReadingTypes::attribute))]
+#[tactic(auto, unfolding(crate::specs::ReadingTypes::attribute))]
 fn attribute(alloc: Global, depth: u8, tokens: &mut Cursor<'_, '_>) -> Result<AttributeTree, Fault>
     ensures { Moves attribute_of result tokens.new (reading.attribute (read_type depth) tokens.old) }
 {
@@ -104,7 +122,7 @@ fn attribute(alloc: Global, depth: u8, tokens: &mut Cursor<'_, '_>) -> Result<At
 }
 
 /// A heading whose relation type is at most so high.
-#[tactic(auto, unfolding(td_tree::specs::ReadingTypes::relation_heading))]
+#[tactic(auto, unfolding(crate::specs::ReadingTypes::relation_heading))]
 pub fn relation_heading(
     alloc: Global,
     depth: u8,

@@ -3,7 +3,7 @@ use Rattle.std.proofs.Common.{◌≡◌, ◌+◌, ◌-◌, ◌≤◌, ℕ, suc, 
 use Rattle.std.specs.Prelude.{option_map, slice_get}
 use Rattle.td_scan.specs.Fronts.{end_of_last}
 use Rattle.td_tree.specs.Statements.{Entry, Held, after, behind, end_of, first_statement}
-use Rattle.td_tree.proofs.TakenLaws.{behind_first, fewer_bytes, first_within}
+use Rattle.td_scan.proofs.TakenLaws.{behind_first, fewer_bytes, first_within}
 
 -- ---- the last token
 

@@ -1,5 +1,5 @@
 -- The text of a tree that some tokens spell has tokens that spell it.
-use Rattle.std.proofs.Common.{◌≡◌, ℕ, ◌+◌, List, [], ◌∷◌, ◌++◌, length, refl, sym, ap, ◌∙◌, subst, Bool, true, false, IsUtf8, ◌&&◌, codes, drop, arith}
+use Rattle.std.proofs.Common.{◌≡◌, ℕ, ◌+◌, List, [], ◌∷◌, ◌++◌, length, refl, sym, ap, ◌∙◌, subst, Bool, true, false, IsUtf8, ◌&&◌, codes, drop, map, arith}
 use Rattle.std.specs.Prelude.{◌==◌, if◌then◌else◌}
 use Rattle.std.specs.Char.{is_ascii_digit}
 use Rattle.std.specs.List.{list_all}
@@ -16,6 +16,7 @@ use Rattle.td_tree.specs.Lexemes as lexeme
 use Rattle.td_tree.specs.Names.{is_name, is_word, begins_the}
 use Rattle.td_tree.specs.Numbers.{decimal_value}
 use Rattle.td_tree.specs.Prints.{lexemes_of, type_lexemes, print, type_print}
+use Rattle.td_tree.specs.Spaced.{AreItsOwnLexemes, AreItsOwnTypeLexemes, IsSpaced, PrintIsSpaced, TypePrintIsSpaced, texts_of, with_spaces}
 use Rattle.td_tree.specs.Statements.{Entry, tokens}
 use Rattle.td_tree.specs.TextTokens.{content, quoted}
 use Rattle.td_tree.specs.TokenLexemes.{is_the_word, is_quoted_text, lexeme_of, lexemes}
@@ -139,3 +140,41 @@ type_print_spells ts t h =
     let own : lexemes ts ≡ type_lexemes t = type_is h in
     let same : lexemes (tokens 0 (type_print t)) ≡ type_lexemes t = again (type_lexemes t) 0 (subst AllPlain own (plain_type h)) (subst AllProper own (all_proper ts)) in
     subst (λ xs. TypeSpelling xs t) (own ∙ sym same) h
+
+-- ---- the text of a tree is its own tokens with one space between
+
+pub own_lexemes : AreItsOwnLexemes
+own_lexemes level xs t p = expression_is p
+
+pub own_type_lexemes : AreItsOwnTypeLexemes
+own_type_lexemes xs t p = type_is p
+
+-- the bytes of the tokens of a text of lexemes are what is printed of each
+texts_again : (ls : List Lexeme) (at : ℕ) → AllPlain ls → AllProper ls → texts_of (tokens at (spaced ls)) ≡ map printed ls
+unfolding tokens
+texts_again [] at p q = refl
+texts_again (l ∷ []) at (also p ps) q =
+    let w = prints l p q.0 in
+    ap texts_of (last_token (printed l) w.kind at w.stands)
+texts_again (l ∷ m ∷ ls) at (also p ps) q =
+    let w = prints l p q.0 in
+    ap texts_of (token_before_space (printed l) (spaced (m ∷ ls)) w.kind at w.stands)
+    ∙ ap (λ r. printed l ∷ r) (texts_again (m ∷ ls) (at + length (printed l) + 1) ps q.1)
+
+printed_with_spaces : (ls : List Lexeme) → spaced ls ≡ with_spaces (map printed ls)
+printed_with_spaces [] = refl
+printed_with_spaces (l ∷ []) = refl
+printed_with_spaces (l ∷ m ∷ ls) = ap (λ r. printed l ++ 32 ∷ r) (printed_with_spaces (m ∷ ls))
+
+is_spaced : (ls : List Lexeme) → AllPlain ls → AllProper ls → IsSpaced (spaced ls) ls
+is_spaced ls p q = record { tokens_are = again ls 0 p q; text_is = printed_with_spaces ls ∙ sym (ap with_spaces (texts_again ls 0 p q)) }
+
+-- tokens that are the lexemes of a tree
+tokens_spaced : (ts : List Entry) (ls : List Lexeme) → lexemes ts ≡ ls → AllPlain (lexemes ts) → IsSpaced (spaced ls) (lexemes ts)
+tokens_spaced ts ls own p = subst (λ xs. IsSpaced (spaced xs) (lexemes ts)) own (is_spaced (lexemes ts) p (all_proper ts))
+
+pub print_is_spaced : PrintIsSpaced
+print_is_spaced level ts t h = tokens_spaced ts (lexemes_of t) (expression_is h.spelled) (plain h.spelled)
+
+pub type_print_is_spaced : TypePrintIsSpaced
+type_print_is_spaced ts t h = tokens_spaced ts (type_lexemes t) (type_is h) (plain_type h)

@@ -110,6 +110,10 @@ tighter levels.Prefixed = levels.Postfixed
 tighter levels.Postfixed = levels.Primary
 tighter levels.Primary = levels.Primary
 
+-- the level of a whole expression: its operators bind the loosest
+abbrev pub loosest : Level
+loosest = levels.Restriction
+
 -- the level at which an operator stands
 abbrev pub level_of : Operator → Level
 level_of operators.Where = levels.Restriction
@@ -209,16 +213,16 @@ mutual
     selector : {n : Text} {xs : List Lexeme} {all : Trees} → ListSpelling xs all
         → Spelling levels.Primary (lexeme.name n ∷ parenthesized xs) (tree.select n all)
     -- e10 := THEword '(' e ')'
-    component : {rest : Text} {xs : List Lexeme} {a : Tree} → Spelling levels.Restriction xs a
+    component : {rest : Text} {xs : List Lexeme} {a : Tree} → Spelling loosest xs a
         → Spelling levels.Primary (lexeme.component rest ∷ parenthesized xs) (tree.component rest a)
     -- e10 := '(' e ')'
-    parentheses : {xs : List Lexeme} {a : Tree} → Spelling levels.Restriction xs a
+    parentheses : {xs : List Lexeme} {a : Tree} → Spelling loosest xs a
         → Spelling levels.Primary (parenthesized xs) (tree.parentheses a)
     -- e10 := (COUNT | IS_EMPTY) '(' e ')'
-    measure : {op : Measure} {xs : List Lexeme} {a : Tree} → Spelling levels.Restriction xs a
+    measure : {op : Measure} {xs : List Lexeme} {a : Tree} → Spelling loosest xs a
         → Spelling levels.Primary (keyword (measure_word op) ∷ parenthesized xs) (tree.measure op a)
     -- e10 := (SUM | MAX | MIN) '(' e ',' e ')'
-    aggregate : {op : Aggregate} {xs ys : List Lexeme} {a b : Tree} → Spelling levels.Restriction xs a → Spelling levels.Restriction ys b
+    aggregate : {op : Aggregate} {xs ys : List Lexeme} {a b : Tree} → Spelling loosest xs a → Spelling loosest ys b
         → Spelling levels.Primary (keyword (aggregate_word op) ∷ parenthesized (xs ++ (sign signs.Comma ∷ ys))) (tree.aggregate op a b)
     -- e10 := RELATION heading '{' e,* '}'
     headed_relation : {hs xs : List Lexeme} {h : AttributeTrees} {all : Trees} → HeadingSpelling hs h → ListSpelling xs all
@@ -231,16 +235,16 @@ mutual
     tuple : {xs : List Lexeme} {parts : NamedTrees} → PartsSpelling xs parts
         → Spelling levels.Primary (keyword k.Tuple ∷ braced xs) (tree.tuple parts)
     -- e10 := EXTEND e ADD '(' (e AS name),+ ')'
-    extension : {xs ys : List Lexeme} {a : Tree} {parts : NamedTrees} → Spelling levels.Restriction xs a → AdditionsSpelling ys parts
+    extension : {xs ys : List Lexeme} {a : Tree} {parts : NamedTrees} → Spelling loosest xs a → AdditionsSpelling ys parts
         → Spelling levels.Primary (keyword k.Extend ∷ (xs ++ (keyword k.Add ∷ parenthesized ys))) (tree.extend a parts)
     -- e10 := SUMMARIZE e PER '(' e ')' ADD '(' item,+ ')'
-    summary_per : {xs ys zs : List Lexeme} {a b : Tree} {items : Summaries} → Spelling levels.Restriction xs a → Spelling levels.Restriction ys b → SummariesSpelling zs items
+    summary_per : {xs ys zs : List Lexeme} {a b : Tree} {items : Summaries} → Spelling loosest xs a → Spelling loosest ys b → SummariesSpelling zs items
         → Spelling levels.Primary (keyword k.Summarize ∷ (xs ++ (keyword k.Per ∷ (parenthesized ys ++ (keyword k.Add ∷ parenthesized zs))))) (tree.summarize_per a b items)
     -- e10 := SUMMARIZE e BY attrs ADD '(' item,+ ')'
-    summary_by : {xs ys zs : List Lexeme} {a : Tree} {by : Attributes} {items : Summaries} → Spelling levels.Restriction xs a → AttributeListSpelling ys by → SummariesSpelling zs items
+    summary_by : {xs ys zs : List Lexeme} {a : Tree} {by : Attributes} {items : Summaries} → Spelling loosest xs a → AttributeListSpelling ys by → SummariesSpelling zs items
         → Spelling levels.Primary (keyword k.Summarize ∷ (xs ++ (keyword k.By ∷ (ys ++ (keyword k.Add ∷ parenthesized zs))))) (tree.summarize_by a by items)
     -- e10 := IF e THEN e ELSE e END IF
-    choice : {xs ys zs : List Lexeme} {a b c : Tree} → Spelling levels.Restriction xs a → Spelling levels.Restriction ys b → Spelling levels.Restriction zs c
+    choice : {xs ys zs : List Lexeme} {a b c : Tree} → Spelling loosest xs a → Spelling loosest ys b → Spelling loosest zs c
         → Spelling levels.Primary (keyword k.If ∷ (xs ++ (keyword k.Then ∷ (ys ++ (keyword k.Else ∷ (zs ++ (keyword k.End ∷ (keyword k.If ∷ [])))))))) (tree.choice a b c)
 
   -- e,*
@@ -250,21 +254,21 @@ mutual
 
   -- e,+
   pub data ExpressionsSpelling : List Lexeme → Trees → Type 0 where
-    last_expression : {xs : List Lexeme} {a : Tree} → Spelling levels.Restriction xs a → ExpressionsSpelling xs (tree.more a tree.none)
-    next_expression : {xs ys : List Lexeme} {a : Tree} {all : Trees} → Spelling levels.Restriction xs a → ExpressionsSpelling ys all
+    last_expression : {xs : List Lexeme} {a : Tree} → Spelling loosest xs a → ExpressionsSpelling xs (tree.more a tree.none)
+    next_expression : {xs ys : List Lexeme} {a : Tree} {all : Trees} → Spelling loosest xs a → ExpressionsSpelling ys all
         → ExpressionsSpelling (xs ++ (sign signs.Comma ∷ ys)) (tree.more a all)
 
   -- (name e),+
   pub data PartsSpelling : List Lexeme → NamedTrees → Type 0 where
-    last_part : {n : Text} {xs : List Lexeme} {a : Tree} → Spelling levels.Restriction xs a → PartsSpelling (lexeme.name n ∷ xs) (tree.more_named n a tree.none_named)
-    next_part : {n : Text} {xs ys : List Lexeme} {a : Tree} {parts : NamedTrees} → Spelling levels.Restriction xs a → PartsSpelling ys parts
+    last_part : {n : Text} {xs : List Lexeme} {a : Tree} → Spelling loosest xs a → PartsSpelling (lexeme.name n ∷ xs) (tree.more_named n a tree.none_named)
+    next_part : {n : Text} {xs ys : List Lexeme} {a : Tree} {parts : NamedTrees} → Spelling loosest xs a → PartsSpelling ys parts
         → PartsSpelling (lexeme.name n ∷ (xs ++ (sign signs.Comma ∷ ys))) (tree.more_named n a parts)
 
   -- (e AS name),+
   pub data AdditionsSpelling : List Lexeme → NamedTrees → Type 0 where
-    last_addition : {n : Text} {xs : List Lexeme} {a : Tree} → Spelling levels.Restriction xs a
+    last_addition : {n : Text} {xs : List Lexeme} {a : Tree} → Spelling loosest xs a
         → AdditionsSpelling (xs ++ (keyword k.As ∷ (lexeme.name n ∷ []))) (tree.more_named n a tree.none_named)
-    next_addition : {n : Text} {xs ys : List Lexeme} {a : Tree} {parts : NamedTrees} → Spelling levels.Restriction xs a → AdditionsSpelling ys parts
+    next_addition : {n : Text} {xs ys : List Lexeme} {a : Tree} {parts : NamedTrees} → Spelling loosest xs a → AdditionsSpelling ys parts
         → AdditionsSpelling (xs ++ (keyword k.As ∷ (lexeme.name n ∷ (sign signs.Comma ∷ ys)))) (tree.more_named n a parts)
 
   -- item,+ where item := COUNT '(' ')' AS name | (SUM | MAX | MIN) '(' e ')' AS name
@@ -272,9 +276,9 @@ mutual
     last_count : {n : Text} → SummariesSpelling (keyword k.Count ∷ (parenthesized [] ++ (keyword k.As ∷ (lexeme.name n ∷ [])))) (tree.counted n tree.no_summaries)
     next_count : {n : Text} {ys : List Lexeme} {items : Summaries} → SummariesSpelling ys items
         → SummariesSpelling (keyword k.Count ∷ (parenthesized [] ++ (keyword k.As ∷ (lexeme.name n ∷ (sign signs.Comma ∷ ys))))) (tree.counted n items)
-    last_sum : {op : Aggregate} {n : Text} {xs : List Lexeme} {a : Tree} → Spelling levels.Restriction xs a
+    last_sum : {op : Aggregate} {n : Text} {xs : List Lexeme} {a : Tree} → Spelling loosest xs a
         → SummariesSpelling (keyword (aggregate_word op) ∷ (parenthesized xs ++ (keyword k.As ∷ (lexeme.name n ∷ [])))) (tree.summed op a n tree.no_summaries)
-    next_sum : {op : Aggregate} {n : Text} {xs ys : List Lexeme} {a : Tree} {items : Summaries} → Spelling levels.Restriction xs a → SummariesSpelling ys items
+    next_sum : {op : Aggregate} {n : Text} {xs ys : List Lexeme} {a : Tree} {items : Summaries} → Spelling loosest xs a → SummariesSpelling ys items
         → SummariesSpelling (keyword (aggregate_word op) ∷ (parenthesized xs ++ (keyword k.As ∷ (lexeme.name n ∷ (sign signs.Comma ∷ ys))))) (tree.summed op a n items)
 
 -- the height that no tree of a statement goes beyond

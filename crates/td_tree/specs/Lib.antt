@@ -1,4 +1,3 @@
-pub mod Calls
 pub mod Causes
 pub mod Copies
 pub mod Division
@@ -13,12 +12,8 @@ pub mod Numbers
 pub mod Outcomes
 pub mod Pieces
 pub mod Prints
-pub mod Reading
-pub mod ReadingOperators
-pub mod ReadingStatements
-pub mod ReadingSteps
-pub mod ReadingTypes
 pub mod Signs
+pub mod Spaced
 pub mod Spans
 pub mod Spellings
 pub mod StatementGrammar

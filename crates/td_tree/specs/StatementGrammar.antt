@@ -4,7 +4,7 @@ use Rattle.td_tree.specs.declared.keyword.Keyword.{Keyword}
 use Rattle.td_tree.specs.declared.keyword.Keyword.TheVariants as k
 use Rattle.td_tree.specs.declared.operator.Level.TheVariants as levels
 use Rattle.td_tree.specs.declared.token.Sign.TheVariants as signs
-use Rattle.td_tree.specs.Grammar.{AttributesSpelling, HeadingSpelling, NamesSpelling, IsExpression, height_limit}
+use Rattle.td_tree.specs.Grammar.{AttributesSpelling, HeadingSpelling, NamesSpelling, IsExpression, height_limit, loosest}
 use Rattle.td_tree.specs.Heights.{type_height, attributes_height}
 use Rattle.td_tree.specs.Lexemes.{Lexeme, keyword, sign}
 use Rattle.td_tree.specs.Lexemes as lexeme
@@ -14,7 +14,7 @@ use Rattle.td_tree.specs.Trees.{Text, AttributeTrees, Tree, NamedTrees, Assignme
 
 -- e
 abbrev pub ExpressionItem : List Lexeme → Tree → Type 0
-ExpressionItem = IsExpression levels.Restriction
+ExpressionItem = IsExpression loosest
 
 -- CONSTRAINT e
 pub data ConstraintPart : List Lexeme → Tree → Type 0 where

@@ -95,6 +95,13 @@ pub fn postfix(
     }
 }
 
+/// `T(e, ..)`, of its parts.
+fn selected(ty: Name, arguments: Vec<Expr>) -> Expr
+    ensures { tree_of result ≡ trees.select ty (trees_of arguments.items) }
+{
+    Expr::Select(ty, arguments)
+}
+
 /// `T(e, ..)`
 pub fn select(
     ty: Result<Name, AllocError>,
@@ -103,7 +110,7 @@ pub fn select(
     ensures { (n : trees.Text) → (es : trees.Trees) → IfOk ty (λ x. x ≡ n) → IfOk arguments (λ x. trees_of x.items ≡ es) → Copied result (trees.select n es) }
 {
     match both(ty, arguments) {
-        Ok((ty, arguments)) => Ok(Expr::select(ty, arguments)),
+        Ok((ty, arguments)) => Ok(selected(ty, arguments)),
         Err(error) => Err(error),
     }
 }
@@ -143,13 +150,15 @@ pub fn aggregate(
 }
 
 /// `RELATION {t, ..}`
+#[tactic(auto, using(crate::proofs::Rows::relation_is))]
 pub fn relation(elements: Result<Vec<Expr>, AllocError>) -> Result<Expr, AllocError>
     ensures { (es : trees.Trees) → IfOk elements (λ x. trees_of x.items ≡ es) → Copied result (trees.relation es) }
 {
-    Ok(Expr::relation(elements?))
+    Ok(Expr::Relation(elements?))
 }
 
 /// `RELATION {A INTEGER, ..} {t, ..}`
+#[tactic(auto, using(crate::proofs::Rows::headed_relation_is))]
 pub fn headed_relation(
     heading: Result<Vec<AttributeTree>, AllocError>,
     elements: Result<Vec<Expr>, AllocError>,
@@ -157,16 +166,17 @@ pub fn headed_relation(
     ensures { (h : trees.AttributeTrees) → (es : trees.Trees) → IfOk heading (λ x. heading_of x.items ≡ h) → IfOk elements (λ x. trees_of x.items ≡ es) → Copied result (trees.headed_relation h es) }
 {
     match both(heading, elements) {
-        Ok((heading, elements)) => Ok(Expr::headed_relation(heading, elements)),
+        Ok((heading, elements)) => Ok(Expr::HeadedRelation(heading, elements)),
         Err(error) => Err(error),
     }
 }
 
 /// `TUPLE {A e, ..}`
+#[tactic(auto, using(crate::proofs::Rows::tuple_is))]
 pub fn tuple(parts: Result<Vec<NamedExpr>, AllocError>) -> Result<Expr, AllocError>
     ensures { (ps : trees.NamedTrees) → IfOk parts (λ x. named_of x.items ≡ ps) → Copied result (trees.tuple ps) }
 {
-    Ok(Expr::tuple(parts?))
+    Ok(Expr::Tuple(parts?))
 }
 
 /// `EXTEND e ADD (v AS A, ..)`

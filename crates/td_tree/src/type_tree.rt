@@ -1,8 +1,4 @@
 //! Types as they are written.
-ghost use Rattle.std.specs.Prelude.{◌≡◌};
-ghost use Rattle.td_tree.specs.Trees as trees;
-ghost use Rattle.td_tree.specs.TreeViews.{heading_of, type_of};
-
 use crate::name::Name;
 
 /// A type as it is written.
@@ -26,22 +22,4 @@ pub enum TypeTree {
 pub struct AttributeTree {
     pub name: Name,
     pub ty: TypeTree,
-}
-
-impl TypeTree {
-    /// `TUPLE {A INTEGER, ..}`
-    #[tactic(auto, using(crate::proofs::Rows::tuple_type_is))]
-    pub fn tuple_type(heading: Vec<AttributeTree>) -> TypeTree
-        ensures { type_of result ≡ trees.tuple_type (heading_of heading.items) }
-    {
-        TypeTree::Tuple(heading)
-    }
-
-    /// `RELATION {A INTEGER, ..}`
-    #[tactic(auto, using(crate::proofs::Rows::relation_type_is))]
-    pub fn relation_type(heading: Vec<AttributeTree>) -> TypeTree
-        ensures { type_of result ≡ trees.relation_type (heading_of heading.items) }
-    {
-        TypeTree::Relation(heading)
-    }
 }

@@ -41,7 +41,7 @@ fn a_type_and_its_copy(rt: HostRuntime) -> Result<(), Fail> {
         name: named(alloc, "A")?,
         ty: TypeTree::Integer,
     })?;
-    let ty = TypeTree::relation_type(heading);
+    let ty = TypeTree::Relation(heading);
     assert_eq!(rt; ty.height(), 2);
     assert_eq!(rt;
         print_type(alloc, &ty.try_clone()?)?.as_str(),

@@ -2,7 +2,7 @@ use Rattle.std.proofs.Common.{◌≡◌, ℕ, List, None, Option, take, sym, sub
 use Rattle.std.specs.Prelude.{IfNone, IfSome}
 use Rattle.std.specs.Io.KnownBytes.{Appends}
 use Rattle.td_tree.specs.Statements.{Held, first_statement}
-use Rattle.td_tree.proofs.TakenLaws.{no_statement}
+use Rattle.td_scan.proofs.TakenLaws.{no_statement}
 use Rattle.td.specs.Moves.{IsReading, Reached}
 use Rattle.td.specs.Told.{AppendsIfTold}
 use Rattle.td.specs.declared.run.Reading.{Reading}

@@ -1,8 +1,8 @@
 use Rattle.std.proofs.Common.{rules, arith, suc, length, map}
 use Rattle.std.proofs.lemmas.Grind.{common_steps}
 use Rattle.std.proofs.lemmas.List.{map_push}
-use Rattle.td_tree.specs.ReadingSteps.{separated, separated_from}
-use Rattle.td_tree.specs.ReadingStatements.{setting}
+use Rattle.td_parse.specs.ReadingSteps.{separated, separated_from}
+use Rattle.td_parse.specs.ReadingStatements.{setting}
 use Rattle.td_parse.specs.Views.{named_part_of}
 use Rattle.td_parse.proofs.Turns.{one_more}
 use Rattle.td_parse.proofs.assignment.settings.Goals as goal

@@ -1,6 +1,6 @@
 use Rattle.std.proofs.Common.{◌≡◌, ◌-◌, map}
-use Rattle.td_tree.specs.ReadingSteps.{separated, separated_from}
-use Rattle.td_tree.specs.ReadingStatements.{assignment}
+use Rattle.td_parse.specs.ReadingSteps.{separated, separated_from}
+use Rattle.td_parse.specs.ReadingStatements.{assignment}
 use Rattle.td_tree.specs.TreeViews.{assignment_of}
 use Rattle.td_parse.proofs.assignment.some_assignments.Given as goal
 

@@ -1,7 +1,7 @@
 use Rattle.std.proofs.Common.{◌≡◌, ◌-◌, map}
-use Rattle.td_tree.specs.ReadingSteps.{repeated, repeated_from}
+use Rattle.td_parse.specs.ReadingSteps.{repeated, repeated_from}
 use Rattle.std.proofs.Common.{List, ℕ, Vec, Global}
-use Rattle.td_tree.specs.ReadingSteps.{names}
+use Rattle.td_parse.specs.ReadingSteps.{names}
 use Rattle.td_tree.specs.Lexemes.{keyword}
 use Rattle.td_tree.specs.declared.keyword.Keyword.TheVariants as k
 use Rattle.td_parse.proofs.definition.keys.Given as goal

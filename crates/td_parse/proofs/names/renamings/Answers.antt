@@ -1,7 +1,7 @@
 use Rattle.std.proofs.Common.{rules, arith, suc, length, map}
 use Rattle.std.proofs.lemmas.Grind.{common_steps}
 use Rattle.std.proofs.lemmas.List.{map_push}
-use Rattle.td_tree.specs.ReadingSteps.{read_renaming, separated, separated_from}
+use Rattle.td_parse.specs.ReadingSteps.{read_renaming, separated, separated_from}
 use Rattle.td_tree.specs.TreeViews.{renaming_of}
 use Rattle.td_parse.proofs.Turns.{one_more}
 use Rattle.td_parse.proofs.names.renamings.Goals as goal

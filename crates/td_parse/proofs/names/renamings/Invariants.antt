@@ -1,6 +1,6 @@
 use Rattle.std.proofs.Common.{◌≡◌, ◌-◌}
 use Rattle.std.specs.Prelude.{map}
-use Rattle.td_tree.specs.ReadingSteps.{read_renaming, separated, separated_from}
+use Rattle.td_parse.specs.ReadingSteps.{read_renaming, separated, separated_from}
 use Rattle.td_tree.specs.TreeViews.{renaming_of}
 use Rattle.td_parse.proofs.names.renamings.Given as goal
 

@@ -1,8 +1,8 @@
 use Rattle.std.proofs.Common.{rules, arith, suc, length}
 use Rattle.std.proofs.lemmas.Grind.{common_steps}
 use Rattle.std.proofs.lemmas.List.{map_push}
-use Rattle.td_tree.specs.ReadingSteps.{separated, separated_from}
-use Rattle.td_tree.specs.ReadingTypes.{attribute, read_type}
+use Rattle.td_parse.specs.ReadingSteps.{separated, separated_from}
+use Rattle.td_parse.specs.ReadingTypes.{attribute, read_type}
 use Rattle.td_parse.specs.Views.{attribute_of, attributes_of}
 use Rattle.td_parse.proofs.Turns.{one_more}
 use Rattle.td_parse.proofs.types.+types.Goals as goal

@@ -1,6 +1,6 @@
 use Rattle.std.proofs.Common.{◌≡◌, ◌-◌, ◌+◌, ◌*◌}
-use Rattle.td_tree.specs.ReadingSteps.{separated, separated_from}
-use Rattle.td_tree.specs.ReadingTypes.{attribute, read_type}
+use Rattle.td_parse.specs.ReadingSteps.{separated, separated_from}
+use Rattle.td_parse.specs.ReadingTypes.{attribute, read_type}
 use Rattle.td_parse.specs.Views.{attributes_of}
 use Rattle.td_parse.proofs.types.+types.Given as goal
 

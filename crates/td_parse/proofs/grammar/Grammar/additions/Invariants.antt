@@ -1,6 +1,6 @@
 use Rattle.std.proofs.Common.{◌≡◌, ◌-◌, map}
-use Rattle.td_tree.specs.ReadingSteps.{separated, separated_from}
-use Rattle.td_tree.specs.Reading.{addition, read}
+use Rattle.td_parse.specs.ReadingSteps.{separated, separated_from}
+use Rattle.td_parse.specs.Reading.{addition, read}
 use Rattle.td_parse.specs.Views.{named_part_of}
 use Rattle.td_parse.proofs.grammar.Grammar.additions.Given as goal
 

@@ -1,6 +1,6 @@
 use Rattle.std.proofs.Common.{rules, arith, ◌+◌}
 use Rattle.std.proofs.lemmas.Grind.{common_steps}
-use Rattle.td_tree.specs.Reading.{postfixes, read}
+use Rattle.td_parse.specs.Reading.{postfixes, read}
 use Rattle.td_tree.specs.TreeViews.{tree_of}
 use Rattle.td_parse.proofs.Turns.{one_more}
 use Rattle.td_parse.proofs.grammar.Grammar.postfixes.Goals as goal

@@ -1,6 +1,6 @@
 use Rattle.std.proofs.Common.{◌≡◌, ◌-◌, map}
-use Rattle.td_tree.specs.ReadingSteps.{separated, separated_from}
-use Rattle.td_tree.specs.Reading.{read, summary}
+use Rattle.td_parse.specs.ReadingSteps.{separated, separated_from}
+use Rattle.td_parse.specs.Reading.{read, summary}
 use Rattle.td_parse.specs.Views.{item_of}
 use Rattle.td_parse.proofs.grammar.Grammar.some_summaries.Given as goal
 

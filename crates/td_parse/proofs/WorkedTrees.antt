@@ -1,0 +1,192 @@
+-- Worked examples: from the bytes of an expression to its tree, its height and its text.
+use Rattle.std.proofs.Common.{◌≡◌, ℕ, true, false, List, [], ◌∷◌, refl, codes, arith, Option, Some, sym, ap, ◌∙◌, subst}
+use Rattle.std.specs.Fmt.{digits}
+use Rattle.std.specs.Str.{chars, is_utf8}
+use Rattle.td_tree.specs.declared.operator.Comparison.TheVariants as comparisons
+use Rattle.td_tree.specs.declared.operator.Level.TheVariants as levels
+use Rattle.td_tree.specs.declared.operator.Operator.TheVariants as operators
+use Rattle.td_tree.specs.declared.operator.Prefix.TheVariants as prefixes
+use Rattle.td_tree.specs.declared.token.Sign.TheVariants as signs
+use Rattle.td_tree.specs.Grammar.{height_limit, Spelling, IsExpression, looser, between, negation, minus, comparison, literal, reference, component, number_literal, minus_literal, loosest}
+use Rattle.td_tree.specs.Heights.{height}
+use Rattle.td_tree.specs.Keywords.{keyword_of}
+use Rattle.td_tree.specs.Lexemes.{Lexeme, keyword, sign}
+use Rattle.td_tree.specs.Lexemes as lexeme
+use Rattle.td_tree.specs.Names.{is_name}
+use Rattle.td_tree.specs.Pieces.{sign_at, sign_goes_on, opens, goes_on, word_kind}
+use Rattle.td_tree.specs.Prints.{print}
+use Rattle.td_tree.specs.Statements.{tokens}
+use Rattle.td_tree.specs.TokenLexemes.{lexemes}
+use Rattle.td_parse.specs.Reading.{read, by_level, restriction, disjunction, conjunction, negated, compared, compared_to, relational, additive, multiplicative, chain, operations, prefixed, postfixed, postfixes, primary, numeral}
+use Rattle.td_parse.specs.ReadingOperators.{operator_at, comparison_at, prefix_at, extraction_at, postfix_at}
+use Rattle.td_parse.specs.ReadingSteps.{expect}
+use Rattle.td_tree.specs.Trees as tree
+use Rattle.td_tree.specs.Trees.{Tree}
+use Rattle.td_tree.proofs.Letters.{letters}
+use Rattle.td_parse.proofs.OneTree.{expression_again}
+
+-- `unfolding computing` lets `refl` compute the lexemes of a text
+unfoldable computing : Unit {0}
+unfolding tokens chars is_utf8 lib.Utf8.encode keyword_of is_name sign_at sign_goes_on opens goes_on word_kind letters digits
+computing = tt
+
+-- the bytes spell the tree, which is so high, and is printed so
+pub record IsWorked (script : List ℕ) (t : Tree) (high : ℕ) (text : List ℕ) : Type 0 where
+  pub spelled : IsExpression loosest (lexemes (tokens 0 script)) t
+  pub height_is : height t ≡ high
+  pub printed : print t ≡ text
+
+-- ---- a+007*-3
+
+abbrev sum : Tree
+sum = tree.binary (tree.name (codes "a")) operators.Add (tree.binary (tree.literal (tree.number false 7)) operators.Multiply (tree.literal (tree.number true 3)))
+
+sum_lexemes : lexemes (tokens 0 (codes "a+007*-3")) ≡ lexeme.name (codes "a") ∷ sign signs.Plus ∷ lexeme.number 7 ∷ sign signs.Times ∷ sign signs.Minus ∷ lexeme.number 3 ∷ []
+unfolding computing
+sum_lexemes = refl
+
+-- a primary expression as an operand of a product, of a sum, and so on
+as_factor : {xs : List Lexeme} {t : Tree} → Spelling levels.Primary xs t → Spelling levels.Prefixed xs t
+as_factor p = looser (looser p)
+
+as_product : {xs : List Lexeme} {t : Tree} → Spelling levels.Primary xs t → Spelling levels.Multiplicative xs t
+as_product p = looser (as_factor p)
+
+as_sum : {xs : List Lexeme} {t : Tree} → Spelling levels.Primary xs t → Spelling levels.Additive xs t
+as_sum p = looser (as_product p)
+
+as_relation : {xs : List Lexeme} {t : Tree} → Spelling levels.Primary xs t → Spelling levels.Relational xs t
+as_relation p = looser (as_sum p)
+
+as_comparison : {xs : List Lexeme} {t : Tree} → Spelling levels.Primary xs t → Spelling levels.Comparison xs t
+as_comparison p = looser (as_relation p)
+
+as_restriction : {xs : List Lexeme} {t : Tree} → Spelling levels.Additive xs t → Spelling levels.Restriction xs t
+as_restriction p = looser (looser (looser (looser (looser (looser p)))))
+
+-- a restriction as a whole expression
+as_whole : {xs : List Lexeme} {t : Tree} → Spelling levels.Restriction xs t → Spelling loosest xs t
+as_whole p = p
+
+whole_sum : {xs : List Lexeme} {t : Tree} → Spelling levels.Additive xs t → Spelling loosest xs t
+whole_sum p = as_whole (as_restriction p)
+
+a_named : Spelling levels.Primary (lexeme.name (codes "a") ∷ []) (tree.name (codes "a"))
+a_named = reference
+
+seven : Spelling levels.Primary (lexeme.number 7 ∷ []) (tree.literal (tree.number false 7))
+seven = literal (number_literal (omega arith))
+
+minus_three : Spelling levels.Primary (sign signs.Minus ∷ lexeme.number 3 ∷ []) (tree.literal (tree.number true 3))
+minus_three = literal (minus_literal (omega arith))
+
+product_spelled : Spelling levels.Multiplicative (lexeme.number 7 ∷ sign signs.Times ∷ sign signs.Minus ∷ lexeme.number 3 ∷ []) (tree.binary (tree.literal (tree.number false 7)) operators.Multiply (tree.literal (tree.number true 3)))
+product_spelled = between (as_product seven) (as_factor minus_three)
+
+sum_spelled : Spelling levels.Additive (lexeme.name (codes "a") ∷ sign signs.Plus ∷ lexeme.number 7 ∷ sign signs.Times ∷ sign signs.Minus ∷ lexeme.number 3 ∷ []) sum
+sum_spelled = between (as_sum a_named) product_spelled
+
+-- a sum of a product, with leading zeros
+pub sum_worked : IsWorked (codes "a+007*-3") sum 3 (codes "a + 7 * - 3")
+unfolding computing
+sum_worked = record { spelled = record { spelled = whole_sum sum_spelled; low = omega arith }; height_is = refl; printed = refl }
+
+-- ---- --0
+
+abbrev negated_zero : Tree
+negated_zero = tree.prefix prefixes.Negate (tree.literal (tree.number true 0))
+
+minus_zero : Spelling levels.Primary (sign signs.Minus ∷ lexeme.number 0 ∷ []) (tree.literal (tree.number true 0))
+minus_zero = literal (minus_literal (omega arith))
+
+negated_spelled : Spelling levels.Prefixed (sign signs.Minus ∷ sign signs.Minus ∷ lexeme.number 0 ∷ []) negated_zero
+negated_spelled = minus tt (as_factor minus_zero)
+
+-- a minus before a literal with its own
+pub negated_zero_worked : IsWorked (codes "--0") negated_zero 2 (codes "- - 0")
+unfolding computing
+negated_zero_worked = record { spelled = record { spelled = whole_sum (looser (looser negated_spelled)); low = omega arith }; height_is = refl; printed = refl }
+
+-- ---- R where not A=-5 or the_q(B)=1
+
+abbrev restricted : Tree
+restricted = tree.binary (tree.name (codes "R")) operators.Where
+    (tree.binary (tree.prefix prefixes.Not (tree.compare (tree.name (codes "A")) comparisons.Equal (tree.literal (tree.number true 5)))) operators.Or
+    (tree.compare (tree.component (codes "q") (tree.name (codes "B"))) comparisons.Equal (tree.literal (tree.number false 1))))
+
+as_conjunction : {xs : List Lexeme} {t : Tree} → Spelling levels.Comparison xs t → Spelling levels.Conjunction xs t
+as_conjunction p = looser (looser p)
+
+as_disjunction : {xs : List Lexeme} {t : Tree} → Spelling levels.Comparison xs t → Spelling levels.Disjunction xs t
+as_disjunction p = looser (as_conjunction p)
+
+r_named : Spelling levels.Primary (lexeme.name (codes "R") ∷ []) (tree.name (codes "R"))
+r_named = reference
+
+b_named : Spelling levels.Primary (lexeme.name (codes "B") ∷ []) (tree.name (codes "B"))
+b_named = reference
+
+minus_five : Spelling levels.Primary (sign signs.Minus ∷ lexeme.number 5 ∷ []) (tree.literal (tree.number true 5))
+minus_five = literal (minus_literal (omega arith))
+
+one : Spelling levels.Primary (lexeme.number 1 ∷ []) (tree.literal (tree.number false 1))
+one = literal (number_literal (omega arith))
+
+first_test : Spelling levels.Comparison (lexeme.name (codes "A") ∷ sign signs.Equal ∷ sign signs.Minus ∷ lexeme.number 5 ∷ []) (tree.compare (tree.name (codes "A")) comparisons.Equal (tree.literal (tree.number true 5)))
+first_test = comparison (as_relation reference) (as_relation minus_five)
+
+q_of_b : Spelling levels.Primary (lexeme.component (codes "q") ∷ sign signs.OpenParenthesis ∷ lexeme.name (codes "B") ∷ sign signs.CloseParenthesis ∷ []) (tree.component (codes "q") (tree.name (codes "B")))
+q_of_b = component (whole_sum (as_sum b_named))
+
+second_test : Spelling levels.Comparison (lexeme.component (codes "q") ∷ sign signs.OpenParenthesis ∷ lexeme.name (codes "B") ∷ sign signs.CloseParenthesis ∷ sign signs.Equal ∷ lexeme.number 1 ∷ [])
+    (tree.compare (tree.component (codes "q") (tree.name (codes "B"))) comparisons.Equal (tree.literal (tree.number false 1)))
+second_test = comparison (as_relation q_of_b) (as_relation one)
+
+-- NOT binds looser than a comparison, WHERE looser than OR; a THE word keeps the case of its component
+pub restricted_worked : IsWorked (codes "R where not A=-5 or the_q(B)=1") restricted 5 (codes "R WHERE NOT A = - 5 OR THE_q ( B ) = 1")
+unfolding computing
+restricted_worked = record {
+  spelled = record {
+    spelled = as_whole (between (as_restriction (as_sum r_named)) (between (looser (looser (negation (looser first_test)))) (as_conjunction second_test)));
+    low = omega arith;
+  };
+  height_is = refl;
+  printed = refl;
+}
+
+-- ---- 1 = 1 = 1
+
+-- `unfolding reading` lets `refl` compute what is read
+unfoldable reading : Unit {0}
+unfolding read by_level restriction disjunction conjunction negated compared compared_to relational additive multiplicative chain operations prefixed postfixed postfixes primary numeral expect operator_at comparison_at prefix_at extraction_at postfix_at
+reading = tt
+
+chained : List Lexeme
+chained = lexeme.number 1 ∷ sign signs.Equal ∷ lexeme.number 1 ∷ sign signs.Equal ∷ lexeme.number 1 ∷ []
+
+abbrev one_is_one : Tree
+one_is_one = tree.compare (tree.literal (tree.number false 1)) comparisons.Equal (tree.literal (tree.number false 1))
+
+chained_lexemes : lexemes (tokens 0 (codes "1 = 1 = 1")) ≡ chained
+unfolding computing chained
+chained_lexemes = refl
+
+-- what is read ends before the second comparison
+chained_read : read height_limit loosest chained ≡ Some (one_is_one, sign signs.Equal ∷ lexeme.number 1 ∷ [])
+unfolding reading chained
+chained_read = refl
+
+-- a tree, and nothing left
+abbrev whole : Tree → Option (Tree × List Lexeme)
+whole t = Some (t, [])
+
+left_over : (t : Tree) → Some (one_is_one, sign signs.Equal ∷ lexeme.number 1 ∷ []) ≡ whole t → ⊥
+left_over t e =
+    let p : (one_is_one, sign signs.Equal ∷ lexeme.number 1 ∷ []) ≡ (t, []) = cc in
+    let q : sign signs.Equal ∷ lexeme.number 1 ∷ [] ≡ [] = ap (λ (x : Tree × List Lexeme). x.1) p in
+    absurd cc
+
+-- a chained comparison is spelled by no tree
+pub chained_worked : (t : Tree) → IsExpression loosest (lexemes (tokens 0 (codes "1 = 1 = 1"))) t → ⊥
+chained_worked t spelled =
+    left_over t (sym chained_read ∙ expression_again loosest chained t (subst (λ xs. IsExpression loosest xs t) chained_lexemes spelled))

@@ -1,0 +1,5 @@
+use Rattle.td_tree.proofs.Rows.{select_is}
+use Rattle.td_parse.proofs.found.selected.Goals as goal
+
+pub returns : goal.returns
+returns c = select_is c.args.ty c.args.arguments

@@ -1,5 +1,0 @@
-use Rattle.td_tree.proofs.Rows.{select_is}
-use Rattle.td_tree.proofs.expression.Expr.select.Goals as goal
-
-pub returns : goal.returns
-returns c = select_is c.args.ty c.args.arguments
