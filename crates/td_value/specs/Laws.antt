@@ -1,12 +1,12 @@
 -- What the order of values and their literals are to their callers.
-use Rattle.std.specs.Prelude.{◌≡◌, ◌↔◌, IsTrue, ℕ, List, [], ◌∷◌}
+use Rattle.std.specs.Prelude.{◌≡◌, ◌↔◌, ◌⊎◌, ◌++◌, IsTrue, ℕ, List, [], ◌∷◌}
 use Rattle.std.specs.Ordering.{eq_by_cmp}
 use Rattle.std.specs.Cmp.Lexicographic.{slice_cmp}
 use Rattle.std.specs.List.{Contains}
 use Rattle.td_types.specs.Types.{IsType, Type'}
 use Rattle.td_value.specs.Literal.{literal}
 use Rattle.td_value.specs.Sets.{set_of}
-use Rattle.td_value.specs.Values.{Val, boolean, integer, text, user, tuple, relation, Parts, no_parts, part, Fields, no_fields, field, Rows, no_rows, row, Entries, Relation, IsRelation, IsValue, names_of, order, pack_parts, relation_order, tuple_order, type_of}
+use Rattle.td_value.specs.Values.{Val, boolean, integer, text, user, tuple, relation, Parts, no_parts, part, Fields, no_fields, field, Rows, no_rows, row, Entries, Relation, HaveSameMembers, IsRelation, IsValue, names_of, order, pack_parts, relation_order, tuple_order, type_of}
 use Rattle.td_value.specs.Views.{values_of}
 
 -- values, tuples and relations are equal as the code compares them exactly where they are the same
@@ -33,12 +33,17 @@ TypesOfValuesAreTypes = (v : Val) → IsValue v → IsType (type_of v)
 
 -- the set of a list of tuples has the members of the list, and no other
 abbrev pub SetsHaveTheMembersOfTheirLists : Type 0
-SetsHaveTheMembersOfTheirLists = (ts : List Entries) (t : Entries) → Contains (set_of tuple_order ts) t ↔ Contains ts t
+SetsHaveTheMembersOfTheirLists = (ts : List Entries) → HaveSameMembers (set_of tuple_order ts) ts
+
+-- the set of two lists joined has the members of either, and no other
+abbrev pub SetsOfJoinedLists : Type 0
+SetsOfJoinedLists =
+    (ss ts : List Entries) (t : Entries) → Contains (set_of tuple_order (ss ++ ts)) t ↔ (Contains ss t ⊎ Contains ts t)
 
 -- a relation is its heading and its members: two of one heading with the same members are one (the chapter's)
 abbrev pub RelationsAreTheirMembers : Type 0
 RelationsAreTheirMembers =
-    (r s : Relation) → IsRelation r → IsRelation s → r.heading ≡ s.heading → ((t : Entries) → Contains r.rows t ↔ Contains s.rows t) → r ≡ s
+    (r s : Relation) → IsRelation r → IsRelation s → r.heading ≡ s.heading → HaveSameMembers r.rows s.rows → r ≡ s
 
 -- the types of a user value's components
 abbrev pub parts_types : Parts → List Type'
