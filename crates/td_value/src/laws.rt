@@ -25,7 +25,7 @@ pub fn relations_compare_by_rows()
     ensures { RelationsCompareByRows }
 {}
 
-/// Two values of one type have one literal only where they are equal.
+/// Two values have one literal exactly where they are one, whatever their types are.
 pub fn literals_tell_values_apart()
     ensures { LiteralsTellValuesApart }
 {}
