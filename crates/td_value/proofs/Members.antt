@@ -6,7 +6,8 @@ use Rattle.std.proofs.lemmas.Cmp.{eq_by_cmp_equiv}
 use Rattle.std.proofs.lemmas.List.Elements.{Contains-append_cases, Contains-append_left, Contains-append_right}
 use Rattle.std.proofs.lemmas.Map.Views.{Contains-from_any, list_any-from_Contains}
 use Rattle.td_value.specs.Laws.{RelationsAreTheirMembers, SetsHaveTheMembersOfTheirLists, SetsOfJoinedLists}
-use Rattle.td_value.specs.Sets.{has, has-set_of, same_members, set_of}
+use Rattle.td_value.specs.Sets.{has, set_of}
+use Rattle.td_value.proofs.SetLaws.{has-set_of, same_members}
 use Rattle.td_value.specs.ValueCode.{unpack_pack_rows}
 use Rattle.td_value.specs.Values.{Entries, IsRelation, Relation, tuple_order}
 use Rattle.td_value.specs.ValueOrder.{tuple_Decides, tuple_order_same, tuple_order_total}

@@ -241,9 +241,9 @@ selected_depth u = parts_depth (pack_parts u.components)
 abbrev pub IsSelected : Selected → Type 0
 IsSelected u = IsValue (user u.name (pack_parts u.components))
 
--- a tuple of the heading h
+-- a tuple of the heading, which is one
 abbrev pub IsTupleOf : Attributes → Entries → Type 0
-IsTupleOf h t = AreFields (pack_fields t) × IsStrictlySortedBy (slice_cmp nat_cmp) (names_of (unpack_fields (pack_fields t))) × (fields_type (pack_fields t) ≡ pack h)
+IsTupleOf heading t = IsTuple t × (heading_of t ≡ heading) × IsHeading (pack heading)
 
 -- the value that a tuple, as a finite map, gives to a name
 abbrev pub value_at : List ℕ → Entries → Option Val

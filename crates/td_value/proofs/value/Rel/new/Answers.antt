@@ -7,7 +7,8 @@ use Rattle.std.proofs.lemmas.List.Kept.{IsStrictlySortedBy-dedup}
 use Rattle.std.proofs.lemmas.List.Sorted.{All-permutation, answers_always, ranks_by}
 use Rattle.std.proofs.Math.Seq.{take-append_seam}
 use Rattle.td_types.specs.Types.{Attributes, IsHeading, pack}
-use Rattle.td_value.specs.Sets.{set_of, sorted_is_set_of}
+use Rattle.td_value.specs.Sets.{set_of}
+use Rattle.td_value.proofs.SetLaws.{sorted_is_set_of}
 use Rattle.td_value.specs.Values.{Entries, HaveSameMembers, HaveSameNames, IsRelation, IsTupleOf, tuple_order}
 use Rattle.td_value.specs.ValueCode.{unpack_pack_rows}
 use Rattle.td_value.specs.ValueOrder.{tuple_order_total, tuple_order_same}
