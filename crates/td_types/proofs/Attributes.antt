@@ -7,7 +7,7 @@ use Rattle.std.proofs.lemmas.List.{append-nil, map-append, length-map, drop_all}
 use Rattle.std.proofs.lemmas.List.Sums.{prefix_len-le-length}
 use Rattle.td_types.specs.declared.ty.Attribute as Ty
 use Rattle.td_types.specs.Headings.{add_missing, with_attribute}
-use Rattle.td_types.specs.HeadingLaws.{name_cmp, insert-with}
+use Rattle.td_types.proofs.HeadingLaws.{name_cmp, insert-with}
 use Rattle.td_types.specs.Views.{attribute_of, attributes_of, type_of}
 use Rattle.td_types.specs.Types.{Type', Attribute, Attributes, type_at}
 

@@ -10,7 +10,7 @@ use Rattle.std.proofs.lemmas.List.Sorted.{list_any-IsPermutation, IsPermutation-
 use Rattle.td_tree.specs.Names.{IsName}
 use Rattle.td_types.specs.declared.ty.Ty.{Ty}
 use Rattle.td_types.specs.Headings.{are_distinct, has_name, heading_from, with_attribute}
-use Rattle.td_types.specs.HeadingLaws.{IsAscending-with, name_cmp, type_at-with, types_determine_heading}
+use Rattle.td_types.proofs.HeadingLaws.{IsAscending-with, name_cmp, type_at-with, types_determine_heading}
 use Rattle.td_types.specs.TypeOrder.{type_eq-Decides}
 use Rattle.td_types.specs.Types.{Attribute, Attributes, IsAscending, IsBefore, IsHeading, IsType, Type', names_of, pack, same_name, type_at, type_cmp}
 use Rattle.td_types.specs.Views.{pairs_of}

@@ -1,30 +1,18 @@
 -- What a search by halves finds among attributes whose names ascend.
-use Rattle.std.proofs.Common.{◌≡◌, ◌∙◌, ◌∷◌, ◌<◌, ◌≤◌, ℕ, suc, zero, true, false, List, [], None, Result, Ok, Err, IfOk, IfErr, add-one, ap, arith, get_or, length, refl, sym}
-use Rattle.std.specs.Prelude.{option_map}
+use Rattle.std.proofs.Common.{◌≡◌, ◌∙◌, ◌∷◌, ◌<◌, ◌≤◌, ℕ, suc, zero, true, false, List, [], Result, Ok, Err, IfOk, IfErr, add-one, ap, arith, get_or, length, refl, sym}
 use Rattle.std.specs.declared.cmp.Ordering.{Ordering}
 use Rattle.std.specs.declared.cmp.Ordering.TheVariants.{Less, Equal, Greater}
 use Rattle.std.specs.Cmp.Lexicographic.{texts_ties}
-use Rattle.std.specs.List.{AllByRecursion, AllWithin, prefix_len, slice_get}
+use Rattle.std.specs.List.{AllByRecursion, AllWithin}
 use Rattle.std.specs.List.Sorted.{IsBinarySearchResult, IsSearchInRange, IsSortedBy, IsStrictlySortedBy}
 use Rattle.std.specs.Ordering.{is_eq, is_lt, ordering_reverse}
 use Rattle.std.proofs.lemmas.Cmp.{alike_right, nat_list_cmp_total}
 use Rattle.std.proofs.lemmas.List.Sorted.{searchable_from_sorted}
 use Rattle.td_types.specs.declared.ty.Attribute as Ty
-use Rattle.td_types.specs.HeadingLaws.{name_cmp}
-use Rattle.td_types.specs.Types.{Attributes, IsAscending, names_of, same_name, type_at}
+use Rattle.td_types.specs.Headings.{IsFound, IsMissing}
+use Rattle.td_types.proofs.HeadingLaws.{name_cmp}
+use Rattle.td_types.specs.Types.{IsAscending, names_of, same_name}
 use Rattle.td_types.specs.Views.{attributes_of}
-
--- how many attributes stand before the name
-abbrev pub place_of : List ℕ → Attributes → ℕ
-place_of n = prefix_len (λ a. is_lt (name_cmp a.0 n))
-
--- there the name has its type
-abbrev pub IsFound : List ℕ → Attributes → ℕ → Type 0
-IsFound n h i = (i ≡ place_of n h) × (option_map (λ a. a.1) (slice_get h i) ≡ type_at n h)
-
--- the name has no type
-abbrev pub IsMissing : List ℕ → Attributes → ℕ → Type 0
-IsMissing n h i = (i ≡ place_of n h) × (type_at n h ≡ None)
 
 less_than : (m n : List ℕ) (xs : List Ty.Attribute) (i : ℕ) (d : Ty.Attribute) → AllByRecursion (λ k. name_cmp m k ≡ Less) (names_of (attributes_of xs)) → i < length xs
     → name_cmp (get_or xs i d).name n ≡ Equal → name_cmp m n ≡ Less

@@ -1,12 +1,11 @@
 -- Headings are finite maps from names to types (Tutorial D's), kept as the list of their attributes in name order.
-use Rattle.std.specs.Prelude.{◌≡◌, ℕ, Bool, true, not, ◌&&◌, List, [], ◌∷◌, filter, fold, map, Option, None, Some, is_some, if◌then◌else◌, IsTrue, ◌↔◌}
-use Rattle.std.specs.List.{list_all, list_any}
+use Rattle.std.specs.Prelude.{◌≡◌, ℕ, Bool, true, not, ◌&&◌, List, [], ◌∷◌, filter, fold, map, option_map, Option, None, Some, is_some, if◌then◌else◌, IsTrue, ◌↔◌}
+use Rattle.std.specs.List.{list_all, list_any, prefix_len, slice_get}
 use Rattle.std.specs.Cmp.Lexicographic.{slice_cmp}
-use Rattle.std.specs.Ordering.{eq_by_cmp, nat_cmp}
+use Rattle.std.specs.Ordering.{eq_by_cmp, is_lt, nat_cmp}
 use Rattle.std.specs.FinMap.Entries.{put}
 use Rattle.td_tree.specs.declared.cause.Cause.TheVariants.{Heading}
-use Rattle.td_tree.specs.declared.fault.Fault.{Fault}
-use Rattle.td_tree.specs.declared.fault.Fault.TheVariants.{Refused, Memory}
+use Rattle.td_tree.specs.Outcomes.{Outcome, value_if}
 use Rattle.td_types.specs.Types.{Type', Attribute, Attributes, IsAscending, names_of, same_name, type_at, type_cmp}
 
 -- the heading gives each name the type that `types` gives it
@@ -17,11 +16,22 @@ IsMap heading types = (name : List ℕ) → type_at name heading ≡ types name
 abbrev pub has_attribute : List ℕ → Attributes → Bool
 has_attribute name heading = is_some (type_at name heading)
 
--- why an operation gives no heading: a refusal by the cause of headings where `refused`, else want of memory
-abbrev pub heading_fault : Bool → Fault
-heading_fault refused = if refused then Refused Heading else Memory
+-- ---- where a name stands
 
--- ---- what each operation refuses
+-- how many attributes stand before the name
+abbrev pub place_of : List ℕ → Attributes → ℕ
+place_of name = prefix_len (λ a. is_lt (slice_cmp nat_cmp a.0 name))
+
+-- the place is the name's, and there it has its type
+abbrev pub IsFound : List ℕ → Attributes → ℕ → Type 0
+IsFound name heading place =
+    (place ≡ place_of name heading) × (option_map (λ a. a.1) (slice_get heading place) ≡ type_at name heading)
+
+-- the place is where the name would stand, and it has no type
+abbrev pub IsMissing : List ℕ → Attributes → ℕ → Type 0
+IsMissing name heading place = (place ≡ place_of name heading) × (type_at name heading ≡ None)
+
+-- ---- what each operation asks
 
 -- whether the name is one of the names
 abbrev pub has_name : List ℕ → List (List ℕ) → Bool
@@ -60,9 +70,15 @@ new_name (r ∷ rs) name = if same_name r.0 name then r.1 else new_name rs name
 abbrev pub renamed : List (List ℕ × List ℕ) → Attributes → Attributes
 renamed renamings = map (λ a. (new_name renamings a.0, a.1))
 
+-- the names that the attributes have then
+abbrev pub new_names : List (List ℕ × List ℕ) → Attributes → List (List ℕ)
+new_names renamings heading = names_of (renamed renamings heading)
+
 -- whether each old name is there, none comes twice, and the new names of the attributes are distinct
 abbrev pub can_rename : List (List ℕ × List ℕ) → Attributes → Bool
-can_rename renamings heading = has_attributes (map (λ r. r.0) renamings) heading && are_distinct (map (λ r. r.0) renamings) && are_distinct (names_of (renamed renamings heading))
+can_rename renamings heading =
+    has_attributes (map (λ r. r.0) renamings) heading && are_distinct (map (λ r. r.0) renamings)
+    && are_distinct (new_names renamings heading)
 
 -- ---- the headings that the operations make
 
@@ -94,9 +110,61 @@ add_missing heading a = if has_attribute a.0 heading then heading else with_attr
 abbrev pub heading_union : Attributes → Attributes → Attributes
 heading_union = fold add_missing
 
--- the attributes under their new names, in the order of these
-abbrev pub heading_renamed : List (List ℕ × List ℕ) → Attributes → Attributes
-heading_renamed renamings heading = fold add_missing [] (renamed renamings heading)
+-- ---- what each operation answers: a heading, else the cause HEADING (the chapter's; the cause is this project's own)
+
+-- the heading of attributes, no two of one name
+abbrev pub made_heading : List Attribute → Outcome Attributes
+made_heading attributes = value_if (are_distinct (names_of attributes)) (heading_from attributes) Heading
+
+-- the heading with one more attribute, of a name that it lacks
+abbrev pub extended_heading : Attributes → Attribute → Outcome Attributes
+extended_heading heading a =
+    value_if (not (has_attribute a.0 heading)) (with_attribute heading a) Heading
+
+-- the heading without an attribute that it has
+abbrev pub reduced_heading : List ℕ → Attributes → Outcome Attributes
+reduced_heading name heading =
+    value_if (has_attribute name heading) (without_attribute name heading) Heading
+
+-- the heading projected on distinct names that it has
+abbrev pub projected_heading : List (List ℕ) → Attributes → Outcome Attributes
+projected_heading names heading =
+    value_if (has_projection names heading) (projection names heading) Heading
+
+-- the attributes that two headings have in common, where they agree
+abbrev pub common_heading : Attributes → Attributes → Outcome Attributes
+common_heading g h = value_if (agree g h) (common_part g h) Heading
+
+-- the attributes of either of two headings that agree
+abbrev pub united_heading : Attributes → Attributes → Outcome Attributes
+united_heading g h = value_if (agree g h) (heading_union g h) Heading
+
+-- the heading with its attributes renamed, in the order of their new names
+abbrev pub renamed_heading : List (List ℕ × List ℕ) → Attributes → Outcome Attributes
+renamed_heading renamings heading =
+    value_if (can_rename renamings heading) (heading_union [] (renamed renamings heading)) Heading
+
+-- ---- the type that each name has in the heading that is answered
+
+-- with one more attribute
+abbrev pub types_with : Attributes → Attribute → List ℕ → Option Type'
+types_with heading a n = if same_name a.0 n then Some a.1 else type_at n heading
+
+-- without the attribute of a name
+abbrev pub types_without : List ℕ → Attributes → List ℕ → Option Type'
+types_without name heading n = if same_name name n then None else type_at n heading
+
+-- of those of the names alone
+abbrev pub types_among : List (List ℕ) → Attributes → List ℕ → Option Type'
+types_among names heading n = if has_name n names then type_at n heading else None
+
+-- of what both headings have
+abbrev pub types_in_both : Attributes → Attributes → List ℕ → Option Type'
+types_in_both g h n = if has_attribute n h then type_at n g else None
+
+-- of what either heading has
+abbrev pub types_in_either : Attributes → Attributes → List ℕ → Option Type'
+types_in_either g h n = if has_attribute n g then type_at n g else type_at n h
 
 -- ---- laws
 
@@ -107,11 +175,14 @@ TypesDetermineHeading = (g h : Attributes) → IsAscending g → IsAscending h �
 -- two headings agree exactly where each name that both have has one type
 abbrev pub AgreementIsOneType : Type 0
 AgreementIsOneType =
-    (g h : Attributes) → IsAscending g → IsTrue (agree g h) ↔ ((name : List ℕ) (s t : Type') → type_at name g ≡ Some s → type_at name h ≡ Some t → s ≡ t)
+    (g h : Attributes) → IsAscending g
+    → IsTrue (agree g h) ↔ ((name : List ℕ) (s t : Type') → type_at name g ≡ Some s → type_at name h ≡ Some t → s ≡ t)
 
 -- renaming gives each new name the type of its old one, and there are no others
 abbrev pub RenamingKeepsTypes : Type 0
 RenamingKeepsTypes =
     (renamings : List (List ℕ × List ℕ)) (h : Attributes) → IsTrue (can_rename renamings h)
-    → ((name : List ℕ) → IsTrue (has_attribute name h) → type_at (new_name renamings name) (renamed renamings h) ≡ type_at name h)
-    × ((name : List ℕ) → IsTrue (has_attribute name (renamed renamings h)) → (old : List ℕ) × IsTrue (has_attribute old h) × (new_name renamings old ≡ name))
+    → ((name : List ℕ) → IsTrue (has_attribute name h)
+    → type_at (new_name renamings name) (renamed renamings h) ≡ type_at name h)
+    × ((name : List ℕ) → IsTrue (has_attribute name (renamed renamings h))
+    → (old : List ℕ) × IsTrue (has_attribute old h) × (new_name renamings old ≡ name))

@@ -1,6 +1,5 @@
 pub mod Falls
 pub mod Hashes
-pub mod HeadingLaws
 pub mod Headings
 pub mod Keys
 pub mod Texts

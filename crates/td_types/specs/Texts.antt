@@ -1,6 +1,6 @@
 -- The text of a type (this project's own): one for each type, with attributes in name order.
-use Rattle.std.specs.Prelude.{ℕ, Bool, true, false, List, [], ◌++◌, codes, if◌then◌else◌}
-use Rattle.td_types.specs.Types.{Type', boolean, integer, text, user, tuple, relation, Attrs, no_attrs, attr}
+use Rattle.std.specs.Prelude.{◌≡◌, ◌↔◌, ℕ, Bool, true, false, List, [], ◌++◌, codes, if◌then◌else◌}
+use Rattle.td_types.specs.Types.{Type', boolean, integer, text, user, tuple, relation, Attrs, no_attrs, attr, IsType}
 
 -- what stands before a part: a comma and a space where another part stands before it
 abbrev pub comma_if : Bool → List ℕ
@@ -24,3 +24,9 @@ abbrev mutual
 -- a heading: its attributes between braces, {} where it has none
 abbrev pub heading_text : Attrs → List ℕ
 heading_text heading = codes "{" ++ attributes_text false heading ++ codes "}"
+
+-- ---- laws
+
+-- two types have one text exactly where they are one
+abbrev pub TextsTellTypesApart : Type 0
+TextsTellTypesApart = (s t : Type') → IsType s → IsType t → (type_text s ≡ type_text t) ↔ (s ≡ t)

@@ -1,10 +1,9 @@
 //! Headings as finite maps from names to types.
-ghost use Rattle.std.specs.Prelude.{◌≡◌, ◌↔◌, Bool, true, false, IfErr, IfOk, IsTrue, None, OnOk, Option, Some, [], if◌then◌else◌, length, not, option_map, slice_get};
-ghost use Rattle.std.specs.List.{prefix_len};
-ghost use Rattle.std.specs.Ordering.{is_lt, nat_cmp};
-ghost use Rattle.std.specs.Cmp.Lexicographic.{slice_cmp};
-ghost use Rattle.td_types.specs.Headings.{AgreementIsOneType, IsMap, TypesDetermineHeading, add_missing, are_distinct, has_attribute, heading_fault, heading_from, with_attribute};
-ghost use Rattle.td_types.specs.Types.{IsAscending, IsHeading, names_of, pack, same_name, type_at};
+ghost use Rattle.std.specs.Prelude.{◌≡◌, ◌↔◌, IfErr, IfOk, IsTrue, None, [], length, option_map, slice_get};
+ghost use Rattle.td_tree.specs.Outcomes.{Answers};
+ghost use Rattle.td_types.specs.Headings.{IsFound, IsMap, IsMissing, add_missing, extended_heading};
+ghost use Rattle.td_types.specs.Headings.{made_heading, place_of, types_with};
+ghost use Rattle.td_types.specs.Types.{IsAscending, IsHeading, pack, type_at};
 ghost use Rattle.td_types.specs.Views.{pairs_of, type_of};
 
 use crate::names::repeats_a_name;
@@ -13,16 +12,6 @@ use std::alloc::{AllocError, Global};
 use td_tree::cause::Cause;
 use td_tree::fault::Fault;
 use td_tree::name::Name;
-
-/// Two headings that give every name the same type are equal.
-pub fn types_determine_heading()
-    ensures { TypesDetermineHeading }
-{}
-
-/// Two headings agree exactly where each name that both have has one type.
-pub fn agreement_is_one_type()
-    ensures { AgreementIsOneType }
-{}
 
 /// The heading of attributes whose names ascend.
 fn from_sorted(alloc: Global, pairs: Vec<(Name, Ty)>) -> Result<Heading, AllocError>
@@ -50,10 +39,8 @@ impl Heading {
 
     /// The heading that gives each name its type: refused where a name comes twice.
     pub fn new(alloc: Global, attributes: Vec<(Name, Ty)>) -> Result<Heading, Fault>
-        ensures accepted { OnOk result (are_distinct (names_of (pairs_of attributes.items)) ≡ true) }
-        ensures value { IfOk result (λ h. h ≡ heading_from (pairs_of attributes.items)) }
+        ensures answer { Answers (λ h. h) result (made_heading (pairs_of attributes.items)) }
         ensures types { IfOk result (λ h. IsMap h (λ n. type_at n (pairs_of attributes.items))) }
-        ensures fault { IfErr result (λ e. e ≡ heading_fault (not (are_distinct (names_of (pairs_of attributes.items))))) }
     {
         let mut sorted = attributes;
         sorted.sort_unstable();
@@ -99,8 +86,8 @@ impl Heading {
 
     /// Where the attribute of that name is, or else where it would be.
     fn search(&self, name: &Name) -> Result<usize, usize>
-        ensures found { IfOk result (λ place. (place ≡ prefix_len (λ a. is_lt (slice_cmp nat_cmp a.0 name.now)) self.now) × (option_map (λ a. a.1) (slice_get self.now place) ≡ type_at name.now self.now)) }
-        ensures missing { IfErr result (λ place. (place ≡ prefix_len (λ a. is_lt (slice_cmp nat_cmp a.0 name.now)) self.now) × (type_at name.now self.now ≡ None)) }
+        ensures found { IfOk result (IsFound name.now self.now) }
+        ensures missing { IfErr result (IsMissing name.now self.now) }
     {
         self.attributes
             .binary_search_by(|attribute| attribute.name.cmp(name))
@@ -108,7 +95,7 @@ impl Heading {
 
     /// How many attributes stand before the name.
     fn place_of(&self, name: &Name) -> usize
-        ensures { result ≡ prefix_len (λ a. is_lt (slice_cmp nat_cmp a.0 name.now)) self.now }
+        ensures { result ≡ place_of name.now self.now }
     {
         match self.search(name) {
             Ok(place) | Err(place) => place,
@@ -131,10 +118,8 @@ impl Heading {
 
     /// The heading with one more attribute: refused where it has one of that name.
     pub fn with(self, name: Name, ty: Ty) -> Result<Heading, Fault>
-        ensures accepted { OnOk result (has_attribute name self ≡ false) }
-        ensures value { IfOk result (λ h. h ≡ with_attribute self (name, type_of ty)) }
-        ensures types { IfOk result (λ h. IsMap h (λ n. if same_name name n then Some (type_of ty) else type_at n self)) }
-        ensures fault { IfErr result (λ e. e ≡ heading_fault (has_attribute name self)) }
+        ensures answer { Answers (λ h. h) result (extended_heading self (name, type_of ty)) }
+        ensures types { IfOk result (λ h. IsMap h (types_with self (name, type_of ty))) }
     {
         if self.get(&name).is_some() {
             return Err(Fault::Refused(Cause::Heading));

@@ -4,6 +4,7 @@
 mod copy;
 mod hash;
 pub mod heading;
+pub mod laws;
 pub mod names;
 pub mod operations;
 mod order;

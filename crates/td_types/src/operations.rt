@@ -1,9 +1,9 @@
 //! Operations that make a heading of headings: each refuses by the cause of headings, or wants memory.
-ghost use Rattle.std.specs.Prelude.{◌≡◌, Bool, true, false, IfErr, IfOk, None, OnOk, Option, Some, if◌then◌else◌, not};
-ghost use Rattle.std.specs.List.{list_all};
-ghost use Rattle.td_types.specs.Headings.{IsMap, agree, common_part, has_attribute, has_attributes, has_name, has_projection, heading_fault, heading_union, projection, without_attribute};
-ghost use Rattle.td_types.specs.Types.{same_name, type_at};
-ghost use Rattle.td_types.specs.Views.{type_of};
+ghost use Rattle.std.specs.Prelude.{◌≡◌, IfOk};
+ghost use Rattle.td_tree.specs.Outcomes.{Answers};
+ghost use Rattle.td_types.specs.Headings.{IsMap, agree, common_heading, has_attributes, projected_heading};
+ghost use Rattle.td_types.specs.Headings.{reduced_heading, types_among, types_in_both, types_in_either};
+ghost use Rattle.td_types.specs.Headings.{types_without, united_heading};
 
 use crate::names::{are_distinct, is_among};
 use crate::ty::{Attribute, Heading};
@@ -35,10 +35,8 @@ impl Heading {
 
     /// The heading without the attribute of that name: refused where it has none.
     pub fn without(&self, name: &Name) -> Result<Heading, Fault>
-        ensures accepted { OnOk result (has_attribute name.now self.now ≡ true) }
-        ensures value { IfOk result (λ h. h ≡ without_attribute name.now self.now) }
-        ensures types { IfOk result (λ h. IsMap h (λ n. if same_name name.now n then None else type_at n self.now)) }
-        ensures fault { IfErr result (λ e. e ≡ heading_fault (not (has_attribute name.now self.now))) }
+        ensures answer { Answers (λ h. h) result (reduced_heading name.now self.now) }
+        ensures types { IfOk result (λ h. IsMap h (types_without name.now self.now)) }
     {
         if self.get(name).is_none() {
             return Err(Fault::Refused(Cause::Heading));
@@ -54,10 +52,8 @@ impl Heading {
 
     /// The attributes of those names: refused where one is not there or comes twice.
     pub fn project(&self, names: &[Name]) -> Result<Heading, Fault>
-        ensures accepted { OnOk result (has_projection names.now self.now ≡ true) }
-        ensures value { IfOk result (λ h. h ≡ projection names.now self.now) }
-        ensures types { IfOk result (λ h. IsMap h (λ n. if has_name n names.now then type_at n self.now else None)) }
-        ensures fault { IfErr result (λ e. e ≡ heading_fault (not (has_projection names.now self.now))) }
+        ensures answer { Answers (λ h. h) result (projected_heading names.now self.now) }
+        ensures types { IfOk result (λ h. IsMap h (types_among names.now self.now)) }
     {
         if !self.has_all(names) || !are_distinct(names) {
             return Err(Fault::Refused(Cause::Heading));
@@ -73,10 +69,8 @@ impl Heading {
 
     /// The attributes that both have: refused where one has two types.
     pub fn common(&self, other: &Heading) -> Result<Heading, Fault>
-        ensures accepted { OnOk result (agree self.now other.now ≡ true) }
-        ensures value { IfOk result (λ h. h ≡ common_part self.now other.now) }
-        ensures types { IfOk result (λ h. IsMap h (λ n. if has_attribute n other.now then type_at n self.now else None)) }
-        ensures fault { IfErr result (λ e. e ≡ heading_fault (not (agree self.now other.now))) }
+        ensures answer { Answers (λ h. h) result (common_heading self.now other.now) }
+        ensures types { IfOk result (λ h. IsMap h (types_in_both self.now other.now)) }
     {
         if !self.agrees_with(other) {
             return Err(Fault::Refused(Cause::Heading));
@@ -92,10 +86,8 @@ impl Heading {
 
     /// The attributes that either has: refused where one has two types.
     pub fn union(&self, other: &Heading) -> Result<Heading, Fault>
-        ensures accepted { OnOk result (agree self.now other.now ≡ true) }
-        ensures value { IfOk result (λ h. h ≡ heading_union self.now other.now) }
-        ensures types { IfOk result (λ h. IsMap h (λ n. if has_attribute n self.now then type_at n self.now else type_at n other.now)) }
-        ensures fault { IfErr result (λ e. e ≡ heading_fault (not (agree self.now other.now))) }
+        ensures answer { Answers (λ h. h) result (united_heading self.now other.now) }
+        ensures types { IfOk result (λ h. IsMap h (types_in_either self.now other.now)) }
     {
         if !self.agrees_with(other) {
             return Err(Fault::Refused(Cause::Heading));

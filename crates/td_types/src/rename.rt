@@ -1,18 +1,15 @@
 //! Renaming: each renaming is a pair of an old and a new name, and all are done at once.
-ghost use Rattle.std.specs.Prelude.{◌≡◌, ◌&&◌, Bool, true, IfErr, IfOk, List, OnOk, map, not, ℕ};
-ghost use Rattle.td_types.specs.Headings.{IsMap, RenamingKeepsTypes, are_distinct, can_rename, has_attributes, has_name, heading_fault, heading_renamed, new_name, renamed};
-ghost use Rattle.td_types.specs.Types.{names_of, type_at};
+ghost use Rattle.std.specs.Prelude.{◌≡◌, IfOk, map};
+ghost use Rattle.td_tree.specs.Outcomes.{Answers};
+ghost use Rattle.td_types.specs.Headings.{IsMap, are_distinct, can_rename, has_attributes, has_name};
+ghost use Rattle.td_types.specs.Headings.{new_name, new_names, renamed, renamed_heading};
+ghost use Rattle.td_types.specs.Types.{type_at};
 ghost use Rattle.td_types.specs.Views.{attributes_of};
 
 use crate::ty::{Attribute, Heading};
 use td_tree::cause::Cause;
 use td_tree::fault::Fault;
 use td_tree::name::Name;
-
-/// Renaming gives each new name the type of its old one, and there are no other names.
-pub fn renaming_keeps_types()
-    ensures { RenamingKeepsTypes }
-{}
 
 /// The name that the renamings give a name.
 fn new_name<'a>(name: &'a Name, renamings: &'a [(Name, Name)]) -> &'a Name
@@ -54,7 +51,7 @@ fn are_old_distinct(renamings: &[(Name, Name)]) -> bool
 
 /// Whether the name is the new name of one of the attributes.
 fn is_new(name: &Name, attributes: &[Attribute], renamings: &[(Name, Name)]) -> bool
-    ensures { result ≡ has_name name.now (names_of (renamed renamings.now (attributes_of attributes.now))) }
+    ensures { result ≡ has_name name.now (new_names renamings.now (attributes_of attributes.now)) }
 {
     for attribute in attributes {
         if new_name(&attribute.name, renamings) == name {
@@ -66,7 +63,7 @@ fn is_new(name: &Name, attributes: &[Attribute], renamings: &[(Name, Name)]) -> 
 
 /// Whether no two attributes have the same new name.
 fn are_new_distinct(attributes: &[Attribute], renamings: &[(Name, Name)]) -> bool
-    ensures { result ≡ are_distinct (names_of (renamed renamings.now (attributes_of attributes.now))) }
+    ensures { result ≡ are_distinct (new_names renamings.now (attributes_of attributes.now)) }
 {
     let mut rest = attributes;
     while let [attribute, later @ ..] = rest {
@@ -103,10 +100,8 @@ impl Heading {
     /// Each attribute under its new name: refused where an old name is not there or comes twice,
     /// or where two attributes would have one name.
     pub fn rename(&self, renamings: &[(Name, Name)]) -> Result<Heading, Fault>
-        ensures accepted { OnOk result (can_rename renamings.now self.now ≡ true) }
-        ensures value { IfOk result (λ h. h ≡ heading_renamed renamings.now self.now) }
+        ensures answer { Answers (λ h. h) result (renamed_heading renamings.now self.now) }
         ensures types { IfOk result (λ h. IsMap h (λ n. type_at n (renamed renamings.now self.now))) }
-        ensures fault { IfErr result (λ e. e ≡ heading_fault (not (can_rename renamings.now self.now))) }
     {
         if !self.can_rename(renamings) {
             return Err(Fault::Refused(Cause::Heading));

@@ -1,7 +1,7 @@
 //! The text of a type. A call that wants memory leaves a front of the text at the end of `out`.
-ghost use Rattle.std.specs.Prelude.{◌≡◌, ◌++◌, OnOk, IfOk, codes, false};
+ghost use Rattle.std.specs.Prelude.{◌≡◌, ◌++◌, IfOk, OnOk};
 ghost use Rattle.std.specs.String.{string_bytes};
-ghost use Rattle.td_types.specs.Texts.{attributes_text, comma_if, heading_text, type_text};
+ghost use Rattle.td_types.specs.Texts.{comma_if, heading_text, type_text};
 ghost use Rattle.td_types.specs.Types.{pack, relation};
 ghost use Rattle.td_types.specs.Views.{type_of};
 
@@ -21,7 +21,8 @@ fn put_comma(out: &mut String, later: bool) -> Result<(), AllocError>
 /// Puts the type's text at the end of `out`.
 #[cycle(put)]
 pub fn put_type(out: &mut String, ty: &Ty) -> Result<(), AllocError>
-    ensures { OnOk result (string_bytes out.new ≡ string_bytes out.old ++ type_text (type_of ty.now)) }
+    ensures { OnOk result (string_bytes out.new
+        ≡ string_bytes out.old ++ type_text (type_of ty.now)) }
 {
     match ty {
         Ty::Bool => out.push_str("BOOLEAN"),
@@ -39,7 +40,8 @@ pub fn put_type(out: &mut String, ty: &Ty) -> Result<(), AllocError>
 /// Puts the text of the heading's relation type at the end of `out`.
 #[cycle(put)]
 pub fn put_relation_type(out: &mut String, heading: &Heading) -> Result<(), AllocError>
-    ensures { OnOk result (string_bytes out.new ≡ string_bytes out.old ++ type_text (relation (pack heading.now))) }
+    ensures { OnOk result (string_bytes out.new
+        ≡ string_bytes out.old ++ type_text (relation (pack heading.now))) }
 {
     out.push_str("RELATION ")?;
     put_heading(out, heading)
@@ -48,7 +50,8 @@ pub fn put_relation_type(out: &mut String, heading: &Heading) -> Result<(), Allo
 /// Puts the attributes between braces.
 #[cycle(put)]
 fn put_heading(out: &mut String, heading: &Heading) -> Result<(), AllocError>
-    ensures { OnOk result (string_bytes out.new ≡ string_bytes out.old ++ heading_text (pack heading.now)) }
+    ensures { OnOk result (string_bytes out.new
+        ≡ string_bytes out.old ++ heading_text (pack heading.now)) }
 {
     out.push_str("{")?;
     let mut later = false;

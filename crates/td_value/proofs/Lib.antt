@@ -6,6 +6,7 @@ pub mod Maps
 pub mod Members
 pub mod Pieces
 pub mod Rows
+pub mod SetLaws
 pub mod Typed
 pub mod Unread
 pub mod Zips

@@ -11,7 +11,8 @@ use Rattle.std.proofs.lemmas.Cmp.{nat_list_eq_equiv}
 use Rattle.std.specs.Ordering.{eq_by_cmp}
 use Rattle.td_types.specs.Types.{same_name}
 use Rattle.td_types.specs.Headings.{are_distinct, has_name}
-use Rattle.td_value.specs.Sets.{is_set_of, put_in}
+use Rattle.td_value.specs.Sets.{put_in}
+use Rattle.td_value.proofs.SetLaws.{is_set_of}
 use Rattle.td_value.specs.Values.{Val, Entries, entry_order, names_of, tuple_of, value_at}
 use Rattle.td_value.specs.ValueOrder.{entry_order_total, entry_order_same}
 use Rattle.td_types.proofs.DistinctNames.{name_cmp, first_of, second_of}

@@ -1,11 +1,13 @@
 -- Sets of tuples by their members.
-use Rattle.std.proofs.Common.{◌≡◌, ◌∙◌, refl, sym, subst, Bool, true, false, List}
+use Rattle.std.proofs.Common.{◌≡◌, ◌∙◌, ◌++◌, ◌⊎◌, inl, inr, refl, sym, subst, Bool, true, false, List}
 use Rattle.std.specs.List.{Contains}
 use Rattle.std.specs.List.Sorted.{IsStrictlySortedBy}
 use Rattle.std.proofs.lemmas.Cmp.{eq_by_cmp_equiv}
+use Rattle.std.proofs.lemmas.List.Elements.{Contains-append_cases, Contains-append_left, Contains-append_right}
 use Rattle.std.proofs.lemmas.Map.Views.{Contains-from_any, list_any-from_Contains}
-use Rattle.td_value.specs.Laws.{RelationsAreTheirMembers, SetsHaveTheMembersOfTheirLists}
-use Rattle.td_value.specs.Sets.{has, has-set_of, same_members, set_of}
+use Rattle.td_value.specs.Laws.{RelationsAreTheirMembers, SetsHaveTheMembersOfTheirLists, SetsOfJoinedLists}
+use Rattle.td_value.specs.Sets.{has, set_of}
+use Rattle.td_value.proofs.SetLaws.{has-set_of, same_members}
 use Rattle.td_value.specs.ValueCode.{unpack_pack_rows}
 use Rattle.td_value.specs.Values.{Entries, IsRelation, Relation, tuple_order}
 use Rattle.td_value.specs.ValueOrder.{tuple_Decides, tuple_order_same, tuple_order_total}
@@ -22,6 +24,15 @@ pub set_members : SetsHaveTheMembersOfTheirLists
 set_members ts t =
     let same = has-set_of tuple_order tuple_order_total tuple_order_same t ts in
     ((λ c. contained t ts (sym same ∙ found t (set_of tuple_order ts) c)), (λ c. contained t (set_of tuple_order ts) (same ∙ found t ts c)))
+
+pub joined_members : SetsOfJoinedLists
+joined_members ss ts t =
+    let members = set_members (ss ++ ts) t in
+    (λ c. Contains-append_cases ss ts t (members.0 c), λ c. members.1 (in_either c))
+  where
+    in_either : Contains ss t ⊎ Contains ts t → Contains (ss ++ ts) t
+    in_either (inl c) = Contains-append_left ss ts t c
+    in_either (inr c) = Contains-append_right ss ts t c
 
 -- two tests that find the same are one
 one_test : (b c : Bool) → (b ≡ true → c ≡ true) → (c ≡ true → b ≡ true) → b ≡ c

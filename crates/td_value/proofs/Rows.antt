@@ -1,5 +1,5 @@
 -- The tuples of one heading: they have the same names, so that their values alone order them.
-use Rattle.std.proofs.Common.{◌≡◌, ◌∙◌, ◌+◌, ap, sym, refl, arith, ℕ, zero, suc, List, [], ◌∷◌, get_or, Bool}
+use Rattle.std.proofs.Common.{◌≡◌, ◌∙◌, ◌+◌, ap, sym, refl, subst, arith, zero, suc, List, [], ◌∷◌, get_or, Bool}
 use Rattle.std.specs.Ordering.{ordering_then, is_lt}
 use Rattle.std.specs.declared.cmp.Ordering.{Ordering}
 use Rattle.std.specs.Cmp.{IsTotalOrder}
@@ -9,10 +9,13 @@ use Rattle.std.specs.List.Sorted.{IsSorted, IsSortedBy}
 use Rattle.std.proofs.lemmas.Cmp.{on_total, nat_list_cmp_total, tied_itself}
 use Rattle.std.proofs.lemmas.List.Kept.{Contains-from_dedup}
 use Rattle.std.proofs.lemmas.List.Elements.{All-contains, All-contains_itself}
-use Rattle.td_types.specs.Types.{Attrs, no_attrs, attr, Attributes, pack}
-use Rattle.td_value.specs.Values.{Val, user, Entries, order, AreRows, HaveSameNames, IsTupleOf, fields_type, names_of, pack_fields, pack_parts, pack_rows, parts_order, rows_order, tuple_order}
+use Rattle.td_types.specs.Types as heads
+use Rattle.td_types.specs.Types.{Attributes, IsHeading, pack, unpack, unpack_pack}
+use Rattle.td_value.specs.Values.{Val, tuple, user, Entries, order, AreRows, HaveSameNames, IsTuple, IsTupleOf, fields_type, heading_of, names_of, pack_fields, pack_parts, pack_rows, parts_order, rows_order, tuple_order}
 use Rattle.td_value.specs.ValueOrder.{order_total}
 use Rattle.td_value.specs.Views.{values_of}
+use Rattle.td_value.proofs.HeadingOf.{fields_type-heading}
+use Rattle.td_value.proofs.Typed.{typed}
 
 -- the order of tuples by their values alone
 abbrev pub by_values : Entries → Entries → Ordering
@@ -31,17 +34,12 @@ tuple_order-by_values (e ∷ s) (f ∷ t) h =
     let rest : names_of s ≡ names_of t = cc in
     rw (first, tied_itself nat_list_cmp_total f.0, tuple_order-by_values s t rest) refl
 
-attribute_names : Attrs → List (List ℕ)
-attribute_names no_attrs = []
-attribute_names (attr n t h) = n ∷ attribute_names h
-
-names-fields_type : (s : Entries) → attribute_names (fields_type (pack_fields s)) ≡ names_of s
-unfolding attribute_names
-names-fields_type [] = refl
-names-fields_type (e ∷ s) = ap (λ ns. e.0 ∷ ns) (names-fields_type s)
+names-heading : (s : Entries) → heads.names_of (heading_of s) ≡ names_of s
+names-heading [] = refl
+names-heading (e ∷ s) = ap (λ ns. e.0 ∷ ns) (names-heading s)
 
 same_heading : (h : Attributes) (s t : Entries) → IsTupleOf h s → IsTupleOf h t → names_of s ≡ names_of t
-same_heading h s t p q = sym (names-fields_type s) ∙ ap attribute_names (p.2 ∙ sym q.2) ∙ names-fields_type t
+same_heading h s t p q = sym (names-heading s) ∙ ap heads.names_of (p.1 ∙ sym q.1) ∙ names-heading t
 
 pub HaveSameNames-from : (h : Attributes) (ts : List Entries) → All (IsTupleOf h) ts → HaveSameNames ts
 HaveSameNames-from h ts a s t p q = same_heading h s t (All-contains (IsTupleOf h) ts s a p) (All-contains (IsTupleOf h) ts t a q)
@@ -52,9 +50,18 @@ sorted_from_values h ts a up k d l u =
     let same = same_heading h (get_or ts (k + 1) d) (get_or ts k d) (a (k + 1) d u) (a k d (omega arith)) in
     rw (tuple_order-by_values (get_or ts (k + 1) d) (get_or ts k d) same) (up k d l u)
 
+heading_from : (h : Attributes) (t : Entries) → fields_type (pack_fields t) ≡ pack h → heading_of t ≡ h
+heading_from h t e = sym (unpack_pack (heading_of t)) ∙ ap unpack (sym (fields_type-heading t) ∙ e) ∙ unpack_pack h
+
+-- a tuple has a heading, which is one
+pub IsTupleOf-from : (h : Attributes) (t : Entries) → IsTuple t → fields_type (pack_fields t) ≡ pack h → IsTupleOf h t
+IsTupleOf-from h t p e = (p, heading_from h t e, subst IsHeading e (typed (tuple (pack_fields t)) p))
+
 pub AreRows-from : (h : Attributes) (ts : List Entries) → All (IsTupleOf h) ts → AreRows (pack h) (pack_rows ts)
 AreRows-from h [] a = tt
-AreRows-from h (t ∷ ts) a = (a 0 t (omega arith), AreRows-from h ts (λ k d p. a (suc k) d (omega arith)))
+AreRows-from h (t ∷ ts) a =
+    let first = a 0 t (omega arith) in
+    ((first.0.0, first.0.1, fields_type-heading t ∙ ap pack first.1), AreRows-from h ts (λ k d p. a (suc k) d (omega arith)))
 
 pub All-dedup : {X : Type 0} (E : X → X → Bool) (P : X → Type 0) (xs : List X) → All P xs → All P (dedup E xs)
 All-dedup E P xs a = λ k d p.
@@ -62,7 +69,7 @@ All-dedup E P xs a = λ k d p.
 
 pub All-from_rows : (h : Attributes) (ts : List Entries) → AreRows (pack h) (pack_rows ts) → All (IsTupleOf h) ts
 All-from_rows h [] a k d p = absurd (omega arith)
-All-from_rows h (t ∷ ts) a zero d p = a.0
+All-from_rows h (t ∷ ts) a zero d p = IsTupleOf-from h t (a.0.0, a.0.1) a.0.2
 All-from_rows h (t ∷ ts) a (suc k) d p = All-from_rows h ts a.1 k d (omega arith)
 
 -- lists of values, and of tuples, compare as lists do

@@ -1,32 +1,43 @@
--- A literal with what stands after it is that of one value of its type alone.
-use Rattle.std.proofs.Common.{◌≡◌, ◌∙◌, ap, sym, refl, subst, arith, ℕ, suc, ◌<◌, ◌≤◌, ◌^◌, pos, negsuc, ℤ, List, [], ◌∷◌, ◌++◌, length, Bool, true, false, append_assoc, true≢false}
-use Rattle.std.specs.Prelude.{◌≢◌, codes, ◌==◌, if◌then◌else◌}
+-- A literal with what stands after it is that of one value alone.
+use Rattle.std.proofs.Common.{◌≡◌, ◌∙◌, ap, sym, refl, arith, ℕ, suc, ◌<◌, ◌≤◌, ◌^◌, pos, negsuc, ℤ, List, [], ◌∷◌, ◌++◌, length, Bool, true, false, append_assoc, true≢false, inl, inr}
+use Rattle.std.specs.Prelude.{◌≢◌, ◌⊎◌, codes, ◌==◌, ◌&&◌, nat_le, if◌then◌else◌}
 use Rattle.std.specs.Char.{digit_value}
 use Rattle.std.specs.Fmt.{decimal, signed_decimal}
 use Rattle.std.specs.Str.Parse.{AllDigits}
 use Rattle.std.proofs.lemmas.Fmt.{decimal_injective, decimal_is_IsNumeral}
 use Rattle.std.proofs.lemmas.Bool.Decides.{nat_tests}
 use Rattle.std.proofs.lemmas.Int.{ints}
+use Rattle.std.proofs.lemmas.Str.Parse.{digit_from_value}
 use Rattle.td_types.specs.Types as types
-use Rattle.td_types.specs.Types.{Attrs, Type', attr, no_attrs}
-use Rattle.td_types.specs.Texts.{comma_if, type_text}
+use Rattle.td_types.specs.Types.{Attrs, Type', no_attrs}
+use Rattle.td_types.specs.Texts.{attributes_text, comma_if, type_text}
+use Rattle.td_types.proofs.Plain.{IsMarked, IsPlain, cut_front, is_mark, name_plain, plain_cut, tail_of}
+use Rattle.td_types.proofs.TypeTexts.{no_name, regroup_3, regroup_5, type_cut}
 use Rattle.td_tree.specs.TextTokens.{doubled}
 use Rattle.td_value.specs.Literal.{literal, fields_literal, parts_literal, rows_literal}
-use Rattle.td_value.specs.Laws.{AreFieldsDeclared, ArePartsDeclared, AreRowsDeclared, IsDeclared, parts_types}
-use Rattle.td_value.specs.Values.{Val, boolean, integer, text, user, tuple, relation, Parts, no_parts, part, Fields, no_fields, field, Rows, no_rows, row, AreFields, AreRows, AreValues, IsInRange, IsValue, fields_type, type_of}
+use Rattle.td_value.specs.Values.{Val, boolean, integer, text, user, tuple, relation, Parts, no_parts, part, Fields, no_fields, field, Rows, no_rows, row, AreFields, AreRows, AreValues, IsInRange, IsValue, rank}
 
--- what stands after a literal goes on with no digit and no quote
+-- nothing stands after a literal, or what closes a list or goes on with it
+abbrev IsClosed : List ℕ → Type 0
+IsClosed [] = Unit {0}
+IsClosed (c ∷ x) = (c ≡ 41) ⊎ (c ≡ 44) ⊎ (c ≡ 125)
+
+-- it goes on with no digit and no quote
 abbrev Ends : List ℕ → Type 0
 Ends [] = Unit {0}
 Ends (c ∷ x) = (10 ≤ digit_value c) × (c ≢ 39)
 
-tail_of : (c d : ℕ) (x y : List ℕ) → c ∷ x ≡ d ∷ y → (c ≡ d) × (x ≡ y)
-tail_of c d x y e = (cc, cc)
+closed_ends : (x : List ℕ) → IsClosed x → Ends x
+closed_ends [] h = tt
+closed_ends (c ∷ x) (inl e) = (rw e (omega arith), λ q. omega (arith, e, q))
+closed_ends (c ∷ x) (inr (inl e)) = (rw e (omega arith), λ q. omega (arith, e, q))
+closed_ends (c ∷ x) (inr (inr e)) = (rw e (omega arith), λ q. omega (arith, e, q))
 
--- a front that both lists have
-cut_front : (p x y : List ℕ) → p ++ x ≡ p ++ y → x ≡ y
-cut_front [] x y e = e
-cut_front (c ∷ p) x y e = cut_front p x y (tail_of c c (p ++ x) (p ++ y) e).1
+closed_marked : (x : List ℕ) → IsClosed x → IsMarked x
+closed_marked [] h = tt
+closed_marked (c ∷ x) (inl e) = rw e refl
+closed_marked (c ∷ x) (inr (inl e)) = rw e refl
+closed_marked (c ∷ x) (inr (inr e)) = rw e refl
 
 -- ---- numbers
 
@@ -115,105 +126,219 @@ booleans_cut false false x y e = (refl, cut_front (codes "FALSE") x y e)
 booleans_cut true false x y e = absurd (omega (arith, (tail_of 84 70 _ _ e).0))
 booleans_cut false true x y e = absurd (omega (arith, (tail_of 70 84 _ _ e).0))
 
--- ---- the parts between commas
+-- ---- the word at the front of a literal, and what stands after it
 
-regroup_3 : (a b c x : List ℕ) → ((a ++ b) ++ c) ++ x ≡ a ++ (b ++ (c ++ x))
-regroup_3 a b c x = simp append_assoc
+-- TRUE, a number's digits, a user type's name, TUPLE or RELATION
+abbrev word : Val → List ℕ
+word (boolean b) = literal (boolean b)
+word (integer (pos m)) = decimal m
+word (integer (negsuc m)) = []
+word (text s) = []
+word (user n ps) = n
+word (tuple fs) = codes "TUPLE"
+word (relation h rs) = codes "RELATION"
+
+abbrev after : Val → List ℕ → List ℕ
+after (boolean b) x = x
+after (integer (pos m)) x = x
+after (integer (negsuc m)) x = 45 ∷ decimal (suc m) ++ x
+after (text s) x = 39 ∷ (doubled s ++ 39 ∷ x)
+after (user n ps) x = 40 ∷ (parts_literal false ps ++ 41 ∷ x)
+after (tuple fs) x = codes " {" ++ (fields_literal false fs ++ 125 ∷ x)
+after (relation h rs) x = codes " {" ++ (attributes_text false h ++ 125 ∷ (codes " {" ++ (rows_literal false rs ++ 125 ∷ x)))
 
 regroup_4 : (a b c d x : List ℕ) → (((a ++ b) ++ c) ++ d) ++ x ≡ a ++ (b ++ (c ++ (d ++ x)))
 regroup_4 a b c d x = simp append_assoc
 
-regroup_5 : (a b c d f x : List ℕ) → ((((a ++ b) ++ c) ++ d) ++ f) ++ x ≡ a ++ (b ++ (c ++ (d ++ (f ++ x))))
-regroup_5 a b c d f x = simp append_assoc
+regroup_6 : (a b c d f g x : List ℕ) → ((((((a ++ b) ++ c) ++ d) ++ f) ++ g) ++ x) ≡ a ++ (b ++ (c ++ (d ++ (f ++ (g ++ x)))))
+regroup_6 a b c d f g x = simp append_assoc
 
-ends_at : (c : ℕ) (x : List ℕ) → 10 ≤ digit_value c → c ≢ 39 → Ends (c ∷ x)
-ends_at c x h k = (h, k)
+parted : (v : Val) (x : List ℕ) → literal v ++ x ≡ word v ++ after v x
+parted (boolean b) x = refl
+parted (integer (pos m)) x = refl
+parted (integer (negsuc m)) x = refl
+parted (text s) x = regroup_3 (codes "'") (doubled s) (codes "'") x
+parted (user n ps) x = regroup_4 n (codes "(") (parts_literal false ps) (codes ")") x
+parted (tuple fs) x = regroup_3 (codes "TUPLE {") (fields_literal false fs) (codes "}") x
+parted (relation h rs) x = regroup_6 (codes "RELATION {") (attributes_text false h) (codes "}") (codes " {") (rows_literal false rs) (codes "}") x
 
-parts_end : (ps : Parts) (x : List ℕ) → Ends (parts_literal true ps ++ 41 ∷ x)
-parts_end no_parts x = (omega arith, λ e. omega (arith, e))
-parts_end (part v ps) x = (omega arith, λ e. omega (arith, e))
+digit_plain : (d : ℕ) → 48 ≤ d → d ≤ 57 → is_mark d ≡ false
+digit_plain d low high = grind (arith, nat_tests)
 
-fields_end : (fs : Fields) (x : List ℕ) → Ends (fields_literal true fs ++ 125 ∷ x)
-fields_end no_fields x = (omega arith, λ e. omega (arith, e))
-fields_end (field n v fs) x = (omega arith, λ e. omega (arith, e))
+digits_plain : (ds : List ℕ) → AllDigits 10 ds → IsPlain ds
+digits_plain [] a = tt
+digits_plain (d ∷ ds) a =
+    let range = digit_from_value d a.0 in
+    (digit_plain d range.0 range.1, digits_plain ds a.1)
+
+word_plain : (v : Val) → IsValue v → IsPlain (word v)
+word_plain (boolean true) p = (refl, (refl, (refl, (refl, tt))))
+word_plain (boolean false) p = (refl, (refl, (refl, (refl, (refl, tt)))))
+word_plain (integer (pos m)) p = digits_plain (decimal m) (decimal_is_IsNumeral m (below_pos m p)).0.1
+word_plain (integer (negsuc m)) p = tt
+word_plain (text s) p = tt
+word_plain (user n ps) p = name_plain n p.0
+word_plain (tuple fs) p = (refl, (refl, (refl, (refl, (refl, tt)))))
+word_plain (relation h rs) p = (refl, (refl, (refl, (refl, (refl, (refl, (refl, (refl, tt))))))))
+
+after_marked : (v : Val) (x : List ℕ) → IsClosed x → IsMarked (after v x)
+after_marked (boolean b) x h = closed_marked x h
+after_marked (integer (pos m)) x h = closed_marked x h
+after_marked (integer (negsuc m)) x h = refl
+after_marked (text s) x h = refl
+after_marked (user n ps) x h = refl
+after_marked (tuple fs) x h = refl
+after_marked (relation h rs) x k = refl
+
+-- ---- the kind of a value, by the word at its front and the mark after it
+
+abbrev first : List ℕ → ℕ
+first [] = 0
+first (c ∷ w) = c
+
+abbrev is_digit : ℕ → Bool
+is_digit c = nat_le 48 c && nat_le c 57
+
+abbrev kind_by : ℕ → List ℕ → ℕ
+kind_by m w =
+    if m == 39 then 2 else (if m == 45 then 1 else (if m == 40 then 3 else (if m == 32 then (if first w == 84 then 4 else 5)
+    else (if is_digit (first w) then 1 else (if first w == 0 then 9 else 0)))))
+
+abbrev kind : List ℕ → List ℕ → ℕ
+kind w [] = kind_by 0 w
+kind w (m ∷ x) = kind_by m w
+
+closed_kind : (w x : List ℕ) → IsClosed x → kind w x ≡ kind_by 0 w
+closed_kind w [] h = refl
+closed_kind w (c ∷ x) (inl e) = ap (λ m. kind_by m w) e
+closed_kind w (c ∷ x) (inr (inl e)) = ap (λ m. kind_by m w) e
+closed_kind w (c ∷ x) (inr (inr e)) = ap (λ m. kind_by m w) e
+
+digit_is : (d : ℕ) → 48 ≤ d → d ≤ 57 → is_digit d ≡ true
+digit_is d low high = grind (arith, nat_tests)
+
+digits_kind : (ds : List ℕ) → AllDigits 10 ds → 0 < length ds → kind_by 0 ds ≡ 1
+digits_kind [] a k = absurd (omega (arith, k))
+digits_kind (d ∷ ds) a k =
+    let range = digit_from_value d a.0 in
+    rw (digit_is d range.0 range.1) refl
+
+kind_is : (v : Val) → IsValue v → (x : List ℕ) → IsClosed x → kind (word v) (after v x) ≡ rank v
+kind_is (boolean true) p x h = closed_kind (codes "TRUE") x h
+kind_is (boolean false) p x h = closed_kind (codes "FALSE") x h
+kind_is (integer (pos m)) p x h =
+    let numeral = decimal_is_IsNumeral m (below_pos m p) in
+    closed_kind (decimal m) x h ∙ digits_kind (decimal m) numeral.0.1 numeral.0.0
+kind_is (integer (negsuc m)) p x h = refl
+kind_is (text s) p x h = refl
+kind_is (user n ps) p x h = refl
+kind_is (tuple fs) p x h = refl
+kind_is (relation i rs) p x h = refl
+
+ranks_same : (v w : Val) → IsValue v → IsValue w → (x y : List ℕ) → IsClosed x → IsClosed y → literal v ++ x ≡ literal w ++ y → rank v ≡ rank w
+ranks_same v w p q x y h k e =
+    let cut = plain_cut (word v) (word w) (after v x) (after w y) (word_plain v p) (word_plain w q) (after_marked v x h) (after_marked w y k)
+    (sym (parted v x) ∙ e ∙ parted w y) in
+    sym (kind_is v p x h) ∙ (λ i. kind (cut.0 i) (cut.1 i)) ∙ kind_is w q y k
+
+rank_low : (v : Val) → rank v < 9
+rank_low (boolean b) = omega arith
+rank_low (integer z) = omega arith
+rank_low (text s) = omega arith
+rank_low (user n ps) = omega arith
+rank_low (tuple fs) = omega arith
+rank_low (relation h rs) = omega arith
+
+-- no literal begins with a parenthesis
+literal_first : (w : Val) → IsValue w → (x y : List ℕ) → IsClosed y → 41 ∷ x ≡ literal w ++ y → ⊥
+literal_first w q x y k e =
+    let cut = plain_cut [] (word w) (41 ∷ x) (after w y) tt (word_plain w q) refl (after_marked w y k) (e ∙ parted w y) in
+    let nine : 9 ≡ rank w = (λ i. kind (cut.0 i) (cut.1 i)) ∙ kind_is w q y k in
+    omega (arith, rank_low w, nine)
+
+-- ---- the parts between commas
+
+parts_closed : (ps : Parts) (x : List ℕ) → IsClosed (parts_literal true ps ++ 41 ∷ x)
+parts_closed no_parts x = inl refl
+parts_closed (part v ps) x = inr (inl refl)
+
+fields_closed : (fs : Fields) (x : List ℕ) → IsClosed (fields_literal true fs ++ 125 ∷ x)
+fields_closed no_fields x = inr (inr refl)
+fields_closed (field n v fs) x = inr (inl refl)
+
+-- the heading in a relation type
+heading_in : Type' → Attrs
+heading_in (types.relation h) = h
+heading_in t = no_attrs
 
 -- ---- all values
 
-module _ (D : List ℕ → List Type') where
-  mutual
-    pub value_cut : (v w : Val) → type_of v ≡ type_of w → IsValue v → IsValue w → IsDeclared D v → IsDeclared D w
-        → (x y : List ℕ) → Ends x → Ends y → literal v ++ x ≡ literal w ++ y → (v ≡ w) × (x ≡ y)
-    value_cut (boolean a) (boolean b) t p q d f x y ex ey e =
-        let cut = booleans_cut a b x y e in (ap boolean cut.0, cut.1)
-    value_cut (integer z) (integer w) t p q d f x y ex ey e =
-        let cut = numbers_cut z w x y p q ex ey e in (ap integer cut.0, cut.1)
-    value_cut (text s) (text u) t p q d f x y ex ey e =
-        let whole : codes "'" ++ (doubled s ++ 39 ∷ x) ≡ codes "'" ++ (doubled u ++ 39 ∷ y) =
-        sym (regroup_3 (codes "'") (doubled s) (codes "'") x) ∙ e ∙ regroup_3 (codes "'") (doubled u) (codes "'") y in
-        let cut = texts_cut s u x y ex ey (cut_front (codes "'") _ _ whole) in (ap text cut.0, cut.1)
-    value_cut (user n ps) (user m qs) t p q d f x y ex ey e =
-        let same : n ≡ m = cc in
-        let whole : n ++ (codes "(" ++ (parts_literal false ps ++ (codes ")" ++ x))) ≡ m ++ (codes "(" ++ (parts_literal false qs ++ (codes ")" ++ y))) =
-        sym (regroup_4 n (codes "(") (parts_literal false ps) (codes ")") x) ∙ e ∙ regroup_4 m (codes "(") (parts_literal false qs) (codes ")") y in
-        let left = subst (λ k. n ++ (codes "(" ++ (parts_literal false ps ++ (codes ")" ++ x))) ≡ k ++ (codes "(" ++ (parts_literal false qs ++ (codes ")" ++ y)))) (sym same) whole in
-        let inner = cut_front (codes "(") _ _ (cut_front n _ _ left) in
-        let cut = parts_cut false ps qs (d.0 ∙ ap D same ∙ sym f.0) p.1 q.1 d.1 f.1 x y inner in
-        (λ i. user (same i) (cut.0 i), cut.1)
-    value_cut (tuple fs) (tuple gs) t p q d f x y ex ey e =
-        let same : fields_type fs ≡ fields_type gs = cc in
-        let whole : codes "TUPLE {" ++ (fields_literal false fs ++ (codes "}" ++ x)) ≡ codes "TUPLE {" ++ (fields_literal false gs ++ (codes "}" ++ y)) =
-        sym (regroup_3 (codes "TUPLE {") (fields_literal false fs) (codes "}") x) ∙ e ∙ regroup_3 (codes "TUPLE {") (fields_literal false gs) (codes "}") y in
-        let cut = fields_cut false fs gs same p.0 q.0 d f x y (cut_front (codes "TUPLE {") _ _ whole) in
-        (ap tuple cut.0, cut.1)
-    value_cut (relation h rs) (relation i ss) t p q d f x y ex ey e =
-        let same : h ≡ i = cc in
-        let whole : type_text (types.relation h) ++ (codes " {" ++ (rows_literal false rs ++ (codes "}" ++ x))) ≡ type_text (types.relation i) ++ (codes " {" ++ (rows_literal false ss ++ (codes "}" ++ y))) =
-        sym (regroup_4 (type_text (types.relation h)) (codes " {") (rows_literal false rs) (codes "}") x) ∙ e ∙ regroup_4 (type_text (types.relation i)) (codes " {") (rows_literal false ss) (codes "}") y in
-        let left = subst (λ k. type_text (types.relation h) ++ (codes " {" ++ (rows_literal false rs ++ (codes "}" ++ x))) ≡ type_text (types.relation k) ++ (codes " {" ++ (rows_literal false ss ++ (codes "}" ++ y)))) (sym same) whole in
-        let inner = cut_front (codes " {") _ _ (cut_front (type_text (types.relation h)) _ _ left) in
-        let cut = rows_cut false h rs ss p.0 (subst (λ k. AreRows k ss) (sym same) q.0) d f x y inner in
-        (λ j. relation (same j) (cut.0 j), cut.1)
-    value_cut v w t p q d f x y ex ey e = absurd (cc)
+mutual
+  unfolding heading_in
 
-    pub parts_cut : (later : Bool) (ps qs : Parts) → parts_types ps ≡ parts_types qs → AreValues ps → AreValues qs → ArePartsDeclared D ps → ArePartsDeclared D qs
-        → (x y : List ℕ) → parts_literal later ps ++ 41 ∷ x ≡ parts_literal later qs ++ 41 ∷ y → (ps ≡ qs) × (x ≡ y)
-    parts_cut later no_parts no_parts t p q d f x y e = (refl, cut_front (codes ")") x y e)
-    parts_cut later no_parts (part w qs) t p q d f x y e = absurd (cc)
-    parts_cut later (part v ps) no_parts t p q d f x y e = absurd (cc)
-    parts_cut later (part v ps) (part w qs) t p q d f x y e =
-        let first : type_of v ≡ type_of w = cc in
-        let rest : parts_types ps ≡ parts_types qs = cc in
-        let whole = sym (regroup_3 (comma_if later) (literal v) (parts_literal true ps) (41 ∷ x)) ∙ e ∙ regroup_3 (comma_if later) (literal w) (parts_literal true qs) (41 ∷ y) in
-        let cut = value_cut v w first p.0 q.0 d.0 f.0 _ _ (parts_end ps x) (parts_end qs y) (cut_front (comma_if later) _ _ whole) in
-        let more = parts_cut true ps qs rest p.1 q.1 d.1 f.1 x y cut.1 in
-        (λ i. part (cut.0 i) (more.0 i), more.1)
+  pub value_cut : (v w : Val) → IsValue v → IsValue w → (x y : List ℕ) → IsClosed x → IsClosed y → literal v ++ x ≡ literal w ++ y → (v ≡ w) × (x ≡ y)
+  value_cut (boolean a) (boolean b) p q x y h k e =
+      let cut = booleans_cut a b x y e in (ap boolean cut.0, cut.1)
+  value_cut (integer z) (integer w) p q x y h k e =
+      let cut = numbers_cut z w x y p q (closed_ends x h) (closed_ends y k) e in (ap integer cut.0, cut.1)
+  value_cut (text s) (text u) p q x y h k e =
+      let whole = sym (parted (text s) x) ∙ e ∙ parted (text u) y in
+      let cut = texts_cut s u x y (closed_ends x h) (closed_ends y k) (cut_front (codes "'") _ _ whole) in (ap text cut.0, cut.1)
+  value_cut (user n ps) (user m qs) p q x y h k e =
+      let names = plain_cut n m _ _ (name_plain n p.0) (name_plain m q.0) refl refl (sym (parted (user n ps) x) ∙ e ∙ parted (user m qs) y) in
+      let cut = parts_cut false ps qs p.1 q.1 x y (cut_front (codes "(") _ _ names.1) in
+      (λ i. user (names.0 i) (cut.0 i), cut.1)
+  value_cut (tuple fs) (tuple gs) p q x y h k e =
+      let whole = sym (regroup_3 (codes "TUPLE {") (fields_literal false fs) (codes "}") x) ∙ e ∙ regroup_3 (codes "TUPLE {") (fields_literal false gs) (codes "}") y in
+      let cut = fields_cut false fs gs p.0 q.0 x y (cut_front (codes "TUPLE {") _ _ whole) in
+      (ap tuple cut.0, cut.1)
+  value_cut (relation g rs) (relation i ss) p q x y h k e =
+      let whole = sym (regroup_4 (type_text (types.relation g)) (codes " {") (rows_literal false rs) (codes "}") x) ∙ e ∙ regroup_4 (type_text (types.relation i)) (codes " {") (rows_literal false ss) (codes "}") y in
+      let headings = type_cut (types.relation g) (types.relation i) p.2 q.2 _ _ refl refl whole in
+      let cut = rows_cut false g i rs ss p.0 q.0 x y (cut_front (codes " {") _ _ headings.1) in
+      (λ j. relation (heading_in (headings.0 j)) (cut.0 j), cut.1)
+  value_cut v w p q x y h k e = let same : rank v ≡ rank w = ranks_same v w p q x y h k e in absurd (omega (arith, same))
 
-    pub fields_cut : (later : Bool) (fs gs : Fields) → fields_type fs ≡ fields_type gs → AreFields fs → AreFields gs → AreFieldsDeclared D fs → AreFieldsDeclared D gs
-        → (x y : List ℕ) → fields_literal later fs ++ 125 ∷ x ≡ fields_literal later gs ++ 125 ∷ y → (fs ≡ gs) × (x ≡ y)
-    fields_cut later no_fields no_fields t p q d f x y e = (refl, cut_front (codes "}") x y e)
-    fields_cut later no_fields (field m w gs) t p q d f x y e = absurd (cc)
-    fields_cut later (field n v fs) no_fields t p q d f x y e = absurd (cc)
-    fields_cut later (field n v fs) (field m w gs) t p q d f x y e =
-        let name : n ≡ m = cc in
-        let first : type_of v ≡ type_of w = cc in
-        let rest : fields_type fs ≡ fields_type gs = cc in
-        let whole = sym (regroup_5 (comma_if later) n (codes " ") (literal v) (fields_literal true fs) (125 ∷ x)) ∙ e ∙ regroup_5 (comma_if later) m (codes " ") (literal w) (fields_literal true gs) (125 ∷ y) in
-        let after = cut_front (comma_if later) _ _ whole in
-        let left = subst (λ k. n ++ (codes " " ++ (literal v ++ (fields_literal true fs ++ 125 ∷ x))) ≡ k ++ (codes " " ++ (literal w ++ (fields_literal true gs ++ 125 ∷ y)))) (sym name) after in
-        let cut = value_cut v w first p.1 q.1 d.0 f.0 _ _ (fields_end fs x) (fields_end gs y) (cut_front (codes " ") _ _ (cut_front n _ _ left)) in
-        let more = fields_cut true fs gs rest p.2 q.2 d.1 f.1 x y cut.1 in
-        (λ i. field (name i) (cut.0 i) (more.0 i), more.1)
+  pub parts_cut : (later : Bool) (ps qs : Parts) → AreValues ps → AreValues qs → (x y : List ℕ)
+      → parts_literal later ps ++ 41 ∷ x ≡ parts_literal later qs ++ 41 ∷ y → (ps ≡ qs) × (x ≡ y)
+  parts_cut later no_parts no_parts p q x y e = (refl, cut_front (codes ")") x y e)
+  parts_cut true no_parts (part w qs) p q x y e = absurd (omega (arith, (tail_of 41 44 _ _ e).0))
+  parts_cut false no_parts (part w qs) p q x y e =
+      absurd (literal_first w q.0 x _ (parts_closed qs y) (e ∙ regroup_3 [] (literal w) (parts_literal true qs) (41 ∷ y)))
+  parts_cut true (part v ps) no_parts p q x y e = absurd (omega (arith, (tail_of 44 41 _ _ e).0))
+  parts_cut false (part v ps) no_parts p q x y e =
+      absurd (literal_first v p.0 y _ (parts_closed ps x) (sym e ∙ regroup_3 [] (literal v) (parts_literal true ps) (41 ∷ x)))
+  parts_cut later (part v ps) (part w qs) p q x y e =
+      let whole = sym (regroup_3 (comma_if later) (literal v) (parts_literal true ps) (41 ∷ x)) ∙ e ∙ regroup_3 (comma_if later) (literal w) (parts_literal true qs) (41 ∷ y) in
+      let cut = value_cut v w p.0 q.0 _ _ (parts_closed ps x) (parts_closed qs y) (cut_front (comma_if later) _ _ whole) in
+      let more = parts_cut true ps qs p.1 q.1 x y cut.1 in
+      (λ i. part (cut.0 i) (more.0 i), more.1)
 
-    pub rows_cut : (later : Bool) (h : Attrs) (rs ss : Rows) → AreRows h rs → AreRows h ss → AreRowsDeclared D rs → AreRowsDeclared D ss
-        → (x y : List ℕ) → rows_literal later rs ++ 125 ∷ x ≡ rows_literal later ss ++ 125 ∷ y → (rs ≡ ss) × (x ≡ y)
-    rows_cut later h no_rows no_rows p q d f x y e = (refl, cut_front (codes "}") x y e)
-    rows_cut true h no_rows (row gs ss) p q d f x y e = absurd (omega (arith, (tail_of 125 44 _ _ e).0))
-    rows_cut false h no_rows (row gs ss) p q d f x y e = absurd (omega (arith, (tail_of 125 84 _ _ e).0))
-    rows_cut true h (row fs rs) no_rows p q d f x y e = absurd (omega (arith, (tail_of 44 125 _ _ e).0))
-    rows_cut false h (row fs rs) no_rows p q d f x y e = absurd (omega (arith, (tail_of 84 125 _ _ e).0))
-    rows_cut later h (row fs rs) (row gs ss) p q d f x y e =
-        let whole = sym (regroup_5 (comma_if later) (codes "TUPLE {") (fields_literal false fs) (codes "}") (rows_literal true rs) (125 ∷ x)) ∙ e ∙ regroup_5 (comma_if later) (codes "TUPLE {") (fields_literal false gs) (codes "}") (rows_literal true ss) (125 ∷ y) in
-        let after = cut_front (codes "TUPLE {") _ _ (cut_front (comma_if later) _ _ whole) in
-        let cut = fields_cut false fs gs (p.0.2 ∙ sym q.0.2) p.0.0 q.0.0 d.0 f.0 _ _ after in
-        let more = rows_cut true h rs ss p.1 q.1 d.1 f.1 x y cut.1 in
-        (λ i. row (cut.0 i) (more.0 i), more.1)
+  pub fields_cut : (later : Bool) (fs gs : Fields) → AreFields fs → AreFields gs → (x y : List ℕ)
+      → fields_literal later fs ++ 125 ∷ x ≡ fields_literal later gs ++ 125 ∷ y → (fs ≡ gs) × (x ≡ y)
+  fields_cut later no_fields no_fields p q x y e = (refl, cut_front (codes "}") x y e)
+  fields_cut true no_fields (field m w gs) p q x y e = absurd (omega (arith, (tail_of 125 44 _ _ e).0))
+  fields_cut false no_fields (field m w gs) p q x y e =
+      absurd (no_name m x _ (name_plain m q.0) (e ∙ regroup_5 [] m (codes " ") (literal w) (fields_literal true gs) (125 ∷ y)))
+  fields_cut true (field n v fs) no_fields p q x y e = absurd (omega (arith, (tail_of 44 125 _ _ e).0))
+  fields_cut false (field n v fs) no_fields p q x y e =
+      absurd (no_name n y _ (name_plain n p.0) (sym e ∙ regroup_5 [] n (codes " ") (literal v) (fields_literal true fs) (125 ∷ x)))
+  fields_cut later (field n v fs) (field m w gs) p q x y e =
+      let whole = sym (regroup_5 (comma_if later) n (codes " ") (literal v) (fields_literal true fs) (125 ∷ x)) ∙ e ∙ regroup_5 (comma_if later) m (codes " ") (literal w) (fields_literal true gs) (125 ∷ y) in
+      let names = plain_cut n m _ _ (name_plain n p.0) (name_plain m q.0) refl refl (cut_front (comma_if later) _ _ whole) in
+      let cut = value_cut v w p.1 q.1 _ _ (fields_closed fs x) (fields_closed gs y) (cut_front (codes " ") _ _ names.1) in
+      let more = fields_cut true fs gs p.2 q.2 x y cut.1 in
+      (λ i. field (names.0 i) (cut.0 i) (more.0 i), more.1)
+
+  pub rows_cut : (later : Bool) (h i : Attrs) (rs ss : Rows) → AreRows h rs → AreRows i ss → (x y : List ℕ)
+      → rows_literal later rs ++ 125 ∷ x ≡ rows_literal later ss ++ 125 ∷ y → (rs ≡ ss) × (x ≡ y)
+  rows_cut later h i no_rows no_rows p q x y e = (refl, cut_front (codes "}") x y e)
+  rows_cut true h i no_rows (row gs ss) p q x y e = absurd (omega (arith, (tail_of 125 44 _ _ e).0))
+  rows_cut false h i no_rows (row gs ss) p q x y e = absurd (omega (arith, (tail_of 125 84 _ _ e).0))
+  rows_cut true h i (row fs rs) no_rows p q x y e = absurd (omega (arith, (tail_of 44 125 _ _ e).0))
+  rows_cut false h i (row fs rs) no_rows p q x y e = absurd (omega (arith, (tail_of 84 125 _ _ e).0))
+  rows_cut later h i (row fs rs) (row gs ss) p q x y e =
+      let whole = sym (regroup_5 (comma_if later) (codes "TUPLE {") (fields_literal false fs) (codes "}") (rows_literal true rs) (125 ∷ x)) ∙ e ∙ regroup_5 (comma_if later) (codes "TUPLE {") (fields_literal false gs) (codes "}") (rows_literal true ss) (125 ∷ y) in
+      let cut = fields_cut false fs gs p.0.0 q.0.0 _ _ (cut_front (codes "TUPLE {") _ _ (cut_front (comma_if later) _ _ whole)) in
+      let more = rows_cut true h i rs ss p.1 q.1 x y cut.1 in
+      (λ j. row (cut.0 j) (more.0 j), more.1)

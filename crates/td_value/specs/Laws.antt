@@ -1,12 +1,12 @@
 -- What the order of values and their literals are to their callers.
-use Rattle.std.specs.Prelude.{◌≡◌, ◌↔◌, IsTrue, ℕ, List, [], ◌∷◌}
+use Rattle.std.specs.Prelude.{◌≡◌, ◌↔◌, ◌⊎◌, ◌++◌, IsTrue, ℕ, List}
 use Rattle.std.specs.Ordering.{eq_by_cmp}
 use Rattle.std.specs.Cmp.Lexicographic.{slice_cmp}
 use Rattle.std.specs.List.{Contains}
-use Rattle.td_types.specs.Types.{IsType, Type'}
+use Rattle.td_types.specs.Types.{IsType}
 use Rattle.td_value.specs.Literal.{literal}
 use Rattle.td_value.specs.Sets.{set_of}
-use Rattle.td_value.specs.Values.{Val, boolean, integer, text, user, tuple, relation, Parts, no_parts, part, Fields, no_fields, field, Rows, no_rows, row, Entries, Relation, IsRelation, IsValue, names_of, order, pack_parts, relation_order, tuple_order, type_of}
+use Rattle.td_value.specs.Values.{Val, user, Entries, Relation, HaveSameMembers, IsRelation, IsValue, names_of, order, pack_parts, relation_order, tuple_order, type_of}
 use Rattle.td_value.specs.Views.{values_of}
 
 -- values, tuples and relations are equal as the code compares them exactly where they are the same
@@ -33,42 +33,18 @@ TypesOfValuesAreTypes = (v : Val) → IsValue v → IsType (type_of v)
 
 -- the set of a list of tuples has the members of the list, and no other
 abbrev pub SetsHaveTheMembersOfTheirLists : Type 0
-SetsHaveTheMembersOfTheirLists = (ts : List Entries) (t : Entries) → Contains (set_of tuple_order ts) t ↔ Contains ts t
+SetsHaveTheMembersOfTheirLists = (ts : List Entries) → HaveSameMembers (set_of tuple_order ts) ts
+
+-- the set of two lists joined has the members of either, and no other
+abbrev pub SetsOfJoinedLists : Type 0
+SetsOfJoinedLists =
+    (ss ts : List Entries) (t : Entries) → Contains (set_of tuple_order (ss ++ ts)) t ↔ (Contains ss t ⊎ Contains ts t)
 
 -- a relation is its heading and its members: two of one heading with the same members are one (the chapter's)
 abbrev pub RelationsAreTheirMembers : Type 0
 RelationsAreTheirMembers =
-    (r s : Relation) → IsRelation r → IsRelation s → r.heading ≡ s.heading → ((t : Entries) → Contains r.rows t ↔ Contains s.rows t) → r ≡ s
+    (r s : Relation) → IsRelation r → IsRelation s → r.heading ≡ s.heading → HaveSameMembers r.rows s.rows → r ≡ s
 
--- the types of a user value's components
-abbrev pub parts_types : Parts → List Type'
-parts_types no_parts = []
-parts_types (part v ps) = type_of v ∷ parts_types ps
-
--- each user value in it has, in number and order, components of the types that are declared for its type
-abbrev mutual
-  pub IsDeclared : (List ℕ → List Type') → Val → Type 0
-  IsDeclared declared (boolean b) = Unit {0}
-  IsDeclared declared (integer z) = Unit {0}
-  IsDeclared declared (text s) = Unit {0}
-  IsDeclared declared (user n ps) = (parts_types ps ≡ declared n) × ArePartsDeclared declared ps
-  IsDeclared declared (tuple fs) = AreFieldsDeclared declared fs
-  IsDeclared declared (relation h rs) = AreRowsDeclared declared rs
-
-  pub ArePartsDeclared : (List ℕ → List Type') → Parts → Type 0
-  ArePartsDeclared declared no_parts = Unit {0}
-  ArePartsDeclared declared (part v ps) = IsDeclared declared v × ArePartsDeclared declared ps
-
-  pub AreFieldsDeclared : (List ℕ → List Type') → Fields → Type 0
-  AreFieldsDeclared declared no_fields = Unit {0}
-  AreFieldsDeclared declared (field n v fs) = IsDeclared declared v × AreFieldsDeclared declared fs
-
-  pub AreRowsDeclared : (List ℕ → List Type') → Rows → Type 0
-  AreRowsDeclared declared no_rows = Unit {0}
-  AreRowsDeclared declared (row fs rs) = AreFieldsDeclared declared fs × AreRowsDeclared declared rs
-
--- two values of one type have one literal only where they are equal
+-- two values have one literal exactly where they are one, whatever their types are
 abbrev pub LiteralsTellValuesApart : Type 0
-LiteralsTellValuesApart =
-    (declared : List ℕ → List Type') (v w : Val) → IsValue v → IsValue w → IsDeclared declared v → IsDeclared declared w
-    → type_of v ≡ type_of w → literal v ≡ literal w → v ≡ w
+LiteralsTellValuesApart = (v w : Val) → IsValue v → IsValue w → (literal v ≡ literal w) ↔ (v ≡ w)

@@ -7,3 +7,4 @@ pub mod ValueCode
 pub mod ValueOrder
 pub mod Values
 pub mod Views
+pub mod Zipped

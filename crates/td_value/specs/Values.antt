@@ -1,5 +1,5 @@
 -- Values, tuples and relations (a relation is a set of tuples, as in Tutorial D; the order of values is this project's own).
-use Rattle.std.specs.Prelude.{◌≡◌, ℕ, suc, ◌-◌, ◌^◌, max, ℤ, pos, ◌≤ℤ◌, negsuc, Bool, List, [], ◌∷◌, map, Option, Some, None, if◌then◌else◌, IsUtf8}
+use Rattle.std.specs.Prelude.{◌≡◌, ℕ, suc, ◌-◌, ◌^◌, max, ℤ, pos, ◌≤ℤ◌, negsuc, Bool, List, [], ◌∷◌, filter, map, Option, Some, None, if◌then◌else◌, IsUtf8, ◌↔◌}
 use Rattle.std.specs.Ordering.{nat_cmp, int_cmp, bool_cmp, ordering_then}
 use Rattle.std.specs.declared.cmp.Ordering.{Ordering}
 use Rattle.std.specs.declared.cmp.Ordering.TheVariants.{Less, Equal, Greater}
@@ -7,6 +7,9 @@ use Rattle.std.specs.Cmp.Lexicographic.{slice_cmp}
 use Rattle.std.specs.List.Sorted.{IsStrictlySortedBy}
 use Rattle.std.specs.List.{Contains}
 use Rattle.td_tree.specs.Names.{IsName}
+use Rattle.td_tree.specs.Outcomes.{Outcome, value_if}
+use Rattle.td_tree.specs.declared.cause.Cause.TheVariants.{Heading}
+use Rattle.td_types.specs.Headings.{are_distinct, has_name}
 use Rattle.td_types.specs.Types.{Type', IsHeading, same_name, Attrs, no_attrs, attr, Attributes, attrs_cmp, pack}
 use Rattle.td_types.specs.Types as types
 use Rattle.td_value.specs.Sets.{set_of}
@@ -72,6 +75,10 @@ abbrev pub unpack_rows : Rows → List Entries
 unpack_rows no_rows = []
 unpack_rows (row fs rs) = unpack_fields fs ∷ unpack_rows rs
 
+-- a user value as a value
+abbrev pub selected_value : Selected → Val
+selected_value u = user u.name (pack_parts u.components)
+
 -- ---- the order of values (this project's own): FALSE before TRUE, numbers by size, texts by their bytes in UTF-8, user
 -- values by their components in declared order, tuples by their values in name order, relations by their ascending lists
 -- of tuples, a proper prefix first. Between values of two types it is some total order, which no output shows
@@ -128,6 +135,10 @@ entry_order e f = ordering_then (slice_cmp nat_cmp e.0 f.0) (order e.1 f.1)
 -- the finite map that pairs of distinct names are, as the set of them in name order
 abbrev pub tuple_of : Entries → Entries
 tuple_of = set_of entry_order
+
+-- the entries of those names alone: the tuple projected on them (the chapter's)
+abbrev pub projected_tuple : List (List ℕ) → Entries → Entries
+projected_tuple names = filter (λ e. has_name e.0 names)
 
 -- ---- the type of a value
 
@@ -230,14 +241,26 @@ selected_depth u = parts_depth (pack_parts u.components)
 abbrev pub IsSelected : Selected → Type 0
 IsSelected u = IsValue (user u.name (pack_parts u.components))
 
--- a tuple of the heading h
+-- a tuple of the heading, which is one
 abbrev pub IsTupleOf : Attributes → Entries → Type 0
-IsTupleOf h t = AreFields (pack_fields t) × IsStrictlySortedBy (slice_cmp nat_cmp) (names_of (unpack_fields (pack_fields t))) × (fields_type (pack_fields t) ≡ pack h)
+IsTupleOf heading t = IsTuple t × (heading_of t ≡ heading) × IsHeading (pack heading)
 
 -- the value that a tuple, as a finite map, gives to a name
 abbrev pub value_at : List ℕ → Entries → Option Val
 value_at n [] = None
 value_at n (e ∷ es) = if same_name e.0 n then Some e.1 else value_at n es
+
+-- the tuple gives each name the value that the entries give it
+abbrev pub HasValuesOf : Entries → Entries → Type 0
+HasValuesOf entries t = (name : List ℕ) → value_at name t ≡ value_at name entries
+
+-- the tuple of entries, no two of one name; else the cause HEADING (the chapter's; the cause is this project's own)
+abbrev pub made_tuple : Entries → Outcome Entries
+made_tuple entries = value_if (are_distinct (names_of entries)) (tuple_of entries) Heading
+
+-- a tuple is in one of the lists exactly where it is in the other
+abbrev pub HaveSameMembers : List Entries → List Entries → Type 0
+HaveSameMembers ss ts = (t : Entries) → Contains ss t ↔ Contains ts t
 
 -- any two of the tuples have the same names
 abbrev pub HaveSameNames : List Entries → Type 0

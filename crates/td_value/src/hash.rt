@@ -1,7 +1,7 @@
 //! The hashes of values.
 ghost use Rattle.std.specs.Prelude.{◌≡◌, fold};
 ghost use Rattle.td_value.specs.Hashes.{fed_value, fed_parts, fed_rows, fed_tuple, fed_relation};
-ghost use Rattle.td_value.specs.Values.{pack_parts, pack_rows, user};
+ghost use Rattle.td_value.specs.Values.{pack_parts, pack_rows, selected_value};
 
 use crate::value::{Node, Rel, Tuple, User, Value};
 use std::hash::{Hash, Hasher};
@@ -22,7 +22,7 @@ fn feed_value<H: Hasher>(v: &Value, state: &mut H)
 
 #[cycle(feed)]
 fn feed_user<H: Hasher>(u: &User, state: &mut H)
-    ensures { state.new ≡ fold H.write state.old (fed_value (user u.now.name (pack_parts u.now.components))) }
+    ensures { state.new ≡ fold H.write state.old (fed_value (selected_value u.now)) }
 {
     u.name.as_str().hash(state);
     feed_parts(&u.components, state);

@@ -1,5 +1,9 @@
 //! What sets of tuples, the order of values and their literals are to their callers: each function has its contract alone.
-ghost use Rattle.td_value.specs.Laws.{EqualityIsSameness, LiteralsTellValuesApart, RelationsAreTheirMembers, RelationsCompareByRows, SetsHaveTheMembersOfTheirLists, TuplesCompareByValues, TypesOfValuesAreTypes, UserValuesCompareByComponents};
+ghost use Rattle.td_value.specs.Laws.{EqualityIsSameness, LiteralsTellValuesApart};
+ghost use Rattle.td_value.specs.Laws.{RelationsAreTheirMembers, RelationsCompareByRows};
+ghost use Rattle.td_value.specs.Laws.{SetsHaveTheMembersOfTheirLists, SetsOfJoinedLists};
+ghost use Rattle.td_value.specs.Laws.{TuplesCompareByValues, TypesOfValuesAreTypes};
+ghost use Rattle.td_value.specs.Laws.{UserValuesCompareByComponents};
 
 /// `==` on values, on tuples and on relations tells whether they are the same.
 pub fn equality_is_sameness()
@@ -21,7 +25,7 @@ pub fn relations_compare_by_rows()
     ensures { RelationsCompareByRows }
 {}
 
-/// Two values of one type have one literal only where they are equal.
+/// Two values have one literal exactly where they are one, whatever their types are.
 pub fn literals_tell_values_apart()
     ensures { LiteralsTellValuesApart }
 {}
@@ -34,6 +38,11 @@ pub fn types_of_values_are_types()
 /// The set of a list of tuples has the members of the list, and no other.
 pub fn sets_have_the_members_of_their_lists()
     ensures { SetsHaveTheMembersOfTheirLists }
+{}
+
+/// The set of two lists of tuples joined has the members of either, and no other.
+pub fn sets_of_joined_lists()
+    ensures { SetsOfJoinedLists }
 {}
 
 /// A relation is its heading and its members: two of one heading with the same members are one.

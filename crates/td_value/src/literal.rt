@@ -6,8 +6,9 @@ ghost use Rattle.td_types.specs.Texts.{comma_if, type_text};
 ghost use Rattle.td_types.specs.Types.{pack};
 ghost use Rattle.td_types.specs.Types as types;
 ghost use Rattle.td_tree.specs.TextTokens.{doubled, quoted};
-ghost use Rattle.td_value.specs.Literal.{fields_literal, literal, quotes_if, relation_literal, rows_literal, tuple_literal};
-ghost use Rattle.td_value.specs.Values.{pack_fields, pack_parts, pack_rows, user};
+ghost use Rattle.td_value.specs.Literal.{fields_literal, literal, quotes_if, relation_literal};
+ghost use Rattle.td_value.specs.Literal.{rows_literal, tuple_literal};
+ghost use Rattle.td_value.specs.Values.{pack_fields, pack_rows, selected_value};
 ghost use Rattle.td_value.specs.Views.{entries_of};
 
 use crate::value::{Node, Rel, Tuple, User, Value};
@@ -72,7 +73,8 @@ fn put_selector(out: &mut String, name: &Name) -> Result<(), AllocError>
 
 /// Puts the name of an attribute before its value.
 fn put_field_name(out: &mut String, later: bool, name: &Name) -> Result<(), AllocError>
-    ensures { OnOk result (string_bytes out.new ≡ string_bytes out.old ++ comma_if later ++ name.now ++ codes " ") }
+    ensures { OnOk result (string_bytes out.new
+        ≡ string_bytes out.old ++ comma_if later ++ name.now ++ codes " ") }
 {
     put_comma(out, later)?;
     out.push_str(name.as_str())?;
@@ -81,7 +83,8 @@ fn put_field_name(out: &mut String, later: bool, name: &Name) -> Result<(), Allo
 
 /// Puts the type of a relation, and opens its tuples.
 fn put_selected_type(out: &mut String, heading: &Heading) -> Result<(), AllocError>
-    ensures { OnOk result (string_bytes out.new ≡ string_bytes out.old ++ type_text (types.relation (pack heading.now)) ++ codes " {") }
+    ensures { OnOk result (string_bytes out.new
+        ≡ string_bytes out.old ++ type_text (types.relation (pack heading.now)) ++ codes " {") }
 {
     put_relation_type(out, heading)?;
     out.push_str(" {")
@@ -104,7 +107,8 @@ fn write_value(v: &Value, out: &mut String) -> Result<(), AllocError>
 
 #[cycle(write)]
 fn write_user(u: &User, out: &mut String) -> Result<(), AllocError>
-    ensures { OnOk result (string_bytes out.new ≡ string_bytes out.old ++ literal (user u.now.name (pack_parts u.now.components))) }
+    ensures { OnOk result (string_bytes out.new
+        ≡ string_bytes out.old ++ literal (selected_value u.now)) }
 {
     put_selector(out, &u.name)?;
     let mut later = false;
@@ -128,7 +132,8 @@ fn write_tuple(t: &Tuple, out: &mut String) -> Result<(), AllocError>
 #[cycle(write)]
 fn write_entries(names: &[Name], values: &[Value], out: &mut String) -> Result<(), AllocError>
     requires { length names.now ≡ length values.now }
-    ensures { OnOk result (string_bytes out.new ≡ string_bytes out.old ++ fields_literal false (pack_fields (entries_of names.now values.now)) ++ codes "}") }
+    ensures { OnOk result (string_bytes out.new ≡ string_bytes out.old
+        ++ fields_literal false (pack_fields (entries_of names.now values.now)) ++ codes "}") }
 {
     let mut place = 0;
     let mut later = false;
@@ -152,7 +157,8 @@ fn write_relation(r: &Rel, out: &mut String) -> Result<(), AllocError>
 /// Puts the tuples, and closes them.
 #[cycle(write)]
 fn write_rows(rows: &[Tuple], out: &mut String) -> Result<(), AllocError>
-    ensures { OnOk result (string_bytes out.new ≡ string_bytes out.old ++ rows_literal false (pack_rows rows.now) ++ codes "}") }
+    ensures { OnOk result (string_bytes out.new
+        ≡ string_bytes out.old ++ rows_literal false (pack_rows rows.now) ++ codes "}") }
 {
     let mut later = false;
     for t in rows {
@@ -176,10 +182,10 @@ impl Value {
 
 impl Tuple {
     /// The literal.
-    pub fn literal(&self, alloc: Global) -> Result<String, AllocError>
+    pub fn literal(&self) -> Result<String, AllocError>
         ensures { IfOk result (λ s. string_bytes s ≡ tuple_literal self.now) }
     {
-        let mut out = String::new(alloc);
+        let mut out = String::new(*self.values.allocator());
         write_tuple(self, &mut out)?;
         Ok(out)
     }
@@ -187,10 +193,10 @@ impl Tuple {
 
 impl Rel {
     /// The literal.
-    pub fn literal(&self, alloc: Global) -> Result<String, AllocError>
+    pub fn literal(&self) -> Result<String, AllocError>
         ensures { IfOk result (λ s. string_bytes s ≡ relation_literal self.now) }
     {
-        let mut out = String::new(alloc);
+        let mut out = String::new(*self.rows.allocator());
         write_relation(self, &mut out)?;
         Ok(out)
     }

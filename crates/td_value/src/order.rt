@@ -1,7 +1,7 @@
 //! Value order, and what follows from it.
 ghost use Rattle.std.specs.Prelude.{◌≡◌, length};
-ghost use Rattle.td_types.specs.Types.{attrs_cmp, pack};
-ghost use Rattle.td_value.specs.Values.{order, user, parts_order, fields_order, rows_order, tuple_order, relation_order, pack_parts, pack_fields, pack_rows, rank};
+ghost use Rattle.td_value.specs.Values.{order, pack_parts, pack_rows, parts_order, rank};
+ghost use Rattle.td_value.specs.Values.{relation_order, rows_order, selected_value, tuple_order};
 ghost use Rattle.td_value.specs.Views.{entries_of, values_of};
 
 use crate::value::{Node, Rel, Tuple, User, Value};
@@ -38,7 +38,7 @@ pub fn compare_values(a: &Value, b: &Value) -> Ordering
 
 #[cycle(compare)]
 fn compare_users(a: &User, b: &User) -> Ordering
-    ensures { result ≡ order (user a.now.name (pack_parts a.now.components)) (user b.now.name (pack_parts b.now.components)) }
+    ensures { result ≡ order (selected_value a.now) (selected_value b.now) }
 {
     match a.name.cmp(&b.name) {
         Ordering::Equal => compare_parts(&a.components, &b.components),

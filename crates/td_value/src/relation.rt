@@ -2,7 +2,8 @@
 ghost use Rattle.std.specs.Prelude.{◌≡◌, IfOk, OnOk};
 ghost use Rattle.std.specs.List.{All, Contains};
 ghost use Rattle.td_value.specs.Sets.{set_of};
-ghost use Rattle.td_value.specs.Values.{Entries, HaveSameNames, IsAscendingRows, IsTupleOf, names_of, tuple_order};
+ghost use Rattle.td_value.specs.Values.{Entries, HaveSameMembers, HaveSameNames};
+ghost use Rattle.td_value.specs.Values.{IsAscendingRows, IsTupleOf, names_of, tuple_order};
 ghost use Rattle.td_value.specs.Views.{relation_of};
 
 use crate::lists::put;
@@ -61,7 +62,8 @@ impl Rel {
     /// The relation with that heading whose body is the set of the tuples.
     pub fn new(heading: Heading, mut rows: Vec<Tuple>) -> Result<Rel, AllocError>
         requires { All (IsTupleOf heading) rows.items }
-        ensures { IfOk result (λ r. r ≡ relation_of heading (set_of tuple_order rows.items)) }
+        ensures value { IfOk result (λ r. r ≡ relation_of heading (set_of tuple_order rows.items)) }
+        ensures members { IfOk result (λ r. HaveSameMembers r.rows rows.items) }
     {
         let _ = heading.len();
         rows.sort_unstable_by(|a, b| compare_by_values(a, b));

@@ -1,10 +1,11 @@
 //! Tuples.
-ghost use Rattle.std.specs.Prelude.{◌≡◌, ◌∷◌, ◌++◌, [], List, ℕ, IfErr, IfOk, IsTrue, OnOk, filter, length, not, true};
+ghost use Rattle.std.specs.Prelude.{◌≡◌, ◌∷◌, ◌++◌, [], IfOk, IsTrue, OnOk, length};
 ghost use Rattle.std.specs.Ordering.{is_lt, nat_cmp};
 ghost use Rattle.std.specs.Cmp.Lexicographic.{slice_cmp};
 ghost use Rattle.std.specs.List.Sorted.{IsSortedBy, IsStrictlySortedBy};
-ghost use Rattle.td_types.specs.Headings.{are_distinct, has_name, heading_fault};
-ghost use Rattle.td_value.specs.Values.{AreFields, IsTuple, names_of, pack_fields, tuple_of, value_at};
+ghost use Rattle.td_tree.specs.Outcomes.{Answers};
+ghost use Rattle.td_value.specs.Values.{AreFields, HasValuesOf, IsTuple, made_tuple, names_of};
+ghost use Rattle.td_value.specs.Values.{pack_fields, projected_tuple};
 ghost use Rattle.td_value.specs.Views.{entries_of, values_of};
 
 use crate::lists::put;
@@ -19,10 +20,8 @@ use td_types::names::{is_among, repeats_a_name};
 impl Tuple {
     /// The tuple that gives each name its value, where no name comes twice.
     pub fn new(alloc: Global, entries: Vec<(Name, Value)>) -> Result<Tuple, Fault>
-        ensures accepted { OnOk result (are_distinct (names_of entries.items) ≡ true) }
-        ensures tuple { IfOk result (λ t. t ≡ tuple_of entries.items) }
-        ensures values { IfOk result (λ t. (name : List ℕ) → value_at name t ≡ value_at name entries.items) }
-        ensures fault { IfErr result (λ e. e ≡ heading_fault (not (are_distinct (names_of entries.items)))) }
+        ensures answer { Answers (λ t. t) result (made_tuple entries.items) }
+        ensures values { IfOk result (HasValuesOf entries.items) }
     {
         Tuple::new_like(alloc, None, entries)
     }
@@ -33,10 +32,8 @@ impl Tuple {
         like: Option<&Tuple>,
         entries: Vec<(Name, Value)>,
     ) -> Result<Tuple, Fault>
-        ensures accepted { OnOk result (are_distinct (names_of entries.items) ≡ true) }
-        ensures tuple { IfOk result (λ t. t ≡ tuple_of entries.items) }
-        ensures values { IfOk result (λ t. (name : List ℕ) → value_at name t ≡ value_at name entries.items) }
-        ensures fault { IfErr result (λ e. e ≡ heading_fault (not (are_distinct (names_of entries.items)))) }
+        ensures answer { Answers (λ t. t) result (made_tuple entries.items) }
+        ensures values { IfOk result (HasValuesOf entries.items) }
     {
         let mut sorted = entries;
         sorted.sort_unstable();
@@ -143,7 +140,8 @@ fn keep_entries(
     requires no_names { kept_names.old.items ≡ [] }
     requires no_values { kept_values.old.items ≡ [] }
     ensures lengths { OnOk result (length kept_names.new.items ≡ length kept_values.new.items) }
-    ensures kept { OnOk result (entries_of kept_names.new.items kept_values.new.items ≡ filter (λ e. has_name e.0 wanted.now) (entries_of names.now values.now)) }
+    ensures kept { OnOk result (entries_of kept_names.new.items kept_values.new.items
+        ≡ projected_tuple wanted.now (entries_of names.now values.now)) }
 {
     let mut place = 0;
     for v in values {
@@ -176,7 +174,7 @@ fn kept_entries(
 ) -> Result<Tuple, AllocError>
     requires same { length names.now ≡ length values.now }
     requires valid { IsTuple (entries_of names.now values.now) }
-    ensures { IfOk result (λ t. t ≡ filter (λ e. has_name e.0 wanted.now) (entries_of names.now values.now)) }
+    ensures { IfOk result (λ t. t ≡ projected_tuple wanted.now (entries_of names.now values.now)) }
 {
     let mut kept_names = Vec::with_capacity(alloc, wanted.len())?;
     let mut kept_values = Vec::with_capacity(alloc, wanted.len())?;
@@ -187,7 +185,7 @@ fn kept_entries(
 impl Tuple {
     /// The tuple of those attributes alone whose names are among the names.
     pub fn project(&self, names: &[Name]) -> Result<Tuple, AllocError>
-        ensures { IfOk result (λ t. t ≡ filter (λ e. has_name e.0 names.now) self.now) }
+        ensures { IfOk result (λ t. t ≡ projected_tuple names.now self.now) }
     {
         kept_entries(&self.names, &self.values, names, *self.values.allocator())
     }

@@ -6,8 +6,10 @@ ghost use Rattle.td_types.specs.TypeOrder.{heading_cmp};
 ghost use Rattle.td_types.specs.Types.{attrs_cmp, pack, type_cmp};
 ghost use Rattle.td_types.specs.Types as types;
 ghost use Rattle.td_types.specs.Views as heads;
-ghost use Rattle.td_value.specs.Values.{IsTuple, IsTupleOf, fields_type, heading_of, pack_fields, type_of};
+ghost use Rattle.td_value.specs.Values.{IsTuple, IsTupleOf, fields_type, heading_of, pack_fields};
+ghost use Rattle.td_value.specs.Values.{type_of};
 ghost use Rattle.td_value.specs.Views.{entries_of};
+ghost use Rattle.td_value.specs.Zipped.{entries_fit};
 
 use crate::value::{Node, Rel, Tuple, User, Value};
 use std::alloc::{AllocError, Global};
@@ -39,7 +41,7 @@ fn tuple_has_heading(t: &Tuple, heading: &Heading) -> bool
 #[cycle(fit)]
 fn entries_have_heading(names: &[Name], values: &[Value], heading: &Heading) -> bool
     requires { length names.now ≡ length values.now }
-    ensures { result ≡ is_eq (attrs_cmp (fields_type (pack_fields (entries_of names.now values.now))) (pack heading.now)) }
+    ensures { result ≡ entries_fit names.now values.now heading.now }
 {
     let mut place = 0;
     for v in values {
@@ -64,7 +66,8 @@ fn add_attribute(
     ty: Result<Ty, AllocError>,
 ) -> Result<Heading, AllocError>
     ensures found { OnOk result (IsOk ty) }
-    ensures more { IfOk result (λ h. IfOk ty (λ t. h ≡ with_attribute heading (name.now, heads.type_of t))) }
+    ensures more { IfOk result (λ h. IfOk ty (λ t.
+        h ≡ with_attribute heading (name.now, heads.type_of t))) }
 {
     let ty = ty?;
     let name = name.try_clone()?;
@@ -142,21 +145,19 @@ impl Tuple {
         let _ = &self.values;
         tuple_has_heading(self, heading)
     }
-}
 
-impl Tuple {
     /// The heading: each name with the type of its value.
-    pub fn heading(&self, alloc: Global) -> Result<Heading, AllocError>
+    pub fn heading(&self) -> Result<Heading, AllocError>
         ensures { IfOk result (λ h. h ≡ heading_of self.now) }
     {
-        find_heading(alloc, self)
+        find_heading(*self.values.allocator(), self)
     }
 
     /// The tuple type of the heading.
-    pub fn type_of(&self, alloc: Global) -> Result<Ty, AllocError>
+    pub fn type_of(&self) -> Result<Ty, AllocError>
         ensures { IfOk result (λ t. heads.type_of t ≡ types.tuple (pack (heading_of self.now))) }
     {
-        Ok(Ty::Tup(self.heading(alloc)?))
+        Ok(Ty::Tup(self.heading()?))
     }
 }
 

@@ -1,7 +1,8 @@
 //! What values, tuples and relations are made of.
 ghost use Rattle.std.specs.Prelude.{◌≡◌, ◌↔◌, [], IfOk, IsTrue, length, option_map};
 ghost use Rattle.std.specs.Rc.{rc_str_bytes};
-ghost use Rattle.td_value.specs.Values.{AreValues, boolean, integer, text, user, tuple, relation, pack_parts, pack_fields, pack_rows, value_at};
+ghost use Rattle.td_value.specs.Values.{AreValues, boolean, integer, pack_fields, pack_parts};
+ghost use Rattle.td_value.specs.Values.{pack_rows, relation, selected_value, text, tuple, value_at};
 ghost use Rattle.td_value.specs.Views.{node_value, entries_of, relation_of, selected_of};
 ghost use Rattle.td_types.specs.Types.{pack};
 
@@ -104,8 +105,7 @@ impl Model for User {
 }
 
 impl Model for Tuple {
-    ghost use Rattle.std.specs.Prelude.{◌≡◌, length};
-    ghost use Rattle.td_value.specs.Values.{Entries, tuple_depth, IsTuple};
+    ghost use Rattle.td_value.specs.Values.{Entries, tuple_depth};
     ghost use Rattle.td_value.specs.ValueCode.{entries_code};
 
     ghost Value = { Entries };
@@ -113,10 +113,11 @@ impl Model for Tuple {
     ghost coded = { entries_code };
 
     ghost use Rattle.td_value.specs.Views.{entries_of};
+    ghost use Rattle.td_value.specs.Zipped.{AreTuple};
 
     ghost view = { λ a. entries_of a.names.value.items a.values.value.items };
 
-    ghost invariant = { λ a. (length a.names.value.items ≡ length a.values.value.items) × IsTuple (entries_of a.names.value.items a.values.value.items) };
+    ghost invariant = { λ a. AreTuple a.names.value.items a.values.value.items };
 
     ghost size = { tuple_depth };
 
@@ -175,7 +176,7 @@ impl Value {
 
     /// The user value.
     pub fn user(alloc: Global, selected: User) -> Result<Value, AllocError>
-        ensures { IfOk result (λ v. v ≡ user selected.name (pack_parts selected.components)) }
+        ensures { IfOk result (λ v. v ≡ selected_value selected) }
     {
         let _ = &selected.components;
         let node = Node::User(Rc::new(alloc, selected)?);

@@ -4,7 +4,7 @@ use Rattle.td_types.specs.Types.{IsHeading, pack, type_at}
 use Rattle.td_types.specs.Views.{attributes_of, type_of}
 use Rattle.td_tree.specs.Names.{IsName}
 use Rattle.td_types.specs.Headings.{with_attribute}
-use Rattle.td_types.specs.HeadingLaws.{IsHeading-with}
+use Rattle.td_types.proofs.HeadingLaws.{IsHeading-with}
 use Rattle.td_types.proofs.Attributes.{attributes_of-insert, place_within, found}
 use Rattle.td_types.proofs.ty.Heading.add.Goals as goal
 

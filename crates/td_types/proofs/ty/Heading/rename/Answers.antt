@@ -1,13 +1,10 @@
 use Rattle.std.proofs.Common.{ap, ◌∙◌, refl}
 use Rattle.td_types.specs.Headings.{renamed}
-use Rattle.td_types.specs.HeadingLaws.{type_at-renamed}
+use Rattle.td_types.proofs.HeadingLaws.{type_at-renamed}
 use Rattle.td_types.specs.Types.{type_at}
 use Rattle.td_types.specs.Views.{attributes_of}
 use Rattle.td_types.proofs.Attributes.{added_all}
 use Rattle.td_types.proofs.ty.Heading.rename.Goals as goal
-
-pub returns-clause-value : goal.returns-clause-value
-returns-clause-value c = added_all _ _ (λ items. renamed c.args.renamings.now (attributes_of items)) _ _ refl c.loop-attribute-test.false c.loop-attribute.invariant
 
 pub returns-clause-types : goal.returns-clause-types
 returns-clause-types c = λ n.

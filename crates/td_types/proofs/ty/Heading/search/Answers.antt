@@ -2,8 +2,9 @@ use Rattle.std.proofs.Common.{rules, IfOk, IfErr, length, subst}
 use Rattle.std.specs.List.Sorted.{IsBinarySearchResult, IsSearchInRange}
 use Rattle.std.proofs.lemmas.Fn.{always_returns_same}
 use Rattle.td_types.specs.declared.ty.Attribute.{Attribute}
-use Rattle.td_types.specs.HeadingLaws.{ascending_from_heading, name_cmp}
-use Rattle.td_types.proofs.Search.{IsFound, IsMissing, searched}
+use Rattle.td_types.proofs.HeadingLaws.{ascending_from_heading, name_cmp}
+use Rattle.td_types.specs.Headings.{IsFound, IsMissing}
+use Rattle.td_types.proofs.Search.{searched}
 use Rattle.td_types.proofs.ty.Heading.search.Goals as goal
 
 pub returns-clause-found : goal.returns-clause-found

@@ -1,12 +1,9 @@
 use Rattle.std.proofs.Common.{ap, ◌∙◌, refl}
-use Rattle.td_types.specs.HeadingLaws.{type_at-union}
+use Rattle.td_types.proofs.HeadingLaws.{type_at-union}
 use Rattle.td_types.specs.Types.{type_at}
 use Rattle.td_types.specs.Views.{attributes_of}
 use Rattle.td_types.proofs.Attributes.{added_all}
 use Rattle.td_types.proofs.ty.Heading.union.Goals as goal
-
-pub returns-clause-value : goal.returns-clause-value
-returns-clause-value c = added_all _ _ attributes_of _ _ refl c.loop-attribute-test.false c.loop-attribute.invariant
 
 pub returns-clause-types : goal.returns-clause-types
 returns-clause-types c = λ n.

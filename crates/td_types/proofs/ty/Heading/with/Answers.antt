@@ -1,15 +1,18 @@
-use Rattle.std.proofs.Common.{◌≡◌, false, sym, ◌∙◌}
-use Rattle.std.specs.Prelude.{is_some}
+use Rattle.std.proofs.Common.{◌≡◌, false, sym, ap, ◌∙◌}
+use Rattle.std.specs.Prelude.{is_some, not}
 use Rattle.td_types.specs.Types.{type_at}
 use Rattle.td_types.specs.Views.{type_of}
-use Rattle.td_types.specs.HeadingLaws.{type_at-with}
+use Rattle.td_types.proofs.HeadingLaws.{type_at-with}
 use Rattle.td_types.proofs.Attributes.{found}
+use Rattle.td_tree.specs.declared.cause.Cause.TheVariants.{Heading}
+use Rattle.td_types.specs.Headings.{with_attribute}
+use Rattle.td_types.proofs.Valued.{answers_value}
 use Rattle.td_types.proofs.ty.Heading.with.Goals as goal
 
-pub returns-clause-value : goal.returns-clause-value
-returns-clause-value c =
+pub returns-clause-answer : goal.returns-clause-answer
+returns-clause-answer c =
     let none : is_some (type_at c.args.name c.args.self) ≡ false = found _ _ _ c.get.ensures ∙ sym c.is_some.ensures ∙ c.if-is_some.false in
-    rw none at c.in_ok-add.ensures
+    answers_value _ (with_attribute c.args.self (c.args.name, type_of c.args.ty)) _ Heading (ap not none) (rw none at c.in_ok-add.ensures)
 
 pub returns-clause-types : goal.returns-clause-types
 returns-clause-types c = λ n.

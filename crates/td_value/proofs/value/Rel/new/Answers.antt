@@ -7,11 +7,13 @@ use Rattle.std.proofs.lemmas.List.Kept.{IsStrictlySortedBy-dedup}
 use Rattle.std.proofs.lemmas.List.Sorted.{All-permutation, answers_always, ranks_by}
 use Rattle.std.proofs.Math.Seq.{take-append_seam}
 use Rattle.td_types.specs.Types.{Attributes, IsHeading, pack}
-use Rattle.td_value.specs.Sets.{set_of, sorted_is_set_of}
-use Rattle.td_value.specs.Values.{Entries, HaveSameNames, IsRelation, IsTupleOf, tuple_order}
+use Rattle.td_value.specs.Sets.{set_of}
+use Rattle.td_value.proofs.SetLaws.{sorted_is_set_of}
+use Rattle.td_value.specs.Values.{Entries, HaveSameMembers, HaveSameNames, IsRelation, IsTupleOf, tuple_order}
 use Rattle.td_value.specs.ValueCode.{unpack_pack_rows}
 use Rattle.td_value.specs.ValueOrder.{tuple_order_total, tuple_order_same}
 use Rattle.td_value.specs.Views.{relation_of}
+use Rattle.td_value.proofs.Members.{set_members}
 use Rattle.td_value.proofs.Rows.{All-dedup, AreRows-from, HaveSameNames-from, by_values, by_values_total, sorted_from_values}
 use Rattle.td_value.proofs.value.Rel.new.Goals as goal
 
@@ -50,9 +52,15 @@ invariant_of-result c =
     let whole = restored _ _ _ c.shrink_to_fit.new.self.items (ap length c.in_ok-share_names.ensures ∙ c.deref_mut.ensures.len) (c.in_ok-share_names.ensures ∙ c.deref_mut.ensures.value) in
     subst (λ ts. IsRelation (relation_of c.args.heading ts)) (sym (ap (λ v. v.items) c.in_ok-rows.ensures.ok ∙ whole)) (is_relation c.args.heading c.args.rows.items c.sort_unstable_by.new.self.items c.shrink_to_fit.new.self.items c.requires c.sort_unstable_by.ensures.permutation up is c.len.ensures.heading)
 
-pub returns : goal.returns
-returns c =
+made : (c : goal.In_ok-rows) → c.in_ok-rows.rows.value.items ≡ set_of tuple_order c.args.rows.items
+made c =
     let up = c.sort_unstable_by.ensures.sorted (λ s t. is_lt (by_values s t)) (ranks_by by_values_total (λ s. s)) (answers_always _ _ _ (λ f a r q k. ap is_lt (search rules))) in
     let is = c.shrink_to_fit.ensures.items ∙ dedup_is (eq_by_cmp tuple_order) _ _ c.dedup.ensures.filtered in
     let whole = restored _ _ _ c.shrink_to_fit.new.self.items (ap length c.in_ok-share_names.ensures ∙ c.deref_mut.ensures.len) (c.in_ok-share_names.ensures ∙ c.deref_mut.ensures.value) in
-    ap (relation_of c.args.heading) (ap (λ v. v.items) c.in_ok-rows.ensures.ok ∙ whole ∙ is_set c.args.heading c.args.rows.items c.sort_unstable_by.new.self.items c.shrink_to_fit.new.self.items c.requires c.sort_unstable_by.ensures.permutation up is c.len.ensures.heading)
+    ap (λ v. v.items) c.in_ok-rows.ensures.ok ∙ whole ∙ is_set c.args.heading c.args.rows.items c.sort_unstable_by.new.self.items c.shrink_to_fit.new.self.items c.requires c.sort_unstable_by.ensures.permutation up is c.len.ensures.heading
+
+pub returns-clause-value : goal.returns-clause-value
+returns-clause-value c = ap (relation_of c.args.heading) (made c)
+
+pub returns-clause-members : goal.returns-clause-members
+returns-clause-members c = subst (λ ts. HaveSameMembers ts c.args.rows.items) (sym (made c)) (set_members c.args.rows.items)

@@ -11,7 +11,7 @@ use Rattle.std.specs.List.Sorted.{IsStrictlySortedBy}
 use Rattle.std.specs.FinMap.Entries.{by_order, find, is_sorted, below_all, is_sorted-put, is_sorted-where_key, find-put, find-where_key, same_entries}
 use Rattle.std.proofs.lemmas.Cmp.{nat_list_cmp_total, eq_by_cmp_equiv}
 use Rattle.std.proofs.lemmas.Map.Lookups.{exact_bytes}
-use Rattle.td_types.specs.Headings.{AgreementIsOneType, RenamingKeepsTypes, TypesDetermineHeading, are_distinct, new_name, add_missing, agree, common_part, has_attribute, has_attributes, has_name, heading_renamed, heading_union, is_type_or_none, projection, renamed, with_attribute, without_attribute}
+use Rattle.td_types.specs.Headings.{AgreementIsOneType, RenamingKeepsTypes, TypesDetermineHeading, are_distinct, new_name, add_missing, agree, common_part, has_attribute, has_attributes, has_name, heading_union, is_type_or_none, projection, renamed, with_attribute, without_attribute}
 use Rattle.td_tree.specs.Names.{IsName}
 use Rattle.td_types.specs.TypeOrder.{type_eq-Decides}
 use Rattle.td_types.specs.Types.{Type', Attribute, Attributes, IsAscending, IsBefore, IsHeading, IsType, pack, names_of, same_name, type_at}
@@ -222,11 +222,11 @@ pub IsAscending-union : (h xs : Attributes) → IsAscending h → IsAscending (h
 IsAscending-union h [] i = i
 IsAscending-union h (a ∷ xs) i = IsAscending-union (add_missing h a) xs (IsAscending-add_missing h a _ refl i)
 
-pub IsAscending-renamed : (renamings : List (List ℕ × List ℕ)) (h : Attributes) → IsAscending (heading_renamed renamings h)
+pub IsAscending-renamed : (renamings : List (List ℕ × List ℕ)) (h : Attributes) → IsAscending (heading_union [] (renamed renamings h))
 unfolding IsStrictlySortedBy
 IsAscending-renamed renamings h = IsAscending-union [] (renamed renamings h) tt
 
-pub type_at-renamed : (renamings : List (List ℕ × List ℕ)) (n : List ℕ) (h : Attributes) → type_at n (heading_renamed renamings h) ≡ type_at n (renamed renamings h)
+pub type_at-renamed : (renamings : List (List ℕ × List ℕ)) (n : List ℕ) (h : Attributes) → type_at n (heading_union [] (renamed renamings h)) ≡ type_at n (renamed renamings h)
 type_at-renamed renamings n h = type_at-union n [] (renamed renamings h)
 
 -- ---- agreement

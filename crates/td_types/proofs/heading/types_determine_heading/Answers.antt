@@ -1,5 +1,0 @@
-use Rattle.td_types.specs.HeadingLaws.{types_determine_heading}
-use Rattle.td_types.proofs.heading.types_determine_heading.Goals as goal
-
-pub returns : goal.returns
-returns c = types_determine_heading
