@@ -10,13 +10,13 @@ pub mod KeyParts
 pub mod Legal
 pub mod LegalLaws
 pub mod Literals
-pub mod Moving
 pub mod Places
 pub mod Runs
 pub mod Spelled
 pub mod Static
 pub mod Stepping
 pub mod ToldLaws
+pub mod Turning
 pub mod Unions
 pub mod Worked
 pub mod WorkedRuns

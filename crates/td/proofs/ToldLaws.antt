@@ -1,8 +1,8 @@
 -- Bytes that are told, over several calls.
-use Rattle.std.proofs.Common.{ℕ, ◌<◌, List, ◌++◌, length, Option, Some, None, ap, ◌∙◌, arith, append_assoc, length-append}
-use Rattle.std.specs.Io.KnownBytes.{Appends, Consumes}
+use Rattle.std.proofs.Common.{ℕ, List, ◌++◌, Option, Some, None, ap, ◌∙◌, append_assoc}
+use Rattle.std.specs.Io.KnownBytes.{Appends}
 use Rattle.td.specs.Told.{KeepsIfTold}
-use Rattle.td.specs.Told.{AppendsIfTold, GaveMoreThan}
+use Rattle.td.specs.Told.{AppendsIfTold}
 
 pub kept_after : (a b c : Option (List ℕ)) (bytes : List ℕ) → Appends a b bytes → KeepsIfTold b c → AppendsIfTold a c bytes
 kept_after None b c bytes h k = tt
@@ -15,8 +15,3 @@ told_after None b c xs ys h k = tt
 told_after (Some os) None c xs ys h k = absurd h
 told_after (Some os) (Some bs) None xs ys h k = tt
 told_after (Some os) (Some bs) (Some cs) xs ys h k = k ∙ (ap (λ t. t ++ ys) h ∙ append_assoc os xs ys)
-
-pub gave_more : (limit : ℕ) (a b : Option (List ℕ)) (bytes : List ℕ) → Consumes a b bytes → limit < length bytes → GaveMoreThan limit a b
-gave_more limit None b bytes h l = tt
-gave_more limit (Some xs) None bytes h l = absurd h
-gave_more limit (Some xs) (Some ys) bytes h l = omega (arith, ap length h, length-append bytes ys)

@@ -15,9 +15,9 @@ use Rattle.td_tree.specs.TokenLexemes.{lexeme_of, lexemes}
 use Rattle.td_tree.specs.Trees as tree
 use Rattle.td_tree.proofs.Letters.{k_is_name, q_is_name, r_is_name, x_is_name}
 use Rattle.td_parse.specs.Parsing.{has_bad}
-use Rattle.td.specs.Database.{Database}
 use Rattle.td.specs.Machine.{Progress, Runs, nothing, stopped, next, Steps, scanned, unspelled, spelled, and_then, begun, has_stopped, refused, tree_step}
-use Rattle.td.specs.Moves.{IsLeft}
+use Rattle.td.specs.Standing.{IsLeft, Standing, run_of, standing}
+use Rattle.td.specs.declared.run.Report.{Report}
 use Rattle.td.proofs.Computing.{computing, reading}
 use Rattle.td.proofs.Runs.{one_outcome}
 use Rattle.td.proofs.Spelled.{none_spelled}
@@ -97,13 +97,14 @@ answers stop script ws progress cut is =
     record { runs = runs; alone = λ p other. one_outcome stop (begun []) (statements 0 script) p progress other runs }
 
 -- what is left after bytes that have these answers, as the contract of `run` says it, is this
-pub left_so : (stop : Bool) (script : List ℕ) (progress : Progress) (new : Database) (before after : Option (List ℕ)) (count refused : ℕ)
-    → Answers stop script progress → IsLeft stop [] (statements 0 script) new before after count refused
-    → (new ≡ progress.database) × Appends before after progress.text × (count ≡ progress.statements) × (refused ≡ progress.refusals)
-left_so stop script progress new before after count refused answered left =
+pub left_so : (stop : Bool) (script : List ℕ) (progress : Progress) (before : Option (List ℕ)) (new : Standing) (report : Report)
+    → Answers stop script progress → IsLeft (run_of stop (standing [] before) script) new report
+    → (new.database ≡ progress.database) × Appends before new.taken progress.text
+    × (report.statements ≡ progress.statements) × (report.refused ≡ progress.refusals)
+left_so stop script progress before new report answered left =
     let same = answered.alone left.progress left.runs in (
-      left.database_is ∙ ap (λ (p : Progress). p.database) same,
-      subst (λ (p : Progress). Appends before after p.text) same left.written,
+      left.stands.database_is ∙ ap (λ (p : Progress). p.database) same,
+      subst (λ (p : Progress). Appends before new.taken p.text) same left.stands.written,
       left.statements_are ∙ ap (λ (p : Progress). p.statements) same,
       left.refused_are ∙ ap (λ (p : Progress). p.refusals) same,
     )
@@ -212,10 +213,11 @@ pub first_script_answers : (stop : Bool) → Answers stop first_script first_pro
 first_script_answers stop = answers stop first_script _ first_progress first_script_cut (first_trees_do stop)
 
 -- what a run of it leaves of the empty database, by the contract of `run`
-pub first_script_left : (stop : Bool) (new : Database) (before after : Option (List ℕ)) (count refused : ℕ)
-    → IsLeft stop [] (statements 0 first_script) new before after count refused
-    → (new ≡ first_progress.database) × Appends before after (codes "OK\nOK\nRELATION {K INTEGER} {TUPLE {K 1}, TUPLE {K 2}}\n") × (count ≡ 3) × (refused ≡ 0)
-first_script_left stop new before after count refused = left_so stop first_script first_progress new before after count refused (first_script_answers stop)
+pub first_script_left : (stop : Bool) (before : Option (List ℕ)) (new : Standing) (report : Report)
+    → IsLeft (run_of stop (standing [] before) first_script) new report
+    → (new.database ≡ first_progress.database) × Appends before new.taken (codes "OK\nOK\nRELATION {K INTEGER} {TUPLE {K 1}, TUPLE {K 2}}\n")
+    × (report.statements ≡ 3) × (report.refused ≡ 0)
+first_script_left stop before new report = left_so stop first_script first_progress before new report (first_script_answers stop)
 
 -- ---- a refused statement in the middle
 

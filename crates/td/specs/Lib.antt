@@ -9,10 +9,12 @@ pub mod KeyParts
 pub mod Legality
 pub mod Machine
 pub mod Meaning
-pub mod Moves
 pub mod Relvars
+pub mod Scripts
 pub mod Sessions
+pub mod Standing
 pub mod Steps
 pub mod Told
 pub mod TreeViews
 pub mod Trees
+pub mod Turns

@@ -1,10 +1,8 @@
 -- What a session answers (this project's own).
-use Rattle.std.specs.Prelude.{◌≡◌, ℕ, ◌≤◌, Bool, List, [], Option, None, Some, ⊤, nat_lt, if◌then◌else◌}
-use Rattle.std.specs.Io.KnownBytes.{Appends}
-use Rattle.td_tree.specs.Statements.{Entry}
+use Rattle.std.specs.Prelude.{◌≡◌, ℕ, ◌≤◌, List, Option, None, Some, ⊤, nat_lt, if◌then◌else◌}
 use Rattle.td.specs.Database.{Database}
-use Rattle.td.specs.Machine.{Progress, Runs, begun}
-use Rattle.td.specs.Moves.{HasRun, HasRunCut}
+use Rattle.td.specs.Standing.{HasRun, HasRunCut, IsLeft, Run, standing}
+use Rattle.td.specs.declared.run.Report.{Report}
 use Rattle.td.specs.declared.run.RunFault.{RunFault}
 use Rattle.td.specs.declared.run.RunFault.TheVariants.{Memory}
 
@@ -17,20 +15,20 @@ IsStatus status (Some fault) = status ≡ 3
 abbrev pub status_of : ℕ → ℕ
 status_of refusals = if nat_lt 0 refusals then 1 else 0
 
--- these statements were run from an empty database: the text was written after what was there
-pub record HasAnswered (stop : Bool) (script : List (List Entry)) (status : ℕ) (before after : Option (List ℕ)) : Type 0 where
-  pub progress : Progress
-  pub runs : Runs stop (begun []) script progress
-  pub written : Appends before after progress.text
-  pub status_is : status ≡ status_of progress.refusals
+-- the run was run to its end, and the sink has taken its text
+pub record HasAnswered (run : Run) (status : ℕ) (taken : Option (List ℕ)) : Type 0 where
+  pub database : Database
+  pub report : Report
+  pub left : IsLeft run (standing database taken) report
+  pub status_is : status ≡ status_of report.refused
 
--- the first `done` statements were run from an empty database
-abbrev pub HasBegun : Bool → List (List Entry) → ℕ → Option (List ℕ) → Option (List ℕ) → Type 0
-HasBegun stop script done before after = (db : Database) × HasRun stop [] script done db before after
+-- the first `done` statements were run
+abbrev pub HasBegun : Run → ℕ → Option (List ℕ) → Type 0
+HasBegun run done taken = (db : Database) × HasRun run done (standing db taken)
 
 -- so they were, and the text of the last one is cut
-abbrev pub HasBegunCut : Bool → List (List Entry) → ℕ → Option (List ℕ) → Option (List ℕ) → Type 0
-HasBegunCut stop script done before after = (db : Database) × HasRunCut stop [] script done db before after
+abbrev pub HasBegunCut : Run → ℕ → Option (List ℕ) → Type 0
+HasBegunCut run done taken = (db : Database) × HasRunCut run done (standing db taken)
 
 -- unless memory was refused
 abbrev pub UnlessMemory : Option RunFault → Type 0 → Type 0

@@ -1,5 +1,5 @@
 -- What a call of a source or a sink does to the bytes that it tells (this project's own; in std's words).
-use Rattle.std.specs.Prelude.{◌≡◌, ℕ, ◌+◌, ◌<◌, ◌≤◌, List, ◌++◌, length, take, Option, Some, Result, MatchResult, ⊤}
+use Rattle.std.specs.Prelude.{◌≡◌, ℕ, ◌+◌, ◌≤◌, List, ◌++◌, length, take, Option, Some, Result, MatchResult, ⊤}
 use Rattle.std.specs.Io.KnownBytes.{Appends, Consumes}
 
 -- bytes that are told before and after are the same
@@ -19,11 +19,6 @@ Puts old new result bytes = MatchResult result (λ n. Appends old new (take n by
 abbrev pub AppendsIfTold : Option (List ℕ) → Option (List ℕ) → List ℕ → Type 0
 AppendsIfTold (Some xs) (Some ys) bytes = ys ≡ xs ++ bytes
 AppendsIfTold _ _ bytes = ⊤
-
--- a source that tells its bytes before and after gave more than this many
-abbrev pub GaveMoreThan : ℕ → Option (List ℕ) → Option (List ℕ) → Type 0
-GaveMoreThan limit (Some xs) (Some ys) = limit + length ys < length xs
-GaveMoreThan limit _ _ = ⊤
 
 -- a source that tells its bytes before and after, and gave at most this many
 abbrev pub GaveAtMost : ℕ → Option (List ℕ) → Option (List ℕ) → Type 0

@@ -1,11 +1,12 @@
 //! Whole runs: a script is read, each statement is run, each answer is written.
-ghost use Rattle.std.specs.Prelude.{◌≡◌, ℕ, ◌+◌, ◌<◌, ◌≤◌, ◌^◌, ◌&&◌, Bool, true, false, nat_lt, if◌then◌else◌, List, [], length, Option, None, IfOk, IfErr, IfNone, IfSome, IsOk, OnOk};
-ghost use Rattle.std.specs.Io.KnownBytes.{Appends, Consumes, IsAtEnd};
-ghost use Rattle.td_tree.specs.Statements.{Entry, first_statement, statements};
-ghost use Rattle.td.specs.Database.{Database};
+ghost use Rattle.std.specs.Prelude.{◌≡◌, ℕ, ◌+◌, ◌<◌, ◌≤◌, ◌^◌, ◌&&◌, Bool, true, false, nat_lt, if◌then◌else◌, List, length, None, IfOk, IfErr, IfNone, IfSome, IsOk, OnOk};
+ghost use Rattle.std.specs.Io.KnownBytes.{Consumes};
+ghost use Rattle.td_tree.specs.Statements.{first_statement, statements};
 ghost use Rattle.td.specs.Faults.{IfMemory, IfNotMemory, IfRead, IfReadLimit, IfWrite};
-ghost use Rattle.td.specs.Moves.{HasRun, HasRunCut, IsLeft, IsReading, Reached};
-ghost use Rattle.td.specs.Told.{GaveAtMost, GaveMoreThan};
+ghost use Rattle.td.specs.Scripts.{GaveScript, GaveTooMuch, OfFront, OfScript, script_limit};
+ghost use Rattle.td.specs.Standing.{HasRun, HasRunCut, IsLeft, IsUnrun, run_of, standing};
+ghost use Rattle.td.specs.Told.{GaveAtMost};
+ghost use Rattle.td.specs.Turns.{HasTurnedCut, IsReading, Turned, place_of};
 
 use crate::engine::Engine;
 use crate::engine::first_path::parse;
@@ -68,15 +69,16 @@ pub enum RunFault {
 
 /// Reads the source to its end.
 fn read_all<R: Source>(alloc: Global, reader: &mut R) -> Result<Cutter, RunFault>
-    ensures bytes { IfOk result (λ cutter. Consumes (R.left reader.old) (R.left reader.new) cutter.bytes) }
+    ensures script { IfOk result (λ cutter.
+        GaveScript (R.left reader.old) (R.left reader.new) cutter.bytes) }
     ensures begins { IfOk result (λ cutter. cutter.offset ≡ 0) }
     ensures finished { IfOk result (λ cutter. cutter.finished ≡ true) }
-    ensures size { IfOk result (λ cutter. length cutter.bytes ≤ 2 ^ 30) }
-    ensures end { OnOk result (IsAtEnd (R.left reader.new)) }
     ensures whole { OnOk result (R.is_broken reader.new ≡ false) }
-    ensures memory { IfErr result (IfMemory (λ done. done ≡ 0)) }
+    ensures memory { IfErr result (IfMemory (λ done. (done ≡ 0)
+        × ((bytes : List ℕ) × Consumes (R.left reader.old) (R.left reader.new) bytes))) }
     ensures read { IfErr result (IfRead (λ done. (done ≡ 0) × (R.is_broken reader.new ≡ true))) }
-    ensures limit { IfErr result (IfReadLimit (λ done. (done ≡ 0) × GaveMoreThan (2 ^ 30) (R.left reader.old) (R.left reader.new))) }
+    ensures limit { IfErr result (IfReadLimit (λ done. (done ≡ 0)
+        × GaveTooMuch (R.left reader.old) (R.left reader.new))) }
     ensures write { IfErr result (IfWrite (λ done. ⊥)) }
 {
     let mut cutter = Cutter::new(alloc);
@@ -130,26 +132,17 @@ fn run_one<W: Sink>(
     writer: &mut W,
     report: &mut Report,
 ) -> Result<bool, RunFault>
-    requires finished { cutter.old.finished ≡ true }
     requires statements { report.old.statements < 2 ^ 32 }
     requires refused { report.old.refused ≤ report.old.statements }
-    ensures more { IfOk result (λ found. (stop : Bool) (old : Database) (script : List (List Entry)) (before : Option (List ℕ))
-        → (stop && nat_lt 0 report.old.refused) ≡ false
-        → Reached stop old script cutter.old engine.old before (W.taken writer.old) report.old.statements report.old.refused
-        → Reached stop old script cutter.new engine.new before (W.taken writer.new) report.new.statements report.new.refused) }
-    ensures none { IfOk result (λ found. found ≡ false → statements cutter.new.offset cutter.new.bytes ≡ []) }
-    ensures some { IfOk result (λ found. found ≡ true → report.new.statements + length cutter.new.bytes ≤ report.old.statements + length cutter.old.bytes) }
-    ensures fewer { IfOk result (λ found. found ≡ true → length cutter.new.bytes < length cutter.old.bytes) }
-    ensures refused { OnOk result (report.new.refused ≤ report.new.statements) }
-    ensures finished { OnOk result (cutter.new.finished ≡ true) }
+    ensures turn { IfOk result (Turned
+        (place_of cutter.old (standing engine.old (W.taken writer.old)) report.old)
+        (place_of cutter.new (standing engine.new (W.taken writer.new)) report.new)) }
     ensures whole { OnOk result (W.is_broken writer.old ≡ false → W.is_broken writer.new ≡ false) }
-    ensures memory { IfErr result (IfMemory (λ done. (stop : Bool) (old : Database) (script : List (List Entry)) (before : Option (List ℕ))
-        → Reached stop old script cutter.old engine.old before (W.taken writer.old) report.old.statements report.old.refused
-        → HasRun stop old script done engine.new before (W.taken writer.new))) }
-    ensures write { IfErr result (IfWrite (λ done. (stop : Bool) (old : Database) (script : List (List Entry)) (before : Option (List ℕ))
-        → (stop && nat_lt 0 report.old.refused) ≡ false
-        → Reached stop old script cutter.old engine.old before (W.taken writer.old) report.old.statements report.old.refused
-        → HasRunCut stop old script done engine.new before (W.taken writer.new))) }
+    ensures memory { IfErr result (IfMemory (λ done. (done ≡ report.old.statements)
+        × (engine.new ≡ engine.old) × (W.taken writer.new ≡ W.taken writer.old))) }
+    ensures write { IfErr result (IfWrite (λ done. (done ≡ report.old.statements + 1)
+        × HasTurnedCut (place_of cutter.old (standing engine.old (W.taken writer.old)) report.old)
+        (standing engine.new (W.taken writer.new)))) }
     ensures broken { IfErr result (IfWrite (λ done. W.is_broken writer.new ≡ true)) }
     ensures read { IfErr result (IfRead (λ done. ⊥)) }
     ensures limit { IfErr result (IfReadLimit (λ done. ⊥)) }
@@ -181,14 +174,18 @@ fn run_held<W: Sink>(
     stop: bool,
 ) -> Result<Report, RunFault>
     requires finished { cutter.old.finished ≡ true }
-    requires size { length cutter.old.bytes ≤ 2 ^ 30 }
-    ensures answers { IfOk result (λ report. IsLeft stop engine.old (statements cutter.old.offset cutter.old.bytes)
-        engine.new (W.taken writer.old) (W.taken writer.new) report.statements report.refused) }
+    requires size { length cutter.old.bytes ≤ script_limit }
+    requires begins { cutter.old.offset ≡ 0 }
+    ensures answers { IfOk result (IsLeft
+        (run_of stop (standing engine.old (W.taken writer.old)) cutter.old.bytes)
+        (standing engine.new (W.taken writer.new))) }
     ensures whole { OnOk result (W.is_broken writer.old ≡ false → W.is_broken writer.new ≡ false) }
-    ensures memory { IfErr result (IfMemory (λ done. HasRun stop engine.old (statements cutter.old.offset cutter.old.bytes)
-        done engine.new (W.taken writer.old) (W.taken writer.new))) }
-    ensures write { IfErr result (IfWrite (λ done. HasRunCut stop engine.old (statements cutter.old.offset cutter.old.bytes)
-        done engine.new (W.taken writer.old) (W.taken writer.new))) }
+    ensures memory { IfErr result (IfMemory (λ done. HasRun
+        (run_of stop (standing engine.old (W.taken writer.old)) cutter.old.bytes) done
+        (standing engine.new (W.taken writer.new)))) }
+    ensures write { IfErr result (IfWrite (λ done. HasRunCut
+        (run_of stop (standing engine.old (W.taken writer.old)) cutter.old.bytes) done
+        (standing engine.new (W.taken writer.new)))) }
     ensures broken { IfErr result (IfWrite (λ done. W.is_broken writer.new ≡ true)) }
     ensures read { IfErr result (IfRead (λ done. ⊥)) }
     ensures limit { IfErr result (IfReadLimit (λ done. ⊥)) }
@@ -217,20 +214,30 @@ pub fn run<R: Source, W: Sink>(
     writer: &mut W,
     stop: bool,
 ) -> Result<Report, RunFault>
-    ensures headline { IfNotMemory result (R.is_broken reader.new ≡ false → W.is_broken writer.new ≡ false
-        → GaveAtMost (2 ^ 30) (R.left reader.old) (R.left reader.new) → IsOk result) }
-    ensures answers { IfOk result (λ report. IfSome (R.left reader.old) (λ script. IsLeft stop engine.old (statements 0 script)
-        engine.new (W.taken writer.old) (W.taken writer.new) report.statements report.refused)) }
-    ensures whole { OnOk result ((R.is_broken reader.new ≡ false) × (W.is_broken writer.old ≡ false → W.is_broken writer.new ≡ false)) }
-    ensures limit { OnOk result (IfSome (R.left reader.old) (λ xs. IfSome (R.left reader.new) (λ ys. length xs ≤ 2 ^ 30 + length ys))) }
-    ensures memory { IfErr result (IfMemory (λ done. IfSome (R.left reader.old) (λ script. HasRun stop engine.old (statements 0 script)
-        done engine.new (W.taken writer.old) (W.taken writer.new)))) }
-    ensures read { IfErr result (IfRead (λ done. R.is_broken reader.new ≡ true)) }
-    ensures unread { IfErr result (IfRead (λ done. (done ≡ 0) × (engine.new ≡ engine.old) × Appends (W.taken writer.old) (W.taken writer.new) [])) }
-    ensures too_long { IfErr result (IfReadLimit (λ done. GaveMoreThan (2 ^ 30) (R.left reader.old) (R.left reader.new))) }
-    ensures unrun { IfErr result (IfReadLimit (λ done. (done ≡ 0) × (engine.new ≡ engine.old) × Appends (W.taken writer.old) (W.taken writer.new) [])) }
-    ensures write { IfErr result (IfWrite (λ done. (W.is_broken writer.new ≡ true) × IfSome (R.left reader.old) (λ script.
-        HasRunCut stop engine.old (statements 0 script) done engine.new (W.taken writer.old) (W.taken writer.new)))) }
+    ensures headline { IfNotMemory result (
+        R.is_broken reader.new ≡ false → W.is_broken writer.new ≡ false
+        → GaveAtMost script_limit (R.left reader.old) (R.left reader.new) → IsOk result) }
+    ensures answers { IfOk result (λ report.
+        OfScript (R.left reader.old) (R.left reader.new) (λ script. IsLeft
+        (run_of stop (standing engine.old (W.taken writer.old)) script)
+        (standing engine.new (W.taken writer.new)) report)) }
+    ensures whole { OnOk result ((R.is_broken reader.new ≡ false)
+        × (W.is_broken writer.old ≡ false → W.is_broken writer.new ≡ false)) }
+    ensures memory { IfErr result (IfMemory (λ done.
+        OfFront done (R.left reader.old) (R.left reader.new) (λ script. HasRun
+        (run_of stop (standing engine.old (W.taken writer.old)) script) done
+        (standing engine.new (W.taken writer.new))))) }
+    ensures read { IfErr result (IfRead (λ done. (R.is_broken reader.new ≡ true)
+        × IsUnrun done (standing engine.old (W.taken writer.old))
+        (standing engine.new (W.taken writer.new)))) }
+    ensures too_long { IfErr result (IfReadLimit (λ done.
+        GaveTooMuch (R.left reader.old) (R.left reader.new)
+        × IsUnrun done (standing engine.old (W.taken writer.old))
+        (standing engine.new (W.taken writer.new)))) }
+    ensures write { IfErr result (IfWrite (λ done. (W.is_broken writer.new ≡ true)
+        × OfScript (R.left reader.old) (R.left reader.new) (λ script. HasRunCut
+        (run_of stop (standing engine.old (W.taken writer.old)) script) done
+        (standing engine.new (W.taken writer.new))))) }
 {
     let mut cutter = match read_all(alloc, reader) {
         Ok(cutter) => cutter,

@@ -1,10 +1,11 @@
 //! Sessions: a script on an engine of its own.
-ghost use Rattle.std.specs.Prelude.{◌≡◌, ℕ, ◌+◌, ◌≤◌, ◌^◌, true, false, [], length, None, IfNone, IfSome};
+ghost use Rattle.std.specs.Prelude.{◌≡◌, ◌≤◌, true, false, [], None, IfNone, IfSome};
 ghost use Rattle.std.specs.Io.KnownBytes.{Appends};
-ghost use Rattle.td_tree.specs.Statements.{statements};
 ghost use Rattle.td.specs.Faults.{IfMemory, IfRead, IfReadLimit, IfWrite};
+ghost use Rattle.td.specs.Scripts.{GaveTooMuch, OfFront, OfScript, script_limit};
 ghost use Rattle.td.specs.Sessions.{HasAnswered, HasBegun, HasBegunCut, IsStatus, UnlessMemory};
-ghost use Rattle.td.specs.Told.{GaveAtMost, GaveMoreThan};
+ghost use Rattle.td.specs.Standing.{run_of, standing};
+ghost use Rattle.td.specs.Told.{GaveAtMost};
 
 use crate::engine::Engine;
 use crate::line::Mode;
@@ -31,19 +32,27 @@ pub fn session<R: Source, W: Sink>(
     reader: &mut R,
     writer: &mut W,
 ) -> Outcome
-    ensures headline { UnlessMemory result.fault (R.is_broken reader.new ≡ false → W.is_broken writer.new ≡ false
-        → GaveAtMost (2 ^ 30) (R.left reader.old) (R.left reader.new) → result.fault ≡ None) }
+    ensures headline { UnlessMemory result.fault (
+        R.is_broken reader.new ≡ false → W.is_broken writer.new ≡ false
+        → GaveAtMost script_limit (R.left reader.old) (R.left reader.new) → result.fault ≡ None) }
     ensures status { IsStatus result.status result.fault }
-    ensures answers { IfNone result.fault (IfSome (R.left reader.old) (λ script.
-        HasAnswered stop (statements 0 script) result.status (W.taken writer.old) (W.taken writer.new))) }
-    ensures whole { IfNone result.fault ((R.is_broken reader.new ≡ false) × (W.is_broken writer.old ≡ false → W.is_broken writer.new ≡ false)) }
-    ensures limit { IfNone result.fault (IfSome (R.left reader.old) (λ xs. IfSome (R.left reader.new) (λ ys. length xs ≤ 2 ^ 30 + length ys))) }
-    ensures memory { IfSome result.fault (IfMemory (λ done. IfSome (R.left reader.old) (λ script.
-        HasBegun stop (statements 0 script) done (W.taken writer.old) (W.taken writer.new)))) }
-    ensures read { IfSome result.fault (IfRead (λ done. (R.is_broken reader.new ≡ true) × (done ≡ 0) × Appends (W.taken writer.old) (W.taken writer.new) [])) }
-    ensures too_long { IfSome result.fault (IfReadLimit (λ done. GaveMoreThan (2 ^ 30) (R.left reader.old) (R.left reader.new) × (done ≡ 0) × Appends (W.taken writer.old) (W.taken writer.new) [])) }
-    ensures write { IfSome result.fault (IfWrite (λ done. (W.is_broken writer.new ≡ true) × IfSome (R.left reader.old) (λ script.
-        HasBegunCut stop (statements 0 script) done (W.taken writer.old) (W.taken writer.new)))) }
+    ensures answers { IfNone result.fault (
+        OfScript (R.left reader.old) (R.left reader.new) (λ script. HasAnswered
+        (run_of stop (standing [] (W.taken writer.old)) script)
+        result.status (W.taken writer.new))) }
+    ensures whole { IfNone result.fault ((R.is_broken reader.new ≡ false)
+        × (W.is_broken writer.old ≡ false → W.is_broken writer.new ≡ false)) }
+    ensures memory { IfSome result.fault (IfMemory (λ done.
+        OfFront done (R.left reader.old) (R.left reader.new) (λ script. HasBegun
+        (run_of stop (standing [] (W.taken writer.old)) script) done (W.taken writer.new)))) }
+    ensures read { IfSome result.fault (IfRead (λ done. (R.is_broken reader.new ≡ true)
+        × (done ≡ 0) × Appends (W.taken writer.old) (W.taken writer.new) [])) }
+    ensures too_long { IfSome result.fault (IfReadLimit (λ done.
+        GaveTooMuch (R.left reader.old) (R.left reader.new)
+        × (done ≡ 0) × Appends (W.taken writer.old) (W.taken writer.new) [])) }
+    ensures write { IfSome result.fault (IfWrite (λ done. (W.is_broken writer.new ≡ true)
+        × OfScript (R.left reader.old) (R.left reader.new) (λ script. HasBegunCut
+        (run_of stop (standing [] (W.taken writer.old)) script) done (W.taken writer.new)))) }
 {
     let mut engine = Engine::new(alloc);
     let answered = match mode {

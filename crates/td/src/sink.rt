@@ -11,7 +11,7 @@ pub trait Sink {
     /// The bytes that it has taken, where it tells them.
     ghost taken: { Self → Option (List ℕ) };
 
-    /// Whether its last call answered `Broken`.
+    /// Whether its last call answered `Broken`: then each later one does, and nothing moves.
     ghost is_broken: { Self → Bool };
 
     /// Takes bytes off the front and answers how many: at least 1, where there are any.
@@ -19,7 +19,8 @@ pub trait Sink {
         ensures bound { IfOk result (λ n. n ≤ length bytes.now) }
         ensures some { IfOk result (λ n. 0 < length bytes.now → 0 < n) }
         ensures bytes { Puts (taken self.old) (taken self.new) result bytes.now }
-        ensures broken { is_broken self.new ≡ is_err result };
+        ensures broken { is_broken self.new ≡ is_err result }
+        ensures still { is_broken self.old ≡ true → self.new ≡ self.old };
 }
 
 /// A sink over a writer of std. An error, a write of no byte or too many answers `Interrupted`

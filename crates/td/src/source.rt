@@ -1,5 +1,5 @@
 //! Where a script comes from.
-ghost use Rattle.std.specs.Prelude.{◌≡◌, ℕ, ◌<◌, ◌≤◌, Bool, false, cond, List, length, Option, None, IfOk, is_err};
+ghost use Rattle.std.specs.Prelude.{◌≡◌, ℕ, ◌<◌, ◌≤◌, Bool, false, cond, List, length, Option, None, IfOk, is_err, true};
 ghost use Rattle.std.specs.Io.KnownBytes.{IsAtEnd};
 ghost use Rattle.td.specs.Told.{Pulls};
 
@@ -17,7 +17,7 @@ pub trait Source {
     /// The bytes that it still has to give, where it tells them.
     ghost left: { Self → Option (List ℕ) };
 
-    /// Whether its last call answered `Broken`.
+    /// Whether its last call answered `Broken`: then each later one does, and nothing moves.
     ghost is_broken: { Self → Bool };
 
     /// Moves the next bytes into the front of the buffer and answers how many they are: 0, for
@@ -26,7 +26,8 @@ pub trait Source {
         ensures bound { IfOk result (λ n. n ≤ length buffer.new) }
         ensures bytes { Pulls (left self.old) (left self.new) result buffer.new }
         ensures end { IfOk result (λ n. n ≡ 0 → 0 < length buffer.new → IsAtEnd (left self.new)) }
-        ensures broken { is_broken self.new ≡ is_err result };
+        ensures broken { is_broken self.new ≡ is_err result }
+        ensures still { is_broken self.old ≡ true → self.new ≡ self.old };
 }
 
 /// A source over a reader of std. An error or too many answers `Interrupted` in a row break

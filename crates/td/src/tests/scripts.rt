@@ -50,6 +50,9 @@ impl Sink for Kept {
     ghost is_broken = { λ s. s.is_broken };
 
     fn put(&mut self, bytes: &[u8]) -> Result<usize, Broken> {
+        if self.is_broken {
+            return Err(Broken);
+        }
         let count = self.size.max(1).min(bytes.len());
         self.is_broken = self.room < count
             || self.bytes.extend_from_slice(&bytes[..count]).is_err();

@@ -1,5 +1,6 @@
-use Rattle.std.proofs.Common.{◌≡◌, ◌+◌, ◌-◌, ◌^◌, false, length}
+use Rattle.std.proofs.Common.{◌≡◌, ◌+◌, ◌-◌, false, length}
 use Rattle.std.specs.Io.KnownBytes.{Consumes}
+use Rattle.td.specs.Scripts.{script_limit}
 use Rattle.td.proofs.run.read_all.Given as goal
 
 -- the cutter holds what was read so far
@@ -8,4 +9,4 @@ invariant-pieces g l = Consumes (g.R.Source.left l.fn.reader) (g.R.Source.left l
     × (length l.cutter.bytes ≡ l.read) × (l.cutter.offset ≡ 0) × (l.cutter.finished ≡ false)
 
 abbrev pub decreases-pieces : goal.decreases-pieces
-decreases-pieces g l = 2 ^ 30 + 1 - l.read
+decreases-pieces g l = script_limit + 1 - l.read
