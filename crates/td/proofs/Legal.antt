@@ -3,7 +3,7 @@ use Rattle.std.proofs.Common.{◌≡◌, ℕ, Bool, true, false, not, ◌&&◌, 
 use Rattle.std.specs.List.{list_all}
 use Rattle.std.specs.Cmp.Lexicographic.{same_text}
 use Rattle.td_types.specs.Headings.{are_distinct, has_name}
-use Rattle.td_types.specs.HeadingLaws.{same_name-flips}
+use Rattle.td_types.proofs.HeadingLaws.{same_name-flips}
 use Rattle.td_types.specs.Types.{Attributes, same_name}
 use Rattle.td_value.specs.Values.{Relation}
 use Rattle.td.specs.Database.{Database, Relvar, is_legal, is_relvar, keys_fit, keys_hold, names_of, relvar_at, target_holds, with_body}

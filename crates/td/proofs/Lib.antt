@@ -21,3 +21,4 @@ pub mod Unions
 pub mod Worked
 pub mod WorkedRuns
 pub mod WorkedTrees
+pub mod Valued

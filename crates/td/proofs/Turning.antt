@@ -7,7 +7,7 @@ use Rattle.std.specs.String.{string_bytes}
 use Rattle.td_tree.specs.Statements.{Entry, Held, after, first_statement, statements}
 use Rattle.td_tree.specs.declared.cause.Cause.{Cause}
 use Rattle.td_tree.specs.declared.fault.Fault.{Fault}
-use Rattle.td_tree.proofs.TakenLaws.{fewer_bytes, first_and_after, no_statement}
+use Rattle.td_scan.proofs.TakenLaws.{fewer_bytes, first_and_after, no_statement}
 use Rattle.td.specs.Database.{Database}
 use Rattle.td.specs.Faults.{IfMemory, IfWrite}
 use Rattle.td.specs.Machine.{Progress, Step, Steps, Runs, nothing, next, and_then, begun, has_stopped, refusals_of}

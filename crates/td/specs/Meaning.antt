@@ -3,7 +3,7 @@
 use Rattle.std.specs.Prelude.{ℕ, ℤ, pos, ◌-ℤ◌, ◌&&◌, Bool, true, List, [], ◌∷◌, ◌++◌, Option, Some, None, map, fold, if◌then◌else◌}
 use Rattle.std.specs.List.{list_all}
 use Rattle.td_tree.specs.declared.cause.Cause.TheVariants as causes
-use Rattle.td_tree.specs.Outcomes.{Only, Outcome, Valued, Refused, with_value, with_both}
+use Rattle.td_tree.specs.Outcomes.{Only, Outcome, Valued, Refused, value_if, with_value, with_both}
 use Rattle.td_types.specs.Headings.{are_distinct, with_attribute}
 use Rattle.td_types.specs.Types.{Attributes}
 use Rattle.td_types.specs.Types as types
@@ -26,7 +26,7 @@ integer_heading = fold (λ heading n. with_attribute heading (n, types.integer))
 
 -- the heading that the names make; a name twice is HEADING
 abbrev pub heading_meaning : List (List ℕ) → Outcome Attributes
-heading_meaning names = if are_distinct names then Valued (integer_heading names) else Refused (Only causes.Heading)
+heading_meaning names = value_if (are_distinct names) (integer_heading names) causes.Heading
 
 -- ---- relations as they are written
 
@@ -57,9 +57,29 @@ are_distinct_if (Some names) = are_distinct names
 abbrev pub are_tuples : List TupleLiteral → Bool
 are_tuples = list_all (λ t. are_distinct (attribute_names t))
 
+-- the tuple that is written; a name twice is HEADING
+abbrev pub tuple_meaning : TupleLiteral → Outcome Entries
+tuple_meaning t = value_if (are_distinct (attribute_names t)) (tuple_value t) causes.Heading
+
+-- the tuples that are written; a name twice in one is HEADING
+abbrev pub tuples_meaning : List TupleLiteral → Outcome (List Entries)
+tuples_meaning ts = value_if (are_tuples ts) (tuple_values ts) causes.Heading
+
+-- the heading that is written, or that of the tuples; a name twice is HEADING
+abbrev pub literal_heading_meaning : Option (List (List ℕ)) → List Entries → Outcome Attributes
+literal_heading_meaning names tuples = value_if (are_distinct_if names) (literal_heading names tuples) causes.Heading
+
 -- whether the tuples have the heading
 abbrev pub have_heading : Attributes → List Entries → Bool
 have_heading heading = list_all (λ t. same_heading (heading_of t) heading)
+
+-- the relation of a heading and tuples
+abbrev pub relation_with : Attributes → List Entries → Relation
+relation_with heading tuples = record { heading = heading; rows = set_of tuple_order tuples }
+
+-- the relation of a heading and tuples; tuples of another heading are HEADING
+abbrev pub headed_meaning : Attributes → List Entries → Outcome Relation
+headed_meaning heading tuples = value_if (have_heading heading tuples) (relation_with heading tuples) causes.Heading
 
 -- whether no heading and no tuple has a name twice, and all have one heading
 abbrev pub is_relation : Option (List (List ℕ)) → List TupleLiteral → Bool
@@ -68,12 +88,11 @@ is_relation names tuples = are_distinct_if names && are_tuples tuples && have_he
 -- the relation with these tuples; what is none is HEADING
 abbrev pub literal_meaning : Option (List (List ℕ)) → List TupleLiteral → Outcome Relation
 literal_meaning names tuples =
-    if is_relation names tuples then Valued (record { heading = literal_heading names (tuple_values tuples); rows = set_of tuple_order (tuple_values tuples) }) else Refused (Only causes.Heading)
+    value_if (is_relation names tuples) (relation_with (literal_heading names (tuple_values tuples)) (tuple_values tuples)) causes.Heading
 
 -- the tuples that are in either; headings that are not one are HEADING
 abbrev pub union_of : Relation → Relation → Outcome Relation
-union_of r s =
-    if same_heading r.heading s.heading then Valued (record { heading = r.heading; rows = set_of tuple_order (r.rows ++ s.rows) }) else Refused (Only causes.Heading)
+union_of r s = value_if (same_heading r.heading s.heading) (relation_with r.heading (r.rows ++ s.rows)) causes.Heading
 
 -- a name that is no relvar is NAME_UNKNOWN
 abbrev pub known : Option Relvar → Outcome Relvar

@@ -76,7 +76,7 @@ fn rows_of_a_relation_and_of_its_copy(rt: HostRuntime) -> Result<(), Fail> {
     let alloc = rt.alloc();
     let mut tuples = Vec::new(alloc);
     tuples.push(numbers(alloc, &[("A", 1)])?)?;
-    let heading = numbers(alloc, &[("A", 1)])?.heading(alloc)?;
+    let heading = numbers(alloc, &[("A", 1)])?.heading()?;
     let r = relation(heading, tuples)?;
     let copy = r.try_clone()?.into_rows()?;
     let rows = r.into_rows()?;
@@ -90,13 +90,13 @@ fn tuples_are_maps(rt: HostRuntime) -> Result<(), Fail> {
     let alloc = rt.alloc();
     let (a, b) = (name(alloc, "A")?, name(alloc, "B")?);
     let t = numbers(alloc, &[("B", 2), ("A", 1)])?;
-    assert_eq!(rt; t.literal(alloc)?.as_str(), "TUPLE {A 1, B 2}");
+    assert_eq!(rt; t.literal()?.as_str(), "TUPLE {A 1, B 2}");
     assert!(rt; t == numbers(alloc, &[("A", 1), ("B", 2)])?);
     assert!(rt; t.try_clone()? == t);
     assert!(rt; t.get(&b) == Some(&Value::int(2)));
     assert!(rt; t.project(&[a])? == numbers(alloc, &[("A", 1)])?);
-    assert!(rt; t.has_heading(&t.heading(alloc)?));
-    assert!(rt; t.type_of(alloc)? == Ty::Tup(t.heading(alloc)?));
+    assert!(rt; t.has_heading(&t.heading()?));
+    assert!(rt; t.type_of()? == Ty::Tup(t.heading()?));
     Ok(())
 }
 
@@ -107,10 +107,10 @@ fn relations_are_sets(rt: HostRuntime) -> Result<(), Fail> {
     for number in [3, 2, 2] {
         tuples.push(numbers(alloc, &[("A", 1), ("B", number)])?)?;
     }
-    let heading = numbers(alloc, &[("A", 1), ("B", 2)])?.heading(alloc)?;
+    let heading = numbers(alloc, &[("A", 1), ("B", 2)])?.heading()?;
     let r = relation(heading, tuples)?;
     let text = "RELATION {A INTEGER, B INTEGER} {TUPLE {A 1, B 2}, TUPLE {A 1, B 3}}";
-    assert_eq!(rt; r.literal(alloc)?.as_str(), text);
+    assert_eq!(rt; r.literal()?.as_str(), text);
     assert!(rt; r.try_clone()? == r);
     assert!(rt; r.type_of()? == Ty::Rel(r.heading().try_clone()?));
     Ok(())
@@ -123,8 +123,8 @@ fn dee_has_the_empty_tuple(rt: HostRuntime) -> Result<(), Fail> {
     let dum = relation(Heading::empty(alloc), Vec::new(alloc))?;
     tuples.push(numbers(alloc, &[])?)?;
     let dee = relation(Heading::empty(alloc), tuples)?;
-    assert_eq!(rt; dee.literal(alloc)?.as_str(), "RELATION {} {TUPLE {}}");
-    assert_eq!(rt; dum.literal(alloc)?.as_str(), "RELATION {} {}");
+    assert_eq!(rt; dee.literal()?.as_str(), "RELATION {} {TUPLE {}}");
+    assert_eq!(rt; dum.literal()?.as_str(), "RELATION {} {}");
     Ok(())
 }
 

@@ -28,7 +28,7 @@ fn relation(alloc: Global, pairs: &[(i64, i64)]) -> Result<Rel, Fault> {
     for (a, b) in pairs {
         tuples.push(tuple(alloc, *a, *b)?)?;
     }
-    headed(tuple(alloc, 0, 0)?.heading(alloc)?, tuples)
+    headed(tuple(alloc, 0, 0)?.heading()?, tuples)
 }
 
 /// The key of the names.

@@ -17,7 +17,7 @@ empty_is heading rows body e is = is ∙ ap (λ ts. relation_of heading (set_of 
 pub add-requires-clause-fits : goal.add-requires-clause-fits
 add-requires-clause-fits c =
     subst (λ (body : Relation). is_relvar (record { name = c.args.definition.name; keys = map (λ key. key.items) c.args.definition.keys.items; body = body }) ≡ true)
-    (sym (empty_is c.args.heading _ _ c.new.ensures.items (c.in_ok-body.ensures)))
+    (sym (empty_is c.args.heading _ _ c.new.ensures.items (c.in_ok-body.ensures.value)))
     (is_new c.args.definition.name (map (λ key. key.items) c.args.definition.keys.items) c.args.heading c.requires.fit)
 
 pub returns-clause-done : goal.returns-clause-done
@@ -26,6 +26,6 @@ returns-clause-done c =
     let added = c.in_ok-add.ensures in
     let keys = map (λ key. key.items) c.args.definition.keys.items in
     let same : relvar_of (record { name = c.args.definition.name; keys = c.args.definition.keys; body = c.in_ok-body.body }) ≡ new_relvar c.args.definition.name keys c.args.heading =
-    ap (λ (body : Relation). record { name = c.args.definition.name; keys = keys; body = body }) (empty_is c.args.heading _ _ c.new.ensures.items c.in_ok-body.ensures) in
+    ap (λ (body : Relation). record { name = c.args.definition.name; keys = keys; body = body }) (empty_is c.args.heading _ _ c.new.ensures.items c.in_ok-body.ensures.value) in
     changed_does c.args.database.now c.add.new.self (c.args.database.now ++ (new_relvar c.args.definition.name keys c.args.heading ∷ [])) c.in_ok-answer.answer answer.flag answer.text
     (added.ok ∙ ap (λ r. c.args.database.now ++ (r ∷ [])) same) added.legal
