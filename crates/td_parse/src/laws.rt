@@ -1,5 +1,6 @@
 //! Laws of what tokens spell: one tree for each list of lexemes, and reading from left to right finds it.
 ghost use Rattle.std.specs.Prelude.{◌≡◌, ◌≤◌, ◌↔◌, List, Some};
+ghost use Rattle.td_parse.specs.Parsing.{TokensHaveOneMeaning};
 ghost use Rattle.td_parse.specs.ReadingStatements.{read_expression, read_statement};
 ghost use Rattle.td_tree.specs.declared.operator.Level.{Level};
 ghost use Rattle.td_tree.specs.declared.operator.Level.TheVariants as levels;
@@ -8,6 +9,11 @@ ghost use Rattle.td_tree.specs.Heights.{height};
 ghost use Rattle.td_tree.specs.Lexemes.{Lexeme};
 ghost use Rattle.td_tree.specs.StatementGrammar.{StatementSpelling};
 ghost use Rattle.td_tree.specs.Trees.{Statement, Tree, TypeTree};
+
+/// Every list of tokens means one statement, or is refused by one cause alone, and means nothing else.
+pub fn tokens_have_one_meaning()
+    ensures { TokensHaveOneMeaning }
+{}
 
 /// No lexemes spell two statements.
 #[tactic(auto, using(crate::proofs::OneTree::one_statement))]
