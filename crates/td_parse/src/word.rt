@@ -9,11 +9,9 @@ ghost use Rattle.td_tree.specs.TextTokens.{content, undoubled};
 
 use std::alloc::{AllocError, Global};
 use std::rc::RcStr;
+use td_tree::expression::MAX_MAGNITUDE;
 use td_tree::name::Name;
 use td_tree::token::Kind;
-
-/// The greatest number that a literal spells, after a minus.
-pub const MAX_MAGNITUDE: u64 = 9_223_372_036_854_775_808;
 
 /// The name that a token with these bytes is.
 #[tactic(auto, using(crate::proofs::Seen::name_is, crate::proofs::Seen::name_is_utf8))]

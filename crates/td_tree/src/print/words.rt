@@ -8,14 +8,14 @@ ghost use Rattle.td_tree.specs.Lexemes.{Lexeme, spaced};
 ghost use Rattle.td_tree.specs.Lexemes as lexeme;
 ghost use Rattle.td_tree.specs.Lists.{parenthesized};
 ghost use Rattle.td_tree.specs.Prints.{as_lexemes, attributes_lexemes, commas, literal_lexemes, name_lexemes, postfix_lexemes, prefix_words, renaming_lexemes};
-ghost use Rattle.td_tree.specs.TextTokens.{doubled};
 ghost use Rattle.td_tree.specs.TreeViews.{attributes_of, literal_of, postfix_of, renaming_of};
-ghost use Rattle.td_tree.specs.Written.{comma_if, quotes_if, written};
+ghost use Rattle.td_tree.specs.Written.{comma_if, written};
 
 use crate::expression::{Attributes, Literal, Postfix, Renaming};
 use crate::keyword::Keyword;
 use crate::name::Name;
 use crate::operator::{Comparison, Operator, Prefix};
+use crate::quoted::put_quoted;
 use crate::token::Sign;
 use std::alloc::{AllocError, Global};
 use std::marker::Model;
@@ -99,29 +99,11 @@ impl Printer {
         self.token(buffer.format(n))
     }
 
-    fn quotes(self, later: bool) -> Result<Printer, AllocError>
-        ensures { IfOk result (λ out. out ≡ self ++ quotes_if later) }
+    fn quoted(mut self, said: &str) -> Result<Printer, AllocError>
+        ensures { IfOk result (λ out. out ≡ self ++ written (lexeme.text said.now ∷ [])) }
     {
-        if later { self.raw("''") } else { Ok(self) }
-    }
-
-    /// The text with each quote doubled: its pieces between quotes, with two quotes between.
-    fn doubled(self, content: &str) -> Result<Printer, AllocError>
-        ensures { IfOk result (λ out. out ≡ self ++ doubled content.now) }
-    {
-        let mut out = self;
-        let mut later = false;
-        for piece in content.split('\'') {
-            out = out.quotes(later)?.raw(piece)?;
-            later = true;
-        }
-        Ok(out)
-    }
-
-    fn quoted(self, content: &str) -> Result<Printer, AllocError>
-        ensures { IfOk result (λ out. out ≡ self ++ written (lexeme.text content.now ∷ [])) }
-    {
-        self.raw("'")?.doubled(content)?.token("'")
+        put_quoted(&mut self.out, said)?;
+        self.raw(" ")
     }
 
     pub(super) fn literal(self, literal: &Literal) -> Result<Printer, AllocError>
