@@ -41,7 +41,9 @@ pub fn component_of(alloc: Global, text: &[u8]) -> Result<RcStr, AllocError>
 #[tactic(auto, using(crate::proofs::Seen::number_passes))]
 pub fn number_of(text: &[u8]) -> Option<u64>
     requires { kind_of (symbols text.now) ≡ Some Kind.Number }
-    ensures { result ≡ (if nat_le (decimal_value text.now) (2 ^ 63) then Some (decimal_value text.now) else None) }
+    ensures { result
+        ≡ (if nat_le (decimal_value text.now) (2 ^ 63) then Some (decimal_value text.now)
+        else None) }
 {
     let mut value = 0u64;
     for digit in text {
