@@ -1,8 +1,10 @@
 -- From a tree to the step of its tokens.
 use Rattle.std.proofs.Common.{◌≡◌, false, List, Some, Result, Ok, Err, sym, subst, IfOk}
 use Rattle.std.specs.String.{string_bytes}
-use Rattle.td_parse.specs.Parsing.{Gives, Parses}
+use Rattle.td_parse.specs.Parsing.{Gives, Parsed, bad_token, nothing_spelled, statement_spelled}
+use Rattle.td_tree.specs.Outcomes.{Answers, Outcome, Valued, named_cause}
 use Rattle.td_tree.specs.Statements.{Entry}
+use Rattle.td_tree.specs.Trees as spec
 use Rattle.td_tree.specs.TreeViews as trees
 use Rattle.td_tree.specs.declared.cause.Cause.{Cause}
 use Rattle.td_tree.specs.declared.cause.Cause.TheVariants as causes
@@ -11,7 +13,7 @@ use Rattle.td_tree.specs.declared.fault.Fault.TheVariants as faults
 use Rattle.td_tree.specs.declared.statement.Statement as tree
 use Rattle.td.specs.Database.{Database}
 use Rattle.td.specs.FirstPath.{first_path}
-use Rattle.td.specs.Machine.{Steps, scanned, unspelled, spelled, line, refusal_text, refused, stepped, stepped_if}
+use Rattle.td.specs.Machine.{Steps, scanned, unspelled, spelled, line, refusal_text, refused, stepped, stepped_if, tree_step}
 use Rattle.td.specs.Steps.{Does, IsParsed, IsStep}
 use Rattle.td.specs.TreeViews.{statement_of}
 use Rattle.td.specs.declared.engine.answer.Answer as code
@@ -20,23 +22,36 @@ use Rattle.td.proofs.Done.{refused_does}
 
 -- ---- the parser's answer
 
-pub refused_step : (db : Database) (ts : List Entry) (cause : Cause) → Parses ts (Err (faults.Refused cause)) → Steps db ts (refused db cause)
-refused_step db ts causes.Scan parses = scanned (parses)
-refused_step db ts causes.Syntax parses = unspelled (parses.0) (parses.1)
-refused_step db ts _ parses = absurd parses
+-- an answer of what the tokens mean
+abbrev Told : List Entry → Result tree.Statement Fault → Type 0
+Told ts r = (o : Outcome spec.Statement) × Parsed ts o × Answers trees.statement_of r o
+
+cause_is : (a b : Cause) → Some a ≡ Some b → a ≡ b
+cause_is a b e = cc
+
+pub refused_step : (db : Database) (ts : List Entry) (cause : Cause) (o : Outcome spec.Statement) → Parsed ts o → named_cause o ≡ Some cause → Steps db ts (refused db cause)
+refused_step db ts cause _ (bad_token bad) e = subst (λ c. Steps db ts (refused db c)) (cause_is causes.Scan cause e) (scanned bad)
+refused_step db ts cause _ (nothing_spelled good none) e = subst (λ c. Steps db ts (refused db c)) (cause_is causes.Syntax cause e) (unspelled good none)
+refused_step db ts cause _ (statement_spelled good only) e = absurd cc
 
 -- tokens that the parser refuses
-pub none_parsed : (ts : List Entry) (f : Fault) → Parses ts (Err f) → IsParsed ts (Err f)
-none_parsed ts faults.Memory parses = tt
-none_parsed ts (faults.Refused cause) parses = λ db. refused_step db ts cause parses
+pub none_parsed : (ts : List Entry) (f : Fault) → Told ts (Err f) → IsParsed ts (Err f)
+none_parsed ts faults.Memory told = tt
+none_parsed ts (faults.Refused cause) told = λ db. refused_step db ts cause told.0 told.1 told.2
+
+-- the statement that they mean steps as they do
+spelled_step : (db : Database) (ts : List Entry) (t : spec.Statement) (o : Outcome spec.Statement) → Parsed ts o → o ≡ Valued t → Steps db ts (tree_step db t)
+spelled_step db ts t _ (bad_token bad) e = absurd cc
+spelled_step db ts t _ (nothing_spelled good none) e = absurd cc
+spelled_step db ts t _ (statement_spelled {s} good only) e = let same : s ≡ t = cc in subst (λ x. Steps db ts (tree_step db x)) same (spelled s good only.0)
 
 -- the first path's tree of what the tokens spell
-pub parsed : (ts : List Entry) (t : tree.Statement) (r : Result Statement Fault) → Parses ts (Ok t) → Gives statement_of r (first_path (trees.statement_of t)) → IsParsed ts r
-parsed ts t (Ok s) parses gives =
-    λ db. subst (λ o. Steps db ts (stepped_if db o)) gives (spelled (trees.statement_of t) parses.0 parses.1.0)
-parsed ts t (Err faults.Memory) parses gives = tt
-parsed ts t (Err (faults.Refused cause)) parses gives =
-    λ db. subst (λ c. Steps db ts (refused db c)) (sym gives.1) (subst (λ o. Steps db ts (stepped_if db o)) gives.0 (spelled (trees.statement_of t) parses.0 parses.1.0))
+pub parsed : (ts : List Entry) (t : tree.Statement) (r : Result Statement Fault) → Told ts (Ok t) → Gives statement_of r (first_path (trees.statement_of t)) → IsParsed ts r
+parsed ts t (Ok s) told gives =
+    λ db. subst (λ o. Steps db ts (stepped_if db o)) gives (spelled_step db ts (trees.statement_of t) told.0 told.1 told.2)
+parsed ts t (Err faults.Memory) told gives = tt
+parsed ts t (Err (faults.Refused cause)) told gives =
+    λ db. subst (λ c. Steps db ts (refused db c)) (sym gives.1) (subst (λ o. Steps db ts (stepped_if db o)) gives.0 (spelled_step db ts (trees.statement_of t) told.0 told.1 told.2))
 
 -- ---- the engine's step
 

@@ -13,7 +13,7 @@ pub mod BeginsPlain
 pub mod Decimals
 pub mod Highest
 pub mod OneTree
-pub mod Parses
+pub mod Parsed
 pub mod ReadingLaws
 pub mod Seen
 pub mod Separated

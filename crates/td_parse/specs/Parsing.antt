@@ -5,18 +5,17 @@ use Rattle.td_tree.specs.declared.cause.Cause.TheVariants as causes
 use Rattle.td_tree.specs.declared.fault.Fault.{Fault}
 use Rattle.td_tree.specs.declared.fault.Fault.TheVariants as faults
 use Rattle.td_tree.specs.declared.keyword.Keyword.{Keyword}
-use Rattle.td_tree.specs.declared.statement.Statement as code
 use Rattle.td_tree.specs.declared.token.Kind.{Kind}
 use Rattle.td_tree.specs.declared.token.Kind.TheVariants as kinds
 use Rattle.td_tree.specs.Lexemes.{Lexeme, keyword, sign, name, component, number, text, bad}
 use Rattle.td_tree.specs.Numbers.{decimal_value}
+use Rattle.td_tree.specs.Outcomes.{Only, Outcome, Refused, Valued}
 use Rattle.td_tree.specs.StatementGrammar.{StatementSpelling}
 use Rattle.td_tree.specs.Trees as trees
 use Rattle.td_parse.specs.ReadingSteps.{ReadOf}
 use Rattle.td_tree.specs.Statements.{Entry}
 use Rattle.td_tree.specs.TextTokens.{content}
 use Rattle.td_tree.specs.TokenLexemes.{lexemes}
-use Rattle.td_tree.specs.TreeViews.{statement_of}
 
 -- ---- tokens
 
@@ -113,10 +112,20 @@ SpellsOnly xs s = StatementSpelling xs s × ((t : trees.Statement) → Statement
 abbrev pub SpellsNone : List Lexeme → Type 0
 SpellsNone xs = (t : trees.Statement) → StatementSpelling xs t → ⊥
 
--- SCAN where a token is bad; else the one statement that the tokens spell, or SYNTAX where they spell none; memory may run out
-abbrev pub Parses : List Entry → Result code.Statement Fault → Type 0
-Parses tokens (Ok s) = (has_bad tokens ≡ false) × SpellsOnly (lexemes tokens) (statement_of s)
-Parses tokens (Err faults.Memory) = Unit {0}
-Parses tokens (Err (faults.Refused causes.Scan)) = has_bad tokens ≡ true
-Parses tokens (Err (faults.Refused causes.Syntax)) = (has_bad tokens ≡ false) × SpellsNone (lexemes tokens)
-Parses tokens (Err (faults.Refused cause)) = ⊥
+-- what tokens mean as a statement, which is refused by one cause alone (own)
+pub data Parsed (tokens : List Entry) : Outcome trees.Statement → Type 0 where
+  -- one of them is bad
+  bad_token : has_bad tokens ≡ true → Parsed tokens (Refused (Only causes.Scan))
+  -- the grammar spells nothing by them
+  nothing_spelled : has_bad tokens ≡ false → SpellsNone (lexemes tokens)
+      → Parsed tokens (Refused (Only causes.Syntax))
+  -- the grammar spells this statement by them, and no other
+  statement_spelled : {s : trees.Statement} → has_bad tokens ≡ false → SpellsOnly (lexemes tokens) s
+      → Parsed tokens (Valued s)
+
+-- ---- laws
+
+-- tokens mean something, and one thing alone
+abbrev pub TokensHaveOneMeaning : Type 0
+TokensHaveOneMeaning = (tokens : List Entry)
+    → (o : Outcome trees.Statement) × Parsed tokens o × ((p : Outcome trees.Statement) → Parsed tokens p → p ≡ o)

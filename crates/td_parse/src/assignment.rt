@@ -61,7 +61,8 @@ fn setting(alloc: Global, tokens: &mut Cursor<'_, '_>) -> Result<NamedExpr, Faul
 /// `(name ':=' e),+`
 #[tactic(auto, unfolding(crate::specs::ReadingSteps::separated, crate::specs::ReadingSteps::separated_from))]
 fn settings(alloc: Global, tokens: &mut Cursor<'_, '_>) -> Result<Vec<NamedExpr>, Fault>
-    ensures { Moves (λ v. map named_part_of v.items) result tokens.new (separated reading.setting tokens.old) }
+    ensures { Moves (λ v. map named_part_of v.items) result tokens.new
+        (separated reading.setting tokens.old) }
 {
     let mut items = Vec::new(alloc);
     let limit = tokens.turns();
@@ -77,7 +78,8 @@ fn settings(alloc: Global, tokens: &mut Cursor<'_, '_>) -> Result<Vec<NamedExpr>
 /// `'(' (name ':=' e),+ ')'`
 #[tactic(auto, unfolding(crate::specs::ReadingSteps::enclosed, crate::specs::ReadingSteps::up_to))]
 fn enclosed_settings(alloc: Global, tokens: &mut Cursor<'_, '_>) -> Result<Vec<NamedExpr>, Fault>
-    ensures { Moves (λ v. map named_part_of v.items) result tokens.new (enclosed (separated reading.setting) tokens.old) }
+    ensures { Moves (λ v. map named_part_of v.items) result tokens.new
+        (enclosed (separated reading.setting) tokens.old) }
 {
     tokens.expect_sign(Sign::OpenParenthesis)?;
     let settings = settings(alloc, tokens)?;
@@ -135,7 +137,8 @@ fn assignment(alloc: Global, tokens: &mut Cursor<'_, '_>) -> Result<Assignment, 
 /// `assignment,+`
 #[tactic(auto, unfolding(crate::specs::ReadingSteps::separated, crate::specs::ReadingSteps::separated_from))]
 fn some_assignments(alloc: Global, tokens: &mut Cursor<'_, '_>) -> Result<Vec<Assignment>, Fault>
-    ensures { Moves (λ v. map assignment_of v.items) result tokens.new (separated reading.assignment tokens.old) }
+    ensures { Moves (λ v. map assignment_of v.items) result tokens.new
+        (separated reading.assignment tokens.old) }
 {
     let mut items = Vec::new(alloc);
     let limit = tokens.turns();

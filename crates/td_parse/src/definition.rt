@@ -23,7 +23,8 @@ use td_tree::token::{Kind, Sign};
 /// `[CONSTRAINT e]`
 #[tactic(auto, unfolding(crate::specs::ReadingSteps::optional))]
 fn constraint(alloc: Global, tokens: &mut Cursor<'_, '_>) -> Result<Option<Expr>, Fault>
-    ensures { Moves (option_map tree_of) result tokens.new (optional (lexeme.keyword Keyword.Constraint) reading.expression tokens.old) }
+    ensures { Moves (option_map tree_of) result tokens.new
+        (optional (lexeme.keyword Keyword.Constraint) reading.expression tokens.old) }
 {
     if !tokens.keyword(Keyword::Constraint) {
         return Ok(None);
@@ -44,7 +45,8 @@ fn enclosed_expression(alloc: Global, tokens: &mut Cursor<'_, '_>) -> Result<Exp
 /// `[INIT '(' e ')']`
 #[tactic(auto, unfolding(crate::specs::ReadingSteps::optional))]
 fn init(alloc: Global, tokens: &mut Cursor<'_, '_>) -> Result<Option<Expr>, Fault>
-    ensures { Moves (option_map tree_of) result tokens.new (optional (lexeme.keyword Keyword.Init) (enclosed reading.expression) tokens.old) }
+    ensures { Moves (option_map tree_of) result tokens.new
+        (optional (lexeme.keyword Keyword.Init) (enclosed reading.expression) tokens.old) }
 {
     if !tokens.keyword(Keyword::Init) {
         return Ok(None);
@@ -55,7 +57,8 @@ fn init(alloc: Global, tokens: &mut Cursor<'_, '_>) -> Result<Option<Expr>, Faul
 /// `(KEY names)*`
 #[tactic(auto, unfolding(crate::specs::ReadingStatements::keys, crate::specs::ReadingSteps::repeated, crate::specs::ReadingSteps::repeated_from))]
 fn keys(alloc: Global, tokens: &mut Cursor<'_, '_>) -> Result<Vec<Vec<Name>>, Fault>
-    ensures { Moves (λ v. map (λ key. key.items) v.items) result tokens.new (reading.keys tokens.old) }
+    ensures { Moves (λ v. map (λ key. key.items) v.items) result tokens.new
+        (reading.keys tokens.old) }
 {
     let mut keys = Vec::new(alloc);
     let limit = tokens.turns();

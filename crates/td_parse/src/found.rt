@@ -210,7 +210,8 @@ impl Found {
 
     /// `THE_C(e)`, by what follows `THE_`.
     pub fn component(alloc: Global, rest: RcStr, operand: Found) -> Result<Found, AllocError>
-        ensures { IfOk result (λ e. tree_of e ≡ trees.component (rc_str_bytes rest) (tree_of operand)) }
+        ensures { IfOk result
+            (λ e. tree_of e ≡ trees.component (rc_str_bytes rest) (tree_of operand)) }
     {
         let height = operand.height.saturating_add(1);
         let operand = boxed(alloc, operand.tree)?;
@@ -235,7 +236,8 @@ impl Found {
         operand: Found,
         value: Found,
     ) -> Result<Found, AllocError>
-        ensures { IfOk result (λ e. tree_of e ≡ trees.aggregate op (tree_of operand) (tree_of value)) }
+        ensures { IfOk result
+            (λ e. tree_of e ≡ trees.aggregate op (tree_of operand) (tree_of value)) }
     {
         let height = operand.height.max(value.height).saturating_add(1);
         let (operand, value) = boxed_both(alloc, operand.tree, value.tree)?;
@@ -256,7 +258,8 @@ impl Found {
     /// `RELATION {A INTEGER, ..} {t, ..}`
     #[tactic(auto, using(crate::proofs::Views::trees_from_of, td_tree::proofs::Rows::headed_relation_is))]
     pub fn headed_relation(heading: Vec<AttributeTree>, elements: Elements) -> Found
-        ensures { tree_of result ≡ trees.headed_relation (heading_of heading.items) (trees_from (map tree_of elements)) }
+        ensures { tree_of result
+            ≡ trees.headed_relation (heading_of heading.items) (trees_from (map tree_of elements)) }
     {
         let highest = highest_type(heading.as_slice()).saturating_add(1);
         let height = highest.max(elements.height).saturating_add(1);
@@ -277,7 +280,9 @@ impl Found {
     /// `EXTEND e ADD (v AS A, ..)`
     #[tactic(auto, using(crate::proofs::Views::named_from_of, td_tree::proofs::Rows::extend_is))]
     pub fn extend(alloc: Global, operand: Found, parts: NamedParts) -> Result<Found, AllocError>
-        ensures { IfOk result (λ e. tree_of e ≡ trees.extend (tree_of operand) (named_from (map named_part_of parts))) }
+        ensures { IfOk result
+            (λ e. tree_of e
+            ≡ trees.extend (tree_of operand) (named_from (map named_part_of parts))) }
     {
         let height = operand.height.max(parts.height).saturating_add(1);
         let operand = boxed(alloc, operand.tree)?;
@@ -293,7 +298,10 @@ impl Found {
         per: Found,
         summaries: Summaries,
     ) -> Result<Found, AllocError>
-        ensures { IfOk result (λ e. tree_of e ≡ trees.summarize_per (tree_of operand) (tree_of per) (summaries_from (map item_of summaries))) }
+        ensures { IfOk result
+            (λ e. tree_of e
+            ≡ trees.summarize_per (tree_of operand) (tree_of per)
+            (summaries_from (map item_of summaries))) }
     {
         let height = operand
             .height
@@ -313,7 +321,10 @@ impl Found {
         by: Attributes,
         summaries: Summaries,
     ) -> Result<Found, AllocError>
-        ensures { IfOk result (λ e. tree_of e ≡ trees.summarize_by (tree_of operand) (attributes_of by) (summaries_from (map item_of summaries))) }
+        ensures { IfOk result
+            (λ e. tree_of e
+            ≡ trees.summarize_by (tree_of operand) (attributes_of by)
+            (summaries_from (map item_of summaries))) }
     {
         let height = operand.height.max(summaries.height).saturating_add(1);
         let operand = boxed(alloc, operand.tree)?;
@@ -328,7 +339,9 @@ impl Found {
         consequent: Found,
         alternative: Found,
     ) -> Result<Found, AllocError>
-        ensures { IfOk result (λ e. tree_of e ≡ trees.choice (tree_of condition) (tree_of consequent) (tree_of alternative)) }
+        ensures { IfOk result
+            (λ e. tree_of e
+            ≡ trees.choice (tree_of condition) (tree_of consequent) (tree_of alternative)) }
     {
         let height = condition
             .height

@@ -21,7 +21,9 @@ impl<F: Fn(Global, u8, Level, &mut Cursor<'_, '_>) -> Result<Found, Fault>> Gram
     /// Goes on with operators behind the operand.
     #[tactic(auto, unfolding(crate::specs::Reading::postfixes))]
     fn postfixes(&self, first: Found, tokens: &mut Cursor<'_, '_>) -> Result<Found, Fault>
-        ensures { Moves tree_of result tokens.new (reading.postfixes (read self.now.depth) self.now.depth (suc self.now.depth) (tree_of first) tokens.old) }
+        ensures { Moves tree_of result tokens.new
+            (reading.postfixes (read self.now.depth) self.now.depth (suc self.now.depth)
+            (tree_of first) tokens.old) }
     {
         let mut left = first;
         let limit = u64::from(self.depth) + 1;
@@ -40,7 +42,8 @@ impl<F: Fn(Global, u8, Level, &mut Cursor<'_, '_>) -> Result<Found, Fault>> Gram
     #[tactic(auto, unfolding(crate::specs::Reading::postfixed))]
     fn postfixed(&self, tokens: &mut Cursor<'_, '_>) -> Result<Found, Fault>
         requires { Nests self.now.depth (F.pre self.now.inner) (F.post self.now.inner) }
-        ensures { Moves tree_of result tokens.new (reading.postfixed (read self.now.depth) self.now.depth tokens.old) }
+        ensures { Moves tree_of result tokens.new
+            (reading.postfixed (read self.now.depth) self.now.depth tokens.old) }
     {
         let first = self.primary(tokens)?;
         self.postfixes(first, tokens)
@@ -50,7 +53,8 @@ impl<F: Fn(Global, u8, Level, &mut Cursor<'_, '_>) -> Result<Found, Fault>> Gram
     #[tactic(auto, unfolding(crate::specs::Reading::applied))]
     fn applied(&self, level: Level, op: Prefix, tokens: &mut Cursor<'_, '_>) -> Result<Found, Fault>
         requires { Nests self.now.depth (F.pre self.now.inner) (F.post self.now.inner) }
-        ensures { Moves tree_of result tokens.new (reading.applied (read self.now.depth) self.now.depth level op tokens.old) }
+        ensures { Moves tree_of result tokens.new
+            (reading.applied (read self.now.depth) self.now.depth level op tokens.old) }
     {
         let operand = self.inner(level, tokens)?;
         Ok(Found::prefix(self.alloc, op, operand)?)
@@ -60,7 +64,8 @@ impl<F: Fn(Global, u8, Level, &mut Cursor<'_, '_>) -> Result<Found, Fault>> Gram
     #[tactic(auto, unfolding(crate::specs::Reading::prefixed, crate::specs::Reading::extracted))]
     fn prefixed(&self, tokens: &mut Cursor<'_, '_>) -> Result<Found, Fault>
         requires { Nests self.now.depth (F.pre self.now.inner) (F.post self.now.inner) }
-        ensures { Moves tree_of result tokens.new (reading.prefixed (read self.now.depth) self.now.depth tokens.old) }
+        ensures { Moves tree_of result tokens.new
+            (reading.prefixed (read self.now.depth) self.now.depth tokens.old) }
     {
         if let Some(op) = prefix(tokens) {
             return self.applied(Level::Prefixed, op, tokens);
@@ -81,7 +86,9 @@ impl<F: Fn(Global, u8, Level, &mut Cursor<'_, '_>) -> Result<Found, Fault>> Gram
         tokens: &mut Cursor<'_, '_>,
     ) -> Result<Found, Fault>
         requires { Nests self.now.depth (F.pre self.now.inner) (F.post self.now.inner) }
-        ensures { Moves tree_of result tokens.new (reading.operations (read self.now.depth) self.now.depth level (suc self.now.depth) (tree_of first) tokens.old) }
+        ensures { Moves tree_of result tokens.new
+            (reading.operations (read self.now.depth) self.now.depth level (suc self.now.depth)
+            (tree_of first) tokens.old) }
     {
         let mut left = first;
         let limit = u64::from(self.depth) + 1;
@@ -100,7 +107,8 @@ impl<F: Fn(Global, u8, Level, &mut Cursor<'_, '_>) -> Result<Found, Fault>> Gram
     #[tactic(auto, unfolding(crate::specs::Reading::multiplicative, crate::specs::Reading::chain))]
     fn multiplicative(&self, tokens: &mut Cursor<'_, '_>) -> Result<Found, Fault>
         requires { Nests self.now.depth (F.pre self.now.inner) (F.post self.now.inner) }
-        ensures { Moves tree_of result tokens.new (reading.multiplicative (read self.now.depth) self.now.depth tokens.old) }
+        ensures { Moves tree_of result tokens.new
+            (reading.multiplicative (read self.now.depth) self.now.depth tokens.old) }
     {
         let first = self.prefixed(tokens)?;
         self.operations(Level::Multiplicative, first, tokens)
@@ -110,7 +118,8 @@ impl<F: Fn(Global, u8, Level, &mut Cursor<'_, '_>) -> Result<Found, Fault>> Gram
     #[tactic(auto, unfolding(crate::specs::Reading::additive, crate::specs::Reading::chain))]
     fn additive(&self, tokens: &mut Cursor<'_, '_>) -> Result<Found, Fault>
         requires { Nests self.now.depth (F.pre self.now.inner) (F.post self.now.inner) }
-        ensures { Moves tree_of result tokens.new (reading.additive (read self.now.depth) self.now.depth tokens.old) }
+        ensures { Moves tree_of result tokens.new
+            (reading.additive (read self.now.depth) self.now.depth tokens.old) }
     {
         let first = self.multiplicative(tokens)?;
         self.operations(Level::Additive, first, tokens)
@@ -120,7 +129,8 @@ impl<F: Fn(Global, u8, Level, &mut Cursor<'_, '_>) -> Result<Found, Fault>> Gram
     #[tactic(auto, unfolding(crate::specs::Reading::relational, crate::specs::Reading::chain))]
     fn relational(&self, tokens: &mut Cursor<'_, '_>) -> Result<Found, Fault>
         requires { Nests self.now.depth (F.pre self.now.inner) (F.post self.now.inner) }
-        ensures { Moves tree_of result tokens.new (reading.relational (read self.now.depth) self.now.depth tokens.old) }
+        ensures { Moves tree_of result tokens.new
+            (reading.relational (read self.now.depth) self.now.depth tokens.old) }
     {
         let first = self.additive(tokens)?;
         self.operations(Level::Relational, first, tokens)
@@ -130,7 +140,8 @@ impl<F: Fn(Global, u8, Level, &mut Cursor<'_, '_>) -> Result<Found, Fault>> Gram
     #[tactic(auto, unfolding(crate::specs::Reading::compared, crate::specs::Reading::compared_to))]
     fn compared(&self, tokens: &mut Cursor<'_, '_>) -> Result<Found, Fault>
         requires { Nests self.now.depth (F.pre self.now.inner) (F.post self.now.inner) }
-        ensures { Moves tree_of result tokens.new (reading.compared (read self.now.depth) self.now.depth tokens.old) }
+        ensures { Moves tree_of result tokens.new
+            (reading.compared (read self.now.depth) self.now.depth tokens.old) }
     {
         let left = self.relational(tokens)?;
         let Some(op) = comparison(tokens) else {
@@ -145,7 +156,8 @@ impl<F: Fn(Global, u8, Level, &mut Cursor<'_, '_>) -> Result<Found, Fault>> Gram
     #[tactic(auto, unfolding(crate::specs::Reading::negated))]
     fn negated(&self, tokens: &mut Cursor<'_, '_>) -> Result<Found, Fault>
         requires { Nests self.now.depth (F.pre self.now.inner) (F.post self.now.inner) }
-        ensures { Moves tree_of result tokens.new (reading.negated (read self.now.depth) self.now.depth tokens.old) }
+        ensures { Moves tree_of result tokens.new
+            (reading.negated (read self.now.depth) self.now.depth tokens.old) }
     {
         if tokens.keyword(Keyword::Not) {
             self.applied(Level::Negation, Prefix::Not, tokens)
@@ -158,7 +170,8 @@ impl<F: Fn(Global, u8, Level, &mut Cursor<'_, '_>) -> Result<Found, Fault>> Gram
     #[tactic(auto, unfolding(crate::specs::Reading::conjunction, crate::specs::Reading::chain))]
     fn conjunction(&self, tokens: &mut Cursor<'_, '_>) -> Result<Found, Fault>
         requires { Nests self.now.depth (F.pre self.now.inner) (F.post self.now.inner) }
-        ensures { Moves tree_of result tokens.new (reading.conjunction (read self.now.depth) self.now.depth tokens.old) }
+        ensures { Moves tree_of result tokens.new
+            (reading.conjunction (read self.now.depth) self.now.depth tokens.old) }
     {
         let first = self.negated(tokens)?;
         self.operations(Level::Conjunction, first, tokens)
@@ -168,7 +181,8 @@ impl<F: Fn(Global, u8, Level, &mut Cursor<'_, '_>) -> Result<Found, Fault>> Gram
     #[tactic(auto, unfolding(crate::specs::Reading::disjunction, crate::specs::Reading::chain))]
     fn disjunction(&self, tokens: &mut Cursor<'_, '_>) -> Result<Found, Fault>
         requires { Nests self.now.depth (F.pre self.now.inner) (F.post self.now.inner) }
-        ensures { Moves tree_of result tokens.new (reading.disjunction (read self.now.depth) self.now.depth tokens.old) }
+        ensures { Moves tree_of result tokens.new
+            (reading.disjunction (read self.now.depth) self.now.depth tokens.old) }
     {
         let first = self.conjunction(tokens)?;
         self.operations(Level::Disjunction, first, tokens)
@@ -178,7 +192,8 @@ impl<F: Fn(Global, u8, Level, &mut Cursor<'_, '_>) -> Result<Found, Fault>> Gram
     #[tactic(auto, unfolding(crate::specs::Reading::restriction, crate::specs::Reading::chain))]
     fn restriction(&self, tokens: &mut Cursor<'_, '_>) -> Result<Found, Fault>
         requires { Nests self.now.depth (F.pre self.now.inner) (F.post self.now.inner) }
-        ensures { Moves tree_of result tokens.new (reading.restriction (read self.now.depth) self.now.depth tokens.old) }
+        ensures { Moves tree_of result tokens.new
+            (reading.restriction (read self.now.depth) self.now.depth tokens.old) }
     {
         let first = self.disjunction(tokens)?;
         self.operations(Level::Restriction, first, tokens)
@@ -188,7 +203,8 @@ impl<F: Fn(Global, u8, Level, &mut Cursor<'_, '_>) -> Result<Found, Fault>> Gram
     #[tactic(auto, unfolding(crate::specs::Reading::by_level))]
     pub fn by_level(&self, level: Level, tokens: &mut Cursor<'_, '_>) -> Result<Found, Fault>
         requires { Nests self.now.depth (F.pre self.now.inner) (F.post self.now.inner) }
-        ensures { Moves tree_of result tokens.new (reading.by_level (read self.now.depth) self.now.depth level tokens.old) }
+        ensures { Moves tree_of result tokens.new
+            (reading.by_level (read self.now.depth) self.now.depth level tokens.old) }
     {
         match level {
             Level::Restriction => self.restriction(tokens),

@@ -27,7 +27,8 @@ impl<F: Fn(Global, u8, Level, &mut Cursor<'_, '_>) -> Result<Found, Fault>> Gram
     #[tactic(auto, unfolding(crate::specs::ReadingSteps::separated, crate::specs::ReadingSteps::separated_from))]
     pub fn elements(&self, tokens: &mut Cursor<'_, '_>) -> Result<Elements, Fault>
         requires { Nests self.now.depth (F.pre self.now.inner) (F.post self.now.inner) }
-        ensures { Moves (map tree_of) result tokens.new (separated (read self.now.depth loosest) tokens.old) }
+        ensures { Moves (map tree_of) result tokens.new
+            (separated (read self.now.depth loosest) tokens.old) }
     {
         let mut items = Elements::new(self.alloc);
         let limit = tokens.turns();
@@ -44,7 +45,8 @@ impl<F: Fn(Global, u8, Level, &mut Cursor<'_, '_>) -> Result<Found, Fault>> Gram
     #[tactic(auto, unfolding(crate::specs::ReadingSteps::listed_to, crate::specs::ReadingSteps::up_to))]
     pub fn elements_to(&self, close: Sign, tokens: &mut Cursor<'_, '_>) -> Result<Elements, Fault>
         requires { Nests self.now.depth (F.pre self.now.inner) (F.post self.now.inner) }
-        ensures { Moves (map tree_of) result tokens.new (listed_to (lexeme.sign close) (read self.now.depth loosest) tokens.old) }
+        ensures { Moves (map tree_of) result tokens.new
+            (listed_to (lexeme.sign close) (read self.now.depth loosest) tokens.old) }
     {
         if tokens.sign(close) {
             return Ok(Elements::new(self.alloc));
@@ -57,7 +59,8 @@ impl<F: Fn(Global, u8, Level, &mut Cursor<'_, '_>) -> Result<Found, Fault>> Gram
     #[tactic(auto, unfolding(crate::specs::Reading::part))]
     fn part(&self, tokens: &mut Cursor<'_, '_>) -> Result<(Name, Found), Fault>
         requires { Nests self.now.depth (F.pre self.now.inner) (F.post self.now.inner) }
-        ensures { Moves (λ x. (x.0, tree_of x.1)) result tokens.new (reading.part (read self.now.depth) self.now.depth tokens.old) }
+        ensures { Moves (λ x. (x.0, tree_of x.1)) result tokens.new
+            (reading.part (read self.now.depth) self.now.depth tokens.old) }
     {
         let name = name(self.alloc, tokens)?;
         let value = self.expression(tokens)?;
@@ -68,7 +71,8 @@ impl<F: Fn(Global, u8, Level, &mut Cursor<'_, '_>) -> Result<Found, Fault>> Gram
     #[tactic(auto, unfolding(crate::specs::ReadingSteps::separated, crate::specs::ReadingSteps::separated_from))]
     fn parts(&self, tokens: &mut Cursor<'_, '_>) -> Result<NamedParts, Fault>
         requires { Nests self.now.depth (F.pre self.now.inner) (F.post self.now.inner) }
-        ensures { Moves (map named_part_of) result tokens.new (separated (reading.part (read self.now.depth) self.now.depth) tokens.old) }
+        ensures { Moves (map named_part_of) result tokens.new
+            (separated (reading.part (read self.now.depth) self.now.depth) tokens.old) }
     {
         let mut items = NamedParts::with_room(self.alloc, tokens.parts())?;
         let limit = tokens.turns();
@@ -87,7 +91,9 @@ impl<F: Fn(Global, u8, Level, &mut Cursor<'_, '_>) -> Result<Found, Fault>> Gram
     #[tactic(auto, unfolding(crate::specs::ReadingSteps::listed_to, crate::specs::ReadingSteps::up_to))]
     pub fn parts_to_brace(&self, tokens: &mut Cursor<'_, '_>) -> Result<NamedParts, Fault>
         requires { Nests self.now.depth (F.pre self.now.inner) (F.post self.now.inner) }
-        ensures { Moves (map named_part_of) result tokens.new (listed_to (lexeme.sign Sign.CloseBrace) (reading.part (read self.now.depth) self.now.depth) tokens.old) }
+        ensures { Moves (map named_part_of) result tokens.new
+            (listed_to (lexeme.sign Sign.CloseBrace)
+            (reading.part (read self.now.depth) self.now.depth) tokens.old) }
     {
         if tokens.sign(Sign::CloseBrace) {
             return Ok(NamedParts::new(self.alloc));
@@ -100,7 +106,8 @@ impl<F: Fn(Global, u8, Level, &mut Cursor<'_, '_>) -> Result<Found, Fault>> Gram
     #[tactic(auto, unfolding(crate::specs::Reading::addition))]
     fn addition(&self, tokens: &mut Cursor<'_, '_>) -> Result<(Name, Found), Fault>
         requires { Nests self.now.depth (F.pre self.now.inner) (F.post self.now.inner) }
-        ensures { Moves (λ x. (x.0, tree_of x.1)) result tokens.new (reading.addition (read self.now.depth) self.now.depth tokens.old) }
+        ensures { Moves (λ x. (x.0, tree_of x.1)) result tokens.new
+            (reading.addition (read self.now.depth) self.now.depth tokens.old) }
     {
         let value = self.expression(tokens)?;
         let (value, name) = both(value, alias(self.alloc, tokens))?;
@@ -111,7 +118,8 @@ impl<F: Fn(Global, u8, Level, &mut Cursor<'_, '_>) -> Result<Found, Fault>> Gram
     #[tactic(auto, unfolding(crate::specs::ReadingSteps::separated, crate::specs::ReadingSteps::separated_from))]
     fn additions(&self, tokens: &mut Cursor<'_, '_>) -> Result<NamedParts, Fault>
         requires { Nests self.now.depth (F.pre self.now.inner) (F.post self.now.inner) }
-        ensures { Moves (map named_part_of) result tokens.new (separated (reading.addition (read self.now.depth) self.now.depth) tokens.old) }
+        ensures { Moves (map named_part_of) result tokens.new
+            (separated (reading.addition (read self.now.depth) self.now.depth) tokens.old) }
     {
         let mut items = NamedParts::new(self.alloc);
         let limit = tokens.turns();
@@ -129,7 +137,9 @@ impl<F: Fn(Global, u8, Level, &mut Cursor<'_, '_>) -> Result<Found, Fault>> Gram
     #[tactic(auto, unfolding(crate::specs::ReadingSteps::enclosed, crate::specs::ReadingSteps::up_to))]
     pub fn enclosed_additions(&self, tokens: &mut Cursor<'_, '_>) -> Result<NamedParts, Fault>
         requires { Nests self.now.depth (F.pre self.now.inner) (F.post self.now.inner) }
-        ensures { Moves (map named_part_of) result tokens.new (enclosed (separated (reading.addition (read self.now.depth) self.now.depth)) tokens.old) }
+        ensures { Moves (map named_part_of) result tokens.new
+            (enclosed (separated (reading.addition (read self.now.depth) self.now.depth))
+            tokens.old) }
     {
         tokens.expect_sign(Sign::OpenParenthesis)?;
         let items = self.additions(tokens)?;

@@ -98,7 +98,8 @@ fn renaming(alloc: Global, tokens: &mut Cursor<'_, '_>) -> Result<Renaming, Faul
 /// `(name AS name),+`
 #[tactic(auto, unfolding(crate::specs::ReadingSteps::separated, crate::specs::ReadingSteps::separated_from))]
 pub fn renamings(alloc: Global, tokens: &mut Cursor<'_, '_>) -> Result<Vec<Renaming>, Fault>
-    ensures { Moves (λ v. map renaming_of v.items) result tokens.new (separated reading.read_renaming tokens.old) }
+    ensures { Moves (λ v. map renaming_of v.items) result tokens.new
+        (separated reading.read_renaming tokens.old) }
 {
     let mut items = Vec::new(alloc);
     let limit = tokens.turns();

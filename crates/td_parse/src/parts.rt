@@ -111,7 +111,8 @@ impl NamedParts {
     /// One more, behind the others.
     #[tactic(auto, using(crate::proofs::Highest::highest_named_push))]
     pub fn push(&mut self, name: Name, value: Found) -> Result<(), AllocError>
-        ensures { OnOk result (self.new ≡ self.old ++ (record { name = name; value = value } ∷ [])) }
+        ensures { OnOk result
+            (self.new ≡ self.old ++ (record { name = name; value = value } ∷ [])) }
     {
         let height = self.height.max(value.height());
         let value = value.into_tree();
@@ -149,7 +150,8 @@ impl Model for Summaries {
 
     ghost view = { λ s. s.items.items };
 
-    ghost invariant = { λ s. s.height ≡ min (highest_summary (summaries_of s.items.items)) (2 ^ 64 - 1) };
+    ghost invariant = { λ s. s.height
+        ≡ min (highest_summary (summaries_of s.items.items)) (2 ^ 64 - 1) };
 }
 
 impl Summaries {

@@ -44,7 +44,8 @@ fn enclosed_name(alloc: Global, tokens: &mut Cursor<'_, '_>) -> Result<Name, Fau
 /// `'(' (name AS name),+ ')'`
 #[tactic(auto, unfolding(crate::specs::ReadingSteps::enclosed, crate::specs::ReadingSteps::up_to))]
 fn enclosed_renamings(alloc: Global, tokens: &mut Cursor<'_, '_>) -> Result<Vec<Renaming>, Fault>
-    ensures { Moves (λ v. map renaming_of v.items) result tokens.new (enclosed (separated read_renaming) tokens.old) }
+    ensures { Moves (λ v. map renaming_of v.items) result tokens.new
+        (enclosed (separated read_renaming) tokens.old) }
 {
     tokens.expect_sign(Sign::OpenParenthesis)?;
     let renamings = renamings(alloc, tokens)?;
@@ -57,7 +58,8 @@ fn enclosed_attributes(
     alloc: Global,
     tokens: &mut Cursor<'_, '_>,
 ) -> Result<(Attributes, Name), Fault>
-    ensures { Moves (λ x. (attributes_of x.0, x.1)) result tokens.new (enclosed reading.named_attributes tokens.old) }
+    ensures { Moves (λ x. (attributes_of x.0, x.1)) result tokens.new
+        (enclosed reading.named_attributes tokens.old) }
 {
     tokens.expect_sign(Sign::OpenParenthesis)?;
     let attributes = attributes(alloc, tokens)?;

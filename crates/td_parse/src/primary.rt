@@ -20,10 +20,10 @@ use crate::grammar::Grammar;
 use crate::operators::{begins_heading, call};
 use crate::steps::{both, closed, ended};
 use crate::types::relation_heading;
-use crate::word::{MAX_MAGNITUDE, component_of, number_of, text_of};
+use crate::word::{component_of, number_of, text_of};
 use std::alloc::Global;
 use std::rc::RcStr;
-use td_tree::expression::Literal;
+use td_tree::expression::{Literal, MAX_MAGNITUDE};
 use td_tree::fault::Fault;
 use td_tree::keyword::Keyword;
 use td_tree::name::Name;
@@ -33,7 +33,9 @@ use td_tree::token::{Kind, Sign};
 /// A number that a literal spells, after a minus or not.
 fn numeral(minus: bool, text: &[u8]) -> Option<Found>
     requires { kind_of (symbols text.now) ≡ Some Kind.Number }
-    ensures { option_map tree_of result ≡ (if nat_le (decimal_value text.now) (numeral_limit minus) then Some (trees.literal (trees.number minus (decimal_value text.now))) else None) }
+    ensures { option_map tree_of result
+        ≡ (if nat_le (decimal_value text.now) (numeral_limit minus)
+        then Some (trees.literal (trees.number minus (decimal_value text.now))) else None) }
 {
     let magnitude = number_of(text)?;
     if magnitude == MAX_MAGNITUDE && !minus {
@@ -58,7 +60,8 @@ impl<F: Fn(Global, u8, Level, &mut Cursor<'_, '_>) -> Result<Found, Fault>> Gram
     #[tactic(auto, unfolding(crate::specs::ReadingSteps::up_to))]
     pub fn up_to_sign(&self, close: Sign, tokens: &mut Cursor<'_, '_>) -> Result<Found, Fault>
         requires { Nests self.now.depth (F.pre self.now.inner) (F.post self.now.inner) }
-        ensures { Moves tree_of result tokens.new (up_to (lexeme.sign close) (read self.now.depth loosest) tokens.old) }
+        ensures { Moves tree_of result tokens.new
+            (up_to (lexeme.sign close) (read self.now.depth loosest) tokens.old) }
     {
         let found = self.expression(tokens)?;
         closed(found, close, tokens)
@@ -68,7 +71,8 @@ impl<F: Fn(Global, u8, Level, &mut Cursor<'_, '_>) -> Result<Found, Fault>> Gram
     #[tactic(auto, unfolding(crate::specs::ReadingSteps::up_to))]
     fn up_to_word(&self, close: Keyword, tokens: &mut Cursor<'_, '_>) -> Result<Found, Fault>
         requires { Nests self.now.depth (F.pre self.now.inner) (F.post self.now.inner) }
-        ensures { Moves tree_of result tokens.new (up_to (lexeme.keyword close) (read self.now.depth loosest) tokens.old) }
+        ensures { Moves tree_of result tokens.new
+            (up_to (lexeme.keyword close) (read self.now.depth loosest) tokens.old) }
     {
         let found = self.expression(tokens)?;
         ended(found, close, tokens)
@@ -78,7 +82,8 @@ impl<F: Fn(Global, u8, Level, &mut Cursor<'_, '_>) -> Result<Found, Fault>> Gram
     #[tactic(auto, unfolding(crate::specs::Reading::named))]
     fn named(&self, name: Name, tokens: &mut Cursor<'_, '_>) -> Result<Found, Fault>
         requires { Nests self.now.depth (F.pre self.now.inner) (F.post self.now.inner) }
-        ensures { Moves tree_of result tokens.new (reading.named (read self.now.depth) self.now.depth name tokens.old) }
+        ensures { Moves tree_of result tokens.new
+            (reading.named (read self.now.depth) self.now.depth name tokens.old) }
     {
         if call(tokens) {
             let arguments = self.elements_to(Sign::CloseParenthesis, tokens)?;
@@ -92,7 +97,9 @@ impl<F: Fn(Global, u8, Level, &mut Cursor<'_, '_>) -> Result<Found, Fault>> Gram
     #[tactic(auto, unfolding(crate::specs::Reading::component_of))]
     fn component(&self, rest: RcStr, tokens: &mut Cursor<'_, '_>) -> Result<Found, Fault>
         requires { Nests self.now.depth (F.pre self.now.inner) (F.post self.now.inner) }
-        ensures { Moves tree_of result tokens.new (reading.component_of (read self.now.depth) self.now.depth (rc_str_bytes rest) tokens.old) }
+        ensures { Moves tree_of result tokens.new
+            (reading.component_of (read self.now.depth) self.now.depth
+            (rc_str_bytes rest) tokens.old) }
     {
         let operand = self.enclosed_expression(tokens)?;
         Ok(Found::component(self.alloc, rest, operand)?)
@@ -102,7 +109,8 @@ impl<F: Fn(Global, u8, Level, &mut Cursor<'_, '_>) -> Result<Found, Fault>> Gram
     #[tactic(auto, unfolding(crate::specs::Reading::parenthesized))]
     fn parenthesized(&self, tokens: &mut Cursor<'_, '_>) -> Result<Found, Fault>
         requires { Nests self.now.depth (F.pre self.now.inner) (F.post self.now.inner) }
-        ensures { Moves tree_of result tokens.new (reading.parenthesized (read self.now.depth) self.now.depth tokens.old) }
+        ensures { Moves tree_of result tokens.new
+            (reading.parenthesized (read self.now.depth) self.now.depth tokens.old) }
     {
         let inner = self.up_to_sign(Sign::CloseParenthesis, tokens)?;
         Ok(Found::parentheses(self.alloc, inner)?)
@@ -112,7 +120,8 @@ impl<F: Fn(Global, u8, Level, &mut Cursor<'_, '_>) -> Result<Found, Fault>> Gram
     #[tactic(auto, unfolding(crate::specs::Reading::measured))]
     fn measured(&self, op: Measure, tokens: &mut Cursor<'_, '_>) -> Result<Found, Fault>
         requires { Nests self.now.depth (F.pre self.now.inner) (F.post self.now.inner) }
-        ensures { Moves tree_of result tokens.new (reading.measured (read self.now.depth) self.now.depth op tokens.old) }
+        ensures { Moves tree_of result tokens.new
+            (reading.measured (read self.now.depth) self.now.depth op tokens.old) }
     {
         let operand = self.enclosed_expression(tokens)?;
         Ok(Found::measure(self.alloc, op, operand)?)
@@ -122,7 +131,8 @@ impl<F: Fn(Global, u8, Level, &mut Cursor<'_, '_>) -> Result<Found, Fault>> Gram
     #[tactic(auto, unfolding(crate::specs::Reading::aggregated))]
     fn aggregated(&self, op: Aggregate, tokens: &mut Cursor<'_, '_>) -> Result<Found, Fault>
         requires { Nests self.now.depth (F.pre self.now.inner) (F.post self.now.inner) }
-        ensures { Moves tree_of result tokens.new (reading.aggregated (read self.now.depth) self.now.depth op tokens.old) }
+        ensures { Moves tree_of result tokens.new
+            (reading.aggregated (read self.now.depth) self.now.depth op tokens.old) }
     {
         tokens.expect_sign(Sign::OpenParenthesis)?;
         let operand = self.up_to_sign(Sign::Comma, tokens)?;
@@ -135,7 +145,8 @@ impl<F: Fn(Global, u8, Level, &mut Cursor<'_, '_>) -> Result<Found, Fault>> Gram
     #[tactic(auto, unfolding(crate::specs::Reading::headed_relation))]
     fn headed_relation(&self, tokens: &mut Cursor<'_, '_>) -> Result<Found, Fault>
         requires { Nests self.now.depth (F.pre self.now.inner) (F.post self.now.inner) }
-        ensures { Moves tree_of result tokens.new (reading.headed_relation (read self.now.depth) self.now.depth tokens.old) }
+        ensures { Moves tree_of result tokens.new
+            (reading.headed_relation (read self.now.depth) self.now.depth tokens.old) }
     {
         let heading = relation_heading(self.alloc, self.depth, tokens)?;
         tokens.expect_sign(Sign::OpenBrace)?;
@@ -147,7 +158,8 @@ impl<F: Fn(Global, u8, Level, &mut Cursor<'_, '_>) -> Result<Found, Fault>> Gram
     #[tactic(auto, unfolding(crate::specs::Reading::elements, crate::specs::ReadingSteps::up_to))]
     fn bare_relation(&self, tokens: &mut Cursor<'_, '_>) -> Result<Found, Fault>
         requires { Nests self.now.depth (F.pre self.now.inner) (F.post self.now.inner) }
-        ensures { Moves tree_of result tokens.new (reading.elements (read self.now.depth) self.now.depth tokens.old) }
+        ensures { Moves tree_of result tokens.new
+            (reading.elements (read self.now.depth) self.now.depth tokens.old) }
     {
         tokens.expect_sign(Sign::OpenBrace)?;
         let elements = self.elements(tokens)?;
@@ -159,7 +171,8 @@ impl<F: Fn(Global, u8, Level, &mut Cursor<'_, '_>) -> Result<Found, Fault>> Gram
     #[tactic(auto, unfolding(crate::specs::Reading::relation))]
     fn relation(&self, tokens: &mut Cursor<'_, '_>) -> Result<Found, Fault>
         requires { Nests self.now.depth (F.pre self.now.inner) (F.post self.now.inner) }
-        ensures { Moves tree_of result tokens.new (reading.relation (read self.now.depth) self.now.depth tokens.old) }
+        ensures { Moves tree_of result tokens.new
+            (reading.relation (read self.now.depth) self.now.depth tokens.old) }
     {
         if begins_heading(tokens) {
             self.headed_relation(tokens)
@@ -172,7 +185,8 @@ impl<F: Fn(Global, u8, Level, &mut Cursor<'_, '_>) -> Result<Found, Fault>> Gram
     #[tactic(auto, unfolding(crate::specs::Reading::tuple))]
     fn tuple(&self, tokens: &mut Cursor<'_, '_>) -> Result<Found, Fault>
         requires { Nests self.now.depth (F.pre self.now.inner) (F.post self.now.inner) }
-        ensures { Moves tree_of result tokens.new (reading.tuple (read self.now.depth) self.now.depth tokens.old) }
+        ensures { Moves tree_of result tokens.new
+            (reading.tuple (read self.now.depth) self.now.depth tokens.old) }
     {
         tokens.expect_sign(Sign::OpenBrace)?;
         Ok(Found::tuple(self.parts_to_brace(tokens)?))
@@ -182,7 +196,8 @@ impl<F: Fn(Global, u8, Level, &mut Cursor<'_, '_>) -> Result<Found, Fault>> Gram
     #[tactic(auto, unfolding(crate::specs::Reading::extension))]
     fn extension(&self, tokens: &mut Cursor<'_, '_>) -> Result<Found, Fault>
         requires { Nests self.now.depth (F.pre self.now.inner) (F.post self.now.inner) }
-        ensures { Moves tree_of result tokens.new (reading.extension (read self.now.depth) self.now.depth tokens.old) }
+        ensures { Moves tree_of result tokens.new
+            (reading.extension (read self.now.depth) self.now.depth tokens.old) }
     {
         let operand = self.up_to_word(Keyword::Add, tokens)?;
         let (operand, additions) = both(operand, self.enclosed_additions(tokens))?;
@@ -193,7 +208,8 @@ impl<F: Fn(Global, u8, Level, &mut Cursor<'_, '_>) -> Result<Found, Fault>> Gram
     #[tactic(auto, unfolding(crate::specs::Reading::choice))]
     fn choice(&self, tokens: &mut Cursor<'_, '_>) -> Result<Found, Fault>
         requires { Nests self.now.depth (F.pre self.now.inner) (F.post self.now.inner) }
-        ensures { Moves tree_of result tokens.new (reading.choice (read self.now.depth) self.now.depth tokens.old) }
+        ensures { Moves tree_of result tokens.new
+            (reading.choice (read self.now.depth) self.now.depth tokens.old) }
     {
         let condition = self.up_to_word(Keyword::Then, tokens)?;
         let consequent = self.up_to_word(Keyword::Else, tokens);
@@ -207,7 +223,8 @@ impl<F: Fn(Global, u8, Level, &mut Cursor<'_, '_>) -> Result<Found, Fault>> Gram
     #[tactic(auto, unfolding(crate::specs::Reading::primary_of_word))]
     fn primary_of_word(&self, word: Keyword, tokens: &mut Cursor<'_, '_>) -> Result<Found, Fault>
         requires { Nests self.now.depth (F.pre self.now.inner) (F.post self.now.inner) }
-        ensures { Moves tree_of result tokens.new (reading.primary_of_word (read self.now.depth) self.now.depth word tokens.old) }
+        ensures { Moves tree_of result tokens.new
+            (reading.primary_of_word (read self.now.depth) self.now.depth word tokens.old) }
     {
         match word {
             Keyword::True => Ok(Found::literal(Literal::Truth(true))),
@@ -232,7 +249,8 @@ impl<F: Fn(Global, u8, Level, &mut Cursor<'_, '_>) -> Result<Found, Fault>> Gram
     #[tactic(auto, unfolding(crate::specs::Reading::primary, crate::specs::Reading::primary_of_sign, crate::specs::Reading::numeral))]
     pub fn primary(&self, tokens: &mut Cursor<'_, '_>) -> Result<Found, Fault>
         requires { Nests self.now.depth (F.pre self.now.inner) (F.post self.now.inner) }
-        ensures { Moves tree_of result tokens.new (reading.primary (read self.now.depth) self.now.depth tokens.old) }
+        ensures { Moves tree_of result tokens.new
+            (reading.primary (read self.now.depth) self.now.depth tokens.old) }
     {
         let Some((kind, text)) = tokens.take() else {
             return Err(SYNTAX);

@@ -1,9 +1,11 @@
 //! Statements.
 ghost use Rattle.std.specs.Prelude.{◌≡◌};
-ghost use Rattle.td_parse.specs.Parsing.{Gives, Moves, Parses, has_bad, is_bad};
+ghost use Rattle.td_parse.specs.Parsing.{Gives, Moves, Parsed, has_bad, is_bad};
 ghost use Rattle.td_parse.specs.ReadingStatements as reading;
 ghost use Rattle.td_parse.specs.ReadingStatements.{read_statement};
+ghost use Rattle.td_tree.specs.Outcomes.{Answers, Outcome};
 ghost use Rattle.td_tree.specs.TokenLexemes.{lexemes};
+ghost use Rattle.td_tree.specs.Trees as trees;
 ghost use Rattle.td_tree.specs.TreeViews.{statement_of};
 
 use crate::assignment::{assignments, expression};
@@ -91,10 +93,10 @@ fn has_bad(tokens: &[Token<'_>]) -> bool
     false
 }
 
-/// The statement that the tokens spell: SCAN where one of them is bad, else SYNTAX where they
-/// spell none.
+/// The statement that the tokens spell: SCAN alone where one of them is bad, else SYNTAX alone
+/// where they spell none.
 pub fn parse_statement(alloc: Global, tokens: &[Token<'_>]) -> Result<Statement, Fault>
-    ensures { Parses tokens.now result }
+    ensures { (o : Outcome trees.Statement) × Parsed tokens.now o × Answers statement_of result o }
 {
     if has_bad(tokens) {
         return Err(Fault::Refused(Cause::Scan));

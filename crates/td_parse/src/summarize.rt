@@ -25,7 +25,8 @@ use td_tree::token::{Kind, Sign};
 /// `'(' ')' AS name`, after `COUNT`
 #[tactic(auto, unfolding(crate::specs::Reading::count_summary))]
 fn count_summary(alloc: Global, tokens: &mut Cursor<'_, '_>) -> Result<FoundSummary, Fault>
-    ensures { Moves (λ s. item_of (summary_of s)) result tokens.new (reading.count_summary (read 0) 0 tokens.old) }
+    ensures { Moves (λ s. item_of (summary_of s)) result tokens.new
+        (reading.count_summary (read 0) 0 tokens.old) }
 {
     tokens.expect_sign(Sign::OpenParenthesis)?;
     tokens.expect_sign(Sign::CloseParenthesis)?;
@@ -37,7 +38,8 @@ impl<F: Fn(Global, u8, Level, &mut Cursor<'_, '_>) -> Result<Found, Fault>> Gram
     #[tactic(auto, unfolding(crate::specs::ReadingSteps::enclosed))]
     pub fn enclosed_expression(&self, tokens: &mut Cursor<'_, '_>) -> Result<Found, Fault>
         requires { Nests self.now.depth (F.pre self.now.inner) (F.post self.now.inner) }
-        ensures { Moves tree_of result tokens.new (enclosed (read self.now.depth loosest) tokens.old) }
+        ensures { Moves tree_of result tokens.new
+            (enclosed (read self.now.depth loosest) tokens.old) }
     {
         tokens.expect_sign(Sign::OpenParenthesis)?;
         self.up_to_sign(Sign::CloseParenthesis, tokens)
@@ -47,7 +49,8 @@ impl<F: Fn(Global, u8, Level, &mut Cursor<'_, '_>) -> Result<Found, Fault>> Gram
     #[tactic(auto, unfolding(crate::specs::Reading::sum_summary))]
     fn sum_summary(&self, op: Aggregate, tokens: &mut Cursor<'_, '_>) -> Result<FoundSummary, Fault>
         requires { Nests self.now.depth (F.pre self.now.inner) (F.post self.now.inner) }
-        ensures { Moves (λ s. item_of (summary_of s)) result tokens.new (reading.sum_summary (read self.now.depth) self.now.depth op tokens.old) }
+        ensures { Moves (λ s. item_of (summary_of s)) result tokens.new
+            (reading.sum_summary (read self.now.depth) self.now.depth op tokens.old) }
     {
         let value = self.enclosed_expression(tokens)?;
         let (value, name) = both(value, alias(self.alloc, tokens))?;
@@ -62,7 +65,8 @@ impl<F: Fn(Global, u8, Level, &mut Cursor<'_, '_>) -> Result<Found, Fault>> Gram
         tokens: &mut Cursor<'_, '_>,
     ) -> Result<FoundSummary, Fault>
         requires { Nests self.now.depth (F.pre self.now.inner) (F.post self.now.inner) }
-        ensures { Moves (λ s. item_of (summary_of s)) result tokens.new (reading.summary_of_word (read self.now.depth) self.now.depth word tokens.old) }
+        ensures { Moves (λ s. item_of (summary_of s)) result tokens.new
+            (reading.summary_of_word (read self.now.depth) self.now.depth word tokens.old) }
     {
         match word {
             Keyword::Count => count_summary(self.alloc, tokens),
@@ -77,7 +81,8 @@ impl<F: Fn(Global, u8, Level, &mut Cursor<'_, '_>) -> Result<Found, Fault>> Gram
     #[tactic(auto, unfolding(crate::specs::Reading::summary))]
     fn summary(&self, tokens: &mut Cursor<'_, '_>) -> Result<FoundSummary, Fault>
         requires { Nests self.now.depth (F.pre self.now.inner) (F.post self.now.inner) }
-        ensures { Moves (λ s. item_of (summary_of s)) result tokens.new (reading.summary (read self.now.depth) self.now.depth tokens.old) }
+        ensures { Moves (λ s. item_of (summary_of s)) result tokens.new
+            (reading.summary (read self.now.depth) self.now.depth tokens.old) }
     {
         match tokens.take() {
             Some((Kind::Reserved(word), _)) => self.summary_of_word(word, tokens),
@@ -89,7 +94,8 @@ impl<F: Fn(Global, u8, Level, &mut Cursor<'_, '_>) -> Result<Found, Fault>> Gram
     #[tactic(auto, unfolding(crate::specs::ReadingSteps::separated, crate::specs::ReadingSteps::separated_from))]
     fn some_summaries(&self, tokens: &mut Cursor<'_, '_>) -> Result<Summaries, Fault>
         requires { Nests self.now.depth (F.pre self.now.inner) (F.post self.now.inner) }
-        ensures { Moves (map item_of) result tokens.new (separated (reading.summary (read self.now.depth) self.now.depth) tokens.old) }
+        ensures { Moves (map item_of) result tokens.new
+            (separated (reading.summary (read self.now.depth) self.now.depth) tokens.old) }
     {
         let mut items = Summaries::new(self.alloc);
         let limit = tokens.turns();
@@ -106,7 +112,8 @@ impl<F: Fn(Global, u8, Level, &mut Cursor<'_, '_>) -> Result<Found, Fault>> Gram
     #[tactic(auto, unfolding(crate::specs::Reading::summaries, crate::specs::ReadingSteps::enclosed, crate::specs::ReadingSteps::up_to))]
     fn summaries(&self, tokens: &mut Cursor<'_, '_>) -> Result<Summaries, Fault>
         requires { Nests self.now.depth (F.pre self.now.inner) (F.post self.now.inner) }
-        ensures { Moves (λ s. summaries_from (map item_of s)) result tokens.new (reading.summaries (read self.now.depth) self.now.depth tokens.old) }
+        ensures { Moves (λ s. summaries_from (map item_of s)) result tokens.new
+            (reading.summaries (read self.now.depth) self.now.depth tokens.old) }
     {
         tokens.expect_keyword(Keyword::Add)?;
         tokens.expect_sign(Sign::OpenParenthesis)?;
@@ -118,7 +125,9 @@ impl<F: Fn(Global, u8, Level, &mut Cursor<'_, '_>) -> Result<Found, Fault>> Gram
     #[tactic(auto, unfolding(crate::specs::Reading::summary_per))]
     fn summary_per(&self, operand: Found, tokens: &mut Cursor<'_, '_>) -> Result<Found, Fault>
         requires { Nests self.now.depth (F.pre self.now.inner) (F.post self.now.inner) }
-        ensures { Moves tree_of result tokens.new (reading.summary_per (read self.now.depth) self.now.depth (tree_of operand) tokens.old) }
+        ensures { Moves tree_of result tokens.new
+            (reading.summary_per (read self.now.depth) self.now.depth
+            (tree_of operand) tokens.old) }
     {
         let per = self.enclosed_expression(tokens);
         let operands = both(operand, per)?;
@@ -130,7 +139,8 @@ impl<F: Fn(Global, u8, Level, &mut Cursor<'_, '_>) -> Result<Found, Fault>> Gram
     #[tactic(auto, unfolding(crate::specs::Reading::summary_by))]
     fn summary_by(&self, operand: Found, tokens: &mut Cursor<'_, '_>) -> Result<Found, Fault>
         requires { Nests self.now.depth (F.pre self.now.inner) (F.post self.now.inner) }
-        ensures { Moves tree_of result tokens.new (reading.summary_by (read self.now.depth) self.now.depth (tree_of operand) tokens.old) }
+        ensures { Moves tree_of result tokens.new
+            (reading.summary_by (read self.now.depth) self.now.depth (tree_of operand) tokens.old) }
     {
         let operands = both(operand, attributes(self.alloc, tokens))?;
         let ((operand, by), items) = both(operands, self.summaries(tokens))?;
@@ -141,7 +151,8 @@ impl<F: Fn(Global, u8, Level, &mut Cursor<'_, '_>) -> Result<Found, Fault>> Gram
     #[tactic(auto, unfolding(crate::specs::Reading::summarized))]
     pub fn summarized(&self, tokens: &mut Cursor<'_, '_>) -> Result<Found, Fault>
         requires { Nests self.now.depth (F.pre self.now.inner) (F.post self.now.inner) }
-        ensures { Moves tree_of result tokens.new (reading.summarized (read self.now.depth) self.now.depth tokens.old) }
+        ensures { Moves tree_of result tokens.new
+            (reading.summarized (read self.now.depth) self.now.depth tokens.old) }
     {
         let operand = self.expression(tokens)?;
         if tokens.keyword(Keyword::Per) {

@@ -59,7 +59,8 @@ fn type_of_word(
     word: Keyword,
     tokens: &mut Cursor<'_, '_>,
 ) -> Result<TypeTree, Fault>
-    ensures { Moves type_of result tokens.new (reading.type_of_word (read_type depth) word tokens.old) }
+    ensures { Moves type_of result tokens.new
+        (reading.type_of_word (read_type depth) word tokens.old) }
 {
     match word {
         Keyword::Integer => Ok(TypeTree::Integer),
@@ -79,7 +80,8 @@ fn heading(
     depth: u8,
     tokens: &mut Cursor<'_, '_>,
 ) -> Result<Vec<AttributeTree>, Fault>
-    ensures { Moves (λ v. heading_of v.items) result tokens.new (reading.heading (read_type depth) tokens.old) }
+    ensures { Moves (λ v. heading_of v.items) result tokens.new
+        (reading.heading (read_type depth) tokens.old) }
 {
     tokens.expect_sign(Sign::OpenBrace)?;
     if tokens.sign(Sign::CloseBrace) {
@@ -97,7 +99,8 @@ pub fn attributes(
     depth: u8,
     tokens: &mut Cursor<'_, '_>,
 ) -> Result<Vec<AttributeTree>, Fault>
-    ensures { Moves (λ v. attributes_of v.items) result tokens.new (separated (reading.attribute (read_type depth)) tokens.old) }
+    ensures { Moves (λ v. attributes_of v.items) result tokens.new
+        (separated (reading.attribute (read_type depth)) tokens.old) }
 {
     let mut items = Vec::new(alloc);
     let limit = tokens.turns();
@@ -114,7 +117,8 @@ pub fn attributes(
 #[cycle(types)]
 #[tactic(auto, unfolding(crate::specs::ReadingTypes::attribute))]
 fn attribute(alloc: Global, depth: u8, tokens: &mut Cursor<'_, '_>) -> Result<AttributeTree, Fault>
-    ensures { Moves attribute_of result tokens.new (reading.attribute (read_type depth) tokens.old) }
+    ensures { Moves attribute_of result tokens.new
+        (reading.attribute (read_type depth) tokens.old) }
 {
     let name = name(alloc, tokens)?;
     let ty = type_tree(alloc, depth, tokens)?;
@@ -128,7 +132,8 @@ pub fn relation_heading(
     depth: u8,
     tokens: &mut Cursor<'_, '_>,
 ) -> Result<Vec<AttributeTree>, Fault>
-    ensures { Moves (λ v. heading_of v.items) result tokens.new (reading.relation_heading depth tokens.old) }
+    ensures { Moves (λ v. heading_of v.items) result tokens.new
+        (reading.relation_heading depth tokens.old) }
 {
     if depth == 0 {
         return Err(SYNTAX);

@@ -9,11 +9,9 @@ ghost use Rattle.td_tree.specs.TextTokens.{content, undoubled};
 
 use std::alloc::{AllocError, Global};
 use std::rc::RcStr;
+use td_tree::expression::MAX_MAGNITUDE;
 use td_tree::name::Name;
 use td_tree::token::Kind;
-
-/// The greatest number that a literal spells, after a minus.
-pub const MAX_MAGNITUDE: u64 = 9_223_372_036_854_775_808;
 
 /// The name that a token with these bytes is.
 #[tactic(auto, using(crate::proofs::Seen::name_is, crate::proofs::Seen::name_is_utf8))]
@@ -43,7 +41,9 @@ pub fn component_of(alloc: Global, text: &[u8]) -> Result<RcStr, AllocError>
 #[tactic(auto, using(crate::proofs::Seen::number_passes))]
 pub fn number_of(text: &[u8]) -> Option<u64>
     requires { kind_of (symbols text.now) ≡ Some Kind.Number }
-    ensures { result ≡ (if nat_le (decimal_value text.now) (2 ^ 63) then Some (decimal_value text.now) else None) }
+    ensures { result
+        ≡ (if nat_le (decimal_value text.now) (2 ^ 63) then Some (decimal_value text.now)
+        else None) }
 {
     let mut value = 0u64;
     for digit in text {

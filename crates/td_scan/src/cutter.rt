@@ -77,9 +77,14 @@ impl Model for Cutter {
 
     ghost Value = { Held };
 
-    ghost view = { λ c. record { bytes = drop c.taken c.bytes.items; offset = c.offset; finished = c.finished } };
+    ghost view = { λ c. record {
+      bytes = drop c.taken c.bytes.items;
+      offset = c.offset;
+      finished = c.finished;
+    } };
 
-    ghost invariant = { λ c. (c.taken ≤ length c.bytes.items) × (c.offset + (length c.bytes.items - c.taken) < 2 ^ 64) };
+    ghost invariant = { λ c. (c.taken ≤ length c.bytes.items)
+        × (c.offset + (length c.bytes.items - c.taken) < 2 ^ 64) };
 }
 
 impl Cutter {
@@ -99,7 +104,8 @@ impl Cutter {
     pub fn feed(&mut self, piece: &[u8]) -> Result<(), AllocError>
         requires unfinished { IsFalse self.old.finished }
         requires room { self.old.offset + length self.old.bytes + length piece.now < 2 ^ 64 }
-        ensures ok { OnOk result (self.new ≡ record self.old { bytes = self.old.bytes ++ piece.now }) }
+        ensures ok { OnOk result
+            (self.new ≡ record self.old { bytes = self.old.bytes ++ piece.now }) }
         ensures err { OnErr result (self.new ≡ self.old) }
     {
         self.close_up();
@@ -129,8 +135,10 @@ impl Cutter {
     /// The tokens of the first statement.
     #[tactic(auto, using(crate::proofs::LastLaws::last_stop))]
     pub fn next_statement(&self) -> Result<Option<Vec<Token<'_>>>, AllocError>
-        ensures is { IfOk result (λ found. option_map (λ v. v.items) found ≡ first_statement self.now) }
-        ensures end { IfOk result (λ found. IfSome found (λ v. end_of_last v.items ≡ Some (behind self.now))) }
+        ensures is { IfOk result
+            (λ found. option_map (λ v. v.items) found ≡ first_statement self.now) }
+        ensures end { IfOk result
+            (λ found. IfSome found (λ v. end_of_last v.items ≡ Some (behind self.now))) }
     {
         let alloc = *self.bytes.allocator();
         let (_, held) = self.bytes.split_at(self.taken);

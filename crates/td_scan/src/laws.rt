@@ -8,13 +8,15 @@ ghost use Rattle.td_tree.specs.Statements.{first_statement, statements};
 #[tactic(auto, using(crate::proofs::CourseLaws::taken_first))]
 pub fn taken_off_are_the_first()
     ensures { (calls : List Call) → IsAllowed calls
-        → statements 0 (course calls).fed ≡ (course calls).taken ++ statements_held (course calls).held }
+        → statements 0 (course calls).fed
+        ≡ (course calls).taken ++ statements_held (course calls).held }
 {}
 
 /// Until the cutter is finished that holds whatever is still to come.
 #[tactic(auto, using(crate::proofs::CourseLaws::taken_stay))]
 pub fn taken_off_stay_the_first()
-    ensures { (calls : List Call) (more : List ℕ) → IsAllowed calls → IsFalse (course calls).held.finished
+    ensures { (calls : List Call) (more : List ℕ) → IsAllowed calls
+        → IsFalse (course calls).held.finished
         → statements 0 ((course calls).fed ++ more)
         ≡ (course calls).taken ++ statements_before (course calls).held more }
 {}
@@ -23,5 +25,6 @@ pub fn taken_off_stay_the_first()
 #[tactic(auto, using(crate::proofs::CourseLaws::taken_all))]
 pub fn all_are_taken_off()
     ensures { (calls : List Call) → IsAllowed calls → IsTrue (course calls).held.finished
-        → IsNone (first_statement (course calls).held) → (course calls).taken ≡ statements 0 (course calls).fed }
+        → IsNone (first_statement (course calls).held)
+        → (course calls).taken ≡ statements 0 (course calls).fed }
 {}

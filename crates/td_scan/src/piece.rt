@@ -42,7 +42,9 @@ fn measure(bytes: &[u8]) -> First
 /// The longest piece at the front: the token that it is, if it is one, and then those of the rest.
 pub fn first_piece(bytes: &[u8]) -> First
     requires { 0 < length bytes.now }
-    ensures tokens { (at : ℕ) → tokens at bytes.now ≡ entry_of (kind_after result.piece (take result.length bytes.now)) at (take result.length bytes.now)
+    ensures tokens { (at : ℕ) → tokens at bytes.now
+        ≡ entry_of (kind_after result.piece (take result.length bytes.now)) at
+        (take result.length bytes.now)
         ++ tokens (at + result.length) (drop result.length bytes.now) }
     ensures some { 0 < result.length }
     ensures within { result.length ≤ length bytes.now }

@@ -53,7 +53,9 @@ fn front_char(bytes: &[u8]) -> Option<char>
 /// The symbol at the front of bytes of which the first is no ASCII.
 fn wide_symbol(bytes: &[u8]) -> Front
     requires { 0 < length bytes.now }
-    ensures step { symbols bytes.now ≡ (record { character = result.character; text = take result.size bytes.now }) ∷ symbols (drop result.size bytes.now) }
+    ensures step { symbols bytes.now
+        ≡ (record { character = result.character; text = take result.size bytes.now })
+        ∷ symbols (drop result.size bytes.now) }
     ensures some { 0 < result.size }
     ensures within { result.size ≤ length bytes.now }
 {
@@ -72,7 +74,9 @@ fn wide_symbol(bytes: &[u8]) -> Front
 /// The symbol at the front.
 pub fn symbol_at_front(bytes: &[u8]) -> Front
     requires { 0 < length bytes.now }
-    ensures step { symbols bytes.now ≡ (record { character = result.character; text = take result.size bytes.now }) ∷ symbols (drop result.size bytes.now) }
+    ensures step { symbols bytes.now
+        ≡ (record { character = result.character; text = take result.size bytes.now })
+        ∷ symbols (drop result.size bytes.now) }
     ensures some { 0 < result.size }
     ensures within { result.size ≤ length bytes.now }
 {

@@ -25,9 +25,15 @@ impl<'a> Model for Token<'a> {
 
     ghost Value = { Entry };
 
-    ghost view = { λ t. record { kind = t.kind; text = t.text.now; start = t.start; stop = t.start + length t.text.now } };
+    ghost view = { λ t. record {
+      kind = t.kind;
+      text = t.text.now;
+      start = t.start;
+      stop = t.start + length t.text.now;
+    } };
 
-    ghost invariant = { λ t. (kind_of (symbols t.text.now) ≡ Some t.kind) × (t.start + length t.text.now < 2 ^ 64) };
+    ghost invariant = { λ t. (kind_of (symbols t.text.now) ≡ Some t.kind)
+        × (t.start + length t.text.now < 2 ^ 64) };
 }
 
 impl<'a> Token<'a> {
@@ -71,8 +77,10 @@ pub(crate) struct Found<'a> {
 /// The first token of the bytes, which begin at this offset of a script.
 pub(crate) fn first_token<'a>(bytes: &'a [u8], offset: u64) -> Option<Found<'a>>
     requires { offset + length bytes.now < 2 ^ 64 }
-    ensures found { IfSome result (λ f. tokens offset bytes.now ≡ f.token ∷ tokens f.token.stop f.rest.now) }
-    ensures place { IfSome result (λ f. f.token.stop + length f.rest.now ≡ offset + length bytes.now) }
+    ensures found { IfSome result
+        (λ f. tokens offset bytes.now ≡ f.token ∷ tokens f.token.stop f.rest.now) }
+    ensures place { IfSome result
+        (λ f. f.token.stop + length f.rest.now ≡ offset + length bytes.now) }
     ensures shorter { IfSome result (λ f. length f.rest.now < length bytes.now) }
     ensures none { IfNone result (tokens offset bytes.now ≡ []) }
 {

@@ -82,7 +82,8 @@ impl Attributes {
 }
 
 fn copy_renamings(renamings: &Vec<Renaming>) -> Result<Vec<Renaming>, AllocError>
-    ensures { IfOk result (λ copy. map renaming_of copy.items ≡ map renaming_of renamings.now.items) }
+    ensures { IfOk result
+        (λ copy. map renaming_of copy.items ≡ map renaming_of renamings.now.items) }
 {
     let mut copy = Vec::with_capacity(*renamings.allocator(), renamings.len())?;
     for renaming in renamings {
@@ -200,7 +201,9 @@ fn copy_summaries(summaries: &Vec<Summary>) -> Result<Vec<Summary>, AllocError>
 impl Summary {
     #[cycle(copy)]
     fn try_clone(&self) -> Result<Summary, AllocError>
-        ensures { IfOk result (λ copy. (rest : trees.Summaries) → with_summary copy rest ≡ with_summary self.now rest) }
+        ensures { IfOk result
+            (λ copy. (rest : trees.Summaries) → with_summary copy rest
+            ≡ with_summary self.now rest) }
     {
         match self {
             Summary::Count(name) => Ok(Summary::Count(name.try_clone()?)),

@@ -4,6 +4,9 @@ use crate::operator::{Aggregate, Comparison, Measure, Operator, Prefix};
 use crate::type_tree::AttributeTree;
 use std::rc::RcStr;
 
+/// The greatest magnitude of a number, which needs a minus.
+pub const MAX_MAGNITUDE: u64 = 9_223_372_036_854_775_808;
+
 /// A literal.
 #[derive(Drop)]
 pub enum Literal {

@@ -38,7 +38,8 @@ pub fn one_division()
 /// sign, a comment or a text that nothing ends, or one symbol that begins none of these.
 #[tactic(auto, using(crate::proofs::KindLaws::as_spelled))]
 pub fn pieces_are_as_spelled()
-    ensures { (p : List Symbol) (piece : Piece) → (state p ≡ Some piece) ↔ IsSpelled piece (characters p) }
+    ensures { (p : List Symbol) (piece : Piece) → (state p ≡ Some piece)
+        ↔ IsSpelled piece (characters p) }
 {}
 
 /// Each token is the slice of the script at its span.
@@ -86,7 +87,8 @@ pub fn spans_ascend()
 /// The statements hold the tokens, all of them and in order.
 #[tactic(auto, using(crate::proofs::TokenLaws::all_tokens))]
 pub fn statements_hold_the_tokens()
-    ensures { (at : ℕ) (bytes : List ℕ) → flat_map (λ s. s) (statements at bytes) ≡ tokens at bytes }
+    ensures { (at : ℕ) (bytes : List ℕ) → flat_map (λ s. s) (statements at bytes)
+        ≡ tokens at bytes }
 {}
 
 /// A statement goes up to and with its `;`, and tokens left after the last `;` are one more.

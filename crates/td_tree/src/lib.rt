@@ -13,6 +13,7 @@ pub mod name;
 pub mod operator;
 pub mod piece;
 pub mod print;
+pub mod quoted;
 mod remade;
 pub mod statement;
 pub mod token;

@@ -8,7 +8,7 @@ ghost use Rattle.td_tree.specs.Lexemes.{keyword, sign};
 ghost use Rattle.td_tree.specs.Lists.{braced, parenthesized};
 ghost use Rattle.td_tree.specs.Prints.{addition_lexemes, all_lexemes, commas, heading_lexemes, lexemes_of, part_lexemes, print, summary_lexemes, type_lexemes, type_print};
 ghost use Rattle.td_tree.specs.TreeViews.{heading_of, named_of, summaries_of, tree_of, trees_of, type_of};
-ghost use Rattle.td_tree.specs.Written.{written};
+ghost use Rattle.td_tree.specs.Written.{Writes};
 
 mod words;
 
@@ -37,7 +37,7 @@ pub fn print_expr(alloc: Global, expression: &Expr) -> Result<String, AllocError
 impl Printer {
     #[cycle(type_printer)]
     fn ty(self, ty: &TypeTree) -> Result<Printer, AllocError>
-        ensures { IfOk result (λ out. out ≡ self ++ written (type_lexemes (type_of ty.now))) }
+        ensures { Writes self result (type_lexemes (type_of ty.now)) }
     {
         match ty {
             TypeTree::Integer => self.keyword(Keyword::Integer),
@@ -51,7 +51,7 @@ impl Printer {
 
     #[cycle(type_printer)]
     fn heading(self, heading: &[AttributeTree]) -> Result<Printer, AllocError>
-        ensures { IfOk result (λ out. out ≡ self ++ written (heading_lexemes (heading_of heading.now))) }
+        ensures { Writes self result (heading_lexemes (heading_of heading.now)) }
     {
         let mut out = self.sign(Sign::OpenBrace)?;
         let mut later = false;
@@ -63,14 +63,15 @@ impl Printer {
     }
 
     fn relation_type(self, heading: &[AttributeTree]) -> Result<Printer, AllocError>
-        ensures { IfOk result (λ out. out ≡ self ++ written (keyword k.Relation ∷ heading_lexemes (heading_of heading.now))) }
+        ensures { Writes self result
+            (keyword k.Relation ∷ heading_lexemes (heading_of heading.now)) }
     {
         self.keyword(Keyword::Relation)?.heading(heading)
     }
 
     #[cycle(printer)]
     fn expr(self, expression: &Expr) -> Result<Printer, AllocError>
-        ensures { IfOk result (λ out. out ≡ self ++ written (lexemes_of (tree_of expression.now))) }
+        ensures { Writes self result (lexemes_of (tree_of expression.now)) }
     {
         match expression {
             Expr::Literal(value) => self.literal(value),
@@ -108,7 +109,7 @@ impl Printer {
 
     #[cycle(printer)]
     fn parenthesized(self, inner: &Expr) -> Result<Printer, AllocError>
-        ensures { IfOk result (λ out. out ≡ self ++ written (parenthesized (lexemes_of (tree_of inner.now)))) }
+        ensures { Writes self result (parenthesized (lexemes_of (tree_of inner.now))) }
     {
         let out = self.sign(Sign::OpenParenthesis)?;
         out.expr(inner)?.sign(Sign::CloseParenthesis)
@@ -117,7 +118,7 @@ impl Printer {
     /// The word and the expression behind it.
     #[cycle(printer)]
     fn after(self, word: Keyword, expression: &Expr) -> Result<Printer, AllocError>
-        ensures { IfOk result (λ out. out ≡ self ++ written (keyword word ∷ lexemes_of (tree_of expression.now))) }
+        ensures { Writes self result (keyword word ∷ lexemes_of (tree_of expression.now)) }
     {
         self.keyword(word)?.expr(expression)
     }
@@ -125,7 +126,9 @@ impl Printer {
     /// The word of an aggregate, and its first argument in an open parenthesis.
     #[cycle(printer)]
     fn aggregated(self, op: Aggregate, operand: &Expr) -> Result<Printer, AllocError>
-        ensures { IfOk result (λ out. out ≡ self ++ written (keyword (aggregate_word op) ∷ (sign signs.OpenParenthesis ∷ lexemes_of (tree_of operand.now)))) }
+        ensures { Writes self result
+            (keyword (aggregate_word op)
+            ∷ (sign signs.OpenParenthesis ∷ lexemes_of (tree_of operand.now))) }
     {
         self.keyword(op.keyword())?
             .sign(Sign::OpenParenthesis)?
@@ -135,7 +138,9 @@ impl Printer {
     /// The second argument of an aggregate, and the parenthesis that closes.
     #[cycle(printer)]
     fn over(self, value: &Expr) -> Result<Printer, AllocError>
-        ensures { IfOk result (λ out. out ≡ self ++ written (sign signs.Comma ∷ (lexemes_of (tree_of value.now) ++ (sign signs.CloseParenthesis ∷ [])))) }
+        ensures { Writes self result
+            (sign signs.Comma
+            ∷ (lexemes_of (tree_of value.now) ++ (sign signs.CloseParenthesis ∷ []))) }
     {
         self.sign(Sign::Comma)?
             .expr(value)?
@@ -144,14 +149,17 @@ impl Printer {
 
     #[cycle(printer)]
     fn per(self, per: &Expr) -> Result<Printer, AllocError>
-        ensures { IfOk result (λ out. out ≡ self ++ written (keyword k.Per ∷ parenthesized (lexemes_of (tree_of per.now)))) }
+        ensures { Writes self result
+            (keyword k.Per ∷ parenthesized (lexemes_of (tree_of per.now))) }
     {
         self.keyword(Keyword::Per)?.parenthesized(per)
     }
 
     #[cycle(printer)]
     fn alternative(self, no: &Expr) -> Result<Printer, AllocError>
-        ensures { IfOk result (λ out. out ≡ self ++ written (keyword k.Else ∷ (lexemes_of (tree_of no.now) ++ (keyword k.End ∷ (keyword k.If ∷ []))))) }
+        ensures { Writes self result
+            (keyword k.Else
+            ∷ (lexemes_of (tree_of no.now) ++ (keyword k.End ∷ (keyword k.If ∷ [])))) }
     {
         self.after(Keyword::Else, no)?
             .keyword(Keyword::End)?
@@ -160,7 +168,8 @@ impl Printer {
 
     #[cycle(printer)]
     fn arguments(self, arguments: &[Expr]) -> Result<Printer, AllocError>
-        ensures { IfOk result (λ out. out ≡ self ++ written (parenthesized (commas (all_lexemes (trees_of arguments.now))))) }
+        ensures { Writes self result
+            (parenthesized (commas (all_lexemes (trees_of arguments.now)))) }
     {
         let mut out = self.sign(Sign::OpenParenthesis)?;
         let mut later = false;
@@ -173,7 +182,7 @@ impl Printer {
 
     #[cycle(printer)]
     fn elements(self, elements: &[Expr]) -> Result<Printer, AllocError>
-        ensures { IfOk result (λ out. out ≡ self ++ written (braced (commas (all_lexemes (trees_of elements.now))))) }
+        ensures { Writes self result (braced (commas (all_lexemes (trees_of elements.now)))) }
     {
         let mut out = self.sign(Sign::OpenBrace)?;
         let mut later = false;
@@ -187,7 +196,7 @@ impl Printer {
     /// Each name and its expression, in braces.
     #[cycle(printer)]
     fn parts(self, parts: &[NamedExpr]) -> Result<Printer, AllocError>
-        ensures { IfOk result (λ out. out ≡ self ++ written (braced (commas (part_lexemes (named_of parts.now))))) }
+        ensures { Writes self result (braced (commas (part_lexemes (named_of parts.now)))) }
     {
         let mut out = self.sign(Sign::OpenBrace)?;
         let mut later = false;
@@ -201,7 +210,8 @@ impl Printer {
     /// `ADD` and each expression with `AS` and its name, in parentheses.
     #[cycle(printer)]
     fn additions(self, parts: &[NamedExpr]) -> Result<Printer, AllocError>
-        ensures { IfOk result (λ out. out ≡ self ++ written (keyword k.Add ∷ parenthesized (commas (addition_lexemes (named_of parts.now))))) }
+        ensures { Writes self result
+            (keyword k.Add ∷ parenthesized (commas (addition_lexemes (named_of parts.now)))) }
     {
         let mut out = self.keyword(Keyword::Add)?.sign(Sign::OpenParenthesis)?;
         let mut later = false;
@@ -215,7 +225,8 @@ impl Printer {
     /// `ADD` and each aggregate with `AS` and its name, in parentheses.
     #[cycle(printer)]
     fn summaries(self, added: &[Summary]) -> Result<Printer, AllocError>
-        ensures { IfOk result (λ out. out ≡ self ++ written (keyword k.Add ∷ parenthesized (commas (summary_lexemes (summaries_of added.now))))) }
+        ensures { Writes self result
+            (keyword k.Add ∷ parenthesized (commas (summary_lexemes (summaries_of added.now)))) }
     {
         let mut out = self.keyword(Keyword::Add)?.sign(Sign::OpenParenthesis)?;
         let mut later = false;
@@ -228,7 +239,7 @@ impl Printer {
 
     #[cycle(printer)]
     fn summary(self, summary: &Summary) -> Result<Printer, AllocError>
-        ensures { IfOk result (λ out. out ≡ self ++ written (commas (summary_lexemes (summaries_of (summary.now ∷ []))))) }
+        ensures { Writes self result (commas (summary_lexemes (summaries_of (summary.now ∷ [])))) }
     {
         match summary {
             Summary::Count(name) => {

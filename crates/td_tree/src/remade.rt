@@ -15,7 +15,8 @@ use std::rc::RcStr;
 
 /// A literal.
 pub fn literal(value: Result<Literal, AllocError>) -> Result<Expr, AllocError>
-    ensures { (v : trees.Literal) → IfOk value (λ x. literal_of x ≡ v) → Copied result (trees.literal v) }
+    ensures { (v : trees.Literal) → IfOk value (λ x. literal_of x ≡ v)
+        → Copied result (trees.literal v) }
 {
     Ok(Expr::Literal(value?))
 }
@@ -46,7 +47,8 @@ pub fn extract(
     name: Result<Name, AllocError>,
     operand: Result<Box<Expr>, AllocError>,
 ) -> Result<Expr, AllocError>
-    ensures { (n : trees.Text) → (o : trees.Tree) → IfOk name (λ x. x ≡ n) → Boxed operand o → Copied result (trees.extract n o) }
+    ensures { (n : trees.Text) → (o : trees.Tree) → IfOk name (λ x. x ≡ n) → Boxed operand o
+        → Copied result (trees.extract n o) }
 {
     match both(name, operand) {
         Ok((name, operand)) => Ok(Expr::Extract(name, operand)),
@@ -60,7 +62,8 @@ pub fn binary(
     op: Operator,
     right: Result<Box<Expr>, AllocError>,
 ) -> Result<Expr, AllocError>
-    ensures { (l : trees.Tree) → (r : trees.Tree) → Boxed left l → Boxed right r → Copied result (trees.binary l op r) }
+    ensures { (l : trees.Tree) → (r : trees.Tree) → Boxed left l → Boxed right r
+        → Copied result (trees.binary l op r) }
 {
     match both(left, right) {
         Ok((left, right)) => Ok(Expr::Binary(left, op, right)),
@@ -74,7 +77,8 @@ pub fn compare(
     op: Comparison,
     right: Result<Box<Expr>, AllocError>,
 ) -> Result<Expr, AllocError>
-    ensures { (l : trees.Tree) → (r : trees.Tree) → Boxed left l → Boxed right r → Copied result (trees.compare l op r) }
+    ensures { (l : trees.Tree) → (r : trees.Tree) → Boxed left l → Boxed right r
+        → Copied result (trees.compare l op r) }
 {
     match both(left, right) {
         Ok((left, right)) => Ok(Expr::Compare(left, op, right)),
@@ -87,7 +91,8 @@ pub fn postfix(
     operand: Result<Box<Expr>, AllocError>,
     op: Result<Postfix, AllocError>,
 ) -> Result<Expr, AllocError>
-    ensures { (o : trees.Tree) → (p : trees.Postfix) → Boxed operand o → IfOk op (λ x. postfix_of x ≡ p) → Copied result (trees.postfix o p) }
+    ensures { (o : trees.Tree) → (p : trees.Postfix) → Boxed operand o
+        → IfOk op (λ x. postfix_of x ≡ p) → Copied result (trees.postfix o p) }
 {
     match both(operand, op) {
         Ok((operand, op)) => Ok(Expr::Postfix(operand, op)),
@@ -107,7 +112,8 @@ pub fn select(
     ty: Result<Name, AllocError>,
     arguments: Result<Vec<Expr>, AllocError>,
 ) -> Result<Expr, AllocError>
-    ensures { (n : trees.Text) → (es : trees.Trees) → IfOk ty (λ x. x ≡ n) → IfOk arguments (λ x. trees_of x.items ≡ es) → Copied result (trees.select n es) }
+    ensures { (n : trees.Text) → (es : trees.Trees) → IfOk ty (λ x. x ≡ n)
+        → IfOk arguments (λ x. trees_of x.items ≡ es) → Copied result (trees.select n es) }
 {
     match both(ty, arguments) {
         Ok((ty, arguments)) => Ok(selected(ty, arguments)),
@@ -120,7 +126,8 @@ pub fn component(
     rest: Result<RcStr, AllocError>,
     operand: Result<Box<Expr>, AllocError>,
 ) -> Result<Expr, AllocError>
-    ensures { (t : trees.Text) → (o : trees.Tree) → IfOk rest (λ x. rc_str_bytes x ≡ t) → Boxed operand o → Copied result (trees.component t o) }
+    ensures { (t : trees.Text) → (o : trees.Tree) → IfOk rest (λ x. rc_str_bytes x ≡ t)
+        → Boxed operand o → Copied result (trees.component t o) }
 {
     match both(rest, operand) {
         Ok((rest, operand)) => Ok(Expr::Component(rest, operand)),
@@ -141,7 +148,8 @@ pub fn aggregate(
     operand: Result<Box<Expr>, AllocError>,
     value: Result<Box<Expr>, AllocError>,
 ) -> Result<Expr, AllocError>
-    ensures { (o : trees.Tree) → (v : trees.Tree) → Boxed operand o → Boxed value v → Copied result (trees.aggregate op o v) }
+    ensures { (o : trees.Tree) → (v : trees.Tree) → Boxed operand o → Boxed value v
+        → Copied result (trees.aggregate op o v) }
 {
     match both(operand, value) {
         Ok((operand, value)) => Ok(Expr::Aggregate(op, operand, value)),
@@ -152,7 +160,8 @@ pub fn aggregate(
 /// `RELATION {t, ..}`
 #[tactic(auto, using(crate::proofs::Rows::relation_is))]
 pub fn relation(elements: Result<Vec<Expr>, AllocError>) -> Result<Expr, AllocError>
-    ensures { (es : trees.Trees) → IfOk elements (λ x. trees_of x.items ≡ es) → Copied result (trees.relation es) }
+    ensures { (es : trees.Trees) → IfOk elements (λ x. trees_of x.items ≡ es)
+        → Copied result (trees.relation es) }
 {
     Ok(Expr::Relation(elements?))
 }
@@ -163,7 +172,9 @@ pub fn headed_relation(
     heading: Result<Vec<AttributeTree>, AllocError>,
     elements: Result<Vec<Expr>, AllocError>,
 ) -> Result<Expr, AllocError>
-    ensures { (h : trees.AttributeTrees) → (es : trees.Trees) → IfOk heading (λ x. heading_of x.items ≡ h) → IfOk elements (λ x. trees_of x.items ≡ es) → Copied result (trees.headed_relation h es) }
+    ensures { (h : trees.AttributeTrees) → (es : trees.Trees)
+        → IfOk heading (λ x. heading_of x.items ≡ h) → IfOk elements (λ x. trees_of x.items ≡ es)
+        → Copied result (trees.headed_relation h es) }
 {
     match both(heading, elements) {
         Ok((heading, elements)) => Ok(Expr::HeadedRelation(heading, elements)),
@@ -174,7 +185,8 @@ pub fn headed_relation(
 /// `TUPLE {A e, ..}`
 #[tactic(auto, using(crate::proofs::Rows::tuple_is))]
 pub fn tuple(parts: Result<Vec<NamedExpr>, AllocError>) -> Result<Expr, AllocError>
-    ensures { (ps : trees.NamedTrees) → IfOk parts (λ x. named_of x.items ≡ ps) → Copied result (trees.tuple ps) }
+    ensures { (ps : trees.NamedTrees) → IfOk parts (λ x. named_of x.items ≡ ps)
+        → Copied result (trees.tuple ps) }
 {
     Ok(Expr::Tuple(parts?))
 }
@@ -185,7 +197,8 @@ pub fn extend(
     operand: Result<Box<Expr>, AllocError>,
     parts: Result<Vec<NamedExpr>, AllocError>,
 ) -> Result<Expr, AllocError>
-    ensures { (o : trees.Tree) → (ps : trees.NamedTrees) → Boxed operand o → IfOk parts (λ x. named_of x.items ≡ ps) → Copied result (trees.extend o ps) }
+    ensures { (o : trees.Tree) → (ps : trees.NamedTrees) → Boxed operand o
+        → IfOk parts (λ x. named_of x.items ≡ ps) → Copied result (trees.extend o ps) }
 {
     match both(operand, parts) {
         Ok((operand, parts)) => Ok(Expr::Extend(operand, parts)),
@@ -200,7 +213,9 @@ pub fn summarize_per(
     per: Result<Box<Expr>, AllocError>,
     added: Result<Vec<Summary>, AllocError>,
 ) -> Result<Expr, AllocError>
-    ensures { (o : trees.Tree) → (p : trees.Tree) → (ss : trees.Summaries) → Boxed operand o → Boxed per p → IfOk added (λ x. summaries_of x.items ≡ ss) → Copied result (trees.summarize_per o p ss) }
+    ensures { (o : trees.Tree) → (p : trees.Tree) → (ss : trees.Summaries) → Boxed operand o
+        → Boxed per p → IfOk added (λ x. summaries_of x.items ≡ ss)
+        → Copied result (trees.summarize_per o p ss) }
 {
     match both(operand, both(per, added)) {
         Ok((operand, (per, added))) => Ok(Expr::SummarizePer(operand, per, added)),
@@ -210,7 +225,8 @@ pub fn summarize_per(
 
 /// `SUMMARIZE e BY {..} ADD (..)`, of its parts.
 fn summarized_by(operand: Box<Expr>, by: Attributes, added: Vec<Summary>) -> Expr
-    ensures { tree_of result ≡ trees.summarize_by (tree_of operand.value) (attributes_of by) (summaries_of added.items) }
+    ensures { tree_of result
+        ≡ trees.summarize_by (tree_of operand.value) (attributes_of by) (summaries_of added.items) }
 {
     Expr::SummarizeBy(operand, by, added)
 }
@@ -221,7 +237,9 @@ pub fn summarize_by(
     by: Result<Attributes, AllocError>,
     added: Result<Vec<Summary>, AllocError>,
 ) -> Result<Expr, AllocError>
-    ensures { (o : trees.Tree) → (b : trees.Attributes) → (ss : trees.Summaries) → Boxed operand o → IfOk by (λ x. attributes_of x ≡ b) → IfOk added (λ x. summaries_of x.items ≡ ss) → Copied result (trees.summarize_by o b ss) }
+    ensures { (o : trees.Tree) → (b : trees.Attributes) → (ss : trees.Summaries) → Boxed operand o
+        → IfOk by (λ x. attributes_of x ≡ b) → IfOk added (λ x. summaries_of x.items ≡ ss)
+        → Copied result (trees.summarize_by o b ss) }
 {
     match both(operand, both(by, added)) {
         Ok((operand, (by, added))) => Ok(summarized_by(operand, by, added)),
@@ -235,7 +253,8 @@ pub fn choice(
     yes: Result<Box<Expr>, AllocError>,
     no: Result<Box<Expr>, AllocError>,
 ) -> Result<Expr, AllocError>
-    ensures { (i : trees.Tree) → (t : trees.Tree) → (e : trees.Tree) → Boxed condition i → Boxed yes t → Boxed no e → Copied result (trees.choice i t e) }
+    ensures { (i : trees.Tree) → (t : trees.Tree) → (e : trees.Tree) → Boxed condition i
+        → Boxed yes t → Boxed no e → Copied result (trees.choice i t e) }
 {
     match both(condition, both(yes, no)) {
         Ok((condition, (yes, no))) => Ok(Expr::If(condition, yes, no)),

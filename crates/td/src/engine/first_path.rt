@@ -281,7 +281,7 @@ fn first_path(alloc: Global, tree: trees::Statement) -> Result<Statement, Fault>
 
 /// The first path's tree that the tokens spell: SCAN where one of them is bad, else SYNTAX where
 /// they spell none.
-#[tactic(auto, using(crate::proofs::Stepping::none_parsed, crate::proofs::Stepping::parsed))]
+#[tactic(auto, using(crate::proofs::Stepping::none_parsed))]
 pub fn parse(alloc: Global, tokens: &[Token<'_>]) -> Result<Statement, Fault>
     ensures { IsParsed tokens.now result }
 {

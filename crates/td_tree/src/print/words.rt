@@ -8,14 +8,14 @@ ghost use Rattle.td_tree.specs.Lexemes.{Lexeme, spaced};
 ghost use Rattle.td_tree.specs.Lexemes as lexeme;
 ghost use Rattle.td_tree.specs.Lists.{parenthesized};
 ghost use Rattle.td_tree.specs.Prints.{as_lexemes, attributes_lexemes, commas, literal_lexemes, name_lexemes, postfix_lexemes, prefix_words, renaming_lexemes};
-ghost use Rattle.td_tree.specs.TextTokens.{doubled};
 ghost use Rattle.td_tree.specs.TreeViews.{attributes_of, literal_of, postfix_of, renaming_of};
-ghost use Rattle.td_tree.specs.Written.{comma_if, quotes_if, written};
+ghost use Rattle.td_tree.specs.Written.{Writes, comma_if, written};
 
 use crate::expression::{Attributes, Literal, Postfix, Renaming};
 use crate::keyword::Keyword;
 use crate::name::Name;
 use crate::operator::{Comparison, Operator, Prefix};
+use crate::quoted::put_quoted;
 use crate::token::Sign;
 use std::alloc::{AllocError, Global};
 use std::marker::Model;
@@ -68,64 +68,46 @@ impl Printer {
     }
 
     pub(super) fn keyword(self, keyword: Keyword) -> Result<Printer, AllocError>
-        ensures { IfOk result (λ out. out ≡ self ++ written (lexeme.keyword keyword ∷ [])) }
+        ensures { Writes self result (lexeme.keyword keyword ∷ []) }
     {
         self.token(keyword.word())
     }
 
     pub(super) fn sign(self, sign: Sign) -> Result<Printer, AllocError>
-        ensures { IfOk result (λ out. out ≡ self ++ written (lexeme.sign sign ∷ [])) }
+        ensures { Writes self result (lexeme.sign sign ∷ []) }
     {
         self.token(sign.text())
     }
 
     pub(super) fn name(self, name: &Name) -> Result<Printer, AllocError>
-        ensures { IfOk result (λ out. out ≡ self ++ written (lexeme.name name.now ∷ [])) }
+        ensures { Writes self result (lexeme.name name.now ∷ []) }
     {
         self.token(name.as_str())
     }
 
     /// A word that names a component: `THE_` and the rest of it.
     pub(super) fn component(self, rest: &RcStr) -> Result<Printer, AllocError>
-        ensures { IfOk result (λ out. out ≡ self ++ written (lexeme.component (rc_str_bytes rest.now) ∷ [])) }
+        ensures { Writes self result (lexeme.component (rc_str_bytes rest.now) ∷ []) }
     {
         self.raw("THE_")?.token(rest.as_str())
     }
 
     fn number(self, n: u64) -> Result<Printer, AllocError>
-        ensures { IfOk result (λ out. out ≡ self ++ written (lexeme.number n ∷ [])) }
+        ensures { Writes self result (lexeme.number n ∷ []) }
     {
         let mut buffer = itoa::Buffer::new();
         self.token(buffer.format(n))
     }
 
-    fn quotes(self, later: bool) -> Result<Printer, AllocError>
-        ensures { IfOk result (λ out. out ≡ self ++ quotes_if later) }
+    fn quoted(mut self, said: &str) -> Result<Printer, AllocError>
+        ensures { Writes self result (lexeme.text said.now ∷ []) }
     {
-        if later { self.raw("''") } else { Ok(self) }
-    }
-
-    /// The text with each quote doubled: its pieces between quotes, with two quotes between.
-    fn doubled(self, content: &str) -> Result<Printer, AllocError>
-        ensures { IfOk result (λ out. out ≡ self ++ doubled content.now) }
-    {
-        let mut out = self;
-        let mut later = false;
-        for piece in content.split('\'') {
-            out = out.quotes(later)?.raw(piece)?;
-            later = true;
-        }
-        Ok(out)
-    }
-
-    fn quoted(self, content: &str) -> Result<Printer, AllocError>
-        ensures { IfOk result (λ out. out ≡ self ++ written (lexeme.text content.now ∷ [])) }
-    {
-        self.raw("'")?.doubled(content)?.token("'")
+        put_quoted(&mut self.out, said)?;
+        self.raw(" ")
     }
 
     pub(super) fn literal(self, literal: &Literal) -> Result<Printer, AllocError>
-        ensures { IfOk result (λ out. out ≡ self ++ written (literal_lexemes (literal_of literal.now))) }
+        ensures { Writes self result (literal_lexemes (literal_of literal.now)) }
     {
         match literal {
             Literal::Number {
@@ -146,7 +128,7 @@ impl Printer {
 
     /// What stands before an item.
     pub(super) fn comma(self, later: bool) -> Result<Printer, AllocError>
-        ensures { IfOk result (λ out. out ≡ self ++ written (comma_if later)) }
+        ensures { Writes self result (comma_if later) }
     {
         if later {
             self.sign(Sign::Comma)
@@ -156,7 +138,7 @@ impl Printer {
     }
 
     fn names(self, names: &[Name]) -> Result<Printer, AllocError>
-        ensures { IfOk result (λ out. out ≡ self ++ written (name_lexemes names.now)) }
+        ensures { Writes self result (name_lexemes names.now) }
     {
         let mut out = self;
         let mut later = false;
@@ -168,7 +150,8 @@ impl Printer {
     }
 
     fn all_but(self, names: &[Name]) -> Result<Printer, AllocError>
-        ensures { IfOk result (λ out. out ≡ self ++ written (lexeme.keyword k.All ∷ (lexeme.keyword k.But ∷ name_lexemes names.now))) }
+        ensures { Writes self result
+            (lexeme.keyword k.All ∷ (lexeme.keyword k.But ∷ name_lexemes names.now)) }
     {
         self.keyword(Keyword::All)?
             .keyword(Keyword::But)?
@@ -176,7 +159,7 @@ impl Printer {
     }
 
     pub(super) fn attributes(self, attributes: &Attributes) -> Result<Printer, AllocError>
-        ensures { IfOk result (λ out. out ≡ self ++ written (attributes_lexemes (attributes_of attributes.now))) }
+        ensures { Writes self result (attributes_lexemes (attributes_of attributes.now)) }
     {
         let out = self.sign(Sign::OpenBrace)?;
         let out = match attributes {
@@ -188,13 +171,14 @@ impl Printer {
 
     /// `AS` and a name.
     pub(super) fn alias(self, name: &Name) -> Result<Printer, AllocError>
-        ensures { IfOk result (λ out. out ≡ self ++ written (as_lexemes name.now)) }
+        ensures { Writes self result (as_lexemes name.now) }
     {
         self.keyword(Keyword::As)?.name(name)
     }
 
     fn renamings(self, renamings: &[Renaming]) -> Result<Printer, AllocError>
-        ensures { IfOk result (λ out. out ≡ self ++ written (parenthesized (commas (map renaming_lexemes (map renaming_of renamings.now))))) }
+        ensures { Writes self result
+            (parenthesized (commas (map renaming_lexemes (map renaming_of renamings.now)))) }
     {
         let mut out = self.sign(Sign::OpenParenthesis)?;
         let mut later = false;
@@ -207,7 +191,9 @@ impl Printer {
 
     /// Attributes and the name of the one that they become, in parentheses.
     fn gathering(self, attributes: &Attributes, name: &Name) -> Result<Printer, AllocError>
-        ensures { IfOk result (λ out. out ≡ self ++ written (parenthesized (attributes_lexemes (attributes_of attributes.now) ++ as_lexemes name.now))) }
+        ensures { Writes self result
+            (parenthesized
+            (attributes_lexemes (attributes_of attributes.now) ++ as_lexemes name.now)) }
     {
         let out = self.sign(Sign::OpenParenthesis)?;
         out.attributes(attributes)?
@@ -216,14 +202,14 @@ impl Printer {
     }
 
     fn parenthesized_name(self, name: &Name) -> Result<Printer, AllocError>
-        ensures { IfOk result (λ out. out ≡ self ++ written (parenthesized (lexeme.name name.now ∷ []))) }
+        ensures { Writes self result (parenthesized (lexeme.name name.now ∷ [])) }
     {
         let out = self.sign(Sign::OpenParenthesis)?;
         out.name(name)?.sign(Sign::CloseParenthesis)
     }
 
     pub(super) fn postfix(self, op: &Postfix) -> Result<Printer, AllocError>
-        ensures { IfOk result (λ out. out ≡ self ++ written (postfix_lexemes (postfix_of op.now))) }
+        ensures { Writes self result (postfix_lexemes (postfix_of op.now)) }
     {
         match op {
             Postfix::Project(attributes) => self.attributes(attributes),
@@ -240,7 +226,7 @@ impl Printer {
     }
 
     pub(super) fn prefix(self, op: Prefix) -> Result<Printer, AllocError>
-        ensures { IfOk result (λ out. out ≡ self ++ written (prefix_words op)) }
+        ensures { Writes self result (prefix_words op) }
     {
         match op {
             Prefix::Not => self.keyword(Keyword::Not),
@@ -251,7 +237,7 @@ impl Printer {
     }
 
     pub(super) fn operator(self, op: Operator) -> Result<Printer, AllocError>
-        ensures { IfOk result (λ out. out ≡ self ++ written (operator_words op)) }
+        ensures { Writes self result (operator_words op) }
     {
         match op {
             Operator::Where => self.keyword(Keyword::Where),
@@ -274,7 +260,7 @@ impl Printer {
     }
 
     pub(super) fn comparison(self, op: Comparison) -> Result<Printer, AllocError>
-        ensures { IfOk result (λ out. out ≡ self ++ written (comparison_word op ∷ [])) }
+        ensures { Writes self result (comparison_word op ∷ []) }
     {
         match op {
             Comparison::Equal => self.sign(Sign::Equal),

@@ -1,0 +1,39 @@
+//! Texts in quotes.
+ghost use Rattle.std.specs.Prelude.{◌≡◌, ◌++◌, OnOk};
+ghost use Rattle.std.specs.String.{string_bytes};
+ghost use Rattle.td_tree.specs.TextTokens.{doubled, quoted};
+ghost use Rattle.td_tree.specs.Written.{quotes_if};
+
+use std::alloc::AllocError;
+
+/// Puts what stands before a piece: two quotes, where another piece stands before it.
+fn put_quotes(out: &mut String, later: bool) -> Result<(), AllocError>
+    ensures { OnOk result (string_bytes out.new ≡ string_bytes out.old ++ quotes_if later) }
+{
+    if later {
+        out.push_str("''")?;
+    }
+    Ok(())
+}
+
+/// Puts the text with each quote doubled: its pieces between quotes, with two quotes between.
+fn put_doubled(out: &mut String, said: &str) -> Result<(), AllocError>
+    ensures { OnOk result (string_bytes out.new ≡ string_bytes out.old ++ doubled said.now) }
+{
+    let mut later = false;
+    for piece in said.split('\'') {
+        put_quotes(out, later)?;
+        out.push_str(piece)?;
+        later = true;
+    }
+    Ok(())
+}
+
+/// Puts the text in quotes behind what stands there, each quote in it doubled.
+pub fn put_quoted(out: &mut String, said: &str) -> Result<(), AllocError>
+    ensures { OnOk result (string_bytes out.new ≡ string_bytes out.old ++ quoted said.now) }
+{
+    out.push_str("'")?;
+    put_doubled(out, said)?;
+    out.push_str("'")
+}
