@@ -1,5 +1,6 @@
 //! Headings as finite maps from names to types.
-ghost use Rattle.std.specs.Prelude.{◌≡◌, ◌↔◌, IfErr, IfOk, IsTrue, None, [], length, option_map, slice_get};
+ghost use Rattle.std.specs.Prelude.{◌≡◌, ◌↔◌, IfErr, IfOk, IsTrue, [], length, option_map};
+ghost use Rattle.std.specs.Prelude.{slice_get};
 ghost use Rattle.td_tree.specs.Outcomes.{Answers};
 ghost use Rattle.td_types.specs.Headings.{IsFound, IsMap, IsMissing, add_missing, extended_heading};
 ghost use Rattle.td_types.specs.Headings.{made_heading, place_of, types_with};

@@ -40,7 +40,9 @@ pub struct Heading {
 
 impl Model for Heading {
     ghost use Rattle.std.specs.Prelude.{List, ℕ, map, length};
-    ghost use Rattle.td_types.specs.Types.{Attributes, IsHeading, attributes_code, attributes_depth, pack};
+    ghost use Rattle.td_types.specs.Depths.{attributes_depth};
+    ghost use Rattle.td_types.specs.TypeCode.{attributes_code};
+    ghost use Rattle.td_types.specs.Types.{Attributes, IsHeading, pack};
 
     ghost Value = { Attributes };
 

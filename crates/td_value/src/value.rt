@@ -63,7 +63,8 @@ pub struct Rel {
 }
 
 impl Model for Value {
-    ghost use Rattle.td_value.specs.Values.{Val, depth, IsValue};
+    ghost use Rattle.td_value.specs.Depths.{depth};
+    ghost use Rattle.td_value.specs.Values.{IsValue, Val};
     ghost use Rattle.td_value.specs.ValueCode.{val_code};
 
     ghost Value = { Val };
@@ -84,7 +85,8 @@ impl Model for Value {
 }
 
 impl Model for User {
-    ghost use Rattle.td_value.specs.Values.{Selected, selected_depth, IsSelected};
+    ghost use Rattle.td_value.specs.Depths.{selected_depth};
+    ghost use Rattle.td_value.specs.Values.{IsSelected, Selected};
     ghost use Rattle.td_value.specs.ValueCode.{selected_code};
 
     ghost Value = { Selected };
@@ -105,7 +107,8 @@ impl Model for User {
 }
 
 impl Model for Tuple {
-    ghost use Rattle.td_value.specs.Values.{Entries, tuple_depth};
+    ghost use Rattle.td_value.specs.Depths.{tuple_depth};
+    ghost use Rattle.td_value.specs.Values.{Entries};
     ghost use Rattle.td_value.specs.ValueCode.{entries_code};
 
     ghost Value = { Entries };
@@ -127,7 +130,8 @@ impl Model for Tuple {
 }
 
 impl Model for Rel {
-    ghost use Rattle.td_value.specs.Values.{Relation, relation_depth, IsRelation};
+    ghost use Rattle.td_value.specs.Depths.{relation_depth};
+    ghost use Rattle.td_value.specs.Values.{IsRelation, Relation};
     ghost use Rattle.td_value.specs.ValueCode.{relation_code};
 
     ghost Value = { Relation };
