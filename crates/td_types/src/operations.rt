@@ -6,8 +6,8 @@ ghost use Rattle.td_types.specs.Headings.{projected_heading, reduced_heading, ty
 ghost use Rattle.td_types.specs.Headings.{types_in_both, types_in_either, types_without};
 ghost use Rattle.td_types.specs.Headings.{united_heading};
 
+use crate::heading::{Attribute, Heading};
 use crate::names::{are_distinct, is_among};
-use crate::ty::{Attribute, Heading};
 use td_tree::cause::Cause;
 use td_tree::fault::Fault;
 use td_tree::name::Name;

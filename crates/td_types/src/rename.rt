@@ -6,7 +6,7 @@ ghost use Rattle.td_types.specs.Headings.{has_name, new_name, new_names, renamed
 ghost use Rattle.td_types.specs.Types.{type_at};
 ghost use Rattle.td_types.specs.Views.{attributes_of};
 
-use crate::ty::{Attribute, Heading};
+use crate::heading::{Attribute, Heading};
 use td_tree::cause::Cause;
 use td_tree::fault::Fault;
 use td_tree::name::Name;

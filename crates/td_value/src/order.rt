@@ -4,7 +4,10 @@ ghost use Rattle.td_value.specs.Values.{order, pack_parts, pack_rows, parts_orde
 ghost use Rattle.td_value.specs.Values.{relation_order, rows_order, selected_value, tuple_order};
 ghost use Rattle.td_value.specs.Views.{entries_of, values_of};
 
-use crate::value::{Node, Rel, Tuple, User, Value};
+use crate::relation::Rel;
+use crate::tuple::Tuple;
+use crate::user::User;
+use crate::value::{Node, Value};
 use std::cmp::Ordering;
 use td_tree::name::Name;
 
