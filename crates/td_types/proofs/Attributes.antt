@@ -5,7 +5,7 @@ use Rattle.std.specs.Ordering.{is_lt}
 use Rattle.std.specs.List.{filter, insert, prefix_len, take-map, drop-map}
 use Rattle.std.proofs.lemmas.List.{append-nil, map-append, length-map, drop_all}
 use Rattle.std.proofs.lemmas.List.Sums.{prefix_len-le-length}
-use Rattle.td_types.specs.declared.ty.Attribute as Ty
+use Rattle.td_types.specs.declared.heading.Attribute as Ty
 use Rattle.td_types.specs.Headings.{add_missing, with_attribute}
 use Rattle.td_types.proofs.HeadingLaws.{name_cmp, insert-with}
 use Rattle.td_types.specs.Views.{attribute_of, attributes_of, type_of}

@@ -8,7 +8,7 @@ use Rattle.std.specs.List.Sorted.{IsBinarySearchResult, IsSearchInRange, IsSorte
 use Rattle.std.specs.Ordering.{is_eq, is_lt, ordering_reverse}
 use Rattle.std.proofs.lemmas.Cmp.{alike_right, nat_list_cmp_total}
 use Rattle.std.proofs.lemmas.List.Sorted.{searchable_from_sorted}
-use Rattle.td_types.specs.declared.ty.Attribute as Ty
+use Rattle.td_types.specs.declared.heading.Attribute as Ty
 use Rattle.td_types.specs.Headings.{IsFound, IsMissing}
 use Rattle.td_types.proofs.HeadingLaws.{name_cmp}
 use Rattle.td_types.specs.Types.{IsAscending, names_of, same_name}

@@ -1,11 +1,11 @@
 -- Each heading inside a heading is less deep, so that recursion over types ends.
 use Rattle.std.specs.Prelude.{◌≤◌, max, List, [], ◌∷◌}
 use Rattle.std.proofs.Common.{arith}
-use Rattle.td_types.specs.Types.{attributes_depth, type_depth}
-use Rattle.td_types.specs.declared.ty.Attribute.{Attribute}
+use Rattle.td_types.specs.Depths.{attributes_depth, type_depth}
+use Rattle.td_types.specs.declared.heading.Attribute.{Attribute}
 use Rattle.td_types.specs.declared.ty.Ty.{Ty}
 use Rattle.td_types.specs.declared.ty.Ty.TheVariants.{Bool, Int, Text, User, Tup, Rel}
-use Rattle.td_types.specs.declared.ty.Heading.TheDeep.{deep-Ty, deep-Attribute}
+use Rattle.td_types.specs.declared.heading.Heading.TheDeep.{deep-Ty, deep-Attribute}
 use Rattle.td_types.specs.Views.{type_of, attributes_of}
 use denote.Param.Weighed.{most}
 

@@ -1,8 +1,10 @@
+pub mod Depths
 pub mod Falls
 pub mod Hashes
 pub mod Headings
 pub mod Keys
 pub mod Texts
+pub mod TypeCode
 pub mod TypeOrder
 pub mod Types
 pub mod Views

@@ -11,7 +11,8 @@ use Rattle.std.proofs.lemmas.Cmp.{on_total, eq_by_cmp_equiv}
 use Rattle.td_types.specs.declared.ty.Ty.{Ty}
 use Rattle.td_types.specs.Views.{type_of}
 use Rattle.td_types.specs.Keys.{Key, key, Keys, no_keys, more, key_cmp, keys_cmp, key_cmp_total, key_same}
-use Rattle.td_types.specs.Types.{Type', boolean, integer, text, user, tuple, relation, Attrs, no_attrs, attr, Attributes, pack, unpack, unpack_pack, type_cmp, attrs_cmp, type_key, attrs_keys}
+use Rattle.td_types.specs.Types.{Type', boolean, integer, text, user, tuple, relation, Attrs, no_attrs, attr, Attributes, pack, unpack, type_cmp, attrs_cmp}
+use Rattle.td_types.specs.TypeCode.{attrs_keys, type_key, unpack_pack}
 
 then_equal_right : (o : Ordering) → ordering_then o Equal ≡ o
 then_equal_right Less = refl

@@ -1,17 +1,12 @@
 -- Types and headings as Tutorial D has them, apart from how the code stores them.
-use Rattle.std.specs.Prelude.{◌≡◌, ℕ, zero, suc, max, Bool, List, [], ◌∷◌, map, refl, Option, Some, None, if◌then◌else◌, ◌==◌, pos, ⊤}
+use Rattle.std.specs.Prelude.{◌≡◌, ℕ, Bool, List, [], ◌∷◌, map, Option, Some, None, if◌then◌else◌, ◌==◌, ⊤}
 use lib.Pointwise.{pointwise}
-use Rattle.std.proofs.Common.{ap, ◌∙◌}
 use Rattle.std.specs.Ordering.{nat_cmp, ordering_then}
 use Rattle.std.specs.declared.cmp.Ordering.{Ordering}
 use Rattle.std.specs.declared.cmp.Ordering.TheVariants.{Less, Equal, Greater}
 use Rattle.td_tree.specs.Names.{IsName}
-use Rattle.td_types.specs.Keys.{Key, key, Keys, no_keys, more, bytes_to, bytes_from, bytes_back}
 use Rattle.std.specs.Cmp.Lexicographic.{slice_cmp}
 use Rattle.std.specs.List.Sorted.{IsStrictlySortedBy}
-use Rattle.std.specs.Coded.{Coded, code_by}
-use base.Stored.{Gv, gnil, gnum, gcons}
-use denote.Struct.Codes.{itself}
 
 mutual
   -- a type: a scalar type, a user type by its name, or the tuples or the relations of a heading
@@ -44,14 +39,6 @@ pack (a ∷ xs) = attr a.0 a.1 (pack xs)
 abbrev pub unpack : Attrs → Attributes
 unpack no_attrs = []
 unpack (attr n t xs) = (n, t) ∷ unpack xs
-
-pub unpack_pack : (xs : Attributes) → unpack (pack xs) ≡ xs
-unpack_pack [] = refl
-unpack_pack (a ∷ xs) = ap (λ r. a ∷ r) (unpack_pack xs)
-
-pub pack_unpack : (xs : Attrs) → pack (unpack xs) ≡ xs
-pack_unpack no_attrs = refl
-pack_unpack (attr n t xs) = ap (attr n t) (pack_unpack xs)
 
 abbrev pub names_of : Attributes → List (List ℕ)
 names_of = map (λ a. a.0)
@@ -113,95 +100,3 @@ abbrev mutual
   attrs_cmp no_attrs (attr n t ys) = Less
   attrs_cmp (attr m s xs) no_attrs = Greater
   attrs_cmp (attr m s xs) (attr n t ys) = ordering_then (slice_cmp nat_cmp m n) (ordering_then (type_cmp s t) (attrs_cmp xs ys))
-
-abbrev mutual
-  -- the key whose order is the type's
-  pub type_key : Type' → Key
-  type_key boolean = key 0 (pos 0) [] no_keys
-  type_key integer = key 1 (pos 0) [] no_keys
-  type_key text = key 2 (pos 0) [] no_keys
-  type_key (user n) = key 3 (pos 0) n no_keys
-  type_key (tuple xs) = key 4 (pos 0) [] (attrs_keys xs)
-  type_key (relation xs) = key 5 (pos 0) [] (attrs_keys xs)
-
-  pub attrs_keys : Attrs → Keys
-  attrs_keys no_attrs = no_keys
-  attrs_keys (attr n t xs) = more (key 0 (pos 0) n no_keys) (more (type_key t) (attrs_keys xs))
-
--- ---- how deep headings nest
-
-abbrev mutual
-  pub type_depth : Type' → ℕ
-  type_depth boolean = 0
-  type_depth integer = 0
-  type_depth text = 0
-  type_depth (user n) = 0
-  type_depth (tuple xs) = suc (attrs_depth xs)
-  type_depth (relation xs) = suc (attrs_depth xs)
-
-  pub attrs_depth : Attrs → ℕ
-  attrs_depth no_attrs = 0
-  attrs_depth (attr n t xs) = max (type_depth t) (attrs_depth xs)
-
-abbrev pub attributes_depth : Attributes → ℕ
-attributes_depth xs = attrs_depth (pack xs)
-
--- ---- how the logic stores a type
-
-abbrev mutual
-  type_to : Type' → Gv
-  type_to boolean = gnum 0
-  type_to integer = gnum 1
-  type_to text = gnum 2
-  type_to (user n) = gcons gnil (bytes_to n)
-  type_to (tuple xs) = gcons (gnum 0) (attrs_to xs)
-  type_to (relation xs) = gcons (gcons gnil gnil) (attrs_to xs)
-
-  attrs_to : Attrs → Gv
-  attrs_to no_attrs = gnil
-  attrs_to (attr n t xs) = gcons (gcons (bytes_to n) (type_to t)) (attrs_to xs)
-
-abbrev mutual
-  type_from : Gv → Type'
-  type_from gnil = boolean
-  type_from (gnum zero) = boolean
-  type_from (gnum (suc zero)) = integer
-  type_from (gnum (suc (suc n))) = text
-  type_from (gcons gnil g) = user (bytes_from g)
-  type_from (gcons (gnum n) g) = tuple (attrs_from g)
-  type_from (gcons (gcons h t) g) = relation (attrs_from g)
-
-  attrs_from : Gv → Attrs
-  attrs_from gnil = no_attrs
-  attrs_from (gnum n) = no_attrs
-  attrs_from (gcons gnil g) = no_attrs
-  attrs_from (gcons (gnum n) g) = no_attrs
-  attrs_from (gcons (gcons n t) g) = attr (bytes_from n) (type_from t) (attrs_from g)
-
-mutual
-  pub type_back : (t : Type') → type_from (type_to t) ≡ t
-  type_back boolean = refl
-  type_back integer = refl
-  type_back text = refl
-  type_back (user n) = ap user (bytes_back n)
-  type_back (tuple xs) = ap tuple (attrs_back xs)
-  type_back (relation xs) = ap relation (attrs_back xs)
-
-  pub attrs_back : (xs : Attrs) → attrs_from (attrs_to xs) ≡ xs
-  attrs_back no_attrs = refl
-  attrs_back (attr n t xs) = λ i. attr (bytes_back n i) (type_back t i) (attrs_back xs i)
-
-abbrev pub type_code : Coded Type'
-type_code = code_by Gv itself type_to type_from type_back
-
-abbrev attributes_to : Attributes → Gv
-attributes_to xs = attrs_to (pack xs)
-
-abbrev attributes_from : Gv → Attributes
-attributes_from g = unpack (attrs_from g)
-
-pub attributes_back : (xs : Attributes) → attributes_from (attributes_to xs) ≡ xs
-attributes_back xs = ap unpack (attrs_back (pack xs)) ∙ unpack_pack xs
-
-abbrev pub attributes_code : Coded Attributes
-attributes_code = code_by Gv itself attributes_to attributes_from attributes_back

@@ -2,7 +2,7 @@
 use Rattle.std.specs.Prelude.{ℕ, List, map}
 use Rattle.td_types.specs.Types
 use Rattle.td_types.specs.Types.{Type', boolean, integer, text, user, tuple, relation, Attributes, pack}
-use Rattle.td_types.specs.declared.ty.Attribute.{Attribute}
+use Rattle.td_types.specs.declared.heading.Attribute.{Attribute}
 use Rattle.td_types.specs.declared.ty.Ty.{Ty}
 use Rattle.td_types.specs.declared.ty.Ty.TheVariants.{Bool, Int, Text, User, Tup, Rel}
 

@@ -2,7 +2,8 @@
 ghost use Rattle.std.specs.Prelude.{◌≡◌, IfOk};
 ghost use Rattle.td_types.specs.Views.{attribute_of, type_of};
 
-use crate::ty::{Attribute, Heading, Ty};
+use crate::heading::{Attribute, Heading};
+use crate::ty::Ty;
 use std::alloc::AllocError;
 
 #[cycle(copy)]

@@ -4,7 +4,8 @@ ghost use Rattle.td_types.specs.Hashes.{fed_heading, fed_type};
 ghost use Rattle.td_types.specs.Types.{pack};
 ghost use Rattle.td_types.specs.Views.{type_of};
 
-use crate::ty::{Heading, Ty};
+use crate::heading::Heading;
+use crate::ty::Ty;
 use std::hash::{Hash, Hasher};
 
 #[cycle(feed)]

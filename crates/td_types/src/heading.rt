@@ -1,5 +1,6 @@
 //! Headings as finite maps from names to types.
-ghost use Rattle.std.specs.Prelude.{◌≡◌, ◌↔◌, IfErr, IfOk, IsTrue, None, [], length, option_map, slice_get};
+ghost use Rattle.std.specs.Prelude.{◌≡◌, ◌↔◌, IfErr, IfOk, IsTrue, [], length, option_map};
+ghost use Rattle.std.specs.Prelude.{slice_get};
 ghost use Rattle.td_tree.specs.Outcomes.{Answers};
 ghost use Rattle.td_types.specs.Headings.{IsFound, IsMap, IsMissing, add_missing, extended_heading};
 ghost use Rattle.td_types.specs.Headings.{made_heading, place_of, types_with};
@@ -7,11 +8,50 @@ ghost use Rattle.td_types.specs.Types.{IsAscending, IsHeading, pack, type_at};
 ghost use Rattle.td_types.specs.Views.{pairs_of, type_of};
 
 use crate::names::repeats_a_name;
-use crate::ty::{Attribute, Heading, Ty};
+use crate::ty::Ty;
 use std::alloc::{AllocError, Global};
+use std::marker::Model;
 use td_tree::cause::Cause;
 use td_tree::fault::Fault;
 use td_tree::name::Name;
+
+/// An attribute's name and its type.
+#[cycle(ty)]
+#[derive(Drop)]
+pub struct Attribute {
+    pub(crate) name: Name,
+    pub(crate) ty: Ty,
+}
+
+/// A heading, seen as its attributes in name order.
+#[cycle(ty)]
+#[derive(Drop)]
+pub struct Heading {
+    pub(crate) attributes: Vec<Attribute>,
+}
+
+impl Model for Heading {
+    ghost use Rattle.std.specs.Prelude.{List, ℕ, map, length};
+    ghost use Rattle.td_types.specs.Depths.{attributes_depth};
+    ghost use Rattle.td_types.specs.TypeCode.{attributes_code};
+    ghost use Rattle.td_types.specs.Types.{Attributes, IsHeading, pack};
+
+    ghost Value = { Attributes };
+
+    ghost coded = { attributes_code };
+
+    ghost use Rattle.td_types.specs.Views.{attributes_of};
+
+    ghost view = { λ a. attributes_of a.attributes.items };
+
+    ghost invariant = { λ a. IsHeading (pack (attributes_of a.attributes.items)) };
+
+    ghost size = { attributes_depth };
+
+    ghost use Rattle.td_types.specs.Falls.{attributes_fall};
+
+    ghost size_decreases = { λ a h. attributes_fall a.attributes.items };
+}
 
 /// The heading of attributes whose names ascend.
 fn from_sorted(alloc: Global, pairs: Vec<(Name, Ty)>) -> Result<Heading, AllocError>

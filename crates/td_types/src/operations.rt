@@ -1,19 +1,20 @@
 //! Operations that make a heading of headings: each refuses by the cause of headings, or wants memory.
 ghost use Rattle.std.specs.Prelude.{◌≡◌, IfOk};
 ghost use Rattle.td_tree.specs.Outcomes.{Answers};
-ghost use Rattle.td_types.specs.Headings.{IsMap, agree, common_heading, has_attributes, projected_heading};
-ghost use Rattle.td_types.specs.Headings.{reduced_heading, types_among, types_in_both, types_in_either};
-ghost use Rattle.td_types.specs.Headings.{types_without, united_heading};
+ghost use Rattle.td_types.specs.Headings.{IsMap, agree, common_heading, has_attributes};
+ghost use Rattle.td_types.specs.Headings.{projected_heading, reduced_heading, types_among};
+ghost use Rattle.td_types.specs.Headings.{types_in_both, types_in_either, types_without};
+ghost use Rattle.td_types.specs.Headings.{united_heading};
 
+use crate::heading::{Attribute, Heading};
 use crate::names::{are_distinct, is_among};
-use crate::ty::{Attribute, Heading};
 use td_tree::cause::Cause;
 use td_tree::fault::Fault;
 use td_tree::name::Name;
 
 impl Heading {
     /// Whether there is an attribute of each name.
-    fn has_all(&self, names: &[Name]) -> bool
+    pub fn has_all(&self, names: &[Name]) -> bool
         ensures { result ≡ has_attributes names.now self.now }
     {
         names.iter().all(|name| self.get(name).is_some())

@@ -5,7 +5,8 @@ ghost use Rattle.td_types.specs.TypeOrder.{heading_cmp, ty_cmp};
 ghost use Rattle.td_types.specs.Types.{attrs_cmp, pack, type_cmp, type_rank};
 ghost use Rattle.td_types.specs.Views.{attributes_of, type_of};
 
-use crate::ty::{Attribute, Heading, Ty};
+use crate::heading::{Attribute, Heading};
+use crate::ty::Ty;
 use std::cmp::Ordering;
 
 impl Ty {

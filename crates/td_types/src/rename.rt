@@ -1,12 +1,12 @@
 //! Renaming: each renaming is a pair of an old and a new name, and all are done at once.
 ghost use Rattle.std.specs.Prelude.{◌≡◌, IfOk, map};
 ghost use Rattle.td_tree.specs.Outcomes.{Answers};
-ghost use Rattle.td_types.specs.Headings.{IsMap, are_distinct, can_rename, has_attributes, has_name};
-ghost use Rattle.td_types.specs.Headings.{new_name, new_names, renamed, renamed_heading};
+ghost use Rattle.td_types.specs.Headings.{IsMap, are_distinct, can_rename, has_attributes};
+ghost use Rattle.td_types.specs.Headings.{has_name, new_name, new_names, renamed, renamed_heading};
 ghost use Rattle.td_types.specs.Types.{type_at};
 ghost use Rattle.td_types.specs.Views.{attributes_of};
 
-use crate::ty::{Attribute, Heading};
+use crate::heading::{Attribute, Heading};
 use td_tree::cause::Cause;
 use td_tree::fault::Fault;
 use td_tree::name::Name;
@@ -101,7 +101,8 @@ impl Heading {
     /// or where two attributes would have one name.
     pub fn rename(&self, renamings: &[(Name, Name)]) -> Result<Heading, Fault>
         ensures answer { Answers (λ h. h) result (renamed_heading renamings.now self.now) }
-        ensures types { IfOk result (λ h. IsMap h (λ n. type_at n (renamed renamings.now self.now))) }
+        ensures types { IfOk result (λ h.
+            IsMap h (λ n. type_at n (renamed renamings.now self.now))) }
     {
         if !self.can_rename(renamings) {
             return Err(Fault::Refused(Cause::Heading));

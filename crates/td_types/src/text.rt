@@ -5,7 +5,8 @@ ghost use Rattle.td_types.specs.Texts.{comma_if, heading_text, type_text};
 ghost use Rattle.td_types.specs.Types.{pack, relation};
 ghost use Rattle.td_types.specs.Views.{type_of};
 
-use crate::ty::{Heading, Ty};
+use crate::heading::Heading;
+use crate::ty::Ty;
 use std::alloc::{AllocError, Global};
 
 /// Puts what stands before a part.

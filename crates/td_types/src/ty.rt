@@ -1,8 +1,8 @@
-//! Types, and headings as their attributes in name order.
+//! Types.
 ghost use Rattle.td_types.specs.Types.{IsType};
 ghost use Rattle.td_types.specs.Views.{type_of};
 
-use std::marker::Model;
+use crate::heading::Heading;
 use td_tree::name::Name;
 
 /// A type.
@@ -21,42 +21,6 @@ pub enum Ty {
     Tup(Heading),
     /// The relations of a heading.
     Rel(Heading),
-}
-
-/// An attribute's name and its type.
-#[cycle(ty)]
-#[derive(Drop)]
-pub struct Attribute {
-    pub(crate) name: Name,
-    pub(crate) ty: Ty,
-}
-
-/// A heading, seen as its attributes in name order.
-#[cycle(ty)]
-#[derive(Drop)]
-pub struct Heading {
-    pub(crate) attributes: Vec<Attribute>,
-}
-
-impl Model for Heading {
-    ghost use Rattle.std.specs.Prelude.{List, ℕ, map, length};
-    ghost use Rattle.td_types.specs.Types.{Attributes, IsHeading, attributes_code, attributes_depth, pack};
-
-    ghost Value = { Attributes };
-
-    ghost coded = { attributes_code };
-
-    ghost use Rattle.td_types.specs.Views.{attributes_of};
-
-    ghost view = { λ a. attributes_of a.attributes.items };
-
-    ghost invariant = { λ a. IsHeading (pack (attributes_of a.attributes.items)) };
-
-    ghost size = { attributes_depth };
-
-    ghost use Rattle.td_types.specs.Falls.{attributes_fall};
-
-    ghost size_decreases = { λ a h. attributes_fall a.attributes.items };
 }
 
 impl Ty {

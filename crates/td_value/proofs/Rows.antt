@@ -10,7 +10,8 @@ use Rattle.std.proofs.lemmas.Cmp.{on_total, nat_list_cmp_total, tied_itself}
 use Rattle.std.proofs.lemmas.List.Kept.{Contains-from_dedup}
 use Rattle.std.proofs.lemmas.List.Elements.{All-contains, All-contains_itself}
 use Rattle.td_types.specs.Types as heads
-use Rattle.td_types.specs.Types.{Attributes, IsHeading, pack, unpack, unpack_pack}
+use Rattle.td_types.specs.Types.{Attributes, IsHeading, pack, unpack}
+use Rattle.td_types.specs.TypeCode.{unpack_pack}
 use Rattle.td_value.specs.Values.{Val, tuple, user, Entries, order, AreRows, HaveSameNames, IsTuple, IsTupleOf, fields_type, heading_of, names_of, pack_fields, pack_parts, pack_rows, parts_order, rows_order, tuple_order}
 use Rattle.td_value.specs.ValueOrder.{order_total}
 use Rattle.td_value.specs.Views.{values_of}

@@ -1,10 +1,11 @@
 -- Each value inside a value is less deep.
 use Rattle.std.specs.Prelude.{ℕ, ◌≤◌, ◌+◌, max, List, [], ◌∷◌, length, ◌≡◌}
 use Rattle.std.proofs.Common.{arith}
-use Rattle.td_value.specs.Values.{Val, depth, parts_depth, rows_depth, tuple_depth, Entries, pack_parts, pack_rows}
+use Rattle.td_value.specs.Depths.{depth, parts_depth, rows_depth, tuple_depth}
+use Rattle.td_value.specs.Values.{Val, Entries, pack_parts, pack_rows}
 use Rattle.td_value.specs.declared.value.Node.{Node}
 use Rattle.td_value.specs.declared.value.Node.TheVariants.{Bool, Int, Text, User, Tup, Rel}
-use Rattle.td_value.specs.declared.value.Rel.TheDeep.{deep-Node}
+use Rattle.td_value.specs.declared.relation.Rel.TheDeep.{deep-Node}
 use Rattle.td_value.specs.Views.{node_value, entries_of}
 use denote.Param.Weighed.{most}
 

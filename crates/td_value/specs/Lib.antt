@@ -1,3 +1,4 @@
+pub mod Depths
 pub mod Falls
 pub mod Hashes
 pub mod Laws

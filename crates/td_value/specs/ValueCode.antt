@@ -3,7 +3,8 @@ use Rattle.std.specs.Prelude.{◌≡◌, ℕ, zero, suc, ℤ, pos, negsuc, Bool,
 use Rattle.std.proofs.Common.{ap, ◌∙◌}
 use Rattle.std.specs.Coded.{Coded, code_by, coded×, coded_list, coded_ℕ}
 use Rattle.td_types.specs.Keys.{Key, key, Keys, no_keys, more, key_code}
-use Rattle.td_types.specs.Types.{Attributes, attrs_keys, attributes_code}
+use Rattle.td_types.specs.Types.{Attributes}
+use Rattle.td_types.specs.TypeCode.{attrs_keys, attributes_code}
 use Rattle.td_types.specs.TypeOrder.{attrs_from_keys, attrs_from_keys-attrs_keys}
 use Rattle.td_value.specs.Values.{Val, boolean, integer, text, user, tuple, relation, Parts, no_parts, part, Fields, no_fields, field, Rows, no_rows, row, Entries, Relation, Selected, pack_fields, unpack_fields, pack_rows, unpack_rows}
 

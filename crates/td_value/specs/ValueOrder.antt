@@ -11,7 +11,8 @@ use Rattle.std.specs.Bool.{Decides}
 use Rattle.td_value.specs.Hashes.{fed_value, fed_tuple, fed_relation}
 use Rattle.std.proofs.lemmas.Cmp.{on_total, then_total, nat_list_cmp_total, tied_itself}
 use Rattle.td_types.specs.Keys.{Key, key_cmp, keys_cmp, key_cmp_total, key_same, list_same, nat_same, then_equal}
-use Rattle.td_types.specs.Types.{Attrs, no_attrs, unpack, unpack_pack, pack}
+use Rattle.td_types.specs.Types.{Attrs, no_attrs, unpack, pack}
+use Rattle.td_types.specs.TypeCode.{unpack_pack}
 use Rattle.td_types.specs.TypeOrder.{attrs_cmp-keys}
 use Rattle.td_value.specs.Values.{Val, boolean, integer, text, user, tuple, relation, Parts, no_parts, part, Fields, no_fields, field, Rows, no_rows, row, Entries, Relation, pack_fields, unpack_fields, pack_rows, unpack_rows, order, parts_order, fields_order, rows_order, tuple_order, relation_order, entry_order}
 use Rattle.td_value.specs.ValueCode.{val_key, parts_keys, fields_keys, rows_keys, bit, val_from, val_back, unpack_pack_fields, unpack_pack_rows}

@@ -1,5 +1,5 @@
 -- Values, tuples and relations (a relation is a set of tuples, as in Tutorial D; the order of values is this project's own).
-use Rattle.std.specs.Prelude.{◌≡◌, ℕ, suc, ◌-◌, ◌^◌, max, ℤ, pos, ◌≤ℤ◌, negsuc, Bool, List, [], ◌∷◌, filter, map, Option, Some, None, if◌then◌else◌, IsUtf8, ◌↔◌}
+use Rattle.std.specs.Prelude.{◌≡◌, ℕ, ◌-◌, ◌^◌, ℤ, pos, ◌≤ℤ◌, negsuc, Bool, List, [], ◌∷◌, filter, map, Option, Some, None, if◌then◌else◌, IsUtf8, ◌↔◌}
 use Rattle.std.specs.Ordering.{nat_cmp, int_cmp, bool_cmp, ordering_then}
 use Rattle.std.specs.declared.cmp.Ordering.{Ordering}
 use Rattle.std.specs.declared.cmp.Ordering.TheVariants.{Less, Equal, Greater}
@@ -203,39 +203,6 @@ IsTuple t = IsValue (tuple (pack_fields t))
 -- a relation, all of whose tuples are tuples of its heading
 abbrev pub IsRelation : Relation → Type 0
 IsRelation r = IsValue (relation (pack r.heading) (pack_rows r.rows))
-
--- ---- how deep values nest
-
-abbrev mutual
-  pub depth : Val → ℕ
-  depth (boolean b) = 0
-  depth (integer z) = 0
-  depth (text s) = 0
-  depth (user n ps) = suc (parts_depth ps)
-  depth (tuple fs) = suc (fields_depth fs)
-  depth (relation h rs) = suc (rows_depth rs)
-
-  pub parts_depth : Parts → ℕ
-  parts_depth no_parts = 0
-  parts_depth (part v ps) = max (suc (depth v)) (parts_depth ps)
-
-  pub fields_depth : Fields → ℕ
-  fields_depth no_fields = 0
-  fields_depth (field n v fs) = max (suc (depth v)) (fields_depth fs)
-
-  pub rows_depth : Rows → ℕ
-  rows_depth no_rows = 0
-  rows_depth (row fs rs) = max (suc (fields_depth fs)) (rows_depth rs)
-
--- how deep the values of a tuple, of a relation and of a user value nest
-abbrev pub tuple_depth : Entries → ℕ
-tuple_depth t = fields_depth (pack_fields t)
-
-abbrev pub relation_depth : Relation → ℕ
-relation_depth r = rows_depth (pack_rows r.rows)
-
-abbrev pub selected_depth : Selected → ℕ
-selected_depth u = parts_depth (pack_parts u.components)
 
 -- a user value, all of whose components are values
 abbrev pub IsSelected : Selected → Type 0

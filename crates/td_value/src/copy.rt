@@ -2,7 +2,9 @@
 ghost use Rattle.std.specs.Prelude.{◌≡◌, IfOk};
 ghost use Rattle.td_value.specs.Views.{node_value};
 
-use crate::value::{Node, Rel, Tuple, Value};
+use crate::relation::Rel;
+use crate::tuple::Tuple;
+use crate::value::{Node, Value};
 use std::alloc::AllocError;
 
 /// The same node again.

@@ -3,7 +3,10 @@ ghost use Rattle.std.specs.Prelude.{◌≡◌, fold};
 ghost use Rattle.td_value.specs.Hashes.{fed_value, fed_parts, fed_rows, fed_tuple, fed_relation};
 ghost use Rattle.td_value.specs.Values.{pack_parts, pack_rows, selected_value};
 
-use crate::value::{Node, Rel, Tuple, User, Value};
+use crate::relation::Rel;
+use crate::tuple::Tuple;
+use crate::user::User;
+use crate::value::{Node, Value};
 use std::hash::{Hash, Hasher};
 
 #[cycle(feed)]

@@ -11,11 +11,14 @@ ghost use Rattle.td_value.specs.Literal.{rows_literal, tuple_literal};
 ghost use Rattle.td_value.specs.Values.{pack_fields, pack_rows, selected_value};
 ghost use Rattle.td_value.specs.Views.{entries_of};
 
-use crate::value::{Node, Rel, Tuple, User, Value};
+use crate::relation::Rel;
+use crate::tuple::Tuple;
+use crate::user::User;
+use crate::value::{Node, Value};
 use std::alloc::{AllocError, Global};
 use td_tree::name::Name;
+use td_types::heading::Heading;
 use td_types::text::put_relation_type;
-use td_types::ty::Heading;
 
 fn put_comma(out: &mut String, later: bool) -> Result<(), AllocError>
     ensures { OnOk result (string_bytes out.new ≡ string_bytes out.old ++ comma_if later) }

@@ -4,7 +4,10 @@ ghost use Rattle.td_value.specs.Values.{order, pack_parts, pack_rows, parts_orde
 ghost use Rattle.td_value.specs.Values.{relation_order, rows_order, selected_value, tuple_order};
 ghost use Rattle.td_value.specs.Views.{entries_of, values_of};
 
-use crate::value::{Node, Rel, Tuple, User, Value};
+use crate::relation::Rel;
+use crate::tuple::Tuple;
+use crate::user::User;
+use crate::value::{Node, Value};
 use std::cmp::Ordering;
 use td_tree::name::Name;
 
@@ -141,5 +144,167 @@ fn compare_rows(a: &[Tuple], b: &[Tuple]) -> Ordering
         Ordering::Equal
     } else {
         Ordering::Less
+    }
+}
+
+impl PartialEq for Value {
+    ghost use Rattle.std.specs.Ordering.{eq_by_cmp};
+    ghost use Rattle.std.specs.Cmp.{partial_equiv_from_equiv};
+    ghost use Rattle.std.proofs.lemmas.Cmp.{eq_by_cmp_equiv};
+    ghost use Rattle.td_value.specs.ValueOrder.{order_total};
+
+    ghost eq = { eq_by_cmp order };
+
+    ghost laws = { partial_equiv_from_equiv (eq_by_cmp_equiv order_total) };
+
+    fn eq(&self, other: &Value) -> bool {
+        compare_values(self, other) == Ordering::Equal
+    }
+}
+
+impl Eq for Value {
+    ghost use Rattle.std.proofs.lemmas.Cmp.{eq_by_cmp_equiv};
+    ghost use Rattle.td_value.specs.ValueOrder.{order_total};
+
+    ghost laws = { eq_by_cmp_equiv order_total };
+}
+
+impl PartialOrd for Value {
+    ghost use Rattle.std.specs.Prelude.{refl};
+    ghost use Rattle.std.specs.Ordering.{as_partial_cmp};
+    ghost use Rattle.std.specs.Cmp.{partial_order_from_agreeing_total};
+    ghost use Rattle.td_value.specs.ValueOrder.{order_total};
+
+    ghost partial_cmp = { as_partial_cmp order };
+
+    ghost laws = { partial_order_from_agreeing_total order order_total (λ x y. refl) (λ x y. refl) };
+
+    fn partial_cmp(&self, other: &Value) -> Option<Ordering> {
+        Some(self.cmp(other))
+    }
+}
+
+impl Ord for Value {
+    ghost use Rattle.std.specs.Prelude.{refl};
+    ghost use Rattle.td_value.specs.ValueOrder.{order_total};
+
+    ghost cmp = { order };
+
+    ghost total = { order_total };
+
+    ghost matches_partial_cmp = { λ x y. refl };
+
+    ghost matches_eq = { λ x y. refl };
+
+    fn cmp(&self, other: &Value) -> Ordering {
+        compare_values(self, other)
+    }
+}
+
+impl PartialEq for Tuple {
+    ghost use Rattle.std.specs.Ordering.{eq_by_cmp};
+    ghost use Rattle.std.specs.Cmp.{partial_equiv_from_equiv};
+    ghost use Rattle.std.proofs.lemmas.Cmp.{eq_by_cmp_equiv};
+    ghost use Rattle.td_value.specs.ValueOrder.{tuple_order_total};
+
+    ghost eq = { eq_by_cmp tuple_order };
+
+    ghost laws = { partial_equiv_from_equiv (eq_by_cmp_equiv tuple_order_total) };
+
+    fn eq(&self, other: &Tuple) -> bool {
+        compare_tuples(self, other) == Ordering::Equal
+    }
+}
+
+impl Eq for Tuple {
+    ghost use Rattle.std.proofs.lemmas.Cmp.{eq_by_cmp_equiv};
+    ghost use Rattle.td_value.specs.ValueOrder.{tuple_order_total};
+
+    ghost laws = { eq_by_cmp_equiv tuple_order_total };
+}
+
+impl PartialOrd for Tuple {
+    ghost use Rattle.std.specs.Prelude.{refl};
+    ghost use Rattle.std.specs.Ordering.{as_partial_cmp};
+    ghost use Rattle.std.specs.Cmp.{partial_order_from_agreeing_total};
+    ghost use Rattle.td_value.specs.ValueOrder.{tuple_order_total};
+
+    ghost partial_cmp = { as_partial_cmp tuple_order };
+
+    ghost laws = { partial_order_from_agreeing_total tuple_order tuple_order_total (λ x y. refl) (λ x y. refl) };
+
+    fn partial_cmp(&self, other: &Tuple) -> Option<Ordering> {
+        Some(self.cmp(other))
+    }
+}
+
+impl Ord for Tuple {
+    ghost use Rattle.std.specs.Prelude.{refl};
+    ghost use Rattle.td_value.specs.ValueOrder.{tuple_order_total};
+
+    ghost cmp = { tuple_order };
+
+    ghost total = { tuple_order_total };
+
+    ghost matches_partial_cmp = { λ x y. refl };
+
+    ghost matches_eq = { λ x y. refl };
+
+    fn cmp(&self, other: &Tuple) -> Ordering {
+        compare_tuples(self, other)
+    }
+}
+
+impl PartialEq for Rel {
+    ghost use Rattle.std.specs.Ordering.{eq_by_cmp};
+    ghost use Rattle.std.specs.Cmp.{partial_equiv_from_equiv};
+    ghost use Rattle.std.proofs.lemmas.Cmp.{eq_by_cmp_equiv};
+    ghost use Rattle.td_value.specs.ValueOrder.{relation_order_total};
+
+    ghost eq = { eq_by_cmp relation_order };
+
+    ghost laws = { partial_equiv_from_equiv (eq_by_cmp_equiv relation_order_total) };
+
+    fn eq(&self, other: &Rel) -> bool {
+        compare_rels(self, other) == Ordering::Equal
+    }
+}
+
+impl Eq for Rel {
+    ghost use Rattle.std.proofs.lemmas.Cmp.{eq_by_cmp_equiv};
+    ghost use Rattle.td_value.specs.ValueOrder.{relation_order_total};
+
+    ghost laws = { eq_by_cmp_equiv relation_order_total };
+}
+
+impl PartialOrd for Rel {
+    ghost use Rattle.std.specs.Prelude.{refl};
+    ghost use Rattle.std.specs.Ordering.{as_partial_cmp};
+    ghost use Rattle.std.specs.Cmp.{partial_order_from_agreeing_total};
+    ghost use Rattle.td_value.specs.ValueOrder.{relation_order_total};
+
+    ghost partial_cmp = { as_partial_cmp relation_order };
+
+    ghost laws = { partial_order_from_agreeing_total relation_order relation_order_total (λ x y. refl) (λ x y. refl) };
+
+    fn partial_cmp(&self, other: &Rel) -> Option<Ordering> {
+        Some(self.cmp(other))
+    }
+}
+
+impl Ord for Rel {
+    ghost use Rattle.std.specs.Prelude.{refl};
+    ghost use Rattle.td_value.specs.ValueOrder.{relation_order_total};
+
+    ghost cmp = { relation_order };
+
+    ghost total = { relation_order_total };
+
+    ghost matches_partial_cmp = { λ x y. refl };
+
+    ghost matches_eq = { λ x y. refl };
+
+    fn cmp(&self, other: &Rel) -> Ordering {
+        compare_rels(self, other)
     }
 }

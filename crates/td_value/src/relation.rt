@@ -8,11 +8,42 @@ ghost use Rattle.td_value.specs.Views.{relation_of};
 
 use crate::lists::put;
 use crate::order::compare_by_values;
-use crate::value::{Rel, Tuple};
+use crate::tuple::Tuple;
 use std::alloc::AllocError;
+use std::marker::Model;
 use std::rc::Rc;
 use td_tree::name::Name;
-use td_types::ty::Heading;
+use td_types::heading::Heading;
+
+/// A heading with a set of tuples, seen as the strictly ascending list of them. Copies of a relation share its tuples.
+#[cycle(value)]
+#[derive(Drop)]
+pub struct Rel {
+    pub(crate) heading: Heading,
+    pub(crate) rows: Rc<Vec<Tuple>>,
+}
+
+impl Model for Rel {
+    ghost use Rattle.td_value.specs.Depths.{relation_depth};
+    ghost use Rattle.td_value.specs.Values.{IsRelation, Relation};
+    ghost use Rattle.td_value.specs.ValueCode.{relation_code};
+
+    ghost Value = { Relation };
+
+    ghost coded = { relation_code };
+
+    ghost use Rattle.td_value.specs.Views.{relation_of};
+
+    ghost view = { λ a. relation_of a.heading a.rows.value.items };
+
+    ghost invariant = { λ a. IsRelation (relation_of a.heading a.rows.value.items) };
+
+    ghost size = { relation_depth };
+
+    ghost use Rattle.td_value.specs.Falls.{relation_falls};
+
+    ghost size_decreases = { λ a h. relation_falls a.rows.value.items };
+}
 
 /// Takes the list of the same names in place of the tuple's own.
 fn take_names(row: &mut Tuple, names: &Rc<Vec<Name>>) -> Result<(), AllocError>

@@ -1,21 +1,55 @@
 //! Tuples.
-ghost use Rattle.std.specs.Prelude.{◌≡◌, ◌∷◌, ◌++◌, [], IfOk, IsTrue, OnOk, length};
+ghost use Rattle.std.specs.Prelude.{◌≡◌, ◌↔◌, ◌∷◌, ◌++◌, [], IfOk, IsTrue, OnOk};
+ghost use Rattle.std.specs.Prelude.{length, option_map};
 ghost use Rattle.std.specs.Ordering.{is_lt, nat_cmp};
 ghost use Rattle.std.specs.Cmp.Lexicographic.{slice_cmp};
 ghost use Rattle.std.specs.List.Sorted.{IsSortedBy, IsStrictlySortedBy};
 ghost use Rattle.td_tree.specs.Outcomes.{Answers};
 ghost use Rattle.td_value.specs.Values.{AreFields, HasValuesOf, IsTuple, made_tuple, names_of};
-ghost use Rattle.td_value.specs.Values.{pack_fields, projected_tuple};
+ghost use Rattle.td_value.specs.Values.{pack_fields, projected_tuple, value_at};
 ghost use Rattle.td_value.specs.Views.{entries_of, values_of};
 
 use crate::lists::put;
-use crate::value::{Tuple, Value};
+use crate::value::Value;
 use std::alloc::{AllocError, Global};
+use std::marker::Model;
 use std::rc::Rc;
 use td_tree::cause::Cause;
 use td_tree::fault::Fault;
 use td_tree::name::Name;
 use td_types::names::{is_among, repeats_a_name};
+
+/// A finite map from names to values, seen as its entries in name order. The tuples of one relation share one list of
+/// names, and copies of a tuple share its values too.
+#[cycle(value)]
+#[derive(Drop)]
+pub struct Tuple {
+    pub(crate) names: Rc<Vec<Name>>,
+    pub(crate) values: Rc<Vec<Value>>,
+}
+
+impl Model for Tuple {
+    ghost use Rattle.td_value.specs.Depths.{tuple_depth};
+    ghost use Rattle.td_value.specs.Values.{Entries};
+    ghost use Rattle.td_value.specs.ValueCode.{entries_code};
+
+    ghost Value = { Entries };
+
+    ghost coded = { entries_code };
+
+    ghost use Rattle.td_value.specs.Views.{entries_of};
+    ghost use Rattle.td_value.specs.Zipped.{AreTuple};
+
+    ghost view = { λ a. entries_of a.names.value.items a.values.value.items };
+
+    ghost invariant = { λ a. AreTuple a.names.value.items a.values.value.items };
+
+    ghost size = { tuple_depth };
+
+    ghost use Rattle.td_value.specs.Falls.{fields_fall};
+
+    ghost size_decreases = { λ a h. fields_fall a.names.value.items a.values.value.items h.0 };
+}
 
 impl Tuple {
     /// The tuple that gives each name its value, where no name comes twice.
@@ -189,4 +223,61 @@ impl Tuple {
     {
         kept_entries(&self.names, &self.values, names, *self.values.allocator())
     }
+}
+
+impl Tuple {
+    ghost use Rattle.td_value.specs.Values.{IsTuple, names_of};
+    ghost use Rattle.td_value.specs.Views.{values_of};
+
+    /// How many attributes it has.
+    pub fn len(&self) -> usize
+        ensures { result ≡ length self.now }
+    {
+        self.values.len()
+    }
+
+    /// Whether it is the tuple without attributes.
+    pub fn is_empty(&self) -> bool
+        ensures { IsTrue result ↔ (self.now ≡ []) }
+    {
+        self.len() == 0
+    }
+
+    /// The names, ascending.
+    pub fn names(&self) -> &[Name]
+        ensures names { result.now ≡ names_of self.now }
+        ensures valid { IsTuple self.now }
+    {
+        self.names.as_slice()
+    }
+
+    /// The values, in the order of their names.
+    pub fn values(&self) -> &[Value]
+        ensures values { result.now ≡ values_of self.now }
+        ensures valid { IsTuple self.now }
+    {
+        self.values.as_slice()
+    }
+
+    /// The value of the attribute of that name.
+    pub fn get(&self, name: &Name) -> Option<&Value>
+        ensures { option_map (λ v. v.now) result ≡ value_at name.now self.now }
+    {
+        value_named(&self.names, &self.values, name)
+    }
+}
+
+/// The value that stands where the name does.
+fn value_named<'a>(names: &[Name], values: &'a [Value], name: &Name) -> Option<&'a Value>
+    requires { length names.now ≡ length values.now }
+    ensures { option_map (λ v. v.now) result ≡ value_at name.now (entries_of names.now values.now) }
+{
+    let mut place = 0;
+    for value in values {
+        if names[place] == *name {
+            return Some(value);
+        }
+        place += 1;
+    }
+    None
 }

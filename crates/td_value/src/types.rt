@@ -11,10 +11,14 @@ ghost use Rattle.td_value.specs.Values.{type_of};
 ghost use Rattle.td_value.specs.Views.{entries_of};
 ghost use Rattle.td_value.specs.Zipped.{entries_fit};
 
-use crate::value::{Node, Rel, Tuple, User, Value};
+use crate::relation::Rel;
+use crate::tuple::Tuple;
+use crate::user::User;
+use crate::value::{Node, Value};
 use std::alloc::{AllocError, Global};
 use td_tree::name::Name;
-use td_types::ty::{Heading, Ty};
+use td_types::heading::Heading;
+use td_types::ty::Ty;
 
 #[cycle(fit)]
 fn has_type(v: &Value, ty: &Ty) -> bool

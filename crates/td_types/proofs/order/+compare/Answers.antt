@@ -2,7 +2,7 @@ use Rattle.std.proofs.Common.{◌≡◌, ℕ, zero, suc, ◌<◌, List, [], ◌�
 use Rattle.std.proofs.lemmas.List.{drop_all}
 use Rattle.td_types.specs.Types.{attrs_cmp, pack, no_attrs}
 use Rattle.td_types.specs.Views.{attributes_of}
-use Rattle.td_types.specs.declared.ty.Attribute.{Attribute}
+use Rattle.td_types.specs.declared.heading.Attribute.{Attribute}
 use Rattle.td_types.proofs.order.+compare.Goals as goal
 
 first_ends : (ys : List Attribute) (i : ℕ) → i < length ys → Less ≡ attrs_cmp no_attrs (pack (attributes_of (drop i ys)))

@@ -1,0 +1,75 @@
+//! User values.
+ghost use Rattle.std.specs.Prelude.{◌≡◌};
+ghost use Rattle.td_value.specs.Values.{AreValues, pack_parts};
+ghost use Rattle.td_value.specs.Views.{selected_of};
+
+use crate::value::Value;
+use std::marker::Model;
+use td_tree::name::Name;
+
+/// A user value: its type's name, with its components in declared order.
+#[cycle(value)]
+#[derive(Drop)]
+pub struct User {
+    pub(crate) name: Name,
+    pub(crate) components: Vec<Value>,
+}
+
+impl Model for User {
+    ghost use Rattle.td_value.specs.Depths.{selected_depth};
+    ghost use Rattle.td_value.specs.Values.{IsSelected, Selected};
+    ghost use Rattle.td_value.specs.ValueCode.{selected_code};
+
+    ghost Value = { Selected };
+
+    ghost coded = { selected_code };
+
+    ghost use Rattle.td_value.specs.Views.{selected_of};
+
+    ghost view = { λ a. selected_of a.name a.components.items };
+
+    ghost invariant = { λ a. IsSelected (selected_of a.name a.components.items) };
+
+    ghost size = { selected_depth };
+
+    ghost use Rattle.td_value.specs.Falls.{parts_fall};
+
+    ghost size_decreases = { λ a h. parts_fall a.components.items };
+}
+
+impl User {
+    ghost use Rattle.td_value.specs.Values.{IsSelected};
+
+    /// The user value of the type with that name.
+    pub fn new(name: Name, components: Vec<Value>) -> User
+        ensures { result ≡ selected_of name components.items }
+    {
+        let _ = name.as_str();
+        know_values(&components);
+        User { name, components }
+    }
+
+    /// The name of its type.
+    pub fn name(&self) -> &Name
+        ensures { result.now ≡ self.now.name }
+    {
+        &self.name
+    }
+
+    /// The components in declared order.
+    pub fn components(&self) -> &[Value]
+        ensures components { result.now ≡ self.now.components }
+        ensures valid { IsSelected self.now }
+    {
+        &self.components
+    }
+}
+
+/// Each of the values is a value at every depth.
+fn know_values(values: &[Value])
+    ensures { AreValues (pack_parts values.now) }
+{
+    for v in values {
+        let _ = &v.node;
+    }
+}
