@@ -10,7 +10,7 @@ use Rattle.td_value.specs.ValueOrder.{tuple_order_same, tuple_order_total}
 use Rattle.td_value.specs.Values.{Entries, Relation, heading_of, tuple_order}
 use Rattle.td.specs.Database.{Database, Relvar, relvar_at, same_heading, target_holds, with_body}
 use Rattle.td.specs.FirstPath.{first_path}
-use Rattle.td.specs.Legality.{IsBody, IsLegal}
+use Rattle.td.specs.Legality.{IsBody, IsTested}
 use Rattle.td.specs.Machine.{Progress, Runs, nothing, stopped, next, Step, Steps, scanned, unspelled, spelled, assignable, by_outcome, declared, new_relvar, stepped, stepped_if, unless_broken}
 use Rattle.td.specs.Meaning.{are_distinct_if, are_tuples, have_heading, heading_meaning, is_relation, known, literal_heading, literal_meaning, meaning, operand_meaning, tuple_values, union_of}
 use Rattle.td.specs.Trees.{Operand, relvar, literal, Expression, single, union, Statement, empty, define, assign, write, TupleLiteral}
@@ -99,11 +99,11 @@ assign_gives (Some r) (Valued s) h = by_test (same_heading s.heading r.body.head
 
 -- ---- steps
 
-outcome_legal : {A : Type 0} (db : Database) (o : Outcome A) (f : A → Step) → IsLegal db → ((x : A) → o ≡ Valued x → IsLegal (f x).database) → IsLegal (by_outcome db o f).database
+outcome_legal : {A : Type 0} (db : Database) (o : Outcome A) (f : A → Step) → IsTested db → ((x : A) → o ≡ Valued x → IsTested (f x).database) → IsTested (by_outcome db o f).database
 outcome_legal db (Valued x) f l h = h x refl
 outcome_legal db (Refused cs) f l h = l
 
-unless_legal : (old new : Database) (broken : Option (List ℕ)) → IsLegal old → (broken ≡ None → IsLegal new) → IsLegal (unless_broken old new broken).database
+unless_legal : (old new : Database) (broken : Option (List ℕ)) → IsTested old → (broken ≡ None → IsTested new) → IsTested (unless_broken old new broken).database
 unless_legal old new None l h = h refl
 unless_legal old new (Some name) l h = l
 
@@ -122,7 +122,7 @@ bodies_changed n body (s ∷ db) h b = by_name (bodies_changed n body db h.1 b) 
 no_tuple : (h : Attributes) → IsBody (record { heading = h; rows = [] })
 no_tuple h = set_body h [] refl
 
-define_legal : (db : Database) (n : List ℕ) (names : List (List ℕ)) (keys : List (List (List ℕ))) → IsLegal db → IsLegal (stepped db (define n names keys)).database
+define_legal : (db : Database) (n : List ℕ) (names : List (List ℕ)) (keys : List (List (List ℕ))) → IsTested db → IsTested (stepped db (define n names keys)).database
 define_legal db n names keys l = outcome_legal db (declared db n names keys) _ l (λ heading e.
     let says = declared_says (relvar_at n db) (heading_meaning names) keys heading e in
     unless_legal db (db ++ (new_relvar n keys heading ∷ [])) _ l (λ _. record {
@@ -134,7 +134,7 @@ held : (db : Database) (n : List ℕ) (b : Bool) (rows : List Entries) → targe
 held db n true rows e h = e
 held db n false rows e h = let wrong : Some n ≡ None = h refl in cc
 
-assign_legal : (db : Database) (n : List ℕ) (e : Expression) → IsLegal db → IsLegal (stepped db (assign n e)).database
+assign_legal : (db : Database) (n : List ℕ) (e : Expression) → IsTested db → IsTested (stepped db (assign n e)).database
 assign_legal db n e l = outcome_legal db (with_both (known (relvar_at n db)) (meaning db e) assignable) _ l (λ source v.
     let can = assigned_says db n source (relvar_at n db) (meaning db e) refl v in
     let body : IsBody source = subst GivesBody v (assign_gives (relvar_at n db) (meaning db e) (meaning_gives db e l.bodies)) in
@@ -144,25 +144,25 @@ assign_legal db n e l = outcome_legal db (with_both (known (relvar_at n db)) (me
       bodies = bodies_changed n source db l.bodies body;
     }))
 
-stepped_legal : (db : Database) (t : Statement) → IsLegal db → IsLegal (stepped db t).database
+stepped_legal : (db : Database) (t : Statement) → IsTested db → IsTested (stepped db t).database
 stepped_legal db empty l = l
 stepped_legal db (define n names keys) l = define_legal db n names keys l
 stepped_legal db (assign n e) l = assign_legal db n e l
 stepped_legal db (write e) l = outcome_legal db (meaning db e) _ l (λ r v. l)
 
-if_legal : (db : Database) (o : Option Statement) → IsLegal db → IsLegal (stepped_if db o).database
+if_legal : (db : Database) (o : Option Statement) → IsTested db → IsTested (stepped_if db o).database
 if_legal db None l = l
 if_legal db (Some t) l = stepped_legal db t l
 
-step_legal : (db : Database) (tokens : List Entry) (step : Step) → IsLegal db → Steps db tokens step → IsLegal step.database
+step_legal : (db : Database) (tokens : List Entry) (step : Step) → IsTested db → Steps db tokens step → IsTested step.database
 step_legal db tokens step l (scanned e) = l
 step_legal db tokens step l (unspelled e f) = l
 step_legal db tokens step l (spelled t e f) = if_legal db (first_path t) l
 
-pub legal_runs : (stop : Bool) (p q : Progress) (script : List (List Entry)) → IsLegal p.database → Runs stop p script q → IsLegal q.database
+pub legal_runs : (stop : Bool) (p q : Progress) (script : List (List Entry)) → IsTested p.database → Runs stop p script q → IsTested q.database
 legal_runs stop p q script l nothing = l
 legal_runs stop p q script l (stopped e) = l
 legal_runs stop p q script l (next step e does rest) = legal_runs stop _ q _ (step_legal p.database _ step l does) rest
 
-pub legal_at_first : IsLegal []
+pub legal_at_first : IsTested []
 legal_at_first = record { keys = refl; bodies = tt }

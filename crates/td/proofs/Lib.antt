@@ -1,3 +1,4 @@
+pub mod Agreeing
 pub mod Apart
 pub mod Computing
 pub mod Done
@@ -8,8 +9,11 @@ pub mod Kept
 pub mod KeyLaws
 pub mod KeyParts
 pub mod Legal
+pub mod LegalTests
+pub mod LegalChanges
 pub mod LegalLaws
 pub mod Literals
+pub mod NoTwo
 pub mod Places
 pub mod Runs
 pub mod Spelled

@@ -12,7 +12,7 @@ use Rattle.td.specs.Database.{Database}
 use Rattle.td.specs.Faults.{IfMemory, IfWrite}
 use Rattle.td.specs.Machine.{Progress, Step, Steps, Runs, nothing, next, and_then, begun, has_stopped, refusals_of}
 use Rattle.td.specs.Scripts.{GaveScript, OfFront, OfScript}
-use Rattle.td.specs.Standing.{HasRun, HasRunCut, IsLeft, Run, RunsTo, Standing, Stands, run_of}
+use Rattle.td.specs.Standing.{HasRun, HasRunCut, IsLeft, Run, RunsTo, Standing, Stands, run_of, standing}
 use Rattle.td.specs.Steps.{IsParsed, IsStep, step_of}
 use Rattle.td.specs.Told.{AppendsIfTold}
 use Rattle.td.specs.Turns.{FirstStep, HasTurned, HasTurnedCut, IsReading, Place, Reached, Turned, place_of}
@@ -258,3 +258,11 @@ pub front_unrun : (stop : Bool) (old : Standing) (before after : Option (List �
 front_unrun stop old before after =
     memory_map (λ done. (done ≡ 0) × ((bytes : List ℕ) × Consumes before after bytes)) (λ done. OfFront done before after (λ script. HasRun (run_of stop old script) done old))
     (λ done h. (h.1.0, record { given = h.1.1; whole = λ (some : 0 < done). absurd (let wrong : 0 < 0 = subst (λ n. 0 < n) h.0 some in omega (arith, wrong)) }, none_run stop old h.1.0 done h.0))
+
+-- nothing more was run before a fault of memory
+pub has_run_at : (run : Run) (old : Place) (db : Database) (taken : Option (List ℕ)) (fault : RunFault) → Reached run old
+    → IfMemory (λ done. (done ≡ old.report.statements) × (db ≡ old.standing.database) × (taken ≡ old.standing.taken)) fault
+    → IfMemory (λ done. HasRun run done (standing db taken)) fault
+has_run_at run old db taken fault r =
+    memory_map (λ done. (done ≡ old.report.statements) × (db ≡ old.standing.database) × (taken ≡ old.standing.taken)) (λ done. HasRun run done (standing db taken))
+    (λ done h. has_run run old done (standing db taken) r h.0 (λ i. standing (h.1 i) (h.2 i))) fault

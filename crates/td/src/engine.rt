@@ -2,6 +2,7 @@
 ghost use Rattle.std.specs.Prelude.{◌≡◌, [], List, Err, IfOk, OnErr};
 ghost use Rattle.td_tree.specs.Statements.{Entry};
 ghost use Rattle.td.specs.Database as databases;
+ghost use Rattle.td.specs.Legality.{IsLegal};
 ghost use Rattle.td.specs.Steps.{IsParsed, IsStep};
 
 pub mod answer;
@@ -50,10 +51,15 @@ impl Model for Engine {
     ghost coded = { database_code };
 
     ghost view = { λ e. e.database };
+
+    ghost use Rattle.td.specs.Legality.{IsLegal};
+
+    ghost invariant = { λ e. IsLegal e.database };
 }
 
 impl Engine {
     /// An engine with an empty database.
+    #[tactic(auto, using(crate::proofs::LegalChanges::legal_none))]
     pub fn new(alloc: Global) -> Engine
         ensures { result ≡ [] }
     {
@@ -62,11 +68,19 @@ impl Engine {
         }
     }
 
+    /// Tells that every engine's database is legal, where no part of it is seen.
+    pub fn tell_legal(&self)
+        ensures { IsLegal self.now }
+    {
+        let _ = &self.database;
+    }
+
     /// Runs the statement that the tokens are. A statement that is refused or finds no memory
     /// leaves the database as it was.
     pub fn step(&mut self, alloc: Global, tokens: &[Token<'_>]) -> Result<Answer, AllocError>
         ensures step { IfOk result (λ answer. IsStep self.old tokens.now answer self.new) }
         ensures err { OnErr result (self.new ≡ self.old) }
+        ensures legal { IsLegal self.new }
     {
         self.carry_out(alloc, parse(alloc, tokens))
     }
@@ -77,11 +91,17 @@ impl Engine {
         alloc: Global,
         parsed: Result<Statement, Fault>,
     ) -> Result<Answer, AllocError>
-        ensures step { IfOk result (λ answer. (tokens : List Entry) → IsParsed tokens parsed → IsStep self.old tokens answer self.new) }
+        ensures step { IfOk result (λ answer. (tokens : List Entry)
+            → IsParsed tokens parsed → IsStep self.old tokens answer self.new) }
         ensures err { OnErr result (self.new ≡ self.old) }
+        ensures legal { IsLegal self.new }
     {
         match parsed {
-            Ok(statement) => execute(alloc, &mut self.database, statement),
+            Ok(statement) => {
+                let answer = execute(alloc, &mut self.database, statement);
+                self.database.tell_legal();
+                answer
+            }
             Err(fault) => refusal(alloc, fault),
         }
     }

@@ -2,7 +2,7 @@
 ghost use Rattle.std.specs.Prelude.{◌≡◌, ◌≢◌, Bool, List, [], None};
 ghost use Rattle.td_tree.specs.Statements.{Entry};
 ghost use Rattle.td.specs.Database.{Database};
-ghost use Rattle.td.specs.Legality.{IsLegal};
+ghost use Rattle.td.specs.Legality.{HoldingIsTested, IsTested, KeysAreTested, LegalityIsTested};
 ghost use Rattle.td.specs.Machine.{Progress, Runs, Step, Steps};
 
 /// Every list of statements has an outcome.
@@ -22,13 +22,33 @@ pub fn statements_have_one_outcome()
 /// any two statements every key holds, and every body is a set of tuples of its heading.
 #[tactic(auto, using(crate::proofs::LegalLaws::legal_at_first, crate::proofs::LegalLaws::legal_runs))]
 pub fn databases_stay_legal()
-    ensures begins { IsLegal [] }
+    ensures begins { IsTested [] }
     ensures stays { (stop : Bool) (so_far after : Progress) (script : List (List Entry))
-        → IsLegal so_far.database → Runs stop so_far script after → IsLegal after.database }
+        → IsTested so_far.database → Runs stop so_far script after → IsTested after.database }
 {}
 
 /// A refused statement changes nothing.
 #[tactic(auto, using(crate::proofs::Kept::refused_keeps))]
 pub fn refused_statements_change_nothing()
     ensures { (db : Database) (tokens : List Entry) (s : Step) → Steps db tokens s → s.cause ≢ None → s.database ≡ db }
+{}
+
+/// The test of declared keys tells whether they are keys: each of distinct attributes, at least
+/// one, and none that includes another.
+#[tactic(auto, using(crate::proofs::LegalTests::keys_are_tested))]
+pub fn keys_are_tested()
+    ensures { KeysAreTested }
+{}
+
+/// The test of a body tells whether its keys hold: two tuples that agree on one are the same.
+#[tactic(auto, using(crate::proofs::LegalTests::holding_is_tested))]
+pub fn holding_is_tested()
+    ensures { HoldingIsTested }
+{}
+
+/// The test of a database whose names are names and whose bodies are relations tells whether it
+/// is legal.
+#[tactic(auto, using(crate::proofs::LegalTests::legality_is_tested))]
+pub fn legality_is_tested()
+    ensures { LegalityIsTested }
 {}

@@ -3,6 +3,7 @@ ghost use Rattle.std.specs.Prelude.{◌≡◌, ℕ, ◌+◌, ◌<◌, ◌≤◌,
 ghost use Rattle.std.specs.Io.KnownBytes.{Consumes};
 ghost use Rattle.td_tree.specs.Statements.{first_statement, statements};
 ghost use Rattle.td.specs.Faults.{IfMemory, IfNotMemory, IfRead, IfReadLimit, IfWrite};
+ghost use Rattle.td.specs.Legality.{IsLegal};
 ghost use Rattle.td.specs.Scripts.{GaveScript, GaveTooMuch, OfFront, OfScript, script_limit};
 ghost use Rattle.td.specs.Standing.{HasRun, HasRunCut, IsLeft, IsUnrun, run_of, standing};
 ghost use Rattle.td.specs.Told.{GaveAtMost};
@@ -137,6 +138,7 @@ fn run_one<W: Sink>(
     ensures turn { IfOk result (Turned
         (place_of cutter.old (standing engine.old (W.taken writer.old)) report.old)
         (place_of cutter.new (standing engine.new (W.taken writer.new)) report.new)) }
+    ensures legal { IsLegal engine.old → IsLegal engine.new }
     ensures whole { OnOk result (W.is_broken writer.old ≡ false → W.is_broken writer.new ≡ false) }
     ensures memory { IfErr result (IfMemory (λ done. (done ≡ report.old.statements)
         × (engine.new ≡ engine.old) × (W.taken writer.new ≡ W.taken writer.old))) }
@@ -179,6 +181,7 @@ fn run_held<W: Sink>(
     ensures answers { IfOk result (IsLeft
         (run_of stop (standing engine.old (W.taken writer.old)) cutter.old.bytes)
         (standing engine.new (W.taken writer.new))) }
+    ensures legal { IsLegal engine.old → IsLegal engine.new }
     ensures whole { OnOk result (W.is_broken writer.old ≡ false → W.is_broken writer.new ≡ false) }
     ensures memory { IfErr result (IfMemory (λ done. HasRun
         (run_of stop (standing engine.old (W.taken writer.old)) cutter.old.bytes) done
@@ -238,7 +241,9 @@ pub fn run<R: Source, W: Sink>(
         × OfScript (R.left reader.old) (R.left reader.new) (λ script. HasRunCut
         (run_of stop (standing engine.old (W.taken writer.old)) script) done
         (standing engine.new (W.taken writer.new))))) }
+    ensures legal { IsLegal engine.new }
 {
+    engine.tell_legal();
     let mut cutter = match read_all(alloc, reader) {
         Ok(cutter) => cutter,
         Err(fault) => return Err(fault),

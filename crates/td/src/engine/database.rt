@@ -2,7 +2,9 @@
 ghost use Rattle.std.specs.Prelude.{◌≡◌, ◌<◌, [], ◌∷◌, ◌++◌, IfSome, length, None, OnErr, OnOk, option_map, true};
 ghost use Rattle.std.specs.List.{position_from};
 ghost use Rattle.td_types.specs.Types.{same_name};
-ghost use Rattle.td.specs.Database.{is_legal, is_relvar, relvar_at, target_holds, with_body};
+ghost use Rattle.td_value.specs.Values.{IsRelation};
+ghost use Rattle.td.specs.Database.{relvar_at, target_holds, with_body};
+ghost use Rattle.td.specs.Legality.{IsLegal, IsRelvar};
 ghost use Rattle.td.specs.Assignable.{IsAssignable};
 ghost use Rattle.td.specs.Relvars.{relvar_of, relvars_of};
 
@@ -19,20 +21,19 @@ pub struct Database {
 }
 
 impl Model for Database {
-    ghost use Rattle.std.specs.Prelude.{◌≡◌, true};
-    ghost use Rattle.td.specs.Database.{Database, is_legal};
+    ghost use Rattle.td.specs.Database.{Database};
     ghost use Rattle.td.specs.DatabaseCode.{database_code};
 
     ghost Value = { Database };
 
     ghost coded = { database_code };
 
-    ghost use Rattle.td.specs.Assignable.{IsAssignable};
+    ghost use Rattle.td.specs.Legality.{IsLegal};
     ghost use Rattle.td.specs.Relvars.{relvars_of};
 
     ghost view = { λ d. relvars_of d.relvars.items };
 
-    ghost invariant = { λ d. is_legal (relvars_of d.relvars.items) ≡ true };
+    ghost invariant = { λ d. IsLegal (relvars_of d.relvars.items) };
 }
 
 /// The relvar of this name among these.
@@ -74,6 +75,7 @@ fn put_body(relvars: &mut [Relvar], name: &Name, body: Rel)
 
 impl Database {
     /// No relvar.
+    #[tactic(auto, using(crate::proofs::LegalChanges::legal_none))]
     pub fn new(alloc: Global) -> Database
         ensures { result ≡ [] }
     {
@@ -82,10 +84,17 @@ impl Database {
         }
     }
 
+    /// Tells that every database is legal, where no part of it is seen.
+    pub fn tell_legal(&self)
+        ensures { IsLegal self.now }
+    {
+        let _ = &self.relvars;
+    }
+
     /// The relvar of this name.
     pub fn get(&self, name: &Name) -> Option<&Relvar>
         ensures found { option_map (λ r. relvar_of r.now) result ≡ relvar_at name.now self.now }
-        ensures legal { is_legal self.now ≡ true }
+        ensures legal { IsLegal self.now }
     {
         find(&self.relvars, name)
     }
@@ -93,10 +102,10 @@ impl Database {
     /// Adds a relvar, last.
     pub fn add(&mut self, relvar: Relvar) -> Result<(), AllocError>
         requires free { relvar_at relvar.name self.old ≡ None }
-        requires fits { is_relvar (relvar_of relvar) ≡ true }
+        requires fits { IsRelvar (relvar_of relvar) }
         ensures ok { OnOk result (self.new ≡ self.old ++ relvar_of relvar ∷ []) }
         ensures err { OnErr result (self.new ≡ self.old) }
-        ensures legal { is_legal self.new ≡ true }
+        ensures legal { IsLegal self.new }
     {
         self.relvars.push(relvar)?;
         Ok(())
@@ -105,9 +114,10 @@ impl Database {
     /// Gives the relvar of this name another body.
     pub fn set_body(&mut self, name: &Name, body: Rel)
         requires target { IsAssignable self.old name.now body }
+        requires relation { IsRelation body }
         requires keys { target_holds (relvar_at name.now self.old) body.rows ≡ true }
         ensures changed { self.new ≡ with_body name.now body self.old }
-        ensures legal { is_legal self.new ≡ true }
+        ensures legal { IsLegal self.new }
     {
         put_body(&mut self.relvars, name, body);
     }

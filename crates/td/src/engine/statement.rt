@@ -5,7 +5,8 @@ ghost use Rattle.td.specs.Machine as machine;
 ghost use Rattle.td.specs.Assignable.{IsAssignable};
 ghost use Rattle.td.specs.Machine.{assignable, changed, new_relvar, stepped};
 ghost use Rattle.td.specs.Meaning.{known, meaning};
-ghost use Rattle.td.specs.Database.{is_legal, keys_fit, relvar_at, target_holds, with_body};
+ghost use Rattle.td.specs.Database.{keys_fit, relvar_at, target_holds, with_body};
+ghost use Rattle.td.specs.Legality.{IsLegal};
 ghost use Rattle.td.specs.Relvars.{relvar_of};
 ghost use Rattle.td.specs.Steps.{Does};
 ghost use Rattle.td.specs.Trees as trees;
@@ -16,7 +17,7 @@ use crate::engine::database::Database;
 use crate::engine::expression::value;
 use crate::engine::keys::{keys_fit, keys_hold};
 use crate::engine::literal::integer_heading;
-use crate::engine::relvar::Relvar;
+use crate::engine::relvar::{Relvar, tell_relation};
 use crate::engine::tree::{Assignment, Definition, Expression, Statement};
 use std::alloc::{AllocError, Global};
 use td_tree::cause::Cause;
@@ -96,7 +97,9 @@ fn add(
     ensures done { IfOk result (λ a. Does (changed database.old (database.old ++ (new_relvar definition.name (map (λ key. key.items) definition.keys.items) heading ∷ []))) a database.new) }
     ensures err { OnErr result (database.new ≡ database.old) }
 {
+    let _ = definition.name.as_str();
     let body = Rel::new(heading, Vec::new(alloc))?;
+    tell_relation(&body);
     let answer = Answer::ok(alloc)?;
     database.add(Relvar {
         name: definition.name,
@@ -114,7 +117,7 @@ fn target_holds(
     body: &Rel,
 ) -> Result<bool, AllocError>
     ensures holds { IfOk result (λ b. b ≡ target_holds (relvar_at target.now database.now) body.now.rows) }
-    ensures legal { is_legal database.now ≡ true }
+    ensures legal { IsLegal database.now }
 {
     match database.get(target) {
         Some(relvar) => keys_hold(alloc, &relvar.keys, body),
@@ -137,6 +140,7 @@ fn replace(
         return Answer::key_refused(alloc, target);
     }
     let answer = Answer::ok(alloc)?;
+    tell_relation(&body);
     database.set_body(target, body);
     Ok(answer)
 }

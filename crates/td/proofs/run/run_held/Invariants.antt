@@ -1,4 +1,5 @@
 use Rattle.std.proofs.Common.{◌≡◌, ◌+◌, ◌≤◌, true, false, length}
+use Rattle.td.specs.Legality.{IsLegal}
 use Rattle.td.specs.Standing.{run_of, standing}
 use Rattle.td.specs.Turns.{Reached, place_of}
 use Rattle.td.proofs.run.run_held.Given as goal
@@ -10,6 +11,7 @@ invariant-statements g l = Reached (run_of l.stop (standing l.fn.engine (g.W.Sin
     × (l.report.statements + length l.cutter.bytes ≤ length l.fn.cutter.bytes)
     × (l.report.refused ≤ l.report.statements)
     × (l.cutter.finished ≡ true)
+    × (IsLegal l.fn.engine → IsLegal l.engine)
     × (g.W.Sink.is_broken l.fn.writer ≡ false → g.W.Sink.is_broken l.writer ≡ false)
 
 abbrev pub decreases-statements : goal.decreases-statements

@@ -9,9 +9,9 @@ use Rattle.td.proofs.engine.Engine.carry_out.Goals as goal
 
 pub returns-in-Ok-clause-step : goal.returns-in-Ok-clause-step
 returns-in-Ok-clause-step c =
-    subst (λ (r : Result Statement Fault). IfOk c.execute.result (λ a. (tokens : List Entry) → IsParsed tokens r → IsStep c.args.self.now tokens a c.execute.new.database)) (sym c.in-Ok.is)
-    (subst (λ db. IfOk c.execute.result (λ a. (tokens : List Entry) → IsParsed tokens (Ok c.in-Ok.statement) → IsStep db tokens a c.execute.new.database)) c.self.view_is
-    (parsed_is c.self.inside.database c.execute.new.database c.in-Ok.statement c.execute.result c.execute.ensures.done))
+    subst (λ (r : Result Statement Fault). IfOk c.execute-answer.result (λ a. (tokens : List Entry) → IsParsed tokens r → IsStep c.args.self.now tokens a c.execute-answer.new.database)) (sym c.in-Ok.is)
+    (subst (λ db. IfOk c.execute-answer.result (λ a. (tokens : List Entry) → IsParsed tokens (Ok c.in-Ok.statement) → IsStep db tokens a c.execute-answer.new.database)) c.self.view_is
+    (parsed_is c.self.inside.database c.execute-answer.new.database c.in-Ok.statement c.execute-answer.result c.execute-answer.ensures.done))
 
 pub returns-in-Err-clause-step : goal.returns-in-Err-clause-step
 returns-in-Err-clause-step c =

@@ -1,13 +1,14 @@
-use Rattle.std.proofs.Common.{◌≡◌, ◌∙◌, List, [], ◌∷◌, ◌++◌, ap, sym, subst, true, map}
+use Rattle.std.proofs.Common.{◌≡◌, ◌∙◌, List, [], ◌∷◌, ◌++◌, ap, sym, subst, map}
 use Rattle.td_types.specs.Types.{Attributes}
 use Rattle.td_value.specs.Sets.{set_of}
-use Rattle.td_value.specs.Values.{Entries, Relation, tuple_order}
+use Rattle.td_value.specs.Values.{Entries, IsRelation, Relation, tuple_order}
 use Rattle.td_value.specs.Views.{relation_of}
-use Rattle.td.specs.Database.{is_relvar}
+use Rattle.td.specs.Legality.{IsRelvar}
 use Rattle.td.specs.Machine.{new_relvar}
 use Rattle.td.specs.Relvars.{relvar_of}
 use Rattle.td.proofs.Done.{changed_does}
-use Rattle.td.proofs.Legal.{is_new}
+use Rattle.td.proofs.LegalChanges.{new_is_relvar}
+use Rattle.td.proofs.LegalTests.{legal_told}
 use Rattle.td.proofs.engine.statement.add.Goals as goal
 
 -- the body of no tuple
@@ -16,9 +17,10 @@ empty_is heading rows body e is = is ∙ ap (λ ts. relation_of heading (set_of 
 
 pub add-requires-clause-fits : goal.add-requires-clause-fits
 add-requires-clause-fits c =
-    subst (λ (body : Relation). is_relvar (record { name = c.args.definition.name; keys = map (λ key. key.items) c.args.definition.keys.items; body = body }) ≡ true)
-    (sym (empty_is c.args.heading _ _ c.new.ensures.items (c.in_ok-body.ensures.value)))
-    (is_new c.args.definition.name (map (λ key. key.items) c.args.definition.keys.items) c.args.heading c.requires.fit)
+    let is = empty_is c.args.heading _ _ c.new.ensures.items c.in_ok-body.ensures.value in
+    subst (λ (body : Relation). IsRelvar (record { name = c.args.definition.name; keys = map (λ key. key.items) c.args.definition.keys.items; body = body }))
+    (sym is)
+    (new_is_relvar c.args.definition.name (map (λ key. key.items) c.args.definition.keys.items) c.args.heading c.as_str.ensures.is_name (subst IsRelation is c.tell_relation.ensures) c.requires.fit)
 
 pub returns-clause-done : goal.returns-clause-done
 returns-clause-done c =
@@ -28,4 +30,4 @@ returns-clause-done c =
     let same : relvar_of (record { name = c.args.definition.name; keys = c.args.definition.keys; body = c.in_ok-body.body }) ≡ new_relvar c.args.definition.name keys c.args.heading =
     ap (λ (body : Relation). record { name = c.args.definition.name; keys = keys; body = body }) (empty_is c.args.heading _ _ c.new.ensures.items c.in_ok-body.ensures.value) in
     changed_does c.args.database.now c.add.new.self (c.args.database.now ++ (new_relvar c.args.definition.name keys c.args.heading ∷ [])) c.in_ok-answer.answer answer.flag answer.text
-    (added.ok ∙ ap (λ r. c.args.database.now ++ (r ∷ [])) same) added.legal
+    (added.ok ∙ ap (λ r. c.args.database.now ++ (r ∷ [])) same) (legal_told _ added.legal)
