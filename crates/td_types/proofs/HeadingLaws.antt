@@ -299,7 +299,7 @@ attribute_from_heading n t (x ∷ xs) h e = by_name (attribute_from_heading n t 
 
 -- ---- renaming
 
-same_name-itself : (n : List ℕ) → same_name n n ≡ true
+pub same_name-itself : (n : List ℕ) → same_name n n ≡ true
 same_name-itself n = same_name-ties n n ∙ (eq_by_cmp_equiv nat_list_cmp_total).refl n
 
 or_true : (a b : Bool) → b ≡ true → (a || b) ≡ true

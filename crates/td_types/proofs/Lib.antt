@@ -2,6 +2,7 @@ pub mod Attributes
 pub mod DistinctNames
 pub mod HeadingLaws
 pub mod Made
+pub mod NameTests
 pub mod Plain
 pub mod Search
 pub mod TypeTexts

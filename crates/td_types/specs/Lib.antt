@@ -3,6 +3,7 @@ pub mod Falls
 pub mod Hashes
 pub mod Headings
 pub mod Keys
+pub mod NameTests
 pub mod Texts
 pub mod TypeCode
 pub mod TypeOrder

@@ -1,6 +1,7 @@
 //! What types and headings are to their callers: each function has its contract alone.
 ghost use Rattle.td_types.specs.Headings.{AgreementIsOneType, RenamingKeepsTypes};
 ghost use Rattle.td_types.specs.Headings.{TypesDetermineHeading};
+ghost use Rattle.td_types.specs.NameTests.{NameTestsTell};
 ghost use Rattle.td_types.specs.Texts.{TextsTellTypesApart};
 
 /// Two headings that give every name the same type are equal.
@@ -21,4 +22,10 @@ pub fn renaming_keeps_types()
 /// Two types have one text exactly where they are one.
 pub fn texts_tell_types_apart()
     ensures { TextsTellTypesApart }
+{}
+
+/// A name is among names where the list contains it, and names are distinct where none stands at
+/// two places.
+pub fn name_tests_tell()
+    ensures { NameTestsTell }
 {}
