@@ -128,4 +128,5 @@ pub data Parsed (tokens : List Entry) : Outcome trees.Statement → Type 0 where
 -- tokens mean something, and one thing alone
 abbrev pub TokensHaveOneMeaning : Type 0
 TokensHaveOneMeaning = (tokens : List Entry)
-    → (o : Outcome trees.Statement) × Parsed tokens o × ((p : Outcome trees.Statement) → Parsed tokens p → p ≡ o)
+    → (o : Outcome trees.Statement) × Parsed tokens o
+        × ((p : Outcome trees.Statement) → Parsed tokens p → p ≡ o)

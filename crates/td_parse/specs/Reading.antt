@@ -1,4 +1,5 @@
--- Reading expressions from left to right, by recursive descent. The budget of height is the descent's measure.
+-- Reading expressions from left to right, by recursive descent. The budget of height is the
+-- descent's measure.
 use Rattle.std.specs.Prelude.{ℕ, zero, suc, Bool, true, false, List, [], ◌∷◌, Some, None, nat_le, if◌then◌else◌}
 use Rattle.td_tree.specs.declared.keyword.Keyword.{Keyword}
 use Rattle.td_tree.specs.declared.keyword.Keyword.TheVariants as k
@@ -63,8 +64,10 @@ named_attributes ts = attribute_list ts >>= λ a. read_as a.1 >>= λ n. Some ((a
 
 -- an operator behind its operand, after its first word
 unfoldable pub postfix_of_word : Keyword → List Lexeme → ReadOf Postfix
-postfix_of_word k.Rename ts = enclosed (separated read_renaming) ts >>= λ x. Some (tree.rename x.0, x.1)
-postfix_of_word k.Group ts = enclosed named_attributes ts >>= λ x. Some (tree.group x.0.0 x.0.1, x.1)
+postfix_of_word k.Rename ts =
+    enclosed (separated read_renaming) ts >>= λ x. Some (tree.rename x.0, x.1)
+postfix_of_word k.Group ts =
+    enclosed named_attributes ts >>= λ x. Some (tree.group x.0.0 x.0.1, x.1)
 postfix_of_word k.Wrap ts = enclosed named_attributes ts >>= λ x. Some (tree.wrap x.0.0 x.0.1, x.1)
 postfix_of_word k.Ungroup ts = enclosed read_name ts >>= λ x. Some (tree.ungroup x.0, x.1)
 postfix_of_word k.Unwrap ts = enclosed read_name ts >>= λ x. Some (tree.unwrap x.0, x.1)
@@ -79,7 +82,8 @@ read_postfix ts = attribute_list ts >>= λ x. Some (tree.project x.0, x.1)
 
 -- a number in range
 unfoldable pub numeral : Bool → ℕ → List Lexeme → Read
-numeral minus n ts = if nat_le n (numeral_limit minus) then Some (tree.literal (tree.number minus n), ts) else None
+numeral minus n ts =
+    if nat_le n (numeral_limit minus) then Some (tree.literal (tree.number minus n), ts) else None
 
 -- after '-'
 unfoldable pub negative : List Lexeme → Read
@@ -107,11 +111,13 @@ module _ (inner : Level → List Lexeme → Read) (depth : ℕ) where
   -- COUNT '(' ')' AS name, after COUNT
   unfoldable pub count_summary : List Lexeme → ReadOf SummaryItem
   count_summary ts =
-      expect (sign signs.OpenParenthesis) ts >>= λ after. expect (sign signs.CloseParenthesis) after >>= λ last. read_as last >>= λ n. Some (count_item n.0, n.1)
+      expect (sign signs.OpenParenthesis) ts >>= λ after. expect (sign signs.CloseParenthesis) after
+          >>= λ last. read_as last >>= λ n. Some (count_item n.0, n.1)
 
   -- (SUM | MAX | MIN) '(' e ')' AS name, after its first word
   unfoldable pub sum_summary : Aggregate → List Lexeme → ReadOf SummaryItem
-  sum_summary op ts = enclosed expression ts >>= λ a. read_as a.1 >>= λ n. Some (sum_item op a.0 n.0, n.1)
+  sum_summary op ts =
+      enclosed expression ts >>= λ a. read_as a.1 >>= λ n. Some (sum_item op a.0 n.0, n.1)
 
   -- what SUMMARIZE adds once, after its first word
   unfoldable pub summary_of_word : Keyword → List Lexeme → ReadOf SummaryItem
@@ -128,11 +134,17 @@ module _ (inner : Level → List Lexeme → Read) (depth : ℕ) where
 
   -- ADD '(' item,+ ')'
   unfoldable pub summaries : List Lexeme → ReadOf Summaries
-  summaries ts = expect (keyword k.Add) ts >>= λ after. enclosed (separated summary) after >>= λ x. Some (summaries_from x.0, x.1)
+  summaries ts =
+      expect (keyword k.Add) ts >>= λ after. enclosed (separated summary) after
+      >>= λ x. Some (summaries_from x.0, x.1)
 
   -- after a name
   unfoldable pub named : Text → List Lexeme → Read
-  named n ts = either (Some (tree.name n, ts)) (λ after. listed_to (sign signs.CloseParenthesis) expression after >>= λ x. Some (tree.select n (trees_from x.0), x.1)) (call_at ts)
+  named n ts =
+      either (Some (tree.name n, ts))
+          (λ after. listed_to (sign signs.CloseParenthesis) expression after
+              >>= λ x. Some (tree.select n (trees_from x.0), x.1))
+          (call_at ts)
 
   -- after a THE word
   unfoldable pub component_of : Text → List Lexeme → Read
@@ -140,7 +152,8 @@ module _ (inner : Level → List Lexeme → Read) (depth : ℕ) where
 
   -- after '('
   unfoldable pub parenthesized : List Lexeme → Read
-  parenthesized ts = up_to (sign signs.CloseParenthesis) expression ts >>= λ a. Some (tree.parentheses a.0, a.1)
+  parenthesized ts =
+      up_to (sign signs.CloseParenthesis) expression ts >>= λ a. Some (tree.parentheses a.0, a.1)
 
   -- after COUNT or IS_EMPTY
   unfoldable pub measured : Measure → List Lexeme → Read
@@ -149,16 +162,23 @@ module _ (inner : Level → List Lexeme → Read) (depth : ℕ) where
   -- after SUM, MAX or MIN
   unfoldable pub aggregated : Aggregate → List Lexeme → Read
   aggregated op ts =
-      expect (sign signs.OpenParenthesis) ts >>= λ after. up_to (sign signs.Comma) expression after >>= λ a. up_to (sign signs.CloseParenthesis) expression a.1 >>= λ b. Some (tree.aggregate op a.0 b.0, b.1)
+      expect (sign signs.OpenParenthesis) ts >>= λ after. up_to (sign signs.Comma) expression after
+          >>= λ a. up_to (sign signs.CloseParenthesis) expression a.1
+          >>= λ b. Some (tree.aggregate op a.0 b.0, b.1)
 
   -- heading '{' e,* '}'
   unfoldable pub headed_relation : List Lexeme → Read
   headed_relation ts =
-      relation_heading depth ts >>= λ h. expect (sign signs.OpenBrace) h.1 >>= λ after. listed_to (sign signs.CloseBrace) expression after >>= λ x. Some (tree.headed_relation h.0 (trees_from x.0), x.1)
+      relation_heading depth ts >>= λ h. expect (sign signs.OpenBrace) h.1
+          >>= λ after. listed_to (sign signs.CloseBrace) expression after
+          >>= λ x. Some (tree.headed_relation h.0 (trees_from x.0), x.1)
 
   -- '{' e,+ '}'
   unfoldable pub elements : List Lexeme → Read
-  elements ts = expect (sign signs.OpenBrace) ts >>= λ after. up_to (sign signs.CloseBrace) (separated expression) after >>= λ x. Some (tree.relation (trees_from x.0), x.1)
+  elements ts =
+      expect (sign signs.OpenBrace) ts
+      >>= λ after. up_to (sign signs.CloseBrace) (separated expression) after
+      >>= λ x. Some (tree.relation (trees_from x.0), x.1)
 
   -- after RELATION
   unfoldable pub relation : List Lexeme → Read
@@ -166,23 +186,33 @@ module _ (inner : Level → List Lexeme → Read) (depth : ℕ) where
 
   -- after TUPLE
   unfoldable pub tuple : List Lexeme → Read
-  tuple ts = expect (sign signs.OpenBrace) ts >>= λ after. listed_to (sign signs.CloseBrace) part after >>= λ x. Some (tree.tuple (named_from x.0), x.1)
+  tuple ts = expect (sign signs.OpenBrace) ts
+      >>= λ after. listed_to (sign signs.CloseBrace) part after
+      >>= λ x. Some (tree.tuple (named_from x.0), x.1)
 
   -- after EXTEND
   unfoldable pub extension : List Lexeme → Read
-  extension ts = up_to (keyword k.Add) expression ts >>= λ a. enclosed (separated addition) a.1 >>= λ x. Some (tree.extend a.0 (named_from x.0), x.1)
+  extension ts =
+      up_to (keyword k.Add) expression ts >>= λ a. enclosed (separated addition) a.1
+      >>= λ x. Some (tree.extend a.0 (named_from x.0), x.1)
 
   -- after SUMMARIZE e PER
   unfoldable pub summary_per : Tree → List Lexeme → Read
-  summary_per a ts = enclosed expression ts >>= λ b. summaries b.1 >>= λ x. Some (tree.summarize_per a b.0 x.0, x.1)
+  summary_per a ts =
+      enclosed expression ts >>= λ b. summaries b.1
+      >>= λ x. Some (tree.summarize_per a b.0 x.0, x.1)
 
   -- after SUMMARIZE e BY
   unfoldable pub summary_by : Tree → List Lexeme → Read
-  summary_by a ts = attribute_list ts >>= λ by. summaries by.1 >>= λ x. Some (tree.summarize_by a by.0 x.0, x.1)
+  summary_by a ts =
+      attribute_list ts >>= λ by. summaries by.1 >>= λ x. Some (tree.summarize_by a by.0 x.0, x.1)
 
   -- after SUMMARIZE
   unfoldable pub summarized : List Lexeme → Read
-  summarized ts = expression ts >>= λ a. either (expect (keyword k.By) a.1 >>= λ after. summary_by a.0 after) (λ after. summary_per a.0 after) (expect (keyword k.Per) a.1)
+  summarized ts =
+      expression ts
+      >>= λ a. either (expect (keyword k.By) a.1 >>= λ after. summary_by a.0 after)
+          (λ after. summary_per a.0 after) (expect (keyword k.Per) a.1)
 
   -- after IF
   unfoldable pub choice : List Lexeme → Read
@@ -231,7 +261,10 @@ module _ (inner : Level → List Lexeme → Read) (depth : ℕ) where
   unfoldable pub postfixes : ℕ → Tree → List Lexeme → Read
   postfixes zero left ts = None
   postfixes (suc n) left ts =
-      if postfix_at ts then (read_postfix ts >>= λ x. if fits (tree.postfix left x.0) then postfixes n (tree.postfix left x.0) x.1 else None) else Some (left, ts)
+      if postfix_at ts
+      then (read_postfix ts >>= λ x.
+          if fits (tree.postfix left x.0) then postfixes n (tree.postfix left x.0) x.1 else None)
+      else Some (left, ts)
 
   -- e9: a primary expression with the operators behind it
   unfoldable pub postfixed : List Lexeme → Read
@@ -247,13 +280,19 @@ module _ (inner : Level → List Lexeme → Read) (depth : ℕ) where
 
   -- e8: what stands before an operand, or e9
   unfoldable pub prefixed : List Lexeme → Read
-  prefixed ts = either (either (postfixed ts) (λ p. extracted p.0 p.1) (extraction_at ts)) (λ p. applied levels.Prefixed p.0 p.1) (prefix_at ts)
+  prefixed ts =
+      either (either (postfixed ts) (λ p. extracted p.0 p.1) (extraction_at ts))
+          (λ p. applied levels.Prefixed p.0 p.1) (prefix_at ts)
 
   -- goes on with the operators of a level, at most so many
   unfoldable pub operations : Level → ℕ → Tree → List Lexeme → Read
   operations level zero left ts = None
   operations level (suc n) left ts =
-      either (Some (left, ts)) (λ p. inner (tighter level) p.1 >>= λ x. if fits (tree.binary left p.0 x.0) then operations level n (tree.binary left p.0 x.0) x.1 else None) (operator_at level ts)
+      either (Some (left, ts))
+          (λ p. inner (tighter level) p.1 >>= λ x.
+              if fits (tree.binary left p.0 x.0)
+              then operations level n (tree.binary left p.0 x.0) x.1 else None)
+          (operator_at level ts)
 
   -- operands of the next level with the operators of this one
   unfoldable pub chain : Level → (List Lexeme → Read) → List Lexeme → Read
@@ -273,15 +312,20 @@ module _ (inner : Level → List Lexeme → Read) (depth : ℕ) where
 
   -- a comparison with what is on its left
   unfoldable pub compared_to : Tree → Comparison → List Lexeme → Read
-  compared_to left op ts = inner levels.Relational ts >>= λ x. if fits (tree.compare left op x.0) then Some (tree.compare left op x.0, x.1) else None
+  compared_to left op ts =
+      inner levels.Relational ts >>= λ x.
+      if fits (tree.compare left op x.0) then Some (tree.compare left op x.0, x.1) else None
 
   -- e4: e5, or a comparison of two
   unfoldable pub compared : List Lexeme → Read
-  compared ts = relational ts >>= λ x. either (Some x) (λ p. compared_to x.0 p.0 p.1) (comparison_at x.1)
+  compared ts =
+      relational ts >>= λ x. either (Some x) (λ p. compared_to x.0 p.0 p.1) (comparison_at x.1)
 
   -- e3: NOT e3, or e4
   unfoldable pub negated : List Lexeme → Read
-  negated ts = either (compared ts) (λ after. applied levels.Negation prefixes.Not after) (expect (keyword k.Not) ts)
+  negated ts =
+      either (compared ts) (λ after. applied levels.Negation prefixes.Not after)
+          (expect (keyword k.Not) ts)
 
   -- e2, by AND
   unfoldable pub conjunction : List Lexeme → Read

@@ -1,4 +1,5 @@
--- What the next lexemes begin: an operator, a comparison, a call and so on. Three lexemes decide at most.
+-- What the next lexemes begin: an operator, a comparison, a call and so on. Three lexemes decide at
+-- most.
 use Rattle.std.specs.Prelude.{Bool, true, false, List, [], ◌∷◌, Option, Some, None, if◌then◌else◌}
 use denote.Enum.Bare.{sameb}
 use Rattle.td_tree.specs.contracts.operator.Level as level_type
@@ -51,7 +52,8 @@ operator_of_sign _ = None
 
 -- NOT begins NOT MATCHING alone
 abbrev pub operator_after_word : Keyword → List Lexeme → ReadOf Operator
-operator_after_word k.Not ts = expect (keyword k.Matching) ts >>= λ after. Some (operators.NotMatching, after)
+operator_after_word k.Not ts =
+    expect (keyword k.Matching) ts >>= λ after. Some (operators.NotMatching, after)
 operator_after_word w ts = with_rest ts (operator_of_word w)
 
 -- the operator at the front
@@ -66,7 +68,8 @@ same_level = sameb level_type.the_type
 
 -- the operator at the front, where it stands at this level
 unfoldable pub operator_at : Level → List Lexeme → ReadOf Operator
-operator_at level ts = any_operator ts >>= λ p. if same_level (level_of p.0) level then Some p else None
+operator_at level ts =
+    any_operator ts >>= λ p. if same_level (level_of p.0) level then Some p else None
 
 -- the comparison that is a word
 abbrev pub comparison_of_word : Keyword → Option Comparison
@@ -98,13 +101,15 @@ begins_with_number _ = false
 
 -- '-' before a number belongs to the number
 abbrev pub prefix_after_sign : Sign → List Lexeme → ReadOf Prefix
-prefix_after_sign signs.Minus ts = if begins_with_number ts then None else Some (prefixes.Negate, ts)
+prefix_after_sign signs.Minus ts =
+    if begins_with_number ts then None else Some (prefixes.Negate, ts)
 prefix_after_sign _ ts = None
 
 -- TCLOSE, or TUPLE and then FROM
 abbrev pub prefix_after_word : Keyword → List Lexeme → ReadOf Prefix
 prefix_after_word k.Tclose ts = Some (prefixes.TransitiveClosure, ts)
-prefix_after_word k.Tuple ts = expect (keyword k.From) ts >>= λ after. Some (prefixes.TupleFrom, after)
+prefix_after_word k.Tuple ts =
+    expect (keyword k.From) ts >>= λ after. Some (prefixes.TupleFrom, after)
 prefix_after_word _ ts = None
 
 -- '-', TCLOSE or TUPLE FROM at the front
@@ -148,7 +153,9 @@ is_assign = same_lexeme (sign signs.Assign)
 
 -- after a name: the parenthesis of a call, not that of UPDATE's settings
 unfoldable pub call_at : List Lexeme → Option (List Lexeme)
-call_at ts = expect (sign signs.OpenParenthesis) ts >>= λ after. if name_and is_assign after then None else Some after
+call_at ts =
+    expect (sign signs.OpenParenthesis) ts
+    >>= λ after. if name_and is_assign after then None else Some after
 
 -- what a type begins with
 abbrev pub begins_type : Lexeme → Bool
@@ -162,4 +169,8 @@ begins_type _ = false
 
 -- after RELATION: a heading, not the elements
 unfoldable pub heading_at : List Lexeme → Bool
-heading_at ts = either false (λ after. either (name_and begins_type after) (λ last. true) (expect (sign signs.CloseBrace) after)) (expect (sign signs.OpenBrace) ts)
+heading_at ts =
+    either false
+        (λ after. either (name_and begins_type after) (λ last. true)
+            (expect (sign signs.CloseBrace) after))
+        (expect (sign signs.OpenBrace) ts)

@@ -45,7 +45,9 @@ deletion ts = read_name ts >>= λ n. condition n.1 >>= λ c. Some (tree.delete n
 
 -- UPDATE name [WHERE e1] '(' set,+ ')', after UPDATE
 unfoldable pub changing : List Lexeme → ReadOf Assignment
-changing ts = read_name ts >>= λ n. condition n.1 >>= λ c. enclosed (separated setting) c.1 >>= λ x. Some (tree.update n.0 c.0 (named_from x.0), x.1)
+changing ts =
+    read_name ts >>= λ n. condition n.1 >>= λ c. enclosed (separated setting) c.1
+    >>= λ x. Some (tree.update n.0 c.0 (named_from x.0), x.1)
 
 -- an assignment after its first word
 unfoldable pub assignment_of_word : Keyword → List Lexeme → ReadOf Assignment
@@ -69,12 +71,16 @@ assignments ts = separated assignment ts >>= λ x. Some (tree.assign_all x.0, x.
 -- attr,+ [CONSTRAINT e]
 unfoldable pub components : Text → List Lexeme → ReadOf Statement
 components n ts =
-    separated (attribute (read_type height_limit)) ts >>= λ h. optional (keyword k.Constraint) expression h.1 >>= λ c. Some (tree.define_type n (attributes_from h.0) c.0, c.1)
+    separated (attribute (read_type height_limit)) ts
+        >>= λ h. optional (keyword k.Constraint) expression h.1
+        >>= λ c. Some (tree.define_type n (attributes_from h.0) c.0, c.1)
 
 -- TYPE name POSSREP '{' attr,+ [CONSTRAINT e] '}', after TYPE
 unfoldable pub type_definition : List Lexeme → ReadOf Statement
 type_definition ts =
-    read_name ts >>= λ n. expect (keyword k.Possrep) n.1 >>= λ after. expect (sign signs.OpenBrace) after >>= λ last. up_to (sign signs.CloseBrace) (components n.0) last
+    read_name ts >>= λ n. expect (keyword k.Possrep) n.1
+        >>= λ after. expect (sign signs.OpenBrace) after
+        >>= λ last. up_to (sign signs.CloseBrace) (components n.0) last
 
 -- RELATION heading [INIT '(' e ')'] (KEY names)*
 unfoldable pub base_definition : Text → List Lexeme → ReadOf Statement
@@ -87,7 +93,8 @@ base_definition n ts = do
 
 -- '(' e ')' (KEY names)*
 unfoldable pub virtual_definition : Text → List Lexeme → ReadOf Statement
-virtual_definition n ts = enclosed expression ts >>= λ a. keys a.1 >>= λ x. Some (tree.define_virtual n a.0 x.0, x.1)
+virtual_definition n ts =
+    enclosed expression ts >>= λ a. keys a.1 >>= λ x. Some (tree.define_virtual n a.0 x.0, x.1)
 
 -- a definition after its word and before that VAR and a name
 unfoldable pub definition_of_word : Keyword → Text → List Lexeme → ReadOf Statement
@@ -103,7 +110,8 @@ variable n _ = None
 
 -- CONSTRAINT name e, after CONSTRAINT
 unfoldable pub constraint_definition : List Lexeme → ReadOf Statement
-constraint_definition ts = read_name ts >>= λ n. expression n.1 >>= λ a. Some (tree.define_constraint n.0 a.0, a.1)
+constraint_definition ts =
+    read_name ts >>= λ n. expression n.1 >>= λ a. Some (tree.define_constraint n.0 a.0, a.1)
 
 -- a name, after DROP and the word that says what it names
 unfoldable pub drop_of_word : Keyword → List Lexeme → ReadOf Statement
@@ -125,7 +133,8 @@ body_of_word k.«Type» ts = type_definition ts
 body_of_word k.Drop ts = drop ts
 body_of_word k.Var ts = read_name ts >>= λ n. variable n.0 n.1
 body_of_word k.Constraint ts = constraint_definition ts
-body_of_word k.Begin ts = expect (keyword k.Transaction) ts >>= λ after. Some (tree.begin_transaction, after)
+body_of_word k.Begin ts =
+    expect (keyword k.Transaction) ts >>= λ after. Some (tree.begin_transaction, after)
 body_of_word k.Commit ts = Some (tree.commit, ts)
 body_of_word k.Rollback ts = Some (tree.rollback, ts)
 body_of_word k.Write ts = expression ts >>= λ a. Some (tree.write a.0, a.1)

@@ -1,4 +1,5 @@
--- Reading lexemes from left to right: a step takes what it reads from the front and leaves the rest.
+-- Reading lexemes from left to right: a step takes what it reads from the front and leaves the
+-- rest.
 use Rattle.std.specs.Prelude.{ℕ, zero, suc, Bool, false, List, [], ◌∷◌, ◌++◌, length, Option, Some, None, if◌then◌else◌}
 use denote.Enum.Bare.{sameb}
 use Rattle.td_tree.specs.contracts.keyword.Keyword as keyword_type
@@ -63,34 +64,48 @@ up_to close item ts = item ts >>= λ x. expect close x.1 >>= λ after. Some (x.0
 
 -- an item between parentheses
 unfoldable pub enclosed : {A : Type 0} → (List Lexeme → ReadOf A) → List Lexeme → ReadOf A
-enclosed item ts = expect (sign signs.OpenParenthesis) ts >>= λ after. up_to (sign signs.CloseParenthesis) item after
+enclosed item ts =
+    expect (sign signs.OpenParenthesis) ts
+    >>= λ after. up_to (sign signs.CloseParenthesis) item after
 
 -- [word item]
-unfoldable pub optional : {A : Type 0} → Lexeme → (List Lexeme → ReadOf A) → List Lexeme → ReadOf (Option A)
-optional word item ts = either (Some (None, ts)) (λ after. item after >>= λ x. Some (Some x.0, x.1)) (expect word ts)
+unfoldable pub optional : {A : Type 0} → Lexeme → (List Lexeme → ReadOf A) → List Lexeme
+    → ReadOf (Option A)
+optional word item ts =
+    either (Some (None, ts)) (λ after. item after >>= λ x. Some (Some x.0, x.1)) (expect word ts)
 
 -- item,+ behind the items before, at most so many
-unfoldable pub separated_from : {A : Type 0} → (List Lexeme → ReadOf A) → ℕ → List A → List Lexeme → ReadOf (List A)
+unfoldable pub separated_from : {A : Type 0} → (List Lexeme → ReadOf A) → ℕ → List A → List Lexeme
+    → ReadOf (List A)
 separated_from item zero before ts = None
 separated_from item (suc n) before ts =
-    item ts >>= λ x. either (Some (before ++ (x.0 ∷ []), x.1)) (λ after. separated_from item n (before ++ (x.0 ∷ [])) after) (expect (sign signs.Comma) x.1)
+    item ts
+    >>= λ x. either (Some (before ++ (x.0 ∷ []), x.1))
+        (λ after. separated_from item n (before ++ (x.0 ∷ [])) after)
+        (expect (sign signs.Comma) x.1)
 
 -- item,+
 unfoldable pub separated : {A : Type 0} → (List Lexeme → ReadOf A) → List Lexeme → ReadOf (List A)
 separated item ts = separated_from item (suc (length ts)) [] ts
 
 -- item,* and what closes them
-unfoldable pub listed_to : {A : Type 0} → Lexeme → (List Lexeme → ReadOf A) → List Lexeme → ReadOf (List A)
-listed_to close item ts = either (up_to close (separated item) ts) (λ after. Some ([], after)) (expect close ts)
+unfoldable pub listed_to : {A : Type 0} → Lexeme → (List Lexeme → ReadOf A) → List Lexeme
+    → ReadOf (List A)
+listed_to close item ts =
+    either (up_to close (separated item) ts) (λ after. Some ([], after)) (expect close ts)
 
 -- (word item)* behind the items before, at most so many
-unfoldable pub repeated_from : {A : Type 0} → Lexeme → (List Lexeme → ReadOf A) → ℕ → List A → List Lexeme → ReadOf (List A)
+unfoldable pub repeated_from : {A : Type 0} → Lexeme → (List Lexeme → ReadOf A) → ℕ → List A
+    → List Lexeme → ReadOf (List A)
 repeated_from word item zero before ts = None
 repeated_from word item (suc n) before ts =
-    either (Some (before, ts)) (λ after. item after >>= λ x. repeated_from word item n (before ++ (x.0 ∷ [])) x.1) (expect word ts)
+    either (Some (before, ts))
+        (λ after. item after >>= λ x. repeated_from word item n (before ++ (x.0 ∷ [])) x.1)
+        (expect word ts)
 
 -- (word item)*
-unfoldable pub repeated : {A : Type 0} → Lexeme → (List Lexeme → ReadOf A) → List Lexeme → ReadOf (List A)
+unfoldable pub repeated : {A : Type 0} → Lexeme → (List Lexeme → ReadOf A) → List Lexeme
+    → ReadOf (List A)
 repeated word item ts = repeated_from word item (suc (length ts)) [] ts
 
 -- ---- names
@@ -105,13 +120,18 @@ names ts = expect (sign signs.OpenBrace) ts >>= λ after. names_to_brace after
 
 -- after ALL
 unfoldable pub all_but : List Lexeme → ReadOf Attributes
-all_but ts = expect (keyword k.But) ts >>= λ after. names_to_brace after >>= λ x. Some (tree.all_but x.0, x.1)
+all_but ts =
+    expect (keyword k.But) ts >>= λ after. names_to_brace after
+    >>= λ x. Some (tree.all_but x.0, x.1)
 
 -- '{' name,* '}' or '{' ALL BUT name,* '}'
 unfoldable pub attribute_list : List Lexeme → ReadOf Attributes
 attribute_list ts =
-    expect (sign signs.OpenBrace) ts >>= λ after. either (names_to_brace after >>= λ x. Some (tree.only x.0, x.1)) (λ last. all_but last) (expect (keyword k.All) after)
+    expect (sign signs.OpenBrace) ts
+    >>= λ after. either (names_to_brace after >>= λ x. Some (tree.only x.0, x.1))
+        (λ last. all_but last) (expect (keyword k.All) after)
 
 -- name AS name
 unfoldable pub read_renaming : List Lexeme → ReadOf Renaming
-read_renaming ts = read_name ts >>= λ a. read_as a.1 >>= λ b. Some (record { old = a.0; new = b.0 }, b.1)
+read_renaming ts =
+    read_name ts >>= λ a. read_as a.1 >>= λ b. Some (record { old = a.0; new = b.0 }, b.1)

@@ -22,7 +22,10 @@ module _ (inner : List Lexeme → ReadOf TypeTree) where
 
   -- '{' attr,* '}'
   unfoldable pub heading : List Lexeme → ReadOf AttributeTrees
-  heading ts = expect (sign signs.OpenBrace) ts >>= λ after. listed_to (sign signs.CloseBrace) attribute after >>= λ x. Some (attributes_from x.0, x.1)
+  heading ts =
+      expect (sign signs.OpenBrace) ts
+      >>= λ after. listed_to (sign signs.CloseBrace) attribute after
+      >>= λ x. Some (attributes_from x.0, x.1)
 
   -- a type after its first word
   unfoldable pub type_of_word : Keyword → List Lexeme → ReadOf TypeTree

@@ -16,7 +16,8 @@ pub record Course : Type 0 where
 
 -- at first nothing was fed
 abbrev pub at_first : Course
-at_first = record { fed = []; held = record { bytes = []; offset = 0; finished = false }; taken = [] }
+at_first =
+    record { fed = []; held = record { bytes = []; offset = 0; finished = false }; taken = [] }
 
 -- a statement, if there is one
 abbrev pub listed : Option (List Entry) → List (List Entry)
@@ -25,9 +26,12 @@ listed (Some first) = first ∷ []
 
 -- one call, as the contracts of the cutter say it
 abbrev pub called : Course → Call → Course
-called c (Feed piece) = record { fed = c.fed ++ piece; held = record c.held { bytes = c.held.bytes ++ piece }; taken = c.taken }
+called c (Feed piece) =
+    record { fed = c.fed
+    ++ piece; held = record c.held { bytes = c.held.bytes ++ piece }; taken = c.taken }
 called c Finish = record { fed = c.fed; held = record c.held { finished = true }; taken = c.taken }
-called c Take = record { fed = c.fed; held = after c.held; taken = c.taken ++ listed (first_statement c.held) }
+called c Take =
+    record { fed = c.fed; held = after c.held; taken = c.taken ++ listed (first_statement c.held) }
 
 -- the calls in order
 abbrev pub all_called : Course → List Call → Course

@@ -14,7 +14,9 @@ char_size lead = suc (continuation_len lead)
 -- how many bytes the piece takes, n so far, and what it is at its end
 abbrev pub end_from : ℕ → Piece → List Symbol → ℕ × Piece
 end_from n piece [] = (n, piece)
-end_from n piece (s ∷ ss) = elim (continues piece s) as (λ _. ℕ × Piece) [ Some longer ↦ end_from (n + length s.text) longer ss | None ↦ (n, piece) ]
+end_from n piece (s ∷ ss) =
+    elim (continues piece s) as (λ _. ℕ × Piece)
+    [ Some longer ↦ end_from (n + length s.text) longer ss | None ↦ (n, piece) ]
 
 abbrev pub first_end : List Symbol → ℕ × Piece
 first_end [] = (0, Bad)

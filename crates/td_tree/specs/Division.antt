@@ -1,4 +1,5 @@
--- The division of a list into longest pieces (this project's own). A machine says how a piece begins and how it goes on.
+-- The division of a list into longest pieces (this project's own). A machine says how a piece
+-- begins and how it goes on.
 use Rattle.std.specs.Prelude.{◌≡◌, ◌≤◌, List, [], ◌∷◌, ◌++◌, length, Option, Some, None, Bool, if◌then◌else◌, option_map}
 
 module _ {X S : Type 0} (opens : X → S) (goes_on : S → X → Option S) where
@@ -31,7 +32,9 @@ module _ {X S : Type 0} (opens : X → S) (goes_on : S → X → Option S) where
   -- the pieces of p ++ xs, where p is the front of the first, which the machine left in state s
   abbrev pub divide_from : S → List X → List X → List (List X)
   divide_from s p [] = p ∷ []
-  divide_from s p (x ∷ xs) = elim (goes_on s x) as (λ _. List (List X)) [ Some t ↦ divide_from t (p ++ x ∷ []) xs | None ↦ p ∷ divide_from (opens x) (x ∷ []) xs ]
+  divide_from s p (x ∷ xs) =
+      elim (goes_on s x) as (λ _. List (List X))
+      [ Some t ↦ divide_from t (p ++ x ∷ []) xs | None ↦ p ∷ divide_from (opens x) (x ∷ []) xs ]
 
   -- the division, made from the left
   abbrev pub divide : List X → List (List X)

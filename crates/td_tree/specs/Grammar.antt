@@ -1,5 +1,5 @@
--- The grammar of types and expressions (after Tutorial D; the levels of precedence are this project's own): which lexemes spell
--- which tree, a constructor for each production.
+-- The grammar of types and expressions (after Tutorial D; the levels of precedence are this
+-- project's own): which lexemes spell which tree, a constructor for each production.
 use Rattle.std.specs.Prelude.{ℕ, ◌≤◌, true, false, List, [], ◌∷◌, ◌++◌}
 use Rattle.td_tree.specs.declared.keyword.Keyword.{Keyword}
 use Rattle.td_tree.specs.declared.keyword.Keyword.TheVariants as k
@@ -33,20 +33,26 @@ mutual
     boolean_type : TypeSpelling (keyword k.Boolean ∷ []) tree.boolean
     user_type : {n : Text} → TypeSpelling (lexeme.name n ∷ []) (tree.user n)
     -- RELATION heading
-    relation_type : {xs : List Lexeme} {h : AttributeTrees} → HeadingSpelling xs h → TypeSpelling (keyword k.Relation ∷ xs) (tree.relation_type h)
+    relation_type : {xs : List Lexeme} {h : AttributeTrees} → HeadingSpelling xs h
+        → TypeSpelling (keyword k.Relation ∷ xs) (tree.relation_type h)
     -- TUPLE heading
-    tuple_type : {xs : List Lexeme} {h : AttributeTrees} → HeadingSpelling xs h → TypeSpelling (keyword k.Tuple ∷ xs) (tree.tuple_type h)
+    tuple_type : {xs : List Lexeme} {h : AttributeTrees} → HeadingSpelling xs h
+        → TypeSpelling (keyword k.Tuple ∷ xs) (tree.tuple_type h)
 
   -- '{' attr,* '}'
   pub data HeadingSpelling : List Lexeme → AttributeTrees → Type 0 where
     empty_heading : HeadingSpelling (braced []) tree.no_attributes
-    heading : {xs : List Lexeme} {h : AttributeTrees} → AttributesSpelling xs h → HeadingSpelling (braced xs) h
+    heading : {xs : List Lexeme} {h : AttributeTrees} → AttributesSpelling xs h
+        → HeadingSpelling (braced xs) h
 
   -- attr,+ where attr := name type
   pub data AttributesSpelling : List Lexeme → AttributeTrees → Type 0 where
-    last_attribute : {n : Text} {xs : List Lexeme} {t : TypeTree} → TypeSpelling xs t → AttributesSpelling (lexeme.name n ∷ xs) (tree.attribute n t tree.no_attributes)
-    next_attribute : {n : Text} {xs ys : List Lexeme} {t : TypeTree} {h : AttributeTrees} → TypeSpelling xs t → AttributesSpelling ys h
-        → AttributesSpelling (lexeme.name n ∷ (xs ++ (sign signs.Comma ∷ ys))) (tree.attribute n t h)
+    last_attribute : {n : Text} {xs : List Lexeme} {t : TypeTree} → TypeSpelling xs t
+        → AttributesSpelling (lexeme.name n ∷ xs) (tree.attribute n t tree.no_attributes)
+    next_attribute : {n : Text} {xs ys : List Lexeme} {t : TypeTree} {h : AttributeTrees}
+        → TypeSpelling xs t → AttributesSpelling ys h
+        → AttributesSpelling (lexeme.name n ∷ (xs ++ (sign signs.Comma ∷ ys)))
+            (tree.attribute n t h)
 
 -- ---- what holds no expression
 
@@ -55,38 +61,51 @@ pub data NameSpelling : List Lexeme → Text → Type 0 where
 
 -- names := '{' name,* '}'
 pub data NamesSpelling : List Lexeme → List Text → Type 0 where
-  names : {xs : List Lexeme} {ns : List Text} → Listed NameSpelling xs ns → NamesSpelling (braced xs) ns
+  names : {xs : List Lexeme} {ns : List Text} → Listed NameSpelling xs ns
+      → NamesSpelling (braced xs) ns
 
 -- attrs := names | '{' ALL BUT name,* '}'
 pub data AttributeListSpelling : List Lexeme → Attributes → Type 0 where
-  only_names : {xs : List Lexeme} {ns : List Text} → NamesSpelling xs ns → AttributeListSpelling xs (tree.only ns)
+  only_names : {xs : List Lexeme} {ns : List Text} → NamesSpelling xs ns
+      → AttributeListSpelling xs (tree.only ns)
   all_but_names : {xs : List Lexeme} {ns : List Text} → Listed NameSpelling xs ns
       → AttributeListSpelling (braced (keyword k.All ∷ (keyword k.But ∷ xs))) (tree.all_but ns)
 
 -- name AS name
 pub data RenamingSpelling : List Lexeme → Renaming → Type 0 where
-  renaming : {old new : Text} → RenamingSpelling (lexeme.name old ∷ (keyword k.As ∷ (lexeme.name new ∷ []))) (record { old = old; new = new })
+  renaming : {old new : Text}
+      → RenamingSpelling (lexeme.name old ∷ (keyword k.As ∷ (lexeme.name new ∷ [])))
+          (record { old = old; new = new })
 
 -- what stands behind an operand
 pub data PostfixSpelling : List Lexeme → Postfix → Type 0 where
   -- e9 attrs
-  projection : {xs : List Lexeme} {a : Attributes} → AttributeListSpelling xs a → PostfixSpelling xs (tree.project a)
+  projection : {xs : List Lexeme} {a : Attributes} → AttributeListSpelling xs a
+      → PostfixSpelling xs (tree.project a)
   -- e9 RENAME '(' (name AS name),+ ')'
   renamings : {xs : List Lexeme} {rs : List Renaming} → Separated RenamingSpelling xs rs
       → PostfixSpelling (keyword k.Rename ∷ parenthesized xs) (tree.rename rs)
   -- e9 GROUP '(' attrs AS name ')' and WRAP
   grouping : {xs : List Lexeme} {a : Attributes} {n : Text} → AttributeListSpelling xs a
-      → PostfixSpelling (keyword k.Group ∷ parenthesized (xs ++ (keyword k.As ∷ (lexeme.name n ∷ [])))) (tree.group a n)
+      → PostfixSpelling
+          (keyword k.Group ∷ parenthesized (xs ++ (keyword k.As ∷ (lexeme.name n ∷ []))))
+          (tree.group a n)
   wrapping : {xs : List Lexeme} {a : Attributes} {n : Text} → AttributeListSpelling xs a
-      → PostfixSpelling (keyword k.Wrap ∷ parenthesized (xs ++ (keyword k.As ∷ (lexeme.name n ∷ [])))) (tree.wrap a n)
+      → PostfixSpelling
+          (keyword k.Wrap ∷ parenthesized (xs ++ (keyword k.As ∷ (lexeme.name n ∷ []))))
+          (tree.wrap a n)
   -- e9 UNGROUP '(' name ')' and UNWRAP
-  ungrouping : {n : Text} → PostfixSpelling (keyword k.Ungroup ∷ parenthesized (lexeme.name n ∷ [])) (tree.ungroup n)
-  unwrapping : {n : Text} → PostfixSpelling (keyword k.Unwrap ∷ parenthesized (lexeme.name n ∷ [])) (tree.unwrap n)
+  ungrouping : {n : Text}
+      → PostfixSpelling (keyword k.Ungroup ∷ parenthesized (lexeme.name n ∷ [])) (tree.ungroup n)
+  unwrapping : {n : Text}
+      → PostfixSpelling (keyword k.Unwrap ∷ parenthesized (lexeme.name n ∷ [])) (tree.unwrap n)
 
 pub data LiteralSpelling : List Lexeme → Literal → Type 0 where
   -- number | '-' number, in range
-  number_literal : {n : ℕ} → n ≤ numeral_limit false → LiteralSpelling (lexeme.number n ∷ []) (tree.number false n)
-  minus_literal : {n : ℕ} → n ≤ numeral_limit true → LiteralSpelling (sign signs.Minus ∷ (lexeme.number n ∷ [])) (tree.number true n)
+  number_literal : {n : ℕ} → n ≤ numeral_limit false
+      → LiteralSpelling (lexeme.number n ∷ []) (tree.number false n)
+  minus_literal : {n : ℕ} → n ≤ numeral_limit true
+      → LiteralSpelling (sign signs.Minus ∷ (lexeme.number n ∷ [])) (tree.number true n)
   -- text | TRUE | FALSE | TABLE_DEE | TABLE_DUM
   text_literal : {said : Text} → LiteralSpelling (lexeme.text said ∷ []) (tree.text said)
   true_literal : LiteralSpelling (keyword k.True ∷ []) (tree.truth true)
@@ -180,33 +199,41 @@ BeginsOtherwise _ = Unit {0}
 mutual
   pub data Spelling : Level → List Lexeme → Tree → Type 0 where
     -- a level includes the next: e := e1, e1 := e2 and so on
-    looser : {level : Level} {xs : List Lexeme} {a : Tree} → Spelling (tighter level) xs a → Spelling level xs a
-    -- e := e WHERE e1, e1 := e1 OR e2, e2 := e2 AND e3, e5 := e5 rop e6, e6 := e6 ('+' | '-' | '||') e7, e7 := e7 ('*' | '/') e8
-    between : {op : Operator} {xs ys : List Lexeme} {a b : Tree} → Spelling (level_of op) xs a → Spelling (tighter (level_of op)) ys b
+    looser : {level : Level} {xs : List Lexeme} {a : Tree} → Spelling (tighter level) xs a
+        → Spelling level xs a
+    -- e := e WHERE e1, e1 := e1 OR e2, e2 := e2 AND e3, e5 := e5 rop e6,
+    -- e6 := e6 ('+' | '-' | '||') e7, e7 := e7 ('*' | '/') e8
+    between : {op : Operator} {xs ys : List Lexeme} {a b : Tree} → Spelling (level_of op) xs a
+        → Spelling (tighter (level_of op)) ys b
         → Spelling (level_of op) (xs ++ (operator_words op ++ ys)) (tree.binary a op b)
     -- e3 := NOT e3
     negation : {xs : List Lexeme} {a : Tree} → Spelling levels.Negation xs a
         → Spelling levels.Negation (keyword k.Not ∷ xs) (tree.prefix prefixes.Not a)
     -- e4 := e5 ('=' | '<>' | '<' | '<=' | '>' | '>=' | IN) e5
-    comparison : {op : Comparison} {xs ys : List Lexeme} {a b : Tree} → Spelling levels.Relational xs a → Spelling levels.Relational ys b
+    comparison : {op : Comparison} {xs ys : List Lexeme} {a b : Tree}
+        → Spelling levels.Relational xs a → Spelling levels.Relational ys b
         → Spelling levels.Comparison (xs ++ (comparison_word op ∷ ys)) (tree.compare a op b)
     -- e8 := '-' e8, where e8's first token is no number
     minus : {xs : List Lexeme} {a : Tree} → BeginsOtherwise xs → Spelling levels.Prefixed xs a
         → Spelling levels.Prefixed (sign signs.Minus ∷ xs) (tree.prefix prefixes.Negate a)
     -- e8 := TCLOSE e8
     closure : {xs : List Lexeme} {a : Tree} → Spelling levels.Prefixed xs a
-        → Spelling levels.Prefixed (keyword k.Tclose ∷ xs) (tree.prefix prefixes.TransitiveClosure a)
+        → Spelling levels.Prefixed (keyword k.Tclose ∷ xs)
+            (tree.prefix prefixes.TransitiveClosure a)
     -- e8 := TUPLE FROM e8
     tuple_from : {xs : List Lexeme} {a : Tree} → Spelling levels.Prefixed xs a
-        → Spelling levels.Prefixed (keyword k.Tuple ∷ (keyword k.From ∷ xs)) (tree.prefix prefixes.TupleFrom a)
+        → Spelling levels.Prefixed (keyword k.Tuple ∷ (keyword k.From ∷ xs))
+            (tree.prefix prefixes.TupleFrom a)
     -- e8 := name FROM e8
     extraction : {n : Text} {xs : List Lexeme} {a : Tree} → Spelling levels.Prefixed xs a
         → Spelling levels.Prefixed (lexeme.name n ∷ (keyword k.From ∷ xs)) (tree.extract n a)
     -- e9 := e9 with what stands behind it
-    behind : {xs ys : List Lexeme} {a : Tree} {p : Postfix} → Spelling levels.Postfixed xs a → PostfixSpelling ys p
+    behind : {xs ys : List Lexeme} {a : Tree} {p : Postfix} → Spelling levels.Postfixed xs a
+        → PostfixSpelling ys p
         → Spelling levels.Postfixed (xs ++ ys) (tree.postfix a p)
     -- e10 := number | '-' number | text | TRUE | FALSE | TABLE_DEE | TABLE_DUM
-    literal : {xs : List Lexeme} {l : Literal} → LiteralSpelling xs l → Spelling levels.Primary xs (tree.literal l)
+    literal : {xs : List Lexeme} {l : Literal} → LiteralSpelling xs l
+        → Spelling levels.Primary xs (tree.literal l)
     -- e10 := name
     reference : {n : Text} → Spelling levels.Primary (lexeme.name n ∷ []) (tree.name n)
     -- e10 := name '(' e,* ')'
@@ -222,11 +249,16 @@ mutual
     measure : {op : Measure} {xs : List Lexeme} {a : Tree} → Spelling loosest xs a
         → Spelling levels.Primary (keyword (measure_word op) ∷ parenthesized xs) (tree.measure op a)
     -- e10 := (SUM | MAX | MIN) '(' e ',' e ')'
-    aggregate : {op : Aggregate} {xs ys : List Lexeme} {a b : Tree} → Spelling loosest xs a → Spelling loosest ys b
-        → Spelling levels.Primary (keyword (aggregate_word op) ∷ parenthesized (xs ++ (sign signs.Comma ∷ ys))) (tree.aggregate op a b)
+    aggregate : {op : Aggregate} {xs ys : List Lexeme} {a b : Tree} → Spelling loosest xs a
+        → Spelling loosest ys b
+        → Spelling levels.Primary
+            (keyword (aggregate_word op) ∷ parenthesized (xs ++ (sign signs.Comma ∷ ys)))
+            (tree.aggregate op a b)
     -- e10 := RELATION heading '{' e,* '}'
-    headed_relation : {hs xs : List Lexeme} {h : AttributeTrees} {all : Trees} → HeadingSpelling hs h → ListSpelling xs all
-        → Spelling levels.Primary (keyword k.Relation ∷ (hs ++ braced xs)) (tree.headed_relation h all)
+    headed_relation : {hs xs : List Lexeme} {h : AttributeTrees} {all : Trees}
+        → HeadingSpelling hs h → ListSpelling xs all
+        → Spelling levels.Primary (keyword k.Relation ∷ (hs ++ braced xs))
+            (tree.headed_relation h all)
     -- e10 := RELATION '{' e,+ '}'
     relation : {xs : List Lexeme} {all : Trees} → ExpressionsSpelling xs all
         → Spelling levels.Primary (keyword k.Relation ∷ braced xs) (tree.relation all)
@@ -235,51 +267,96 @@ mutual
     tuple : {xs : List Lexeme} {parts : NamedTrees} → PartsSpelling xs parts
         → Spelling levels.Primary (keyword k.Tuple ∷ braced xs) (tree.tuple parts)
     -- e10 := EXTEND e ADD '(' (e AS name),+ ')'
-    extension : {xs ys : List Lexeme} {a : Tree} {parts : NamedTrees} → Spelling loosest xs a → AdditionsSpelling ys parts
-        → Spelling levels.Primary (keyword k.Extend ∷ (xs ++ (keyword k.Add ∷ parenthesized ys))) (tree.extend a parts)
+    extension : {xs ys : List Lexeme} {a : Tree} {parts : NamedTrees} → Spelling loosest xs a
+        → AdditionsSpelling ys parts
+        → Spelling levels.Primary (keyword k.Extend ∷ (xs ++ (keyword k.Add ∷ parenthesized ys)))
+            (tree.extend a parts)
     -- e10 := SUMMARIZE e PER '(' e ')' ADD '(' item,+ ')'
-    summary_per : {xs ys zs : List Lexeme} {a b : Tree} {items : Summaries} → Spelling loosest xs a → Spelling loosest ys b → SummariesSpelling zs items
-        → Spelling levels.Primary (keyword k.Summarize ∷ (xs ++ (keyword k.Per ∷ (parenthesized ys ++ (keyword k.Add ∷ parenthesized zs))))) (tree.summarize_per a b items)
+    summary_per : {xs ys zs : List Lexeme} {a b : Tree} {items : Summaries} → Spelling loosest xs a
+        → Spelling loosest ys b → SummariesSpelling zs items
+        → Spelling levels.Primary
+            (keyword k.Summarize
+            ∷ (xs ++ (keyword k.Per
+            ∷ (parenthesized ys
+            ++ (keyword k.Add ∷ parenthesized zs)))))
+            (tree.summarize_per a b items)
     -- e10 := SUMMARIZE e BY attrs ADD '(' item,+ ')'
-    summary_by : {xs ys zs : List Lexeme} {a : Tree} {by : Attributes} {items : Summaries} → Spelling loosest xs a → AttributeListSpelling ys by → SummariesSpelling zs items
-        → Spelling levels.Primary (keyword k.Summarize ∷ (xs ++ (keyword k.By ∷ (ys ++ (keyword k.Add ∷ parenthesized zs))))) (tree.summarize_by a by items)
+    summary_by : {xs ys zs : List Lexeme} {a : Tree} {by : Attributes} {items : Summaries}
+        → Spelling loosest xs a → AttributeListSpelling ys by → SummariesSpelling zs items
+        → Spelling levels.Primary
+            (keyword k.Summarize
+            ∷ (xs ++ (keyword k.By
+            ∷ (ys ++ (keyword k.Add ∷ parenthesized zs)))))
+            (tree.summarize_by a by items)
     -- e10 := IF e THEN e ELSE e END IF
-    choice : {xs ys zs : List Lexeme} {a b c : Tree} → Spelling loosest xs a → Spelling loosest ys b → Spelling loosest zs c
-        → Spelling levels.Primary (keyword k.If ∷ (xs ++ (keyword k.Then ∷ (ys ++ (keyword k.Else ∷ (zs ++ (keyword k.End ∷ (keyword k.If ∷ [])))))))) (tree.choice a b c)
+    choice : {xs ys zs : List Lexeme} {a b c : Tree} → Spelling loosest xs a → Spelling loosest ys b
+        → Spelling loosest zs c
+        → Spelling levels.Primary
+            (keyword k.If
+            ∷ (xs ++ (keyword k.Then
+            ∷ (ys ++ (keyword k.Else
+            ∷ (zs ++ (keyword k.End ∷ (keyword k.If ∷ []))))))))
+            (tree.choice a b c)
 
   -- e,*
   pub data ListSpelling : List Lexeme → Trees → Type 0 where
     no_expressions : ListSpelling [] tree.none
-    some_expressions : {xs : List Lexeme} {all : Trees} → ExpressionsSpelling xs all → ListSpelling xs all
+    some_expressions : {xs : List Lexeme} {all : Trees} → ExpressionsSpelling xs all
+        → ListSpelling xs all
 
   -- e,+
   pub data ExpressionsSpelling : List Lexeme → Trees → Type 0 where
-    last_expression : {xs : List Lexeme} {a : Tree} → Spelling loosest xs a → ExpressionsSpelling xs (tree.more a tree.none)
-    next_expression : {xs ys : List Lexeme} {a : Tree} {all : Trees} → Spelling loosest xs a → ExpressionsSpelling ys all
+    last_expression : {xs : List Lexeme} {a : Tree} → Spelling loosest xs a
+        → ExpressionsSpelling xs (tree.more a tree.none)
+    next_expression : {xs ys : List Lexeme} {a : Tree} {all : Trees} → Spelling loosest xs a
+        → ExpressionsSpelling ys all
         → ExpressionsSpelling (xs ++ (sign signs.Comma ∷ ys)) (tree.more a all)
 
   -- (name e),+
   pub data PartsSpelling : List Lexeme → NamedTrees → Type 0 where
-    last_part : {n : Text} {xs : List Lexeme} {a : Tree} → Spelling loosest xs a → PartsSpelling (lexeme.name n ∷ xs) (tree.more_named n a tree.none_named)
-    next_part : {n : Text} {xs ys : List Lexeme} {a : Tree} {parts : NamedTrees} → Spelling loosest xs a → PartsSpelling ys parts
-        → PartsSpelling (lexeme.name n ∷ (xs ++ (sign signs.Comma ∷ ys))) (tree.more_named n a parts)
+    last_part : {n : Text} {xs : List Lexeme} {a : Tree} → Spelling loosest xs a
+        → PartsSpelling (lexeme.name n ∷ xs) (tree.more_named n a tree.none_named)
+    next_part : {n : Text} {xs ys : List Lexeme} {a : Tree} {parts : NamedTrees}
+        → Spelling loosest xs a → PartsSpelling ys parts
+        → PartsSpelling (lexeme.name n ∷ (xs ++ (sign signs.Comma ∷ ys)))
+            (tree.more_named n a parts)
 
   -- (e AS name),+
   pub data AdditionsSpelling : List Lexeme → NamedTrees → Type 0 where
     last_addition : {n : Text} {xs : List Lexeme} {a : Tree} → Spelling loosest xs a
-        → AdditionsSpelling (xs ++ (keyword k.As ∷ (lexeme.name n ∷ []))) (tree.more_named n a tree.none_named)
-    next_addition : {n : Text} {xs ys : List Lexeme} {a : Tree} {parts : NamedTrees} → Spelling loosest xs a → AdditionsSpelling ys parts
-        → AdditionsSpelling (xs ++ (keyword k.As ∷ (lexeme.name n ∷ (sign signs.Comma ∷ ys)))) (tree.more_named n a parts)
+        → AdditionsSpelling (xs ++ (keyword k.As ∷ (lexeme.name n ∷ [])))
+            (tree.more_named n a tree.none_named)
+    next_addition : {n : Text} {xs ys : List Lexeme} {a : Tree} {parts : NamedTrees}
+        → Spelling loosest xs a → AdditionsSpelling ys parts
+        → AdditionsSpelling (xs ++ (keyword k.As ∷ (lexeme.name n ∷ (sign signs.Comma ∷ ys))))
+            (tree.more_named n a parts)
 
   -- item,+ where item := COUNT '(' ')' AS name | (SUM | MAX | MIN) '(' e ')' AS name
   pub data SummariesSpelling : List Lexeme → Summaries → Type 0 where
-    last_count : {n : Text} → SummariesSpelling (keyword k.Count ∷ (parenthesized [] ++ (keyword k.As ∷ (lexeme.name n ∷ [])))) (tree.counted n tree.no_summaries)
+    last_count : {n : Text}
+        → SummariesSpelling
+            (keyword k.Count ∷ (parenthesized [] ++ (keyword k.As ∷ (lexeme.name n ∷ []))))
+            (tree.counted n tree.no_summaries)
     next_count : {n : Text} {ys : List Lexeme} {items : Summaries} → SummariesSpelling ys items
-        → SummariesSpelling (keyword k.Count ∷ (parenthesized [] ++ (keyword k.As ∷ (lexeme.name n ∷ (sign signs.Comma ∷ ys))))) (tree.counted n items)
+        → SummariesSpelling
+            (keyword k.Count
+            ∷ (parenthesized []
+            ++ (keyword k.As ∷ (lexeme.name n ∷ (sign signs.Comma ∷ ys)))))
+            (tree.counted n items)
     last_sum : {op : Aggregate} {n : Text} {xs : List Lexeme} {a : Tree} → Spelling loosest xs a
-        → SummariesSpelling (keyword (aggregate_word op) ∷ (parenthesized xs ++ (keyword k.As ∷ (lexeme.name n ∷ [])))) (tree.summed op a n tree.no_summaries)
-    next_sum : {op : Aggregate} {n : Text} {xs ys : List Lexeme} {a : Tree} {items : Summaries} → Spelling loosest xs a → SummariesSpelling ys items
-        → SummariesSpelling (keyword (aggregate_word op) ∷ (parenthesized xs ++ (keyword k.As ∷ (lexeme.name n ∷ (sign signs.Comma ∷ ys))))) (tree.summed op a n items)
+        → SummariesSpelling
+            (keyword (aggregate_word op)
+            ∷ (parenthesized xs
+            ++ (keyword k.As ∷ (lexeme.name n ∷ []))))
+            (tree.summed op a n tree.no_summaries)
+    next_sum : {op : Aggregate} {n : Text} {xs ys : List Lexeme} {a : Tree} {items : Summaries}
+        → Spelling loosest xs a → SummariesSpelling ys items
+        → SummariesSpelling
+            (keyword (aggregate_word op)
+            ∷ (parenthesized xs
+            ++ (keyword k.As
+            ∷ (lexeme.name n ∷ (sign signs.Comma ∷ ys)))))
+            (tree.summed op a n items)
 
 -- the height that no tree of a statement goes beyond
 abbrev pub height_limit : ℕ

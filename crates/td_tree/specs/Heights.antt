@@ -1,4 +1,5 @@
--- The height of a tree (this project's own): 1 for a node without parts, else one more than its highest part.
+-- The height of a tree (this project's own): 1 for a node without parts, else one more than its
+-- highest part.
 use Rattle.std.specs.Prelude.{ℕ, zero, ◌+◌, max}
 use Rattle.td_tree.specs.Trees.{TypeTree, integer, char, boolean, user, tuple_type, relation_type, AttributeTrees, no_attributes, attribute, Tree, literal, name, parentheses, prefix, extract, binary, compare, postfix, select, component, measure, aggregate, relation, headed_relation, tuple, extend, summarize_per, summarize_by, choice, Trees, none, more, NamedTrees, none_named, more_named, Summaries, no_summaries, counted, summed}
 
@@ -32,10 +33,12 @@ abbrev mutual
   height (measure op operand) = height operand + 1
   height (aggregate op operand value) = max (height operand) (height value) + 1
   height (relation elements) = highest elements + 1
-  height (headed_relation heading elements) = max (type_height (relation_type heading)) (highest elements) + 1
+  height (headed_relation heading elements) =
+      max (type_height (relation_type heading)) (highest elements) + 1
   height (tuple parts) = highest_named parts + 1
   height (extend operand parts) = max (height operand) (highest_named parts) + 1
-  height (summarize_per operand per summaries) = max (max (height operand) (height per)) (highest_summary summaries) + 1
+  height (summarize_per operand per summaries) =
+      max (max (height operand) (height per)) (highest_summary summaries) + 1
   height (summarize_by operand by summaries) = max (height operand) (highest_summary summaries) + 1
   height (choice condition a b) = max (max (height condition) (height a)) (height b) + 1
 

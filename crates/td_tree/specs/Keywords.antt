@@ -78,7 +78,13 @@ word_of Write = codes "WRITE"
 
 -- all of them
 abbrev pub keywords : List Keyword
-keywords = Add ∷ All ∷ And ∷ As ∷ Base ∷ Begin ∷ Boolean ∷ But ∷ By ∷ Char ∷ Commit ∷ Compose ∷ Constraint ∷ Count ∷ Delete ∷ Drop ∷ Dump ∷ DInsert ∷ DUnion ∷ Else ∷ End ∷ Extend ∷ False ∷ From ∷ Group ∷ If ∷ In ∷ Init ∷ Insert ∷ Integer ∷ Intersect ∷ IsEmpty ∷ IDelete ∷ IMinus ∷ Join ∷ Key ∷ Matching ∷ Max ∷ Min ∷ Minus ∷ Not ∷ Or ∷ Per ∷ Possrep ∷ Real ∷ Relation ∷ Rename ∷ Rollback ∷ Sum ∷ Summarize ∷ TableDee ∷ TableDum ∷ Tclose ∷ Then ∷ Times ∷ Transaction ∷ True ∷ Tuple ∷ «Type» ∷ Ungroup ∷ Union ∷ Unwrap ∷ Update ∷ Var ∷ Virtual ∷ Where ∷ With ∷ Wrap ∷ Write ∷ []
+keywords = Add ∷ All ∷ And ∷ As ∷ Base ∷ Begin ∷ Boolean ∷ But ∷ By ∷ Char ∷ Commit ∷ Compose
+    ∷ Constraint ∷ Count ∷ Delete ∷ Drop ∷ Dump ∷ DInsert ∷ DUnion ∷ Else ∷ End ∷ Extend ∷ False
+    ∷ From ∷ Group ∷ If ∷ In ∷ Init ∷ Insert ∷ Integer ∷ Intersect ∷ IsEmpty ∷ IDelete ∷ IMinus
+    ∷ Join ∷ Key ∷ Matching ∷ Max ∷ Min ∷ Minus ∷ Not ∷ Or ∷ Per ∷ Possrep ∷ Real ∷ Relation
+    ∷ Rename ∷ Rollback ∷ Sum ∷ Summarize ∷ TableDee ∷ TableDum ∷ Tclose ∷ Then ∷ Times
+    ∷ Transaction ∷ True ∷ Tuple ∷ «Type» ∷ Ungroup ∷ Union ∷ Unwrap ∷ Update ∷ Var ∷ Virtual
+    ∷ Where ∷ With ∷ Wrap ∷ Write ∷ []
 
 -- the reserved word that a text spells, in any ASCII case
 unfoldable pub keyword_of : List ℕ → Option Keyword

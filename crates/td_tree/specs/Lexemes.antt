@@ -7,8 +7,8 @@ use Rattle.td_tree.specs.Keywords.{word_of}
 use Rattle.td_tree.specs.Signs.{sign_text}
 use Rattle.td_tree.specs.TextTokens.{quoted}
 
--- a token without its spelling: a reserved word in any case is that word, digits are their number, a text is what it says;
--- of a THE word the rest stays
+-- a token without its spelling: a reserved word in any case is that word, digits are their number,
+-- a text is what it says; of a THE word the rest stays
 pub data Lexeme : Type 0 where
   keyword : Keyword → Lexeme
   sign : Sign → Lexeme

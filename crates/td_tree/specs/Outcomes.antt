@@ -68,4 +68,6 @@ Answers view (Err faults.Memory) o = Unit {0}
 
 -- the cause that is named is one of the set, and none of the set has a lesser number
 abbrev pub LeastIsNamed : Type 0
-LeastIsNamed = (cs : Causes) → Has cs (least cs) × ((c : Cause) → Has cs c → number_of (least cs) ≤ number_of c)
+LeastIsNamed =
+    (cs : Causes) → Has cs (least cs)
+    × ((c : Cause) → Has cs c → number_of (least cs) ≤ number_of c)

@@ -32,19 +32,26 @@ is_character k = passes (λ c. c == k)
 unfoldable pub sign_at : ℕ → Option Sign
 sign_at c =
     if c == 123 then Some signs.OpenBrace else (if c == 125 then Some signs.CloseBrace
-    else (if c == 40 then Some signs.OpenParenthesis else (if c == 41 then Some signs.CloseParenthesis
+    else (if c == 40 then Some signs.OpenParenthesis
+    else (if c == 41 then Some signs.CloseParenthesis
     else (if c == 44 then Some signs.Comma else (if c == 59 then Some signs.Semicolon
     else (if c == 58 then Some signs.Colon else (if c == 61 then Some signs.Equal
     else (if c == 60 then Some signs.Less else (if c == 62 then Some signs.Greater
     else (if c == 43 then Some signs.Plus else (if c == 45 then Some signs.Minus
-    else (if c == 42 then Some signs.Times else (if c == 47 then Some signs.Divide else None)))))))))))))
+    else (if c == 42 then Some signs.Times
+    else (if c == 47 then Some signs.Divide else None)))))))))))))
 
 -- the piece that begins with a sign and goes on with the symbol: a longer sign, or a comment
 unfoldable pub sign_goes_on : Sign → Option ℕ → Option Piece
 sign_goes_on signs.Colon c = if is_character 61 c then Some (pieces_are.Sign signs.Assign) else None
-sign_goes_on signs.Less c = if is_character 61 c then Some (pieces_are.Sign signs.LessOrEqual) else (if is_character 62 c then Some (pieces_are.Sign signs.NotEqual) else None)
-sign_goes_on signs.Greater c = if is_character 61 c then Some (pieces_are.Sign signs.GreaterOrEqual) else None
-sign_goes_on signs.Divide c = if is_character 47 c then Some LineComment else (if is_character 42 c then Some OpenComment else None)
+sign_goes_on signs.Less c =
+    if is_character 61 c then Some (pieces_are.Sign signs.LessOrEqual)
+    else (if is_character 62 c then Some (pieces_are.Sign signs.NotEqual) else None)
+sign_goes_on signs.Greater c =
+    if is_character 61 c then Some (pieces_are.Sign signs.GreaterOrEqual) else None
+sign_goes_on signs.Divide c =
+    if is_character 47 c then Some LineComment
+    else (if is_character 42 c then Some OpenComment else None)
 sign_goes_on _ c = None
 
 -- a sign, else a word, or what begins no other piece
@@ -56,7 +63,8 @@ sign_or_word None starts = if starts then Word else Bad
 unfoldable pub opens : Option ℕ → Piece
 opens None = Bad
 opens (Some c) =
-    if is_blank c then Blank else (if is_ascii_digit c then Number else (if c == 39 then OpenText else (if c == 124 then Bar
+    if is_blank c then Blank else (if is_ascii_digit c then Number
+    else (if c == 39 then OpenText else (if c == 124 then Bar
     else sign_or_word (sign_at c) (is_word_start c))))
 
 -- the piece with one more symbol; None where it does not go on
@@ -69,7 +77,9 @@ goes_on OpenText c = Some (if is_character 39 c then Text else OpenText)
 goes_on Text c = if is_character 39 c then Some OpenText else None
 goes_on LineComment c = if is_character 10 c then None else Some LineComment
 goes_on OpenComment c = Some (if is_character 42 c then StarredComment else OpenComment)
-goes_on StarredComment c = Some (if is_character 47 c then Comment else (if is_character 42 c then StarredComment else OpenComment))
+goes_on StarredComment c =
+    Some (if is_character 47 c then Comment
+    else (if is_character 42 c then StarredComment else OpenComment))
 goes_on Blank c = None
 goes_on Comment c = None
 goes_on Bad c = None

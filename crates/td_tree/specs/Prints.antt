@@ -27,12 +27,14 @@ abbrev mutual
   type_lexemes boolean = keyword k.Boolean ∷ []
   type_lexemes (user n) = lexeme.name n ∷ []
   type_lexemes (tuple_type heading) = keyword k.Tuple ∷ braced (commas (attribute_lexemes heading))
-  type_lexemes (relation_type heading) = keyword k.Relation ∷ braced (commas (attribute_lexemes heading))
+  type_lexemes (relation_type heading) =
+      keyword k.Relation ∷ braced (commas (attribute_lexemes heading))
 
   -- of each name with its type
   pub attribute_lexemes : AttributeTrees → List (List Lexeme)
   attribute_lexemes no_attributes = []
-  attribute_lexemes (attribute n ty rest) = (lexeme.name n ∷ type_lexemes ty) ∷ attribute_lexemes rest
+  attribute_lexemes (attribute n ty rest) =
+      (lexeme.name n ∷ type_lexemes ty) ∷ attribute_lexemes rest
 
 abbrev pub heading_lexemes : AttributeTrees → List Lexeme
 heading_lexemes heading = braced (commas (attribute_lexemes heading))
@@ -63,10 +65,13 @@ as_lexemes n = keyword k.As ∷ (lexeme.name n ∷ [])
 
 abbrev pub postfix_lexemes : Postfix → List Lexeme
 postfix_lexemes (project attributes) = attributes_lexemes attributes
-postfix_lexemes (rename renamings) = keyword k.Rename ∷ parenthesized (commas (map renaming_lexemes renamings))
-postfix_lexemes (group attributes n) = keyword k.Group ∷ parenthesized (attributes_lexemes attributes ++ as_lexemes n)
+postfix_lexemes (rename renamings) =
+    keyword k.Rename ∷ parenthesized (commas (map renaming_lexemes renamings))
+postfix_lexemes (group attributes n) =
+    keyword k.Group ∷ parenthesized (attributes_lexemes attributes ++ as_lexemes n)
 postfix_lexemes (ungroup n) = keyword k.Ungroup ∷ parenthesized (lexeme.name n ∷ [])
-postfix_lexemes (wrap attributes n) = keyword k.Wrap ∷ parenthesized (attributes_lexemes attributes ++ as_lexemes n)
+postfix_lexemes (wrap attributes n) =
+    keyword k.Wrap ∷ parenthesized (attributes_lexemes attributes ++ as_lexemes n)
 postfix_lexemes (unwrap n) = keyword k.Unwrap ∷ parenthesized (lexeme.name n ∷ [])
 
 abbrev pub prefix_words : Prefix → List Lexeme
@@ -88,14 +93,34 @@ abbrev mutual
   lexemes_of (select ty arguments) = lexeme.name ty ∷ parenthesized (commas (all_lexemes arguments))
   lexemes_of (component rest operand) = lexeme.component rest ∷ parenthesized (lexemes_of operand)
   lexemes_of (measure op operand) = keyword (measure_word op) ∷ parenthesized (lexemes_of operand)
-  lexemes_of (aggregate op operand value) = keyword (aggregate_word op) ∷ parenthesized (lexemes_of operand ++ (sign signs.Comma ∷ lexemes_of value))
+  lexemes_of (aggregate op operand value) =
+      keyword (aggregate_word op)
+      ∷ parenthesized (lexemes_of operand ++ (sign signs.Comma ∷ lexemes_of value))
   lexemes_of (relation elements) = keyword k.Relation ∷ braced (commas (all_lexemes elements))
-  lexemes_of (headed_relation heading elements) = keyword k.Relation ∷ (heading_lexemes heading ++ braced (commas (all_lexemes elements)))
+  lexemes_of (headed_relation heading elements) =
+      keyword k.Relation ∷ (heading_lexemes heading ++ braced (commas (all_lexemes elements)))
   lexemes_of (tuple parts) = keyword k.Tuple ∷ braced (commas (part_lexemes parts))
-  lexemes_of (extend operand parts) = keyword k.Extend ∷ (lexemes_of operand ++ (keyword k.Add ∷ parenthesized (commas (addition_lexemes parts))))
-  lexemes_of (summarize_per operand per summaries) = keyword k.Summarize ∷ (lexemes_of operand ++ (keyword k.Per ∷ (parenthesized (lexemes_of per) ++ (keyword k.Add ∷ parenthesized (commas (summary_lexemes summaries))))))
-  lexemes_of (summarize_by operand by summaries) = keyword k.Summarize ∷ (lexemes_of operand ++ (keyword k.By ∷ (attributes_lexemes by ++ (keyword k.Add ∷ parenthesized (commas (summary_lexemes summaries))))))
-  lexemes_of (choice condition a b) = keyword k.If ∷ (lexemes_of condition ++ (keyword k.Then ∷ (lexemes_of a ++ (keyword k.Else ∷ (lexemes_of b ++ (keyword k.End ∷ (keyword k.If ∷ [])))))))
+  lexemes_of (extend operand parts) =
+      keyword k.Extend
+      ∷ (lexemes_of operand ++ (keyword k.Add ∷ parenthesized (commas (addition_lexemes parts))))
+  lexemes_of (summarize_per operand per summaries) =
+      keyword k.Summarize
+      ∷ (lexemes_of operand
+      ++ (keyword k.Per
+      ∷ (parenthesized (lexemes_of per)
+      ++ (keyword k.Add ∷ parenthesized (commas (summary_lexemes summaries))))))
+  lexemes_of (summarize_by operand by summaries) =
+      keyword k.Summarize
+      ∷ (lexemes_of operand
+      ++ (keyword k.By
+      ∷ (attributes_lexemes by
+      ++ (keyword k.Add ∷ parenthesized (commas (summary_lexemes summaries))))))
+  lexemes_of (choice condition a b) =
+      keyword k.If
+      ∷ (lexemes_of condition
+      ++ (keyword k.Then
+      ∷ (lexemes_of a
+      ++ (keyword k.Else ∷ (lexemes_of b ++ (keyword k.End ∷ (keyword k.If ∷ [])))))))
 
   -- of each expression
   pub all_lexemes : Trees → List (List Lexeme)
@@ -110,13 +135,17 @@ abbrev mutual
   -- of each expression and name, as in EXTEND
   pub addition_lexemes : NamedTrees → List (List Lexeme)
   addition_lexemes none_named = []
-  addition_lexemes (more_named n value rest) = (lexemes_of value ++ as_lexemes n) ∷ addition_lexemes rest
+  addition_lexemes (more_named n value rest) =
+      (lexemes_of value ++ as_lexemes n) ∷ addition_lexemes rest
 
   -- of each aggregate and name
   pub summary_lexemes : Summaries → List (List Lexeme)
   summary_lexemes no_summaries = []
-  summary_lexemes (counted n rest) = (keyword k.Count ∷ (parenthesized [] ++ as_lexemes n)) ∷ summary_lexemes rest
-  summary_lexemes (summed op value n rest) = (keyword (aggregate_word op) ∷ (parenthesized (lexemes_of value) ++ as_lexemes n)) ∷ summary_lexemes rest
+  summary_lexemes (counted n rest) =
+      (keyword k.Count ∷ (parenthesized [] ++ as_lexemes n)) ∷ summary_lexemes rest
+  summary_lexemes (summed op value n rest) =
+      (keyword (aggregate_word op) ∷ (parenthesized (lexemes_of value) ++ as_lexemes n))
+      ∷ summary_lexemes rest
 
 -- the text of a type
 abbrev pub type_print : TypeTree → List ℕ

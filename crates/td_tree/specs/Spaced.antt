@@ -18,24 +18,29 @@ with_spaces (t ∷ u ∷ ts) = t ++ 32 ∷ with_spaces (u ∷ ts)
 abbrev pub texts_of : List Entry → List (List ℕ)
 texts_of = map (λ (token : Entry). token.text)
 
--- the grammar sees the tokens of a text as these lexemes, and the text is its tokens with one space between (own)
+-- the grammar sees the tokens of a text as these lexemes, and the text is its tokens with one space
+-- between (own)
 pub record IsSpaced (text : List ℕ) (seen : List Lexeme) : Type 0 where
   pub tokens_are : lexemes (tokens 0 text) ≡ seen
   pub text_is : text ≡ with_spaces (texts_of (tokens 0 text))
 
 -- whatever spells an expression is the expression's own lexemes
 abbrev pub AreItsOwnLexemes : Type 0
-AreItsOwnLexemes = (level : Level) (xs : List Lexeme) (t : Tree) → Spelling level xs t → xs ≡ lexemes_of t
+AreItsOwnLexemes =
+    (level : Level) (xs : List Lexeme) (t : Tree) → Spelling level xs t → xs ≡ lexemes_of t
 
 -- whatever spells a type is the type's own lexemes
 abbrev pub AreItsOwnTypeLexemes : Type 0
 AreItsOwnTypeLexemes = (xs : List Lexeme) (t : TypeTree) → TypeSpelling xs t → xs ≡ type_lexemes t
 
--- the text of an expression that some tokens spell is tokens that are seen as these, one space between two
+-- the text of an expression that some tokens spell is tokens that are seen as these, one space
+-- between two
 abbrev pub PrintIsSpaced : Type 0
 PrintIsSpaced = (level : Level) (ts : List Entry) (t : Tree) → IsExpression level (lexemes ts) t
     → IsSpaced (print t) (lexemes ts)
 
 -- the text of a type that some tokens spell is tokens that are seen as these, one space between two
 abbrev pub TypePrintIsSpaced : Type 0
-TypePrintIsSpaced = (ts : List Entry) (t : TypeTree) → TypeSpelling (lexemes ts) t → IsSpaced (type_print t) (lexemes ts)
+TypePrintIsSpaced =
+    (ts : List Entry) (t : TypeTree) → TypeSpelling (lexemes ts) t
+    → IsSpaced (type_print t) (lexemes ts)

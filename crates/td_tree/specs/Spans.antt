@@ -9,7 +9,8 @@ use Rattle.td_tree.specs.TextTokens.{IsQuotedText}
 -- each token is the slice of the script at its span
 abbrev pub AreSlices : List ℕ → List Entry → Type 0
 AreSlices script [] = ⊤
-AreSlices script (t ∷ ts) = (t.text ≡ take (t.stop - t.start) (drop t.start script)) × AreSlices script ts
+AreSlices script (t ∷ ts) =
+    (t.text ≡ take (t.stop - t.start) (drop t.start script)) × AreSlices script ts
 
 -- what a token is, its bytes say
 abbrev pub AreOfTheirKind : List Entry → Type 0
@@ -21,7 +22,8 @@ abbrev pub AreTexts : List Entry → Type 0
 AreTexts [] = ⊤
 AreTexts (t ∷ ts) = (t.kind ≡ kinds.Text → IsQuotedText t.text) × AreTexts ts
 
--- each token has a byte and begins where the one before it ends or behind it, from the first offset to the last
+-- each token has a byte and begins where the one before it ends or behind it, from the first offset
+-- to the last
 abbrev pub Ascends : ℕ → ℕ → List Entry → Type 0
 Ascends from to [] = from ≤ to
 Ascends from to (t ∷ ts) = (from ≤ t.start) × (t.start < t.stop) × Ascends t.stop to ts

@@ -1,4 +1,5 @@
--- What the pieces are, said of their characters in the language's own words (this project's own). None is a byte that begins no character.
+-- What the pieces are, said of their characters in the language's own words (this project's own).
+-- None is a byte that begins no character.
 use Rattle.std.specs.Prelude.{◌≡◌, ℕ, Bool, false, not, ◌&&◌, if◌then◌else◌, List, [], ◌∷◌, ◌++◌, map, Option, Some, IsTrue}
 use Rattle.std.specs.Char.{is_ascii_digit}
 use Rattle.std.specs.List.{list_all}
@@ -46,7 +47,8 @@ quote = Some 39 ∷ []
 -- each quote doubled
 abbrev pub quotes_doubled : List (Option ℕ) → List (Option ℕ)
 quotes_doubled [] = []
-quotes_doubled (c ∷ cs) = if is_character 39 c then quote ++ (quote ++ quotes_doubled cs) else c ∷ quotes_doubled cs
+quotes_doubled (c ∷ cs) =
+    if is_character 39 c then quote ++ (quote ++ quotes_doubled cs) else c ∷ quotes_doubled cs
 
 -- a quote, and then anything in which each quote is doubled
 pub record IsOpenText (cs : List (Option ℕ)) : Type 0 where

@@ -17,12 +17,14 @@ pub record Entry : Type 0 where
 -- the token that a piece is, if it is one
 abbrev pub entry_of : Option Kind → ℕ → List ℕ → List Entry
 entry_of None at text = []
-entry_of (Some kind) at text = record { kind = kind; text = text; start = at; stop = at + length text } ∷ []
+entry_of (Some kind) at text =
+    record { kind = kind; text = text; start = at; stop = at + length text } ∷ []
 
 -- the tokens among these pieces, which begin at this offset
 abbrev pub tokens_from : ℕ → List (List Symbol) → List Entry
 tokens_from at [] = []
-tokens_from at (p ∷ ps) = entry_of (kind_of p) at (spell p) ++ tokens_from (at + length (spell p)) ps
+tokens_from at (p ∷ ps) =
+    entry_of (kind_of p) at (spell p) ++ tokens_from (at + length (spell p)) ps
 
 -- the tokens of these bytes, which begin at this offset of a script
 unfoldable pub tokens : ℕ → List ℕ → List Entry
@@ -42,7 +44,8 @@ abbrev pub put : Entry → List (List Entry) → List (List Entry)
 put token [] = (token ∷ []) ∷ []
 put token (s ∷ ss) = (token ∷ s) ∷ ss
 
--- the statements of these tokens: each up to and with a `;`; the tokens left after the last are one more
+-- the statements of these tokens: each up to and with a `;`; the tokens left after the last are one
+-- more
 abbrev pub split : List Entry → List (List Entry)
 split [] = []
 split (token ∷ rest) = if ends token then (token ∷ []) ∷ split rest else put token (split rest)
@@ -70,7 +73,8 @@ statements at bytes = split (tokens at bytes)
 abbrev pub first_ended : ℕ → List ℕ → Option (List Entry)
 first_ended at bytes = up_to ends (tokens at bytes)
 
--- what a cutter holds: the bytes that were fed and not yet taken off, where they begin, and whether all were fed
+-- what a cutter holds: the bytes that were fed and not yet taken off, where they begin, and whether
+-- all were fed
 pub record Held : Type 0 where
   pub bytes : List ℕ
   pub offset : ℕ
@@ -102,4 +106,5 @@ behind h = end_of_first h.offset (first_statement h)
 
 -- what is held once the bytes up to the end of the first statement are taken off
 abbrev pub after : Held → Held
-after h = record { bytes = drop (behind h - h.offset) h.bytes; offset = behind h; finished = h.finished }
+after h =
+    record { bytes = drop (behind h - h.offset) h.bytes; offset = behind h; finished = h.finished }

@@ -1,4 +1,5 @@
--- A script as its characters, and the bytes that begin none (UTF-8 is the language's choice; strays are this project's own).
+-- A script as its characters, and the bytes that begin none (UTF-8 is the language's choice; strays
+-- are this project's own).
 use Rattle.std.specs.Prelude.{◌≡◌, ◌++◌, encode_utf8, ℕ, zero, suc, ◌-◌, if◌then◌else◌, List, [], ◌∷◌, Option, Some, None, length, take, slice_index, slice_get}
 use Rattle.std.specs.Char.{IsScalar}
 use Rattle.std.specs.List.{flat_map}
@@ -43,9 +44,12 @@ spell = flat_map (λ (s : Symbol). s.text)
 -- the character stands here in UTF-8; where none begins, one byte stands for itself
 abbrev pub IsFront : Option ℕ → List ℕ → List ℕ → Type 0
 IsFront (Some c) text bytes = IsScalar c × (text ≡ encode_utf8 c)
-IsFront None text bytes = (length text ≡ 1) × ((c : ℕ) (rest : List ℕ) → IsScalar c → bytes ≡ encode_utf8 c ++ rest → ⊥)
+IsFront None text bytes =
+    (length text ≡ 1) × ((c : ℕ) (rest : List ℕ) → IsScalar c → bytes ≡ encode_utf8 c ++ rest → ⊥)
 
 -- these symbols spell the bytes, each the character that begins there, or a byte where none does
 abbrev pub AreSymbols : List Symbol → List ℕ → Type 0
 AreSymbols [] bytes = bytes ≡ []
-AreSymbols (s ∷ ss) bytes = (rest : List ℕ) × (bytes ≡ s.text ++ rest) × IsFront s.character s.text bytes × AreSymbols ss rest
+AreSymbols (s ∷ ss) bytes =
+    (rest : List ℕ) × (bytes ≡ s.text ++ rest) × IsFront s.character s.text bytes
+    × AreSymbols ss rest

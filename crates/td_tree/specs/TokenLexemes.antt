@@ -36,4 +36,5 @@ lexemes = map (λ (token : Entry). lexeme_of token.kind token.text)
 -- the grammar sees those tokens as bad whose kind is bad, and no other
 abbrev pub AreBadWhereSeen : List Entry → Type 0
 AreBadWhereSeen [] = ⊤
-AreBadWhereSeen (t ∷ ts) = ((lexeme_of t.kind t.text ≡ bad) ↔ (t.kind ≡ kinds.Bad)) × AreBadWhereSeen ts
+AreBadWhereSeen (t ∷ ts) =
+    ((lexeme_of t.kind t.text ≡ bad) ↔ (t.kind ≡ kinds.Bad)) × AreBadWhereSeen ts

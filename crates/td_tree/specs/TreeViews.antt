@@ -35,7 +35,8 @@ abbrev mutual
 
   pub heading_row : {m : _} → Row_of-AttributeTree m → trees.AttributeTrees
   heading_row end_of-AttributeTree = trees.no_attributes
-  heading_row (more_of-AttributeTree name ty rest) = trees.attribute name (type_of ty) (heading_row rest)
+  heading_row (more_of-AttributeTree name ty rest) =
+      trees.attribute name (type_of ty) (heading_row rest)
 
 -- names with their types
 abbrev pub heading_of : List AttributeTree → trees.AttributeTrees
@@ -79,12 +80,16 @@ abbrev mutual
   tree_of (e.Measure' op _ operand) = trees.measure op (tree_of operand)
   tree_of (e.Aggregate' op _ operand _ value) = trees.aggregate op (tree_of operand) (tree_of value)
   tree_of (e.Relation' _ elements) = trees.relation (trees_row elements)
-  tree_of (e.HeadedRelation' heading _ elements) = trees.headed_relation (heading_of heading.items) (trees_row elements)
+  tree_of (e.HeadedRelation' heading _ elements) =
+      trees.headed_relation (heading_of heading.items) (trees_row elements)
   tree_of (e.Tuple' _ parts) = trees.tuple (named_row parts)
   tree_of (e.Extend' _ operand _ parts) = trees.extend (tree_of operand) (named_row parts)
-  tree_of (e.SummarizePer' _ operand _ per _ summaries) = trees.summarize_per (tree_of operand) (tree_of per) (summaries_row summaries)
-  tree_of (e.SummarizeBy' _ operand by _ summaries) = trees.summarize_by (tree_of operand) (attributes_of by) (summaries_row summaries)
-  tree_of (e.If' _ condition _ consequent _ alternative) = trees.choice (tree_of condition) (tree_of consequent) (tree_of alternative)
+  tree_of (e.SummarizePer' _ operand _ per _ summaries) =
+      trees.summarize_per (tree_of operand) (tree_of per) (summaries_row summaries)
+  tree_of (e.SummarizeBy' _ operand by _ summaries) =
+      trees.summarize_by (tree_of operand) (attributes_of by) (summaries_row summaries)
+  tree_of (e.If' _ condition _ consequent _ alternative) =
+      trees.choice (tree_of condition) (tree_of consequent) (tree_of alternative)
 
   pub trees_row : {m : _} → Row_of-Expr m → trees.Trees
   trees_row end_of-Expr = trees.none
@@ -92,7 +97,8 @@ abbrev mutual
 
   pub named_row : {m : _} → Row_of-NamedExpr m → trees.NamedTrees
   named_row end_of-NamedExpr = trees.none_named
-  named_row (more_of-NamedExpr name value rest) = trees.more_named name (tree_of value) (named_row rest)
+  named_row (more_of-NamedExpr name value rest) =
+      trees.more_named name (tree_of value) (named_row rest)
 
   pub summaries_row : {m : _} → Row_of-Summary m → trees.Summaries
   summaries_row end_of-Summary = trees.no_summaries
@@ -121,7 +127,8 @@ abbrev pub assignment_of : Assignment → trees.Assignment
 assignment_of (a.Assign target source) = trees.assign target (tree_of source)
 assignment_of (a.Insert target source) = trees.insert target (tree_of source)
 assignment_of (a.Delete target condition) = trees.delete target (option_map tree_of condition)
-assignment_of (a.Update target condition settings) = trees.update target (option_map tree_of condition) (named_of settings.items)
+assignment_of (a.Update target condition settings) =
+    trees.update target (option_map tree_of condition) (named_of settings.items)
 
 -- the names of each key
 abbrev keys_of : List (Vec Text) → List (List Text)
@@ -129,10 +136,14 @@ keys_of = map (λ (key : Vec Text). key.items)
 
 abbrev pub statement_of : Statement → trees.Statement
 statement_of q.Empty = trees.empty
-statement_of (q.DefineType d) = trees.define_type d.name (heading_of d.components.items) (option_map tree_of d.constraint)
+statement_of (q.DefineType d) =
+    trees.define_type d.name (heading_of d.components.items) (option_map tree_of d.constraint)
 statement_of (q.DropType name) = trees.drop_type name
-statement_of (q.DefineBase d) = trees.define_base d.name (heading_of d.heading.items) (option_map tree_of d.init) (keys_of d.keys.items)
-statement_of (q.DefineVirtual d) = trees.define_virtual d.name (tree_of d.expression) (keys_of d.keys.items)
+statement_of (q.DefineBase d) =
+    trees.define_base d.name (heading_of d.heading.items) (option_map tree_of d.init)
+    (keys_of d.keys.items)
+statement_of (q.DefineVirtual d) =
+    trees.define_virtual d.name (tree_of d.expression) (keys_of d.keys.items)
 statement_of (q.DropVar name) = trees.drop_var name
 statement_of (q.DefineConstraint name condition) = trees.define_constraint name (tree_of condition)
 statement_of (q.DropConstraint name) = trees.drop_constraint name

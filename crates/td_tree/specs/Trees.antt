@@ -1,4 +1,5 @@
--- Types, expressions and statements as they are written, apart from how the code stores them. Parentheses are nodes.
+-- Types, expressions and statements as they are written, apart from how the code stores them.
+-- Parentheses are nodes.
 use Rattle.std.specs.Prelude.{ℕ, Bool, List, Option}
 use Rattle.td_tree.specs.declared.operator.Operator.{Operator}
 use Rattle.td_tree.specs.declared.operator.Comparison.{Comparison}
@@ -103,7 +104,8 @@ pub data Statement : Type 0 where
   empty : Statement
   define_type : (name : Text) (components : AttributeTrees) (constraint : Option Tree) → Statement
   drop_type : (name : Text) → Statement
-  define_base : (name : Text) (heading : AttributeTrees) (init : Option Tree) (keys : List (List Text)) → Statement
+  define_base : (name : Text) (heading : AttributeTrees) (init : Option Tree)
+      (keys : List (List Text)) → Statement
   define_virtual : (name : Text) (expression : Tree) (keys : List (List Text)) → Statement
   drop_var : (name : Text) → Statement
   define_constraint : (name : Text) (condition : Tree) → Statement
