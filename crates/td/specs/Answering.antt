@@ -1,15 +1,8 @@
--- What a function answers of an outcome (this project's own).
-use Rattle.std.specs.Prelude.{◌≡◌, Some, Result, Ok, Err}
-use Rattle.td_tree.specs.Outcomes.{Outcome, Valued, named_cause}
+-- Why a function refuses (this project's own).
+use Rattle.std.specs.Prelude.{◌≡◌}
 use Rattle.td_tree.specs.declared.cause.Cause.{Cause}
 use Rattle.td_tree.specs.declared.fault.Fault.{Fault}
 use Rattle.td_tree.specs.declared.fault.Fault.TheVariants as faults
-
--- the value, or the least of the causes; want of memory says nothing
-abbrev pub Answers : {A : Type 0} → Result A Fault → Outcome A → Type 0
-Answers (Ok x) o = o ≡ Valued x
-Answers (Err (faults.Refused cause)) o = named_cause o ≡ Some cause
-Answers (Err faults.Memory) o = Unit {0}
 
 -- a refusal is by this cause, and only where the fact holds; want of memory says nothing
 abbrev pub RefusesBy : Cause → Type 0 → Fault → Type 0

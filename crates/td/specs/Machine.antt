@@ -2,7 +2,7 @@
 -- and the texts are this project's own).
 use Rattle.std.specs.Prelude.{◌≡◌, ℕ, ◌+◌, Bool, true, false, ◌&&◌, List, [], ◌∷◌, ◌++◌, Option, Some, None, codes, decimal, nat_lt, if◌then◌else◌}
 use Rattle.td_tree.specs.Causes.{name_of, number_of}
-use Rattle.td_tree.specs.Outcomes.{Only, Outcome, Valued, Refused, least, with_value, with_both}
+use Rattle.td_tree.specs.Outcomes.{Only, Outcome, Valued, Refused, least, value_if, with_value, with_both}
 use Rattle.td_tree.specs.StatementGrammar.{StatementSpelling}
 use Rattle.td_tree.specs.Statements.{Entry}
 use Rattle.td_tree.specs.TokenLexemes.{lexemes}
@@ -57,7 +57,7 @@ free (Some r) = Refused (Only causes.NameTaken)
 
 -- keys that do not fit the heading are KEY_DECLARATION
 abbrev pub fitting : List (List (List ℕ)) → Attributes → Outcome Attributes
-fitting keys heading = if keys_fit heading keys then Valued heading else Refused (Only causes.KeyDeclaration)
+fitting keys heading = value_if (keys_fit heading keys) heading causes.KeyDeclaration
 
 abbrev pub declared : Database → List ℕ → List (List ℕ) → List (List (List ℕ)) → Outcome Attributes
 declared db n names keys = with_both (free (relvar_at n db)) (with_value (heading_meaning names) (fitting keys)) (λ _ heading. Valued heading)
@@ -70,7 +70,7 @@ new_relvar n keys heading = record { name = n; keys = keys; body = record { head
 
 -- a source of another heading is HEADING
 abbrev pub assignable : Relvar → Relation → Outcome Relation
-assignable target source = if same_heading source.heading target.body.heading then Valued source else Refused (Only causes.Heading)
+assignable target source = value_if (same_heading source.heading target.body.heading) source causes.Heading
 
 -- the first relvar of which a key does not hold
 abbrev pub first_broken : Database → Option (List ℕ)

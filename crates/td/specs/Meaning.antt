@@ -3,7 +3,7 @@
 use Rattle.std.specs.Prelude.{ℕ, ℤ, pos, ◌-ℤ◌, ◌&&◌, Bool, true, List, [], ◌∷◌, ◌++◌, Option, Some, None, map, fold, if◌then◌else◌}
 use Rattle.std.specs.List.{list_all}
 use Rattle.td_tree.specs.declared.cause.Cause.TheVariants as causes
-use Rattle.td_tree.specs.Outcomes.{Only, Outcome, Valued, Refused, with_value, with_both}
+use Rattle.td_tree.specs.Outcomes.{Only, Outcome, Valued, Refused, value_if, with_value, with_both}
 use Rattle.td_types.specs.Headings.{are_distinct, with_attribute}
 use Rattle.td_types.specs.Types.{Attributes}
 use Rattle.td_types.specs.Types as types
@@ -26,7 +26,7 @@ integer_heading = fold (λ heading n. with_attribute heading (n, types.integer))
 
 -- the heading that the names make; a name twice is HEADING
 abbrev pub heading_meaning : List (List ℕ) → Outcome Attributes
-heading_meaning names = if are_distinct names then Valued (integer_heading names) else Refused (Only causes.Heading)
+heading_meaning names = value_if (are_distinct names) (integer_heading names) causes.Heading
 
 -- ---- relations as they are written
 
@@ -68,12 +68,12 @@ is_relation names tuples = are_distinct_if names && are_tuples tuples && have_he
 -- the relation with these tuples; what is none is HEADING
 abbrev pub literal_meaning : Option (List (List ℕ)) → List TupleLiteral → Outcome Relation
 literal_meaning names tuples =
-    if is_relation names tuples then Valued (record { heading = literal_heading names (tuple_values tuples); rows = set_of tuple_order (tuple_values tuples) }) else Refused (Only causes.Heading)
+    value_if (is_relation names tuples) (record { heading = literal_heading names (tuple_values tuples); rows = set_of tuple_order (tuple_values tuples) }) causes.Heading
 
 -- the tuples that are in either; headings that are not one are HEADING
 abbrev pub union_of : Relation → Relation → Outcome Relation
 union_of r s =
-    if same_heading r.heading s.heading then Valued (record { heading = r.heading; rows = set_of tuple_order (r.rows ++ s.rows) }) else Refused (Only causes.Heading)
+    value_if (same_heading r.heading s.heading) (record { heading = r.heading; rows = set_of tuple_order (r.rows ++ s.rows) }) causes.Heading
 
 -- a name that is no relvar is NAME_UNKNOWN
 abbrev pub known : Option Relvar → Outcome Relvar

@@ -2,9 +2,8 @@
 ghost use Rattle.std.specs.Prelude.{◌≡◌, ◌++◌, IfOk, Ok};
 ghost use Rattle.std.specs.List.{All};
 ghost use Rattle.td_tree.specs.Outcomes as outcomes;
-ghost use Rattle.td_tree.specs.Outcomes.{Outcome, with_both};
+ghost use Rattle.td_tree.specs.Outcomes.{Answers, Outcome, with_both};
 ghost use Rattle.td_value.specs.Values.{IsTupleOf, Relation};
-ghost use Rattle.td.specs.Answering.{Answers};
 ghost use Rattle.td.specs.Meaning as spec;
 ghost use Rattle.td.specs.Meaning.{meaning, operand_meaning};
 ghost use Rattle.td.specs.TreeViews.{expression_of, operand_of};
@@ -19,7 +18,7 @@ use td_value::value::{Rel, Tuple};
 
 /// The relation that an operand means; NAME_UNKNOWN where there is no such relvar.
 fn operand_value(alloc: Global, database: &Database, operand: &Operand) -> Result<Rel, Fault>
-    ensures { Answers result (operand_meaning database.now (operand_of operand.now)) }
+    ensures { Answers (λ r. r) result (operand_meaning database.now (operand_of operand.now)) }
 {
     match operand {
         Operand::Relvar(name) => match database.get(name) {
@@ -53,7 +52,7 @@ fn both<T: Drop, U: Drop>(
 
 /// The union of two relations; HEADING where their headings are not one.
 fn union(left: Rel, right: Rel) -> Result<Rel, Fault>
-    ensures { Answers result (spec.union_of left right) }
+    ensures { Answers (λ r. r) result (spec.union_of left right) }
 {
     if left.heading() != right.heading() {
         return Err(Fault::Refused(Cause::Heading));
@@ -77,7 +76,8 @@ fn lesser(one: Cause, other: Cause) -> Cause
 /// The union of what two operands mean: of their causes the least is named.
 #[tactic(auto, using(crate::proofs::Unions::both_valued, crate::proofs::Unions::both_refused, crate::proofs::Unions::left_refused, crate::proofs::Unions::right_refused))]
 fn union_of(left: Result<Rel, Fault>, right: Result<Rel, Fault>) -> Result<Rel, Fault>
-    ensures { (o p : Outcome Relation) → Answers left o → Answers right p → Answers result (with_both o p spec.union_of) }
+    ensures { (o p : Outcome Relation) → Answers (λ r. r) left o → Answers (λ r. r) right p
+        → Answers (λ r. r) result (with_both o p spec.union_of) }
 {
     match (left, right) {
         (Ok(left), Ok(right)) => union(left, right),
@@ -91,7 +91,7 @@ fn union_of(left: Result<Rel, Fault>, right: Result<Rel, Fault>) -> Result<Rel, 
 
 /// The relation that an expression means, or the least of its causes.
 pub fn value(alloc: Global, database: &Database, expression: &Expression) -> Result<Rel, Fault>
-    ensures { Answers result (meaning database.now (expression_of expression.now)) }
+    ensures { Answers (λ r. r) result (meaning database.now (expression_of expression.now)) }
 {
     let mut value = operand_value(alloc, database, &expression.first);
     for operand in &expression.others {

@@ -7,7 +7,8 @@ ghost use Rattle.td_value.specs.Views.{relation_of};
 ghost use Rattle.td_types.specs.Headings.{are_distinct};
 ghost use Rattle.td_types.specs.Types as types;
 ghost use Rattle.td_types.specs.Views.{pairs_of};
-ghost use Rattle.td.specs.Answering.{Answers, RefusesBy};
+ghost use Rattle.td_tree.specs.Outcomes.{Answers};
+ghost use Rattle.td.specs.Answering.{RefusesBy};
 ghost use Rattle.td.specs.Meaning as spec;
 ghost use Rattle.td.specs.Meaning.{are_distinct_if, are_tuples, attribute_names, have_heading, literal_meaning, tuple_values, written};
 ghost use Rattle.td.specs.TreeViews.{attributes_of, names_if, tuple_of, tuples_of};
@@ -138,7 +139,8 @@ pub fn headed(heading: Heading, tuples: Vec<Tuple>) -> Result<Rel, Fault>
 /// The relation that a literal means.
 #[tactic(auto, using(crate::proofs::Literals::no_tuples, crate::proofs::Literals::no_heading, crate::proofs::Literals::no_fit, crate::proofs::Literals::is_one))]
 pub fn literal_value(alloc: Global, literal: &RelationLiteral) -> Result<Rel, Fault>
-    ensures { Answers result (literal_meaning (names_if literal.now.heading) (tuples_of literal.now.tuples.items)) }
+    ensures { Answers (λ r. r) result
+        (literal_meaning (names_if literal.now.heading) (tuples_of literal.now.tuples.items)) }
 {
     let tuples = tuples_value(alloc, &literal.tuples)?;
     let heading = literal_heading(alloc, &literal.heading, &tuples)?;

@@ -1,7 +1,6 @@
 //! What statements do to a database, and what is answered.
 ghost use Rattle.std.specs.Prelude.{◌≡◌, [], ◌∷◌, ◌++◌, IfOk, None, OnErr, map, true};
-ghost use Rattle.td_tree.specs.Outcomes.{with_both};
-ghost use Rattle.td.specs.Answering.{Answers};
+ghost use Rattle.td_tree.specs.Outcomes.{Answers, with_both};
 ghost use Rattle.td.specs.Machine as machine;
 ghost use Rattle.td.specs.Assignable.{IsAssignable};
 ghost use Rattle.td.specs.Machine.{assignable, changed, new_relvar, stepped};
@@ -40,7 +39,8 @@ fn write(alloc: Global, database: &Database, expression: &Expression) -> Result<
 
 /// The heading that a definition declares, or the least of its causes.
 fn declared(alloc: Global, database: &Database, definition: &Definition) -> Result<Heading, Fault>
-    ensures { Answers result (machine.declared database.now definition.now.name definition.now.heading.items (map (λ key. key.items) definition.now.keys.items)) }
+    ensures { Answers (λ h. h) result (machine.declared database.now definition.now.name
+        definition.now.heading.items (map (λ key. key.items) definition.now.keys.items)) }
 {
     if database.get(&definition.name).is_some() {
         return Err(Fault::Refused(Cause::NameTaken));
@@ -55,7 +55,9 @@ fn declared(alloc: Global, database: &Database, definition: &Definition) -> Resu
 
 /// The relation that an assignment gives to its target, or the least of its causes.
 fn assigned(alloc: Global, database: &Database, assignment: &Assignment) -> Result<Rel, Fault>
-    ensures { Answers result (with_both (known (relvar_at assignment.now.target database.now)) (meaning database.now (expression_of assignment.now.source)) assignable) }
+    ensures { Answers (λ r. r) result (with_both
+        (known (relvar_at assignment.now.target database.now))
+        (meaning database.now (expression_of assignment.now.source)) assignable) }
 {
     let Some(relvar) = database.get(&assignment.target) else {
         return Err(Fault::Refused(Cause::NameUnknown));

@@ -1,8 +1,7 @@
 use Rattle.std.proofs.Common.{Err, refl, subst}
 use Rattle.td.specs.Database.{relvar_at, with_body}
-use Rattle.td_tree.specs.Outcomes.{Outcome, with_both}
+use Rattle.td_tree.specs.Outcomes.{Answers, Outcome, with_both}
 use Rattle.td_value.specs.Values.{Relation}
-use Rattle.td.specs.Answering.{Answers}
 use Rattle.td.specs.Machine.{assignable, changed}
 use Rattle.td.specs.Meaning.{known, meaning}
 use Rattle.td.specs.TreeViews.{expression_of}
@@ -17,4 +16,4 @@ returns-in-Err-Refused-clause-done c =
     let db = c.args.database.now in let target = c.args.assignment.now.target in
     let o : Outcome Relation = with_both (known (relvar_at target db)) (meaning db (expression_of c.args.assignment.now.source)) assignable in
     outcome_does db o (λ source. changed db (with_body target source db))
-    c.in-Err-Refused.cause c.refused.result (subst (λ f. Answers {A = Relation} (Err f) o) c.in-Err-Refused.field-0-is c.in-Err-Refused.ensures) c.refused.ensures.flag c.refused.ensures.text
+    c.in-Err-Refused.cause c.refused.result (subst (λ f. Answers {X = Relation} {A = Relation} (λ r. r) (Err f) o) c.in-Err-Refused.field-0-is c.in-Err-Refused.ensures) c.refused.ensures.flag c.refused.ensures.text
