@@ -21,6 +21,7 @@ pub mod Static
 pub mod Stepping
 pub mod ToldLaws
 pub mod Turning
+pub mod UnionLaws
 pub mod Unions
 pub mod Worked
 pub mod WorkedRuns

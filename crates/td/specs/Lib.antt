@@ -5,6 +5,7 @@ pub mod DatabaseCode
 pub mod Faults
 pub mod FirstPath
 pub mod KeyParts
+pub mod Laws
 pub mod Legality
 pub mod Machine
 pub mod Meaning

@@ -2,6 +2,7 @@
 ghost use Rattle.std.specs.Prelude.{◌≡◌, ◌≢◌, Bool, List, [], None};
 ghost use Rattle.td_tree.specs.Statements.{Entry};
 ghost use Rattle.td.specs.Database.{Database};
+ghost use Rattle.td.specs.Laws.{UnionsAreByMembership};
 ghost use Rattle.td.specs.Legality.{HoldingIsTested, IsTested, KeysAreTested, LegalityIsTested};
 ghost use Rattle.td.specs.Machine.{Progress, Runs, Step, Steps};
 
@@ -51,4 +52,9 @@ pub fn holding_is_tested()
 #[tactic(auto, using(crate::proofs::LegalTests::legality_is_tested))]
 pub fn legality_is_tested()
     ensures { LegalityIsTested }
+{}
+
+/// A tuple is in the union of two relations exactly where it is in either.
+pub fn unions_are_by_membership()
+    ensures { UnionsAreByMembership }
 {}

@@ -12,7 +12,7 @@ use crate::engine::relvar::Relvar;
 use std::alloc::{AllocError, Global};
 use std::marker::Model;
 use td_tree::name::Name;
-use td_value::value::Rel;
+use td_value::relation::Rel;
 
 /// The base relvars, in order of definition.
 #[derive(Drop)]

@@ -14,7 +14,8 @@ use crate::engine::tree::{Expression, Operand};
 use std::alloc::{AllocError, Global};
 use td_tree::cause::Cause;
 use td_tree::fault::Fault;
-use td_value::value::{Rel, Tuple};
+use td_value::relation::Rel;
+use td_value::tuple::Tuple;
 
 /// The relation that an operand means; NAME_UNKNOWN where there is no such relvar.
 fn operand_value(alloc: Global, database: &Database, operand: &Operand) -> Result<Rel, Fault>

@@ -16,9 +16,11 @@ mod tests;
 use std::alloc::{AllocError, Global};
 use std::cmp::Ordering;
 use td_tree::name::Name;
+use td_types::heading::Heading;
 use td_types::names::{are_distinct, is_among};
-use td_types::ty::Heading;
-use td_value::value::{Rel, Tuple, Value};
+use td_value::relation::Rel;
+use td_value::tuple::Tuple;
+use td_value::value::Value;
 
 /// Whether each name is an attribute of the heading.
 fn are_attributes(names: &[Name], heading: &Heading) -> bool

@@ -14,8 +14,11 @@ use std::alloc::{AllocError, Global};
 use td_tree::cause::Cause;
 use td_tree::fault::Fault;
 use td_tree::name::Name;
-use td_types::ty::{Heading, Ty};
-use td_value::value::{Rel, Tuple, Value};
+use td_types::heading::Heading;
+use td_types::ty::Ty;
+use td_value::relation::Rel;
+use td_value::tuple::Tuple;
+use td_value::value::Value;
 
 /// The names, each with the type INTEGER.
 fn integers(alloc: Global, names: &[Name]) -> Result<Vec<(Name, Ty)>, AllocError>

@@ -2,7 +2,7 @@
 ghost use Rattle.td_value.specs.Values.{IsRelation};
 
 use td_tree::name::Name;
-use td_value::value::Rel;
+use td_value::relation::Rel;
 
 /// A base relvar: its declared keys, and its body, a relation with the relvar's heading.
 #[derive(Drop)]

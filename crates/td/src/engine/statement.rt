@@ -23,8 +23,8 @@ use std::alloc::{AllocError, Global};
 use td_tree::cause::Cause;
 use td_tree::fault::Fault;
 use td_tree::name::Name;
-use td_types::ty::Heading;
-use td_value::value::Rel;
+use td_types::heading::Heading;
+use td_value::relation::Rel;
 
 /// Prints the relation that an expression means.
 fn write(alloc: Global, database: &Database, expression: &Expression) -> Result<Answer, AllocError>
@@ -39,7 +39,7 @@ fn write(alloc: Global, database: &Database, expression: &Expression) -> Result<
 
 /// The heading that a definition declares, or the least of its causes.
 fn declared(alloc: Global, database: &Database, definition: &Definition) -> Result<Heading, Fault>
-    ensures { Answers (λ x. x) result (machine.declared database.now definition.now.name
+    ensures { Answers (λ h. h) result (machine.declared database.now definition.now.name
         definition.now.heading.items (map (λ key. key.items) definition.now.keys.items)) }
 {
     if database.get(&definition.name).is_some() {
@@ -55,7 +55,8 @@ fn declared(alloc: Global, database: &Database, definition: &Definition) -> Resu
 
 /// The relation that an assignment gives to its target, or the least of its causes.
 fn assigned(alloc: Global, database: &Database, assignment: &Assignment) -> Result<Rel, Fault>
-    ensures { Answers (λ x. x) result (with_both (known (relvar_at assignment.now.target database.now))
+    ensures { Answers (λ r. r) result (with_both
+        (known (relvar_at assignment.now.target database.now))
         (meaning database.now (expression_of assignment.now.source)) assignable) }
 {
     let Some(relvar) = database.get(&assignment.target) else {

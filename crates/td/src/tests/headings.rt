@@ -5,8 +5,9 @@ use std::test::Fail;
 use td_tree::cause::Cause;
 use td_tree::fault::Fault;
 use td_tree::name::{Name, is_name};
+use td_types::heading::Heading;
 use td_types::text::{put_relation_type, type_text};
-use td_types::ty::{Heading, Ty};
+use td_types::ty::Ty;
 
 fn name(alloc: Global, text: &str) -> Result<Name, Fault> {
     if !is_name(text) {

@@ -8,8 +8,12 @@ use std::test::Fail;
 use td_tree::cause::Cause;
 use td_tree::fault::Fault;
 use td_tree::name::{Name, is_name};
-use td_types::ty::{Heading, Ty};
-use td_value::value::{Node, Rel, Tuple, User, Value};
+use td_types::heading::Heading;
+use td_types::ty::Ty;
+use td_value::relation::Rel;
+use td_value::tuple::Tuple;
+use td_value::user::User;
+use td_value::value::{Node, Value};
 
 fn name(alloc: Global, text: &str) -> Result<Name, Fault> {
     if !is_name(text) {

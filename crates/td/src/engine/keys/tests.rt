@@ -5,7 +5,9 @@ use std::alloc::Global;
 use td_tree::cause::Cause;
 use td_tree::fault::Fault;
 use td_tree::name::{Name, is_name};
-use td_value::value::{Rel, Tuple, Value};
+use td_value::relation::Rel;
+use td_value::tuple::Tuple;
+use td_value::value::Value;
 
 fn name(alloc: Global, text: &str) -> Result<Name, Fault> {
     if !is_name(text) {
