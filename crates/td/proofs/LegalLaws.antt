@@ -5,7 +5,8 @@ use Rattle.td_tree.specs.Outcomes.{Outcome, Valued, Refused, with_both, with_val
 use Rattle.td_tree.specs.Statements.{Entry}
 use Rattle.td_types.specs.TypeOrder.{heading_eq-Decides}
 use Rattle.td_types.specs.Types.{Attributes, same_name}
-use Rattle.td_value.specs.Sets.{put_in, set_of, set_of-ascends}
+use Rattle.td_value.specs.Sets.{put_in, set_of}
+use Rattle.td_value.proofs.SetLaws.{set_of-ascends}
 use Rattle.td_value.specs.ValueOrder.{tuple_order_same, tuple_order_total}
 use Rattle.td_value.specs.Values.{Entries, Relation, heading_of, tuple_order}
 use Rattle.td.specs.Database.{Database, Relvar, relvar_at, same_heading, target_holds, with_body}

@@ -127,7 +127,7 @@ module _ (r : Relation) (p : IsRelation r) where
   distinct_tuples = no_two (λ t u. t ≡ u) r.rows (ascending_apart r.rows (subst (IsStrictlySortedBy tuple_order) (unpack_pack_rows r.rows) p.1))
 
   names_ascend : (t : Entries) → Contains r.rows t → IsStrictlySortedBy (slice_cmp nat_cmp) (values.names_of t)
-  names_ascend t m = subst (λ s. IsStrictlySortedBy (slice_cmp nat_cmp) (values.names_of s)) (unpack_pack_fields t) (All-contains (IsTupleOf r.heading) r.rows t tuples m).1
+  names_ascend t m = subst (λ s. IsStrictlySortedBy (slice_cmp nat_cmp) (values.names_of s)) (unpack_pack_fields t) (All-contains (IsTupleOf r.heading) r.rows t tuples m).0.1
 
   one_tuple : (t u : Entries) (i j : ℕ) → slice_get r.rows i ≡ Some t → slice_get r.rows j ≡ Some u → i ≡ j → t ≡ u
   one_tuple t u i j a b same =
