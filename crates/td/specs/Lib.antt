@@ -1,4 +1,3 @@
-pub mod Answering
 pub mod Assignable
 pub mod CommandLine
 pub mod Database

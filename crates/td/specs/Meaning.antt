@@ -39,6 +39,10 @@ tuple_value t = tuple_of (written t)
 abbrev pub tuple_values : List TupleLiteral → List Entries
 tuple_values = map tuple_value
 
+-- the tuple that a literal means; a name twice is HEADING
+abbrev pub tuple_meaning : TupleLiteral → Outcome Entries
+tuple_meaning t = value_if (are_distinct (attribute_names t)) (tuple_value t) causes.Heading
+
 -- the heading of the first tuple
 abbrev pub first_heading : List Entries → Attributes
 first_heading [] = []
@@ -57,9 +61,21 @@ are_distinct_if (Some names) = are_distinct names
 abbrev pub are_tuples : List TupleLiteral → Bool
 are_tuples = list_all (λ t. are_distinct (attribute_names t))
 
+-- the tuples that literals mean; a name twice in one is HEADING
+abbrev pub tuples_meaning : List TupleLiteral → Outcome (List Entries)
+tuples_meaning ts = value_if (are_tuples ts) (tuple_values ts) causes.Heading
+
+-- the heading of a relation with these tuples; a written one with a name twice is HEADING
+abbrev pub written_heading : Option (List (List ℕ)) → List Entries → Outcome Attributes
+written_heading names tuples = value_if (are_distinct_if names) (literal_heading names tuples) causes.Heading
+
 -- whether the tuples have the heading
 abbrev pub have_heading : Attributes → List Entries → Bool
 have_heading heading = list_all (λ t. same_heading (heading_of t) heading)
+
+-- the relation of a heading and tuples; a tuple of another heading is HEADING
+abbrev pub headed : Attributes → List Entries → Outcome Relation
+headed heading tuples = value_if (have_heading heading tuples) (record { heading = heading; rows = set_of tuple_order tuples }) causes.Heading
 
 -- whether no heading and no tuple has a name twice, and all have one heading
 abbrev pub is_relation : Option (List (List ℕ)) → List TupleLiteral → Bool

@@ -1,16 +1,12 @@
 //! The relations that literals mean.
-ghost use Rattle.std.specs.Prelude.{◌≡◌, IfErr, IfOk, IsTrue, OnOk, false, map, true};
+ghost use Rattle.std.specs.Prelude.{◌≡◌, IfOk, IsTrue, map};
 ghost use Rattle.std.specs.List.{All};
-ghost use Rattle.td_value.specs.Sets.{set_of};
-ghost use Rattle.td_value.specs.Values.{IsTupleOf, tuple_order};
-ghost use Rattle.td_value.specs.Views.{relation_of};
-ghost use Rattle.td_types.specs.Headings.{are_distinct};
+ghost use Rattle.td_value.specs.Values.{IsTupleOf};
 ghost use Rattle.td_types.specs.Types as types;
 ghost use Rattle.td_types.specs.Views.{pairs_of};
 ghost use Rattle.td_tree.specs.Outcomes.{Answers};
-ghost use Rattle.td.specs.Answering.{RefusesBy};
 ghost use Rattle.td.specs.Meaning as spec;
-ghost use Rattle.td.specs.Meaning.{are_distinct_if, are_tuples, attribute_names, have_heading, literal_meaning, tuple_values, written};
+ghost use Rattle.td.specs.Meaning.{have_heading, headed, heading_meaning, literal_meaning, tuple_meaning, tuples_meaning, written, written_heading};
 ghost use Rattle.td.specs.TreeViews.{attributes_of, names_if, tuple_of, tuples_of};
 
 use crate::engine::tree::{AttributeValue, RelationLiteral, TupleLiteral};
@@ -35,9 +31,7 @@ fn integers(alloc: Global, names: &[Name]) -> Result<Vec<(Name, Ty)>, AllocError
 
 /// The heading of these names, each of type INTEGER; HEADING where a name comes twice.
 pub fn integer_heading(alloc: Global, names: &[Name]) -> Result<Heading, Fault>
-    ensures distinct { OnOk result (are_distinct names.now ≡ true) }
-    ensures value { IfOk result (λ h. h ≡ spec.integer_heading names.now) }
-    ensures fault { IfErr result (RefusesBy Cause.Heading (are_distinct names.now ≡ false)) }
+    ensures { Answers (λ h. h) result (heading_meaning names.now) }
 {
     let attributes = integers(alloc, names)?;
     Heading::new(alloc, attributes)
@@ -63,9 +57,7 @@ fn tuple_value(
     before: Option<&Tuple>,
     literal: &TupleLiteral,
 ) -> Result<Tuple, Fault>
-    ensures distinct { OnOk result (are_distinct (attribute_names (tuple_of literal.now)) ≡ true) }
-    ensures value { IfOk result (λ t. t ≡ spec.tuple_value (tuple_of literal.now)) }
-    ensures fault { IfErr result (RefusesBy Cause.Heading (are_distinct (attribute_names (tuple_of literal.now)) ≡ false)) }
+    ensures { Answers (λ t. t) result (tuple_meaning (tuple_of literal.now)) }
 {
     let entries = entries(alloc, &literal.attributes)?;
     Tuple::new_like(alloc, before, entries)
@@ -73,9 +65,7 @@ fn tuple_value(
 
 /// The tuples that literals mean; HEADING where a name comes twice in one.
 fn tuples_value(alloc: Global, literals: &[TupleLiteral]) -> Result<Vec<Tuple>, Fault>
-    ensures distinct { OnOk result (are_tuples (tuples_of literals.now) ≡ true) }
-    ensures values { IfOk result (λ v. v.items ≡ tuple_values (tuples_of literals.now)) }
-    ensures fault { IfErr result (RefusesBy Cause.Heading (are_tuples (tuples_of literals.now) ≡ false)) }
+    ensures { Answers (λ v. v.items) result (tuples_meaning (tuples_of literals.now)) }
 {
     let mut tuples = Vec::with_capacity(alloc, literals.len())?;
     for literal in literals {
@@ -101,9 +91,7 @@ fn literal_heading(
     names: &Option<Vec<Name>>,
     tuples: &[Tuple],
 ) -> Result<Heading, Fault>
-    ensures distinct { OnOk result (are_distinct_if (names_if names.now) ≡ true) }
-    ensures value { IfOk result (λ h. h ≡ spec.literal_heading (names_if names.now) tuples.now) }
-    ensures fault { IfErr result (RefusesBy Cause.Heading (are_distinct_if (names_if names.now) ≡ false)) }
+    ensures { Answers (λ h. h) result (written_heading (names_if names.now) tuples.now) }
 {
     match names {
         Some(names) => integer_heading(alloc, names),
@@ -126,9 +114,7 @@ fn have_heading(tuples: &[Tuple], heading: &Heading) -> bool
 
 /// The relation with these tuples; HEADING where they have not all that heading.
 pub fn headed(heading: Heading, tuples: Vec<Tuple>) -> Result<Rel, Fault>
-    ensures fit { OnOk result (have_heading heading tuples.items ≡ true) }
-    ensures value { IfOk result (λ r. r ≡ relation_of heading (set_of tuple_order tuples.items)) }
-    ensures fault { IfErr result (RefusesBy Cause.Heading (have_heading heading tuples.items ≡ false)) }
+    ensures { Answers (λ r. r) result (headed heading tuples.items) }
 {
     if !have_heading(&tuples, &heading) {
         return Err(Fault::Refused(Cause::Heading));
