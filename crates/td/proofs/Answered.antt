@@ -1,7 +1,7 @@
 -- What calls that may refuse answer, one after another.
 use Rattle.std.proofs.Common.{◌≡◌, Bool, true, false, not, Some, Result, Ok, Err, IfOk, refl, sym, ap}
 use Rattle.std.specs.Prelude.{IfErr}
-use Rattle.td_tree.specs.Outcomes.{Answers, Only, Outcome, Refused, Valued, named_cause, value_if, with_value}
+use Rattle.td_tree.specs.Outcomes.{Answers, value_if}
 use Rattle.td_tree.specs.declared.cause.Cause.{Cause}
 use Rattle.td_tree.specs.declared.cause.Cause.TheVariants as causes
 use Rattle.td_tree.specs.declared.fault.Fault.{Fault}
