@@ -1,4 +1,5 @@
 pub mod Agreeing
+pub mod Answered
 pub mod Apart
 pub mod Computing
 pub mod Done

@@ -28,7 +28,8 @@ use td_tree::fault::Fault;
 
 /// The answer to tokens that are refused.
 fn refusal(alloc: Global, fault: Fault) -> Result<Answer, AllocError>
-    ensures { IfOk result (λ answer. (db : databases.Database) (tokens : List Entry) → IsParsed tokens (Err fault) → IsStep db tokens answer db) }
+    ensures { IfOk result (λ answer. (db : databases.Database) (tokens : List Entry)
+        → IsParsed tokens (Err fault) → IsStep db tokens answer db) }
 {
     match fault {
         Fault::Refused(cause) => Answer::refused(alloc, cause),

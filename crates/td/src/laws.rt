@@ -9,7 +9,8 @@ ghost use Rattle.td.specs.Machine.{Progress, Runs, Step, Steps};
 /// Every list of statements has an outcome.
 #[tactic(auto, using(crate::proofs::Runs::some_outcome))]
 pub fn statements_have_an_outcome()
-    ensures { (stop : Bool) (so_far : Progress) (script : List (List Entry)) → (p : Progress) × Runs stop so_far script p }
+    ensures { (stop : Bool) (so_far : Progress) (script : List (List Entry))
+        → (p : Progress) × Runs stop so_far script p }
 {}
 
 /// No list of statements has two outcomes.
@@ -31,7 +32,8 @@ pub fn databases_stay_legal()
 /// A refused statement changes nothing.
 #[tactic(auto, using(crate::proofs::Kept::refused_keeps))]
 pub fn refused_statements_change_nothing()
-    ensures { (db : Database) (tokens : List Entry) (s : Step) → Steps db tokens s → s.cause ≢ None → s.database ≡ db }
+    ensures { (db : Database) (tokens : List Entry) (s : Step)
+        → Steps db tokens s → s.cause ≢ None → s.database ≡ db }
 {}
 
 /// The test of declared keys tells whether they are keys: each of distinct attributes, at least

@@ -76,7 +76,8 @@ fn line_of<'a>(matches: &ArgMatches<'a>) -> Option<Line<'a>>
 
 /// What the words say to the command, where they say a subcommand.
 fn said<'a>(command: &mut Command<'a>, words: &'a [&'a str]) -> Result<Option<Line<'a>>, Error>
-    ensures { app_of command.old ≡ td_app → IfOk result (λ line. IfSome line (λ l. IsSaidBy l (subcommand_of td_app (map (λ s. s.now) words.entry.now)))) }
+    ensures { app_of command.old ≡ td_app → IfOk result (λ line. IfSome line (λ l.
+        IsSaidBy l (subcommand_of td_app (map (λ s. s.now) words.entry.now)))) }
 {
     let matches = command.try_get_matches_from_mut(words)?;
     let line = line_of(&matches);
@@ -100,7 +101,8 @@ fn wanted<'a>(
 /// Reads the words of the command line, of which the first is the program's name. What it
 /// refuses is refused by `clap`, in its words.
 pub fn read_line<'a>(alloc: Global, words: &'a [&'a str]) -> Result<Line<'a>, Error>
-    ensures { IfOk result (λ line. IsSaidBy line (subcommand_of td_app (map (λ s. s.now) words.entry.now))) }
+    ensures { IfOk result (λ line.
+        IsSaidBy line (subcommand_of td_app (map (λ s. s.now) words.entry.now))) }
 {
     let mut command = command(alloc)?;
     let line = said(&mut command, words);

@@ -110,7 +110,8 @@ struct Reading {
 
 /// Reads the first statement of those held, if there is one. Its tokens are let go.
 fn read_first(alloc: Global, cutter: &Cutter) -> Result<Option<Reading>, AllocError>
-    ensures some { IfOk result (λ found. IfSome found (λ reading. IsReading cutter.now reading.parsed reading.end)) }
+    ensures some { IfOk result (λ found. IfSome found (λ reading.
+        IsReading cutter.now reading.parsed reading.end)) }
     ensures none { IfOk result (λ found. IfNone found (first_statement cutter.now ≡ None)) }
 {
     let Some(tokens) = cutter.next_statement()? else {

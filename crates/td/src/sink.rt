@@ -84,7 +84,8 @@ impl<W: Write> Sink for IoSink<W> {
 /// Writes all the bytes, by as many calls as the sink wants.
 pub fn put_all<W: Sink>(writer: &mut W, bytes: &[u8]) -> Result<(), Broken>
     ensures written { OnOk result (Appends (W.taken writer.old) (W.taken writer.new) bytes.now) }
-    ensures cut { OnErr result ((n : ℕ) × (n ≤ length bytes.now) × AppendsIfTold (W.taken writer.old) (W.taken writer.new) (take n bytes.now)) }
+    ensures cut { OnErr result ((n : ℕ) × (n ≤ length bytes.now)
+        × AppendsIfTold (W.taken writer.old) (W.taken writer.new) (take n bytes.now)) }
     ensures whole { OnOk result (W.is_broken writer.old ≡ false → W.is_broken writer.new ≡ false) }
     ensures broken { OnErr result (W.is_broken writer.new ≡ true) }
 {

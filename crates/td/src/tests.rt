@@ -1,4 +1,5 @@
-//! The tests of all crates. A crate with tests is proved twice, with them and without: so they stand in this one alone.
+//! The tests of all crates. A crate with tests is proved twice, with them and without: so they
+//! stand in this one alone.
 mod devices;
 mod headings;
 mod parser;

@@ -77,7 +77,8 @@ impl Answer {
     /// A statement that is refused because a key of this relvar would not hold.
     pub fn key_refused(alloc: Global, relvar: &Name) -> Result<Answer, AllocError>
         ensures flag { IfOk result (λ a. (a.accepted ≡ false) × (a.cause ≡ Some causes.Key)) }
-        ensures text { IfOk result (λ a. string_bytes a.text ≡ line (refusal_text causes.Key ++ codes " " ++ relvar.now)) }
+        ensures text { IfOk result (λ a. string_bytes a.text
+            ≡ line (refusal_text causes.Key ++ codes " " ++ relvar.now)) }
     {
         let mut text = refusal(alloc, Cause::Key)?;
         text.push_str(" ")?;

@@ -38,7 +38,8 @@ impl Model for Database {
 
 /// The relvar of this name among these.
 fn find<'a>(relvars: &'a [Relvar], name: &Name) -> Option<&'a Relvar>
-    ensures { option_map (λ r. relvar_of r.now) result ≡ relvar_at name.now (relvars_of relvars.now) }
+    ensures { option_map (λ r. relvar_of r.now) result
+        ≡ relvar_at name.now (relvars_of relvars.now) }
 {
     for relvar in relvars {
         if relvar.name == *name {

@@ -33,7 +33,8 @@ fn operand_value(alloc: Global, database: &Database, operand: &Operand) -> Resul
 /// The tuples of the one relation and then those of the other.
 fn tuples_of_both(left: Rel, right: Rel) -> Result<Vec<Tuple>, AllocError>
     ensures tuples { IfOk result (λ v. v.items ≡ left.rows ++ right.rows) }
-    ensures headed { left.heading ≡ right.heading → IfOk result (λ v. All (IsTupleOf left.heading) v.items) }
+    ensures headed { left.heading ≡ right.heading
+        → IfOk result (λ v. All (IsTupleOf left.heading) v.items) }
 {
     let mut tuples = left.into_rows()?;
     let mut others = right.into_rows()?;

@@ -54,7 +54,8 @@ fn numeral(tree: &Expr) -> Result<Numeral, Fault>
 
 /// A name with its number.
 fn valued(name: Name, numeral: Result<Numeral, Fault>) -> Result<AttributeValue, Fault>
-    ensures { (o : Option written.Numeral) → Gives numeral_of numeral o → Gives attribute_of result (option_map (spec.valued name) o) }
+    ensures { (o : Option written.Numeral) → Gives numeral_of numeral o
+        → Gives attribute_of result (option_map (spec.valued name) o) }
 {
     Ok(AttributeValue {
         name,
@@ -134,7 +135,8 @@ fn names(alloc: Global, heading: Vec<AttributeTree>) -> Result<Vec<Name>, Fault>
 
 /// A relation without its heading.
 fn unheaded(tuples: Result<Vec<TupleLiteral>, Fault>) -> Result<Operand, Fault>
-    ensures { (o : Option (List written.TupleLiteral)) → Gives (λ v. tuples_of v.items) tuples o → Gives operand_of result (option_map (written.literal None) o) }
+    ensures { (o : Option (List written.TupleLiteral)) → Gives (λ v. tuples_of v.items) tuples o
+        → Gives operand_of result (option_map (written.literal None) o) }
 {
     Ok(Operand::Literal(RelationLiteral {
         heading: None,
@@ -144,7 +146,8 @@ fn unheaded(tuples: Result<Vec<TupleLiteral>, Fault>) -> Result<Operand, Fault>
 
 /// A relation with its heading.
 fn headed(alloc: Global, heading: Vec<AttributeTree>, elements: Vec<Expr>) -> Result<Operand, Fault>
-    ensures { Gives operand_of result (spec.headed_in (heading_of heading.items) (trees_of elements.items)) }
+    ensures { Gives operand_of result
+        (spec.headed_in (heading_of heading.items) (trees_of elements.items)) }
 {
     let heading = names(alloc, heading)?;
     let tuples = tuples(alloc, elements)?;
@@ -169,7 +172,8 @@ fn operand(alloc: Global, tree: Expr) -> Result<Operand, Fault>
 
 /// The union of an expression and an operand.
 fn joined(left: Expression, operator: Operator, right: Operand) -> Result<Expression, Fault>
-    ensures { Gives expression_of result (spec.joined_by operator (expression_of left) (operand_of right)) }
+    ensures { Gives expression_of result
+        (spec.joined_by operator (expression_of left) (operand_of right)) }
 {
     if operator != Operator::Union {
         return Err(SYNTAX);
@@ -199,7 +203,8 @@ fn defined(
     heading: Result<Vec<Name>, Fault>,
     keys: Vec<Vec<Name>>,
 ) -> Result<Statement, Fault>
-    ensures { (o : Option (List Text)) → Gives (λ v. v.items) heading o → Gives statement_of result (option_map (λ names. written.define name names (map (λ key. key.items) keys.items)) o) }
+    ensures { (o : Option (List Text)) → Gives (λ v. v.items) heading o → Gives statement_of result
+        (option_map (λ names. written.define name names (map (λ key. key.items) keys.items)) o) }
 {
     Ok(Statement::Define(Definition {
         name,
@@ -210,7 +215,9 @@ fn defined(
 
 /// A definition of a base relvar without an initial value.
 fn definition(alloc: Global, tree: trees::BaseDefinition) -> Result<Statement, Fault>
-    ensures { Gives statement_of result (spec.definition_in tree.name (heading_of tree.heading.items) (option_map tree_of tree.init) (map (λ key. key.items) tree.keys.items)) }
+    ensures { Gives statement_of result (spec.definition_in tree.name
+        (heading_of tree.heading.items) (option_map tree_of tree.init)
+        (map (λ key. key.items) tree.keys.items)) }
 {
     if tree.init.is_some() {
         return unspelled(tree);
@@ -227,7 +234,8 @@ fn definition(alloc: Global, tree: trees::BaseDefinition) -> Result<Statement, F
 
 /// An assignment of an expression.
 fn assigned(target: Name, source: Result<Expression, Fault>) -> Result<Statement, Fault>
-    ensures { (o : Option written.Expression) → Gives expression_of source o → Gives statement_of result (option_map (written.assign target) o) }
+    ensures { (o : Option written.Expression) → Gives expression_of source o
+        → Gives statement_of result (option_map (written.assign target) o) }
 {
     Ok(Statement::Assign(Assignment {
         target,
@@ -261,7 +269,8 @@ fn assignments(alloc: Global, trees: Vec<trees::Assignment>) -> Result<Statement
 
 /// A statement that writes an expression.
 fn shown(expression: Result<Expression, Fault>) -> Result<Statement, Fault>
-    ensures { (o : Option written.Expression) → Gives expression_of expression o → Gives statement_of result (option_map written.write o) }
+    ensures { (o : Option written.Expression) → Gives expression_of expression o
+        → Gives statement_of result (option_map written.write o) }
 {
     Ok(Statement::Write(expression?))
 }

@@ -57,7 +57,8 @@ fn is_apart(key: &[Name], others: &[Vec<Name>]) -> bool
 
 /// Whether the names of the key are distinct attributes, and it and each of the others are apart.
 fn is_key(heading: &Heading, key: &[Name], others: &[Vec<Name>]) -> bool
-    ensures { result ≡ (has_attributes key.now heading.now && are_distinct key.now && list_all (are_apart key.now) (map (λ other. other.items) others.now)) }
+    ensures { result ≡ (has_attributes key.now heading.now && are_distinct key.now
+        && list_all (are_apart key.now) (map (λ other. other.items) others.now)) }
 {
     are_attributes(key, heading) && are_distinct(key) && is_apart(key, others)
 }
@@ -108,7 +109,8 @@ fn value_at(tuple: &Tuple, place: usize) -> Option<&Value>
 
 /// How a value that may be there stands to another one: none is before any.
 fn compare_found(value: Option<&Value>, other: Option<&Value>) -> Ordering
-    ensures { result ≡ option_cmp order (option_map (λ v. v.now) value.entry) (option_map (λ v. v.now) other.entry) }
+    ensures { result ≡ option_cmp order
+        (option_map (λ v. v.now) value.entry) (option_map (λ v. v.now) other.entry) }
 {
     match (value, other) {
         (Some(value), Some(other)) => value.cmp(other),
@@ -133,7 +135,8 @@ fn compare_at(places: &[usize], tuple: &Tuple, other: &Tuple) -> Ordering
 
 /// Whether each of the tuples is before the next by its values at the places.
 fn ascend_at(places: &[usize], tuples: &[Tuple]) -> bool
-    ensures { IsAllAdjacentAnswer (λ s t b. b ≡ is_lt (by_places places.now s t)) tuples.now result }
+    ensures { IsAllAdjacentAnswer
+        (λ s t b. b ≡ is_lt (by_places places.now s t)) tuples.now result }
 {
     tuples.is_sorted_by(|tuple, next| compare_at(places, tuple, next).is_lt())
 }
@@ -141,7 +144,8 @@ fn ascend_at(places: &[usize], tuples: &[Tuple]) -> bool
 /// The tuples, sorted by their values at the places.
 fn sorted_at(places: &[usize], body: &Rel) -> Result<Vec<Tuple>, AllocError>
     ensures permutation { IfOk result (λ v. IsPermutation body.now.rows v.items) }
-    ensures sorted { IfOk result (λ v. IsSortedBy (λ s t. is_lt (by_places places.now s t)) v.items) }
+    ensures sorted { IfOk result (λ v.
+        IsSortedBy (λ s t. is_lt (by_places places.now s t)) v.items) }
 {
     let mut tuples = body.try_clone()?.into_rows()?;
     tuples.sort_unstable_by(|tuple, other| compare_at(places, tuple, other));

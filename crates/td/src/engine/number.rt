@@ -19,7 +19,8 @@ impl Numeral {
 
     /// A number with a minus or without; `None` where it is out of the range of INTEGER.
     pub fn new(minus: bool, magnitude: u64) -> Option<Numeral>
-        ensures { option_map numeral_of result ≡ (if nat_le magnitude (numeral_limit minus) then Some (record { minus = minus; magnitude = magnitude }) else None) }
+        ensures { option_map numeral_of result ≡ (if nat_le magnitude (numeral_limit minus)
+            then Some (record { minus = minus; magnitude = magnitude }) else None) }
     {
         let limit = if minus {
             MAX_MAGNITUDE

@@ -28,7 +28,8 @@ use td_value::relation::Rel;
 
 /// Prints the relation that an expression means.
 fn write(alloc: Global, database: &Database, expression: &Expression) -> Result<Answer, AllocError>
-    ensures { IfOk result (λ a. Does (stepped database.now (trees.write (expression_of expression.now))) a database.now) }
+    ensures { IfOk result (λ a.
+        Does (stepped database.now (trees.write (expression_of expression.now))) a database.now) }
 {
     match value(alloc, database, expression) {
         Ok(relation) => Answer::accepted(relation.literal()?),
@@ -76,7 +77,8 @@ fn define(
     database: &mut Database,
     definition: Definition,
 ) -> Result<Answer, AllocError>
-    ensures done { IfOk result (λ a. Does (stepped database.old (trees.define definition.name definition.heading.items (map (λ key. key.items) definition.keys.items))) a database.new) }
+    ensures done { IfOk result (λ a. Does (stepped database.old (trees.define definition.name
+        definition.heading.items (map (λ key. key.items) definition.keys.items))) a database.new) }
     ensures err { OnErr result (database.new ≡ database.old) }
 {
     match declared(alloc, database, &definition) {
@@ -95,7 +97,9 @@ fn add(
 ) -> Result<Answer, AllocError>
     requires free { relvar_at definition.name database.old ≡ None }
     requires fit { keys_fit heading (map (λ key. key.items) definition.keys.items) ≡ true }
-    ensures done { IfOk result (λ a. Does (changed database.old (database.old ++ (new_relvar definition.name (map (λ key. key.items) definition.keys.items) heading ∷ []))) a database.new) }
+    ensures done { IfOk result (λ a. Does (changed database.old (database.old ++ (new_relvar
+        definition.name (map (λ key. key.items) definition.keys.items) heading ∷ []))) a
+        database.new) }
     ensures err { OnErr result (database.new ≡ database.old) }
 {
     let _ = definition.name.as_str();
@@ -117,7 +121,8 @@ fn target_holds(
     target: &Name,
     body: &Rel,
 ) -> Result<bool, AllocError>
-    ensures holds { IfOk result (λ b. b ≡ target_holds (relvar_at target.now database.now) body.now.rows) }
+    ensures holds { IfOk result (λ b.
+        b ≡ target_holds (relvar_at target.now database.now) body.now.rows) }
     ensures legal { IsLegal database.now }
 {
     match database.get(target) {
@@ -134,7 +139,8 @@ fn replace(
     body: Rel,
 ) -> Result<Answer, AllocError>
     requires { IsAssignable database.old target.now body }
-    ensures done { IfOk result (λ a. Does (changed database.old (with_body target.now body database.old)) a database.new) }
+    ensures done { IfOk result (λ a. Does
+        (changed database.old (with_body target.now body database.old)) a database.new) }
     ensures err { OnErr result (database.new ≡ database.old) }
 {
     if !target_holds(alloc, database, target, &body)? {
@@ -152,7 +158,8 @@ fn assign(
     database: &mut Database,
     assignment: &Assignment,
 ) -> Result<Answer, AllocError>
-    ensures done { IfOk result (λ a. Does (stepped database.old (trees.assign assignment.now.target (expression_of assignment.now.source))) a database.new) }
+    ensures done { IfOk result (λ a. Does (stepped database.old (trees.assign
+        assignment.now.target (expression_of assignment.now.source))) a database.new) }
     ensures err { OnErr result (database.new ≡ database.old) }
 {
     match assigned(alloc, database, assignment) {
@@ -169,7 +176,8 @@ pub fn execute(
     database: &mut Database,
     statement: Statement,
 ) -> Result<Answer, AllocError>
-    ensures done { IfOk result (λ a. Does (stepped database.old (statement_of statement)) a database.new) }
+    ensures done { IfOk result (λ a.
+        Does (stepped database.old (statement_of statement)) a database.new) }
     ensures err { OnErr result (database.new ≡ database.old) }
 {
     match statement {

@@ -82,7 +82,8 @@ impl Expression {
     /// Joins one more operand.
     #[tactic(auto, using(crate::proofs::Joins::joined_push), unfolding(crate::specs::TreeViews::expression_of))]
     pub fn join(&mut self, other: Operand) -> Result<(), AllocError>
-        ensures { OnOk result (expression_of self.new ≡ spec.union (expression_of self.old) (operand_of other)) }
+        ensures { OnOk result (expression_of self.new
+            ≡ spec.union (expression_of self.old) (operand_of other)) }
     {
         self.others.push(other)?;
         Ok(())
