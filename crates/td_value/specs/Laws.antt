@@ -12,20 +12,25 @@ use Rattle.td_value.specs.Views.{values_of}
 -- values, tuples and relations are equal as the code compares them exactly where they are the same
 abbrev pub EqualityIsSameness : Type 0
 EqualityIsSameness =
-    ((v w : Val) → IsTrue (eq_by_cmp order v w) ↔ (v ≡ w)) × ((s t : Entries) → IsTrue (eq_by_cmp tuple_order s t) ↔ (s ≡ t))
+    ((v w : Val) → IsTrue (eq_by_cmp order v w) ↔ (v ≡ w))
+    × ((s t : Entries) → IsTrue (eq_by_cmp tuple_order s t) ↔ (s ≡ t))
     × ((r s : Relation) → IsTrue (eq_by_cmp relation_order r s) ↔ (r ≡ s))
 
 -- tuples of the same names compare as their values do, in name order
 abbrev pub TuplesCompareByValues : Type 0
-TuplesCompareByValues = (s t : Entries) → names_of s ≡ names_of t → tuple_order s t ≡ slice_cmp order (values_of s) (values_of t)
+TuplesCompareByValues =
+    (s t : Entries) → names_of s ≡ names_of t → tuple_order s t ≡ slice_cmp order (values_of s) (values_of t)
 
 -- values of one user type compare as their components do, in declared order
 abbrev pub UserValuesCompareByComponents : Type 0
-UserValuesCompareByComponents = (n : List ℕ) (vs ws : List Val) → order (user n (pack_parts vs)) (user n (pack_parts ws)) ≡ slice_cmp order vs ws
+UserValuesCompareByComponents =
+    (n : List ℕ) (vs ws : List Val)
+    → order (user n (pack_parts vs)) (user n (pack_parts ws)) ≡ slice_cmp order vs ws
 
 -- relations of one heading compare as their ascending lists do
 abbrev pub RelationsCompareByRows : Type 0
-RelationsCompareByRows = (r s : Relation) → r.heading ≡ s.heading → relation_order r s ≡ slice_cmp tuple_order r.rows s.rows
+RelationsCompareByRows =
+    (r s : Relation) → r.heading ≡ s.heading → relation_order r s ≡ slice_cmp tuple_order r.rows s.rows
 
 -- the type of a value is a type, so that every heading in it is a heading
 abbrev pub TypesOfValuesAreTypes : Type 0
@@ -38,12 +43,14 @@ SetsHaveTheMembersOfTheirLists = (ts : List Entries) → HaveSameMembers (set_of
 -- the set of two lists joined has the members of either, and no other
 abbrev pub SetsOfJoinedLists : Type 0
 SetsOfJoinedLists =
-    (ss ts : List Entries) (t : Entries) → Contains (set_of tuple_order (ss ++ ts)) t ↔ (Contains ss t ⊎ Contains ts t)
+    (ss ts : List Entries) (t : Entries)
+    → Contains (set_of tuple_order (ss ++ ts)) t ↔ (Contains ss t ⊎ Contains ts t)
 
 -- a relation is its heading and its members: two of one heading with the same members are one (the chapter's)
 abbrev pub RelationsAreTheirMembers : Type 0
 RelationsAreTheirMembers =
-    (r s : Relation) → IsRelation r → IsRelation s → r.heading ≡ s.heading → HaveSameMembers r.rows s.rows → r ≡ s
+    (r s : Relation) → IsRelation r → IsRelation s → r.heading ≡ s.heading
+    → HaveSameMembers r.rows s.rows → r ≡ s
 
 -- two values have one literal exactly where they are one, whatever their types are
 abbrev pub LiteralsTellValuesApart : Type 0

@@ -1,4 +1,5 @@
-//! What sets of tuples, the order of values and their literals are to their callers: each function has its contract alone.
+//! What sets of tuples, the order of values and their literals are to their callers: each function
+//! has its contract alone.
 ghost use Rattle.td_value.specs.Laws.{EqualityIsSameness, LiteralsTellValuesApart};
 ghost use Rattle.td_value.specs.Laws.{RelationsAreTheirMembers, RelationsCompareByRows};
 ghost use Rattle.td_value.specs.Laws.{SetsHaveTheMembersOfTheirLists, SetsOfJoinedLists};
