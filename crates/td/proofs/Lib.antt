@@ -1,5 +1,4 @@
 pub mod Agreeing
-pub mod Answered
 pub mod Apart
 pub mod Computing
 pub mod Done

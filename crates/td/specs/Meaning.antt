@@ -39,10 +39,6 @@ tuple_value t = tuple_of (written t)
 abbrev pub tuple_values : List TupleLiteral → List Entries
 tuple_values = map tuple_value
 
--- the tuple that a literal means; a name twice is HEADING
-abbrev pub tuple_meaning : TupleLiteral → Outcome Entries
-tuple_meaning t = value_if (are_distinct (attribute_names t)) (tuple_value t) causes.Heading
-
 -- the heading of the first tuple
 abbrev pub first_heading : List Entries → Attributes
 first_heading [] = []
