@@ -1,21 +1,28 @@
 -- A legal database stays legal.
-use Rattle.std.proofs.Common.{◌≡◌, ℕ, Bool, true, false, ◌&&◌, List, [], ◌∷◌, ◌++◌, Option, Some, None, Ordering, Less, Equal, Greater, refl, sym, ◌∙◌, subst}
-use Rattle.std.specs.List.{AllByRecursion, list_all}
+use Rattle.std.proofs.Common.{◌≡◌, ℕ, Bool, true, false, ◌&&◌, List, [], ◌∷◌, ◌++◌, Option, Some, None, Ordering, Less, Equal, Greater, refl, sym, ap, ◌∙◌, subst}
+use Rattle.std.specs.List.{All, AllByRecursion, list_all}
+use Rattle.std.proofs.lemmas.List.Elements.{recursion_from_All}
 use Rattle.td_tree.specs.Outcomes.{Outcome, Valued, Refused, with_both, with_value}
 use Rattle.td_tree.specs.Statements.{Entry}
 use Rattle.td_types.specs.TypeOrder.{heading_eq-Decides}
-use Rattle.td_types.specs.Types.{Attributes, same_name}
-use Rattle.td_value.specs.Sets.{put_in, set_of}
+use Rattle.td_types.specs.TypeCode.{unpack_pack}
+use Rattle.td_types.specs.Types.{Attributes, same_name, unpack}
+use Rattle.td_value.specs.ValueCode.{unpack_pack_rows}
+use Rattle.td_value.proofs.HeadingOf.{fields_type-heading}
+use Rattle.td_value.proofs.Rows.{All-from_rows}
 use Rattle.td_value.proofs.SetLaws.{set_of-ascends}
+use Rattle.td_value.specs.Sets.{put_in, set_of}
 use Rattle.td_value.specs.ValueOrder.{tuple_order_same, tuple_order_total}
-use Rattle.td_value.specs.Values.{Entries, Relation, heading_of, tuple_order}
+use Rattle.td_value.specs.Values.{Entries, IsAscendingRows, IsRelation, IsTupleOf, Relation, heading_of, tuple_order}
 use Rattle.td.specs.Database.{Database, Relvar, relvar_at, same_heading, target_holds, with_body}
 use Rattle.td.specs.FirstPath.{first_path}
-use Rattle.td.specs.Legality.{IsBody, IsTested}
+use Rattle.td.specs.Legality.{IsBody, IsLegal, IsProper, IsRelvar, IsTested}
 use Rattle.td.specs.Machine.{Progress, Runs, nothing, stopped, next, Step, Steps, scanned, unspelled, spelled, assignable, by_outcome, declared, new_relvar, stepped, stepped_if, unless_broken}
 use Rattle.td.specs.Meaning.{are_distinct_if, are_tuples, have_heading, heading_meaning, is_relation, known, literal_heading, literal_meaning, meaning, operand_meaning, tuple_values, union_of}
 use Rattle.td.specs.Trees.{Operand, relvar, literal, Expression, single, union, Statement, empty, define, assign, write, TupleLiteral}
 use Rattle.td.proofs.Done.{assigned_says, declared_says}
+use Rattle.td.proofs.LegalTests.{legal_tells, legal_told}
+use Rattle.td.proofs.NoTwo.{map_all, test_all}
 use Rattle.td.proofs.Legal.{and_true, both, broken_assigned, is_new, legal_assigned, legal_more}
 
 -- ---- sets of tuples
@@ -167,3 +174,25 @@ legal_runs stop p q script l (next step e does rest) = legal_runs stop _ q _ (st
 
 pub legal_at_first : IsTested []
 legal_at_first = record { keys = refl; bodies = tt }
+
+-- ---- in the words of the rules
+
+-- a relation's tuples have its heading, as the test finds
+body_tested : (r : Relation) → IsRelation r → IsBody r
+body_tested r p = record {
+  headed = test_all (λ t. same_heading (heading_of t) r.heading) r.rows
+      (map_all (IsTupleOf r.heading) (λ t. same_heading (heading_of t) r.heading ≡ true) r.rows
+      (λ t q. (heading_eq-Decides (heading_of t) r.heading).1 (sym (unpack_pack (heading_of t)) ∙ ap unpack (sym (fields_type-heading t) ∙ q.2) ∙ unpack_pack r.heading))
+      (recursion_from_All (IsTupleOf r.heading) r.rows (All-from_rows r.heading r.rows p.0)));
+  distinct = subst IsAscendingRows (unpack_pack_rows r.rows) p.1;
+}
+
+-- a legal database passes the tests
+tested : (db : Database) → IsLegal db → IsTested db
+tested db l = record {
+  keys = legal_told db l;
+  bodies = map_all IsRelvar (λ r. IsBody r.body) db (λ r is. body_tested r.body is.proper.body) (recursion_from_All IsRelvar db l.relvars);
+}
+
+pub legal_after : (stop : Bool) (p q : Progress) (script : List (List Entry)) → IsLegal p.database → Runs stop p script q → All IsProper q.database → IsLegal q.database
+legal_after stop p q script l runs proper = legal_tells q.database proper (legal_runs stop p q script (tested p.database l) runs).keys

@@ -3,7 +3,8 @@ ghost use Rattle.std.specs.Prelude.{◌≡◌, ◌≢◌, Bool, List, [], None};
 ghost use Rattle.td_tree.specs.Statements.{Entry};
 ghost use Rattle.td.specs.Database.{Database};
 ghost use Rattle.td.specs.Laws.{UnionsAreByMembership};
-ghost use Rattle.td.specs.Legality.{HoldingIsTested, IsTested, KeysAreTested, LegalityIsTested};
+ghost use Rattle.std.specs.List.{All};
+ghost use Rattle.td.specs.Legality.{HoldingIsTested, IsLegal, IsProper, IsTested, KeysAreTested, LegalityIsTested};
 ghost use Rattle.td.specs.Machine.{Progress, Runs, Step, Steps};
 
 /// Every list of statements has an outcome.
@@ -20,12 +21,16 @@ pub fn statements_have_one_outcome()
         → Runs stop so_far script p → Runs stop so_far script q → p ≡ q }
 {}
 
-/// The empty database is legal, and what statements make of a legal database is legal. So between
-/// any two statements every key holds, and every body is a set of tuples of its heading.
-#[tactic(auto, using(crate::proofs::LegalLaws::legal_at_first, crate::proofs::LegalLaws::legal_runs))]
+/// The empty database is legal, and what statements make of a legal database is legal where its
+/// names are names and its bodies are relations. The tests of names, keys and bodies need no more.
+#[tactic(auto, using(crate::proofs::LegalChanges::legal_none, crate::proofs::LegalLaws::legal_at_first, crate::proofs::LegalLaws::legal_runs, crate::proofs::LegalLaws::legal_after))]
 pub fn databases_stay_legal()
-    ensures begins { IsTested [] }
+    ensures begins { IsLegal [] }
     ensures stays { (stop : Bool) (so_far after : Progress) (script : List (List Entry))
+        → IsLegal so_far.database → Runs stop so_far script after
+        → All IsProper after.database → IsLegal after.database }
+    ensures passes { IsTested [] }
+    ensures stays_so { (stop : Bool) (so_far after : Progress) (script : List (List Entry))
         → IsTested so_far.database → Runs stop so_far script after → IsTested after.database }
 {}
 
