@@ -12,7 +12,7 @@ use Rattle.td_parse.specs.Parsing.{Moves}
 
 pub record Nests (depth : ℕ) (pre : Global → ℕ → Level → MutBor (List Lexeme) → Type 0)
     (post : Global → ℕ → Level → MutBor (List Lexeme) → Result Expr Fault → MutBor (List Lexeme)
-        → Type 0) : Type 0 where
+    → Type 0) : Type 0 where
   pub callable : (alloc : Global) (level : Level) (old : MutBor (List Lexeme))
       → pre alloc depth level old
   pub reads : (alloc : Global) (level : Level) (old new : MutBor (List Lexeme))

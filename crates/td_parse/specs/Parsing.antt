@@ -129,4 +129,4 @@ pub data Parsed (tokens : List Entry) : Outcome trees.Statement → Type 0 where
 abbrev pub TokensHaveOneMeaning : Type 0
 TokensHaveOneMeaning = (tokens : List Entry)
     → (o : Outcome trees.Statement) × Parsed tokens o
-        × ((p : Outcome trees.Statement) → Parsed tokens p → p ≡ o)
+    × ((p : Outcome trees.Statement) → Parsed tokens p → p ≡ o)

@@ -112,7 +112,7 @@ module _ (inner : Level → List Lexeme → Read) (depth : ℕ) where
   unfoldable pub count_summary : List Lexeme → ReadOf SummaryItem
   count_summary ts =
       expect (sign signs.OpenParenthesis) ts >>= λ after. expect (sign signs.CloseParenthesis) after
-          >>= λ last. read_as last >>= λ n. Some (count_item n.0, n.1)
+      >>= λ last. read_as last >>= λ n. Some (count_item n.0, n.1)
 
   -- (SUM | MAX | MIN) '(' e ')' AS name, after its first word
   unfoldable pub sum_summary : Aggregate → List Lexeme → ReadOf SummaryItem
@@ -142,9 +142,9 @@ module _ (inner : Level → List Lexeme → Read) (depth : ℕ) where
   unfoldable pub named : Text → List Lexeme → Read
   named n ts =
       either (Some (tree.name n, ts))
-          (λ after. listed_to (sign signs.CloseParenthesis) expression after
-              >>= λ x. Some (tree.select n (trees_from x.0), x.1))
-          (call_at ts)
+      (λ after. listed_to (sign signs.CloseParenthesis) expression after
+      >>= λ x. Some (tree.select n (trees_from x.0), x.1))
+      (call_at ts)
 
   -- after a THE word
   unfoldable pub component_of : Text → List Lexeme → Read
@@ -163,15 +163,15 @@ module _ (inner : Level → List Lexeme → Read) (depth : ℕ) where
   unfoldable pub aggregated : Aggregate → List Lexeme → Read
   aggregated op ts =
       expect (sign signs.OpenParenthesis) ts >>= λ after. up_to (sign signs.Comma) expression after
-          >>= λ a. up_to (sign signs.CloseParenthesis) expression a.1
-          >>= λ b. Some (tree.aggregate op a.0 b.0, b.1)
+      >>= λ a. up_to (sign signs.CloseParenthesis) expression a.1
+      >>= λ b. Some (tree.aggregate op a.0 b.0, b.1)
 
   -- heading '{' e,* '}'
   unfoldable pub headed_relation : List Lexeme → Read
   headed_relation ts =
       relation_heading depth ts >>= λ h. expect (sign signs.OpenBrace) h.1
-          >>= λ after. listed_to (sign signs.CloseBrace) expression after
-          >>= λ x. Some (tree.headed_relation h.0 (trees_from x.0), x.1)
+      >>= λ after. listed_to (sign signs.CloseBrace) expression after
+      >>= λ x. Some (tree.headed_relation h.0 (trees_from x.0), x.1)
 
   -- '{' e,+ '}'
   unfoldable pub elements : List Lexeme → Read
@@ -212,7 +212,7 @@ module _ (inner : Level → List Lexeme → Read) (depth : ℕ) where
   summarized ts =
       expression ts
       >>= λ a. either (expect (keyword k.By) a.1 >>= λ after. summary_by a.0 after)
-          (λ after. summary_per a.0 after) (expect (keyword k.Per) a.1)
+      (λ after. summary_per a.0 after) (expect (keyword k.Per) a.1)
 
   -- after IF
   unfoldable pub choice : List Lexeme → Read
@@ -263,7 +263,7 @@ module _ (inner : Level → List Lexeme → Read) (depth : ℕ) where
   postfixes (suc n) left ts =
       if postfix_at ts
       then (read_postfix ts >>= λ x.
-          if fits (tree.postfix left x.0) then postfixes n (tree.postfix left x.0) x.1 else None)
+      if fits (tree.postfix left x.0) then postfixes n (tree.postfix left x.0) x.1 else None)
       else Some (left, ts)
 
   -- e9: a primary expression with the operators behind it
@@ -282,17 +282,17 @@ module _ (inner : Level → List Lexeme → Read) (depth : ℕ) where
   unfoldable pub prefixed : List Lexeme → Read
   prefixed ts =
       either (either (postfixed ts) (λ p. extracted p.0 p.1) (extraction_at ts))
-          (λ p. applied levels.Prefixed p.0 p.1) (prefix_at ts)
+      (λ p. applied levels.Prefixed p.0 p.1) (prefix_at ts)
 
   -- goes on with the operators of a level, at most so many
   unfoldable pub operations : Level → ℕ → Tree → List Lexeme → Read
   operations level zero left ts = None
   operations level (suc n) left ts =
       either (Some (left, ts))
-          (λ p. inner (tighter level) p.1 >>= λ x.
-              if fits (tree.binary left p.0 x.0)
-              then operations level n (tree.binary left p.0 x.0) x.1 else None)
-          (operator_at level ts)
+      (λ p. inner (tighter level) p.1 >>= λ x.
+      if fits (tree.binary left p.0 x.0)
+      then operations level n (tree.binary left p.0 x.0) x.1 else None)
+      (operator_at level ts)
 
   -- operands of the next level with the operators of this one
   unfoldable pub chain : Level → (List Lexeme → Read) → List Lexeme → Read
@@ -325,7 +325,7 @@ module _ (inner : Level → List Lexeme → Read) (depth : ℕ) where
   unfoldable pub negated : List Lexeme → Read
   negated ts =
       either (compared ts) (λ after. applied levels.Negation prefixes.Not after)
-          (expect (keyword k.Not) ts)
+      (expect (keyword k.Not) ts)
 
   -- e2, by AND
   unfoldable pub conjunction : List Lexeme → Read

@@ -171,6 +171,6 @@ begins_type _ = false
 unfoldable pub heading_at : List Lexeme → Bool
 heading_at ts =
     either false
-        (λ after. either (name_and begins_type after) (λ last. true)
-            (expect (sign signs.CloseBrace) after))
-        (expect (sign signs.OpenBrace) ts)
+    (λ after. either (name_and begins_type after) (λ last. true)
+    (expect (sign signs.CloseBrace) after))
+    (expect (sign signs.OpenBrace) ts)

@@ -72,15 +72,15 @@ assignments ts = separated assignment ts >>= λ x. Some (tree.assign_all x.0, x.
 unfoldable pub components : Text → List Lexeme → ReadOf Statement
 components n ts =
     separated (attribute (read_type height_limit)) ts
-        >>= λ h. optional (keyword k.Constraint) expression h.1
-        >>= λ c. Some (tree.define_type n (attributes_from h.0) c.0, c.1)
+    >>= λ h. optional (keyword k.Constraint) expression h.1
+    >>= λ c. Some (tree.define_type n (attributes_from h.0) c.0, c.1)
 
 -- TYPE name POSSREP '{' attr,+ [CONSTRAINT e] '}', after TYPE
 unfoldable pub type_definition : List Lexeme → ReadOf Statement
 type_definition ts =
     read_name ts >>= λ n. expect (keyword k.Possrep) n.1
-        >>= λ after. expect (sign signs.OpenBrace) after
-        >>= λ last. up_to (sign signs.CloseBrace) (components n.0) last
+    >>= λ after. expect (sign signs.OpenBrace) after
+    >>= λ last. up_to (sign signs.CloseBrace) (components n.0) last
 
 -- RELATION heading [INIT '(' e ')'] (KEY names)*
 unfoldable pub base_definition : Text → List Lexeme → ReadOf Statement

@@ -81,8 +81,8 @@ separated_from item zero before ts = None
 separated_from item (suc n) before ts =
     item ts
     >>= λ x. either (Some (before ++ (x.0 ∷ []), x.1))
-        (λ after. separated_from item n (before ++ (x.0 ∷ [])) after)
-        (expect (sign signs.Comma) x.1)
+    (λ after. separated_from item n (before ++ (x.0 ∷ [])) after)
+    (expect (sign signs.Comma) x.1)
 
 -- item,+
 unfoldable pub separated : {A : Type 0} → (List Lexeme → ReadOf A) → List Lexeme → ReadOf (List A)
@@ -100,8 +100,8 @@ unfoldable pub repeated_from : {A : Type 0} → Lexeme → (List Lexeme → Read
 repeated_from word item zero before ts = None
 repeated_from word item (suc n) before ts =
     either (Some (before, ts))
-        (λ after. item after >>= λ x. repeated_from word item n (before ++ (x.0 ∷ [])) x.1)
-        (expect word ts)
+    (λ after. item after >>= λ x. repeated_from word item n (before ++ (x.0 ∷ [])) x.1)
+    (expect word ts)
 
 -- (word item)*
 unfoldable pub repeated : {A : Type 0} → Lexeme → (List Lexeme → ReadOf A) → List Lexeme
@@ -129,7 +129,7 @@ unfoldable pub attribute_list : List Lexeme → ReadOf Attributes
 attribute_list ts =
     expect (sign signs.OpenBrace) ts
     >>= λ after. either (names_to_brace after >>= λ x. Some (tree.only x.0, x.1))
-        (λ last. all_but last) (expect (keyword k.All) after)
+    (λ last. all_but last) (expect (keyword k.All) after)
 
 -- name AS name
 unfoldable pub read_renaming : List Lexeme → ReadOf Renaming

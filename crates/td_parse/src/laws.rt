@@ -3,7 +3,6 @@ ghost use Rattle.std.specs.Prelude.{◌≡◌, ◌≤◌, ◌↔◌, List, Some}
 ghost use Rattle.td_parse.specs.Parsing.{TokensHaveOneMeaning};
 ghost use Rattle.td_parse.specs.ReadingStatements.{read_expression, read_statement};
 ghost use Rattle.td_tree.specs.declared.operator.Level.{Level};
-ghost use Rattle.td_tree.specs.declared.operator.Level.TheVariants as levels;
 ghost use Rattle.td_tree.specs.Grammar.{IsExpression, Spelling, TypeSpelling, height_limit, loosest};
 ghost use Rattle.td_tree.specs.Heights.{height};
 ghost use Rattle.td_tree.specs.Lexemes.{Lexeme};

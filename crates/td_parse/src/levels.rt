@@ -1,5 +1,5 @@
 //! The levels of expressions, the tightest first.
-ghost use Rattle.std.specs.Prelude.{◌≡◌, suc};
+ghost use Rattle.std.specs.Prelude.{suc};
 ghost use Rattle.td_parse.specs.Nests.{Nests};
 ghost use Rattle.td_parse.specs.Parsing.{Moves};
 ghost use Rattle.td_parse.specs.Reading as reading;

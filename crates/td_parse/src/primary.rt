@@ -1,5 +1,5 @@
 //! Primary expressions.
-ghost use Rattle.std.specs.Prelude.{◌≡◌, Some, None, map, nat_le, option_map, if◌then◌else◌};
+ghost use Rattle.std.specs.Prelude.{◌≡◌, Some, None, nat_le, option_map, if◌then◌else◌};
 ghost use Rattle.td_tree.specs.Grammar.{loosest};
 ghost use Rattle.td_parse.specs.Nests.{Nests};
 ghost use Rattle.td_parse.specs.Parsing.{Moves};

@@ -1,8 +1,8 @@
 //! What tokens say, by their bytes.
-ghost use Rattle.std.specs.Prelude.{◌≡◌, ◌^◌, if◌then◌else◌, nat_le, IfOk, Some, None};
+ghost use Rattle.std.specs.Prelude.{◌≡◌, true, if◌then◌else◌, nat_le, IfOk, Some, None};
 ghost use Rattle.std.specs.Rc.{rc_str_bytes};
 ghost use Rattle.std.specs.Prelude.{drop};
-ghost use Rattle.td_tree.specs.Numbers.{decimal_value};
+ghost use Rattle.td_tree.specs.Numbers.{decimal_value, numeral_limit};
 ghost use Rattle.td_tree.specs.Pieces.{kind_of};
 ghost use Rattle.td_tree.specs.Symbols.{symbols};
 ghost use Rattle.td_tree.specs.TextTokens.{content, undoubled};
@@ -42,8 +42,8 @@ pub fn component_of(alloc: Global, text: &[u8]) -> Result<RcStr, AllocError>
 pub fn number_of(text: &[u8]) -> Option<u64>
     requires { kind_of (symbols text.now) ≡ Some Kind.Number }
     ensures { result
-        ≡ (if nat_le (decimal_value text.now) (2 ^ 63) then Some (decimal_value text.now)
-        else None) }
+        ≡ (if nat_le (decimal_value text.now) (numeral_limit true)
+        then Some (decimal_value text.now) else None) }
 {
     let mut value = 0u64;
     for digit in text {

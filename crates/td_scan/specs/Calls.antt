@@ -27,8 +27,11 @@ listed (Some first) = first ∷ []
 -- one call, as the contracts of the cutter say it
 abbrev pub called : Course → Call → Course
 called c (Feed piece) =
-    record { fed = c.fed
-    ++ piece; held = record c.held { bytes = c.held.bytes ++ piece }; taken = c.taken }
+    record {
+      fed = c.fed ++ piece;
+      held = record c.held { bytes = c.held.bytes ++ piece };
+      taken = c.taken;
+    }
 called c Finish = record { fed = c.fed; held = record c.held { finished = true }; taken = c.taken }
 called c Take =
     record { fed = c.fed; held = after c.held; taken = c.taken ++ listed (first_statement c.held) }

@@ -52,7 +52,7 @@ mutual
     next_attribute : {n : Text} {xs ys : List Lexeme} {t : TypeTree} {h : AttributeTrees}
         → TypeSpelling xs t → AttributesSpelling ys h
         → AttributesSpelling (lexeme.name n ∷ (xs ++ (sign signs.Comma ∷ ys)))
-            (tree.attribute n t h)
+        (tree.attribute n t h)
 
 -- ---- what holds no expression
 
@@ -75,7 +75,7 @@ pub data AttributeListSpelling : List Lexeme → Attributes → Type 0 where
 pub data RenamingSpelling : List Lexeme → Renaming → Type 0 where
   renaming : {old new : Text}
       → RenamingSpelling (lexeme.name old ∷ (keyword k.As ∷ (lexeme.name new ∷ [])))
-          (record { old = old; new = new })
+      (record { old = old; new = new })
 
 -- what stands behind an operand
 pub data PostfixSpelling : List Lexeme → Postfix → Type 0 where
@@ -88,12 +88,12 @@ pub data PostfixSpelling : List Lexeme → Postfix → Type 0 where
   -- e9 GROUP '(' attrs AS name ')' and WRAP
   grouping : {xs : List Lexeme} {a : Attributes} {n : Text} → AttributeListSpelling xs a
       → PostfixSpelling
-          (keyword k.Group ∷ parenthesized (xs ++ (keyword k.As ∷ (lexeme.name n ∷ []))))
-          (tree.group a n)
+      (keyword k.Group ∷ parenthesized (xs ++ (keyword k.As ∷ (lexeme.name n ∷ []))))
+      (tree.group a n)
   wrapping : {xs : List Lexeme} {a : Attributes} {n : Text} → AttributeListSpelling xs a
       → PostfixSpelling
-          (keyword k.Wrap ∷ parenthesized (xs ++ (keyword k.As ∷ (lexeme.name n ∷ []))))
-          (tree.wrap a n)
+      (keyword k.Wrap ∷ parenthesized (xs ++ (keyword k.As ∷ (lexeme.name n ∷ []))))
+      (tree.wrap a n)
   -- e9 UNGROUP '(' name ')' and UNWRAP
   ungrouping : {n : Text}
       → PostfixSpelling (keyword k.Ungroup ∷ parenthesized (lexeme.name n ∷ [])) (tree.ungroup n)
@@ -219,11 +219,11 @@ mutual
     -- e8 := TCLOSE e8
     closure : {xs : List Lexeme} {a : Tree} → Spelling levels.Prefixed xs a
         → Spelling levels.Prefixed (keyword k.Tclose ∷ xs)
-            (tree.prefix prefixes.TransitiveClosure a)
+        (tree.prefix prefixes.TransitiveClosure a)
     -- e8 := TUPLE FROM e8
     tuple_from : {xs : List Lexeme} {a : Tree} → Spelling levels.Prefixed xs a
         → Spelling levels.Prefixed (keyword k.Tuple ∷ (keyword k.From ∷ xs))
-            (tree.prefix prefixes.TupleFrom a)
+        (tree.prefix prefixes.TupleFrom a)
     -- e8 := name FROM e8
     extraction : {n : Text} {xs : List Lexeme} {a : Tree} → Spelling levels.Prefixed xs a
         → Spelling levels.Prefixed (lexeme.name n ∷ (keyword k.From ∷ xs)) (tree.extract n a)
@@ -252,13 +252,13 @@ mutual
     aggregate : {op : Aggregate} {xs ys : List Lexeme} {a b : Tree} → Spelling loosest xs a
         → Spelling loosest ys b
         → Spelling levels.Primary
-            (keyword (aggregate_word op) ∷ parenthesized (xs ++ (sign signs.Comma ∷ ys)))
-            (tree.aggregate op a b)
+        (keyword (aggregate_word op) ∷ parenthesized (xs ++ (sign signs.Comma ∷ ys)))
+        (tree.aggregate op a b)
     -- e10 := RELATION heading '{' e,* '}'
     headed_relation : {hs xs : List Lexeme} {h : AttributeTrees} {all : Trees}
         → HeadingSpelling hs h → ListSpelling xs all
         → Spelling levels.Primary (keyword k.Relation ∷ (hs ++ braced xs))
-            (tree.headed_relation h all)
+        (tree.headed_relation h all)
     -- e10 := RELATION '{' e,+ '}'
     relation : {xs : List Lexeme} {all : Trees} → ExpressionsSpelling xs all
         → Spelling levels.Primary (keyword k.Relation ∷ braced xs) (tree.relation all)
@@ -270,33 +270,33 @@ mutual
     extension : {xs ys : List Lexeme} {a : Tree} {parts : NamedTrees} → Spelling loosest xs a
         → AdditionsSpelling ys parts
         → Spelling levels.Primary (keyword k.Extend ∷ (xs ++ (keyword k.Add ∷ parenthesized ys)))
-            (tree.extend a parts)
+        (tree.extend a parts)
     -- e10 := SUMMARIZE e PER '(' e ')' ADD '(' item,+ ')'
     summary_per : {xs ys zs : List Lexeme} {a b : Tree} {items : Summaries} → Spelling loosest xs a
         → Spelling loosest ys b → SummariesSpelling zs items
         → Spelling levels.Primary
-            (keyword k.Summarize
-            ∷ (xs ++ (keyword k.Per
-            ∷ (parenthesized ys
-            ++ (keyword k.Add ∷ parenthesized zs)))))
-            (tree.summarize_per a b items)
+        (keyword k.Summarize
+        ∷ (xs ++ (keyword k.Per
+        ∷ (parenthesized ys
+        ++ (keyword k.Add ∷ parenthesized zs)))))
+        (tree.summarize_per a b items)
     -- e10 := SUMMARIZE e BY attrs ADD '(' item,+ ')'
     summary_by : {xs ys zs : List Lexeme} {a : Tree} {by : Attributes} {items : Summaries}
         → Spelling loosest xs a → AttributeListSpelling ys by → SummariesSpelling zs items
         → Spelling levels.Primary
-            (keyword k.Summarize
-            ∷ (xs ++ (keyword k.By
-            ∷ (ys ++ (keyword k.Add ∷ parenthesized zs)))))
-            (tree.summarize_by a by items)
+        (keyword k.Summarize
+        ∷ (xs ++ (keyword k.By
+        ∷ (ys ++ (keyword k.Add ∷ parenthesized zs)))))
+        (tree.summarize_by a by items)
     -- e10 := IF e THEN e ELSE e END IF
     choice : {xs ys zs : List Lexeme} {a b c : Tree} → Spelling loosest xs a → Spelling loosest ys b
         → Spelling loosest zs c
         → Spelling levels.Primary
-            (keyword k.If
-            ∷ (xs ++ (keyword k.Then
-            ∷ (ys ++ (keyword k.Else
-            ∷ (zs ++ (keyword k.End ∷ (keyword k.If ∷ []))))))))
-            (tree.choice a b c)
+        (keyword k.If
+        ∷ (xs ++ (keyword k.Then
+        ∷ (ys ++ (keyword k.Else
+        ∷ (zs ++ (keyword k.End ∷ (keyword k.If ∷ []))))))))
+        (tree.choice a b c)
 
   -- e,*
   pub data ListSpelling : List Lexeme → Trees → Type 0 where
@@ -319,44 +319,44 @@ mutual
     next_part : {n : Text} {xs ys : List Lexeme} {a : Tree} {parts : NamedTrees}
         → Spelling loosest xs a → PartsSpelling ys parts
         → PartsSpelling (lexeme.name n ∷ (xs ++ (sign signs.Comma ∷ ys)))
-            (tree.more_named n a parts)
+        (tree.more_named n a parts)
 
   -- (e AS name),+
   pub data AdditionsSpelling : List Lexeme → NamedTrees → Type 0 where
     last_addition : {n : Text} {xs : List Lexeme} {a : Tree} → Spelling loosest xs a
         → AdditionsSpelling (xs ++ (keyword k.As ∷ (lexeme.name n ∷ [])))
-            (tree.more_named n a tree.none_named)
+        (tree.more_named n a tree.none_named)
     next_addition : {n : Text} {xs ys : List Lexeme} {a : Tree} {parts : NamedTrees}
         → Spelling loosest xs a → AdditionsSpelling ys parts
         → AdditionsSpelling (xs ++ (keyword k.As ∷ (lexeme.name n ∷ (sign signs.Comma ∷ ys))))
-            (tree.more_named n a parts)
+        (tree.more_named n a parts)
 
   -- item,+ where item := COUNT '(' ')' AS name | (SUM | MAX | MIN) '(' e ')' AS name
   pub data SummariesSpelling : List Lexeme → Summaries → Type 0 where
     last_count : {n : Text}
         → SummariesSpelling
-            (keyword k.Count ∷ (parenthesized [] ++ (keyword k.As ∷ (lexeme.name n ∷ []))))
-            (tree.counted n tree.no_summaries)
+        (keyword k.Count ∷ (parenthesized [] ++ (keyword k.As ∷ (lexeme.name n ∷ []))))
+        (tree.counted n tree.no_summaries)
     next_count : {n : Text} {ys : List Lexeme} {items : Summaries} → SummariesSpelling ys items
         → SummariesSpelling
-            (keyword k.Count
-            ∷ (parenthesized []
-            ++ (keyword k.As ∷ (lexeme.name n ∷ (sign signs.Comma ∷ ys)))))
-            (tree.counted n items)
+        (keyword k.Count
+        ∷ (parenthesized []
+        ++ (keyword k.As ∷ (lexeme.name n ∷ (sign signs.Comma ∷ ys)))))
+        (tree.counted n items)
     last_sum : {op : Aggregate} {n : Text} {xs : List Lexeme} {a : Tree} → Spelling loosest xs a
         → SummariesSpelling
-            (keyword (aggregate_word op)
-            ∷ (parenthesized xs
-            ++ (keyword k.As ∷ (lexeme.name n ∷ []))))
-            (tree.summed op a n tree.no_summaries)
+        (keyword (aggregate_word op)
+        ∷ (parenthesized xs
+        ++ (keyword k.As ∷ (lexeme.name n ∷ []))))
+        (tree.summed op a n tree.no_summaries)
     next_sum : {op : Aggregate} {n : Text} {xs ys : List Lexeme} {a : Tree} {items : Summaries}
         → Spelling loosest xs a → SummariesSpelling ys items
         → SummariesSpelling
-            (keyword (aggregate_word op)
-            ∷ (parenthesized xs
-            ++ (keyword k.As
-            ∷ (lexeme.name n ∷ (sign signs.Comma ∷ ys)))))
-            (tree.summed op a n items)
+        (keyword (aggregate_word op)
+        ∷ (parenthesized xs
+        ++ (keyword k.As
+        ∷ (lexeme.name n ∷ (sign signs.Comma ∷ ys)))))
+        (tree.summed op a n items)
 
 -- the height that no tree of a statement goes beyond
 abbrev pub height_limit : ℕ

@@ -41,11 +41,11 @@ pub data KeyPart : List Lexeme → List Text → Type 0 where
 pub data SettingsSpelling : List Lexeme → NamedTrees → Type 0 where
   last_setting : {n : Text} {xs : List Lexeme} {t : Tree} → ExpressionItem xs t
       → SettingsSpelling (lexeme.name n ∷ (sign signs.Assign ∷ xs))
-          (tree.more_named n t tree.none_named)
+      (tree.more_named n t tree.none_named)
   next_setting : {n : Text} {xs ys : List Lexeme} {t : Tree} {rest : NamedTrees}
       → ExpressionItem xs t → SettingsSpelling ys rest
       → SettingsSpelling (lexeme.name n ∷ (sign signs.Assign ∷ (xs ++ (sign signs.Comma ∷ ys))))
-          (tree.more_named n t rest)
+      (tree.more_named n t rest)
 
 pub data AssignmentSpelling : List Lexeme → Assignment → Type 0 where
   -- name ':=' e
@@ -62,7 +62,7 @@ pub data AssignmentSpelling : List Lexeme → Assignment → Type 0 where
   changing : {n : Text} {xs ys : List Lexeme} {condition : Option Tree} {settings : NamedTrees}
       → Optional WherePart xs condition → SettingsSpelling ys settings
       → AssignmentSpelling (keyword k.Update ∷ (lexeme.name n ∷ (xs ++ parenthesized ys)))
-          (tree.update n condition settings)
+      (tree.update n condition settings)
 
 -- BASE | REAL
 pub data BaseWord : Keyword → Type 0 where
@@ -75,7 +75,7 @@ pub data BodySpelling : List Lexeme → Statement → Type 0 where
   type_definition : {n : Text} {xs ys : List Lexeme} {h : AttributeTrees} {t : Option Tree}
       → AttributesSpelling xs h → attributes_height h ≤ height_limit → Optional ConstraintPart ys t
       → BodySpelling (keyword k.«Type» ∷ (lexeme.name n ∷ (keyword k.Possrep ∷ braced (xs ++ ys))))
-          (tree.define_type n h t)
+      (tree.define_type n h t)
   -- DROP TYPE name, DROP VAR name, DROP CONSTRAINT name
   type_drop : {n : Text}
       → BodySpelling (keyword k.Drop ∷ (keyword k.«Type» ∷ (lexeme.name n ∷ []))) (tree.drop_type n)
@@ -83,24 +83,24 @@ pub data BodySpelling : List Lexeme → Statement → Type 0 where
       → BodySpelling (keyword k.Drop ∷ (keyword k.Var ∷ (lexeme.name n ∷ []))) (tree.drop_var n)
   constraint_drop : {n : Text}
       → BodySpelling (keyword k.Drop ∷ (keyword k.Constraint ∷ (lexeme.name n ∷ [])))
-          (tree.drop_constraint n)
+      (tree.drop_constraint n)
   -- VAR name (BASE | REAL) RELATION heading [INIT '(' e ')'] (KEY names)*
   base_definition : {n : Text} {base : Keyword} {xs ys zs : List Lexeme} {h : AttributeTrees}
       {t : Option Tree} {keys : List (List Text)}
       → BaseWord base → HeadingSpelling xs h → type_height (tree.relation_type h) ≤ height_limit
       → Optional InitPart ys t → Repeated KeyPart zs keys
       → BodySpelling
-          (keyword k.Var
-          ∷ (lexeme.name n
-          ∷ (keyword base
-          ∷ (keyword k.Relation ∷ (xs ++ (ys ++ zs))))))
-          (tree.define_base n h t keys)
+      (keyword k.Var
+      ∷ (lexeme.name n
+      ∷ (keyword base
+      ∷ (keyword k.Relation ∷ (xs ++ (ys ++ zs))))))
+      (tree.define_base n h t keys)
   -- VAR name VIRTUAL '(' e ')' (KEY names)*
   virtual_definition : {n : Text} {xs ys : List Lexeme} {t : Tree} {keys : List (List Text)}
       → ExpressionItem xs t → Repeated KeyPart ys keys
       → BodySpelling
-          (keyword k.Var ∷ (lexeme.name n ∷ (keyword k.Virtual ∷ (parenthesized xs ++ ys))))
-          (tree.define_virtual n t keys)
+      (keyword k.Var ∷ (lexeme.name n ∷ (keyword k.Virtual ∷ (parenthesized xs ++ ys))))
+      (tree.define_virtual n t keys)
   -- CONSTRAINT name e
   constraint_definition : {n : Text} {xs : List Lexeme} {t : Tree} → ExpressionItem xs t
       → BodySpelling (keyword k.Constraint ∷ (lexeme.name n ∷ xs)) (tree.define_constraint n t)
