@@ -1,6 +1,6 @@
 -- The set machine: what a statement does to a database, and what it answers (the chapter's; causes, the order of checks
 -- and the texts are this project's own).
-use Rattle.std.specs.Prelude.{◌≡◌, ℕ, ◌+◌, Bool, true, false, ◌&&◌, List, [], ◌∷◌, ◌++◌, Option, Some, None, codes, decimal, nat_lt, if◌then◌else◌}
+use Rattle.std.specs.Prelude.{◌≡◌, ℕ, ◌+◌, Bool, true, false, ◌&&◌, List, [], ◌∷◌, ◌++◌, Option, Some, None, codes, decimal, nat_lt, if◌then◌else◌, ⊤}
 use Rattle.td_tree.specs.Causes.{name_of, number_of}
 use Rattle.td_tree.specs.Outcomes.{Only, Outcome, Valued, Refused, least, value_if, with_value, with_both}
 use Rattle.td_tree.specs.StatementGrammar.{StatementSpelling}
@@ -51,7 +51,7 @@ by_outcome db (Refused cs) f = refused db (least cs)
 -- ---- definitions
 
 -- a name that is taken is NAME_TAKEN
-abbrev pub free : Option Relvar → Outcome (Unit {0})
+abbrev pub free : Option Relvar → Outcome ⊤
 free None = Valued tt
 free (Some r) = Refused (Only causes.NameTaken)
 

@@ -1,5 +1,5 @@
 -- What the engine answers (this project's own).
-use Rattle.std.specs.Prelude.{◌≡◌, List, is_none, Result, Ok, Err}
+use Rattle.std.specs.Prelude.{◌≡◌, List, is_none, Result, Ok, Err, ⊤}
 use Rattle.std.specs.String.{string_bytes}
 use Rattle.td_tree.specs.declared.fault.Fault.{Fault}
 use Rattle.td_tree.specs.declared.fault.Fault.TheVariants as faults
@@ -28,4 +28,4 @@ pub record Does (step : Step) (answer : code.Answer) (new : Database) : Type 0 w
 abbrev pub IsParsed : List Entry → Result Statement Fault → Type 0
 IsParsed tokens (Ok statement) = (db : Database) → Steps db tokens (stepped db (statement_of statement))
 IsParsed tokens (Err (faults.Refused cause)) = (db : Database) → Steps db tokens (refused db cause)
-IsParsed tokens (Err faults.Memory) = Unit {0}
+IsParsed tokens (Err faults.Memory) = ⊤

@@ -1,5 +1,5 @@
 -- What the parser's functions return and leave, by what reading gives of the lexemes before them.
-use Rattle.std.specs.Prelude.{◌≡◌, ℕ, Bool, true, false, List, [], ◌∷◌, drop, Option, Some, None, Result, Ok, Err}
+use Rattle.std.specs.Prelude.{◌≡◌, ℕ, Bool, true, false, List, [], ◌∷◌, drop, Option, Some, None, Result, Ok, Err, ⊤}
 use Rattle.std.specs.List.{list_any}
 use Rattle.td_tree.specs.declared.cause.Cause.TheVariants as causes
 use Rattle.td_tree.specs.declared.fault.Fault.{Fault}
@@ -52,7 +52,7 @@ Eats after true old new = after ≡ Some new
 Eats after false old new = (after ≡ None) × (new ≡ old)
 
 -- the word was taken, or the grammar spells nothing
-abbrev pub Expects : Option (List Lexeme) → Result (Unit {0}) Fault → List Lexeme → Type 0
+abbrev pub Expects : Option (List Lexeme) → Result ⊤ Fault → List Lexeme → Type 0
 Expects after (Ok x) new = after ≡ Some new
 Expects after (Err (faults.Refused cause)) new = (after ≡ None) × (cause ≡ causes.Syntax)
 Expects after (Err faults.Memory) new = ⊥
@@ -88,13 +88,13 @@ Tries None old new read = (read ≡ None) × (new ≡ old)
 abbrev pub Moves : {X Y : Type 0} → (X → Y) → Result X Fault → List Lexeme → ReadOf Y → Type 0
 Moves view (Ok x) new read = read ≡ Some (view x, new)
 Moves view (Err (faults.Refused cause)) new read = (read ≡ None) × (cause ≡ causes.Syntax)
-Moves view (Err faults.Memory) new read = Unit {0}
+Moves view (Err faults.Memory) new read = ⊤
 
 -- what was returned is what reading all gives, unless memory ran out
 abbrev pub Gives : {X Y : Type 0} → (X → Y) → Result X Fault → Option Y → Type 0
 Gives view (Ok x) read = read ≡ Some (view x)
 Gives view (Err (faults.Refused cause)) read = (read ≡ None) × (cause ≡ causes.Syntax)
-Gives view (Err faults.Memory) read = Unit {0}
+Gives view (Err faults.Memory) read = ⊤
 
 abbrev pub is_bad : Kind → Bool
 is_bad kinds.Bad = true

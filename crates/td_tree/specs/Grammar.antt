@@ -1,6 +1,6 @@
 -- The grammar of types and expressions (after Tutorial D; the levels of precedence are this
 -- project's own): which lexemes spell which tree, a constructor for each production.
-use Rattle.std.specs.Prelude.{ℕ, ◌≤◌, true, false, List, [], ◌∷◌, ◌++◌}
+use Rattle.std.specs.Prelude.{ℕ, ◌≤◌, true, false, List, [], ◌∷◌, ◌++◌, ⊤}
 use Rattle.td_tree.specs.declared.keyword.Keyword.{Keyword}
 use Rattle.td_tree.specs.declared.keyword.Keyword.TheVariants as k
 use Rattle.td_tree.specs.declared.operator.Aggregate.{Aggregate}
@@ -192,7 +192,7 @@ aggregate_word aggregates.Min = k.Min
 -- the first of them is no number
 abbrev pub BeginsOtherwise : List Lexeme → Type 0
 BeginsOtherwise (lexeme.number n ∷ xs) = ⊥
-BeginsOtherwise _ = Unit {0}
+BeginsOtherwise _ = ⊤
 
 -- ---- expressions
 

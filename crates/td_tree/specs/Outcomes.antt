@@ -1,5 +1,5 @@
 -- Sets of causes, and what has a value or such a set (this project's own).
-use Rattle.std.specs.Prelude.{◌≡◌, ◌≤◌, nat_le, Bool, List, [], ◌∷◌, Option, None, Some, Result, Ok, Err, if◌then◌else◌, ◌⊎◌}
+use Rattle.std.specs.Prelude.{◌≡◌, ◌≤◌, nat_le, Bool, List, [], ◌∷◌, Option, None, Some, Result, Ok, Err, if◌then◌else◌, ◌⊎◌, ⊤}
 use Rattle.td_tree.specs.Causes.{number_of}
 use Rattle.td_tree.specs.declared.cause.Cause.{Cause}
 use Rattle.td_tree.specs.declared.fault.Fault.{Fault}
@@ -62,7 +62,7 @@ value_if test x cause = if test then Valued x else Refused (Only cause)
 abbrev pub Answers : {X A : Type 0} → (X → A) → Result X Fault → Outcome A → Type 0
 Answers view (Ok x) o = o ≡ Valued (view x)
 Answers view (Err (faults.Refused cause)) o = named_cause o ≡ Some cause
-Answers view (Err faults.Memory) o = Unit {0}
+Answers view (Err faults.Memory) o = ⊤
 
 -- ---- laws
 

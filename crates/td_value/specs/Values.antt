@@ -1,5 +1,5 @@
 -- Values, tuples and relations (a relation is a set of tuples, as in Tutorial D; the order of values is this project's own).
-use Rattle.std.specs.Prelude.{◌≡◌, ℕ, ◌-◌, ◌^◌, ℤ, pos, ◌≤ℤ◌, negsuc, Bool, List, [], ◌∷◌, filter, map, Option, Some, None, if◌then◌else◌, IsUtf8, ◌↔◌}
+use Rattle.std.specs.Prelude.{◌≡◌, ℕ, ◌-◌, ◌^◌, ℤ, pos, ◌≤ℤ◌, negsuc, Bool, List, [], ◌∷◌, filter, map, Option, Some, None, if◌then◌else◌, IsUtf8, ◌↔◌, ⊤}
 use Rattle.std.specs.Ordering.{nat_cmp, int_cmp, bool_cmp, ordering_then}
 use Rattle.std.specs.declared.cmp.Ordering.{Ordering}
 use Rattle.std.specs.declared.cmp.Ordering.TheVariants.{Less, Equal, Greater}
@@ -177,7 +177,7 @@ IsAscendingRows = IsStrictlySortedBy tuple_order
 -- is one
 abbrev mutual
   pub IsValue : Val → Type 0
-  IsValue (boolean b) = Unit {0}
+  IsValue (boolean b) = ⊤
   IsValue (integer z) = IsInRange z
   IsValue (text s) = IsUtf8 s
   IsValue (user n ps) = IsName n × AreValues ps
@@ -185,15 +185,15 @@ abbrev mutual
   IsValue (relation h rs) = AreRows h rs × IsAscendingRows (unpack_rows rs) × IsHeading h
 
   pub AreValues : Parts → Type 0
-  AreValues no_parts = Unit {0}
+  AreValues no_parts = ⊤
   AreValues (part v ps) = IsValue v × AreValues ps
 
   pub AreFields : Fields → Type 0
-  AreFields no_fields = Unit {0}
+  AreFields no_fields = ⊤
   AreFields (field n v fs) = IsName n × IsValue v × AreFields fs
 
   pub AreRows : Attrs → Rows → Type 0
-  AreRows h no_rows = Unit {0}
+  AreRows h no_rows = ⊤
   AreRows h (row fs rs) = (AreFields fs × IsStrictlySortedBy (slice_cmp nat_cmp) (names_of (unpack_fields fs)) × (fields_type fs ≡ h)) × AreRows h rs
 
 -- a tuple, all of whose values are values
