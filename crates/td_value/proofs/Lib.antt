@@ -4,7 +4,6 @@ pub mod HeadingOf
 pub mod Kept
 pub mod Maps
 pub mod Members
-pub mod Pieces
 pub mod Rows
 pub mod SetLaws
 pub mod Typed

@@ -7,10 +7,6 @@ use Rattle.td_types.specs.Texts.{comma_if, type_text}
 use Rattle.td_value.specs.Values.{Val, boolean, integer, text, user, tuple, relation, Parts, no_parts, part, Fields, no_fields, field, Rows, no_rows, row, Entries, Relation, pack_fields, pack_rows}
 use Rattle.td_types.specs.Types.{pack}
 
--- the two quotes before a piece of a text that another piece stands before
-abbrev pub quotes_if : Bool → List ℕ
-quotes_if later = if later then codes "''" else []
-
 -- numbers in decimal, TRUE and FALSE, texts between quotes, T(v1, v2), TUPLE {A v, B w} in name order, and a relation's type
 -- with its tuples between braces; `later` where a part stands before
 abbrev mutual

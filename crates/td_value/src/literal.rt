@@ -5,8 +5,7 @@ ghost use Rattle.std.specs.String.{string_bytes};
 ghost use Rattle.td_types.specs.Texts.{comma_if, type_text};
 ghost use Rattle.td_types.specs.Types.{pack};
 ghost use Rattle.td_types.specs.Types as types;
-ghost use Rattle.td_tree.specs.TextTokens.{doubled, quoted};
-ghost use Rattle.td_value.specs.Literal.{fields_literal, literal, quotes_if, relation_literal};
+ghost use Rattle.td_value.specs.Literal.{fields_literal, literal, relation_literal};
 ghost use Rattle.td_value.specs.Literal.{rows_literal, tuple_literal};
 ghost use Rattle.td_value.specs.Values.{pack_fields, pack_rows, selected_value};
 ghost use Rattle.td_value.specs.Views.{entries_of};
@@ -17,6 +16,7 @@ use crate::user::User;
 use crate::value::{Node, Value};
 use std::alloc::{AllocError, Global};
 use td_tree::name::Name;
+use td_tree::quoted::put_quoted;
 use td_types::heading::Heading;
 use td_types::text::put_relation_type;
 
@@ -34,36 +34,6 @@ fn put_number(out: &mut String, n: i64) -> Result<(), AllocError>
 {
     let mut buffer = itoa::Buffer::new();
     out.push_str(buffer.format(n))
-}
-
-fn put_quotes(out: &mut String, later: bool) -> Result<(), AllocError>
-    ensures { OnOk result (string_bytes out.new ≡ string_bytes out.old ++ quotes_if later) }
-{
-    if later {
-        out.push_str("''")?;
-    }
-    Ok(())
-}
-
-/// Puts the text with each quote doubled: its pieces between quotes, with two quotes between.
-fn put_doubled(out: &mut String, content: &str) -> Result<(), AllocError>
-    ensures { OnOk result (string_bytes out.new ≡ string_bytes out.old ++ doubled content.now) }
-{
-    let mut later = false;
-    for piece in content.split('\'') {
-        put_quotes(out, later)?;
-        out.push_str(piece)?;
-        later = true;
-    }
-    Ok(())
-}
-
-fn put_text(out: &mut String, content: &str) -> Result<(), AllocError>
-    ensures { OnOk result (string_bytes out.new ≡ string_bytes out.old ++ quoted content.now) }
-{
-    out.push_str("'")?;
-    put_doubled(out, content)?;
-    out.push_str("'")
 }
 
 /// Puts the name of a user value's type, and opens its components.
@@ -101,7 +71,7 @@ fn write_value(v: &Value, out: &mut String) -> Result<(), AllocError>
         Node::Bool(true) => out.push_str("TRUE"),
         Node::Bool(false) => out.push_str("FALSE"),
         Node::Int(n) => put_number(out, *n),
-        Node::Text(s) => put_text(out, s.as_str()),
+        Node::Text(s) => put_quoted(out, s.as_str()),
         Node::User(u) => write_user(u, out),
         Node::Tup(t) => write_tuple(t, out),
         Node::Rel(r) => write_relation(r, out),

@@ -22,13 +22,6 @@ use td_value::relation::Rel;
 use td_value::tuple::Tuple;
 use td_value::value::Value;
 
-/// Whether each name is an attribute of the heading.
-fn are_attributes(names: &[Name], heading: &Heading) -> bool
-    ensures { result ≡ has_attributes names.now heading.now }
-{
-    names.iter().all(|name| heading.get(name).is_some())
-}
-
 /// Whether each name of the part is in the key.
 fn includes(key: &[Name], part: &[Name]) -> bool
     ensures { result ≡ includes key.now part.now }
@@ -60,7 +53,7 @@ fn is_key(heading: &Heading, key: &[Name], others: &[Vec<Name>]) -> bool
     ensures { result ≡ (has_attributes key.now heading.now && are_distinct key.now
         && list_all (are_apart key.now) (map (λ other. other.items) others.now)) }
 {
-    are_attributes(key, heading) && are_distinct(key) && is_apart(key, others)
+    heading.has_all(key) && are_distinct(key) && is_apart(key, others)
 }
 
 /// Whether the names of each key are distinct attributes, and no key includes another.

@@ -2,6 +2,8 @@
 ghost use Rattle.std.specs.Prelude.{◌≡◌, ◌≤◌, if◌then◌else◌, nat_le, option_map, Some, None};
 ghost use Rattle.td_tree.specs.Numbers.{numeral_limit};
 
+use td_tree::expression::MAX_MAGNITUDE;
+
 /// A number as it is written: its minus stays in the tree.
 #[derive(Clone, Copy, Debug)]
 pub struct Numeral {
@@ -9,9 +11,6 @@ pub struct Numeral {
     pub magnitude: u64,
     ghost in_range: { magnitude ≤ numeral_limit minus },
 }
-
-/// The greatest number that a literal spells, after a minus.
-pub const MAX_MAGNITUDE: u64 = 9_223_372_036_854_775_808;
 
 impl Numeral {
     ghost use Rattle.td.specs.Meaning.{numeral_value};
