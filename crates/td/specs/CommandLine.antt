@@ -1,15 +1,19 @@
 -- The command line of `td` (this project's own), in the words of `clap`'s port.
 use Rattle.std.specs.Prelude.{◌≡◌, true, false, List, Option, Some, None, codes, option_map}
-use Rattle.clap.specs.Words.{App, Row, Text, first_of, one_of, new_app, new_rule, with_rule, with_subcommand}
+use Rattle.clap.specs.Words.{App, Row, Rule, Text, first_of, one_of, new_app, new_rule, with_rule, with_subcommand}
 use Rattle.clap.specs.Simple.{on_top}
 use Rattle.clap.specs.declared.builder.ArgAction.TheVariants.{SetTrue}
 use Rattle.td.specs.declared.line.Mode.{Mode}
 use Rattle.td.specs.declared.line.Mode.TheVariants.{Run}
 use Rattle.td.specs.declared.line.Line.{Line}
 
+-- the flag `--stop`
+abbrev pub stop_rule : Rule
+stop_rule = record (new_rule (codes "stop")) { long = Some (codes "stop"); action = Some SetTrue }
+
 -- a subcommand: a flag `--stop` and a file
 abbrev pub part_app : Text → App
-part_app name = with_rule (with_rule (new_app name) (record (new_rule (codes "stop")) { long = Some (codes "stop"); action = Some SetTrue })) (new_rule (codes "file"))
+part_app name = with_rule (with_rule (new_app name) stop_rule) (new_rule (codes "file"))
 
 -- the command `td`, which wants a subcommand
 abbrev pub td_app : App

@@ -1,8 +1,8 @@
 //! The words of the command line.
-ghost use Rattle.std.specs.Prelude.{◌≡◌, IfOk, IfSome, List, Ok, Some, map, false};
-ghost use Rattle.clap.specs.Words.{app_of, subcommand_of, subcommand_rows_of};
+ghost use Rattle.std.specs.Prelude.{◌≡◌, IfOk, IfSome, List, Ok, Some, codes, map, false};
+ghost use Rattle.clap.specs.Words.{IsPlainArg, app_of, new_rule, rule_of, subcommand_of, subcommand_rows_of};
 ghost use Rattle.clap.specs.declared.builder.command.Command.TheViews.{out-Command};
-ghost use Rattle.td.specs.CommandLine.{IsSaidBy, mode_word, part_app, td_app};
+ghost use Rattle.td.specs.CommandLine.{IsSaidBy, mode_word, part_app, stop_rule, td_app};
 
 use clap::error::ErrorKind;
 use clap::{Arg, ArgAction, ArgMatches, Command, Error};
@@ -26,18 +26,36 @@ pub struct Line<'a> {
     pub file: Option<&'a str>,
 }
 
+/// The flag `--stop`.
+fn stop_flag<'a>(alloc: Global) -> Arg<'a>
+    ensures rule { rule_of result ≡ stop_rule }
+    ensures plain { IsPlainArg result }
+    ensures local { result.global ≡ false }
+{
+    Arg::new(alloc, "stop")
+        .long("stop")
+        .action(ArgAction::SetTrue)
+        .help("Ends the run at the first refused statement")
+}
+
+/// The script's file.
+fn file_word<'a>(alloc: Global) -> Arg<'a>
+    ensures rule { rule_of result ≡ new_rule (codes "file") }
+    ensures plain { IsPlainArg result }
+    ensures local { result.global ≡ false }
+{
+    Arg::new(alloc, "file").help(
+        "The script; without it, or where it is '-', the script is standard input",
+    )
+}
+
 /// A subcommand: a flag `--stop` and the file.
 fn part<'a>(alloc: Global, name: &'a str, about: &'a str) -> Result<Command<'a>, AllocError>
     ensures app { IfOk result (λ c. app_of c ≡ part_app name.entry.now) }
     ensures local { IfOk result (λ c. (out-Command c).has_globals ≡ false) }
 {
-    let stop = Arg::new(alloc, "stop")
-        .long("stop")
-        .action(ArgAction::SetTrue)
-        .help("Ends the run at the first refused statement");
-    let file = Arg::new(alloc, "file").help(
-        "The script; without it, or where it is '-', the script is standard input",
-    );
+    let stop = stop_flag(alloc);
+    let file = file_word(alloc);
     Command::new(alloc, name).about(about).arg(stop)?.arg(file)
 }
 
