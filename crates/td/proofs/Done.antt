@@ -4,7 +4,7 @@ use Rattle.std.specs.String.{string_bytes}
 use Rattle.td_tree.specs.Outcomes.{Outcome, Valued, Refused, least, named_cause}
 use Rattle.td_tree.specs.declared.cause.Cause.{Cause}
 use Rattle.td_tree.specs.declared.cause.Cause.TheVariants as causes
-use Rattle.td_types.specs.Types.{Attributes}
+use Rattle.td_types.specs.Types.{Heading}
 use Rattle.td_value.specs.Values.{Relation}
 use Rattle.td.specs.Assignable.{IsAssignable}
 use Rattle.td.specs.Database.{Database, Relvar, keys_fit, is_legal, relvar_at, same_heading}
@@ -54,19 +54,19 @@ outcome_does db (Refused cs) f cause (Ok a) named flag printed = subst (λ c. Do
 
 -- ---- what a value says
 
-fitted : (keys : List (List (List ℕ))) (h heading : Attributes) (b : Bool) → keys_fit h keys ≡ b → fitting keys h ≡ Valued heading → (h ≡ heading) × (keys_fit h keys ≡ true)
+fitted : (keys : List (List (List ℕ))) (h heading : Heading) (b : Bool) → keys_fit h keys ≡ b → fitting keys h ≡ Valued heading → (h ≡ heading) × (keys_fit h keys ≡ true)
 fitted keys h heading true e v = (valued h heading (rw e at v), e)
   where
-    valued : (a b : Attributes) → Valued a ≡ Valued b → a ≡ b
+    valued : (a b : Heading) → Valued a ≡ Valued b → a ≡ b
     valued a b e = cc
 fitted keys h heading false e v = let wrong = (rw e at v) in cc
 
 -- a definition that stands has a free name, and keys that fit
-pub declared_says : (found : Option Relvar) (names : Outcome Attributes) (keys : List (List (List ℕ))) (heading : Attributes)
+pub declared_says : (found : Option Relvar) (names : Outcome Heading) (keys : List (List (List ℕ))) (heading : Heading)
     → with_both (free found) (with_value names (fitting keys)) (λ _ h. Valued h) ≡ Valued heading → (found ≡ None) × (keys_fit heading keys ≡ true)
 declared_says None (Valued h) keys heading e = (refl, by_fitting (fitting keys h) refl e)
   where
-    by_fitting : (o : Outcome Attributes) → fitting keys h ≡ o → with_both (free None) o (λ _ k. Valued k) ≡ Valued heading → keys_fit heading keys ≡ true
+    by_fitting : (o : Outcome Heading) → fitting keys h ≡ o → with_both (free None) o (λ _ k. Valued k) ≡ Valued heading → keys_fit heading keys ≡ true
     by_fitting (Valued k) f v =
         let is = fitted keys h k (keys_fit h keys) refl f in
         let same : k ≡ heading = cc in
@@ -75,7 +75,7 @@ declared_says None (Valued h) keys heading e = (refl, by_fitting (fitting keys h
 declared_says None (Refused cs) keys heading e = cc
 declared_says (Some r) (Valued h) keys heading e = by_fitting (fitting keys h) refl e
   where
-    by_fitting : (o : Outcome Attributes) → fitting keys h ≡ o → with_both (free (Some r)) o (λ _ k. Valued k) ≡ Valued heading → (Some r ≡ None) × (keys_fit heading keys ≡ true)
+    by_fitting : (o : Outcome Heading) → fitting keys h ≡ o → with_both (free (Some r)) o (λ _ k. Valued k) ≡ Valued heading → (Some r ≡ None) × (keys_fit heading keys ≡ true)
     by_fitting (Valued k) f v = cc
     by_fitting (Refused cs) f v = cc
 declared_says (Some r) (Refused cs) keys heading e = cc
@@ -83,16 +83,16 @@ declared_says (Some r) (Refused cs) keys heading e = cc
 valued : {A : Type 0} (x y : A) → Valued x ≡ Valued y → x ≡ y
 valued x y e = cc
 
-assigned : (r : Relvar) (s body : Relation) (b : Bool) → same_heading s.heading r.body.heading ≡ b → assignable r s ≡ Valued body → (s ≡ body) × (s.heading ≡ r.body.heading)
-assigned r s body true e v = (valued s body (rw e at v), (heading_eq-Decides s.heading r.body.heading).0 e)
-assigned r s body false e v = let wrong = (rw e at v) in cc
+assigned : (r : Relvar) (s value : Relation) (b : Bool) → same_heading s.heading r.value.heading ≡ b → assignable r s ≡ Valued value → (s ≡ value) × (s.heading ≡ r.value.heading)
+assigned r s value true e v = (valued s value (rw e at v), (heading_eq-Decides s.heading r.value.heading).0 e)
+assigned r s value false e v = let wrong = (rw e at v) in cc
 
 -- what may be assigned has the target's heading
-pub assigned_says : (db : Database) (n : List ℕ) (body : Relation) (found : Option Relvar) (source : Outcome Relation)
-    → relvar_at n db ≡ found → with_both (known found) source assignable ≡ Valued body → IsAssignable db n body
-assigned_says db n body None (Valued s) at e = absurd cc
-assigned_says db n body None (Refused cs) at e = absurd cc
-assigned_says db n body (Some r) (Refused cs) at e = absurd cc
-assigned_says db n body (Some r) (Valued s) at e =
-    let is = assigned r s body (same_heading s.heading r.body.heading) refl e in
+pub assigned_says : (db : Database) (n : List ℕ) (value : Relation) (found : Option Relvar) (source : Outcome Relation)
+    → relvar_at n db ≡ found → with_both (known found) source assignable ≡ Valued value → IsAssignable db n value
+assigned_says db n value None (Valued s) at e = absurd cc
+assigned_says db n value None (Refused cs) at e = absurd cc
+assigned_says db n value (Some r) (Refused cs) at e = absurd cc
+assigned_says db n value (Some r) (Valued s) at e =
+    let is = assigned r s value (same_heading s.heading r.value.heading) refl e in
     record { target = r; found = at; same = ap (λ (x : Relation). x.heading) (sym is.0) ∙ is.1 }

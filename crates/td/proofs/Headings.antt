@@ -2,22 +2,22 @@
 use Rattle.std.proofs.Common.{◌≡◌, ℕ, List, [], ◌∷◌, refl, ap, ◌∙◌, fold, map}
 use Rattle.td_types.specs.Headings.{are_distinct, heading_from, made_heading, with_attribute}
 use Rattle.td_types.specs.Types as heads
-use Rattle.td_types.specs.Types.{Attributes, integer}
-use Rattle.td_value.specs.Values.{Entries, made_tuple, names_of, tuple_of}
+use Rattle.td_types.specs.Types.{Heading, integer}
+use Rattle.td_value.specs.Values.{Tuple, made_tuple, tuple_names, tuple_of}
 use Rattle.td_tree.specs.declared.cause.Cause.TheVariants as cause
 use Rattle.td_tree.specs.Outcomes.{value_if}
-use Rattle.td.specs.Meaning.{attribute_names, heading_meaning, integer_heading, tuple_meaning, written}
+use Rattle.td.specs.Meaning.{written_names, heading_meaning, integer_heading, tuple_meaning, written_components}
 use Rattle.td.specs.Trees.{TupleLiteral}
 
 -- names, each with the type INTEGER
-abbrev pub integers : List (List ℕ) → Attributes
+abbrev pub integers : List (List ℕ) → Heading
 integers = map (λ n. (n, integer))
 
-pub integers-names : (ns : List (List ℕ)) → heads.names_of (integers ns) ≡ ns
+pub integers-names : (ns : List (List ℕ)) → heads.attribute_names (integers ns) ≡ ns
 integers-names [] = refl
 integers-names (n ∷ ns) = ap (λ r. n ∷ r) (integers-names ns)
 
-put_in_turn : (h : Attributes) (ns : List (List ℕ)) → fold with_attribute h (integers ns) ≡ fold (λ heading n. with_attribute heading (n, integer)) h ns
+put_in_turn : (h : Heading) (ns : List (List ℕ)) → fold with_attribute h (integers ns) ≡ fold (λ heading n. with_attribute heading (n, integer)) h ns
 put_in_turn h [] = refl
 put_in_turn h (n ∷ ns) = put_in_turn (with_attribute h (n, integer)) ns
 
@@ -26,16 +26,16 @@ pub integers-heading : (ns : List (List ℕ)) → heading_from (integers ns) ≡
 integers-heading ns = put_in_turn [] ns
 
 -- the names as they are written
-pub written_names : (t : TupleLiteral) → names_of (written t) ≡ attribute_names t
+pub written_names : (t : TupleLiteral) → tuple_names (written_components t) ≡ written_names t
 written_names [] = refl
 written_names (a ∷ t) = ap (λ r. a.name ∷ r) (written_names t)
 
-pub names_at : (es : Entries) (t : TupleLiteral) → es ≡ written t → names_of es ≡ attribute_names t
-names_at es t e = ap names_of e ∙ written_names t
+pub names_at : (es : Tuple) (t : TupleLiteral) → es ≡ written_components t → tuple_names es ≡ written_names t
+names_at es t e = ap tuple_names e ∙ written_names t
 
 -- the heading that integers make, and the tuple that entries make
-pub integers_made : (ns : List (List ℕ)) (attributes : Attributes) → attributes ≡ integers ns → made_heading attributes ≡ heading_meaning ns
+pub integers_made : (ns : List (List ℕ)) (attributes : Heading) → attributes ≡ integers ns → made_heading attributes ≡ heading_meaning ns
 integers_made ns attributes e = ap made_heading e ∙ (λ i. value_if (are_distinct (integers-names ns i)) (integers-heading ns i) cause.Heading)
 
-pub entries_made : (t : TupleLiteral) (es : Entries) → es ≡ written t → made_tuple es ≡ tuple_meaning t
-entries_made t es e = ap made_tuple e ∙ (λ i. value_if (are_distinct (written_names t i)) (tuple_of (written t)) cause.Heading)
+pub entries_made : (t : TupleLiteral) (es : Tuple) → es ≡ written_components t → made_tuple es ≡ tuple_meaning t
+entries_made t es e = ap made_tuple e ∙ (λ i. value_if (are_distinct (written_names t i)) (tuple_of (written_components t)) cause.Heading)

@@ -4,9 +4,9 @@ use Rattle.std.specs.List.{list_all}
 use Rattle.std.specs.Cmp.Lexicographic.{same_text}
 use Rattle.td_types.specs.Headings.{are_distinct, has_name}
 use Rattle.td_types.proofs.HeadingLaws.{same_name-flips}
-use Rattle.td_types.specs.Types.{Attributes, same_name}
+use Rattle.td_types.specs.Types.{Heading, same_name}
 use Rattle.td_value.specs.Values.{Relation}
-use Rattle.td.specs.Database.{Database, Relvar, is_legal, is_relvar, keys_fit, keys_hold, names_of, relvar_at, target_holds, with_body}
+use Rattle.td.specs.Database.{Database, Relvar, is_legal, is_relvar, keys_fit, keys_hold, relvar_names, relvar_at, target_holds, with_relation}
 use Rattle.td.specs.Assignable.{IsAssignable}
 use Rattle.td.specs.Machine.{first_broken, new_relvar}
 use Rattle.td.proofs.KeyLaws.{keys_hold-none}
@@ -24,15 +24,15 @@ all_more : (db : Database) (r : Relvar) → list_all is_relvar db ≡ true → i
 all_more [] r h e = rw e refl
 all_more (s ∷ db) r h e = let p = both (is_relvar s) (list_all is_relvar db) h in and_true (is_relvar s) _ p.0 (all_more db r p.1 e)
 
-names_more : (db : Database) (r : Relvar) → names_of (db ++ (r ∷ [])) ≡ names_of db ++ (r.name ∷ [])
+names_more : (db : Database) (r : Relvar) → relvar_names (db ++ (r ∷ [])) ≡ relvar_names db ++ (r.name ∷ [])
 names_more [] r = refl
 names_more (s ∷ db) r = ap (λ ns. s.name ∷ ns) (names_more db r)
 
-absent : (db : Database) (n : List ℕ) → relvar_at n db ≡ None → has_name n (names_of db) ≡ false
+absent : (db : Database) (n : List ℕ) → relvar_at n db ≡ None → has_name n (relvar_names db) ≡ false
 absent [] n e = refl
 absent (s ∷ db) n e = by_name (absent db n) (same_name s.name n) refl
   where
-    by_name : (relvar_at n db ≡ None → has_name n (names_of db) ≡ false) → (b : Bool) → same_name s.name n ≡ b → has_name n (names_of (s ∷ db)) ≡ false
+    by_name : (relvar_at n db ≡ None → has_name n (relvar_names db) ≡ false) → (b : Bool) → same_name s.name n ≡ b → has_name n (relvar_names (s ∷ db)) ≡ false
     by_name others true h = let wrong : Some s ≡ None = (rw h at e) in cc
     by_name others false h = rw h (others (rw h at e))
 
@@ -66,11 +66,11 @@ distinct_more (m ∷ ns) n d e =
 
 pub legal_more : (db : Database) (r : Relvar) → is_legal db ≡ true → relvar_at r.name db ≡ None → is_relvar r ≡ true → is_legal (db ++ (r ∷ [])) ≡ true
 legal_more db r legal free fits =
-    let p = both (list_all is_relvar db) (are_distinct (names_of db)) legal in
-    and_true _ (are_distinct (names_of (db ++ (r ∷ [])))) (all_more db r p.0 fits) (rw (names_more db r) (distinct_more (names_of db) r.name p.1 (absent db r.name free)))
+    let p = both (list_all is_relvar db) (are_distinct (relvar_names db)) legal in
+    and_true _ (are_distinct (relvar_names (db ++ (r ∷ [])))) (all_more db r p.0 fits) (rw (names_more db r) (distinct_more (relvar_names db) r.name p.1 (absent db r.name free)))
 
 -- a new relvar, with an empty body, is as it was declared
-pub is_new : (n : List ℕ) (keys : List (List (List ℕ))) (heading : Attributes) → keys_fit heading keys ≡ true → is_relvar (new_relvar n keys heading) ≡ true
+pub is_new : (n : List ℕ) (keys : List (List (List ℕ))) (heading : Heading) → keys_fit heading keys ≡ true → is_relvar (new_relvar n keys heading) ≡ true
 is_new n keys heading fit = and_true _ _ fit (keys_hold-none keys)
 
 -- ---- another body
@@ -79,75 +79,75 @@ pub broken_none : (db : Database) → list_all is_relvar db ≡ true → first_b
 broken_none [] h = refl
 broken_none (r ∷ db) h =
     let p = both (is_relvar r) (list_all is_relvar db) h in
-    let q = both (keys_fit r.body.heading r.keys) (keys_hold r.keys r.body.rows) p.0 in
+    let q = both (keys_fit r.value.heading r.keys) (keys_hold r.keys r.value.body) p.0 in
     rw q.1 (broken_none db p.1)
 
 pub unbroken : (db : Database) → is_legal db ≡ true → first_broken db ≡ None
-unbroken db legal = broken_none db (both (list_all is_relvar db) (are_distinct (names_of db)) legal).0
+unbroken db legal = broken_none db (both (list_all is_relvar db) (are_distinct (relvar_names db)) legal).0
 
-names_stay : (n : List ℕ) (body : Relation) (db : Database) → names_of (with_body n body db) ≡ names_of db
-names_stay n body [] = refl
-names_stay n body (r ∷ db) = by_name (names_stay n body db) (same_name r.name n) refl
+names_stay : (n : List ℕ) (value : Relation) (db : Database) → relvar_names (with_relation n value db) ≡ relvar_names db
+names_stay n value [] = refl
+names_stay n value (r ∷ db) = by_name (names_stay n value db) (same_name r.name n) refl
   where
-    by_name : names_of (with_body n body db) ≡ names_of db → (b : Bool) → same_name r.name n ≡ b → names_of (with_body n body (r ∷ db)) ≡ names_of (r ∷ db)
+    by_name : relvar_names (with_relation n value db) ≡ relvar_names db → (b : Bool) → same_name r.name n ≡ b → relvar_names (with_relation n value (r ∷ db)) ≡ relvar_names (r ∷ db)
     by_name others true h = rw h refl
     by_name others false h = rw h (ap (λ ns. r.name ∷ ns) others)
 
 some_is : (r s : Relvar) → Some r ≡ Some s → r ≡ s
 some_is r s e = cc
 
-all_changed : (n : List ℕ) (body : Relation) (db : Database) (r : Relvar) → list_all is_relvar db ≡ true → relvar_at n db ≡ Some r → body.heading ≡ r.body.heading → keys_hold r.keys body.rows ≡ true
-    → list_all is_relvar (with_body n body db) ≡ true
-all_changed n body [] r h found same hold = cc
-all_changed n body (s ∷ db) r h found same hold =
+all_changed : (n : List ℕ) (value : Relation) (db : Database) (r : Relvar) → list_all is_relvar db ≡ true → relvar_at n db ≡ Some r → value.heading ≡ r.value.heading → keys_hold r.keys value.body ≡ true
+    → list_all is_relvar (with_relation n value db) ≡ true
+all_changed n value [] r h found same hold = cc
+all_changed n value (s ∷ db) r h found same hold =
     let p = both (is_relvar s) (list_all is_relvar db) h in
-    by_name (λ e. all_changed n body db r p.1 e same hold) p (same_name s.name n) refl
+    by_name (λ e. all_changed n value db r p.1 e same hold) p (same_name s.name n) refl
   where
-    by_name : (relvar_at n db ≡ Some r → list_all is_relvar (with_body n body db) ≡ true) → (is_relvar s ≡ true) × (list_all is_relvar db ≡ true) → (b : Bool) → same_name s.name n ≡ b
-        → list_all is_relvar (with_body n body (s ∷ db)) ≡ true
+    by_name : (relvar_at n db ≡ Some r → list_all is_relvar (with_relation n value db) ≡ true) → (is_relvar s ≡ true) × (list_all is_relvar db ≡ true) → (b : Bool) → same_name s.name n ≡ b
+        → list_all is_relvar (with_relation n value (s ∷ db)) ≡ true
     by_name others p true e =
         let is : s ≡ r = some_is s r (rw e at found) in
-        let q = both (keys_fit s.body.heading s.keys) (keys_hold s.keys s.body.rows) p.0 in
-        let fit : keys_fit body.heading s.keys ≡ true = rw (same, ← ap (λ (x : Relvar). x.body.heading) is) q.0 in
-        let holds : keys_hold s.keys body.rows ≡ true = rw (ap (λ (x : Relvar). x.keys) is) hold in
-        rw e (and_true _ (list_all is_relvar db) (and_true (keys_fit body.heading s.keys) (keys_hold s.keys body.rows) fit holds) p.1)
+        let q = both (keys_fit s.value.heading s.keys) (keys_hold s.keys s.value.body) p.0 in
+        let fit : keys_fit value.heading s.keys ≡ true = rw (same, ← ap (λ (x : Relvar). x.value.heading) is) q.0 in
+        let holds : keys_hold s.keys value.body ≡ true = rw (ap (λ (x : Relvar). x.keys) is) hold in
+        rw e (and_true _ (list_all is_relvar db) (and_true (keys_fit value.heading s.keys) (keys_hold s.keys value.body) fit holds) p.1)
     by_name others p false e = rw e (and_true (is_relvar s) _ p.0 (others (rw e at found)))
 
-pub legal_changed : (n : List ℕ) (body : Relation) (db : Database) (r : Relvar) → is_legal db ≡ true → relvar_at n db ≡ Some r → body.heading ≡ r.body.heading → keys_hold r.keys body.rows ≡ true
-    → is_legal (with_body n body db) ≡ true
-legal_changed n body db r legal found same hold =
-    let p = both (list_all is_relvar db) (are_distinct (names_of db)) legal in
-    and_true _ (are_distinct (names_of (with_body n body db))) (all_changed n body db r p.0 found same hold) (rw (names_stay n body db) p.1)
+pub legal_changed : (n : List ℕ) (value : Relation) (db : Database) (r : Relvar) → is_legal db ≡ true → relvar_at n db ≡ Some r → value.heading ≡ r.value.heading → keys_hold r.keys value.body ≡ true
+    → is_legal (with_relation n value db) ≡ true
+legal_changed n value db r legal found same hold =
+    let p = both (list_all is_relvar db) (are_distinct (relvar_names db)) legal in
+    and_true _ (are_distinct (relvar_names (with_relation n value db))) (all_changed n value db r p.0 found same hold) (rw (names_stay n value db) p.1)
 
 -- the relvar that takes the body is the first whose keys may fail
-broken_at : (n : List ℕ) (body : Relation) (db : Database) (r : Relvar) → list_all is_relvar db ≡ true → relvar_at n db ≡ Some r → keys_hold r.keys body.rows ≡ false
-    → first_broken (with_body n body db) ≡ Some r.name
-broken_at n body [] r h found fails = cc
-broken_at n body (s ∷ db) r h found fails =
+broken_at : (n : List ℕ) (value : Relation) (db : Database) (r : Relvar) → list_all is_relvar db ≡ true → relvar_at n db ≡ Some r → keys_hold r.keys value.body ≡ false
+    → first_broken (with_relation n value db) ≡ Some r.name
+broken_at n value [] r h found fails = cc
+broken_at n value (s ∷ db) r h found fails =
     let p = both (is_relvar s) (list_all is_relvar db) h in
-    by_name (λ e. broken_at n body db r p.1 e fails) p (same_name s.name n) refl
+    by_name (λ e. broken_at n value db r p.1 e fails) p (same_name s.name n) refl
   where
-    by_name : (relvar_at n db ≡ Some r → first_broken (with_body n body db) ≡ Some r.name) → (is_relvar s ≡ true) × (list_all is_relvar db ≡ true) → (b : Bool) → same_name s.name n ≡ b
-        → first_broken (with_body n body (s ∷ db)) ≡ Some r.name
+    by_name : (relvar_at n db ≡ Some r → first_broken (with_relation n value db) ≡ Some r.name) → (is_relvar s ≡ true) × (list_all is_relvar db ≡ true) → (b : Bool) → same_name s.name n ≡ b
+        → first_broken (with_relation n value (s ∷ db)) ≡ Some r.name
     by_name others p true e =
         let is : s ≡ r = some_is s r (rw e at found) in
-        let failing : keys_hold s.keys body.rows ≡ false = rw (ap (λ (x : Relvar). x.keys) is) fails in
+        let failing : keys_hold s.keys value.body ≡ false = rw (ap (λ (x : Relvar). x.keys) is) fails in
         rw (e, failing) (ap (λ (x : Relvar). Some x.name) is)
     by_name others p false e =
-        let q = both (keys_fit s.body.heading s.keys) (keys_hold s.keys s.body.rows) p.0 in
+        let q = both (keys_fit s.value.heading s.keys) (keys_hold s.keys s.value.body) p.0 in
         rw (e, q.1) (others (rw e at found))
 
-pub broken_changed : (n : List ℕ) (body : Relation) (db : Database) (r : Relvar) → is_legal db ≡ true → relvar_at n db ≡ Some r → keys_hold r.keys body.rows ≡ false
-    → first_broken (with_body n body db) ≡ Some r.name
-broken_changed n body db r legal found fails = broken_at n body db r (both (list_all is_relvar db) (are_distinct (names_of db)) legal).0 found fails
+pub broken_changed : (n : List ℕ) (value : Relation) (db : Database) (r : Relvar) → is_legal db ≡ true → relvar_at n db ≡ Some r → keys_hold r.keys value.body ≡ false
+    → first_broken (with_relation n value db) ≡ Some r.name
+broken_changed n value db r legal found fails = broken_at n value db r (both (list_all is_relvar db) (are_distinct (relvar_names db)) legal).0 found fails
 
 -- ---- targets
 
-pub target_of : (db : Database) (n : List ℕ) (body : Relation) (t : IsAssignable db n body) → target_holds (relvar_at n db) body.rows ≡ keys_hold t.target.keys body.rows
-target_of db n body t = ap (λ o. target_holds o body.rows) t.found
+pub target_of : (db : Database) (n : List ℕ) (value : Relation) (t : IsAssignable db n value) → target_holds (relvar_at n db) value.body ≡ keys_hold t.target.keys value.body
+target_of db n value t = ap (λ o. target_holds o value.body) t.found
 
-pub legal_assigned : (db : Database) (n : List ℕ) (body : Relation) → is_legal db ≡ true → IsAssignable db n body → target_holds (relvar_at n db) body.rows ≡ true → is_legal (with_body n body db) ≡ true
-legal_assigned db n body legal t holds = legal_changed n body db t.target legal t.found t.same (sym (target_of db n body t) ∙ holds)
+pub legal_assigned : (db : Database) (n : List ℕ) (value : Relation) → is_legal db ≡ true → IsAssignable db n value → target_holds (relvar_at n db) value.body ≡ true → is_legal (with_relation n value db) ≡ true
+legal_assigned db n value legal t holds = legal_changed n value db t.target legal t.found t.same (sym (target_of db n value t) ∙ holds)
 
 -- the relvar that is found has the name
 name_found : (db : Database) (n : List ℕ) (r : Relvar) → relvar_at n db ≡ Some r → r.name ≡ n
@@ -158,6 +158,6 @@ name_found (s ∷ db) n r e = by_name (name_found db n r) (same_name s.name n) r
     by_name others true h = ap (λ (x : Relvar). x.name) (sym (some_is s r (rw h at e))) ∙ same_text s.name n (sym h)
     by_name others false h = others (rw h at e)
 
-pub broken_assigned : (db : Database) (n : List ℕ) (body : Relation) → is_legal db ≡ true → IsAssignable db n body → target_holds (relvar_at n db) body.rows ≡ false → first_broken (with_body n body db) ≡ Some n
-broken_assigned db n body legal t fails =
-    broken_changed n body db t.target legal t.found (sym (target_of db n body t) ∙ fails) ∙ ap Some (name_found db n t.target t.found)
+pub broken_assigned : (db : Database) (n : List ℕ) (value : Relation) → is_legal db ≡ true → IsAssignable db n value → target_holds (relvar_at n db) value.body ≡ false → first_broken (with_relation n value db) ≡ Some n
+broken_assigned db n value legal t fails =
+    broken_changed n value db t.target legal t.found (sym (target_of db n value t) ∙ fails) ∙ ap Some (name_found db n t.target t.found)

@@ -9,11 +9,11 @@ use Rattle.std.specs.declared.cmp.Ordering.TheVariants.{Less, Equal}
 use Rattle.std.proofs.lemmas.List.Elements.{All-contains, All-from_recursion, recursion_from_All}
 use Rattle.td_types.specs.Headings.{are_distinct, has_attribute, has_attributes, has_name}
 use Rattle.td_types.proofs.HeadingLaws.{has_attribute-names}
-use Rattle.td_types.specs.Types.{Attributes, names_of}
+use Rattle.td_types.specs.Types.{Heading, attribute_names}
 use Rattle.td_value.specs.ValueCode.{unpack_pack_fields, unpack_pack_rows}
 use Rattle.td_value.specs.ValueOrder.{tuple_order_total}
 use Rattle.td_value.specs.Values as values
-use Rattle.td_value.specs.Values.{Entries, IsRelation, IsTupleOf, Relation, tuple_order}
+use Rattle.td_value.specs.Values.{Tuple, IsRelation, IsTupleOf, Relation, tuple_cmp}
 use Rattle.td_value.proofs.Rows.{All-from_rows, HaveSameNames-from}
 use Rattle.td.specs.Database.{Database, Relvar, agree_on, are_apart, are_keys, includes, is_legal, is_relvar, key_holds, key_part, keys_fit, keys_hold}
 use Rattle.td.specs.Database as databases
@@ -29,13 +29,13 @@ includes_tells key part e n m = member_has n key (of_member (λ k. has_name k ke
 pub includes_told : (key part : List (List ℕ)) → Includes key part → includes key part ≡ true
 includes_told key part h = test_all (λ k. has_name k key) part (each_member (λ k. has_name k key ≡ true) part (λ n m. has_member n key (h n m)))
 
-attributes_tell : (heading : Attributes) (key : List (List ℕ)) → has_attributes key heading ≡ true → Includes (names_of heading) key
+attributes_tell : (heading : Heading) (key : List (List ℕ)) → has_attributes key heading ≡ true → Includes (attribute_names heading) key
 attributes_tell heading key e n m =
-    member_has n (names_of heading) (sym (has_attribute-names n heading) ∙ of_member (λ k. has_attribute k heading ≡ true) key (all_test (λ k. has_attribute k heading) key e) n m)
+    member_has n (attribute_names heading) (sym (has_attribute-names n heading) ∙ of_member (λ k. has_attribute k heading ≡ true) key (all_test (λ k. has_attribute k heading) key e) n m)
 
-attributes_told : (heading : Attributes) (key : List (List ℕ)) → Includes (names_of heading) key → has_attributes key heading ≡ true
+attributes_told : (heading : Heading) (key : List (List ℕ)) → Includes (attribute_names heading) key → has_attributes key heading ≡ true
 attributes_told heading key h =
-    test_all (λ k. has_attribute k heading) key (each_member (λ k. has_attribute k heading ≡ true) key (λ n m. has_attribute-names n heading ∙ has_member n (names_of heading) (h n m)))
+    test_all (λ k. has_attribute k heading) key (each_member (λ k. has_attribute k heading ≡ true) key (λ n m. has_attribute-names n heading ∙ has_member n (attribute_names heading) (h n m)))
 
 -- neither of two keys includes the other
 apart_tells : (key other : List (List ℕ)) → are_apart key other ≡ true → (Includes key other → ⊥) × (Includes other key → ⊥)
@@ -51,7 +51,7 @@ apart_told key other h =
     let b : includes other key ≡ false = not_true (includes other key) (λ e. h.1 (includes_tells other key e)) in
     rw (a, b) refl
 
-keys_tell : (heading : Attributes) (keys : List (List (List ℕ))) → are_keys heading keys ≡ true → AllByRecursion (IsKey heading) keys × Apart Includes keys
+keys_tell : (heading : Heading) (keys : List (List (List ℕ))) → are_keys heading keys ≡ true → AllByRecursion (IsKey heading) keys × Apart Includes keys
 keys_tell heading [] e = (tt, tt)
 keys_tell heading (key ∷ keys) e =
     let p = both (has_attributes key heading && are_distinct key && list_all (are_apart key) keys) (are_keys heading keys) e in
@@ -63,7 +63,7 @@ keys_tell heading (key ∷ keys) e =
     map_all (λ other. are_apart key other ≡ true) (λ other. (Includes key other → ⊥) × (Includes other key → ⊥)) keys (apart_tells key) (all_test (are_apart key) keys q.1) in
     ((is_key, rest.0), (apart, rest.1))
 
-keys_told : (heading : Attributes) (keys : List (List (List ℕ))) → AllByRecursion (IsKey heading) keys → Apart Includes keys → are_keys heading keys ≡ true
+keys_told : (heading : Heading) (keys : List (List (List ℕ))) → AllByRecursion (IsKey heading) keys → Apart Includes keys → are_keys heading keys ≡ true
 keys_told heading [] h a = refl
 keys_told heading (key ∷ keys) h a =
     let distinct : are_distinct key ≡ true = apart_distinct key (apart_by_places (λ m n. m ≡ n) key h.0.distinct) in
@@ -71,13 +71,13 @@ keys_told heading (key ∷ keys) h a =
     (map_all (λ other. (Includes key other → ⊥) × (Includes other key → ⊥)) (λ other. are_apart key other ≡ true) keys (apart_told key) a.0) in
     rw (attributes_told heading key h.0.attributes, distinct, apart) (keys_told heading keys h.1 a.1)
 
-fit_tells : (heading : Attributes) (keys : List (List (List ℕ))) → keys_fit heading keys ≡ true → AreKeys heading keys
+fit_tells : (heading : Heading) (keys : List (List (List ℕ))) → keys_fit heading keys ≡ true → AreKeys heading keys
 fit_tells heading [] e = cc
 fit_tells heading (key ∷ keys) e =
     let h = keys_tell heading (key ∷ keys) e in
     record { some = λ none. cc; each = All-from_recursion (IsKey heading) (key ∷ keys) h.0; apart = no_two Includes (key ∷ keys) h.1 }
 
-fit_told : (heading : Attributes) (keys : List (List (List ℕ))) → AreKeys heading keys → keys_fit heading keys ≡ true
+fit_told : (heading : Heading) (keys : List (List (List ℕ))) → AreKeys heading keys → keys_fit heading keys ≡ true
 fit_told heading [] h = absurd (h.some refl)
 fit_told heading (key ∷ keys) h =
     keys_told heading (key ∷ keys) (recursion_from_All (IsKey heading) (key ∷ keys) h.each) (apart_by_places Includes (key ∷ keys) h.apart)
@@ -88,20 +88,20 @@ keys_are_tested heading keys = (fit_tells heading keys, fit_told heading keys)
 -- ---- keys that hold
 
 -- two tuples have one part on the key
-abbrev OnePart : List (List ℕ) → Entries → Entries → Type 0
+abbrev OnePart : List (List ℕ) → Tuple → Tuple → Type 0
 OnePart key t u = key_part key t ≡ key_part key u
 
-key_tells : (key : List (List ℕ)) (ts : List Entries) → key_holds key ts ≡ true → Apart (OnePart key) ts
+key_tells : (key : List (List ℕ)) (ts : List Tuple) → key_holds key ts ≡ true → Apart (OnePart key) ts
 key_tells key [] e = tt
 key_tells key (t ∷ ts) e =
     let q = both (not (list_any (agree_on key t) ts)) (key_holds key ts) e in
-    let differ : (u : Entries) → agree_on key t u ≡ false → OnePart key t u → ⊥ = λ u no same. true≢false (sym (parts_tested key t u same) ∙ no) in (
+    let differ : (u : Tuple) → agree_on key t u ≡ false → OnePart key t u → ⊥ = λ u no same. true≢false (sym (parts_tested key t u same) ∙ no) in (
       map_all (λ u. agree_on key t u ≡ false) (λ u. (OnePart key t u → ⊥) × (OnePart key u t → ⊥)) ts (λ u no. (differ u no, λ same. differ u no (sym same)))
           (none_test (agree_on key t) ts (is_false (list_any (agree_on key t) ts) q.0)),
       key_tells key ts q.1,
     )
 
-key_told : (key : List (List ℕ)) (ts : List Entries) → Apart (OnePart key) ts → key_holds key ts ≡ true
+key_told : (key : List (List ℕ)) (ts : List Tuple) → Apart (OnePart key) ts → key_holds key ts ≡ true
 key_told key [] h = refl
 key_told key (t ∷ ts) h =
     let none : list_any (agree_on key t) ts ≡ false = test_none (agree_on key t) ts
@@ -109,58 +109,58 @@ key_told key (t ∷ ts) h =
     rw none (key_told key ts h.1)
 
 -- tuples that ascend differ
-ascending_apart : (ts : List Entries) → IsStrictlySortedBy tuple_order ts → Apart (λ t u. t ≡ u) ts
+ascending_apart : (ts : List Tuple) → IsStrictlySortedBy tuple_cmp ts → Apart (λ t u. t ≡ u) ts
 unfolding IsStrictlySortedBy
 ascending_apart [] h = tt
 ascending_apart (t ∷ ts) h =
-    let differ : (u : Entries) → tuple_order t u ≡ Less → t ≡ u → ⊥ = λ u less same.
-    (let tie : Less ≡ Equal = sym less ∙ (ap (tuple_order t) (sym same) ∙ tied_itself tuple_order_total t) in absurd cc) in (
-      map_all (λ u. tuple_order t u ≡ Less) (λ u. (t ≡ u → ⊥) × (u ≡ t → ⊥)) ts (λ u less. (differ u less, λ same. differ u less (sym same))) h.0,
+    let differ : (u : Tuple) → tuple_cmp t u ≡ Less → t ≡ u → ⊥ = λ u less same.
+    (let tie : Less ≡ Equal = sym less ∙ (ap (tuple_cmp t) (sym same) ∙ tied_itself tuple_order_total t) in absurd cc) in (
+      map_all (λ u. tuple_cmp t u ≡ Less) (λ u. (t ≡ u → ⊥) × (u ≡ t → ⊥)) ts (λ u less. (differ u less, λ same. differ u less (sym same))) h.0,
       ascending_apart ts h.1,
     )
 
 module _ (r : Relation) (p : IsRelation r) where
-  tuples : All (IsTupleOf r.heading) r.rows
-  tuples = All-from_rows r.heading r.rows p.0
+  tuples : All (IsTupleOf r.heading) r.body
+  tuples = All-from_rows r.heading r.body p.0
 
-  distinct_tuples : NoTwo (λ t u. t ≡ u) r.rows
-  distinct_tuples = no_two (λ t u. t ≡ u) r.rows (ascending_apart r.rows (subst (IsStrictlySortedBy tuple_order) (unpack_pack_rows r.rows) p.1))
+  distinct_tuples : NoTwo (λ t u. t ≡ u) r.body
+  distinct_tuples = no_two (λ t u. t ≡ u) r.body (ascending_apart r.body (subst (IsStrictlySortedBy tuple_cmp) (unpack_pack_rows r.body) p.1))
 
-  names_ascend : (t : Entries) → Contains r.rows t → IsStrictlySortedBy (slice_cmp nat_cmp) (values.names_of t)
-  names_ascend t m = subst (λ s. IsStrictlySortedBy (slice_cmp nat_cmp) (values.names_of s)) (unpack_pack_fields t) (All-contains (IsTupleOf r.heading) r.rows t tuples m).0.1
+  names_ascend : (t : Tuple) → Contains r.body t → IsStrictlySortedBy (slice_cmp nat_cmp) (values.tuple_names t)
+  names_ascend t m = subst (λ s. IsStrictlySortedBy (slice_cmp nat_cmp) (values.tuple_names s)) (unpack_pack_fields t) (All-contains (IsTupleOf r.heading) r.body t tuples m).0.1
 
-  one_tuple : (t u : Entries) (i j : ℕ) → slice_get r.rows i ≡ Some t → slice_get r.rows j ≡ Some u → i ≡ j → t ≡ u
+  one_tuple : (t u : Tuple) (i j : ℕ) → slice_get r.body i ≡ Some t → slice_get r.body j ≡ Some u → i ≡ j → t ≡ u
   one_tuple t u i j a b same =
-      let e : Some t ≡ Some u = sym a ∙ (ap (slice_get r.rows) same ∙ b) in
+      let e : Some t ≡ Some u = sym a ∙ (ap (slice_get r.body) same ∙ b) in
       cc
 
-  holds_tell : (key : List (List ℕ)) → key_holds key r.rows ≡ true → Holds r.rows key
+  holds_tell : (key : List (List ℕ)) → key_holds key r.body ≡ true → Holds r.body key
   holds_tell key e t u mt mu agree =
-      let i = place_of r.rows t mt in
-      let j = place_of r.rows u mu in
-      let part : key_part key t ≡ key_part key u = agreeing_parts key t u (HaveSameNames-from r.heading r.rows tuples t u mt mu) (names_ascend t mt) agree in
-      one_tuple t u i.0 j.0 i.1 j.1 (no_two (OnePart key) r.rows (key_tells key r.rows e) i.0 j.0 t u i.1 j.1 part)
+      let i = place_of r.body t mt in
+      let j = place_of r.body u mu in
+      let part : key_part key t ≡ key_part key u = agreeing_parts key t u (HaveSameNames-from r.heading r.body tuples t u mt mu) (names_ascend t mt) agree in
+      one_tuple t u i.0 j.0 i.1 j.1 (no_two (OnePart key) r.body (key_tells key r.body e) i.0 j.0 t u i.1 j.1 part)
 
-  holds_told : (key : List (List ℕ)) → Holds r.rows key → key_holds key r.rows ≡ true
+  holds_told : (key : List (List ℕ)) → Holds r.body key → key_holds key r.body ≡ true
   holds_told key h =
-      key_told key r.rows (apart_by_places (OnePart key) r.rows
-      (λ i j t u a b part. distinct_tuples i j t u a b (h t u (member_at r.rows i t a) (member_at r.rows j u b) (parts_agree key t u part))))
+      key_told key r.body (apart_by_places (OnePart key) r.body
+      (λ i j t u a b part. distinct_tuples i j t u a b (h t u (member_at r.body i t a) (member_at r.body j u b) (parts_agree key t u part))))
 
 pub holding_is_tested : HoldingIsTested
 holding_is_tested r keys p = (
-  λ e. All-from_recursion (Holds r.rows) keys (map_all (λ key. key_holds key r.rows ≡ true) (Holds r.rows) keys (holds_tell r p) (all_test (λ key. key_holds key r.rows) keys e)),
-  λ h. test_all (λ key. key_holds key r.rows) keys (map_all (Holds r.rows) (λ key. key_holds key r.rows ≡ true) keys (holds_told r p) (recursion_from_All (Holds r.rows) keys h)),
+  λ e. All-from_recursion (Holds r.body) keys (map_all (λ key. key_holds key r.body ≡ true) (Holds r.body) keys (holds_tell r p) (all_test (λ key. key_holds key r.body) keys e)),
+  λ h. test_all (λ key. key_holds key r.body) keys (map_all (Holds r.body) (λ key. key_holds key r.body ≡ true) keys (holds_told r p) (recursion_from_All (Holds r.body) keys h)),
 )
 
 -- ---- databases
 
 pub relvar_tells : (r : Relvar) → IsProper r → is_relvar r ≡ true → IsRelvar r
 relvar_tells r p e =
-    let q = both (keys_fit r.body.heading r.keys) (keys_hold r.keys r.body.rows) e in
-    record { proper = p; keys = fit_tells r.body.heading r.keys q.0; hold = (holding_is_tested r.body r.keys p.body).0 q.1 }
+    let q = both (keys_fit r.value.heading r.keys) (keys_hold r.keys r.value.body) e in
+    record { proper = p; keys = fit_tells r.value.heading r.keys q.0; hold = (holding_is_tested r.value r.keys p.body).0 q.1 }
 
 pub relvar_told : (r : Relvar) → IsRelvar r → is_relvar r ≡ true
-relvar_told r h = and_true (keys_fit r.body.heading r.keys) (keys_hold r.keys r.body.rows) (fit_told r.body.heading r.keys h.keys) ((holding_is_tested r.body r.keys h.proper.body).1 h.hold)
+relvar_told r h = and_true (keys_fit r.value.heading r.keys) (keys_hold r.keys r.value.body) (fit_told r.value.heading r.keys h.keys) ((holding_is_tested r.value r.keys h.proper.body).1 h.hold)
 
 relvars_tell : (db : Database) → AllByRecursion IsProper db → AllByRecursion (λ r. is_relvar r ≡ true) db → AllByRecursion IsRelvar db
 relvars_tell [] p h = tt
@@ -168,17 +168,17 @@ relvars_tell (r ∷ db) p h = (relvar_tells r p.0 h.0, relvars_tell db p.1 h.1)
 
 pub legal_tells : (db : Database) → All IsProper db → is_legal db ≡ true → IsLegal db
 legal_tells db p e =
-    let q = both (list_all is_relvar db) (are_distinct (databases.names_of db)) e in
+    let q = both (list_all is_relvar db) (are_distinct (databases.relvar_names db)) e in
     record {
       relvars = All-from_recursion IsRelvar db (relvars_tell db (recursion_from_All IsProper db p) (all_test is_relvar db q.0));
-      names = no_two (λ r s. r.name ≡ s.name) db (seen_apart (λ r. r.name) (λ m n. m ≡ n) db (distinct_apart (databases.names_of db) q.1));
+      names = no_two (λ r s. r.name ≡ s.name) db (seen_apart (λ r. r.name) (λ m n. m ≡ n) db (distinct_apart (databases.relvar_names db) q.1));
     }
 
 pub legal_told : (db : Database) → IsLegal db → is_legal db ≡ true
 legal_told db h =
-    and_true (list_all is_relvar db) (are_distinct (databases.names_of db))
+    and_true (list_all is_relvar db) (are_distinct (databases.relvar_names db))
     (test_all is_relvar db (map_all IsRelvar (λ r. is_relvar r ≡ true) db relvar_told (recursion_from_All IsRelvar db h.relvars)))
-    (apart_distinct (databases.names_of db) (apart_seen (λ (r : Relvar). r.name) (λ m n. m ≡ n) db (apart_by_places (λ r s. r.name ≡ s.name) db h.names)))
+    (apart_distinct (databases.relvar_names db) (apart_seen (λ (r : Relvar). r.name) (λ m n. m ≡ n) db (apart_by_places (λ r s. r.name ≡ s.name) db h.names)))
 
 pub legality_is_tested : LegalityIsTested
 legality_is_tested db p = (legal_tells db p, legal_told db)

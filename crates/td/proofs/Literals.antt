@@ -5,8 +5,8 @@ use Rattle.td_tree.specs.declared.cause.Cause.TheVariants as causes
 use Rattle.td_tree.specs.Outcomes.{Answers, Outcome, Valued, named_cause, value_if}
 use Rattle.td_tree.specs.declared.cause.Cause.{Cause}
 use Rattle.td_tree.specs.declared.fault.Fault.{Fault}
-use Rattle.td_types.specs.Types.{Attributes}
-use Rattle.td_value.specs.Values.{Entries, Relation}
+use Rattle.td_types.specs.Types.{Heading}
+use Rattle.td_value.specs.Values.{Tuple, Relation}
 use Rattle.td.specs.Meaning.{are_distinct_if, are_tuples, have_heading, headed_meaning, is_relation, literal_heading, literal_heading_meaning, literal_meaning, relation_with, tuple_values, tuples_meaning}
 use Rattle.td.proofs.Valued.{cause_is, value_is}
 use Rattle.td.specs.Trees.{TupleLiteral}
@@ -31,14 +31,14 @@ refused_tuples names ts cause h =
     named _ _ cause (both_false (are_distinct_if names) (are_tuples ts) _ is.0) is.1
 
 -- where the heading has
-pub refused_heading : (names : Option (List (List ℕ))) (ts : List TupleLiteral) (vs : List Entries) (cause : Cause)
+pub refused_heading : (names : Option (List (List ℕ))) (ts : List TupleLiteral) (vs : List Tuple) (cause : Cause)
     → named_cause (literal_heading_meaning names vs) ≡ Some cause → named_cause (literal_meaning names ts) ≡ Some cause
 refused_heading names ts vs cause h =
     let is = cause_is (are_distinct_if names) (literal_heading names vs) causes.Heading cause h in
     named (is_relation names ts) _ cause (rw is.0 refl) is.1
 
 -- else what is said of the heading and the tuples is said of the literal
-pub headed_literal : (names : Option (List (List ℕ))) (ts : List TupleLiteral) (vs : List Entries) (h : Attributes) (r : Result Relation Fault)
+pub headed_literal : (names : Option (List (List ℕ))) (ts : List TupleLiteral) (vs : List Tuple) (h : Heading) (r : Result Relation Fault)
     → tuples_meaning ts ≡ Valued vs → literal_heading_meaning names vs ≡ Valued h
     → Answers (λ (x : Relation). x) r (headed_meaning h vs) → Answers (λ (x : Relation). x) r (literal_meaning names ts)
 headed_literal names ts vs h r a b =

@@ -1,6 +1,6 @@
 -- Statements in turn: runs joined, the machine's one answer, and what a run leaves.
 use Rattle.std.proofs.Common.{◌≡◌, Bool, true, false, List, [], ◌∷◌, ◌++◌, Some, None, refl, sym, ap, ◌∙◌, subst}
-use Rattle.td_tree.specs.Statements.{Entry}
+use Rattle.td_tree.specs.Statements.{PlacedToken}
 use Rattle.td_tree.specs.declared.cause.Cause.TheVariants as causes
 use Rattle.td.specs.Database.{Database}
 use Rattle.td.specs.Machine.{Progress, Step, Steps, scanned, unspelled, spelled, Runs, nothing, stopped, next, and_then, has_stopped, refused, tree_step}
@@ -11,23 +11,23 @@ use Rattle.td_parse.proofs.OneTree.{one_statement}
 use Rattle.td.proofs.Spelled.{none_spelled, is_spelled}
 
 -- after a stop nothing is run
-pub runs_stopped : (stop : Bool) (p : Progress) (ss : List (List Entry)) → has_stopped stop p ≡ true → Runs stop p ss p
+pub runs_stopped : (stop : Bool) (p : Progress) (ss : List (List PlacedToken)) → has_stopped stop p ≡ true → Runs stop p ss p
 runs_stopped stop p [] h = nothing
 runs_stopped stop p (s ∷ ss) h = stopped h
 
-pub stays_stopped : (stop : Bool) (p : Progress) (ss : List (List Entry)) (q : Progress) → Runs stop p ss q → has_stopped stop p ≡ true → q ≡ p
+pub stays_stopped : (stop : Bool) (p : Progress) (ss : List (List PlacedToken)) (q : Progress) → Runs stop p ss q → has_stopped stop p ≡ true → q ≡ p
 stays_stopped stop p ss q nothing h = refl
 stays_stopped stop p ss q (stopped over) h = refl
 stays_stopped stop p ss q (next step goes steps rest) h = let e : false ≡ true = sym goes ∙ h in absurd cc
 
 -- these and then those
-pub runs_append : (stop : Bool) (p : Progress) (xs : List (List Entry)) (q : Progress) (ys : List (List Entry)) (r : Progress) → Runs stop p xs q → Runs stop q ys r → Runs stop p (xs ++ ys) r
+pub runs_append : (stop : Bool) (p : Progress) (xs : List (List PlacedToken)) (q : Progress) (ys : List (List PlacedToken)) (r : Progress) → Runs stop p xs q → Runs stop q ys r → Runs stop p (xs ++ ys) r
 runs_append stop p xs q ys r nothing k = k
 runs_append stop p xs q ys r (stopped over) k = subst (λ (z : Progress). Runs stop p (xs ++ ys) z) (sym (stays_stopped stop p ys r k over)) (runs_stopped stop p (xs ++ ys) over)
 runs_append stop p xs q ys r (next step goes steps rest) k = next step goes steps (runs_append stop _ _ q ys r rest k)
 
 -- a list of tokens does one thing
-pub one_step : (db : Database) (tokens : List Entry) (s t : Step) → Steps db tokens s → Steps db tokens t → s ≡ t
+pub one_step : (db : Database) (tokens : List PlacedToken) (s t : Step) → Steps db tokens s → Steps db tokens t → s ≡ t
 one_step db tokens s t (scanned a) (scanned b) = refl
 one_step db tokens s t (scanned a) (unspelled b none) = let e : true ≡ false = sym a ∙ b in absurd cc
 one_step db tokens s t (scanned a) (spelled u b is) = let e : true ≡ false = sym a ∙ b in absurd cc
@@ -39,7 +39,7 @@ one_step db tokens s t (spelled w a is) (unspelled b none) = absurd (none w is)
 one_step db tokens s t (spelled w a is) (spelled u b also) = ap (tree_step db) (one_statement (lexemes tokens) w u is also)
 
 -- a list of statements has one outcome
-pub one_outcome : (stop : Bool) (p : Progress) (ss : List (List Entry)) (q r : Progress) → Runs stop p ss q → Runs stop p ss r → q ≡ r
+pub one_outcome : (stop : Bool) (p : Progress) (ss : List (List PlacedToken)) (q r : Progress) → Runs stop p ss q → Runs stop p ss r → q ≡ r
 one_outcome stop p [] q r nothing nothing = refl
 one_outcome stop p (s ∷ ss) q r (stopped over) k = sym (stays_stopped stop p (s ∷ ss) r k over)
 one_outcome stop p (s ∷ ss) q r (next step goes steps rest) (stopped over) = let e : false ≡ true = sym goes ∙ over in absurd cc
@@ -48,7 +48,7 @@ one_outcome stop p (s ∷ ss) q r (next step goes steps rest) (next other also d
     one_outcome stop (and_then p step) ss q r rest (subst (λ (z : Step). Runs stop (and_then p z) ss r) (sym same) more)
 
 -- what a list of tokens does
-some_step : (db : Database) (tokens : List Entry) → (s : Step) × Steps db tokens s
+some_step : (db : Database) (tokens : List PlacedToken) → (s : Step) × Steps db tokens s
 some_step db tokens =
     (elim (has_bad tokens) as (λ b. has_bad tokens ≡ b → (s : Step) × Steps db tokens s) [
       | true ↦ λ bad. (refused db causes.Scan, scanned bad)
@@ -59,7 +59,7 @@ some_step db tokens =
     ]) refl
 
 -- a list of statements has an outcome
-pub some_outcome : (stop : Bool) (p : Progress) (ss : List (List Entry)) → (q : Progress) × Runs stop p ss q
+pub some_outcome : (stop : Bool) (p : Progress) (ss : List (List PlacedToken)) → (q : Progress) × Runs stop p ss q
 some_outcome stop p [] = (p, nothing)
 some_outcome stop p (s ∷ ss) =
     (elim (has_stopped stop p) as (λ b. has_stopped stop p ≡ b → (q : Progress) × Runs stop p (s ∷ ss) q) [

@@ -4,7 +4,7 @@ use Rattle.std.proofs.KnownBytes.{Appends-trans, Appends-nil}
 use Rattle.std.proofs.Math.Seq.{take-append_seam, take-append-add}
 use Rattle.std.specs.Io.KnownBytes.{Appends, Consumes}
 use Rattle.std.specs.String.{string_bytes}
-use Rattle.td_tree.specs.Statements.{Entry, Held, after, first_statement, statements}
+use Rattle.td_tree.specs.Statements.{PlacedToken, Held, after, first_statement, statements}
 use Rattle.td_tree.specs.declared.cause.Cause.{Cause}
 use Rattle.td_tree.specs.declared.fault.Fault.{Fault}
 use Rattle.td_scan.proofs.TakenLaws.{fewer_bytes, first_and_after, no_statement}
@@ -13,9 +13,9 @@ use Rattle.td.specs.Faults.{IfMemory, IfWrite}
 use Rattle.td.specs.Machine.{Progress, Step, Steps, Runs, nothing, next, and_then, begun, has_stopped, refusals_of}
 use Rattle.td.specs.Scripts.{GaveScript, OfFront, OfScript}
 use Rattle.td.specs.Standing.{HasRun, HasRunCut, IsLeft, Run, RunsTo, Standing, Stands, run_of, standing}
-use Rattle.td.specs.Steps.{IsParsed, IsStep, step_of}
+use Rattle.td.specs.Steps.{IsParsed, IsStep, step_view}
 use Rattle.td.specs.Told.{AppendsIfTold}
-use Rattle.td.specs.Turns.{FirstStep, HasTurned, HasTurnedCut, IsReading, Place, Reached, Turned, place_of}
+use Rattle.td.specs.Turns.{FirstStep, HasTurned, HasTurnedCut, IsReading, Place, Reached, Turned, place_at}
 use Rattle.td.specs.declared.engine.answer.Answer as code
 use Rattle.td.specs.declared.engine.tree.Statement.{Statement}
 use Rattle.td.specs.declared.run.RunFault.{RunFault}
@@ -27,11 +27,11 @@ use Rattle.td.proofs.ToldLaws.{told_after}
 
 -- it was read, and what it was read as was carried out
 pub first_step : (held : Held) (old new : Standing) (parsed : Result Statement Fault) (end : ℕ) (answer : code.Answer) → IsReading held parsed end
-    → ((tokens : List Entry) → IsParsed tokens parsed → IsStep old.database tokens answer new.database) → FirstStep held old new
+    → ((tokens : List PlacedToken) → IsParsed tokens parsed → IsStep old.database tokens answer new.database) → FirstStep held old new
 first_step held old new parsed end answer r does = record {
   statement = r.statement;
   is = r.is;
-  step = step_of answer new.database;
+  step = step_view answer new.database;
   steps = (does r.statement r.means).step;
   database_is = refl;
 }
@@ -42,7 +42,7 @@ refused_more None accepted refused more h e = e ∙ ap (λ b. refused + (if b th
 refused_more (Some cause) accepted refused more h e = e ∙ ap (λ b. refused + (if b then 0 else 1)) h
 
 pub turned : (old new : Place) (parsed : Result Statement Fault) (end : ℕ) (answer : code.Answer) → IsReading old.held parsed end
-    → ((tokens : List Entry) → IsParsed tokens parsed → IsStep old.standing.database tokens answer new.standing.database)
+    → ((tokens : List PlacedToken) → IsParsed tokens parsed → IsStep old.standing.database tokens answer new.standing.database)
     → new.held ≡ after old.held → Appends old.standing.taken new.standing.taken (string_bytes answer.text)
     → new.report.statements ≡ old.report.statements + 1 → new.report.refused ≡ old.report.refused + (if answer.accepted then 0 else 1)
     → HasTurned old new
@@ -56,7 +56,7 @@ turned old new parsed end answer r does held wrote counted refusals = record {
 }
 
 pub turned_cut : (old : Place) (new : Standing) (parsed : Result Statement Fault) (end : ℕ) (answer : code.Answer) (count : ℕ) → IsReading old.held parsed end
-    → ((tokens : List Entry) → IsParsed tokens parsed → IsStep old.standing.database tokens answer new.database)
+    → ((tokens : List PlacedToken) → IsParsed tokens parsed → IsStep old.standing.database tokens answer new.database)
     → AppendsIfTold old.standing.taken new.taken (take count (string_bytes answer.text)) → HasTurnedCut old new
 unfolding first_step
 turned_cut old new parsed end answer count r does wrote = record {
@@ -91,12 +91,12 @@ turned_refused old new t h = by_cause t.first.step.cause t.refused_are
 goes_on : (stop : Bool) (p : Progress) (refused : ℕ) → refused ≡ p.refusals → (stop && nat_lt 0 refused) ≡ false → has_stopped stop p ≡ false
 goes_on stop p refused is h = ap (λ n. stop && nat_lt 0 n) (sym is) ∙ h
 
-runs_more : (run : Run) (done : List (List Entry)) (p : Progress) (db : Database) (x : List Entry) (step : Step)
+runs_more : (run : Run) (done : List (List PlacedToken)) (p : Progress) (db : Database) (x : List PlacedToken) (step : Step)
     → RunsTo run done p → has_stopped run.stop p ≡ false → db ≡ p.database → Steps db x step → RunsTo run (done ++ (x ∷ [])) (and_then p step)
 runs_more run done p db x step runs goes is steps =
     runs_append run.stop (begun run.old.database) done p (x ∷ []) (and_then p step) runs (next step goes (subst (λ (d : Database). Steps d x step) is steps) nothing)
 
-left_more : (run : Run) (done : List (List Entry)) (old new : Place) → (run.stop && nat_lt 0 old.report.refused) ≡ false
+left_more : (run : Run) (done : List (List PlacedToken)) (old new : Place) → (run.stop && nat_lt 0 old.report.refused) ≡ false
     → IsLeft (record run { script = done }) old.standing old.report → (t : HasTurned old new)
     → IsLeft (record run { script = done ++ (t.first.statement ∷ []) }) new.standing new.report
 left_more run done old new goes left t =
@@ -114,14 +114,14 @@ left_more run done old new goes left t =
     }
 
 -- the first of those held, with the others
-next_of : (script done : List (List Entry)) (held : Held) (x : List Entry) → script ≡ done ++ statements held.offset held.bytes → first_statement held ≡ Some x
+next_of : (script done : List (List PlacedToken)) (held : Held) (x : List PlacedToken) → script ≡ done ++ statements held.offset held.bytes → first_statement held ≡ Some x
     → script ≡ done ++ (x ∷ statements (after held).offset (after held).bytes)
 next_of script done held x h first = h ∙ ap (λ t. done ++ t) (first_and_after held x first)
 
 pub reached_more : (run : Run) (old new : Place) → (run.stop && nat_lt 0 old.report.refused) ≡ false → Reached run old → HasTurned old new → Reached run new
 reached_more run old new goes r t =
-    let x : List Entry = t.first.statement in
-    let rest : Held → List (List Entry) = λ h. statements h.offset h.bytes in
+    let x : List PlacedToken = t.first.statement in
+    let rest : Held → List (List PlacedToken) = λ h. statements h.offset h.bytes in
     record {
       done = r.done ++ (x ∷ []);
       cut = next_of run.script r.done old.held x r.cut t.first.is ∙ sym (append_assoc r.done (x ∷ []) (rest (after old.held)))
@@ -131,7 +131,7 @@ reached_more run old new goes r t =
     }
 
 -- nothing was run
-pub reached_none : (run : Run) (held : Held) → run.script ≡ statements held.offset held.bytes → Reached run (place_of held run.old (record { statements = 0; refused = 0 }))
+pub reached_none : (run : Run) (held : Held) → run.script ≡ statements held.offset held.bytes → Reached run (place_at held run.old (record { statements = 0; refused = 0 }))
 reached_none run held same = record {
   done = [];
   cut = same;
@@ -152,13 +152,13 @@ left_over : (run : Run) (place : Place) → Reached run place → (statements pl
     → IsLeft run place.standing place.report
 left_over run place r over =
     let p : Progress = r.left.progress in
-    let rest : List (List Entry) = statements place.held.offset place.held.bytes in
+    let rest : List (List PlacedToken) = statements place.held.offset place.held.bytes in
     record {
       progress = p;
-      runs = subst (λ (ss : List (List Entry)). RunsTo run ss p) (sym r.cut)
+      runs = subst (λ (ss : List (List PlacedToken)). RunsTo run ss p) (sym r.cut)
           (runs_append run.stop (begun run.old.database) r.done p rest p r.left.runs
           (elim over as (λ _. Runs run.stop p rest p) [
-            | inl none ↦ subst (λ (ss : List (List Entry)). Runs run.stop p ss p) (sym none) nothing
+            | inl none ↦ subst (λ (ss : List (List PlacedToken)). Runs run.stop p ss p) (sym none) nothing
             | inr stopped ↦ runs_stopped run.stop p rest (ap (λ n. run.stop && nat_lt 0 n) (sym r.left.refused_are) ∙ stopped)
           ]));
       stands = r.left.stands;
@@ -179,13 +179,13 @@ left_none run old new false r finished t e =
 -- ---- faults
 
 -- those that were run are the first
-taken : (script done others : List (List Entry)) (count : ℕ) → script ≡ done ++ others → length done ≡ count → done ≡ take count script
+taken : (script done others : List (List PlacedToken)) (count : ℕ) → script ≡ done ++ others → length done ≡ count → done ≡ take count script
 taken script done others count h e = sym (rw (h, ← e) (take-append_seam done others))
 
 pub has_run : (run : Run) (place : Place) (done : ℕ) (new : Standing) → Reached run place → done ≡ place.report.statements → new ≡ place.standing → HasRun run done new
 has_run run place done new r counted same = record {
   progress = r.left.progress;
-  runs = subst (λ (ss : List (List Entry)). RunsTo run ss r.left.progress)
+  runs = subst (λ (ss : List (List PlacedToken)). RunsTo run ss r.left.progress)
       (taken run.script r.done (statements place.held.offset place.held.bytes) done r.cut (r.each ∙ sym counted)) r.left.runs;
   each_run = sym r.left.statements_are ∙ sym counted;
   stands = subst (λ (s : Standing). Stands run.old r.left.progress s) (sym same) r.left.stands;
@@ -195,8 +195,8 @@ has_run run place done new r counted same = record {
 pub has_run_cut : (run : Run) (old : Place) (done : ℕ) (new : Standing) → (run.stop && nat_lt 0 old.report.refused) ≡ false → Reached run old
     → done ≡ old.report.statements + 1 → HasTurnedCut old new → HasRunCut run done new
 has_run_cut run old done new goes r counted t =
-    let x : List Entry = t.first.statement in
-    let rest : List (List Entry) = statements (after old.held).offset (after old.held).bytes in
+    let x : List PlacedToken = t.first.statement in
+    let rest : List (List PlacedToken) = statements (after old.held).offset (after old.held).bytes in
     let p : Progress = r.left.progress in
     let step : Step = t.first.step in
     let all : run.script ≡ r.done ++ (x ∷ rest) = next_of run.script r.done old.held x r.cut t.first.is in
@@ -204,14 +204,14 @@ has_run_cut run old done new goes r counted t =
     let fewer : length r.done ≡ done - 1 = omega (arith, r.each, counted) in
     record {
       progress = and_then p step;
-      runs = subst (λ (ss : List (List Entry)). RunsTo run ss (and_then p step))
+      runs = subst (λ (ss : List (List PlacedToken)). RunsTo run ss (and_then p step))
           (taken run.script (r.done ++ (x ∷ [])) rest done (all ∙ sym (append_assoc r.done (x ∷ []) rest)) longer)
           (runs_more run r.done p old.standing.database x step r.left.runs (goes_on run.stop p old.report.refused r.left.refused_are goes) r.left.stands.database_is t.first.steps);
       some = omega (arith, counted);
       each_run = ap (λ k. k + 1) (sym r.left.statements_are) ∙ sym counted;
       database_is = t.first.database_is;
       others = p;
-      runs_of_others = subst (λ (ss : List (List Entry)). RunsTo run ss p) (taken run.script r.done (x ∷ rest) (done - 1) all fewer) r.left.runs;
+      runs_of_others = subst (λ (ss : List (List PlacedToken)). RunsTo run ss p) (taken run.script r.done (x ∷ rest) (done - 1) all fewer) r.left.runs;
       count = length p.text + t.count;
       whole = omega arith;
       cut = subst (λ (text : List ℕ). AppendsIfTold run.old.taken new.taken text) (sym (take-append-add p.text step.text t.count))
@@ -250,7 +250,7 @@ none_run : (stop : Bool) (old : Standing) (front : List ℕ) (done : ℕ) → do
 none_run stop old front done none =
     let held : Held = record { bytes = front; offset = 0; finished = true } in
     let run : Run = run_of stop old front in
-    has_run run (place_of held old (record { statements = 0; refused = 0 })) done old (reached_none run held refl) none refl
+    has_run run (place_at held old (record { statements = 0; refused = 0 })) done old (reached_none run held refl) none refl
 
 pub front_unrun : (stop : Bool) (old : Standing) (before after : Option (List ℕ)) (fault : RunFault)
     → IfMemory (λ done. (done ≡ 0) × ((bytes : List ℕ) × Consumes before after bytes)) fault

@@ -3,7 +3,7 @@ use Rattle.std.proofs.Common.{◌≡◌, Some, refl, sym, ap, ap₂, ◌∙◌}
 use Rattle.std.proofs.Common.{Bool, true, false, not}
 use Rattle.std.specs.Ordering.{eq_by_cmp}
 use Rattle.td_types.specs.TypeOrder.{heading_cmp, heading_eq-Decides}
-use Rattle.td_types.specs.Types.{Attributes}
+use Rattle.td_types.specs.Types.{Heading}
 use Rattle.td_tree.specs.Outcomes.{Outcome, Valued, Refused, least, lesser, named_cause, with_both}
 use Rattle.td_tree.specs.declared.cause.Cause.{Cause}
 use Rattle.td_value.specs.Values.{Relation}
@@ -32,5 +32,5 @@ not_false : (b : Bool) → not b ≡ false → b ≡ true
 not_false true e = refl
 not_false false e = cc
 
-pub one_heading : (g h : Attributes) (r : Bool) → r ≡ not (eq_by_cmp heading_cmp g h) → r ≡ false → g ≡ h
+pub one_heading : (g h : Heading) (r : Bool) → r ≡ not (eq_by_cmp heading_cmp g h) → r ≡ false → g ≡ h
 one_heading g h r e f = (heading_eq-Decides g h).0 (not_false (eq_by_cmp heading_cmp g h) (sym e ∙ f))

@@ -3,8 +3,8 @@ use Rattle.std.proofs.Common.{◌≡◌, ℕ, pos, true, false, List, [], ◌∷
 use Rattle.std.specs.Fmt.{digits}
 use Rattle.td_tree.specs.declared.cause.Cause.TheVariants as causes
 use Rattle.td_types.specs.Types as types
-use Rattle.td_types.specs.Types.{Attributes}
-use Rattle.td_value.specs.Values.{Entries, integer}
+use Rattle.td_types.specs.Types.{Heading}
+use Rattle.td_value.specs.Values.{Tuple, integer}
 use Rattle.td.specs.Database.{Database}
 use Rattle.td.specs.Machine.{stepped}
 use Rattle.td.specs.Trees.{TupleLiteral, relvar, literal, Statement, single, union, define, assign, write}
@@ -28,16 +28,16 @@ abbrev pub minus : ℕ → TupleLiteral
 minus n = record { name = k; numeral = record { minus = true; magnitude = n } } ∷ []
 
 -- the value of TUPLE {K n}
-abbrev pub k_is : ℕ → Entries
+abbrev pub k_is : ℕ → Tuple
 k_is n = (k, integer (pos n)) ∷ []
 
 -- {K INTEGER}
-abbrev pub heading : Attributes
+abbrev pub heading : Heading
 heading = (k, types.integer) ∷ []
 
 -- the database of one relvar, R, with these keys and tuples
-abbrev pub database : List (List (List ℕ)) → List Entries → Database
-database keys rows = record { name = r; keys = keys; body = record { heading = heading; rows = rows } } ∷ []
+abbrev pub database : List (List (List ℕ)) → List Tuple → Database
+database keys rows = record { name = r; keys = keys; value = record { heading = heading; value = rows } } ∷ []
 
 -- ---- a first script
 
@@ -54,7 +54,7 @@ abbrev pub write_r : Statement
 write_r = write (single (relvar r))
 
 -- the database of R with the key {K}
-abbrev pub keyed : List Entries → Database
+abbrev pub keyed : List Tuple → Database
 keyed = database ((k ∷ []) ∷ [])
 
 -- the definition is accepted: R is there, with no tuples

@@ -10,7 +10,7 @@ use Rattle.td_tree.specs.declared.token.Kind.TheVariants as kinds
 use Rattle.td_tree.specs.declared.token.Sign.TheVariants as signs
 use Rattle.td_tree.specs.Lexemes.{Lexeme, keyword, sign, name, component, number, text, bad}
 use Rattle.td_tree.specs.StatementGrammar.{StatementSpelling}
-use Rattle.td_tree.specs.Statements.{Entry, statements}
+use Rattle.td_tree.specs.Statements.{PlacedToken, statements}
 use Rattle.td_tree.specs.TokenLexemes.{lexeme_of, lexemes}
 use Rattle.td_tree.specs.Trees as tree
 use Rattle.td_tree.proofs.Letters.{k_is_name, q_is_name, r_is_name, x_is_name}
@@ -31,7 +31,7 @@ abbrev pub Worded : Type 0
 Worded = List Lexeme × tree.Statement
 
 -- whether each list of tokens has a bad one, and its lexemes
-abbrev pub read : List (List Entry) → List (Bool × List Lexeme)
+abbrev pub read : List (List PlacedToken) → List (Bool × List Lexeme)
 read = map (λ tokens. (has_bad tokens, lexemes tokens))
 
 -- the lexemes of trees, and none is bad
@@ -58,7 +58,7 @@ others [] = []
 others (x ∷ xs) = xs
 
 -- statements that spell trees run as the trees do
-pub runs_as_spelled : (stop : Bool) (p : Progress) (ss : List (List Entry)) (ws : List Worded) → read ss ≡ spell ws → AreSpelled ws → Runs stop p ss (after_trees stop p ws)
+pub runs_as_spelled : (stop : Bool) (p : Progress) (ss : List (List PlacedToken)) (ws : List Worded) → read ss ≡ spell ws → AreSpelled ws → Runs stop p ss (after_trees stop p ws)
 runs_as_spelled stop p [] [] is stand = nothing
 runs_as_spelled stop p [] (w ∷ ws) is stand = absurd cc
 runs_as_spelled stop p (s ∷ ss) [] is stand = absurd cc
@@ -305,7 +305,7 @@ empty_statement_answers true = answers true (codes ";") ((sign signs.Semicolon �
 empty_statement_answers false = answers false (codes ";") ((sign signs.Semicolon ∷ [], tree.empty) ∷ []) _ (record { lexemes_are = refl; spelled = (empty_spelled.spelled, tt) }) refl
 
 -- a script of one refused statement
-one_refused : (stop : Bool) (script : List ℕ) (s : List Entry) (cause : Cause) → statements 0 script ≡ s ∷ [] → Steps [] s (refused [] cause)
+one_refused : (stop : Bool) (script : List ℕ) (s : List PlacedToken) (cause : Cause) → statements 0 script ≡ s ∷ [] → Steps [] s (refused [] cause)
     → Answers stop script (and_then (begun []) (refused [] cause))
 one_refused stop script s cause is step =
     let runs : Runs stop (begun []) (statements 0 script) (and_then (begun []) (refused [] cause)) =

@@ -7,4 +7,4 @@ use Rattle.td.specs.Database.{Database, Relvar, relvar_at}
 pub record IsAssignable (db : Database) (n : List ℕ) (source : Relation) : Type 0 where
   pub target : Relvar
   pub found : relvar_at n db ≡ Some target
-  pub same : source.heading ≡ target.body.heading
+  pub same : source.heading ≡ target.value.heading

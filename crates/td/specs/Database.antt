@@ -4,14 +4,14 @@ use Rattle.std.specs.List.{list_all, list_any}
 use Rattle.std.specs.Ordering.{eq_by_cmp, is_eq}
 use Rattle.td_types.specs.Headings.{are_distinct, has_attributes, has_name}
 use Rattle.td_types.specs.TypeOrder.{heading_cmp}
-use Rattle.td_types.specs.Types.{Attributes, same_name}
-use Rattle.td_value.specs.Values.{Entries, Relation, tuple_order}
+use Rattle.td_types.specs.Types.{Heading, same_name}
+use Rattle.td_value.specs.Values.{Tuple, Relation, tuple_cmp}
 
 -- a base relvar: its name, its declared keys, and its body with its heading
 pub record Relvar : Type 0 where
   pub name : List ℕ
   pub keys : List (List (List ℕ))
-  pub body : Relation
+  pub value : Relation
 
 -- the relvars, in order of definition
 abbrev pub Database : Type 0
@@ -23,34 +23,34 @@ relvar_at n [] = None
 relvar_at n (r ∷ rs) = if same_name r.name n then Some r else relvar_at n rs
 
 -- the database in which the relvar of that name has another body
-abbrev pub with_body : List ℕ → Relation → Database → Database
-with_body n body [] = []
-with_body n body (r ∷ rs) = if same_name r.name n then record r { body = body } ∷ rs else r ∷ with_body n body rs
+abbrev pub with_relation : List ℕ → Relation → Database → Database
+with_relation n value [] = []
+with_relation n value (r ∷ rs) = if same_name r.name n then record r { value = value } ∷ rs else r ∷ with_relation n value rs
 
 -- whether two headings are one
-abbrev pub same_heading : Attributes → Attributes → Bool
+abbrev pub same_heading : Heading → Heading → Bool
 same_heading = eq_by_cmp heading_cmp
 
 -- ---- keys
 
 -- a tuple's part on the names of a key
-abbrev pub key_part : List (List ℕ) → Entries → Entries
+abbrev pub key_part : List (List ℕ) → Tuple → Tuple
 key_part key = filter (λ e. has_name e.0 key)
 
 -- whether two tuples agree on the names of a key
-abbrev pub agree_on : List (List ℕ) → Entries → Entries → Bool
-agree_on key t u = is_eq (tuple_order (key_part key t) (key_part key u))
+abbrev pub agree_on : List (List ℕ) → Tuple → Tuple → Bool
+agree_on key t u = is_eq (tuple_cmp (key_part key t) (key_part key u))
 
 -- whether no two of the tuples agree on the names of the key
-abbrev pub key_holds : List (List ℕ) → List Entries → Bool
+abbrev pub key_holds : List (List ℕ) → List Tuple → Bool
 key_holds key [] = true
 key_holds key (t ∷ ts) = not (list_any (agree_on key t) ts) && key_holds key ts
 
-abbrev pub keys_hold : List (List (List ℕ)) → List Entries → Bool
+abbrev pub keys_hold : List (List (List ℕ)) → List Tuple → Bool
 keys_hold keys rows = list_all (λ key. key_holds key rows) keys
 
 -- whether the keys of a relvar, if there is one, hold of the tuples
-abbrev pub target_holds : Option Relvar → List Entries → Bool
+abbrev pub target_holds : Option Relvar → List Tuple → Bool
 target_holds None rows = true
 target_holds (Some r) rows = keys_hold r.keys rows
 
@@ -63,7 +63,7 @@ abbrev pub are_apart : List (List ℕ) → List (List ℕ) → Bool
 are_apart key other = not (includes key other) && not (includes other key)
 
 -- whether the names of each key are distinct attributes, and none includes another
-abbrev pub are_keys : Attributes → List (List (List ℕ)) → Bool
+abbrev pub are_keys : Heading → List (List (List ℕ)) → Bool
 are_keys heading [] = true
 are_keys heading (key ∷ keys) = has_attributes key heading && are_distinct key && list_all (are_apart key) keys && are_keys heading keys
 
@@ -72,18 +72,18 @@ is_some_key [] = false
 is_some_key (key ∷ keys) = true
 
 -- whether the keys may be declared for the heading: there is one, and they are its keys
-abbrev pub keys_fit : Attributes → List (List (List ℕ)) → Bool
+abbrev pub keys_fit : Heading → List (List (List ℕ)) → Bool
 keys_fit heading keys = is_some_key keys && are_keys heading keys
 
 -- ---- legal databases
 
 -- whether the relvar's keys fit its heading and hold of its body
 abbrev pub is_relvar : Relvar → Bool
-is_relvar r = keys_fit r.body.heading r.keys && keys_hold r.keys r.body.rows
+is_relvar r = keys_fit r.value.heading r.keys && keys_hold r.keys r.value.body
 
-abbrev pub names_of : Database → List (List ℕ)
-names_of = map (λ r. r.name)
+abbrev pub relvar_names : Database → List (List ℕ)
+relvar_names = map (λ r. r.name)
 
 -- whether every relvar is as it was declared, and no two have one name
 abbrev pub is_legal : Database → Bool
-is_legal db = list_all is_relvar db && are_distinct (names_of db)
+is_legal db = list_all is_relvar db && are_distinct (relvar_names db)

@@ -12,10 +12,10 @@ abbrev pub stored_code : Coded Stored
 stored_code = coded× (coded_list coded_ℕ) (coded× (coded_list (coded_list (coded_list coded_ℕ))) relation_code)
 
 abbrev pub to_stored : Relvar → Stored
-to_stored r = (r.name, (r.keys, r.body))
+to_stored r = (r.name, (r.keys, r.value))
 
 abbrev pub from_stored : Stored → Relvar
-from_stored s = record { name = s.0; keys = s.1.0; body = s.1.1 }
+from_stored s = record { name = s.0; keys = s.1.0; value = s.1.1 }
 
 abbrev pub relvar_code : Coded Relvar
 relvar_code = code_by Stored stored_code to_stored from_stored (λ _. refl)

@@ -5,7 +5,7 @@ use Rattle.std.specs.Option.{option_cmp}
 use Rattle.std.specs.declared.cmp.Ordering.{Ordering}
 use Rattle.std.specs.Cmp.Lexicographic.{slice_cmp}
 use Rattle.td_types.specs.Headings.{has_name}
-use Rattle.td_value.specs.Values.{Entries, Val, order}
+use Rattle.td_value.specs.Values.{Tuple, Val, value_cmp}
 use Rattle.td_value.specs.Views.{values_of}
 
 -- the places, counted from i, of those of the names that are in the key
@@ -14,9 +14,9 @@ places_from i key [] = []
 places_from i key (n ∷ ns) = if has_name n key then i ∷ places_from (i + 1) key ns else places_from (i + 1) key ns
 
 -- a tuple's values at places
-abbrev pub values_at : List ℕ → Entries → List (Option Val)
+abbrev pub values_at : List ℕ → Tuple → List (Option Val)
 values_at places t = map (slice_get (values_of t)) places
 
 -- the order of tuples by their values at places
-abbrev pub by_places : List ℕ → Entries → Entries → Ordering
-by_places places s t = slice_cmp (option_cmp order) (values_at places s) (values_at places t)
+abbrev pub by_places : List ℕ → Tuple → Tuple → Ordering
+by_places places s t = slice_cmp (option_cmp value_cmp) (values_at places s) (values_at places t)

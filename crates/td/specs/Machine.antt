@@ -4,16 +4,16 @@ use Rattle.std.specs.Prelude.{◌≡◌, ℕ, ◌+◌, Bool, true, false, ◌&&�
 use Rattle.td_tree.specs.Causes.{name_of, number_of}
 use Rattle.td_tree.specs.Outcomes.{Only, Outcome, Valued, Refused, least, value_if, with_value, with_both}
 use Rattle.td_tree.specs.StatementGrammar.{StatementSpelling}
-use Rattle.td_tree.specs.Statements.{Entry}
+use Rattle.td_tree.specs.Statements.{PlacedToken}
 use Rattle.td_tree.specs.TokenLexemes.{lexemes}
 use Rattle.td_tree.specs.Trees as tree
 use Rattle.td_tree.specs.declared.cause.Cause.{Cause}
 use Rattle.td_tree.specs.declared.cause.Cause.TheVariants as causes
 use Rattle.td_parse.specs.Parsing.{SpellsNone, has_bad}
-use Rattle.td_types.specs.Types.{Attributes}
+use Rattle.td_types.specs.Types.{Heading}
 use Rattle.td_value.specs.Literal.{relation_literal}
 use Rattle.td_value.specs.Values.{Relation}
-use Rattle.td.specs.Database.{Database, Relvar, keys_fit, keys_hold, relvar_at, same_heading, with_body}
+use Rattle.td.specs.Database.{Database, Relvar, keys_fit, keys_hold, relvar_at, same_heading, with_relation}
 use Rattle.td.specs.FirstPath.{first_path}
 use Rattle.td.specs.Meaning.{heading_meaning, known, meaning}
 use Rattle.td.specs.Trees.{Statement, empty, define, assign, write}
@@ -56,26 +56,26 @@ free None = Valued tt
 free (Some r) = Refused (Only causes.NameTaken)
 
 -- keys that do not fit the heading are KEY_DECLARATION
-abbrev pub fitting : List (List (List ℕ)) → Attributes → Outcome Attributes
+abbrev pub fitting : List (List (List ℕ)) → Heading → Outcome Heading
 fitting keys heading = value_if (keys_fit heading keys) heading causes.KeyDeclaration
 
-abbrev pub declared : Database → List ℕ → List (List ℕ) → List (List (List ℕ)) → Outcome Attributes
+abbrev pub declared : Database → List ℕ → List (List ℕ) → List (List (List ℕ)) → Outcome Heading
 declared db n names keys = with_both (free (relvar_at n db)) (with_value (heading_meaning names) (fitting keys)) (λ _ heading. Valued heading)
 
 -- a new relvar comes last, with an empty body
-abbrev pub new_relvar : List ℕ → List (List (List ℕ)) → Attributes → Relvar
-new_relvar n keys heading = record { name = n; keys = keys; body = record { heading = heading; rows = [] } }
+abbrev pub new_relvar : List ℕ → List (List (List ℕ)) → Heading → Relvar
+new_relvar n keys heading = record { name = n; keys = keys; value = record { heading = heading; body = [] } }
 
 -- ---- assignments
 
 -- a source of another heading is HEADING
 abbrev pub assignable : Relvar → Relation → Outcome Relation
-assignable target source = value_if (same_heading source.heading target.body.heading) source causes.Heading
+assignable target source = value_if (same_heading source.heading target.value.heading) source causes.Heading
 
 -- the first relvar of which a key does not hold
 abbrev pub first_broken : Database → Option (List ℕ)
 first_broken [] = None
-first_broken (r ∷ rs) = if keys_hold r.keys r.body.rows then first_broken rs else Some r.name
+first_broken (r ∷ rs) = if keys_hold r.keys r.value.body then first_broken rs else Some r.name
 
 -- a change stands where every key holds after it
 abbrev pub unless_broken : Database → Database → Option (List ℕ) → Step
@@ -91,7 +91,7 @@ changed old new = unless_broken old new (first_broken new)
 abbrev pub stepped : Database → Statement → Step
 stepped db empty = accepted db (codes "OK")
 stepped db (define n names keys) = by_outcome db (declared db n names keys) (λ heading. changed db (db ++ (new_relvar n keys heading ∷ [])))
-stepped db (assign n e) = by_outcome db (with_both (known (relvar_at n db)) (meaning db e) assignable) (λ source. changed db (with_body n source db))
+stepped db (assign n e) = by_outcome db (with_both (known (relvar_at n db)) (meaning db e) assignable) (λ source. changed db (with_relation n source db))
 stepped db (write e) = by_outcome db (meaning db e) (λ r. accepted db (relation_literal r))
 
 -- a tree that is none of the first path's is SYNTAX
@@ -103,7 +103,7 @@ abbrev pub tree_step : Database → tree.Statement → Step
 tree_step db t = stepped_if db (first_path t)
 
 -- what a list of tokens does: SCAN where one is bad, else SYNTAX where they spell no tree, else what their tree means
-pub data Steps (db : Database) (tokens : List Entry) : Step → Type 0 where
+pub data Steps (db : Database) (tokens : List PlacedToken) : Step → Type 0 where
   scanned : has_bad tokens ≡ true → Steps db tokens (refused db causes.Scan)
   unspelled : has_bad tokens ≡ false → SpellsNone (lexemes tokens) → Steps db tokens (refused db causes.Syntax)
   spelled : (t : tree.Statement) → has_bad tokens ≡ false → StatementSpelling (lexemes tokens) t → Steps db tokens (tree_step db t)
@@ -138,7 +138,7 @@ abbrev pub has_stopped : Bool → Progress → Bool
 has_stopped stop so_far = stop && nat_lt 0 so_far.refusals
 
 -- these statements in turn, from what was done so far
-pub data Runs (stop : Bool) : Progress → List (List Entry) → Progress → Type 0 where
+pub data Runs (stop : Bool) : Progress → List (List PlacedToken) → Progress → Type 0 where
   nothing : {p : Progress} → Runs stop p [] p
-  stopped : {p : Progress} {s : List Entry} {ss : List (List Entry)} → has_stopped stop p ≡ true → Runs stop p (s ∷ ss) p
-  next : {p q : Progress} {s : List Entry} {ss : List (List Entry)} (step : Step) → has_stopped stop p ≡ false → Steps p.database s step → Runs stop (and_then p step) ss q → Runs stop p (s ∷ ss) q
+  stopped : {p : Progress} {s : List PlacedToken} {ss : List (List PlacedToken)} → has_stopped stop p ≡ true → Runs stop p (s ∷ ss) p
+  next : {p q : Progress} {s : List PlacedToken} {ss : List (List PlacedToken)} (step : Step) → has_stopped stop p ≡ false → Steps p.database s step → Runs stop (and_then p step) ss q → Runs stop p (s ∷ ss) q

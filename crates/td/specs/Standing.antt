@@ -1,7 +1,7 @@
 -- What a run leaves (this project's own, in the words of the set machine).
 use Rattle.std.specs.Prelude.{◌≡◌, ℕ, ◌-◌, ◌<◌, ◌≤◌, Bool, List, [], length, take, Option}
 use Rattle.std.specs.Io.KnownBytes.{Appends}
-use Rattle.td_tree.specs.Statements.{Entry, statements}
+use Rattle.td_tree.specs.Statements.{PlacedToken, statements}
 use Rattle.td.specs.Database.{Database}
 use Rattle.td.specs.Machine.{Progress, Runs, begun}
 use Rattle.td.specs.Told.{AppendsIfTold}
@@ -19,14 +19,14 @@ standing database taken = record { database = database; taken = taken }
 pub record Run : Type 0 where
   pub stop : Bool
   pub old : Standing
-  pub script : List (List Entry)
+  pub script : List (List PlacedToken)
 
 -- the run of a script of these bytes
 abbrev pub run_of : Bool → Standing → List ℕ → Run
 run_of stop old bytes = record { stop = stop; old = old; script = statements 0 bytes }
 
 -- the machine comes so far by these statements of the run
-abbrev pub RunsTo : Run → List (List Entry) → Progress → Type 0
+abbrev pub RunsTo : Run → List (List PlacedToken) → Progress → Type 0
 RunsTo run script progress = Runs run.stop (begun run.old.database) script progress
 
 -- after what stood, this is what the machine's progress leaves: its database, and its text behind what was taken

@@ -13,40 +13,40 @@ use Rattle.td.specs.declared.engine.tree.Expression as code_expression
 use Rattle.td.specs.declared.engine.tree.Statement as code_statement
 use Rattle.td.specs.declared.engine.tree.Statement.TheVariants.{Empty, Define, Assign, Write}
 
-abbrev pub numeral_of : code_numeral.Numeral → Numeral
-numeral_of n = record { minus = n.minus; magnitude = n.magnitude }
+abbrev pub numeral_view : code_numeral.Numeral → Numeral
+numeral_view n = record { minus = n.minus; magnitude = n.magnitude }
 
-abbrev pub attribute_of : code_attribute.AttributeValue → AttributeValue
-attribute_of a = record { name = a.name; numeral = numeral_of a.numeral }
+abbrev pub component_view : code_attribute.AttributeValue → AttributeValue
+component_view a = record { name = a.name; numeral = numeral_view a.numeral }
 
-abbrev pub attributes_of : List code_attribute.AttributeValue → TupleLiteral
-attributes_of = map attribute_of
+abbrev pub components_view : List code_attribute.AttributeValue → TupleLiteral
+components_view = map component_view
 
-abbrev pub tuple_of : code_tuple.TupleLiteral → TupleLiteral
-tuple_of t = attributes_of t.attributes.items
+abbrev pub tuple_literal_view : code_tuple.TupleLiteral → TupleLiteral
+tuple_literal_view t = components_view t.attributes.items
 
-abbrev pub tuples_of : List code_tuple.TupleLiteral → List TupleLiteral
-tuples_of = map tuple_of
+abbrev pub tuple_literals_view : List code_tuple.TupleLiteral → List TupleLiteral
+tuple_literals_view = map tuple_literal_view
 
 abbrev pub names_if : Option (Vec Name Global) → Option (List (List ℕ))
 names_if = option_map (λ names. names.items)
 
-abbrev pub literal_of : code_literal.RelationLiteral → Operand
-literal_of l = literal (names_if l.heading) (tuples_of l.tuples.items)
+abbrev pub relation_literal_view : code_literal.RelationLiteral → Operand
+relation_literal_view l = literal (names_if l.heading) (tuple_literals_view l.tuples.items)
 
-abbrev pub operand_of : code_operand.Operand → Operand
-operand_of (Relvar name) = relvar name
-operand_of (Literal l) = literal_of l
+abbrev pub operand_view : code_operand.Operand → Operand
+operand_view (Relvar name) = relvar name
+operand_view (Literal l) = relation_literal_view l
 
 -- grouped from the left
 abbrev pub joined : Operand → List Operand → Expression
 joined first others = fold union (single first) others
 
-unfoldable pub expression_of : code_expression.Expression → Expression
-expression_of e = joined (operand_of e.first) (map operand_of e.others.items)
+unfoldable pub expression_view : code_expression.Expression → Expression
+expression_view e = joined (operand_view e.first) (map operand_view e.others.items)
 
-abbrev pub statement_of : code_statement.Statement → Statement
-statement_of Empty = empty
-statement_of (Define d) = define d.name d.heading.items (map (λ key. key.items) d.keys.items)
-statement_of (Assign a) = assign a.target (expression_of a.source)
-statement_of (Write e) = write (expression_of e)
+abbrev pub first_path_view : code_statement.Statement → Statement
+first_path_view Empty = empty
+first_path_view (Define d) = define d.name d.heading.items (map (λ key. key.items) d.keys.items)
+first_path_view (Assign a) = assign a.target (expression_view a.source)
+first_path_view (Write e) = write (expression_view e)

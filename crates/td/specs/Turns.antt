@@ -2,7 +2,7 @@
 use Rattle.std.specs.Prelude.{◌≡◌, ℕ, ◌+◌, Bool, true, false, List, ◌++◌, length, take, Some, None, Result}
 use Rattle.std.specs.Io.KnownBytes.{Appends}
 use Rattle.td_tree.specs.declared.fault.Fault.{Fault}
-use Rattle.td_tree.specs.Statements.{Entry, Held, after, behind, first_statement, statements}
+use Rattle.td_tree.specs.Statements.{PlacedToken, Held, after, behind, first_statement, statements}
 use Rattle.td.specs.Machine.{Step, Steps, refusals_of}
 use Rattle.td.specs.Standing.{IsLeft, Run, Standing}
 use Rattle.td.specs.Steps.{IsParsed}
@@ -16,19 +16,19 @@ pub record Place : Type 0 where
   pub standing : Standing
   pub report : Report
 
-abbrev pub place_of : Held → Standing → Report → Place
-place_of held standing report = record { held = held; standing = standing; report = report }
+abbrev pub place_at : Held → Standing → Report → Place
+place_at held standing report = record { held = held; standing = standing; report = report }
 
 -- the first of the statements held was read, and it ends here
 pub record IsReading (held : Held) (parsed : Result Statement Fault) (end : ℕ) : Type 0 where
-  pub statement : List Entry
+  pub statement : List PlacedToken
   pub is : first_statement held ≡ Some statement
   pub means : IsParsed statement parsed
   pub ends : end ≡ behind held
 
 -- what the first of the statements held does to the database
 pub record FirstStep (held : Held) (old new : Standing) : Type 0 where
-  pub statement : List Entry
+  pub statement : List PlacedToken
   pub is : first_statement held ≡ Some statement
   pub step : Step
   pub steps : Steps old.database statement step
@@ -55,7 +55,7 @@ Turned old new false = (first_statement old.held ≡ None) × (new ≡ old)
 
 -- of the run's statements the first were run; the others are those of the bytes that are still held
 pub record Reached (run : Run) (place : Place) : Type 0 where
-  pub done : List (List Entry)
+  pub done : List (List PlacedToken)
   pub cut : run.script ≡ done ++ statements place.held.offset place.held.bytes
   pub left : IsLeft (record run { script = done }) place.standing place.report
   pub each : length done ≡ place.report.statements

@@ -1,6 +1,6 @@
 //! The engine of the first path: base relvars of INTEGER attributes, assignment and WRITE.
 ghost use Rattle.std.specs.Prelude.{◌≡◌, [], List, Err, IfOk, OnErr};
-ghost use Rattle.td_tree.specs.Statements.{Entry};
+ghost use Rattle.td_tree.specs.Statements.{PlacedToken};
 ghost use Rattle.td.specs.Database as databases;
 ghost use Rattle.td.specs.Legality.{IsLegal};
 ghost use Rattle.td.specs.Steps.{IsParsed, IsStep};
@@ -28,7 +28,7 @@ use td_tree::fault::Fault;
 
 /// The answer to tokens that are refused.
 fn refusal(alloc: Global, fault: Fault) -> Result<Answer, AllocError>
-    ensures { IfOk result (λ answer. (db : databases.Database) (tokens : List Entry)
+    ensures { IfOk result (λ answer. (db : databases.Database) (tokens : List PlacedToken)
         → IsParsed tokens (Err fault) → IsStep db tokens answer db) }
 {
     match fault {
@@ -92,7 +92,7 @@ impl Engine {
         alloc: Global,
         parsed: Result<Statement, Fault>,
     ) -> Result<Answer, AllocError>
-        ensures step { IfOk result (λ answer. (tokens : List Entry)
+        ensures step { IfOk result (λ answer. (tokens : List PlacedToken)
             → IsParsed tokens parsed → IsStep self.old tokens answer self.new) }
         ensures err { OnErr result (self.new ≡ self.old) }
         ensures legal { IsLegal self.new }

@@ -1,6 +1,6 @@
 //! Laws of the set machine.
 ghost use Rattle.std.specs.Prelude.{◌≡◌, ◌≢◌, Bool, List, [], None};
-ghost use Rattle.td_tree.specs.Statements.{Entry};
+ghost use Rattle.td_tree.specs.Statements.{PlacedToken};
 ghost use Rattle.td.specs.Database.{Database};
 ghost use Rattle.td.specs.Laws.{UnionsAreByMembership};
 ghost use Rattle.std.specs.List.{All};
@@ -10,14 +10,14 @@ ghost use Rattle.td.specs.Machine.{Progress, Runs, Step, Steps};
 /// Every list of statements has an outcome.
 #[tactic(auto, using(crate::proofs::Runs::some_outcome))]
 pub fn statements_have_an_outcome()
-    ensures { (stop : Bool) (so_far : Progress) (script : List (List Entry))
+    ensures { (stop : Bool) (so_far : Progress) (script : List (List PlacedToken))
         → (p : Progress) × Runs stop so_far script p }
 {}
 
 /// No list of statements has two outcomes.
 #[tactic(auto, using(crate::proofs::Runs::one_outcome))]
 pub fn statements_have_one_outcome()
-    ensures { (stop : Bool) (so_far : Progress) (script : List (List Entry)) (p q : Progress)
+    ensures { (stop : Bool) (so_far : Progress) (script : List (List PlacedToken)) (p q : Progress)
         → Runs stop so_far script p → Runs stop so_far script q → p ≡ q }
 {}
 
@@ -26,18 +26,18 @@ pub fn statements_have_one_outcome()
 #[tactic(auto, using(crate::proofs::LegalChanges::legal_none, crate::proofs::LegalLaws::legal_at_first, crate::proofs::LegalLaws::legal_runs, crate::proofs::LegalLaws::legal_after))]
 pub fn databases_stay_legal()
     ensures begins { IsLegal [] }
-    ensures stays { (stop : Bool) (so_far after : Progress) (script : List (List Entry))
+    ensures stays { (stop : Bool) (so_far after : Progress) (script : List (List PlacedToken))
         → IsLegal so_far.database → Runs stop so_far script after
         → All IsProper after.database → IsLegal after.database }
     ensures passes { IsTested [] }
-    ensures stays_so { (stop : Bool) (so_far after : Progress) (script : List (List Entry))
+    ensures stays_so { (stop : Bool) (so_far after : Progress) (script : List (List PlacedToken))
         → IsTested so_far.database → Runs stop so_far script after → IsTested after.database }
 {}
 
 /// A refused statement changes nothing.
 #[tactic(auto, using(crate::proofs::Kept::refused_keeps))]
 pub fn refused_statements_change_nothing()
-    ensures { (db : Database) (tokens : List Entry) (s : Step)
+    ensures { (db : Database) (tokens : List PlacedToken) (s : Step)
         → Steps db tokens s → s.cause ≢ None → s.database ≡ db }
 {}
 

@@ -7,7 +7,7 @@ ghost use Rattle.td.specs.Legality.{IsLegal};
 ghost use Rattle.td.specs.Scripts.{GaveScript, GaveTooMuch, OfFront, OfScript, script_limit};
 ghost use Rattle.td.specs.Standing.{HasRun, HasRunCut, IsLeft, IsUnrun, run_of, standing};
 ghost use Rattle.td.specs.Told.{GaveAtMost};
-ghost use Rattle.td.specs.Turns.{HasTurnedCut, IsReading, Turned, place_of};
+ghost use Rattle.td.specs.Turns.{HasTurnedCut, IsReading, Turned, place_at};
 
 use crate::engine::Engine;
 use crate::engine::first_path::parse;
@@ -137,14 +137,14 @@ fn run_one<W: Sink>(
     requires statements { report.old.statements < 2 ^ 32 }
     requires refused { report.old.refused ≤ report.old.statements }
     ensures turn { IfOk result (Turned
-        (place_of cutter.old (standing engine.old (W.taken writer.old)) report.old)
-        (place_of cutter.new (standing engine.new (W.taken writer.new)) report.new)) }
+        (place_at cutter.old (standing engine.old (W.taken writer.old)) report.old)
+        (place_at cutter.new (standing engine.new (W.taken writer.new)) report.new)) }
     ensures legal { IsLegal engine.old → IsLegal engine.new }
     ensures whole { OnOk result (W.is_broken writer.old ≡ false → W.is_broken writer.new ≡ false) }
     ensures memory { IfErr result (IfMemory (λ done. (done ≡ report.old.statements)
         × (engine.new ≡ engine.old) × (W.taken writer.new ≡ W.taken writer.old))) }
     ensures write { IfErr result (IfWrite (λ done. (done ≡ report.old.statements + 1)
-        × HasTurnedCut (place_of cutter.old (standing engine.old (W.taken writer.old)) report.old)
+        × HasTurnedCut (place_at cutter.old (standing engine.old (W.taken writer.old)) report.old)
         (standing engine.new (W.taken writer.new)))) }
     ensures broken { IfErr result (IfWrite (λ done. W.is_broken writer.new ≡ true)) }
     ensures read { IfErr result (IfRead (λ done. ⊥)) }

@@ -3,7 +3,7 @@ use Rattle.std.proofs.Common.{◌≡◌, ℕ, zero, suc, ◌≤◌, List, [], �
 use Rattle.td_tree.specs.declared.token.Sign.TheVariants as signs
 use Rattle.td_tree.specs.Lexemes.{Lexeme, sign}
 use Rattle.td_tree.specs.Lists.{Separated, one_item, next_item}
-use Rattle.td_parse.specs.ReadingSteps.{ReadOf, expect, up_to, enclosed, separated_from, separated, listed_to}
+use Rattle.td_parse.specs.ReadingSteps.{ReadOf, expect, read_up_to, enclosed, separated_from, separated, listed_to}
 
 abbrev pub comma : Lexeme
 comma = sign signs.Comma
@@ -57,8 +57,8 @@ pub record Closes (close : Lexeme) : Type 0 where
   pub no_comma : (s : List Lexeme) → expect comma (close ∷ s) ≡ None
 
 pub closed_again : {A : Type 0} (item : List Lexeme → ReadOf A) (Follows : List Lexeme → Type 0) (xs : List Lexeme) (all : List A) (close : Lexeme) → Closes close → SeparatedAgain item Follows xs all
-    → (s : List Lexeme) → Follows (close ∷ s) → up_to close (separated item) (xs ++ (close ∷ s)) ≡ Some (all, s)
-unfolding up_to
+    → (s : List Lexeme) → Follows (close ∷ s) → read_up_to close (separated item) (xs ++ (close ∷ s)) ≡ Some (all, s)
+unfolding read_up_to
 closed_again item Follows xs all close c r s st = rw (separated_again item Follows xs all r (close ∷ s) st (c.no_comma s), c.is_close s) refl
 
 pub listed_again : {A : Type 0} (item : List Lexeme → ReadOf A) (Follows : List Lexeme → Type 0) (xs : List Lexeme) (all : List A) (close : Lexeme) → Closes close → SeparatedAgain item Follows xs all
@@ -82,8 +82,8 @@ parenthesis_closes = record { is_close = λ s. refl; no_comma = λ s. refl }
 
 -- an item up to what closes it
 pub up_to_again : {A : Type 0} (item : List Lexeme → ReadOf A) (Follows : List Lexeme → Type 0) (xs : List Lexeme) (a : A) (close : Lexeme) → ((s : List Lexeme) → expect close (close ∷ s) ≡ Some s)
-    → ItemAgain item Follows xs a → (s : List Lexeme) → Follows (close ∷ s) → up_to close item (xs ++ (close ∷ s)) ≡ Some (a, s)
-unfolding up_to
+    → ItemAgain item Follows xs a → (s : List Lexeme) → Follows (close ∷ s) → read_up_to close item (xs ++ (close ∷ s)) ≡ Some (a, s)
+unfolding read_up_to
 up_to_again item Follows xs a close c r s st = rw (r.reads (close ∷ s) st, c s) refl
 
 -- between parentheses

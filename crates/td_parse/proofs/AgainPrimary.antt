@@ -17,7 +17,7 @@ use Rattle.td_tree.specs.Numbers.{numeral_limit}
 use Rattle.td_parse.specs.Reading.{trees_from, named_from, summaries_from, numeral, negative, expression, part, addition, summary, summaries, named, component_of, measured, aggregated, headed_relation, elements, relation, tuple, extension, summary_per, summary_by, summarized, choice, primary_of_word, primary_of_sign, primary, by_level, read}
 use Rattle.td_parse.specs.Reading as reading
 use Rattle.td_parse.specs.ReadingOperators.{call_at}
-use Rattle.td_parse.specs.ReadingSteps.{expect, up_to, enclosed, listed_to}
+use Rattle.td_parse.specs.ReadingSteps.{expect, read_up_to, enclosed, listed_to}
 use Rattle.td_tree.specs.Trees as tree
 use Rattle.td_tree.specs.Trees.{Text, AttributeTrees, Attributes, Literal, Tree, Trees, NamedTrees, Summaries}
 use Rattle.td_parse.proofs.Again.{Again, Reads}
@@ -78,7 +78,7 @@ call_reads n xs all r p = record {
 one_enclosed : (xs s : List Lexeme) (a : Tree) (d : ℕ) → Again loosest xs a → height a ≤ d → enclosed (read d loosest) (sign signs.OpenParenthesis ∷ ((xs ++ (close ∷ [])) ++ s)) ≡ Some (a, s)
 one_enclosed xs s a d r lt = enclosed_again (read d loosest) Ends xs a (expression_item xs a d r lt) s (close_stops s)
 
-one_closed : (xs s : List Lexeme) (a : Tree) (d : ℕ) → Again loosest xs a → height a ≤ d → up_to close (read d loosest) (xs ++ (close ∷ s)) ≡ Some (a, s)
+one_closed : (xs s : List Lexeme) (a : Tree) (d : ℕ) → Again loosest xs a → height a ≤ d → read_up_to close (read d loosest) (xs ++ (close ∷ s)) ≡ Some (a, s)
 one_closed xs s a d r lt = up_to_again (read d loosest) Ends xs a close parenthesis_closes.is_close (expression_item xs a d r lt) s (close_stops s)
 
 pub component_reads : (rest : Text) (xs : List Lexeme) (a : Tree) → Again loosest xs a → Reads levels.Primary (lexeme.component rest ∷ parenthesized xs) (tree.component rest a)
@@ -113,7 +113,7 @@ two_enclosed : (op : Aggregate) (xs ys s : List Lexeme) (a b : Tree) (d : ℕ) �
 unfolding aggregated expect
 two_enclosed op xs ys s a b d p q la lb =
     let regroup : ((xs ++ (comma ∷ ys)) ++ (close ∷ [])) ++ s ≡ xs ++ (comma ∷ (ys ++ (close ∷ s))) = simp append_assoc in
-    let first : up_to comma (read d loosest) (xs ++ (comma ∷ (ys ++ (close ∷ s)))) ≡ Some (a, ys ++ (close ∷ s))
+    let first : read_up_to comma (read d loosest) (xs ++ (comma ∷ (ys ++ (close ∷ s)))) ≡ Some (a, ys ++ (close ∷ s))
     = up_to_again (read d loosest) Ends xs a comma comma_is (expression_item xs a d p la) (ys ++ (close ∷ s)) (comma_stops (ys ++ (close ∷ s))) in
     rw (regroup, first, one_closed ys s b d q lb) refl
 
@@ -187,7 +187,7 @@ pub extension_reads : (xs ys : List Lexeme) (a : Tree) (parts : NamedTrees) → 
 unfolding by_level primary primary_of_word extension
 extension_reads xs ys a parts p r = record {
   gets = λ d s lt st.
-      let first : up_to (keyword k.Add) (read d loosest) (xs ++ (keyword k.Add ∷ (sign signs.OpenParenthesis ∷ ((ys ++ (close ∷ [])) ++ s)))) ≡ Some (a, sign signs.OpenParenthesis ∷ ((ys ++ (close ∷ [])) ++ s))
+      let first : read_up_to (keyword k.Add) (read d loosest) (xs ++ (keyword k.Add ∷ (sign signs.OpenParenthesis ∷ ((ys ++ (close ∷ [])) ++ s)))) ≡ Some (a, sign signs.OpenParenthesis ∷ ((ys ++ (close ∷ [])) ++ s))
       = up_to_again (read d loosest) Ends xs a (keyword k.Add) add_is (expression_item xs a d p (omega arith)) (sign signs.OpenParenthesis ∷ ((ys ++ (close ∷ [])) ++ s)) (add_stops _) in
       rw (append_assoc xs (keyword k.Add ∷ parenthesized ys) s, first, enclosed_items_again (addition (read d) d) Anything ys (named_items parts) (r.reads d (omega arith)) s tt, named_back parts) refl;
 }
@@ -226,7 +226,7 @@ summary_by_reads xs ys zs a by items p q r = record {
       rw (append_assoc xs (keyword k.By ∷ (ys ++ (keyword k.Add ∷ parenthesized zs))) s, append_assoc ys (keyword k.Add ∷ parenthesized zs) s, p.reads d (keyword k.By ∷ last) (omega arith) (by_stops last)) (by_again ys zs a by items q r d s (omega arith));
 }
 
-up_to_word : (w : Lexeme) (xs s : List Lexeme) (a : Tree) (d : ℕ) → ((s : List Lexeme) → expect w (w ∷ s) ≡ Some s) → Again loosest xs a → height a ≤ d → Ends (w ∷ s) → up_to w (read d loosest) (xs ++ (w ∷ s)) ≡ Some (a, s)
+up_to_word : (w : Lexeme) (xs s : List Lexeme) (a : Tree) (d : ℕ) → ((s : List Lexeme) → expect w (w ∷ s) ≡ Some s) → Again loosest xs a → height a ≤ d → Ends (w ∷ s) → read_up_to w (read d loosest) (xs ++ (w ∷ s)) ≡ Some (a, s)
 up_to_word w xs s a d is_word r lt st = up_to_again (read d loosest) Ends xs a w is_word (expression_item xs a d r lt) s st
 
 then_is : (s : List Lexeme) → expect (keyword k.Then) (keyword k.Then ∷ s) ≡ Some s

@@ -13,7 +13,7 @@ use Rattle.td_tree.specs.Lexemes as lexeme
 use Rattle.td_tree.specs.Lists.{Separated, one_item, next_item, Repeated, no_more, one_more, Optional, absent, present, braced, parenthesized}
 use Rattle.td_parse.specs.Reading.{read}
 use Rattle.td_parse.specs.ReadingOperators.{operator_at, comparison_at, postfix_at, call_at}
-use Rattle.td_parse.specs.ReadingSteps.{expect, read_name, up_to, enclosed, optional, repeated_from, repeated, names}
+use Rattle.td_parse.specs.ReadingSteps.{expect, read_name, read_up_to, enclosed, optional, repeated_from, repeated, names}
 use Rattle.td_parse.specs.ReadingStatements as reading
 use Rattle.td_parse.specs.ReadingTypes.{attribute, read_type}
 use Rattle.td_tree.specs.StatementGrammar.{ExpressionItem, ConstraintPart, constraint_part, InitPart, init_part, WherePart, where_part, KeyPart, key_part, SettingsSpelling, last_setting, next_setting, AssignmentSpelling, assignment, insertion, deletion, changing, BaseWord, base_word, real_word, BodySpelling, no_body, type_definition, type_drop, var_drop, constraint_drop, base_definition, virtual_definition, constraint_definition, assignments, begin_transaction, commit, rollback, writing, dump, StatementSpelling, statement}
@@ -159,7 +159,7 @@ components_again n xs ys h c p lt q s =
 
 type_definition_reads : (n : Text) (xs ys : List Lexeme) (h : AttributeTrees) (c : Option Tree) → AttributesSpelling xs h → attributes_height h ≤ height_limit → Optional ConstraintPart ys c
     → BodyAgain (keyword k.«Type» ∷ (lexeme.name n ∷ (keyword k.Possrep ∷ braced (xs ++ ys)))) (tree.define_type n h c)
-unfolding reading.read_body reading.body reading.body_of_word reading.type_definition up_to read_name expect
+unfolding reading.read_body reading.body reading.body_of_word reading.type_definition read_up_to read_name expect
 type_definition_reads n xs ys h c p lt q = record {
   reads = λ s.
       let regroup : ((xs ++ ys) ++ (sign signs.CloseBrace ∷ [])) ++ (semicolon ∷ s) ≡ xs ++ (ys ++ (sign signs.CloseBrace ∷ (semicolon ∷ s))) = simp append_assoc in
@@ -218,5 +218,5 @@ body_again (writing {xs} {t} p) = record { reads = λ s. rw (expression_ended xs
 body_again dump = record { reads = λ s. refl }
 
 pub statement_again : {xs : List Lexeme} {t : Statement} → StatementSpelling xs t → reading.read_statement xs ≡ Some t
-unfolding reading.read_statement up_to expect
+unfolding reading.read_statement read_up_to expect
 statement_again (statement {xs} {t} p) = rw ((body_again p).reads []) refl

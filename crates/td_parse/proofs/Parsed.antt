@@ -6,10 +6,10 @@ use Rattle.td_tree.specs.declared.fault.Fault.TheVariants as faults
 use Rattle.td_tree.specs.declared.statement.Statement.{Statement}
 use Rattle.td_tree.specs.Lexemes.{Lexeme}
 use Rattle.td_tree.specs.Outcomes.{Answers, Only, Outcome, Refused, Valued}
-use Rattle.td_tree.specs.Statements.{Entry}
+use Rattle.td_tree.specs.Statements.{PlacedToken}
 use Rattle.td_tree.specs.TokenLexemes.{lexemes}
 use Rattle.td_tree.specs.Trees as trees
-use Rattle.td_tree.specs.TreeViews.{statement_of}
+use Rattle.td_tree.specs.TreeViews.{statement_view}
 use Rattle.td_parse.specs.Parsing.{Gives, Parsed, SpellsNone, SpellsOnly, TokensHaveOneMeaning, bad_token, has_bad, nothing_spelled, statement_spelled}
 use Rattle.td_parse.specs.ReadingStatements.{read_statement}
 use Rattle.td_parse.proofs.OneTree.{one_statement}
@@ -24,17 +24,17 @@ spells_none : (xs : List Lexeme) → read_statement xs ≡ None → SpellsNone x
 spells_none xs none t p = let e : Some t ≡ None = sym ((reads_statements xs t).1 p) ∙ none in cc
 
 -- what they mean
-abbrev Meaning : List Entry → Type 0
+abbrev Meaning : List PlacedToken → Type 0
 Meaning tokens = (o : Outcome trees.Statement) × Parsed tokens o
 
-read_meaning : (tokens : List Entry) (read : Option trees.Statement) → has_bad tokens ≡ false → read_statement (lexemes tokens) ≡ read → Meaning tokens
+read_meaning : (tokens : List PlacedToken) (read : Option trees.Statement) → has_bad tokens ≡ false → read_statement (lexemes tokens) ≡ read → Meaning tokens
 read_meaning tokens (Some s) good e = (Valued s, statement_spelled good (spells_only (lexemes tokens) s e))
 read_meaning tokens None good e = (Refused (Only causes.Syntax), nothing_spelled good (spells_none (lexemes tokens) e))
 
-good_meaning : (tokens : List Entry) → has_bad tokens ≡ false → Meaning tokens
+good_meaning : (tokens : List PlacedToken) → has_bad tokens ≡ false → Meaning tokens
 good_meaning tokens good = read_meaning tokens (read_statement (lexemes tokens)) good refl
 
-meaning : (tokens : List Entry) (bad : Bool) → has_bad tokens ≡ bad → Meaning tokens
+meaning : (tokens : List PlacedToken) (bad : Bool) → has_bad tokens ≡ bad → Meaning tokens
 meaning tokens true e = (Refused (Only causes.Scan), bad_token e)
 meaning tokens false e = good_meaning tokens e
 
@@ -43,7 +43,7 @@ both_ways b is not = let e : true ≡ false = sym is ∙ not in cc
 
 -- ---- one meaning
 
-same_meaning : (tokens : List Entry) (o p : Outcome trees.Statement) → Parsed tokens o → Parsed tokens p → p ≡ o
+same_meaning : (tokens : List PlacedToken) (o p : Outcome trees.Statement) → Parsed tokens o → Parsed tokens p → p ≡ o
 same_meaning tokens _ _ (bad_token b) (bad_token c) = refl
 same_meaning tokens _ _ (bad_token b) (nothing_spelled good none) = absurd (both_ways (has_bad tokens) b good)
 same_meaning tokens _ _ (bad_token b) (statement_spelled good only) = absurd (both_ways (has_bad tokens) b good)
@@ -62,14 +62,14 @@ one_meaning tokens =
 -- ---- the parser's answer
 
 -- an answer of what they mean
-abbrev Answered : List Entry → Result Statement Fault → Type 0
-Answered tokens r = (o : Outcome trees.Statement) × Parsed tokens o × Answers statement_of r o
+abbrev Answered : List PlacedToken → Result Statement Fault → Type 0
+Answered tokens r = (o : Outcome trees.Statement) × Parsed tokens o × Answers statement_view r o
 
-pub scanned : (tokens : List Entry) → has_bad tokens ≡ true → Answered tokens (Err (faults.Refused causes.Scan))
+pub scanned : (tokens : List PlacedToken) → has_bad tokens ≡ true → Answered tokens (Err (faults.Refused causes.Scan))
 scanned tokens bad = (Refused (Only causes.Scan), bad_token bad, refl)
 
-pub parsed_from : (tokens : List Entry) (r : Result Statement Fault) → has_bad tokens ≡ false → Gives statement_of r (read_statement (lexemes tokens)) → Answered tokens r
-parsed_from tokens (Ok s) good e = (Valued (statement_of s), statement_spelled good (spells_only (lexemes tokens) (statement_of s) e), refl)
+pub parsed_from : (tokens : List PlacedToken) (r : Result Statement Fault) → has_bad tokens ≡ false → Gives statement_view r (read_statement (lexemes tokens)) → Answered tokens r
+parsed_from tokens (Ok s) good e = (Valued (statement_view s), statement_spelled good (spells_only (lexemes tokens) (statement_view s) e), refl)
 parsed_from tokens (Err faults.Memory) good e = let m = good_meaning tokens good in (m.0, m.1, tt)
 parsed_from tokens (Err (faults.Refused cause)) good e =
     (Refused (Only causes.Syntax), nothing_spelled good (spells_none (lexemes tokens) e.0), ap (λ c. Some c) (sym e.1))

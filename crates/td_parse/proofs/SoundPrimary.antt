@@ -20,7 +20,7 @@ use Rattle.td_tree.specs.Numbers.{numeral_limit}
 use Rattle.td_parse.specs.Reading.{Read, trees_from, named_from, summaries_from, numeral, negative, expression, part, addition, summaries, named, component_of, measured, aggregated, headed_relation, elements, relation, tuple, extension, summary_per, summary_by, summarized, choice, primary_of_word, primary_of_sign, primary}
 use Rattle.td_parse.specs.Reading as reading
 use Rattle.td_parse.specs.ReadingOperators.{call_at, heading_at}
-use Rattle.td_parse.specs.ReadingSteps.{expect, up_to, enclosed, separated, listed_to, attribute_list}
+use Rattle.td_parse.specs.ReadingSteps.{expect, read_up_to, enclosed, separated, listed_to, attribute_list}
 use Rattle.td_parse.specs.ReadingTypes.{relation_heading}
 use Rattle.td_tree.specs.Trees as tree
 use Rattle.td_tree.specs.Trees.{Text, Attributes, Literal, Tree, Trees, NamedTrees, Summaries}
@@ -109,7 +109,7 @@ module _ (inner : Level → List Lexeme → Read) (d : ℕ) (inside : Inside d i
   parenthesized_sound : (ts : List Lexeme) (t : Tree) (rest : List Lexeme) → reading.parenthesized inner d ts ≡ Some (t, rest) → TakesPrimary d (sign signs.OpenParenthesis) ts t rest
   unfolding reading.parenthesized
   parenthesized_sound ts t rest e =
-      let b = bind_some (up_to (sign signs.CloseParenthesis) (inner loosest) ts) _ _ e in
+      let b = bind_some (read_up_to (sign signs.CloseParenthesis) (inner loosest) ts) _ _ e in
       let a = up_to_sound (inner loosest) whole_sound (sign signs.CloseParenthesis) ts b.0.0 b.0.1 b.1 in
       retake (IsAt levels.Primary (suc d)) b.2 (record { spelled = grammar.parentheses a.spelled.spelled; low = omega (arith, a.spelled.low) }) (after_word (sign signs.OpenParenthesis) a.parts)
 
@@ -124,8 +124,8 @@ module _ (inner : Level → List Lexeme → Read) (d : ℕ) (inside : Inside d i
   unfolding aggregated
   aggregated_sound op ts t rest e =
       let o = bind_some (expect (sign signs.OpenParenthesis) ts) _ _ e in
-      let b = bind_some (up_to comma (inner loosest) o.0) _ _ o.2 in
-      let c = bind_some (up_to (sign signs.CloseParenthesis) (inner loosest) b.0.1) _ _ b.2 in
+      let b = bind_some (read_up_to comma (inner loosest) o.0) _ _ o.2 in
+      let c = bind_some (read_up_to (sign signs.CloseParenthesis) (inner loosest) b.0.1) _ _ b.2 in
       let a1 = up_to_sound (inner loosest) whole_sound comma o.0 b.0.0 b.0.1 b.1 in
       let a2 = up_to_sound (inner loosest) whole_sound (sign signs.CloseParenthesis) b.0.1 c.0.0 c.0.1 c.1 in
       let parts = glue (expect_front (sign signs.OpenParenthesis) ts o.0 o.1) (pair_front a1.front a2.front comma (sign signs.CloseParenthesis) a1.parts a2.parts) in
@@ -147,7 +147,7 @@ module _ (inner : Level → List Lexeme → Read) (d : ℕ) (inside : Inside d i
   unfolding elements
   elements_sound ts t rest e =
       let o = bind_some (expect (sign signs.OpenBrace) ts) _ _ e in
-      let b = bind_some (up_to (sign signs.CloseBrace) (separated (inner loosest)) o.0) _ _ o.2 in
+      let b = bind_some (read_up_to (sign signs.CloseBrace) (separated (inner loosest)) o.0) _ _ o.2 in
       let l = up_to_sound (separated (inner loosest)) (separated_sound (inner loosest) whole_sound) (sign signs.CloseBrace) o.0 b.0.0 b.0.1 b.1 in
       let all = are_expressions l.spelled in
       retake (IsAt levels.Primary (suc d)) b.2 (record { spelled = grammar.relation all.spelled; low = omega (arith, all.low) }) (after_word (keyword k.Relation) (glue (expect_front (sign signs.OpenBrace) ts o.0 o.1) l.parts))
@@ -171,7 +171,7 @@ module _ (inner : Level → List Lexeme → Read) (d : ℕ) (inside : Inside d i
   extension_sound : (ts : List Lexeme) (t : Tree) (rest : List Lexeme) → extension inner d ts ≡ Some (t, rest) → TakesPrimary d (keyword k.Extend) ts t rest
   unfolding extension
   extension_sound ts t rest e =
-      let b = bind_some (up_to (keyword k.Add) (inner loosest) ts) _ _ e in
+      let b = bind_some (read_up_to (keyword k.Add) (inner loosest) ts) _ _ e in
       let c = bind_some (enclosed (separated (addition inner d)) b.0.1) _ _ b.2 in
       let a = up_to_sound (inner loosest) whole_sound (keyword k.Add) ts b.0.0 b.0.1 b.1 in
       let l = enclosed_sound (separated (addition inner d)) (separated_sound (addition inner d) (addition_sound inner d inside)) b.0.1 c.0.0 c.0.1 c.1 in
@@ -202,9 +202,9 @@ module _ (inner : Level → List Lexeme → Read) (d : ℕ) (inside : Inside d i
   choice_sound : (ts : List Lexeme) (t : Tree) (rest : List Lexeme) → choice inner d ts ≡ Some (t, rest) → TakesPrimary d (keyword k.If) ts t rest
   unfolding choice
   choice_sound ts t rest e =
-      let b = bind_some (up_to (keyword k.Then) (inner loosest) ts) _ _ e in
-      let c = bind_some (up_to (keyword k.Else) (inner loosest) b.0.1) _ _ b.2 in
-      let f = bind_some (up_to (keyword k.End) (inner loosest) c.0.1) _ _ c.2 in
+      let b = bind_some (read_up_to (keyword k.Then) (inner loosest) ts) _ _ e in
+      let c = bind_some (read_up_to (keyword k.Else) (inner loosest) b.0.1) _ _ b.2 in
+      let f = bind_some (read_up_to (keyword k.End) (inner loosest) c.0.1) _ _ c.2 in
       let l = bind_some (expect (keyword k.If) f.0.1) _ _ f.2 in
       let p = up_to_sound (inner loosest) whole_sound (keyword k.Then) ts b.0.0 b.0.1 b.1 in
       let q = up_to_sound (inner loosest) whole_sound (keyword k.Else) b.0.1 c.0.0 c.0.1 c.1 in

@@ -12,7 +12,7 @@ use Rattle.td_tree.specs.Lexemes as lexeme
 use Rattle.td_tree.specs.Lists.{Separated, one_item, next_item, Repeated, Optional, braced, parenthesized}
 use Rattle.td_parse.specs.Reading.{named_from, read}
 use Rattle.td_parse.specs.ReadingStatements as reading
-use Rattle.td_parse.specs.ReadingSteps.{expect, read_name, up_to, enclosed, optional, separated, names}
+use Rattle.td_parse.specs.ReadingSteps.{expect, read_name, read_up_to, enclosed, optional, separated, names}
 use Rattle.td_parse.specs.ReadingTypes.{attribute, read_type, relation_heading}
 use Rattle.td_tree.specs.StatementGrammar.{ExpressionItem, constraint_part, InitPart, init_part, WherePart, where_part, KeyPart, key_part, SettingsSpelling, last_setting, next_setting, AssignmentSpelling, assignment, insertion, deletion, changing, BaseWord, base_word, real_word, BodySpelling, no_body, type_definition, type_drop, var_drop, constraint_drop, base_definition, virtual_definition, constraint_definition, assignments, begin_transaction, commit, rollback, writing, dump, StatementSpelling, statement}
 use Rattle.td_tree.specs.Trees.{Text, Tree, Assignment, Statement}
@@ -267,7 +267,7 @@ ended_is a (x ∷ rest) b e = absurd cc
 pub statement_sound : (ts : List Lexeme) (t : Statement) → reading.read_statement ts ≡ Some t → StatementSpelling ts t
 unfolding reading.read_statement
 statement_sound ts t e =
-    let b = bind_some (up_to (sign signs.Semicolon) reading.read_body ts) _ _ e in
+    let b = bind_some (read_up_to (sign signs.Semicolon) reading.read_body ts) _ _ e in
     let l = up_to_sound reading.read_body read_body_sound (sign signs.Semicolon) ts b.0.0 b.0.1 b.1 in
     let g = ended_is b.0.0 b.0.1 t b.2 in
     let whole : ts ≡ l.front ++ (sign signs.Semicolon ∷ []) = l.parts.parts ∙ (ap (λ (r : List Lexeme). (l.front ++ (sign signs.Semicolon ∷ [])) ++ r) g.0 ∙ append-nil (l.front ++ (sign signs.Semicolon ∷ []))) in

@@ -6,7 +6,7 @@ use Rattle.td_tree.specs.declared.token.Sign.TheVariants as signs
 use Rattle.td_tree.specs.Lexemes.{Lexeme, keyword, sign}
 use Rattle.td_tree.specs.Lexemes as lexeme
 use Rattle.td_tree.specs.Lists.{Separated, one_item, next_item, Listed, no_items, some_items, Repeated, no_more, one_more, Optional, absent, present, parenthesized}
-use Rattle.td_parse.specs.ReadingSteps.{◌>>=◌, either, ReadOf, same_lexeme, expect, read_name, read_as, up_to, enclosed, optional, separated_from, separated, listed_to, repeated_from, repeated}
+use Rattle.td_parse.specs.ReadingSteps.{◌>>=◌, either, ReadOf, same_lexeme, expect, read_name, read_as, read_up_to, enclosed, optional, separated_from, separated, listed_to, repeated_from, repeated}
 use Rattle.td_tree.specs.Trees.{Text}
 use Rattle.td_parse.proofs.AgainLists.{comma}
 use Rattle.td_parse.proofs.Begins.{same_is}
@@ -99,8 +99,8 @@ as_front ts n rest e =
 -- ---- one item
 
 pub up_to_sound : {A : Type 0} {Item : List Lexeme → A → Type 0} (item : List Lexeme → ReadOf A) → Sound Item item → (close : Lexeme) (ts : List Lexeme) (a : A) (rest : List Lexeme)
-    → up_to close item ts ≡ Some (a, rest) → TakesTo close Item ts a rest
-unfolding up_to
+    → read_up_to close item ts ≡ Some (a, rest) → TakesTo close Item ts a rest
+unfolding read_up_to
 up_to_sound {A} {Item} item sound close ts a rest e =
     let b = bind_some (item ts) _ _ e in
     let c = bind_some (expect close b.0.1) _ _ b.2 in

@@ -5,6 +5,6 @@ use Rattle.td_parse.specs.declared.parts.FoundSummary.{FoundSummary}
 use Rattle.td_parse.specs.declared.parts.FoundSummary.TheVariants as found
 
 -- one of the attributes that it adds
-abbrev pub summary_of : FoundSummary → Summary
-summary_of (found.Count name) = s.Count name
-summary_of (found.Of op value name) = s.Of op value name
+abbrev pub summary_view : FoundSummary → Summary
+summary_view (found.Count name) = s.Count name
+summary_view (found.Of op value name) = s.Of op value name

@@ -7,7 +7,7 @@ use Rattle.td_tree.specs.declared.fault.Fault.{Fault}
 use Rattle.td_tree.specs.declared.operator.Level.{Level}
 use Rattle.td_tree.specs.Lexemes.{Lexeme}
 use Rattle.td_parse.specs.Reading.{read}
-use Rattle.td_tree.specs.TreeViews.{tree_of}
+use Rattle.td_tree.specs.TreeViews.{tree_view}
 use Rattle.td_parse.specs.Parsing.{Moves}
 
 pub record Nests (depth : ℕ) (pre : Global → ℕ → Level → MutBor (List Lexeme) → Type 0)
@@ -17,4 +17,4 @@ pub record Nests (depth : ℕ) (pre : Global → ℕ → Level → MutBor (List 
       → pre alloc depth level old
   pub reads : (alloc : Global) (level : Level) (old new : MutBor (List Lexeme))
       (r : Result Expr Fault) → post alloc depth level old r new
-      → Moves tree_of r new.now (read depth level old.now)
+      → Moves tree_view r new.now (read depth level old.now)

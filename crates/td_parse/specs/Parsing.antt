@@ -13,7 +13,7 @@ use Rattle.td_tree.specs.Outcomes.{Only, Outcome, Refused, Valued}
 use Rattle.td_tree.specs.StatementGrammar.{StatementSpelling}
 use Rattle.td_tree.specs.Trees as trees
 use Rattle.td_parse.specs.ReadingSteps.{ReadOf}
-use Rattle.td_tree.specs.Statements.{Entry}
+use Rattle.td_tree.specs.Statements.{PlacedToken}
 use Rattle.td_tree.specs.TextTokens.{content}
 use Rattle.td_tree.specs.TokenLexemes.{lexemes}
 
@@ -101,8 +101,8 @@ is_bad kinds.Bad = true
 is_bad _ = false
 
 -- one of the tokens is bad
-abbrev pub has_bad : List Entry → Bool
-has_bad = list_any (λ (token : Entry). is_bad token.kind)
+abbrev pub has_bad : List PlacedToken → Bool
+has_bad = list_any (λ (token : PlacedToken). is_bad token.kind)
 
 -- the grammar spells this statement by these lexemes, and no other
 abbrev pub SpellsOnly : List Lexeme → trees.Statement → Type 0
@@ -113,7 +113,7 @@ abbrev pub SpellsNone : List Lexeme → Type 0
 SpellsNone xs = (t : trees.Statement) → StatementSpelling xs t → ⊥
 
 -- what tokens mean as a statement, which is refused by one cause alone (own)
-pub data Parsed (tokens : List Entry) : Outcome trees.Statement → Type 0 where
+pub data Parsed (tokens : List PlacedToken) : Outcome trees.Statement → Type 0 where
   -- one of them is bad
   bad_token : has_bad tokens ≡ true → Parsed tokens (Refused (Only causes.Scan))
   -- the grammar spells nothing by them
@@ -127,6 +127,6 @@ pub data Parsed (tokens : List Entry) : Outcome trees.Statement → Type 0 where
 
 -- tokens mean something, and one thing alone
 abbrev pub TokensHaveOneMeaning : Type 0
-TokensHaveOneMeaning = (tokens : List Entry)
+TokensHaveOneMeaning = (tokens : List PlacedToken)
     → (o : Outcome trees.Statement) × Parsed tokens o
     × ((p : Outcome trees.Statement) → Parsed tokens p → p ≡ o)

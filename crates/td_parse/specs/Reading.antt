@@ -20,7 +20,7 @@ use Rattle.td_tree.specs.Lexemes.{Lexeme, keyword, sign}
 use Rattle.td_tree.specs.Lexemes as lexeme
 use Rattle.td_tree.specs.Numbers.{numeral_limit}
 use Rattle.td_parse.specs.ReadingOperators.{operator_at, comparison_at, prefix_at, extraction_at, postfix_at, call_at, heading_at}
-use Rattle.td_parse.specs.ReadingSteps.{◌>>=◌, either, ReadOf, expect, read_name, read_as, up_to, enclosed, separated, listed_to, attribute_list, read_renaming}
+use Rattle.td_parse.specs.ReadingSteps.{◌>>=◌, either, ReadOf, expect, read_name, read_as, read_up_to, enclosed, separated, listed_to, attribute_list, read_renaming}
 use Rattle.td_parse.specs.ReadingTypes.{relation_heading}
 use Rattle.td_tree.specs.Trees as tree
 use Rattle.td_tree.specs.Trees.{Text, Attributes, Postfix, Tree, Trees, NamedTrees, Summaries}
@@ -153,7 +153,7 @@ module _ (inner : Level → List Lexeme → Read) (depth : ℕ) where
   -- after '('
   unfoldable pub parenthesized : List Lexeme → Read
   parenthesized ts =
-      up_to (sign signs.CloseParenthesis) expression ts >>= λ a. Some (tree.parentheses a.0, a.1)
+      read_up_to (sign signs.CloseParenthesis) expression ts >>= λ a. Some (tree.parentheses a.0, a.1)
 
   -- after COUNT or IS_EMPTY
   unfoldable pub measured : Measure → List Lexeme → Read
@@ -162,8 +162,8 @@ module _ (inner : Level → List Lexeme → Read) (depth : ℕ) where
   -- after SUM, MAX or MIN
   unfoldable pub aggregated : Aggregate → List Lexeme → Read
   aggregated op ts =
-      expect (sign signs.OpenParenthesis) ts >>= λ after. up_to (sign signs.Comma) expression after
-      >>= λ a. up_to (sign signs.CloseParenthesis) expression a.1
+      expect (sign signs.OpenParenthesis) ts >>= λ after. read_up_to (sign signs.Comma) expression after
+      >>= λ a. read_up_to (sign signs.CloseParenthesis) expression a.1
       >>= λ b. Some (tree.aggregate op a.0 b.0, b.1)
 
   -- heading '{' e,* '}'
@@ -177,7 +177,7 @@ module _ (inner : Level → List Lexeme → Read) (depth : ℕ) where
   unfoldable pub elements : List Lexeme → Read
   elements ts =
       expect (sign signs.OpenBrace) ts
-      >>= λ after. up_to (sign signs.CloseBrace) (separated expression) after
+      >>= λ after. read_up_to (sign signs.CloseBrace) (separated expression) after
       >>= λ x. Some (tree.relation (trees_from x.0), x.1)
 
   -- after RELATION
@@ -193,7 +193,7 @@ module _ (inner : Level → List Lexeme → Read) (depth : ℕ) where
   -- after EXTEND
   unfoldable pub extension : List Lexeme → Read
   extension ts =
-      up_to (keyword k.Add) expression ts >>= λ a. enclosed (separated addition) a.1
+      read_up_to (keyword k.Add) expression ts >>= λ a. enclosed (separated addition) a.1
       >>= λ x. Some (tree.extend a.0 (named_from x.0), x.1)
 
   -- after SUMMARIZE e PER
@@ -217,9 +217,9 @@ module _ (inner : Level → List Lexeme → Read) (depth : ℕ) where
   -- after IF
   unfoldable pub choice : List Lexeme → Read
   choice ts = do
-    a ← up_to (keyword k.Then) expression ts
-    b ← up_to (keyword k.Else) expression a.1
-    c ← up_to (keyword k.End) expression b.1
+    a ← read_up_to (keyword k.Then) expression ts
+    b ← read_up_to (keyword k.Else) expression a.1
+    c ← read_up_to (keyword k.End) expression b.1
     after ← expect (keyword k.If) c.1
     Some (tree.choice a.0 b.0 c.0, after)
 

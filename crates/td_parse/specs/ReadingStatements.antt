@@ -8,7 +8,7 @@ use Rattle.td_tree.specs.Grammar.{height_limit, loosest}
 use Rattle.td_tree.specs.Lexemes.{Lexeme, keyword, sign}
 use Rattle.td_tree.specs.Lexemes as lexeme
 use Rattle.td_parse.specs.Reading.{Read, named_from, read}
-use Rattle.td_parse.specs.ReadingSteps.{◌>>=◌, either, ReadOf, expect, read_name, up_to, enclosed, optional, separated, repeated, names}
+use Rattle.td_parse.specs.ReadingSteps.{◌>>=◌, either, ReadOf, expect, read_name, read_up_to, enclosed, optional, separated, repeated, names}
 use Rattle.td_parse.specs.ReadingTypes.{attributes_from, attribute, read_type, relation_heading}
 use Rattle.td_tree.specs.Trees as tree
 use Rattle.td_tree.specs.Trees.{Text, TypeTree, Tree, Assignment, Statement}
@@ -80,7 +80,7 @@ unfoldable pub type_definition : List Lexeme → ReadOf Statement
 type_definition ts =
     read_name ts >>= λ n. expect (keyword k.Possrep) n.1
     >>= λ after. expect (sign signs.OpenBrace) after
-    >>= λ last. up_to (sign signs.CloseBrace) (components n.0) last
+    >>= λ last. read_up_to (sign signs.CloseBrace) (components n.0) last
 
 -- RELATION heading [INIT '(' e ')'] (KEY names)*
 unfoldable pub base_definition : Text → List Lexeme → ReadOf Statement
@@ -157,7 +157,7 @@ ended a (x ∷ ts) = None
 
 -- the statement of all the lexemes
 unfoldable pub read_statement : List Lexeme → Option Statement
-read_statement ts = up_to (sign signs.Semicolon) read_body ts >>= λ x. ended x.0 x.1
+read_statement ts = read_up_to (sign signs.Semicolon) read_body ts >>= λ x. ended x.0 x.1
 
 -- the expression of all the lexemes
 unfoldable pub read_expression : List Lexeme → Option Tree

@@ -59,14 +59,14 @@ read_as ts = expect (keyword k.As) ts >>= λ after. read_name after
 -- ---- items
 
 -- an item and what closes it
-unfoldable pub up_to : {A : Type 0} → Lexeme → (List Lexeme → ReadOf A) → List Lexeme → ReadOf A
-up_to close item ts = item ts >>= λ x. expect close x.1 >>= λ after. Some (x.0, after)
+unfoldable pub read_up_to : {A : Type 0} → Lexeme → (List Lexeme → ReadOf A) → List Lexeme → ReadOf A
+read_up_to close item ts = item ts >>= λ x. expect close x.1 >>= λ after. Some (x.0, after)
 
 -- an item between parentheses
 unfoldable pub enclosed : {A : Type 0} → (List Lexeme → ReadOf A) → List Lexeme → ReadOf A
 enclosed item ts =
     expect (sign signs.OpenParenthesis) ts
-    >>= λ after. up_to (sign signs.CloseParenthesis) item after
+    >>= λ after. read_up_to (sign signs.CloseParenthesis) item after
 
 -- [word item]
 unfoldable pub optional : {A : Type 0} → Lexeme → (List Lexeme → ReadOf A) → List Lexeme
@@ -92,7 +92,7 @@ separated item ts = separated_from item (suc (length ts)) [] ts
 unfoldable pub listed_to : {A : Type 0} → Lexeme → (List Lexeme → ReadOf A) → List Lexeme
     → ReadOf (List A)
 listed_to close item ts =
-    either (up_to close (separated item) ts) (λ after. Some ([], after)) (expect close ts)
+    either (read_up_to close (separated item) ts) (λ after. Some ([], after)) (expect close ts)
 
 -- (word item)* behind the items before, at most so many
 unfoldable pub repeated_from : {A : Type 0} → Lexeme → (List Lexeme → ReadOf A) → ℕ → List A

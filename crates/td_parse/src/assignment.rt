@@ -1,10 +1,10 @@
 //! Assignments.
 ghost use Rattle.std.specs.Prelude.{map, option_map};
 ghost use Rattle.td_parse.specs.Parsing.{Moves};
-ghost use Rattle.td_parse.specs.Views.{named_part_of};
+ghost use Rattle.td_parse.specs.Views.{named_part_view};
 ghost use Rattle.td_parse.specs.ReadingStatements as reading;
 ghost use Rattle.td_parse.specs.ReadingSteps.{enclosed, separated};
-ghost use Rattle.td_tree.specs.TreeViews.{assignment_of, statement_of, tree_of};
+ghost use Rattle.td_tree.specs.TreeViews.{assignment_view, statement_view, tree_view};
 
 use crate::cursor::{Cursor, SYNTAX};
 use crate::grammar::{LOOSEST, MAX_HEIGHT};
@@ -21,7 +21,7 @@ use td_tree::token::{Kind, Sign};
 
 /// An expression.
 pub fn expression(alloc: Global, tokens: &mut Cursor<'_, '_>) -> Result<Expr, Fault>
-    ensures { Moves tree_of result tokens.new (reading.expression tokens.old) }
+    ensures { Moves tree_view result tokens.new (reading.expression tokens.old) }
 {
     let found = levels::expression(alloc, MAX_HEIGHT, LOOSEST, tokens)?;
     Ok(found.into_tree())
@@ -30,7 +30,7 @@ pub fn expression(alloc: Global, tokens: &mut Cursor<'_, '_>) -> Result<Expr, Fa
 /// `[WHERE e1]`
 #[tactic(auto, unfolding(crate::specs::ReadingStatements::condition, crate::specs::ReadingSteps::optional))]
 fn condition(alloc: Global, tokens: &mut Cursor<'_, '_>) -> Result<Option<Expr>, Fault>
-    ensures { Moves (option_map tree_of) result tokens.new (reading.condition tokens.old) }
+    ensures { Moves (option_map tree_view) result tokens.new (reading.condition tokens.old) }
 {
     if !tokens.keyword(Keyword::Where) {
         return Ok(None);
@@ -42,7 +42,7 @@ fn condition(alloc: Global, tokens: &mut Cursor<'_, '_>) -> Result<Option<Expr>,
 /// `':=' e`
 #[tactic(auto, unfolding(crate::specs::ReadingStatements::source))]
 fn source(alloc: Global, tokens: &mut Cursor<'_, '_>) -> Result<Expr, Fault>
-    ensures { Moves tree_of result tokens.new (reading.source tokens.old) }
+    ensures { Moves tree_view result tokens.new (reading.source tokens.old) }
 {
     tokens.expect_sign(Sign::Assign)?;
     expression(alloc, tokens)
@@ -51,7 +51,7 @@ fn source(alloc: Global, tokens: &mut Cursor<'_, '_>) -> Result<Expr, Fault>
 /// `name ':=' e`
 #[tactic(auto, unfolding(crate::specs::ReadingStatements::setting))]
 fn setting(alloc: Global, tokens: &mut Cursor<'_, '_>) -> Result<NamedExpr, Fault>
-    ensures { Moves named_part_of result tokens.new (reading.setting tokens.old) }
+    ensures { Moves named_part_view result tokens.new (reading.setting tokens.old) }
 {
     let name = name(alloc, tokens)?;
     let value = source(alloc, tokens)?;
@@ -61,7 +61,7 @@ fn setting(alloc: Global, tokens: &mut Cursor<'_, '_>) -> Result<NamedExpr, Faul
 /// `(name ':=' e),+`
 #[tactic(auto, unfolding(crate::specs::ReadingSteps::separated, crate::specs::ReadingSteps::separated_from))]
 fn settings(alloc: Global, tokens: &mut Cursor<'_, '_>) -> Result<Vec<NamedExpr>, Fault>
-    ensures { Moves (λ v. map named_part_of v.items) result tokens.new
+    ensures { Moves (λ v. map named_part_view v.items) result tokens.new
         (separated reading.setting tokens.old) }
 {
     let mut items = Vec::new(alloc);
@@ -78,7 +78,7 @@ fn settings(alloc: Global, tokens: &mut Cursor<'_, '_>) -> Result<Vec<NamedExpr>
 /// `'(' (name ':=' e),+ ')'`
 #[tactic(auto, unfolding(crate::specs::ReadingSteps::enclosed, crate::specs::ReadingSteps::up_to))]
 fn enclosed_settings(alloc: Global, tokens: &mut Cursor<'_, '_>) -> Result<Vec<NamedExpr>, Fault>
-    ensures { Moves (λ v. map named_part_of v.items) result tokens.new
+    ensures { Moves (λ v. map named_part_view v.items) result tokens.new
         (enclosed (separated reading.setting) tokens.old) }
 {
     tokens.expect_sign(Sign::OpenParenthesis)?;
@@ -89,7 +89,7 @@ fn enclosed_settings(alloc: Global, tokens: &mut Cursor<'_, '_>) -> Result<Vec<N
 /// `name e`, after `INSERT`
 #[tactic(auto, unfolding(crate::specs::ReadingStatements::insertion))]
 fn insertion(alloc: Global, tokens: &mut Cursor<'_, '_>) -> Result<Assignment, Fault>
-    ensures { Moves assignment_of result tokens.new (reading.insertion tokens.old) }
+    ensures { Moves assignment_view result tokens.new (reading.insertion tokens.old) }
 {
     let target = name(alloc, tokens)?;
     let source = expression(alloc, tokens)?;
@@ -99,7 +99,7 @@ fn insertion(alloc: Global, tokens: &mut Cursor<'_, '_>) -> Result<Assignment, F
 /// `name [WHERE e1]`, after `DELETE`
 #[tactic(auto, unfolding(crate::specs::ReadingStatements::deletion))]
 fn deletion(alloc: Global, tokens: &mut Cursor<'_, '_>) -> Result<Assignment, Fault>
-    ensures { Moves assignment_of result tokens.new (reading.deletion tokens.old) }
+    ensures { Moves assignment_view result tokens.new (reading.deletion tokens.old) }
 {
     let target = name(alloc, tokens)?;
     let condition = condition(alloc, tokens)?;
@@ -109,7 +109,7 @@ fn deletion(alloc: Global, tokens: &mut Cursor<'_, '_>) -> Result<Assignment, Fa
 /// `name [WHERE e1] '(' (name ':=' e),+ ')'`, after `UPDATE`
 #[tactic(auto, unfolding(crate::specs::ReadingStatements::changing), using(crate::proofs::Views::named_from_of))]
 fn changing(alloc: Global, tokens: &mut Cursor<'_, '_>) -> Result<Assignment, Fault>
-    ensures { Moves assignment_of result tokens.new (reading.changing tokens.old) }
+    ensures { Moves assignment_view result tokens.new (reading.changing tokens.old) }
 {
     let target = name(alloc, tokens)?;
     let condition = condition(alloc, tokens)?;
@@ -120,7 +120,7 @@ fn changing(alloc: Global, tokens: &mut Cursor<'_, '_>) -> Result<Assignment, Fa
 /// An assignment.
 #[tactic(auto, unfolding(crate::specs::ReadingStatements::assignment, crate::specs::ReadingStatements::assignment_of_word))]
 fn assignment(alloc: Global, tokens: &mut Cursor<'_, '_>) -> Result<Assignment, Fault>
-    ensures { Moves assignment_of result tokens.new (reading.assignment tokens.old) }
+    ensures { Moves assignment_view result tokens.new (reading.assignment tokens.old) }
 {
     match tokens.take() {
         Some((Kind::Name, text)) => {
@@ -137,7 +137,7 @@ fn assignment(alloc: Global, tokens: &mut Cursor<'_, '_>) -> Result<Assignment, 
 /// `assignment,+`
 #[tactic(auto, unfolding(crate::specs::ReadingSteps::separated, crate::specs::ReadingSteps::separated_from))]
 fn some_assignments(alloc: Global, tokens: &mut Cursor<'_, '_>) -> Result<Vec<Assignment>, Fault>
-    ensures { Moves (λ v. map assignment_of v.items) result tokens.new
+    ensures { Moves (λ v. map assignment_view v.items) result tokens.new
         (separated reading.assignment tokens.old) }
 {
     let mut items = Vec::new(alloc);
@@ -154,7 +154,7 @@ fn some_assignments(alloc: Global, tokens: &mut Cursor<'_, '_>) -> Result<Vec<As
 /// Assignments, all at once.
 #[tactic(auto, unfolding(crate::specs::ReadingStatements::assignments))]
 pub fn assignments(alloc: Global, tokens: &mut Cursor<'_, '_>) -> Result<Statement, Fault>
-    ensures { Moves statement_of result tokens.new (reading.assignments tokens.old) }
+    ensures { Moves statement_view result tokens.new (reading.assignments tokens.old) }
 {
     Ok(Statement::Assign(some_assignments(alloc, tokens)?))
 }

@@ -4,7 +4,7 @@ ghost use Rattle.td_parse.specs.Parsing.{Moves};
 ghost use Rattle.td_tree.specs.Lexemes as lexeme;
 ghost use Rattle.td_parse.specs.ReadingStatements as reading;
 ghost use Rattle.td_parse.specs.ReadingSteps.{enclosed, optional};
-ghost use Rattle.td_tree.specs.TreeViews.{statement_of, tree_of};
+ghost use Rattle.td_tree.specs.TreeViews.{statement_view, tree_view};
 
 use crate::assignment::expression;
 use crate::cursor::{Cursor, SYNTAX};
@@ -23,7 +23,7 @@ use td_tree::token::{Kind, Sign};
 /// `[CONSTRAINT e]`
 #[tactic(auto, unfolding(crate::specs::ReadingSteps::optional))]
 fn constraint(alloc: Global, tokens: &mut Cursor<'_, '_>) -> Result<Option<Expr>, Fault>
-    ensures { Moves (option_map tree_of) result tokens.new
+    ensures { Moves (option_map tree_view) result tokens.new
         (optional (lexeme.keyword Keyword.Constraint) reading.expression tokens.old) }
 {
     if !tokens.keyword(Keyword::Constraint) {
@@ -35,7 +35,7 @@ fn constraint(alloc: Global, tokens: &mut Cursor<'_, '_>) -> Result<Option<Expr>
 /// `'(' e ')'`
 #[tactic(auto, unfolding(crate::specs::ReadingSteps::enclosed, crate::specs::ReadingSteps::up_to))]
 fn enclosed_expression(alloc: Global, tokens: &mut Cursor<'_, '_>) -> Result<Expr, Fault>
-    ensures { Moves tree_of result tokens.new (enclosed reading.expression tokens.old) }
+    ensures { Moves tree_view result tokens.new (enclosed reading.expression tokens.old) }
 {
     tokens.expect_sign(Sign::OpenParenthesis)?;
     let found = expression(alloc, tokens)?;
@@ -45,7 +45,7 @@ fn enclosed_expression(alloc: Global, tokens: &mut Cursor<'_, '_>) -> Result<Exp
 /// `[INIT '(' e ')']`
 #[tactic(auto, unfolding(crate::specs::ReadingSteps::optional))]
 fn init(alloc: Global, tokens: &mut Cursor<'_, '_>) -> Result<Option<Expr>, Fault>
-    ensures { Moves (option_map tree_of) result tokens.new
+    ensures { Moves (option_map tree_view) result tokens.new
         (optional (lexeme.keyword Keyword.Init) (enclosed reading.expression) tokens.old) }
 {
     if !tokens.keyword(Keyword::Init) {
@@ -74,7 +74,7 @@ fn keys(alloc: Global, tokens: &mut Cursor<'_, '_>) -> Result<Vec<Vec<Name>>, Fa
 /// `attr,+ [CONSTRAINT e]`, of the type with this name
 #[tactic(auto, unfolding(crate::specs::ReadingStatements::components), using(crate::proofs::Views::attributes_from_of))]
 fn components(alloc: Global, name: Name, tokens: &mut Cursor<'_, '_>) -> Result<Statement, Fault>
-    ensures { Moves statement_of result tokens.new (reading.components name tokens.old) }
+    ensures { Moves statement_view result tokens.new (reading.components name tokens.old) }
 {
     let components = attributes(alloc, MAX_HEIGHT, tokens)?;
     let constraint = constraint(alloc, tokens)?;
@@ -88,7 +88,7 @@ fn components(alloc: Global, name: Name, tokens: &mut Cursor<'_, '_>) -> Result<
 /// `name POSSREP '{' attr,+ [CONSTRAINT e] '}'`, after `TYPE`
 #[tactic(auto, unfolding(crate::specs::ReadingStatements::type_definition, crate::specs::ReadingSteps::up_to))]
 pub fn type_definition(alloc: Global, tokens: &mut Cursor<'_, '_>) -> Result<Statement, Fault>
-    ensures { Moves statement_of result tokens.new (reading.type_definition tokens.old) }
+    ensures { Moves statement_view result tokens.new (reading.type_definition tokens.old) }
 {
     let name = name(alloc, tokens)?;
     tokens.expect_keyword(Keyword::Possrep)?;
@@ -104,7 +104,7 @@ fn base_definition(
     name: Name,
     tokens: &mut Cursor<'_, '_>,
 ) -> Result<Statement, Fault>
-    ensures { Moves statement_of result tokens.new (reading.base_definition name tokens.old) }
+    ensures { Moves statement_view result tokens.new (reading.base_definition name tokens.old) }
 {
     tokens.expect_keyword(Keyword::Relation)?;
     let heading = relation_heading(alloc, MAX_HEIGHT, tokens)?;
@@ -125,7 +125,7 @@ fn virtual_definition(
     name: Name,
     tokens: &mut Cursor<'_, '_>,
 ) -> Result<Statement, Fault>
-    ensures { Moves statement_of result tokens.new (reading.virtual_definition name tokens.old) }
+    ensures { Moves statement_view result tokens.new (reading.virtual_definition name tokens.old) }
 {
     let expression = enclosed_expression(alloc, tokens)?;
     let (expression, keys) = both(expression, keys(alloc, tokens))?;
@@ -143,7 +143,7 @@ fn variable_named(
     name: Name,
     tokens: &mut Cursor<'_, '_>,
 ) -> Result<Statement, Fault>
-    ensures { Moves statement_of result tokens.new (reading.variable name tokens.old) }
+    ensures { Moves statement_view result tokens.new (reading.variable name tokens.old) }
 {
     match tokens.take() {
         Some((Kind::Reserved(Keyword::Base | Keyword::Real), _)) => {
@@ -157,7 +157,7 @@ fn variable_named(
 /// After `VAR`.
 #[tactic(auto, unfolding(crate::specs::ReadingStatements::body_of_word))]
 pub fn variable(alloc: Global, tokens: &mut Cursor<'_, '_>) -> Result<Statement, Fault>
-    ensures { Moves statement_of result tokens.new (reading.body_of_word Keyword.Var tokens.old) }
+    ensures { Moves statement_view result tokens.new (reading.body_of_word Keyword.Var tokens.old) }
 {
     let name = name(alloc, tokens)?;
     variable_named(alloc, name, tokens)
@@ -166,7 +166,7 @@ pub fn variable(alloc: Global, tokens: &mut Cursor<'_, '_>) -> Result<Statement,
 /// `name e`, after `CONSTRAINT`
 #[tactic(auto, unfolding(crate::specs::ReadingStatements::constraint_definition))]
 pub fn constraint_definition(alloc: Global, tokens: &mut Cursor<'_, '_>) -> Result<Statement, Fault>
-    ensures { Moves statement_of result tokens.new (reading.constraint_definition tokens.old) }
+    ensures { Moves statement_view result tokens.new (reading.constraint_definition tokens.old) }
 {
     let name = name(alloc, tokens)?;
     let condition = expression(alloc, tokens)?;
@@ -176,7 +176,7 @@ pub fn constraint_definition(alloc: Global, tokens: &mut Cursor<'_, '_>) -> Resu
 /// After `DROP`.
 #[tactic(auto, unfolding(crate::specs::ReadingStatements::drop, crate::specs::ReadingStatements::drop_of_word))]
 pub fn drop(alloc: Global, tokens: &mut Cursor<'_, '_>) -> Result<Statement, Fault>
-    ensures { Moves statement_of result tokens.new (reading.drop tokens.old) }
+    ensures { Moves statement_view result tokens.new (reading.drop tokens.old) }
 {
     match tokens.take() {
         Some((Kind::Reserved(Keyword::Type), _)) => {

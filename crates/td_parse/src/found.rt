@@ -1,11 +1,11 @@
 //! Expressions that were read, with their heights.
 ghost use Rattle.std.specs.Prelude.{◌≡◌, ◌<◌, ◌-◌, ◌^◌, map, min, nat_le, IfOk};
 ghost use Rattle.std.specs.Rc.{rc_str_bytes};
-ghost use Rattle.td_parse.specs.Views.{item_of, named_part_of};
+ghost use Rattle.td_parse.specs.Views.{item_view, named_part_view};
 ghost use Rattle.td_tree.specs.Heights as heights;
 ghost use Rattle.td_parse.specs.Reading.{named_from, summaries_from, trees_from};
 ghost use Rattle.td_tree.specs.Trees as trees;
-ghost use Rattle.td_tree.specs.TreeViews.{attributes_of, heading_of, literal_of, postfix_of, summaries_of, tree_of, trees_of};
+ghost use Rattle.td_tree.specs.TreeViews.{attributes_view, heading_tree_view, literal_view, postfix_view, summaries_view, tree_view, trees_view};
 
 use crate::parts::{Elements, NamedParts, Summaries};
 use std::alloc::{AllocError, Global};
@@ -30,7 +30,7 @@ impl Model for Found {
     ghost use Rattle.td_tree.specs.contracts.expression.Expr as expr;
     ghost use Rattle.td_tree.specs.declared.expression.Expr.{Expr};
     ghost use Rattle.td_tree.specs.Heights as heights;
-    ghost use Rattle.td_tree.specs.TreeViews.{tree_of};
+    ghost use Rattle.td_tree.specs.TreeViews.{tree_view};
 
     ghost Value = { Expr };
 
@@ -38,7 +38,7 @@ impl Model for Found {
 
     ghost view = { λ f. f.tree };
 
-    ghost invariant = { λ f. f.height ≡ min (heights.height (tree_of f.tree)) (2 ^ 64 - 1) };
+    ghost invariant = { λ f. f.height ≡ min (heights.height (tree_view f.tree)) (2 ^ 64 - 1) };
 }
 
 /// A part in a box.
@@ -76,15 +76,16 @@ fn boxed_both<T: Drop, U: Drop>(
 
 /// `T(e, ..)`
 fn selected(ty: Name, arguments: Vec<Expr>) -> Expr
-    ensures { tree_of result ≡ trees.select ty (trees_of arguments.items) }
+    ensures { tree_view result ≡ trees.select ty (trees_view arguments.items) }
 {
     Expr::Select(ty, arguments)
 }
 
 /// `SUMMARIZE e BY {..} ADD (..)`
 fn summarized_by(operand: Box<Expr>, by: Attributes, added: Vec<Summary>) -> Expr
-    ensures { tree_of result
-        ≡ trees.summarize_by (tree_of operand.value) (attributes_of by) (summaries_of added.items) }
+    ensures { tree_view result
+        ≡ trees.summarize_by (tree_view operand.value) (attributes_view by)
+        (summaries_view added.items) }
 {
     Expr::SummarizeBy(operand, by, added)
 }
@@ -99,7 +100,7 @@ impl Found {
 
     /// How high it is.
     pub fn height(&self) -> u64
-        ensures { result ≡ min (heights.height (tree_of self.now)) (2 ^ 64 - 1) }
+        ensures { result ≡ min (heights.height (tree_view self.now)) (2 ^ 64 - 1) }
     {
         self.height
     }
@@ -107,14 +108,14 @@ impl Found {
     /// Whether it is at most so high.
     pub fn fits(&self, limit: u64) -> bool
         requires { limit < 2 ^ 64 - 1 }
-        ensures { result ≡ nat_le (heights.height (tree_of self.now)) limit }
+        ensures { result ≡ nat_le (heights.height (tree_view self.now)) limit }
     {
         self.height <= limit
     }
 
     /// A literal.
     pub fn literal(value: Literal) -> Found
-        ensures { tree_of result ≡ trees.literal (literal_of value) }
+        ensures { tree_view result ≡ trees.literal (literal_view value) }
     {
         let tree = Expr::Literal(value);
         Found { tree, height: 1 }
@@ -122,7 +123,7 @@ impl Found {
 
     /// A name.
     pub fn name(name: Name) -> Found
-        ensures { tree_of result ≡ trees.name name }
+        ensures { tree_view result ≡ trees.name name }
     {
         let tree = Expr::Name(name);
         Found { tree, height: 1 }
@@ -130,7 +131,7 @@ impl Found {
 
     /// `(e)`
     pub fn parentheses(alloc: Global, inner: Found) -> Result<Found, AllocError>
-        ensures { IfOk result (λ e. tree_of e ≡ trees.parentheses (tree_of inner)) }
+        ensures { IfOk result (λ e. tree_view e ≡ trees.parentheses (tree_view inner)) }
     {
         let height = inner.height.saturating_add(1);
         let inner = boxed(alloc, inner.tree)?;
@@ -140,7 +141,7 @@ impl Found {
 
     /// An operator before its operand.
     pub fn prefix(alloc: Global, op: Prefix, operand: Found) -> Result<Found, AllocError>
-        ensures { IfOk result (λ e. tree_of e ≡ trees.prefix op (tree_of operand)) }
+        ensures { IfOk result (λ e. tree_view e ≡ trees.prefix op (tree_view operand)) }
     {
         let height = operand.height.saturating_add(1);
         let operand = boxed(alloc, operand.tree)?;
@@ -150,7 +151,7 @@ impl Found {
 
     /// `A FROM t`
     pub fn extract(alloc: Global, attribute: Name, operand: Found) -> Result<Found, AllocError>
-        ensures { IfOk result (λ e. tree_of e ≡ trees.extract attribute (tree_of operand)) }
+        ensures { IfOk result (λ e. tree_view e ≡ trees.extract attribute (tree_view operand)) }
     {
         let height = operand.height.saturating_add(1);
         let operand = boxed(alloc, operand.tree)?;
@@ -165,7 +166,8 @@ impl Found {
         op: Operator,
         right: Found,
     ) -> Result<Found, AllocError>
-        ensures { IfOk result (λ e. tree_of e ≡ trees.binary (tree_of left) op (tree_of right)) }
+        ensures { IfOk result (λ e. tree_view e
+            ≡ trees.binary (tree_view left) op (tree_view right)) }
     {
         let height = left.height.max(right.height).saturating_add(1);
         let (left, right) = boxed_both(alloc, left.tree, right.tree)?;
@@ -180,7 +182,8 @@ impl Found {
         op: Comparison,
         right: Found,
     ) -> Result<Found, AllocError>
-        ensures { IfOk result (λ e. tree_of e ≡ trees.compare (tree_of left) op (tree_of right)) }
+        ensures { IfOk result (λ e. tree_view e
+            ≡ trees.compare (tree_view left) op (tree_view right)) }
     {
         let height = left.height.max(right.height).saturating_add(1);
         let (left, right) = boxed_both(alloc, left.tree, right.tree)?;
@@ -190,7 +193,8 @@ impl Found {
 
     /// An operator behind its operand.
     pub fn postfix(alloc: Global, operand: Found, op: Postfix) -> Result<Found, AllocError>
-        ensures { IfOk result (λ e. tree_of e ≡ trees.postfix (tree_of operand) (postfix_of op)) }
+        ensures { IfOk result (λ e. tree_view e
+            ≡ trees.postfix (tree_view operand) (postfix_view op)) }
     {
         let height = operand.height.saturating_add(1);
         let operand = boxed(alloc, operand.tree)?;
@@ -201,7 +205,7 @@ impl Found {
     /// `T(e, ..)`
     #[tactic(auto, using(crate::proofs::Views::trees_from_of))]
     pub fn select(ty: Name, arguments: Elements) -> Found
-        ensures { tree_of result ≡ trees.select ty (trees_from (map tree_of arguments)) }
+        ensures { tree_view result ≡ trees.select ty (trees_from (map tree_view arguments)) }
     {
         let height = arguments.height.saturating_add(1);
         let tree = selected(ty, arguments.items);
@@ -211,7 +215,7 @@ impl Found {
     /// `THE_C(e)`, by what follows `THE_`.
     pub fn component(alloc: Global, rest: RcStr, operand: Found) -> Result<Found, AllocError>
         ensures { IfOk result
-            (λ e. tree_of e ≡ trees.component (rc_str_bytes rest) (tree_of operand)) }
+            (λ e. tree_view e ≡ trees.component (rc_str_bytes rest) (tree_view operand)) }
     {
         let height = operand.height.saturating_add(1);
         let operand = boxed(alloc, operand.tree)?;
@@ -221,7 +225,7 @@ impl Found {
 
     /// `COUNT(e)` or `IS_EMPTY(e)`
     pub fn measure(alloc: Global, op: Measure, operand: Found) -> Result<Found, AllocError>
-        ensures { IfOk result (λ e. tree_of e ≡ trees.measure op (tree_of operand)) }
+        ensures { IfOk result (λ e. tree_view e ≡ trees.measure op (tree_view operand)) }
     {
         let height = operand.height.saturating_add(1);
         let operand = boxed(alloc, operand.tree)?;
@@ -237,7 +241,7 @@ impl Found {
         value: Found,
     ) -> Result<Found, AllocError>
         ensures { IfOk result
-            (λ e. tree_of e ≡ trees.aggregate op (tree_of operand) (tree_of value)) }
+            (λ e. tree_view e ≡ trees.aggregate op (tree_view operand) (tree_view value)) }
     {
         let height = operand.height.max(value.height).saturating_add(1);
         let (operand, value) = boxed_both(alloc, operand.tree, value.tree)?;
@@ -248,7 +252,7 @@ impl Found {
     /// `RELATION {t, ..}`
     #[tactic(auto, using(crate::proofs::Views::trees_from_of, td_tree::proofs::Rows::relation_is))]
     pub fn relation(elements: Elements) -> Found
-        ensures { tree_of result ≡ trees.relation (trees_from (map tree_of elements)) }
+        ensures { tree_view result ≡ trees.relation (trees_from (map tree_view elements)) }
     {
         let height = elements.height.saturating_add(1);
         let tree = Expr::Relation(elements.items);
@@ -258,8 +262,9 @@ impl Found {
     /// `RELATION {A INTEGER, ..} {t, ..}`
     #[tactic(auto, using(crate::proofs::Views::trees_from_of, td_tree::proofs::Rows::headed_relation_is))]
     pub fn headed_relation(heading: Vec<AttributeTree>, elements: Elements) -> Found
-        ensures { tree_of result
-            ≡ trees.headed_relation (heading_of heading.items) (trees_from (map tree_of elements)) }
+        ensures { tree_view result
+            ≡ trees.headed_relation (heading_tree_view heading.items) (trees_from
+            (map tree_view elements)) }
     {
         let highest = highest_type(heading.as_slice()).saturating_add(1);
         let height = highest.max(elements.height).saturating_add(1);
@@ -270,7 +275,7 @@ impl Found {
     /// `TUPLE {A e, ..}`
     #[tactic(auto, using(crate::proofs::Views::named_from_of, td_tree::proofs::Rows::tuple_is))]
     pub fn tuple(parts: NamedParts) -> Found
-        ensures { tree_of result ≡ trees.tuple (named_from (map named_part_of parts)) }
+        ensures { tree_view result ≡ trees.tuple (named_from (map named_part_view parts)) }
     {
         let height = parts.height.saturating_add(1);
         let tree = Expr::Tuple(parts.items);
@@ -281,8 +286,8 @@ impl Found {
     #[tactic(auto, using(crate::proofs::Views::named_from_of, td_tree::proofs::Rows::extend_is))]
     pub fn extend(alloc: Global, operand: Found, parts: NamedParts) -> Result<Found, AllocError>
         ensures { IfOk result
-            (λ e. tree_of e
-            ≡ trees.extend (tree_of operand) (named_from (map named_part_of parts))) }
+            (λ e. tree_view e
+            ≡ trees.extend (tree_view operand) (named_from (map named_part_view parts))) }
     {
         let height = operand.height.max(parts.height).saturating_add(1);
         let operand = boxed(alloc, operand.tree)?;
@@ -299,9 +304,9 @@ impl Found {
         summaries: Summaries,
     ) -> Result<Found, AllocError>
         ensures { IfOk result
-            (λ e. tree_of e
-            ≡ trees.summarize_per (tree_of operand) (tree_of per)
-            (summaries_from (map item_of summaries))) }
+            (λ e. tree_view e
+            ≡ trees.summarize_per (tree_view operand) (tree_view per)
+            (summaries_from (map item_view summaries))) }
     {
         let height = operand
             .height
@@ -322,9 +327,9 @@ impl Found {
         summaries: Summaries,
     ) -> Result<Found, AllocError>
         ensures { IfOk result
-            (λ e. tree_of e
-            ≡ trees.summarize_by (tree_of operand) (attributes_of by)
-            (summaries_from (map item_of summaries))) }
+            (λ e. tree_view e
+            ≡ trees.summarize_by (tree_view operand) (attributes_view by)
+            (summaries_from (map item_view summaries))) }
     {
         let height = operand.height.max(summaries.height).saturating_add(1);
         let operand = boxed(alloc, operand.tree)?;
@@ -340,8 +345,8 @@ impl Found {
         alternative: Found,
     ) -> Result<Found, AllocError>
         ensures { IfOk result
-            (λ e. tree_of e
-            ≡ trees.choice (tree_of condition) (tree_of consequent) (tree_of alternative)) }
+            (λ e. tree_view e
+            ≡ trees.choice (tree_view condition) (tree_view consequent) (tree_view alternative)) }
     {
         let height = condition
             .height

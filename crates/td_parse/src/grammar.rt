@@ -5,7 +5,7 @@ ghost use Rattle.td_parse.specs.Nests.{Nests};
 ghost use Rattle.td_parse.specs.Parsing.{Fits, Moves};
 ghost use Rattle.td_tree.specs.Heights.{height};
 ghost use Rattle.td_parse.specs.Reading.{read};
-ghost use Rattle.td_tree.specs.TreeViews.{tree_of};
+ghost use Rattle.td_tree.specs.TreeViews.{tree_view};
 
 use crate::cursor::Cursor;
 use crate::found::Found;
@@ -34,7 +34,7 @@ impl<F: Fn(Global, u8, Level, &mut Cursor<'_, '_>) -> Result<Found, Fault>> Gram
     /// A part that stands at this level.
     pub fn inner(&self, level: Level, tokens: &mut Cursor<'_, '_>) -> Result<Found, Fault>
         requires { Nests self.now.depth (F.pre self.now.inner) (F.post self.now.inner) }
-        ensures { Moves tree_of result tokens.new (read self.now.depth level tokens.old) }
+        ensures { Moves tree_view result tokens.new (read self.now.depth level tokens.old) }
     {
         (self.inner)(self.alloc, self.depth, level, tokens)
     }
@@ -42,21 +42,21 @@ impl<F: Fn(Global, u8, Level, &mut Cursor<'_, '_>) -> Result<Found, Fault>> Gram
     /// A part, whatever it is.
     pub fn expression(&self, tokens: &mut Cursor<'_, '_>) -> Result<Found, Fault>
         requires { Nests self.now.depth (F.pre self.now.inner) (F.post self.now.inner) }
-        ensures { Moves tree_of result tokens.new (read self.now.depth loosest tokens.old) }
+        ensures { Moves tree_view result tokens.new (read self.now.depth loosest tokens.old) }
     {
         self.inner(LOOSEST, tokens)
     }
 
     /// Whether an expression is low enough.
     fn fits(&self, found: &Found) -> bool
-        ensures { result ≡ nat_le (height (tree_of found.now)) (suc self.now.depth) }
+        ensures { result ≡ nat_le (height (tree_view found.now)) (suc self.now.depth) }
     {
         found.fits(u64::from(self.depth) + 1)
     }
 
     /// An expression, if it is low enough.
     pub fn low(&self, found: Found) -> Result<Found, Fault>
-        ensures { Fits found (nat_le (height (tree_of found)) (suc self.now.depth)) result }
+        ensures { Fits found (nat_le (height (tree_view found)) (suc self.now.depth)) result }
     {
         let fits = self.fits(&found);
         kept(found, fits)

@@ -4,7 +4,7 @@ ghost use Rattle.td_parse.specs.Nests.{Nests};
 ghost use Rattle.td_parse.specs.Parsing.{Moves};
 ghost use Rattle.td_parse.specs.Reading as reading;
 ghost use Rattle.td_parse.specs.Reading.{read};
-ghost use Rattle.td_tree.specs.TreeViews.{tree_of};
+ghost use Rattle.td_tree.specs.TreeViews.{tree_view};
 
 use crate::cursor::{Cursor, SYNTAX};
 use crate::found::Found;
@@ -21,9 +21,9 @@ impl<F: Fn(Global, u8, Level, &mut Cursor<'_, '_>) -> Result<Found, Fault>> Gram
     /// Goes on with operators behind the operand.
     #[tactic(auto, unfolding(crate::specs::Reading::postfixes))]
     fn postfixes(&self, first: Found, tokens: &mut Cursor<'_, '_>) -> Result<Found, Fault>
-        ensures { Moves tree_of result tokens.new
+        ensures { Moves tree_view result tokens.new
             (reading.postfixes (read self.now.depth) self.now.depth (suc self.now.depth)
-            (tree_of first) tokens.old) }
+            (tree_view first) tokens.old) }
     {
         let mut left = first;
         let limit = u64::from(self.depth) + 1;
@@ -42,7 +42,7 @@ impl<F: Fn(Global, u8, Level, &mut Cursor<'_, '_>) -> Result<Found, Fault>> Gram
     #[tactic(auto, unfolding(crate::specs::Reading::postfixed))]
     fn postfixed(&self, tokens: &mut Cursor<'_, '_>) -> Result<Found, Fault>
         requires { Nests self.now.depth (F.pre self.now.inner) (F.post self.now.inner) }
-        ensures { Moves tree_of result tokens.new
+        ensures { Moves tree_view result tokens.new
             (reading.postfixed (read self.now.depth) self.now.depth tokens.old) }
     {
         let first = self.primary(tokens)?;
@@ -53,7 +53,7 @@ impl<F: Fn(Global, u8, Level, &mut Cursor<'_, '_>) -> Result<Found, Fault>> Gram
     #[tactic(auto, unfolding(crate::specs::Reading::applied))]
     fn applied(&self, level: Level, op: Prefix, tokens: &mut Cursor<'_, '_>) -> Result<Found, Fault>
         requires { Nests self.now.depth (F.pre self.now.inner) (F.post self.now.inner) }
-        ensures { Moves tree_of result tokens.new
+        ensures { Moves tree_view result tokens.new
             (reading.applied (read self.now.depth) self.now.depth level op tokens.old) }
     {
         let operand = self.inner(level, tokens)?;
@@ -64,7 +64,7 @@ impl<F: Fn(Global, u8, Level, &mut Cursor<'_, '_>) -> Result<Found, Fault>> Gram
     #[tactic(auto, unfolding(crate::specs::Reading::prefixed, crate::specs::Reading::extracted))]
     fn prefixed(&self, tokens: &mut Cursor<'_, '_>) -> Result<Found, Fault>
         requires { Nests self.now.depth (F.pre self.now.inner) (F.post self.now.inner) }
-        ensures { Moves tree_of result tokens.new
+        ensures { Moves tree_view result tokens.new
             (reading.prefixed (read self.now.depth) self.now.depth tokens.old) }
     {
         if let Some(op) = prefix(tokens) {
@@ -86,9 +86,9 @@ impl<F: Fn(Global, u8, Level, &mut Cursor<'_, '_>) -> Result<Found, Fault>> Gram
         tokens: &mut Cursor<'_, '_>,
     ) -> Result<Found, Fault>
         requires { Nests self.now.depth (F.pre self.now.inner) (F.post self.now.inner) }
-        ensures { Moves tree_of result tokens.new
+        ensures { Moves tree_view result tokens.new
             (reading.operations (read self.now.depth) self.now.depth level (suc self.now.depth)
-            (tree_of first) tokens.old) }
+            (tree_view first) tokens.old) }
     {
         let mut left = first;
         let limit = u64::from(self.depth) + 1;
@@ -107,7 +107,7 @@ impl<F: Fn(Global, u8, Level, &mut Cursor<'_, '_>) -> Result<Found, Fault>> Gram
     #[tactic(auto, unfolding(crate::specs::Reading::multiplicative, crate::specs::Reading::chain))]
     fn multiplicative(&self, tokens: &mut Cursor<'_, '_>) -> Result<Found, Fault>
         requires { Nests self.now.depth (F.pre self.now.inner) (F.post self.now.inner) }
-        ensures { Moves tree_of result tokens.new
+        ensures { Moves tree_view result tokens.new
             (reading.multiplicative (read self.now.depth) self.now.depth tokens.old) }
     {
         let first = self.prefixed(tokens)?;
@@ -118,7 +118,7 @@ impl<F: Fn(Global, u8, Level, &mut Cursor<'_, '_>) -> Result<Found, Fault>> Gram
     #[tactic(auto, unfolding(crate::specs::Reading::additive, crate::specs::Reading::chain))]
     fn additive(&self, tokens: &mut Cursor<'_, '_>) -> Result<Found, Fault>
         requires { Nests self.now.depth (F.pre self.now.inner) (F.post self.now.inner) }
-        ensures { Moves tree_of result tokens.new
+        ensures { Moves tree_view result tokens.new
             (reading.additive (read self.now.depth) self.now.depth tokens.old) }
     {
         let first = self.multiplicative(tokens)?;
@@ -129,7 +129,7 @@ impl<F: Fn(Global, u8, Level, &mut Cursor<'_, '_>) -> Result<Found, Fault>> Gram
     #[tactic(auto, unfolding(crate::specs::Reading::relational, crate::specs::Reading::chain))]
     fn relational(&self, tokens: &mut Cursor<'_, '_>) -> Result<Found, Fault>
         requires { Nests self.now.depth (F.pre self.now.inner) (F.post self.now.inner) }
-        ensures { Moves tree_of result tokens.new
+        ensures { Moves tree_view result tokens.new
             (reading.relational (read self.now.depth) self.now.depth tokens.old) }
     {
         let first = self.additive(tokens)?;
@@ -140,7 +140,7 @@ impl<F: Fn(Global, u8, Level, &mut Cursor<'_, '_>) -> Result<Found, Fault>> Gram
     #[tactic(auto, unfolding(crate::specs::Reading::compared, crate::specs::Reading::compared_to))]
     fn compared(&self, tokens: &mut Cursor<'_, '_>) -> Result<Found, Fault>
         requires { Nests self.now.depth (F.pre self.now.inner) (F.post self.now.inner) }
-        ensures { Moves tree_of result tokens.new
+        ensures { Moves tree_view result tokens.new
             (reading.compared (read self.now.depth) self.now.depth tokens.old) }
     {
         let left = self.relational(tokens)?;
@@ -156,7 +156,7 @@ impl<F: Fn(Global, u8, Level, &mut Cursor<'_, '_>) -> Result<Found, Fault>> Gram
     #[tactic(auto, unfolding(crate::specs::Reading::negated))]
     fn negated(&self, tokens: &mut Cursor<'_, '_>) -> Result<Found, Fault>
         requires { Nests self.now.depth (F.pre self.now.inner) (F.post self.now.inner) }
-        ensures { Moves tree_of result tokens.new
+        ensures { Moves tree_view result tokens.new
             (reading.negated (read self.now.depth) self.now.depth tokens.old) }
     {
         if tokens.keyword(Keyword::Not) {
@@ -170,7 +170,7 @@ impl<F: Fn(Global, u8, Level, &mut Cursor<'_, '_>) -> Result<Found, Fault>> Gram
     #[tactic(auto, unfolding(crate::specs::Reading::conjunction, crate::specs::Reading::chain))]
     fn conjunction(&self, tokens: &mut Cursor<'_, '_>) -> Result<Found, Fault>
         requires { Nests self.now.depth (F.pre self.now.inner) (F.post self.now.inner) }
-        ensures { Moves tree_of result tokens.new
+        ensures { Moves tree_view result tokens.new
             (reading.conjunction (read self.now.depth) self.now.depth tokens.old) }
     {
         let first = self.negated(tokens)?;
@@ -181,7 +181,7 @@ impl<F: Fn(Global, u8, Level, &mut Cursor<'_, '_>) -> Result<Found, Fault>> Gram
     #[tactic(auto, unfolding(crate::specs::Reading::disjunction, crate::specs::Reading::chain))]
     fn disjunction(&self, tokens: &mut Cursor<'_, '_>) -> Result<Found, Fault>
         requires { Nests self.now.depth (F.pre self.now.inner) (F.post self.now.inner) }
-        ensures { Moves tree_of result tokens.new
+        ensures { Moves tree_view result tokens.new
             (reading.disjunction (read self.now.depth) self.now.depth tokens.old) }
     {
         let first = self.conjunction(tokens)?;
@@ -192,7 +192,7 @@ impl<F: Fn(Global, u8, Level, &mut Cursor<'_, '_>) -> Result<Found, Fault>> Gram
     #[tactic(auto, unfolding(crate::specs::Reading::restriction, crate::specs::Reading::chain))]
     fn restriction(&self, tokens: &mut Cursor<'_, '_>) -> Result<Found, Fault>
         requires { Nests self.now.depth (F.pre self.now.inner) (F.post self.now.inner) }
-        ensures { Moves tree_of result tokens.new
+        ensures { Moves tree_view result tokens.new
             (reading.restriction (read self.now.depth) self.now.depth tokens.old) }
     {
         let first = self.disjunction(tokens)?;
@@ -203,7 +203,7 @@ impl<F: Fn(Global, u8, Level, &mut Cursor<'_, '_>) -> Result<Found, Fault>> Gram
     #[tactic(auto, unfolding(crate::specs::Reading::by_level))]
     pub fn by_level(&self, level: Level, tokens: &mut Cursor<'_, '_>) -> Result<Found, Fault>
         requires { Nests self.now.depth (F.pre self.now.inner) (F.post self.now.inner) }
-        ensures { Moves tree_of result tokens.new
+        ensures { Moves tree_view result tokens.new
             (reading.by_level (read self.now.depth) self.now.depth level tokens.old) }
     {
         match level {
@@ -230,7 +230,7 @@ pub fn expression(
     level: Level,
     tokens: &mut Cursor<'_, '_>,
 ) -> Result<Found, Fault>
-    ensures { Moves tree_of result tokens.new (read depth level tokens.old) }
+    ensures { Moves tree_view result tokens.new (read depth level tokens.old) }
 {
     if depth == 0 {
         return Err(SYNTAX);

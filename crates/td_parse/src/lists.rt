@@ -3,12 +3,12 @@ ghost use Rattle.std.specs.Prelude.{map};
 ghost use Rattle.td_tree.specs.Grammar.{loosest};
 ghost use Rattle.td_parse.specs.Nests.{Nests};
 ghost use Rattle.td_parse.specs.Parsing.{Moves};
-ghost use Rattle.td_parse.specs.Views.{named_part_of};
+ghost use Rattle.td_parse.specs.Views.{named_part_view};
 ghost use Rattle.td_tree.specs.Lexemes as lexeme;
 ghost use Rattle.td_parse.specs.Reading as reading;
 ghost use Rattle.td_parse.specs.Reading.{read};
 ghost use Rattle.td_parse.specs.ReadingSteps.{enclosed, listed_to, separated};
-ghost use Rattle.td_tree.specs.TreeViews.{tree_of};
+ghost use Rattle.td_tree.specs.TreeViews.{tree_view};
 
 use crate::cursor::{Cursor, SYNTAX};
 use crate::found::Found;
@@ -27,7 +27,7 @@ impl<F: Fn(Global, u8, Level, &mut Cursor<'_, '_>) -> Result<Found, Fault>> Gram
     #[tactic(auto, unfolding(crate::specs::ReadingSteps::separated, crate::specs::ReadingSteps::separated_from))]
     pub fn elements(&self, tokens: &mut Cursor<'_, '_>) -> Result<Elements, Fault>
         requires { Nests self.now.depth (F.pre self.now.inner) (F.post self.now.inner) }
-        ensures { Moves (map tree_of) result tokens.new
+        ensures { Moves (map tree_view) result tokens.new
             (separated (read self.now.depth loosest) tokens.old) }
     {
         let mut items = Elements::new(self.alloc);
@@ -45,7 +45,7 @@ impl<F: Fn(Global, u8, Level, &mut Cursor<'_, '_>) -> Result<Found, Fault>> Gram
     #[tactic(auto, unfolding(crate::specs::ReadingSteps::listed_to, crate::specs::ReadingSteps::up_to))]
     pub fn elements_to(&self, close: Sign, tokens: &mut Cursor<'_, '_>) -> Result<Elements, Fault>
         requires { Nests self.now.depth (F.pre self.now.inner) (F.post self.now.inner) }
-        ensures { Moves (map tree_of) result tokens.new
+        ensures { Moves (map tree_view) result tokens.new
             (listed_to (lexeme.sign close) (read self.now.depth loosest) tokens.old) }
     {
         if tokens.sign(close) {
@@ -59,7 +59,7 @@ impl<F: Fn(Global, u8, Level, &mut Cursor<'_, '_>) -> Result<Found, Fault>> Gram
     #[tactic(auto, unfolding(crate::specs::Reading::part))]
     fn part(&self, tokens: &mut Cursor<'_, '_>) -> Result<(Name, Found), Fault>
         requires { Nests self.now.depth (F.pre self.now.inner) (F.post self.now.inner) }
-        ensures { Moves (λ x. (x.0, tree_of x.1)) result tokens.new
+        ensures { Moves (λ x. (x.0, tree_view x.1)) result tokens.new
             (reading.part (read self.now.depth) self.now.depth tokens.old) }
     {
         let name = name(self.alloc, tokens)?;
@@ -71,7 +71,7 @@ impl<F: Fn(Global, u8, Level, &mut Cursor<'_, '_>) -> Result<Found, Fault>> Gram
     #[tactic(auto, unfolding(crate::specs::ReadingSteps::separated, crate::specs::ReadingSteps::separated_from))]
     fn parts(&self, tokens: &mut Cursor<'_, '_>) -> Result<NamedParts, Fault>
         requires { Nests self.now.depth (F.pre self.now.inner) (F.post self.now.inner) }
-        ensures { Moves (map named_part_of) result tokens.new
+        ensures { Moves (map named_part_view) result tokens.new
             (separated (reading.part (read self.now.depth) self.now.depth) tokens.old) }
     {
         let mut items = NamedParts::with_room(self.alloc, tokens.parts())?;
@@ -91,7 +91,7 @@ impl<F: Fn(Global, u8, Level, &mut Cursor<'_, '_>) -> Result<Found, Fault>> Gram
     #[tactic(auto, unfolding(crate::specs::ReadingSteps::listed_to, crate::specs::ReadingSteps::up_to))]
     pub fn parts_to_brace(&self, tokens: &mut Cursor<'_, '_>) -> Result<NamedParts, Fault>
         requires { Nests self.now.depth (F.pre self.now.inner) (F.post self.now.inner) }
-        ensures { Moves (map named_part_of) result tokens.new
+        ensures { Moves (map named_part_view) result tokens.new
             (listed_to (lexeme.sign Sign.CloseBrace)
             (reading.part (read self.now.depth) self.now.depth) tokens.old) }
     {
@@ -106,7 +106,7 @@ impl<F: Fn(Global, u8, Level, &mut Cursor<'_, '_>) -> Result<Found, Fault>> Gram
     #[tactic(auto, unfolding(crate::specs::Reading::addition))]
     fn addition(&self, tokens: &mut Cursor<'_, '_>) -> Result<(Name, Found), Fault>
         requires { Nests self.now.depth (F.pre self.now.inner) (F.post self.now.inner) }
-        ensures { Moves (λ x. (x.0, tree_of x.1)) result tokens.new
+        ensures { Moves (λ x. (x.0, tree_view x.1)) result tokens.new
             (reading.addition (read self.now.depth) self.now.depth tokens.old) }
     {
         let value = self.expression(tokens)?;
@@ -118,7 +118,7 @@ impl<F: Fn(Global, u8, Level, &mut Cursor<'_, '_>) -> Result<Found, Fault>> Gram
     #[tactic(auto, unfolding(crate::specs::ReadingSteps::separated, crate::specs::ReadingSteps::separated_from))]
     fn additions(&self, tokens: &mut Cursor<'_, '_>) -> Result<NamedParts, Fault>
         requires { Nests self.now.depth (F.pre self.now.inner) (F.post self.now.inner) }
-        ensures { Moves (map named_part_of) result tokens.new
+        ensures { Moves (map named_part_view) result tokens.new
             (separated (reading.addition (read self.now.depth) self.now.depth) tokens.old) }
     {
         let mut items = NamedParts::new(self.alloc);
@@ -137,7 +137,7 @@ impl<F: Fn(Global, u8, Level, &mut Cursor<'_, '_>) -> Result<Found, Fault>> Gram
     #[tactic(auto, unfolding(crate::specs::ReadingSteps::enclosed, crate::specs::ReadingSteps::up_to))]
     pub fn enclosed_additions(&self, tokens: &mut Cursor<'_, '_>) -> Result<NamedParts, Fault>
         requires { Nests self.now.depth (F.pre self.now.inner) (F.post self.now.inner) }
-        ensures { Moves (map named_part_of) result tokens.new
+        ensures { Moves (map named_part_view) result tokens.new
             (enclosed (separated (reading.addition (read self.now.depth) self.now.depth))
             tokens.old) }
     {

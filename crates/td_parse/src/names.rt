@@ -3,7 +3,7 @@ ghost use Rattle.std.specs.Prelude.{map};
 ghost use Rattle.td_parse.specs.Parsing.{Moves};
 ghost use Rattle.td_parse.specs.ReadingSteps as reading;
 ghost use Rattle.td_parse.specs.ReadingSteps.{read_name, separated};
-ghost use Rattle.td_tree.specs.TreeViews.{attributes_of, renaming_of};
+ghost use Rattle.td_tree.specs.TreeViews.{attributes_view, renaming_view};
 
 use crate::cursor::{Cursor, SYNTAX};
 use crate::steps::closed;
@@ -74,7 +74,7 @@ pub fn names(alloc: Global, tokens: &mut Cursor<'_, '_>) -> Result<Vec<Name>, Fa
 /// `'{' name,* '}'` or `'{' ALL BUT name,* '}'`
 #[tactic(auto, unfolding(crate::specs::ReadingSteps::attribute_list, crate::specs::ReadingSteps::all_but))]
 pub fn attributes(alloc: Global, tokens: &mut Cursor<'_, '_>) -> Result<Attributes, Fault>
-    ensures { Moves attributes_of result tokens.new (reading.attribute_list tokens.old) }
+    ensures { Moves attributes_view result tokens.new (reading.attribute_list tokens.old) }
 {
     tokens.expect_sign(Sign::OpenBrace)?;
     if tokens.keyword(Keyword::All) {
@@ -88,7 +88,7 @@ pub fn attributes(alloc: Global, tokens: &mut Cursor<'_, '_>) -> Result<Attribut
 /// `name AS name`
 #[tactic(auto, unfolding(crate::specs::ReadingSteps::read_renaming))]
 fn renaming(alloc: Global, tokens: &mut Cursor<'_, '_>) -> Result<Renaming, Fault>
-    ensures { Moves renaming_of result tokens.new (reading.read_renaming tokens.old) }
+    ensures { Moves renaming_view result tokens.new (reading.read_renaming tokens.old) }
 {
     let old = name(alloc, tokens)?;
     let new = alias(alloc, tokens)?;
@@ -98,7 +98,7 @@ fn renaming(alloc: Global, tokens: &mut Cursor<'_, '_>) -> Result<Renaming, Faul
 /// `(name AS name),+`
 #[tactic(auto, unfolding(crate::specs::ReadingSteps::separated, crate::specs::ReadingSteps::separated_from))]
 pub fn renamings(alloc: Global, tokens: &mut Cursor<'_, '_>) -> Result<Vec<Renaming>, Fault>
-    ensures { Moves (λ v. map renaming_of v.items) result tokens.new
+    ensures { Moves (λ v. map renaming_view v.items) result tokens.new
         (separated reading.read_renaming tokens.old) }
 {
     let mut items = Vec::new(alloc);

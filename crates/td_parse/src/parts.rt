@@ -1,6 +1,6 @@
 //! Lists of expressions that were read, each with the height of its highest.
 ghost use Rattle.std.specs.Prelude.{◌≡◌, ◌∷◌, ◌++◌, [], length, IfOk, OnOk};
-ghost use Rattle.td_parse.specs.FoundSummaries.{summary_of};
+ghost use Rattle.td_parse.specs.FoundSummaries.{summary_view};
 
 use crate::found::Found;
 use std::alloc::{AllocError, Global};
@@ -22,7 +22,7 @@ impl Model for Elements {
     ghost use Rattle.td_tree.specs.contracts.expression.Expr as expr;
     ghost use Rattle.td_tree.specs.declared.expression.Expr.{Expr};
     ghost use Rattle.td_tree.specs.Heights.{highest};
-    ghost use Rattle.td_tree.specs.TreeViews.{trees_of};
+    ghost use Rattle.td_tree.specs.TreeViews.{trees_view};
 
     ghost Value = { List Expr };
 
@@ -30,7 +30,7 @@ impl Model for Elements {
 
     ghost view = { λ e. e.items.items };
 
-    ghost invariant = { λ e. e.height ≡ min (highest (trees_of e.items.items)) (2 ^ 64 - 1) };
+    ghost invariant = { λ e. e.height ≡ min (highest (trees_view e.items.items)) (2 ^ 64 - 1) };
 }
 
 impl Elements {
@@ -69,7 +69,7 @@ impl Model for NamedParts {
     ghost use Rattle.td_tree.specs.contracts.expression.NamedExpr as named_expr;
     ghost use Rattle.td_tree.specs.declared.expression.NamedExpr.{NamedExpr};
     ghost use Rattle.td_tree.specs.Heights.{highest_named};
-    ghost use Rattle.td_tree.specs.TreeViews.{named_of};
+    ghost use Rattle.td_tree.specs.TreeViews.{named_view};
 
     ghost Value = { List NamedExpr };
 
@@ -77,7 +77,7 @@ impl Model for NamedParts {
 
     ghost view = { λ p. p.items.items };
 
-    ghost invariant = { λ p. p.height ≡ min (highest_named (named_of p.items.items)) (2 ^ 64 - 1) };
+    ghost invariant = { λ p. p.height ≡ min (highest_named (named_view p.items.items)) (2 ^ 64 - 1) };
 }
 
 impl NamedParts {
@@ -142,7 +142,7 @@ impl Model for Summaries {
     ghost use Rattle.td_tree.specs.contracts.expression.Summary as summary;
     ghost use Rattle.td_tree.specs.declared.expression.Summary.{Summary};
     ghost use Rattle.td_tree.specs.Heights.{highest_summary};
-    ghost use Rattle.td_tree.specs.TreeViews.{summaries_of};
+    ghost use Rattle.td_tree.specs.TreeViews.{summaries_view};
 
     ghost Value = { List Summary };
 
@@ -151,7 +151,7 @@ impl Model for Summaries {
     ghost view = { λ s. s.items.items };
 
     ghost invariant = { λ s. s.height
-        ≡ min (highest_summary (summaries_of s.items.items)) (2 ^ 64 - 1) };
+        ≡ min (highest_summary (summaries_view s.items.items)) (2 ^ 64 - 1) };
 }
 
 impl Summaries {
@@ -168,7 +168,7 @@ impl Summaries {
     /// One more, behind the others.
     #[tactic(auto, using(crate::proofs::Highest::highest_summary_push))]
     pub fn push(&mut self, found: FoundSummary) -> Result<(), AllocError>
-        ensures { OnOk result (self.new ≡ self.old ++ (summary_of found ∷ [])) }
+        ensures { OnOk result (self.new ≡ self.old ++ (summary_view found ∷ [])) }
     {
         match found {
             FoundSummary::Count(name) => self.items.push(Summary::Count(name))?,

@@ -4,7 +4,7 @@ ghost use Rattle.td_parse.specs.Parsing.{Moves};
 ghost use Rattle.td_parse.specs.Reading as reading;
 ghost use Rattle.td_parse.specs.ReadingOperators.{postfix_at};
 ghost use Rattle.td_parse.specs.ReadingSteps.{enclosed, read_name, read_renaming, separated};
-ghost use Rattle.td_tree.specs.TreeViews.{attributes_of, postfix_of, renaming_of};
+ghost use Rattle.td_tree.specs.TreeViews.{attributes_view, postfix_view, renaming_view};
 
 use crate::cursor::{Cursor, SYNTAX};
 use crate::names::{alias, attributes, name, renamings};
@@ -44,7 +44,7 @@ fn enclosed_name(alloc: Global, tokens: &mut Cursor<'_, '_>) -> Result<Name, Fau
 /// `'(' (name AS name),+ ')'`
 #[tactic(auto, unfolding(crate::specs::ReadingSteps::enclosed, crate::specs::ReadingSteps::up_to))]
 fn enclosed_renamings(alloc: Global, tokens: &mut Cursor<'_, '_>) -> Result<Vec<Renaming>, Fault>
-    ensures { Moves (λ v. map renaming_of v.items) result tokens.new
+    ensures { Moves (λ v. map renaming_view v.items) result tokens.new
         (enclosed (separated read_renaming) tokens.old) }
 {
     tokens.expect_sign(Sign::OpenParenthesis)?;
@@ -58,7 +58,7 @@ fn enclosed_attributes(
     alloc: Global,
     tokens: &mut Cursor<'_, '_>,
 ) -> Result<(Attributes, Name), Fault>
-    ensures { Moves (λ x. (attributes_of x.0, x.1)) result tokens.new
+    ensures { Moves (λ x. (attributes_view x.0, x.1)) result tokens.new
         (enclosed reading.named_attributes tokens.old) }
 {
     tokens.expect_sign(Sign::OpenParenthesis)?;
@@ -74,7 +74,7 @@ fn postfix_of_word(
     word: Keyword,
     tokens: &mut Cursor<'_, '_>,
 ) -> Result<Postfix, Fault>
-    ensures { Moves postfix_of result tokens.new (reading.postfix_of_word word tokens.old) }
+    ensures { Moves postfix_view result tokens.new (reading.postfix_of_word word tokens.old) }
 {
     match word {
         Keyword::Rename => Ok(Postfix::Rename(enclosed_renamings(alloc, tokens)?)),
@@ -95,7 +95,7 @@ fn postfix_of_word(
 /// An operator behind its operand.
 #[tactic(auto, unfolding(crate::specs::Reading::read_postfix), using(crate::proofs::Beginnings::projection))]
 pub fn postfix(alloc: Global, tokens: &mut Cursor<'_, '_>) -> Result<Postfix, Fault>
-    ensures { Moves postfix_of result tokens.new (reading.read_postfix tokens.old) }
+    ensures { Moves postfix_view result tokens.new (reading.read_postfix tokens.old) }
 {
     match tokens.word() {
         Some(word) => postfix_of_word(alloc, word, tokens),

@@ -8,11 +8,11 @@ ghost use Rattle.td_tree.specs.Numbers.{decimal_value, numeral_limit};
 ghost use Rattle.td_tree.specs.Pieces.{kind_of};
 ghost use Rattle.td_parse.specs.Reading as reading;
 ghost use Rattle.td_parse.specs.Reading.{read};
-ghost use Rattle.td_parse.specs.ReadingSteps.{up_to};
+ghost use Rattle.td_parse.specs.ReadingSteps.{read_up_to};
 ghost use Rattle.std.specs.Rc.{rc_str_bytes};
 ghost use Rattle.td_tree.specs.Symbols.{symbols};
 ghost use Rattle.td_tree.specs.Trees as trees;
-ghost use Rattle.td_tree.specs.TreeViews.{tree_of};
+ghost use Rattle.td_tree.specs.TreeViews.{tree_view};
 
 use crate::cursor::{Cursor, SYNTAX};
 use crate::found::Found;
@@ -33,7 +33,7 @@ use td_tree::token::{Kind, Sign};
 /// A number that a literal spells, after a minus or not.
 fn numeral(minus: bool, text: &[u8]) -> Option<Found>
     requires { kind_of (symbols text.now) ≡ Some Kind.Number }
-    ensures { option_map tree_of result
+    ensures { option_map tree_view result
         ≡ (if nat_le (decimal_value text.now) (numeral_limit minus)
         then Some (trees.literal (trees.number minus (decimal_value text.now))) else None) }
 {
@@ -47,7 +47,7 @@ fn numeral(minus: bool, text: &[u8]) -> Option<Found>
 /// After `-`: a number.
 #[tactic(auto, unfolding(crate::specs::Reading::negative, crate::specs::Reading::numeral))]
 fn negative(tokens: &mut Cursor<'_, '_>) -> Result<Found, Fault>
-    ensures { Moves tree_of result tokens.new (reading.negative tokens.old) }
+    ensures { Moves tree_view result tokens.new (reading.negative tokens.old) }
 {
     match tokens.take() {
         Some((Kind::Number, text)) => numeral(true, text).ok_or(SYNTAX),
@@ -60,8 +60,8 @@ impl<F: Fn(Global, u8, Level, &mut Cursor<'_, '_>) -> Result<Found, Fault>> Gram
     #[tactic(auto, unfolding(crate::specs::ReadingSteps::up_to))]
     pub fn up_to_sign(&self, close: Sign, tokens: &mut Cursor<'_, '_>) -> Result<Found, Fault>
         requires { Nests self.now.depth (F.pre self.now.inner) (F.post self.now.inner) }
-        ensures { Moves tree_of result tokens.new
-            (up_to (lexeme.sign close) (read self.now.depth loosest) tokens.old) }
+        ensures { Moves tree_view result tokens.new
+            (read_up_to (lexeme.sign close) (read self.now.depth loosest) tokens.old) }
     {
         let found = self.expression(tokens)?;
         closed(found, close, tokens)
@@ -71,8 +71,8 @@ impl<F: Fn(Global, u8, Level, &mut Cursor<'_, '_>) -> Result<Found, Fault>> Gram
     #[tactic(auto, unfolding(crate::specs::ReadingSteps::up_to))]
     fn up_to_word(&self, close: Keyword, tokens: &mut Cursor<'_, '_>) -> Result<Found, Fault>
         requires { Nests self.now.depth (F.pre self.now.inner) (F.post self.now.inner) }
-        ensures { Moves tree_of result tokens.new
-            (up_to (lexeme.keyword close) (read self.now.depth loosest) tokens.old) }
+        ensures { Moves tree_view result tokens.new
+            (read_up_to (lexeme.keyword close) (read self.now.depth loosest) tokens.old) }
     {
         let found = self.expression(tokens)?;
         ended(found, close, tokens)
@@ -82,7 +82,7 @@ impl<F: Fn(Global, u8, Level, &mut Cursor<'_, '_>) -> Result<Found, Fault>> Gram
     #[tactic(auto, unfolding(crate::specs::Reading::named))]
     fn named(&self, name: Name, tokens: &mut Cursor<'_, '_>) -> Result<Found, Fault>
         requires { Nests self.now.depth (F.pre self.now.inner) (F.post self.now.inner) }
-        ensures { Moves tree_of result tokens.new
+        ensures { Moves tree_view result tokens.new
             (reading.named (read self.now.depth) self.now.depth name tokens.old) }
     {
         if call(tokens) {
@@ -97,7 +97,7 @@ impl<F: Fn(Global, u8, Level, &mut Cursor<'_, '_>) -> Result<Found, Fault>> Gram
     #[tactic(auto, unfolding(crate::specs::Reading::component_of))]
     fn component(&self, rest: RcStr, tokens: &mut Cursor<'_, '_>) -> Result<Found, Fault>
         requires { Nests self.now.depth (F.pre self.now.inner) (F.post self.now.inner) }
-        ensures { Moves tree_of result tokens.new
+        ensures { Moves tree_view result tokens.new
             (reading.component_of (read self.now.depth) self.now.depth
             (rc_str_bytes rest) tokens.old) }
     {
@@ -109,7 +109,7 @@ impl<F: Fn(Global, u8, Level, &mut Cursor<'_, '_>) -> Result<Found, Fault>> Gram
     #[tactic(auto, unfolding(crate::specs::Reading::parenthesized))]
     fn parenthesized(&self, tokens: &mut Cursor<'_, '_>) -> Result<Found, Fault>
         requires { Nests self.now.depth (F.pre self.now.inner) (F.post self.now.inner) }
-        ensures { Moves tree_of result tokens.new
+        ensures { Moves tree_view result tokens.new
             (reading.parenthesized (read self.now.depth) self.now.depth tokens.old) }
     {
         let inner = self.up_to_sign(Sign::CloseParenthesis, tokens)?;
@@ -120,7 +120,7 @@ impl<F: Fn(Global, u8, Level, &mut Cursor<'_, '_>) -> Result<Found, Fault>> Gram
     #[tactic(auto, unfolding(crate::specs::Reading::measured))]
     fn measured(&self, op: Measure, tokens: &mut Cursor<'_, '_>) -> Result<Found, Fault>
         requires { Nests self.now.depth (F.pre self.now.inner) (F.post self.now.inner) }
-        ensures { Moves tree_of result tokens.new
+        ensures { Moves tree_view result tokens.new
             (reading.measured (read self.now.depth) self.now.depth op tokens.old) }
     {
         let operand = self.enclosed_expression(tokens)?;
@@ -131,7 +131,7 @@ impl<F: Fn(Global, u8, Level, &mut Cursor<'_, '_>) -> Result<Found, Fault>> Gram
     #[tactic(auto, unfolding(crate::specs::Reading::aggregated))]
     fn aggregated(&self, op: Aggregate, tokens: &mut Cursor<'_, '_>) -> Result<Found, Fault>
         requires { Nests self.now.depth (F.pre self.now.inner) (F.post self.now.inner) }
-        ensures { Moves tree_of result tokens.new
+        ensures { Moves tree_view result tokens.new
             (reading.aggregated (read self.now.depth) self.now.depth op tokens.old) }
     {
         tokens.expect_sign(Sign::OpenParenthesis)?;
@@ -145,7 +145,7 @@ impl<F: Fn(Global, u8, Level, &mut Cursor<'_, '_>) -> Result<Found, Fault>> Gram
     #[tactic(auto, unfolding(crate::specs::Reading::headed_relation))]
     fn headed_relation(&self, tokens: &mut Cursor<'_, '_>) -> Result<Found, Fault>
         requires { Nests self.now.depth (F.pre self.now.inner) (F.post self.now.inner) }
-        ensures { Moves tree_of result tokens.new
+        ensures { Moves tree_view result tokens.new
             (reading.headed_relation (read self.now.depth) self.now.depth tokens.old) }
     {
         let heading = relation_heading(self.alloc, self.depth, tokens)?;
@@ -158,7 +158,7 @@ impl<F: Fn(Global, u8, Level, &mut Cursor<'_, '_>) -> Result<Found, Fault>> Gram
     #[tactic(auto, unfolding(crate::specs::Reading::elements, crate::specs::ReadingSteps::up_to))]
     fn bare_relation(&self, tokens: &mut Cursor<'_, '_>) -> Result<Found, Fault>
         requires { Nests self.now.depth (F.pre self.now.inner) (F.post self.now.inner) }
-        ensures { Moves tree_of result tokens.new
+        ensures { Moves tree_view result tokens.new
             (reading.elements (read self.now.depth) self.now.depth tokens.old) }
     {
         tokens.expect_sign(Sign::OpenBrace)?;
@@ -171,7 +171,7 @@ impl<F: Fn(Global, u8, Level, &mut Cursor<'_, '_>) -> Result<Found, Fault>> Gram
     #[tactic(auto, unfolding(crate::specs::Reading::relation))]
     fn relation(&self, tokens: &mut Cursor<'_, '_>) -> Result<Found, Fault>
         requires { Nests self.now.depth (F.pre self.now.inner) (F.post self.now.inner) }
-        ensures { Moves tree_of result tokens.new
+        ensures { Moves tree_view result tokens.new
             (reading.relation (read self.now.depth) self.now.depth tokens.old) }
     {
         if begins_heading(tokens) {
@@ -185,7 +185,7 @@ impl<F: Fn(Global, u8, Level, &mut Cursor<'_, '_>) -> Result<Found, Fault>> Gram
     #[tactic(auto, unfolding(crate::specs::Reading::tuple))]
     fn tuple(&self, tokens: &mut Cursor<'_, '_>) -> Result<Found, Fault>
         requires { Nests self.now.depth (F.pre self.now.inner) (F.post self.now.inner) }
-        ensures { Moves tree_of result tokens.new
+        ensures { Moves tree_view result tokens.new
             (reading.tuple (read self.now.depth) self.now.depth tokens.old) }
     {
         tokens.expect_sign(Sign::OpenBrace)?;
@@ -196,7 +196,7 @@ impl<F: Fn(Global, u8, Level, &mut Cursor<'_, '_>) -> Result<Found, Fault>> Gram
     #[tactic(auto, unfolding(crate::specs::Reading::extension))]
     fn extension(&self, tokens: &mut Cursor<'_, '_>) -> Result<Found, Fault>
         requires { Nests self.now.depth (F.pre self.now.inner) (F.post self.now.inner) }
-        ensures { Moves tree_of result tokens.new
+        ensures { Moves tree_view result tokens.new
             (reading.extension (read self.now.depth) self.now.depth tokens.old) }
     {
         let operand = self.up_to_word(Keyword::Add, tokens)?;
@@ -208,7 +208,7 @@ impl<F: Fn(Global, u8, Level, &mut Cursor<'_, '_>) -> Result<Found, Fault>> Gram
     #[tactic(auto, unfolding(crate::specs::Reading::choice))]
     fn choice(&self, tokens: &mut Cursor<'_, '_>) -> Result<Found, Fault>
         requires { Nests self.now.depth (F.pre self.now.inner) (F.post self.now.inner) }
-        ensures { Moves tree_of result tokens.new
+        ensures { Moves tree_view result tokens.new
             (reading.choice (read self.now.depth) self.now.depth tokens.old) }
     {
         let condition = self.up_to_word(Keyword::Then, tokens)?;
@@ -223,7 +223,7 @@ impl<F: Fn(Global, u8, Level, &mut Cursor<'_, '_>) -> Result<Found, Fault>> Gram
     #[tactic(auto, unfolding(crate::specs::Reading::primary_of_word))]
     fn primary_of_word(&self, word: Keyword, tokens: &mut Cursor<'_, '_>) -> Result<Found, Fault>
         requires { Nests self.now.depth (F.pre self.now.inner) (F.post self.now.inner) }
-        ensures { Moves tree_of result tokens.new
+        ensures { Moves tree_view result tokens.new
             (reading.primary_of_word (read self.now.depth) self.now.depth word tokens.old) }
     {
         match word {
@@ -249,7 +249,7 @@ impl<F: Fn(Global, u8, Level, &mut Cursor<'_, '_>) -> Result<Found, Fault>> Gram
     #[tactic(auto, unfolding(crate::specs::Reading::primary, crate::specs::Reading::primary_of_sign, crate::specs::Reading::numeral))]
     pub fn primary(&self, tokens: &mut Cursor<'_, '_>) -> Result<Found, Fault>
         requires { Nests self.now.depth (F.pre self.now.inner) (F.post self.now.inner) }
-        ensures { Moves tree_of result tokens.new
+        ensures { Moves tree_view result tokens.new
             (reading.primary (read self.now.depth) self.now.depth tokens.old) }
     {
         let Some((kind, text)) = tokens.take() else {

@@ -6,7 +6,7 @@ ghost use Rattle.td_parse.specs.ReadingStatements.{read_statement};
 ghost use Rattle.td_tree.specs.Outcomes.{Answers, Outcome};
 ghost use Rattle.td_tree.specs.TokenLexemes.{lexemes};
 ghost use Rattle.td_tree.specs.Trees as trees;
-ghost use Rattle.td_tree.specs.TreeViews.{statement_of};
+ghost use Rattle.td_tree.specs.TreeViews.{statement_view};
 
 use crate::assignment::{assignments, expression};
 use crate::cursor::Cursor;
@@ -23,7 +23,8 @@ use td_tree::token::{Kind, Sign};
 /// `TRANSACTION`, after `BEGIN`
 #[tactic(auto, unfolding(crate::specs::ReadingStatements::body_of_word))]
 fn begin(tokens: &mut Cursor<'_, '_>) -> Result<Statement, Fault>
-    ensures { Moves statement_of result tokens.new (reading.body_of_word Keyword.Begin tokens.old) }
+    ensures { Moves statement_view result tokens.new
+        (reading.body_of_word Keyword.Begin tokens.old) }
 {
     tokens.expect_keyword(Keyword::Transaction)?;
     Ok(Statement::BeginTransaction)
@@ -32,7 +33,7 @@ fn begin(tokens: &mut Cursor<'_, '_>) -> Result<Statement, Fault>
 /// A statement without its end.
 #[tactic(auto, unfolding(crate::specs::ReadingStatements::body, crate::specs::ReadingStatements::body_of_word), using(crate::proofs::Beginnings::assignments_alone))]
 fn body(alloc: Global, tokens: &mut Cursor<'_, '_>) -> Result<Statement, Fault>
-    ensures { Moves statement_of result tokens.new (reading.body tokens.old) }
+    ensures { Moves statement_view result tokens.new (reading.body tokens.old) }
 {
     let before = tokens.ahead();
     match tokens.word() {
@@ -55,7 +56,7 @@ fn body(alloc: Global, tokens: &mut Cursor<'_, '_>) -> Result<Statement, Fault>
 /// A statement before its semicolon, or nothing.
 #[tactic(auto, unfolding(crate::specs::ReadingStatements::read_body))]
 fn body_or_none(alloc: Global, tokens: &mut Cursor<'_, '_>) -> Result<Statement, Fault>
-    ensures { Moves statement_of result tokens.new (reading.read_body tokens.old) }
+    ensures { Moves statement_view result tokens.new (reading.read_body tokens.old) }
 {
     if tokens.ahead().sign(Sign::Semicolon) {
         return Ok(Statement::Empty);
@@ -66,7 +67,7 @@ fn body_or_none(alloc: Global, tokens: &mut Cursor<'_, '_>) -> Result<Statement,
 /// The statement that all the tokens are.
 #[tactic(auto, unfolding(crate::specs::ReadingStatements::read_statement, crate::specs::ReadingSteps::up_to))]
 fn whole(alloc: Global, tokens: &[Token<'_>]) -> Result<Statement, Fault>
-    ensures { Gives statement_of result (read_statement (lexemes tokens.now)) }
+    ensures { Gives statement_view result (read_statement (lexemes tokens.now)) }
 {
     let mut tokens = Cursor::new(alloc, tokens);
     let statement = body_or_none(alloc, &mut tokens)?;
@@ -96,7 +97,8 @@ fn has_bad(tokens: &[Token<'_>]) -> bool
 /// The statement that the tokens spell: SCAN alone where one of them is bad, else SYNTAX alone
 /// where they spell none.
 pub fn parse_statement(alloc: Global, tokens: &[Token<'_>]) -> Result<Statement, Fault>
-    ensures { (o : Outcome trees.Statement) × Parsed tokens.now o × Answers statement_of result o }
+    ensures { (o : Outcome trees.Statement) × Parsed tokens.now o
+        × Answers statement_view result o }
 {
     if has_bad(tokens) {
         return Err(Fault::Refused(Cause::Scan));

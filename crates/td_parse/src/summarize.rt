@@ -1,14 +1,14 @@
 //! `SUMMARIZE`.
 ghost use Rattle.std.specs.Prelude.{map};
 ghost use Rattle.td_tree.specs.Grammar.{loosest};
-ghost use Rattle.td_parse.specs.FoundSummaries.{summary_of};
+ghost use Rattle.td_parse.specs.FoundSummaries.{summary_view};
 ghost use Rattle.td_parse.specs.Nests.{Nests};
 ghost use Rattle.td_parse.specs.Parsing.{Moves};
-ghost use Rattle.td_parse.specs.Views.{item_of};
+ghost use Rattle.td_parse.specs.Views.{item_view};
 ghost use Rattle.td_parse.specs.Reading as reading;
 ghost use Rattle.td_parse.specs.Reading.{read, summaries_from};
 ghost use Rattle.td_parse.specs.ReadingSteps.{enclosed, separated};
-ghost use Rattle.td_tree.specs.TreeViews.{tree_of};
+ghost use Rattle.td_tree.specs.TreeViews.{tree_view};
 
 use crate::cursor::{Cursor, SYNTAX};
 use crate::found::Found;
@@ -25,7 +25,7 @@ use td_tree::token::{Kind, Sign};
 /// `'(' ')' AS name`, after `COUNT`
 #[tactic(auto, unfolding(crate::specs::Reading::count_summary))]
 fn count_summary(alloc: Global, tokens: &mut Cursor<'_, '_>) -> Result<FoundSummary, Fault>
-    ensures { Moves (λ s. item_of (summary_of s)) result tokens.new
+    ensures { Moves (λ s. item_view (summary_view s)) result tokens.new
         (reading.count_summary (read 0) 0 tokens.old) }
 {
     tokens.expect_sign(Sign::OpenParenthesis)?;
@@ -38,7 +38,7 @@ impl<F: Fn(Global, u8, Level, &mut Cursor<'_, '_>) -> Result<Found, Fault>> Gram
     #[tactic(auto, unfolding(crate::specs::ReadingSteps::enclosed))]
     pub fn enclosed_expression(&self, tokens: &mut Cursor<'_, '_>) -> Result<Found, Fault>
         requires { Nests self.now.depth (F.pre self.now.inner) (F.post self.now.inner) }
-        ensures { Moves tree_of result tokens.new
+        ensures { Moves tree_view result tokens.new
             (enclosed (read self.now.depth loosest) tokens.old) }
     {
         tokens.expect_sign(Sign::OpenParenthesis)?;
@@ -49,7 +49,7 @@ impl<F: Fn(Global, u8, Level, &mut Cursor<'_, '_>) -> Result<Found, Fault>> Gram
     #[tactic(auto, unfolding(crate::specs::Reading::sum_summary))]
     fn sum_summary(&self, op: Aggregate, tokens: &mut Cursor<'_, '_>) -> Result<FoundSummary, Fault>
         requires { Nests self.now.depth (F.pre self.now.inner) (F.post self.now.inner) }
-        ensures { Moves (λ s. item_of (summary_of s)) result tokens.new
+        ensures { Moves (λ s. item_view (summary_view s)) result tokens.new
             (reading.sum_summary (read self.now.depth) self.now.depth op tokens.old) }
     {
         let value = self.enclosed_expression(tokens)?;
@@ -65,7 +65,7 @@ impl<F: Fn(Global, u8, Level, &mut Cursor<'_, '_>) -> Result<Found, Fault>> Gram
         tokens: &mut Cursor<'_, '_>,
     ) -> Result<FoundSummary, Fault>
         requires { Nests self.now.depth (F.pre self.now.inner) (F.post self.now.inner) }
-        ensures { Moves (λ s. item_of (summary_of s)) result tokens.new
+        ensures { Moves (λ s. item_view (summary_view s)) result tokens.new
             (reading.summary_of_word (read self.now.depth) self.now.depth word tokens.old) }
     {
         match word {
@@ -81,7 +81,7 @@ impl<F: Fn(Global, u8, Level, &mut Cursor<'_, '_>) -> Result<Found, Fault>> Gram
     #[tactic(auto, unfolding(crate::specs::Reading::summary))]
     fn summary(&self, tokens: &mut Cursor<'_, '_>) -> Result<FoundSummary, Fault>
         requires { Nests self.now.depth (F.pre self.now.inner) (F.post self.now.inner) }
-        ensures { Moves (λ s. item_of (summary_of s)) result tokens.new
+        ensures { Moves (λ s. item_view (summary_view s)) result tokens.new
             (reading.summary (read self.now.depth) self.now.depth tokens.old) }
     {
         match tokens.take() {
@@ -94,7 +94,7 @@ impl<F: Fn(Global, u8, Level, &mut Cursor<'_, '_>) -> Result<Found, Fault>> Gram
     #[tactic(auto, unfolding(crate::specs::ReadingSteps::separated, crate::specs::ReadingSteps::separated_from))]
     fn some_summaries(&self, tokens: &mut Cursor<'_, '_>) -> Result<Summaries, Fault>
         requires { Nests self.now.depth (F.pre self.now.inner) (F.post self.now.inner) }
-        ensures { Moves (map item_of) result tokens.new
+        ensures { Moves (map item_view) result tokens.new
             (separated (reading.summary (read self.now.depth) self.now.depth) tokens.old) }
     {
         let mut items = Summaries::new(self.alloc);
@@ -112,7 +112,7 @@ impl<F: Fn(Global, u8, Level, &mut Cursor<'_, '_>) -> Result<Found, Fault>> Gram
     #[tactic(auto, unfolding(crate::specs::Reading::summaries, crate::specs::ReadingSteps::enclosed, crate::specs::ReadingSteps::up_to))]
     fn summaries(&self, tokens: &mut Cursor<'_, '_>) -> Result<Summaries, Fault>
         requires { Nests self.now.depth (F.pre self.now.inner) (F.post self.now.inner) }
-        ensures { Moves (λ s. summaries_from (map item_of s)) result tokens.new
+        ensures { Moves (λ s. summaries_from (map item_view s)) result tokens.new
             (reading.summaries (read self.now.depth) self.now.depth tokens.old) }
     {
         tokens.expect_keyword(Keyword::Add)?;
@@ -125,9 +125,9 @@ impl<F: Fn(Global, u8, Level, &mut Cursor<'_, '_>) -> Result<Found, Fault>> Gram
     #[tactic(auto, unfolding(crate::specs::Reading::summary_per))]
     fn summary_per(&self, operand: Found, tokens: &mut Cursor<'_, '_>) -> Result<Found, Fault>
         requires { Nests self.now.depth (F.pre self.now.inner) (F.post self.now.inner) }
-        ensures { Moves tree_of result tokens.new
+        ensures { Moves tree_view result tokens.new
             (reading.summary_per (read self.now.depth) self.now.depth
-            (tree_of operand) tokens.old) }
+            (tree_view operand) tokens.old) }
     {
         let per = self.enclosed_expression(tokens);
         let operands = both(operand, per)?;
@@ -139,8 +139,9 @@ impl<F: Fn(Global, u8, Level, &mut Cursor<'_, '_>) -> Result<Found, Fault>> Gram
     #[tactic(auto, unfolding(crate::specs::Reading::summary_by))]
     fn summary_by(&self, operand: Found, tokens: &mut Cursor<'_, '_>) -> Result<Found, Fault>
         requires { Nests self.now.depth (F.pre self.now.inner) (F.post self.now.inner) }
-        ensures { Moves tree_of result tokens.new
-            (reading.summary_by (read self.now.depth) self.now.depth (tree_of operand) tokens.old) }
+        ensures { Moves tree_view result tokens.new
+            (reading.summary_by (read self.now.depth) self.now.depth
+            (tree_view operand) tokens.old) }
     {
         let operands = both(operand, attributes(self.alloc, tokens))?;
         let ((operand, by), items) = both(operands, self.summaries(tokens))?;
@@ -151,7 +152,7 @@ impl<F: Fn(Global, u8, Level, &mut Cursor<'_, '_>) -> Result<Found, Fault>> Gram
     #[tactic(auto, unfolding(crate::specs::Reading::summarized))]
     pub fn summarized(&self, tokens: &mut Cursor<'_, '_>) -> Result<Found, Fault>
         requires { Nests self.now.depth (F.pre self.now.inner) (F.post self.now.inner) }
-        ensures { Moves tree_of result tokens.new
+        ensures { Moves tree_view result tokens.new
             (reading.summarized (read self.now.depth) self.now.depth tokens.old) }
     {
         let operand = self.expression(tokens)?;

@@ -5,8 +5,8 @@ ghost use Rattle.td_parse.specs.ReadingSteps.{listed_to, separated};
 ghost use Rattle.td_parse.specs.ReadingTypes as reading;
 ghost use Rattle.td_parse.specs.ReadingTypes.{read_type};
 ghost use Rattle.td_tree.specs.Trees as trees;
-ghost use Rattle.td_tree.specs.TreeViews.{heading_of, type_of};
-ghost use Rattle.td_parse.specs.Views.{attribute_of, attributes_of};
+ghost use Rattle.td_tree.specs.TreeViews.{heading_tree_view, type_tree_view};
+ghost use Rattle.td_parse.specs.Views.{attribute_tree_view, attribute_trees_view};
 ghost use Rattle.td_tree.specs.Lexemes.{sign};
 
 use crate::cursor::{Cursor, SYNTAX};
@@ -21,7 +21,7 @@ use td_tree::type_tree::{AttributeTree, TypeTree};
 /// `TUPLE {A INTEGER, ..}`
 #[tactic(auto, using(td_tree::proofs::Rows::tuple_type_is))]
 fn tuple_type(heading: Vec<AttributeTree>) -> TypeTree
-    ensures { type_of result ≡ trees.tuple_type (heading_of heading.items) }
+    ensures { type_tree_view result ≡ trees.tuple_type (heading_tree_view heading.items) }
 {
     TypeTree::Tuple(heading)
 }
@@ -29,7 +29,7 @@ fn tuple_type(heading: Vec<AttributeTree>) -> TypeTree
 /// `RELATION {A INTEGER, ..}`
 #[tactic(auto, using(td_tree::proofs::Rows::relation_type_is))]
 fn relation_type(heading: Vec<AttributeTree>) -> TypeTree
-    ensures { type_of result ≡ trees.relation_type (heading_of heading.items) }
+    ensures { type_tree_view result ≡ trees.relation_type (heading_tree_view heading.items) }
 {
     TypeTree::Relation(heading)
 }
@@ -38,7 +38,7 @@ fn relation_type(heading: Vec<AttributeTree>) -> TypeTree
 #[cycle(types)]
 #[tactic(auto, unfolding(crate::specs::ReadingTypes::read_type, crate::specs::ReadingTypes::type_of_first))]
 pub fn type_tree(alloc: Global, depth: u8, tokens: &mut Cursor<'_, '_>) -> Result<TypeTree, Fault>
-    ensures { Moves type_of result tokens.new (read_type depth tokens.old) }
+    ensures { Moves type_tree_view result tokens.new (read_type depth tokens.old) }
 {
     if depth == 0 {
         return Err(SYNTAX);
@@ -59,7 +59,7 @@ fn type_of_word(
     word: Keyword,
     tokens: &mut Cursor<'_, '_>,
 ) -> Result<TypeTree, Fault>
-    ensures { Moves type_of result tokens.new
+    ensures { Moves type_tree_view result tokens.new
         (reading.type_of_word (read_type depth) word tokens.old) }
 {
     match word {
@@ -80,7 +80,7 @@ fn heading(
     depth: u8,
     tokens: &mut Cursor<'_, '_>,
 ) -> Result<Vec<AttributeTree>, Fault>
-    ensures { Moves (λ v. heading_of v.items) result tokens.new
+    ensures { Moves (λ v. heading_tree_view v.items) result tokens.new
         (reading.heading (read_type depth) tokens.old) }
 {
     tokens.expect_sign(Sign::OpenBrace)?;
@@ -99,7 +99,7 @@ pub fn attributes(
     depth: u8,
     tokens: &mut Cursor<'_, '_>,
 ) -> Result<Vec<AttributeTree>, Fault>
-    ensures { Moves (λ v. attributes_of v.items) result tokens.new
+    ensures { Moves (λ v. attribute_trees_view v.items) result tokens.new
         (separated (reading.attribute (read_type depth)) tokens.old) }
 {
     let mut items = Vec::new(alloc);
@@ -117,7 +117,7 @@ pub fn attributes(
 #[cycle(types)]
 #[tactic(auto, unfolding(crate::specs::ReadingTypes::attribute))]
 fn attribute(alloc: Global, depth: u8, tokens: &mut Cursor<'_, '_>) -> Result<AttributeTree, Fault>
-    ensures { Moves attribute_of result tokens.new
+    ensures { Moves attribute_tree_view result tokens.new
         (reading.attribute (read_type depth) tokens.old) }
 {
     let name = name(alloc, tokens)?;
@@ -132,7 +132,7 @@ pub fn relation_heading(
     depth: u8,
     tokens: &mut Cursor<'_, '_>,
 ) -> Result<Vec<AttributeTree>, Fault>
-    ensures { Moves (λ v. heading_of v.items) result tokens.new
+    ensures { Moves (λ v. heading_tree_view v.items) result tokens.new
         (reading.relation_heading depth tokens.old) }
 {
     if depth == 0 {

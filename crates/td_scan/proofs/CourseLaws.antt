@@ -3,7 +3,7 @@ use Rattle.std.proofs.Common.{◌≡◌, ℕ, ◌+◌, ◌-◌, List, [], ◌∷
 use Rattle.std.proofs.lemmas.List.{drop-append-le, length-drop}
 use Rattle.td_scan.specs.Calls.{Call, Course, at_first, listed, called, all_called, may_be_called}
 use Rattle.td_scan.specs.Calls.Call.{Feed, Finish, Take}
-use Rattle.td_tree.specs.Statements.{Entry, Held, statements, first_statement, after, behind}
+use Rattle.td_tree.specs.Statements.{PlacedToken, Held, statements, first_statement, after, behind}
 use Rattle.td_scan.proofs.TakenLaws.{after_none, first_and_after, first_and_later, no_statement, first_within}
 
 -- what was taken off and what is held are all that was fed
@@ -29,14 +29,14 @@ finished c s = record { within = s.within; place = s.place; now = s.now; later =
 
 none_taken : (c : Course) → first_statement c.held ≡ None → Stands c → Stands (called c Take)
 none_taken c e s =
-    let course : Held → List (List Entry) → Course = λ held taken. record { fed = c.fed; held = held; taken = taken } in
+    let course : Held → List (List PlacedToken) → Course = λ held taken. record { fed = c.fed; held = held; taken = taken } in
     subst Stands
     (ap (λ h. course h c.taken) (sym (after_none c.held e)) ∙ ap (course (after c.held)) (sym (append-nil c.taken) ∙ ap (λ o. c.taken ++ listed o) (sym e)))
     s
 
-one_taken : (c : Course) (first : List Entry) → first_statement c.held ≡ Some first → Stands c → Stands (called c Take)
+one_taken : (c : Course) (first : List PlacedToken) → first_statement c.held ≡ Some first → Stands c → Stands (called c Take)
 one_taken c first e s =
-    let course : List (List Entry) → Course = λ taken. record { fed = c.fed; held = after c.held; taken = taken } in
+    let course : List (List PlacedToken) → Course = λ taken. record { fed = c.fed; held = after c.held; taken = taken } in
     let w = first_within c.held in
     subst Stands (ap (λ o. course (c.taken ++ listed o)) (sym e)) (record {
       within = omega (arith, s.within, w.stop, w.within, length-drop (behind c.held - c.held.offset) c.held.bytes);

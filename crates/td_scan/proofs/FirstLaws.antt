@@ -8,7 +8,7 @@ use Rattle.td_tree.specs.declared.token.Kind.{Kind}
 use Rattle.td_tree.specs.Division.{run, divide, divide_from}
 use Rattle.td_tree.specs.Pieces.{begins, continues, pieces, kind_after, kind_of, state}
 use Rattle.td_tree.specs.Spans.{AreOfTheirKind}
-use Rattle.td_tree.specs.Statements.{Entry, entry_of, tokens, tokens_from}
+use Rattle.td_tree.specs.Statements.{PlacedToken, token_of, tokens, tokens_from}
 use Rattle.td_tree.specs.Symbols.{Symbol, symbols, spell}
 use Rattle.td_tree.proofs.DivisionLaws.{state-append}
 use Rattle.td_tree.proofs.PieceLaws.{size, taken_off}
@@ -39,7 +39,7 @@ found_of : (xs : List Symbol) → 0 < length xs → Found (divide begins continu
 found_of [] some = absurd (omega arith)
 found_of (x ∷ xs) some = found_from (length x.text) (begins x) (x ∷ []) xs (sym (ap length (append-nil x.text))) refl
 
-tokens_found : (bs : List ℕ) (f : ℕ × Piece) → Found (pieces bs) (symbols bs) f → f.0 ≤ length bs → (at : ℕ) → tokens at bs ≡ entry_of (kind_after f.1 (take f.0 bs)) at (take f.0 bs) ++ tokens (at + f.0) (drop f.0 bs)
+tokens_found : (bs : List ℕ) (f : ℕ × Piece) → Found (pieces bs) (symbols bs) f → f.0 ≤ length bs → (at : ℕ) → tokens at bs ≡ token_of (kind_after f.1 (take f.0 bs)) at (take f.0 bs) ++ tokens (at + f.0) (drop f.0 bs)
 unfolding tokens
 tokens_found bs f w within at =
     let off = taken_off bs (w.front ∷ []) (divide begins continues w.rest) w.again in
@@ -48,10 +48,10 @@ tokens_found bs f w within at =
     let text : spell w.front ≡ take f.0 bs = sym alone ∙ sym off.text ∙ ap (λ n. take n bs) (sym total) in
     let kind : kind_of w.front ≡ kind_after f.1 (spell w.front) = ap (option_and_then (λ piece. kind_after piece (spell w.front))) w.is in
     ap (tokens_from at) w.again
-    ∙ ap (λ k. entry_of k at (spell w.front) ++ tokens_from (at + length (spell w.front)) (divide begins continues w.rest)) kind
-    ∙ ap (λ ps. entry_of (kind_after f.1 (spell w.front)) at (spell w.front) ++ tokens_from (at + length (spell w.front)) ps) (off.again ∙ ap (λ n. pieces (drop n bs)) (sym total))
-    ∙ ap (λ n. entry_of (kind_after f.1 (spell w.front)) at (spell w.front) ++ tokens_from (at + n) (pieces (drop f.0 bs))) (sym w.long)
-    ∙ ap (λ t. entry_of (kind_after f.1 t) at t ++ tokens_from (at + f.0) (pieces (drop f.0 bs))) text
+    ∙ ap (λ k. token_of k at (spell w.front) ++ tokens_from (at + length (spell w.front)) (divide begins continues w.rest)) kind
+    ∙ ap (λ ps. token_of (kind_after f.1 (spell w.front)) at (spell w.front) ++ tokens_from (at + length (spell w.front)) ps) (off.again ∙ ap (λ n. pieces (drop n bs)) (sym total))
+    ∙ ap (λ n. token_of (kind_after f.1 (spell w.front)) at (spell w.front) ++ tokens_from (at + n) (pieces (drop f.0 bs))) (sym w.long)
+    ∙ ap (λ t. token_of (kind_after f.1 t) at t ++ tokens_from (at + f.0) (pieces (drop f.0 bs))) text
 
 some_symbols : (bs : List ℕ) → 0 < length bs → 0 < length (symbols bs)
 some_symbols [] some = absurd (omega arith)
@@ -59,7 +59,7 @@ some_symbols (b ∷ bs) some = omega arith
 
 -- the first piece, and the tokens of the rest
 pub tokens_of_first : (bs : List ℕ) (f : ℕ × Piece) → 0 < length bs → f ≡ first_end (symbols bs) → f.0 ≤ length bs
-    → (at : ℕ) → tokens at bs ≡ entry_of (kind_after f.1 (take f.0 bs)) at (take f.0 bs) ++ tokens (at + f.0) (drop f.0 bs)
+    → (at : ℕ) → tokens at bs ≡ token_of (kind_after f.1 (take f.0 bs)) at (take f.0 bs) ++ tokens (at + f.0) (drop f.0 bs)
 tokens_of_first bs f some is within at =
     tokens_found bs f (subst (λ g. Found (pieces bs) (symbols bs) g) (sym is) (found_of (symbols bs) (some_symbols bs some))) within at
 
@@ -70,12 +70,12 @@ no_bytes [] at none = refl
 no_bytes (b ∷ bs) at none = absurd (let some : 0 < length (b ∷ bs) = omega arith in grind (arith, nat_tests))
 
 -- a token is of its kind
-said_first : (o : Option Kind) (at : ℕ) (text : List ℕ) (rest : List Entry) (kind : Kind) → o ≡ Some kind → AreOfTheirKind (entry_of o at text ++ rest) → kind_of (symbols text) ≡ Some kind
+said_first : (o : Option Kind) (at : ℕ) (text : List ℕ) (rest : List PlacedToken) (kind : Kind) → o ≡ Some kind → AreOfTheirKind (token_of o at text ++ rest) → kind_of (symbols text) ≡ Some kind
 said_first None at text rest kind is are = absurd cc
 said_first (Some k) at text rest kind is are = are.0 ∙ is
 
 pub kind_said : (bytes : List ℕ) (at n : ℕ) (piece : Piece) (kind : Kind) (text : List ℕ) → text ≡ take n bytes → kind_after piece text ≡ Some kind
-    → tokens at bytes ≡ entry_of (kind_after piece (take n bytes)) at (take n bytes) ++ tokens (at + n) (drop n bytes) → kind_of (symbols text) ≡ Some kind
+    → tokens at bytes ≡ token_of (kind_after piece (take n bytes)) at (take n bytes) ++ tokens (at + n) (drop n bytes) → kind_of (symbols text) ≡ Some kind
 kind_said bytes at n piece kind text front is all =
     subst (λ t. kind_of (symbols t) ≡ Some kind) (sym front)
     (said_first (kind_after piece (take n bytes)) at (take n bytes) (tokens (at + n) (drop n bytes)) kind (sym (ap (kind_after piece) front) ∙ is) (subst AreOfTheirKind all (kinds at bytes)))

@@ -2,23 +2,23 @@
 use Rattle.std.proofs.Common.{◌≡◌, ℕ, List, [], ◌∷◌, ◌++◌, refl, sym, ap, ◌∙◌, Bool, true, false, Option, Some, None, if◌then◌else◌, append_assoc, append-nil}
 use Rattle.std.specs.Prelude.{option_map}
 use Rattle.td_tree.specs.Division.{up_to}
-use Rattle.td_tree.specs.Statements.{Entry, Held, tokens, ends, chosen, first_statement, end_of, end_of_first, behind}
+use Rattle.td_tree.specs.Statements.{PlacedToken, Held, tokens, ends, chosen, first_statement, end_of, end_of_first, behind}
 
 -- the first statement of what was found so far and what is left
-abbrev pub gathered : Bool → List Entry → List Entry → Option (List Entry)
+abbrev pub gathered : Bool → List PlacedToken → List PlacedToken → Option (List PlacedToken)
 gathered finished found [] = chosen finished found None
 gathered finished found (t ∷ ts) = if ends t then Some (found ++ t ∷ []) else gathered finished (found ++ t ∷ []) ts
 
 -- what was found so far, before what is found in what is left
-abbrev before : Bool → List Entry → List Entry → Option (List Entry) → Option (List Entry)
+abbrev before : Bool → List PlacedToken → List PlacedToken → Option (List PlacedToken) → Option (List PlacedToken)
 before finished found ts None = chosen finished (found ++ ts) None
 before finished found ts (Some first) = Some (found ++ first)
 
-one_more : (finished : Bool) (found : List Entry) (t : Entry) (ts : List Entry) (o : Option (List Entry)) → before finished (found ++ t ∷ []) ts o ≡ before finished found (t ∷ ts) (option_map (λ qs. t ∷ qs) o)
+one_more : (finished : Bool) (found : List PlacedToken) (t : PlacedToken) (ts : List PlacedToken) (o : Option (List PlacedToken)) → before finished (found ++ t ∷ []) ts o ≡ before finished found (t ∷ ts) (option_map (λ qs. t ∷ qs) o)
 one_more finished found t ts None = ap (λ all. chosen finished all None) (append_assoc found (t ∷ []) ts)
 one_more finished found t ts (Some first) = ap Some (append_assoc found (t ∷ []) first)
 
-gathered_is : (finished : Bool) (found ts : List Entry) → gathered finished found ts ≡ before finished found ts (up_to ends ts)
+gathered_is : (finished : Bool) (found ts : List PlacedToken) → gathered finished found ts ≡ before finished found ts (up_to ends ts)
 gathered_is finished found [] = ap (λ all. chosen finished all None) (sym (append-nil found))
 gathered_is finished found (t ∷ ts) =
     elim (ends t) as (λ b. (if b then Some (found ++ t ∷ []) else gathered finished (found ++ t ∷ []) ts) ≡ before finished found (t ∷ ts) (if b then Some (t ∷ []) else option_map (λ qs. t ∷ qs) (up_to ends ts))) [
@@ -26,7 +26,7 @@ gathered_is finished found (t ∷ ts) =
       | false ↦ gathered_is finished (found ++ t ∷ []) ts ∙ one_more finished found t ts (up_to ends ts)
     ]
 
-chosen_is : (finished : Bool) (ts : List Entry) (o : Option (List Entry)) → before finished [] ts o ≡ chosen finished ts o
+chosen_is : (finished : Bool) (ts : List PlacedToken) (o : Option (List PlacedToken)) → before finished [] ts o ≡ chosen finished ts o
 chosen_is finished ts None = refl
 chosen_is finished ts (Some first) = refl
 
@@ -36,19 +36,19 @@ unfolding first_statement
 gathers h = gathered_is h.finished [] (tokens h.offset h.bytes) ∙ chosen_is h.finished (tokens h.offset h.bytes) (up_to ends (tokens h.offset h.bytes))
 
 -- where the first statement of what is left ends, the last token so far at `so_far`
-abbrev pub reached : Bool → ℕ → ℕ → List Entry → ℕ
+abbrev pub reached : Bool → ℕ → ℕ → List PlacedToken → ℕ
 reached finished none so_far [] = if finished then so_far else none
 reached finished none so_far (t ∷ ts) = if ends t then t.stop else reached finished none t.stop ts
 
-abbrev end_at : Bool → ℕ → ℕ → List Entry → Option (List Entry) → ℕ
+abbrev end_at : Bool → ℕ → ℕ → List PlacedToken → Option (List PlacedToken) → ℕ
 end_at finished none so_far ts None = if finished then end_of so_far ts else none
 end_at finished none so_far ts (Some first) = end_of so_far first
 
-one_further : (finished : Bool) (none so_far : ℕ) (t : Entry) (ts : List Entry) (o : Option (List Entry)) → end_at finished none t.stop ts o ≡ end_at finished none so_far (t ∷ ts) (option_map (λ qs. t ∷ qs) o)
+one_further : (finished : Bool) (none so_far : ℕ) (t : PlacedToken) (ts : List PlacedToken) (o : Option (List PlacedToken)) → end_at finished none t.stop ts o ≡ end_at finished none so_far (t ∷ ts) (option_map (λ qs. t ∷ qs) o)
 one_further finished none so_far t ts None = refl
 one_further finished none so_far t ts (Some first) = refl
 
-reached_is : (finished : Bool) (none so_far : ℕ) (ts : List Entry) → reached finished none so_far ts ≡ end_at finished none so_far ts (up_to ends ts)
+reached_is : (finished : Bool) (none so_far : ℕ) (ts : List PlacedToken) → reached finished none so_far ts ≡ end_at finished none so_far ts (up_to ends ts)
 reached_is finished none so_far [] = refl
 reached_is finished none so_far (t ∷ ts) =
     elim (ends t) as (λ b. (if b then t.stop else reached finished none t.stop ts) ≡ end_at finished none so_far (t ∷ ts) (if b then Some (t ∷ []) else option_map (λ qs. t ∷ qs) (up_to ends ts))) [
@@ -56,7 +56,7 @@ reached_is finished none so_far (t ∷ ts) =
       | false ↦ reached_is finished none t.stop ts ∙ one_further finished none so_far t ts (up_to ends ts)
     ]
 
-end_is : (finished : Bool) (none : ℕ) (ts : List Entry) (o : Option (List Entry)) → end_at finished none none ts o ≡ end_of_first none (chosen finished ts o)
+end_is : (finished : Bool) (none : ℕ) (ts : List PlacedToken) (o : Option (List PlacedToken)) → end_at finished none none ts o ≡ end_of_first none (chosen finished ts o)
 end_is finished none ts (Some first) = refl
 end_is true none [] None = refl
 end_is false none [] None = refl

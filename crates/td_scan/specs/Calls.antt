@@ -1,6 +1,6 @@
 -- Lists of calls of a cutter, and what they have taken off (this project's own).
 use Rattle.std.specs.Prelude.{ℕ, Bool, true, false, ◌&&◌, not, List, [], ◌∷◌, ◌++◌, Option, Some, None, IsTrue}
-use Rattle.td_tree.specs.Statements.{Entry, Held, first_statement, statements, after}
+use Rattle.td_tree.specs.Statements.{PlacedToken, Held, first_statement, statements, after}
 
 -- a call: these bytes are fed, no more will be, or the first statement is taken off
 pub data Call : Type 0 where
@@ -12,7 +12,7 @@ pub data Call : Type 0 where
 pub record Course : Type 0 where
   pub fed : List ℕ
   pub held : Held
-  pub taken : List (List Entry)
+  pub taken : List (List PlacedToken)
 
 -- at first nothing was fed
 abbrev pub at_first : Course
@@ -20,7 +20,7 @@ at_first =
     record { fed = []; held = record { bytes = []; offset = 0; finished = false }; taken = [] }
 
 -- a statement, if there is one
-abbrev pub listed : Option (List Entry) → List (List Entry)
+abbrev pub listed : Option (List PlacedToken) → List (List PlacedToken)
 listed None = []
 listed (Some first) = first ∷ []
 
@@ -57,9 +57,9 @@ abbrev pub course : List Call → Course
 course calls = all_called at_first calls
 
 -- the statements of what is held
-abbrev pub statements_held : Held → List (List Entry)
+abbrev pub statements_held : Held → List (List PlacedToken)
 statements_held h = statements h.offset h.bytes
 
 -- the same, with more bytes behind what is held
-abbrev pub statements_before : Held → List ℕ → List (List Entry)
+abbrev pub statements_before : Held → List ℕ → List (List PlacedToken)
 statements_before h more = statements h.offset (h.bytes ++ more)

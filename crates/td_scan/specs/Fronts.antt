@@ -4,7 +4,7 @@ use Rattle.std.specs.Str.{continuation_len}
 use Rattle.td_tree.specs.declared.piece.Piece.{Piece}
 use Rattle.td_tree.specs.declared.piece.Piece.TheVariants.{Bad}
 use Rattle.td_tree.specs.Pieces.{begins, continues}
-use Rattle.td_tree.specs.Statements.{Entry}
+use Rattle.td_tree.specs.Statements.{PlacedToken}
 use Rattle.td_tree.specs.Symbols.{Symbol}
 
 -- how many bytes a character takes that begins with this one
@@ -23,5 +23,5 @@ first_end [] = (0, Bad)
 first_end (s ∷ ss) = end_from (length s.text) (begins s) ss
 
 -- where the last of the tokens ends, if there is one
-abbrev pub end_of_last : List Entry → Option ℕ
+abbrev pub end_of_last : List PlacedToken → Option ℕ
 end_of_last tokens = option_map (λ t. t.stop) (slice_get tokens (length tokens - 1))

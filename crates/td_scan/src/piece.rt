@@ -2,7 +2,7 @@
 ghost use Rattle.std.specs.Prelude.{◌≡◌, ◌<◌, ◌≤◌, ◌+◌, ◌++◌, ℕ, length, take, drop};
 ghost use Rattle.td_scan.specs.Fronts.{first_end};
 ghost use Rattle.td_tree.specs.Pieces.{kind_after};
-ghost use Rattle.td_tree.specs.Statements.{entry_of, tokens};
+ghost use Rattle.td_tree.specs.Statements.{token_of, tokens};
 ghost use Rattle.td_tree.specs.Symbols.{symbols};
 
 use crate::symbol::symbol_at_front;
@@ -43,7 +43,7 @@ fn measure(bytes: &[u8]) -> First
 pub fn first_piece(bytes: &[u8]) -> First
     requires { 0 < length bytes.now }
     ensures tokens { (at : ℕ) → tokens at bytes.now
-        ≡ entry_of (kind_after result.piece (take result.length bytes.now)) at
+        ≡ token_of (kind_after result.piece (take result.length bytes.now)) at
         (take result.length bytes.now)
         ++ tokens (at + result.length) (drop result.length bytes.now) }
     ensures some { 0 < result.length }

@@ -20,10 +20,10 @@ pub struct Token<'a> {
 impl<'a> Model for Token<'a> {
     ghost use Rattle.std.specs.Prelude.{Some, ◌≡◌, ◌+◌, ◌<◌, ◌^◌, length};
     ghost use Rattle.td_tree.specs.Pieces.{kind_of};
-    ghost use Rattle.td_tree.specs.Statements.{Entry};
+    ghost use Rattle.td_tree.specs.Statements.{PlacedToken};
     ghost use Rattle.td_tree.specs.Symbols.{symbols};
 
-    ghost Value = { Entry };
+    ghost Value = { PlacedToken };
 
     ghost view = { λ t. record {
       kind = t.kind;

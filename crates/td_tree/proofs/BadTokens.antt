@@ -22,7 +22,7 @@ use Rattle.td_tree.specs.Spellings.{characters}
 use Rattle.td_tree.specs.Symbols.{Symbol, symbols, spell, AreSymbols, IsFront}
 use Rattle.td_tree.specs.TextTokens.{content, quoted}
 use Rattle.td_tree.specs.Spans.{AreOfTheirKind}
-use Rattle.td_tree.specs.Statements.{Entry, tokens}
+use Rattle.td_tree.specs.Statements.{PlacedToken, tokens}
 use Rattle.td_tree.specs.TokenLexemes.{is_the_word, is_quoted_text, lexeme_of, AreBadWhereSeen}
 use Rattle.td_tree.proofs.CharacterLaws.{both}
 use Rattle.td_tree.proofs.DecodeLaws.{are_symbols}
@@ -163,7 +163,7 @@ bad_where_seen t kind same =
       | Some piece ↦ λ is e. piece_seen piece t kind is same (ap (kind_after piece) (sym (spelled 0 t)) ∙ e)
     ]) refl same
 
-seen_in : (ts : List Entry) → AreOfTheirKind ts → AreBadWhereSeen ts
+seen_in : (ts : List PlacedToken) → AreOfTheirKind ts → AreBadWhereSeen ts
 seen_in [] are = tt
 seen_in (t ∷ ts) are = ((bad_where_seen t.text t.kind are.0, λ e. ap (λ k. lexeme_of k t.text) e), seen_in ts are.1)
 

@@ -5,7 +5,7 @@ use Rattle.std.proofs.lemmas.List.{drop-append-le}
 use Rattle.td_tree.specs.declared.token.Kind.{Kind}
 use Rattle.td_tree.specs.Division.{up_to}
 use Rattle.td_tree.specs.Pieces.{pieces, kind_of}
-use Rattle.td_tree.specs.Statements.{Entry, entry_of, tokens_from, tokens, ends, split, statements, end_of}
+use Rattle.td_tree.specs.Statements.{PlacedToken, token_of, tokens_from, tokens, ends, split, statements, end_of}
 use Rattle.td_tree.specs.Symbols.{Symbol, spell}
 use Rattle.td_tree.proofs.EndLaws.{up_to_cases}
 use Rattle.td_tree.proofs.EndOfStatement.{continuation}
@@ -14,11 +14,11 @@ use Rattle.td_tree.proofs.StatementLaws.{is_end_of, ends_piece, up_to_tokens, to
 
 -- ---- where the tokens of some pieces end
 
-end_more : (o : Option Kind) (at start total : ℕ) (text : List ℕ) (rest : List Entry) → ((n : ℕ) → end_of n rest ≡ total) → end_of start (entry_of o at text ++ rest) ≡ total
+end_more : (o : Option Kind) (at start total : ℕ) (text : List ℕ) (rest : List PlacedToken) → ((n : ℕ) → end_of n rest ≡ total) → end_of start (token_of o at text ++ rest) ≡ total
 end_more None at start total text rest same = same start
 end_more (Some kind) at start total text rest same = same (at + length text)
 
-end_here : (o : Option Kind) (at start : ℕ) (text : List ℕ) → is_end_of o ≡ true → end_of start (entry_of o at text ++ []) ≡ at + length text
+end_here : (o : Option Kind) (at start : ℕ) (text : List ℕ) → is_end_of o ≡ true → end_of start (token_of o at text ++ []) ≡ at + length text
 end_here None at start text e = absurd cc
 end_here (Some kind) at start text e = refl
 
@@ -34,7 +34,7 @@ end_of_pieces (p ∷ ps) front at start found = ⊎_elim
     ∙ ap (λ f. at + size f) (sym l.more))
     (up_to_cases ends_piece p ps front found)
 
-nothing_more : (o : Option Kind) (a b : ℕ) (text : List ℕ) (xs ys : List Entry) → entry_of o a text ++ xs ≡ [] → (xs ≡ [] → ys ≡ []) → entry_of o b text ++ ys ≡ []
+nothing_more : (o : Option Kind) (a b : ℕ) (text : List ℕ) (xs ys : List PlacedToken) → token_of o a text ++ xs ≡ [] → (xs ≡ [] → ys ≡ []) → token_of o b text ++ ys ≡ []
 nothing_more None a b text xs ys e same = same e
 nothing_more (Some kind) a b text xs ys e same = absurd cc
 
@@ -51,11 +51,11 @@ pub record UpToLast (at : ℕ) (ps : List (List Symbol)) : Type 0 where
   pub stop : (start : ℕ) → end_of start (tokens_from at ps) ≡ at + size front
   pub none : (n : ℕ) → tokens_from n back ≡ []
 
-last_here : (o : Option Kind) (at start : ℕ) (text : List ℕ) (rest : List Entry) (t : Entry) (ts : List Entry) → rest ≡ [] → entry_of o at text ++ rest ≡ t ∷ ts → end_of start (entry_of o at text ++ rest) ≡ at + length text
+last_here : (o : Option Kind) (at start : ℕ) (text : List ℕ) (rest : List PlacedToken) (t : PlacedToken) (ts : List PlacedToken) → rest ≡ [] → token_of o at text ++ rest ≡ t ∷ ts → end_of start (token_of o at text ++ rest) ≡ at + length text
 last_here None at start text rest t ts none e = let wrong : [] ≡ t ∷ ts = sym none ∙ e in absurd cc
 last_here (Some kind) at start text rest t ts none e = ap (end_of (at + length text)) none
 
-pub up_to_last : (at : ℕ) (ps : List (List Symbol)) (t : Entry) (ts : List Entry) → tokens_from at ps ≡ t ∷ ts → UpToLast at ps
+pub up_to_last : (at : ℕ) (ps : List (List Symbol)) (t : PlacedToken) (ts : List PlacedToken) → tokens_from at ps ≡ t ∷ ts → UpToLast at ps
 up_to_last at [] t ts e = absurd cc
 up_to_last at (p ∷ ps) t ts e =
     let next : ℕ = at + length (spell p) in
@@ -82,12 +82,12 @@ up_to_last at (p ∷ ps) t ts e =
 -- ---- bytes
 
 -- the pieces of the tokens up to a `;`
-pub record Ended (at : ℕ) (bs : List ℕ) (first : List Entry) : Type 0 where
+pub record Ended (at : ℕ) (bs : List ℕ) (first : List PlacedToken) : Type 0 where
   pub front : List (List Symbol)
   pub found : up_to ends_piece (pieces bs) ≡ Some front
   pub is : first ≡ tokens_from at front
 
-pub ended : (at : ℕ) (bs : List ℕ) (first : List Entry) → up_to ends (tokens at bs) ≡ Some first → Ended at bs first
+pub ended : (at : ℕ) (bs : List ℕ) (first : List PlacedToken) → up_to ends (tokens at bs) ≡ Some first → Ended at bs first
 unfolding tokens
 ended at bs first e =
     (elim (up_to ends_piece (pieces bs)) as (λ o. up_to ends_piece (pieces bs) ≡ o → option_map (tokens_from at) o ≡ Some first → Ended at bs first) [
@@ -96,12 +96,12 @@ ended at bs first e =
     ]) refl (sym (up_to_tokens at (pieces bs)) ∙ e)
 
 -- what follows a statement that `;` ends
-pub record Follows (at : ℕ) (bs : List ℕ) (first : List Entry) : Type 0 where
+pub record Follows (at : ℕ) (bs : List ℕ) (first : List PlacedToken) : Type 0 where
   pub stop : at ≤ end_of at first
   pub within : end_of at first - at ≤ length bs
   pub again : tokens at bs ≡ first ++ tokens (end_of at first) (drop (end_of at first - at) bs)
 
-pub follows_front : (at : ℕ) (bs : List ℕ) (first : List Entry) (front : List (List Symbol)) → up_to ends_piece (pieces bs) ≡ Some front → first ≡ tokens_from at front → Follows at bs first
+pub follows_front : (at : ℕ) (bs : List ℕ) (first : List PlacedToken) (front : List (List Symbol)) → up_to ends_piece (pieces bs) ≡ Some front → first ≡ tokens_from at front → Follows at bs first
 unfolding tokens
 follows_front at bs first front found is =
     let w = split_first ends_piece (pieces bs) front found in
@@ -118,23 +118,23 @@ follows_front at bs first front found is =
     }
 
 -- a statement that `;` ends, whatever follows
-pub follows_later : (at : ℕ) (bs : List ℕ) (first : List Entry) → up_to ends (tokens at bs) ≡ Some first → (later : List ℕ) → Follows at (bs ++ later) first
+pub follows_later : (at : ℕ) (bs : List ℕ) (first : List PlacedToken) → up_to ends (tokens at bs) ≡ Some first → (later : List ℕ) → Follows at (bs ++ later) first
 follows_later at bs first e later =
     let w = ended at bs first e in
     follows_front at (bs ++ later) first w.front (continuation bs later w.front w.found) w.is
 
-pub follows : (at : ℕ) (bs : List ℕ) (first : List Entry) → up_to ends (tokens at bs) ≡ Some first → Follows at bs first
+pub follows : (at : ℕ) (bs : List ℕ) (first : List PlacedToken) → up_to ends (tokens at bs) ≡ Some first → Follows at bs first
 follows at bs first e = let w = ended at bs first e in follows_front at bs first w.front w.found w.is
 
 -- and it is found there again
-pub up_to_first : (at : ℕ) (bs : List ℕ) (first : List Entry) → up_to ends (tokens at bs) ≡ Some first → (later : List ℕ) → up_to ends (tokens at (bs ++ later)) ≡ Some first
+pub up_to_first : (at : ℕ) (bs : List ℕ) (first : List PlacedToken) → up_to ends (tokens at bs) ≡ Some first → (later : List ℕ) → up_to ends (tokens at (bs ++ later)) ≡ Some first
 unfolding tokens
 up_to_first at bs first e later =
     let w = ended at bs first e in
     up_to_tokens at (pieces (bs ++ later)) ∙ ap (option_map (tokens_from at)) (continuation bs later w.front w.found) ∙ ap Some (sym w.is)
 
 -- the statements of bytes whose first `;` ends this one, whatever follows
-pub statements_later : (at : ℕ) (bs : List ℕ) (first : List Entry) → up_to ends (tokens at bs) ≡ Some first → (later : List ℕ)
+pub statements_later : (at : ℕ) (bs : List ℕ) (first : List PlacedToken) → up_to ends (tokens at bs) ≡ Some first → (later : List ℕ)
     → statements at (bs ++ later) ≡ first ∷ statements (end_of at first) (drop (end_of at first - at) bs ++ later)
 unfolding statements
 statements_later at bs first e later =
@@ -143,7 +143,7 @@ statements_later at bs first e later =
     ∙ ap (λ r. first ∷ split (tokens (end_of at first) r)) (drop-append-le (end_of at first - at) bs later (follows at bs first e).within)
 
 -- behind the last token there is none
-pub none_behind : (at : ℕ) (bs : List ℕ) (t : Entry) (ts : List Entry) → tokens at bs ≡ t ∷ ts → tokens (end_of at (t ∷ ts)) (drop (end_of at (t ∷ ts) - at) bs) ≡ []
+pub none_behind : (at : ℕ) (bs : List ℕ) (t : PlacedToken) (ts : List PlacedToken) → tokens at bs ≡ t ∷ ts → tokens (end_of at (t ∷ ts)) (drop (end_of at (t ∷ ts) - at) bs) ≡ []
 unfolding tokens
 none_behind at bs t ts e =
     let w = up_to_last at (pieces bs) t ts e in
@@ -152,7 +152,7 @@ none_behind at bs t ts e =
     let long : end_of at (t ∷ ts) - at ≡ size w.front = omega (arith, stop) in
     ap (λ n. tokens_from (end_of at (t ∷ ts)) (pieces (drop n bs))) long ∙ ap (tokens_from (end_of at (t ∷ ts))) (sym off.again) ∙ w.none (end_of at (t ∷ ts))
 
-pub last_within : (at : ℕ) (bs : List ℕ) (t : Entry) (ts : List Entry) → tokens at bs ≡ t ∷ ts → (at ≤ end_of at (t ∷ ts)) × (end_of at (t ∷ ts) - at ≤ length bs)
+pub last_within : (at : ℕ) (bs : List ℕ) (t : PlacedToken) (ts : List PlacedToken) → tokens at bs ≡ t ∷ ts → (at ≤ end_of at (t ∷ ts)) × (end_of at (t ∷ ts) - at ≤ length bs)
 unfolding tokens
 last_within at bs t ts e =
     let w = up_to_last at (pieces bs) t ts e in

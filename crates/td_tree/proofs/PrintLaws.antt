@@ -17,7 +17,7 @@ use Rattle.td_tree.specs.Names.{is_name, is_word, begins_the}
 use Rattle.td_tree.specs.Numbers.{decimal_value}
 use Rattle.td_tree.specs.Prints.{lexemes_of, type_lexemes, print, type_print}
 use Rattle.td_tree.specs.Spaced.{AreItsOwnLexemes, AreItsOwnTypeLexemes, IsSpaced, PrintIsSpaced, TypePrintIsSpaced, texts_of, with_spaces}
-use Rattle.td_tree.specs.Statements.{Entry, tokens}
+use Rattle.td_tree.specs.Statements.{PlacedToken, tokens}
 use Rattle.td_tree.specs.TextTokens.{content, quoted}
 use Rattle.td_tree.specs.TokenLexemes.{is_the_word, is_quoted_text, lexeme_of, lexemes}
 use Rattle.td_tree.specs.Trees.{Tree, TypeTree}
@@ -56,7 +56,7 @@ proper kinds.Text t = where_it_holds (is_quoted_text t) (lexeme.text (content t)
 proper (kinds.Sign s) t = tt
 proper kinds.Bad t = tt
 
-all_proper : (ts : List Entry) → AllProper (lexemes ts)
+all_proper : (ts : List PlacedToken) → AllProper (lexemes ts)
 all_proper [] = tt
 all_proper (t ∷ ts) = (proper t.kind t.text, all_proper ts)
 
@@ -112,7 +112,7 @@ prints lexeme.bad p q = absurd p
 
 -- ---- a text of lexemes has these as its tokens
 
-abbrev seen : Entry → Lexeme
+abbrev seen : PlacedToken → Lexeme
 seen token = lexeme_of token.kind token.text
 
 again : (ls : List Lexeme) (at : ℕ) → AllPlain ls → AllProper ls → lexemes (tokens at (spaced ls)) ≡ ls
@@ -128,14 +128,14 @@ again (l ∷ m ∷ ls) at (also p ps) q =
     ∙ ap (λ r. l ∷ r) (again (m ∷ ls) (at + length (printed l) + 1) ps q.1)
 
 -- the text of an expression that some tokens spell
-pub print_spells : (level : Level) (ts : List Entry) (t : Tree) → IsExpression level (lexemes ts) t → IsExpression level (lexemes (tokens 0 (print t))) t
+pub print_spells : (level : Level) (ts : List PlacedToken) (t : Tree) → IsExpression level (lexemes ts) t → IsExpression level (lexemes (tokens 0 (print t))) t
 print_spells level ts t h =
     let own : lexemes ts ≡ lexemes_of t = expression_is h.spelled in
     let same : lexemes (tokens 0 (print t)) ≡ lexemes_of t = again (lexemes_of t) 0 (subst AllPlain own (plain h.spelled)) (subst AllProper own (all_proper ts)) in
     subst (λ xs. IsExpression level xs t) (own ∙ sym same) h
 
 -- the text of a type that some tokens spell
-pub type_print_spells : (ts : List Entry) (t : TypeTree) → TypeSpelling (lexemes ts) t → TypeSpelling (lexemes (tokens 0 (type_print t))) t
+pub type_print_spells : (ts : List PlacedToken) (t : TypeTree) → TypeSpelling (lexemes ts) t → TypeSpelling (lexemes (tokens 0 (type_print t))) t
 type_print_spells ts t h =
     let own : lexemes ts ≡ type_lexemes t = type_is h in
     let same : lexemes (tokens 0 (type_print t)) ≡ type_lexemes t = again (type_lexemes t) 0 (subst AllPlain own (plain_type h)) (subst AllProper own (all_proper ts)) in
@@ -170,7 +170,7 @@ is_spaced : (ls : List Lexeme) → AllPlain ls → AllProper ls → IsSpaced (sp
 is_spaced ls p q = record { tokens_are = again ls 0 p q; text_is = printed_with_spaces ls ∙ sym (ap with_spaces (texts_again ls 0 p q)) }
 
 -- tokens that are the lexemes of a tree
-tokens_spaced : (ts : List Entry) (ls : List Lexeme) → lexemes ts ≡ ls → AllPlain (lexemes ts) → IsSpaced (spaced ls) (lexemes ts)
+tokens_spaced : (ts : List PlacedToken) (ls : List Lexeme) → lexemes ts ≡ ls → AllPlain (lexemes ts) → IsSpaced (spaced ls) (lexemes ts)
 tokens_spaced ts ls own p = subst (λ xs. IsSpaced (spaced xs) (lexemes ts)) own (is_spaced (lexemes ts) p (all_proper ts))
 
 pub print_is_spaced : PrintIsSpaced

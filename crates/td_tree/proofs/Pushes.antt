@@ -6,7 +6,7 @@ use Rattle.td_tree.specs.declared.expression.NamedExpr.{NamedExpr}
 use Rattle.td_tree.specs.declared.expression.Summary.{Summary}
 use Rattle.td_tree.specs.declared.expression.Summary.TheVariants as s
 use Rattle.td_tree.specs.declared.type_tree.AttributeTree.{AttributeTree}
-use Rattle.td_tree.specs.TreeViews.{heading_of, named_of, summaries_of, tree_of, trees_of, type_of, with_summary}
+use Rattle.td_tree.specs.TreeViews.{heading_tree_view, named_view, summaries_view, tree_view, trees_view, type_tree_view, with_summary}
 use Rattle.td_tree.specs.Trees.{AttributeTrees, no_attributes, attribute, Trees, none, more, NamedTrees, none_named, more_named, Summaries, no_summaries, counted, summed}
 
 -- a copy of the items so far, and then of one more
@@ -20,41 +20,41 @@ one_more f part push pushed xs copy i x a so_far inside is same =
 -- ---- names with types
 
 abbrev pub one_attribute : AttributeTree → AttributeTrees
-one_attribute a = attribute a.name (type_of a.ty) no_attributes
+one_attribute a = attribute a.name (type_tree_view a.ty) no_attributes
 
 abbrev pub then_attributes : AttributeTrees → AttributeTrees → AttributeTrees
 then_attributes no_attributes later = later
 then_attributes (attribute n ty rest) later = attribute n ty (then_attributes rest later)
 
-pub heading_push : (v : List AttributeTree) (a : AttributeTree) → heading_of (v ++ (a ∷ [])) ≡ then_attributes (heading_of v) (one_attribute a)
+pub heading_push : (v : List AttributeTree) (a : AttributeTree) → heading_tree_view (v ++ (a ∷ [])) ≡ then_attributes (heading_tree_view v) (one_attribute a)
 heading_push [] a = refl
-heading_push (b ∷ v) a = ap (λ (r : AttributeTrees). attribute b.name (type_of b.ty) r) (heading_push v a)
+heading_push (b ∷ v) a = ap (λ (r : AttributeTrees). attribute b.name (type_tree_view b.ty) r) (heading_push v a)
 
 -- ---- expressions
 
 abbrev pub one_tree : Expr → Trees
-one_tree e = more (tree_of e) none
+one_tree e = more (tree_view e) none
 
 abbrev pub then_trees : Trees → Trees → Trees
 then_trees none later = later
 then_trees (more first rest) later = more first (then_trees rest later)
 
-pub trees_push : (v : List Expr) (e : Expr) → trees_of (v ++ (e ∷ [])) ≡ then_trees (trees_of v) (one_tree e)
+pub trees_push : (v : List Expr) (e : Expr) → trees_view (v ++ (e ∷ [])) ≡ then_trees (trees_view v) (one_tree e)
 trees_push [] e = refl
-trees_push (first ∷ v) e = ap (λ (r : Trees). more (tree_of first) r) (trees_push v e)
+trees_push (first ∷ v) e = ap (λ (r : Trees). more (tree_view first) r) (trees_push v e)
 
 -- ---- expressions with their names
 
 abbrev pub one_named : NamedExpr → NamedTrees
-one_named p = more_named p.name (tree_of p.value) none_named
+one_named p = more_named p.name (tree_view p.value) none_named
 
 abbrev pub then_named : NamedTrees → NamedTrees → NamedTrees
 then_named none_named later = later
 then_named (more_named n first rest) later = more_named n first (then_named rest later)
 
-pub named_push : (v : List NamedExpr) (p : NamedExpr) → named_of (v ++ (p ∷ [])) ≡ then_named (named_of v) (one_named p)
+pub named_push : (v : List NamedExpr) (p : NamedExpr) → named_view (v ++ (p ∷ [])) ≡ then_named (named_view v) (one_named p)
 named_push [] p = refl
-named_push (first ∷ v) p = ap (λ (r : NamedTrees). more_named first.name (tree_of first.value) r) (named_push v p)
+named_push (first ∷ v) p = ap (λ (r : NamedTrees). more_named first.name (tree_view first.value) r) (named_push v p)
 
 -- ---- what SUMMARIZE adds
 
@@ -70,7 +70,7 @@ then_first : (x : Summary) (rest later : Summaries) → then_summaries (with_sum
 then_first (s.Count n) rest later = refl
 then_first (s.Of op value n) rest later = refl
 
-pub summaries_push : (v : List Summary) (x : Summary) → summaries_of (v ++ (x ∷ [])) ≡ then_summaries (summaries_of v) (one_summary x)
+pub summaries_push : (v : List Summary) (x : Summary) → summaries_view (v ++ (x ∷ [])) ≡ then_summaries (summaries_view v) (one_summary x)
 summaries_push [] x = refl
 summaries_push (first ∷ v) x =
-    ap (λ (r : Summaries). with_summary first r) (summaries_push v x) ∙ sym (then_first first (summaries_of v) (one_summary x))
+    ap (λ (r : Summaries). with_summary first r) (summaries_push v x) ∙ sym (then_first first (summaries_view v) (one_summary x))

@@ -14,7 +14,7 @@ use Rattle.td_tree.specs.Names.{begins_the}
 use Rattle.td_tree.specs.Pieces.{is_character, kind_after, kind_of, state, text_kind, word_kind, word_kind_of}
 use Rattle.td_tree.specs.Spans.{AreOfTheirKind, AreTexts}
 use Rattle.td_tree.specs.Spellings.{characters, quote, quotes_doubled, IsText}
-use Rattle.td_tree.specs.Statements.{Entry, tokens}
+use Rattle.td_tree.specs.Statements.{PlacedToken, tokens}
 use Rattle.td_tree.specs.Symbols.{Symbol, front_bytes, front_char, symbol_of, symbol_at, symbols_from, symbols, spell}
 use Rattle.td_tree.specs.TextTokens.{doubled, quoted, IsQuotedText}
 use Rattle.td_tree.proofs.DecodeLaws.{found_is}
@@ -285,7 +285,7 @@ quoted_text text q = ap (λ t. kind_of (symbols t)) q.is ∙ quoted_kind q.said 
 pub are_quoted : (text : List ℕ) → (kind_of (symbols text) ≡ Some kinds.Text) ↔ IsQuotedText text
 are_quoted text = (text_said text, quoted_text text)
 
-texts_in : (ts : List Entry) → AreOfTheirKind ts → AreTexts ts
+texts_in : (ts : List PlacedToken) → AreOfTheirKind ts → AreTexts ts
 texts_in [] are = tt
 texts_in (t ∷ ts) are = (λ e. text_said t.text (are.0 ∙ ap Some e), texts_in ts are.1)
 

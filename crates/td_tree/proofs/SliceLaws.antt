@@ -8,7 +8,7 @@ use Rattle.std.proofs.lemmas.List.{take-append-le, take_all, length-take-le, dro
 use Rattle.td_tree.specs.declared.token.Kind.{Kind}
 use Rattle.td_tree.specs.Pieces.{pieces, kind_of}
 use Rattle.td_tree.specs.Spans.{AreOfTheirKind}
-use Rattle.td_tree.specs.Statements.{Entry, entry_of, tokens_from, tokens}
+use Rattle.td_tree.specs.Statements.{PlacedToken, token_of, tokens_from, tokens}
 use Rattle.td_tree.specs.Symbols.{Symbol, front_bytes, front_char, symbol_of, symbol_at, symbols, spell}
 use Rattle.td_tree.proofs.FrontLaws.{part_is_none}
 use Rattle.td_tree.proofs.EndOfStatement.{divides}
@@ -68,7 +68,7 @@ symbols_again (x ∷ xs) ys (b ∷ bs) e =
 symbols_behind : (xs ys zs : List Symbol) (bs : List ℕ) → symbols bs ≡ xs ++ (ys ++ zs) → symbols (spell ys) ≡ ys
 symbols_behind xs ys zs bs e = symbols_again ys zs (drop (length (spell xs)) bs) (symbols_after xs (ys ++ zs) bs e)
 
-kind_more : (o : Option Kind) (at : ℕ) (text : List ℕ) (ts : List Entry) → kind_of (symbols text) ≡ o → AreOfTheirKind ts → AreOfTheirKind (entry_of o at text ++ ts)
+kind_more : (o : Option Kind) (at : ℕ) (text : List ℕ) (ts : List PlacedToken) → kind_of (symbols text) ≡ o → AreOfTheirKind ts → AreOfTheirKind (token_of o at text ++ ts)
 kind_more None at text ts is others = others
 kind_more (Some kind) at text ts is others = (is, others)
 

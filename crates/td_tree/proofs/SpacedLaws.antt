@@ -4,7 +4,7 @@ use Rattle.std.specs.Prelude.{option_and_then}
 use Rattle.std.specs.Str.{is_utf8, chars}
 use Rattle.td_tree.specs.Division.{IsNext, IsDivision}
 use Rattle.td_tree.specs.Pieces.{begins, continues, opens, goes_on, pieces, state, kind_of, kind_after}
-use Rattle.td_tree.specs.Statements.{Entry, entry_of, tokens_from, tokens}
+use Rattle.td_tree.specs.Statements.{PlacedToken, token_of, tokens_from, tokens}
 use Rattle.td_tree.specs.Symbols.{Symbol, symbols, spell}
 use Rattle.td_tree.specs.declared.piece.Piece.{Piece}
 use Rattle.td_tree.specs.declared.piece.Piece.TheVariants.{Blank}
@@ -59,7 +59,7 @@ pub record Stands (t : List ℕ) (kind : Kind) : Type 0 where
   pub ends : goes_on piece (Some 32) ≡ None
   pub kind_is : kind_after piece t ≡ Some kind
 
-abbrev pub token_at : ℕ → List ℕ → Kind → Entry
+abbrev pub token_at : ℕ → List ℕ → Kind → PlacedToken
 token_at at t kind = record { kind = kind; text = t; start = at; stop = at + length t }
 
 spelled_all : (t : List ℕ) → spell (symbols t) ≡ t
@@ -73,7 +73,7 @@ kind_of_text t kind s =
 
 first_entry : (t : List ℕ) (kind : Kind) (at : ℕ) (ps : List (List Symbol)) → Stands t kind → tokens_from at (symbols t ∷ ps) ≡ token_at at t kind ∷ tokens_from (at + length t) ps
 first_entry t kind at ps s =
-    ap (λ o. entry_of o at (spell (symbols t)) ++ tokens_from (at + length (spell (symbols t))) ps) (kind_of_text t kind s)
+    ap (λ o. token_of o at (spell (symbols t)) ++ tokens_from (at + length (spell (symbols t))) ps) (kind_of_text t kind s)
     ∙ ap (λ b. token_at at b kind ∷ tokens_from (at + length b) ps) (spelled_all t)
 
 -- such bytes before a space are the first token

@@ -4,7 +4,7 @@ use Rattle.std.specs.Prelude.{option_map}
 use Rattle.td_tree.specs.declared.token.Kind.{Kind}
 use Rattle.td_tree.specs.Division.{up_to}
 use Rattle.td_tree.specs.Pieces.{kind_of}
-use Rattle.td_tree.specs.Statements.{Entry, entry_of, tokens_from, is_end, ends, put, split}
+use Rattle.td_tree.specs.Statements.{PlacedToken, token_of, tokens_from, is_end, ends, put, split}
 use Rattle.td_tree.specs.Symbols.{Symbol, spell}
 use Rattle.td_tree.proofs.EndLaws.{up_to_cases}
 use Rattle.td_tree.proofs.PieceLaws.{size, size-cons}
@@ -19,14 +19,14 @@ is_end_of (Some kind) = is_end kind
 abbrev pub ends_piece : List Symbol → Bool
 ends_piece p = is_end_of (kind_of p)
 
-found_more : (o : Option Kind) (at : ℕ) (text : List ℕ) (p : List Symbol) (rest : List Entry) (ps : List (List Symbol)) (found : Option (List (List Symbol)))
+found_more : (o : Option Kind) (at : ℕ) (text : List ℕ) (p : List Symbol) (rest : List PlacedToken) (ps : List (List Symbol)) (found : Option (List (List Symbol)))
     → up_to ends rest ≡ option_map (tokens_from (at + length text)) found
     → kind_of p ≡ o → spell p ≡ text
-    → up_to ends (entry_of o at text ++ rest) ≡ option_map (tokens_from at) (if is_end_of o then Some (p ∷ []) else option_map (λ qs. p ∷ qs) found)
+    → up_to ends (token_of o at text ++ rest) ≡ option_map (tokens_from at) (if is_end_of o then Some (p ∷ []) else option_map (λ qs. p ∷ qs) found)
 found_more None at text p rest ps None same is spelled = same
 found_more None at text p rest ps (Some qs) same is spelled = same ∙ sym (rw (is, spelled) refl)
 found_more (Some kind) at text p rest ps found same is spelled =
-    let token : Entry = record { kind = kind; text = text; start = at; stop = at + length text } in
+    let token : PlacedToken = record { kind = kind; text = text; start = at; stop = at + length text } in
     elim (is_end kind) as (λ b. (if b then Some (token ∷ []) else option_map (λ qs. token ∷ qs) (up_to ends rest)) ≡ option_map (tokens_from at) (if b then Some (p ∷ []) else option_map (λ qs. p ∷ qs) found)) [
       | true ↦ sym (rw (is, spelled) refl)
       | false ↦ (elim found as (λ f. up_to ends rest ≡ option_map (tokens_from (at + length text)) f → option_map (λ qs. token ∷ qs) (up_to ends rest) ≡ option_map (tokens_from at) (option_map (λ qs. p ∷ qs) f)) [
@@ -44,9 +44,9 @@ pub tokens-append : (at : ℕ) (ps qs : List (List Symbol)) → tokens_from at (
 tokens-append at [] qs = ap (λ n. tokens_from n qs) (omega arith)
 tokens-append at (p ∷ ps) qs =
     let text = spell p in
-    ap (λ r. entry_of (kind_of p) at text ++ r) (tokens-append (at + length text) ps qs)
-    ∙ sym (append_assoc (entry_of (kind_of p) at text) (tokens_from (at + length text) ps) (tokens_from (at + length text + size ps) qs))
-    ∙ ap (λ n. (entry_of (kind_of p) at text ++ tokens_from (at + length text) ps) ++ tokens_from n qs) (omega (arith, size-cons p ps))
+    ap (λ r. token_of (kind_of p) at text ++ r) (tokens-append (at + length text) ps qs)
+    ∙ sym (append_assoc (token_of (kind_of p) at text) (tokens_from (at + length text) ps) (tokens_from (at + length text + size ps) qs))
+    ∙ ap (λ n. (token_of (kind_of p) at text ++ tokens_from (at + length text) ps) ++ tokens_from n qs) (omega (arith, size-cons p ps))
 
 -- ---- splits
 
@@ -59,7 +59,7 @@ split_first ends (x ∷ xs) first found = ⊎_elim
     (up_to_cases ends x xs first found)
 
 -- a statement that `;` ends, and those of what follows it
-pub split-first : (ts first rest : List Entry) → up_to ends ts ≡ Some first → ts ≡ first ++ rest → split ts ≡ first ∷ split rest
+pub split-first : (ts first rest : List PlacedToken) → up_to ends ts ≡ Some first → ts ≡ first ++ rest → split ts ≡ first ∷ split rest
 split-first [] first rest found parts = absurd cc
 split-first (t ∷ ts) first rest found parts = ⊎_elim
     (λ e.
@@ -73,15 +73,15 @@ split-first (t ∷ ts) first rest found parts = ⊎_elim
     (up_to_cases ends t ts first found)
 
 -- the tokens left are one statement, if there are any
-abbrev pub left : List Entry → List (List Entry)
+abbrev pub left : List PlacedToken → List (List PlacedToken)
 left [] = []
 left (t ∷ ts) = (t ∷ ts) ∷ []
 
-put-left : (t : Entry) (ts : List Entry) → put t (left ts) ≡ (t ∷ ts) ∷ []
+put-left : (t : PlacedToken) (ts : List PlacedToken) → put t (left ts) ≡ (t ∷ ts) ∷ []
 put-left t [] = refl
 put-left t (u ∷ ts) = refl
 
-pub split-left : (ts : List Entry) → up_to ends ts ≡ None → split ts ≡ left ts
+pub split-left : (ts : List PlacedToken) → up_to ends ts ≡ None → split ts ≡ left ts
 split-left [] = λ none. refl
 split-left (t ∷ ts) =
     elim (ends t) as (λ b. (if b then Some (t ∷ []) else option_map (λ qs. t ∷ qs) (up_to ends ts)) ≡ None → (if b then (t ∷ []) ∷ split ts else put t (split ts)) ≡ (t ∷ ts) ∷ []) [

@@ -9,7 +9,7 @@ use Rattle.td_tree.specs.declared.piece.Piece.{Piece}
 use Rattle.td_tree.specs.Division.{IsDivision, up_to}
 use Rattle.td_tree.specs.Pieces.{begins, continues, pieces, kind_of, state}
 use Rattle.td_tree.specs.Spans.{AreSlices, Ascends}
-use Rattle.td_tree.specs.Statements.{Entry, entry_of, tokens_from, tokens, ends, put, split, statements, IsEnded, IsUnended, AreStatements}
+use Rattle.td_tree.specs.Statements.{PlacedToken, token_of, tokens_from, tokens, ends, put, split, statements, IsEnded, IsUnended, AreStatements}
 use Rattle.td_tree.specs.Symbols.{Symbol, symbols, spell}
 use Rattle.td_tree.proofs.EndLaws.{up_to_cases}
 use Rattle.td_tree.proofs.EndOfStatement.{divides}
@@ -19,7 +19,7 @@ use Rattle.td_tree.proofs.StatementLaws.{left, split-left, split-first}
 
 -- ---- slices
 
-slice_more : (o : Option Kind) (before text after script : List ℕ) (at : ℕ) (ts : List Entry) → at ≡ length before → script ≡ before ++ (text ++ after) → AreSlices script ts → AreSlices script (entry_of o at text ++ ts)
+slice_more : (o : Option Kind) (before text after script : List ℕ) (at : ℕ) (ts : List PlacedToken) → at ≡ length before → script ≡ before ++ (text ++ after) → AreSlices script ts → AreSlices script (token_of o at text ++ ts)
 slice_more None before text after script at ts place is others = others
 slice_more (Some kind) before text after script at ts place is others =
     let past : drop at script ≡ text ++ after = ap (drop at) is ∙ drop_at before (text ++ after) at (sym place) in
@@ -68,11 +68,11 @@ full (p ∷ ps) xs d all =
     let here : AllText (p ++ d.0) = subst AllText d.1 all in
     (full_piece p d.2.piece.last d.2.piece.is (all_front p d.0 here), full ps d.0 d.3 (all_back p d.0 here))
 
-lower : (a b to : ℕ) (ts : List Entry) → a ≤ b → Ascends b to ts → Ascends a to ts
+lower : (a b to : ℕ) (ts : List PlacedToken) → a ≤ b → Ascends b to ts → Ascends a to ts
 lower a b to [] low up = omega (arith, up)
 lower a b to (t ∷ ts) low up = (omega (arith, up.0), up.1, up.2)
 
-span_more : (o : Option Kind) (at to : ℕ) (text : List ℕ) (ts : List Entry) → 0 < length text → Ascends (at + length text) to ts → Ascends at to (entry_of o at text ++ ts)
+span_more : (o : Option Kind) (at to : ℕ) (text : List ℕ) (ts : List PlacedToken) → 0 < length text → Ascends (at + length text) to ts → Ascends at to (token_of o at text ++ ts)
 span_more None at to text ts some others = lower at (at + length text) to ts (omega arith) others
 span_more (Some kind) at to text ts some others = (omega arith, omega arith, others)
 
@@ -86,11 +86,11 @@ ascends at bytes = ascends_from (pieces bytes) at (at + length bytes) (ap (λ (b
 
 -- ---- statements
 
-joined_put : (t : Entry) (ss : List (List Entry)) → flat_map (λ s. s) (put t ss) ≡ t ∷ flat_map (λ s. s) ss
+joined_put : (t : PlacedToken) (ss : List (List PlacedToken)) → flat_map (λ s. s) (put t ss) ≡ t ∷ flat_map (λ s. s) ss
 joined_put t [] = refl
 joined_put t (s ∷ ss) = refl
 
-joined_split : (ts : List Entry) → flat_map (λ s. s) (split ts) ≡ ts
+joined_split : (ts : List PlacedToken) → flat_map (λ s. s) (split ts) ≡ ts
 joined_split [] = refl
 joined_split (t ∷ ts) = elim (ends t) as (λ b. flat_map (λ s. s) (if b then (t ∷ []) ∷ split ts else put t (split ts)) ≡ t ∷ ts) [
   | true ↦ ap (λ r. t ∷ r) (joined_split ts)
@@ -102,26 +102,26 @@ pub all_tokens : (at : ℕ) (bytes : List ℕ) → flat_map (λ s. s) (statement
 unfolding statements
 all_tokens at bytes = joined_split (tokens at bytes)
 
-ended_put : (t : Entry) (s : List Entry) → ends t ≡ false → IsEnded s → IsEnded (t ∷ s)
+ended_put : (t : PlacedToken) (s : List PlacedToken) → ends t ≡ false → IsEnded s → IsEnded (t ∷ s)
 ended_put t s more ended = ap (λ b. if b then Some (t ∷ []) else option_map (λ qs. t ∷ qs) (up_to ends s)) more ∙ ap (option_map (λ qs. t ∷ qs)) ended
 
-unended_put : (t : Entry) (s : List Entry) → ends t ≡ false → up_to ends s ≡ None → IsUnended (t ∷ s)
+unended_put : (t : PlacedToken) (s : List PlacedToken) → ends t ≡ false → up_to ends s ≡ None → IsUnended (t ∷ s)
 unended_put t s more none = record {
   some = omega arith;
   none = ap (λ b. if b then Some (t ∷ []) else option_map (λ qs. t ∷ qs) (up_to ends s)) more ∙ ap (option_map (λ qs. t ∷ qs)) none;
 }
 
-are_put : (t : Entry) (ss : List (List Entry)) → ends t ≡ false → AreStatements ss → AreStatements (put t ss)
+are_put : (t : PlacedToken) (ss : List (List PlacedToken)) → ends t ≡ false → AreStatements ss → AreStatements (put t ss)
 are_put t [] more are = inr (unended_put t [] more refl)
 are_put t (s ∷ []) more (inl ended) = inl (ended_put t s more ended)
 are_put t (s ∷ []) more (inr left) = inr (unended_put t s more left.none)
 are_put t (s ∷ u ∷ ss) more are = (ended_put t s more are.0, are.1)
 
-are_before : (t : Entry) (ss : List (List Entry)) → ends t ≡ true → AreStatements ss → AreStatements ((t ∷ []) ∷ ss)
+are_before : (t : PlacedToken) (ss : List (List PlacedToken)) → ends t ≡ true → AreStatements ss → AreStatements ((t ∷ []) ∷ ss)
 are_before t [] ended are = inl (ap (λ b. if b then Some (t ∷ []) else None) ended)
 are_before t (s ∷ ss) ended are = (ap (λ b. if b then Some (t ∷ []) else None) ended, are)
 
-are_split : (ts : List Entry) → AreStatements (split ts)
+are_split : (ts : List PlacedToken) → AreStatements (split ts)
 are_split [] = tt
 are_split (t ∷ ts) =
     (elim (ends t) as (λ b. ends t ≡ b → AreStatements (if b then (t ∷ []) ∷ split ts else put t (split ts))) [
@@ -136,15 +136,15 @@ are_statements at bytes = are_split (tokens at bytes)
 
 -- ---- how many there are
 
-short_from : (at to : ℕ) (ts : List Entry) → Ascends at to ts → at + length ts ≤ to
+short_from : (at to : ℕ) (ts : List PlacedToken) → Ascends at to ts → at + length ts ≤ to
 short_from at to [] up = omega (arith, up)
 short_from at to (t ∷ ts) up = omega (arith, up.0, up.1, short_from t.stop to ts up.2)
 
-short_put : (t : Entry) (ss : List (List Entry)) → length (put t ss) ≤ suc (length ss)
+short_put : (t : PlacedToken) (ss : List (List PlacedToken)) → length (put t ss) ≤ suc (length ss)
 short_put t [] = omega arith
 short_put t (s ∷ ss) = omega arith
 
-short_split : (ts : List Entry) → length (split ts) ≤ length ts
+short_split : (ts : List PlacedToken) → length (split ts) ≤ length ts
 short_split [] = omega arith
 short_split (t ∷ ts) = elim (ends t) as (λ b. length (if b then (t ∷ []) ∷ split ts else put t (split ts)) ≤ suc (length ts)) [
   | true ↦ omega (arith, short_split ts)
@@ -158,7 +158,7 @@ statements_fit at bytes = omega (arith, short_split (tokens at bytes), short_fro
 
 -- ---- one way to cut tokens into statements
 
-found_before : (s rest : List Entry) → up_to ends s ≡ Some s → up_to ends (s ++ rest) ≡ Some s
+found_before : (s rest : List PlacedToken) → up_to ends s ≡ Some s → up_to ends (s ++ rest) ≡ Some s
 found_before [] rest e = absurd cc
 found_before (t ∷ s) rest e = ⊎_elim
     (λ o. ap (λ b. if b then Some (t ∷ []) else option_map (λ qs. t ∷ qs) (up_to ends (s ++ rest))) o.yes ∙ ap Some (sym o.one))
@@ -168,11 +168,11 @@ found_before (t ∷ s) rest e = ⊎_elim
     ∙ ap (option_map (λ qs. t ∷ qs)) (found_before s rest (l.found ∙ ap Some (sym same))))
     (up_to_cases ends t s (t ∷ s) e)
 
-left_some : (s : List Entry) → 0 < length s → left s ≡ s ∷ []
+left_some : (s : List PlacedToken) → 0 < length s → left s ≡ s ∷ []
 left_some [] some = absurd (omega arith)
 left_some (t ∷ s) some = refl
 
-split_again : (ss : List (List Entry)) → AreStatements ss → split (flat_map (λ s. s) ss) ≡ ss
+split_again : (ss : List (List PlacedToken)) → AreStatements ss → split (flat_map (λ s. s) ss) ≡ ss
 split_again [] are = refl
 split_again (s ∷ []) (inl ended) = split-first (s ++ []) s [] (found_before s [] ended) refl
 split_again (s ∷ []) (inr open_yet) = ap split (append-nil s) ∙ split-left s open_yet.none ∙ left_some s open_yet.some
@@ -181,6 +181,6 @@ split_again (s ∷ t ∷ ss) are =
     ∙ ap (λ r. s ∷ r) (split_again (t ∷ ss) are.1)
 
 -- tokens are cut into statements in no other way
-pub one_cut : (at : ℕ) (bytes : List ℕ) (ss : List (List Entry)) → AreStatements ss → flat_map (λ s. s) ss ≡ tokens at bytes → ss ≡ statements at bytes
+pub one_cut : (at : ℕ) (bytes : List ℕ) (ss : List (List PlacedToken)) → AreStatements ss → flat_map (λ s. s) ss ≡ tokens at bytes → ss ≡ statements at bytes
 unfolding statements
 one_cut at bytes ss are all = sym (split_again ss are) ∙ ap split all

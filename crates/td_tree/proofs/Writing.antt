@@ -5,7 +5,7 @@ use Rattle.std.proofs.lemmas.Grind.{flat_map-append}
 use Rattle.std.proofs.lemmas.List.{at_drop_more}
 use Rattle.td_tree.specs.Lexemes.{Lexeme, printed, spaced}
 use Rattle.td_tree.specs.Prints.{commas, following}
-use Rattle.td_tree.specs.Written.{comma_if, written}
+use Rattle.td_tree.specs.Written.{comma_lexeme_if, written}
 
 -- items that come first, or after others
 abbrev pub listed : Bool → List (List Lexeme) → List Lexeme
@@ -61,16 +61,16 @@ popped_text ls old new n m old_length new_length all pop bound =
     (subst (λ k. 0 < k → get_or old (k - 1) 0 < 128 → new ≡ take (k - 1) old) old_length pop))
     (omega (arith, ap length all))
 
-listed_more : (later : Bool) (item : List Lexeme) (items : List (List Lexeme)) → (comma_if later ++ item) ++ following items ≡ listed later (item ∷ items)
+listed_more : (later : Bool) (item : List Lexeme) (items : List (List Lexeme)) → (comma_lexeme_if later ++ item) ++ following items ≡ listed later (item ∷ items)
 listed_more true item items = refl
 listed_more false item items = refl
 
 -- one more item of those that g gives
 pub item_put : {X : Type 0} (g : List X → List (List Lexeme)) (part : X → List Lexeme) → ((x : X) (r : List X) → g (x ∷ r) ≡ part x ∷ g r)
-    → (xs : List X) (i : ℕ) (x : X) (out new all : List ℕ) (later : Bool) → i < length xs → x ≡ get_or xs i x → new ≡ out ++ written (comma_if later ++ part x)
+    → (xs : List X) (i : ℕ) (x : X) (out new all : List ℕ) (later : Bool) → i < length xs → x ≡ get_or xs i x → new ≡ out ++ written (comma_lexeme_if later ++ part x)
     → out ++ written (listed later (g (drop i xs))) ≡ all → new ++ written (listed true (g (drop (i + 1) xs))) ≡ all
 item_put g part parts xs i x out new all later inside is put left =
     let rest : List (List Lexeme) = g (drop (i + 1) xs) in
     let here : g (drop i xs) ≡ part x ∷ rest = at_drop_more g xs i x inside ∙ ap (λ y. g (y ∷ drop (i + 1) xs)) (sym is) ∙ parts x (drop (i + 1) xs) in
-    both_put out new (new ++ written (following rest)) (comma_if later ++ part x) (following rest) put refl
+    both_put out new (new ++ written (following rest)) (comma_lexeme_if later ++ part x) (following rest) put refl
     ∙ ap (λ w. out ++ written w) (listed_more later (part x) rest) ∙ ap (λ w. out ++ written (listed later w)) (sym here) ∙ left

@@ -4,7 +4,7 @@ use Rattle.td_tree.specs.declared.operator.Level.{Level}
 use Rattle.td_tree.specs.Grammar.{IsExpression, Spelling, TypeSpelling}
 use Rattle.td_tree.specs.Lexemes.{Lexeme}
 use Rattle.td_tree.specs.Prints.{lexemes_of, print, type_lexemes, type_print}
-use Rattle.td_tree.specs.Statements.{Entry, tokens}
+use Rattle.td_tree.specs.Statements.{PlacedToken, tokens}
 use Rattle.td_tree.specs.TokenLexemes.{lexemes}
 use Rattle.td_tree.specs.Trees.{Tree, TypeTree}
 
@@ -15,8 +15,8 @@ with_spaces (t ∷ []) = t
 with_spaces (t ∷ u ∷ ts) = t ++ 32 ∷ with_spaces (u ∷ ts)
 
 -- the bytes of each token (own)
-abbrev pub texts_of : List Entry → List (List ℕ)
-texts_of = map (λ (token : Entry). token.text)
+abbrev pub texts_of : List PlacedToken → List (List ℕ)
+texts_of = map (λ (token : PlacedToken). token.text)
 
 -- the grammar sees the tokens of a text as these lexemes, and the text is its tokens with one space
 -- between (own)
@@ -36,11 +36,11 @@ AreItsOwnTypeLexemes = (xs : List Lexeme) (t : TypeTree) → TypeSpelling xs t �
 -- the text of an expression that some tokens spell is tokens that are seen as these, one space
 -- between two
 abbrev pub PrintIsSpaced : Type 0
-PrintIsSpaced = (level : Level) (ts : List Entry) (t : Tree) → IsExpression level (lexemes ts) t
+PrintIsSpaced = (level : Level) (ts : List PlacedToken) (t : Tree) → IsExpression level (lexemes ts) t
     → IsSpaced (print t) (lexemes ts)
 
 -- the text of a type that some tokens spell is tokens that are seen as these, one space between two
 abbrev pub TypePrintIsSpaced : Type 0
 TypePrintIsSpaced =
-    (ts : List Entry) (t : TypeTree) → TypeSpelling (lexemes ts) t
+    (ts : List PlacedToken) (t : TypeTree) → TypeSpelling (lexemes ts) t
     → IsSpaced (type_print t) (lexemes ts)

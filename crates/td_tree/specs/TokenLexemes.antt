@@ -7,7 +7,7 @@ use lib.Pointwise.{pointwise}
 use Rattle.td_tree.specs.Lexemes.{Lexeme, keyword, sign, name, component, number, text, bad}
 use Rattle.td_tree.specs.Names.{is_name, is_word, begins_the}
 use Rattle.td_tree.specs.Numbers.{decimal_value}
-use Rattle.td_tree.specs.Statements.{Entry}
+use Rattle.td_tree.specs.Statements.{PlacedToken}
 use Rattle.td_tree.specs.TextTokens.{quoted, content}
 use Rattle.td_tree.specs.declared.token.Kind.{Kind}
 use Rattle.td_tree.specs.declared.token.Kind.TheVariants as kinds
@@ -30,11 +30,11 @@ lexeme_of kinds.Text t = if is_quoted_text t then text (content t) else bad
 lexeme_of (kinds.Sign s) t = sign s
 lexeme_of kinds.Bad t = bad
 
-abbrev pub lexemes : List Entry → List Lexeme
-lexemes = map (λ (token : Entry). lexeme_of token.kind token.text)
+abbrev pub lexemes : List PlacedToken → List Lexeme
+lexemes = map (λ (token : PlacedToken). lexeme_of token.kind token.text)
 
 -- the grammar sees those tokens as bad whose kind is bad, and no other
-abbrev pub AreBadWhereSeen : List Entry → Type 0
+abbrev pub AreBadWhereSeen : List PlacedToken → Type 0
 AreBadWhereSeen [] = ⊤
 AreBadWhereSeen (t ∷ ts) =
     ((lexeme_of t.kind t.text ≡ bad) ↔ (t.kind ≡ kinds.Bad)) × AreBadWhereSeen ts

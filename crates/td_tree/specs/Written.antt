@@ -13,9 +13,9 @@ abbrev pub Writes : {E : Type 0} → List ℕ → Result (List ℕ) E → List L
 Writes before result ls = IfOk result (λ out. out ≡ before ++ written ls)
 
 -- what stands before an item: a comma where another item stands before it
-abbrev pub comma_if : Bool → List Lexeme
-comma_if true = sign signs.Comma ∷ []
-comma_if false = []
+abbrev pub comma_lexeme_if : Bool → List Lexeme
+comma_lexeme_if true = sign signs.Comma ∷ []
+comma_lexeme_if false = []
 
 -- what stands between the quotes: two quotes before a piece that another stands before
 abbrev pub quotes_if : Bool → List ℕ

@@ -2,7 +2,7 @@
 ghost use Rattle.std.specs.Prelude.{◌≡◌, IfOk, map};
 ghost use Rattle.td_tree.specs.Copies.{Boxed};
 ghost use Rattle.td_tree.specs.Trees as trees;
-ghost use Rattle.td_tree.specs.TreeViews.{attributes_of, heading_of, literal_of, named_of, postfix_of, renaming_of, summaries_of, tree_of, trees_of, type_of, with_summary};
+ghost use Rattle.td_tree.specs.TreeViews.{attributes_view, heading_tree_view, literal_view, named_view, postfix_view, renaming_view, summaries_view, tree_view, trees_view, type_tree_view, with_summary};
 
 use crate::both::both;
 use crate::expression::{Attributes, Expr, Literal, NamedExpr, Postfix, Renaming, Summary};
@@ -15,7 +15,7 @@ impl TypeTree {
     /// The same type again.
     #[cycle(copy_type)]
     pub fn try_clone(&self) -> Result<TypeTree, AllocError>
-        ensures { IfOk result (λ copy. type_of copy ≡ type_of self.now) }
+        ensures { IfOk result (λ copy. type_tree_view copy ≡ type_tree_view self.now) }
     {
         match self {
             TypeTree::Integer => Ok(TypeTree::Integer),
@@ -30,7 +30,8 @@ impl TypeTree {
 
 #[cycle(copy_type)]
 fn copy_heading(heading: &Vec<AttributeTree>) -> Result<Vec<AttributeTree>, AllocError>
-    ensures { IfOk result (λ copy. heading_of copy.items ≡ heading_of heading.now.items) }
+    ensures { IfOk result (λ copy. heading_tree_view copy.items
+        ≡ heading_tree_view heading.now.items) }
 {
     let mut copy = Vec::with_capacity(*heading.allocator(), heading.len())?;
     for attribute in heading {
@@ -44,7 +45,7 @@ fn copy_heading(heading: &Vec<AttributeTree>) -> Result<Vec<AttributeTree>, Allo
 impl Literal {
     /// The same literal again.
     pub fn try_clone(&self) -> Result<Literal, AllocError>
-        ensures { IfOk result (λ copy. literal_of copy ≡ literal_of self.now) }
+        ensures { IfOk result (λ copy. literal_view copy ≡ literal_view self.now) }
     {
         match self {
             Literal::Number { minus, magnitude } => Ok(Literal::Number {
@@ -72,7 +73,7 @@ fn copy_names(names: &Vec<Name>) -> Result<Vec<Name>, AllocError>
 impl Attributes {
     /// The same attributes again.
     pub fn try_clone(&self) -> Result<Attributes, AllocError>
-        ensures { IfOk result (λ copy. attributes_of copy ≡ attributes_of self.now) }
+        ensures { IfOk result (λ copy. attributes_view copy ≡ attributes_view self.now) }
     {
         match self {
             Attributes::Only(names) => Ok(Attributes::Only(copy_names(names)?)),
@@ -83,7 +84,7 @@ impl Attributes {
 
 fn copy_renamings(renamings: &Vec<Renaming>) -> Result<Vec<Renaming>, AllocError>
     ensures { IfOk result
-        (λ copy. map renaming_of copy.items ≡ map renaming_of renamings.now.items) }
+        (λ copy. map renaming_view copy.items ≡ map renaming_view renamings.now.items) }
 {
     let mut copy = Vec::with_capacity(*renamings.allocator(), renamings.len())?;
     for renaming in renamings {
@@ -97,7 +98,7 @@ fn copy_renamings(renamings: &Vec<Renaming>) -> Result<Vec<Renaming>, AllocError
 impl Postfix {
     /// The same operator again.
     pub fn try_clone(&self) -> Result<Postfix, AllocError>
-        ensures { IfOk result (λ copy. postfix_of copy ≡ postfix_of self.now) }
+        ensures { IfOk result (λ copy. postfix_view copy ≡ postfix_view self.now) }
     {
         match self {
             Postfix::Project(attributes) => Ok(Postfix::Project(attributes.try_clone()?)),
@@ -120,7 +121,7 @@ impl Expr {
     /// The same expression again.
     #[cycle(copy)]
     pub fn try_clone(&self) -> Result<Expr, AllocError>
-        ensures { IfOk result (λ copy. tree_of copy ≡ tree_of self.now) }
+        ensures { IfOk result (λ copy. tree_view copy ≡ tree_view self.now) }
     {
         match self {
             Expr::Literal(value) => remade::literal(value.try_clone()),
@@ -157,7 +158,7 @@ impl Expr {
 /// The same expression in a box of its own.
 #[cycle(copy)]
 fn boxed(expression: &Box<Expr>) -> Result<Box<Expr>, AllocError>
-    ensures { Boxed result (tree_of expression.now.value) }
+    ensures { Boxed result (tree_view expression.now.value) }
 {
     let copy = expression.try_clone()?;
     Ok(Box::new(*Box::allocator(expression), copy)?)
@@ -165,7 +166,7 @@ fn boxed(expression: &Box<Expr>) -> Result<Box<Expr>, AllocError>
 
 #[cycle(copy)]
 fn copy_list(expressions: &Vec<Expr>) -> Result<Vec<Expr>, AllocError>
-    ensures { IfOk result (λ copy. trees_of copy.items ≡ trees_of expressions.now.items) }
+    ensures { IfOk result (λ copy. trees_view copy.items ≡ trees_view expressions.now.items) }
 {
     let mut copy = Vec::with_capacity(*expressions.allocator(), expressions.len())?;
     for expression in expressions {
@@ -176,7 +177,7 @@ fn copy_list(expressions: &Vec<Expr>) -> Result<Vec<Expr>, AllocError>
 
 #[cycle(copy)]
 fn copy_parts(parts: &Vec<NamedExpr>) -> Result<Vec<NamedExpr>, AllocError>
-    ensures { IfOk result (λ copy. named_of copy.items ≡ named_of parts.now.items) }
+    ensures { IfOk result (λ copy. named_view copy.items ≡ named_view parts.now.items) }
 {
     let mut copy = Vec::with_capacity(*parts.allocator(), parts.len())?;
     for part in parts {
@@ -189,7 +190,7 @@ fn copy_parts(parts: &Vec<NamedExpr>) -> Result<Vec<NamedExpr>, AllocError>
 
 #[cycle(copy)]
 fn copy_summaries(summaries: &Vec<Summary>) -> Result<Vec<Summary>, AllocError>
-    ensures { IfOk result (λ copy. summaries_of copy.items ≡ summaries_of summaries.now.items) }
+    ensures { IfOk result (λ copy. summaries_view copy.items ≡ summaries_view summaries.now.items) }
 {
     let mut copy = Vec::with_capacity(*summaries.allocator(), summaries.len())?;
     for summary in summaries {

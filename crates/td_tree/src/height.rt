@@ -1,7 +1,7 @@
 //! How high a tree is: 1 without parts, else one more than its highest part. `u64::MAX` stands for what is greater.
 ghost use Rattle.std.specs.Prelude.{◌≡◌, ◌+◌, ◌-◌, ◌^◌, min};
 ghost use Rattle.td_tree.specs.Heights.{attributes_height, height, highest, highest_named, highest_summary, type_height};
-ghost use Rattle.td_tree.specs.TreeViews.{heading_of, named_of, summaries_of, tree_of, trees_of, type_of};
+ghost use Rattle.td_tree.specs.TreeViews.{heading_tree_view, named_view, summaries_view, tree_view, trees_view, type_tree_view};
 
 use crate::expression::{Expr, NamedExpr, Summary};
 use crate::type_tree::{AttributeTree, TypeTree};
@@ -10,7 +10,7 @@ impl TypeTree {
     /// How high the type is.
     #[cycle(type_height)]
     pub fn height(&self) -> u64
-        ensures { result ≡ min (type_height (type_of self.now)) (2 ^ 64 - 1) }
+        ensures { result ≡ min (type_height (type_tree_view self.now)) (2 ^ 64 - 1) }
     {
         match self {
             TypeTree::Integer | TypeTree::Char | TypeTree::Boolean | TypeTree::User(_) => 1,
@@ -24,7 +24,7 @@ impl TypeTree {
 /// How high the highest type of a heading is.
 #[cycle(type_height)]
 pub fn highest_type(heading: &[AttributeTree]) -> u64
-    ensures { result ≡ min (attributes_height (heading_of heading.now)) (2 ^ 64 - 1) }
+    ensures { result ≡ min (attributes_height (heading_tree_view heading.now)) (2 ^ 64 - 1) }
 {
     let mut highest = 0;
     for attribute in heading {
@@ -37,14 +37,14 @@ impl Expr {
     /// How high the expression is.
     #[cycle(height)]
     pub fn height(&self) -> u64
-        ensures { result ≡ min (height (tree_of self.now)) (2 ^ 64 - 1) }
+        ensures { result ≡ min (height (tree_view self.now)) (2 ^ 64 - 1) }
     {
         self.highest_part().saturating_add(1)
     }
 
     #[cycle(height)]
     fn highest_part(&self) -> u64
-        ensures { min (result + 1) (2 ^ 64 - 1) ≡ min (height (tree_of self.now)) (2 ^ 64 - 1) }
+        ensures { min (result + 1) (2 ^ 64 - 1) ≡ min (height (tree_view self.now)) (2 ^ 64 - 1) }
     {
         match self {
             Expr::Literal(_) | Expr::Name(_) => 0,
@@ -80,7 +80,7 @@ impl Expr {
 
 #[cycle(height)]
 fn highest(elements: &[Expr]) -> u64
-    ensures { result ≡ min (highest (trees_of elements.now)) (2 ^ 64 - 1) }
+    ensures { result ≡ min (highest (trees_view elements.now)) (2 ^ 64 - 1) }
 {
     let mut highest = 0;
     for element in elements {
@@ -91,7 +91,7 @@ fn highest(elements: &[Expr]) -> u64
 
 #[cycle(height)]
 fn highest_named(parts: &[NamedExpr]) -> u64
-    ensures { result ≡ min (highest_named (named_of parts.now)) (2 ^ 64 - 1) }
+    ensures { result ≡ min (highest_named (named_view parts.now)) (2 ^ 64 - 1) }
 {
     let mut highest = 0;
     for part in parts {
@@ -102,7 +102,7 @@ fn highest_named(parts: &[NamedExpr]) -> u64
 
 #[cycle(height)]
 fn highest_summary(summaries: &[Summary]) -> u64
-    ensures { result ≡ min (highest_summary (summaries_of summaries.now)) (2 ^ 64 - 1) }
+    ensures { result ≡ min (highest_summary (summaries_view summaries.now)) (2 ^ 64 - 1) }
 {
     let mut highest = 0;
     for summary in summaries {

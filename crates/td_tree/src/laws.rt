@@ -7,7 +7,7 @@ ghost use Rattle.td_tree.specs.Outcomes.{LeastIsNamed};
 ghost use Rattle.td_tree.specs.Pieces.{AreLongest, kind_of, pieces, state, text_kind};
 ghost use Rattle.td_tree.specs.Spans.{AreOfTheirKind, AreSlices, AreTexts, Ascends};
 ghost use Rattle.td_tree.specs.Spellings.{IsSpelled, characters};
-ghost use Rattle.td_tree.specs.Statements.{AreStatements, Entry, first_ended, statements, tokens};
+ghost use Rattle.td_tree.specs.Statements.{AreStatements, PlacedToken, first_ended, statements, tokens};
 ghost use Rattle.td_tree.specs.Symbols.{AreSymbols, Symbol, symbols};
 ghost use Rattle.td_tree.specs.TextTokens.{IsQuotedText, content, quoted};
 
@@ -100,13 +100,14 @@ pub fn statements_end()
 /// Tokens are cut into statements in no other way.
 #[tactic(auto, using(crate::proofs::TokenLaws::one_cut))]
 pub fn one_cut_into_statements()
-    ensures { (at : ℕ) (bytes : List ℕ) (ss : List (List Entry)) → AreStatements ss
+    ensures { (at : ℕ) (bytes : List ℕ) (ss : List (List PlacedToken)) → AreStatements ss
         → flat_map (λ s. s) ss ≡ tokens at bytes → ss ≡ statements at bytes }
 {}
 
 /// A statement that `;` ends is the same in every continuation of the bytes.
 #[tactic(auto, using(crate::proofs::HeldLaws::up_to_first))]
 pub fn same_in_every_continuation()
-    ensures { (at : ℕ) (bytes : List ℕ) (first : List Entry) → first_ended at bytes ≡ Some first
+    ensures { (at : ℕ) (bytes : List ℕ) (first : List PlacedToken)
+        → first_ended at bytes ≡ Some first
         → (later : List ℕ) → first_ended at (bytes ++ later) ≡ Some first }
 {}

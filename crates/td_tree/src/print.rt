@@ -7,7 +7,7 @@ ghost use Rattle.td_tree.specs.Grammar.{aggregate_word};
 ghost use Rattle.td_tree.specs.Lexemes.{keyword, sign};
 ghost use Rattle.td_tree.specs.Lists.{braced, parenthesized};
 ghost use Rattle.td_tree.specs.Prints.{addition_lexemes, all_lexemes, commas, heading_lexemes, lexemes_of, part_lexemes, print, summary_lexemes, type_lexemes, type_print};
-ghost use Rattle.td_tree.specs.TreeViews.{heading_of, named_of, summaries_of, tree_of, trees_of, type_of};
+ghost use Rattle.td_tree.specs.TreeViews.{heading_tree_view, named_view, summaries_view, tree_view, trees_view, type_tree_view};
 ghost use Rattle.td_tree.specs.Written.{Writes};
 
 mod words;
@@ -22,14 +22,14 @@ use words::Printer;
 
 /// The text of the type.
 pub fn print_type(alloc: Global, ty: &TypeTree) -> Result<String, AllocError>
-    ensures { IfOk result (λ text. string_bytes text ≡ type_print (type_of ty.now)) }
+    ensures { IfOk result (λ text. string_bytes text ≡ type_print (type_tree_view ty.now)) }
 {
     Ok(Printer::new(alloc).ty(ty)?.finish())
 }
 
 /// The text of the expression.
 pub fn print_expr(alloc: Global, expression: &Expr) -> Result<String, AllocError>
-    ensures { IfOk result (λ text. string_bytes text ≡ print (tree_of expression.now)) }
+    ensures { IfOk result (λ text. string_bytes text ≡ print (tree_view expression.now)) }
 {
     Ok(Printer::new(alloc).expr(expression)?.finish())
 }
@@ -37,7 +37,7 @@ pub fn print_expr(alloc: Global, expression: &Expr) -> Result<String, AllocError
 impl Printer {
     #[cycle(type_printer)]
     fn ty(self, ty: &TypeTree) -> Result<Printer, AllocError>
-        ensures { Writes self result (type_lexemes (type_of ty.now)) }
+        ensures { Writes self result (type_lexemes (type_tree_view ty.now)) }
     {
         match ty {
             TypeTree::Integer => self.keyword(Keyword::Integer),
@@ -51,7 +51,7 @@ impl Printer {
 
     #[cycle(type_printer)]
     fn heading(self, heading: &[AttributeTree]) -> Result<Printer, AllocError>
-        ensures { Writes self result (heading_lexemes (heading_of heading.now)) }
+        ensures { Writes self result (heading_lexemes (heading_tree_view heading.now)) }
     {
         let mut out = self.sign(Sign::OpenBrace)?;
         let mut later = false;
@@ -64,14 +64,14 @@ impl Printer {
 
     fn relation_type(self, heading: &[AttributeTree]) -> Result<Printer, AllocError>
         ensures { Writes self result
-            (keyword k.Relation ∷ heading_lexemes (heading_of heading.now)) }
+            (keyword k.Relation ∷ heading_lexemes (heading_tree_view heading.now)) }
     {
         self.keyword(Keyword::Relation)?.heading(heading)
     }
 
     #[cycle(printer)]
     fn expr(self, expression: &Expr) -> Result<Printer, AllocError>
-        ensures { Writes self result (lexemes_of (tree_of expression.now)) }
+        ensures { Writes self result (lexemes_of (tree_view expression.now)) }
     {
         match expression {
             Expr::Literal(value) => self.literal(value),
@@ -109,7 +109,7 @@ impl Printer {
 
     #[cycle(printer)]
     fn parenthesized(self, inner: &Expr) -> Result<Printer, AllocError>
-        ensures { Writes self result (parenthesized (lexemes_of (tree_of inner.now))) }
+        ensures { Writes self result (parenthesized (lexemes_of (tree_view inner.now))) }
     {
         let out = self.sign(Sign::OpenParenthesis)?;
         out.expr(inner)?.sign(Sign::CloseParenthesis)
@@ -118,7 +118,7 @@ impl Printer {
     /// The word and the expression behind it.
     #[cycle(printer)]
     fn after(self, word: Keyword, expression: &Expr) -> Result<Printer, AllocError>
-        ensures { Writes self result (keyword word ∷ lexemes_of (tree_of expression.now)) }
+        ensures { Writes self result (keyword word ∷ lexemes_of (tree_view expression.now)) }
     {
         self.keyword(word)?.expr(expression)
     }
@@ -128,7 +128,7 @@ impl Printer {
     fn aggregated(self, op: Aggregate, operand: &Expr) -> Result<Printer, AllocError>
         ensures { Writes self result
             (keyword (aggregate_word op)
-            ∷ (sign signs.OpenParenthesis ∷ lexemes_of (tree_of operand.now))) }
+            ∷ (sign signs.OpenParenthesis ∷ lexemes_of (tree_view operand.now))) }
     {
         self.keyword(op.keyword())?
             .sign(Sign::OpenParenthesis)?
@@ -140,7 +140,7 @@ impl Printer {
     fn over(self, value: &Expr) -> Result<Printer, AllocError>
         ensures { Writes self result
             (sign signs.Comma
-            ∷ (lexemes_of (tree_of value.now) ++ (sign signs.CloseParenthesis ∷ []))) }
+            ∷ (lexemes_of (tree_view value.now) ++ (sign signs.CloseParenthesis ∷ []))) }
     {
         self.sign(Sign::Comma)?
             .expr(value)?
@@ -150,7 +150,7 @@ impl Printer {
     #[cycle(printer)]
     fn per(self, per: &Expr) -> Result<Printer, AllocError>
         ensures { Writes self result
-            (keyword k.Per ∷ parenthesized (lexemes_of (tree_of per.now))) }
+            (keyword k.Per ∷ parenthesized (lexemes_of (tree_view per.now))) }
     {
         self.keyword(Keyword::Per)?.parenthesized(per)
     }
@@ -159,7 +159,7 @@ impl Printer {
     fn alternative(self, no: &Expr) -> Result<Printer, AllocError>
         ensures { Writes self result
             (keyword k.Else
-            ∷ (lexemes_of (tree_of no.now) ++ (keyword k.End ∷ (keyword k.If ∷ [])))) }
+            ∷ (lexemes_of (tree_view no.now) ++ (keyword k.End ∷ (keyword k.If ∷ [])))) }
     {
         self.after(Keyword::Else, no)?
             .keyword(Keyword::End)?
@@ -169,7 +169,7 @@ impl Printer {
     #[cycle(printer)]
     fn arguments(self, arguments: &[Expr]) -> Result<Printer, AllocError>
         ensures { Writes self result
-            (parenthesized (commas (all_lexemes (trees_of arguments.now)))) }
+            (parenthesized (commas (all_lexemes (trees_view arguments.now)))) }
     {
         let mut out = self.sign(Sign::OpenParenthesis)?;
         let mut later = false;
@@ -182,7 +182,7 @@ impl Printer {
 
     #[cycle(printer)]
     fn elements(self, elements: &[Expr]) -> Result<Printer, AllocError>
-        ensures { Writes self result (braced (commas (all_lexemes (trees_of elements.now)))) }
+        ensures { Writes self result (braced (commas (all_lexemes (trees_view elements.now)))) }
     {
         let mut out = self.sign(Sign::OpenBrace)?;
         let mut later = false;
@@ -196,7 +196,7 @@ impl Printer {
     /// Each name and its expression, in braces.
     #[cycle(printer)]
     fn parts(self, parts: &[NamedExpr]) -> Result<Printer, AllocError>
-        ensures { Writes self result (braced (commas (part_lexemes (named_of parts.now)))) }
+        ensures { Writes self result (braced (commas (part_lexemes (named_view parts.now)))) }
     {
         let mut out = self.sign(Sign::OpenBrace)?;
         let mut later = false;
@@ -211,7 +211,7 @@ impl Printer {
     #[cycle(printer)]
     fn additions(self, parts: &[NamedExpr]) -> Result<Printer, AllocError>
         ensures { Writes self result
-            (keyword k.Add ∷ parenthesized (commas (addition_lexemes (named_of parts.now)))) }
+            (keyword k.Add ∷ parenthesized (commas (addition_lexemes (named_view parts.now)))) }
     {
         let mut out = self.keyword(Keyword::Add)?.sign(Sign::OpenParenthesis)?;
         let mut later = false;
@@ -226,7 +226,7 @@ impl Printer {
     #[cycle(printer)]
     fn summaries(self, added: &[Summary]) -> Result<Printer, AllocError>
         ensures { Writes self result
-            (keyword k.Add ∷ parenthesized (commas (summary_lexemes (summaries_of added.now)))) }
+            (keyword k.Add ∷ parenthesized (commas (summary_lexemes (summaries_view added.now)))) }
     {
         let mut out = self.keyword(Keyword::Add)?.sign(Sign::OpenParenthesis)?;
         let mut later = false;
@@ -239,7 +239,8 @@ impl Printer {
 
     #[cycle(printer)]
     fn summary(self, summary: &Summary) -> Result<Printer, AllocError>
-        ensures { Writes self result (commas (summary_lexemes (summaries_of (summary.now ∷ [])))) }
+        ensures { Writes self result (commas (summary_lexemes (summaries_view
+            (summary.now ∷ [])))) }
     {
         match summary {
             Summary::Count(name) => {

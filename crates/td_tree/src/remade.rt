@@ -3,7 +3,7 @@ ghost use Rattle.std.specs.Prelude.{◌≡◌, IfOk};
 ghost use Rattle.std.specs.Rc.{rc_str_bytes};
 ghost use Rattle.td_tree.specs.Copies.{Boxed, Copied};
 ghost use Rattle.td_tree.specs.Trees as trees;
-ghost use Rattle.td_tree.specs.TreeViews.{attributes_of, heading_of, literal_of, named_of, postfix_of, summaries_of, tree_of, trees_of};
+ghost use Rattle.td_tree.specs.TreeViews.{attributes_view, heading_tree_view, literal_view, named_view, postfix_view, summaries_view, tree_view, trees_view};
 
 use crate::both::both;
 use crate::expression::{Attributes, Expr, Literal, NamedExpr, Postfix, Summary};
@@ -15,7 +15,7 @@ use std::rc::RcStr;
 
 /// A literal.
 pub fn literal(value: Result<Literal, AllocError>) -> Result<Expr, AllocError>
-    ensures { (v : trees.Literal) → IfOk value (λ x. literal_of x ≡ v)
+    ensures { (v : trees.Literal) → IfOk value (λ x. literal_view x ≡ v)
         → Copied result (trees.literal v) }
 {
     Ok(Expr::Literal(value?))
@@ -92,7 +92,7 @@ pub fn postfix(
     op: Result<Postfix, AllocError>,
 ) -> Result<Expr, AllocError>
     ensures { (o : trees.Tree) → (p : trees.Postfix) → Boxed operand o
-        → IfOk op (λ x. postfix_of x ≡ p) → Copied result (trees.postfix o p) }
+        → IfOk op (λ x. postfix_view x ≡ p) → Copied result (trees.postfix o p) }
 {
     match both(operand, op) {
         Ok((operand, op)) => Ok(Expr::Postfix(operand, op)),
@@ -102,7 +102,7 @@ pub fn postfix(
 
 /// `T(e, ..)`, of its parts.
 fn selected(ty: Name, arguments: Vec<Expr>) -> Expr
-    ensures { tree_of result ≡ trees.select ty (trees_of arguments.items) }
+    ensures { tree_view result ≡ trees.select ty (trees_view arguments.items) }
 {
     Expr::Select(ty, arguments)
 }
@@ -113,7 +113,7 @@ pub fn select(
     arguments: Result<Vec<Expr>, AllocError>,
 ) -> Result<Expr, AllocError>
     ensures { (n : trees.Text) → (es : trees.Trees) → IfOk ty (λ x. x ≡ n)
-        → IfOk arguments (λ x. trees_of x.items ≡ es) → Copied result (trees.select n es) }
+        → IfOk arguments (λ x. trees_view x.items ≡ es) → Copied result (trees.select n es) }
 {
     match both(ty, arguments) {
         Ok((ty, arguments)) => Ok(selected(ty, arguments)),
@@ -160,7 +160,7 @@ pub fn aggregate(
 /// `RELATION {t, ..}`
 #[tactic(auto, using(crate::proofs::Rows::relation_is))]
 pub fn relation(elements: Result<Vec<Expr>, AllocError>) -> Result<Expr, AllocError>
-    ensures { (es : trees.Trees) → IfOk elements (λ x. trees_of x.items ≡ es)
+    ensures { (es : trees.Trees) → IfOk elements (λ x. trees_view x.items ≡ es)
         → Copied result (trees.relation es) }
 {
     Ok(Expr::Relation(elements?))
@@ -173,7 +173,8 @@ pub fn headed_relation(
     elements: Result<Vec<Expr>, AllocError>,
 ) -> Result<Expr, AllocError>
     ensures { (h : trees.AttributeTrees) → (es : trees.Trees)
-        → IfOk heading (λ x. heading_of x.items ≡ h) → IfOk elements (λ x. trees_of x.items ≡ es)
+        → IfOk heading (λ x. heading_tree_view x.items ≡ h)
+        → IfOk elements (λ x. trees_view x.items ≡ es)
         → Copied result (trees.headed_relation h es) }
 {
     match both(heading, elements) {
@@ -185,7 +186,7 @@ pub fn headed_relation(
 /// `TUPLE {A e, ..}`
 #[tactic(auto, using(crate::proofs::Rows::tuple_is))]
 pub fn tuple(parts: Result<Vec<NamedExpr>, AllocError>) -> Result<Expr, AllocError>
-    ensures { (ps : trees.NamedTrees) → IfOk parts (λ x. named_of x.items ≡ ps)
+    ensures { (ps : trees.NamedTrees) → IfOk parts (λ x. named_view x.items ≡ ps)
         → Copied result (trees.tuple ps) }
 {
     Ok(Expr::Tuple(parts?))
@@ -198,7 +199,7 @@ pub fn extend(
     parts: Result<Vec<NamedExpr>, AllocError>,
 ) -> Result<Expr, AllocError>
     ensures { (o : trees.Tree) → (ps : trees.NamedTrees) → Boxed operand o
-        → IfOk parts (λ x. named_of x.items ≡ ps) → Copied result (trees.extend o ps) }
+        → IfOk parts (λ x. named_view x.items ≡ ps) → Copied result (trees.extend o ps) }
 {
     match both(operand, parts) {
         Ok((operand, parts)) => Ok(Expr::Extend(operand, parts)),
@@ -214,7 +215,7 @@ pub fn summarize_per(
     added: Result<Vec<Summary>, AllocError>,
 ) -> Result<Expr, AllocError>
     ensures { (o : trees.Tree) → (p : trees.Tree) → (ss : trees.Summaries) → Boxed operand o
-        → Boxed per p → IfOk added (λ x. summaries_of x.items ≡ ss)
+        → Boxed per p → IfOk added (λ x. summaries_view x.items ≡ ss)
         → Copied result (trees.summarize_per o p ss) }
 {
     match both(operand, both(per, added)) {
@@ -225,8 +226,9 @@ pub fn summarize_per(
 
 /// `SUMMARIZE e BY {..} ADD (..)`, of its parts.
 fn summarized_by(operand: Box<Expr>, by: Attributes, added: Vec<Summary>) -> Expr
-    ensures { tree_of result
-        ≡ trees.summarize_by (tree_of operand.value) (attributes_of by) (summaries_of added.items) }
+    ensures { tree_view result
+        ≡ trees.summarize_by (tree_view operand.value) (attributes_view by)
+        (summaries_view added.items) }
 {
     Expr::SummarizeBy(operand, by, added)
 }
@@ -238,7 +240,7 @@ pub fn summarize_by(
     added: Result<Vec<Summary>, AllocError>,
 ) -> Result<Expr, AllocError>
     ensures { (o : trees.Tree) → (b : trees.Attributes) → (ss : trees.Summaries) → Boxed operand o
-        → IfOk by (λ x. attributes_of x ≡ b) → IfOk added (λ x. summaries_of x.items ≡ ss)
+        → IfOk by (λ x. attributes_view x ≡ b) → IfOk added (λ x. summaries_view x.items ≡ ss)
         → Copied result (trees.summarize_by o b ss) }
 {
     match both(operand, both(by, added)) {

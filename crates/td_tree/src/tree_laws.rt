@@ -4,21 +4,21 @@ ghost use Rattle.td_tree.specs.declared.operator.Level.{Level};
 ghost use Rattle.td_tree.specs.Grammar.{IsExpression, TypeSpelling};
 ghost use Rattle.td_tree.specs.Prints.{print, type_print};
 ghost use Rattle.td_tree.specs.Spaced.{AreItsOwnLexemes, AreItsOwnTypeLexemes, PrintIsSpaced, TypePrintIsSpaced};
-ghost use Rattle.td_tree.specs.Statements.{Entry, tokens};
+ghost use Rattle.td_tree.specs.Statements.{PlacedToken, tokens};
 ghost use Rattle.td_tree.specs.TokenLexemes.{AreBadWhereSeen, lexemes};
 ghost use Rattle.td_tree.specs.Trees.{Tree, TypeTree};
 
 /// An expression that some tokens spell is printed as a text whose tokens spell it.
 #[tactic(auto, using(crate::proofs::PrintLaws::print_spells))]
 pub fn prints_spell_expressions()
-    ensures { (level : Level) (ts : List Entry) (t : Tree) → IsExpression level (lexemes ts) t
+    ensures { (level : Level) (ts : List PlacedToken) (t : Tree) → IsExpression level (lexemes ts) t
         → IsExpression level (lexemes (tokens 0 (print t))) t }
 {}
 
 /// A type that some tokens spell is printed as a text whose tokens spell it.
 #[tactic(auto, using(crate::proofs::PrintLaws::type_print_spells))]
 pub fn prints_spell_types()
-    ensures { (ts : List Entry) (t : TypeTree) → TypeSpelling (lexemes ts) t
+    ensures { (ts : List PlacedToken) (t : TypeTree) → TypeSpelling (lexemes ts) t
         → TypeSpelling (lexemes (tokens 0 (type_print t))) t }
 {}
 

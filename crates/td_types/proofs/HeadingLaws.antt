@@ -14,7 +14,7 @@ use Rattle.std.proofs.lemmas.Map.Lookups.{exact_bytes}
 use Rattle.td_types.specs.Headings.{AgreementIsOneType, RenamingKeepsTypes, TypesDetermineHeading, are_distinct, new_name, add_missing, agree, common_part, has_attribute, has_attributes, has_name, heading_union, is_type_or_none, projection, renamed, with_attribute, without_attribute}
 use Rattle.td_tree.specs.Names.{IsName}
 use Rattle.td_types.specs.TypeOrder.{type_eq-Decides}
-use Rattle.td_types.specs.Types.{Type', Attribute, Attributes, IsAscending, IsBefore, IsHeading, IsType, pack, names_of, same_name, type_at}
+use Rattle.td_types.specs.Types.{Type', Attribute, Heading, IsAscending, IsBefore, IsHeading, IsType, pack, attribute_names, same_name, type_at}
 
 abbrev pub name_cmp : List ℕ → List ℕ → Ordering
 name_cmp = slice_cmp nat_cmp
@@ -24,7 +24,7 @@ pub same_name-ties : (m n : List ℕ) → same_name m n ≡ eq_by_cmp name_cmp n
 same_name-ties m n = texts_ties m n ∙ (eq_by_cmp_equiv nat_list_cmp_total).symm m n
 
 -- the type of a name is what std's look-up finds
-pub find-type_at : (n : List ℕ) (xs : Attributes) → find name_cmp n xs ≡ type_at n xs
+pub find-type_at : (n : List ℕ) (xs : Heading) → find name_cmp n xs ≡ type_at n xs
 find-type_at n [] = refl
 find-type_at n (x ∷ xs) = rw (same_name-ties x.0 n, find-type_at n xs) refl
 
@@ -50,46 +50,46 @@ second : (a b : Bool) → T (a && b) → T b
 second true b p = p
 second false b p = absurd p
 
-above_first : (n : List ℕ) (xs : Attributes) → AllByRecursion (λ m. name_cmp n m ≡ Less) (names_of xs) → T (below_all name_cmp n xs)
+above_first : (n : List ℕ) (xs : Heading) → AllByRecursion (λ m. name_cmp n m ≡ Less) (attribute_names xs) → T (below_all name_cmp n xs)
 above_first n [] h = tt
 above_first n (x ∷ xs) h = both _ _ (less_is (name_cmp n x.0) h.0) (above_first n xs h.1)
 
-above_first_back : (n : List ℕ) (xs : Attributes) → T (below_all name_cmp n xs) → AllByRecursion (λ m. name_cmp n m ≡ Less) (names_of xs)
+above_first_back : (n : List ℕ) (xs : Heading) → T (below_all name_cmp n xs) → AllByRecursion (λ m. name_cmp n m ≡ Less) (attribute_names xs)
 above_first_back n [] h = tt
 above_first_back n (x ∷ xs) h = (is_less (name_cmp n x.0) (first _ _ h), above_first_back n xs (second _ _ h))
 
 -- ascending names are sorted entries
-pub sorted_from_ascending : (xs : Attributes) → IsAscending xs → T (is_sorted name_cmp xs)
+pub sorted_from_ascending : (xs : Heading) → IsAscending xs → T (is_sorted name_cmp xs)
 unfolding IsStrictlySortedBy
 sorted_from_ascending [] h = tt
 sorted_from_ascending (x ∷ xs) h = both _ _ (above_first x.0 xs h.0) (sorted_from_ascending xs h.1)
 
-pub ascending_from_sorted : (xs : Attributes) → T (is_sorted name_cmp xs) → IsAscending xs
+pub ascending_from_sorted : (xs : Heading) → T (is_sorted name_cmp xs) → IsAscending xs
 unfolding IsStrictlySortedBy
 ascending_from_sorted [] h = tt
 ascending_from_sorted (x ∷ xs) h = (above_first_back x.0 xs (first _ _ h), ascending_from_sorted xs (second _ _ h))
 
 -- ---- an attribute put in its place
 
-pub IsAscending-with : (n : List ℕ) (t : Type') (xs : Attributes) → IsAscending xs → IsAscending (with_attribute xs (n, t))
+pub IsAscending-with : (n : List ℕ) (t : Type') (xs : Heading) → IsAscending xs → IsAscending (with_attribute xs (n, t))
 IsAscending-with n t xs h = ascending_from_sorted _ (is_sorted-put name_cmp nat_list_cmp_total n t xs (sorted_from_ascending xs h))
 
-pub type_at-with : (m n : List ℕ) (t : Type') (xs : Attributes) → type_at m (with_attribute xs (n, t)) ≡ (if same_name n m then Some t else type_at m xs)
+pub type_at-with : (m n : List ℕ) (t : Type') (xs : Heading) → type_at m (with_attribute xs (n, t)) ≡ (if same_name n m then Some t else type_at m xs)
 type_at-with m n t xs = sym (find-type_at m (with_attribute xs (n, t))) ∙ find-put name_cmp nat_list_cmp_total m n t xs ∙ rw (find-type_at m xs, same_name-ties n m) refl
 
 -- ---- what every heading is
 
-before_all : (n : List ℕ) (xs : Attributes) → IsBefore n (pack xs) → AllByRecursion (λ m. name_cmp n m ≡ Less) (names_of xs)
+before_all : (n : List ℕ) (xs : Heading) → IsBefore n (pack xs) → AllByRecursion (λ m. name_cmp n m ≡ Less) (attribute_names xs)
 before_all n [] h = tt
 before_all n (x ∷ xs) h = (h.0, before_all n xs h.1)
 
 -- its names ascend
-pub ascending_from_heading : (xs : Attributes) → IsHeading (pack xs) → IsAscending xs
+pub ascending_from_heading : (xs : Heading) → IsHeading (pack xs) → IsAscending xs
 unfolding IsStrictlySortedBy
 ascending_from_heading [] h = tt
 ascending_from_heading (x ∷ xs) h = (before_all x.0 xs h.2, ascending_from_heading xs h.3)
 
-before_filter : (n : List ℕ) (p : Attribute → Bool) (xs : Attributes) → IsBefore n (pack xs) → IsBefore n (pack (filter p xs))
+before_filter : (n : List ℕ) (p : Attribute → Bool) (xs : Heading) → IsBefore n (pack xs) → IsBefore n (pack (filter p xs))
 before_filter n p [] h = tt
 before_filter n p (x ∷ xs) h = by_test (p x) (before_filter n p xs h.1)
   where
@@ -98,7 +98,7 @@ before_filter n p (x ∷ xs) h = by_test (p x) (before_filter n p xs h.1)
     by_test false rest = rest
 
 -- so is what a filter keeps of it
-pub IsHeading-filter : (p : Attribute → Bool) (xs : Attributes) → IsHeading (pack xs) → IsHeading (pack (filter p xs))
+pub IsHeading-filter : (p : Attribute → Bool) (xs : Heading) → IsHeading (pack xs) → IsHeading (pack (filter p xs))
 IsHeading-filter p [] h = tt
 IsHeading-filter p (x ∷ xs) h = by_test (p x) (before_filter x.0 p xs h.2) (IsHeading-filter p xs h.3)
   where
@@ -106,7 +106,7 @@ IsHeading-filter p (x ∷ xs) h = by_test (p x) (before_filter x.0 p xs h.2) (Is
     by_test true before rest = (h.0, h.1, before, rest)
     by_test false before rest = rest
 
-before_with : (m n : List ℕ) (t : Type') (xs : Attributes) → name_cmp m n ≡ Less → IsBefore m (pack xs) → IsBefore m (pack (with_attribute xs (n, t)))
+before_with : (m n : List ℕ) (t : Type') (xs : Heading) → name_cmp m n ≡ Less → IsBefore m (pack xs) → IsBefore m (pack (with_attribute xs (n, t)))
 before_with m n t [] e h = (e, tt)
 before_with m n t (x ∷ xs) e h = by_place (name_cmp n x.0) (before_with m n t xs e h.1)
   where
@@ -115,12 +115,12 @@ before_with m n t (x ∷ xs) e h = by_place (name_cmp n x.0) (before_with m n t 
     by_place Equal rest = h
     by_place Greater rest = (h.0, rest)
 
-before_further : (m n : List ℕ) (xs : Attributes) → name_cmp m n ≡ Less → IsBefore n (pack xs) → IsBefore m (pack xs)
+before_further : (m n : List ℕ) (xs : Heading) → name_cmp m n ≡ Less → IsBefore n (pack xs) → IsBefore m (pack xs)
 before_further m n [] e h = tt
 before_further m n (x ∷ xs) e h = (nat_list_cmp_total.trans m n x.0 e h.0, before_further m n xs e h.1)
 
 -- so is it with one more attribute
-pub IsHeading-with : (n : List ℕ) (t : Type') (xs : Attributes) → IsName n → IsType t → IsHeading (pack xs) → IsHeading (pack (with_attribute xs (n, t)))
+pub IsHeading-with : (n : List ℕ) (t : Type') (xs : Heading) → IsName n → IsType t → IsHeading (pack xs) → IsHeading (pack (with_attribute xs (n, t)))
 IsHeading-with n t [] a b h = (a, b, tt, tt)
 IsHeading-with n t (x ∷ xs) a b h = by_place (name_cmp n x.0) refl (IsHeading-with n t xs a b h.3)
   where
@@ -136,7 +136,7 @@ types_determine_heading g h a b e =
     same_entries name_cmp nat_list_cmp_total exact_bytes g h (sorted_from_ascending g a) (sorted_from_ascending h b) (λ n. find-type_at n g ∙ e n ∙ sym (find-type_at n h))
 
 -- an attribute inserted before the first that does not stand before its name is put in its place
-pub insert-with : (n : List ℕ) (t : Type') (xs : Attributes) → is_some (type_at n xs) ≡ false
+pub insert-with : (n : List ℕ) (t : Type') (xs : Heading) → is_some (type_at n xs) ≡ false
     → insert xs (prefix_len (λ a. is_lt (name_cmp a.0 n)) xs) (n, t) ≡ with_attribute xs (n, t)
 insert-with n t [] h = refl
 insert-with n t (x ∷ xs) h = by_first (insert-with n t xs) (name_cmp x.0 n) refl (nat_list_cmp_total.antisymm n x.0)
@@ -159,10 +159,10 @@ insert-with n t (x ∷ xs) h = by_first (insert-with n t xs) (name_cmp x.0 n) re
 
 -- ---- the attributes of some names
 
-pub IsAscending-filter : (p : List ℕ → Bool) (xs : Attributes) → IsAscending xs → IsAscending (filter (λ a. p a.0) xs)
+pub IsAscending-filter : (p : List ℕ → Bool) (xs : Heading) → IsAscending xs → IsAscending (filter (λ a. p a.0) xs)
 IsAscending-filter p xs h = ascending_from_sorted _ (is_sorted-where_key name_cmp p xs (sorted_from_ascending xs h))
 
-pub type_at-filter : (p : List ℕ → Bool) (n : List ℕ) (xs : Attributes) → type_at n (filter (λ a. p a.0) xs) ≡ (if p n then type_at n xs else None)
+pub type_at-filter : (p : List ℕ → Bool) (n : List ℕ) (xs : Heading) → type_at n (filter (λ a. p a.0) xs) ≡ (if p n then type_at n xs else None)
 type_at-filter p n xs =
     sym (find-type_at n (filter (λ a. p a.0) xs)) ∙ find-where_key name_cmp p n (λ m e. ap p (sym (exact_bytes n m e))) xs ∙ ap (λ t. if p n then t else None) (find-type_at n xs)
 
@@ -173,7 +173,7 @@ if_not : {A : Type 0} (b : Bool) (x y : A) → (if not b then x else y) ≡ (if 
 if_not true x y = refl
 if_not false x y = refl
 
-pub type_at-without : (name n : List ℕ) (xs : Attributes) → type_at n (without_attribute name xs) ≡ (if same_name name n then None else type_at n xs)
+pub type_at-without : (name n : List ℕ) (xs : Heading) → type_at n (without_attribute name xs) ≡ (if same_name name n then None else type_at n xs)
 type_at-without name n xs =
     type_at-filter (λ m. not (same_name m name)) n xs ∙ rw (same_name-flips name n) (if_not (same_name n name) (type_at n xs) None)
 
@@ -183,7 +183,7 @@ same_when_found : {A : Type 0} (o : Option A) → (if is_some o then o else None
 same_when_found None = refl
 same_when_found (Some a) = refl
 
-type_at-add_missing : (n : List ℕ) (h xs : Attributes) (a : Attribute) (there : Bool) → there ≡ has_attribute a.0 h
+type_at-add_missing : (n : List ℕ) (h xs : Heading) (a : Attribute) (there : Bool) → there ≡ has_attribute a.0 h
     → (same : Bool) → same ≡ same_name a.0 n
     → (if is_some (type_at n (add_missing h a)) then type_at n (add_missing h a) else type_at n xs) ≡ (if is_some (type_at n h) then type_at n h else type_at n (a ∷ xs))
 type_at-add_missing n h xs a true e true f =
@@ -195,38 +195,38 @@ type_at-add_missing n h xs a false e true f =
     rw (← e, type_at-with n a.0 a.1 h, ← f, ← lacking) refl
 type_at-add_missing n h xs a false e false f = rw (← e, type_at-with n a.0 a.1 h, ← f) refl
 
-pub type_at-union : (n : List ℕ) (h xs : Attributes) → type_at n (heading_union h xs) ≡ (if has_attribute n h then type_at n h else type_at n xs)
+pub type_at-union : (n : List ℕ) (h xs : Heading) → type_at n (heading_union h xs) ≡ (if has_attribute n h then type_at n h else type_at n xs)
 type_at-union n h [] = sym (same_when_found (type_at n h))
 type_at-union n h (a ∷ xs) = type_at-union n (add_missing h a) xs ∙ type_at-add_missing n h xs a _ refl _ refl
 
-pub IsAscending-without : (name : List ℕ) (xs : Attributes) → IsAscending xs → IsAscending (without_attribute name xs)
+pub IsAscending-without : (name : List ℕ) (xs : Heading) → IsAscending xs → IsAscending (without_attribute name xs)
 IsAscending-without name = IsAscending-filter (λ n. not (same_name n name))
 
-pub IsAscending-projection : (names : List (List ℕ)) (xs : Attributes) → IsAscending xs → IsAscending (projection names xs)
+pub IsAscending-projection : (names : List (List ℕ)) (xs : Heading) → IsAscending xs → IsAscending (projection names xs)
 IsAscending-projection names = IsAscending-filter (λ n. has_name n names)
 
-pub type_at-projection : (names : List (List ℕ)) (n : List ℕ) (xs : Attributes) → type_at n (projection names xs) ≡ (if has_name n names then type_at n xs else None)
+pub type_at-projection : (names : List (List ℕ)) (n : List ℕ) (xs : Heading) → type_at n (projection names xs) ≡ (if has_name n names then type_at n xs else None)
 type_at-projection names = type_at-filter (λ n. has_name n names)
 
-pub IsAscending-common : (g h : Attributes) → IsAscending g → IsAscending (common_part g h)
+pub IsAscending-common : (g h : Heading) → IsAscending g → IsAscending (common_part g h)
 IsAscending-common g h = IsAscending-filter (λ n. has_attribute n h) g
 
-pub type_at-common : (n : List ℕ) (g h : Attributes) → type_at n (common_part g h) ≡ (if has_attribute n h then type_at n g else None)
+pub type_at-common : (n : List ℕ) (g h : Heading) → type_at n (common_part g h) ≡ (if has_attribute n h then type_at n g else None)
 type_at-common n g h = type_at-filter (λ m. has_attribute m h) n g
 
-IsAscending-add_missing : (h : Attributes) (a : Attribute) (there : Bool) → there ≡ has_attribute a.0 h → IsAscending h → IsAscending (add_missing h a)
+IsAscending-add_missing : (h : Heading) (a : Attribute) (there : Bool) → there ≡ has_attribute a.0 h → IsAscending h → IsAscending (add_missing h a)
 IsAscending-add_missing h a true e i = rw (← e) i
 IsAscending-add_missing h a false e i = rw (← e) (IsAscending-with a.0 a.1 h i)
 
-pub IsAscending-union : (h xs : Attributes) → IsAscending h → IsAscending (heading_union h xs)
+pub IsAscending-union : (h xs : Heading) → IsAscending h → IsAscending (heading_union h xs)
 IsAscending-union h [] i = i
 IsAscending-union h (a ∷ xs) i = IsAscending-union (add_missing h a) xs (IsAscending-add_missing h a _ refl i)
 
-pub IsAscending-renamed : (renamings : List (List ℕ × List ℕ)) (h : Attributes) → IsAscending (heading_union [] (renamed renamings h))
+pub IsAscending-renamed : (renamings : List (List ℕ × List ℕ)) (h : Heading) → IsAscending (heading_union [] (renamed renamings h))
 unfolding IsStrictlySortedBy
 IsAscending-renamed renamings h = IsAscending-union [] (renamed renamings h) tt
 
-pub type_at-renamed : (renamings : List (List ℕ × List ℕ)) (n : List ℕ) (h : Attributes) → type_at n (heading_union [] (renamed renamings h)) ≡ type_at n (renamed renamings h)
+pub type_at-renamed : (renamings : List (List ℕ × List ℕ)) (n : List ℕ) (h : Heading) → type_at n (heading_union [] (renamed renamings h)) ≡ type_at n (renamed renamings h)
 type_at-renamed renamings n h = type_at-union n [] (renamed renamings h)
 
 -- ---- agreement
@@ -243,7 +243,7 @@ agreed : (s t : Type') (found : Option Type') → is_type_or_none s found ≡ tr
 agreed s t None h e = cc
 agreed s t (Some u) h e = let same : u ≡ s = (type_eq-Decides u s).0 h in cc
 
-one_type : (g h : Attributes) → agree g h ≡ true → (n : List ℕ) (s t : Type') → type_at n g ≡ Some s → type_at n h ≡ Some t → s ≡ t
+one_type : (g h : Heading) → agree g h ≡ true → (n : List ℕ) (s t : Type') → type_at n g ≡ Some s → type_at n h ≡ Some t → s ≡ t
 one_type [] h a n s t e f = cc
 one_type (x ∷ g) h a n s t e f = by_name (one_type g h (and_second _ _ a) n s t) (same_name x.0 n) refl
   where
@@ -255,7 +255,7 @@ one_type (x ∷ g) h a n s t e f = by_name (one_type g h (and_second _ _ a) n s 
         sym type ∙ agreed x.1 t (type_at x.0 h) (and_first _ _ a) found
     by_name rest false is = rest (rw (← is) at e) f
 
-absent : (n : List ℕ) (xs : Attributes) → AllByRecursion (λ m. name_cmp n m ≡ Less) (names_of xs) → type_at n xs ≡ None
+absent : (n : List ℕ) (xs : Heading) → AllByRecursion (λ m. name_cmp n m ≡ Less) (attribute_names xs) → type_at n xs ≡ None
 absent n [] h = refl
 absent n (x ∷ xs) h = rw (same_name-ties x.0 n, h.0) (absent n xs h.1)
 
@@ -267,7 +267,7 @@ and_both : (a b : Bool) → a ≡ true → b ≡ true → (a && b) ≡ true
 and_both true b p q = q
 and_both false b p q = cc
 
-agree_from_one_type : (g h : Attributes) → IsAscending g → ((n : List ℕ) (s t : Type') → type_at n g ≡ Some s → type_at n h ≡ Some t → s ≡ t) → agree g h ≡ true
+agree_from_one_type : (g h : Heading) → IsAscending g → ((n : List ℕ) (s t : Type') → type_at n g ≡ Some s → type_at n h ≡ Some t → s ≡ t) → agree g h ≡ true
 unfolding IsStrictlySortedBy
 agree_from_one_type [] h i one = refl
 agree_from_one_type (x ∷ g) h i one =
@@ -286,7 +286,7 @@ agreement_is_one_type g h i = (one_type g h, agree_from_one_type g h i)
 -- ---- what every attribute is
 
 -- the names of a heading are names, and its types are types
-pub attribute_from_heading : (n : List ℕ) (t : Type') (xs : Attributes) → IsHeading (pack xs) → type_at n xs ≡ Some t → IsName n × IsType t
+pub attribute_from_heading : (n : List ℕ) (t : Type') (xs : Heading) → IsHeading (pack xs) → type_at n xs ≡ Some t → IsName n × IsType t
 attribute_from_heading n t [] h e = cc
 attribute_from_heading n t (x ∷ xs) h e = by_name (attribute_from_heading n t xs h.3) (same_name x.0 n) refl
   where
@@ -307,16 +307,16 @@ or_true true b e = refl
 or_true false b e = e
 
 -- the new name of an attribute is one of the new names
-new_name_there : (rs : List (List ℕ × List ℕ)) (n : List ℕ) (h : Attributes) → has_attribute n h ≡ true → has_name (new_name rs n) (names_of (renamed rs h)) ≡ true
+new_name_there : (rs : List (List ℕ × List ℕ)) (n : List ℕ) (h : Heading) → has_attribute n h ≡ true → has_name (new_name rs n) (attribute_names (renamed rs h)) ≡ true
 new_name_there rs n [] e = cc
 new_name_there rs n (a ∷ h) e = by_name (new_name_there rs n h) (same_name a.0 n) refl
   where
-    by_name : (has_attribute n h ≡ true → has_name (new_name rs n) (names_of (renamed rs h)) ≡ true)
-        → (same : Bool) → same ≡ same_name a.0 n → has_name (new_name rs n) (names_of (renamed rs (a ∷ h))) ≡ true
-    by_name rest true is = subst (λ m. has_name (new_name rs m) (names_of (renamed rs (a ∷ h))) ≡ true) (same_text a.0 n is) (rw (same_name-itself (new_name rs a.0)) refl)
+    by_name : (has_attribute n h ≡ true → has_name (new_name rs n) (attribute_names (renamed rs h)) ≡ true)
+        → (same : Bool) → same ≡ same_name a.0 n → has_name (new_name rs n) (attribute_names (renamed rs (a ∷ h))) ≡ true
+    by_name rest true is = subst (λ m. has_name (new_name rs m) (attribute_names (renamed rs (a ∷ h))) ≡ true) (same_text a.0 n is) (rw (same_name-itself (new_name rs a.0)) refl)
     by_name rest false is = or_true _ _ (rest (rw (← is) at e))
 
-kept_types : (rs : List (List ℕ × List ℕ)) (h : Attributes) → are_distinct (names_of (renamed rs h)) ≡ true
+kept_types : (rs : List (List ℕ × List ℕ)) (h : Heading) → are_distinct (attribute_names (renamed rs h)) ≡ true
     → (n : List ℕ) → has_attribute n h ≡ true → type_at (new_name rs n) (renamed rs h) ≡ type_at n h
 kept_types rs [] d n e = cc
 kept_types rs (a ∷ h) d n e = by_name (kept_types rs h (and_second _ _ d) n) (same_name a.0 n) refl (same_name (new_name rs a.0) (new_name rs n)) refl
@@ -330,14 +330,14 @@ kept_types rs (a ∷ h) d n e = by_name (kept_types rs h (and_second _ _ d) n) (
         cc
     by_name rest false is true new =
         let there : has_attribute n h ≡ true = rw (← is) at e in
-        let taken : has_name (new_name rs a.0) (names_of (renamed rs h)) ≡ true =
-        subst (λ m. has_name m (names_of (renamed rs h)) ≡ true) (sym (same_text (new_name rs a.0) (new_name rs n) new)) (new_name_there rs n h there) in
-        let free : not (has_name (new_name rs a.0) (names_of (renamed rs h))) ≡ true = and_first _ _ d in
+        let taken : has_name (new_name rs a.0) (attribute_names (renamed rs h)) ≡ true =
+        subst (λ m. has_name m (attribute_names (renamed rs h)) ≡ true) (sym (same_text (new_name rs a.0) (new_name rs n) new)) (new_name_there rs n h there) in
+        let free : not (has_name (new_name rs a.0) (attribute_names (renamed rs h))) ≡ true = and_first _ _ d in
         let clash = rw taken at free in
         cc
     by_name rest false is false new = rw (← is, ← new) (rest (rw (← is) at e))
 
-old_name_there : (rs : List (List ℕ × List ℕ)) (m : List ℕ) (h : Attributes) → has_attribute m (renamed rs h) ≡ true → (n : List ℕ) × (has_attribute n h ≡ true) × (new_name rs n ≡ m)
+old_name_there : (rs : List (List ℕ × List ℕ)) (m : List ℕ) (h : Heading) → has_attribute m (renamed rs h) ≡ true → (n : List ℕ) × (has_attribute n h ≡ true) × (new_name rs n ≡ m)
 old_name_there rs m [] e = cc
 old_name_there rs m (a ∷ h) e = by_name (old_name_there rs m h) (same_name (new_name rs a.0) m) refl
   where
@@ -355,21 +355,21 @@ old_name_there rs m (a ∷ h) e = by_name (old_name_there rs m h) (same_name (ne
 pub renaming_keeps_types : RenamingKeepsTypes
 renaming_keeps_types rs h e =
     let old = has_attributes (map (λ r. r.0) rs) h && are_distinct (map (λ r. r.0) rs) in
-    (kept_types rs h (and_second old (are_distinct (names_of (renamed rs h))) e), λ m. old_name_there rs m h)
+    (kept_types rs h (and_second old (are_distinct (attribute_names (renamed rs h))) e), λ m. old_name_there rs m h)
 
 -- ---- which names a heading has
 
 -- those of its attributes
-pub has_attribute-names : (n : List ℕ) (xs : Attributes) → has_attribute n xs ≡ has_name n (names_of xs)
+pub has_attribute-names : (n : List ℕ) (xs : Heading) → has_attribute n xs ≡ has_name n (attribute_names xs)
 has_attribute-names n [] = refl
 has_attribute-names n (x ∷ xs) = by_name (same_name x.0 n) (has_attribute-names n xs)
   where
-    by_name : (same : Bool) → has_attribute n xs ≡ has_name n (names_of xs) → is_some (if same then Some x.1 else type_at n xs) ≡ (same || has_name n (names_of xs))
+    by_name : (same : Bool) → has_attribute n xs ≡ has_name n (attribute_names xs) → is_some (if same then Some x.1 else type_at n xs) ≡ (same || has_name n (attribute_names xs))
     by_name true rest = refl
     by_name false rest = rest
 
 -- with one more attribute, its name too
-pub has_attribute-with : (m n : List ℕ) (t : Type') (xs : Attributes) → has_attribute m (with_attribute xs (n, t)) ≡ (same_name n m || has_attribute m xs)
+pub has_attribute-with : (m n : List ℕ) (t : Type') (xs : Heading) → has_attribute m (with_attribute xs (n, t)) ≡ (same_name n m || has_attribute m xs)
 has_attribute-with m n t xs = ap is_some (type_at-with m n t xs) ∙ by_name (same_name n m)
   where
     by_name : (same : Bool) → is_some (if same then Some t else type_at m xs) ≡ (same || has_attribute m xs)

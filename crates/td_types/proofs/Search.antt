@@ -11,10 +11,10 @@ use Rattle.std.proofs.lemmas.List.Sorted.{searchable_from_sorted}
 use Rattle.td_types.specs.declared.heading.Attribute as Ty
 use Rattle.td_types.specs.Headings.{IsFound, IsMissing}
 use Rattle.td_types.proofs.HeadingLaws.{name_cmp}
-use Rattle.td_types.specs.Types.{IsAscending, names_of, same_name}
-use Rattle.td_types.specs.Views.{attributes_of}
+use Rattle.td_types.specs.Types.{IsAscending, attribute_names, same_name}
+use Rattle.td_types.specs.Views.{heading_view}
 
-less_than : (m n : List ℕ) (xs : List Ty.Attribute) (i : ℕ) (d : Ty.Attribute) → AllByRecursion (λ k. name_cmp m k ≡ Less) (names_of (attributes_of xs)) → i < length xs
+less_than : (m n : List ℕ) (xs : List Ty.Attribute) (i : ℕ) (d : Ty.Attribute) → AllByRecursion (λ k. name_cmp m k ≡ Less) (attribute_names (heading_view xs)) → i < length xs
     → name_cmp (get_or xs i d).name n ≡ Equal → name_cmp m n ≡ Less
 less_than m n [] i d h l e = absurd (omega arith)
 less_than m n (x ∷ xs) zero d h l e = sym (alike_right nat_list_cmp_total x.name n m e) ∙ h.0
@@ -23,8 +23,8 @@ less_than m n (x ∷ xs) (suc i) d h l e = less_than m n xs i d h.1 (omega arith
 differs : (m n : List ℕ) (o : Ordering) → name_cmp m n ≡ o → is_eq o ≡ false → same_name m n ≡ false
 differs m n o e f = texts_ties m n ∙ ap is_eq e ∙ f
 
-found_place : (n : List ℕ) (xs : List Ty.Attribute) (i : ℕ) → i < length xs → ((d : Ty.Attribute) → name_cmp (get_or xs i d).name n ≡ Equal) → IsAscending (attributes_of xs)
-    → IsFound n (attributes_of xs) i
+found_place : (n : List ℕ) (xs : List Ty.Attribute) (i : ℕ) → i < length xs → ((d : Ty.Attribute) → name_cmp (get_or xs i d).name n ≡ Equal) → IsAscending (heading_view xs)
+    → IsFound n (heading_view xs) i
 unfolding IsStrictlySortedBy
 found_place n [] i l e a = absurd (omega arith)
 found_place n (x ∷ xs) zero l e a =
@@ -37,7 +37,7 @@ found_place n (x ∷ xs) (suc i) l e a =
     (rw below (omega (arith, rest.0)), rw (differs x.name n Less below refl) rest.1)
 
 missing_place : (n : List ℕ) (xs : List Ty.Attribute) (i : ℕ) → i ≤ length xs → AllWithin (λ y. name_cmp y.name n ≡ Less) xs 0 i → AllWithin (λ y. name_cmp y.name n ≡ Greater) xs i (length xs)
-    → IsMissing n (attributes_of xs) i
+    → IsMissing n (heading_view xs) i
 missing_place n [] zero l before after = (refl, refl)
 missing_place n [] (suc i) l before after = absurd (omega arith)
 missing_place n (x ∷ xs) zero l before after =
@@ -49,7 +49,7 @@ missing_place n (x ∷ xs) (suc i) l before after =
     let rest = missing_place n xs i (omega arith) (λ k d a b. before (suc k) d (omega arith) (omega arith)) (λ k d a b. after (suc k) d (omega arith) (omega arith)) in
     (rw below (omega (arith, rest.0)), rw (differs x.name n Less below refl) rest.1)
 
-in_order : (xs : List Ty.Attribute) → IsAscending (attributes_of xs) → IsSortedBy (λ x y. is_lt (name_cmp x.name y.name)) xs
+in_order : (xs : List Ty.Attribute) → IsAscending (heading_view xs) → IsSortedBy (λ x y. is_lt (name_cmp x.name y.name)) xs
 unfolding IsStrictlySortedBy
 in_order [] a k d l u = absurd (omega arith)
 in_order (x ∷ []) a k d l u = absurd (omega arith)
@@ -57,8 +57,8 @@ in_order (x ∷ y ∷ ys) a zero d l u = ap is_lt (nat_list_cmp_total.antisymm y
 in_order (x ∷ y ∷ ys) a (suc k) d l u = rw (add-one (suc k)) (rw (add-one k) at (in_order (y ∷ ys) a.1 k d (omega arith) (omega arith)))
 
 -- where a search by halves ends
-pub searched : (n : List ℕ) (xs : List Ty.Attribute) (r : Result ℕ ℕ) → IsAscending (attributes_of xs) → IsSearchInRange r (length xs) → IsBinarySearchResult (λ y. name_cmp y.name n) xs r
-    → IfOk r (IsFound n (attributes_of xs)) × IfErr r (IsMissing n (attributes_of xs))
+pub searched : (n : List ℕ) (xs : List Ty.Attribute) (r : Result ℕ ℕ) → IsAscending (heading_view xs) → IsSearchInRange r (length xs) → IsBinarySearchResult (λ y. name_cmp y.name n) xs r
+    → IfOk r (IsFound n (heading_view xs)) × IfErr r (IsMissing n (heading_view xs))
 searched n xs (Ok i) a within at = (found_place n xs i within at a, tt)
 searched n xs (Err i) a within parted =
     let parts = parted (searchable_from_sorted nat_list_cmp_total (λ (y : Ty.Attribute). y.name) xs n (in_order xs a)) in

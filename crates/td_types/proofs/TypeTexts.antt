@@ -5,7 +5,7 @@ use Rattle.td_tree.specs.declared.keyword.Keyword.{Keyword}
 use Rattle.td_tree.specs.declared.keyword.Keyword.TheVariants as keywords
 use Rattle.td_tree.specs.Keywords.{keyword_of}
 use Rattle.td_types.specs.Texts.{attributes_text, comma_if, type_text}
-use Rattle.td_types.specs.Types.{Type', boolean, integer, text, user, tuple, relation, Attrs, no_attrs, attr, IsHeading, IsType}
+use Rattle.td_types.specs.Types.{Type', boolean, integer, char, user, tuple, relation, Attrs, no_attrs, attr, IsHeading, IsType}
 use Rattle.td_types.proofs.Plain.{IsMarked, IsPlain, cut_front, name_plain, name_unreserved, plain_cut, tail_of}
 
 pub regroup_3 : (a b c x : List ℕ) → ((a ++ b) ++ c) ++ x ≡ a ++ (b ++ (c ++ x))
@@ -18,7 +18,7 @@ regroup_5 a b c d f x = simp append_assoc
 abbrev word : Type' → List ℕ
 word boolean = codes "BOOLEAN"
 word integer = codes "INTEGER"
-word text = codes "CHAR"
+word char = codes "CHAR"
 word (user n) = n
 word (tuple h) = codes "TUPLE"
 word (relation h) = codes "RELATION"
@@ -26,7 +26,7 @@ word (relation h) = codes "RELATION"
 abbrev after : Type' → List ℕ → List ℕ
 after boolean x = x
 after integer x = x
-after text x = x
+after char x = x
 after (user n) x = x
 after (tuple h) x = codes " {" ++ (attributes_text false h ++ 125 ∷ x)
 after (relation h) x = codes " {" ++ (attributes_text false h ++ 125 ∷ x)
@@ -34,7 +34,7 @@ after (relation h) x = codes " {" ++ (attributes_text false h ++ 125 ∷ x)
 parted : (t : Type') (x : List ℕ) → type_text t ++ x ≡ word t ++ after t x
 parted boolean x = refl
 parted integer x = refl
-parted text x = refl
+parted char x = refl
 parted (user n) x = refl
 parted (tuple h) x = regroup_3 (codes "TUPLE {") (attributes_text false h) (codes "}") x
 parted (relation h) x = regroup_3 (codes "RELATION {") (attributes_text false h) (codes "}") x
@@ -42,7 +42,7 @@ parted (relation h) x = regroup_3 (codes "RELATION {") (attributes_text false h)
 word_plain : (t : Type') → IsType t → IsPlain (word t)
 word_plain boolean p = (refl, (refl, (refl, (refl, (refl, (refl, (refl, tt)))))))
 word_plain integer p = (refl, (refl, (refl, (refl, (refl, (refl, (refl, tt)))))))
-word_plain text p = (refl, (refl, (refl, (refl, tt))))
+word_plain char p = (refl, (refl, (refl, (refl, tt))))
 word_plain (user n) p = name_plain n p
 word_plain (tuple h) p = (refl, (refl, (refl, (refl, (refl, tt)))))
 word_plain (relation h) p = (refl, (refl, (refl, (refl, (refl, (refl, (refl, (refl, tt))))))))
@@ -50,7 +50,7 @@ word_plain (relation h) p = (refl, (refl, (refl, (refl, (refl, (refl, (refl, (re
 after_marked : (t : Type') (x : List ℕ) → IsMarked x → IsMarked (after t x)
 after_marked boolean x m = m
 after_marked integer x m = m
-after_marked text x m = m
+after_marked char x m = m
 after_marked (user n) x m = m
 after_marked (tuple h) x m = refl
 after_marked (relation h) x m = refl
@@ -59,7 +59,7 @@ after_marked (relation h) x m = refl
 abbrev kind : Type' → Option Keyword
 kind boolean = Some keywords.Boolean
 kind integer = Some keywords.Integer
-kind text = Some keywords.Char
+kind char = Some keywords.Char
 kind (user n) = None
 kind (tuple h) = Some keywords.Tuple
 kind (relation h) = Some keywords.Relation
@@ -72,7 +72,7 @@ kind_is : (t : Type') → IsType t → keyword_of (word t) ≡ kind t
 unfolding keyword_of
 kind_is boolean p = refl
 kind_is integer p = refl
-kind_is text p = refl
+kind_is char p = refl
 kind_is (user n) p = no_keyword (keyword_of n) (name_unreserved n p)
 kind_is (tuple h) p = refl
 kind_is (relation h) p = refl
@@ -101,7 +101,7 @@ mutual
   pub type_cut : (s t : Type') → IsType s → IsType t → (x y : List ℕ) → IsMarked x → IsMarked y → type_text s ++ x ≡ type_text t ++ y → (s ≡ t) × (x ≡ y)
   type_cut boolean boolean p q x y m n e = (refl, (word_cut boolean boolean p q x y m n e).1)
   type_cut integer integer p q x y m n e = (refl, (word_cut integer integer p q x y m n e).1)
-  type_cut text text p q x y m n e = (refl, (word_cut text text p q x y m n e).1)
+  type_cut char char p q x y m n e = (refl, (word_cut char char p q x y m n e).1)
   type_cut (user k) (user l) p q x y m n e =
       let cut = word_cut (user k) (user l) p q x y m n e in (ap user cut.0, cut.1)
   type_cut (tuple g) (tuple h) p q x y m n e =

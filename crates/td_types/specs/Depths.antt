@@ -1,12 +1,12 @@
 -- How deep headings nest, so that recursion over types ends.
 use Rattle.std.specs.Prelude.{ℕ, suc, max}
-use Rattle.td_types.specs.Types.{Type', boolean, integer, text, user, tuple, relation, Attrs, no_attrs, attr, Attributes, pack}
+use Rattle.td_types.specs.Types.{Type', boolean, integer, char, user, tuple, relation, Attrs, no_attrs, attr, Heading, pack}
 
 abbrev mutual
   pub type_depth : Type' → ℕ
   type_depth boolean = 0
   type_depth integer = 0
-  type_depth text = 0
+  type_depth char = 0
   type_depth (user n) = 0
   type_depth (tuple xs) = suc (attrs_depth xs)
   type_depth (relation xs) = suc (attrs_depth xs)
@@ -15,5 +15,5 @@ abbrev mutual
   attrs_depth no_attrs = 0
   attrs_depth (attr n t xs) = max (type_depth t) (attrs_depth xs)
 
-abbrev pub attributes_depth : Attributes → ℕ
-attributes_depth xs = attrs_depth (pack xs)
+abbrev pub heading_depth : Heading → ℕ
+heading_depth xs = attrs_depth (pack xs)

@@ -1,6 +1,6 @@
 -- The text of a type (this project's own): one for each type, with attributes in name order.
 use Rattle.std.specs.Prelude.{◌≡◌, ◌↔◌, ℕ, Bool, true, false, List, [], ◌++◌, codes, if◌then◌else◌}
-use Rattle.td_types.specs.Types.{Type', boolean, integer, text, user, tuple, relation, Attrs, no_attrs, attr, IsType}
+use Rattle.td_types.specs.Types.{Type', boolean, integer, char, user, tuple, relation, Attrs, no_attrs, attr, IsType}
 
 -- what stands before a part: a comma and a space where another part stands before it
 abbrev pub comma_if : Bool → List ℕ
@@ -11,7 +11,7 @@ abbrev mutual
   pub type_text : Type' → List ℕ
   type_text boolean = codes "BOOLEAN"
   type_text integer = codes "INTEGER"
-  type_text text = codes "CHAR"
+  type_text char = codes "CHAR"
   type_text (user name) = name
   type_text (tuple heading) = codes "TUPLE {" ++ attributes_text false heading ++ codes "}"
   type_text (relation heading) = codes "RELATION {" ++ attributes_text false heading ++ codes "}"

@@ -5,9 +5,9 @@ use Rattle.std.specs.Coded.{Coded, code_by}
 use base.Stored.{Gv, gnil, gnum, gcons}
 use denote.Struct.Codes.{itself}
 use Rattle.td_types.specs.Keys.{Key, key, Keys, no_keys, more, bytes_to, bytes_from, bytes_back}
-use Rattle.td_types.specs.Types.{Type', boolean, integer, text, user, tuple, relation, Attrs, no_attrs, attr, Attributes, pack, unpack}
+use Rattle.td_types.specs.Types.{Type', boolean, integer, char, user, tuple, relation, Attrs, no_attrs, attr, Heading, pack, unpack}
 
-pub unpack_pack : (xs : Attributes) → unpack (pack xs) ≡ xs
+pub unpack_pack : (xs : Heading) → unpack (pack xs) ≡ xs
 unpack_pack [] = refl
 unpack_pack (a ∷ xs) = ap (λ r. a ∷ r) (unpack_pack xs)
 
@@ -16,7 +16,7 @@ abbrev mutual
   pub type_key : Type' → Key
   type_key boolean = key 0 (pos 0) [] no_keys
   type_key integer = key 1 (pos 0) [] no_keys
-  type_key text = key 2 (pos 0) [] no_keys
+  type_key char = key 2 (pos 0) [] no_keys
   type_key (user n) = key 3 (pos 0) n no_keys
   type_key (tuple xs) = key 4 (pos 0) [] (attrs_keys xs)
   type_key (relation xs) = key 5 (pos 0) [] (attrs_keys xs)
@@ -31,7 +31,7 @@ abbrev mutual
   type_to : Type' → Gv
   type_to boolean = gnum 0
   type_to integer = gnum 1
-  type_to text = gnum 2
+  type_to char = gnum 2
   type_to (user n) = gcons gnil (bytes_to n)
   type_to (tuple xs) = gcons (gnum 0) (attrs_to xs)
   type_to (relation xs) = gcons (gcons gnil gnil) (attrs_to xs)
@@ -45,7 +45,7 @@ abbrev mutual
   type_from gnil = boolean
   type_from (gnum zero) = boolean
   type_from (gnum (suc zero)) = integer
-  type_from (gnum (suc (suc n))) = text
+  type_from (gnum (suc (suc n))) = char
   type_from (gcons gnil g) = user (bytes_from g)
   type_from (gcons (gnum n) g) = tuple (attrs_from g)
   type_from (gcons (gcons h t) g) = relation (attrs_from g)
@@ -61,7 +61,7 @@ mutual
   pub type_back : (t : Type') → type_from (type_to t) ≡ t
   type_back boolean = refl
   type_back integer = refl
-  type_back text = refl
+  type_back char = refl
   type_back (user n) = ap user (bytes_back n)
   type_back (tuple xs) = ap tuple (attrs_back xs)
   type_back (relation xs) = ap relation (attrs_back xs)
@@ -73,14 +73,14 @@ mutual
 abbrev pub type_code : Coded Type'
 type_code = code_by Gv itself type_to type_from type_back
 
-abbrev attributes_to : Attributes → Gv
-attributes_to xs = attrs_to (pack xs)
+abbrev heading_to : Heading → Gv
+heading_to xs = attrs_to (pack xs)
 
-abbrev attributes_from : Gv → Attributes
-attributes_from g = unpack (attrs_from g)
+abbrev heading_from_stored : Gv → Heading
+heading_from_stored g = unpack (attrs_from g)
 
-pub attributes_back : (xs : Attributes) → attributes_from (attributes_to xs) ≡ xs
-attributes_back xs = ap unpack (attrs_back (pack xs)) ∙ unpack_pack xs
+pub heading_back : (xs : Heading) → heading_from_stored (heading_to xs) ≡ xs
+heading_back xs = ap unpack (attrs_back (pack xs)) ∙ unpack_pack xs
 
-abbrev pub attributes_code : Coded Attributes
-attributes_code = code_by Gv itself attributes_to attributes_from attributes_back
+abbrev pub heading_code : Coded Heading
+heading_code = code_by Gv itself heading_to heading_from_stored heading_back

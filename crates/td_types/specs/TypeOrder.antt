@@ -9,9 +9,9 @@ use Rattle.std.specs.Cmp.Lexicographic.{slice_cmp}
 use Rattle.std.proofs.Common.{ap, sym, ◌∙◌, subst}
 use Rattle.std.proofs.lemmas.Cmp.{on_total, eq_by_cmp_equiv}
 use Rattle.td_types.specs.declared.ty.Ty.{Ty}
-use Rattle.td_types.specs.Views.{type_of}
+use Rattle.td_types.specs.Views.{type_view}
 use Rattle.td_types.specs.Keys.{Key, key, Keys, no_keys, more, key_cmp, keys_cmp, key_cmp_total, key_same}
-use Rattle.td_types.specs.Types.{Type', boolean, integer, text, user, tuple, relation, Attrs, no_attrs, attr, Attributes, pack, unpack, type_cmp, attrs_cmp}
+use Rattle.td_types.specs.Types.{Type', boolean, integer, char, user, tuple, relation, Attrs, no_attrs, attr, Heading, pack, unpack, type_cmp, attrs_cmp}
 use Rattle.td_types.specs.TypeCode.{attrs_keys, type_key, unpack_pack}
 
 then_equal_right : (o : Ordering) → ordering_then o Equal ≡ o
@@ -27,22 +27,22 @@ mutual
   type_cmp-key (relation xs) (relation ys) = attrs_cmp-keys xs ys
   type_cmp-key boolean boolean = refl
   type_cmp-key boolean integer = refl
-  type_cmp-key boolean text = refl
+  type_cmp-key boolean char = refl
   type_cmp-key boolean (user n) = refl
   type_cmp-key boolean (tuple ys) = refl
   type_cmp-key boolean (relation ys) = refl
   type_cmp-key integer boolean = refl
   type_cmp-key integer integer = refl
-  type_cmp-key integer text = refl
+  type_cmp-key integer char = refl
   type_cmp-key integer (user n) = refl
   type_cmp-key integer (tuple ys) = refl
   type_cmp-key integer (relation ys) = refl
-  type_cmp-key text boolean = refl
-  type_cmp-key text integer = refl
-  type_cmp-key text text = refl
-  type_cmp-key text (user n) = refl
-  type_cmp-key text (tuple ys) = refl
-  type_cmp-key text (relation ys) = refl
+  type_cmp-key char boolean = refl
+  type_cmp-key char integer = refl
+  type_cmp-key char char = refl
+  type_cmp-key char (user n) = refl
+  type_cmp-key char (tuple ys) = refl
+  type_cmp-key char (relation ys) = refl
   type_cmp-key s t = refl
 
   pub attrs_cmp-keys : (xs ys : Attrs) → attrs_cmp xs ys ≡ keys_cmp (attrs_keys xs) (attrs_keys ys)
@@ -68,7 +68,7 @@ abbrev mutual
   pub type_from_key : Key → Type'
   type_from_key (key zero x s ks) = boolean
   type_from_key (key (suc zero) x s ks) = integer
-  type_from_key (key (suc (suc zero)) x s ks) = text
+  type_from_key (key (suc (suc zero)) x s ks) = char
   type_from_key (key (suc (suc (suc zero))) x s ks) = user s
   type_from_key (key (suc (suc (suc (suc zero)))) x s ks) = tuple (attrs_from_keys ks)
   type_from_key (key (suc (suc (suc (suc (suc n))))) x s ks) = relation (attrs_from_keys ks)
@@ -82,7 +82,7 @@ mutual
   pub type_from_key-type_key : (t : Type') → type_from_key (type_key t) ≡ t
   type_from_key-type_key boolean = refl
   type_from_key-type_key integer = refl
-  type_from_key-type_key text = refl
+  type_from_key-type_key char = refl
   type_from_key-type_key (user n) = refl
   type_from_key-type_key (tuple xs) = ap tuple (attrs_from_keys-attrs_keys xs)
   type_from_key-type_key (relation xs) = ap relation (attrs_from_keys-attrs_keys xs)
@@ -104,10 +104,10 @@ type_eq-Decides s t =
 -- ---- types of the code
 
 abbrev pub ty_cmp : Ty → Ty → Ordering
-ty_cmp = on type_of type_cmp
+ty_cmp = on type_view type_cmp
 
 pub ty_cmp_total : IsTotalOrder ty_cmp
-ty_cmp_total = on_total type_of type_cmp_total
+ty_cmp_total = on_total type_view type_cmp_total
 
 pub ty_eq_equiv : IsEquivalence (eq_by_cmp ty_cmp)
 ty_eq_equiv = eq_by_cmp_equiv ty_cmp_total
@@ -120,22 +120,22 @@ ty_partial_laws = partial_order_from_agreeing_total ty_cmp ty_cmp_total (λ x y.
 
 -- ---- headings: as the tuple types that they make
 
-abbrev pub heading_cmp : Attributes → Attributes → Ordering
+abbrev pub heading_cmp : Heading → Heading → Ordering
 heading_cmp g h = attrs_cmp (pack g) (pack h)
 
 pub heading_cmp_total : IsTotalOrder heading_cmp
 heading_cmp_total = on_total (λ h. tuple (pack h)) type_cmp_total
 
-headings_of : Type' → Attributes
+headings_of : Type' → Heading
 headings_of (tuple xs) = unpack xs
 headings_of t = []
 
-pub heading_same : (g h : Attributes) → heading_cmp g h ≡ Equal → g ≡ h
+pub heading_same : (g h : Heading) → heading_cmp g h ≡ Equal → g ≡ h
 unfolding headings_of
 heading_same g h e = sym (unpack_pack g) ∙ ap headings_of (type_same (tuple (pack g)) (tuple (pack h)) e) ∙ unpack_pack h
 
 -- two headings pass the test of the order exactly where they are the same
-pub heading_eq-Decides : (g h : Attributes) → Decides (eq_by_cmp heading_cmp g h) (g ≡ h)
+pub heading_eq-Decides : (g h : Heading) → Decides (eq_by_cmp heading_cmp g h) (g ≡ h)
 heading_eq-Decides g h =
     (λ e. heading_same g h ((Equal-is (heading_cmp g h)).0 e), λ e. subst (λ k. eq_by_cmp heading_cmp g k ≡ true) e ((eq_by_cmp_equiv heading_cmp_total).refl g))
 

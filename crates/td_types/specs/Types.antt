@@ -13,7 +13,7 @@ mutual
   pub data Type' : Type 0 where
     boolean : Type'
     integer : Type'
-    text : Type'
+    char : Type'
     user : List ℕ → Type'
     tuple : Attrs → Type'
     relation : Attrs → Type'
@@ -28,24 +28,24 @@ abbrev pub Attribute : Type 0
 Attribute = List ℕ × Type'
 
 -- a heading: its attributes, in name order
-abbrev pub Attributes : Type 0
-Attributes = List Attribute
+abbrev pub Heading : Type 0
+Heading = List Attribute
 
 -- a heading as it stands inside a type, and back
-abbrev pub pack : Attributes → Attrs
+abbrev pub pack : Heading → Attrs
 pack [] = no_attrs
 pack (a ∷ xs) = attr a.0 a.1 (pack xs)
 
-abbrev pub unpack : Attrs → Attributes
+abbrev pub unpack : Attrs → Heading
 unpack no_attrs = []
 unpack (attr n t xs) = (n, t) ∷ unpack xs
 
-abbrev pub names_of : Attributes → List (List ℕ)
-names_of = map (λ a. a.0)
+abbrev pub attribute_names : Heading → List (List ℕ)
+attribute_names = map (λ a. a.0)
 
 -- each name stands before the next by code points, so no name comes twice
-abbrev pub IsAscending : Attributes → Type 0
-IsAscending xs = IsStrictlySortedBy (slice_cmp nat_cmp) (names_of xs)
+abbrev pub IsAscending : Heading → Type 0
+IsAscending xs = IsStrictlySortedBy (slice_cmp nat_cmp) (attribute_names xs)
 
 -- the name stands before those of the heading
 abbrev pub IsBefore : List ℕ → Attrs → Type 0
@@ -57,7 +57,7 @@ abbrev mutual
   pub IsType : Type' → Type 0
   IsType boolean = ⊤
   IsType integer = ⊤
-  IsType text = ⊤
+  IsType char = ⊤
   IsType (user n) = IsName n
   IsType (tuple xs) = IsHeading xs
   IsType (relation xs) = IsHeading xs
@@ -71,20 +71,20 @@ abbrev pub same_name : List ℕ → List ℕ → Bool
 same_name = pointwise ◌==◌
 
 -- the type that a heading, as a finite map, gives to a name
-abbrev pub type_at : List ℕ → Attributes → Option Type'
+abbrev pub type_at : List ℕ → Heading → Option Type'
 type_at n [] = None
 type_at n (x ∷ xs) = if same_name x.0 n then Some x.1 else type_at n xs
 
 -- ---- the order of types (this project's own: no output shows it)
 
 -- the place of the type's kind
-abbrev pub type_rank : Type' → ℕ
-type_rank boolean = 0
-type_rank integer = 1
-type_rank text = 2
-type_rank (user n) = 3
-type_rank (tuple xs) = 4
-type_rank (relation xs) = 5
+abbrev pub type_kind : Type' → ℕ
+type_kind boolean = 0
+type_kind integer = 1
+type_kind char = 2
+type_kind (user n) = 3
+type_kind (tuple xs) = 4
+type_kind (relation xs) = 5
 
 abbrev mutual
   -- by kind, then by name or heading
@@ -92,7 +92,7 @@ abbrev mutual
   type_cmp (user m) (user n) = slice_cmp nat_cmp m n
   type_cmp (tuple xs) (tuple ys) = attrs_cmp xs ys
   type_cmp (relation xs) (relation ys) = attrs_cmp xs ys
-  type_cmp s t = nat_cmp (type_rank s) (type_rank t)
+  type_cmp s t = nat_cmp (type_kind s) (type_kind t)
 
   -- attribute by attribute, by name and then by type
   pub attrs_cmp : Attrs → Attrs → Ordering

@@ -1,6 +1,6 @@
 //! Copies of types and headings.
 ghost use Rattle.std.specs.Prelude.{◌≡◌, IfOk};
-ghost use Rattle.td_types.specs.Views.{attribute_of, type_of};
+ghost use Rattle.td_types.specs.Views.{attribute_view, type_view};
 
 use crate::heading::{Attribute, Heading};
 use crate::ty::Ty;
@@ -8,7 +8,7 @@ use std::alloc::AllocError;
 
 #[cycle(copy)]
 fn copy_type(ty: &Ty) -> Result<Ty, AllocError>
-    ensures { IfOk result (λ copy. type_of copy ≡ type_of ty.now) }
+    ensures { IfOk result (λ copy. type_view copy ≡ type_view ty.now) }
 {
     match ty {
         Ty::Bool => Ok(Ty::Bool),
@@ -39,7 +39,7 @@ fn copy_heading(heading: &Heading) -> Result<Heading, AllocError>
 impl Ty {
     /// The same type again.
     pub fn try_clone(&self) -> Result<Ty, AllocError>
-        ensures { IfOk result (λ copy. type_of copy ≡ type_of self.now) }
+        ensures { IfOk result (λ copy. type_view copy ≡ type_view self.now) }
     {
         copy_type(self)
     }
@@ -48,7 +48,7 @@ impl Ty {
 impl Attribute {
     /// The same attribute again.
     pub(crate) fn try_clone(&self) -> Result<Attribute, AllocError>
-        ensures { IfOk result (λ copy. attribute_of copy ≡ attribute_of self.now) }
+        ensures { IfOk result (λ copy. attribute_view copy ≡ attribute_view self.now) }
     {
         let name = self.name.try_clone()?;
         let ty = self.ty.try_clone()?;

@@ -2,7 +2,7 @@
 ghost use Rattle.std.specs.Prelude.{◌≡◌, ◌++◌, fold};
 ghost use Rattle.td_types.specs.Hashes.{fed_heading, fed_type};
 ghost use Rattle.td_types.specs.Types.{pack};
-ghost use Rattle.td_types.specs.Views.{type_of};
+ghost use Rattle.td_types.specs.Views.{type_view};
 
 use crate::heading::Heading;
 use crate::ty::Ty;
@@ -10,7 +10,7 @@ use std::hash::{Hash, Hasher};
 
 #[cycle(feed)]
 fn feed_type<H: Hasher>(ty: &Ty, state: &mut H)
-    ensures { state.new ≡ fold H.write state.old (fed_type (type_of ty.now)) }
+    ensures { state.new ≡ fold H.write state.old (fed_type (type_view ty.now)) }
 {
     state.write_u8(ty.rank());
     match ty {
@@ -33,9 +33,9 @@ fn feed_heading<H: Hasher>(heading: &Heading, state: &mut H)
 
 impl Hash for Ty {
     ghost use Rattle.td_types.specs.Hashes.{fed_type, types_fed_alike};
-    ghost use Rattle.td_types.specs.Views.{type_of};
+    ghost use Rattle.td_types.specs.Views.{type_view};
 
-    ghost hash_input = { λ t. fed_type (type_of t) };
+    ghost hash_input = { λ t. fed_type (type_view t) };
 
     ghost respects_eq = { types_fed_alike };
 

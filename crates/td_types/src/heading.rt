@@ -5,7 +5,7 @@ ghost use Rattle.td_tree.specs.Outcomes.{Answers};
 ghost use Rattle.td_types.specs.Headings.{IsFound, IsMap, IsMissing, add_missing, extended_heading};
 ghost use Rattle.td_types.specs.Headings.{made_heading, place_of, types_with};
 ghost use Rattle.td_types.specs.Types.{IsAscending, IsHeading, pack, type_at};
-ghost use Rattle.td_types.specs.Views.{pairs_of, type_of};
+ghost use Rattle.td_types.specs.Views.{pairs_view, type_view};
 
 use crate::names::repeats_a_name;
 use crate::ty::Ty;
@@ -32,21 +32,21 @@ pub struct Heading {
 
 impl Model for Heading {
     ghost use Rattle.std.specs.Prelude.{List, ℕ, map, length};
-    ghost use Rattle.td_types.specs.Depths.{attributes_depth};
-    ghost use Rattle.td_types.specs.TypeCode.{attributes_code};
-    ghost use Rattle.td_types.specs.Types.{Attributes, IsHeading, pack};
+    ghost use Rattle.td_types.specs.Depths.{heading_depth};
+    ghost use Rattle.td_types.specs.TypeCode.{heading_code};
+    ghost use Rattle.td_types.specs.Types.{Heading, IsHeading, pack};
 
-    ghost Value = { Attributes };
+    ghost Value = { Heading };
 
-    ghost coded = { attributes_code };
+    ghost coded = { heading_code };
 
-    ghost use Rattle.td_types.specs.Views.{attributes_of};
+    ghost use Rattle.td_types.specs.Views.{heading_view};
 
-    ghost view = { λ a. attributes_of a.attributes.items };
+    ghost view = { λ a. heading_view a.attributes.items };
 
-    ghost invariant = { λ a. IsHeading (pack (attributes_of a.attributes.items)) };
+    ghost invariant = { λ a. IsHeading (pack (heading_view a.attributes.items)) };
 
-    ghost size = { attributes_depth };
+    ghost size = { heading_depth };
 
     ghost use Rattle.td_types.specs.Falls.{attributes_fall};
 
@@ -55,8 +55,8 @@ impl Model for Heading {
 
 /// The heading of attributes whose names ascend.
 fn from_sorted(alloc: Global, pairs: Vec<(Name, Ty)>) -> Result<Heading, AllocError>
-    requires { IsAscending (pairs_of pairs.items) }
-    ensures { IfOk result (λ h. h ≡ pairs_of pairs.items) }
+    requires { IsAscending (pairs_view pairs.items) }
+    ensures { IfOk result (λ h. h ≡ pairs_view pairs.items) }
 {
     let mut attributes = Vec::with_capacity(alloc, pairs.len())?;
     for (name, ty) in pairs {
@@ -79,8 +79,8 @@ impl Heading {
 
     /// The heading that gives each name its type: refused where a name comes twice.
     pub fn new(alloc: Global, attributes: Vec<(Name, Ty)>) -> Result<Heading, Fault>
-        ensures answer { Answers (λ h. h) result (made_heading (pairs_of attributes.items)) }
-        ensures types { IfOk result (λ h. IsMap h (λ n. type_at n (pairs_of attributes.items))) }
+        ensures answer { Answers (λ h. h) result (made_heading (pairs_view attributes.items)) }
+        ensures types { IfOk result (λ h. IsMap h (λ n. type_at n (pairs_view attributes.items))) }
     {
         let mut sorted = attributes;
         sorted.sort_unstable();
@@ -109,7 +109,7 @@ impl Heading {
 
     /// The attribute at a place in name order.
     pub fn at(&self, place: usize) -> Option<(&Name, &Ty)>
-        ensures { option_map (λ a. (a.0.now, type_of a.1.now)) result ≡ slice_get self.now place }
+        ensures { option_map (λ a. (a.0.now, type_view a.1.now)) result ≡ slice_get self.now place }
     {
         let attribute = self.attributes.get(place)?;
         Some((&attribute.name, &attribute.ty))
@@ -117,7 +117,7 @@ impl Heading {
 
     /// The type of the attribute of that name.
     pub fn get(&self, name: &Name) -> Option<&Ty>
-        ensures { option_map (λ t. type_of t.now) result ≡ type_at name.now self.now }
+        ensures { option_map (λ t. type_view t.now) result ≡ type_at name.now self.now }
     {
         let place = self.search(name).ok()?;
         let (_, ty) = self.at(place)?;
@@ -144,7 +144,7 @@ impl Heading {
 
     /// The heading with the attribute, unless it has one of that name.
     pub(crate) fn add(self, name: Name, ty: Ty) -> Result<Heading, AllocError>
-        ensures { IfOk result (λ h. h ≡ add_missing self (name, type_of ty)) }
+        ensures { IfOk result (λ h. h ≡ add_missing self (name, type_view ty)) }
     {
         if self.get(&name).is_some() {
             return Ok(self);
@@ -158,8 +158,8 @@ impl Heading {
 
     /// The heading with one more attribute: refused where it has one of that name.
     pub fn with(self, name: Name, ty: Ty) -> Result<Heading, Fault>
-        ensures answer { Answers (λ h. h) result (extended_heading self (name, type_of ty)) }
-        ensures types { IfOk result (λ h. IsMap h (types_with self (name, type_of ty))) }
+        ensures answer { Answers (λ h. h) result (extended_heading self (name, type_view ty)) }
+        ensures types { IfOk result (λ h. IsMap h (types_with self (name, type_view ty))) }
     {
         if self.get(&name).is_some() {
             return Err(Fault::Refused(Cause::Heading));

@@ -2,8 +2,8 @@
 ghost use Rattle.std.specs.Prelude.{◌≡◌, ◌↔◌, IsTrue};
 ghost use Rattle.std.specs.Ordering.{eq_by_cmp};
 ghost use Rattle.td_types.specs.TypeOrder.{heading_cmp, ty_cmp};
-ghost use Rattle.td_types.specs.Types.{attrs_cmp, pack, type_cmp, type_rank};
-ghost use Rattle.td_types.specs.Views.{attributes_of, type_of};
+ghost use Rattle.td_types.specs.Types.{attrs_cmp, pack, type_cmp, type_kind};
+ghost use Rattle.td_types.specs.Views.{heading_view, type_view};
 
 use crate::heading::{Attribute, Heading};
 use crate::ty::Ty;
@@ -12,7 +12,7 @@ use std::cmp::Ordering;
 impl Ty {
     /// The place of the type's kind.
     pub(crate) fn rank(&self) -> u8
-        ensures { result ≡ type_rank (type_of self.now) }
+        ensures { result ≡ type_kind (type_view self.now) }
     {
         match self {
             Ty::Bool => 0,
@@ -27,7 +27,7 @@ impl Ty {
 
 #[cycle(compare)]
 fn compare_types(a: &Ty, b: &Ty) -> Ordering
-    ensures { result ≡ type_cmp (type_of a.now) (type_of b.now) }
+    ensures { result ≡ type_cmp (type_view a.now) (type_view b.now) }
 {
     match (a, b) {
         (Ty::User(m), Ty::User(n)) => m.cmp(n),
@@ -46,7 +46,7 @@ fn compare_headings(a: &Heading, b: &Heading) -> Ordering
 
 #[cycle(compare)]
 fn compare_attributes(a: &[Attribute], b: &[Attribute]) -> Ordering
-    ensures { result ≡ attrs_cmp (pack (attributes_of a.now)) (pack (attributes_of b.now)) }
+    ensures { result ≡ attrs_cmp (pack (heading_view a.now)) (pack (heading_view b.now)) }
 {
     let mut place = 0;
     for x in a {
@@ -80,7 +80,7 @@ impl PartialEq for Ty {
 
     fn eq(&self, other: &Ty) -> bool
         ensures test { result ≡ eq_by_cmp ty_cmp self.now other.now }
-        ensures same { IsTrue result ↔ (type_of self.now ≡ type_of other.now) }
+        ensures same { IsTrue result ↔ (type_view self.now ≡ type_view other.now) }
     {
         self.cmp(other) == Ordering::Equal
     }

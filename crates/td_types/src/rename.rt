@@ -4,7 +4,7 @@ ghost use Rattle.td_tree.specs.Outcomes.{Answers};
 ghost use Rattle.td_types.specs.Headings.{IsMap, are_distinct, can_rename, has_attributes};
 ghost use Rattle.td_types.specs.Headings.{has_name, new_name, new_names, renamed, renamed_heading};
 ghost use Rattle.td_types.specs.Types.{type_at};
-ghost use Rattle.td_types.specs.Views.{attributes_of};
+ghost use Rattle.td_types.specs.Views.{heading_view};
 
 use crate::heading::{Attribute, Heading};
 use td_tree::cause::Cause;
@@ -51,7 +51,7 @@ fn are_old_distinct(renamings: &[(Name, Name)]) -> bool
 
 /// Whether the name is the new name of one of the attributes.
 fn is_new(name: &Name, attributes: &[Attribute], renamings: &[(Name, Name)]) -> bool
-    ensures { result ≡ has_name name.now (new_names renamings.now (attributes_of attributes.now)) }
+    ensures { result ≡ has_name name.now (new_names renamings.now (heading_view attributes.now)) }
 {
     for attribute in attributes {
         if new_name(&attribute.name, renamings) == name {
@@ -63,7 +63,7 @@ fn is_new(name: &Name, attributes: &[Attribute], renamings: &[(Name, Name)]) -> 
 
 /// Whether no two attributes have the same new name.
 fn are_new_distinct(attributes: &[Attribute], renamings: &[(Name, Name)]) -> bool
-    ensures { result ≡ are_distinct (new_names renamings.now (attributes_of attributes.now)) }
+    ensures { result ≡ are_distinct (new_names renamings.now (heading_view attributes.now)) }
 {
     let mut rest = attributes;
     while let [attribute, later @ ..] = rest {

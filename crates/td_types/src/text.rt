@@ -3,7 +3,7 @@ ghost use Rattle.std.specs.Prelude.{◌≡◌, ◌++◌, IfOk, OnOk};
 ghost use Rattle.std.specs.String.{string_bytes};
 ghost use Rattle.td_types.specs.Texts.{comma_if, heading_text, type_text};
 ghost use Rattle.td_types.specs.Types.{pack, relation};
-ghost use Rattle.td_types.specs.Views.{type_of};
+ghost use Rattle.td_types.specs.Views.{type_view};
 
 use crate::heading::Heading;
 use crate::ty::Ty;
@@ -23,7 +23,7 @@ fn put_comma(out: &mut String, later: bool) -> Result<(), AllocError>
 #[cycle(put)]
 pub fn put_type(out: &mut String, ty: &Ty) -> Result<(), AllocError>
     ensures { OnOk result (string_bytes out.new
-        ≡ string_bytes out.old ++ type_text (type_of ty.now)) }
+        ≡ string_bytes out.old ++ type_text (type_view ty.now)) }
 {
     match ty {
         Ty::Bool => out.push_str("BOOLEAN"),
@@ -68,7 +68,7 @@ fn put_heading(out: &mut String, heading: &Heading) -> Result<(), AllocError>
 
 /// The type's text.
 pub fn type_text(alloc: Global, ty: &Ty) -> Result<String, AllocError>
-    ensures { IfOk result (λ text. string_bytes text ≡ type_text (type_of ty.now)) }
+    ensures { IfOk result (λ text. string_bytes text ≡ type_text (type_view ty.now)) }
 {
     let mut out = String::new(alloc);
     put_type(&mut out, ty)?;

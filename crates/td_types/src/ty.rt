@@ -1,6 +1,6 @@
 //! Types.
 ghost use Rattle.td_types.specs.Types.{IsType};
-ghost use Rattle.td_types.specs.Views.{type_of};
+ghost use Rattle.td_types.specs.Views.{type_view};
 
 use crate::heading::Heading;
 use td_tree::name::Name;
@@ -26,7 +26,7 @@ pub enum Ty {
 impl Ty {
     /// What holds of every type. It takes no time.
     pub fn reveal(&self)
-        ensures { IsType (type_of self.now) }
+        ensures { IsType (type_view self.now) }
     {
         match self {
             Ty::User(name) => {

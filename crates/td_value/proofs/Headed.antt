@@ -8,7 +8,7 @@ use Rattle.std.specs.Cmp.Lexicographic.{slice_cmp, texts_ties}
 use Rattle.std.specs.List.{slice_get}
 use Rattle.std.proofs.lemmas.List.{at_drop_more, drop_all}
 use Rattle.std.proofs.lemmas.Option.{get_or_from_slice_get, slice_get_within}
-use Rattle.td_types.specs.Types.{Attribute, Attributes, Attrs, tuple, Type', attrs_cmp, no_attrs, pack, same_name, type_cmp}
+use Rattle.td_types.specs.Types.{Attribute, Heading, Attrs, tuple, Type', attrs_cmp, no_attrs, pack, same_name, type_cmp}
 use Rattle.std.proofs.lemmas.Cmp.{tied_itself}
 use Rattle.td_types.specs.TypeOrder.{type_cmp_total, type_same}
 use Rattle.td_value.specs.ValueOrder.{equal_from}
@@ -20,7 +20,7 @@ eq_then Less p = refl
 eq_then Equal p = refl
 eq_then Greater p = refl
 
-fits_first : (m : List ℕ) (v : Val) (a : Attribute) (ns : List (List ℕ)) (vs : List Val) (h : Attributes)
+fits_first : (m : List ℕ) (v : Val) (a : Attribute) (ns : List (List ℕ)) (vs : List Val) (h : Heading)
     → entries_fit (m ∷ ns) (v ∷ vs) (a ∷ h) ≡ (same_name m a.0 && (eq_by_cmp type_cmp (type_of v) a.1 && entries_fit ns vs h))
 fits_first m v a ns vs h =
     eq_then (slice_cmp nat_cmp m a.0) _ ∙ ap (λ b. is_eq (slice_cmp nat_cmp m a.0) && b) (eq_then (type_cmp (type_of v) a.1) _)
@@ -33,7 +33,7 @@ got_first : {X : Type 0} (xs : List X) (i : ℕ) (x : X) → slice_get xs i ≡ 
 got_first xs i x e = item_first xs i x (slice_get_within xs i x e) (sym (get_or_from_slice_get xs i x x e))
 
 -- one more attribute
-pub fits_more : (ns : List (List ℕ)) (vs : List Val) (h : Attributes) (i : ℕ) (m : List ℕ) (v : Val) (a : Attribute)
+pub fits_more : (ns : List (List ℕ)) (vs : List Val) (h : Heading) (i : ℕ) (m : List ℕ) (v : Val) (a : Attribute)
     → length ns ≡ length vs → i < length vs → m ≡ get_or ns i m → v ≡ get_or vs i v → slice_get h i ≡ Some a
     → entries_fit (drop i ns) (drop i vs) (drop i h) ≡ (same_name m a.0 && (eq_by_cmp type_cmp (type_of v) a.1 && entries_fit (drop (i + 1) ns) (drop (i + 1) vs) (drop (i + 1) h)))
 fits_more ns vs h i m v a e k p q g =
@@ -46,13 +46,13 @@ past (x ∷ xs) zero e = absurd (cc)
 past (x ∷ xs) (suc i) e = past xs i e
 
 -- where the heading ends first
-pub fits_short : (ns : List (List ℕ)) (vs : List Val) (h : Attributes) (i : ℕ) (v : Val)
+pub fits_short : (ns : List (List ℕ)) (vs : List Val) (h : Heading) (i : ℕ) (v : Val)
     → length ns ≡ length vs → i < length vs → v ≡ get_or vs i v → slice_get h i ≡ None → entries_fit (drop i ns) (drop i vs) (drop i h) ≡ false
 fits_short ns vs h i v e k q g =
     rw (at_drop_more (λ r. r) ns i [] (omega (arith, e, k)), item_first vs i v k q, past h i g) refl
 
 -- where the values end
-pub fits_end : (ns : List (List ℕ)) (vs : List Val) (h : Attributes) (i : ℕ)
+pub fits_end : (ns : List (List ℕ)) (vs : List Val) (h : Heading) (i : ℕ)
     → length ns ≡ length vs → length vs ≤ i → entries_fit (drop i ns) (drop i vs) (drop i h) ≡ is_none (slice_get h i)
 fits_end ns vs h i e k = rw (drop_all i ns (omega (arith, e, k))) (by_item (slice_get h i) refl)
   where

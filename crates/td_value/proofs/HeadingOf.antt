@@ -9,17 +9,17 @@ use Rattle.std.proofs.lemmas.Cmp.{nat_list_cmp_total}
 use Rattle.std.proofs.lemmas.List.{at_drop_more, length-take, map-append, take-append-drop, take_more}
 use Rattle.td_types.specs.Types.{Type', attr, pack}
 use Rattle.td_types.specs.Headings.{with_attribute}
-use Rattle.td_value.specs.Values.{Val, Entries, fields_type, heading_of, pack_fields, type_of}
-use Rattle.td_value.specs.Views.{entries_of}
+use Rattle.td_value.specs.Values.{Val, Tuple, fields_type, heading_of, pack_fields, type_of}
+use Rattle.td_value.specs.Views.{tuple_view}
 use Rattle.td_types.proofs.DistinctNames.{name_cmp}
 
-pub fields_type-heading : (es : Entries) → fields_type (pack_fields es) ≡ pack (heading_of es)
+pub fields_type-heading : (es : Tuple) → fields_type (pack_fields es) ≡ pack (heading_of es)
 fields_type-heading [] = refl
 fields_type-heading (e ∷ es) = ap (attr e.0 (type_of e.1)) (fields_type-heading es)
 
 -- an attribute whose name is above all others goes to the end
 last_of : (n : List ℕ) (t : Type') (ns : List (List ℕ)) (vs : List Val) → length ns ≡ length vs → AllByRecursion (λ m. name_cmp n m ≡ Greater) ns
-    → put name_cmp n t (heading_of (entries_of ns vs)) ≡ heading_of (entries_of ns vs) ++ (n, t) ∷ []
+    → put name_cmp n t (heading_of (tuple_view ns vs)) ≡ heading_of (tuple_view ns vs) ++ (n, t) ∷ []
 last_of n t [] vs e h = refl
 last_of n t (m ∷ ns) [] e h = absurd (omega (arith, e))
 last_of n t (m ∷ ns) (v ∷ vs) e h = rw h.0 (ap (λ r. (m, type_of v) ∷ r) (last_of n t ns vs (omega (arith, e)) h.1))
@@ -34,7 +34,7 @@ above_front (a ∷ fs) n bs h =
     in_middle [] g = g.0
     in_middle (c ∷ cs) g = in_middle cs g.1
 
-pub zip-append : (ns : List (List ℕ)) (vs : List Val) (n : List ℕ) (v : Val) → length ns ≡ length vs → entries_of (ns ++ n ∷ []) (vs ++ v ∷ []) ≡ entries_of ns vs ++ (n, v) ∷ []
+pub zip-append : (ns : List (List ℕ)) (vs : List Val) (n : List ℕ) (v : Val) → length ns ≡ length vs → tuple_view (ns ++ n ∷ []) (vs ++ v ∷ []) ≡ tuple_view ns vs ++ (n, v) ∷ []
 zip-append [] [] n v e = refl
 zip-append [] (w ∷ vs) n v e = absurd (omega (arith, e))
 zip-append (m ∷ ns) [] n v e = absurd (omega (arith, e))
@@ -43,7 +43,7 @@ zip-append (m ∷ ns) (w ∷ vs) n v e = ap (λ r. (m, w) ∷ r) (zip-append ns 
 -- one more attribute
 pub heading_more : (ns : List (List ℕ)) (vs : List Val) (i : ℕ) (n : List ℕ) (v : Val) → length ns ≡ length vs → i < length vs
     → n ≡ get_or ns i n → v ≡ get_or vs i v → IsStrictlySortedBy name_cmp ns
-    → with_attribute (heading_of (entries_of (take i ns) (take i vs))) (n, type_of v) ≡ heading_of (entries_of (take (i + 1) ns) (take (i + 1) vs))
+    → with_attribute (heading_of (tuple_view (take i ns) (take i vs))) (n, type_of v) ≡ heading_of (tuple_view (take (i + 1) ns) (take (i + 1) vs))
 heading_more ns vs i n v e k p q h =
     let names : take (i + 1) ns ≡ take i ns ++ n ∷ [] = take_more ns i n (omega (arith, e, k)) ∙ ap (λ x. take i ns ++ x ∷ []) (sym p) in
     let values : take (i + 1) vs ≡ take i vs ++ v ∷ [] = take_more vs i v k ∙ ap (λ x. take i vs ++ x ∷ []) (sym q) in
@@ -52,4 +52,4 @@ heading_more ns vs i n v e k p q h =
     let whole : ns ≡ take i ns ++ n ∷ drop (i + 1) ns = sym (take-append-drop i ns) ∙ ap (λ r. take i ns ++ r) rest in
     let above = above_front (take i ns) n (drop (i + 1) ns) (subst (IsStrictlySortedBy name_cmp) whole h) in
     rw (names, values) (last_of n (type_of v) (take i ns) (take i vs) same above
-    ∙ sym (ap heading_of (zip-append (take i ns) (take i vs) n v same) ∙ map-append (λ (f : List ℕ × Val). (f.0, type_of f.1)) (entries_of (take i ns) (take i vs)) ((n, v) ∷ [])))
+    ∙ sym (ap heading_of (zip-append (take i ns) (take i vs) n v same) ∙ map-append (λ (f : List ℕ × Val). (f.0, type_of f.1)) (tuple_view (take i ns) (take i vs)) ((n, v) ∷ [])))

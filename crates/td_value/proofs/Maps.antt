@@ -13,23 +13,23 @@ use Rattle.td_types.specs.Types.{same_name}
 use Rattle.td_types.specs.Headings.{are_distinct, has_name}
 use Rattle.td_value.specs.Sets.{put_in}
 use Rattle.td_value.proofs.SetLaws.{is_set_of}
-use Rattle.td_value.specs.Values.{Val, Entries, entry_order, names_of, tuple_of, value_at}
+use Rattle.td_value.specs.Values.{Val, Tuple, entry_cmp, tuple_names, tuple_of, value_at}
 use Rattle.td_value.specs.ValueOrder.{entry_order_total, entry_order_same}
 use Rattle.td_types.proofs.DistinctNames.{name_cmp, first_of, second_of}
 
-rising_entries : (e : List ℕ × Val) (es : Entries) → AllByRecursion (λ m. name_cmp e.0 m ≡ Less) (names_of es) → AllByRecursion (λ f. entry_order e f ≡ Less) es
+rising_entries : (e : List ℕ × Val) (es : Tuple) → AllByRecursion (λ m. name_cmp e.0 m ≡ Less) (tuple_names es) → AllByRecursion (λ f. entry_cmp e f ≡ Less) es
 rising_entries e [] h = tt
 rising_entries e (f ∷ es) h = (rw h.0 refl, rising_entries e es h.1)
 
-by_entries : (es : Entries) → IsStrictlySortedBy name_cmp (names_of es) → IsStrictlySortedBy entry_order es
+by_entries : (es : Tuple) → IsStrictlySortedBy name_cmp (tuple_names es) → IsStrictlySortedBy entry_cmp es
 unfolding IsStrictlySortedBy
 by_entries [] h = tt
 by_entries (e ∷ es) h = (rising_entries e es h.0, by_entries es h.1)
 
 -- entries whose names ascend are the tuple of each permutation of them
-pub sorted_is_tuple_of : (es fs : Entries) → IsPermutation fs es → IsStrictlySortedBy name_cmp (names_of es) → es ≡ tuple_of fs
+pub sorted_is_tuple_of : (es fs : Tuple) → IsPermutation fs es → IsStrictlySortedBy name_cmp (tuple_names es) → es ≡ tuple_of fs
 sorted_is_tuple_of es fs p h =
-    is_set_of entry_order entry_order_total entry_order_same es fs (by_entries es h) (λ t. sym (list_any-IsPermutation (eq_by_cmp entry_order t) fs es p))
+    is_set_of entry_cmp entry_order_total entry_order_same es fs (by_entries es h) (λ t. sym (list_any-IsPermutation (eq_by_cmp entry_cmp t) fs es p))
 
 same_itself : (n : List ℕ) → same_name n n ≡ true
 same_itself n = nat_list_eq_equiv.refl n
@@ -43,17 +43,17 @@ again : (b c : Bool) → (b || c) ≡ (b || (b || c))
 again true c = refl
 again false c = refl
 
-has_name-put_in : (m : List ℕ) (e : List ℕ × Val) (es : Entries) → has_name m (names_of (put_in entry_order e es)) ≡ has_name m (names_of (e ∷ es))
+has_name-put_in : (m : List ℕ) (e : List ℕ × Val) (es : Tuple) → has_name m (tuple_names (put_in entry_cmp e es)) ≡ has_name m (tuple_names (e ∷ es))
 has_name-put_in m e [] = refl
-has_name-put_in m e (f ∷ es) = by_order (has_name-put_in m e es) (entry_order e f) refl
+has_name-put_in m e (f ∷ es) = by_order (has_name-put_in m e es) (entry_cmp e f) refl
   where
-    by_order : has_name m (names_of (put_in entry_order e es)) ≡ has_name m (names_of (e ∷ es)) → (r : Ordering) → entry_order e f ≡ r
-        → has_name m (names_of (put_in entry_order e (f ∷ es))) ≡ has_name m (names_of (e ∷ f ∷ es))
+    by_order : has_name m (tuple_names (put_in entry_cmp e es)) ≡ has_name m (tuple_names (e ∷ es)) → (r : Ordering) → entry_cmp e f ≡ r
+        → has_name m (tuple_names (put_in entry_cmp e (f ∷ es))) ≡ has_name m (tuple_names (e ∷ f ∷ es))
     by_order rest Less d = rw d refl
-    by_order rest Equal d = rw (d, entry_order_same e f d) (again (same_name f.0 m) (has_name m (names_of es)))
-    by_order rest Greater d = rw d (ap (λ b. same_name f.0 m || b) rest ∙ swapped (same_name f.0 m) (same_name e.0 m) (has_name m (names_of es)))
+    by_order rest Equal d = rw (d, entry_order_same e f d) (again (same_name f.0 m) (has_name m (tuple_names es)))
+    by_order rest Greater d = rw d (ap (λ b. same_name f.0 m || b) rest ∙ swapped (same_name f.0 m) (same_name e.0 m) (has_name m (tuple_names es)))
 
-has_name-tuple_of : (m : List ℕ) (es : Entries) → has_name m (names_of (tuple_of es)) ≡ has_name m (names_of es)
+has_name-tuple_of : (m : List ℕ) (es : Tuple) → has_name m (tuple_names (tuple_of es)) ≡ has_name m (tuple_names es)
 has_name-tuple_of m [] = refl
 has_name-tuple_of m (e ∷ es) = has_name-put_in m e (tuple_of es) ∙ ap (λ b. same_name e.0 m || b) (has_name-tuple_of m es)
 
@@ -70,9 +70,9 @@ pick true true u v w h = h refl refl
 pick true false u v w h = refl
 pick false b u v w h = refl
 
-value_at-put_in : (n : List ℕ) (e : List ℕ × Val) (es : Entries) → has_name e.0 (names_of es) ≡ false → value_at n (put_in entry_order e es) ≡ value_at n (e ∷ es)
+value_at-put_in : (n : List ℕ) (e : List ℕ × Val) (es : Tuple) → has_name e.0 (tuple_names es) ≡ false → value_at n (put_in entry_cmp e es) ≡ value_at n (e ∷ es)
 value_at-put_in n e [] h = refl
-value_at-put_in n e (f ∷ es) h = by_order (value_at-put_in n e es (or_right _ _ h)) (entry_order e f) refl
+value_at-put_in n e (f ∷ es) h = by_order (value_at-put_in n e es (or_right _ _ h)) (entry_cmp e f) refl
   where
     names_differ : same_name f.0 n ≡ true → same_name e.0 n ≡ true → Some f.1 ≡ Some e.1
     names_differ p q =
@@ -80,7 +80,7 @@ value_at-put_in n e (f ∷ es) h = by_order (value_at-put_in n e es (or_right _ 
         let itself : same_name f.0 e.0 ≡ true = rw same (same_itself e.0) in
         absurd (true≢false (sym itself ∙ or_left _ _ h))
 
-    by_order : value_at n (put_in entry_order e es) ≡ value_at n (e ∷ es) → (r : Ordering) → entry_order e f ≡ r → value_at n (put_in entry_order e (f ∷ es)) ≡ value_at n (e ∷ f ∷ es)
+    by_order : value_at n (put_in entry_cmp e es) ≡ value_at n (e ∷ es) → (r : Ordering) → entry_cmp e f ≡ r → value_at n (put_in entry_cmp e (f ∷ es)) ≡ value_at n (e ∷ f ∷ es)
     by_order rest Less d = rw d refl
     by_order rest Equal d =
         let same : e.0 ≡ f.0 = ap (λ g. g.0) (entry_order_same e f d) in
@@ -90,7 +90,7 @@ value_at-put_in n e (f ∷ es) h = by_order (value_at-put_in n e es (or_right _ 
         rw d (ap (λ w. if same_name f.0 n then Some f.1 else w) rest ∙ pick (same_name f.0 n) (same_name e.0 n) (Some f.1) (Some e.1) (value_at n es) names_differ)
 
 -- the tuple of pairs of distinct names gives each name the value that they give it
-pub value_at-tuple_of : (n : List ℕ) (es : Entries) → are_distinct (names_of es) ≡ true → value_at n (tuple_of es) ≡ value_at n es
+pub value_at-tuple_of : (n : List ℕ) (es : Tuple) → are_distinct (tuple_names es) ≡ true → value_at n (tuple_of es) ≡ value_at n es
 value_at-tuple_of n [] h = refl
 value_at-tuple_of n (e ∷ es) h =
     value_at-put_in n e (tuple_of es) (has_name-tuple_of e.0 es ∙ first_of _ _ h)

@@ -9,21 +9,21 @@ use Rattle.td_value.specs.Laws.{RelationsAreTheirMembers, SetsHaveTheMembersOfTh
 use Rattle.td_value.specs.Sets.{has, set_of}
 use Rattle.td_value.proofs.SetLaws.{has-set_of, same_members}
 use Rattle.td_value.specs.ValueCode.{unpack_pack_rows}
-use Rattle.td_value.specs.Values.{Entries, IsRelation, Relation, tuple_order}
+use Rattle.td_value.specs.Values.{Tuple, IsRelation, Relation, tuple_cmp}
 use Rattle.td_value.specs.ValueOrder.{tuple_Decides, tuple_order_same, tuple_order_total}
 
 -- a list contains what the test finds
-contained : (t : Entries) (ts : List Entries) → has tuple_order t ts ≡ true → Contains ts t
+contained : (t : Tuple) (ts : List Tuple) → has tuple_cmp t ts ≡ true → Contains ts t
 contained t ts found = Contains-from_any (λ s u e. (tuple_Decides s u).0 e) t ts found
 
 -- the test finds what a list contains
-found : (t : Entries) (ts : List Entries) → Contains ts t → has tuple_order t ts ≡ true
+found : (t : Tuple) (ts : List Tuple) → Contains ts t → has tuple_cmp t ts ≡ true
 found t ts c = list_any-from_Contains (eq_by_cmp_equiv tuple_order_total) t ts c
 
 pub set_members : SetsHaveTheMembersOfTheirLists
 set_members ts t =
-    let same = has-set_of tuple_order tuple_order_total tuple_order_same t ts in
-    ((λ c. contained t ts (sym same ∙ found t (set_of tuple_order ts) c)), (λ c. contained t (set_of tuple_order ts) (same ∙ found t ts c)))
+    let same = has-set_of tuple_cmp tuple_order_total tuple_order_same t ts in
+    ((λ c. contained t ts (sym same ∙ found t (set_of tuple_cmp ts) c)), (λ c. contained t (set_of tuple_cmp ts) (same ∙ found t ts c)))
 
 pub joined_members : SetsOfJoinedLists
 joined_members ss ts t =
@@ -40,12 +40,12 @@ one_test true c f g = sym (f refl)
 one_test false true f g = g refl
 one_test false false f g = refl
 
-ascends : (r : Relation) → IsRelation r → IsStrictlySortedBy tuple_order r.rows
-ascends r p = subst (IsStrictlySortedBy tuple_order) (unpack_pack_rows r.rows) p.1
+ascends : (r : Relation) → IsRelation r → IsStrictlySortedBy tuple_cmp r.body
+ascends r p = subst (IsStrictlySortedBy tuple_cmp) (unpack_pack_rows r.body) p.1
 
 pub by_members : RelationsAreTheirMembers
 by_members r s p q heading members =
-    let tests : (t : Entries) → has tuple_order t r.rows ≡ has tuple_order t s.rows = λ t. one_test (has tuple_order t r.rows) (has tuple_order t s.rows)
-    (λ h. found t s.rows ((members t).0 (contained t r.rows h))) (λ h. found t r.rows ((members t).1 (contained t s.rows h))) in
-    let rows : r.rows ≡ s.rows = same_members tuple_order tuple_order_total tuple_order_same r.rows s.rows (ascends r p) (ascends s q) tests in
-    λ i. record { heading = heading i; rows = rows i }
+    let tests : (t : Tuple) → has tuple_cmp t r.body ≡ has tuple_cmp t s.body = λ t. one_test (has tuple_cmp t r.body) (has tuple_cmp t s.body)
+    (λ h. found t s.body ((members t).0 (contained t r.body h))) (λ h. found t r.body ((members t).1 (contained t s.body h))) in
+    let rows : r.body ≡ s.body = same_members tuple_cmp tuple_order_total tuple_order_same r.body s.body (ascends r p) (ascends s q) tests in
+    λ i. record { heading = heading i; body = rows i }

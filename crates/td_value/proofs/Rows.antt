@@ -10,55 +10,55 @@ use Rattle.std.proofs.lemmas.Cmp.{on_total, nat_list_cmp_total, tied_itself}
 use Rattle.std.proofs.lemmas.List.Kept.{Contains-from_dedup}
 use Rattle.std.proofs.lemmas.List.Elements.{All-contains, All-contains_itself}
 use Rattle.td_types.specs.Types as heads
-use Rattle.td_types.specs.Types.{Attributes, IsHeading, pack, unpack}
+use Rattle.td_types.specs.Types.{Heading, IsHeading, pack, unpack}
 use Rattle.td_types.specs.TypeCode.{unpack_pack}
-use Rattle.td_value.specs.Values.{Val, tuple, user, Entries, order, AreRows, HaveSameNames, IsTuple, IsTupleOf, fields_type, heading_of, names_of, pack_fields, pack_parts, pack_rows, parts_order, rows_order, tuple_order}
+use Rattle.td_value.specs.Values.{Val, tuple, user, Tuple, value_cmp, AreRows, HaveSameNames, IsTuple, IsTupleOf, fields_type, heading_of, tuple_names, pack_fields, pack_parts, pack_rows, parts_cmp, rows_cmp, tuple_cmp}
 use Rattle.td_value.specs.ValueOrder.{order_total}
 use Rattle.td_value.specs.Views.{values_of}
 use Rattle.td_value.proofs.HeadingOf.{fields_type-heading}
 use Rattle.td_value.proofs.Typed.{typed}
 
 -- the order of tuples by their values alone
-abbrev pub by_values : Entries → Entries → Ordering
-by_values s t = parts_order (pack_parts (values_of s)) (pack_parts (values_of t))
+abbrev pub by_values : Tuple → Tuple → Ordering
+by_values s t = parts_cmp (pack_parts (values_of s)) (pack_parts (values_of t))
 
 pub by_values_total : IsTotalOrder by_values
-by_values_total = on_total (λ (s : Entries). user [] (pack_parts (values_of s))) order_total
+by_values_total = on_total (λ (s : Tuple). user [] (pack_parts (values_of s))) order_total
 
 -- tuples of the same names compare as their values do
-pub tuple_order-by_values : (s t : Entries) → names_of s ≡ names_of t → tuple_order s t ≡ by_values s t
+pub tuple_order-by_values : (s t : Tuple) → tuple_names s ≡ tuple_names t → tuple_cmp s t ≡ by_values s t
 tuple_order-by_values [] [] h = refl
 tuple_order-by_values [] (f ∷ t) h = absurd (cc)
 tuple_order-by_values (e ∷ s) [] h = absurd (cc)
 tuple_order-by_values (e ∷ s) (f ∷ t) h =
     let first : e.0 ≡ f.0 = cc in
-    let rest : names_of s ≡ names_of t = cc in
+    let rest : tuple_names s ≡ tuple_names t = cc in
     rw (first, tied_itself nat_list_cmp_total f.0, tuple_order-by_values s t rest) refl
 
-names-heading : (s : Entries) → heads.names_of (heading_of s) ≡ names_of s
+names-heading : (s : Tuple) → heads.attribute_names (heading_of s) ≡ tuple_names s
 names-heading [] = refl
 names-heading (e ∷ s) = ap (λ ns. e.0 ∷ ns) (names-heading s)
 
-same_heading : (h : Attributes) (s t : Entries) → IsTupleOf h s → IsTupleOf h t → names_of s ≡ names_of t
-same_heading h s t p q = sym (names-heading s) ∙ ap heads.names_of (p.1 ∙ sym q.1) ∙ names-heading t
+same_heading : (h : Heading) (s t : Tuple) → IsTupleOf h s → IsTupleOf h t → tuple_names s ≡ tuple_names t
+same_heading h s t p q = sym (names-heading s) ∙ ap heads.attribute_names (p.1 ∙ sym q.1) ∙ names-heading t
 
-pub HaveSameNames-from : (h : Attributes) (ts : List Entries) → All (IsTupleOf h) ts → HaveSameNames ts
+pub HaveSameNames-from : (h : Heading) (ts : List Tuple) → All (IsTupleOf h) ts → HaveSameNames ts
 HaveSameNames-from h ts a s t p q = same_heading h s t (All-contains (IsTupleOf h) ts s a p) (All-contains (IsTupleOf h) ts t a q)
 
 -- tuples of one heading that are sorted by their values are sorted
-pub sorted_from_values : (h : Attributes) (ts : List Entries) → All (IsTupleOf h) ts → IsSortedBy (λ s t. is_lt (by_values s t)) ts → IsSorted tuple_order ts
+pub sorted_from_values : (h : Heading) (ts : List Tuple) → All (IsTupleOf h) ts → IsSortedBy (λ s t. is_lt (by_values s t)) ts → IsSorted tuple_cmp ts
 sorted_from_values h ts a up k d l u =
     let same = same_heading h (get_or ts (k + 1) d) (get_or ts k d) (a (k + 1) d u) (a k d (omega arith)) in
     rw (tuple_order-by_values (get_or ts (k + 1) d) (get_or ts k d) same) (up k d l u)
 
-heading_from : (h : Attributes) (t : Entries) → fields_type (pack_fields t) ≡ pack h → heading_of t ≡ h
+heading_from : (h : Heading) (t : Tuple) → fields_type (pack_fields t) ≡ pack h → heading_of t ≡ h
 heading_from h t e = sym (unpack_pack (heading_of t)) ∙ ap unpack (sym (fields_type-heading t) ∙ e) ∙ unpack_pack h
 
 -- a tuple has a heading, which is one
-pub IsTupleOf-from : (h : Attributes) (t : Entries) → IsTuple t → fields_type (pack_fields t) ≡ pack h → IsTupleOf h t
+pub IsTupleOf-from : (h : Heading) (t : Tuple) → IsTuple t → fields_type (pack_fields t) ≡ pack h → IsTupleOf h t
 IsTupleOf-from h t p e = (p, heading_from h t e, subst IsHeading e (typed (tuple (pack_fields t)) p))
 
-pub AreRows-from : (h : Attributes) (ts : List Entries) → All (IsTupleOf h) ts → AreRows (pack h) (pack_rows ts)
+pub AreRows-from : (h : Heading) (ts : List Tuple) → All (IsTupleOf h) ts → AreRows (pack h) (pack_rows ts)
 AreRows-from h [] a = tt
 AreRows-from h (t ∷ ts) a =
     let first = a 0 t (omega arith) in
@@ -68,20 +68,20 @@ pub All-dedup : {X : Type 0} (E : X → X → Bool) (P : X → Type 0) (xs : Lis
 All-dedup E P xs a = λ k d p.
     All-contains P xs _ a (Contains-from_dedup E xs _ (All-contains_itself (dedup E xs) k d p))
 
-pub All-from_rows : (h : Attributes) (ts : List Entries) → AreRows (pack h) (pack_rows ts) → All (IsTupleOf h) ts
+pub All-from_rows : (h : Heading) (ts : List Tuple) → AreRows (pack h) (pack_rows ts) → All (IsTupleOf h) ts
 All-from_rows h [] a k d p = absurd (omega arith)
 All-from_rows h (t ∷ ts) a zero d p = IsTupleOf-from h t (a.0.0, a.0.1) a.0.2
 All-from_rows h (t ∷ ts) a (suc k) d p = All-from_rows h ts a.1 k d (omega arith)
 
 -- lists of values, and of tuples, compare as lists do
-pub parts_order-lists : (vs ws : List Val) → parts_order (pack_parts vs) (pack_parts ws) ≡ slice_cmp order vs ws
+pub parts_order-lists : (vs ws : List Val) → parts_cmp (pack_parts vs) (pack_parts ws) ≡ slice_cmp value_cmp vs ws
 parts_order-lists [] [] = refl
 parts_order-lists [] (w ∷ ws) = refl
 parts_order-lists (v ∷ vs) [] = refl
-parts_order-lists (v ∷ vs) (w ∷ ws) = ap (ordering_then (order v w)) (parts_order-lists vs ws)
+parts_order-lists (v ∷ vs) (w ∷ ws) = ap (ordering_then (value_cmp v w)) (parts_order-lists vs ws)
 
-pub rows_order-lists : (ss ts : List Entries) → rows_order (pack_rows ss) (pack_rows ts) ≡ slice_cmp tuple_order ss ts
+pub rows_order-lists : (ss ts : List Tuple) → rows_cmp (pack_rows ss) (pack_rows ts) ≡ slice_cmp tuple_cmp ss ts
 rows_order-lists [] [] = refl
 rows_order-lists [] (t ∷ ts) = refl
 rows_order-lists (s ∷ ss) [] = refl
-rows_order-lists (s ∷ ss) (t ∷ ts) = ap (ordering_then (tuple_order s t)) (rows_order-lists ss ts)
+rows_order-lists (s ∷ ss) (t ∷ ts) = ap (ordering_then (tuple_cmp s t)) (rows_order-lists ss ts)

@@ -7,9 +7,9 @@ use Rattle.std.specs.Ordering.{nat_cmp}
 use Rattle.std.specs.declared.cmp.Ordering.TheVariants.{Less}
 use Rattle.td_types.specs.Types.{IsBefore, IsHeading}
 use Rattle.td_value.specs.Laws.{TypesOfValuesAreTypes}
-use Rattle.td_value.specs.Values.{boolean, integer, text, user, tuple, relation, Fields, no_fields, field, AreFields, fields_type, names_of, unpack_fields}
+use Rattle.td_value.specs.Values.{boolean, integer, char, user, tuple, relation, Fields, no_fields, field, AreFields, fields_type, tuple_names, unpack_fields}
 
-before : (n : List ℕ) (fs : Fields) → AllByRecursion (λ m. slice_cmp nat_cmp n m ≡ Less) (names_of (unpack_fields fs)) → IsBefore n (fields_type fs)
+before : (n : List ℕ) (fs : Fields) → AllByRecursion (λ m. slice_cmp nat_cmp n m ≡ Less) (tuple_names (unpack_fields fs)) → IsBefore n (fields_type fs)
 before n no_fields h = tt
 before n (field m v fs) h = (h.0, before n fs h.1)
 
@@ -19,11 +19,11 @@ mutual
   pub typed : TypesOfValuesAreTypes
   typed (boolean b) p = tt
   typed (integer z) p = tt
-  typed (text s) p = tt
+  typed (char s) p = tt
   typed (user n ps) p = p.0
   typed (tuple fs) p = fields_typed fs p.0 p.1
   typed (relation h rs) p = p.2
 
-  fields_typed : (fs : Fields) → AreFields fs → IsStrictlySortedBy (slice_cmp nat_cmp) (names_of (unpack_fields fs)) → IsHeading (fields_type fs)
+  fields_typed : (fs : Fields) → AreFields fs → IsStrictlySortedBy (slice_cmp nat_cmp) (tuple_names (unpack_fields fs)) → IsHeading (fields_type fs)
   fields_typed no_fields f a = tt
   fields_typed (field n v fs) f a = (f.0, typed v f.1, before n fs a.0, fields_typed fs f.2 a.1)

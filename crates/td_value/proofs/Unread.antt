@@ -15,7 +15,7 @@ use Rattle.td_types.proofs.Plain.{IsMarked, IsPlain, cut_front, is_mark, name_pl
 use Rattle.td_types.proofs.TypeTexts.{no_name, regroup_3, regroup_5, type_cut}
 use Rattle.td_tree.specs.TextTokens.{doubled}
 use Rattle.td_value.specs.Literal.{literal, fields_literal, parts_literal, rows_literal}
-use Rattle.td_value.specs.Values.{Val, boolean, integer, text, user, tuple, relation, Parts, no_parts, part, Fields, no_fields, field, Rows, no_rows, row, AreFields, AreRows, AreValues, IsInRange, IsValue, rank}
+use Rattle.td_value.specs.Values.{Val, boolean, integer, char, user, tuple, relation, Parts, no_parts, part, Fields, no_fields, field, Rows, no_rows, row, AreFields, AreRows, AreValues, IsInRange, IsValue, value_kind}
 
 -- nothing stands after a literal, or what closes a list or goes on with it
 abbrev IsClosed : List ℕ → Type 0
@@ -133,7 +133,7 @@ abbrev word : Val → List ℕ
 word (boolean b) = literal (boolean b)
 word (integer (pos m)) = decimal m
 word (integer (negsuc m)) = []
-word (text s) = []
+word (char s) = []
 word (user n ps) = n
 word (tuple fs) = codes "TUPLE"
 word (relation h rs) = codes "RELATION"
@@ -142,7 +142,7 @@ abbrev after : Val → List ℕ → List ℕ
 after (boolean b) x = x
 after (integer (pos m)) x = x
 after (integer (negsuc m)) x = 45 ∷ decimal (suc m) ++ x
-after (text s) x = 39 ∷ (doubled s ++ 39 ∷ x)
+after (char s) x = 39 ∷ (doubled s ++ 39 ∷ x)
 after (user n ps) x = 40 ∷ (parts_literal false ps ++ 41 ∷ x)
 after (tuple fs) x = codes " {" ++ (fields_literal false fs ++ 125 ∷ x)
 after (relation h rs) x = codes " {" ++ (attributes_text false h ++ 125 ∷ (codes " {" ++ (rows_literal false rs ++ 125 ∷ x)))
@@ -157,7 +157,7 @@ parted : (v : Val) (x : List ℕ) → literal v ++ x ≡ word v ++ after v x
 parted (boolean b) x = refl
 parted (integer (pos m)) x = refl
 parted (integer (negsuc m)) x = refl
-parted (text s) x = regroup_3 (codes "'") (doubled s) (codes "'") x
+parted (char s) x = regroup_3 (codes "'") (doubled s) (codes "'") x
 parted (user n ps) x = regroup_4 n (codes "(") (parts_literal false ps) (codes ")") x
 parted (tuple fs) x = regroup_3 (codes "TUPLE {") (fields_literal false fs) (codes "}") x
 parted (relation h rs) x = regroup_6 (codes "RELATION {") (attributes_text false h) (codes "}") (codes " {") (rows_literal false rs) (codes "}") x
@@ -176,7 +176,7 @@ word_plain (boolean true) p = (refl, (refl, (refl, (refl, tt))))
 word_plain (boolean false) p = (refl, (refl, (refl, (refl, (refl, tt)))))
 word_plain (integer (pos m)) p = digits_plain (decimal m) (decimal_is_IsNumeral m (below_pos m p)).0.1
 word_plain (integer (negsuc m)) p = tt
-word_plain (text s) p = tt
+word_plain (char s) p = tt
 word_plain (user n ps) p = name_plain n p.0
 word_plain (tuple fs) p = (refl, (refl, (refl, (refl, (refl, tt)))))
 word_plain (relation h rs) p = (refl, (refl, (refl, (refl, (refl, (refl, (refl, (refl, tt))))))))
@@ -185,7 +185,7 @@ after_marked : (v : Val) (x : List ℕ) → IsClosed x → IsMarked (after v x)
 after_marked (boolean b) x h = closed_marked x h
 after_marked (integer (pos m)) x h = closed_marked x h
 after_marked (integer (negsuc m)) x h = refl
-after_marked (text s) x h = refl
+after_marked (char s) x h = refl
 after_marked (user n ps) x h = refl
 after_marked (tuple fs) x h = refl
 after_marked (relation h rs) x k = refl
@@ -223,28 +223,28 @@ digits_kind (d ∷ ds) a k =
     let range = digit_from_value d a.0 in
     rw (digit_is d range.0 range.1) refl
 
-kind_is : (v : Val) → IsValue v → (x : List ℕ) → IsClosed x → kind (word v) (after v x) ≡ rank v
+kind_is : (v : Val) → IsValue v → (x : List ℕ) → IsClosed x → kind (word v) (after v x) ≡ value_kind v
 kind_is (boolean true) p x h = closed_kind (codes "TRUE") x h
 kind_is (boolean false) p x h = closed_kind (codes "FALSE") x h
 kind_is (integer (pos m)) p x h =
     let numeral = decimal_is_IsNumeral m (below_pos m p) in
     closed_kind (decimal m) x h ∙ digits_kind (decimal m) numeral.0.1 numeral.0.0
 kind_is (integer (negsuc m)) p x h = refl
-kind_is (text s) p x h = refl
+kind_is (char s) p x h = refl
 kind_is (user n ps) p x h = refl
 kind_is (tuple fs) p x h = refl
 kind_is (relation i rs) p x h = refl
 
-ranks_same : (v w : Val) → IsValue v → IsValue w → (x y : List ℕ) → IsClosed x → IsClosed y → literal v ++ x ≡ literal w ++ y → rank v ≡ rank w
+ranks_same : (v w : Val) → IsValue v → IsValue w → (x y : List ℕ) → IsClosed x → IsClosed y → literal v ++ x ≡ literal w ++ y → value_kind v ≡ value_kind w
 ranks_same v w p q x y h k e =
     let cut = plain_cut (word v) (word w) (after v x) (after w y) (word_plain v p) (word_plain w q) (after_marked v x h) (after_marked w y k)
     (sym (parted v x) ∙ e ∙ parted w y) in
     sym (kind_is v p x h) ∙ (λ i. kind (cut.0 i) (cut.1 i)) ∙ kind_is w q y k
 
-rank_low : (v : Val) → rank v < 9
+rank_low : (v : Val) → value_kind v < 9
 rank_low (boolean b) = omega arith
 rank_low (integer z) = omega arith
-rank_low (text s) = omega arith
+rank_low (char s) = omega arith
 rank_low (user n ps) = omega arith
 rank_low (tuple fs) = omega arith
 rank_low (relation h rs) = omega arith
@@ -253,7 +253,7 @@ rank_low (relation h rs) = omega arith
 literal_first : (w : Val) → IsValue w → (x y : List ℕ) → IsClosed y → 41 ∷ x ≡ literal w ++ y → ⊥
 literal_first w q x y k e =
     let cut = plain_cut [] (word w) (41 ∷ x) (after w y) tt (word_plain w q) refl (after_marked w y k) (e ∙ parted w y) in
-    let nine : 9 ≡ rank w = (λ i. kind (cut.0 i) (cut.1 i)) ∙ kind_is w q y k in
+    let nine : 9 ≡ value_kind w = (λ i. kind (cut.0 i) (cut.1 i)) ∙ kind_is w q y k in
     omega (arith, rank_low w, nine)
 
 -- ---- the parts between commas
@@ -281,9 +281,9 @@ mutual
       let cut = booleans_cut a b x y e in (ap boolean cut.0, cut.1)
   value_cut (integer z) (integer w) p q x y h k e =
       let cut = numbers_cut z w x y p q (closed_ends x h) (closed_ends y k) e in (ap integer cut.0, cut.1)
-  value_cut (text s) (text u) p q x y h k e =
-      let whole = sym (parted (text s) x) ∙ e ∙ parted (text u) y in
-      let cut = texts_cut s u x y (closed_ends x h) (closed_ends y k) (cut_front (codes "'") _ _ whole) in (ap text cut.0, cut.1)
+  value_cut (char s) (char u) p q x y h k e =
+      let whole = sym (parted (char s) x) ∙ e ∙ parted (char u) y in
+      let cut = texts_cut s u x y (closed_ends x h) (closed_ends y k) (cut_front (codes "'") _ _ whole) in (ap char cut.0, cut.1)
   value_cut (user n ps) (user m qs) p q x y h k e =
       let names = plain_cut n m _ _ (name_plain n p.0) (name_plain m q.0) refl refl (sym (parted (user n ps) x) ∙ e ∙ parted (user m qs) y) in
       let cut = parts_cut false ps qs p.1 q.1 x y (cut_front (codes "(") _ _ names.1) in
@@ -297,7 +297,7 @@ mutual
       let headings = type_cut (types.relation g) (types.relation i) p.2 q.2 _ _ refl refl whole in
       let cut = rows_cut false g i rs ss p.0 q.0 x y (cut_front (codes " {") _ _ headings.1) in
       (λ j. relation (heading_in (headings.0 j)) (cut.0 j), cut.1)
-  value_cut v w p q x y h k e = let same : rank v ≡ rank w = ranks_same v w p q x y h k e in absurd (omega (arith, same))
+  value_cut v w p q x y h k e = let same : value_kind v ≡ value_kind w = ranks_same v w p q x y h k e in absurd (omega (arith, same))
 
   pub parts_cut : (later : Bool) (ps qs : Parts) → AreValues ps → AreValues qs → (x y : List ℕ)
       → parts_literal later ps ++ 41 ∷ x ≡ parts_literal later qs ++ 41 ∷ y → (ps ≡ qs) × (x ≡ y)

@@ -1,13 +1,13 @@
 -- What the hash of a value is fed, so that equal values are hashed alike: of a tuple its values alone.
 use Rattle.std.specs.Prelude.{ℕ, List, ◌++◌}
 use Rattle.std.specs.Hash as fed
-use Rattle.td_value.specs.Values.{Val, boolean, integer, text, user, tuple, relation, Parts, no_parts, part, Fields, no_fields, field, Rows, no_rows, row, Entries, Relation, pack_fields, pack_rows}
+use Rattle.td_value.specs.Values.{Val, boolean, integer, char, user, tuple, relation, Parts, no_parts, part, Fields, no_fields, field, Rows, no_rows, row, Tuple, Relation, pack_fields, pack_rows}
 
 abbrev mutual
   pub fed_value : Val → List (List ℕ)
   fed_value (boolean b) = fed.bool b
   fed_value (integer z) = fed.i64 z
-  fed_value (text s) = fed.str s
+  fed_value (char s) = fed.str s
   fed_value (user n ps) = fed.str n ++ fed_parts ps
   fed_value (tuple fs) = fed_fields fs
   fed_value (relation h rs) = fed_rows rs
@@ -25,9 +25,9 @@ abbrev mutual
   fed_rows (row fs rs) = fed_fields fs ++ fed_rows rs
 
 -- what the hash of a tuple is fed
-abbrev pub fed_tuple : Entries → List (List ℕ)
+abbrev pub fed_tuple : Tuple → List (List ℕ)
 fed_tuple t = fed_fields (pack_fields t)
 
 -- what the hash of a relation is fed: its tuples
 abbrev pub fed_relation : Relation → List (List ℕ)
-fed_relation r = fed_rows (pack_rows r.rows)
+fed_relation r = fed_rows (pack_rows r.body)

@@ -4,7 +4,7 @@ use Rattle.std.specs.Fmt.{signed_decimal}
 use Rattle.td_tree.specs.TextTokens.{quoted}
 use Rattle.td_types.specs.Types as types
 use Rattle.td_types.specs.Texts.{comma_if, type_text}
-use Rattle.td_value.specs.Values.{Val, boolean, integer, text, user, tuple, relation, Parts, no_parts, part, Fields, no_fields, field, Rows, no_rows, row, Entries, Relation, pack_fields, pack_rows}
+use Rattle.td_value.specs.Values.{Val, boolean, integer, char, user, tuple, relation, Parts, no_parts, part, Fields, no_fields, field, Rows, no_rows, row, Tuple, Relation, pack_fields, pack_rows}
 use Rattle.td_types.specs.Types.{pack}
 
 -- numbers in decimal, TRUE and FALSE, texts between quotes, T(v1, v2), TUPLE {A v, B w} in name order, and a relation's type
@@ -13,7 +13,7 @@ abbrev mutual
   pub literal : Val → List ℕ
   literal (boolean b) = if b then codes "TRUE" else codes "FALSE"
   literal (integer z) = signed_decimal z
-  literal (text s) = quoted s
+  literal (char s) = quoted s
   literal (user n ps) = n ++ codes "(" ++ parts_literal false ps ++ codes ")"
   literal (tuple fs) = codes "TUPLE {" ++ fields_literal false fs ++ codes "}"
   literal (relation h rs) = type_text (types.relation h) ++ codes " {" ++ rows_literal false rs ++ codes "}"
@@ -31,9 +31,9 @@ abbrev mutual
   rows_literal later (row fs rs) = comma_if later ++ codes "TUPLE {" ++ fields_literal false fs ++ codes "}" ++ rows_literal true rs
 
 -- the literal of a tuple
-abbrev pub tuple_literal : Entries → List ℕ
+abbrev pub tuple_literal : Tuple → List ℕ
 tuple_literal t = literal (tuple (pack_fields t))
 
 -- the literal of a relation
 abbrev pub relation_literal : Relation → List ℕ
-relation_literal r = literal (relation (pack r.heading) (pack_rows r.rows))
+relation_literal r = literal (relation (pack r.heading) (pack_rows r.body))

@@ -3,10 +3,10 @@ use Rattle.std.specs.Prelude.{◌≡◌, ℕ, zero, suc, ℤ, pos, negsuc, Bool,
 use Rattle.std.proofs.Common.{ap, ◌∙◌}
 use Rattle.std.specs.Coded.{Coded, code_by, coded×, coded_list, coded_ℕ}
 use Rattle.td_types.specs.Keys.{Key, key, Keys, no_keys, more, key_code}
-use Rattle.td_types.specs.Types.{Attributes}
-use Rattle.td_types.specs.TypeCode.{attrs_keys, attributes_code}
+use Rattle.td_types.specs.Types.{Heading}
+use Rattle.td_types.specs.TypeCode.{attrs_keys, heading_code}
 use Rattle.td_types.specs.TypeOrder.{attrs_from_keys, attrs_from_keys-attrs_keys}
-use Rattle.td_value.specs.Values.{Val, boolean, integer, text, user, tuple, relation, Parts, no_parts, part, Fields, no_fields, field, Rows, no_rows, row, Entries, Relation, Selected, pack_fields, unpack_fields, pack_rows, unpack_rows}
+use Rattle.td_value.specs.Values.{Val, boolean, integer, char, user, tuple, relation, Parts, no_parts, part, Fields, no_fields, field, Rows, no_rows, row, Tuple, Relation, UserValue, pack_fields, unpack_fields, pack_rows, unpack_rows}
 
 -- FALSE and TRUE as numbers, in their order
 abbrev pub bit : Bool → ℤ
@@ -17,7 +17,7 @@ abbrev mutual
   pub val_key : Val → Key
   val_key (boolean b) = key 0 (bit b) [] no_keys
   val_key (integer z) = key 1 z [] no_keys
-  val_key (text s) = key 2 (pos 0) s no_keys
+  val_key (char s) = key 2 (pos 0) s no_keys
   val_key (user n ps) = key 3 (pos 0) n (parts_keys ps)
   val_key (tuple fs) = key 4 (pos 0) [] (fields_keys fs)
   val_key (relation h rs) = key 5 (pos 0) [] (more (key 0 (pos 0) [] (attrs_keys h)) (rows_keys rs))
@@ -57,7 +57,7 @@ abbrev mutual
   pub val_from : Key → Val
   val_from (key zero x s ks) = boolean (unbit x)
   val_from (key (suc zero) x s ks) = integer x
-  val_from (key (suc (suc zero)) x s ks) = text s
+  val_from (key (suc (suc zero)) x s ks) = char s
   val_from (key (suc (suc (suc zero))) x s ks) = user s (parts_from ks)
   val_from (key (suc (suc (suc (suc zero)))) x s ks) = tuple (fields_from ks)
   val_from (key (suc (suc (suc (suc (suc n))))) x s no_keys) = boolean false
@@ -84,7 +84,7 @@ mutual
   pub val_back : (v : Val) → val_from (val_key v) ≡ v
   val_back (boolean b) = ap boolean (unbit_bit b)
   val_back (integer z) = refl
-  val_back (text s) = refl
+  val_back (char s) = refl
   val_back (user n ps) = ap (user n) (parts_back ps)
   val_back (tuple fs) = ap tuple (fields_back fs)
   val_back (relation h rs) = λ i. relation (attrs_from_keys-attrs_keys h i) (rows_back rs i)
@@ -101,11 +101,11 @@ mutual
   rows_back no_rows = refl
   rows_back (row fs rs) = λ i. row (fields_back fs i) (rows_back rs i)
 
-pub unpack_pack_fields : (es : Entries) → unpack_fields (pack_fields es) ≡ es
+pub unpack_pack_fields : (es : Tuple) → unpack_fields (pack_fields es) ≡ es
 unpack_pack_fields [] = refl
 unpack_pack_fields (e ∷ es) = ap (λ r. e ∷ r) (unpack_pack_fields es)
 
-pub unpack_pack_rows : (ts : List Entries) → unpack_rows (pack_rows ts) ≡ ts
+pub unpack_pack_rows : (ts : List Tuple) → unpack_rows (pack_rows ts) ≡ ts
 unpack_pack_rows [] = refl
 unpack_pack_rows (t ∷ ts) = λ i. unpack_pack_fields t i ∷ unpack_pack_rows ts i
 
@@ -114,20 +114,20 @@ abbrev pub val_code : Coded Val
 val_code = code_by Key key_code val_key val_from val_back
 
 -- the key of a tuple
-abbrev pub entries_key : Entries → Key
+abbrev pub entries_key : Tuple → Key
 entries_key es = key 0 (pos 0) [] (fields_keys (pack_fields es))
 
-abbrev pub entries_from : Key → Entries
+abbrev pub entries_from : Key → Tuple
 entries_from k = unpack_fields (fields_from (kids_in k))
 
-pub entries_back : (es : Entries) → entries_from (entries_key es) ≡ es
+pub entries_back : (es : Tuple) → entries_from (entries_key es) ≡ es
 entries_back es = ap unpack_fields (fields_back (pack_fields es)) ∙ unpack_pack_fields es
 
-abbrev pub entries_code : Coded Entries
-entries_code = code_by Key key_code entries_key entries_from entries_back
+abbrev pub tuple_code : Coded Tuple
+tuple_code = code_by Key key_code entries_key entries_from entries_back
 
 abbrev pub relation_code : Coded Relation
-relation_code = code_by (Attributes × List Entries) (coded× attributes_code (coded_list entries_code)) (λ r. (r.heading, r.rows)) (λ p. record { heading = p.0; rows = p.1 }) (λ _. refl)
+relation_code = code_by (Heading × List Tuple) (coded× heading_code (coded_list tuple_code)) (λ r. (r.heading, r.body)) (λ p. record { heading = p.0; body = p.1 }) (λ _. refl)
 
-abbrev pub selected_code : Coded Selected
-selected_code = code_by (List ℕ × List Val) (coded× (coded_list coded_ℕ) (coded_list val_code)) (λ u. (u.name, u.components)) (λ p. record { name = p.0; components = p.1 }) (λ _. refl)
+abbrev pub user_value_code : Coded UserValue
+user_value_code = code_by (List ℕ × List Val) (coded× (coded_list coded_ℕ) (coded_list val_code)) (λ u. (u.name, u.components)) (λ p. record { name = p.0; components = p.1 }) (λ _. refl)

@@ -8,9 +8,9 @@ use Rattle.std.specs.List.Sorted.{IsStrictlySortedBy}
 use Rattle.std.specs.List.{Contains}
 use Rattle.td_tree.specs.Names.{IsName}
 use Rattle.td_tree.specs.Outcomes.{Outcome, value_if}
-use Rattle.td_tree.specs.declared.cause.Cause.TheVariants.{Heading}
+use Rattle.td_tree.specs.declared.cause.Cause.TheVariants as causes
 use Rattle.td_types.specs.Headings.{are_distinct, has_name}
-use Rattle.td_types.specs.Types.{Type', IsHeading, same_name, Attrs, no_attrs, attr, Attributes, attrs_cmp, pack}
+use Rattle.td_types.specs.Types.{Type', IsHeading, same_name, Attrs, no_attrs, attr, Heading, attrs_cmp, pack}
 use Rattle.td_types.specs.Types as types
 use Rattle.td_value.specs.Sets.{set_of}
 
@@ -20,7 +20,7 @@ mutual
   pub data Val : Type 0 where
     boolean : Bool → Val
     integer : ℤ → Val
-    text : List ℕ → Val
+    char : List ℕ → Val
     user : List ℕ → Parts → Val
     tuple : Fields → Val
     relation : Attrs → Rows → Val
@@ -41,42 +41,42 @@ mutual
     row : Fields → Rows → Rows
 
 -- a tuple: its names with their values, in name order
-abbrev pub Entries : Type 0
-Entries = List (List ℕ × Val)
+abbrev pub Tuple : Type 0
+Tuple = List (List ℕ × Val)
 
 -- a user value: its type's name, and its components in declared order
-pub record Selected : Type 0 where
+pub record UserValue : Type 0 where
   pub name : List ℕ
   pub components : List Val
 
 -- a relation: its heading, and its body as the strictly ascending list of its tuples
 pub record Relation : Type 0 where
-  pub heading : Attributes
-  pub rows : List Entries
+  pub heading : Heading
+  pub body : List Tuple
 
 -- lists of values, of entries and of tuples as they stand inside a value, and back
 abbrev pub pack_parts : List Val → Parts
 pack_parts [] = no_parts
 pack_parts (v ∷ vs) = part v (pack_parts vs)
 
-abbrev pub pack_fields : Entries → Fields
+abbrev pub pack_fields : Tuple → Fields
 pack_fields [] = no_fields
 pack_fields (e ∷ es) = field e.0 e.1 (pack_fields es)
 
-abbrev pub unpack_fields : Fields → Entries
+abbrev pub unpack_fields : Fields → Tuple
 unpack_fields no_fields = []
 unpack_fields (field n v fs) = (n, v) ∷ unpack_fields fs
 
-abbrev pub pack_rows : List Entries → Rows
+abbrev pub pack_rows : List Tuple → Rows
 pack_rows [] = no_rows
 pack_rows (t ∷ ts) = row (pack_fields t) (pack_rows ts)
 
-abbrev pub unpack_rows : Rows → List Entries
+abbrev pub unpack_rows : Rows → List Tuple
 unpack_rows no_rows = []
 unpack_rows (row fs rs) = unpack_fields fs ∷ unpack_rows rs
 
 -- a user value as a value
-abbrev pub selected_value : Selected → Val
+abbrev pub selected_value : UserValue → Val
 selected_value u = user u.name (pack_parts u.components)
 
 -- ---- the order of values (this project's own): FALSE before TRUE, numbers by size, texts by their bytes in UTF-8, user
@@ -84,60 +84,60 @@ selected_value u = user u.name (pack_parts u.components)
 -- of tuples, a proper prefix first. Between values of two types it is some total order, which no output shows
 
 -- the place of a value's kind among the kinds
-abbrev pub rank : Val → ℕ
-rank (boolean b) = 0
-rank (integer z) = 1
-rank (text s) = 2
-rank (user n ps) = 3
-rank (tuple fs) = 4
-rank (relation h rs) = 5
+abbrev pub value_kind : Val → ℕ
+value_kind (boolean b) = 0
+value_kind (integer z) = 1
+value_kind (char s) = 2
+value_kind (user n ps) = 3
+value_kind (tuple fs) = 4
+value_kind (relation h rs) = 5
 
 abbrev mutual
-  pub order : Val → Val → Ordering
-  order (boolean a) (boolean b) = bool_cmp a b
-  order (integer x) (integer y) = int_cmp x y
-  order (text s) (text t) = slice_cmp nat_cmp s t
-  order (user m ps) (user n qs) = ordering_then (slice_cmp nat_cmp m n) (parts_order ps qs)
-  order (tuple fs) (tuple gs) = fields_order fs gs
-  order (relation h rs) (relation i ss) = ordering_then (attrs_cmp h i) (rows_order rs ss)
-  order v w = nat_cmp (rank v) (rank w)
+  pub value_cmp : Val → Val → Ordering
+  value_cmp (boolean a) (boolean b) = bool_cmp a b
+  value_cmp (integer x) (integer y) = int_cmp x y
+  value_cmp (char s) (char t) = slice_cmp nat_cmp s t
+  value_cmp (user m ps) (user n qs) = ordering_then (slice_cmp nat_cmp m n) (parts_cmp ps qs)
+  value_cmp (tuple fs) (tuple gs) = fields_cmp fs gs
+  value_cmp (relation h rs) (relation i ss) = ordering_then (attrs_cmp h i) (rows_cmp rs ss)
+  value_cmp v w = nat_cmp (value_kind v) (value_kind w)
 
-  pub parts_order : Parts → Parts → Ordering
-  parts_order no_parts no_parts = Equal
-  parts_order no_parts (part w qs) = Less
-  parts_order (part v ps) no_parts = Greater
-  parts_order (part v ps) (part w qs) = ordering_then (order v w) (parts_order ps qs)
+  pub parts_cmp : Parts → Parts → Ordering
+  parts_cmp no_parts no_parts = Equal
+  parts_cmp no_parts (part w qs) = Less
+  parts_cmp (part v ps) no_parts = Greater
+  parts_cmp (part v ps) (part w qs) = ordering_then (value_cmp v w) (parts_cmp ps qs)
 
-  pub fields_order : Fields → Fields → Ordering
-  fields_order no_fields no_fields = Equal
-  fields_order no_fields (field n w gs) = Less
-  fields_order (field m v fs) no_fields = Greater
-  fields_order (field m v fs) (field n w gs) = ordering_then (slice_cmp nat_cmp m n) (ordering_then (order v w) (fields_order fs gs))
+  pub fields_cmp : Fields → Fields → Ordering
+  fields_cmp no_fields no_fields = Equal
+  fields_cmp no_fields (field n w gs) = Less
+  fields_cmp (field m v fs) no_fields = Greater
+  fields_cmp (field m v fs) (field n w gs) = ordering_then (slice_cmp nat_cmp m n) (ordering_then (value_cmp v w) (fields_cmp fs gs))
 
-  pub rows_order : Rows → Rows → Ordering
-  rows_order no_rows no_rows = Equal
-  rows_order no_rows (row gs ss) = Less
-  rows_order (row fs rs) no_rows = Greater
-  rows_order (row fs rs) (row gs ss) = ordering_then (fields_order fs gs) (rows_order rs ss)
+  pub rows_cmp : Rows → Rows → Ordering
+  rows_cmp no_rows no_rows = Equal
+  rows_cmp no_rows (row gs ss) = Less
+  rows_cmp (row fs rs) no_rows = Greater
+  rows_cmp (row fs rs) (row gs ss) = ordering_then (fields_cmp fs gs) (rows_cmp rs ss)
 
 -- the order of tuples
-abbrev pub tuple_order : Entries → Entries → Ordering
-tuple_order s t = fields_order (pack_fields s) (pack_fields t)
+abbrev pub tuple_cmp : Tuple → Tuple → Ordering
+tuple_cmp s t = fields_cmp (pack_fields s) (pack_fields t)
 
 -- the order of relations
-abbrev pub relation_order : Relation → Relation → Ordering
-relation_order r s = ordering_then (attrs_cmp (pack r.heading) (pack s.heading)) (rows_order (pack_rows r.rows) (pack_rows s.rows))
+abbrev pub relation_cmp : Relation → Relation → Ordering
+relation_cmp r s = ordering_then (attrs_cmp (pack r.heading) (pack s.heading)) (rows_cmp (pack_rows r.body) (pack_rows s.body))
 
 -- the order of a tuple's entries: by name, then by value
-abbrev pub entry_order : List ℕ × Val → List ℕ × Val → Ordering
-entry_order e f = ordering_then (slice_cmp nat_cmp e.0 f.0) (order e.1 f.1)
+abbrev pub entry_cmp : List ℕ × Val → List ℕ × Val → Ordering
+entry_cmp e f = ordering_then (slice_cmp nat_cmp e.0 f.0) (value_cmp e.1 f.1)
 
 -- the finite map that pairs of distinct names are, as the set of them in name order
-abbrev pub tuple_of : Entries → Entries
-tuple_of = set_of entry_order
+abbrev pub tuple_of : Tuple → Tuple
+tuple_of = set_of entry_cmp
 
 -- the entries of those names alone: the tuple projected on them (the chapter's)
-abbrev pub projected_tuple : List (List ℕ) → Entries → Entries
+abbrev pub projected_tuple : List (List ℕ) → Tuple → Tuple
 projected_tuple names = filter (λ e. has_name e.0 names)
 
 -- ---- the type of a value
@@ -146,7 +146,7 @@ abbrev mutual
   pub type_of : Val → Type'
   type_of (boolean b) = types.boolean
   type_of (integer z) = types.integer
-  type_of (text s) = types.text
+  type_of (char s) = types.char
   type_of (user n ps) = types.user n
   type_of (tuple fs) = types.tuple (fields_type fs)
   type_of (relation h rs) = types.relation h
@@ -156,7 +156,7 @@ abbrev mutual
   fields_type (field n v fs) = attr n (type_of v) (fields_type fs)
 
 -- the heading of a tuple: each name with the type of its value
-abbrev pub heading_of : Entries → Attributes
+abbrev pub heading_of : Tuple → Heading
 heading_of = map (λ e. (e.0, type_of e.1))
 
 -- ---- what holds of every value, at every depth
@@ -166,12 +166,12 @@ abbrev pub IsInRange : ℤ → Type 0
 IsInRange z = (negsuc (2 ^ 63 - 1) ≤ℤ z) × (z ≤ℤ pos (2 ^ 63 - 1))
 
 -- a tuple's names, in order
-abbrev pub names_of : Entries → List (List ℕ)
-names_of = map (λ e. e.0)
+abbrev pub tuple_names : Tuple → List (List ℕ)
+tuple_names = map (λ e. e.0)
 
 -- the tuples ascend, so none comes twice
-abbrev pub IsAscendingRows : List Entries → Type 0
-IsAscendingRows = IsStrictlySortedBy tuple_order
+abbrev pub IsAscendingBody : List Tuple → Type 0
+IsAscendingBody = IsStrictlySortedBy tuple_cmp
 
 -- numbers are in range, texts are UTF-8, names are names and ascend, tuples ascend and have their relation's heading, which
 -- is one
@@ -179,10 +179,10 @@ abbrev mutual
   pub IsValue : Val → Type 0
   IsValue (boolean b) = ⊤
   IsValue (integer z) = IsInRange z
-  IsValue (text s) = IsUtf8 s
+  IsValue (char s) = IsUtf8 s
   IsValue (user n ps) = IsName n × AreValues ps
-  IsValue (tuple fs) = AreFields fs × IsStrictlySortedBy (slice_cmp nat_cmp) (names_of (unpack_fields fs))
-  IsValue (relation h rs) = AreRows h rs × IsAscendingRows (unpack_rows rs) × IsHeading h
+  IsValue (tuple fs) = AreFields fs × IsStrictlySortedBy (slice_cmp nat_cmp) (tuple_names (unpack_fields fs))
+  IsValue (relation h rs) = AreRows h rs × IsAscendingBody (unpack_rows rs) × IsHeading h
 
   pub AreValues : Parts → Type 0
   AreValues no_parts = ⊤
@@ -194,41 +194,41 @@ abbrev mutual
 
   pub AreRows : Attrs → Rows → Type 0
   AreRows h no_rows = ⊤
-  AreRows h (row fs rs) = (AreFields fs × IsStrictlySortedBy (slice_cmp nat_cmp) (names_of (unpack_fields fs)) × (fields_type fs ≡ h)) × AreRows h rs
+  AreRows h (row fs rs) = (AreFields fs × IsStrictlySortedBy (slice_cmp nat_cmp) (tuple_names (unpack_fields fs)) × (fields_type fs ≡ h)) × AreRows h rs
 
 -- a tuple, all of whose values are values
-abbrev pub IsTuple : Entries → Type 0
+abbrev pub IsTuple : Tuple → Type 0
 IsTuple t = IsValue (tuple (pack_fields t))
 
 -- a relation, all of whose tuples are tuples of its heading
 abbrev pub IsRelation : Relation → Type 0
-IsRelation r = IsValue (relation (pack r.heading) (pack_rows r.rows))
+IsRelation r = IsValue (relation (pack r.heading) (pack_rows r.body))
 
 -- a user value, all of whose components are values
-abbrev pub IsSelected : Selected → Type 0
-IsSelected u = IsValue (user u.name (pack_parts u.components))
+abbrev pub IsUserValue : UserValue → Type 0
+IsUserValue u = IsValue (user u.name (pack_parts u.components))
 
 -- a tuple of the heading, which is one
-abbrev pub IsTupleOf : Attributes → Entries → Type 0
+abbrev pub IsTupleOf : Heading → Tuple → Type 0
 IsTupleOf heading t = IsTuple t × (heading_of t ≡ heading) × IsHeading (pack heading)
 
 -- the value that a tuple, as a finite map, gives to a name
-abbrev pub value_at : List ℕ → Entries → Option Val
+abbrev pub value_at : List ℕ → Tuple → Option Val
 value_at n [] = None
 value_at n (e ∷ es) = if same_name e.0 n then Some e.1 else value_at n es
 
 -- the tuple gives each name the value that the entries give it
-abbrev pub HasValuesOf : Entries → Entries → Type 0
+abbrev pub HasValuesOf : Tuple → Tuple → Type 0
 HasValuesOf entries t = (name : List ℕ) → value_at name t ≡ value_at name entries
 
 -- the tuple of entries, no two of one name; else the cause HEADING (the chapter's; the cause is this project's own)
-abbrev pub made_tuple : Entries → Outcome Entries
-made_tuple entries = value_if (are_distinct (names_of entries)) (tuple_of entries) Heading
+abbrev pub made_tuple : Tuple → Outcome Tuple
+made_tuple entries = value_if (are_distinct (tuple_names entries)) (tuple_of entries) causes.Heading
 
 -- a tuple is in one of the lists exactly where it is in the other
-abbrev pub HaveSameMembers : List Entries → List Entries → Type 0
-HaveSameMembers ss ts = (t : Entries) → Contains ss t ↔ Contains ts t
+abbrev pub HaveSameMembers : List Tuple → List Tuple → Type 0
+HaveSameMembers ss ts = (t : Tuple) → Contains ss t ↔ Contains ts t
 
 -- any two of the tuples have the same names
-abbrev pub HaveSameNames : List Entries → Type 0
-HaveSameNames ts = (s t : Entries) → Contains ts s → Contains ts t → names_of s ≡ names_of t
+abbrev pub HaveSameNames : List Tuple → Type 0
+HaveSameNames ts = (s t : Tuple) → Contains ts s → Contains ts t → tuple_names s ≡ tuple_names t

@@ -1,6 +1,6 @@
 //! Copies of values, which can fail for want of memory.
 ghost use Rattle.std.specs.Prelude.{◌≡◌, IfOk};
-ghost use Rattle.td_value.specs.Views.{node_value};
+ghost use Rattle.td_value.specs.Views.{node_view};
 
 use crate::relation::Rel;
 use crate::tuple::Tuple;
@@ -9,7 +9,7 @@ use std::alloc::AllocError;
 
 /// The same node again.
 fn node_again(node: &Node) -> Result<Node, AllocError>
-    ensures { IfOk result (λ n. node_value n ≡ node_value node.now) }
+    ensures { IfOk result (λ n. node_view n ≡ node_view node.now) }
 {
     match node {
         Node::Bool(b) => Ok(Node::Bool(*b)),

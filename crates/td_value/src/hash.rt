@@ -66,11 +66,11 @@ fn feed_rows<H: Hasher>(rows: &[Tuple], state: &mut H)
 }
 
 impl Hash for Value {
-    ghost use Rattle.td_value.specs.ValueOrder.{fed_alike};
+    ghost use Rattle.td_value.specs.ValueOrder.{values_fed_alike};
 
     ghost hash_input = { fed_value };
 
-    ghost respects_eq = { fed_alike };
+    ghost respects_eq = { values_fed_alike };
 
     fn hash<H: Hasher>(&self, state: &mut H) {
         feed_value(self, state);

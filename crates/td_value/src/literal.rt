@@ -8,7 +8,7 @@ ghost use Rattle.td_types.specs.Types as types;
 ghost use Rattle.td_value.specs.Literal.{fields_literal, literal, relation_literal};
 ghost use Rattle.td_value.specs.Literal.{rows_literal, tuple_literal};
 ghost use Rattle.td_value.specs.Values.{pack_fields, pack_rows, selected_value};
-ghost use Rattle.td_value.specs.Views.{entries_of};
+ghost use Rattle.td_value.specs.Views.{tuple_view};
 
 use crate::relation::Rel;
 use crate::tuple::Tuple;
@@ -106,7 +106,7 @@ fn write_tuple(t: &Tuple, out: &mut String) -> Result<(), AllocError>
 fn write_entries(names: &[Name], values: &[Value], out: &mut String) -> Result<(), AllocError>
     requires { length names.now ≡ length values.now }
     ensures { OnOk result (string_bytes out.new ≡ string_bytes out.old
-        ++ fields_literal false (pack_fields (entries_of names.now values.now)) ++ codes "}") }
+        ++ fields_literal false (pack_fields (tuple_view names.now values.now)) ++ codes "}") }
 {
     let mut place = 0;
     let mut later = false;

@@ -1,8 +1,8 @@
 //! Value order, and what follows from it.
 ghost use Rattle.std.specs.Prelude.{◌≡◌, length};
-ghost use Rattle.td_value.specs.Values.{order, pack_parts, pack_rows, parts_order, rank};
-ghost use Rattle.td_value.specs.Values.{relation_order, rows_order, selected_value, tuple_order};
-ghost use Rattle.td_value.specs.Views.{entries_of, values_of};
+ghost use Rattle.td_value.specs.Values.{value_cmp, pack_parts, pack_rows, parts_cmp, value_kind};
+ghost use Rattle.td_value.specs.Values.{relation_cmp, rows_cmp, selected_value, tuple_cmp};
+ghost use Rattle.td_value.specs.Views.{tuple_view, values_of};
 
 use crate::relation::Rel;
 use crate::tuple::Tuple;
@@ -12,7 +12,7 @@ use std::cmp::Ordering;
 use td_tree::name::Name;
 
 fn rank_of(a: &Value) -> u8
-    ensures { result ≡ rank a.now }
+    ensures { result ≡ value_kind a.now }
 {
     match &a.node {
         Node::Bool(_) => 0,
@@ -26,7 +26,7 @@ fn rank_of(a: &Value) -> u8
 
 #[cycle(compare)]
 pub fn compare_values(a: &Value, b: &Value) -> Ordering
-    ensures { result ≡ order a.now b.now }
+    ensures { result ≡ value_cmp a.now b.now }
 {
     match (&a.node, &b.node) {
         (Node::Bool(x), Node::Bool(y)) => x.cmp(y),
@@ -41,7 +41,7 @@ pub fn compare_values(a: &Value, b: &Value) -> Ordering
 
 #[cycle(compare)]
 fn compare_users(a: &User, b: &User) -> Ordering
-    ensures { result ≡ order (selected_value a.now) (selected_value b.now) }
+    ensures { result ≡ value_cmp (selected_value a.now) (selected_value b.now) }
 {
     match a.name.cmp(&b.name) {
         Ordering::Equal => compare_parts(&a.components, &b.components),
@@ -51,7 +51,7 @@ fn compare_users(a: &User, b: &User) -> Ordering
 
 #[cycle(compare)]
 fn compare_parts(a: &[Value], b: &[Value]) -> Ordering
-    ensures { result ≡ parts_order (pack_parts a.now) (pack_parts b.now) }
+    ensures { result ≡ parts_cmp (pack_parts a.now) (pack_parts b.now) }
 {
     let mut place = 0;
     for x in a {
@@ -73,14 +73,14 @@ fn compare_parts(a: &[Value], b: &[Value]) -> Ordering
 
 #[cycle(compare)]
 pub fn compare_tuples(a: &Tuple, b: &Tuple) -> Ordering
-    ensures { result ≡ tuple_order a.now b.now }
+    ensures { result ≡ tuple_cmp a.now b.now }
 {
     compare_entries(&a.names, &a.values, &b.names, &b.values)
 }
 
 /// By the values alone, in name order: of tuples of the same names this is their order.
 pub fn compare_by_values(a: &Tuple, b: &Tuple) -> Ordering
-    ensures { result ≡ parts_order (pack_parts (values_of a.now)) (pack_parts (values_of b.now)) }
+    ensures { result ≡ parts_cmp (pack_parts (values_of a.now)) (pack_parts (values_of b.now)) }
 {
     compare_parts(a.values(), b.values())
 }
@@ -89,7 +89,7 @@ pub fn compare_by_values(a: &Tuple, b: &Tuple) -> Ordering
 fn compare_entries(m: &[Name], a: &[Value], n: &[Name], b: &[Value]) -> Ordering
     requires left { length m.now ≡ length a.now }
     requires right { length n.now ≡ length b.now }
-    ensures { result ≡ tuple_order (entries_of m.now a.now) (entries_of n.now b.now) }
+    ensures { result ≡ tuple_cmp (tuple_view m.now a.now) (tuple_view n.now b.now) }
 {
     let mut place = 0;
     for x in a {
@@ -117,7 +117,7 @@ fn compare_entries(m: &[Name], a: &[Value], n: &[Name], b: &[Value]) -> Ordering
 
 #[cycle(compare)]
 pub fn compare_rels(a: &Rel, b: &Rel) -> Ordering
-    ensures { result ≡ relation_order a.now b.now }
+    ensures { result ≡ relation_cmp a.now b.now }
 {
     match a.heading.compare(&b.heading) {
         Ordering::Equal => compare_rows(&a.rows, &b.rows),
@@ -127,7 +127,7 @@ pub fn compare_rels(a: &Rel, b: &Rel) -> Ordering
 
 #[cycle(compare)]
 fn compare_rows(a: &[Tuple], b: &[Tuple]) -> Ordering
-    ensures { result ≡ rows_order (pack_rows a.now) (pack_rows b.now) }
+    ensures { result ≡ rows_cmp (pack_rows a.now) (pack_rows b.now) }
 {
     let mut place = 0;
     for x in a {
@@ -153,7 +153,7 @@ impl PartialEq for Value {
     ghost use Rattle.std.proofs.lemmas.Cmp.{eq_by_cmp_equiv};
     ghost use Rattle.td_value.specs.ValueOrder.{order_total};
 
-    ghost eq = { eq_by_cmp order };
+    ghost eq = { eq_by_cmp value_cmp };
 
     ghost laws = { partial_equiv_from_equiv (eq_by_cmp_equiv order_total) };
 
@@ -175,9 +175,9 @@ impl PartialOrd for Value {
     ghost use Rattle.std.specs.Cmp.{partial_order_from_agreeing_total};
     ghost use Rattle.td_value.specs.ValueOrder.{order_total};
 
-    ghost partial_cmp = { as_partial_cmp order };
+    ghost partial_cmp = { as_partial_cmp value_cmp };
 
-    ghost laws = { partial_order_from_agreeing_total order order_total (λ x y. refl) (λ x y. refl) };
+    ghost laws = { partial_order_from_agreeing_total value_cmp order_total (λ x y. refl) (λ x y. refl) };
 
     fn partial_cmp(&self, other: &Value) -> Option<Ordering> {
         Some(self.cmp(other))
@@ -188,7 +188,7 @@ impl Ord for Value {
     ghost use Rattle.std.specs.Prelude.{refl};
     ghost use Rattle.td_value.specs.ValueOrder.{order_total};
 
-    ghost cmp = { order };
+    ghost cmp = { value_cmp };
 
     ghost total = { order_total };
 
@@ -207,7 +207,7 @@ impl PartialEq for Tuple {
     ghost use Rattle.std.proofs.lemmas.Cmp.{eq_by_cmp_equiv};
     ghost use Rattle.td_value.specs.ValueOrder.{tuple_order_total};
 
-    ghost eq = { eq_by_cmp tuple_order };
+    ghost eq = { eq_by_cmp tuple_cmp };
 
     ghost laws = { partial_equiv_from_equiv (eq_by_cmp_equiv tuple_order_total) };
 
@@ -229,9 +229,9 @@ impl PartialOrd for Tuple {
     ghost use Rattle.std.specs.Cmp.{partial_order_from_agreeing_total};
     ghost use Rattle.td_value.specs.ValueOrder.{tuple_order_total};
 
-    ghost partial_cmp = { as_partial_cmp tuple_order };
+    ghost partial_cmp = { as_partial_cmp tuple_cmp };
 
-    ghost laws = { partial_order_from_agreeing_total tuple_order tuple_order_total (λ x y. refl) (λ x y. refl) };
+    ghost laws = { partial_order_from_agreeing_total tuple_cmp tuple_order_total (λ x y. refl) (λ x y. refl) };
 
     fn partial_cmp(&self, other: &Tuple) -> Option<Ordering> {
         Some(self.cmp(other))
@@ -242,7 +242,7 @@ impl Ord for Tuple {
     ghost use Rattle.std.specs.Prelude.{refl};
     ghost use Rattle.td_value.specs.ValueOrder.{tuple_order_total};
 
-    ghost cmp = { tuple_order };
+    ghost cmp = { tuple_cmp };
 
     ghost total = { tuple_order_total };
 
@@ -261,7 +261,7 @@ impl PartialEq for Rel {
     ghost use Rattle.std.proofs.lemmas.Cmp.{eq_by_cmp_equiv};
     ghost use Rattle.td_value.specs.ValueOrder.{relation_order_total};
 
-    ghost eq = { eq_by_cmp relation_order };
+    ghost eq = { eq_by_cmp relation_cmp };
 
     ghost laws = { partial_equiv_from_equiv (eq_by_cmp_equiv relation_order_total) };
 
@@ -283,9 +283,9 @@ impl PartialOrd for Rel {
     ghost use Rattle.std.specs.Cmp.{partial_order_from_agreeing_total};
     ghost use Rattle.td_value.specs.ValueOrder.{relation_order_total};
 
-    ghost partial_cmp = { as_partial_cmp relation_order };
+    ghost partial_cmp = { as_partial_cmp relation_cmp };
 
-    ghost laws = { partial_order_from_agreeing_total relation_order relation_order_total (λ x y. refl) (λ x y. refl) };
+    ghost laws = { partial_order_from_agreeing_total relation_cmp relation_order_total (λ x y. refl) (λ x y. refl) };
 
     fn partial_cmp(&self, other: &Rel) -> Option<Ordering> {
         Some(self.cmp(other))
@@ -296,7 +296,7 @@ impl Ord for Rel {
     ghost use Rattle.std.specs.Prelude.{refl};
     ghost use Rattle.td_value.specs.ValueOrder.{relation_order_total};
 
-    ghost cmp = { relation_order };
+    ghost cmp = { relation_cmp };
 
     ghost total = { relation_order_total };
 

@@ -2,9 +2,9 @@
 ghost use Rattle.std.specs.Prelude.{◌≡◌, IfOk, OnOk};
 ghost use Rattle.std.specs.List.{All, Contains};
 ghost use Rattle.td_value.specs.Sets.{set_of};
-ghost use Rattle.td_value.specs.Values.{Entries, HaveSameMembers, HaveSameNames};
-ghost use Rattle.td_value.specs.Values.{IsAscendingRows, IsTupleOf, names_of, tuple_order};
-ghost use Rattle.td_value.specs.Views.{relation_of};
+ghost use Rattle.td_value.specs.Values.{Tuple, HaveSameMembers, HaveSameNames};
+ghost use Rattle.td_value.specs.Values.{IsAscendingBody, IsTupleOf, tuple_names, tuple_cmp};
+ghost use Rattle.td_value.specs.Views.{relation_view};
 
 use crate::lists::put;
 use crate::order::compare_by_values;
@@ -32,11 +32,11 @@ impl Model for Rel {
 
     ghost coded = { relation_code };
 
-    ghost use Rattle.td_value.specs.Views.{relation_of};
+    ghost use Rattle.td_value.specs.Views.{relation_view};
 
-    ghost view = { λ a. relation_of a.heading a.rows.value.items };
+    ghost view = { λ a. relation_view a.heading a.rows.value.items };
 
-    ghost invariant = { λ a. IsRelation (relation_of a.heading a.rows.value.items) };
+    ghost invariant = { λ a. IsRelation (relation_view a.heading a.rows.value.items) };
 
     ghost size = { relation_depth };
 
@@ -47,7 +47,7 @@ impl Model for Rel {
 
 /// Takes the list of the same names in place of the tuple's own.
 fn take_names(row: &mut Tuple, names: &Rc<Vec<Name>>) -> Result<(), AllocError>
-    requires { names.now.value.items ≡ names_of row.old }
+    requires { names.now.value.items ≡ tuple_names row.old }
     ensures { OnOk result (row.new ≡ row.old) }
 {
     row.names = names.clone()?;
@@ -56,7 +56,7 @@ fn take_names(row: &mut Tuple, names: &Rc<Vec<Name>>) -> Result<(), AllocError>
 
 /// Takes the list of the same names in place of the own one of each tuple but the first.
 fn take_names_after_first(rows: &mut [Tuple], names: &Rc<Vec<Name>>) -> Result<(), AllocError>
-    requires { (t : Entries) → Contains rows.old t → names.now.value.items ≡ names_of t }
+    requires { (t : Tuple) → Contains rows.old t → names.now.value.items ≡ tuple_names t }
     ensures { OnOk result (rows.new ≡ rows.old) }
 {
     for place in 1..rows.len() {
@@ -93,8 +93,8 @@ impl Rel {
     /// The relation with that heading whose body is the set of the tuples.
     pub fn new(heading: Heading, mut rows: Vec<Tuple>) -> Result<Rel, AllocError>
         requires { All (IsTupleOf heading) rows.items }
-        ensures value { IfOk result (λ r. r ≡ relation_of heading (set_of tuple_order rows.items)) }
-        ensures members { IfOk result (λ r. HaveSameMembers r.rows rows.items) }
+        ensures value { IfOk result (λ r. r ≡ relation_view heading (set_of tuple_cmp rows.items)) }
+        ensures members { IfOk result (λ r. HaveSameMembers r.body rows.items) }
     {
         let _ = heading.len();
         rows.sort_unstable_by(|a, b| compare_by_values(a, b));
@@ -114,16 +114,16 @@ impl Rel {
 
     /// The tuples, ascending.
     pub fn rows(&self) -> &[Tuple]
-        ensures rows { result.now ≡ self.now.rows }
-        ensures headed { All (IsTupleOf self.now.heading) self.now.rows }
-        ensures ascending { IsAscendingRows self.now.rows }
+        ensures rows { result.now ≡ self.now.body }
+        ensures headed { All (IsTupleOf self.now.heading) self.now.body }
+        ensures ascending { IsAscendingBody self.now.body }
     {
         &self.rows
     }
 
     /// The tuples, ascending, in place of the relation. It wants memory where a copy shares them.
     pub fn into_rows(self) -> Result<Vec<Tuple>, AllocError>
-        ensures rows { IfOk result (λ rows. rows.items ≡ self.rows) }
+        ensures rows { IfOk result (λ rows. rows.items ≡ self.body) }
         ensures headed { IfOk result (λ rows. All (IsTupleOf self.heading) rows.items) }
     {
         let Rel { heading: _, rows } = self;

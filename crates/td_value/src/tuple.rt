@@ -5,9 +5,9 @@ ghost use Rattle.std.specs.Ordering.{is_lt, nat_cmp};
 ghost use Rattle.std.specs.Cmp.Lexicographic.{slice_cmp};
 ghost use Rattle.std.specs.List.Sorted.{IsSortedBy, IsStrictlySortedBy};
 ghost use Rattle.td_tree.specs.Outcomes.{Answers};
-ghost use Rattle.td_value.specs.Values.{AreFields, HasValuesOf, IsTuple, made_tuple, names_of};
+ghost use Rattle.td_value.specs.Values.{AreFields, HasValuesOf, IsTuple, made_tuple, tuple_names};
 ghost use Rattle.td_value.specs.Values.{pack_fields, projected_tuple, value_at};
-ghost use Rattle.td_value.specs.Views.{entries_of, values_of};
+ghost use Rattle.td_value.specs.Views.{tuple_view, values_of};
 
 use crate::lists::put;
 use crate::value::Value;
@@ -30,17 +30,17 @@ pub struct Tuple {
 
 impl Model for Tuple {
     ghost use Rattle.td_value.specs.Depths.{tuple_depth};
-    ghost use Rattle.td_value.specs.Values.{Entries};
-    ghost use Rattle.td_value.specs.ValueCode.{entries_code};
+    ghost use Rattle.td_value.specs.Values.{Tuple};
+    ghost use Rattle.td_value.specs.ValueCode.{tuple_code};
 
-    ghost Value = { Entries };
+    ghost Value = { Tuple };
 
-    ghost coded = { entries_code };
+    ghost coded = { tuple_code };
 
-    ghost use Rattle.td_value.specs.Views.{entries_of};
+    ghost use Rattle.td_value.specs.Views.{tuple_view};
     ghost use Rattle.td_value.specs.Zipped.{AreTuple};
 
-    ghost view = { λ a. entries_of a.names.value.items a.values.value.items };
+    ghost view = { λ a. tuple_view a.names.value.items a.values.value.items };
 
     ghost invariant = { λ a. AreTuple a.names.value.items a.values.value.items };
 
@@ -84,7 +84,7 @@ fn from_sorted(
     like: Option<&Tuple>,
     entries: Vec<(Name, Value)>,
 ) -> Result<Tuple, AllocError>
-    requires { IsStrictlySortedBy (slice_cmp nat_cmp) (names_of entries.items) }
+    requires { IsStrictlySortedBy (slice_cmp nat_cmp) (tuple_names entries.items) }
     ensures { IfOk result (λ t. t ≡ entries.items) }
 {
     let names = listed_names(alloc, like, &entries)?;
@@ -98,7 +98,7 @@ fn listed_names(
     like: Option<&Tuple>,
     entries: &[(Name, Value)],
 ) -> Result<Rc<Vec<Name>>, AllocError>
-    ensures { IfOk result (λ names. names.value.items ≡ names_of entries.now) }
+    ensures { IfOk result (λ names. names.value.items ≡ tuple_names entries.now) }
 {
     match like {
         Some(like) if are_names_of(&like.names, entries) => like.names.clone(),
@@ -108,7 +108,7 @@ fn listed_names(
 
 /// Whether the names are those of the entries, in the same order.
 fn are_names_of(names: &[Name], entries: &[(Name, Value)]) -> bool
-    ensures { IsTrue result → (names.now ≡ names_of entries.now) }
+    ensures { IsTrue result → (names.now ≡ tuple_names entries.now) }
 {
     if names.len() != entries.len() {
         return false;
@@ -125,7 +125,7 @@ fn are_names_of(names: &[Name], entries: &[(Name, Value)]) -> bool
 
 /// The names of the entries.
 fn own_names(alloc: Global, entries: &[(Name, Value)]) -> Result<Vec<Name>, AllocError>
-    ensures { IfOk result (λ names. names.items ≡ names_of entries.now) }
+    ensures { IfOk result (λ names. names.items ≡ tuple_names entries.now) }
 {
     let mut names = Vec::with_capacity(alloc, entries.len())?;
     for (name, _) in entries {
@@ -174,8 +174,8 @@ fn keep_entries(
     requires no_names { kept_names.old.items ≡ [] }
     requires no_values { kept_values.old.items ≡ [] }
     ensures lengths { OnOk result (length kept_names.new.items ≡ length kept_values.new.items) }
-    ensures kept { OnOk result (entries_of kept_names.new.items kept_values.new.items
-        ≡ projected_tuple wanted.now (entries_of names.now values.now)) }
+    ensures kept { OnOk result (tuple_view kept_names.new.items kept_values.new.items
+        ≡ projected_tuple wanted.now (tuple_view names.now values.now)) }
 {
     let mut place = 0;
     for v in values {
@@ -191,8 +191,8 @@ fn keep_entries(
 /// The tuple of the names with the values.
 fn from_lists(alloc: Global, names: Vec<Name>, values: Vec<Value>) -> Result<Tuple, AllocError>
     requires same { length names.items ≡ length values.items }
-    requires valid { IsTuple (entries_of names.items values.items) }
-    ensures { IfOk result (λ t. t ≡ entries_of names.items values.items) }
+    requires valid { IsTuple (tuple_view names.items values.items) }
+    ensures { IfOk result (λ t. t ≡ tuple_view names.items values.items) }
 {
     let names = Rc::new(alloc, names)?;
     let values = Rc::new(alloc, values)?;
@@ -207,8 +207,8 @@ fn kept_entries(
     alloc: Global,
 ) -> Result<Tuple, AllocError>
     requires same { length names.now ≡ length values.now }
-    requires valid { IsTuple (entries_of names.now values.now) }
-    ensures { IfOk result (λ t. t ≡ projected_tuple wanted.now (entries_of names.now values.now)) }
+    requires valid { IsTuple (tuple_view names.now values.now) }
+    ensures { IfOk result (λ t. t ≡ projected_tuple wanted.now (tuple_view names.now values.now)) }
 {
     let mut kept_names = Vec::with_capacity(alloc, wanted.len())?;
     let mut kept_values = Vec::with_capacity(alloc, wanted.len())?;
@@ -226,7 +226,7 @@ impl Tuple {
 }
 
 impl Tuple {
-    ghost use Rattle.td_value.specs.Values.{IsTuple, names_of};
+    ghost use Rattle.td_value.specs.Values.{IsTuple, tuple_names};
     ghost use Rattle.td_value.specs.Views.{values_of};
 
     /// How many attributes it has.
@@ -245,7 +245,7 @@ impl Tuple {
 
     /// The names, ascending.
     pub fn names(&self) -> &[Name]
-        ensures names { result.now ≡ names_of self.now }
+        ensures names { result.now ≡ tuple_names self.now }
         ensures valid { IsTuple self.now }
     {
         self.names.as_slice()
@@ -270,7 +270,7 @@ impl Tuple {
 /// The value that stands where the name does.
 fn value_named<'a>(names: &[Name], values: &'a [Value], name: &Name) -> Option<&'a Value>
     requires { length names.now ≡ length values.now }
-    ensures { option_map (λ v. v.now) result ≡ value_at name.now (entries_of names.now values.now) }
+    ensures { option_map (λ v. v.now) result ≡ value_at name.now (tuple_view names.now values.now) }
 {
     let mut place = 0;
     for value in values {

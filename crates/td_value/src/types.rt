@@ -8,7 +8,7 @@ ghost use Rattle.td_types.specs.Types as types;
 ghost use Rattle.td_types.specs.Views as heads;
 ghost use Rattle.td_value.specs.Values.{IsTuple, IsTupleOf, fields_type, heading_of, pack_fields};
 ghost use Rattle.td_value.specs.Values.{type_of};
-ghost use Rattle.td_value.specs.Views.{entries_of};
+ghost use Rattle.td_value.specs.Views.{tuple_view};
 ghost use Rattle.td_value.specs.Zipped.{entries_fit};
 
 use crate::relation::Rel;
@@ -22,7 +22,7 @@ use td_types::ty::Ty;
 
 #[cycle(fit)]
 fn has_type(v: &Value, ty: &Ty) -> bool
-    ensures { result ≡ eq_by_cmp type_cmp (type_of v.now) (heads.type_of ty.now) }
+    ensures { result ≡ eq_by_cmp type_cmp (type_of v.now) (heads.type_view ty.now) }
 {
     match (&v.node, ty) {
         (Node::Bool(_), Ty::Bool) => true,
@@ -71,7 +71,7 @@ fn add_attribute(
 ) -> Result<Heading, AllocError>
     ensures found { OnOk result (IsOk ty) }
     ensures more { IfOk result (λ h. IfOk ty (λ t.
-        h ≡ with_attribute heading (name.now, heads.type_of t))) }
+        h ≡ with_attribute heading (name.now, heads.type_view t))) }
 {
     let ty = ty?;
     let name = name.try_clone()?;
@@ -83,14 +83,14 @@ fn add_attribute(
 
 /// The type of the user value.
 fn user_type(u: &User) -> Result<Ty, AllocError>
-    ensures { IfOk result (λ t. heads.type_of t ≡ types.user u.now.name) }
+    ensures { IfOk result (λ t. heads.type_view t ≡ types.user u.now.name) }
 {
     Ok(Ty::User(u.name.try_clone()?))
 }
 
 #[cycle(find)]
 fn find_type(alloc: Global, v: &Value) -> Result<Ty, AllocError>
-    ensures { IfOk result (λ t. heads.type_of t ≡ type_of v.now) }
+    ensures { IfOk result (λ t. heads.type_view t ≡ type_of v.now) }
 {
     match &v.node {
         Node::Bool(_) => Ok(Ty::Bool),
@@ -112,8 +112,8 @@ fn find_heading(alloc: Global, t: &Tuple) -> Result<Heading, AllocError>
 #[cycle(find)]
 fn entries_heading(alloc: Global, names: &[Name], values: &[Value]) -> Result<Heading, AllocError>
     requires same { length names.now ≡ length values.now }
-    requires valid { IsTuple (entries_of names.now values.now) }
-    ensures { IfOk result (λ h. h ≡ heading_of (entries_of names.now values.now)) }
+    requires valid { IsTuple (tuple_view names.now values.now) }
+    ensures { IfOk result (λ h. h ≡ heading_of (tuple_view names.now values.now)) }
 {
     let mut heading = Heading::empty(alloc);
     let mut place = 0;
@@ -127,14 +127,14 @@ fn entries_heading(alloc: Global, names: &[Name], values: &[Value]) -> Result<He
 impl Value {
     /// Whether the value is of the type.
     pub fn has_type(&self, ty: &Ty) -> bool
-        ensures { IsTrue result ↔ (type_of self.now ≡ heads.type_of ty.now) }
+        ensures { IsTrue result ↔ (type_of self.now ≡ heads.type_view ty.now) }
     {
         has_type(self, ty)
     }
 
     /// The type.
     pub fn type_of(&self, alloc: Global) -> Result<Ty, AllocError>
-        ensures { IfOk result (λ t. heads.type_of t ≡ type_of self.now) }
+        ensures { IfOk result (λ t. heads.type_view t ≡ type_of self.now) }
     {
         find_type(alloc, self)
     }
@@ -159,7 +159,7 @@ impl Tuple {
 
     /// The tuple type of the heading.
     pub fn type_of(&self) -> Result<Ty, AllocError>
-        ensures { IfOk result (λ t. heads.type_of t ≡ types.tuple (pack (heading_of self.now))) }
+        ensures { IfOk result (λ t. heads.type_view t ≡ types.tuple (pack (heading_of self.now))) }
     {
         Ok(Ty::Tup(self.heading()?))
     }
@@ -168,7 +168,7 @@ impl Tuple {
 impl Rel {
     /// The relation type of the heading.
     pub fn type_of(&self) -> Result<Ty, AllocError>
-        ensures { IfOk result (λ t. heads.type_of t ≡ types.relation (pack self.now.heading)) }
+        ensures { IfOk result (λ t. heads.type_view t ≡ types.relation (pack self.now.heading)) }
     {
         Ok(Ty::Rel(self.heading.try_clone()?))
     }

@@ -1,7 +1,7 @@
 //! User values.
 ghost use Rattle.std.specs.Prelude.{◌≡◌};
 ghost use Rattle.td_value.specs.Values.{AreValues, pack_parts};
-ghost use Rattle.td_value.specs.Views.{selected_of};
+ghost use Rattle.td_value.specs.Views.{user_view};
 
 use crate::value::Value;
 use std::marker::Model;
@@ -16,21 +16,21 @@ pub struct User {
 }
 
 impl Model for User {
-    ghost use Rattle.td_value.specs.Depths.{selected_depth};
-    ghost use Rattle.td_value.specs.Values.{IsSelected, Selected};
-    ghost use Rattle.td_value.specs.ValueCode.{selected_code};
+    ghost use Rattle.td_value.specs.Depths.{user_depth};
+    ghost use Rattle.td_value.specs.Values.{IsUserValue, UserValue};
+    ghost use Rattle.td_value.specs.ValueCode.{user_value_code};
 
-    ghost Value = { Selected };
+    ghost Value = { UserValue };
 
-    ghost coded = { selected_code };
+    ghost coded = { user_value_code };
 
-    ghost use Rattle.td_value.specs.Views.{selected_of};
+    ghost use Rattle.td_value.specs.Views.{user_view};
 
-    ghost view = { λ a. selected_of a.name a.components.items };
+    ghost view = { λ a. user_view a.name a.components.items };
 
-    ghost invariant = { λ a. IsSelected (selected_of a.name a.components.items) };
+    ghost invariant = { λ a. IsUserValue (user_view a.name a.components.items) };
 
-    ghost size = { selected_depth };
+    ghost size = { user_depth };
 
     ghost use Rattle.td_value.specs.Falls.{parts_fall};
 
@@ -38,11 +38,11 @@ impl Model for User {
 }
 
 impl User {
-    ghost use Rattle.td_value.specs.Values.{IsSelected};
+    ghost use Rattle.td_value.specs.Values.{IsUserValue};
 
     /// The user value of the type with that name.
     pub fn new(name: Name, components: Vec<Value>) -> User
-        ensures { result ≡ selected_of name components.items }
+        ensures { result ≡ user_view name components.items }
     {
         let _ = name.as_str();
         know_values(&components);
@@ -59,7 +59,7 @@ impl User {
     /// The components in declared order.
     pub fn components(&self) -> &[Value]
         ensures components { result.now ≡ self.now.components }
-        ensures valid { IsSelected self.now }
+        ensures valid { IsUserValue self.now }
     {
         &self.components
     }

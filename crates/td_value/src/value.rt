@@ -1,7 +1,7 @@
 //! Values.
 ghost use Rattle.std.specs.Prelude.{◌≡◌, IfOk};
 ghost use Rattle.td_value.specs.Values.{boolean, integer, pack_fields, pack_rows, relation};
-ghost use Rattle.td_value.specs.Values.{selected_value, text, tuple};
+ghost use Rattle.td_value.specs.Values.{selected_value, char, tuple};
 ghost use Rattle.td_types.specs.Types.{pack};
 
 use crate::relation::Rel;
@@ -45,11 +45,11 @@ impl Model for Value {
 
     ghost coded = { val_code };
 
-    ghost use Rattle.td_value.specs.Views.{node_value};
+    ghost use Rattle.td_value.specs.Views.{node_view};
 
-    ghost view = { λ a. node_value a.node };
+    ghost view = { λ a. node_view a.node };
 
-    ghost invariant = { λ a. IsValue (node_value a.node) };
+    ghost invariant = { λ a. IsValue (node_view a.node) };
 
     ghost size = { depth };
 
@@ -77,7 +77,7 @@ impl Value {
 
     /// The value of the text.
     pub fn text(alloc: Global, content: &str) -> Result<Value, AllocError>
-        ensures { IfOk result (λ v. v ≡ text content.now) }
+        ensures { IfOk result (λ v. v ≡ char content.now) }
     {
         let shared = RcStr::from_str(alloc, content)?;
         let _ = shared.as_str();
@@ -105,7 +105,7 @@ impl Value {
 
     /// The relation as a value.
     pub fn relation(alloc: Global, r: Rel) -> Result<Value, AllocError>
-        ensures { IfOk result (λ v. v ≡ relation (pack r.heading) (pack_rows r.rows)) }
+        ensures { IfOk result (λ v. v ≡ relation (pack r.heading) (pack_rows r.body)) }
     {
         let _ = &r.rows;
         let node = Node::Rel(Rc::new(alloc, r)?);

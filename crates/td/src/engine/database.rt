@@ -3,10 +3,10 @@ ghost use Rattle.std.specs.Prelude.{◌≡◌, ◌<◌, [], ◌∷◌, ◌++◌,
 ghost use Rattle.std.specs.List.{position_from};
 ghost use Rattle.td_types.specs.Types.{same_name};
 ghost use Rattle.td_value.specs.Values.{IsRelation};
-ghost use Rattle.td.specs.Database.{relvar_at, target_holds, with_body};
+ghost use Rattle.td.specs.Database.{relvar_at, target_holds, with_relation};
 ghost use Rattle.td.specs.Legality.{IsLegal, IsRelvar};
 ghost use Rattle.td.specs.Assignable.{IsAssignable};
-ghost use Rattle.td.specs.Relvars.{relvar_of, relvars_of};
+ghost use Rattle.td.specs.Relvars.{relvar_view, database_view};
 
 use crate::engine::relvar::Relvar;
 use std::alloc::{AllocError, Global};
@@ -29,17 +29,17 @@ impl Model for Database {
     ghost coded = { database_code };
 
     ghost use Rattle.td.specs.Legality.{IsLegal};
-    ghost use Rattle.td.specs.Relvars.{relvars_of};
+    ghost use Rattle.td.specs.Relvars.{database_view};
 
-    ghost view = { λ d. relvars_of d.relvars.items };
+    ghost view = { λ d. database_view d.relvars.items };
 
-    ghost invariant = { λ d. IsLegal (relvars_of d.relvars.items) };
+    ghost invariant = { λ d. IsLegal (database_view d.relvars.items) };
 }
 
 /// The relvar of this name among these.
 fn find<'a>(relvars: &'a [Relvar], name: &Name) -> Option<&'a Relvar>
-    ensures { option_map (λ r. relvar_of r.now) result
-        ≡ relvar_at name.now (relvars_of relvars.now) }
+    ensures { option_map (λ r. relvar_view r.now) result
+        ≡ relvar_at name.now (database_view relvars.now) }
 {
     for relvar in relvars {
         if relvar.name == *name {
@@ -64,12 +64,12 @@ fn place_of(relvars: &[Relvar], name: &Name) -> Option<usize>
     None
 }
 
-/// Gives the relvar of this name another body.
-fn put_body(relvars: &mut [Relvar], name: &Name, body: Rel)
-    ensures { relvars_of relvars.new ≡ with_body name.now body (relvars_of relvars.old) }
+/// Gives the relvar of this name another value.
+fn put_value(relvars: &mut [Relvar], name: &Name, value: Rel)
+    ensures { database_view relvars.new ≡ with_relation name.now value (database_view relvars.old) }
 {
     match place_of(relvars, name) {
-        Some(place) => relvars[place].body = body,
+        Some(place) => relvars[place].value = value,
         None => {}
     }
 }
@@ -94,7 +94,7 @@ impl Database {
 
     /// The relvar of this name.
     pub fn get(&self, name: &Name) -> Option<&Relvar>
-        ensures found { option_map (λ r. relvar_of r.now) result ≡ relvar_at name.now self.now }
+        ensures found { option_map (λ r. relvar_view r.now) result ≡ relvar_at name.now self.now }
         ensures legal { IsLegal self.now }
     {
         find(&self.relvars, name)
@@ -103,8 +103,8 @@ impl Database {
     /// Adds a relvar, last.
     pub fn add(&mut self, relvar: Relvar) -> Result<(), AllocError>
         requires free { relvar_at relvar.name self.old ≡ None }
-        requires fits { IsRelvar (relvar_of relvar) }
-        ensures ok { OnOk result (self.new ≡ self.old ++ relvar_of relvar ∷ []) }
+        requires fits { IsRelvar (relvar_view relvar) }
+        ensures ok { OnOk result (self.new ≡ self.old ++ relvar_view relvar ∷ []) }
         ensures err { OnErr result (self.new ≡ self.old) }
         ensures legal { IsLegal self.new }
     {
@@ -112,14 +112,14 @@ impl Database {
         Ok(())
     }
 
-    /// Gives the relvar of this name another body.
-    pub fn set_body(&mut self, name: &Name, body: Rel)
-        requires target { IsAssignable self.old name.now body }
-        requires relation { IsRelation body }
-        requires keys { target_holds (relvar_at name.now self.old) body.rows ≡ true }
-        ensures changed { self.new ≡ with_body name.now body self.old }
+    /// Gives the relvar of this name another value.
+    pub fn set_value(&mut self, name: &Name, value: Rel)
+        requires target { IsAssignable self.old name.now value }
+        requires relation { IsRelation value }
+        requires keys { target_holds (relvar_at name.now self.old) value.body ≡ true }
+        ensures changed { self.new ≡ with_relation name.now value self.old }
         ensures legal { IsLegal self.new }
     {
-        put_body(&mut self.relvars, name, body);
+        put_value(&mut self.relvars, name, value);
     }
 }

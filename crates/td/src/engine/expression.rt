@@ -6,7 +6,7 @@ ghost use Rattle.td_tree.specs.Outcomes.{Answers, Outcome, with_both};
 ghost use Rattle.td_value.specs.Values.{IsTupleOf, Relation};
 ghost use Rattle.td.specs.Meaning as spec;
 ghost use Rattle.td.specs.Meaning.{meaning, operand_meaning};
-ghost use Rattle.td.specs.TreeViews.{expression_of, operand_of};
+ghost use Rattle.td.specs.TreeViews.{expression_view, operand_view};
 
 use crate::engine::database::Database;
 use crate::engine::literal::literal_value;
@@ -19,11 +19,11 @@ use td_value::tuple::Tuple;
 
 /// The relation that an operand means; NAME_UNKNOWN where there is no such relvar.
 fn operand_value(alloc: Global, database: &Database, operand: &Operand) -> Result<Rel, Fault>
-    ensures { Answers (λ x. x) result (operand_meaning database.now (operand_of operand.now)) }
+    ensures { Answers (λ x. x) result (operand_meaning database.now (operand_view operand.now)) }
 {
     match operand {
         Operand::Relvar(name) => match database.get(name) {
-            Some(relvar) => Ok(relvar.body.try_clone()?),
+            Some(relvar) => Ok(relvar.value.try_clone()?),
             None => Err(Fault::Refused(Cause::NameUnknown)),
         },
         Operand::Literal(literal) => literal_value(alloc, literal),
@@ -32,7 +32,7 @@ fn operand_value(alloc: Global, database: &Database, operand: &Operand) -> Resul
 
 /// The tuples of the one relation and then those of the other.
 fn tuples_of_both(left: Rel, right: Rel) -> Result<Vec<Tuple>, AllocError>
-    ensures tuples { IfOk result (λ v. v.items ≡ left.rows ++ right.rows) }
+    ensures tuples { IfOk result (λ v. v.items ≡ left.body ++ right.body) }
     ensures headed { left.heading ≡ right.heading
         → IfOk result (λ v. All (IsTupleOf left.heading) v.items) }
 {
@@ -93,7 +93,7 @@ fn union_of(left: Result<Rel, Fault>, right: Result<Rel, Fault>) -> Result<Rel, 
 
 /// The relation that an expression means, or the least of its causes.
 pub fn value(alloc: Global, database: &Database, expression: &Expression) -> Result<Rel, Fault>
-    ensures { Answers (λ x. x) result (meaning database.now (expression_of expression.now)) }
+    ensures { Answers (λ x. x) result (meaning database.now (expression_view expression.now)) }
 {
     let mut value = operand_value(alloc, database, &expression.first);
     for operand in &expression.others {

@@ -4,12 +4,12 @@ ghost use Rattle.td_parse.specs.Parsing.{Gives};
 ghost use Rattle.td_tree.specs.declared.cause.Cause.TheVariants as causes;
 ghost use Rattle.td_tree.specs.declared.fault.Fault.TheVariants as faults;
 ghost use Rattle.td_tree.specs.Trees.{Text};
-ghost use Rattle.td_tree.specs.TreeViews.{assignment_of, heading_of, named_of, tree_of, trees_of, type_of};
+ghost use Rattle.td_tree.specs.TreeViews.{assignment_view, heading_tree_view, named_view, tree_view, trees_view, type_tree_view};
 ghost use Rattle.td_tree.specs.TreeViews as tree_views;
 ghost use Rattle.td.specs.FirstPath as spec;
 ghost use Rattle.td.specs.Steps.{IsParsed};
 ghost use Rattle.td.specs.Trees as written;
-ghost use Rattle.td.specs.TreeViews.{attribute_of, attributes_of, expression_of, numeral_of, operand_of, statement_of, tuple_of, tuples_of};
+ghost use Rattle.td.specs.TreeViews.{component_view, components_view, expression_view, numeral_view, operand_view, first_path_view, tuple_literal_view, tuple_literals_view};
 
 use crate::engine::number::Numeral;
 use crate::engine::tree::{
@@ -39,7 +39,7 @@ fn unspelled<T: Drop, U: Drop>(_tree: T) -> Result<U, Fault>
 
 /// A number as it is written.
 fn numeral(tree: &Expr) -> Result<Numeral, Fault>
-    ensures { Gives numeral_of result (spec.numeral_in (tree_of tree.now)) }
+    ensures { Gives numeral_view result (spec.numeral_in (tree_view tree.now)) }
 {
     match tree {
         Expr::Literal(Literal::Number { minus, magnitude }) => {
@@ -54,8 +54,8 @@ fn numeral(tree: &Expr) -> Result<Numeral, Fault>
 
 /// A name with its number.
 fn valued(name: Name, numeral: Result<Numeral, Fault>) -> Result<AttributeValue, Fault>
-    ensures { (o : Option written.Numeral) → Gives numeral_of numeral o
-        → Gives attribute_of result (option_map (spec.valued name) o) }
+    ensures { (o : Option written.Numeral) → Gives numeral_view numeral o
+        → Gives component_view result (option_map (spec.valued name) o) }
 {
     Ok(AttributeValue {
         name,
@@ -65,7 +65,7 @@ fn valued(name: Name, numeral: Result<Numeral, Fault>) -> Result<AttributeValue,
 
 /// An attribute's name with its number.
 fn attribute(part: NamedExpr) -> Result<AttributeValue, Fault>
-    ensures { Gives attribute_of result (spec.attribute_in part.name (tree_of part.value)) }
+    ensures { Gives component_view result (spec.attribute_in part.name (tree_view part.value)) }
 {
     let NamedExpr { name, value } = part;
     let numeral = numeral(&value);
@@ -76,7 +76,7 @@ fn attribute(part: NamedExpr) -> Result<AttributeValue, Fault>
 /// A tuple of numbers, by its parts.
 #[tactic(auto, using(crate::proofs::FirstPaths::none_before, crate::proofs::FirstPaths::none_behind, crate::proofs::FirstPaths::one_more))]
 fn attributes(alloc: Global, parts: Vec<NamedExpr>) -> Result<TupleLiteral, Fault>
-    ensures { Gives tuple_of result (spec.attributes_in (named_of parts.items)) }
+    ensures { Gives tuple_literal_view result (spec.attributes_in (named_view parts.items)) }
 {
     let mut attributes = Vec::with_capacity(alloc, parts.len())?;
     for part in parts {
@@ -89,7 +89,7 @@ fn attributes(alloc: Global, parts: Vec<NamedExpr>) -> Result<TupleLiteral, Faul
 /// A tuple of numbers.
 #[tactic(auto, using(td_tree::proofs::Rows::tuple_is))]
 fn tuple(alloc: Global, tree: Expr) -> Result<TupleLiteral, Fault>
-    ensures { Gives tuple_of result (spec.tuple_in (tree_of tree)) }
+    ensures { Gives tuple_literal_view result (spec.tuple_in (tree_view tree)) }
 {
     match tree {
         Expr::Tuple(parts) => attributes(alloc, parts),
@@ -100,7 +100,8 @@ fn tuple(alloc: Global, tree: Expr) -> Result<TupleLiteral, Fault>
 /// Tuples of numbers.
 #[tactic(auto, using(crate::proofs::FirstPaths::none_before, crate::proofs::FirstPaths::none_behind, crate::proofs::FirstPaths::one_more))]
 fn tuples(alloc: Global, elements: Vec<Expr>) -> Result<Vec<TupleLiteral>, Fault>
-    ensures { Gives (λ v. tuples_of v.items) result (spec.tuples_in (trees_of elements.items)) }
+    ensures { Gives (λ v. tuple_literals_view v.items) result (spec.tuples_in
+        (trees_view elements.items)) }
 {
     let mut tuples = Vec::with_capacity(alloc, elements.len())?;
     for element in elements {
@@ -112,7 +113,8 @@ fn tuples(alloc: Global, elements: Vec<Expr>) -> Result<Vec<TupleLiteral>, Fault
 
 /// The name of an attribute of type INTEGER.
 fn integer_name(attribute: AttributeTree) -> Result<Name, Fault>
-    ensures { Gives (λ n. n) result (spec.integer_name attribute.name (type_of attribute.ty)) }
+    ensures { Gives (λ n. n) result (spec.integer_name attribute.name
+        (type_tree_view attribute.ty)) }
 {
     match attribute.ty {
         TypeTree::Integer => Ok(attribute.name),
@@ -123,7 +125,7 @@ fn integer_name(attribute: AttributeTree) -> Result<Name, Fault>
 /// The names of a heading of INTEGER attributes.
 #[tactic(auto, using(crate::proofs::FirstPaths::none_before, crate::proofs::FirstPaths::none_behind, crate::proofs::FirstPaths::one_more))]
 fn names(alloc: Global, heading: Vec<AttributeTree>) -> Result<Vec<Name>, Fault>
-    ensures { Gives (λ v. v.items) result (spec.names_in (heading_of heading.items)) }
+    ensures { Gives (λ v. v.items) result (spec.names_in (heading_tree_view heading.items)) }
 {
     let mut names = Vec::with_capacity(alloc, heading.len())?;
     for attribute in heading {
@@ -135,8 +137,9 @@ fn names(alloc: Global, heading: Vec<AttributeTree>) -> Result<Vec<Name>, Fault>
 
 /// A relation without its heading.
 fn unheaded(tuples: Result<Vec<TupleLiteral>, Fault>) -> Result<Operand, Fault>
-    ensures { (o : Option (List written.TupleLiteral)) → Gives (λ v. tuples_of v.items) tuples o
-        → Gives operand_of result (option_map (written.literal None) o) }
+    ensures { (o : Option (List written.TupleLiteral))
+        → Gives (λ v. tuple_literals_view v.items) tuples o
+        → Gives operand_view result (option_map (written.literal None) o) }
 {
     Ok(Operand::Literal(RelationLiteral {
         heading: None,
@@ -146,8 +149,8 @@ fn unheaded(tuples: Result<Vec<TupleLiteral>, Fault>) -> Result<Operand, Fault>
 
 /// A relation with its heading.
 fn headed(alloc: Global, heading: Vec<AttributeTree>, elements: Vec<Expr>) -> Result<Operand, Fault>
-    ensures { Gives operand_of result
-        (spec.headed_in (heading_of heading.items) (trees_of elements.items)) }
+    ensures { Gives operand_view result
+        (spec.headed_in (heading_tree_view heading.items) (trees_view elements.items)) }
 {
     let heading = names(alloc, heading)?;
     let tuples = tuples(alloc, elements)?;
@@ -160,7 +163,7 @@ fn headed(alloc: Global, heading: Vec<AttributeTree>, elements: Vec<Expr>) -> Re
 /// A relvar's name, or a relation as it is written.
 #[tactic(auto, using(td_tree::proofs::Rows::relation_is, td_tree::proofs::Rows::headed_relation_is))]
 fn operand(alloc: Global, tree: Expr) -> Result<Operand, Fault>
-    ensures { Gives operand_of result (spec.operand_in (tree_of tree)) }
+    ensures { Gives operand_view result (spec.operand_in (tree_view tree)) }
 {
     match tree {
         Expr::Name(name) => Ok(Operand::Relvar(name)),
@@ -172,8 +175,8 @@ fn operand(alloc: Global, tree: Expr) -> Result<Operand, Fault>
 
 /// The union of an expression and an operand.
 fn joined(left: Expression, operator: Operator, right: Operand) -> Result<Expression, Fault>
-    ensures { Gives expression_of result
-        (spec.joined_by operator (expression_of left) (operand_of right)) }
+    ensures { Gives expression_view result
+        (spec.joined_by operator (expression_view left) (operand_view right)) }
 {
     if operator != Operator::Union {
         return Err(SYNTAX);
@@ -185,7 +188,7 @@ fn joined(left: Expression, operator: Operator, right: Operand) -> Result<Expres
 
 /// Operands with UNION between.
 fn expression(alloc: Global, tree: Expr) -> Result<Expression, Fault>
-    ensures { Gives expression_of result (spec.expression_in (tree_of tree)) }
+    ensures { Gives expression_view result (spec.expression_in (tree_view tree)) }
 {
     match tree {
         Expr::Binary(left, operator, right) => {
@@ -203,7 +206,8 @@ fn defined(
     heading: Result<Vec<Name>, Fault>,
     keys: Vec<Vec<Name>>,
 ) -> Result<Statement, Fault>
-    ensures { (o : Option (List Text)) → Gives (λ v. v.items) heading o → Gives statement_of result
+    ensures { (o : Option (List Text)) → Gives (λ v. v.items) heading o
+        → Gives first_path_view result
         (option_map (λ names. written.define name names (map (λ key. key.items) keys.items)) o) }
 {
     Ok(Statement::Define(Definition {
@@ -215,8 +219,8 @@ fn defined(
 
 /// A definition of a base relvar without an initial value.
 fn definition(alloc: Global, tree: trees::BaseDefinition) -> Result<Statement, Fault>
-    ensures { Gives statement_of result (spec.definition_in tree.name
-        (heading_of tree.heading.items) (option_map tree_of tree.init)
+    ensures { Gives first_path_view result (spec.definition_in tree.name
+        (heading_tree_view tree.heading.items) (option_map tree_view tree.init)
         (map (λ key. key.items) tree.keys.items)) }
 {
     if tree.init.is_some() {
@@ -234,8 +238,8 @@ fn definition(alloc: Global, tree: trees::BaseDefinition) -> Result<Statement, F
 
 /// An assignment of an expression.
 fn assigned(target: Name, source: Result<Expression, Fault>) -> Result<Statement, Fault>
-    ensures { (o : Option written.Expression) → Gives expression_of source o
-        → Gives statement_of result (option_map (written.assign target) o) }
+    ensures { (o : Option written.Expression) → Gives expression_view source o
+        → Gives first_path_view result (option_map (written.assign target) o) }
 {
     Ok(Statement::Assign(Assignment {
         target,
@@ -245,7 +249,7 @@ fn assigned(target: Name, source: Result<Expression, Fault>) -> Result<Statement
 
 /// One assignment.
 fn assignment(alloc: Global, tree: trees::Assignment) -> Result<Statement, Fault>
-    ensures { Gives statement_of result (spec.assignment_in (assignment_of tree)) }
+    ensures { Gives first_path_view result (spec.assignment_in (assignment_view tree)) }
 {
     match tree {
         trees::Assignment::Assign(target, source) => assigned(target, expression(alloc, source)),
@@ -255,7 +259,7 @@ fn assignment(alloc: Global, tree: trees::Assignment) -> Result<Statement, Fault
 
 /// One assignment, alone.
 fn assignments(alloc: Global, trees: Vec<trees::Assignment>) -> Result<Statement, Fault>
-    ensures { Gives statement_of result (spec.assignments_in (map assignment_of trees.items)) }
+    ensures { Gives first_path_view result (spec.assignments_in (map assignment_view trees.items)) }
 {
     let mut trees = trees;
     if trees.len() != 1 {
@@ -269,15 +273,15 @@ fn assignments(alloc: Global, trees: Vec<trees::Assignment>) -> Result<Statement
 
 /// A statement that writes an expression.
 fn shown(expression: Result<Expression, Fault>) -> Result<Statement, Fault>
-    ensures { (o : Option written.Expression) → Gives expression_of expression o
-        → Gives statement_of result (option_map written.write o) }
+    ensures { (o : Option written.Expression) → Gives expression_view expression o
+        → Gives first_path_view result (option_map written.write o) }
 {
     Ok(Statement::Write(expression?))
 }
 
 /// The first path's tree, where the statement is one.
 fn first_path(alloc: Global, tree: trees::Statement) -> Result<Statement, Fault>
-    ensures { Gives statement_of result (spec.first_path (tree_views.statement_of tree)) }
+    ensures { Gives first_path_view result (spec.first_path (tree_views.statement_view tree)) }
 {
     match tree {
         trees::Statement::Empty => Ok(Statement::Empty),

@@ -5,7 +5,7 @@ ghost use Rattle.std.specs.List.Sorted.{IsPermutation, IsSortedBy};
 ghost use Rattle.std.specs.Option.{option_cmp};
 ghost use Rattle.std.specs.Ordering.{is_lt};
 ghost use Rattle.td_types.specs.Headings.{are_distinct, has_attributes};
-ghost use Rattle.td_value.specs.Values.{order};
+ghost use Rattle.td_value.specs.Values.{value_cmp};
 ghost use Rattle.td_value.specs.Views.{values_of};
 ghost use Rattle.td.specs.Database.{are_apart, are_keys, includes, key_holds, keys_fit, keys_hold};
 ghost use Rattle.td.specs.KeyParts.{by_places, places_from};
@@ -102,7 +102,7 @@ fn value_at(tuple: &Tuple, place: usize) -> Option<&Value>
 
 /// How a value that may be there stands to another one: none is before any.
 fn compare_found(value: Option<&Value>, other: Option<&Value>) -> Ordering
-    ensures { result ≡ option_cmp order
+    ensures { result ≡ option_cmp value_cmp
         (option_map (λ v. v.now) value.entry) (option_map (λ v. v.now) other.entry) }
 {
     match (value, other) {
@@ -135,21 +135,21 @@ fn ascend_at(places: &[usize], tuples: &[Tuple]) -> bool
 }
 
 /// The tuples, sorted by their values at the places.
-fn sorted_at(places: &[usize], body: &Rel) -> Result<Vec<Tuple>, AllocError>
-    ensures permutation { IfOk result (λ v. IsPermutation body.now.rows v.items) }
+fn sorted_at(places: &[usize], value: &Rel) -> Result<Vec<Tuple>, AllocError>
+    ensures permutation { IfOk result (λ v. IsPermutation value.now.body v.items) }
     ensures sorted { IfOk result (λ v.
         IsSortedBy (λ s t. is_lt (by_places places.now s t)) v.items) }
 {
-    let mut tuples = body.try_clone()?.into_rows()?;
+    let mut tuples = value.try_clone()?.into_rows()?;
     tuples.sort_unstable_by(|tuple, other| compare_at(places, tuple, other));
     Ok(tuples)
 }
 
 /// Whether no two tuples of the relation agree on the names of the key.
-fn key_holds(alloc: Global, key: &[Name], body: &Rel) -> Result<bool, AllocError>
-    ensures { IfOk result (λ b. b ≡ key_holds key.now body.now.rows) }
+fn key_holds(alloc: Global, key: &[Name], value: &Rel) -> Result<bool, AllocError>
+    ensures { IfOk result (λ b. b ≡ key_holds key.now value.now.body) }
 {
-    let rows = body.rows();
+    let rows = value.rows();
     let Some(first) = rows.first() else {
         return Ok(true);
     };
@@ -157,16 +157,16 @@ fn key_holds(alloc: Global, key: &[Name], body: &Rel) -> Result<bool, AllocError
     if ascend_at(&places, rows) {
         return Ok(true);
     }
-    let sorted = sorted_at(&places, body)?;
+    let sorted = sorted_at(&places, value)?;
     Ok(ascend_at(&places, &sorted))
 }
 
 /// Whether each of the keys holds: no two tuples of the relation agree on its names.
-pub fn keys_hold(alloc: Global, keys: &[Vec<Name>], body: &Rel) -> Result<bool, AllocError>
-    ensures { IfOk result (λ b. b ≡ keys_hold (map (λ key. key.items) keys.now) body.now.rows) }
+pub fn keys_hold(alloc: Global, keys: &[Vec<Name>], value: &Rel) -> Result<bool, AllocError>
+    ensures { IfOk result (λ b. b ≡ keys_hold (map (λ key. key.items) keys.now) value.now.body) }
 {
     for key in keys {
-        if !key_holds(alloc, key, body)? {
+        if !key_holds(alloc, key, value)? {
             return Ok(false);
         }
     }

@@ -3,11 +3,11 @@ ghost use Rattle.std.specs.Prelude.{◌≡◌, IfOk, IsTrue, map};
 ghost use Rattle.std.specs.List.{All};
 ghost use Rattle.td_value.specs.Values.{IsTupleOf};
 ghost use Rattle.td_types.specs.Types as types;
-ghost use Rattle.td_types.specs.Views.{pairs_of};
+ghost use Rattle.td_types.specs.Views.{pairs_view};
 ghost use Rattle.td_tree.specs.Outcomes.{Answers};
 ghost use Rattle.td.specs.Meaning as spec;
-ghost use Rattle.td.specs.Meaning.{have_heading, headed_meaning, heading_meaning, literal_heading_meaning, literal_meaning, tuple_meaning, tuples_meaning, written};
-ghost use Rattle.td.specs.TreeViews.{attributes_of, names_if, tuple_of, tuples_of};
+ghost use Rattle.td.specs.Meaning.{have_heading, headed_meaning, heading_meaning, literal_heading_meaning, literal_meaning, tuple_meaning, tuples_meaning, written_components};
+ghost use Rattle.td.specs.TreeViews.{components_view, names_if, tuple_literal_view, tuple_literals_view};
 
 use crate::engine::tree::{AttributeValue, RelationLiteral, TupleLiteral};
 use std::alloc::{AllocError, Global};
@@ -22,7 +22,7 @@ use td_value::value::Value;
 
 /// The names, each with the type INTEGER.
 fn integers(alloc: Global, names: &[Name]) -> Result<Vec<(Name, Ty)>, AllocError>
-    ensures { IfOk result (λ v. pairs_of v.items ≡ map (λ n. (n, types.integer)) names.now) }
+    ensures { IfOk result (λ v. pairs_view v.items ≡ map (λ n. (n, types.integer)) names.now) }
 {
     let mut attributes = Vec::with_capacity(alloc, names.len())?;
     for name in names {
@@ -42,7 +42,7 @@ pub fn integer_heading(alloc: Global, names: &[Name]) -> Result<Heading, Fault>
 
 /// The names with their values, in the order written.
 fn entries(alloc: Global, attributes: &[AttributeValue]) -> Result<Vec<(Name, Value)>, AllocError>
-    ensures { IfOk result (λ v. v.items ≡ written (attributes_of attributes.now)) }
+    ensures { IfOk result (λ v. v.items ≡ written_components (components_view attributes.now)) }
 {
     let mut entries = Vec::with_capacity(alloc, attributes.len())?;
     for attribute in attributes {
@@ -60,7 +60,7 @@ fn tuple_value(
     before: Option<&Tuple>,
     literal: &TupleLiteral,
 ) -> Result<Tuple, Fault>
-    ensures { Answers (λ t. t) result (tuple_meaning (tuple_of literal.now)) }
+    ensures { Answers (λ t. t) result (tuple_meaning (tuple_literal_view literal.now)) }
 {
     let entries = entries(alloc, &literal.attributes)?;
     Tuple::new_like(alloc, before, entries)
@@ -68,7 +68,7 @@ fn tuple_value(
 
 /// The tuples that literals mean; HEADING where a name comes twice in one.
 fn tuples_value(alloc: Global, literals: &[TupleLiteral]) -> Result<Vec<Tuple>, Fault>
-    ensures { Answers (λ v. v.items) result (tuples_meaning (tuples_of literals.now)) }
+    ensures { Answers (λ v. v.items) result (tuples_meaning (tuple_literals_view literals.now)) }
 {
     let mut tuples = Vec::with_capacity(alloc, literals.len())?;
     for literal in literals {
@@ -129,7 +129,8 @@ pub fn headed(heading: Heading, tuples: Vec<Tuple>) -> Result<Rel, Fault>
 #[tactic(auto, using(crate::proofs::Literals::refused_tuples, crate::proofs::Literals::refused_heading, crate::proofs::Literals::headed_literal))]
 pub fn literal_value(alloc: Global, literal: &RelationLiteral) -> Result<Rel, Fault>
     ensures { Answers (λ r. r) result
-        (literal_meaning (names_if literal.now.heading) (tuples_of literal.now.tuples.items)) }
+        (literal_meaning (names_if literal.now.heading)
+        (tuple_literals_view literal.now.tuples.items)) }
 {
     let tuples = tuples_value(alloc, &literal.tuples)?;
     let heading = literal_heading(alloc, &literal.heading, &tuples)?;

@@ -14,11 +14,11 @@ pub struct Numeral {
 
 impl Numeral {
     ghost use Rattle.td.specs.Meaning.{numeral_value};
-    ghost use Rattle.td.specs.TreeViews.{numeral_of};
+    ghost use Rattle.td.specs.TreeViews.{numeral_view};
 
     /// A number with a minus or without; `None` where it is out of the range of INTEGER.
     pub fn new(minus: bool, magnitude: u64) -> Option<Numeral>
-        ensures { option_map numeral_of result ≡ (if nat_le magnitude (numeral_limit minus)
+        ensures { option_map numeral_view result ≡ (if nat_le magnitude (numeral_limit minus)
             then Some (record { minus = minus; magnitude = magnitude }) else None) }
     {
         let limit = if minus {
@@ -35,7 +35,7 @@ impl Numeral {
 
     /// The number that it is.
     pub fn value(self) -> i64
-        ensures { result ≡ numeral_value (numeral_of self) }
+        ensures { result ≡ numeral_value (numeral_view self) }
     {
         let magnitude = i128::from(self.magnitude);
         let value = if self.minus { -magnitude } else { magnitude };

@@ -4,12 +4,12 @@ ghost use Rattle.td_value.specs.Values.{IsRelation};
 use td_tree::name::Name;
 use td_value::relation::Rel;
 
-/// A base relvar: its declared keys, and its body, a relation with the relvar's heading.
+/// A base relvar: its declared keys, and its value, a relation.
 #[derive(Drop)]
 pub struct Relvar {
     pub name: Name,
     pub keys: Vec<Vec<Name>>,
-    pub body: Rel,
+    pub value: Rel,
 }
 
 /// Tells what every relation is, where no part of it is seen.

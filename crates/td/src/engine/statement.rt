@@ -5,12 +5,12 @@ ghost use Rattle.td.specs.Machine as machine;
 ghost use Rattle.td.specs.Assignable.{IsAssignable};
 ghost use Rattle.td.specs.Machine.{assignable, changed, new_relvar, stepped};
 ghost use Rattle.td.specs.Meaning.{known, meaning};
-ghost use Rattle.td.specs.Database.{keys_fit, relvar_at, target_holds, with_body};
+ghost use Rattle.td.specs.Database.{keys_fit, relvar_at, target_holds, with_relation};
 ghost use Rattle.td.specs.Legality.{IsLegal};
-ghost use Rattle.td.specs.Relvars.{relvar_of};
+ghost use Rattle.td.specs.Relvars.{relvar_view};
 ghost use Rattle.td.specs.Steps.{Does};
 ghost use Rattle.td.specs.Trees as trees;
-ghost use Rattle.td.specs.TreeViews.{expression_of, statement_of};
+ghost use Rattle.td.specs.TreeViews.{expression_view, first_path_view};
 
 use crate::engine::answer::Answer;
 use crate::engine::database::Database;
@@ -29,7 +29,7 @@ use td_value::relation::Rel;
 /// Prints the relation that an expression means.
 fn write(alloc: Global, database: &Database, expression: &Expression) -> Result<Answer, AllocError>
     ensures { IfOk result (λ a.
-        Does (stepped database.now (trees.write (expression_of expression.now))) a database.now) }
+        Does (stepped database.now (trees.write (expression_view expression.now))) a database.now) }
 {
     match value(alloc, database, expression) {
         Ok(relation) => Answer::accepted(relation.literal()?),
@@ -58,20 +58,20 @@ fn declared(alloc: Global, database: &Database, definition: &Definition) -> Resu
 fn assigned(alloc: Global, database: &Database, assignment: &Assignment) -> Result<Rel, Fault>
     ensures { Answers (λ r. r) result (with_both
         (known (relvar_at assignment.now.target database.now))
-        (meaning database.now (expression_of assignment.now.source)) assignable) }
+        (meaning database.now (expression_view assignment.now.source)) assignable) }
 {
     let Some(relvar) = database.get(&assignment.target) else {
         return Err(Fault::Refused(Cause::NameUnknown));
     };
     let source = value(alloc, database, &assignment.source)?;
-    if source.heading() == relvar.body.heading() {
+    if source.heading() == relvar.value.heading() {
         Ok(source)
     } else {
         Err(Fault::Refused(Cause::Heading))
     }
 }
 
-/// Defines a base relvar, with an empty body.
+/// Defines a base relvar, with an empty relation for its value.
 fn define(
     alloc: Global,
     database: &mut Database,
@@ -103,13 +103,13 @@ fn add(
     ensures err { OnErr result (database.new ≡ database.old) }
 {
     let _ = definition.name.as_str();
-    let body = Rel::new(heading, Vec::new(alloc))?;
-    tell_relation(&body);
+    let value = Rel::new(heading, Vec::new(alloc))?;
+    tell_relation(&value);
     let answer = Answer::ok(alloc)?;
     database.add(Relvar {
         name: definition.name,
         keys: definition.keys,
-        body,
+        value,
     })?;
     Ok(answer)
 }
@@ -119,36 +119,36 @@ fn target_holds(
     alloc: Global,
     database: &Database,
     target: &Name,
-    body: &Rel,
+    value: &Rel,
 ) -> Result<bool, AllocError>
     ensures holds { IfOk result (λ b.
-        b ≡ target_holds (relvar_at target.now database.now) body.now.rows) }
+        b ≡ target_holds (relvar_at target.now database.now) value.now.body) }
     ensures legal { IsLegal database.now }
 {
     match database.get(target) {
-        Some(relvar) => keys_hold(alloc, &relvar.keys, body),
+        Some(relvar) => keys_hold(alloc, &relvar.keys, value),
         None => Ok(true),
     }
 }
 
-/// Gives a relvar another body, where its keys hold.
+/// Gives a relvar another value, where its keys hold.
 fn replace(
     alloc: Global,
     database: &mut Database,
     target: &Name,
-    body: Rel,
+    value: Rel,
 ) -> Result<Answer, AllocError>
-    requires { IsAssignable database.old target.now body }
+    requires { IsAssignable database.old target.now value }
     ensures done { IfOk result (λ a. Does
-        (changed database.old (with_body target.now body database.old)) a database.new) }
+        (changed database.old (with_relation target.now value database.old)) a database.new) }
     ensures err { OnErr result (database.new ≡ database.old) }
 {
-    if !target_holds(alloc, database, target, &body)? {
+    if !target_holds(alloc, database, target, &value)? {
         return Answer::key_refused(alloc, target);
     }
     let answer = Answer::ok(alloc)?;
-    tell_relation(&body);
-    database.set_body(target, body);
+    tell_relation(&value);
+    database.set_value(target, value);
     Ok(answer)
 }
 
@@ -159,11 +159,11 @@ fn assign(
     assignment: &Assignment,
 ) -> Result<Answer, AllocError>
     ensures done { IfOk result (λ a. Does (stepped database.old (trees.assign
-        assignment.now.target (expression_of assignment.now.source))) a database.new) }
+        assignment.now.target (expression_view assignment.now.source))) a database.new) }
     ensures err { OnErr result (database.new ≡ database.old) }
 {
     match assigned(alloc, database, assignment) {
-        Ok(body) => replace(alloc, database, &assignment.target, body),
+        Ok(value) => replace(alloc, database, &assignment.target, value),
         Err(Fault::Refused(cause)) => Answer::refused(alloc, cause),
         Err(Fault::Memory) => Err(AllocError),
     }
@@ -177,7 +177,7 @@ pub fn execute(
     statement: Statement,
 ) -> Result<Answer, AllocError>
     ensures done { IfOk result (λ a.
-        Does (stepped database.old (statement_of statement)) a database.new) }
+        Does (stepped database.old (first_path_view statement)) a database.new) }
     ensures err { OnErr result (database.new ≡ database.old) }
 {
     match statement {

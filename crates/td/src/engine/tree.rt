@@ -1,7 +1,7 @@
 //! The trees of the first path's grammar.
 ghost use Rattle.std.specs.Prelude.{◌≡◌, OnOk};
 ghost use Rattle.td.specs.Trees as spec;
-ghost use Rattle.td.specs.TreeViews.{expression_of, operand_of};
+ghost use Rattle.td.specs.TreeViews.{expression_view, operand_view};
 
 use crate::engine::number::Numeral;
 use std::alloc::{AllocError, Global};
@@ -71,7 +71,7 @@ impl Expression {
     /// An operand alone.
     #[tactic(auto, unfolding(crate::specs::TreeViews::expression_of))]
     pub fn single(alloc: Global, first: Operand) -> Expression
-        ensures { expression_of result ≡ spec.single (operand_of first) }
+        ensures { expression_view result ≡ spec.single (operand_view first) }
     {
         Expression {
             first,
@@ -82,8 +82,8 @@ impl Expression {
     /// Joins one more operand.
     #[tactic(auto, using(crate::proofs::Joins::joined_push), unfolding(crate::specs::TreeViews::expression_of))]
     pub fn join(&mut self, other: Operand) -> Result<(), AllocError>
-        ensures { OnOk result (expression_of self.new
-            ≡ spec.union (expression_of self.old) (operand_of other)) }
+        ensures { OnOk result (expression_view self.new
+            ≡ spec.union (expression_view self.old) (operand_view other)) }
     {
         self.others.push(other)?;
         Ok(())

@@ -2,47 +2,47 @@ use Rattle.std.proofs.Common.{ap, ◌∙◌}
 use Rattle.td_tree.proofs.Pushes.{one_more, one_tree, then_trees, trees_push, one_named, then_named, named_push, one_summary, then_summaries, summaries_push}
 use Rattle.td_tree.proofs.Rows.{copied_as, extend_is, headed_relation_is, relation_is, select_is, summarize_by_is, summarize_per_is, tuple_is}
 use Rattle.td_tree.specs.Trees as trees
-use Rattle.td_tree.specs.TreeViews.{named_of, summaries_of, tree_of, trees_of}
+use Rattle.td_tree.specs.TreeViews.{named_view, summaries_view, tree_view, trees_view}
 use Rattle.td_tree.proofs.+copy.Goals as goal
 
 pub copy::copy_list-loop-expression-preserved : goal.copy::copy_list-loop-expression-preserved
 copy::copy_list-loop-expression-preserved t c =
-    ap trees_of c.in_ok-push.ensures.items
-    ∙ one_more trees_of one_tree then_trees trees_push c.deref-expression-items.result.now c.loop-expression.copy.items c.loop-expression.expression-index
+    ap trees_view c.in_ok-push.ensures.items
+    ∙ one_more trees_view one_tree then_trees trees_push c.deref-expression-items.result.now c.loop-expression.copy.items c.loop-expression.expression-index
     c.expression-item.result _ c.loop-expression.invariant c.loop-expression-test.true c.expression-item.is (cc c.in_ok-try_clone.ensures)
 
 pub copy::copy_parts-loop-part-preserved : goal.copy::copy_parts-loop-part-preserved
 copy::copy_parts-loop-part-preserved t c =
-    ap named_of c.in_ok-push.ensures.items
-    ∙ one_more named_of one_named then_named named_push c.deref-part-items.result.now c.loop-part.copy.items c.loop-part.part-index
+    ap named_view c.in_ok-push.ensures.items
+    ∙ one_more named_view one_named then_named named_push c.deref-part-items.result.now c.loop-part.copy.items c.loop-part.part-index
     c.part-item.result _ c.loop-part.invariant c.loop-part-test.true c.part-item.is (cc (c.in_ok-name.ensures, c.in_ok-value.ensures))
 
 pub copy::copy_summaries-loop-summary-preserved : goal.copy::copy_summaries-loop-summary-preserved
 copy::copy_summaries-loop-summary-preserved t c =
-    ap summaries_of c.in_ok-push.ensures.items
-    ∙ one_more summaries_of one_summary then_summaries summaries_push c.deref-summary-items.result.now c.loop-summary.copy.items c.loop-summary.summary-index
+    ap summaries_view c.in_ok-push.ensures.items
+    ∙ one_more summaries_view one_summary then_summaries summaries_push c.deref-summary-items.result.now c.loop-summary.copy.items c.loop-summary.summary-index
     c.summary-item.result _ c.loop-summary.invariant c.loop-summary-test.true c.summary-item.is (c.in_ok-try_clone.ensures trees.no_summaries)
 
 pub expression::Expr::try_clone-returns-in-Postfix : goal.expression::Expr::try_clone-returns-in-Postfix
-expression::Expr::try_clone-returns-in-Postfix t c = copied_as _ _ _ (c.postfix.ensures _ _ c.boxed-in-Postfix.ensures c.try_clone-in-Postfix.ensures) (ap tree_of c.in-Postfix.is)
+expression::Expr::try_clone-returns-in-Postfix t c = copied_as _ _ _ (c.postfix.ensures _ _ c.boxed-in-Postfix.ensures c.try_clone-in-Postfix.ensures) (ap tree_view c.in-Postfix.is)
 
 pub expression::Expr::try_clone-returns-in-Select : goal.expression::Expr::try_clone-returns-in-Select
-expression::Expr::try_clone-returns-in-Select t c = copied_as _ _ _ (c.select.ensures _ _ c.try_clone-in-Select.ensures c.copy_list.ensures) (ap tree_of c.in-Select.is ∙ select_is c.in-Select.ty c.in-Select.arguments)
+expression::Expr::try_clone-returns-in-Select t c = copied_as _ _ _ (c.select.ensures _ _ c.try_clone-in-Select.ensures c.copy_list.ensures) (ap tree_view c.in-Select.is ∙ select_is c.in-Select.ty c.in-Select.arguments)
 
 pub expression::Expr::try_clone-returns-in-Relation : goal.expression::Expr::try_clone-returns-in-Relation
-expression::Expr::try_clone-returns-in-Relation t c = copied_as _ _ _ (c.relation.ensures _ c.copy_list-in-Relation.ensures) (ap tree_of c.in-Relation.is ∙ relation_is c.in-Relation.elements)
+expression::Expr::try_clone-returns-in-Relation t c = copied_as _ _ _ (c.relation.ensures _ c.copy_list-in-Relation.ensures) (ap tree_view c.in-Relation.is ∙ relation_is c.in-Relation.elements)
 
 pub expression::Expr::try_clone-returns-in-HeadedRelation : goal.expression::Expr::try_clone-returns-in-HeadedRelation
-expression::Expr::try_clone-returns-in-HeadedRelation t c = copied_as _ _ _ (c.headed_relation.ensures _ _ c.copy_heading.ensures c.copy_list-in-HeadedRelation.ensures) (ap tree_of c.in-HeadedRelation.is ∙ headed_relation_is c.in-HeadedRelation.heading c.in-HeadedRelation.elements)
+expression::Expr::try_clone-returns-in-HeadedRelation t c = copied_as _ _ _ (c.headed_relation.ensures _ _ c.copy_heading.ensures c.copy_list-in-HeadedRelation.ensures) (ap tree_view c.in-HeadedRelation.is ∙ headed_relation_is c.in-HeadedRelation.heading c.in-HeadedRelation.elements)
 
 pub expression::Expr::try_clone-returns-in-Tuple : goal.expression::Expr::try_clone-returns-in-Tuple
-expression::Expr::try_clone-returns-in-Tuple t c = copied_as _ _ _ (c.tuple.ensures _ c.copy_parts.ensures) (ap tree_of c.in-Tuple.is ∙ tuple_is c.in-Tuple.parts)
+expression::Expr::try_clone-returns-in-Tuple t c = copied_as _ _ _ (c.tuple.ensures _ c.copy_parts.ensures) (ap tree_view c.in-Tuple.is ∙ tuple_is c.in-Tuple.parts)
 
 pub expression::Expr::try_clone-returns-in-Extend : goal.expression::Expr::try_clone-returns-in-Extend
-expression::Expr::try_clone-returns-in-Extend t c = copied_as _ _ _ (c.extend.ensures _ _ c.boxed-in-Extend.ensures c.copy_parts-in-Extend.ensures) (ap tree_of c.in-Extend.is ∙ extend_is c.in-Extend.operand c.in-Extend.parts)
+expression::Expr::try_clone-returns-in-Extend t c = copied_as _ _ _ (c.extend.ensures _ _ c.boxed-in-Extend.ensures c.copy_parts-in-Extend.ensures) (ap tree_view c.in-Extend.is ∙ extend_is c.in-Extend.operand c.in-Extend.parts)
 
 pub expression::Expr::try_clone-returns-in-SummarizePer : goal.expression::Expr::try_clone-returns-in-SummarizePer
-expression::Expr::try_clone-returns-in-SummarizePer t c = copied_as _ _ _ (c.summarize_per.ensures _ _ _ c.boxed-in-SummarizePer.ensures c.boxed-in-SummarizePer-2.ensures c.copy_summaries.ensures) (ap tree_of c.in-SummarizePer.is ∙ summarize_per_is c.in-SummarizePer.operand c.in-SummarizePer.per c.in-SummarizePer.added)
+expression::Expr::try_clone-returns-in-SummarizePer t c = copied_as _ _ _ (c.summarize_per.ensures _ _ _ c.boxed-in-SummarizePer.ensures c.boxed-in-SummarizePer-2.ensures c.copy_summaries.ensures) (ap tree_view c.in-SummarizePer.is ∙ summarize_per_is c.in-SummarizePer.operand c.in-SummarizePer.per c.in-SummarizePer.added)
 
 pub expression::Expr::try_clone-returns-in-SummarizeBy : goal.expression::Expr::try_clone-returns-in-SummarizeBy
-expression::Expr::try_clone-returns-in-SummarizeBy t c = copied_as _ _ _ (c.summarize_by.ensures _ _ _ c.boxed-in-SummarizeBy.ensures c.try_clone-in-SummarizeBy.ensures c.copy_summaries-in-SummarizeBy.ensures) (ap tree_of c.in-SummarizeBy.is ∙ summarize_by_is c.in-SummarizeBy.operand c.in-SummarizeBy.by c.in-SummarizeBy.added)
+expression::Expr::try_clone-returns-in-SummarizeBy t c = copied_as _ _ _ (c.summarize_by.ensures _ _ _ c.boxed-in-SummarizeBy.ensures c.try_clone-in-SummarizeBy.ensures c.copy_summaries-in-SummarizeBy.ensures) (ap tree_view c.in-SummarizeBy.is ∙ summarize_by_is c.in-SummarizeBy.operand c.in-SummarizeBy.by c.in-SummarizeBy.added)

@@ -1,10 +1,10 @@
 use Rattle.std.proofs.Common.{◌≡◌, max, min, drop}
 use Rattle.td_tree.specs.Heights.{attributes_height}
-use Rattle.td_tree.specs.TreeViews.{heading_of}
+use Rattle.td_tree.specs.TreeViews.{heading_tree_view}
 use Rattle.td_tree.proofs.+type_height.Given as goal
 
 abbrev pub invariant-height::highest_type-loop-attribute :
     goal.invariant-height::highest_type-loop-attribute
 invariant-height::highest_type-loop-attribute l =
-    max l.highest (min (attributes_height (heading_of (drop l.attribute-index l.heading))) 18446744073709551615)
-    ≡ min (attributes_height (heading_of l.heading)) 18446744073709551615
+    max l.highest (min (attributes_height (heading_tree_view (drop l.attribute-index l.heading))) 18446744073709551615)
+    ≡ min (attributes_height (heading_tree_view l.heading)) 18446744073709551615

@@ -8,8 +8,8 @@ ghost use Rattle.td_tree.specs.Lexemes.{Lexeme, spaced};
 ghost use Rattle.td_tree.specs.Lexemes as lexeme;
 ghost use Rattle.td_tree.specs.Lists.{parenthesized};
 ghost use Rattle.td_tree.specs.Prints.{as_lexemes, attributes_lexemes, commas, literal_lexemes, name_lexemes, postfix_lexemes, prefix_words, renaming_lexemes};
-ghost use Rattle.td_tree.specs.TreeViews.{attributes_of, literal_of, postfix_of, renaming_of};
-ghost use Rattle.td_tree.specs.Written.{Writes, comma_if, written};
+ghost use Rattle.td_tree.specs.TreeViews.{attributes_view, literal_view, postfix_view, renaming_view};
+ghost use Rattle.td_tree.specs.Written.{Writes, comma_lexeme_if, written};
 
 use crate::expression::{Attributes, Literal, Postfix, Renaming};
 use crate::keyword::Keyword;
@@ -107,7 +107,7 @@ impl Printer {
     }
 
     pub(super) fn literal(self, literal: &Literal) -> Result<Printer, AllocError>
-        ensures { Writes self result (literal_lexemes (literal_of literal.now)) }
+        ensures { Writes self result (literal_lexemes (literal_view literal.now)) }
     {
         match literal {
             Literal::Number {
@@ -128,7 +128,7 @@ impl Printer {
 
     /// What stands before an item.
     pub(super) fn comma(self, later: bool) -> Result<Printer, AllocError>
-        ensures { Writes self result (comma_if later) }
+        ensures { Writes self result (comma_lexeme_if later) }
     {
         if later {
             self.sign(Sign::Comma)
@@ -159,7 +159,7 @@ impl Printer {
     }
 
     pub(super) fn attributes(self, attributes: &Attributes) -> Result<Printer, AllocError>
-        ensures { Writes self result (attributes_lexemes (attributes_of attributes.now)) }
+        ensures { Writes self result (attributes_lexemes (attributes_view attributes.now)) }
     {
         let out = self.sign(Sign::OpenBrace)?;
         let out = match attributes {
@@ -178,7 +178,7 @@ impl Printer {
 
     fn renamings(self, renamings: &[Renaming]) -> Result<Printer, AllocError>
         ensures { Writes self result
-            (parenthesized (commas (map renaming_lexemes (map renaming_of renamings.now)))) }
+            (parenthesized (commas (map renaming_lexemes (map renaming_view renamings.now)))) }
     {
         let mut out = self.sign(Sign::OpenParenthesis)?;
         let mut later = false;
@@ -193,7 +193,7 @@ impl Printer {
     fn gathering(self, attributes: &Attributes, name: &Name) -> Result<Printer, AllocError>
         ensures { Writes self result
             (parenthesized
-            (attributes_lexemes (attributes_of attributes.now) ++ as_lexemes name.now)) }
+            (attributes_lexemes (attributes_view attributes.now) ++ as_lexemes name.now)) }
     {
         let out = self.sign(Sign::OpenParenthesis)?;
         out.attributes(attributes)?
@@ -209,7 +209,7 @@ impl Printer {
     }
 
     pub(super) fn postfix(self, op: &Postfix) -> Result<Printer, AllocError>
-        ensures { Writes self result (postfix_lexemes (postfix_of op.now)) }
+        ensures { Writes self result (postfix_lexemes (postfix_view op.now)) }
     {
         match op {
             Postfix::Project(attributes) => self.attributes(attributes),

@@ -1,6 +1,6 @@
 use Rattle.std.proofs.Common.{Err, List, sym, subst}
 use Rattle.std.specs.Result.{IfOk}
-use Rattle.td_tree.specs.Statements.{Entry}
+use Rattle.td_tree.specs.Statements.{PlacedToken}
 use Rattle.td_tree.specs.declared.fault.Fault.{Fault}
 use Rattle.td.specs.Database.{Database}
 use Rattle.td.specs.Steps.{IsParsed, IsStep}
@@ -9,5 +9,5 @@ use Rattle.td.proofs.engine.refusal.Goals as goal
 
 pub returns-in-Refused : goal.returns-in-Refused
 returns-in-Refused c =
-    subst (λ (f : Fault). IfOk c.refused.result (λ a. (db : Database) (tokens : List Entry) → IsParsed tokens (Err f) → IsStep db tokens a db)) (sym c.in-Refused.is)
+    subst (λ (f : Fault). IfOk c.refused.result (λ a. (db : Database) (tokens : List PlacedToken) → IsParsed tokens (Err f) → IsStep db tokens a db)) (sym c.in-Refused.is)
     (refused_is c.in-Refused.cause c.refused.result c.refused.ensures.flag c.refused.ensures.text)

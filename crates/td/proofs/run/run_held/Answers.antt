@@ -1,7 +1,7 @@
 use Rattle.std.proofs.Common.{◌≡◌, ◌∙◌, ℕ, ◌+◌, ap, sym, arith}
 use Rattle.td_tree.specs.Statements.{statements}
 use Rattle.td.specs.Standing.{HasRunCut, Run, run_of, standing}
-use Rattle.td.specs.Turns.{HasTurnedCut, Place, place_of}
+use Rattle.td.specs.Turns.{HasTurnedCut, Place, place_at}
 use Rattle.td.proofs.Turning.{has_run_at, has_run_cut, left_none, left_stopped, reached_more, reached_none, turned_fewer, turned_finished, turned_refused, was_turned, write_map}
 use Rattle.td.proofs.run.run_held.Goals as goal
 
@@ -18,15 +18,15 @@ statements-init g c = (
 
 pub statements-smaller : goal.statements-smaller
 statements-smaller g c =
-    let old : Place = place_of c.statements.cutter (standing c.statements.engine (g.W.Sink.taken c.statements.writer)) c.statements.report in
-    let new : Place = place_of c.run_one.new.cutter (standing c.run_one.new.engine (g.W.Sink.taken c.run_one.new.writer)) c.run_one.new.report in
+    let old : Place = place_at c.statements.cutter (standing c.statements.engine (g.W.Sink.taken c.statements.writer)) c.statements.report in
+    let new : Place = place_at c.run_one.new.cutter (standing c.run_one.new.engine (g.W.Sink.taken c.run_one.new.writer)) c.run_one.new.report in
     let t = was_turned old new _ c.in-Ok-true.ensures.turn c.in-Ok-true.field-0-test in
     omega (arith, turned_fewer old new t)
 
 pub statements-preserved : goal.statements-preserved
 statements-preserved g c =
-    let old : Place = place_of c.statements.cutter (standing c.statements.engine (g.W.Sink.taken c.statements.writer)) c.statements.report in
-    let new : Place = place_of c.run_one.new.cutter (standing c.run_one.new.engine (g.W.Sink.taken c.run_one.new.writer)) c.run_one.new.report in
+    let old : Place = place_at c.statements.cutter (standing c.statements.engine (g.W.Sink.taken c.statements.writer)) c.statements.report in
+    let new : Place = place_at c.run_one.new.cutter (standing c.run_one.new.engine (g.W.Sink.taken c.run_one.new.writer)) c.run_one.new.report in
     let run : Run = run_of c.args.stop (standing c.args.engine.now (g.W.Sink.taken c.args.writer.now)) c.args.cutter.now.bytes in
     let t = was_turned old new _ c.in-Ok-true.ensures.turn c.in-Ok-true.field-0-test in
     let before = c.statements.invariant in
@@ -46,13 +46,13 @@ returns-in-Ok-false-clause-answers g c =
 pub returns-in-Err-clause-memory : goal.returns-in-Err-clause-memory
 returns-in-Err-clause-memory g c =
     let run : Run = run_of c.args.stop (standing c.args.engine.now (g.W.Sink.taken c.args.writer.now)) c.args.cutter.now.bytes in
-    let old : Place = place_of c.statements.cutter (standing c.statements.engine (g.W.Sink.taken c.statements.writer)) c.statements.report in
+    let old : Place = place_at c.statements.cutter (standing c.statements.engine (g.W.Sink.taken c.statements.writer)) c.statements.report in
     has_run_at run old c.run_one.new.engine (g.W.Sink.taken c.run_one.new.writer) c.in-Err.fault c.statements.invariant.0 c.in-Err.ensures.memory
 
 pub returns-in-Err-clause-write : goal.returns-in-Err-clause-write
 returns-in-Err-clause-write g c =
     let run : Run = run_of c.args.stop (standing c.args.engine.now (g.W.Sink.taken c.args.writer.now)) c.args.cutter.now.bytes in
-    let old : Place = place_of c.statements.cutter (standing c.statements.engine (g.W.Sink.taken c.statements.writer)) c.statements.report in
+    let old : Place = place_at c.statements.cutter (standing c.statements.engine (g.W.Sink.taken c.statements.writer)) c.statements.report in
     let new = standing c.run_one.new.engine (g.W.Sink.taken c.run_one.new.writer) in
     let goes = sym c.is_over.ensures ∙ c.statements-test.true in
     write_map (λ done. (done ≡ old.report.statements + 1) × HasTurnedCut old new) (λ done. HasRunCut run done new) (λ done h. has_run_cut run old done new goes c.statements.invariant.0 h.0 h.1)

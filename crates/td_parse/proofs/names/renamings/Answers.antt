@@ -2,15 +2,15 @@ use Rattle.std.proofs.Common.{rules, arith, suc, length, map}
 use Rattle.std.proofs.lemmas.Grind.{common_steps}
 use Rattle.std.proofs.lemmas.List.{map_push}
 use Rattle.td_parse.specs.ReadingSteps.{read_renaming, separated, separated_from}
-use Rattle.td_tree.specs.TreeViews.{renaming_of}
+use Rattle.td_tree.specs.TreeViews.{renaming_view}
 use Rattle.td_parse.proofs.Turns.{one_more}
 use Rattle.td_parse.proofs.names.renamings.Goals as goal
 
 pub loop-turn-preserved : goal.loop-turn-preserved
 unfolding separated_from
 loop-turn-preserved c =
-    let e = one_more (λ n. separated_from read_renaming n (map renaming_of c.loop-turn.items.items) c.loop-turn.tokens) (suc (length c.args.tokens.now)) c.loop-turn._turn (omega arith) in
-    let p = map_push renaming_of c.loop-turn.items.items c.in_ok-renaming.field-0 in
+    let e = one_more (λ n. separated_from read_renaming n (map renaming_view c.loop-turn.items.items) c.loop-turn.tokens) (suc (length c.args.tokens.now)) c.loop-turn._turn (omega arith) in
+    let p = map_push renaming_view c.loop-turn.items.items c.in_ok-renaming.field-0 in
     first_of (search rules, grind (arith, common_steps))
 
 pub loop-turn-init : goal.loop-turn-init

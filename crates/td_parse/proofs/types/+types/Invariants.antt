@@ -1,7 +1,7 @@
 use Rattle.std.proofs.Common.{◌≡◌, ◌-◌, ◌+◌, ◌*◌}
 use Rattle.td_parse.specs.ReadingSteps.{separated, separated_from}
 use Rattle.td_parse.specs.ReadingTypes.{attribute, read_type}
-use Rattle.td_parse.specs.Views.{attributes_of}
+use Rattle.td_parse.specs.Views.{attribute_trees_view}
 use Rattle.td_parse.proofs.types.+types.Given as goal
 
 abbrev pub decreases-type_tree : goal.decreases-type_tree
@@ -21,4 +21,4 @@ decreases-type_of_word l = 10 * l.depth + 4
 
 -- what is left goes on from the attributes so far
 abbrev pub invariant-attributes-loop-turn : goal.invariant-attributes-loop-turn
-invariant-attributes-loop-turn l = separated (attribute (read_type l.depth)) l.fn.tokens ≡ separated_from (attribute (read_type l.depth)) (l.limit - l._turn) (attributes_of l.items.items) l.tokens
+invariant-attributes-loop-turn l = separated (attribute (read_type l.depth)) l.fn.tokens ≡ separated_from (attribute (read_type l.depth)) (l.limit - l._turn) (attribute_trees_view l.items.items) l.tokens

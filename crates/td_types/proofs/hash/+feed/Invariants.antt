@@ -1,9 +1,9 @@
 use Rattle.std.proofs.Common.{◌≡◌, drop, fold}
 use Rattle.td_types.specs.Hashes.{fed_heading}
 use Rattle.td_types.specs.Types.{pack}
-use Rattle.td_types.specs.Views.{attributes_of}
+use Rattle.td_types.specs.Views.{heading_view}
 use Rattle.td_types.proofs.hash.+feed.Given as goal
 
 abbrev pub invariant-feed_heading-loop-attribute : goal.invariant-feed_heading-loop-attribute
 invariant-feed_heading-loop-attribute g l =
-    fold g.H.Hasher.write l.state (fed_heading (pack (attributes_of (drop l.attribute-index l.attribute-items)))) ≡ fold g.H.Hasher.write l.initial.state (fed_heading (pack (attributes_of l.attribute-items)))
+    fold g.H.Hasher.write l.state (fed_heading (pack (heading_view (drop l.attribute-index l.attribute-items)))) ≡ fold g.H.Hasher.write l.initial.state (fed_heading (pack (heading_view l.attribute-items)))

@@ -1,7 +1,7 @@
 use Rattle.std.proofs.Common.{◌≡◌}
-use Rattle.td_types.specs.Views.{attributes_of, pairs_of}
+use Rattle.td_types.specs.Views.{heading_view, pairs_view}
 use Rattle.td_types.proofs.Made.{ArePairs}
 use Rattle.td_types.proofs.heading.from_sorted.Given as goal
 
 abbrev pub invariant-loop-name : goal.invariant-loop-name
-invariant-loop-name l = (attributes_of l.attributes.items ≡ pairs_of l.yielded) × ArePairs (pairs_of l.yielded)
+invariant-loop-name l = (heading_view l.attributes.items ≡ pairs_view l.yielded) × ArePairs (pairs_view l.yielded)

@@ -1,11 +1,11 @@
 use Rattle.std.proofs.Common.{◌≡◌, ℕ, zero, suc, ◌<◌, List, [], ◌∷◌, length, drop, refl, ◌∙◌, arith, Less}
 use Rattle.std.proofs.lemmas.List.{drop_all}
 use Rattle.td_types.specs.Types.{attrs_cmp, pack, no_attrs}
-use Rattle.td_types.specs.Views.{attributes_of}
+use Rattle.td_types.specs.Views.{heading_view}
 use Rattle.td_types.specs.declared.heading.Attribute.{Attribute}
 use Rattle.td_types.proofs.order.+compare.Goals as goal
 
-first_ends : (ys : List Attribute) (i : ℕ) → i < length ys → Less ≡ attrs_cmp no_attrs (pack (attributes_of (drop i ys)))
+first_ends : (ys : List Attribute) (i : ℕ) → i < length ys → Less ≡ attrs_cmp no_attrs (pack (heading_view (drop i ys)))
 first_ends [] i k = absurd (omega arith)
 first_ends (y ∷ ys) zero k = refl
 first_ends (y ∷ ys) (suc i) k = first_ends ys i (omega arith)

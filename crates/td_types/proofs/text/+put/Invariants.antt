@@ -2,10 +2,10 @@ use Rattle.std.proofs.Common.{◌≡◌, ◌++◌, drop, false}
 use Rattle.std.specs.String.{string_bytes}
 use Rattle.td_types.specs.Texts.{attributes_text}
 use Rattle.td_types.specs.Types.{pack}
-use Rattle.td_types.specs.Views.{attributes_of}
+use Rattle.td_types.specs.Views.{heading_view}
 use Rattle.td_types.proofs.text.+put.Given as goal
 
 abbrev pub invariant-put_heading-loop-attribute : goal.invariant-put_heading-loop-attribute
 invariant-put_heading-loop-attribute l =
-    string_bytes l.out ++ attributes_text l.later (pack (attributes_of (drop l.attribute-index l.attribute-items)))
-    ≡ string_bytes l.initial.out ++ attributes_text false (pack (attributes_of l.attribute-items))
+    string_bytes l.out ++ attributes_text l.later (pack (heading_view (drop l.attribute-index l.attribute-items)))
+    ≡ string_bytes l.initial.out ++ attributes_text false (pack (heading_view l.attribute-items))

@@ -1,7 +1,7 @@
 use Rattle.std.proofs.Common.{◌≡◌, ◌++◌, drop, false, string_bytes}
 use Rattle.td_value.specs.Literal.{parts_literal, fields_literal, rows_literal}
 use Rattle.td_value.specs.Values.{pack_fields, pack_rows, pack_parts}
-use Rattle.td_value.specs.Views.{entries_of}
+use Rattle.td_value.specs.Views.{tuple_view}
 use Rattle.td_value.proofs.literal.+write.Given as goal
 
 abbrev pub invariant-write_user-loop-v : goal.invariant-write_user-loop-v
@@ -10,7 +10,7 @@ invariant-write_user-loop-v l = string_bytes l.out ++ parts_literal l.later (pac
 abbrev pub invariant-write_entries-loop-v : goal.invariant-write_entries-loop-v
 invariant-write_entries-loop-v l =
     (l.place ≡ l.v-index)
-    × (string_bytes l.out ++ fields_literal l.later (pack_fields (entries_of (drop l.place l.names) (drop l.place l.values))) ≡ string_bytes l.initial.out ++ fields_literal false (pack_fields (entries_of l.names l.values)))
+    × (string_bytes l.out ++ fields_literal l.later (pack_fields (tuple_view (drop l.place l.names) (drop l.place l.values))) ≡ string_bytes l.initial.out ++ fields_literal false (pack_fields (tuple_view l.names l.values)))
 
 abbrev pub invariant-write_rows-loop-t : goal.invariant-write_rows-loop-t
 invariant-write_rows-loop-t l = string_bytes l.out ++ rows_literal l.later (pack_rows (drop l.t-index l.rows)) ≡ string_bytes l.initial.out ++ rows_literal false (pack_rows l.rows)

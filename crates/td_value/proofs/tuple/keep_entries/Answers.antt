@@ -1,8 +1,8 @@
 use Rattle.std.proofs.Common.{◌≡◌, ◌∙◌, ◌++◌, [], ◌∷◌, ap, sym, arith, subst, length, drop, filter, get_or, append-nil, List, ℕ, Bool, ◌≤◌}
 use Rattle.std.proofs.lemmas.List.{drop_all, length_push}
 use Rattle.td_types.specs.Headings.{has_name}
-use Rattle.td_value.specs.Values.{Val, Entries}
-use Rattle.td_value.specs.Views.{entries_of}
+use Rattle.td_value.specs.Values.{Val, Tuple}
+use Rattle.td_value.specs.Views.{tuple_view}
 use Rattle.td_value.proofs.Kept.{kept_no, kept_yes}
 use Rattle.td_value.proofs.tuple.keep_entries.Goals.{then-is_among+in_ok-keep_entry, else-is_among}
 use Rattle.td_value.proofs.tuple.keep_entries.Goals as goal
@@ -38,12 +38,12 @@ loop-v-preserved c =
     ]
 
 -- what the loop has kept is all that passes
-all_kept : (p : List ℕ × Val → Bool) (ns : List (List ℕ)) (vs : List Val) (i : ℕ) (kept : Entries) → length ns ≡ length vs → length vs ≤ i
-    → kept ++ filter p (entries_of (drop i ns) (drop i vs)) ≡ filter p (entries_of ns vs) → kept ≡ filter p (entries_of ns vs)
+all_kept : (p : List ℕ × Val → Bool) (ns : List (List ℕ)) (vs : List Val) (i : ℕ) (kept : Tuple) → length ns ≡ length vs → length vs ≤ i
+    → kept ++ filter p (tuple_view (drop i ns) (drop i vs)) ≡ filter p (tuple_view ns vs) → kept ≡ filter p (tuple_view ns vs)
 all_kept p ns vs i kept e k h = sym (append-nil kept) ∙ rw (drop_all i ns (omega (arith, e, k))) at h
 
 pub returns : goal.returns
 returns c =
     let p = λ (e : List ℕ × Val). has_name e.0 c.args.wanted.now in
-    let kept = all_kept p c.args.names.now c.args.values.now c.loop-v.place (entries_of c.loop-v.kept_names.items c.loop-v.kept_values.items) c.requires.same (omega (arith, c.loop-v.invariant.0, c.loop-v-test.false)) c.loop-v.invariant.2 in
+    let kept = all_kept p c.args.names.now c.args.values.now c.loop-v.place (tuple_view c.loop-v.kept_names.items c.loop-v.kept_values.items) c.requires.same (omega (arith, c.loop-v.invariant.0, c.loop-v-test.false)) c.loop-v.invariant.2 in
     record { lengths = c.loop-v.invariant.1; kept = kept }

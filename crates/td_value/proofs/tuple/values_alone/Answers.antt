@@ -2,15 +2,15 @@ use Rattle.std.proofs.Common.{◌∙◌, ◌∷◌, ◌++◌, [], ap, sym, subst
 use Rattle.std.proofs.lemmas.List.{map-append, map-id}
 use Rattle.std.proofs.lemmas.Iterator.Adapters.{YieldsList-from_vec}
 use Rattle.std.proofs.lemmas.Iterator.Consumers.{YieldsList-end}
-use Rattle.td_value.specs.Values.{AreFields, Entries, IsValue, pack_fields}
+use Rattle.td_value.specs.Values.{AreFields, Tuple, IsValue, pack_fields}
 use Rattle.td_value.specs.Views.{values_of}
 use Rattle.td_value.proofs.Zips.{AreFields-push}
 use Rattle.td_value.proofs.tuple.values_alone.Goals as goal
 
 pub loop-name-preserved : goal.loop-name-preserved
 loop-name-preserved c =
-    let more : Entries = (c.in-Some.name, c.in-Some.value) ∷ [] in
-    let es : Entries = c.loop-name.yielded in (
+    let more : Tuple = (c.in-Some.name, c.in-Some.value) ∷ [] in
+    let es : Tuple = c.loop-name.yielded in (
       c.in_ok-put.ensures ∙ ap (λ vs. vs ++ c.in-Some.value ∷ []) c.loop-name.invariant.0 ∙ sym (map-append (λ e. e.1) es more),
       AreFields-push es c.in-Some.name c.in-Some.value c.loop-name.invariant.1 c.as_str.ensures.is_name (subst IsValue c.value.view_is c.value.invariant),
     )

@@ -7,15 +7,15 @@ use Rattle.td_types.specs.Types as types
 use Rattle.td_types.specs.Types.{Type', pack}
 use Rattle.td_types.specs.Views as heads
 use Rattle.td_types.specs.Headings.{with_attribute}
-use Rattle.td_value.specs.Values.{Val, IsTuple, heading_of, names_of, type_of}
+use Rattle.td_value.specs.Values.{Val, IsTuple, heading_of, tuple_names, type_of}
 use Rattle.td_value.specs.ValueCode.{unpack_pack_fields}
-use Rattle.td_value.specs.Views.{entries_of, node_value}
+use Rattle.td_value.specs.Views.{tuple_view, node_view}
 use Rattle.td_value.proofs.Zips.{zip_names}
 use Rattle.td_value.proofs.HeadingOf.{fields_type-heading, heading_more}
 use Rattle.td_value.proofs.types.+find.Goals as goal
 
-ascending : (ns : List (List ℕ)) (vs : List Val) → length ns ≡ length vs → IsTuple (entries_of ns vs) → IsStrictlySortedBy (slice_cmp nat_cmp) ns
-ascending ns vs e h = subst (IsStrictlySortedBy (slice_cmp nat_cmp)) (ap names_of (unpack_pack_fields (entries_of ns vs)) ∙ zip_names ns vs e) h.1
+ascending : (ns : List (List ℕ)) (vs : List Val) → length ns ≡ length vs → IsTuple (tuple_view ns vs) → IsStrictlySortedBy (slice_cmp nat_cmp) ns
+ascending ns vs e h = subst (IsStrictlySortedBy (slice_cmp nat_cmp)) (ap tuple_names (unpack_pack_fields (tuple_view ns vs)) ∙ zip_names ns vs e) h.1
 
 -- what is made of a type that was found
 from_found : {X Y E : Type 0} (r : Result X E) (t : X → Type') (h : Y) (f : Type' → Y) (x : Type') → IsOk r → IfOk r (λ y. h ≡ f (t y)) → IfOk r (λ y. t y ≡ x) → h ≡ f x
@@ -27,11 +27,11 @@ entries_heading-loop-v-preserved t c =
     let more = heading_more c.args.names.now c.args.values.now c.loop-v.place c.index-names-place.result c.v-item.result c.requires.same (omega (arith, c.loop-v.invariant.0, c.loop-v-test.true))
     c.index-names-place.is (subst (λ k. c.v-item.result ≡ get_or c.args.values.now k c.v-item.result) (sym c.loop-v.invariant.0) c.v-item.is) (ascending _ _ c.requires.same c.requires.valid) in (
       omega (arith, c.loop-v.invariant.0),
-      from_found c.find_type.result heads.type_of _ (λ t. with_attribute c.loop-v.heading (c.index-names-place.result, t)) _ c.in_ok-heading.ensures.found c.in_ok-heading.ensures.more c.find_type.ensures
+      from_found c.find_type.result heads.type_view _ (λ t. with_attribute c.loop-v.heading (c.index-names-place.result, t)) _ c.in_ok-heading.ensures.found c.in_ok-heading.ensures.more c.find_type.ensures
           ∙ ap (λ h. with_attribute h (c.index-names-place.result, type_of c.v-item.result)) c.loop-v.invariant.1 ∙ more,
     )
 
 pub find_type-returns-in_ok-find_heading-in-Tup : goal.find_type-returns-in_ok-find_heading-in-Tup
 find_type-returns-in_ok-find_heading-in-Tup t c =
     ap (λ h. types.tuple (pack h)) (c.in_ok-find_heading-in-Tup.ensures ∙ ap heading_of c.deref-in-Tup.ensures)
-    ∙ ap types.tuple (sym (fields_type-heading c.in-Tup.t.value)) ∙ ap type_of (sym (ap node_value c.in-Tup.is) ∙ c.v.view_is)
+    ∙ ap types.tuple (sym (fields_type-heading c.in-Tup.t.value)) ∙ ap type_of (sym (ap node_view c.in-Tup.is) ∙ c.v.view_is)

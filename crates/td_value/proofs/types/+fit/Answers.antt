@@ -5,7 +5,7 @@ use Rattle.std.specs.Cmp.Lexicographic.{slice_cmp, texts_ties}
 use Rattle.td_types.specs.Types.{type_cmp}
 use Rattle.td_types.specs.Views as heads
 use Rattle.td_value.specs.Values.{type_of}
-use Rattle.td_value.specs.Views.{node_value}
+use Rattle.td_value.specs.Views.{node_view}
 use Rattle.td_value.proofs.Headed.{fits_more, fits_short, fits_end}
 use Rattle.td_value.proofs.types.+fit.Goals as goal
 
@@ -32,9 +32,9 @@ both_right x a b d e p q = e ∙ rw (p, q) refl
 
 pub has_type-returns-in-User-User : goal.has_type-returns-in-User-User
 has_type-returns-in-User-User t c =
-    let value = sym c.v.view_is ∙ ap node_value c.in-User-User.is-0 in
+    let value = sym c.v.view_is ∙ ap node_view c.in-User-User.is-0 in
     c.eq.ensures ∙ texts_ties c.name.result.now c.in-User-User.name ∙ ap (λ n. is_eq (slice_cmp nat_cmp n c.in-User-User.name)) (c.name.ensures ∙ ap (λ u. u.name) c.deref.ensures)
-    ∙ sym (λ i. eq_by_cmp type_cmp (type_of (value i)) (heads.type_of (c.in-User-User.is-1 i)))
+    ∙ sym (λ i. eq_by_cmp type_cmp (type_of (value i)) (heads.type_view (c.in-User-User.is-1 i)))
 
 pub entries_have_heading-returns-in_default : goal.entries_have_heading-returns-in_default
 entries_have_heading-returns-in_default t c =

@@ -5,9 +5,9 @@ use Rattle.std.specs.Ordering.{is_lt}
 use Rattle.std.specs.Prelude.{Some}
 use Rattle.std.proofs.lemmas.List.Elements.{All-contains_itself}
 use Rattle.std.proofs.lemmas.Option.{get_or_from_slice_get, slice_get_within}
-use Rattle.td_value.specs.Values.{Entries, IsTupleOf, names_of}
+use Rattle.td_value.specs.Values.{Tuple, IsTupleOf, tuple_names}
 use Rattle.td_value.proofs.Rows.{HaveSameNames-from}
-use Rattle.td_types.specs.Types.{Attributes}
+use Rattle.td_types.specs.Types.{Heading}
 use Rattle.td.specs.Database.{key_holds}
 use Rattle.td.specs.KeyParts.{by_places, places_from, values_at}
 use Rattle.td.proofs.Apart.{apart_falling, apart_permuted, apart_rising}
@@ -15,19 +15,19 @@ use Rattle.td.proofs.KeyParts.{apart_at, apart_at-key, found_order, found_order_
 use Rattle.td.proofs.engine.keys.key_holds.Goals as goal
 
 -- the rows of a relation have the names of the first
-names_all : (h : Attributes) (rows : List Entries) (first : Entries) → All (IsTupleOf h) rows → slice_get rows 0 ≡ Some first → All (λ t. names_of t ≡ names_of first) rows
+names_all : (h : Heading) (rows : List Tuple) (first : Tuple) → All (IsTupleOf h) rows → slice_get rows 0 ≡ Some first → All (λ t. tuple_names t ≡ tuple_names first) rows
 names_all h rows first headed is = λ k d l.
     HaveSameNames-from h rows headed (get_or rows k d) first (All-contains_itself rows k d l) (0, slice_get_within rows 0 first is, get_or_from_slice_get rows 0 first first is)
 
 -- what ascends at the key's places has no two that agree on the key
-is_apart : (key ns : List (List ℕ)) (rows : List Entries) (places : List ℕ) (b : Bool) → places ≡ places_from 0 key ns → All (λ t. names_of t ≡ ns) rows
+is_apart : (key ns : List (List ℕ)) (rows : List Tuple) (places : List ℕ) (b : Bool) → places ≡ places_from 0 key ns → All (λ t. tuple_names t ≡ ns) rows
     → IsAllAdjacentAnswer (λ s t b. b ≡ is_lt (by_places places s t)) rows b → b ≡ true → true ≡ key_holds key rows
 is_apart key ns rows places true is names h e =
     sym (apart_rising found_order found_order_total (values_at places) rows h) ∙ ap (λ ps. apart_at ps rows) is ∙ apart_at-key key ns rows names
 is_apart key ns rows places false is names h e = cc
 
 -- what is sorted at them does not ascend where two agree
-sorted_apart : (key ns : List (List ℕ)) (rows sorted : List Entries) (places : List ℕ) (b : Bool) → places ≡ places_from 0 key ns → All (λ t. names_of t ≡ ns) rows
+sorted_apart : (key ns : List (List ℕ)) (rows sorted : List Tuple) (places : List ℕ) (b : Bool) → places ≡ places_from 0 key ns → All (λ t. tuple_names t ≡ ns) rows
     → IsPermutation rows sorted → IsSortedBy (λ s t. is_lt (by_places places s t)) sorted
     → IsAllAdjacentAnswer (λ s t b. b ≡ is_lt (by_places places s t)) sorted b → b ≡ key_holds key rows
 sorted_apart key ns rows sorted places b is names p up h =
@@ -39,24 +39,24 @@ sorted_apart key ns rows sorted places b is names p up h =
 
 pub returns-then-ascend_at : goal.returns-then-ascend_at
 returns-then-ascend_at c =
-    let rows = c.args.body.now.rows in
+    let rows = c.args.value.now.body in
     let first = c.in-Some.first.now in
     let is_first = subst (λ rs. slice_get rs 0 ≡ Some first) c.rows-rows.ensures.rows (sym c.in-Some.ensures.value) in
-    let names = names_all c.args.body.now.heading rows first c.rows-rows.ensures.headed is_first in
+    let names = names_all c.args.value.now.heading rows first c.rows-rows.ensures.headed is_first in
     let places = c.deref.ensures.value ∙ c.in_ok-places.ensures ∙ ap (places_from 0 c.args.key.now) c.names.ensures.names in
-    is_apart c.args.key.now (names_of first) rows c.deref.result.now c.ascend_at.result places names
+    is_apart c.args.key.now (tuple_names first) rows c.deref.result.now c.ascend_at.result places names
     (subst (λ rs. IsAllAdjacentAnswer (λ s t b. b ≡ is_lt (by_places c.deref.result.now s t)) rs c.ascend_at.result) c.rows-rows.ensures.rows c.ascend_at.ensures) c.if-ascend_at.true
 
 pub returns : goal.returns
 returns c =
-    let rows = c.args.body.now.rows in
+    let rows = c.args.value.now.body in
     let first = c.in-Some.first.now in
     let is_first = subst (λ rs. slice_get rs 0 ≡ Some first) c.rows-rows.ensures.rows (sym c.in-Some.ensures.value) in
-    let names = names_all c.args.body.now.heading rows first c.rows-rows.ensures.headed is_first in
+    let names = names_all c.args.value.now.heading rows first c.rows-rows.ensures.headed is_first in
     let places = c.in_ok-places.places.items in
     let is = c.in_ok-places.ensures ∙ ap (places_from 0 c.args.key.now) c.names.ensures.names in
     let sorted = c.in_ok-sorted.sorted.items in
     let up = subst (λ ps. IsSortedBy (λ s t. is_lt (by_places ps s t)) sorted) c.deref-2.ensures.value c.in_ok-sorted.ensures.sorted in
     let here = subst (λ ps. IsAllAdjacentAnswer (λ s t b. b ≡ is_lt (by_places ps s t)) c.deref-4.result.now c.ascend_at-2.result) c.deref-3.ensures.value c.ascend_at-2.ensures in
-    sorted_apart c.args.key.now (names_of first) rows sorted places c.ascend_at-2.result is names c.in_ok-sorted.ensures.permutation up
+    sorted_apart c.args.key.now (tuple_names first) rows sorted places c.ascend_at-2.result is names c.in_ok-sorted.ensures.permutation up
     (subst (λ ts. IsAllAdjacentAnswer (λ s t b. b ≡ is_lt (by_places places s t)) ts c.ascend_at-2.result) c.deref-4.ensures.value here)

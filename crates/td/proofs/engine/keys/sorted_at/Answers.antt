@@ -10,7 +10,7 @@ use Rattle.td.proofs.engine.keys.sorted_at.Goals as goal
 
 pub returns-clause-permutation : goal.returns-clause-permutation
 returns-clause-permutation c =
-    subst (λ ts. IsPermutation ts c.sort_unstable_by.new.self.items) (c.in_ok-tuples.ensures.rows ∙ ap (λ (r : Relation). r.rows) c.in_ok-try_clone.ensures) c.sort_unstable_by.ensures.permutation
+    subst (λ ts. IsPermutation ts c.sort_unstable_by.new.self.items) (c.in_ok-tuples.ensures.rows ∙ ap (λ (r : Relation). r.body) c.in_ok-try_clone.ensures) c.sort_unstable_by.ensures.permutation
 
 pub returns-clause-sorted : goal.returns-clause-sorted
 returns-clause-sorted c =

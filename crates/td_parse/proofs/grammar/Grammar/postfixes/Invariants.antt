@@ -1,11 +1,11 @@
 use Rattle.std.proofs.Common.{◌≡◌, ◌-◌, suc}
 use Rattle.td_parse.specs.Reading as reading
 use Rattle.td_parse.specs.Reading.{read}
-use Rattle.td_tree.specs.TreeViews.{tree_of}
+use Rattle.td_tree.specs.TreeViews.{tree_view}
 use Rattle.td_parse.proofs.grammar.Grammar.postfixes.Given as goal
 
 -- what is left goes on from the operand so far
 abbrev pub invariant-loop-turn : goal.invariant-loop-turn
 invariant-loop-turn g l =
-    reading.postfixes (read l.self.depth) l.self.depth (suc l.self.depth) (tree_of l.fn.first) l.fn.tokens
-    ≡ reading.postfixes (read l.self.depth) l.self.depth (l.limit - l._turn) (tree_of l.left) l.tokens
+    reading.postfixes (read l.self.depth) l.self.depth (suc l.self.depth) (tree_view l.fn.first) l.fn.tokens
+    ≡ reading.postfixes (read l.self.depth) l.self.depth (l.limit - l._turn) (tree_view l.left) l.tokens

@@ -1,17 +1,17 @@
 use Rattle.std.proofs.Common.{refl}
 use Rattle.td_parse.proofs.Separated.{begins, ends, goes_on, ran_out}
-use Rattle.td_parse.specs.FoundSummaries.{summary_of}
-use Rattle.td_parse.specs.Views.{item_of}
+use Rattle.td_parse.specs.FoundSummaries.{summary_view}
+use Rattle.td_parse.specs.Views.{item_view}
 use Rattle.td_parse.proofs.grammar.Grammar.some_summaries.Goals as goal
 
 pub loop-turn-init : goal.loop-turn-init
-loop-turn-init g c = begins _ item_of _ _ _ c.turns-limit.ensures c.new-items.ensures
+loop-turn-init g c = begins _ item_view _ _ _ c.turns-limit.ensures c.new-items.ensures
 
 pub loop-turn-preserved : goal.loop-turn-preserved
-loop-turn-preserved g c = goes_on _ item_of _ _ _ _ _ (summary_of c.in_ok-summary.field-0) _ _ _ c.loop-turn-test.true c.loop-turn.invariant c.in_ok-summary.ensures c.if-not-sign.ensures c.in_ok-push.ensures
+loop-turn-preserved g c = goes_on _ item_view _ _ _ _ _ (summary_view c.in_ok-summary.field-0) _ _ _ c.loop-turn-test.true c.loop-turn.invariant c.in_ok-summary.ensures c.if-not-sign.ensures c.in_ok-push.ensures
 
 pub returns-then-not-sign : goal.returns-then-not-sign
-returns-then-not-sign g c = ends _ item_of _ _ _ _ _ (summary_of c.in_ok-summary.field-0) _ _ _ c.loop-turn-test.true c.loop-turn.invariant c.in_ok-summary.ensures c.if-not-sign.ensures c.in_ok-push.ensures
+returns-then-not-sign g c = ends _ item_view _ _ _ _ _ (summary_view c.in_ok-summary.field-0) _ _ _ c.loop-turn-test.true c.loop-turn.invariant c.in_ok-summary.ensures c.if-not-sign.ensures c.in_ok-push.ensures
 
 pub returns : goal.returns
-returns g c = (ran_out _ item_of _ _ _ _ _ c.loop-turn-test.false c.loop-turn.invariant, refl)
+returns g c = (ran_out _ item_view _ _ _ _ _ c.loop-turn-test.false c.loop-turn.invariant, refl)

@@ -1,7 +1,7 @@
 use Rattle.std.proofs.Common.{◌≡◌, drop}
 use Rattle.td_types.specs.Headings.{agree}
-use Rattle.td_types.specs.Views.{attributes_of}
+use Rattle.td_types.specs.Views.{heading_view}
 use Rattle.td_types.proofs.heading.Heading.agrees_with.Given as goal
 
 abbrev pub invariant-loop-attribute : goal.invariant-loop-attribute
-invariant-loop-attribute l = agree (attributes_of (drop l.attribute-index l.attribute-items)) l.other ≡ agree l.self l.other
+invariant-loop-attribute l = agree (heading_view (drop l.attribute-index l.attribute-items)) l.other ≡ agree l.self l.other

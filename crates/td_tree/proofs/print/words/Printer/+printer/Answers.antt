@@ -9,41 +9,41 @@ use Rattle.td_tree.specs.Grammar.{aggregate_word}
 use Rattle.td_tree.specs.Lexemes.{Lexeme, keyword, name, sign}
 use Rattle.td_tree.specs.Lists.{braced, parenthesized}
 use Rattle.td_tree.specs.Prints.{addition_lexemes, all_lexemes, as_lexemes, attributes_lexemes, commas, heading_lexemes, lexemes_of, part_lexemes, summary_lexemes}
-use Rattle.td_tree.specs.TreeViews.{attributes_of, heading_of, named_of, summaries_of, tree_of, trees_of}
-use Rattle.td_tree.specs.Written.{comma_if, written}
+use Rattle.td_tree.specs.TreeViews.{attributes_view, heading_tree_view, named_view, summaries_view, tree_view, trees_view}
+use Rattle.td_tree.specs.Written.{comma_lexeme_if, written}
 use Rattle.td_tree.proofs.print.words.Printer.+printer.Goals as goal
 
 -- ---- loops
 
 pub additions-loop-part-preserved : goal.additions-loop-part-preserved
 additions-loop-part-preserved t c =
-    let value = lexemes_of (tree_of c.part-item.result.value) in
+    let value = lexemes_of (tree_view c.part-item.result.value) in
     let alias = as_lexemes c.part-item.result.name in
-    item_put (λ ps. addition_lexemes (named_of ps)) (λ p. lexemes_of (tree_of p.value) ++ as_lexemes p.name) (λ x r. refl) c.args.parts.now c.loop-part.part-index
+    item_put (λ ps. addition_lexemes (named_view ps)) (λ p. lexemes_of (tree_view p.value) ++ as_lexemes p.name) (λ x r. refl) c.args.parts.now c.loop-part.part-index
     c.part-item.result c.loop-part.out c.in_ok-out-2.out _ c.loop-part.later c.loop-part-test.true c.part-item.is
-    (both_put c.loop-part.out c.in_ok-comma.field-0 c.in_ok-out-2.out (comma_if c.loop-part.later) (value ++ alias) c.in_ok-comma.ensures
+    (both_put c.loop-part.out c.in_ok-comma.field-0 c.in_ok-out-2.out (comma_lexeme_if c.loop-part.later) (value ++ alias) c.in_ok-comma.ensures
     (both_put c.in_ok-comma.field-0 c.in_ok-expr.field-0 c.in_ok-out-2.out value alias c.in_ok-expr.ensures c.in_ok-out-2.ensures))
     c.loop-part.invariant
 
 -- the lexemes of one summary
 abbrev one_summary : Summary → List Lexeme
-one_summary x = commas (summary_lexemes (summaries_of (x ∷ [])))
+one_summary x = commas (summary_lexemes (summaries_view (x ∷ [])))
 
-summary_first : (x : Summary) (r : List Summary) → summary_lexemes (summaries_of (x ∷ r)) ≡ one_summary x ∷ summary_lexemes (summaries_of r)
+summary_first : (x : Summary) (r : List Summary) → summary_lexemes (summaries_view (x ∷ r)) ≡ one_summary x ∷ summary_lexemes (summaries_view r)
 summary_first (s.Count n) r = refl
 summary_first (s.Of op value n) r =
-    ap (λ item. item ∷ summary_lexemes (summaries_of r)) (sym (append-nil (keyword (aggregate_word op) ∷ (parenthesized (lexemes_of (tree_of value)) ++ as_lexemes n))))
+    ap (λ item. item ∷ summary_lexemes (summaries_view r)) (sym (append-nil (keyword (aggregate_word op) ∷ (parenthesized (lexemes_of (tree_view value)) ++ as_lexemes n))))
 
 pub summaries-loop-summary-preserved : goal.summaries-loop-summary-preserved
 summaries-loop-summary-preserved t c =
-    item_put (λ ss. summary_lexemes (summaries_of ss)) one_summary summary_first c.args.added.now c.loop-summary.summary-index
+    item_put (λ ss. summary_lexemes (summaries_view ss)) one_summary summary_first c.args.added.now c.loop-summary.summary-index
     c.summary-item.result c.loop-summary.out c.in_ok-out-2.out _ c.loop-summary.later c.loop-summary-test.true c.summary-item.is
-    (both_put c.loop-summary.out c.in_ok-comma.field-0 c.in_ok-out-2.out (comma_if c.loop-summary.later) (one_summary c.summary-item.result) c.in_ok-comma.ensures c.in_ok-out-2.ensures)
+    (both_put c.loop-summary.out c.in_ok-comma.field-0 c.in_ok-out-2.out (comma_lexeme_if c.loop-summary.later) (one_summary c.summary-item.result) c.in_ok-comma.ensures c.in_ok-out-2.ensures)
     c.loop-summary.invariant
 
 pub summary-returns-in_ok-parenthesized-in-Of : goal.summary-returns-in_ok-parenthesized-in-Of
 summary-returns-in_ok-parenthesized-in-Of t c =
-    let value = parenthesized (lexemes_of (tree_of c.in-Of.value)) in
+    let value = parenthesized (lexemes_of (tree_view c.in-Of.value)) in
     let alias = as_lexemes c.in-Of.name in
     last_put c.alias-in-Of.result c.args.self c.in_ok-keyword-in-Of.field-0 (keyword (aggregate_word c.in-Of.op) ∷ []) (value ++ alias) (one_summary c.args.summary.now)
     (sym (append-nil (keyword (aggregate_word c.in-Of.op) ∷ (value ++ alias))) ∙ ap one_summary (sym c.in-Of.is))
@@ -64,61 +64,61 @@ summary-returns-in_ok-sign-in-Count t c =
 
 pub expr-returns-in_ok-name-in-Select : goal.expr-returns-in_ok-name-in-Select
 expr-returns-in_ok-name-in-Select t c =
-    last_put c.arguments.result _ _ (name c.in-Select.ty ∷ []) (parenthesized (commas (all_lexemes (trees_of c.deref-in-Select.result.now)))) _
-    (ap (λ d. name c.in-Select.ty ∷ parenthesized (commas (all_lexemes (trees_of d)))) c.deref-in-Select.ensures.value
-    ∙ sym (ap lexemes_of (ap tree_of c.in-Select.is ∙ select_is c.in-Select.ty c.in-Select.arguments)))
+    last_put c.arguments.result _ _ (name c.in-Select.ty ∷ []) (parenthesized (commas (all_lexemes (trees_view c.deref-in-Select.result.now)))) _
+    (ap (λ d. name c.in-Select.ty ∷ parenthesized (commas (all_lexemes (trees_view d)))) c.deref-in-Select.ensures.value
+    ∙ sym (ap lexemes_of (ap tree_view c.in-Select.is ∙ select_is c.in-Select.ty c.in-Select.arguments)))
     c.in_ok-name-in-Select.ensures c.arguments.ensures
 
 pub expr-returns-in_ok-keyword-in-Relation : goal.expr-returns-in_ok-keyword-in-Relation
 expr-returns-in_ok-keyword-in-Relation t c =
-    last_put c.elements.result _ _ (keyword k.Relation ∷ []) (braced (commas (all_lexemes (trees_of c.deref-in-Relation.result.now)))) _
-    (ap (λ d. keyword k.Relation ∷ braced (commas (all_lexemes (trees_of d)))) c.deref-in-Relation.ensures.value
-    ∙ sym (ap lexemes_of (ap tree_of c.in-Relation.is ∙ relation_is c.in-Relation.elements)))
+    last_put c.elements.result _ _ (keyword k.Relation ∷ []) (braced (commas (all_lexemes (trees_view c.deref-in-Relation.result.now)))) _
+    (ap (λ d. keyword k.Relation ∷ braced (commas (all_lexemes (trees_view d)))) c.deref-in-Relation.ensures.value
+    ∙ sym (ap lexemes_of (ap tree_view c.in-Relation.is ∙ relation_is c.in-Relation.elements)))
     c.in_ok-keyword-in-Relation.ensures c.elements.ensures
 
 pub expr-returns-in_ok-keyword-in-Tuple : goal.expr-returns-in_ok-keyword-in-Tuple
 expr-returns-in_ok-keyword-in-Tuple t c =
-    last_put c.parts.result _ _ (keyword k.Tuple ∷ []) (braced (commas (part_lexemes (named_of c.deref-in-Tuple.result.now)))) _
-    (ap (λ d. keyword k.Tuple ∷ braced (commas (part_lexemes (named_of d)))) c.deref-in-Tuple.ensures.value
-    ∙ sym (ap lexemes_of (ap tree_of c.in-Tuple.is ∙ tuple_is c.in-Tuple.parts)))
+    last_put c.parts.result _ _ (keyword k.Tuple ∷ []) (braced (commas (part_lexemes (named_view c.deref-in-Tuple.result.now)))) _
+    (ap (λ d. keyword k.Tuple ∷ braced (commas (part_lexemes (named_view d)))) c.deref-in-Tuple.ensures.value
+    ∙ sym (ap lexemes_of (ap tree_view c.in-Tuple.is ∙ tuple_is c.in-Tuple.parts)))
     c.in_ok-keyword-in-Tuple.ensures c.parts.ensures
 
 pub expr-returns-in_ok-relation_type-in-HeadedRelation : goal.expr-returns-in_ok-relation_type-in-HeadedRelation
 expr-returns-in_ok-relation_type-in-HeadedRelation t c =
-    last_put c.elements-in-HeadedRelation.result _ _ (keyword k.Relation ∷ heading_lexemes (heading_of c.deref-in-HeadedRelation.result.now))
-    (braced (commas (all_lexemes (trees_of c.deref-in-HeadedRelation-2.result.now)))) _
+    last_put c.elements-in-HeadedRelation.result _ _ (keyword k.Relation ∷ heading_lexemes (heading_tree_view c.deref-in-HeadedRelation.result.now))
+    (braced (commas (all_lexemes (trees_view c.deref-in-HeadedRelation-2.result.now)))) _
     ((cc (c.deref-in-HeadedRelation.ensures.value, c.deref-in-HeadedRelation-2.ensures.value))
-    ∙ sym (ap lexemes_of (ap tree_of c.in-HeadedRelation.is ∙ headed_relation_is c.in-HeadedRelation.heading c.in-HeadedRelation.elements)))
+    ∙ sym (ap lexemes_of (ap tree_view c.in-HeadedRelation.is ∙ headed_relation_is c.in-HeadedRelation.heading c.in-HeadedRelation.elements)))
     c.in_ok-relation_type-in-HeadedRelation.ensures c.elements-in-HeadedRelation.ensures
 
 pub expr-returns-in_ok-after-in-Extend : goal.expr-returns-in_ok-after-in-Extend
 expr-returns-in_ok-after-in-Extend t c =
-    last_put c.additions.result _ _ (keyword k.Extend ∷ lexemes_of (tree_of c.deref-in-Extend.result.now))
-    (keyword k.Add ∷ parenthesized (commas (addition_lexemes (named_of c.deref-in-Extend-2.result.now)))) _
+    last_put c.additions.result _ _ (keyword k.Extend ∷ lexemes_of (tree_view c.deref-in-Extend.result.now))
+    (keyword k.Add ∷ parenthesized (commas (addition_lexemes (named_view c.deref-in-Extend-2.result.now)))) _
     ((cc (c.deref-in-Extend.ensures, c.deref-in-Extend-2.ensures.value))
-    ∙ sym (ap lexemes_of (ap tree_of c.in-Extend.is ∙ extend_is c.in-Extend.operand c.in-Extend.parts)))
+    ∙ sym (ap lexemes_of (ap tree_view c.in-Extend.is ∙ extend_is c.in-Extend.operand c.in-Extend.parts)))
     c.in_ok-after-in-Extend.ensures c.additions.ensures
 
 pub expr-returns-in_ok-per-in-SummarizePer : goal.expr-returns-in_ok-per-in-SummarizePer
 expr-returns-in_ok-per-in-SummarizePer t c =
-    let first = keyword k.Summarize ∷ lexemes_of (tree_of c.deref-in-SummarizePer.result.now) in
-    let per = keyword k.Per ∷ parenthesized (lexemes_of (tree_of c.deref-in-SummarizePer-2.result.now)) in
-    let added = keyword k.Add ∷ parenthesized (commas (summary_lexemes (summaries_of c.deref-in-SummarizePer-3.result.now))) in
+    let first = keyword k.Summarize ∷ lexemes_of (tree_view c.deref-in-SummarizePer.result.now) in
+    let per = keyword k.Per ∷ parenthesized (lexemes_of (tree_view c.deref-in-SummarizePer-2.result.now)) in
+    let added = keyword k.Add ∷ parenthesized (commas (summary_lexemes (summaries_view c.deref-in-SummarizePer-3.result.now))) in
     last_put c.summaries.result c.args.self c.in_ok-out-in-SummarizePer.out first (per ++ added) _
     ((cc (c.deref-in-SummarizePer.ensures, c.deref-in-SummarizePer-2.ensures, c.deref-in-SummarizePer-3.ensures.value))
-    ∙ sym (ap lexemes_of (ap tree_of c.in-SummarizePer.is ∙ summarize_per_is c.in-SummarizePer.operand c.in-SummarizePer.per c.in-SummarizePer.added)))
+    ∙ sym (ap lexemes_of (ap tree_view c.in-SummarizePer.is ∙ summarize_per_is c.in-SummarizePer.operand c.in-SummarizePer.per c.in-SummarizePer.added)))
     c.in_ok-out-in-SummarizePer.ensures
     (last_put c.summaries.result c.in_ok-out-in-SummarizePer.out c.in_ok-per-in-SummarizePer.field-0 per added (per ++ added) refl
     c.in_ok-per-in-SummarizePer.ensures c.summaries.ensures)
 
 pub expr-returns-in_ok-attributes-in-SummarizeBy : goal.expr-returns-in_ok-attributes-in-SummarizeBy
 expr-returns-in_ok-attributes-in-SummarizeBy t c =
-    let first = keyword k.Summarize ∷ lexemes_of (tree_of c.deref-in-SummarizeBy.result.now) in
-    let by = attributes_lexemes (attributes_of c.in-SummarizeBy.by) in
-    let added = keyword k.Add ∷ parenthesized (commas (summary_lexemes (summaries_of c.deref-in-SummarizeBy-2.result.now))) in
+    let first = keyword k.Summarize ∷ lexemes_of (tree_view c.deref-in-SummarizeBy.result.now) in
+    let by = attributes_lexemes (attributes_view c.in-SummarizeBy.by) in
+    let added = keyword k.Add ∷ parenthesized (commas (summary_lexemes (summaries_view c.deref-in-SummarizeBy-2.result.now))) in
     last_put c.summaries-in-SummarizeBy.result c.args.self c.in_ok-out-in-SummarizeBy.out first (keyword k.By ∷ (by ++ added)) _
     ((cc (c.deref-in-SummarizeBy.ensures, c.deref-in-SummarizeBy-2.ensures.value))
-    ∙ sym (ap lexemes_of (ap tree_of c.in-SummarizeBy.is ∙ summarize_by_is c.in-SummarizeBy.operand c.in-SummarizeBy.by c.in-SummarizeBy.added)))
+    ∙ sym (ap lexemes_of (ap tree_view c.in-SummarizeBy.is ∙ summarize_by_is c.in-SummarizeBy.operand c.in-SummarizeBy.by c.in-SummarizeBy.added)))
     c.in_ok-out-in-SummarizeBy.ensures
     (last_put c.summaries-in-SummarizeBy.result c.in_ok-out-in-SummarizeBy.out c.in_ok-keyword-in-SummarizeBy.field-0 (keyword k.By ∷ []) (by ++ added)
     (keyword k.By ∷ (by ++ added)) refl c.in_ok-keyword-in-SummarizeBy.ensures

@@ -1,11 +1,11 @@
 use Rattle.std.proofs.Common.{◌≡◌, ◌++◌, drop}
 use Rattle.td_tree.proofs.Writing.{listed}
 use Rattle.td_tree.specs.Prints.{attribute_lexemes, commas}
-use Rattle.td_tree.specs.TreeViews.{heading_of}
+use Rattle.td_tree.specs.TreeViews.{heading_tree_view}
 use Rattle.td_tree.specs.Written.{written}
 use Rattle.td_tree.proofs.print.words.Printer.+type_printer.Given as goal
 
 abbrev pub invariant-heading-loop-attribute : goal.invariant-heading-loop-attribute
 invariant-heading-loop-attribute l =
-    l.out ++ written (listed l.later (attribute_lexemes (heading_of (drop l.attribute-index l.heading))))
-    ≡ l.initial.out ++ written (commas (attribute_lexemes (heading_of l.heading)))
+    l.out ++ written (listed l.later (attribute_lexemes (heading_tree_view (drop l.attribute-index l.heading))))
+    ≡ l.initial.out ++ written (commas (attribute_lexemes (heading_tree_view l.heading)))

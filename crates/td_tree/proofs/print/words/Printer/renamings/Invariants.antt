@@ -1,11 +1,11 @@
 use Rattle.std.proofs.Common.{◌≡◌, ◌++◌, drop, map}
 use Rattle.td_tree.proofs.Writing.{listed}
 use Rattle.td_tree.specs.Prints.{commas, renaming_lexemes}
-use Rattle.td_tree.specs.TreeViews.{renaming_of}
+use Rattle.td_tree.specs.TreeViews.{renaming_view}
 use Rattle.td_tree.specs.Written.{written}
 use Rattle.td_tree.proofs.print.words.Printer.renamings.Given as goal
 
 abbrev pub invariant-loop-renaming : goal.invariant-loop-renaming
 invariant-loop-renaming l =
-    l.out ++ written (listed l.later (map renaming_lexemes (map renaming_of (drop l.renaming-index l.renamings))))
-    ≡ l.initial.out ++ written (commas (map renaming_lexemes (map renaming_of l.renamings)))
+    l.out ++ written (listed l.later (map renaming_lexemes (map renaming_view (drop l.renaming-index l.renamings))))
+    ≡ l.initial.out ++ written (commas (map renaming_lexemes (map renaming_view l.renamings)))
