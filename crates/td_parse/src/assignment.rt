@@ -76,7 +76,7 @@ fn settings(alloc: Global, tokens: &mut Cursor<'_, '_>) -> Result<Vec<NamedExpr>
 }
 
 /// `'(' (name ':=' e),+ ')'`
-#[tactic(auto, unfolding(crate::specs::ReadingSteps::enclosed, crate::specs::ReadingSteps::up_to))]
+#[tactic(auto, unfolding(crate::specs::ReadingSteps::enclosed, crate::specs::ReadingSteps::read_up_to))]
 fn enclosed_settings(alloc: Global, tokens: &mut Cursor<'_, '_>) -> Result<Vec<NamedExpr>, Fault>
     ensures { Moves (λ v. map named_part_view v.items) result tokens.new
         (enclosed (separated reading.setting) tokens.old) }

@@ -33,7 +33,7 @@ fn constraint(alloc: Global, tokens: &mut Cursor<'_, '_>) -> Result<Option<Expr>
 }
 
 /// `'(' e ')'`
-#[tactic(auto, unfolding(crate::specs::ReadingSteps::enclosed, crate::specs::ReadingSteps::up_to))]
+#[tactic(auto, unfolding(crate::specs::ReadingSteps::enclosed, crate::specs::ReadingSteps::read_up_to))]
 fn enclosed_expression(alloc: Global, tokens: &mut Cursor<'_, '_>) -> Result<Expr, Fault>
     ensures { Moves tree_view result tokens.new (enclosed reading.expression tokens.old) }
 {
@@ -86,7 +86,7 @@ fn components(alloc: Global, name: Name, tokens: &mut Cursor<'_, '_>) -> Result<
 }
 
 /// `name POSSREP '{' attr,+ [CONSTRAINT e] '}'`, after `TYPE`
-#[tactic(auto, unfolding(crate::specs::ReadingStatements::type_definition, crate::specs::ReadingSteps::up_to))]
+#[tactic(auto, unfolding(crate::specs::ReadingStatements::type_definition, crate::specs::ReadingSteps::read_up_to))]
 pub fn type_definition(alloc: Global, tokens: &mut Cursor<'_, '_>) -> Result<Statement, Fault>
     ensures { Moves statement_view result tokens.new (reading.type_definition tokens.old) }
 {

@@ -42,7 +42,7 @@ impl<F: Fn(Global, u8, Level, &mut Cursor<'_, '_>) -> Result<Found, Fault>> Gram
     }
 
     /// `e,*` and the sign that closes them.
-    #[tactic(auto, unfolding(crate::specs::ReadingSteps::listed_to, crate::specs::ReadingSteps::up_to))]
+    #[tactic(auto, unfolding(crate::specs::ReadingSteps::listed_to, crate::specs::ReadingSteps::read_up_to))]
     pub fn elements_to(&self, close: Sign, tokens: &mut Cursor<'_, '_>) -> Result<Elements, Fault>
         requires { Nests self.now.depth (F.pre self.now.inner) (F.post self.now.inner) }
         ensures { Moves (map tree_view) result tokens.new
@@ -88,7 +88,7 @@ impl<F: Fn(Global, u8, Level, &mut Cursor<'_, '_>) -> Result<Found, Fault>> Gram
     }
 
     /// `(name e),* '}'`
-    #[tactic(auto, unfolding(crate::specs::ReadingSteps::listed_to, crate::specs::ReadingSteps::up_to))]
+    #[tactic(auto, unfolding(crate::specs::ReadingSteps::listed_to, crate::specs::ReadingSteps::read_up_to))]
     pub fn parts_to_brace(&self, tokens: &mut Cursor<'_, '_>) -> Result<NamedParts, Fault>
         requires { Nests self.now.depth (F.pre self.now.inner) (F.post self.now.inner) }
         ensures { Moves (map named_part_view) result tokens.new
@@ -134,7 +134,7 @@ impl<F: Fn(Global, u8, Level, &mut Cursor<'_, '_>) -> Result<Found, Fault>> Gram
     }
 
     /// `'(' (e AS name),+ ')'`
-    #[tactic(auto, unfolding(crate::specs::ReadingSteps::enclosed, crate::specs::ReadingSteps::up_to))]
+    #[tactic(auto, unfolding(crate::specs::ReadingSteps::enclosed, crate::specs::ReadingSteps::read_up_to))]
     pub fn enclosed_additions(&self, tokens: &mut Cursor<'_, '_>) -> Result<NamedParts, Fault>
         requires { Nests self.now.depth (F.pre self.now.inner) (F.post self.now.inner) }
         ensures { Moves (map named_part_view) result tokens.new

@@ -51,7 +51,7 @@ fn some_names(alloc: Global, tokens: &mut Cursor<'_, '_>) -> Result<Vec<Name>, F
 }
 
 /// `name,* '}'`
-#[tactic(auto, unfolding(crate::specs::ReadingSteps::names_to_brace, crate::specs::ReadingSteps::listed_to, crate::specs::ReadingSteps::up_to))]
+#[tactic(auto, unfolding(crate::specs::ReadingSteps::names_to_brace, crate::specs::ReadingSteps::listed_to, crate::specs::ReadingSteps::read_up_to))]
 fn names_to_brace(alloc: Global, tokens: &mut Cursor<'_, '_>) -> Result<Vec<Name>, Fault>
     ensures { Moves (λ v. v.items) result tokens.new (reading.names_to_brace tokens.old) }
 {

@@ -32,7 +32,7 @@ pub fn begins_postfix(tokens: &Cursor<'_, '_>) -> bool
 }
 
 /// `'(' name ')'`
-#[tactic(auto, unfolding(crate::specs::ReadingSteps::enclosed, crate::specs::ReadingSteps::up_to))]
+#[tactic(auto, unfolding(crate::specs::ReadingSteps::enclosed, crate::specs::ReadingSteps::read_up_to))]
 fn enclosed_name(alloc: Global, tokens: &mut Cursor<'_, '_>) -> Result<Name, Fault>
     ensures { Moves (λ n. n) result tokens.new (enclosed read_name tokens.old) }
 {
@@ -42,7 +42,7 @@ fn enclosed_name(alloc: Global, tokens: &mut Cursor<'_, '_>) -> Result<Name, Fau
 }
 
 /// `'(' (name AS name),+ ')'`
-#[tactic(auto, unfolding(crate::specs::ReadingSteps::enclosed, crate::specs::ReadingSteps::up_to))]
+#[tactic(auto, unfolding(crate::specs::ReadingSteps::enclosed, crate::specs::ReadingSteps::read_up_to))]
 fn enclosed_renamings(alloc: Global, tokens: &mut Cursor<'_, '_>) -> Result<Vec<Renaming>, Fault>
     ensures { Moves (λ v. map renaming_view v.items) result tokens.new
         (enclosed (separated read_renaming) tokens.old) }
@@ -53,7 +53,7 @@ fn enclosed_renamings(alloc: Global, tokens: &mut Cursor<'_, '_>) -> Result<Vec<
 }
 
 /// `'(' attrs AS name ')'`
-#[tactic(auto, unfolding(crate::specs::ReadingSteps::enclosed, crate::specs::ReadingSteps::up_to, crate::specs::Reading::named_attributes))]
+#[tactic(auto, unfolding(crate::specs::ReadingSteps::enclosed, crate::specs::ReadingSteps::read_up_to, crate::specs::Reading::named_attributes))]
 fn enclosed_attributes(
     alloc: Global,
     tokens: &mut Cursor<'_, '_>,

@@ -57,7 +57,7 @@ fn negative(tokens: &mut Cursor<'_, '_>) -> Result<Found, Fault>
 
 impl<F: Fn(Global, u8, Level, &mut Cursor<'_, '_>) -> Result<Found, Fault>> Grammar<F> {
     /// `e` and the sign that closes it.
-    #[tactic(auto, unfolding(crate::specs::ReadingSteps::up_to))]
+    #[tactic(auto, unfolding(crate::specs::ReadingSteps::read_up_to))]
     pub fn up_to_sign(&self, close: Sign, tokens: &mut Cursor<'_, '_>) -> Result<Found, Fault>
         requires { Nests self.now.depth (F.pre self.now.inner) (F.post self.now.inner) }
         ensures { Moves tree_view result tokens.new
@@ -68,7 +68,7 @@ impl<F: Fn(Global, u8, Level, &mut Cursor<'_, '_>) -> Result<Found, Fault>> Gram
     }
 
     /// `e` and the word that closes it.
-    #[tactic(auto, unfolding(crate::specs::ReadingSteps::up_to))]
+    #[tactic(auto, unfolding(crate::specs::ReadingSteps::read_up_to))]
     fn up_to_word(&self, close: Keyword, tokens: &mut Cursor<'_, '_>) -> Result<Found, Fault>
         requires { Nests self.now.depth (F.pre self.now.inner) (F.post self.now.inner) }
         ensures { Moves tree_view result tokens.new
@@ -155,7 +155,7 @@ impl<F: Fn(Global, u8, Level, &mut Cursor<'_, '_>) -> Result<Found, Fault>> Gram
     }
 
     /// `'{' e,+ '}'`
-    #[tactic(auto, unfolding(crate::specs::Reading::elements, crate::specs::ReadingSteps::up_to))]
+    #[tactic(auto, unfolding(crate::specs::Reading::elements, crate::specs::ReadingSteps::read_up_to))]
     fn bare_relation(&self, tokens: &mut Cursor<'_, '_>) -> Result<Found, Fault>
         requires { Nests self.now.depth (F.pre self.now.inner) (F.post self.now.inner) }
         ensures { Moves tree_view result tokens.new

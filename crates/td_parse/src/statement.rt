@@ -65,7 +65,7 @@ fn body_or_none(alloc: Global, tokens: &mut Cursor<'_, '_>) -> Result<Statement,
 }
 
 /// The statement that all the tokens are.
-#[tactic(auto, unfolding(crate::specs::ReadingStatements::read_statement, crate::specs::ReadingSteps::up_to))]
+#[tactic(auto, unfolding(crate::specs::ReadingStatements::read_statement, crate::specs::ReadingSteps::read_up_to))]
 fn whole(alloc: Global, tokens: &[Token<'_>]) -> Result<Statement, Fault>
     ensures { Gives statement_view result (read_statement (lexemes tokens.now)) }
 {

@@ -109,7 +109,7 @@ impl<F: Fn(Global, u8, Level, &mut Cursor<'_, '_>) -> Result<Found, Fault>> Gram
     }
 
     /// `ADD '(' item,+ ')'`
-    #[tactic(auto, unfolding(crate::specs::Reading::summaries, crate::specs::ReadingSteps::enclosed, crate::specs::ReadingSteps::up_to))]
+    #[tactic(auto, unfolding(crate::specs::Reading::summaries, crate::specs::ReadingSteps::enclosed, crate::specs::ReadingSteps::read_up_to))]
     fn summaries(&self, tokens: &mut Cursor<'_, '_>) -> Result<Summaries, Fault>
         requires { Nests self.now.depth (F.pre self.now.inner) (F.post self.now.inner) }
         ensures { Moves (λ s. summaries_from (map item_view s)) result tokens.new

@@ -74,7 +74,7 @@ fn type_of_word(
 
 /// `'{' (name type),* '}'`, of types at most so high
 #[cycle(types)]
-#[tactic(auto, unfolding(crate::specs::ReadingTypes::heading, crate::specs::ReadingSteps::listed_to, crate::specs::ReadingSteps::up_to), using(crate::proofs::Views::attributes_from_of))]
+#[tactic(auto, unfolding(crate::specs::ReadingTypes::heading, crate::specs::ReadingSteps::listed_to, crate::specs::ReadingSteps::read_up_to), using(crate::proofs::Views::attributes_from_of))]
 fn heading(
     alloc: Global,
     depth: u8,
