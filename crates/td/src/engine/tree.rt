@@ -69,7 +69,7 @@ pub enum Statement {
 
 impl Expression {
     /// An operand alone.
-    #[tactic(auto, unfolding(crate::specs::TreeViews::expression_of))]
+    #[tactic(auto, unfolding(crate::specs::TreeViews::expression_view))]
     pub fn single(alloc: Global, first: Operand) -> Expression
         ensures { expression_view result ≡ spec.single (operand_view first) }
     {
@@ -80,7 +80,7 @@ impl Expression {
     }
 
     /// Joins one more operand.
-    #[tactic(auto, using(crate::proofs::Joins::joined_push), unfolding(crate::specs::TreeViews::expression_of))]
+    #[tactic(auto, using(crate::proofs::Joins::joined_push), unfolding(crate::specs::TreeViews::expression_view))]
     pub fn join(&mut self, other: Operand) -> Result<(), AllocError>
         ensures { OnOk result (expression_view self.new
             ≡ spec.union (expression_view self.old) (operand_view other)) }
