@@ -18,5 +18,5 @@ computing = tt
 
 -- `unfolding reading` lets `refl` compute the tree that lexemes spell
 unfoldable pub reading : Unit {0}
-unfolding named negative numeral part headed_relation elements relation tuple primary_of_word primary_of_sign primary postfixes postfixed prefixed operations chain multiplicative additive relational compared_to compared negated conjunction disjunction restriction by_level read operator_at comparison_at prefix_at extraction_at postfix_at call_at heading_at keys source assignment_of_word assignment assignments base_definition definition_of_word variable body_of_word value read_body read_statement expect read_name read_up_to enclosed optional separated_from separated listed_to repeated_from repeated names_to_brace names attribute heading type_of_word type_of_first read_type relation_heading
+unfolding named negative numeral part headed_relation elements relation tuple primary_of_word primary_of_sign primary postfixes postfixed prefixed operations chain multiplicative additive relational compared_to compared negated conjunction disjunction restriction by_level read operator_at comparison_at prefix_at extraction_at postfix_at call_at heading_at keys source assignment_of_word assignment assignments base_definition definition_of_word variable body_of_word body read_body read_statement expect read_name read_up_to enclosed optional separated_from separated listed_to repeated_from repeated names_to_brace names attribute heading type_of_word type_of_first read_type relation_heading
 reading = tt

@@ -26,16 +26,16 @@ pub integers-heading : (ns : List (List ℕ)) → heading_from (integers ns) ≡
 integers-heading ns = put_in_turn [] ns
 
 -- the names as they are written
-pub written_names : (t : TupleLiteral) → tuple_names (written_components t) ≡ written_names t
-written_names [] = refl
-written_names (a ∷ t) = ap (λ r. a.name ∷ r) (written_names t)
+pub names_as_written : (t : TupleLiteral) → tuple_names (written_components t) ≡ written_names t
+names_as_written [] = refl
+names_as_written (a ∷ t) = ap (λ r. a.name ∷ r) (names_as_written t)
 
 pub names_at : (es : Tuple) (t : TupleLiteral) → es ≡ written_components t → tuple_names es ≡ written_names t
-names_at es t e = ap tuple_names e ∙ written_names t
+names_at es t e = ap tuple_names e ∙ names_as_written t
 
 -- the heading that integers make, and the tuple that entries make
 pub integers_made : (ns : List (List ℕ)) (attributes : Heading) → attributes ≡ integers ns → made_heading attributes ≡ heading_meaning ns
 integers_made ns attributes e = ap made_heading e ∙ (λ i. value_if (are_distinct (integers-names ns i)) (integers-heading ns i) cause.Heading)
 
 pub entries_made : (t : TupleLiteral) (es : Tuple) → es ≡ written_components t → made_tuple es ≡ tuple_meaning t
-entries_made t es e = ap made_tuple e ∙ (λ i. value_if (are_distinct (written_names t i)) (tuple_of (written_components t)) cause.Heading)
+entries_made t es e = ap made_tuple e ∙ (λ i. value_if (are_distinct (names_as_written t i)) (tuple_of (written_components t)) cause.Heading)

@@ -45,5 +45,5 @@ legal_reassigned db n value legal t b holds =
 
 -- ---- a new relvar
 
-pub new_is_relvar : (n : List ℕ) (keys : List (List (List ℕ))) (heading : Heading) → IsName n → IsRelation (record { heading = heading; value = [] }) → keys_fit heading keys ≡ true → IsRelvar (new_relvar n keys heading)
+pub new_is_relvar : (n : List ℕ) (keys : List (List (List ℕ))) (heading : Heading) → IsName n → IsRelation (record { heading = heading; body = [] }) → keys_fit heading keys ≡ true → IsRelvar (new_relvar n keys heading)
 new_is_relvar n keys heading named b fit = relvar_tells (new_relvar n keys heading) (record { named = named; headed = b.2; value = b }) (is_new n keys heading fit)

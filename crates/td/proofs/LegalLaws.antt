@@ -5,10 +5,8 @@ use Rattle.std.proofs.lemmas.List.Elements.{recursion_from_All}
 use Rattle.td_tree.specs.Outcomes.{Outcome, Valued, Refused, with_both, with_value}
 use Rattle.td_tree.specs.Statements.{PlacedToken}
 use Rattle.td_types.specs.TypeOrder.{heading_eq-Decides}
-use Rattle.td_types.specs.TypeCode.{unpack_pack}
-use Rattle.td_types.specs.Types.{Heading, same_name, unpack}
+use Rattle.td_types.specs.Types.{Heading, same_name}
 use Rattle.td_value.specs.ValueCode.{unpack_pack_rows}
-use Rattle.td_value.proofs.HeadingOf.{fields_type-heading}
 use Rattle.td_value.proofs.Rows.{All-from_rows}
 use Rattle.td_value.proofs.SetLaws.{set_of-ascends}
 use Rattle.td_value.specs.Sets.{put_in, set_of}
@@ -46,7 +44,7 @@ append_all : {K : Type 0} (p : K → Bool) (xs ys : List K) → list_all p xs �
 append_all p [] ys h k = k
 append_all p (x ∷ xs) ys h k = let q = both (p x) (list_all p xs) h in and_true (p x) (list_all p (xs ++ ys)) q.0 (append_all p xs ys q.1 k)
 
-set_value : (h : Heading) (ts : List Tuple) → have_heading h ts ≡ true → IsBody (record { heading = h; value = set_of tuple_cmp ts })
+set_value : (h : Heading) (ts : List Tuple) → have_heading h ts ≡ true → IsBody (record { heading = h; body = set_of tuple_cmp ts })
 set_value h ts e = record { headed = set_all (λ t. same_heading (heading_of t) h) tuple_cmp ts e; distinct = set_of-ascends tuple_cmp tuple_order_total tuple_order_same ts }
 
 -- ---- expressions
@@ -127,7 +125,7 @@ bodies_changed n value (s ∷ db) h b = by_name (bodies_changed n value db h.1 b
     by_name others true e = rw e (b, h.1)
     by_name others false e = rw e (h.0, others)
 
-no_tuple : (h : Heading) → IsBody (record { heading = h; value = [] })
+no_tuple : (h : Heading) → IsBody (record { heading = h; body = [] })
 no_tuple h = set_value h [] refl
 
 define_legal : (db : Database) (n : List ℕ) (names : List (List ℕ)) (keys : List (List (List ℕ))) → IsTested db → IsTested (stepped db (define n names keys)).database
@@ -182,7 +180,7 @@ body_tested : (r : Relation) → IsRelation r → IsBody r
 body_tested r p = record {
   headed = test_all (λ t. same_heading (heading_of t) r.heading) r.body
       (map_all (IsTupleOf r.heading) (λ t. same_heading (heading_of t) r.heading ≡ true) r.body
-      (λ t q. (heading_eq-Decides (heading_of t) r.heading).1 (sym (unpack_pack (heading_of t)) ∙ ap unpack (sym (fields_type-heading t) ∙ q.2) ∙ unpack_pack r.heading))
+      (λ t q. (heading_eq-Decides (heading_of t) r.heading).1 q.1)
       (recursion_from_All (IsTupleOf r.heading) r.body (All-from_rows r.heading r.body p.0)));
   distinct = subst IsAscendingBody (unpack_pack_rows r.body) p.1;
 }
@@ -191,7 +189,7 @@ body_tested r p = record {
 tested : (db : Database) → IsLegal db → IsTested db
 tested db l = record {
   keys = legal_told db l;
-  bodies = map_all IsRelvar (λ r. IsBody r.value) db (λ r is. body_tested r.value is.proper.body) (recursion_from_All IsRelvar db l.relvars);
+  bodies = map_all IsRelvar (λ r. IsBody r.value) db (λ r is. body_tested r.value is.proper.value) (recursion_from_All IsRelvar db l.relvars);
 }
 
 pub legal_after : (stop : Bool) (p q : Progress) (script : List (List PlacedToken)) → IsLegal p.database → Runs stop p script q → All IsProper q.database → IsLegal q.database

@@ -157,10 +157,10 @@ holding_is_tested r keys p = (
 pub relvar_tells : (r : Relvar) → IsProper r → is_relvar r ≡ true → IsRelvar r
 relvar_tells r p e =
     let q = both (keys_fit r.value.heading r.keys) (keys_hold r.keys r.value.body) e in
-    record { proper = p; keys = fit_tells r.value.heading r.keys q.0; hold = (holding_is_tested r.value r.keys p.body).0 q.1 }
+    record { proper = p; keys = fit_tells r.value.heading r.keys q.0; hold = (holding_is_tested r.value r.keys p.value).0 q.1 }
 
 pub relvar_told : (r : Relvar) → IsRelvar r → is_relvar r ≡ true
-relvar_told r h = and_true (keys_fit r.value.heading r.keys) (keys_hold r.keys r.value.body) (fit_told r.value.heading r.keys h.keys) ((holding_is_tested r.value r.keys h.proper.body).1 h.hold)
+relvar_told r h = and_true (keys_fit r.value.heading r.keys) (keys_hold r.keys r.value.body) (fit_told r.value.heading r.keys h.keys) ((holding_is_tested r.value r.keys h.proper.value).1 h.hold)
 
 relvars_tell : (db : Database) → AllByRecursion IsProper db → AllByRecursion (λ r. is_relvar r ≡ true) db → AllByRecursion IsRelvar db
 relvars_tell [] p h = tt

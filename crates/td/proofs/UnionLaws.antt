@@ -21,7 +21,7 @@ by_membership r s u e t = by_test (same_heading r.heading s.heading) refl
   where
     by_test : (same : Bool) → same_heading r.heading s.heading ≡ same → (Contains u.body t → Contains r.body t ⊎ Contains s.body t) × (Contains r.body t ⊎ Contains s.body t → Contains u.body t)
     by_test true h =
-        let made : Relation = record { heading = r.heading; value = set_of tuple_cmp (r.body ++ s.body) } in
+        let made : Relation = record { heading = r.heading; body = set_of tuple_cmp (r.body ++ s.body) } in
         let is : made ≡ u = valued made u (rw h at e) in
         let rows : made.body ≡ u.body = ap (λ (x : Relation). x.body) is in
         let members = set_members (r.body ++ s.body) t in (

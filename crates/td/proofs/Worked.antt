@@ -37,7 +37,7 @@ heading = (k, types.integer) ∷ []
 
 -- the database of one relvar, R, with these keys and tuples
 abbrev pub database : List (List (List ℕ)) → List Tuple → Database
-database keys rows = record { name = r; keys = keys; value = record { heading = heading; value = rows } } ∷ []
+database keys rows = record { name = r; keys = keys; value = record { heading = heading; body = rows } } ∷ []
 
 -- ---- a first script
 

@@ -42,7 +42,7 @@ Holds tuples key = (t u : Tuple) → Contains tuples t → Contains tuples u →
 pub record IsProper (r : Relvar) : Type 0 where
   pub named : IsName r.name
   pub headed : IsHeading (pack r.value.heading)
-  pub body : IsRelation r.value
+  pub value : IsRelation r.value
 
 -- a relvar with its keys, each of which holds
 pub record IsRelvar (r : Relvar) : Type 0 where

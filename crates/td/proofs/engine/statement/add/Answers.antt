@@ -12,7 +12,7 @@ use Rattle.td.proofs.LegalTests.{legal_told}
 use Rattle.td.proofs.engine.statement.add.Goals as goal
 
 -- the body of no tuple
-empty_is : (heading : Heading) (rows : List Tuple) (value : Relation) → rows ≡ [] → value ≡ relation_view heading (set_of tuple_cmp rows) → value ≡ record { heading = heading; value = [] }
+empty_is : (heading : Heading) (rows : List Tuple) (value : Relation) → rows ≡ [] → value ≡ relation_view heading (set_of tuple_cmp rows) → value ≡ record { heading = heading; body = [] }
 empty_is heading rows value e is = is ∙ ap (λ ts. relation_view heading (set_of tuple_cmp ts)) e
 
 pub add-requires-clause-fits : goal.add-requires-clause-fits
