@@ -1,4 +1,5 @@
 pub mod BadTokens
+pub mod ByteOrder
 pub mod CharacterLaws
 pub mod CommentLaws
 pub mod DecodeLaws

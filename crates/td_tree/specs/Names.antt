@@ -1,6 +1,8 @@
 -- Names (this project's own rule, over Unicode's identifiers).
-use Rattle.std.specs.Prelude.{ℕ, Bool, false, not, ◌&&◌, ◌||◌, ◌==◌, List, [], ◌∷◌, take, codes, is_some, IsTrue, IsUtf8}
+use Rattle.std.specs.Prelude.{◌≡◌, ℕ, Bool, false, not, ◌&&◌, ◌||◌, ◌==◌, List, [], ◌∷◌, take, codes, is_some, IsTrue, IsUtf8}
+use Rattle.std.specs.Cmp.Lexicographic.{slice_cmp}
 use Rattle.std.specs.List.{list_all}
+use Rattle.std.specs.Ordering.{nat_cmp}
 use Rattle.std.specs.Str.{chars, str_eq_ignore_ascii_case}
 use Rattle.unicode_ident.specs.Ident.{is_xid_start, is_xid_continue}
 use Rattle.td_tree.specs.Keywords.{keyword_of}
@@ -30,3 +32,10 @@ is_name text = is_word (chars text) && not (is_some (keyword_of text)) && not (b
 pub record IsName (text : List ℕ) : Type 0 where
   pub utf8 : IsUtf8 text
   pub named : IsTrue (is_name text)
+
+-- ---- laws
+
+-- texts compare by their bytes in UTF-8 as by the code points of their characters
+abbrev pub BytesCompareAsCodePoints : Type 0
+BytesCompareAsCodePoints = (s t : List ℕ) → IsUtf8 s → IsUtf8 t
+    → slice_cmp nat_cmp s t ≡ slice_cmp nat_cmp (chars s) (chars t)

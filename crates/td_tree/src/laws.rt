@@ -3,6 +3,7 @@ ghost use Rattle.std.specs.Prelude.{◌≡◌, ◌+◌, ◌++◌, ◌↔◌, ℕ
 ghost use Rattle.std.specs.List.{flat_map};
 ghost use Rattle.td_tree.specs.declared.piece.Piece.{Piece};
 ghost use Rattle.td_tree.specs.declared.token.Kind.TheVariants as kinds;
+ghost use Rattle.td_tree.specs.Names.{BytesCompareAsCodePoints};
 ghost use Rattle.td_tree.specs.Outcomes.{LeastIsNamed};
 ghost use Rattle.td_tree.specs.Pieces.{AreLongest, kind_of, pieces, state, text_kind};
 ghost use Rattle.td_tree.specs.Spans.{AreOfTheirKind, AreSlices, AreTexts, Ascends};
@@ -14,6 +15,13 @@ ghost use Rattle.td_tree.specs.TextTokens.{IsQuotedText, content, quoted};
 /// The cause that is named is one of those that there are, and none of them has a lesser number.
 pub fn the_least_cause_is_named()
     ensures { LeastIsNamed }
+{}
+
+/// Names and texts compare by their bytes in UTF-8 as they do by the code points of their
+/// characters.
+#[tactic(auto, using(crate::proofs::ByteOrder::bytes_compare))]
+pub fn bytes_compare_as_code_points()
+    ensures { BytesCompareAsCodePoints }
 {}
 
 /// The symbols of bytes spell them, each a character of UTF-8, or one byte where none begins.
