@@ -1,14 +1,19 @@
 -- What the engine answers (this project's own).
-use Rattle.std.specs.Prelude.{◌≡◌, List, is_none, Result, Ok, Err, ⊤}
+use Rattle.std.specs.Prelude.{◌≡◌, List, is_none, Option, Some, None, Result}
 use Rattle.std.specs.String.{string_bytes}
+use Rattle.td_parse.specs.Parsing.{Parsed}
+use Rattle.td_tree.specs.declared.cause.Cause.TheVariants as causes
 use Rattle.td_tree.specs.declared.fault.Fault.{Fault}
-use Rattle.td_tree.specs.declared.fault.Fault.TheVariants as faults
+use Rattle.td_tree.specs.Outcomes.{Answers, Only, Outcome, Refused, Valued, with_value}
 use Rattle.td_tree.specs.Statements.{PlacedToken}
+use Rattle.td_tree.specs.Trees as trees
 use Rattle.td.specs.Database.{Database}
-use Rattle.td.specs.Machine.{Step, Steps, refused, stepped}
+use Rattle.td.specs.FirstPath.{first_path}
+use Rattle.td.specs.Machine.{Step, Steps}
+use Rattle.td.specs.Trees.{Statement}
 use Rattle.td.specs.TreeViews.{first_path_view}
 use Rattle.td.specs.declared.engine.answer.Answer as code
-use Rattle.td.specs.declared.engine.tree.Statement.{Statement}
+use Rattle.td.specs.declared.engine.tree.Statement as code_tree
 
 -- the step that an answer and a database stand for
 abbrev pub step_view : code.Answer → Database → Step
@@ -24,8 +29,13 @@ pub record Does (step : Step) (answer : code.Answer) (new : Database) : Type 0 w
   pub is : step_view answer new ≡ step
   pub accepted : answer.accepted ≡ is_none answer.cause
 
--- a tree that means what the tokens do, or why they are refused on every database; memory may run out
-abbrev pub IsParsed : List PlacedToken → Result Statement Fault → Type 0
-IsParsed tokens (Ok statement) = (db : Database) → Steps db tokens (stepped db (first_path_view statement))
-IsParsed tokens (Err (faults.Refused cause)) = (db : Database) → Steps db tokens (refused db cause)
-IsParsed tokens (Err faults.Memory) = ⊤
+-- the first path's tree; what is none is SYNTAX
+abbrev pub on_first_path : Option Statement → Outcome Statement
+on_first_path None = Refused (Only causes.Syntax)
+on_first_path (Some t) = Valued t
+
+-- an answer of what the tokens mean on the first path
+abbrev pub IsParsed : List PlacedToken → Result code_tree.Statement Fault → Type 0
+IsParsed tokens r =
+    (o : Outcome trees.Statement) × Parsed tokens o
+    × Answers first_path_view r (with_value o (λ t. on_first_path (first_path t)))

@@ -43,7 +43,7 @@ unpack (attr n t xs) = (n, t) ∷ unpack xs
 abbrev pub attribute_names : Heading → List (List ℕ)
 attribute_names = map (λ a. a.0)
 
--- each name stands before the next by code points, so no name comes twice
+-- each name stands before the next by bytes, which is by code points, so no name comes twice
 abbrev pub IsAscending : Heading → Type 0
 IsAscending xs = IsStrictlySortedBy (slice_cmp nat_cmp) (attribute_names xs)
 
