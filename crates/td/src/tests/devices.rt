@@ -1,3 +1,5 @@
+ghost use Rattle.std.specs.Prelude.{◌≤◌, IfOk};
+
 use crate::engine::Engine;
 use crate::line::{Mode, read_line};
 use crate::run::{RunFault, run};
@@ -22,7 +24,10 @@ enum Way {
 }
 
 impl Failing {
-    fn step(&mut self, length: usize) -> io::Result<usize> {
+    /// Moves so many bytes as it may, unless it still has to fail.
+    fn step(&mut self, length: usize) -> io::Result<usize>
+        ensures { IfOk result (λ count. count ≤ length) }
+    {
         if self.times == 0 {
             return Ok(length);
         }
