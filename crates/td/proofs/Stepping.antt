@@ -1,7 +1,7 @@
 -- From a tree to the step of its tokens.
 use Rattle.std.proofs.Common.{◌≡◌, ◌∙◌, ap, false, List, Option, Some, None, Result, Ok, Err, sym, subst, IfOk}
 use Rattle.std.specs.String.{string_bytes}
-use Rattle.td_parse.specs.Parsing.{Gives, Parsed, bad_token, nothing_spelled, statement_spelled}
+use Rattle.td_parse.specs.Parsing.{Parsed, bad_token, nothing_spelled, or_syntax, statement_spelled}
 use Rattle.td_tree.specs.Outcomes.{Answers, Outcome, Refused, Valued, named_cause, with_value}
 use Rattle.td_tree.specs.Statements.{PlacedToken}
 use Rattle.td_tree.specs.Trees as spec
@@ -14,7 +14,7 @@ use Rattle.td_tree.specs.declared.statement.Statement as tree
 use Rattle.td.specs.Database.{Database}
 use Rattle.td.specs.FirstPath.{first_path}
 use Rattle.td.specs.Machine.{Steps, scanned, unspelled, spelled, line, refusal_text, refused, stepped, stepped_if}
-use Rattle.td.specs.Steps.{Does, IsParsed, IsStep, on_first_path}
+use Rattle.td.specs.Steps.{Does, IsParsed, IsStep}
 use Rattle.td.specs.Trees as path
 use Rattle.td.specs.TreeViews.{first_path_view}
 use Rattle.td.specs.declared.engine.answer.Answer as code
@@ -38,35 +38,29 @@ still_refused (Refused cs) f cause e = e
 -- tokens that the parser refuses
 pub none_parsed : (ts : List PlacedToken) (f : Fault) → Told ts (Err f) → IsParsed ts (Err f)
 none_parsed ts faults.Memory told = (told.0, told.1, tt)
-none_parsed ts (faults.Refused cause) told = (told.0, told.1, still_refused told.0 (λ t. on_first_path (first_path t)) cause told.2)
-
--- what the first path's reading gives is an answer of its outcome
-given : (r : Result Statement Fault) (read : Option path.Statement) → Gives first_path_view r read → Answers first_path_view r (on_first_path read)
-given (Ok s) read gives = ap on_first_path gives
-given (Err faults.Memory) read gives = tt
-given (Err (faults.Refused cause)) read gives = ap (λ o. named_cause (on_first_path o)) gives.0 ∙ ap Some (sym gives.1)
+none_parsed ts (faults.Refused cause) told = (told.0, told.1, still_refused told.0 (λ t. or_syntax (first_path t)) cause told.2)
 
 -- the first path's tree of what the tokens spell
-pub parsed : (ts : List PlacedToken) (t : tree.Statement) (r : Result Statement Fault) → Told ts (Ok t) → Gives first_path_view r (first_path (trees.statement_view t)) → IsParsed ts r
-parsed ts t r told gives =
-    (told.0, told.1, subst (λ o. Answers first_path_view r (with_value o (λ t. on_first_path (first_path t)))) (sym told.2) (given r (first_path (trees.statement_view t)) gives))
+pub parsed : (ts : List PlacedToken) (t : tree.Statement) (r : Result Statement Fault) → Told ts (Ok t) → Answers first_path_view r (or_syntax (first_path (trees.statement_view t))) → IsParsed ts r
+parsed ts t r told answers =
+    (told.0, told.1, subst (λ o. Answers first_path_view r (with_value o (λ t. or_syntax (first_path t)))) (sym told.2) answers)
 
 -- the tree that is found steps as the tokens do
-found_if : (db : Database) (ts : List PlacedToken) (o : Option path.Statement) (t : path.Statement) → Steps db ts (stepped_if db o) → on_first_path o ≡ Valued t → Steps db ts (stepped db t)
+found_if : (db : Database) (ts : List PlacedToken) (o : Option path.Statement) (t : path.Statement) → Steps db ts (stepped_if db o) → or_syntax o ≡ Valued t → Steps db ts (stepped db t)
 found_if db ts None t steps e = absurd cc
 found_if db ts (Some u) t steps e = let same : u ≡ t = cc in subst (λ x. Steps db ts (stepped db x)) same steps
 
-found_step : (db : Database) (ts : List PlacedToken) (t : path.Statement) (o : Outcome spec.Statement) → Parsed ts o → with_value o (λ s. on_first_path (first_path s)) ≡ Valued t → Steps db ts (stepped db t)
+found_step : (db : Database) (ts : List PlacedToken) (t : path.Statement) (o : Outcome spec.Statement) → Parsed ts o → with_value o (λ s. or_syntax (first_path s)) ≡ Valued t → Steps db ts (stepped db t)
 found_step db ts t _ (bad_token bad) e = absurd cc
 found_step db ts t _ (nothing_spelled good none) e = absurd cc
 found_step db ts t _ (statement_spelled {s} good only) e = found_if db ts (first_path s) t (spelled s good only.0) e
 
-refused_if : (db : Database) (ts : List PlacedToken) (o : Option path.Statement) (cause : Cause) → Steps db ts (stepped_if db o) → named_cause (on_first_path o) ≡ Some cause → Steps db ts (refused db cause)
+refused_if : (db : Database) (ts : List PlacedToken) (o : Option path.Statement) (cause : Cause) → Steps db ts (stepped_if db o) → named_cause (or_syntax o) ≡ Some cause → Steps db ts (refused db cause)
 refused_if db ts None cause steps e = subst (λ c. Steps db ts (refused db c)) (cause_is causes.Syntax cause e) steps
 refused_if db ts (Some u) cause steps e = absurd cc
 
 pub refused_step : (db : Database) (ts : List PlacedToken) (cause : Cause) (o : Outcome spec.Statement) → Parsed ts o
-    → named_cause (with_value o (λ s. on_first_path (first_path s))) ≡ Some cause → Steps db ts (refused db cause)
+    → named_cause (with_value o (λ s. or_syntax (first_path s))) ≡ Some cause → Steps db ts (refused db cause)
 refused_step db ts cause _ (bad_token bad) e = subst (λ c. Steps db ts (refused db c)) (cause_is causes.Scan cause e) (scanned bad)
 refused_step db ts cause _ (nothing_spelled good none) e = subst (λ c. Steps db ts (refused db c)) (cause_is causes.Syntax cause e) (unspelled good none)
 refused_step db ts cause _ (statement_spelled {s} good only) e = refused_if db ts (first_path s) cause (spelled s good only.0) e

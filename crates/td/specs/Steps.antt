@@ -1,10 +1,9 @@
 -- What the engine answers (this project's own).
 use Rattle.std.specs.Prelude.{◌≡◌, List, is_none, Option, Some, None, Result}
 use Rattle.std.specs.String.{string_bytes}
-use Rattle.td_parse.specs.Parsing.{Parsed}
-use Rattle.td_tree.specs.declared.cause.Cause.TheVariants as causes
+use Rattle.td_parse.specs.Parsing.{Parsed, or_syntax}
 use Rattle.td_tree.specs.declared.fault.Fault.{Fault}
-use Rattle.td_tree.specs.Outcomes.{Answers, Only, Outcome, Refused, Valued, with_value}
+use Rattle.td_tree.specs.Outcomes.{Answers, Outcome, with_value}
 use Rattle.td_tree.specs.Statements.{PlacedToken}
 use Rattle.td_tree.specs.Trees as trees
 use Rattle.td.specs.Database.{Database}
@@ -29,13 +28,8 @@ pub record Does (step : Step) (answer : code.Answer) (new : Database) : Type 0 w
   pub is : step_view answer new ≡ step
   pub accepted : answer.accepted ≡ is_none answer.cause
 
--- the first path's tree; what is none is SYNTAX
-abbrev pub on_first_path : Option Statement → Outcome Statement
-on_first_path None = Refused (Only causes.Syntax)
-on_first_path (Some t) = Valued t
-
 -- an answer of what the tokens mean on the first path
 abbrev pub IsParsed : List PlacedToken → Result code_tree.Statement Fault → Type 0
 IsParsed tokens r =
     (o : Outcome trees.Statement) × Parsed tokens o
-    × Answers first_path_view r (with_value o (λ t. on_first_path (first_path t)))
+    × Answers first_path_view r (with_value o (λ t. or_syntax (first_path t)))

@@ -1,5 +1,5 @@
 -- What tokens mean as a statement, by the grammar, and what the parser answers of it.
-use Rattle.std.proofs.Common.{◌≡◌, List, Option, Some, None, Result, Ok, Err, Bool, true, false, refl, sym, ap, ◌∙◌}
+use Rattle.std.proofs.Common.{◌≡◌, List, Option, Some, None, Result, Err, Bool, true, false, refl, sym, ap, ◌∙◌}
 use Rattle.td_tree.specs.declared.cause.Cause.TheVariants as causes
 use Rattle.td_tree.specs.declared.fault.Fault.{Fault}
 use Rattle.td_tree.specs.declared.fault.Fault.TheVariants as faults
@@ -10,7 +10,7 @@ use Rattle.td_tree.specs.Statements.{PlacedToken}
 use Rattle.td_tree.specs.TokenLexemes.{lexemes}
 use Rattle.td_tree.specs.Trees as trees
 use Rattle.td_tree.specs.TreeViews.{statement_view}
-use Rattle.td_parse.specs.Parsing.{Gives, Parsed, SpellsNone, SpellsOnly, TokensHaveOneMeaning, bad_token, has_bad, nothing_spelled, statement_spelled}
+use Rattle.td_parse.specs.Parsing.{Parsed, SpellsNone, SpellsOnly, TokensHaveOneMeaning, bad_token, has_bad, nothing_spelled, or_syntax, statement_spelled}
 use Rattle.td_parse.specs.ReadingStatements.{read_statement}
 use Rattle.td_parse.proofs.OneTree.{one_statement}
 use Rattle.td_parse.proofs.ReadingLaws.{reads_statements}
@@ -68,8 +68,10 @@ Answered tokens r = (o : Outcome trees.Statement) × Parsed tokens o × Answers 
 pub scanned : (tokens : List PlacedToken) → has_bad tokens ≡ true → Answered tokens (Err (faults.Refused causes.Scan))
 scanned tokens bad = (Refused (Only causes.Scan), bad_token bad, refl)
 
-pub parsed_from : (tokens : List PlacedToken) (r : Result Statement Fault) → has_bad tokens ≡ false → Gives statement_view r (read_statement (lexemes tokens)) → Answered tokens r
-parsed_from tokens (Ok s) good e = (Valued (statement_view s), statement_spelled good (spells_only (lexemes tokens) (statement_view s) e), refl)
-parsed_from tokens (Err faults.Memory) good e = let m = good_meaning tokens good in (m.0, m.1, tt)
-parsed_from tokens (Err (faults.Refused cause)) good e =
-    (Refused (Only causes.Syntax), nothing_spelled good (spells_none (lexemes tokens) e.0), ap (λ c. Some c) (sym e.1))
+-- by what was read, where the answer is that or SYNTAX
+read_answer : (tokens : List PlacedToken) (r : Result Statement Fault) (read : Option trees.Statement) → has_bad tokens ≡ false → read_statement (lexemes tokens) ≡ read → Answers statement_view r (or_syntax read) → Answered tokens r
+read_answer tokens r (Some s) good e answers = (Valued s, statement_spelled good (spells_only (lexemes tokens) s e), answers)
+read_answer tokens r None good e answers = (Refused (Only causes.Syntax), nothing_spelled good (spells_none (lexemes tokens) e), answers)
+
+pub parsed_from : (tokens : List PlacedToken) (r : Result Statement Fault) → has_bad tokens ≡ false → Answers statement_view r (or_syntax (read_statement (lexemes tokens))) → Answered tokens r
+parsed_from tokens r good answers = read_answer tokens r (read_statement (lexemes tokens)) good refl answers

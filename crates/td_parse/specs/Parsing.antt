@@ -9,7 +9,7 @@ use Rattle.td_tree.specs.declared.token.Kind.{Kind}
 use Rattle.td_tree.specs.declared.token.Kind.TheVariants as kinds
 use Rattle.td_tree.specs.Lexemes.{Lexeme, keyword, sign, name, component, number, text, bad}
 use Rattle.td_tree.specs.Numbers.{decimal_value}
-use Rattle.td_tree.specs.Outcomes.{Only, Outcome, Refused, Valued}
+use Rattle.td_tree.specs.Outcomes.{Answers, Only, Outcome, Refused, Valued}
 use Rattle.td_tree.specs.StatementGrammar.{StatementSpelling}
 use Rattle.td_tree.specs.Trees as trees
 use Rattle.td_parse.specs.ReadingSteps.{ReadOf}
@@ -84,17 +84,14 @@ abbrev pub Tries : {X : Type 0} → Option X → List Lexeme → List Lexeme →
 Tries (Some x) old new read = read ≡ Some (x, new)
 Tries None old new read = (read ≡ None) × (new ≡ old)
 
+-- what is read, else SYNTAX
+abbrev pub or_syntax : {X : Type 0} → Option X → Outcome X
+or_syntax (Some x) = Valued x
+or_syntax None = Refused (Only causes.Syntax)
+
 -- what a function over a cursor returned and left is what reading gives, unless memory ran out
 abbrev pub Moves : {X Y : Type 0} → (X → Y) → Result X Fault → List Lexeme → ReadOf Y → Type 0
-Moves view (Ok x) new read = read ≡ Some (view x, new)
-Moves view (Err (faults.Refused cause)) new read = (read ≡ None) × (cause ≡ causes.Syntax)
-Moves view (Err faults.Memory) new read = ⊤
-
--- what was returned is what reading all gives, unless memory ran out
-abbrev pub Gives : {X Y : Type 0} → (X → Y) → Result X Fault → Option Y → Type 0
-Gives view (Ok x) read = read ≡ Some (view x)
-Gives view (Err (faults.Refused cause)) read = (read ≡ None) × (cause ≡ causes.Syntax)
-Gives view (Err faults.Memory) read = ⊤
+Moves view r new read = Answers (λ x. (view x, new)) r (or_syntax read)
 
 abbrev pub is_bad : Kind → Bool
 is_bad kinds.Bad = true

@@ -1,6 +1,6 @@
 //! Statements.
 ghost use Rattle.std.specs.Prelude.{◌≡◌};
-ghost use Rattle.td_parse.specs.Parsing.{Gives, Moves, Parsed, has_bad, is_bad};
+ghost use Rattle.td_parse.specs.Parsing.{Moves, Parsed, has_bad, is_bad, or_syntax};
 ghost use Rattle.td_parse.specs.ReadingStatements as reading;
 ghost use Rattle.td_parse.specs.ReadingStatements.{read_statement};
 ghost use Rattle.td_tree.specs.Outcomes.{Answers, Outcome};
@@ -67,7 +67,7 @@ fn body_or_none(alloc: Global, tokens: &mut Cursor<'_, '_>) -> Result<Statement,
 /// The statement that all the tokens are.
 #[tactic(auto, unfolding(crate::specs::ReadingStatements::read_statement, crate::specs::ReadingSteps::read_up_to))]
 fn whole(alloc: Global, tokens: &[Token<'_>]) -> Result<Statement, Fault>
-    ensures { Gives statement_view result (read_statement (lexemes tokens.now)) }
+    ensures { Answers statement_view result (or_syntax (read_statement (lexemes tokens.now))) }
 {
     let mut tokens = Cursor::new(alloc, tokens);
     let statement = body_or_none(alloc, &mut tokens)?;

@@ -1,15 +1,19 @@
 //! The first path's trees among all: what its grammar doesn't spell is SYNTAX.
 ghost use Rattle.std.specs.Prelude.{◌≡◌, Err, List, None, Option, map, option_map};
-ghost use Rattle.td_parse.specs.Parsing.{Gives};
+ghost use Rattle.td_parse.specs.Parsing.{or_syntax};
 ghost use Rattle.td_tree.specs.declared.cause.Cause.TheVariants as causes;
 ghost use Rattle.td_tree.specs.declared.fault.Fault.TheVariants as faults;
+ghost use Rattle.td_tree.specs.Outcomes.{Answers};
 ghost use Rattle.td_tree.specs.Trees.{Text};
-ghost use Rattle.td_tree.specs.TreeViews.{assignment_view, heading_tree_view, named_view, tree_view, trees_view, type_tree_view};
+ghost use Rattle.td_tree.specs.TreeViews.{assignment_view, heading_tree_view, named_view};
+ghost use Rattle.td_tree.specs.TreeViews.{tree_view, trees_view, type_tree_view};
 ghost use Rattle.td_tree.specs.TreeViews as tree_views;
 ghost use Rattle.td.specs.FirstPath as spec;
 ghost use Rattle.td.specs.Steps.{IsParsed};
 ghost use Rattle.td.specs.Trees as written;
-ghost use Rattle.td.specs.TreeViews.{component_view, components_view, expression_view, numeral_view, operand_view, first_path_view, tuple_literal_view, tuple_literals_view};
+ghost use Rattle.td.specs.TreeViews.{component_view, components_view, expression_view, numeral_view};
+ghost use Rattle.td.specs.TreeViews.{operand_view, first_path_view, tuple_literal_view};
+ghost use Rattle.td.specs.TreeViews.{tuple_literals_view};
 
 use crate::engine::number::Numeral;
 use crate::engine::tree::{
@@ -39,7 +43,7 @@ fn unspelled<T: Drop, U: Drop>(_tree: T) -> Result<U, Fault>
 
 /// A number as it is written.
 fn numeral(tree: &Expr) -> Result<Numeral, Fault>
-    ensures { Gives numeral_view result (spec.numeral_in (tree_view tree.now)) }
+    ensures { Answers numeral_view result (or_syntax (spec.numeral_in (tree_view tree.now))) }
 {
     match tree {
         Expr::Literal(Literal::Number { minus, magnitude }) => {
@@ -54,8 +58,8 @@ fn numeral(tree: &Expr) -> Result<Numeral, Fault>
 
 /// A name with its number.
 fn valued(name: Name, numeral: Result<Numeral, Fault>) -> Result<AttributeValue, Fault>
-    ensures { (o : Option written.Numeral) → Gives numeral_view numeral o
-        → Gives component_view result (option_map (spec.valued name) o) }
+    ensures { (o : Option written.Numeral) → Answers numeral_view numeral (or_syntax o)
+        → Answers component_view result (or_syntax (option_map (spec.valued name) o)) }
 {
     Ok(AttributeValue {
         name,
@@ -65,7 +69,8 @@ fn valued(name: Name, numeral: Result<Numeral, Fault>) -> Result<AttributeValue,
 
 /// An attribute's name with its number.
 fn attribute(part: NamedExpr) -> Result<AttributeValue, Fault>
-    ensures { Gives component_view result (spec.attribute_in part.name (tree_view part.value)) }
+    ensures { Answers component_view result
+        (or_syntax (spec.attribute_in part.name (tree_view part.value))) }
 {
     let NamedExpr { name, value } = part;
     let numeral = numeral(&value);
@@ -76,7 +81,8 @@ fn attribute(part: NamedExpr) -> Result<AttributeValue, Fault>
 /// A tuple of numbers, by its parts.
 #[tactic(auto, using(crate::proofs::FirstPaths::none_before, crate::proofs::FirstPaths::none_behind, crate::proofs::FirstPaths::one_more))]
 fn attributes(alloc: Global, parts: Vec<NamedExpr>) -> Result<TupleLiteral, Fault>
-    ensures { Gives tuple_literal_view result (spec.attributes_in (named_view parts.items)) }
+    ensures { Answers tuple_literal_view result
+        (or_syntax (spec.attributes_in (named_view parts.items))) }
 {
     let mut attributes = Vec::with_capacity(alloc, parts.len())?;
     for part in parts {
@@ -89,7 +95,7 @@ fn attributes(alloc: Global, parts: Vec<NamedExpr>) -> Result<TupleLiteral, Faul
 /// A tuple of numbers.
 #[tactic(auto, using(td_tree::proofs::Rows::tuple_is))]
 fn tuple(alloc: Global, tree: Expr) -> Result<TupleLiteral, Fault>
-    ensures { Gives tuple_literal_view result (spec.tuple_in (tree_view tree)) }
+    ensures { Answers tuple_literal_view result (or_syntax (spec.tuple_in (tree_view tree))) }
 {
     match tree {
         Expr::Tuple(parts) => attributes(alloc, parts),
@@ -100,8 +106,8 @@ fn tuple(alloc: Global, tree: Expr) -> Result<TupleLiteral, Fault>
 /// Tuples of numbers.
 #[tactic(auto, using(crate::proofs::FirstPaths::none_before, crate::proofs::FirstPaths::none_behind, crate::proofs::FirstPaths::one_more))]
 fn tuples(alloc: Global, elements: Vec<Expr>) -> Result<Vec<TupleLiteral>, Fault>
-    ensures { Gives (λ v. tuple_literals_view v.items) result (spec.tuples_in
-        (trees_view elements.items)) }
+    ensures { Answers (λ v. tuple_literals_view v.items) result (or_syntax (spec.tuples_in
+        (trees_view elements.items))) }
 {
     let mut tuples = Vec::with_capacity(alloc, elements.len())?;
     for element in elements {
@@ -113,8 +119,8 @@ fn tuples(alloc: Global, elements: Vec<Expr>) -> Result<Vec<TupleLiteral>, Fault
 
 /// The name of an attribute of type INTEGER.
 fn integer_name(attribute: AttributeTree) -> Result<Name, Fault>
-    ensures { Gives (λ n. n) result (spec.integer_name attribute.name
-        (type_tree_view attribute.ty)) }
+    ensures { Answers (λ n. n) result (or_syntax (spec.integer_name attribute.name
+        (type_tree_view attribute.ty))) }
 {
     match attribute.ty {
         TypeTree::Integer => Ok(attribute.name),
@@ -125,7 +131,8 @@ fn integer_name(attribute: AttributeTree) -> Result<Name, Fault>
 /// The names of a heading of INTEGER attributes.
 #[tactic(auto, using(crate::proofs::FirstPaths::none_before, crate::proofs::FirstPaths::none_behind, crate::proofs::FirstPaths::one_more))]
 fn names(alloc: Global, heading: Vec<AttributeTree>) -> Result<Vec<Name>, Fault>
-    ensures { Gives (λ v. v.items) result (spec.names_in (heading_tree_view heading.items)) }
+    ensures { Answers (λ v. v.items) result
+        (or_syntax (spec.names_in (heading_tree_view heading.items))) }
 {
     let mut names = Vec::with_capacity(alloc, heading.len())?;
     for attribute in heading {
@@ -138,8 +145,8 @@ fn names(alloc: Global, heading: Vec<AttributeTree>) -> Result<Vec<Name>, Fault>
 /// A relation without its heading.
 fn unheaded(tuples: Result<Vec<TupleLiteral>, Fault>) -> Result<Operand, Fault>
     ensures { (o : Option (List written.TupleLiteral))
-        → Gives (λ v. tuple_literals_view v.items) tuples o
-        → Gives operand_view result (option_map (written.literal None) o) }
+        → Answers (λ v. tuple_literals_view v.items) tuples (or_syntax o)
+        → Answers operand_view result (or_syntax (option_map (written.literal None) o)) }
 {
     Ok(Operand::Literal(RelationLiteral {
         heading: None,
@@ -149,8 +156,8 @@ fn unheaded(tuples: Result<Vec<TupleLiteral>, Fault>) -> Result<Operand, Fault>
 
 /// A relation with its heading.
 fn headed(alloc: Global, heading: Vec<AttributeTree>, elements: Vec<Expr>) -> Result<Operand, Fault>
-    ensures { Gives operand_view result
-        (spec.headed_in (heading_tree_view heading.items) (trees_view elements.items)) }
+    ensures { Answers operand_view result
+        (or_syntax (spec.headed_in (heading_tree_view heading.items) (trees_view elements.items))) }
 {
     let heading = names(alloc, heading)?;
     let tuples = tuples(alloc, elements)?;
@@ -163,7 +170,7 @@ fn headed(alloc: Global, heading: Vec<AttributeTree>, elements: Vec<Expr>) -> Re
 /// A relvar's name, or a relation as it is written.
 #[tactic(auto, using(td_tree::proofs::Rows::relation_is, td_tree::proofs::Rows::headed_relation_is))]
 fn operand(alloc: Global, tree: Expr) -> Result<Operand, Fault>
-    ensures { Gives operand_view result (spec.operand_in (tree_view tree)) }
+    ensures { Answers operand_view result (or_syntax (spec.operand_in (tree_view tree))) }
 {
     match tree {
         Expr::Name(name) => Ok(Operand::Relvar(name)),
@@ -175,8 +182,8 @@ fn operand(alloc: Global, tree: Expr) -> Result<Operand, Fault>
 
 /// The union of an expression and an operand.
 fn joined(left: Expression, operator: Operator, right: Operand) -> Result<Expression, Fault>
-    ensures { Gives expression_view result
-        (spec.joined_by operator (expression_view left) (operand_view right)) }
+    ensures { Answers expression_view result
+        (or_syntax (spec.joined_by operator (expression_view left) (operand_view right))) }
 {
     if operator != Operator::Union {
         return Err(SYNTAX);
@@ -188,7 +195,7 @@ fn joined(left: Expression, operator: Operator, right: Operand) -> Result<Expres
 
 /// Operands with UNION between.
 fn expression(alloc: Global, tree: Expr) -> Result<Expression, Fault>
-    ensures { Gives expression_view result (spec.expression_in (tree_view tree)) }
+    ensures { Answers expression_view result (or_syntax (spec.expression_in (tree_view tree))) }
 {
     match tree {
         Expr::Binary(left, operator, right) => {
@@ -206,9 +213,9 @@ fn defined(
     heading: Result<Vec<Name>, Fault>,
     keys: Vec<Vec<Name>>,
 ) -> Result<Statement, Fault>
-    ensures { (o : Option (List Text)) → Gives (λ v. v.items) heading o
-        → Gives first_path_view result
-        (option_map (λ names. written.define name names (map (λ key. key.items) keys.items)) o) }
+    ensures { (o : Option (List Text)) → Answers (λ v. v.items) heading (or_syntax o)
+        → Answers first_path_view result
+        (or_syntax (option_map (λ names. written.define name names (map (λ key. key.items) keys.items)) o)) }
 {
     Ok(Statement::Define(Definition {
         name,
@@ -219,9 +226,9 @@ fn defined(
 
 /// A definition of a base relvar without an initial value.
 fn definition(alloc: Global, tree: trees::BaseDefinition) -> Result<Statement, Fault>
-    ensures { Gives first_path_view result (spec.definition_in tree.name
+    ensures { Answers first_path_view result (or_syntax (spec.definition_in tree.name
         (heading_tree_view tree.heading.items) (option_map tree_view tree.init)
-        (map (λ key. key.items) tree.keys.items)) }
+        (map (λ key. key.items) tree.keys.items))) }
 {
     if tree.init.is_some() {
         return unspelled(tree);
@@ -238,8 +245,8 @@ fn definition(alloc: Global, tree: trees::BaseDefinition) -> Result<Statement, F
 
 /// An assignment of an expression.
 fn assigned(target: Name, source: Result<Expression, Fault>) -> Result<Statement, Fault>
-    ensures { (o : Option written.Expression) → Gives expression_view source o
-        → Gives first_path_view result (option_map (written.assign target) o) }
+    ensures { (o : Option written.Expression) → Answers expression_view source (or_syntax o)
+        → Answers first_path_view result (or_syntax (option_map (written.assign target) o)) }
 {
     Ok(Statement::Assign(Assignment {
         target,
@@ -249,7 +256,8 @@ fn assigned(target: Name, source: Result<Expression, Fault>) -> Result<Statement
 
 /// One assignment.
 fn assignment(alloc: Global, tree: trees::Assignment) -> Result<Statement, Fault>
-    ensures { Gives first_path_view result (spec.assignment_in (assignment_view tree)) }
+    ensures { Answers first_path_view result
+        (or_syntax (spec.assignment_in (assignment_view tree))) }
 {
     match tree {
         trees::Assignment::Assign(target, source) => assigned(target, expression(alloc, source)),
@@ -259,7 +267,8 @@ fn assignment(alloc: Global, tree: trees::Assignment) -> Result<Statement, Fault
 
 /// One assignment, alone.
 fn assignments(alloc: Global, trees: Vec<trees::Assignment>) -> Result<Statement, Fault>
-    ensures { Gives first_path_view result (spec.assignments_in (map assignment_view trees.items)) }
+    ensures { Answers first_path_view result
+        (or_syntax (spec.assignments_in (map assignment_view trees.items))) }
 {
     let mut trees = trees;
     if trees.len() != 1 {
@@ -273,15 +282,16 @@ fn assignments(alloc: Global, trees: Vec<trees::Assignment>) -> Result<Statement
 
 /// A statement that writes an expression.
 fn shown(expression: Result<Expression, Fault>) -> Result<Statement, Fault>
-    ensures { (o : Option written.Expression) → Gives expression_view expression o
-        → Gives first_path_view result (option_map written.write o) }
+    ensures { (o : Option written.Expression) → Answers expression_view expression (or_syntax o)
+        → Answers first_path_view result (or_syntax (option_map written.write o)) }
 {
     Ok(Statement::Write(expression?))
 }
 
 /// The first path's tree, where the statement is one.
 fn first_path(alloc: Global, tree: trees::Statement) -> Result<Statement, Fault>
-    ensures { Gives first_path_view result (spec.first_path (tree_views.statement_view tree)) }
+    ensures { Answers first_path_view result
+        (or_syntax (spec.first_path (tree_views.statement_view tree))) }
 {
     match tree {
         trees::Statement::Empty => Ok(Statement::Empty),

@@ -1,19 +1,15 @@
-use Rattle.std.proofs.Common.{rules, arith, suc, length}
-use Rattle.std.proofs.lemmas.Grind.{common_steps}
-use Rattle.std.proofs.lemmas.List.{map_push}
-use Rattle.td_parse.specs.ReadingSteps.{separated, separated_from}
-use Rattle.td_parse.specs.ReadingTypes.{attribute, read_type}
-use Rattle.td_parse.specs.Views.{attribute_tree_view, attribute_trees_view}
-use Rattle.td_parse.proofs.Turns.{one_more}
+use Rattle.td_parse.specs.Views.{attribute_tree_view}
+use Rattle.td_parse.proofs.Separated.{begins, ends, goes_on, ran_out}
 use Rattle.td_parse.proofs.types.+types.Goals as goal
 
 pub attributes-loop-turn-init : goal.attributes-loop-turn-init
-unfolding separated
-attributes-loop-turn-init t c = rw c.turns-limit.ensures (first_of (search rules, grind (arith, common_steps)))
+attributes-loop-turn-init t c = begins _ attribute_tree_view _ _ _ c.turns-limit.ensures c.new-items.ensures.items
 
 pub attributes-loop-turn-preserved : goal.attributes-loop-turn-preserved
-unfolding separated_from
-attributes-loop-turn-preserved t c =
-    let e = one_more (λ n. separated_from (attribute (read_type c.args.depth)) n (attribute_trees_view c.loop-turn.items.items) c.loop-turn.tokens) (suc (length c.args.tokens.now)) c.loop-turn._turn (omega arith) in
-    let p = map_push attribute_tree_view c.loop-turn.items.items c.in_ok-attribute.field-0 in
-    first_of (search rules, grind (arith, common_steps))
+attributes-loop-turn-preserved t c = goes_on _ attribute_tree_view _ _ _ _ _ c.in_ok-attribute.field-0 _ _ _ c.loop-turn-test.true c.loop-turn.invariant c.in_ok-attribute.ensures c.if-not-sign.ensures c.in_ok-push.ensures.items
+
+pub attributes-returns-then-not-sign : goal.attributes-returns-then-not-sign
+attributes-returns-then-not-sign t c = ends _ attribute_tree_view _ _ _ _ _ c.in_ok-attribute.field-0 _ _ _ c.loop-turn-test.true c.loop-turn.invariant c.in_ok-attribute.ensures c.if-not-sign.ensures c.in_ok-push.ensures.items
+
+pub attributes-returns : goal.attributes-returns
+attributes-returns t c = ran_out _ attribute_tree_view _ _ _ _ _ c.loop-turn-test.false c.loop-turn.invariant

@@ -1,4 +1,4 @@
-use Rattle.std.proofs.Common.{◌∙◌, refl}
+use Rattle.std.proofs.Common.{◌∙◌}
 use Rattle.td_parse.proofs.Separated.{begins, ends, goes_on, ran_out}
 use Rattle.td_parse.specs.Views.{named_part_view}
 use Rattle.td_parse.proofs.grammar.Grammar.parts.Goals as goal
@@ -13,4 +13,4 @@ pub returns-then-not-sign : goal.returns-then-not-sign
 returns-then-not-sign g c = ends _ named_part_view _ _ _ _ _ (record { name = c.in_ok-name.name; value = c.in_ok-name.value }) _ _ _ c.loop-turn-test.true c.loop-turn.invariant c.in_ok-name.ensures (c.if-not-sign.ensures.0, c.keep_parts.ensures ∙ c.if-not-sign.ensures.1) c.in_ok-push.ensures
 
 pub returns : goal.returns
-returns g c = (ran_out _ named_part_view _ _ _ _ _ c.loop-turn-test.false c.loop-turn.invariant, refl)
+returns g c = ran_out _ named_part_view _ _ _ _ _ c.loop-turn-test.false c.loop-turn.invariant

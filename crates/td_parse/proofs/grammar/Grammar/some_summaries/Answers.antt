@@ -1,4 +1,3 @@
-use Rattle.std.proofs.Common.{refl}
 use Rattle.td_parse.proofs.Separated.{begins, ends, goes_on, ran_out}
 use Rattle.td_parse.specs.FoundSummaries.{summary_view}
 use Rattle.td_parse.specs.Views.{item_view}
@@ -14,4 +13,4 @@ pub returns-then-not-sign : goal.returns-then-not-sign
 returns-then-not-sign g c = ends _ item_view _ _ _ _ _ (summary_view c.in_ok-summary.field-0) _ _ _ c.loop-turn-test.true c.loop-turn.invariant c.in_ok-summary.ensures c.if-not-sign.ensures c.in_ok-push.ensures
 
 pub returns : goal.returns
-returns g c = (ran_out _ item_view _ _ _ _ _ c.loop-turn-test.false c.loop-turn.invariant, refl)
+returns g c = ran_out _ item_view _ _ _ _ _ c.loop-turn-test.false c.loop-turn.invariant
