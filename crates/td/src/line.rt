@@ -1,5 +1,5 @@
 //! The words of the command line.
-ghost use Rattle.std.specs.Prelude.{◌≡◌, IfOk, IfSome, List, Ok, Some, codes, map, false};
+ghost use Rattle.std.specs.Prelude.{◌≡◌, IfOk, IfSome, List, Ok, Some, codes, map, IsFalse};
 ghost use Rattle.clap.specs.Words.{IsPlainArg, app_of, new_rule, rule_of, subcommand_of, subcommand_rows_of};
 ghost use Rattle.clap.specs.declared.builder.command.Command.TheViews.{out-Command};
 ghost use Rattle.td.specs.CommandLine.{IsSaidBy, mode_word, part_app, stop_rule, td_app};
@@ -30,7 +30,7 @@ pub struct Line<'a> {
 fn stop_flag<'a>(alloc: Global) -> Arg<'a>
     ensures rule { rule_of result ≡ stop_rule }
     ensures plain { IsPlainArg result }
-    ensures local { result.global ≡ false }
+    ensures local { IsFalse result.global }
 {
     Arg::new(alloc, "stop")
         .long("stop")
@@ -42,7 +42,7 @@ fn stop_flag<'a>(alloc: Global) -> Arg<'a>
 fn file_word<'a>(alloc: Global) -> Arg<'a>
     ensures rule { rule_of result ≡ new_rule (codes "file") }
     ensures plain { IsPlainArg result }
-    ensures local { result.global ≡ false }
+    ensures local { IsFalse result.global }
 {
     Arg::new(alloc, "file").help(
         "The script; without it, or where it is '-', the script is standard input",
@@ -52,7 +52,7 @@ fn file_word<'a>(alloc: Global) -> Arg<'a>
 /// A subcommand: a flag `--stop` and the file.
 fn part<'a>(alloc: Global, name: &'a str, about: &'a str) -> Result<Command<'a>, AllocError>
     ensures app { IfOk result (λ c. app_of c ≡ part_app name.entry.now) }
-    ensures local { IfOk result (λ c. (out-Command c).has_globals ≡ false) }
+    ensures local { IfOk result (λ c. IsFalse (out-Command c).has_globals) }
 {
     let stop = stop_flag(alloc);
     let file = file_word(alloc);

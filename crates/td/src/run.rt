@@ -1,5 +1,6 @@
 //! Whole runs: a script is read, each statement is run, each answer is written.
-ghost use Rattle.std.specs.Prelude.{◌≡◌, ℕ, ◌+◌, ◌<◌, ◌≤◌, ◌^◌, ◌&&◌, Bool, true, false, nat_lt, if◌then◌else◌, List, length, None, IfOk, IfErr, IfNone, IfSome, IsOk, OnOk};
+ghost use Rattle.std.specs.Prelude.{◌≡◌, ℕ, ◌+◌, ◌<◌, ◌≤◌, ◌^◌, ◌&&◌, Bool, nat_lt, if◌then◌else◌, List};
+ghost use Rattle.std.specs.Prelude.{length, None, IfOk, IfErr, IfNone, IfSome, IsOk, OnOk, IsTrue, IsFalse};
 ghost use Rattle.std.specs.Io.KnownBytes.{Consumes};
 ghost use Rattle.td_tree.specs.Statements.{first_statement, statements};
 ghost use Rattle.td.specs.Faults.{IfMemory, IfNotMemory, IfRead, IfReadLimit, IfWrite};
@@ -73,11 +74,11 @@ fn read_all<R: Source>(alloc: Global, reader: &mut R) -> Result<Cutter, RunFault
     ensures script { IfOk result (λ cutter.
         GaveScript (R.left reader.old) (R.left reader.new) cutter.bytes) }
     ensures begins { IfOk result (λ cutter. cutter.offset ≡ 0) }
-    ensures finished { IfOk result (λ cutter. cutter.finished ≡ true) }
-    ensures whole { OnOk result (R.is_broken reader.new ≡ false) }
+    ensures finished { IfOk result (λ cutter. IsTrue cutter.finished) }
+    ensures whole { OnOk result (IsFalse (R.is_broken reader.new)) }
     ensures memory { IfErr result (IfMemory (λ done. (done ≡ 0)
         × ((bytes : List ℕ) × Consumes (R.left reader.old) (R.left reader.new) bytes))) }
-    ensures read { IfErr result (IfRead (λ done. (done ≡ 0) × (R.is_broken reader.new ≡ true))) }
+    ensures read { IfErr result (IfRead (λ done. (done ≡ 0) × IsTrue (R.is_broken reader.new))) }
     ensures limit { IfErr result (IfReadLimit (λ done. (done ≡ 0)
         × GaveTooMuch (R.left reader.old) (R.left reader.new))) }
     ensures write { IfErr result (IfWrite (λ done. ⊥)) }
@@ -140,13 +141,13 @@ fn run_one<W: Sink>(
         (place_at cutter.old (standing engine.old (W.taken writer.old)) report.old)
         (place_at cutter.new (standing engine.new (W.taken writer.new)) report.new)) }
     ensures legal { IsLegal engine.old → IsLegal engine.new }
-    ensures whole { OnOk result (W.is_broken writer.old ≡ false → W.is_broken writer.new ≡ false) }
+    ensures whole { OnOk result (IsFalse (W.is_broken writer.old) → IsFalse (W.is_broken writer.new)) }
     ensures memory { IfErr result (IfMemory (λ done. (done ≡ report.old.statements)
         × (engine.new ≡ engine.old) × (W.taken writer.new ≡ W.taken writer.old))) }
     ensures write { IfErr result (IfWrite (λ done. (done ≡ report.old.statements + 1)
         × HasTurnedCut (place_at cutter.old (standing engine.old (W.taken writer.old)) report.old)
         (standing engine.new (W.taken writer.new)))) }
-    ensures broken { IfErr result (IfWrite (λ done. W.is_broken writer.new ≡ true)) }
+    ensures broken { IfErr result (IfWrite (λ done. IsTrue (W.is_broken writer.new))) }
     ensures read { IfErr result (IfRead (λ done. ⊥)) }
     ensures limit { IfErr result (IfReadLimit (λ done. ⊥)) }
 {
@@ -176,21 +177,21 @@ fn run_held<W: Sink>(
     writer: &mut W,
     stop: bool,
 ) -> Result<Report, RunFault>
-    requires finished { cutter.old.finished ≡ true }
+    requires finished { IsTrue cutter.old.finished }
     requires size { length cutter.old.bytes ≤ script_limit }
     requires begins { cutter.old.offset ≡ 0 }
     ensures answers { IfOk result (IsLeft
         (run_of stop (standing engine.old (W.taken writer.old)) cutter.old.bytes)
         (standing engine.new (W.taken writer.new))) }
     ensures legal { IsLegal engine.old → IsLegal engine.new }
-    ensures whole { OnOk result (W.is_broken writer.old ≡ false → W.is_broken writer.new ≡ false) }
+    ensures whole { OnOk result (IsFalse (W.is_broken writer.old) → IsFalse (W.is_broken writer.new)) }
     ensures memory { IfErr result (IfMemory (λ done. HasRun
         (run_of stop (standing engine.old (W.taken writer.old)) cutter.old.bytes) done
         (standing engine.new (W.taken writer.new)))) }
     ensures write { IfErr result (IfWrite (λ done. HasRunCut
         (run_of stop (standing engine.old (W.taken writer.old)) cutter.old.bytes) done
         (standing engine.new (W.taken writer.new)))) }
-    ensures broken { IfErr result (IfWrite (λ done. W.is_broken writer.new ≡ true)) }
+    ensures broken { IfErr result (IfWrite (λ done. IsTrue (W.is_broken writer.new))) }
     ensures read { IfErr result (IfRead (λ done. ⊥)) }
     ensures limit { IfErr result (IfReadLimit (λ done. ⊥)) }
 {
@@ -219,26 +220,26 @@ pub fn run<R: Source, W: Sink>(
     stop: bool,
 ) -> Result<Report, RunFault>
     ensures headline { IfNotMemory result (
-        R.is_broken reader.new ≡ false → W.is_broken writer.new ≡ false
+        IsFalse (R.is_broken reader.new) → IsFalse (W.is_broken writer.new)
         → GaveAtMost script_limit (R.left reader.old) (R.left reader.new) → IsOk result) }
     ensures answers { IfOk result (λ report.
         OfScript (R.left reader.old) (R.left reader.new) (λ script. IsLeft
         (run_of stop (standing engine.old (W.taken writer.old)) script)
         (standing engine.new (W.taken writer.new)) report)) }
-    ensures whole { OnOk result ((R.is_broken reader.new ≡ false)
-        × (W.is_broken writer.old ≡ false → W.is_broken writer.new ≡ false)) }
+    ensures whole { OnOk result (IsFalse (R.is_broken reader.new)
+        × (IsFalse (W.is_broken writer.old) → IsFalse (W.is_broken writer.new))) }
     ensures memory { IfErr result (IfMemory (λ done.
         OfFront done (R.left reader.old) (R.left reader.new) (λ script. HasRun
         (run_of stop (standing engine.old (W.taken writer.old)) script) done
         (standing engine.new (W.taken writer.new))))) }
-    ensures read { IfErr result (IfRead (λ done. (R.is_broken reader.new ≡ true)
+    ensures read { IfErr result (IfRead (λ done. IsTrue (R.is_broken reader.new)
         × IsUnrun done (standing engine.old (W.taken writer.old))
         (standing engine.new (W.taken writer.new)))) }
     ensures too_long { IfErr result (IfReadLimit (λ done.
         GaveTooMuch (R.left reader.old) (R.left reader.new)
         × IsUnrun done (standing engine.old (W.taken writer.old))
         (standing engine.new (W.taken writer.new)))) }
-    ensures write { IfErr result (IfWrite (λ done. (W.is_broken writer.new ≡ true)
+    ensures write { IfErr result (IfWrite (λ done. IsTrue (W.is_broken writer.new)
         × OfScript (R.left reader.old) (R.left reader.new) (λ script. HasRunCut
         (run_of stop (standing engine.old (W.taken writer.old)) script) done
         (standing engine.new (W.taken writer.new))))) }

@@ -1,5 +1,5 @@
 //! Sessions: a script on an engine of its own.
-ghost use Rattle.std.specs.Prelude.{◌≡◌, ◌≤◌, true, false, [], None, IfNone, IfSome};
+ghost use Rattle.std.specs.Prelude.{◌≡◌, ◌≤◌, [], None, IfNone, IfSome, IsTrue, IsFalse};
 ghost use Rattle.std.specs.Io.KnownBytes.{Appends};
 ghost use Rattle.td.specs.Faults.{IfMemory, IfRead, IfReadLimit, IfWrite};
 ghost use Rattle.td.specs.Scripts.{GaveTooMuch, OfFront, OfScript, script_limit};
@@ -33,24 +33,24 @@ pub fn session<R: Source, W: Sink>(
     writer: &mut W,
 ) -> Outcome
     ensures headline { UnlessMemory result.fault (
-        R.is_broken reader.new ≡ false → W.is_broken writer.new ≡ false
+        IsFalse (R.is_broken reader.new) → IsFalse (W.is_broken writer.new)
         → GaveAtMost script_limit (R.left reader.old) (R.left reader.new) → result.fault ≡ None) }
     ensures status { IsStatus result.status result.fault }
     ensures answers { IfNone result.fault (
         OfScript (R.left reader.old) (R.left reader.new) (λ script. HasAnswered
         (run_of stop (standing [] (W.taken writer.old)) script)
         result.status (W.taken writer.new))) }
-    ensures whole { IfNone result.fault ((R.is_broken reader.new ≡ false)
-        × (W.is_broken writer.old ≡ false → W.is_broken writer.new ≡ false)) }
+    ensures whole { IfNone result.fault (IsFalse (R.is_broken reader.new)
+        × (IsFalse (W.is_broken writer.old) → IsFalse (W.is_broken writer.new))) }
     ensures memory { IfSome result.fault (IfMemory (λ done.
         OfFront done (R.left reader.old) (R.left reader.new) (λ script. HasBegun
         (run_of stop (standing [] (W.taken writer.old)) script) done (W.taken writer.new)))) }
-    ensures read { IfSome result.fault (IfRead (λ done. (R.is_broken reader.new ≡ true)
+    ensures read { IfSome result.fault (IfRead (λ done. IsTrue (R.is_broken reader.new)
         × (done ≡ 0) × Appends (W.taken writer.old) (W.taken writer.new) [])) }
     ensures too_long { IfSome result.fault (IfReadLimit (λ done.
         GaveTooMuch (R.left reader.old) (R.left reader.new)
         × (done ≡ 0) × Appends (W.taken writer.old) (W.taken writer.new) [])) }
-    ensures write { IfSome result.fault (IfWrite (λ done. (W.is_broken writer.new ≡ true)
+    ensures write { IfSome result.fault (IfWrite (λ done. IsTrue (W.is_broken writer.new)
         × OfScript (R.left reader.old) (R.left reader.new) (λ script. HasBegunCut
         (run_of stop (standing [] (W.taken writer.old)) script) done (W.taken writer.new)))) }
 {

@@ -1,5 +1,6 @@
 //! Where answers go.
-ghost use Rattle.std.specs.Prelude.{◌≡◌, ℕ, ◌<◌, ◌≤◌, Bool, false, cond, List, length, Option, None, IfOk, OnOk, OnErr, is_err, take, true};
+ghost use Rattle.std.specs.Prelude.{◌≡◌, ℕ, ◌<◌, ◌≤◌, Bool, cond, List, length, Option, None, IfOk, OnOk};
+ghost use Rattle.std.specs.Prelude.{OnErr, is_err, take, IsTrue, IsFalse};
 ghost use Rattle.std.specs.Io.KnownBytes.{Appends};
 ghost use Rattle.td.specs.Told.{AppendsIfTold, Puts};
 
@@ -20,7 +21,7 @@ pub trait Sink {
         ensures some { IfOk result (λ n. 0 < length bytes.now → 0 < n) }
         ensures bytes { Puts (taken self.old) (taken self.new) result bytes.now }
         ensures broken { is_broken self.new ≡ is_err result }
-        ensures still { is_broken self.old ≡ true → self.new ≡ self.old };
+        ensures still { IsTrue (is_broken self.old) → self.new ≡ self.old };
 }
 
 /// A sink over a writer of std. An error, a write of no byte or too many answers `Interrupted`
@@ -43,7 +44,7 @@ impl<W: Write> IoSink<W> {
     /// A sink that is not broken, with the bytes that the writer has taken.
     pub fn new(writer: W) -> IoSink<W>
         ensures told { ⟦<IoSink<W> as Sink>⟧.taken result ≡ W.contents writer }
-        ensures whole { ⟦<IoSink<W> as Sink>⟧.is_broken result ≡ false }
+        ensures whole { IsFalse (⟦<IoSink<W> as Sink>⟧.is_broken result) }
     {
         IoSink {
             writer,
@@ -86,8 +87,8 @@ pub fn put_all<W: Sink>(writer: &mut W, bytes: &[u8]) -> Result<(), Broken>
     ensures written { OnOk result (Appends (W.taken writer.old) (W.taken writer.new) bytes.now) }
     ensures cut { OnErr result ((n : ℕ) × (n ≤ length bytes.now)
         × AppendsIfTold (W.taken writer.old) (W.taken writer.new) (take n bytes.now)) }
-    ensures whole { OnOk result (W.is_broken writer.old ≡ false → W.is_broken writer.new ≡ false) }
-    ensures broken { OnErr result (W.is_broken writer.new ≡ true) }
+    ensures whole { OnOk result (IsFalse (W.is_broken writer.old) → IsFalse (W.is_broken writer.new)) }
+    ensures broken { OnErr result (IsTrue (W.is_broken writer.new)) }
 {
     let mut rest = bytes;
     while !rest.is_empty() {

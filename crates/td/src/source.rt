@@ -1,5 +1,6 @@
 //! Where a script comes from.
-ghost use Rattle.std.specs.Prelude.{◌≡◌, ℕ, ◌<◌, ◌≤◌, Bool, false, cond, List, length, Option, None, IfOk, is_err, true};
+ghost use Rattle.std.specs.Prelude.{◌≡◌, ℕ, ◌<◌, ◌≤◌, Bool, cond, List, length, Option, None, IfOk, is_err};
+ghost use Rattle.std.specs.Prelude.{IsTrue, IsFalse};
 ghost use Rattle.std.specs.Io.KnownBytes.{IsAtEnd};
 ghost use Rattle.td.specs.Told.{Pulls};
 
@@ -27,7 +28,7 @@ pub trait Source {
         ensures bytes { Pulls (left self.old) (left self.new) result buffer.new }
         ensures end { IfOk result (λ n. n ≡ 0 → 0 < length buffer.new → IsAtEnd (left self.new)) }
         ensures broken { is_broken self.new ≡ is_err result }
-        ensures still { is_broken self.old ≡ true → self.new ≡ self.old };
+        ensures still { IsTrue (is_broken self.old) → self.new ≡ self.old };
 }
 
 /// A source over a reader of std. An error or too many answers `Interrupted` in a row break
@@ -50,7 +51,7 @@ impl<R: Read> IoSource<R> {
     /// A source that is not broken, with the bytes that the reader has.
     pub fn new(reader: R) -> IoSource<R>
         ensures told { ⟦<IoSource<R> as Source>⟧.left result ≡ R.remaining reader }
-        ensures whole { ⟦<IoSource<R> as Source>⟧.is_broken result ≡ false }
+        ensures whole { IsFalse (⟦<IoSource<R> as Source>⟧.is_broken result) }
     {
         IoSource {
             reader,

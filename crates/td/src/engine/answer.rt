@@ -1,5 +1,5 @@
 //! The answers to statements.
-ghost use Rattle.std.specs.Prelude.{◌≡◌, ◌++◌, codes, false, true, IfOk, None, Some};
+ghost use Rattle.std.specs.Prelude.{◌≡◌, ◌++◌, codes, IfOk, None, Some, IsTrue, IsFalse};
 ghost use Rattle.std.specs.String.{string_bytes};
 ghost use Rattle.td_tree.specs.declared.cause.Cause.TheVariants as causes;
 ghost use Rattle.td.specs.Machine.{line, refusal_text};
@@ -42,7 +42,7 @@ fn refusal(alloc: Global, cause: Cause) -> Result<String, AllocError>
 impl Answer {
     /// A statement that is accepted and prints this.
     pub fn accepted(text: String) -> Result<Answer, AllocError>
-        ensures flag { IfOk result (λ a. (a.accepted ≡ true) × (a.cause ≡ None)) }
+        ensures flag { IfOk result (λ a. IsTrue a.accepted × (a.cause ≡ None)) }
         ensures text { IfOk result (λ a. string_bytes a.text ≡ line (string_bytes text)) }
     {
         let text = line(text)?;
@@ -55,7 +55,7 @@ impl Answer {
 
     /// A statement that is accepted and prints no value.
     pub fn ok(alloc: Global) -> Result<Answer, AllocError>
-        ensures flag { IfOk result (λ a. (a.accepted ≡ true) × (a.cause ≡ None)) }
+        ensures flag { IfOk result (λ a. IsTrue a.accepted × (a.cause ≡ None)) }
         ensures text { IfOk result (λ a. string_bytes a.text ≡ line (codes "OK")) }
     {
         Answer::accepted(String::from_str(alloc, "OK")?)
@@ -63,7 +63,7 @@ impl Answer {
 
     /// A statement that is refused by this cause.
     pub fn refused(alloc: Global, cause: Cause) -> Result<Answer, AllocError>
-        ensures flag { IfOk result (λ a. (a.accepted ≡ false) × (a.cause ≡ Some cause)) }
+        ensures flag { IfOk result (λ a. IsFalse a.accepted × (a.cause ≡ Some cause)) }
         ensures text { IfOk result (λ a. string_bytes a.text ≡ line (refusal_text cause)) }
     {
         let text = line(refusal(alloc, cause)?)?;
@@ -76,7 +76,7 @@ impl Answer {
 
     /// A statement that is refused because a key of this relvar would not hold.
     pub fn key_refused(alloc: Global, relvar: &Name) -> Result<Answer, AllocError>
-        ensures flag { IfOk result (λ a. (a.accepted ≡ false) × (a.cause ≡ Some causes.Key)) }
+        ensures flag { IfOk result (λ a. IsFalse a.accepted × (a.cause ≡ Some causes.Key)) }
         ensures text { IfOk result (λ a. string_bytes a.text
             ≡ line (refusal_text causes.Key ++ codes " " ++ relvar.now)) }
     {

@@ -1,5 +1,6 @@
 //! Databases.
-ghost use Rattle.std.specs.Prelude.{◌≡◌, ◌<◌, [], ◌∷◌, ◌++◌, IfSome, length, None, OnErr, OnOk, option_map, true};
+ghost use Rattle.std.specs.Prelude.{◌≡◌, ◌<◌, [], ◌∷◌, ◌++◌, IfSome, length, None, OnErr, OnOk, option_map};
+ghost use Rattle.std.specs.Prelude.{IsTrue};
 ghost use Rattle.std.specs.List.{position_from};
 ghost use Rattle.td_types.specs.Types.{same_name};
 ghost use Rattle.td_value.specs.Values.{IsRelation};
@@ -116,7 +117,7 @@ impl Database {
     pub fn set_value(&mut self, name: &Name, value: Rel)
         requires target { IsAssignable self.old name.now value }
         requires relation { IsRelation value }
-        requires keys { target_holds (relvar_at name.now self.old) value.body ≡ true }
+        requires keys { IsTrue (target_holds (relvar_at name.now self.old) value.body) }
         ensures changed { self.new ≡ with_relation name.now value self.old }
         ensures legal { IsLegal self.new }
     {

@@ -1,5 +1,5 @@
 //! What statements do to a database, and what is answered.
-ghost use Rattle.std.specs.Prelude.{◌≡◌, [], ◌∷◌, ◌++◌, IfOk, None, OnErr, map, true};
+ghost use Rattle.std.specs.Prelude.{◌≡◌, [], ◌∷◌, ◌++◌, IfOk, None, OnErr, map, IsTrue};
 ghost use Rattle.td_tree.specs.Outcomes.{Answers, with_both};
 ghost use Rattle.td.specs.Machine as machine;
 ghost use Rattle.td.specs.Assignable.{IsAssignable};
@@ -96,7 +96,7 @@ fn add(
     heading: Heading,
 ) -> Result<Answer, AllocError>
     requires free { relvar_at definition.name database.old ≡ None }
-    requires fit { keys_fit heading (map (λ key. key.items) definition.keys.items) ≡ true }
+    requires fit { IsTrue (keys_fit heading (map (λ key. key.items) definition.keys.items)) }
     ensures done { IfOk result (λ a. Does (changed database.old (database.old ++ (new_relvar
         definition.name (map (λ key. key.items) definition.keys.items) heading ∷ []))) a
         database.new) }
