@@ -5,7 +5,8 @@ ghost use Rattle.td_parse.specs.Views.{item_view, named_part_view};
 ghost use Rattle.td_tree.specs.Heights as heights;
 ghost use Rattle.td_parse.specs.Reading.{named_from, summaries_from, trees_from};
 ghost use Rattle.td_tree.specs.Trees as trees;
-ghost use Rattle.td_tree.specs.TreeViews.{attributes_view, heading_tree_view, literal_view, postfix_view, summaries_view, tree_view, trees_view};
+ghost use Rattle.td_tree.specs.TreeViews.{attributes_view, heading_tree_view, literal_view};
+ghost use Rattle.td_tree.specs.TreeViews.{postfix_view, summaries_view, tree_view, trees_view};
 
 use crate::parts::{Elements, NamedParts, Summaries};
 use std::alloc::{AllocError, Global};

@@ -1,5 +1,6 @@
 //! The cutter of a script into statements.
-ghost use Rattle.std.specs.Prelude.{◌≡◌, ◌+◌, ◌-◌, ◌<◌, ◌≤◌, ◌^◌, [], ◌++◌, length, IfOk, IfSome, OnOk, OnErr, IsFalse, Some, false, true, option_map};
+ghost use Rattle.std.specs.Prelude.{◌≡◌, ◌+◌, ◌-◌, ◌<◌, ◌≤◌, ◌^◌, [], ◌++◌, length, IfOk, IfSome};
+ghost use Rattle.std.specs.Prelude.{OnOk, OnErr, IsFalse, Some, false, true, option_map};
 ghost use Rattle.td_scan.specs.Fronts.{end_of_last};
 ghost use Rattle.td_tree.specs.Statements.{Held, after, behind, first_statement, is_end};
 

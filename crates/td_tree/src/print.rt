@@ -6,8 +6,11 @@ ghost use Rattle.td_tree.specs.declared.token.Sign.TheVariants as signs;
 ghost use Rattle.td_tree.specs.Grammar.{aggregate_word};
 ghost use Rattle.td_tree.specs.Lexemes.{keyword, sign};
 ghost use Rattle.td_tree.specs.Lists.{braced, parenthesized};
-ghost use Rattle.td_tree.specs.Prints.{addition_lexemes, all_lexemes, commas, heading_lexemes, lexemes_of, part_lexemes, print, summary_lexemes, type_lexemes, type_print};
-ghost use Rattle.td_tree.specs.TreeViews.{heading_tree_view, named_view, summaries_view, tree_view, trees_view, type_tree_view};
+ghost use Rattle.td_tree.specs.Prints.{addition_lexemes, all_lexemes, commas, heading_lexemes};
+ghost use Rattle.td_tree.specs.Prints.{lexemes_of, part_lexemes, print, summary_lexemes};
+ghost use Rattle.td_tree.specs.Prints.{type_lexemes, type_print};
+ghost use Rattle.td_tree.specs.TreeViews.{heading_tree_view, named_view, summaries_view, tree_view};
+ghost use Rattle.td_tree.specs.TreeViews.{trees_view, type_tree_view};
 ghost use Rattle.td_tree.specs.Written.{Writes};
 
 mod words;

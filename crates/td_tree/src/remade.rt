@@ -3,7 +3,9 @@ ghost use Rattle.std.specs.Prelude.{◌≡◌, IfOk};
 ghost use Rattle.std.specs.Rc.{rc_str_bytes};
 ghost use Rattle.td_tree.specs.Copies.{Boxed, Copied};
 ghost use Rattle.td_tree.specs.Trees as trees;
-ghost use Rattle.td_tree.specs.TreeViews.{attributes_view, heading_tree_view, literal_view, named_view, postfix_view, summaries_view, tree_view, trees_view};
+ghost use Rattle.td_tree.specs.TreeViews.{attributes_view, heading_tree_view, literal_view};
+ghost use Rattle.td_tree.specs.TreeViews.{named_view, postfix_view, summaries_view, tree_view};
+ghost use Rattle.td_tree.specs.TreeViews.{trees_view};
 
 use crate::both::both;
 use crate::expression::{Attributes, Expr, Literal, NamedExpr, Postfix, Summary};

@@ -1,11 +1,23 @@
-//! Names in lists: whether one is there, and whether one comes twice.
-ghost use Rattle.std.specs.Prelude.{◌≡◌, ◌∷◌, map, not};
+//! Names in lists: whether one is there, and whether one comes twice; the names of entries.
+ghost use Rattle.std.specs.Prelude.{◌≡◌, ◌∷◌, IfOk, map, not};
 ghost use Rattle.std.specs.Ordering.{is_lt, nat_cmp};
 ghost use Rattle.std.specs.Cmp.Lexicographic.{slice_cmp};
 ghost use Rattle.std.specs.List.Sorted.{IsSortedBy};
 ghost use Rattle.td_types.specs.Headings.{are_distinct, has_name};
 
+use std::alloc::{AllocError, Global};
 use td_tree::name::Name;
+
+/// The names of the entries.
+pub fn names_of<T>(alloc: Global, entries: &[(Name, T)]) -> Result<Vec<Name>, AllocError>
+    ensures { IfOk result (λ names. names.items ≡ map (λ e. e.0) entries.now) }
+{
+    let mut names = Vec::with_capacity(alloc, entries.len())?;
+    for (name, _) in entries {
+        names.push(name.try_clone()?)?;
+    }
+    Ok(names)
+}
 
 /// Whether the name is one of the names.
 pub fn is_among(name: &Name, names: &[Name]) -> bool

@@ -1,12 +1,13 @@
 //! Renaming: each renaming is a pair of an old and a new name, and all are done at once.
-ghost use Rattle.std.specs.Prelude.{◌≡◌, IfOk, map};
+ghost use Rattle.std.specs.Prelude.{◌≡◌, IfOk};
 ghost use Rattle.td_tree.specs.Outcomes.{Answers};
-ghost use Rattle.td_types.specs.Headings.{IsMap, are_distinct, can_rename, has_attributes};
-ghost use Rattle.td_types.specs.Headings.{has_name, new_name, new_names, renamed, renamed_heading};
+ghost use Rattle.td_types.specs.Headings.{IsMap, can_rename, new_name, new_names, renamed};
+ghost use Rattle.td_types.specs.Headings.{renamed_heading};
 ghost use Rattle.td_types.specs.Types.{type_at};
-ghost use Rattle.td_types.specs.Views.{heading_view};
 
-use crate::heading::{Attribute, Heading};
+use crate::heading::Heading;
+use crate::names::{are_distinct, names_of};
+use std::alloc::AllocError;
 use td_tree::cause::Cause;
 use td_tree::fault::Fault;
 use td_tree::name::Name;
@@ -23,78 +24,25 @@ fn new_name<'a>(name: &'a Name, renamings: &'a [(Name, Name)]) -> &'a Name
     name
 }
 
-/// Whether the name is an old name.
-fn is_old(name: &Name, renamings: &[(Name, Name)]) -> bool
-    ensures { result ≡ has_name name.now (map (λ r. r.0) renamings.now) }
-{
-    for (old, _) in renamings {
-        if old == name {
-            return true;
-        }
-    }
-    false
-}
-
-/// Whether no old name comes twice.
-fn are_old_distinct(renamings: &[(Name, Name)]) -> bool
-    ensures { result ≡ are_distinct (map (λ r. r.0) renamings.now) }
-{
-    let mut rest = renamings;
-    while let [(old, _), later @ ..] = rest {
-        if is_old(old, later) {
-            return false;
-        }
-        rest = later;
-    }
-    true
-}
-
-/// Whether the name is the new name of one of the attributes.
-fn is_new(name: &Name, attributes: &[Attribute], renamings: &[(Name, Name)]) -> bool
-    ensures { result ≡ has_name name.now (new_names renamings.now (heading_view attributes.now)) }
-{
-    for attribute in attributes {
-        if new_name(&attribute.name, renamings) == name {
-            return true;
-        }
-    }
-    false
-}
-
-/// Whether no two attributes have the same new name.
-fn are_new_distinct(attributes: &[Attribute], renamings: &[(Name, Name)]) -> bool
-    ensures { result ≡ are_distinct (new_names renamings.now (heading_view attributes.now)) }
-{
-    let mut rest = attributes;
-    while let [attribute, later @ ..] = rest {
-        if is_new(new_name(&attribute.name, renamings), later, renamings) {
-            return false;
-        }
-        rest = later;
-    }
-    true
-}
-
 impl Heading {
-    /// Whether there is an attribute of each old name.
-    fn has_old(&self, renamings: &[(Name, Name)]) -> bool
-        ensures { result ≡ has_attributes (map (λ r. r.0) renamings.now) self.now }
+    /// The names that the attributes have then.
+    fn new_names(&self, renamings: &[(Name, Name)]) -> Result<Vec<Name>, AllocError>
+        ensures { IfOk result (λ names. names.items ≡ new_names renamings.now self.now) }
     {
-        for (old, _) in renamings {
-            if self.get(old).is_none() {
-                return false;
-            }
+        let mut names = Vec::new(*self.attributes.allocator());
+        for attribute in &self.attributes {
+            names.push(new_name(&attribute.name, renamings).try_clone()?)?;
         }
-        true
+        Ok(names)
     }
 
     /// Whether the renamings can be done.
-    fn can_rename(&self, renamings: &[(Name, Name)]) -> bool
-        ensures { result ≡ can_rename renamings.now self.now }
+    fn can_rename(&self, renamings: &[(Name, Name)]) -> Result<bool, AllocError>
+        ensures { IfOk result (λ can. can ≡ can_rename renamings.now self.now) }
     {
-        self.has_old(renamings)
-            && are_old_distinct(renamings)
-            && are_new_distinct(&self.attributes, renamings)
+        let old_names = names_of(*self.attributes.allocator(), renamings)?;
+        let new_names = self.new_names(renamings)?;
+        Ok(self.has_all(&old_names) && are_distinct(&old_names) && are_distinct(&new_names))
     }
 
     /// Each attribute under its new name: refused where an old name is not there or comes twice,
@@ -104,7 +52,7 @@ impl Heading {
         ensures types { IfOk result (λ h.
             IsMap h (λ n. type_at n (renamed renamings.now self.now))) }
     {
-        if !self.can_rename(renamings) {
+        if !self.can_rename(renamings)? {
             return Err(Fault::Refused(Cause::Heading));
         }
         let mut heading = Heading::empty(*self.attributes.allocator());

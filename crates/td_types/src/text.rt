@@ -9,8 +9,8 @@ use crate::heading::Heading;
 use crate::ty::Ty;
 use std::alloc::{AllocError, Global};
 
-/// Puts what stands before a part.
-fn put_comma(out: &mut String, later: bool) -> Result<(), AllocError>
+/// Puts what stands before a part: a comma and a space, where it is a later one.
+pub fn put_comma(out: &mut String, later: bool) -> Result<(), AllocError>
     ensures { OnOk result (string_bytes out.new ≡ string_bytes out.old ++ comma_if later) }
 {
     if later {

@@ -18,16 +18,7 @@ use std::alloc::{AllocError, Global};
 use td_tree::name::Name;
 use td_tree::quoted::put_quoted;
 use td_types::heading::Heading;
-use td_types::text::put_relation_type;
-
-fn put_comma(out: &mut String, later: bool) -> Result<(), AllocError>
-    ensures { OnOk result (string_bytes out.new ≡ string_bytes out.old ++ comma_if later) }
-{
-    if later {
-        out.push_str(", ")?;
-    }
-    Ok(())
-}
+use td_types::text::{put_comma, put_relation_type};
 
 fn put_number(out: &mut String, n: i64) -> Result<(), AllocError>
     ensures { OnOk result (string_bytes out.new ≡ string_bytes out.old ++ signed_decimal n) }

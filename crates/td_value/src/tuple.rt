@@ -17,7 +17,7 @@ use std::rc::Rc;
 use td_tree::cause::Cause;
 use td_tree::fault::Fault;
 use td_tree::name::Name;
-use td_types::names::{is_among, repeats_a_name};
+use td_types::names::{is_among, names_of, repeats_a_name};
 
 /// A finite map from names to values, seen as its entries in name order. The tuples of one relation share one list of
 /// names, and copies of a tuple share its values too.
@@ -102,7 +102,7 @@ fn listed_names(
 {
     match like {
         Some(like) if are_names_of(&like.names, entries) => like.names.clone(),
-        _ => Ok(Rc::new(alloc, own_names(alloc, entries)?)?),
+        _ => Ok(Rc::new(alloc, names_of(alloc, entries)?)?),
     }
 }
 
@@ -121,17 +121,6 @@ fn are_names_of(names: &[Name], entries: &[(Name, Value)]) -> bool
         place += 1;
     }
     true
-}
-
-/// The names of the entries.
-fn own_names(alloc: Global, entries: &[(Name, Value)]) -> Result<Vec<Name>, AllocError>
-    ensures { IfOk result (λ names. names.items ≡ tuple_names entries.now) }
-{
-    let mut names = Vec::with_capacity(alloc, entries.len())?;
-    for (name, _) in entries {
-        put(&mut names, name.try_clone()?)?;
-    }
-    Ok(names)
 }
 
 /// The values of the entries.

@@ -7,7 +7,9 @@ ghost use Rattle.td_tree.specs.Grammar.{comparison_word, operator_words};
 ghost use Rattle.td_tree.specs.Lexemes.{Lexeme, spaced};
 ghost use Rattle.td_tree.specs.Lexemes as lexeme;
 ghost use Rattle.td_tree.specs.Lists.{parenthesized};
-ghost use Rattle.td_tree.specs.Prints.{as_lexemes, attributes_lexemes, commas, literal_lexemes, name_lexemes, postfix_lexemes, prefix_words, renaming_lexemes};
+ghost use Rattle.td_tree.specs.Prints.{as_lexemes, attributes_lexemes, commas, literal_lexemes};
+ghost use Rattle.td_tree.specs.Prints.{name_lexemes, postfix_lexemes, prefix_words};
+ghost use Rattle.td_tree.specs.Prints.{renaming_lexemes};
 ghost use Rattle.td_tree.specs.TreeViews.{attributes_view, literal_view, postfix_view, renaming_view};
 ghost use Rattle.td_tree.specs.Written.{Writes, comma_lexeme_if, written};
 
