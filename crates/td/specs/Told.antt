@@ -1,5 +1,5 @@
 -- What a call of a source or a sink does to the bytes that it tells (this project's own; in std's words).
-use Rattle.std.specs.Prelude.{◌≡◌, ℕ, ◌+◌, ◌≤◌, List, ◌++◌, length, take, Option, Some, Result, MatchResult, ⊤}
+use Rattle.std.specs.Prelude.{◌≡◌, ℕ, ◌+◌, ◌≤◌, List, ◌++◌, length, take, Option, Some, Result, MatchResult, ⊤, Bool, IsFalse}
 use Rattle.std.specs.Io.KnownBytes.{Appends, Consumes}
 
 -- bytes that are told before and after are the same
@@ -24,3 +24,7 @@ AppendsIfTold _ _ bytes = ⊤
 abbrev pub GaveAtMost : ℕ → Option (List ℕ) → Option (List ℕ) → Type 0
 GaveAtMost limit (Some xs) (Some ys) = length xs ≤ limit + length ys
 GaveAtMost limit _ _ = ⊥
+
+-- a source or a sink that was not broken is not broken after
+abbrev pub StaysWhole : Bool → Bool → Type 0
+StaysWhole old new = IsFalse old → IsFalse new

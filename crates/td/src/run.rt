@@ -7,7 +7,7 @@ ghost use Rattle.td.specs.Faults.{IfMemory, IfNotMemory, IfRead, IfReadLimit, If
 ghost use Rattle.td.specs.Legality.{IsLegal};
 ghost use Rattle.td.specs.Scripts.{GaveScript, GaveTooMuch, OfFront, OfScript, script_limit};
 ghost use Rattle.td.specs.Standing.{HasRun, HasRunCut, IsLeft, IsUnrun, run_of, standing};
-ghost use Rattle.td.specs.Told.{GaveAtMost};
+ghost use Rattle.td.specs.Told.{GaveAtMost, StaysWhole};
 ghost use Rattle.td.specs.Turns.{HasTurnedCut, IsReading, Turned, place_at};
 
 use crate::engine::Engine;
@@ -141,7 +141,7 @@ fn run_one<W: Sink>(
         (place_at cutter.old (standing engine.old (W.taken writer.old)) report.old)
         (place_at cutter.new (standing engine.new (W.taken writer.new)) report.new)) }
     ensures legal { IsLegal engine.old → IsLegal engine.new }
-    ensures whole { OnOk result (IsFalse (W.is_broken writer.old) → IsFalse (W.is_broken writer.new)) }
+    ensures whole { OnOk result (StaysWhole (W.is_broken writer.old) (W.is_broken writer.new)) }
     ensures memory { IfErr result (IfMemory (λ done. (done ≡ report.old.statements)
         × (engine.new ≡ engine.old) × (W.taken writer.new ≡ W.taken writer.old))) }
     ensures write { IfErr result (IfWrite (λ done. (done ≡ report.old.statements + 1)
@@ -184,7 +184,7 @@ fn run_held<W: Sink>(
         (run_of stop (standing engine.old (W.taken writer.old)) cutter.old.bytes)
         (standing engine.new (W.taken writer.new))) }
     ensures legal { IsLegal engine.old → IsLegal engine.new }
-    ensures whole { OnOk result (IsFalse (W.is_broken writer.old) → IsFalse (W.is_broken writer.new)) }
+    ensures whole { OnOk result (StaysWhole (W.is_broken writer.old) (W.is_broken writer.new)) }
     ensures memory { IfErr result (IfMemory (λ done. HasRun
         (run_of stop (standing engine.old (W.taken writer.old)) cutter.old.bytes) done
         (standing engine.new (W.taken writer.new)))) }
@@ -227,7 +227,7 @@ pub fn run<R: Source, W: Sink>(
         (run_of stop (standing engine.old (W.taken writer.old)) script)
         (standing engine.new (W.taken writer.new)) report)) }
     ensures whole { OnOk result (IsFalse (R.is_broken reader.new)
-        × (IsFalse (W.is_broken writer.old) → IsFalse (W.is_broken writer.new))) }
+        × StaysWhole (W.is_broken writer.old) (W.is_broken writer.new)) }
     ensures memory { IfErr result (IfMemory (λ done.
         OfFront done (R.left reader.old) (R.left reader.new) (λ script. HasRun
         (run_of stop (standing engine.old (W.taken writer.old)) script) done

@@ -5,7 +5,7 @@ ghost use Rattle.td.specs.Faults.{IfMemory, IfRead, IfReadLimit, IfWrite};
 ghost use Rattle.td.specs.Scripts.{GaveTooMuch, OfFront, OfScript, script_limit};
 ghost use Rattle.td.specs.Sessions.{HasAnswered, HasBegun, HasBegunCut, IsStatus, UnlessMemory};
 ghost use Rattle.td.specs.Standing.{run_of, standing};
-ghost use Rattle.td.specs.Told.{GaveAtMost};
+ghost use Rattle.td.specs.Told.{GaveAtMost, StaysWhole};
 
 use crate::engine::Engine;
 use crate::line::Mode;
@@ -41,7 +41,7 @@ pub fn session<R: Source, W: Sink>(
         (run_of stop (standing [] (W.taken writer.old)) script)
         result.status (W.taken writer.new))) }
     ensures whole { IfNone result.fault (IsFalse (R.is_broken reader.new)
-        × (IsFalse (W.is_broken writer.old) → IsFalse (W.is_broken writer.new))) }
+        × StaysWhole (W.is_broken writer.old) (W.is_broken writer.new)) }
     ensures memory { IfSome result.fault (IfMemory (λ done.
         OfFront done (R.left reader.old) (R.left reader.new) (λ script. HasBegun
         (run_of stop (standing [] (W.taken writer.old)) script) done (W.taken writer.new)))) }

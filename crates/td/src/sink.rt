@@ -2,7 +2,7 @@
 ghost use Rattle.std.specs.Prelude.{◌≡◌, ℕ, ◌<◌, ◌≤◌, Bool, cond, List, length, Option, None, IfOk, OnOk};
 ghost use Rattle.std.specs.Prelude.{OnErr, is_err, take, IsTrue, IsFalse};
 ghost use Rattle.std.specs.Io.KnownBytes.{Appends};
-ghost use Rattle.td.specs.Told.{AppendsIfTold, Puts};
+ghost use Rattle.td.specs.Told.{AppendsIfTold, Puts, StaysWhole};
 
 use crate::source::{Broken, PATIENCE};
 use std::io::{ErrorKind, Write};
@@ -87,7 +87,7 @@ pub fn put_all<W: Sink>(writer: &mut W, bytes: &[u8]) -> Result<(), Broken>
     ensures written { OnOk result (Appends (W.taken writer.old) (W.taken writer.new) bytes.now) }
     ensures cut { OnErr result ((n : ℕ) × (n ≤ length bytes.now)
         × AppendsIfTold (W.taken writer.old) (W.taken writer.new) (take n bytes.now)) }
-    ensures whole { OnOk result (IsFalse (W.is_broken writer.old) → IsFalse (W.is_broken writer.new)) }
+    ensures whole { OnOk result (StaysWhole (W.is_broken writer.old) (W.is_broken writer.new)) }
     ensures broken { OnErr result (IsTrue (W.is_broken writer.new)) }
 {
     let mut rest = bytes;

@@ -77,7 +77,8 @@ impl Model for NamedParts {
 
     ghost view = { λ p. p.items.items };
 
-    ghost invariant = { λ p. p.height ≡ min (highest_named (named_view p.items.items)) (2 ^ 64 - 1) };
+    ghost invariant = { λ p.
+        p.height ≡ min (highest_named (named_view p.items.items)) (2 ^ 64 - 1) };
 }
 
 impl NamedParts {

@@ -214,8 +214,8 @@ fn defined(
     keys: Vec<Vec<Name>>,
 ) -> Result<Statement, Fault>
     ensures { (o : Option (List Text)) → Answers (λ v. v.items) heading (or_syntax o)
-        → Answers first_path_view result
-        (or_syntax (option_map (λ names. written.define name names (map (λ key. key.items) keys.items)) o)) }
+        → Answers first_path_view result (or_syntax (option_map (λ names.
+        written.define name names (map (λ key. key.items) keys.items)) o)) }
 {
     Ok(Statement::Define(Definition {
         name,
