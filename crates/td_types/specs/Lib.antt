@@ -6,6 +6,8 @@ pub mod Keys
 pub mod NameTests
 pub mod Texts
 pub mod TypeCode
+pub mod TypeLists
 pub mod TypeOrder
+pub mod TypeTrees
 pub mod Types
 pub mod Views

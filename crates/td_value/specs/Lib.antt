@@ -1,8 +1,10 @@
 pub mod Depths
 pub mod Falls
 pub mod Hashes
+pub mod KnownValues
 pub mod Laws
 pub mod Literal
+pub mod LiteralTrees
 pub mod Sets
 pub mod ValueCode
 pub mod ValueOrder
