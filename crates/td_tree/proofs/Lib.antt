@@ -1,4 +1,6 @@
+pub mod ApartLaws
 pub mod BadTokens
+pub mod Boundaries
 pub mod ByteOrder
 pub mod CharacterLaws
 pub mod CommentLaws
@@ -14,6 +16,7 @@ pub mod LeastCauses
 pub mod Letters
 pub mod OtherTexts
 pub mod OwnLexemes
+pub mod OwnSpellings
 pub mod PieceLaws
 pub mod PlainLexemes
 pub mod PrintLaws
@@ -21,6 +24,7 @@ pub mod Pushes
 pub mod QuotedLaws
 pub mod Rows
 pub mod RunLaws
+pub mod SeenLaws
 pub mod SliceLaws
 pub mod SpacedLaws
 pub mod StableBytes

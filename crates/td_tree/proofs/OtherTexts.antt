@@ -1,5 +1,5 @@
 -- Numbers, signs and texts in quotes are tokens by themselves.
-use Rattle.std.proofs.Common.{IsUtf8, ◌≡◌, ℕ, ◌+◌, ◌-◌, ◌*◌, ◌^◌, ◌<◌, List, [], ◌∷◌, length, refl, sym, ap, ◌∙◌, arith, true, Some, None, ◌&&◌, map}
+use Rattle.std.proofs.Common.{IsUtf8, ◌≡◌, ℕ, ◌+◌, ◌-◌, ◌*◌, ◌^◌, ◌<◌, List, [], ◌∷◌, length, refl, sym, ap, ◌∙◌, arith, true, Some, ◌&&◌, map}
 use Rattle.std.specs.Prelude.{fold, if◌then◌else◌}
 use Rattle.std.specs.Char.{is_ascii_digit}
 use Rattle.std.specs.Fmt.{decimal}
@@ -17,11 +17,12 @@ use Rattle.td_tree.specs.declared.token.Kind.TheVariants as kinds
 use Rattle.td_tree.specs.declared.token.Sign.{Sign}
 use Rattle.td_tree.specs.declared.token.Sign.TheVariants as signs
 use Rattle.td_tree.specs.Numbers.{decimal_value}
-use Rattle.td_tree.specs.Pieces.{goes_on, sign_goes_on, passes}
+use Rattle.td_tree.specs.Pieces.{passes}
 use Rattle.td_tree.specs.Signs.{sign_text}
 use Rattle.td_tree.specs.Spellings.{is_number_spelled, spelling, characters}
 use Rattle.td_tree.specs.Symbols.{symbols}
 use Rattle.td_tree.specs.TextTokens.{quoted}
+use Rattle.td_tree.proofs.Boundaries.{number_ends, sign_ends, text_ends}
 use Rattle.td_tree.proofs.CharacterLaws.{characters_are}
 use Rattle.td_tree.proofs.KindLaws.{as_spelled}
 use Rattle.td_tree.proofs.QuotedLaws.{quoted_state}
@@ -47,7 +48,6 @@ number_spelled (d ∷ ds) some all = digits_pass (d ∷ ds) all
 
 -- a number in decimal is a token
 pub number_stands : (n : ℕ) → n < 2 ^ 64 → Stands (decimal n) kinds.Number
-unfolding goes_on
 number_stands n low =
     let ascii = IsAscii-decimal n low in
     let ds = decimal_is_IsNumeral n low in
@@ -55,7 +55,7 @@ number_stands n low =
       piece = Number;
       is = (as_spelled (symbols (decimal n)) Number).1
           (ap is_number_spelled (characters_are (decimal n) (IsUtf8-from_ascii (decimal n) ascii) ∙ ap (map Some) (chars-IsAscii (decimal n) ascii)) ∙ number_spelled (decimal n) ds.0.0 ds.0.1);
-      ends = refl;
+      ends = number_ends;
       kind_is = refl;
     }
 
@@ -79,11 +79,6 @@ unfolding is_utf8 chars lib.Utf8.encode
 sign_characters signs.Assign = refl
 sign_characters _ = refl
 
-sign_ends : (s : Sign) → goes_on (pieces_are.Sign s) (Some 32) ≡ None
-unfolding goes_on sign_goes_on
-sign_ends signs.Assign = refl
-sign_ends _ = refl
-
 -- a sign is a token
 pub sign_stands : (s : Sign) → Stands (sign_text s) (kinds.Sign s)
 sign_stands s = record {
@@ -97,10 +92,9 @@ sign_stands s = record {
 
 -- a text in quotes that says UTF-8 is a token
 pub text_stands : (said : List ℕ) → IsUtf8 said → Stands (quoted said) kinds.Text
-unfolding goes_on
 text_stands said utf8 = record {
   piece = pieces_are.Text;
   is = quoted_state said;
-  ends = refl;
+  ends = text_ends;
   kind_is = ap (λ b. Some (if b then kinds.Text else kinds.Bad)) (same_utf8 said ∙ is_utf8-from_IsUtf8 said utf8);
 }

@@ -33,7 +33,7 @@ use Rattle.td_tree.proofs.WordTexts.{keyword_stands, name_stands, component_stan
 -- ---- what the tokens of a script are
 
 -- what the lexeme of a token is, numbers and bad tokens aside
-abbrev IsProper : Lexeme → Type 0
+abbrev pub IsProper : Lexeme → Type 0
 IsProper (lexeme.name n) = IsUtf8 n × (is_name n ≡ true)
 IsProper (lexeme.component rest) = StandsBehindThe rest
 IsProper (lexeme.text said) = IsUtf8 said
@@ -62,10 +62,10 @@ all_proper (t ∷ ts) = (proper t.kind t.text, all_proper ts)
 
 -- ---- a printed lexeme is its own token
 
-record Prints (l : Lexeme) : Type 0 where
-  kind : Kind
-  stands : Stands (printed l) kind
-  same : lexeme_of kind (printed l) ≡ l
+pub record Prints (l : Lexeme) : Type 0 where
+  pub kind : Kind
+  pub stands : Stands (printed l) kind
+  pub same : lexeme_of kind (printed l) ≡ l
 
 the_same : (b : Bool) (x : Lexeme) → b ≡ true → (if b then x else lexeme.bad) ≡ x
 the_same true x e = refl
@@ -85,7 +85,7 @@ quoted_again said utf8 =
     same_all [] = refl
     same_all (b ∷ bs) = ap (λ t. t && pointwise ◌==◌ bs bs) (let e : (b == b) ≡ true = grind (arith, nat_tests) in e) ∙ same_all bs
 
-prints : (l : Lexeme) → IsPlain l → IsProper l → Prints l
+pub prints : (l : Lexeme) → IsPlain l → IsProper l → Prints l
 prints (lexeme.keyword k) p q = record { kind = kinds.Reserved k; stands = keyword_stands k; same = refl }
 prints (lexeme.sign s) p q = record { kind = kinds.Sign s; stands = sign_stands s; same = refl }
 prints (lexeme.name n) p q = record {

@@ -12,9 +12,10 @@ use Rattle.td_tree.specs.declared.piece.Piece.TheVariants.{Word}
 use Rattle.td_tree.specs.declared.token.Kind.TheVariants as kinds
 use Rattle.td_tree.specs.Keywords.{keyword_of, word_of}
 use Rattle.td_tree.specs.Names.{is_name, is_word, is_word_start, is_word_more, begins_the}
-use Rattle.td_tree.specs.Pieces.{goes_on, passes, word_kind, word_kind_of}
+use Rattle.td_tree.specs.Pieces.{passes, word_kind, word_kind_of}
 use Rattle.td_tree.specs.Spellings.{is_word_spelled}
 use Rattle.td_tree.specs.Symbols.{symbols}
+use Rattle.td_tree.proofs.Boundaries.{word_ends}
 use Rattle.td_tree.proofs.CharacterLaws.{both, characters_are}
 use Rattle.td_tree.proofs.KindLaws.{as_spelled}
 use Rattle.td_tree.proofs.SpacedLaws.{Stands}
@@ -28,16 +29,12 @@ word_spelled : (cs : List ℕ) → is_word cs ≡ true → is_word_spelled (map 
 word_spelled [] e = absurd cc
 word_spelled (c ∷ cs) e = ap (λ b. is_word_start c && b) (all_pass is_word_more cs) ∙ e
 
-no_space : goes_on Word (Some 32) ≡ None
-unfolding goes_on
-no_space = rw (ascii_more 32 (omega arith)) refl
-
 -- a word is a token of its kind
 pub word_stands : (t : List ℕ) → IsUtf8 t → is_word (chars t) ≡ true → Stands t (word_kind t)
 word_stands t utf8 word = record {
   piece = Word;
   is = (as_spelled (symbols t) Word).1 (ap is_word_spelled (characters_are t utf8) ∙ word_spelled (chars t) word);
-  ends = no_space;
+  ends = word_ends;
   kind_is = refl;
 }
 
