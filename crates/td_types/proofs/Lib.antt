@@ -5,5 +5,6 @@ pub mod Made
 pub mod NameTests
 pub mod Plain
 pub mod Search
+pub mod TypeSpellings
 pub mod TypeTexts
 pub mod Valued

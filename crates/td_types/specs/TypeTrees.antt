@@ -1,7 +1,11 @@
 -- The tree of a type: its attributes in name order (this project's own).
+use Rattle.td_tree.specs.Grammar.{TypeSpelling}
+use Rattle.td_tree.specs.Statements.{tokens}
+use Rattle.td_tree.specs.TokenLexemes.{lexemes}
 use Rattle.td_tree.specs.Trees.{TypeTree, AttributeTrees, no_attributes, attribute}
 use Rattle.td_tree.specs.Trees as trees
-use Rattle.td_types.specs.Types.{Type', boolean, integer, char, user, tuple, relation, Attrs, no_attrs, attr}
+use Rattle.td_types.specs.Texts.{type_text}
+use Rattle.td_types.specs.Types.{Type', boolean, integer, char, user, tuple, relation, Attrs, no_attrs, attr, IsType}
 
 abbrev mutual
   pub type_tree : Type' → TypeTree
@@ -15,3 +19,10 @@ abbrev mutual
   pub attribute_trees : Attrs → AttributeTrees
   attribute_trees no_attrs = no_attributes
   attribute_trees (attr name ty rest) = attribute name (type_tree ty) (attribute_trees rest)
+
+-- ---- laws
+
+-- the tokens of a type's text spell its tree
+abbrev pub TypeTextsSpellTheirTrees : Type 0
+TypeTextsSpellTheirTrees =
+    (t : Type') → IsType t → TypeSpelling (lexemes (tokens 0 (type_text t))) (type_tree t)

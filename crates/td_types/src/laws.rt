@@ -3,6 +3,7 @@ ghost use Rattle.td_types.specs.Headings.{AgreementIsOneType, RenamingKeepsTypes
 ghost use Rattle.td_types.specs.Headings.{TypesDetermineHeading};
 ghost use Rattle.td_types.specs.NameTests.{NameTestsTell};
 ghost use Rattle.td_types.specs.Texts.{TextsTellTypesApart};
+ghost use Rattle.td_types.specs.TypeTrees.{TypeTextsSpellTheirTrees};
 
 /// Two headings that give every name the same type are equal.
 pub fn types_determine_heading()
@@ -28,4 +29,9 @@ pub fn texts_tell_types_apart()
 /// two places.
 pub fn name_tests_tell()
     ensures { NameTestsTell }
+{}
+
+/// The tokens of a type's text spell the type's tree.
+pub fn type_texts_spell_their_trees()
+    ensures { TypeTextsSpellTheirTrees }
 {}
