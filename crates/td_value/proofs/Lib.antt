@@ -2,6 +2,7 @@ pub mod Ends
 pub mod Headed
 pub mod HeadingOf
 pub mod Kept
+pub mod LiteralSpellings
 pub mod Maps
 pub mod Members
 pub mod Rows

@@ -1,6 +1,6 @@
 -- The values of a type where types are declared (Tutorial D's): each user value has, in number and in declared order,
 -- components of the types that its own type declares, at every depth.
-use Rattle.std.specs.Prelude.{◌≡◌, List, [], ◌∷◌, ◌++◌, Some, ⊤, ⊥}
+use Rattle.std.specs.Prelude.{◌≡◌, List, [], ◌∷◌, ◌++◌, Some, ⊤}
 use Rattle.td_types.specs.TypeLists.{DeclaredType, AreKnown, declared_at}
 use Rattle.td_types.specs.Types.{Type', Attribute, Attrs, no_attrs, attr}
 use Rattle.td_types.specs.Types as types

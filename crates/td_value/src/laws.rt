@@ -5,6 +5,7 @@ ghost use Rattle.td_value.specs.Laws.{RelationsAreTheirMembers, RelationsCompare
 ghost use Rattle.td_value.specs.Laws.{SetsHaveTheMembersOfTheirLists, SetsOfJoinedLists};
 ghost use Rattle.td_value.specs.Laws.{TuplesCompareByValues, TypesOfValuesAreTypes};
 ghost use Rattle.td_value.specs.Laws.{UserValuesCompareByComponents};
+ghost use Rattle.td_value.specs.LiteralTrees.{LiteralsSpellTheirTrees};
 
 /// `==` on values, on tuples and on relations tells whether they are the same.
 pub fn equality_is_sameness()
@@ -49,4 +50,9 @@ pub fn sets_of_joined_lists()
 /// A relation is its heading and its members: two of one heading with the same members are one.
 pub fn relations_are_their_members()
     ensures { RelationsAreTheirMembers }
+{}
+
+/// The tokens of a value's literal spell the value's tree, where that is not too high.
+pub fn literals_spell_their_trees()
+    ensures { LiteralsSpellTheirTrees }
 {}
