@@ -1,4 +1,5 @@
 pub mod ApartLaws
+pub mod ApartRows
 pub mod BadTokens
 pub mod Boundaries
 pub mod ByteOrder

@@ -8,7 +8,7 @@ use Rattle.td_tree.specs.Lists.{braced, parenthesized}
 use Rattle.td_tree.specs.Pieces.{goes_on, kind_after, opens, sign_at, sign_goes_on}
 use Rattle.td_tree.specs.Statements.{token_of, tokens}
 use Rattle.td_tree.specs.TokenLexemes.{lexemes}
-use Rattle.td_tree.proofs.ApartLaws.{apart_alone, next_token}
+use Rattle.td_tree.proofs.ApartLaws.{ends_alone, next_token}
 use Rattle.td_tree.proofs.Boundaries.{IsBounded}
 use Rattle.td_tree.proofs.PlainLexemes.{IsPlain}
 use Rattle.td_tree.proofs.PrintLaws.{IsProper, prints}
@@ -40,7 +40,7 @@ space_seen rest ls seen at = ap lexemes (tokens_after_space rest at) ∙ seen (a
 
 alone_seen : (s : Sign) (b : ℕ) (rest : List ℕ) (ls : List Lexeme) → b < 128 → opens (Some b) ≡ pieces_are.Sign s → ((c : Option ℕ) → goes_on (opens (Some b)) c ≡ None) → IsSeen rest ls → IsSeen (b ∷ rest) (sign s ∷ ls)
 alone_seen s b rest ls ascii is ends seen at =
-    ap lexemes (next_token (opens (Some b)) (b ∷ []) rest at (apart_alone b rest ascii ends))
+    ap lexemes (next_token (opens (Some b)) (b ∷ []) rest at (ends_alone b rest ascii ends))
     ∙ ap (λ p. lexemes (token_of (kind_after p (b ∷ [])) at (b ∷ []) ++ tokens (at + 1) rest)) is
     ∙ ap (λ r. sign s ∷ r) (seen (at + 1))
 

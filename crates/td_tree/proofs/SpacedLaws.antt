@@ -5,7 +5,7 @@ use Rattle.td_tree.specs.Statements.{PlacedToken, token_of, tokens}
 use Rattle.td_tree.specs.Symbols.{symbols}
 use Rattle.td_tree.specs.declared.piece.Piece.{Piece}
 use Rattle.td_tree.specs.declared.token.Kind.{Kind}
-use Rattle.td_tree.proofs.ApartLaws.{apart_alone, apart_bounded, next_token}
+use Rattle.td_tree.proofs.ApartLaws.{ends_alone, ends_bounded, next_token}
 use Rattle.td_tree.proofs.Boundaries.{IsBounded, is_boundary}
 
 -- bytes that are a token of this kind by themselves, which a boundary ends
@@ -21,13 +21,13 @@ token_at at t kind = record { kind = kind; text = t; start = at; stop = at + len
 -- such bytes before a boundary, or at the end, are the first token
 pub token_before : (t rest : List ℕ) (kind : Kind) (at : ℕ) → Stands t kind → IsBounded rest → tokens at (t ++ rest) ≡ token_at at t kind ∷ tokens (at + length t) rest
 token_before t rest kind at s bounded =
-    next_token s.piece t rest at (apart_bounded t rest s.piece s.is s.ends bounded)
+    next_token s.piece t rest at (ends_bounded t rest s.piece s.is s.ends bounded)
     ∙ ap (λ k. token_of k at t ++ tokens (at + length t) rest) s.kind_is
 
 -- a space is no token
 pub tokens_after_space : (rest : List ℕ) (at : ℕ) → tokens at (32 ∷ rest) ≡ tokens (at + 1) rest
 unfolding opens goes_on
-tokens_after_space rest at = next_token (opens (Some 32)) (32 ∷ []) rest at (apart_alone 32 rest (omega arith) (λ c. refl))
+tokens_after_space rest at = next_token (opens (Some 32)) (32 ∷ []) rest at (ends_alone 32 rest (omega arith) (λ c. refl))
 
 -- such bytes before a space are the first token
 pub token_before_space : (t rest : List ℕ) (kind : Kind) (at : ℕ) → Stands t kind → tokens at (t ++ 32 ∷ rest) ≡ token_at at t kind ∷ tokens (at + length t + 1) rest

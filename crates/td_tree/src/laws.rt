@@ -3,6 +3,7 @@ ghost use Rattle.std.specs.Prelude.{◌≡◌, ◌+◌, ◌++◌, ◌↔◌, ℕ
 ghost use Rattle.std.specs.List.{flat_map};
 ghost use Rattle.td_tree.specs.declared.piece.Piece.{Piece};
 ghost use Rattle.td_tree.specs.declared.token.Kind.TheVariants as kinds;
+ghost use Rattle.td_tree.specs.Apart.{TextsApartAreSeenEach, TextsApartAreThePieces};
 ghost use Rattle.td_tree.specs.Names.{BytesCompareAsCodePoints};
 ghost use Rattle.td_tree.specs.Outcomes.{LeastIsNamed};
 ghost use Rattle.td_tree.specs.Pieces.{AreLongest, kind_of, pieces, state, text_kind};
@@ -118,4 +119,12 @@ pub fn same_in_every_continuation()
     ensures { (at : ℕ) (bytes : List ℕ) (first : List PlacedToken)
         → first_ended at bytes ≡ Some first
         → (later : List ℕ) → first_ended at (bytes ++ later) ≡ Some first }
+{}
+
+/// Texts of which no two neighbours could be one piece are the pieces of what they make, and the
+/// grammar sees of that what it sees of each.
+#[tactic(auto, using(crate::proofs::ApartRows::are_the_pieces, crate::proofs::ApartRows::are_seen_each))]
+pub fn texts_apart_are_pieces()
+    ensures pieces { TextsApartAreThePieces }
+    ensures lexemes { TextsApartAreSeenEach }
 {}
