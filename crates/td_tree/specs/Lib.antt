@@ -1,6 +1,8 @@
+pub mod CauseCode
 pub mod Causes
 pub mod Copies
 pub mod Division
+pub mod Gatherings
 pub mod Grammar
 pub mod Hashes
 pub mod Heights
@@ -8,6 +10,7 @@ pub mod Keywords
 pub mod Lexemes
 pub mod Lists
 pub mod Names
+pub mod NodeCode
 pub mod Numbers
 pub mod Outcomes
 pub mod Pieces
@@ -21,6 +24,7 @@ pub mod Statements
 pub mod Symbols
 pub mod TextTokens
 pub mod TokenLexemes
+pub mod TreeCode
 pub mod TreeViews
 pub mod Trees
 pub mod Written
