@@ -11,6 +11,7 @@ pub mod Doubling
 pub mod EndLaws
 pub mod EndOfStatement
 pub mod FrontLaws
+pub mod Gatherings
 pub mod HeldLaws
 pub mod KindLaws
 pub mod LeastCauses

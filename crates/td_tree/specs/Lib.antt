@@ -1,7 +1,9 @@
 pub mod Apart
+pub mod CauseCode
 pub mod Causes
 pub mod Copies
 pub mod Division
+pub mod Gatherings
 pub mod Grammar
 pub mod Hashes
 pub mod Heights
@@ -9,6 +11,7 @@ pub mod Keywords
 pub mod Lexemes
 pub mod Lists
 pub mod Names
+pub mod NodeCode
 pub mod Numbers
 pub mod Outcomes
 pub mod Pieces
@@ -22,6 +25,7 @@ pub mod Statements
 pub mod Symbols
 pub mod TextTokens
 pub mod TokenLexemes
+pub mod TreeCode
 pub mod TreeViews
 pub mod Trees
 pub mod Written

@@ -6,6 +6,7 @@ pub mod cause;
 mod copy;
 pub mod expression;
 pub mod fault;
+pub mod gathering;
 pub mod height;
 pub mod keyword;
 pub mod laws;

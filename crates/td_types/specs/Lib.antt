@@ -6,6 +6,7 @@ pub mod Keys
 pub mod NameTests
 pub mod Texts
 pub mod TypeCode
+pub mod TypeListLaws
 pub mod TypeLists
 pub mod TypeOrder
 pub mod TypeTrees

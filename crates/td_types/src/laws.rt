@@ -3,6 +3,10 @@ ghost use Rattle.td_types.specs.Headings.{AgreementIsOneType, RenamingKeepsTypes
 ghost use Rattle.td_types.specs.Headings.{TypesDetermineHeading};
 ghost use Rattle.td_types.specs.NameTests.{NameTestsTell};
 ghost use Rattle.td_types.specs.Texts.{TextsTellTypesApart};
+ghost use Rattle.td_types.specs.TypeListLaws.{ComponentsHaveLesserRanks, KnownTypesHaveRanks};
+ghost use Rattle.td_types.specs.TypeListLaws.{LaterTypesKeepMeanings, LaterTypesKeepNames};
+ghost use Rattle.td_types.specs.TypeListLaws.{LaterTypesKeepRanks, MeantTypesAreKnown};
+ghost use Rattle.td_types.specs.TypeListLaws.{TypeTreesMeanTheirTypes};
 ghost use Rattle.td_types.specs.TypeTrees.{TypeTextsSpellTheirTrees};
 
 /// Two headings that give every name the same type are equal.
@@ -29,6 +33,34 @@ pub fn texts_tell_types_apart()
 /// two places.
 pub fn name_tests_tell()
     ensures { NameTestsTell }
+{}
+
+/// What a type tree of names means is a type, and its user types are declared.
+pub fn meant_types_are_known()
+    ensures { MeantTypesAreKnown }
+{}
+
+/// The tree of a type whose user types are declared means the type.
+pub fn type_trees_mean_their_types()
+    ensures { TypeTreesMeanTheirTypes }
+{}
+
+/// Where more types are declared, names find what they found, trees mean what they meant, and
+/// types have the ranks that they had.
+pub fn later_types_change_nothing()
+    ensures names { LaterTypesKeepNames }
+    ensures meanings { LaterTypesKeepMeanings }
+    ensures ranks { LaterTypesKeepRanks }
+{}
+
+/// A type whose user types are declared has a rank, which is at least 1.
+pub fn known_types_have_ranks()
+    ensures { KnownTypesHaveRanks }
+{}
+
+/// The type of each component of a declared type has a lesser rank.
+pub fn components_have_lesser_ranks()
+    ensures { ComponentsHaveLesserRanks }
 {}
 
 /// The tokens of a type's text spell the type's tree.

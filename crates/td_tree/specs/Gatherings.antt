@@ -1,0 +1,35 @@
+-- The causes of several answers, gathered one answer after another (this project's own).
+use Rattle.std.specs.Prelude.{◌≡◌, List, [], Option, Some, None, Result, Ok, Err, ⊤}
+use Rattle.td_tree.specs.Outcomes.{Outcome, Valued, gathered, lesser, named_cause}
+use Rattle.td_tree.specs.declared.cause.Cause.{Cause}
+use Rattle.td_tree.specs.declared.fault.Fault.{Fault}
+use Rattle.td_tree.specs.declared.fault.Fault.TheVariants as faults
+
+-- the least of what two may name
+abbrev pub lesser_cause : Option Cause → Option Cause → Option Cause
+lesser_cause None d = d
+lesser_cause (Some c) None = Some c
+lesser_cause (Some c) (Some d) = Some (lesser c d)
+
+-- the cause that an answer names
+abbrev pub cause_of : {X : Type 0} → Result X Fault → Option Cause
+cause_of (Ok x) = None
+cause_of (Err (faults.Refused cause)) = Some cause
+cause_of (Err faults.Memory) = None
+
+-- what is left of an answer when its cause is gathered: its value, if it has one, or want of memory
+abbrev pub IsRest : {X E : Type 0} → Result X Fault → Result (Option X) E → Type 0
+IsRest (Ok x) rest = rest ≡ Ok (Some x)
+IsRest (Err (faults.Refused cause)) rest = rest ≡ Ok None
+IsRest (Err faults.Memory) (Ok x) = ⊥
+IsRest (Err faults.Memory) (Err e) = ⊤
+
+-- what is answered at the end: the value, where no cause was gathered
+abbrev pub answer_of : {X : Type 0} → Option Cause → X → Result X Fault
+answer_of None x = Ok x
+answer_of (Some cause) x = Err (faults.Refused cause)
+
+-- the least cause of these outcomes; where they have none, these are their values
+abbrev pub IsGathered : {A : Type 0} → Option Cause → List A → List (Outcome A) → Type 0
+IsGathered None xs os = gathered os ≡ Valued xs
+IsGathered (Some cause) xs os = named_cause (gathered os) ≡ Some cause
