@@ -4,6 +4,7 @@ pub mod HeadingLaws
 pub mod Made
 pub mod NameTests
 pub mod Plain
+pub mod Ranks
 pub mod Search
 pub mod TypeTexts
 pub mod Valued
