@@ -1,13 +1,13 @@
 -- Values of known types: what they keep where more types are declared, and what their types are.
-use Rattle.std.proofs.Common.{◌≡◌, ◌∙◌, ◌++◌, ap, refl, sym, subst, arith, ℕ, zero, suc, List, [], ◌∷◌}
+use Rattle.std.proofs.Common.{◌≡◌, ◌∙◌, ◌++◌, ap, refl, sym, subst, arith, map, ℕ, zero, suc, List, [], ◌∷◌}
 use Rattle.std.specs.Prelude.{is_some}
 use Rattle.std.specs.List.{Contains}
 use Rattle.td_types.specs.TypeLists.{AreKnown, DeclaredType}
 use Rattle.td_types.specs.Types.{Type', Attribute, Attrs, no_attrs, attr, Heading, pack}
 use Rattle.td_types.specs.Types as types
 use Rattle.td_types.proofs.Ranks.{all_known_more, declared_more}
-use Rattle.td_value.specs.KnownValues.{AreOfTypes, HasHeading, HasType, HaveHeading, KnownValuesHaveKnownTypes, KnownValuesHaveTheirTypes, LongerListsKeepTypes, TuplesHaveTheHeadingsOfTheirValues, ValuesHaveOneType}
-use Rattle.td_value.specs.Values.{Val, boolean, integer, char, user, tuple, relation, Parts, no_parts, part, Fields, no_fields, field, Rows, no_rows, row, Tuple, fields_type, heading_of, pack_fields, type_of}
+use Rattle.td_value.specs.KnownValues.{AreOfTypes, HasHeading, HasType, HaveHeading, KnownValuesHaveKnownTypes, KnownValuesHaveTheirTypes, LongerListsKeepTypes, TuplesHaveTheHeadingsOfTheirValues, UserValuesAreOfTheirTypes, ValuesHaveOneType}
+use Rattle.td_value.specs.Values.{Val, boolean, integer, char, user, tuple, relation, Parts, no_parts, part, Fields, no_fields, field, Rows, no_rows, row, Tuple, HaveTypesOf, fields_type, heading_of, pack_fields, pack_parts, type_of}
 
 mutual
   pub kept : LongerListsKeepTypes
@@ -97,4 +97,47 @@ pub by_values : TuplesHaveTheHeadingsOfTheirValues
 by_values ds t heading = (
   λ h. (heading_is ds t heading h, values_typed ds t heading h),
   λ g. subst (λ (other : Heading). HasHeading ds (pack_fields t) (pack other)) g.0 (has_own ds t g.1),
+)
+
+-- ---- user values
+
+types_are : (ds : List DeclaredType) (vs : List Val) (components : List Attribute) → AreOfTypes ds (pack_parts vs) components → HaveTypesOf vs components
+types_are ds [] [] h = refl
+types_are ds [] (a ∷ rest) h = absurd h
+types_are ds (v ∷ vs) [] h = absurd h
+types_are ds (v ∷ vs) (a ∷ rest) h =
+    let first = has_its_type ds v a.1 h.0 in
+    let others = types_are ds vs rest h.1 in
+    λ i. first i ∷ others i
+
+components_typed : (ds : List DeclaredType) (vs : List Val) (components : List Attribute) → AreOfTypes ds (pack_parts vs) components
+    → (v : Val) → Contains vs v → HasType ds v (type_of v)
+components_typed ds [] components h x c = absurd (omega (arith, c.1))
+components_typed ds (v ∷ vs) [] h x c = absurd h
+components_typed ds (v ∷ vs) (a ∷ rest) h x (zero, k, is) =
+    subst (λ (w : Val). HasType ds w (type_of w)) is (subst (HasType ds v) (sym (has_its_type ds v a.1 h.0)) h.0)
+components_typed ds (v ∷ vs) (a ∷ rest) h x (suc i, k, is) = components_typed ds vs rest h.1 x (i, omega (arith, k), is)
+
+fronts : (s t : Type') (ss ts : List Type') → s ∷ ss ≡ t ∷ ts → (s ≡ t) × (ss ≡ ts)
+fronts s t ss ts e = (cc, cc)
+
+of_types : (ds : List DeclaredType) (vs : List Val) (components : List Attribute) → HaveTypesOf vs components
+    → ((v : Val) → Contains vs v → HasType ds v (type_of v)) → AreOfTypes ds (pack_parts vs) components
+of_types ds [] [] e h = tt
+of_types ds [] (a ∷ rest) e h = absurd (cc)
+of_types ds (v ∷ vs) [] e h = absurd (cc)
+of_types ds (v ∷ vs) (a ∷ rest) e h =
+    let both = fronts (type_of v) a.1 (map type_of vs) (map (λ (b : Attribute). b.1) rest) e in (
+      subst (HasType ds v) both.0 (h v (zero, omega arith, refl)),
+      of_types ds vs rest both.1 (λ w c. h w (suc c.0, omega (arith, c.1), c.2)),
+    )
+
+pub by_components : UserValuesAreOfTheirTypes
+by_components ds u d e = (
+  λ h.
+      let given = sym h.2 ∙ e in
+      let same : h.1 ≡ d = cc in
+      let parts = subst (λ (c : DeclaredType). AreOfTypes ds (pack_parts u.components) c.components) same h.3 in
+      (types_are ds u.components d.components parts, components_typed ds u.components d.components parts),
+  λ g. (refl, d, e, of_types ds u.components d.components g.0 g.1),
 )

@@ -5,7 +5,7 @@ use Rattle.std.specs.List.{Contains}
 use Rattle.td_types.specs.TypeLists.{DeclaredType, AreKnown, IsKnown, declared_at}
 use Rattle.td_types.specs.Types.{Type', Attribute, Attrs, no_attrs, attr, Heading, pack}
 use Rattle.td_types.specs.Types as types
-use Rattle.td_value.specs.Values.{Val, boolean, integer, char, user, tuple, relation, Parts, no_parts, part, Fields, no_fields, field, Rows, no_rows, row, Tuple, heading_of, pack_fields, type_of}
+use Rattle.td_value.specs.Values.{Val, boolean, integer, char, user, tuple, relation, Parts, no_parts, part, Fields, no_fields, field, Rows, no_rows, row, Tuple, UserValue, HaveTypesOf, heading_of, pack_fields, selected_value, type_of}
 
 abbrev mutual
   pub HasType : List DeclaredType → Val → Type' → Type 0
@@ -66,3 +66,12 @@ TuplesHaveTheHeadingsOfTheirValues =
     → HasHeading ds (pack_fields t) (pack heading)
     ↔ ((heading_of t ≡ heading)
     × ((e : List ℕ × Val) → Contains t e → HasType ds e.1 (type_of e.1)))
+
+-- a user value is of its declared type exactly where its components have the types of that type's components, and each
+-- is of its own type
+abbrev pub UserValuesAreOfTheirTypes : Type 0
+UserValuesAreOfTheirTypes =
+    (ds : List DeclaredType) (u : UserValue) (d : DeclaredType) → declared_at u.name ds ≡ Some d
+    → HasType ds (selected_value u) (types.user u.name)
+    ↔ (HaveTypesOf u.components d.components
+    × ((v : Val) → Contains u.components v → HasType ds v (type_of v)))

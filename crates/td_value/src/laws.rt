@@ -3,6 +3,7 @@
 ghost use Rattle.td_value.specs.KnownValues.{KnownValuesHaveKnownTypes, KnownValuesHaveTheirTypes};
 ghost use Rattle.td_value.specs.KnownValues.{LongerListsKeepTypes, ValuesHaveOneType};
 ghost use Rattle.td_value.specs.KnownValues.{TuplesHaveTheHeadingsOfTheirValues};
+ghost use Rattle.td_value.specs.KnownValues.{UserValuesAreOfTheirTypes};
 ghost use Rattle.td_value.specs.LiteralTrees.{LiteralsAreLow};
 ghost use Rattle.td_value.specs.Laws.{EqualityIsSameness, LiteralsTellValuesApart};
 ghost use Rattle.td_value.specs.Laws.{RelationsAreTheirMembers, RelationsCompareByRows};
@@ -78,6 +79,12 @@ pub fn known_values_have_known_types()
 /// A tuple has a heading exactly where that is its own, and each of its values is of its own type.
 pub fn tuples_have_the_headings_of_their_values()
     ensures { TuplesHaveTheHeadingsOfTheirValues }
+{}
+
+/// A user value is of its declared type exactly where its components have the types of that type's
+/// components, and each is of its own type.
+pub fn user_values_are_of_their_types()
+    ensures { UserValuesAreOfTheirTypes }
 {}
 
 /// The tree of a value's literal is at most twice as high as the rank of the value's type.
