@@ -2,11 +2,13 @@ pub mod Attributes
 pub mod DeclaredTypes
 pub mod DistinctNames
 pub mod HeadingLaws
+pub mod KnownTypes
 pub mod Made
 pub mod Meanings
 pub mod NameTests
 pub mod OutcomeLaws
 pub mod Plain
+pub mod RankBounds
 pub mod Ranks
 pub mod Search
 pub mod TypeSpellings

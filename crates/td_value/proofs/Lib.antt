@@ -2,6 +2,8 @@ pub mod Ends
 pub mod Headed
 pub mod HeadingOf
 pub mod Kept
+pub mod KnownValues
+pub mod LiteralHeights
 pub mod LiteralSpellings
 pub mod Maps
 pub mod Members

@@ -1,10 +1,11 @@
 -- The values of a type where types are declared (Tutorial D's): each user value has, in number and in declared order,
 -- components of the types that its own type declares, at every depth.
-use Rattle.std.specs.Prelude.{◌≡◌, List, [], ◌∷◌, ◌++◌, Some, ⊤}
-use Rattle.td_types.specs.TypeLists.{DeclaredType, AreKnown, declared_at}
-use Rattle.td_types.specs.Types.{Type', Attribute, Attrs, no_attrs, attr}
+use Rattle.std.specs.Prelude.{◌≡◌, ◌↔◌, ℕ, List, [], ◌∷◌, ◌++◌, Some, ⊤}
+use Rattle.std.specs.List.{Contains}
+use Rattle.td_types.specs.TypeLists.{DeclaredType, AreKnown, IsKnown, declared_at}
+use Rattle.td_types.specs.Types.{Type', Attribute, Attrs, no_attrs, attr, Heading, pack}
 use Rattle.td_types.specs.Types as types
-use Rattle.td_value.specs.Values.{Val, boolean, integer, char, user, tuple, relation, Parts, no_parts, part, Fields, no_fields, field, Rows, no_rows, row}
+use Rattle.td_value.specs.Values.{Val, boolean, integer, char, user, tuple, relation, Parts, no_parts, part, Fields, no_fields, field, Rows, no_rows, row, Tuple, UserValue, HaveTypesOf, heading_of, pack_fields, selected_value, type_of}
 
 abbrev mutual
   pub HasType : List DeclaredType → Val → Type' → Type 0
@@ -42,3 +43,35 @@ abbrev mutual
 abbrev pub LongerListsKeepTypes : Type 0
 LongerListsKeepTypes =
     (ds more : List DeclaredType) (v : Val) (t : Type') → HasType ds v t → HasType (ds ++ more) v t
+
+-- the type of a value of a type is that type
+abbrev pub KnownValuesHaveTheirTypes : Type 0
+KnownValuesHaveTheirTypes =
+    (ds : List DeclaredType) (v : Val) (t : Type') → HasType ds v t → type_of v ≡ t
+
+-- so no value is of two types, wherever they are declared
+abbrev pub ValuesHaveOneType : Type 0
+ValuesHaveOneType =
+    (ds es : List DeclaredType) (v : Val) (s t : Type') → HasType ds v s → HasType es v t → s ≡ t
+
+-- the type of which a value is, is known
+abbrev pub KnownValuesHaveKnownTypes : Type 0
+KnownValuesHaveKnownTypes =
+    (ds : List DeclaredType) (v : Val) (t : Type') → HasType ds v t → IsKnown ds t
+
+-- a tuple has a heading exactly where that heading is the tuple's, and each of its values is of its own type
+abbrev pub TuplesHaveTheHeadingsOfTheirValues : Type 0
+TuplesHaveTheHeadingsOfTheirValues =
+    (ds : List DeclaredType) (t : Tuple) (heading : Heading)
+    → HasHeading ds (pack_fields t) (pack heading)
+    ↔ ((heading_of t ≡ heading)
+    × ((e : List ℕ × Val) → Contains t e → HasType ds e.1 (type_of e.1)))
+
+-- a user value is of its declared type exactly where its components have the types of that type's components, and each
+-- is of its own type
+abbrev pub UserValuesAreOfTheirTypes : Type 0
+UserValuesAreOfTheirTypes =
+    (ds : List DeclaredType) (u : UserValue) (d : DeclaredType) → declared_at u.name ds ≡ Some d
+    → HasType ds (selected_value u) (types.user u.name)
+    ↔ (HaveTypesOf u.components d.components
+    × ((v : Val) → Contains u.components v → HasType ds v (type_of v)))

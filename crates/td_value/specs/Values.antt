@@ -10,7 +10,7 @@ use Rattle.td_tree.specs.Names.{IsName}
 use Rattle.td_tree.specs.Outcomes.{Outcome, value_if}
 use Rattle.td_tree.specs.declared.cause.Cause.TheVariants as causes
 use Rattle.td_types.specs.Headings.{are_distinct, has_name}
-use Rattle.td_types.specs.Types.{Type', IsHeading, same_name, Attrs, no_attrs, attr, Heading, attrs_cmp, pack}
+use Rattle.td_types.specs.Types.{Type', IsHeading, same_name, Attrs, no_attrs, attr, Attribute, Heading, attrs_cmp, pack}
 use Rattle.td_types.specs.Types as types
 use Rattle.td_value.specs.Sets.{set_of}
 
@@ -158,6 +158,10 @@ abbrev mutual
 -- the heading of a tuple: each name with the type of its value
 abbrev pub heading_of : Tuple → Heading
 heading_of = map (λ e. (e.0, type_of e.1))
+
+-- the values have, in number and order, the types of the components
+abbrev pub HaveTypesOf : List Val → List Attribute → Type 0
+HaveTypesOf vs components = map type_of vs ≡ map (λ a. a.1) components
 
 -- ---- what holds of every value, at every depth
 

@@ -1,5 +1,10 @@
 //! What sets of tuples, the order of values and their literals are to their callers: each function
 //! has its contract alone.
+ghost use Rattle.td_value.specs.KnownValues.{KnownValuesHaveKnownTypes, KnownValuesHaveTheirTypes};
+ghost use Rattle.td_value.specs.KnownValues.{LongerListsKeepTypes, ValuesHaveOneType};
+ghost use Rattle.td_value.specs.KnownValues.{TuplesHaveTheHeadingsOfTheirValues};
+ghost use Rattle.td_value.specs.KnownValues.{UserValuesAreOfTheirTypes};
+ghost use Rattle.td_value.specs.LiteralTrees.{LiteralsAreLow};
 ghost use Rattle.td_value.specs.Laws.{EqualityIsSameness, LiteralsTellValuesApart};
 ghost use Rattle.td_value.specs.Laws.{RelationsAreTheirMembers, RelationsCompareByRows};
 ghost use Rattle.td_value.specs.Laws.{SetsHaveTheMembersOfTheirLists, SetsOfJoinedLists};
@@ -55,4 +60,40 @@ pub fn relations_are_their_members()
 /// The tokens of a value's literal spell the value's tree, where that is not too high.
 pub fn literals_spell_their_trees()
     ensures { LiteralsSpellTheirTrees }
+{}
+
+/// A value keeps its type where more types are declared.
+pub fn longer_lists_keep_types()
+    ensures { LongerListsKeepTypes }
+{}
+
+/// The type of a value that is of a type, where types are declared, is that type.
+pub fn known_values_have_their_types()
+    ensures { KnownValuesHaveTheirTypes }
+{}
+
+/// No value is of two types, wherever they are declared.
+pub fn values_have_one_type()
+    ensures { ValuesHaveOneType }
+{}
+
+/// The user types in the type of a value are declared, at every depth.
+pub fn known_values_have_known_types()
+    ensures { KnownValuesHaveKnownTypes }
+{}
+
+/// A tuple has a heading exactly where that is its own, and each of its values is of its own type.
+pub fn tuples_have_the_headings_of_their_values()
+    ensures { TuplesHaveTheHeadingsOfTheirValues }
+{}
+
+/// A user value is of its declared type exactly where its components have the types of that type's
+/// components, and each is of its own type.
+pub fn user_values_are_of_their_types()
+    ensures { UserValuesAreOfTheirTypes }
+{}
+
+/// The tree of a value's literal is at most twice as high as the rank of the value's type.
+pub fn literals_are_low()
+    ensures { LiteralsAreLow }
 {}

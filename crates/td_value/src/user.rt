@@ -1,11 +1,13 @@
 //! User values.
-ghost use Rattle.std.specs.Prelude.{◌≡◌};
-ghost use Rattle.td_value.specs.Values.{AreValues, pack_parts};
+ghost use Rattle.std.specs.Prelude.{◌≡◌, ◌↔◌, IsTrue};
+ghost use Rattle.td_types.specs.Views.{pairs_view};
+ghost use Rattle.td_value.specs.Values.{AreValues, HaveTypesOf, pack_parts};
 ghost use Rattle.td_value.specs.Views.{user_view};
 
 use crate::value::Value;
 use std::marker::Model;
 use td_tree::name::Name;
+use td_types::ty::Ty;
 
 /// A user value: its type's name, with its components in declared order.
 #[cycle(value)]
@@ -63,6 +65,30 @@ impl User {
     {
         &self.components
     }
+
+    /// Whether it has as many components as those, each of the type of the one at its place.
+    pub fn has_components(&self, components: &[(Name, Ty)]) -> bool
+        ensures { IsTrue result ↔ HaveTypesOf self.now.components (pairs_view components.now) }
+    {
+        have_types(self.components(), components)
+    }
+}
+
+/// Whether the values have, in number and order, the types of the components.
+fn have_types(values: &[Value], components: &[(Name, Ty)]) -> bool
+    ensures { IsTrue result ↔ HaveTypesOf values.now (pairs_view components.now) }
+{
+    if values.len() != components.len() {
+        return false;
+    }
+    let mut place = 0;
+    for value in values {
+        if !value.has_type(&components[place].1) {
+            return false;
+        }
+        place += 1;
+    }
+    true
 }
 
 /// Each of the values is a value at every depth.
