@@ -1,5 +1,5 @@
 -- The causes of several answers, gathered one answer after another (this project's own).
-use Rattle.std.specs.Prelude.{◌≡◌, List, [], Option, Some, None, Result, Ok, Err, ⊤}
+use Rattle.std.specs.Prelude.{◌≡◌, List, Option, Some, None, Result, Ok, Err, ⊤}
 use Rattle.td_tree.specs.Outcomes.{Outcome, Valued, gathered, lesser, named_cause}
 use Rattle.td_tree.specs.declared.cause.Cause.{Cause}
 use Rattle.td_tree.specs.declared.fault.Fault.{Fault}
