@@ -1,13 +1,17 @@
+pub mod Additions
 pub mod Attributes
 pub mod DeclaredTypes
 pub mod DistinctNames
 pub mod HeadingLaws
+pub mod KeptRanks
 pub mod Made
 pub mod Meanings
 pub mod NameTests
 pub mod OutcomeLaws
 pub mod Plain
 pub mod Ranks
+pub mod Resolutions
 pub mod Search
+pub mod Tables
 pub mod TypeTexts
 pub mod Valued
