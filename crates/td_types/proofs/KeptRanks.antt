@@ -7,7 +7,7 @@ use Rattle.td_types.specs.Tables.{kept_rank}
 use Rattle.td_types.specs.TypeLists.{AreDeclared, AreKnown, DeclaredType, IsKnown, greatest_rank, is_declared, limited_rank, rank_limit, rank_of, rank_over, user_ranks, with_rank}
 use Rattle.td_types.specs.Types.{Attrs, Type', attr, boolean, char, integer, no_attrs, pack, relation, same_name, tuple, user}
 use Rattle.td_types.proofs.OutcomeLaws.{value_of_with, values_of_both}
-use Rattle.td_types.proofs.Ranks.{known_have_ranks, no_ranks}
+use Rattle.td_types.proofs.Ranks.{greater, known_have_ranks, no_ranks, one_more}
 use Rattle.std.proofs.lemmas.Bool.Decides.{leb_tells}
 
 -- the greater of two that may be none
@@ -15,9 +15,6 @@ abbrev pub kept_greater : Option ℕ → Option ℕ → Option ℕ
 kept_greater None k = None
 kept_greater (Some a) None = None
 kept_greater (Some a) (Some b) = Some (max a b)
-
-abbrev greater : ℕ → ℕ → Outcome ℕ
-greater first others = Valued (max first others)
 
 pub kept_both : (o p : Outcome ℕ) → kept_rank (with_both o p greater) ≡ kept_greater (kept_rank o) (kept_rank p)
 kept_both (Valued a) (Valued b) = ap Some (omega arith)
@@ -48,9 +45,6 @@ kept_begin (Valued n) = ap Some (omega arith)
 kept_begin (Refused cs) = refl
 
 -- ---- a type has a rank exactly where its user types are declared
-
-abbrev one_more : ℕ → Outcome ℕ
-one_more greatest = Valued (greatest + 1)
 
 -- a name that has a rank is declared, or had one before
 ranked_in : (ranks : List ℕ → Outcome ℕ) (ds : List DeclaredType) (name : List ℕ) (n : ℕ) → fold with_rank ranks ds name ≡ Valued n

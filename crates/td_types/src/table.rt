@@ -147,7 +147,7 @@ impl TypeTable {
     pub fn knows(&self, ty: &Ty) -> bool
         ensures { IsTrue result ↔ IsKnown self.now (type_view ty.now) }
     {
-        let _ = &self.rows;
+        self.reveal();
         type_rank(self, ty).is_some()
     }
 
@@ -155,7 +155,7 @@ impl TypeTable {
     pub fn knows_all(&self, components: &[(Name, Ty)]) -> bool
         ensures { IsTrue result ↔ AreKnown self.now (pack (pairs_view components.now)) }
     {
-        let _ = &self.rows;
+        self.reveal();
         components_rank(self, components).is_some()
     }
 
