@@ -1,7 +1,9 @@
+pub mod Additions
 pub mod Attributes
 pub mod DeclaredTypes
 pub mod DistinctNames
 pub mod HeadingLaws
+pub mod KeptRanks
 pub mod KnownTypes
 pub mod Made
 pub mod Meanings
@@ -10,7 +12,9 @@ pub mod OutcomeLaws
 pub mod Plain
 pub mod RankBounds
 pub mod Ranks
+pub mod Resolutions
 pub mod Search
+pub mod Tables
 pub mod TypeSpellings
 pub mod TypeTexts
 pub mod Valued

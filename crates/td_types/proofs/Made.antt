@@ -11,6 +11,7 @@ use Rattle.td_tree.specs.Names.{IsName}
 use Rattle.td_types.specs.declared.ty.Ty.{Ty}
 use Rattle.td_types.specs.Headings.{are_distinct, has_name, heading_from, with_attribute}
 use Rattle.td_types.proofs.HeadingLaws.{IsAscending-with, name_cmp, type_at-with, types_determine_heading}
+use Rattle.td_types.specs.Pairs.{ArePairs}
 use Rattle.td_types.specs.TypeOrder.{type_eq-Decides}
 use Rattle.td_types.specs.Types.{Attribute, Heading, IsAscending, IsBefore, IsHeading, IsType, Type', attribute_names, pack, same_name, type_at, type_cmp}
 use Rattle.td_types.specs.Views.{pairs_view}
@@ -117,10 +118,6 @@ sorted_is_heading_from xs ys p d a =
 pub names_of_pairs : (ps : List (List ℕ × Ty)) → attribute_names (pairs_view ps) ≡ map (λ e. e.0) ps
 names_of_pairs [] = refl
 names_of_pairs (p ∷ ps) = ap (λ r. p.0 ∷ r) (names_of_pairs ps)
-
--- names that are names, and types that are types
-abbrev pub ArePairs : Heading → Type 0
-ArePairs = AllByRecursion (λ a. IsName a.0 × IsType a.1)
 
 pub ArePairs-push : (xs : Heading) (a : Attribute) → ArePairs xs → IsName a.0 → IsType a.1 → ArePairs (xs ++ a ∷ [])
 ArePairs-push [] a h n t = ((n, t), tt)

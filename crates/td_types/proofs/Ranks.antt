@@ -15,10 +15,12 @@ use Rattle.td_types.proofs.DeclaredTypes.{declared_at-later, is_declared-earlier
 use Rattle.td_types.proofs.HeadingLaws.{same_name-itself}
 use Rattle.td_types.proofs.OutcomeLaws.{value_of_with, valued_is, values_of_both}
 
-abbrev one_more : ℕ → Outcome ℕ
+-- one more than the greatest of some
+abbrev pub one_more : ℕ → Outcome ℕ
 one_more greatest = Valued (greatest + 1)
 
-abbrev greater : ℕ → ℕ → Outcome ℕ
+-- the greater of two
+abbrev pub greater : ℕ → ℕ → Outcome ℕ
 greater first others = Valued (max first others)
 
 -- no user type has a rank
@@ -77,14 +79,14 @@ known_components ds [] h = tt
 known_components ds (x ∷ xs) h =
     (h x (Contains-get_or (x ∷ xs) 0 x (omega arith)), known_components ds xs (λ a c. h a (Contains-append_right (x ∷ []) xs a c)))
 
+not_true : (b : Bool) → not b ≡ true → b ≡ false
+not_true true i = absurd (cc)
+not_true false i = refl
+
 -- a later type has another name
 other_name : (ds : List DeclaredType) (d : DeclaredType) (name : List ℕ) → IsDeclarable ds d → is_declared name ds ≡ true → same_name d.name name ≡ false
 other_name ds d name new e = by_test (same_name d.name name) refl
   where
-    not_true : (b : Bool) → not b ≡ true → b ≡ false
-    not_true true i = absurd (cc)
-    not_true false i = refl
-
     by_test : (b : Bool) → same_name d.name name ≡ b → b ≡ false
     by_test false is = refl
     by_test true is =
@@ -165,10 +167,6 @@ rank_of_declared ds name d h e =
     (sym (greatest_later es (d ∷ ls) (pack d.components) (subst AreDeclared at.2 h) (known_components es d.components new.known)))
     ∙ ap (λ xs. with_value (greatest_rank (user_ranks xs) (pack d.components)) one_more) (sym at.2)
   where
-    not_true : (b : Bool) → not b ≡ true → b ≡ false
-    not_true true i = absurd (cc)
-    not_true false i = refl
-
     itself : (es : List DeclaredType) (d : DeclaredType) → IsDeclarable es d → is_declared d.name (es ++ (d ∷ [])) ≡ true
     itself es d new = ap is_some (declared_at-later d.name es (d ∷ []) (not_true _ new.new)) ∙ rw (same_name-itself d.name) refl
 

@@ -4,8 +4,11 @@ pub mod Hashes
 pub mod Headings
 pub mod Keys
 pub mod NameTests
+pub mod Pairs
+pub mod Tables
 pub mod Texts
 pub mod TypeCode
+pub mod TypeListCode
 pub mod TypeListLaws
 pub mod TypeLists
 pub mod TypeOrder

@@ -15,6 +15,10 @@ pub record DeclaredType : Type 0 where
   pub components : List Attribute
   pub constraint : Option Tree
 
+-- a declared type by its parts
+abbrev pub declared_type : List ℕ → List Attribute → Option Tree → DeclaredType
+declared_type name components constraint = record { name = name; components = components; constraint = constraint }
+
 -- the declared type of a name
 abbrev pub declared_at : List ℕ → List DeclaredType → Option DeclaredType
 declared_at name [] = None

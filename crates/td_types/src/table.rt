@@ -1,0 +1,190 @@
+//! Declared types in their order, looked up by name.
+ghost use Rattle.std.specs.Prelude.{◌≡◌, ◌↔◌, ◌++◌, ◌∷◌, [], IsTrue, OnErr, OnOk, map, not};
+ghost use Rattle.std.specs.Prelude.{option_map, slice_get};
+ghost use Rattle.td_tree.specs.TreeViews.{tree_view};
+ghost use Rattle.td_types.specs.Headings.{are_distinct};
+ghost use Rattle.td_types.specs.Pairs.{ArePairs};
+ghost use Rattle.td_types.specs.Tables.{kept_rank};
+ghost use Rattle.td_types.specs.TypeLists.{AreDeclared, AreKnown, IsKnown, declared_at};
+ghost use Rattle.td_types.specs.TypeLists.{declared_type, is_declared, user_ranks};
+ghost use Rattle.td_types.specs.Types.{attribute_names, pack};
+ghost use Rattle.td_types.specs.Views.{pairs_view, type_view};
+
+use crate::rank::{components_rank, type_rank};
+use crate::ty::Ty;
+use indexmap::IndexMap;
+use std::alloc::{AllocError, Global};
+use std::marker::Model;
+use td_tree::expression::Expr;
+use td_tree::name::Name;
+
+/// A declared type.
+#[derive(Drop)]
+pub struct TypeEntry {
+    name: Name,
+    components: Vec<(Name, Ty)>,
+    constraint: Option<Expr>,
+}
+
+impl Model for TypeEntry {
+    ghost use Rattle.std.specs.Prelude.{option_map};
+    ghost use Rattle.td_tree.specs.TreeViews.{tree_view};
+    ghost use Rattle.td_types.specs.TypeListCode.{declared_code};
+    ghost use Rattle.td_types.specs.TypeLists.{DeclaredType, declared_type};
+    ghost use Rattle.td_types.specs.Views.{pairs_view};
+
+    ghost Value = { DeclaredType };
+
+    ghost coded = { declared_code };
+
+    ghost view = { λ a.
+        declared_type a.name (pairs_view a.components.items) (option_map tree_view a.constraint) };
+}
+
+impl TypeEntry {
+    /// The components with their types, in declared order.
+    pub fn components(&self) -> &[(Name, Ty)]
+        ensures { pairs_view result.now ≡ self.now.components }
+    {
+        &self.components
+    }
+
+    /// The type constraint.
+    pub fn constraint(&self) -> Option<&Expr>
+        ensures { option_map (λ e. tree_view e.now) result ≡ self.now.constraint }
+    {
+        self.constraint.as_ref()
+    }
+}
+
+/// A declared type and its rank, as far as it is within the limit.
+#[derive(Drop)]
+struct Row {
+    entry: TypeEntry,
+    rank: Option<u32>,
+}
+
+/// Declared types, seen as their list in declared order.
+#[derive(Drop)]
+pub struct TypeTable {
+    rows: IndexMap<Name, Row>,
+}
+
+impl Model for TypeTable {
+    ghost use Rattle.std.specs.Prelude.{List};
+    ghost use Rattle.td_types.specs.TypeListCode.{declared_list_code};
+    ghost use Rattle.td_types.specs.TypeLists.{DeclaredType};
+
+    ghost Value = { List DeclaredType };
+
+    ghost coded = { declared_list_code };
+
+    ghost use Rattle.td_types.specs.Tables.{IsTable, rows_view};
+
+    ghost view = { λ a. rows_view a.rows.entries };
+
+    ghost invariant = { λ a. IsTable a.rows.entries };
+}
+
+/// What holds of all names and types. It takes one step for each.
+fn reveal_all(components: &[(Name, Ty)])
+    ensures { ArePairs (pairs_view components.now) }
+{
+    for (name, ty) in components {
+        let _ = name.as_str();
+        ty.reveal();
+    }
+}
+
+impl TypeTable {
+    /// No declared type.
+    pub fn new(alloc: Global) -> TypeTable
+        ensures { result ≡ [] }
+    {
+        TypeTable {
+            rows: IndexMap::new(alloc),
+        }
+    }
+
+    /// What holds of every table. It takes no time.
+    pub fn reveal(&self)
+        ensures { AreDeclared self.now }
+    {
+        let _ = &self.rows;
+    }
+
+    /// Where the table's memory is from.
+    pub(crate) fn allocator(&self) -> Global {
+        *self.rows.allocator()
+    }
+
+    /// The declared type of that name.
+    pub fn get(&self, name: &Name) -> Option<&TypeEntry>
+        ensures { option_map (λ e. e.now) result ≡ declared_at name.now self.now }
+    {
+        let row = self.rows.get(name)?;
+        Some(&row.entry)
+    }
+
+    /// The name of the declared type at a place in declared order.
+    pub fn at(&self, place: usize) -> Option<&Name>
+        ensures { option_map (λ n. n.now) result
+            ≡ option_map (λ d. d.name) (slice_get self.now place) }
+    {
+        let (name, _) = self.rows.get_index(place)?;
+        Some(name)
+    }
+
+    /// The rank of the declared type of that name.
+    pub(crate) fn user_rank(&self, name: &Name) -> Option<u32>
+        ensures { result ≡ kept_rank (user_ranks self.now name.now) }
+    {
+        let row = self.rows.get(name)?;
+        row.rank
+    }
+
+    /// Whether the user types in the type are declared.
+    pub fn knows(&self, ty: &Ty) -> bool
+        ensures { IsTrue result ↔ IsKnown self.now (type_view ty.now) }
+    {
+        self.reveal();
+        type_rank(self, ty).is_some()
+    }
+
+    /// Whether the user types in the types of the components are declared.
+    pub fn knows_all(&self, components: &[(Name, Ty)]) -> bool
+        ensures { IsTrue result ↔ AreKnown self.now (pack (pairs_view components.now)) }
+    {
+        self.reveal();
+        components_rank(self, components).is_some()
+    }
+
+    /// Adds a type. Its name is new, it has a component, the names of its components are distinct,
+    /// and their user types are declared.
+    pub fn add(
+        &mut self,
+        name: Name,
+        components: Vec<(Name, Ty)>,
+        constraint: Option<Expr>,
+    ) -> Result<(), AllocError>
+        requires new { IsTrue (not (is_declared name self.old)) }
+        requires has_component { components.items ≡ [] → ⊥ }
+        requires distinct { IsTrue (are_distinct (map (λ c. c.0) components.items)) }
+        requires known { AreKnown self.old (pack (pairs_view components.items)) }
+        ensures added { OnOk result (self.new ≡ self.old
+            ++ declared_type name (pairs_view components.items) (option_map tree_view constraint)
+            ∷ []) }
+        ensures unchanged { OnErr result (self.new ≡ self.old) }
+    {
+        reveal_all(&components);
+        let key = name.try_clone()?;
+        let rank = components_rank(self, &components);
+        let entry = TypeEntry {
+            name,
+            components,
+            constraint,
+        };
+        self.rows.insert(key, Row { entry, rank })?;
+        Ok(())
+    }
+}
