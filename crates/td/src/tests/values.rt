@@ -4,6 +4,7 @@ ghost use Rattle.std.specs.List.{All};
 ghost use Rattle.td_value.specs.Values.{IsTupleOf};
 
 use std::alloc::Global;
+use std::hash::{DefaultHasher, Hash, Hasher};
 use std::test::Fail;
 use td_tree::cause::Cause;
 use td_tree::fault::Fault;
@@ -55,6 +56,7 @@ fn a_name_twice_is_refused(rt: HostRuntime) -> Result<(), Fail> {
     let alloc = rt.alloc();
     let twice = numbers(alloc, &[("A", 1), ("B", 3), ("A", 2)]);
     assert!(rt; twice.err() == Some(Fault::Refused(Cause::Heading)));
+    assert_eq!(rt; Cause::Heading.number(), 6);
     Ok(())
 }
 
@@ -148,5 +150,119 @@ fn values_of_each_type(rt: HostRuntime) -> Result<(), Fail> {
     assert!(rt; v.try_clone()? == v);
     assert!(rt; v.type_of(alloc)? == Ty::User(name(alloc, "T")?));
     assert!(rt; matches!(&Value::bool(false).node, Node::Bool(false)));
+    Ok(())
+}
+
+/// The relation whose tuples give A each of the numbers.
+fn column(alloc: Global, members: &[i64]) -> Result<Rel, Fault> {
+    let mut tuples = Vec::new(alloc);
+    for number in members {
+        tuples.push(numbers(alloc, &[("A", *number)])?)?;
+    }
+    let heading = numbers(alloc, &[("A", 1)])?.heading()?;
+    relation(heading, tuples)
+}
+
+/// The user value of two numbers.
+fn pair(alloc: Global, first: i64, second: i64) -> Result<User, Fault> {
+    let mut components = Vec::new(alloc);
+    components.push(Value::int(first))?;
+    components.push(Value::int(second))?;
+    Ok(User::new(name(alloc, "P")?, components))
+}
+
+/// A user value of a tuple with that relation.
+fn nested(alloc: Global, members: &[i64]) -> Result<Value, Fault> {
+    let mut entries = Vec::new(alloc);
+    let inner = Value::relation(alloc, column(alloc, members)?)?;
+    entries.push((name(alloc, "R")?, inner))?;
+    let mut components = Vec::new(alloc);
+    components.push(Value::tuple(alloc, Tuple::new(alloc, entries)?)?)?;
+    Ok(Value::user(alloc, User::new(name(alloc, "U")?, components))?)
+}
+
+#[test]
+fn values_have_an_order(rt: HostRuntime) -> Result<(), Fail> {
+    let alloc = rt.alloc();
+    assert!(rt; Value::bool(false) < Value::bool(true));
+    assert!(rt; Value::int(-1) < Value::int(0));
+    assert!(rt; Value::text(alloc, "B")? < Value::text(alloc, "b")?);
+    assert!(rt; Value::text(alloc, "AB")? < Value::text(alloc, "B")?);
+    let (low, high) = (pair(alloc, 1, 3)?, pair(alloc, 2, 1)?);
+    assert!(rt; Value::user(alloc, low)? < Value::user(alloc, high)?);
+    Ok(())
+}
+
+#[test]
+fn a_proper_prefix_comes_first(rt: HostRuntime) -> Result<(), Fail> {
+    let alloc = rt.alloc();
+    let prefix = column(alloc, &[1, 2])?;
+    assert!(rt; prefix < column(alloc, &[3, 2, 1])?);
+    assert!(rt; prefix < column(alloc, &[2])?);
+    assert!(rt; column(alloc, &[])? < prefix);
+    Ok(())
+}
+
+#[test]
+fn values_inside_values(rt: HostRuntime) -> Result<(), Fail> {
+    let alloc = rt.alloc();
+    let v = nested(alloc, &[2, 1])?;
+    let text = "U(TUPLE {R RELATION {A INTEGER} {TUPLE {A 1}, TUPLE {A 2}}})";
+    assert_eq!(rt; v.literal(alloc)?.as_str(), text);
+    assert!(rt; v.try_clone()? == v);
+    assert!(rt; v == nested(alloc, &[1, 2, 2])?);
+    assert!(rt; v < nested(alloc, &[1, 3])?);
+    Ok(())
+}
+
+#[test]
+fn components_have_their_types(rt: HostRuntime) -> Result<(), Fail> {
+    let alloc = rt.alloc();
+    let u = pair(alloc, 1, 2)?;
+    let mut declared = Vec::new(alloc);
+    declared.push((name(alloc, "X")?, Ty::Int))?;
+    assert!(rt; !u.has_components(&declared));
+    declared.push((name(alloc, "Y")?, Ty::Int))?;
+    assert!(rt; u.has_components(&declared));
+    declared[1].1 = Ty::Text;
+    assert!(rt; !u.has_components(&declared));
+    Ok(())
+}
+
+fn hashed<T: Hash>(item: &T) -> u64 {
+    let mut state = DefaultHasher::new();
+    item.hash(&mut state);
+    state.finish()
+}
+
+fn texts_hash_alike(alloc: Global) -> Result<bool, Fault> {
+    let text = Value::text(alloc, "it's")?;
+    Ok(hashed(&text) == hashed(&Value::text(alloc, "it's")?))
+}
+
+fn tuples_hash_alike(alloc: Global) -> Result<bool, Fault> {
+    let t = numbers(alloc, &[("A", 1), ("B", 2)])?;
+    Ok(hashed(&t) == hashed(&numbers(alloc, &[("B", 2), ("A", 1)])?))
+}
+
+fn relations_hash_alike(alloc: Global) -> Result<bool, Fault> {
+    let r = column(alloc, &[1, 2])?;
+    Ok(hashed(&r) == hashed(&column(alloc, &[2, 1])?))
+}
+
+fn user_values_hash_alike(alloc: Global) -> Result<bool, Fault> {
+    let v = nested(alloc, &[1, 2])?;
+    Ok(hashed(&v) == hashed(&nested(alloc, &[2, 1, 2])?))
+}
+
+#[test]
+fn equal_values_hash_alike(rt: HostRuntime) -> Result<(), Fail> {
+    let alloc = rt.alloc();
+    assert_eq!(rt; hashed(&Value::bool(true)), hashed(&Value::bool(true)));
+    assert_eq!(rt; hashed(&Value::int(-1)), hashed(&Value::int(-1)));
+    assert!(rt; texts_hash_alike(alloc)?);
+    assert!(rt; tuples_hash_alike(alloc)?);
+    assert!(rt; relations_hash_alike(alloc)?);
+    assert!(rt; user_values_hash_alike(alloc)?);
     Ok(())
 }
