@@ -60,7 +60,8 @@ pub(crate) fn components_rank(table: &TypeTable, components: &[(Name, Ty)]) -> O
     rank_above(Some(greatest))
 }
 
-/// The type's rank: refused where a user type in it is not declared, or where it is above the limit.
+/// The type's rank: refused where a user type in it is not declared, or where the rank is above
+/// the limit.
 pub fn rank(table: &TypeTable, ty: &Ty) -> Result<u32, Fault>
     ensures { Answers (λ r. r) result (limited_rank table.now (type_view ty.now)) }
 {
