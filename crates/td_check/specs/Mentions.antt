@@ -1,0 +1,120 @@
+-- What an expression mentions: the relvars that its names are by the rule of names, and the types whose selectors it calls
+-- or that it names in a type (this project's own).
+use Rattle.std.specs.Prelude.{ℕ, List, [], ◌∷◌, ◌++◌, is_some, if◌then◌else◌}
+use Rattle.td_check.specs.Scopes.{Scope, entered_with, innermost, known_relvar}
+use Rattle.td_check.specs.StaticTypes.{type_of}
+use Rattle.td_tree.specs.declared.operator.Operator.TheVariants as operators
+use Rattle.td_tree.specs.Outcomes.{Outcome, Valued}
+use Rattle.td_tree.specs.Trees.{TypeTree, AttributeTrees, no_attributes, attribute, user, tuple_type, relation_type, Tree, literal, name, parentheses, prefix, extract, binary, compare, postfix, select, component, measure, aggregate, relation, headed_relation, tuple, extend, summarize_per, summarize_by, choice, Trees, none, more, NamedTrees, none_named, more_named, Summaries, no_summaries, counted, summed}
+use Rattle.td_tree.specs.Trees as trees
+use Rattle.td_types.specs.Types as types
+
+-- a name mentions a relvar where no attribute in hand has it
+abbrev pub mentioned_by_name : Scope → List ℕ → List (List ℕ)
+mentioned_by_name scope n =
+    if is_some (innermost n scope.entered) then []
+    else if is_some (known_relvar scope n) then n ∷ []
+    else []
+
+-- the scope of what is applied to the tuples of an operand: the operand's attributes are in hand where it is a relation
+abbrev pub in_tuples : Scope → Outcome types.Type' → Scope
+in_tuples scope (Valued (types.relation h)) = entered_with (types.unpack h) scope
+in_tuples scope _ = scope
+
+abbrev mutual
+  -- the relvars, in the order in which they are mentioned
+  pub relvars_in : Scope → Tree → List (List ℕ)
+  relvars_in scope (literal l) = []
+  relvars_in scope (name n) = mentioned_by_name scope n
+  relvars_in scope (parentheses inner) = relvars_in scope inner
+  relvars_in scope (prefix op operand) = relvars_in scope operand
+  relvars_in scope (extract a operand) = relvars_in scope operand
+  relvars_in scope (binary left operators.Where right) =
+      relvars_in scope left ++ relvars_in (in_tuples scope (type_of scope left)) right
+  relvars_in scope (binary left op right) = relvars_in scope left ++ relvars_in scope right
+  relvars_in scope (compare left op right) = relvars_in scope left ++ relvars_in scope right
+  relvars_in scope (postfix operand op) = relvars_in scope operand
+  relvars_in scope (select ty arguments) = relvars_in_all scope arguments
+  relvars_in scope (component rest operand) = relvars_in scope operand
+  relvars_in scope (measure op operand) = relvars_in scope operand
+  relvars_in scope (aggregate op operand value) =
+      relvars_in scope operand ++ relvars_in (in_tuples scope (type_of scope operand)) value
+  relvars_in scope (relation elements) = relvars_in_all scope elements
+  relvars_in scope (headed_relation heading elements) = relvars_in_all scope elements
+  relvars_in scope (tuple parts) = relvars_in_named scope parts
+  relvars_in scope (extend operand parts) =
+      relvars_in scope operand ++ relvars_in_named (in_tuples scope (type_of scope operand)) parts
+  relvars_in scope (summarize_per operand per summaries) =
+      relvars_in scope operand ++ (relvars_in scope per
+      ++ relvars_in_items (in_tuples scope (type_of scope operand)) summaries)
+  relvars_in scope (summarize_by operand by summaries) =
+      relvars_in scope operand ++ relvars_in_items (in_tuples scope (type_of scope operand)) summaries
+  relvars_in scope (choice condition consequent alternative) =
+      relvars_in scope condition ++ (relvars_in scope consequent ++ relvars_in scope alternative)
+
+  pub relvars_in_all : Scope → Trees → List (List ℕ)
+  relvars_in_all scope none = []
+  relvars_in_all scope (more first rest) = relvars_in scope first ++ relvars_in_all scope rest
+
+  pub relvars_in_named : Scope → NamedTrees → List (List ℕ)
+  relvars_in_named scope none_named = []
+  relvars_in_named scope (more_named n value rest) = relvars_in scope value ++ relvars_in_named scope rest
+
+  pub relvars_in_items : Scope → Summaries → List (List ℕ)
+  relvars_in_items scope no_summaries = []
+  relvars_in_items scope (counted n rest) = relvars_in_items scope rest
+  relvars_in_items scope (summed op value n rest) = relvars_in scope value ++ relvars_in_items scope rest
+
+-- ---- types
+
+abbrev mutual
+  -- the user types named in a type
+  pub types_named : TypeTree → List (List ℕ)
+  types_named (user n) = n ∷ []
+  types_named (tuple_type heading) = types_named_in heading
+  types_named (relation_type heading) = types_named_in heading
+  types_named trees.integer = []
+  types_named trees.char = []
+  types_named trees.boolean = []
+
+  pub types_named_in : AttributeTrees → List (List ℕ)
+  types_named_in no_attributes = []
+  types_named_in (attribute n ty rest) = types_named ty ++ types_named_in rest
+
+abbrev mutual
+  -- the types, in the order in which they are mentioned
+  pub types_in : Tree → List (List ℕ)
+  types_in (literal l) = []
+  types_in (name n) = []
+  types_in (parentheses inner) = types_in inner
+  types_in (prefix op operand) = types_in operand
+  types_in (extract a operand) = types_in operand
+  types_in (binary left op right) = types_in left ++ types_in right
+  types_in (compare left op right) = types_in left ++ types_in right
+  types_in (postfix operand op) = types_in operand
+  types_in (select ty arguments) = ty ∷ types_in_all arguments
+  types_in (component rest operand) = types_in operand
+  types_in (measure op operand) = types_in operand
+  types_in (aggregate op operand value) = types_in operand ++ types_in value
+  types_in (relation elements) = types_in_all elements
+  types_in (headed_relation heading elements) = types_named_in heading ++ types_in_all elements
+  types_in (tuple parts) = types_in_named parts
+  types_in (extend operand parts) = types_in operand ++ types_in_named parts
+  types_in (summarize_per operand per summaries) =
+      types_in operand ++ (types_in per ++ types_in_items summaries)
+  types_in (summarize_by operand by summaries) = types_in operand ++ types_in_items summaries
+  types_in (choice condition consequent alternative) =
+      types_in condition ++ (types_in consequent ++ types_in alternative)
+
+  pub types_in_all : Trees → List (List ℕ)
+  types_in_all none = []
+  types_in_all (more first rest) = types_in first ++ types_in_all rest
+
+  pub types_in_named : NamedTrees → List (List ℕ)
+  types_in_named none_named = []
+  types_in_named (more_named n value rest) = types_in value ++ types_in_named rest
+
+  pub types_in_items : Summaries → List (List ℕ)
+  types_in_items no_summaries = []
+  types_in_items (counted n rest) = types_in_items rest
+  types_in_items (summed op value n rest) = types_in value ++ types_in_items rest

@@ -1,0 +1,47 @@
+-- What is known where an expression stands (Tutorial D's; the three spaces of names are this project's own).
+use Rattle.std.specs.Prelude.{ℕ, Bool, List, [], ◌∷◌, Option, Some, None, if◌then◌else◌}
+use Rattle.td_check.specs.declared.scope.Kind.{Kind}
+use Rattle.td_types.specs.Headings.{has_name}
+use Rattle.td_types.specs.TypeLists.{DeclaredType}
+use Rattle.td_types.specs.Types.{Type', Heading, same_name, type_at}
+
+-- a relvar that is known: its name, whether it is base or virtual, and its heading
+pub record KnownRelvar : Type 0 where
+  pub name : List ℕ
+  pub kind : Kind
+  pub heading : Heading
+
+-- the declared types, the relvars and the constraints' names, each in the order they were made known, and the headings
+-- of the tuples that are in hand, the innermost first
+pub record Scope : Type 0 where
+  pub types : List DeclaredType
+  pub relvars : List KnownRelvar
+  pub constraints : List (List ℕ)
+  pub entered : List Heading
+
+-- the relvar of a name
+abbrev pub relvar_in : List ℕ → List KnownRelvar → Option KnownRelvar
+relvar_in name [] = None
+relvar_in name (r ∷ rs) = if same_name r.name name then Some r else relvar_in name rs
+
+abbrev pub known_relvar : Scope → List ℕ → Option KnownRelvar
+known_relvar scope name = relvar_in name scope.relvars
+
+-- whether there is a constraint of the name
+abbrev pub knows_constraint : Scope → List ℕ → Bool
+knows_constraint scope name = has_name name scope.constraints
+
+-- the type of the innermost attribute of a name
+abbrev pub innermost : List ℕ → List Heading → Option Type'
+innermost name [] = None
+innermost name (h ∷ hs) = elim (type_at name h) as (λ _. Option Type') [ Some t ↦ Some t | None ↦ innermost name hs ]
+
+-- inside an expression that is applied to each tuple of a heading
+abbrev pub entered_with : Heading → Scope → Scope
+entered_with heading scope =
+    record { types = scope.types; relvars = scope.relvars; constraints = scope.constraints; entered = heading ∷ scope.entered }
+
+-- where only the types and the attributes of one heading are known
+abbrev pub alone_with : Heading → Scope → Scope
+alone_with heading scope =
+    record { types = scope.types; relvars = []; constraints = []; entered = heading ∷ [] }

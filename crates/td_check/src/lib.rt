@@ -1,0 +1,4 @@
+//! The static checker.
+#![tactic(auto)]
+
+pub mod scope;
