@@ -1,5 +1,5 @@
 -- What is known where an expression stands (Tutorial D's; the three spaces of names are this project's own).
-use Rattle.std.specs.Prelude.{ℕ, Bool, List, [], ◌∷◌, Option, Some, None, if◌then◌else◌}
+use Rattle.std.specs.Prelude.{ℕ, Bool, List, [], ◌∷◌, ◌++◌, drop, Option, Some, None, if◌then◌else◌}
 use Rattle.td_check.specs.declared.scope.Kind.{Kind}
 use Rattle.td_types.specs.Headings.{has_name}
 use Rattle.td_types.specs.TypeLists.{DeclaredType}
@@ -45,3 +45,23 @@ entered_with heading scope =
 abbrev pub alone_with : Heading → Scope → Scope
 alone_with heading scope =
     record { types = scope.types; relvars = []; constraints = []; entered = heading ∷ [] }
+
+-- ---- scopes as they are made
+
+-- where types alone are known
+abbrev pub scope_of : List DeclaredType → Scope
+scope_of types = record { types = types; relvars = []; constraints = []; entered = [] }
+
+-- one more relvar is known
+abbrev pub with_known_relvar : List ℕ → Kind → Heading → Scope → Scope
+with_known_relvar name kind heading scope =
+    record { types = scope.types; relvars = scope.relvars ++ (record { name = name; kind = kind; heading = heading } ∷ []); constraints = scope.constraints; entered = scope.entered }
+
+-- one more constraint is known
+abbrev pub with_known_constraint : List ℕ → Scope → Scope
+with_known_constraint name scope =
+    record { types = scope.types; relvars = scope.relvars; constraints = scope.constraints ++ (name ∷ []); entered = scope.entered }
+
+-- the heading that was entered last is left
+abbrev pub left : Scope → Scope
+left scope = record { types = scope.types; relvars = scope.relvars; constraints = scope.constraints; entered = drop 1 scope.entered }
