@@ -3,7 +3,9 @@
 mod devices;
 mod headings;
 mod parser;
+mod scopes;
 mod scripts;
 mod tokens;
 mod trees;
+mod types;
 mod values;
