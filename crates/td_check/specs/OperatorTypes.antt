@@ -1,6 +1,6 @@
 -- The static rules of the operators: the type of what an operator gives, by the types of its operands, or the causes for
 -- which it is refused (Tutorial D's; the causes are this project's own).
-use Rattle.std.specs.Prelude.{ℕ, Bool, true, false, not, ◌&&◌, ◌||◌, List, [], ◌∷◌, filter, fold, map, Option, Some, None}
+use Rattle.std.specs.Prelude.{ℕ, Bool, true, false, not, ◌&&◌, ◌||◌, List, [], ◌∷◌, fold, map, Option, Some, None}
 use Rattle.std.specs.List.{list_all}
 use Rattle.std.specs.Ordering.{eq_by_cmp}
 use Rattle.td_tree.specs.declared.cause.Cause.{Cause}
@@ -17,7 +17,7 @@ use Rattle.td_tree.specs.declared.operator.Prefix.{Prefix}
 use Rattle.td_tree.specs.declared.operator.Prefix.TheVariants as prefixes
 use Rattle.td_tree.specs.Outcomes.{Outcome, Valued, Refused, Only, gathered, with_value, with_both, value_if}
 use Rattle.td_tree.specs.Trees.{Attributes, only, all_but, Renaming, Postfix, project, rename, group, ungroup, wrap, unwrap}
-use Rattle.td_types.specs.Headings.{agree, are_distinct, common_heading, extended_heading, has_attribute, heading_union, is_type_or_none, made_heading, projected_heading, renamed_heading, united_heading, with_attribute, without_attribute}
+use Rattle.td_types.specs.Headings.{agree, are_distinct, common_heading, extended_heading, has_attribute, have_no_common, heading_union, is_part, made_heading, outside, projected_heading, renamed_heading, united_heading, with_attribute, without_attribute}
 use Rattle.td_types.specs.TypeLists.{DeclaredType, declared_at}
 use Rattle.td_types.specs.TypeOrder.{heading_cmp}
 use Rattle.td_types.specs.Types.{Type', boolean, integer, char, user, tuple, relation, Attribute, Heading, attribute_names, pack, unpack, type_at, type_cmp}
@@ -73,18 +73,6 @@ renaming_pairs = map (λ r. (r.old, r.new))
 
 -- ---- headings
 
--- the attributes of a heading that another lacks
-abbrev pub outside : Heading → Heading → Heading
-outside part heading = filter (λ a. not (has_attribute a.0 part)) heading
-
--- whether two headings have no common attribute
-abbrev pub are_apart : Heading → Heading → Bool
-are_apart g h = list_all (λ a. not (has_attribute a.0 h)) g
-
--- whether each attribute of a heading is one of another, with its type
-abbrev pub is_part : Heading → Heading → Bool
-is_part g h = list_all (λ a. has_attribute a.0 h && is_type_or_none a.1 (type_at a.0 h)) g
-
 -- the attributes of a heading that are named, or those that are not: a name missing or listed twice is HEADING
 abbrev pub named_part : Attributes → Heading → Outcome Heading
 named_part (only names) h = projected_heading names h
@@ -98,7 +86,7 @@ extended_by h attributes =
 
 -- the heading of two that have no common attribute
 abbrev pub joined_apart : Heading → Heading → Outcome Heading
-joined_apart g h = value_if (are_apart g h) (heading_union g h) causes.Heading
+joined_apart g h = value_if (have_no_common g h) (heading_union g h) causes.Heading
 
 -- the attributes that only one of two headings has, where they agree on the common ones
 abbrev pub composed_heading : Heading → Heading → Outcome Heading

@@ -53,11 +53,13 @@ none_includes [] = true
 none_includes (key ∷ keys) =
     list_all (λ other. not (is_included key other || is_included other key)) keys && none_includes keys
 
--- the names of each key are distinct attributes, and no key includes another: else KEY_DECLARATION
+-- whether the names of each key are distinct attributes, and no key includes another
+abbrev pub keys_allowed : Heading → List (List (List ℕ)) → Bool
+keys_allowed h keys = list_all (λ key. has_attributes key h && are_distinct key) keys && none_includes keys
+
+-- the keys are allowed for the heading: else KEY_DECLARATION
 abbrev pub keys_fit : Heading → List (List (List ℕ)) → Outcome ⊤
-keys_fit h keys =
-    holds_or causes.KeyDeclaration
-    (list_all (λ key. has_attributes key h && are_distinct key) keys && none_includes keys)
+keys_fit h keys = holds_or causes.KeyDeclaration (keys_allowed h keys)
 
 -- a base relvar has a key
 abbrev pub has_key : List (List (List ℕ)) → Outcome ⊤

@@ -11,7 +11,7 @@ use Rattle.std.specs.List.Sorted.{IsStrictlySortedBy}
 use Rattle.std.specs.FinMap.Entries.{by_order, find, is_sorted, below_all, is_sorted-put, is_sorted-where_key, find-put, find-where_key, same_entries}
 use Rattle.std.proofs.lemmas.Cmp.{nat_list_cmp_total, eq_by_cmp_equiv}
 use Rattle.std.proofs.lemmas.Map.Lookups.{exact_bytes}
-use Rattle.td_types.specs.Headings.{AgreementIsOneType, RenamingKeepsTypes, TypesDetermineHeading, are_distinct, new_name, add_missing, agree, common_part, has_attribute, has_attributes, has_name, heading_union, is_type_or_none, projection, renamed, with_attribute, without_attribute}
+use Rattle.td_types.specs.Headings.{AgreementIsOneType, RenamingKeepsTypes, TypesDetermineHeading, are_distinct, new_name, add_missing, agree, common_part, has_attribute, has_attributes, has_name, heading_union, is_type_or_none, outside, projection, renamed, with_attribute, without_attribute}
 use Rattle.td_tree.specs.Names.{IsName}
 use Rattle.td_types.specs.TypeOrder.{type_eq-Decides}
 use Rattle.td_types.specs.Types.{Type', Attribute, Heading, IsAscending, IsBefore, IsHeading, IsType, pack, attribute_names, same_name, type_at}
@@ -213,6 +213,9 @@ IsAscending-common g h = IsAscending-filter (λ n. has_attribute n h) g
 
 pub type_at-common : (n : List ℕ) (g h : Heading) → type_at n (common_part g h) ≡ (if has_attribute n h then type_at n g else None)
 type_at-common n g h = type_at-filter (λ m. has_attribute m h) n g
+
+pub type_at-outside : (n : List ℕ) (part h : Heading) → type_at n (outside part h) ≡ (if has_attribute n part then None else type_at n h)
+type_at-outside n part h = type_at-filter (λ m. not (has_attribute m part)) n h ∙ if_not (has_attribute n part) (type_at n h) None
 
 IsAscending-add_missing : (h : Heading) (a : Attribute) (there : Bool) → there ≡ has_attribute a.0 h → IsAscending h → IsAscending (add_missing h a)
 IsAscending-add_missing h a true e i = rw (← e) i

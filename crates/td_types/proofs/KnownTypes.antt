@@ -1,5 +1,5 @@
 -- What is declared or known is so where more types are declared.
-use Rattle.std.proofs.Common.{◌≡◌, ◌∙◌, ℕ, List, ◌++◌, Some, ap, refl}
+use Rattle.std.proofs.Common.{◌≡◌, ◌∙◌, ℕ, List, ◌++◌, Some, ap}
 use Rattle.std.specs.Prelude.{is_some}
 use Rattle.td_types.specs.TypeLists.{AreKnown, DeclaredType, IsKnown, declared_at}
 use Rattle.td_types.specs.Types.{Type', boolean, integer, char, user, tuple, relation, Attrs, no_attrs, attr}

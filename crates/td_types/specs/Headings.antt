@@ -59,6 +59,14 @@ is_type_or_none t (Some s) = eq_by_cmp type_cmp s t
 abbrev pub agree : Heading → Heading → Bool
 agree g h = list_all (λ a. is_type_or_none a.1 (type_at a.0 h)) g
 
+-- whether two headings have no common attribute
+abbrev pub have_no_common : Heading → Heading → Bool
+have_no_common g h = list_all (λ a. not (has_attribute a.0 h)) g
+
+-- whether each attribute of a heading is one of another, with its type
+abbrev pub is_part : Heading → Heading → Bool
+is_part g h = list_all (λ a. has_attribute a.0 h && is_type_or_none a.1 (type_at a.0 h)) g
+
 -- ---- renaming, by pairs of an old and a new name
 
 -- the name that the renamings give a name
@@ -97,6 +105,10 @@ without_attribute name = filter (λ a. not (same_name a.0 name))
 -- the attributes of those names
 abbrev pub projection : List (List ℕ) → Heading → Heading
 projection names = filter (λ a. has_name a.0 names)
+
+-- the attributes of a heading that another lacks
+abbrev pub outside : Heading → Heading → Heading
+outside part heading = filter (λ a. not (has_attribute a.0 part)) heading
 
 -- the attributes of one heading whose names the other has too
 abbrev pub common_part : Heading → Heading → Heading
@@ -161,6 +173,10 @@ types_among names heading n = if has_name n names then type_at n heading else No
 -- of what both headings have
 abbrev pub types_in_both : Heading → Heading → List ℕ → Option Type'
 types_in_both g h n = if has_attribute n h then type_at n g else None
+
+-- of what the other heading lacks
+abbrev pub types_outside : Heading → Heading → List ℕ → Option Type'
+types_outside part heading n = if has_attribute n part then None else type_at n heading
 
 -- of what either heading has
 abbrev pub types_in_either : Heading → Heading → List ℕ → Option Type'

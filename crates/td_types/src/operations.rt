@@ -2,12 +2,14 @@
 ghost use Rattle.std.specs.Prelude.{◌≡◌, IfOk};
 ghost use Rattle.td_tree.specs.Outcomes.{Answers};
 ghost use Rattle.td_types.specs.Headings.{IsMap, agree, common_heading, has_attributes};
+ghost use Rattle.td_types.specs.Headings.{have_no_common, is_part, outside};
 ghost use Rattle.td_types.specs.Headings.{projected_heading, reduced_heading, types_among};
-ghost use Rattle.td_types.specs.Headings.{types_in_both, types_in_either, types_without};
-ghost use Rattle.td_types.specs.Headings.{united_heading};
+ghost use Rattle.td_types.specs.Headings.{types_in_both, types_in_either, types_outside};
+ghost use Rattle.td_types.specs.Headings.{types_without, united_heading};
 
 use crate::heading::{Attribute, Heading};
 use crate::names::{are_distinct, is_among};
+use std::alloc::AllocError;
 use td_tree::cause::Cause;
 use td_tree::fault::Fault;
 use td_tree::name::Name;
@@ -21,7 +23,7 @@ impl Heading {
     }
 
     /// Whether no name has two types here and there.
-    fn agrees_with(&self, other: &Heading) -> bool
+    pub fn agrees_with(&self, other: &Heading) -> bool
         ensures { result ≡ agree self.now other.now }
     {
         for attribute in &self.attributes {
@@ -29,6 +31,28 @@ impl Heading {
                 if *ty != attribute.ty {
                     return false;
                 }
+            }
+        }
+        true
+    }
+
+    /// Whether there is no attribute that the other has too.
+    pub fn is_apart_from(&self, other: &Heading) -> bool
+        ensures { result ≡ have_no_common self.now other.now }
+    {
+        self.attributes
+            .iter()
+            .all(|attribute| other.get(&attribute.name).is_none())
+    }
+
+    /// Whether each attribute is one of the other, with its type.
+    pub fn is_part_of(&self, other: &Heading) -> bool
+        ensures { result ≡ is_part self.now other.now }
+    {
+        for attribute in &self.attributes {
+            match other.get(&attribute.name) {
+                Some(ty) if *ty == attribute.ty => {}
+                _ => return false,
             }
         }
         true
@@ -79,6 +103,20 @@ impl Heading {
         let mut attributes = Vec::new(*self.attributes.allocator());
         for attribute in &self.attributes {
             if other.get(&attribute.name).is_some() {
+                attributes.push(attribute.try_clone()?)?;
+            }
+        }
+        Ok(Heading { attributes })
+    }
+
+    /// The attributes that the other lacks.
+    pub fn lacking(&self, other: &Heading) -> Result<Heading, AllocError>
+        ensures heading { IfOk result (λ h. h ≡ outside other.now self.now) }
+        ensures types { IfOk result (λ h. IsMap h (types_outside other.now self.now)) }
+    {
+        let mut attributes = Vec::new(*self.attributes.allocator());
+        for attribute in &self.attributes {
+            if other.get(&attribute.name).is_none() {
                 attributes.push(attribute.try_clone()?)?;
             }
         }

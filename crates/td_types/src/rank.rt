@@ -1,10 +1,10 @@
 //! The rank of a type.
-ghost use Rattle.std.specs.Prelude.{◌≡◌, ◌+◌, ℕ};
+ghost use Rattle.std.specs.Prelude.{◌≡◌, ◌+◌, List, ℕ};
 ghost use Rattle.td_tree.specs.Outcomes.{Answers, Outcome, Valued, with_value};
 ghost use Rattle.td_types.specs.Tables.{kept_rank};
-ghost use Rattle.td_types.specs.TypeLists.{greatest_rank, limited_rank, rank_limit, rank_of};
-ghost use Rattle.td_types.specs.TypeLists.{user_ranks};
-ghost use Rattle.td_types.specs.Types.{pack, tuple};
+ghost use Rattle.td_types.specs.TypeLists.{DeclaredType, greatest_rank, limited_rank};
+ghost use Rattle.td_types.specs.TypeLists.{rank_limit, rank_of, user_ranks};
+ghost use Rattle.td_types.specs.Types.{Type', pack, tuple};
 ghost use Rattle.td_types.specs.Views.{pairs_view, type_view};
 
 use crate::heading::Heading;
@@ -60,14 +60,31 @@ pub(crate) fn components_rank(table: &TypeTable, components: &[(Name, Ty)]) -> O
     rank_above(Some(greatest))
 }
 
+/// A type's rank by what is kept of it: refused where a user type in it is not declared, or where
+/// the rank is above the limit.
+fn limited_rank(kept: Option<u32>) -> Result<u32, Fault>
+    ensures { (ds : List DeclaredType) (t : Type') → kept ≡ kept_rank (rank_of ds t)
+        → Answers (λ r. r) result (limited_rank ds t) }
+{
+    match kept {
+        None => Err(Fault::Refused(Cause::NameUnknown)),
+        Some(rank) if rank <= RANK_LIMIT => Ok(rank),
+        Some(_) => Err(Fault::Refused(Cause::Rank)),
+    }
+}
+
 /// The type's rank: refused where a user type in it is not declared, or where the rank is above
 /// the limit.
 pub fn rank(table: &TypeTable, ty: &Ty) -> Result<u32, Fault>
     ensures { Answers (λ r. r) result (limited_rank table.now (type_view ty.now)) }
 {
-    match type_rank(table, ty) {
-        None => Err(Fault::Refused(Cause::NameUnknown)),
-        Some(rank) if rank <= RANK_LIMIT => Ok(rank),
-        Some(_) => Err(Fault::Refused(Cause::Rank)),
-    }
+    limited_rank(type_rank(table, ty))
+}
+
+/// The rank of a type of these components: refused as `rank` refuses.
+pub fn rank_of_components(table: &TypeTable, components: &[(Name, Ty)]) -> Result<u32, Fault>
+    ensures { Answers (λ r. r) result
+        (limited_rank table.now (tuple (pack (pairs_view components.now)))) }
+{
+    limited_rank(components_rank(table, components))
 }

@@ -54,9 +54,9 @@ pub fn resolve_heading(table: &TypeTable, heading: &[AttributeTree]) -> Result<H
     Heading::new(table.allocator(), attributes)
 }
 
-/// The attributes in the order written.
+/// The attributes in the order written: refused as `resolve` refuses.
 #[cycle(resolve)]
-fn resolve_attributes(
+pub fn resolve_attributes(
     table: &TypeTable,
     heading: &[AttributeTree],
 ) -> Result<Vec<(Name, Ty)>, Fault>

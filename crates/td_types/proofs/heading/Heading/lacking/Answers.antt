@@ -1,0 +1,19 @@
+use Rattle.std.proofs.Common.{◌≡◌, sym, ap, ◌∙◌, subst}
+use Rattle.td_types.specs.Headings.{outside}
+use Rattle.td_types.proofs.HeadingLaws.{IsHeading-filter, type_at-outside}
+use Rattle.td_types.specs.Types.{IsHeading, pack, type_at}
+use Rattle.td_types.specs.Views.{heading_view}
+use Rattle.td_types.proofs.Attributes.{kept_all}
+use Rattle.td_types.proofs.heading.Heading.lacking.Goals as goal
+
+pub invariant_of-result : goal.invariant_of-result
+invariant_of-result c =
+    let kept : heading_view c.loop-attribute.attributes.items ≡ outside c.args.other.now c.args.self.now =
+    kept_all _ _ _ _ _ c.loop-attribute-test.false c.loop-attribute.invariant in
+    subst (λ h. IsHeading (pack h)) (sym kept) (IsHeading-filter _ _ (subst (λ h. IsHeading (pack h)) c.self.view_is c.self.invariant))
+
+pub returns-clause-types : goal.returns-clause-types
+returns-clause-types c = λ n.
+    let kept : heading_view c.loop-attribute.attributes.items ≡ outside c.args.other.now c.args.self.now =
+    kept_all _ _ _ _ _ c.loop-attribute-test.false c.loop-attribute.invariant in
+    ap (type_at n) kept ∙ type_at-outside n c.args.other.now c.args.self.now

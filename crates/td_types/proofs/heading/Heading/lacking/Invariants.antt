@@ -1,0 +1,10 @@
+use Rattle.std.proofs.Common.{◌≡◌, ◌++◌, drop}
+use Rattle.std.specs.Prelude.{filter, not}
+use Rattle.td_types.specs.Headings.{has_attribute}
+use Rattle.td_types.specs.Views.{heading_view}
+use Rattle.td_types.proofs.heading.Heading.lacking.Given as goal
+
+abbrev pub invariant-loop-attribute : goal.invariant-loop-attribute
+invariant-loop-attribute l =
+    heading_view l.attributes.items ++ filter (λ a. not (has_attribute a.0 l.other)) (heading_view (drop l.attribute-index l.attribute-items))
+    ≡ filter (λ a. not (has_attribute a.0 l.other)) l.self
