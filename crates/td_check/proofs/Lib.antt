@@ -1,2 +1,16 @@
+pub mod Added
+pub mod BothAnswers
+pub mod CheckedItems
+pub mod CheckedLists
+pub mod CheckedNames
+pub mod CheckedRows
+pub mod CheckedTypes
+pub mod Comparisons
+pub mod Entered
+pub mod GatheredAnswers
+pub mod Gives
+pub mod HeadingRules
+pub mod NamedTypes
 pub mod Scopes
+pub mod StatementAnswers
 pub mod WorkedTypes

@@ -1,5 +1,6 @@
 -- What the rows of a scope's relvars give to a name.
-use Rattle.std.proofs.Common.{◌≡◌, ◌∙◌, ℕ, Bool, true, false, List, [], ◌∷◌, ◌++◌, Option, Some, None, ap, refl}
+use Rattle.std.proofs.Common.{◌≡◌, ◌∙◌, ℕ, Bool, true, false, List, [], ◌∷◌, ◌++◌, Option, Some, None, ap, option_map, refl, Bor}
+use Rattle.std.specs.Option.{option_copied}
 use Rattle.std.specs.Prelude.{is_some, not, ◌||◌}
 use Rattle.std.specs.List.{list_any}
 use Rattle.std.proofs.lemmas.List.{map-append}
@@ -8,8 +9,8 @@ use Rattle.indexmap.specs.IndexSet.{insert_key}
 use Rattle.indexmap.proofs.CallerLemmas.{insert_entry-new}
 use Rattle.td_types.specs.Headings.{has_name}
 use Rattle.std.specs.Map.{lookup}
-use Rattle.td_check.specs.ScopeCode.{relvar_view, relvars_view}
-use Rattle.td_check.specs.Scopes.{relvar_in}
+use Rattle.td_check.specs.ScopeCode.{known_view, relvar_view, relvars_view}
+use Rattle.td_check.specs.Scopes.{kind_and_heading, relvar_in}
 use Rattle.td_check.specs.declared.scope.Known.{Known}
 use Rattle.td_types.specs.Types.{same_name}
 use Rattle.td_types.proofs.HeadingLaws.{same_name-flips}
@@ -21,6 +22,27 @@ found name (row ∷ rows) = by_test (found name rows) (same_name name row.0) ref
   where
     by_test : is_some (lookup (same_name name) rows) ≡ is_some (relvar_in name (relvars_view rows)) → (b : Bool) → same_name name row.0 ≡ b
         → is_some (lookup (same_name name) (row ∷ rows)) ≡ is_some (relvar_in name (relvars_view (row ∷ rows)))
+    by_test rest true is =
+        let same : same_name row.0 name ≡ true = same_name-flips row.0 name ∙ is in
+        rw (is, same) refl
+    by_test rest false is =
+        let same : same_name row.0 name ≡ false = same_name-flips row.0 name ∙ is in
+        rw (is, same) rest
+
+-- a map of what references point to
+pub of_references : {T U : Type 0} (f : T → U) (o : Option (Bor T)) → option_map (λ k. f k.now) o ≡ option_map f (option_copied o)
+of_references f None = refl
+of_references f (Some k) = refl
+
+-- what it finds of both
+pub kept : (name : List ℕ) (rows : List (List ℕ × Known))
+    → option_map known_view (lookup (same_name name) rows) ≡ option_map kind_and_heading (relvar_in name (relvars_view rows))
+kept name [] = refl
+kept name (row ∷ rows) = by_test (kept name rows) (same_name name row.0) refl
+  where
+    by_test : option_map known_view (lookup (same_name name) rows) ≡ option_map kind_and_heading (relvar_in name (relvars_view rows))
+        → (b : Bool) → same_name name row.0 ≡ b
+        → option_map known_view (lookup (same_name name) (row ∷ rows)) ≡ option_map kind_and_heading (relvar_in name (relvars_view (row ∷ rows)))
     by_test rest true is =
         let same : same_name row.0 name ≡ true = same_name-flips row.0 name ∙ is in
         rw (is, same) refl

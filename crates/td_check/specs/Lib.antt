@@ -1,5 +1,10 @@
+pub mod Both
+pub mod CheckViews
+pub mod Closures
+pub mod ItemViews
 pub mod Mentions
 pub mod OperatorTypes
+pub mod PlaceViews
 pub mod ScopeCode
 pub mod Scopes
 pub mod StatementTypes

@@ -1,10 +1,13 @@
 -- What an expression mentions: the relvars that its names are by the rule of names, and the types whose selectors it calls
 -- or that it names in a type (this project's own).
-use Rattle.std.specs.Prelude.{ℕ, List, [], ◌∷◌, ◌++◌, is_some, if◌then◌else◌}
+use Rattle.std.specs.Prelude.{ℕ, List, [], ◌∷◌, ◌++◌, fold, is_some, if◌then◌else◌}
+use Rattle.std.specs.Cmp.Lexicographic.{slice_cmp}
+use Rattle.std.specs.Ordering.{nat_cmp}
+use Rattle.std.specs.BTreeSet.{insert_key}
 use Rattle.td_check.specs.Scopes.{Scope, entered_with, innermost, known_relvar}
 use Rattle.td_check.specs.StaticTypes.{type_of}
 use Rattle.td_tree.specs.declared.operator.Operator.TheVariants as operators
-use Rattle.td_tree.specs.Outcomes.{Outcome, Valued}
+use Rattle.td_tree.specs.Outcomes.{Outcome, Valued, with_value}
 use Rattle.td_tree.specs.Trees.{TypeTree, AttributeTrees, no_attributes, attribute, user, tuple_type, relation_type, Tree, literal, name, parentheses, prefix, extract, binary, compare, postfix, select, component, measure, aggregate, relation, headed_relation, tuple, extend, summarize_per, summarize_by, choice, Trees, none, more, NamedTrees, none_named, more_named, Summaries, no_summaries, counted, summed}
 use Rattle.td_tree.specs.Trees as trees
 use Rattle.td_types.specs.Types as types
@@ -45,8 +48,8 @@ abbrev mutual
   relvars_in scope (extend operand parts) =
       relvars_in scope operand ++ relvars_in_named (in_tuples scope (type_of scope operand)) parts
   relvars_in scope (summarize_per operand per summaries) =
-      relvars_in scope operand ++ (relvars_in scope per
-      ++ relvars_in_items (in_tuples scope (type_of scope operand)) summaries)
+      relvars_in scope operand ++ (relvars_in_items (in_tuples scope (type_of scope operand)) summaries
+      ++ relvars_in scope per)
   relvars_in scope (summarize_by operand by summaries) =
       relvars_in scope operand ++ relvars_in_items (in_tuples scope (type_of scope operand)) summaries
   relvars_in scope (choice condition consequent alternative) =
@@ -101,7 +104,7 @@ abbrev mutual
   types_in (tuple parts) = types_in_named parts
   types_in (extend operand parts) = types_in operand ++ types_in_named parts
   types_in (summarize_per operand per summaries) =
-      types_in operand ++ (types_in per ++ types_in_items summaries)
+      types_in operand ++ (types_in_items summaries ++ types_in per)
   types_in (summarize_by operand by summaries) = types_in operand ++ types_in_items summaries
   types_in (choice condition consequent alternative) =
       types_in condition ++ (types_in consequent ++ types_in alternative)
@@ -118,3 +121,13 @@ abbrev mutual
   types_in_items no_summaries = []
   types_in_items (counted n rest) = types_in_items rest
   types_in_items (summed op value n rest) = types_in value ++ types_in_items rest
+
+-- ---- what is mentioned
+
+-- the names, each once, ascending
+abbrev pub name_set : List (List ℕ) → List (List ℕ)
+name_set = fold (insert_key (slice_cmp nat_cmp)) []
+
+-- the relvars and the types of an expression that has a type; another is refused as its type is
+abbrev pub mentions_of : Scope → Tree → Outcome (List (List ℕ) × List (List ℕ))
+mentions_of scope e = with_value (type_of scope e) (λ t. Valued (name_set (relvars_in scope e), name_set (types_in e)))

@@ -14,6 +14,10 @@ use Rattle.td_types.specs.Types.{Heading}
 abbrev pub relvar_view : List ℕ × Known → KnownRelvar
 relvar_view row = record { name = row.0; kind = row.1.kind; heading = row.1.heading }
 
+-- what the code keeps beside the name
+abbrev pub known_view : Known → Kind × Heading
+known_view known = (known.kind, known.heading)
+
 abbrev pub relvars_view : List (List ℕ × Known) → List KnownRelvar
 relvars_view = map relvar_view
 

@@ -27,6 +27,10 @@ relvar_in name (r ∷ rs) = if same_name r.name name then Some r else relvar_in 
 abbrev pub known_relvar : Scope → List ℕ → Option KnownRelvar
 known_relvar scope name = relvar_in name scope.relvars
 
+-- what is known of a relvar beside its name
+abbrev pub kind_and_heading : KnownRelvar → Kind × Heading
+kind_and_heading r = (r.kind, r.heading)
+
 -- whether there is a constraint of the name
 abbrev pub knows_constraint : Scope → List ℕ → Bool
 knows_constraint scope name = has_name name scope.constraints

@@ -1,4 +1,12 @@
 //! The static checker.
 #![tactic(auto)]
 
+mod both;
+pub mod expression;
+pub mod mentioned;
+pub mod mentions;
+mod place;
+pub mod rules;
 pub mod scope;
+pub mod statement;
+mod together;

@@ -1,7 +1,11 @@
 //! What is known where an expression stands.
 ghost use Rattle.std.specs.Prelude.{◌≡◌, ◌↔◌, [], IfOk, IsTrue, OnErr, OnOk, is_some, not};
-ghost use Rattle.td_check.specs.Scopes.{entered_with, known_relvar, knows_constraint, left};
-ghost use Rattle.td_check.specs.Scopes.{scope_of, with_known_constraint, with_known_relvar};
+ghost use Rattle.std.specs.Prelude.{option_map};
+ghost use Rattle.td_check.specs.ScopeCode.{known_view};
+ghost use Rattle.td_check.specs.Scopes.{entered_with, innermost, kind_and_heading, known_relvar};
+ghost use Rattle.td_check.specs.Scopes.{knows_constraint, left, scope_of, with_known_constraint};
+ghost use Rattle.td_check.specs.Scopes.{with_known_relvar};
+ghost use Rattle.td_types.specs.Views.{type_view};
 
 use indexmap::{IndexMap, IndexSet};
 use std::alloc::{AllocError, Global};
@@ -9,6 +13,7 @@ use std::marker::Model;
 use td_tree::name::Name;
 use td_types::heading::Heading;
 use td_types::table::TypeTable;
+use td_types::ty::Ty;
 
 /// Whether a relvar is base or virtual.
 #[derive(Clone, Copy, Debug, PartialEq, Eq)]
@@ -21,9 +26,9 @@ pub enum Kind {
 
 /// What is known of a relvar beside its name.
 #[derive(Drop)]
-struct Known {
-    kind: Kind,
-    heading: Heading,
+pub(crate) struct Known {
+    pub(crate) kind: Kind,
+    pub(crate) heading: Heading,
 }
 
 /// The declared types, the relvars, the constraints' names, and the headings of the tuples in hand.
@@ -120,5 +125,37 @@ impl<'a> Scope<'a> {
         ensures { self.new ≡ left self.old }
     {
         self.entered.pop();
+    }
+
+    /// Where the scope's memory is from.
+    pub(crate) fn allocator(&self) -> Global {
+        *self.entered.allocator()
+    }
+
+    /// The declared types.
+    pub(crate) fn types(&self) -> &TypeTable
+        ensures { result.now ≡ self.now.types }
+    {
+        self.types
+    }
+
+    /// The type of the innermost attribute of the name.
+    pub(crate) fn attribute(&self, name: &Name) -> Option<&Ty>
+        ensures { option_map (λ t. type_view t.now) result ≡ innermost name.now self.now.entered }
+    {
+        for heading in self.entered.iter().rev() {
+            if let Some(ty) = heading.get(name) {
+                return Some(ty);
+            }
+        }
+        None
+    }
+
+    /// What is known of the relvar of the name.
+    pub(crate) fn relvar(&self, name: &Name) -> Option<&Known>
+        ensures { option_map (λ k. known_view k.now) result
+            ≡ option_map kind_and_heading (known_relvar self.now name.now) }
+    {
+        self.relvars.get(name)
     }
 }

@@ -1,0 +1,9 @@
+use Rattle.std.proofs.Common.{map}
+use Rattle.td_check.specs.ItemViews.{named_item_view}
+use Rattle.td_check.specs.OperatorTypes.{item_type}
+use Rattle.td_tree.specs.Gatherings.{IsGathered}
+use Rattle.td_types.specs.Views.{pairs_view}
+use Rattle.td_check.proofs.rules.lists.item_types.Given as goal
+
+abbrev pub invariant-loop-name : goal.invariant-loop-name
+invariant-loop-name l = IsGathered l.causes (pairs_view l.attributes.items) (map (λ item. item_type (named_item_view item)) l.yielded)

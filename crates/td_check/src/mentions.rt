@@ -1,0 +1,49 @@
+//! What an expression mentions.
+ghost use Rattle.std.specs.Prelude.{◌≡◌, IfOk};
+ghost use Rattle.td_check.specs.CheckViews.{names_view};
+ghost use Rattle.td_check.specs.Mentions.{mentions_of, name_set};
+ghost use Rattle.td_tree.specs.Outcomes.{Answers};
+ghost use Rattle.td_tree.specs.TreeViews.{tree_view};
+
+use crate::expression::names_seen;
+use crate::mentioned::Mentions;
+use crate::scope::Scope;
+use std::alloc::AllocError;
+use std::collections::BTreeSet;
+use td_tree::expression::Expr;
+use td_tree::fault::Fault;
+use td_tree::name::Name;
+
+/// The names, each once, ascending.
+fn sorted(names: Vec<Name>) -> Result<BTreeSet<Name>, AllocError>
+    ensures { IfOk result (λ set. set.keys ≡ name_set names.items) }
+{
+    let mut set = BTreeSet::new(*names.allocator());
+    for name in names {
+        set.insert(name)?;
+    }
+    Ok(set)
+}
+
+/// The same in a list.
+fn name_set(names: Vec<Name>) -> Result<Vec<Name>, AllocError>
+    ensures { IfOk result (λ set. set.items ≡ name_set names.items) }
+{
+    let alloc = *names.allocator();
+    let mut set = Vec::new(alloc);
+    for name in sorted(names)? {
+        set.push(name)?;
+    }
+    Ok(set)
+}
+
+/// What the expression mentions: the relvars that its names are, and the types that it selects
+/// values of or names. It is refused as `check_expr` refuses it.
+pub fn mentions(scope: &Scope<'_>, expr: &Expr) -> Result<Mentions, Fault>
+    ensures { Answers names_view result (mentions_of scope.now (tree_view expr.now)) }
+{
+    let Mentions { relvars, types } = names_seen(scope, expr)?;
+    let relvars = name_set(relvars)?;
+    let types = name_set(types)?;
+    Ok(Mentions { relvars, types })
+}

@@ -1,0 +1,83 @@
+//! Where an expression stands.
+ghost use Rattle.std.specs.Prelude.{◌≡◌, IfOk, option_map};
+ghost use Rattle.td_check.specs.PlaceViews.{standing};
+ghost use Rattle.td_check.specs.ScopeCode.{known_view};
+ghost use Rattle.td_check.specs.Scopes.{entered_with, innermost, kind_and_heading, known_relvar};
+ghost use Rattle.td_types.specs.Views.{type_view};
+
+use crate::scope::{Known, Scope};
+use std::alloc::{AllocError, Global};
+use td_tree::name::Name;
+use td_types::heading::Heading;
+use td_types::table::TypeTable;
+use td_types::ty::Ty;
+
+/// A scope and, within it, the headings of the tuples to which an expression is applied.
+#[derive(Drop)]
+pub(crate) struct Place<'s, 't, 'h> {
+    scope: &'s Scope<'t>,
+    /// The innermost is the last.
+    inner: Vec<&'h Heading>,
+}
+
+impl<'s, 't, 'h> Place<'s, 't, 'h> {
+    /// Where an expression stands in the scope itself.
+    pub(crate) fn outside(scope: &'s Scope<'t>) -> Place<'s, 't, 'h>
+        ensures { standing result ≡ scope.now }
+    {
+        Place {
+            scope,
+            inner: Vec::new(scope.allocator()),
+        }
+    }
+
+    /// Where an expression stands that is applied to each tuple of the heading.
+    pub(crate) fn inside<'n>(&self, heading: &'n Heading) -> Result<Place<'s, 't, 'n>, AllocError>
+    where
+        'h: 'n,
+        ensures { IfOk result (λ p. standing p ≡ entered_with heading.now (standing self.now)) }
+    {
+        let mut inner = Vec::with_capacity(self.allocator(), self.inner.len() + 1)?;
+        for outer in &self.inner {
+            inner.push(*outer)?;
+        }
+        inner.push(heading)?;
+        Ok(Place {
+            scope: self.scope,
+            inner,
+        })
+    }
+
+    /// Where the memory is from.
+    pub(crate) fn allocator(&self) -> Global {
+        self.scope.allocator()
+    }
+
+    /// The declared types.
+    pub(crate) fn types(&self) -> &TypeTable
+        ensures { result.now ≡ (standing self.now).types }
+    {
+        self.scope.types()
+    }
+
+    /// The type of the innermost attribute of the name.
+    pub(crate) fn attribute(&self, name: &Name) -> Option<&Ty>
+        ensures { option_map (λ t. type_view t.now) result
+            ≡ innermost name.now (standing self.now).entered }
+    {
+        for heading in self.inner.iter().rev() {
+            if let Some(ty) = heading.get(name) {
+                return Some(ty);
+            }
+        }
+        self.scope.attribute(name)
+    }
+
+    /// What is known of the relvar of the name.
+    pub(crate) fn relvar(&self, name: &Name) -> Option<&Known>
+        ensures { option_map (λ k. known_view k.now) result
+            ≡ option_map kind_and_heading (known_relvar (standing self.now) name.now) }
+    {
+        self.scope.relvar(name)
+    }
+}

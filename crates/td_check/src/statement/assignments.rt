@@ -1,0 +1,241 @@
+//! What is asked of assignments.
+ghost use Rattle.std.specs.Prelude.{◌≡◌, List, Option, map, option_map};
+ghost use Rattle.td_check.specs.PlaceViews.{standing};
+ghost use Rattle.td_check.specs.ScopeCode.{known_view};
+ghost use Rattle.td_check.specs.Scopes.{KnownRelvar, kind_and_heading, known_relvar};
+ghost use Rattle.td_check.specs.StaticTypes.{named_types, type_of};
+ghost use Rattle.td_check.specs.StatementTypes.{assignment_checked, both_hold, condition_fits};
+ghost use Rattle.td_check.specs.StatementTypes.{condition_type, in_target, is_target};
+ghost use Rattle.td_check.specs.StatementTypes.{setting_fits, settings_fit, source_fits};
+ghost use Rattle.td_tree.specs.Outcomes.{Answers, Valued, gathered, with_both, with_value};
+ghost use Rattle.td_tree.specs.TreeViews.{assignment_view, named_view, tree_view};
+ghost use Rattle.td_types.specs.Types.{Heading};
+ghost use Rattle.td_types.specs.Views.{pairs_view, type_view};
+
+use super::parts::{both_hold, condition_fits, relation_fits, type_if_given};
+use crate::both::both;
+use crate::expression::{check_at, check_named_at};
+use crate::place::Place;
+use crate::rules::asked::{ask, relation_heading};
+use crate::rules::headings::attribute_type;
+use crate::scope::{Kind, Known, Scope};
+use td_tree::cause::Cause;
+use td_tree::expression::{Expr, NamedExpr};
+use td_tree::fault::Fault;
+use td_tree::gathering::Gathering;
+use td_tree::name::Name;
+use td_tree::statement::Assignment;
+use td_types::heading::Heading;
+use td_types::names::{are_distinct, names_of};
+use td_types::ty::Ty;
+
+// ---- targets and sources
+
+/// What is asked of a target: it is known, and it is a base relvar.
+fn is_target(known: Option<&Known>) -> Result<(), Fault>
+    ensures { (target : Option KnownRelvar)
+        → option_map (λ k. known_view k.now) known.entry ≡ option_map kind_and_heading target
+        → Answers (λ u. u) result (is_target target) }
+{
+    match known {
+        None => Err(Fault::Refused(Cause::NameUnknown)),
+        Some(relvar) => ask(relvar.kind == Kind::Base, Cause::NotAssignable),
+    }
+}
+
+/// What is asked of the type of what is assigned or inserted: it is a relation, of the target's
+/// heading where that is known.
+fn source_fits(known: Option<&Known>, ty: &Ty) -> Result<(), Fault>
+    ensures { (target : Option KnownRelvar)
+        → option_map (λ k. known_view k.now) known.entry ≡ option_map kind_and_heading target
+        → Answers (λ u. u) result (source_fits target (type_view ty.now)) }
+{
+    match known {
+        None => {
+            relation_heading(ty)?;
+            Ok(())
+        }
+        Some(relvar) => relation_fits(&relvar.heading, ty),
+    }
+}
+
+/// What is asked of what is assigned or inserted.
+fn check_source(scope: &Scope<'_>, known: Option<&Known>, source: &Expr) -> Result<(), Fault>
+    ensures { (target : Option KnownRelvar)
+        → option_map (λ k. known_view k.now) known.entry ≡ option_map kind_and_heading target
+        → Answers (λ u. u) result
+        (with_value (type_of scope.now (tree_view source.now)) (source_fits target)) }
+{
+    let ty = check_at(source, &Place::outside(scope))?;
+    source_fits(known, &ty)
+}
+
+/// What is asked of an assignment of a relation, and of `INSERT`.
+fn check_assigned(scope: &Scope<'_>, target: &Name, source: &Expr) -> Result<(), Fault>
+    ensures { Answers (λ u. u) result
+        (assignment_checked scope.now (assignment_view (Assignment.Assign target.now source.now))) }
+{
+    let known = scope.relvar(target);
+    both_hold(is_target(known), check_source(scope, known, source))
+}
+
+// ---- what stands in the target's tuples
+
+/// What is asked of `DELETE`'s condition.
+fn check_deletion(
+    scope: &Scope<'_>,
+    known: Option<&Known>,
+    condition: Option<&Expr>,
+) -> Result<(), Fault>
+    ensures { (target : Option KnownRelvar)
+        → option_map (λ k. known_view k.now) known.entry ≡ option_map kind_and_heading target
+        → Answers (λ u. u) result (in_target scope.now target (λ inside h. with_value
+        (condition_type inside (option_map (λ e. tree_view e.now) condition.entry))
+        condition_fits)) }
+{
+    match known {
+        None => Ok(()),
+        Some(relvar) => {
+            let place = Place::outside(scope).inside(&relvar.heading)?;
+            let ty = type_if_given(condition, &place)?;
+            condition_fits(ty.as_ref())
+        }
+    }
+}
+
+/// What is asked of `DELETE`.
+fn check_delete(scope: &Scope<'_>, target: &Name, condition: Option<&Expr>) -> Result<(), Fault>
+    ensures { Answers (λ u. u) result
+        (both_hold (is_target (known_relvar scope.now target.now))
+        (in_target scope.now (known_relvar scope.now target.now) (λ inside h. with_value
+        (condition_type inside (option_map (λ e. tree_view e.now) condition.entry))
+        condition_fits))) }
+{
+    let known = scope.relvar(target);
+    both_hold(is_target(known), check_deletion(scope, known, condition))
+}
+
+/// What is asked of what an attribute is set to: it is of the attribute's type.
+fn setting_fits(heading: &Heading, name: &Name, ty: &Ty) -> Result<(), Fault>
+    ensures { Answers (λ u. u) result (setting_fits heading.now (name.now, type_view ty.now)) }
+{
+    ask(ty == attribute_type(heading, name)?, Cause::TypeMismatch)
+}
+
+/// What is asked of each setting.
+fn each_setting_fits(heading: &Heading, settings: &[(Name, Ty)]) -> Result<(), Fault>
+    ensures { Answers (λ u. u) result
+        (with_value (gathered (map (setting_fits heading.now) (pairs_view settings.now)))
+        (λ _. Valued tt)) }
+{
+    let mut causes = Gathering::new();
+    for (name, ty) in settings {
+        causes.add(setting_fits(heading, name, ty))?;
+    }
+    causes.finish(())
+}
+
+/// What is asked of settings: each fits, and none sets what another does.
+fn settings_fit(heading: &Heading, settings: Vec<(Name, Ty)>) -> Result<(), Fault>
+    ensures { Answers (λ u. u) result
+        (settings_fit heading.now (pairs_view settings.items)) }
+{
+    let names = names_of(*settings.allocator(), &settings)?;
+    let distinct = ask(are_distinct(&names), Cause::Heading);
+    both_hold(distinct, each_setting_fits(heading, &settings))
+}
+
+/// What is asked of `UPDATE`'s condition and settings in the target's tuples.
+fn update_fits(
+    place: &Place<'_, '_, '_>,
+    heading: &Heading,
+    condition: Option<&Expr>,
+    settings: &[NamedExpr],
+) -> Result<(), Fault>
+    ensures { Answers (λ u. u) result
+        (with_both
+        (condition_type (standing place.now) (option_map (λ e. tree_view e.now) condition.entry))
+        (named_types (standing place.now) (named_view settings.now))
+        (λ c values. both_hold (condition_fits c) (settings_fit heading.now values))) }
+{
+    let condition = type_if_given(condition, place);
+    let (condition, values) = both(condition, check_named_at(settings, place))?;
+    let condition = condition_fits(condition.as_ref());
+    both_hold(condition, settings_fit(heading, values))
+}
+
+/// What is asked of `UPDATE`'s condition and settings.
+fn check_settings(
+    scope: &Scope<'_>,
+    known: Option<&Known>,
+    condition: Option<&Expr>,
+    settings: &[NamedExpr],
+) -> Result<(), Fault>
+    ensures { (target : Option KnownRelvar)
+        → option_map (λ k. known_view k.now) known.entry ≡ option_map kind_and_heading target
+        → Answers (λ u. u) result (in_target scope.now target (λ inside h. with_both
+        (condition_type inside (option_map (λ e. tree_view e.now) condition.entry))
+        (named_types inside (named_view settings.now))
+        (λ c values. both_hold (condition_fits c) (settings_fit h values)))) }
+{
+    match known {
+        None => Ok(()),
+        Some(relvar) => {
+            let place = Place::outside(scope).inside(&relvar.heading)?;
+            update_fits(&place, &relvar.heading, condition, settings)
+        }
+    }
+}
+
+/// What is asked of `UPDATE`.
+fn check_update(
+    scope: &Scope<'_>,
+    target: &Name,
+    condition: Option<&Expr>,
+    settings: &[NamedExpr],
+) -> Result<(), Fault>
+    ensures { Answers (λ u. u) result
+        (both_hold (is_target (known_relvar scope.now target.now))
+        (in_target scope.now (known_relvar scope.now target.now) (λ inside h. with_both
+        (condition_type inside (option_map (λ e. tree_view e.now) condition.entry))
+        (named_types inside (named_view settings.now))
+        (λ c values. both_hold (condition_fits c) (settings_fit h values))))) }
+{
+    let known = scope.relvar(target);
+    both_hold(
+        is_target(known),
+        check_settings(scope, known, condition, settings),
+    )
+}
+
+// ---- assignments
+
+/// What is asked of one assignment.
+fn check_assignment(scope: &Scope<'_>, assignment: &Assignment) -> Result<(), Fault>
+    ensures { Answers (λ u. u) result
+        (assignment_checked scope.now (assignment_view assignment.now)) }
+{
+    match assignment {
+        Assignment::Assign(target, source) | Assignment::Insert(target, source) => {
+            check_assigned(scope, target, source)
+        }
+        Assignment::Delete(target, condition) => check_delete(scope, target, condition.as_ref()),
+        Assignment::Update(target, condition, settings) => {
+            check_update(scope, target, condition.as_ref(), settings)
+        }
+    }
+}
+
+/// What is asked of the assignments of one statement: of each, whether or not another is refused.
+pub(crate) fn check_assignments(scope: &Scope<'_>, assignments: &[Assignment]) -> Result<(), Fault>
+    ensures { Answers (λ u. u) result
+        (with_value
+        (gathered (map (assignment_checked scope.now) (map assignment_view assignments.now)))
+        (λ _. Valued tt)) }
+{
+    let mut causes = Gathering::new();
+    for assignment in assignments {
+        causes.add(check_assignment(scope, assignment))?;
+    }
+    causes.finish(())
+}

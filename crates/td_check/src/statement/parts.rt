@@ -1,0 +1,86 @@
+//! What is asked of the parts of statements.
+ghost use Rattle.std.specs.Prelude.{option_map, ⊤};
+ghost use Rattle.td_check.specs.OperatorTypes.{if_type};
+ghost use Rattle.td_check.specs.PlaceViews.{standing};
+ghost use Rattle.td_check.specs.Scopes.{entered_with};
+ghost use Rattle.td_check.specs.StaticTypes.{type_of};
+ghost use Rattle.td_check.specs.StatementTypes.{both_hold, condition_fits, condition_type};
+ghost use Rattle.td_check.specs.StatementTypes.{relation_fits};
+ghost use Rattle.td_tree.specs.Outcomes.{Answers, Outcome, with_value};
+ghost use Rattle.td_tree.specs.TreeViews.{tree_view};
+ghost use Rattle.td_types.specs.Types.{boolean};
+ghost use Rattle.td_types.specs.Views.{type_view};
+
+use crate::both::both;
+use crate::expression::check_at;
+use crate::place::Place;
+use crate::rules::asked::{ask, relation_heading};
+use crate::scope::Scope;
+use td_tree::cause::Cause;
+use td_tree::expression::Expr;
+use td_tree::fault::Fault;
+use td_types::heading::Heading;
+use td_types::ty::Ty;
+
+/// Both are asked: the least of their causes is named.
+pub(crate) fn both_hold(first: Result<(), Fault>, second: Result<(), Fault>) -> Result<(), Fault>
+    ensures { (o p : Outcome ⊤) → Answers (λ u. u) first o → Answers (λ u. u) second p
+        → Answers (λ u. u) result (both_hold o p) }
+{
+    both(first, second)?;
+    Ok(())
+}
+
+/// The type of an expression that may be left out.
+pub(crate) fn type_if_given(
+    expression: Option<&Expr>,
+    place: &Place<'_, '_, '_>,
+) -> Result<Option<Ty>, Fault>
+    ensures { Answers (option_map type_view) result (condition_type (standing place.now)
+        (option_map (λ e. tree_view e.now) expression.entry)) }
+{
+    match expression {
+        None => Ok(None),
+        Some(expression) => Ok(Some(check_at(expression, place)?)),
+    }
+}
+
+/// What is asked of a condition's type, where there is a condition: it is BOOLEAN.
+pub(crate) fn condition_fits(ty: Option<&Ty>) -> Result<(), Fault>
+    ensures { Answers (λ u. u) result
+        (condition_fits (option_map (λ t. type_view t.now) ty.entry)) }
+{
+    match ty {
+        None => Ok(()),
+        Some(ty) => ask(*ty == Ty::Bool, Cause::TypeMismatch),
+    }
+}
+
+/// What is asked of a condition: it is BOOLEAN.
+pub(crate) fn check_condition(condition: &Expr, place: &Place<'_, '_, '_>) -> Result<(), Fault>
+    ensures { Answers (λ u. u) result (with_value (type_of (standing place.now)
+        (tree_view condition.now)) (λ t. if_type boolean t tt)) }
+{
+    let ty = check_at(condition, place)?;
+    ask(ty == Ty::Bool, Cause::TypeMismatch)
+}
+
+/// What is asked of a condition on the tuples of a heading: it is BOOLEAN there.
+pub(crate) fn check_inside(
+    scope: &Scope<'_>,
+    heading: &Heading,
+    condition: &Expr,
+) -> Result<(), Fault>
+    ensures { Answers (λ u. u) result (with_value (type_of (entered_with heading.now scope.now)
+        (tree_view condition.now)) (λ t. if_type boolean t tt)) }
+{
+    let place = Place::outside(scope).inside(heading)?;
+    check_condition(condition, &place)
+}
+
+/// What is asked of a value for a relvar: it is a relation of its heading.
+pub(crate) fn relation_fits(heading: &Heading, ty: &Ty) -> Result<(), Fault>
+    ensures { Answers (λ u. u) result (relation_fits heading.now (type_view ty.now)) }
+{
+    ask(relation_heading(ty)? == heading, Cause::Heading)
+}
