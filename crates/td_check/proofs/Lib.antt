@@ -1,5 +1,7 @@
 pub mod Added
+pub mod AgreementLaws
 pub mod BothAnswers
+pub mod CarriedLaws
 pub mod CheckedItems
 pub mod CheckedLists
 pub mod CheckedNames
@@ -8,9 +10,19 @@ pub mod CheckedTypes
 pub mod Comparisons
 pub mod Entered
 pub mod GatheredAnswers
+pub mod GivenLaws
 pub mod Gives
 pub mod HeadingRules
+pub mod KnownLaws
+pub mod MentionLaws
+pub mod MentionedRelvarLaws
+pub mod MentionedTypeLaws
 pub mod NamedTypes
+pub mod OperatorLaws
+pub mod ScopeLaws
 pub mod Scopes
 pub mod StatementAnswers
+pub mod StaticLaws
+pub mod SummaryLaws
+pub mod UserTypeLaws
 pub mod WorkedTypes

@@ -8,4 +8,5 @@ pub mod PlaceViews
 pub mod ScopeCode
 pub mod Scopes
 pub mod StatementTypes
+pub mod StaticLaws
 pub mod StaticTypes

@@ -3,6 +3,7 @@
 
 mod both;
 pub mod expression;
+pub mod laws;
 pub mod mentioned;
 pub mod mentions;
 mod place;

@@ -1,0 +1,34 @@
+//! What the types of expressions are to their callers: each function has its contract alone.
+ghost use Rattle.td_check.specs.StaticLaws.{DropsChangeNothing, MentionsAreKnown};
+ghost use Rattle.td_check.specs.StaticLaws.{MoreChangesNothing, ScopesAreKept};
+ghost use Rattle.td_check.specs.StaticLaws.{TypesAreKnown, TypesAreMadeOfMentions};
+ghost use Rattle.td_check.specs.StaticLaws.{TypesDependOnMentions};
+
+/// The type of an expression is a type, and its user types are declared; scopes as they are made
+/// are such that it is.
+pub fn types_are_known()
+    ensures types { TypesAreKnown }
+    ensures scopes { ScopesAreKept }
+{}
+
+/// The relvars and the types that an expression mentions are known.
+pub fn mentions_are_known()
+    ensures { MentionsAreKnown }
+{}
+
+/// The type of an expression depends only on the types and relvars that it mentions, and on the
+/// types that these are made of; it is made of no other types.
+pub fn types_depend_on_mentions()
+    ensures same { TypesDependOnMentions }
+    ensures made { TypesAreMadeOfMentions }
+{}
+
+/// Where more types and relvars are known, an expression that has a type has the same.
+pub fn more_changes_nothing()
+    ensures { MoreChangesNothing }
+{}
+
+/// Where a relvar or a type is dropped, an expression that does not mention it has the same type.
+pub fn drops_change_nothing()
+    ensures { DropsChangeNothing }
+{}
