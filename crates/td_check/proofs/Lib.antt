@@ -17,6 +17,7 @@ pub mod KnownLaws
 pub mod MentionLaws
 pub mod MentionedRelvarLaws
 pub mod MentionedTypeLaws
+pub mod NameSets
 pub mod NamedTypes
 pub mod OperatorLaws
 pub mod ScopeLaws

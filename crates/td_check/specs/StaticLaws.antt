@@ -1,7 +1,7 @@
 -- What holds of the type of an expression: laws.
 use Rattle.std.specs.Prelude.{◌≡◌, ◌++◌, ℕ, Bool, not, List, Some, is_some, IsTrue, ⊤}
 use Rattle.std.specs.List.{AllByRecursion, Contains}
-use Rattle.td_check.specs.Mentions.{relvars_in, relvars_in_all, relvars_in_items, relvars_in_named, types_in, types_in_all, types_in_items, types_in_named}
+use Rattle.td_check.specs.Mentions.{name_set, relvars_in, relvars_in_all, relvars_in_items, relvars_in_named, types_in, types_in_all, types_in_items, types_in_named}
 use Rattle.td_check.specs.declared.scope.Kind.{Kind}
 use Rattle.td_check.specs.Scopes.{KnownRelvar, Scope, alone_with, entered_with, known_relvar, left, scope_of, with_known_constraint, with_known_relvar}
 use Rattle.td_check.specs.StaticTypes.{items_of, named_types, type_of, types_of}
@@ -9,6 +9,7 @@ use Rattle.td_tree.specs.Names.{IsName}
 use Rattle.td_tree.specs.Outcomes.{Outcome, Valued}
 use Rattle.td_tree.specs.Trees.{Postfix, project, rename, group, ungroup, wrap, unwrap, Tree, literal, name, parentheses, prefix, extract, binary, compare, postfix, select, component, measure, aggregate, headed_relation, extend, summarize_per, summarize_by, choice, Trees, none, more, NamedTrees, none_named, more_named, Summaries, no_summaries, counted, summed}
 use Rattle.td_tree.specs.Trees as trees
+use Rattle.td_types.specs.Headings.{has_name}
 use Rattle.td_types.specs.TypeListLaws.{HaveNames}
 use Rattle.td_types.specs.TypeLists.{AreDeclared, AreKnown, DeclaredType, IsKnown, declared_at, is_declared}
 use Rattle.td_types.specs.Types.{Attrs, Attribute, Heading, IsHeading, IsType, Type', attr, boolean, char, integer, no_attrs, pack, relation, same_name, tuple, user}
@@ -195,3 +196,9 @@ pub record DropsChangeNothing : Type 0 where
   pub type :
       (dropped : List ℕ) (first second : Scope) (e : Tree) (t : Type') → LacksType dropped first second
       → (Contains (types_in e) dropped → ⊥) → type_of first e ≡ Valued t → type_of second e ≡ Valued t
+
+-- ---- the names that are answered
+
+-- the set of a list's names has exactly these
+abbrev pub NamesAreASet : Type 0
+NamesAreASet = (ns : List (List ℕ)) (n : List ℕ) → has_name n (name_set ns) ≡ has_name n ns

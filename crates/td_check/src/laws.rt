@@ -1,6 +1,6 @@
 //! What the types of expressions are to their callers: each function has its contract alone.
 ghost use Rattle.td_check.specs.StaticLaws.{DropsChangeNothing, MentionsAreKnown};
-ghost use Rattle.td_check.specs.StaticLaws.{MoreChangesNothing, ScopesAreKept};
+ghost use Rattle.td_check.specs.StaticLaws.{MoreChangesNothing, NamesAreASet, ScopesAreKept};
 ghost use Rattle.td_check.specs.StaticLaws.{TypesAreKnown, TypesAreMadeOfMentions};
 ghost use Rattle.td_check.specs.StaticLaws.{TypesDependOnMentions};
 
@@ -31,4 +31,9 @@ pub fn more_changes_nothing()
 /// Where a relvar or a type is dropped, an expression that does not mention it has the same type.
 pub fn drops_change_nothing()
     ensures { DropsChangeNothing }
+{}
+
+/// The names that `mentions` answers are exactly those that stand in the expression.
+pub fn names_are_a_set()
+    ensures { NamesAreASet }
 {}

@@ -1,5 +1,8 @@
 //! What an expression mentions.
 ghost use Rattle.std.specs.Prelude.{◌≡◌, IfOk};
+ghost use Rattle.std.specs.Cmp.Lexicographic.{slice_cmp};
+ghost use Rattle.std.specs.List.Sorted.{IsStrictlySortedBy};
+ghost use Rattle.std.specs.Ordering.{nat_cmp};
 ghost use Rattle.td_check.specs.CheckViews.{names_view};
 ghost use Rattle.td_check.specs.Mentions.{mentions_of, name_set};
 ghost use Rattle.td_tree.specs.Outcomes.{Answers};
@@ -16,18 +19,21 @@ use td_tree::name::Name;
 
 /// The names, each once, ascending.
 fn sorted(names: Vec<Name>) -> Result<BTreeSet<Name>, AllocError>
-    ensures { IfOk result (λ set. set.keys ≡ name_set names.items) }
+    ensures names { IfOk result (λ set. set.keys ≡ name_set names.items) }
+    ensures ascending { IfOk result (λ set. IsStrictlySortedBy (slice_cmp nat_cmp) set.keys) }
 {
     let mut set = BTreeSet::new(*names.allocator());
     for name in names {
         set.insert(name)?;
     }
+    let _ = set.len();
     Ok(set)
 }
 
 /// The same in a list.
 fn name_set(names: Vec<Name>) -> Result<Vec<Name>, AllocError>
-    ensures { IfOk result (λ set. set.items ≡ name_set names.items) }
+    ensures names { IfOk result (λ set. set.items ≡ name_set names.items) }
+    ensures ascending { IfOk result (λ set. IsStrictlySortedBy (slice_cmp nat_cmp) set.items) }
 {
     let alloc = *names.allocator();
     let mut set = Vec::new(alloc);
@@ -40,7 +46,10 @@ fn name_set(names: Vec<Name>) -> Result<Vec<Name>, AllocError>
 /// What the expression mentions: the relvars that its names are, and the types that it selects
 /// values of or names. It is refused as `check_expr` refuses it.
 pub fn mentions(scope: &Scope<'_>, expr: &Expr) -> Result<Mentions, Fault>
-    ensures { Answers names_view result (mentions_of scope.now (tree_view expr.now)) }
+    ensures answer { Answers names_view result (mentions_of scope.now (tree_view expr.now)) }
+    ensures relvars { IfOk result (λ m.
+        IsStrictlySortedBy (slice_cmp nat_cmp) m.relvars.items) }
+    ensures types { IfOk result (λ m. IsStrictlySortedBy (slice_cmp nat_cmp) m.types.items) }
 {
     let Mentions { relvars, types } = names_seen(scope, expr)?;
     let relvars = name_set(relvars)?;
