@@ -4,7 +4,7 @@ use Rattle.std.specs.Global.{Vec}
 use Rattle.std.proofs.lemmas.List.{append_assoc}
 use Rattle.std.specs.Prelude.{OnOk, is_some}
 use Rattle.td_check.specs.Both.{both_answers}
-use Rattle.td_check.specs.CheckViews.{Added, Names, added_view, per_view, summary_per, with_names}
+use Rattle.td_check.specs.CheckViews.{Added, Names, added_view, per_view, per_summary, with_names}
 use Rattle.td_check.specs.declared.rules.lists.Item.{Item}
 use Rattle.td_check.specs.ItemViews.{items_view}
 use Rattle.td_check.specs.Mentions.{in_tuples, relvars_in, relvars_in_items, types_in, types_in_items}
@@ -126,14 +126,14 @@ both_are (Err d) (Ok y) b is = absurd (cc)
 both_are (Err d) (Err e) b is = absurd (cc)
 
 pub held_of_per : (P Q : Type 0) (a : Result (Ty × Vec (List ℕ × Item)) Fault) (s : Result Ty Fault) (z : Result Ty Fault)
-    → Gives per_view (both_answers a s) summary_per type_view z
+    → Gives per_view (both_answers a s) per_summary type_view z
     → ((b : Ty × Vec (List ℕ × Item)) → a ≡ Ok b → IsTrue (is_some (added_view b)) → Q → P) → OnOk s Q → OnOk z P
 held_of_per P Q a s (Ok y) gives k h =
-    let given = parts_given per_view (both_answers a s) summary_per type_view y gives in
+    let given = parts_given per_view (both_answers a s) per_summary type_view y gives in
     let both = both_are a s given.0 given.1 in
-    let answer : summary_per (per_view given.0) ≡ Valued (type_view y) =
+    let answer : per_summary (per_view given.0) ≡ Valued (type_view y) =
     gives (Valued (per_view given.0)) (subst (λ r. Answers per_view r (Valued (per_view given.0))) (sym given.1) refl) in
-    k given.0.0 both.0 (some_added (λ added. summary_per (added, type_view given.0.1)) refl (type_view y) (added_view given.0.0) answer)
+    k given.0.0 both.0 (some_added (λ added. per_summary (added, type_view given.0.1)) refl (type_view y) (added_view given.0.0) answer)
     (subst (λ r. OnOk r Q) both.1 h)
 held_of_per P Q a s (Err e) gives k h = tt
 

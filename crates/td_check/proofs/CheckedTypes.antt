@@ -2,7 +2,7 @@
 use Rattle.std.proofs.Common.{◌≡◌, ◌∙◌, List, Option, Some, None, Result, map, refl, subst, sym}
 use Rattle.std.specs.Global.{Vec}
 use Rattle.td_check.specs.Both.{both_answers}
-use Rattle.td_check.specs.CheckViews.{Added, choice_of, headed_view, summary_by, summary_per, three_types_view, types_view}
+use Rattle.td_check.specs.CheckViews.{Added, choice_of, headed_view, by_summary, per_summary, three_types_view, types_view}
 use Rattle.td_check.specs.OperatorTypes as own
 use Rattle.td_check.specs.OperatorTypes.{comparison_type, extension_type, headed_type, operator_type, over_relation}
 use Rattle.td_check.specs.Scopes.{Scope}
@@ -93,14 +93,14 @@ inside_extended o s is found = rw is (sym (over_relation_each s found extension_
 -- ---- SUMMARIZE
 
 pub summary_by_typed : (by : Attributes) (o : Outcome (Option Added))
-    → with_value o (summary_by by)
+    → with_value o (by_summary by)
     ≡ with_value o (λ added. elim added as (λ _. Outcome Type') [ Some both ↦ own.summary_type (own.named_part by both.0) both.1 | None ↦ own.mismatch ])
 summary_by_typed by (Valued (Some both)) = refl
 summary_by_typed by (Valued None) = refl
 summary_by_typed by (Refused cs) = refl
 
 summary_per_typed : (o : Outcome (Option Added)) (p : Outcome Type')
-    → with_both o p (λ added t. summary_per (added, t))
+    → with_both o p (λ added t. per_summary (added, t))
     ≡ with_both o p (λ added t. elim added as (λ _. Outcome Type') [ Some both ↦ own.summary_type (own.per_heading both.0 t) both.1 | None ↦ own.mismatch ])
 summary_per_typed (Valued (Some both)) (Valued t) = refl
 summary_per_typed (Valued None) (Valued t) = refl
@@ -110,9 +110,9 @@ summary_per_typed (Refused cs) (Refused ds) = refl
 
 pub per_typed : {X : Type 0} (view : X → Option Added) (o : Outcome (Option Added)) (p : Outcome Type') (x : Result X Fault) (y z : Result Ty Fault)
     → Answers view x o → Answers type_view y p
-    → Gives {X = X × Ty} (λ b. (view b.0, type_view b.1)) (both_answers x y) summary_per type_view z
+    → Gives {X = X × Ty} (λ b. (view b.0, type_view b.1)) (both_answers x y) per_summary type_view z
     → Answers type_view z
     (with_both o p (λ added t. elim added as (λ _. Outcome Type') [ Some both ↦ own.summary_type (own.per_heading both.0 t) both.1 | None ↦ own.mismatch ]))
 per_typed view o p x y z h i gives =
-    subst (Answers type_view z) (paired_first o p (λ added t. summary_per (added, t)) ∙ summary_per_typed o p)
+    subst (Answers type_view z) (paired_first o p (λ added t. per_summary (added, t)) ∙ summary_per_typed o p)
     (gives (with_both o p with_pair) (answers_paired view type_view x y o p h i))

@@ -9,7 +9,7 @@ use Rattle.indexmap.specs.IndexSet.{insert_key}
 use Rattle.indexmap.proofs.CallerLemmas.{insert_entry-new}
 use Rattle.td_types.specs.Headings.{has_name}
 use Rattle.std.specs.Map.{lookup}
-use Rattle.td_check.specs.ScopeCode.{known_view, relvar_view, relvars_view}
+use Rattle.td_check.specs.ScopeCode.{known_view, known_relvar_view, relvars_view}
 use Rattle.td_check.specs.Scopes.{kind_and_heading, relvar_in}
 use Rattle.td_check.specs.declared.scope.Known.{Known}
 use Rattle.td_types.specs.Types.{same_name}
@@ -62,10 +62,10 @@ row_missing name rows h = by_option (lookup (same_name name) rows) (ap not (foun
 -- one more relvar stands last
 pub relvar_added : {S : Type 0} (m : IndexMap (List ℕ) Known S) (name : List ℕ) (known : Known)
     → not (is_some (relvar_in name (relvars_view m.entries))) ≡ true
-    → relvars_view (insert_entry same_name m.entries name known) ≡ relvars_view m.entries ++ (relvar_view (name, known) ∷ [])
+    → relvars_view (insert_entry same_name m.entries name known) ≡ relvars_view m.entries ++ (known_relvar_view (name, known) ∷ [])
 relvar_added m name known h =
     ap relvars_view (insert_entry-new same_name m name known (row_missing name m.entries h))
-    ∙ map-append relvar_view m.entries ((name, known) ∷ [])
+    ∙ map-append known_relvar_view m.entries ((name, known) ∷ [])
 
 -- so does one more name
 pub name_added : (names : List (List ℕ)) (name : List ℕ) → not (has_name name names) ≡ true → insert_key same_name names name ≡ names ++ (name ∷ [])

@@ -7,7 +7,7 @@ use Rattle.std.specs.Prelude.{Bool, true, false, ⊤}
 use Rattle.td_check.proofs.Scopes.{of_references}
 use Rattle.td_check.specs.Both.{both_answers, lesser_fault}
 use Rattle.td_check.specs.Scopes.{Scope}
-use Rattle.td_check.specs.StatementTypes.{both_hold, components_meant, condition_fits, condition_type, constraint_fits, has_key, heading_rank_fits, init_fits, init_type, keys_fit, rank_fits, settings_fit}
+use Rattle.td_check.specs.StatementTypes.{both_hold, components_meant, condition_fits, condition_type, constraint_fits, has_key, heading_rank_fits, init_fits, init_type, keys_asked, rank_fits, settings_fit}
 use Rattle.td_tree.specs.declared.cause.Cause.{Cause}
 use Rattle.td_tree.specs.declared.cause.Cause.TheVariants as causes
 use Rattle.td_tree.specs.declared.fault.Fault.{Fault}
@@ -105,7 +105,7 @@ init_answers scope place r o given at is h =
 
 -- what is asked of a base relvar by its heading and INIT's type
 abbrev pub base_asked : List DeclaredType → List (List (List ℕ)) → Heading → Option Type' → Outcome ⊤
-base_asked ds keys h t = both_hold (init_fits h t) (both_hold (both_hold (has_key keys) (keys_fit h keys)) (heading_rank_fits ds h))
+base_asked ds keys h t = both_hold (init_fits h t) (both_hold (both_hold (has_key keys) (keys_asked h keys)) (heading_rank_fits ds h))
 
 -- what is asked in a target's tuples by the type of UPDATE's condition and of what its settings set
 abbrev pub update_asked : Heading → Option Type' → List Attribute → Outcome ⊤

@@ -72,10 +72,10 @@ per_view parts = (added_view parts.0, type_view parts.1)
 abbrev pub choice_of : Type' × (Type' × Type') → Outcome Type'
 choice_of parts = own.choice_type parts.0 parts.1.0 parts.1.1
 
-abbrev pub summary_per : Option Added × Type' → Outcome Type'
-summary_per (Some added, t) = own.summary_type (own.per_heading added.0 t) added.1
-summary_per (None, t) = own.mismatch
+abbrev pub per_summary : Option Added × Type' → Outcome Type'
+per_summary (Some added, t) = own.summary_type (own.per_heading added.0 t) added.1
+per_summary (None, t) = own.mismatch
 
-abbrev pub summary_by : Attributes → Option Added → Outcome Type'
-summary_by by (Some added) = own.summary_type (own.named_part by added.0) added.1
-summary_by by None = own.mismatch
+abbrev pub by_summary : Attributes → Option Added → Outcome Type'
+by_summary by (Some added) = own.summary_type (own.named_part by added.0) added.1
+by_summary by None = own.mismatch

@@ -11,15 +11,15 @@ use Rattle.td_types.specs.TypeLists.{DeclaredType}
 use Rattle.td_types.specs.Types.{Heading}
 
 -- the relvar of a name and of what the code keeps beside it
-abbrev pub relvar_view : List ℕ × Known → KnownRelvar
-relvar_view row = record { name = row.0; kind = row.1.kind; heading = row.1.heading }
+abbrev pub known_relvar_view : List ℕ × Known → KnownRelvar
+known_relvar_view row = record { name = row.0; kind = row.1.kind; heading = row.1.heading }
 
 -- what the code keeps beside the name
 abbrev pub known_view : Known → Kind × Heading
 known_view known = (known.kind, known.heading)
 
 abbrev pub relvars_view : List (List ℕ × Known) → List KnownRelvar
-relvars_view = map relvar_view
+relvars_view = map known_relvar_view
 
 -- ---- code
 
@@ -38,14 +38,14 @@ kind_back Virtual = refl
 abbrev pub kind_code : Coded Kind
 kind_code = code_by Bool coded_bool is_base kind_from kind_back
 
-abbrev pub relvar_code : Coded KnownRelvar
-relvar_code =
+abbrev pub known_relvar_code : Coded KnownRelvar
+known_relvar_code =
     code_by (List ℕ × (Kind × Heading)) (coded× (coded_list coded_ℕ) (coded× kind_code heading_code))
     (λ r. (r.name, (r.kind, r.heading))) (λ p. record { name = p.0; kind = p.1.0; heading = p.1.1 }) (λ _. refl)
 
 abbrev pub scope_code : Coded Scope
 scope_code =
     code_by (List DeclaredType × (List KnownRelvar × (List (List ℕ) × List Heading)))
-    (coded× declared_list_code (coded× (coded_list relvar_code) (coded× (coded_list (coded_list coded_ℕ)) (coded_list heading_code))))
+    (coded× declared_list_code (coded× (coded_list known_relvar_code) (coded× (coded_list (coded_list coded_ℕ)) (coded_list heading_code))))
     (λ s. (s.types, (s.relvars, (s.constraints, s.entered))))
     (λ p. record { types = p.0; relvars = p.1.0; constraints = p.1.1.0; entered = p.1.1.1 }) (λ _. refl)

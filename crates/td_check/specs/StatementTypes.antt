@@ -58,8 +58,8 @@ abbrev pub keys_allowed : Heading → List (List (List ℕ)) → Bool
 keys_allowed h keys = list_all (λ key. has_attributes key h && are_distinct key) keys && none_includes keys
 
 -- the keys are allowed for the heading: else KEY_DECLARATION
-abbrev pub keys_fit : Heading → List (List (List ℕ)) → Outcome ⊤
-keys_fit h keys = holds_or causes.KeyDeclaration (keys_allowed h keys)
+abbrev pub keys_asked : Heading → List (List (List ℕ)) → Outcome ⊤
+keys_asked h keys = holds_or causes.KeyDeclaration (keys_allowed h keys)
 
 -- a base relvar has a key
 abbrev pub has_key : List (List (List ℕ)) → Outcome ⊤
@@ -150,11 +150,11 @@ statement_checked scope (drop_type name) = holds_or causes.NameUnknown (is_decla
 statement_checked scope (define_base name heading init keys) =
     both_hold (holds_or causes.NameTaken (not (knows_relvar scope name)))
     (with_both (heading_meant scope.types heading) (init_type scope init) (λ h t.
-    both_hold (init_fits h t) (both_hold (both_hold (has_key keys) (keys_fit h keys)) (heading_rank_fits scope.types h))))
+    both_hold (init_fits h t) (both_hold (both_hold (has_key keys) (keys_asked h keys)) (heading_rank_fits scope.types h))))
 statement_checked scope (define_virtual name expression keys) =
     both_hold (holds_or causes.NameTaken (not (knows_relvar scope name)))
     (with_value (type_of scope expression) (λ t. over_relation t (λ h.
-    both_hold (keys_fit h keys) (heading_rank_fits scope.types h))))
+    both_hold (keys_asked h keys) (heading_rank_fits scope.types h))))
 statement_checked scope (drop_var name) = holds_or causes.NameUnknown (knows_relvar scope name)
 statement_checked scope (define_constraint name condition) =
     both_hold (holds_or causes.NameTaken (not (knows_constraint scope name)))

@@ -7,7 +7,7 @@ ghost use Rattle.td_check.specs.Mentions.{in_tuples, mentioned_by_name, relvars_
 ghost use Rattle.td_check.specs.Mentions.{relvars_in_items, relvars_in_named, types_in};
 ghost use Rattle.td_check.specs.Mentions.{types_in_all, types_in_items, types_in_named};
 ghost use Rattle.td_check.specs.OperatorTypes.{over_relation};
-ghost use Rattle.td_check.specs.PlaceViews.{standing};
+ghost use Rattle.td_check.specs.PlaceViews.{scope_at};
 ghost use Rattle.td_check.specs.Scopes.{entered_with};
 ghost use Rattle.td_check.specs.StaticTypes.{items_of, name_type, named_types, type_of, types_of};
 ghost use Rattle.td_check.specs.StaticTypes.{with_items};
@@ -41,9 +41,9 @@ use td_types::ty::Ty;
 
 /// The type of an attribute or relvar by its name.
 fn name_type(name: &Name, place: &Place<'_, '_, '_>, seen: &mut Mentions) -> Result<Ty, Fault>
-    ensures ty { Answers type_view result (name_type (standing place.now) name.now) }
+    ensures ty { Answers type_view result (name_type (scope_at place.now) name.now) }
     ensures names { OnOk result (names_view seen.new ≡ with_names (names_view seen.old)
-        (mentioned_by_name (standing place.now) name.now) []) }
+        (mentioned_by_name (scope_at place.now) name.now) []) }
 {
     if let Some(ty) = place.attribute(name) {
         return Ok(ty.try_clone()?);
@@ -60,9 +60,9 @@ fn name_type(name: &Name, place: &Place<'_, '_, '_>, seen: &mut Mentions) -> Res
 /// The type of an expression where it stands. The names that it mentions are added to those seen.
 #[cycle(check)]
 fn check(expr: &Expr, place: &Place<'_, '_, '_>, seen: &mut Mentions) -> Result<Ty, Fault>
-    ensures ty { Answers type_view result (type_of (standing place.now) (tree_view expr.now)) }
+    ensures ty { Answers type_view result (type_of (scope_at place.now) (tree_view expr.now)) }
     ensures names { OnOk result (names_view seen.new ≡ with_names (names_view seen.old)
-        (relvars_in (standing place.now) (tree_view expr.now)) (types_in (tree_view expr.now))) }
+        (relvars_in (scope_at place.now) (tree_view expr.now)) (types_in (tree_view expr.now))) }
 {
     match expr {
         Expr::Literal(literal) => Ok(literal_type(literal, place.allocator())),
@@ -139,9 +139,9 @@ fn check_inside(
     seen: &mut Mentions,
 ) -> Result<Ty, Fault>
     ensures ty { Answers type_view result (over_relation (type_view operand.now)
-        (λ h. type_of (entered_with h (standing place.now)) (tree_view expr.now))) }
+        (λ h. type_of (entered_with h (scope_at place.now)) (tree_view expr.now))) }
     ensures names { OnOk result (names_view seen.new ≡ with_names (names_view seen.old)
-        (relvars_in (in_tuples (standing place.now) (Valued (type_view operand.now)))
+        (relvars_in (in_tuples (scope_at place.now) (Valued (type_view operand.now)))
         (tree_view expr.now))
         (types_in (tree_view expr.now))) }
 {
@@ -157,9 +157,9 @@ fn check_all(
     seen: &mut Mentions,
 ) -> Result<Vec<Ty>, Fault>
     ensures types { Answers (λ ts. map type_view ts.items) result
-        (types_of (standing place.now) (trees_view exprs.now)) }
+        (types_of (scope_at place.now) (trees_view exprs.now)) }
     ensures names { OnOk result (names_view seen.new ≡ with_names (names_view seen.old)
-        (relvars_in_all (standing place.now) (trees_view exprs.now))
+        (relvars_in_all (scope_at place.now) (trees_view exprs.now))
         (types_in_all (trees_view exprs.now))) }
 {
     let mut causes = Gathering::new();
@@ -179,9 +179,9 @@ fn check_part(
     place: &Place<'_, '_, '_>,
     seen: &mut Mentions,
 ) -> Result<(Name, Ty), Fault>
-    ensures part { Answers pair_view result (part_found (standing place.now) part.now) }
+    ensures part { Answers pair_view result (part_found (scope_at place.now) part.now) }
     ensures names { OnOk result (names_view seen.new ≡ with_names (names_view seen.old)
-        (relvars_in (standing place.now) (tree_view part.now.value))
+        (relvars_in (scope_at place.now) (tree_view part.now.value))
         (types_in (tree_view part.now.value))) }
 {
     let ty = check(&part.value, place, seen)?;
@@ -197,9 +197,9 @@ fn check_named(
     seen: &mut Mentions,
 ) -> Result<Vec<(Name, Ty)>, Fault>
     ensures types { Answers (λ ts. pairs_view ts.items) result
-        (named_types (standing place.now) (named_view parts.now)) }
+        (named_types (scope_at place.now) (named_view parts.now)) }
     ensures names { OnOk result (names_view seen.new ≡ with_names (names_view seen.old)
-        (relvars_in_named (standing place.now) (named_view parts.now))
+        (relvars_in_named (scope_at place.now) (named_view parts.now))
         (types_in_named (named_view parts.now))) }
 {
     let mut causes = Gathering::new();
@@ -222,9 +222,9 @@ fn check_named_inside(
 ) -> Result<Vec<(Name, Ty)>, Fault>
     ensures types { Answers (λ ts. pairs_view ts.items) result
         (over_relation (type_view operand.now)
-        (λ h. named_types (entered_with h (standing place.now)) (named_view parts.now))) }
+        (λ h. named_types (entered_with h (scope_at place.now)) (named_view parts.now))) }
     ensures names { OnOk result (names_view seen.new ≡ with_names (names_view seen.old)
-        (relvars_in_named (in_tuples (standing place.now) (Valued (type_view operand.now)))
+        (relvars_in_named (in_tuples (scope_at place.now) (Valued (type_view operand.now)))
         (named_view parts.now))
         (types_in_named (named_view parts.now))) }
 {
@@ -240,9 +240,9 @@ fn check_item(
     seen: &mut Mentions,
 ) -> Result<(Name, Item), Fault>
     ensures item { Answers named_item_view result
-        (item_found (standing place.now) item.now) }
+        (item_found (scope_at place.now) item.now) }
     ensures names { OnOk result (names_view seen.new ≡ with_names (names_view seen.old)
-        (relvars_in_items (standing place.now) (summaries_view (item.now ∷ [])))
+        (relvars_in_items (scope_at place.now) (summaries_view (item.now ∷ [])))
         (types_in_items (summaries_view (item.now ∷ [])))) }
 {
     match item {
@@ -262,9 +262,9 @@ fn check_items(
     seen: &mut Mentions,
 ) -> Result<Vec<(Name, Item)>, Fault>
     ensures types { Answers (λ ts. items_view ts.items) result
-        (items_of (standing place.now) (summaries_view items.now)) }
+        (items_of (scope_at place.now) (summaries_view items.now)) }
     ensures names { OnOk result (names_view seen.new ≡ with_names (names_view seen.old)
-        (relvars_in_items (standing place.now) (summaries_view items.now))
+        (relvars_in_items (scope_at place.now) (summaries_view items.now))
         (types_in_items (summaries_view items.now))) }
 {
     let mut causes = Gathering::new();
@@ -288,11 +288,11 @@ fn check_items_inside(
 ) -> Result<(Ty, Vec<(Name, Item)>), Fault>
     ensures added { (o : Outcome Type') → Answers type_view operand o
         → Answers added_view result (with_value o (λ s. with_items s
-        (λ h. items_of (entered_with h (standing place.now)) (summaries_view items.now)))) }
+        (λ h. items_of (entered_with h (scope_at place.now)) (summaries_view items.now)))) }
     ensures operand { IfOk result (λ a. operand ≡ Ok a.0) }
     ensures names { IfOk result (λ a. IsTrue (is_some (added_view a))
         → names_view seen.new ≡ with_names (names_view seen.old)
-        (relvars_in_items (in_tuples (standing place.now) (Valued (type_view a.0)))
+        (relvars_in_items (in_tuples (scope_at place.now) (Valued (type_view a.0)))
         (summaries_view items.now))
         (types_in_items (summaries_view items.now))) }
 {
@@ -306,7 +306,7 @@ fn check_items_inside(
 
 /// The type of an expression where it stands.
 pub(crate) fn check_at(expr: &Expr, place: &Place<'_, '_, '_>) -> Result<Ty, Fault>
-    ensures { Answers type_view result (type_of (standing place.now) (tree_view expr.now)) }
+    ensures { Answers type_view result (type_of (scope_at place.now) (tree_view expr.now)) }
 {
     check(expr, place, &mut Mentions::new(place.allocator()))
 }
@@ -317,7 +317,7 @@ pub(crate) fn check_named_at(
     place: &Place<'_, '_, '_>,
 ) -> Result<Vec<(Name, Ty)>, Fault>
     ensures { Answers (λ ts. pairs_view ts.items) result
-        (named_types (standing place.now) (named_view parts.now)) }
+        (named_types (scope_at place.now) (named_view parts.now)) }
 {
     check_named(parts, place, &mut Mentions::new(place.allocator()))
 }

@@ -1,6 +1,6 @@
 //! Where an expression stands.
 ghost use Rattle.std.specs.Prelude.{◌≡◌, IfOk, option_map};
-ghost use Rattle.td_check.specs.PlaceViews.{standing};
+ghost use Rattle.td_check.specs.PlaceViews.{scope_at};
 ghost use Rattle.td_check.specs.ScopeCode.{known_view};
 ghost use Rattle.td_check.specs.Scopes.{entered_with, innermost, kind_and_heading, known_relvar};
 ghost use Rattle.td_types.specs.Views.{type_view};
@@ -23,7 +23,7 @@ pub(crate) struct Place<'s, 't, 'h> {
 impl<'s, 't, 'h> Place<'s, 't, 'h> {
     /// Where an expression stands in the scope itself.
     pub(crate) fn outside(scope: &'s Scope<'t>) -> Place<'s, 't, 'h>
-        ensures { standing result ≡ scope.now }
+        ensures { scope_at result ≡ scope.now }
     {
         Place {
             scope,
@@ -35,7 +35,7 @@ impl<'s, 't, 'h> Place<'s, 't, 'h> {
     pub(crate) fn inside<'n>(&self, heading: &'n Heading) -> Result<Place<'s, 't, 'n>, AllocError>
     where
         'h: 'n,
-        ensures { IfOk result (λ p. standing p ≡ entered_with heading.now (standing self.now)) }
+        ensures { IfOk result (λ p. scope_at p ≡ entered_with heading.now (scope_at self.now)) }
     {
         let mut inner = Vec::with_capacity(self.allocator(), self.inner.len() + 1)?;
         for outer in &self.inner {
@@ -55,7 +55,7 @@ impl<'s, 't, 'h> Place<'s, 't, 'h> {
 
     /// The declared types.
     pub(crate) fn types(&self) -> &TypeTable
-        ensures { result.now ≡ (standing self.now).types }
+        ensures { result.now ≡ (scope_at self.now).types }
     {
         self.scope.types()
     }
@@ -63,7 +63,7 @@ impl<'s, 't, 'h> Place<'s, 't, 'h> {
     /// The type of the innermost attribute of the name.
     pub(crate) fn attribute(&self, name: &Name) -> Option<&Ty>
         ensures { option_map (λ t. type_view t.now) result
-            ≡ innermost name.now (standing self.now).entered }
+            ≡ innermost name.now (scope_at self.now).entered }
     {
         for heading in self.inner.iter().rev() {
             if let Some(ty) = heading.get(name) {
@@ -76,7 +76,7 @@ impl<'s, 't, 'h> Place<'s, 't, 'h> {
     /// What is known of the relvar of the name.
     pub(crate) fn relvar(&self, name: &Name) -> Option<&Known>
         ensures { option_map (λ k. known_view k.now) result
-            ≡ option_map kind_and_heading (known_relvar (standing self.now) name.now) }
+            ≡ option_map kind_and_heading (known_relvar (scope_at self.now) name.now) }
     {
         self.scope.relvar(name)
     }

@@ -1,7 +1,7 @@
 //! What the parts of an expression give together.
 ghost use Rattle.std.specs.Prelude.{List, Option};
-ghost use Rattle.td_check.specs.CheckViews.{Added, added_view, choice_of, headed_view, per_view, summary_by};
-ghost use Rattle.td_check.specs.CheckViews.{summary_per, three_types_view, types_view};
+ghost use Rattle.td_check.specs.CheckViews.{Added, added_view, choice_of, headed_view, per_view, by_summary};
+ghost use Rattle.td_check.specs.CheckViews.{per_summary, three_types_view, types_view};
 ghost use Rattle.td_check.specs.OperatorTypes.{comparison_type, extension_type, headed_type};
 ghost use Rattle.td_check.specs.OperatorTypes.{operator_type, over_relation};
 ghost use Rattle.td_tree.specs.declared.operator.Operator.TheVariants as operators;
@@ -83,7 +83,7 @@ pub(crate) fn chosen(parts: Result<(Ty, (Ty, Ty)), Fault>) -> Result<Ty, Fault>
 /// The type of SUMMARIZE with PER: an operand with what is added, and PER's type.
 pub(crate) fn per_relation(parts: Result<((Ty, Vec<(Name, Item)>), Ty), Fault>) -> Result<Ty, Fault>
     ensures { (o : Outcome (Option Added × Type')) → Answers per_view parts o
-        → Answers type_view result (with_value o summary_per) }
+        → Answers type_view result (with_value o per_summary) }
 {
     let ((operand, items), per) = parts?;
     let heading = relation_heading(&operand)?;
@@ -96,7 +96,7 @@ pub(crate) fn by_attributes(
     added: Result<(Ty, Vec<(Name, Item)>), Fault>,
 ) -> Result<Ty, Fault>
     ensures { (o : Outcome (Option Added)) → Answers added_view added o
-        → Answers type_view result (with_value o (summary_by (attributes_view by.now))) }
+        → Answers type_view result (with_value o (by_summary (attributes_view by.now))) }
 {
     let (operand, items) = added?;
     let heading = relation_heading(&operand)?;

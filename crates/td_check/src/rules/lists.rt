@@ -1,6 +1,6 @@
 //! The rules of selectors, relations and tuples by their parts, and of what EXTEND and SUMMARIZE add.
 ghost use Rattle.std.specs.Prelude.{◌≡◌, map};
-ghost use Rattle.td_check.specs.ItemViews.{item_view, items_view};
+ghost use Rattle.td_check.specs.ItemViews.{summary_item_view, items_view};
 ghost use Rattle.td_check.specs.OperatorTypes.{are_types_of, element_type, extension_type};
 ghost use Rattle.td_check.specs.OperatorTypes.{headed_type, item_type, listed_type};
 ghost use Rattle.td_check.specs.OperatorTypes.{per_heading, selector_type, summary_type};
@@ -111,7 +111,7 @@ pub(crate) enum Item {
 
 /// The attribute that an item adds.
 fn item_type(name: Name, item: Item) -> Result<(Name, Ty), Fault>
-    ensures { Answers pair_view result (item_type (name, item_view item)) }
+    ensures { Answers pair_view result (item_type (name, summary_item_view item)) }
 {
     match item {
         Item::Count => Ok((name, Ty::Int)),

@@ -1,6 +1,6 @@
 //! What is asked of assignments.
 ghost use Rattle.std.specs.Prelude.{◌≡◌, List, Option, map, option_map};
-ghost use Rattle.td_check.specs.PlaceViews.{standing};
+ghost use Rattle.td_check.specs.PlaceViews.{scope_at};
 ghost use Rattle.td_check.specs.ScopeCode.{known_view};
 ghost use Rattle.td_check.specs.Scopes.{KnownRelvar, kind_and_heading, known_relvar};
 ghost use Rattle.td_check.specs.StaticTypes.{named_types, type_of};
@@ -154,8 +154,8 @@ fn update_fits(
 ) -> Result<(), Fault>
     ensures { Answers (λ u. u) result
         (with_both
-        (condition_type (standing place.now) (option_map (λ e. tree_view e.now) condition.entry))
-        (named_types (standing place.now) (named_view settings.now))
+        (condition_type (scope_at place.now) (option_map (λ e. tree_view e.now) condition.entry))
+        (named_types (scope_at place.now) (named_view settings.now))
         (λ c values. both_hold (condition_fits c) (settings_fit heading.now values))) }
 {
     let condition = type_if_given(condition, place);

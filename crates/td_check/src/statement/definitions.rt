@@ -4,7 +4,7 @@ ghost use Rattle.td_check.specs.OperatorTypes.{over_relation};
 ghost use Rattle.td_check.specs.StaticTypes.{type_of};
 ghost use Rattle.td_check.specs.StatementTypes.{both_hold, components_meant, constraint_fits};
 ghost use Rattle.td_check.specs.StatementTypes.{has_key, heading_rank_fits, holds_or, init_fits};
-ghost use Rattle.td_check.specs.StatementTypes.{init_type, keys_fit, knows_relvar, rank_fits};
+ghost use Rattle.td_check.specs.StatementTypes.{init_type, keys_asked, knows_relvar, rank_fits};
 ghost use Rattle.td_check.specs.StatementTypes.{statement_checked};
 ghost use Rattle.td_tree.specs.Outcomes.{Answers, with_both, with_value};
 ghost use Rattle.td_tree.specs.TreeViews.{heading_tree_view, statement_view, tree_view};
@@ -99,9 +99,9 @@ fn relvar_is_new(scope: &Scope<'_>, name: &Name) -> Result<(), Fault>
 }
 
 /// What is asked of keys for a heading: they are allowed.
-fn keys_fit(heading: &Heading, keys: &[Vec<Name>]) -> Result<(), Fault>
+fn keys_asked(heading: &Heading, keys: &[Vec<Name>]) -> Result<(), Fault>
     ensures { Answers (λ u. u) result
-        (keys_fit heading.now (map (λ key. key.items) keys.now)) }
+        (keys_asked heading.now (map (λ key. key.items) keys.now)) }
 {
     ask(keys_allowed(heading, keys), Cause::KeyDeclaration)
 }
@@ -118,10 +118,10 @@ fn heading_rank_fits(types: &TypeTable, heading: Heading) -> Result<(), Fault>
 fn base_keys_fit(heading: &Heading, keys: &[Vec<Name>]) -> Result<(), Fault>
     ensures { Answers (λ u. u) result
         (both_hold (has_key (map (λ key. key.items) keys.now))
-        (keys_fit heading.now (map (λ key. key.items) keys.now))) }
+        (keys_asked heading.now (map (λ key. key.items) keys.now))) }
 {
     let has_key = ask(!keys.is_empty(), Cause::KeyDeclaration);
-    both_hold(has_key, keys_fit(heading, keys))
+    both_hold(has_key, keys_asked(heading, keys))
 }
 
 /// What is asked of INIT's type, where it is given.
@@ -146,7 +146,7 @@ fn base_fits(
         (both_hold (init_fits heading (option_map type_view init))
         (both_hold
         (both_hold (has_key (map (λ key. key.items) keys.now))
-        (keys_fit heading (map (λ key. key.items) keys.now)))
+        (keys_asked heading (map (λ key. key.items) keys.now)))
         (heading_rank_fits types.now heading))) }
 {
     let init = init_fits(&heading, init.as_ref());
@@ -163,7 +163,7 @@ fn check_base(scope: &Scope<'_>, definition: &BaseDefinition) -> Result<(), Faul
         (λ h t. both_hold (init_fits h t)
         (both_hold
         (both_hold (has_key (map (λ key. key.items) definition.now.keys.items))
-        (keys_fit h (map (λ key. key.items) definition.now.keys.items)))
+        (keys_asked h (map (λ key. key.items) definition.now.keys.items)))
         (heading_rank_fits scope.now.types h)))) }
 {
     let heading = resolve_heading(scope.types(), &definition.heading);
@@ -185,11 +185,11 @@ pub(crate) fn define_base(scope: &Scope<'_>, definition: &BaseDefinition) -> Res
 fn virtual_fits(types: &TypeTable, ty: Ty, keys: &[Vec<Name>]) -> Result<(), Fault>
     ensures { Answers (λ u. u) result
         (over_relation (type_view ty) (λ h. both_hold
-        (keys_fit h (map (λ key. key.items) keys.now)) (heading_rank_fits types.now h))) }
+        (keys_asked h (map (λ key. key.items) keys.now)) (heading_rank_fits types.now h))) }
 {
     match ty {
         Ty::Rel(heading) => {
-            let allowed = keys_fit(&heading, keys);
+            let allowed = keys_asked(&heading, keys);
             both_hold(allowed, heading_rank_fits(types, heading))
         }
         _ => Err(Fault::Refused(Cause::TypeMismatch)),
@@ -201,7 +201,7 @@ fn check_virtual(scope: &Scope<'_>, definition: &VirtualDefinition) -> Result<()
     ensures { Answers (λ u. u) result
         (with_value (type_of scope.now (tree_view definition.now.expression))
         (λ t. over_relation t (λ h. both_hold
-        (keys_fit h (map (λ key. key.items) definition.now.keys.items))
+        (keys_asked h (map (λ key. key.items) definition.now.keys.items))
         (heading_rank_fits scope.now.types h)))) }
 {
     let ty = check_at(&definition.expression, &Place::outside(scope))?;

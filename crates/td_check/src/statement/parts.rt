@@ -1,7 +1,7 @@
 //! What is asked of the parts of statements.
 ghost use Rattle.std.specs.Prelude.{option_map, ⊤};
 ghost use Rattle.td_check.specs.OperatorTypes.{if_type};
-ghost use Rattle.td_check.specs.PlaceViews.{standing};
+ghost use Rattle.td_check.specs.PlaceViews.{scope_at};
 ghost use Rattle.td_check.specs.Scopes.{entered_with};
 ghost use Rattle.td_check.specs.StaticTypes.{type_of};
 ghost use Rattle.td_check.specs.StatementTypes.{both_hold, condition_fits, condition_type};
@@ -36,7 +36,7 @@ pub(crate) fn type_if_given(
     expression: Option<&Expr>,
     place: &Place<'_, '_, '_>,
 ) -> Result<Option<Ty>, Fault>
-    ensures { Answers (option_map type_view) result (condition_type (standing place.now)
+    ensures { Answers (option_map type_view) result (condition_type (scope_at place.now)
         (option_map (λ e. tree_view e.now) expression.entry)) }
 {
     match expression {
@@ -58,7 +58,7 @@ pub(crate) fn condition_fits(ty: Option<&Ty>) -> Result<(), Fault>
 
 /// What is asked of a condition: it is BOOLEAN.
 pub(crate) fn check_condition(condition: &Expr, place: &Place<'_, '_, '_>) -> Result<(), Fault>
-    ensures { Answers (λ u. u) result (with_value (type_of (standing place.now)
+    ensures { Answers (λ u. u) result (with_value (type_of (scope_at place.now)
         (tree_view condition.now)) (λ t. if_type boolean t tt)) }
 {
     let ty = check_at(condition, place)?;

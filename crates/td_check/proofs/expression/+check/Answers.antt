@@ -3,12 +3,12 @@ use Rattle.std.proofs.lemmas.List.{append-nil}
 use Rattle.std.proofs.lemmas.Result.{err_from_is_err_and}
 use Rattle.std.specs.Global.{Vec}
 use Rattle.td_check.specs.Both.{both_answers}
-use Rattle.td_check.specs.CheckViews.{added_view, choice_of, headed_view, item_found, names_view, part_found, per_view, summary_by, summary_per, three_types_view, types_view, with_names}
+use Rattle.td_check.specs.CheckViews.{added_view, choice_of, headed_view, item_found, names_view, part_found, per_view, by_summary, per_summary, three_types_view, types_view, with_names}
 use Rattle.td_check.specs.declared.rules.lists.Item.{Item}
 use Rattle.td_check.specs.ItemViews.{items_view, named_item_view}
 use Rattle.td_check.specs.Mentions.{in_tuples, relvars_in, relvars_in_all, relvars_in_items, relvars_in_named, types_in, types_in_all, types_in_items, types_in_named, types_named_in}
 use Rattle.td_check.specs.OperatorTypes as own
-use Rattle.td_check.specs.PlaceViews.{standing}
+use Rattle.td_check.specs.PlaceViews.{scope_at}
 use Rattle.td_check.specs.Scopes.{entered_with}
 use Rattle.td_check.specs.StaticTypes.{items_of, named_types, type_of, types_of, with_items}
 use Rattle.td_check.proofs.CheckedItems.{held_of_added, held_of_per, in_tuples_of, items_given, items_left, items_refused, nothing_added, operand_and_items, per_after}
@@ -37,15 +37,15 @@ check-returns-in_err-check_all-in-Select-clause-ty t c =
     let p = err_from_is_err_and c.from_residual-in_err-check_all-in-Select.result c.from_residual-in_err-check_all-in-Select.ensures.1 in
     let is = ap tree_view c.in-Select.is ∙ select_is c.in-Select.ty c.in-Select.arguments ∙ ap (λ xs. trees.select c.in-Select.ty (trees_view xs)) (sym c.deref-in-Select.ensures.value) in
     rw (p.1, p.2, is)
-    (answers_still (λ (ts : Vec Ty). map type_view ts.items) type_view _ (types_of (standing c.args.place.now) (trees_view c.deref-in-Select.result.now))
-    (own.selector_type (standing c.args.place.now).types c.in-Select.ty) c.in_err-check_all-in-Select.ensures.types)
+    (answers_still (λ (ts : Vec Ty). map type_view ts.items) type_view _ (types_of (scope_at c.args.place.now) (trees_view c.deref-in-Select.result.now))
+    (own.selector_type (scope_at c.args.place.now).types c.in-Select.ty) c.in_err-check_all-in-Select.ensures.types)
 
 pub check-returns-in_ok-check_all-in-Select-clause-ty : goal.check-returns-in_ok-check_all-in-Select-clause-ty
 check-returns-in_ok-check_all-in-Select-clause-ty t c =
     let is = ap tree_view c.in-Select.is ∙ select_is c.in-Select.ty c.in-Select.arguments ∙ ap (λ xs. trees.select c.in-Select.ty (trees_view xs)) (sym c.deref-in-Select.ensures.value) in
     rw is
-    (answered_then (λ ts. map type_view ts.items) c.in_ok-check_all-in-Select.field-0 (types_of (standing c.args.place.now) (trees_view c.deref-in-Select.result.now))
-    (own.selector_type (standing c.args.place.now).types c.in-Select.ty) type_view c.selector_type.result c.in_ok-check_all-in-Select.ensures.types
+    (answered_then (λ ts. map type_view ts.items) c.in_ok-check_all-in-Select.field-0 (types_of (scope_at c.args.place.now) (trees_view c.deref-in-Select.result.now))
+    (own.selector_type (scope_at c.args.place.now).types c.in-Select.ty) type_view c.selector_type.result c.in_ok-check_all-in-Select.ensures.types
     (subst (λ o. Answers type_view c.selector_type.result o)
     (λ i. own.selector_type (c.types.ensures i) c.in-Select.ty (map type_view (c.deref-in-Select-2.ensures.value i))) c.selector_type.ensures))
 
@@ -53,12 +53,12 @@ pub check-returns-in_ok-check_all-in-Select-clause-names : goal.check-returns-in
 check-returns-in_ok-check_all-in-Select-clause-names t c =
     let is = ap tree_view c.in-Select.is ∙ select_is c.in-Select.ty c.in-Select.arguments ∙ ap (λ xs. trees.select c.in-Select.ty (trees_view xs)) (sym c.deref-in-Select.ensures.value) in
     let pushed = c.in_ok-push-in-Select.ensures.items ∙ ap (λ n. c.args.seen.now.types.items ++ (n ∷ [])) c.in_ok-try_clone-in-Select.ensures in
-    names_are c.selector_type.result (standing c.args.place.now) (tree_view c.args.expr.now) (names_view c.args.seen.now) (names_view c.check_all.new.seen)
-    (relvars_in_all (standing c.args.place.now) (trees_view c.deref-in-Select.result.now)) (c.in-Select.ty ∷ types_in_all (trees_view c.deref-in-Select.result.now))
-    (ap (relvars_in (standing c.args.place.now)) is) (ap types_in is)
+    names_are c.selector_type.result (scope_at c.args.place.now) (tree_view c.args.expr.now) (names_view c.args.seen.now) (names_view c.check_all.new.seen)
+    (relvars_in_all (scope_at c.args.place.now) (trees_view c.deref-in-Select.result.now)) (c.in-Select.ty ∷ types_in_all (trees_view c.deref-in-Select.result.now))
+    (ap (relvars_in (scope_at c.args.place.now)) is) (ap types_in is)
     (known_names _ c.selector_type.result
     (names_after (names_view c.args.seen.now) (c.args.seen.now.relvars.items, c.push.new.self.items) (names_view c.check_all.new.seen) [] (c.in-Select.ty ∷ [])
-    (relvars_in_all (standing c.args.place.now) (trees_view c.deref-in-Select.result.now)) (types_in_all (trees_view c.deref-in-Select.result.now))
+    (relvars_in_all (scope_at c.args.place.now) (trees_view c.deref-in-Select.result.now)) (types_in_all (trees_view c.deref-in-Select.result.now))
     (λ i. (sym (append-nil c.args.seen.now.relvars.items) i, pushed i)) c.in_ok-check_all-in-Select.ensures.names))
 
 -- ---- RELATION and TUPLE
@@ -68,23 +68,23 @@ check-returns-in_err-check_all-in-Relation-clause-ty t c =
     let p = err_from_is_err_and c.from_residual-in_err-check_all-in-Relation.result c.from_residual-in_err-check_all-in-Relation.ensures.1 in
     let is = ap tree_view c.in-Relation.is ∙ relation_is c.in-Relation.elements ∙ ap (λ xs. trees.relation (trees_view xs)) (sym c.deref-in-Relation.ensures.value) in
     rw (p.1, p.2, is)
-    (answers_still (λ (ts : Vec Ty). map type_view ts.items) type_view _ (types_of (standing c.args.place.now) (trees_view c.deref-in-Relation.result.now))
+    (answers_still (λ (ts : Vec Ty). map type_view ts.items) type_view _ (types_of (scope_at c.args.place.now) (trees_view c.deref-in-Relation.result.now))
     own.listed_type c.in_err-check_all-in-Relation.ensures.types)
 
 pub check-returns-in_ok-check_all-in-Relation-clause-ty : goal.check-returns-in_ok-check_all-in-Relation-clause-ty
 check-returns-in_ok-check_all-in-Relation-clause-ty t c =
     let is = ap tree_view c.in-Relation.is ∙ relation_is c.in-Relation.elements ∙ ap (λ xs. trees.relation (trees_view xs)) (sym c.deref-in-Relation.ensures.value) in
     rw is
-    (answered_then (λ ts. map type_view ts.items) c.in_ok-check_all-in-Relation.field-0 (types_of (standing c.args.place.now) (trees_view c.deref-in-Relation.result.now))
+    (answered_then (λ ts. map type_view ts.items) c.in_ok-check_all-in-Relation.field-0 (types_of (scope_at c.args.place.now) (trees_view c.deref-in-Relation.result.now))
     own.listed_type type_view c.listed_type.result c.in_ok-check_all-in-Relation.ensures.types
     (subst (λ ts. Answers type_view c.listed_type.result (own.listed_type (map type_view ts))) c.deref-in-Relation-2.ensures.value c.listed_type.ensures))
 
 pub check-returns-in_ok-check_all-in-Relation-clause-names : goal.check-returns-in_ok-check_all-in-Relation-clause-names
 check-returns-in_ok-check_all-in-Relation-clause-names t c =
     let is = ap tree_view c.in-Relation.is ∙ relation_is c.in-Relation.elements ∙ ap (λ xs. trees.relation (trees_view xs)) (sym c.deref-in-Relation.ensures.value) in
-    names_are c.listed_type.result (standing c.args.place.now) (tree_view c.args.expr.now) (names_view c.args.seen.now) (names_view c.check_all-in-Relation.new.seen)
-    (relvars_in_all (standing c.args.place.now) (trees_view c.deref-in-Relation.result.now)) (types_in_all (trees_view c.deref-in-Relation.result.now))
-    (ap (relvars_in (standing c.args.place.now)) is) (ap types_in is)
+    names_are c.listed_type.result (scope_at c.args.place.now) (tree_view c.args.expr.now) (names_view c.args.seen.now) (names_view c.check_all-in-Relation.new.seen)
+    (relvars_in_all (scope_at c.args.place.now) (trees_view c.deref-in-Relation.result.now)) (types_in_all (trees_view c.deref-in-Relation.result.now))
+    (ap (relvars_in (scope_at c.args.place.now)) is) (ap types_in is)
     (known_names _ c.listed_type.result c.in_ok-check_all-in-Relation.ensures.names)
 
 pub check-returns-in_err-check_named-in-Tuple-clause-ty : goal.check-returns-in_err-check_named-in-Tuple-clause-ty
@@ -92,22 +92,22 @@ check-returns-in_err-check_named-in-Tuple-clause-ty t c =
     let p = err_from_is_err_and c.from_residual-in_err-check_named-in-Tuple.result c.from_residual-in_err-check_named-in-Tuple.ensures.1 in
     let is = ap tree_view c.in-Tuple.is ∙ tuple_is c.in-Tuple.parts ∙ ap (λ xs. trees.tuple (named_view xs)) (sym c.deref-in-Tuple.ensures.value) in
     rw (p.1, p.2, is)
-    (answers_still (λ (ts : Vec (List ℕ × Ty)). pairs_view ts.items) type_view _ (named_types (standing c.args.place.now) (named_view c.deref-in-Tuple.result.now))
+    (answers_still (λ (ts : Vec (List ℕ × Ty)). pairs_view ts.items) type_view _ (named_types (scope_at c.args.place.now) (named_view c.deref-in-Tuple.result.now))
     own.tuple_type c.in_err-check_named-in-Tuple.ensures.types)
 
 pub check-returns-in_ok-check_named-in-Tuple-clause-ty : goal.check-returns-in_ok-check_named-in-Tuple-clause-ty
 check-returns-in_ok-check_named-in-Tuple-clause-ty t c =
     let is = ap tree_view c.in-Tuple.is ∙ tuple_is c.in-Tuple.parts ∙ ap (λ xs. trees.tuple (named_view xs)) (sym c.deref-in-Tuple.ensures.value) in
     rw is
-    (answered_then (λ ts. pairs_view ts.items) c.in_ok-check_named-in-Tuple.field-0 (named_types (standing c.args.place.now) (named_view c.deref-in-Tuple.result.now))
+    (answered_then (λ ts. pairs_view ts.items) c.in_ok-check_named-in-Tuple.field-0 (named_types (scope_at c.args.place.now) (named_view c.deref-in-Tuple.result.now))
     own.tuple_type type_view c.tuple_type.result c.in_ok-check_named-in-Tuple.ensures.types c.tuple_type.ensures)
 
 pub check-returns-in_ok-check_named-in-Tuple-clause-names : goal.check-returns-in_ok-check_named-in-Tuple-clause-names
 check-returns-in_ok-check_named-in-Tuple-clause-names t c =
     let is = ap tree_view c.in-Tuple.is ∙ tuple_is c.in-Tuple.parts ∙ ap (λ xs. trees.tuple (named_view xs)) (sym c.deref-in-Tuple.ensures.value) in
-    names_are c.tuple_type.result (standing c.args.place.now) (tree_view c.args.expr.now) (names_view c.args.seen.now) (names_view c.check_named.new.seen)
-    (relvars_in_named (standing c.args.place.now) (named_view c.deref-in-Tuple.result.now)) (types_in_named (named_view c.deref-in-Tuple.result.now))
-    (ap (relvars_in (standing c.args.place.now)) is) (ap types_in is)
+    names_are c.tuple_type.result (scope_at c.args.place.now) (tree_view c.args.expr.now) (names_view c.args.seen.now) (names_view c.check_named.new.seen)
+    (relvars_in_named (scope_at c.args.place.now) (named_view c.deref-in-Tuple.result.now)) (types_in_named (named_view c.deref-in-Tuple.result.now))
+    (ap (relvars_in (scope_at c.args.place.now)) is) (ap types_in is)
     (known_names _ c.tuple_type.result c.in_ok-check_named-in-Tuple.ensures.names)
 
 -- ---- a comparison
@@ -116,20 +116,20 @@ pub check-returns-in-Compare-clause-ty : goal.check-returns-in-Compare-clause-ty
 check-returns-in-Compare-clause-ty t c =
     let is = ap tree_view c.in-Compare.is ∙ (λ i. trees.compare (tree_view (sym c.deref-in-Compare.ensures i)) c.in-Compare.op (tree_view (sym c.deref-in-Compare-2.ensures i))) in
     rw is
-    (two_typed (own.comparison_type c.in-Compare.op) (type_of (standing c.args.place.now) (tree_view c.deref-in-Compare.result.now))
-    (type_of (standing c.args.place.now) (tree_view c.deref-in-Compare-2.result.now))
+    (two_typed (own.comparison_type c.in-Compare.op) (type_of (scope_at c.args.place.now) (tree_view c.deref-in-Compare.result.now))
+    (type_of (scope_at c.args.place.now) (tree_view c.deref-in-Compare-2.result.now))
     c.check-first-in-Compare.result c.check-second-in-Compare.result c.compared.result c.check-first-in-Compare.ensures.ty c.check-second-in-Compare.ensures.ty
     (subst (λ r. Gives types_view r (λ both. own.comparison_type c.in-Compare.op both.0 both.1) type_view c.compared.result) c.both-in-Compare.ensures c.compared.ensures))
 
 pub check-returns-in-Compare-clause-names : goal.check-returns-in-Compare-clause-names
 check-returns-in-Compare-clause-names t c =
     let is = ap tree_view c.in-Compare.is ∙ (λ i. trees.compare (tree_view (sym c.deref-in-Compare.ensures i)) c.in-Compare.op (tree_view (sym c.deref-in-Compare-2.ensures i))) in
-    let r = relvars_in (standing c.args.place.now) (tree_view c.deref-in-Compare.result.now) in
-    let r2 = relvars_in (standing c.args.place.now) (tree_view c.deref-in-Compare-2.result.now) in
+    let r = relvars_in (scope_at c.args.place.now) (tree_view c.deref-in-Compare.result.now) in
+    let r2 = relvars_in (scope_at c.args.place.now) (tree_view c.deref-in-Compare-2.result.now) in
     let ts = types_in (tree_view c.deref-in-Compare.result.now) in
     let ts2 = types_in (tree_view c.deref-in-Compare-2.result.now) in
-    names_are c.compared.result (standing c.args.place.now) (tree_view c.args.expr.now) (names_view c.args.seen.now) (names_view c.check-second-in-Compare.new.seen)
-    (r ++ r2) (ts ++ ts2) (ap (relvars_in (standing c.args.place.now)) is) (ap types_in is)
+    names_are c.compared.result (scope_at c.args.place.now) (tree_view c.args.expr.now) (names_view c.args.seen.now) (names_view c.check-second-in-Compare.new.seen)
+    (r ++ r2) (ts ++ ts2) (ap (relvars_in (scope_at c.args.place.now)) is) (ap types_in is)
     (names_held types_view (both_answers c.check-first-in-Compare.result c.check-second-in-Compare.result) (λ both. own.comparison_type c.in-Compare.op both.0 both.1)
     type_view c.compared.result (names_view c.args.seen.now) (names_view c.check-second-in-Compare.new.seen) (r ++ r2) (ts ++ ts2)
     (subst (λ r. Gives types_view r (λ both. own.comparison_type c.in-Compare.op both.0 both.1) type_view c.compared.result) c.both-in-Compare.ensures c.compared.ensures)
@@ -141,17 +141,17 @@ check-returns-in-Compare-clause-names t c =
 pub check_all-loop-expr-init : goal.check_all-loop-expr-init
 check_all-loop-expr-init t c =
     let empty : map type_view c.in_ok-types.types.items ≡ [] = ap (map type_view) c.in_ok-types.ensures.items in
-    rw (c.new-causes.ensures, empty) (none_checked (type_found (standing c.args.place.now)) (relvars_of (standing c.args.place.now)) types_of_one (names_view c.args.seen.now))
+    rw (c.new-causes.ensures, empty) (none_checked (type_found (scope_at c.args.place.now)) (relvars_of (scope_at c.args.place.now)) types_of_one (names_view c.args.seen.now))
 
 pub check_items-loop-item-init : goal.check_items-loop-item-init
 check_items-loop-item-init t c =
     let empty : items_view c.in_ok-added.added.items ≡ [] = ap items_view c.in_ok-added.ensures.items in
-    rw (c.new-causes.ensures, empty) (none_checked (item_found (standing c.args.place.now)) (relvars_of_item (standing c.args.place.now)) types_of_item (names_view c.args.seen.now))
+    rw (c.new-causes.ensures, empty) (none_checked (item_found (scope_at c.args.place.now)) (relvars_of_item (scope_at c.args.place.now)) types_of_item (names_view c.args.seen.now))
 
 pub check_named-loop-part-init : goal.check_named-loop-part-init
 check_named-loop-part-init t c =
     let empty : pairs_view c.in_ok-attributes.attributes.items ≡ [] = ap pairs_view c.in_ok-attributes.ensures.items in
-    rw (c.new-causes.ensures, empty) (none_checked (part_found (standing c.args.place.now)) (relvars_of_part (standing c.args.place.now)) types_of_part (names_view c.args.seen.now))
+    rw (c.new-causes.ensures, empty) (none_checked (part_found (scope_at c.args.place.now)) (relvars_of_part (scope_at c.args.place.now)) types_of_part (names_view c.args.seen.now))
 
 -- ---- operators
 
@@ -160,22 +160,22 @@ check-returns-in_ok-operand-in-Where-clause-ty t c =
     let is = ap tree_view c.in-Binary.is ∙ (λ i. trees.binary (tree_view (sym c.deref-in-Where.ensures i)) (c.in-Where.is i) (tree_view (sym c.deref-in-Where-2.ensures i))) in
     rw is
     (subst (Answers type_view c.restricted.result)
-    (inside_typed (type_of (standing c.args.place.now) (tree_view c.deref-in-Where.result.now)) (type_view c.in_ok-operand-in-Where.operand) c.in_ok-operand-in-Where.ensures.ty
-    (λ h. type_of (entered_with h (standing c.args.place.now)) (tree_view c.deref-in-Where-2.result.now)) (λ s t. own.operator_type operators.Where s t))
-    (c.restricted.ensures (own.over_relation (type_view c.in_ok-operand-in-Where.operand) (λ h. type_of (entered_with h (standing c.args.place.now)) (tree_view c.deref-in-Where-2.result.now))) c.check_inside-condition.ensures.ty))
+    (inside_typed (type_of (scope_at c.args.place.now) (tree_view c.deref-in-Where.result.now)) (type_view c.in_ok-operand-in-Where.operand) c.in_ok-operand-in-Where.ensures.ty
+    (λ h. type_of (entered_with h (scope_at c.args.place.now)) (tree_view c.deref-in-Where-2.result.now)) (λ s t. own.operator_type operators.Where s t))
+    (c.restricted.ensures (own.over_relation (type_view c.in_ok-operand-in-Where.operand) (λ h. type_of (entered_with h (scope_at c.args.place.now)) (tree_view c.deref-in-Where-2.result.now))) c.check_inside-condition.ensures.ty))
 
 pub check-returns-in_ok-operand-in-Where-clause-names : goal.check-returns-in_ok-operand-in-Where-clause-names
 check-returns-in_ok-operand-in-Where-clause-names t c =
     let is = ap tree_view c.in-Binary.is ∙ (λ i. trees.binary (tree_view (sym c.deref-in-Where.ensures i)) (c.in-Where.is i) (tree_view (sym c.deref-in-Where-2.ensures i))) in
-    let inside = ap (λ o. relvars_in (in_tuples (standing c.args.place.now) o) (tree_view c.deref-in-Where-2.result.now)) c.in_ok-operand-in-Where.ensures.ty in
-    names_are c.restricted.result (standing c.args.place.now) (tree_view c.args.expr.now) (names_view c.args.seen.now) (names_view c.check_inside-condition.new.seen)
-    (relvars_in (standing c.args.place.now) (tree_view c.deref-in-Where.result.now) ++ relvars_in (in_tuples (standing c.args.place.now) (Valued (type_view c.in_ok-operand-in-Where.operand))) (tree_view c.deref-in-Where-2.result.now)) (types_in (tree_view c.deref-in-Where.result.now) ++ types_in (tree_view c.deref-in-Where-2.result.now))
-    (ap (relvars_in (standing c.args.place.now)) is ∙ ap (λ ns. relvars_in (standing c.args.place.now) (tree_view c.deref-in-Where.result.now) ++ ns) inside) (ap types_in is)
+    let inside = ap (λ o. relvars_in (in_tuples (scope_at c.args.place.now) o) (tree_view c.deref-in-Where-2.result.now)) c.in_ok-operand-in-Where.ensures.ty in
+    names_are c.restricted.result (scope_at c.args.place.now) (tree_view c.args.expr.now) (names_view c.args.seen.now) (names_view c.check_inside-condition.new.seen)
+    (relvars_in (scope_at c.args.place.now) (tree_view c.deref-in-Where.result.now) ++ relvars_in (in_tuples (scope_at c.args.place.now) (Valued (type_view c.in_ok-operand-in-Where.operand))) (tree_view c.deref-in-Where-2.result.now)) (types_in (tree_view c.deref-in-Where.result.now) ++ types_in (tree_view c.deref-in-Where-2.result.now))
+    (ap (relvars_in (scope_at c.args.place.now)) is ∙ ap (λ ns. relvars_in (scope_at c.args.place.now) (tree_view c.deref-in-Where.result.now) ++ ns) inside) (ap types_in is)
     (names_held type_view c.check_inside-condition.result (λ t. own.operator_type operators.Where (type_view c.in_ok-operand-in-Where.operand) t) type_view c.restricted.result
     (names_view c.args.seen.now) (names_view c.check_inside-condition.new.seen)
-    (relvars_in (standing c.args.place.now) (tree_view c.deref-in-Where.result.now) ++ relvars_in (in_tuples (standing c.args.place.now) (Valued (type_view c.in_ok-operand-in-Where.operand))) (tree_view c.deref-in-Where-2.result.now)) (types_in (tree_view c.deref-in-Where.result.now) ++ types_in (tree_view c.deref-in-Where-2.result.now)) c.restricted.ensures
+    (relvars_in (scope_at c.args.place.now) (tree_view c.deref-in-Where.result.now) ++ relvars_in (in_tuples (scope_at c.args.place.now) (Valued (type_view c.in_ok-operand-in-Where.operand))) (tree_view c.deref-in-Where-2.result.now)) (types_in (tree_view c.deref-in-Where.result.now) ++ types_in (tree_view c.deref-in-Where-2.result.now)) c.restricted.ensures
     (names_of_second c.check_inside-condition.result (names_view c.args.seen.now) (names_view c.check-in-Where.new.seen) (names_view c.check_inside-condition.new.seen)
-    (relvars_in (standing c.args.place.now) (tree_view c.deref-in-Where.result.now)) (types_in (tree_view c.deref-in-Where.result.now)) (relvars_in (in_tuples (standing c.args.place.now) (Valued (type_view c.in_ok-operand-in-Where.operand))) (tree_view c.deref-in-Where-2.result.now)) (types_in (tree_view c.deref-in-Where-2.result.now))
+    (relvars_in (scope_at c.args.place.now) (tree_view c.deref-in-Where.result.now)) (types_in (tree_view c.deref-in-Where.result.now)) (relvars_in (in_tuples (scope_at c.args.place.now) (Valued (type_view c.in_ok-operand-in-Where.operand))) (tree_view c.deref-in-Where-2.result.now)) (types_in (tree_view c.deref-in-Where-2.result.now))
     c.in_ok-operand-in-Where.ensures.names c.check_inside-condition.ensures.names))
 
 pub check-returns-in_default : goal.check-returns-in_default
@@ -184,17 +184,17 @@ check-returns-in_default t c =
     let gives = subst (λ r. Gives types_view r (λ both. own.operator_type c.in-Binary.op both.0 both.1) type_view c.operated.result) c.both.ensures c.operated.ensures in
     record {
       ty =
-          rw (is, binary_type (standing c.args.place.now) c.in-Binary.op (tree_view c.deref-in_default.result.now) (tree_view c.deref-in_default-2.result.now) c.in_default.not-Where)
-          (two_typed (own.operator_type c.in-Binary.op) (type_of (standing c.args.place.now) (tree_view c.deref-in_default.result.now)) (type_of (standing c.args.place.now) (tree_view c.deref-in_default-2.result.now))
+          rw (is, binary_type (scope_at c.args.place.now) c.in-Binary.op (tree_view c.deref-in_default.result.now) (tree_view c.deref-in_default-2.result.now) c.in_default.not-Where)
+          (two_typed (own.operator_type c.in-Binary.op) (type_of (scope_at c.args.place.now) (tree_view c.deref-in_default.result.now)) (type_of (scope_at c.args.place.now) (tree_view c.deref-in_default-2.result.now))
           c.check-first.result c.check-second.result c.operated.result c.check-first.ensures.ty c.check-second.ensures.ty gives);
       names =
-          names_are c.operated.result (standing c.args.place.now) (tree_view c.args.expr.now) (names_view c.args.seen.now) (names_view c.check-second.new.seen)
-          (relvars_in (standing c.args.place.now) (tree_view c.deref-in_default.result.now) ++ relvars_in (standing c.args.place.now) (tree_view c.deref-in_default-2.result.now)) (types_in (tree_view c.deref-in_default.result.now) ++ types_in (tree_view c.deref-in_default-2.result.now))
-          (ap (relvars_in (standing c.args.place.now)) is ∙ binary_mentions (standing c.args.place.now) c.in-Binary.op (tree_view c.deref-in_default.result.now) (tree_view c.deref-in_default-2.result.now) c.in_default.not-Where) (ap types_in is)
+          names_are c.operated.result (scope_at c.args.place.now) (tree_view c.args.expr.now) (names_view c.args.seen.now) (names_view c.check-second.new.seen)
+          (relvars_in (scope_at c.args.place.now) (tree_view c.deref-in_default.result.now) ++ relvars_in (scope_at c.args.place.now) (tree_view c.deref-in_default-2.result.now)) (types_in (tree_view c.deref-in_default.result.now) ++ types_in (tree_view c.deref-in_default-2.result.now))
+          (ap (relvars_in (scope_at c.args.place.now)) is ∙ binary_mentions (scope_at c.args.place.now) c.in-Binary.op (tree_view c.deref-in_default.result.now) (tree_view c.deref-in_default-2.result.now) c.in_default.not-Where) (ap types_in is)
           (names_held types_view (both_answers c.check-first.result c.check-second.result) (λ both. own.operator_type c.in-Binary.op both.0 both.1)
-          type_view c.operated.result (names_view c.args.seen.now) (names_view c.check-second.new.seen) (relvars_in (standing c.args.place.now) (tree_view c.deref-in_default.result.now) ++ relvars_in (standing c.args.place.now) (tree_view c.deref-in_default-2.result.now)) (types_in (tree_view c.deref-in_default.result.now) ++ types_in (tree_view c.deref-in_default-2.result.now)) gives
+          type_view c.operated.result (names_view c.args.seen.now) (names_view c.check-second.new.seen) (relvars_in (scope_at c.args.place.now) (tree_view c.deref-in_default.result.now) ++ relvars_in (scope_at c.args.place.now) (tree_view c.deref-in_default-2.result.now)) (types_in (tree_view c.deref-in_default.result.now) ++ types_in (tree_view c.deref-in_default-2.result.now)) gives
           (names_of_both c.check-first.result c.check-second.result (names_view c.args.seen.now) (names_view c.check-first.new.seen)
-          (names_view c.check-second.new.seen) (relvars_in (standing c.args.place.now) (tree_view c.deref-in_default.result.now)) (types_in (tree_view c.deref-in_default.result.now)) (relvars_in (standing c.args.place.now) (tree_view c.deref-in_default-2.result.now)) (types_in (tree_view c.deref-in_default-2.result.now)) c.check-first.ensures.names c.check-second.ensures.names));
+          (names_view c.check-second.new.seen) (relvars_in (scope_at c.args.place.now) (tree_view c.deref-in_default.result.now)) (types_in (tree_view c.deref-in_default.result.now)) (relvars_in (scope_at c.args.place.now) (tree_view c.deref-in_default-2.result.now)) (types_in (tree_view c.deref-in_default-2.result.now)) c.check-first.ensures.names c.check-second.ensures.names));
     }
 
 -- ---- RELATION with a heading
@@ -204,7 +204,7 @@ check-returns-in_ok-add_types_in-in-HeadedRelation-clause-ty t c =
     let is = ap tree_view c.in-HeadedRelation.is ∙ headed_relation_is c.in-HeadedRelation.heading c.in-HeadedRelation.elements ∙ ap (λ xs. trees.headed_relation (heading_tree_view c.in-HeadedRelation.heading.items) (trees_view xs)) (sym c.deref-in-HeadedRelation-2.ensures.value) in
     let gives = subst (λ r. Gives headed_view r (λ parts. own.headed_type parts.0 parts.1) type_view c.headed.result) c.both-in-HeadedRelation.ensures c.headed.ensures in
     rw is
-    (headed_typed (heading_meant (standing c.args.place.now).types (heading_tree_view c.in-HeadedRelation.heading.items)) (types_of (standing c.args.place.now) (trees_view c.deref-in-HeadedRelation-2.result.now)) c.resolve_heading.result c.check_all-elements.result c.headed.result
+    (headed_typed (heading_meant (scope_at c.args.place.now).types (heading_tree_view c.in-HeadedRelation.heading.items)) (types_of (scope_at c.args.place.now) (trees_view c.deref-in-HeadedRelation-2.result.now)) c.resolve_heading.result c.check_all-elements.result c.headed.result
     (subst (Answers (λ h. h) c.resolve_heading.result)
     (λ i. heading_meant (c.types-in-HeadedRelation.ensures i) (heading_tree_view (c.deref-in-HeadedRelation-3.ensures.value i))) c.resolve_heading.ensures)
     c.check_all-elements.ensures.types gives)
@@ -216,10 +216,10 @@ check-returns-in_ok-add_types_in-in-HeadedRelation-clause-names t c =
     let named = c.in_ok-add_types_in-in-HeadedRelation.ensures ∙ ap (λ xs. c.args.seen.now.types.items ++ types_named_in (heading_tree_view xs)) c.deref-in-HeadedRelation.ensures.value in
     let n = names_view c.args.seen.now in
     let l = names_view c.check_all-elements.new.seen in
-    let rs = relvars_in_all (standing c.args.place.now) (trees_view c.deref-in-HeadedRelation-2.result.now) in
+    let rs = relvars_in_all (scope_at c.args.place.now) (trees_view c.deref-in-HeadedRelation-2.result.now) in
     let ts = types_in_all (trees_view c.deref-in-HeadedRelation-2.result.now) in
     let hs = types_named_in (heading_tree_view c.in-HeadedRelation.heading.items) in
-    names_are c.headed.result (standing c.args.place.now) (tree_view c.args.expr.now) n l rs (hs ++ ts) (ap (relvars_in (standing c.args.place.now)) is) (ap types_in is)
+    names_are c.headed.result (scope_at c.args.place.now) (tree_view c.args.expr.now) n l rs (hs ++ ts) (ap (relvars_in (scope_at c.args.place.now)) is) (ap types_in is)
     (names_held headed_view (both_answers c.resolve_heading.result c.check_all-elements.result) (λ parts. own.headed_type parts.0 parts.1) type_view c.headed.result
     n l rs (hs ++ ts) gives
     (names_of_both c.resolve_heading.result c.check_all-elements.result n (c.args.seen.now.relvars.items, c.add_types_in.new.types.items) l [] hs rs ts
@@ -233,19 +233,19 @@ check-returns-in_ok-operand-in-Extend-clause-ty t c =
     let is = ap tree_view c.in-Extend.is ∙ extend_is c.in-Extend.operand c.in-Extend.parts ∙ (λ i. trees.extend (tree_view (sym c.deref-in-Extend.ensures i)) (named_view (sym c.deref-in-Extend-2.ensures.value i))) in
     rw is
     (subst (Answers type_view c.extended.result)
-    (inside_extended (type_of (standing c.args.place.now) (tree_view c.deref-in-Extend.result.now)) (type_view c.in_ok-operand-in-Extend.operand) c.in_ok-operand-in-Extend.ensures.ty (λ h. named_types (entered_with h (standing c.args.place.now)) (named_view c.deref-in-Extend-2.result.now)))
-    (c.extended.ensures (own.over_relation (type_view c.in_ok-operand-in-Extend.operand) (λ h. named_types (entered_with h (standing c.args.place.now)) (named_view c.deref-in-Extend-2.result.now))) c.check_named_inside-attributes.ensures.types))
+    (inside_extended (type_of (scope_at c.args.place.now) (tree_view c.deref-in-Extend.result.now)) (type_view c.in_ok-operand-in-Extend.operand) c.in_ok-operand-in-Extend.ensures.ty (λ h. named_types (entered_with h (scope_at c.args.place.now)) (named_view c.deref-in-Extend-2.result.now)))
+    (c.extended.ensures (own.over_relation (type_view c.in_ok-operand-in-Extend.operand) (λ h. named_types (entered_with h (scope_at c.args.place.now)) (named_view c.deref-in-Extend-2.result.now))) c.check_named_inside-attributes.ensures.types))
 
 pub check-returns-in_ok-operand-in-Extend-clause-names : goal.check-returns-in_ok-operand-in-Extend-clause-names
 check-returns-in_ok-operand-in-Extend-clause-names t c =
     let is = ap tree_view c.in-Extend.is ∙ extend_is c.in-Extend.operand c.in-Extend.parts ∙ (λ i. trees.extend (tree_view (sym c.deref-in-Extend.ensures i)) (named_view (sym c.deref-in-Extend-2.ensures.value i))) in
-    let inside = ap (λ o. relvars_in_named (in_tuples (standing c.args.place.now) o) (named_view c.deref-in-Extend-2.result.now)) c.in_ok-operand-in-Extend.ensures.ty in
+    let inside = ap (λ o. relvars_in_named (in_tuples (scope_at c.args.place.now) o) (named_view c.deref-in-Extend-2.result.now)) c.in_ok-operand-in-Extend.ensures.ty in
     let n = names_view c.args.seen.now in
     let l = names_view c.check_named_inside-attributes.new.seen in
-    let rs = relvars_in (standing c.args.place.now) (tree_view c.deref-in-Extend.result.now) in
-    let ps = relvars_in_named (in_tuples (standing c.args.place.now) (Valued (type_view c.in_ok-operand-in-Extend.operand))) (named_view c.deref-in-Extend-2.result.now) in
-    names_are c.extended.result (standing c.args.place.now) (tree_view c.args.expr.now) n l (rs ++ ps) (types_in (tree_view c.deref-in-Extend.result.now) ++ types_in_named (named_view c.deref-in-Extend-2.result.now))
-    (ap (relvars_in (standing c.args.place.now)) is ∙ ap (λ ns. rs ++ ns) inside) (ap types_in is)
+    let rs = relvars_in (scope_at c.args.place.now) (tree_view c.deref-in-Extend.result.now) in
+    let ps = relvars_in_named (in_tuples (scope_at c.args.place.now) (Valued (type_view c.in_ok-operand-in-Extend.operand))) (named_view c.deref-in-Extend-2.result.now) in
+    names_are c.extended.result (scope_at c.args.place.now) (tree_view c.args.expr.now) n l (rs ++ ps) (types_in (tree_view c.deref-in-Extend.result.now) ++ types_in_named (named_view c.deref-in-Extend-2.result.now))
+    (ap (relvars_in (scope_at c.args.place.now)) is ∙ ap (λ ns. rs ++ ns) inside) (ap types_in is)
     (names_held (λ (ts : Vec (List ℕ × Ty)). pairs_view ts.items) c.check_named_inside-attributes.result
     (λ attributes. own.over_relation (type_view c.in_ok-operand-in-Extend.operand) (λ h. own.extension_type h attributes)) type_view c.extended.result
     n l (rs ++ ps) (types_in (tree_view c.deref-in-Extend.result.now) ++ types_in_named (named_view c.deref-in-Extend-2.result.now)) c.extended.ensures
@@ -259,7 +259,7 @@ check-returns-in-If-clause-ty t c =
     let is = ap tree_view c.in-If.is ∙ (λ i. trees.choice (tree_view (sym c.deref-in-If.ensures i)) (tree_view (sym c.deref-in-If-2.ensures i)) (tree_view (sym c.deref-in-If-3.ensures i))) in
     let gives = subst (λ r. Gives three_types_view r choice_of type_view c.chosen.result) (c.both-in-If-2.ensures ∙ ap (both_answers c.check-condition.result) c.both-in-If.ensures) c.chosen.ensures in
     rw is
-    (choice_typed (type_of (standing c.args.place.now) (tree_view c.deref-in-If.result.now)) (type_of (standing c.args.place.now) (tree_view c.deref-in-If-2.result.now)) (type_of (standing c.args.place.now) (tree_view c.deref-in-If-3.result.now)) c.check-condition.result c.check-first-in-If.result c.check-second-in-If.result c.chosen.result
+    (choice_typed (type_of (scope_at c.args.place.now) (tree_view c.deref-in-If.result.now)) (type_of (scope_at c.args.place.now) (tree_view c.deref-in-If-2.result.now)) (type_of (scope_at c.args.place.now) (tree_view c.deref-in-If-3.result.now)) c.check-condition.result c.check-first-in-If.result c.check-second-in-If.result c.chosen.result
     c.check-condition.ensures.ty c.check-first-in-If.ensures.ty c.check-second-in-If.ensures.ty gives)
 
 pub check-returns-in-If-clause-names : goal.check-returns-in-If-clause-names
@@ -268,16 +268,16 @@ check-returns-in-If-clause-names t c =
     let gives = subst (λ r. Gives three_types_view r choice_of type_view c.chosen.result) (c.both-in-If-2.ensures ∙ ap (both_answers c.check-condition.result) c.both-in-If.ensures) c.chosen.ensures in
     let n = names_view c.args.seen.now in
     let l = names_view c.check-second-in-If.new.seen in
-    let cs = relvars_in (standing c.args.place.now) (tree_view c.deref-in-If.result.now) in
-    let rs = relvars_in (standing c.args.place.now) (tree_view c.deref-in-If-2.result.now) ++ relvars_in (standing c.args.place.now) (tree_view c.deref-in-If-3.result.now) in
+    let cs = relvars_in (scope_at c.args.place.now) (tree_view c.deref-in-If.result.now) in
+    let rs = relvars_in (scope_at c.args.place.now) (tree_view c.deref-in-If-2.result.now) ++ relvars_in (scope_at c.args.place.now) (tree_view c.deref-in-If-3.result.now) in
     let ts = types_in (tree_view c.deref-in-If-2.result.now) ++ types_in (tree_view c.deref-in-If-3.result.now) in
-    names_are c.chosen.result (standing c.args.place.now) (tree_view c.args.expr.now) n l (cs ++ rs) (types_in (tree_view c.deref-in-If.result.now) ++ ts) (ap (relvars_in (standing c.args.place.now)) is) (ap types_in is)
+    names_are c.chosen.result (scope_at c.args.place.now) (tree_view c.args.expr.now) n l (cs ++ rs) (types_in (tree_view c.deref-in-If.result.now) ++ ts) (ap (relvars_in (scope_at c.args.place.now)) is) (ap types_in is)
     (names_held three_types_view (both_answers c.check-condition.result (both_answers c.check-first-in-If.result c.check-second-in-If.result)) choice_of type_view c.chosen.result
     n l (cs ++ rs) (types_in (tree_view c.deref-in-If.result.now) ++ ts) gives
     (names_of_both c.check-condition.result (both_answers c.check-first-in-If.result c.check-second-in-If.result) n (names_view c.check-condition.new.seen) l cs (types_in (tree_view c.deref-in-If.result.now)) rs ts
     c.check-condition.ensures.names
     (names_of_both c.check-first-in-If.result c.check-second-in-If.result (names_view c.check-condition.new.seen) (names_view c.check-first-in-If.new.seen) l
-    (relvars_in (standing c.args.place.now) (tree_view c.deref-in-If-2.result.now)) (types_in (tree_view c.deref-in-If-2.result.now)) (relvars_in (standing c.args.place.now) (tree_view c.deref-in-If-3.result.now)) (types_in (tree_view c.deref-in-If-3.result.now)) c.check-first-in-If.ensures.names c.check-second-in-If.ensures.names)))
+    (relvars_in (scope_at c.args.place.now) (tree_view c.deref-in-If-2.result.now)) (types_in (tree_view c.deref-in-If-2.result.now)) (relvars_in (scope_at c.args.place.now) (tree_view c.deref-in-If-3.result.now)) (types_in (tree_view c.deref-in-If-3.result.now)) c.check-first-in-If.ensures.names c.check-second-in-If.ensures.names)))
 
 -- ---- the lists, element by element
 
@@ -287,26 +287,26 @@ check_all-loop-expr-preserved t c =
     let n = names_view c.args.seen.now in
     elim c.match-branch-3.branch [
       | check_all-in-Some+in_ok-push w ↦
-          step_taken (AreChecked (type_found (standing c.args.place.now)) (relvars_of (standing c.args.place.now)) types_of_one c.add.new.self (map type_view c.match-branch-3.types.items) n (names_view c.check.new.seen)) c.args.exprs.now l.expr-index c.expr-item.result c.loop-expr-test.true c.expr-item.is
-          (checked_some type_view (type_found (standing c.args.place.now)) (relvars_of (standing c.args.place.now)) types_of_one (take l.expr-index c.args.exprs.now) c.expr-item.result l.causes l.types.items c.check.result c.add.new.self n (names_view l.seen) (names_view c.check.new.seen)
+          step_taken (AreChecked (type_found (scope_at c.args.place.now)) (relvars_of (scope_at c.args.place.now)) types_of_one c.add.new.self (map type_view c.match-branch-3.types.items) n (names_view c.check.new.seen)) c.args.exprs.now l.expr-index c.expr-item.result c.loop-expr-test.true c.expr-item.is
+          (checked_some type_view (type_found (scope_at c.args.place.now)) (relvars_of (scope_at c.args.place.now)) types_of_one (take l.expr-index c.args.exprs.now) c.expr-item.result l.causes l.types.items c.check.result c.add.new.self n (names_view l.seen) (names_view c.check.new.seen)
           l.invariant c.check.ensures.ty c.check.ensures.names c.in_ok-ty.ensures.cause (Ok c.in_ok-ty.field-0) c.in_ok-ty.ensures.rest w.in-Some.ty (ap Ok w.in-Some.is)
           c.match-branch-3.types.items (ap (λ v. v.items) w.types-is ∙ w.in_ok-push.ensures.items))
       | check_all-in_default w ↦
-          subst (λ items. AreChecked (type_found (standing c.args.place.now)) (relvars_of (standing c.args.place.now)) types_of_one c.add.new.self (map type_view items) n (names_view c.check.new.seen) (take (l.expr-index + 1) c.args.exprs.now)) (sym (ap (λ v. v.items) w.types-is))
-          (step_taken (AreChecked (type_found (standing c.args.place.now)) (relvars_of (standing c.args.place.now)) types_of_one c.add.new.self (map type_view l.types.items) n (names_view c.check.new.seen)) c.args.exprs.now l.expr-index c.expr-item.result c.loop-expr-test.true c.expr-item.is
-          (checked_none type_view (type_found (standing c.args.place.now)) (relvars_of (standing c.args.place.now)) types_of_one (take l.expr-index c.args.exprs.now) c.expr-item.result l.causes l.types.items c.check.result c.add.new.self n (names_view l.seen) (names_view c.check.new.seen)
+          subst (λ items. AreChecked (type_found (scope_at c.args.place.now)) (relvars_of (scope_at c.args.place.now)) types_of_one c.add.new.self (map type_view items) n (names_view c.check.new.seen) (take (l.expr-index + 1) c.args.exprs.now)) (sym (ap (λ v. v.items) w.types-is))
+          (step_taken (AreChecked (type_found (scope_at c.args.place.now)) (relvars_of (scope_at c.args.place.now)) types_of_one c.add.new.self (map type_view l.types.items) n (names_view c.check.new.seen)) c.args.exprs.now l.expr-index c.expr-item.result c.loop-expr-test.true c.expr-item.is
+          (checked_none type_view (type_found (scope_at c.args.place.now)) (relvars_of (scope_at c.args.place.now)) types_of_one (take l.expr-index c.args.exprs.now) c.expr-item.result l.causes l.types.items c.check.result c.add.new.self n (names_view l.seen) (names_view c.check.new.seen)
           l.invariant c.check.ensures.ty c.check.ensures.names c.in_ok-ty.ensures.cause (Ok c.in_ok-ty.field-0) c.in_ok-ty.ensures.rest (ap Ok w.in_default.is)))
     ]
 
 pub check_all-returns-clause-types : goal.check_all-returns-clause-types
 check_all-returns-clause-types t c =
-    all_answered (λ (v : Vec Ty). map type_view v.items) (type_found (standing c.args.place.now)) (relvars_of (standing c.args.place.now)) types_of_one c.args.exprs.now c.loop-expr.expr-index c.loop-expr-test.false c.loop-expr.causes c.loop-expr.types c.finish.result c.finish.ensures
-    (names_view c.args.seen.now) (names_view c.loop-expr.seen) c.loop-expr.invariant _ (types_are (standing c.args.place.now) c.args.exprs.now)
+    all_answered (λ (v : Vec Ty). map type_view v.items) (type_found (scope_at c.args.place.now)) (relvars_of (scope_at c.args.place.now)) types_of_one c.args.exprs.now c.loop-expr.expr-index c.loop-expr-test.false c.loop-expr.causes c.loop-expr.types c.finish.result c.finish.ensures
+    (names_view c.args.seen.now) (names_view c.loop-expr.seen) c.loop-expr.invariant _ (types_are (scope_at c.args.place.now) c.args.exprs.now)
 
 pub check_all-returns-clause-names : goal.check_all-returns-clause-names
 check_all-returns-clause-names t c =
-    all_named (λ (v : Vec Ty). map type_view v.items) (type_found (standing c.args.place.now)) (relvars_of (standing c.args.place.now)) types_of_one c.args.exprs.now c.loop-expr.expr-index c.loop-expr-test.false c.loop-expr.causes c.loop-expr.types c.finish.result c.finish.ensures
-    (names_view c.args.seen.now) (names_view c.loop-expr.seen) c.loop-expr.invariant _ _ (relvars_are (standing c.args.place.now) c.args.exprs.now) (mentioned_types c.args.exprs.now)
+    all_named (λ (v : Vec Ty). map type_view v.items) (type_found (scope_at c.args.place.now)) (relvars_of (scope_at c.args.place.now)) types_of_one c.args.exprs.now c.loop-expr.expr-index c.loop-expr-test.false c.loop-expr.causes c.loop-expr.types c.finish.result c.finish.ensures
+    (names_view c.args.seen.now) (names_view c.loop-expr.seen) c.loop-expr.invariant _ _ (relvars_are (scope_at c.args.place.now) c.args.exprs.now) (mentioned_types c.args.exprs.now)
 
 pub check_named-loop-part-preserved : goal.check_named-loop-part-preserved
 check_named-loop-part-preserved t c =
@@ -314,26 +314,26 @@ check_named-loop-part-preserved t c =
     let n = names_view c.args.seen.now in
     elim c.match-branch-3.branch [
       | check_named-in-Some+in_ok-push w ↦
-          step_taken (AreChecked (part_found (standing c.args.place.now)) (relvars_of_part (standing c.args.place.now)) types_of_part c.add.new.self (map pair_view c.match-branch-3.attributes.items) n (names_view c.check_part.new.seen)) c.args.parts.now l.part-index c.part-item.result c.loop-part-test.true c.part-item.is
-          (checked_some pair_view (part_found (standing c.args.place.now)) (relvars_of_part (standing c.args.place.now)) types_of_part (take l.part-index c.args.parts.now) c.part-item.result l.causes l.attributes.items c.check_part.result c.add.new.self n (names_view l.seen) (names_view c.check_part.new.seen)
+          step_taken (AreChecked (part_found (scope_at c.args.place.now)) (relvars_of_part (scope_at c.args.place.now)) types_of_part c.add.new.self (map pair_view c.match-branch-3.attributes.items) n (names_view c.check_part.new.seen)) c.args.parts.now l.part-index c.part-item.result c.loop-part-test.true c.part-item.is
+          (checked_some pair_view (part_found (scope_at c.args.place.now)) (relvars_of_part (scope_at c.args.place.now)) types_of_part (take l.part-index c.args.parts.now) c.part-item.result l.causes l.attributes.items c.check_part.result c.add.new.self n (names_view l.seen) (names_view c.check_part.new.seen)
           l.invariant c.check_part.ensures.part c.check_part.ensures.names c.in_ok-attribute.ensures.cause (Ok c.in_ok-attribute.field-0) c.in_ok-attribute.ensures.rest w.in-Some.attribute (ap Ok w.in-Some.is)
           c.match-branch-3.attributes.items (ap (λ v. v.items) w.attributes-is ∙ w.in_ok-push.ensures.items))
       | check_named-in_default w ↦
-          subst (λ items. AreChecked (part_found (standing c.args.place.now)) (relvars_of_part (standing c.args.place.now)) types_of_part c.add.new.self (map pair_view items) n (names_view c.check_part.new.seen) (take (l.part-index + 1) c.args.parts.now)) (sym (ap (λ v. v.items) w.attributes-is))
-          (step_taken (AreChecked (part_found (standing c.args.place.now)) (relvars_of_part (standing c.args.place.now)) types_of_part c.add.new.self (map pair_view l.attributes.items) n (names_view c.check_part.new.seen)) c.args.parts.now l.part-index c.part-item.result c.loop-part-test.true c.part-item.is
-          (checked_none pair_view (part_found (standing c.args.place.now)) (relvars_of_part (standing c.args.place.now)) types_of_part (take l.part-index c.args.parts.now) c.part-item.result l.causes l.attributes.items c.check_part.result c.add.new.self n (names_view l.seen) (names_view c.check_part.new.seen)
+          subst (λ items. AreChecked (part_found (scope_at c.args.place.now)) (relvars_of_part (scope_at c.args.place.now)) types_of_part c.add.new.self (map pair_view items) n (names_view c.check_part.new.seen) (take (l.part-index + 1) c.args.parts.now)) (sym (ap (λ v. v.items) w.attributes-is))
+          (step_taken (AreChecked (part_found (scope_at c.args.place.now)) (relvars_of_part (scope_at c.args.place.now)) types_of_part c.add.new.self (map pair_view l.attributes.items) n (names_view c.check_part.new.seen)) c.args.parts.now l.part-index c.part-item.result c.loop-part-test.true c.part-item.is
+          (checked_none pair_view (part_found (scope_at c.args.place.now)) (relvars_of_part (scope_at c.args.place.now)) types_of_part (take l.part-index c.args.parts.now) c.part-item.result l.causes l.attributes.items c.check_part.result c.add.new.self n (names_view l.seen) (names_view c.check_part.new.seen)
           l.invariant c.check_part.ensures.part c.check_part.ensures.names c.in_ok-attribute.ensures.cause (Ok c.in_ok-attribute.field-0) c.in_ok-attribute.ensures.rest (ap Ok w.in_default.is)))
     ]
 
 pub check_named-returns-clause-types : goal.check_named-returns-clause-types
 check_named-returns-clause-types t c =
-    all_answered (λ (v : Vec (List ℕ × Ty)). map pair_view v.items) (part_found (standing c.args.place.now)) (relvars_of_part (standing c.args.place.now)) types_of_part c.args.parts.now c.loop-part.part-index c.loop-part-test.false c.loop-part.causes c.loop-part.attributes c.finish.result c.finish.ensures
-    (names_view c.args.seen.now) (names_view c.loop-part.seen) c.loop-part.invariant _ (parts_are (standing c.args.place.now) c.args.parts.now)
+    all_answered (λ (v : Vec (List ℕ × Ty)). map pair_view v.items) (part_found (scope_at c.args.place.now)) (relvars_of_part (scope_at c.args.place.now)) types_of_part c.args.parts.now c.loop-part.part-index c.loop-part-test.false c.loop-part.causes c.loop-part.attributes c.finish.result c.finish.ensures
+    (names_view c.args.seen.now) (names_view c.loop-part.seen) c.loop-part.invariant _ (parts_are (scope_at c.args.place.now) c.args.parts.now)
 
 pub check_named-returns-clause-names : goal.check_named-returns-clause-names
 check_named-returns-clause-names t c =
-    all_named (λ (v : Vec (List ℕ × Ty)). map pair_view v.items) (part_found (standing c.args.place.now)) (relvars_of_part (standing c.args.place.now)) types_of_part c.args.parts.now c.loop-part.part-index c.loop-part-test.false c.loop-part.causes c.loop-part.attributes c.finish.result c.finish.ensures
-    (names_view c.args.seen.now) (names_view c.loop-part.seen) c.loop-part.invariant _ _ (relvars_of_parts (standing c.args.place.now) c.args.parts.now) (types_of_parts c.args.parts.now)
+    all_named (λ (v : Vec (List ℕ × Ty)). map pair_view v.items) (part_found (scope_at c.args.place.now)) (relvars_of_part (scope_at c.args.place.now)) types_of_part c.args.parts.now c.loop-part.part-index c.loop-part-test.false c.loop-part.causes c.loop-part.attributes c.finish.result c.finish.ensures
+    (names_view c.args.seen.now) (names_view c.loop-part.seen) c.loop-part.invariant _ _ (relvars_of_parts (scope_at c.args.place.now) c.args.parts.now) (types_of_parts c.args.parts.now)
 
 pub check_items-loop-item-preserved : goal.check_items-loop-item-preserved
 check_items-loop-item-preserved t c =
@@ -341,26 +341,26 @@ check_items-loop-item-preserved t c =
     let n = names_view c.args.seen.now in
     elim c.match-branch-3.branch [
       | check_items-in-Some+in_ok-push w ↦
-          step_taken (AreChecked (item_found (standing c.args.place.now)) (relvars_of_item (standing c.args.place.now)) types_of_item c.add.new.self (map named_item_view c.match-branch-3.added.items) n (names_view c.check_item.new.seen)) c.args.items.now l.item-index c.item-item.result c.loop-item-test.true c.item-item.is
-          (checked_some named_item_view (item_found (standing c.args.place.now)) (relvars_of_item (standing c.args.place.now)) types_of_item (take l.item-index c.args.items.now) c.item-item.result l.causes l.added.items c.check_item.result c.add.new.self n (names_view l.seen) (names_view c.check_item.new.seen)
+          step_taken (AreChecked (item_found (scope_at c.args.place.now)) (relvars_of_item (scope_at c.args.place.now)) types_of_item c.add.new.self (map named_item_view c.match-branch-3.added.items) n (names_view c.check_item.new.seen)) c.args.items.now l.item-index c.item-item.result c.loop-item-test.true c.item-item.is
+          (checked_some named_item_view (item_found (scope_at c.args.place.now)) (relvars_of_item (scope_at c.args.place.now)) types_of_item (take l.item-index c.args.items.now) c.item-item.result l.causes l.added.items c.check_item.result c.add.new.self n (names_view l.seen) (names_view c.check_item.new.seen)
           l.invariant c.check_item.ensures.item c.check_item.ensures.names c.in_ok-checked.ensures.cause (Ok c.in_ok-checked.field-0) c.in_ok-checked.ensures.rest w.in-Some.checked (ap Ok w.in-Some.is)
           c.match-branch-3.added.items (ap (λ v. v.items) w.added-is ∙ w.in_ok-push.ensures.items))
       | check_items-in_default w ↦
-          subst (λ items. AreChecked (item_found (standing c.args.place.now)) (relvars_of_item (standing c.args.place.now)) types_of_item c.add.new.self (map named_item_view items) n (names_view c.check_item.new.seen) (take (l.item-index + 1) c.args.items.now)) (sym (ap (λ v. v.items) w.added-is))
-          (step_taken (AreChecked (item_found (standing c.args.place.now)) (relvars_of_item (standing c.args.place.now)) types_of_item c.add.new.self (map named_item_view l.added.items) n (names_view c.check_item.new.seen)) c.args.items.now l.item-index c.item-item.result c.loop-item-test.true c.item-item.is
-          (checked_none named_item_view (item_found (standing c.args.place.now)) (relvars_of_item (standing c.args.place.now)) types_of_item (take l.item-index c.args.items.now) c.item-item.result l.causes l.added.items c.check_item.result c.add.new.self n (names_view l.seen) (names_view c.check_item.new.seen)
+          subst (λ items. AreChecked (item_found (scope_at c.args.place.now)) (relvars_of_item (scope_at c.args.place.now)) types_of_item c.add.new.self (map named_item_view items) n (names_view c.check_item.new.seen) (take (l.item-index + 1) c.args.items.now)) (sym (ap (λ v. v.items) w.added-is))
+          (step_taken (AreChecked (item_found (scope_at c.args.place.now)) (relvars_of_item (scope_at c.args.place.now)) types_of_item c.add.new.self (map named_item_view l.added.items) n (names_view c.check_item.new.seen)) c.args.items.now l.item-index c.item-item.result c.loop-item-test.true c.item-item.is
+          (checked_none named_item_view (item_found (scope_at c.args.place.now)) (relvars_of_item (scope_at c.args.place.now)) types_of_item (take l.item-index c.args.items.now) c.item-item.result l.causes l.added.items c.check_item.result c.add.new.self n (names_view l.seen) (names_view c.check_item.new.seen)
           l.invariant c.check_item.ensures.item c.check_item.ensures.names c.in_ok-checked.ensures.cause (Ok c.in_ok-checked.field-0) c.in_ok-checked.ensures.rest (ap Ok w.in_default.is)))
     ]
 
 pub check_items-returns-clause-types : goal.check_items-returns-clause-types
 check_items-returns-clause-types t c =
-    all_answered (λ (v : Vec (List ℕ × Item)). map named_item_view v.items) (item_found (standing c.args.place.now)) (relvars_of_item (standing c.args.place.now)) types_of_item c.args.items.now c.loop-item.item-index c.loop-item-test.false c.loop-item.causes c.loop-item.added c.finish.result c.finish.ensures
-    (names_view c.args.seen.now) (names_view c.loop-item.seen) c.loop-item.invariant _ (items_are (standing c.args.place.now) c.args.items.now)
+    all_answered (λ (v : Vec (List ℕ × Item)). map named_item_view v.items) (item_found (scope_at c.args.place.now)) (relvars_of_item (scope_at c.args.place.now)) types_of_item c.args.items.now c.loop-item.item-index c.loop-item-test.false c.loop-item.causes c.loop-item.added c.finish.result c.finish.ensures
+    (names_view c.args.seen.now) (names_view c.loop-item.seen) c.loop-item.invariant _ (items_are (scope_at c.args.place.now) c.args.items.now)
 
 pub check_items-returns-clause-names : goal.check_items-returns-clause-names
 check_items-returns-clause-names t c =
-    all_named (λ (v : Vec (List ℕ × Item)). map named_item_view v.items) (item_found (standing c.args.place.now)) (relvars_of_item (standing c.args.place.now)) types_of_item c.args.items.now c.loop-item.item-index c.loop-item-test.false c.loop-item.causes c.loop-item.added c.finish.result c.finish.ensures
-    (names_view c.args.seen.now) (names_view c.loop-item.seen) c.loop-item.invariant _ _ (relvars_of_items (standing c.args.place.now) c.args.items.now) (types_of_items c.args.items.now)
+    all_named (λ (v : Vec (List ℕ × Item)). map named_item_view v.items) (item_found (scope_at c.args.place.now)) (relvars_of_item (scope_at c.args.place.now)) types_of_item c.args.items.now c.loop-item.item-index c.loop-item-test.false c.loop-item.causes c.loop-item.added c.finish.result c.finish.ensures
+    (names_view c.args.seen.now) (names_view c.loop-item.seen) c.loop-item.invariant _ _ (relvars_of_items (scope_at c.args.place.now) c.args.items.now) (types_of_items c.args.items.now)
 
 -- ---- SUMMARIZE
 
@@ -368,7 +368,7 @@ pub check_items_inside-returns-in_err-items-in-Rel-clause-added : goal.check_ite
 check_items_inside-returns-in_err-items-in-Rel-clause-added t c =
     let p = err_from_is_err_and c.from_residual-in_err-items-in-Rel.result c.from_residual-in_err-items-in-Rel.ensures.1 in
     rw (p.1, p.2)
-    (items_refused c.args.operand c.in_ok-operand.operand c.in-Rel.heading c.in_ok-operand.was c.in-Rel.is (λ h. items_of (entered_with h (standing c.args.place.now)) (summaries_view c.args.items.now)) c.in_err-items-in-Rel.field-0.0
+    (items_refused c.args.operand c.in_ok-operand.operand c.in-Rel.heading c.in_ok-operand.was c.in-Rel.is (λ h. items_of (entered_with h (scope_at c.args.place.now)) (summaries_view c.args.items.now)) c.in_err-items-in-Rel.field-0.0
     (subst (λ s. Answers (λ (v : Vec (List ℕ × Item)). items_view v.items) (Err c.in_err-items-in-Rel.field-0.0) (items_of s (summaries_view c.args.items.now)))
     c.in_ok-inside-in-Rel.ensures c.in_err-items-in-Rel.ensures.types))
 
@@ -377,18 +377,18 @@ check_items_inside-returns-clause-added t c =
     elim c.match-operand.branch [
       | check_items_inside-in-Rel+in_ok-inside-in-Rel+in_ok-items-in-Rel w ↦
           rw w.items-is
-          (items_given c.args.operand c.in_ok-operand.operand w.in-Rel.heading c.in_ok-operand.was w.in-Rel.is (λ h. items_of (entered_with h (standing c.args.place.now)) (summaries_view c.args.items.now)) w.in_ok-items-in-Rel.items
+          (items_given c.args.operand c.in_ok-operand.operand w.in-Rel.heading c.in_ok-operand.was w.in-Rel.is (λ h. items_of (entered_with h (scope_at c.args.place.now)) (summaries_view c.args.items.now)) w.in_ok-items-in-Rel.items
           (subst (λ s. items_of s (summaries_view c.args.items.now) ≡ Valued (items_view w.in_ok-items-in-Rel.items.items)) w.in_ok-inside-in-Rel.ensures
           w.in_ok-items-in-Rel.ensures.types))
       | check_items_inside-in_default w ↦
-          items_left c.args.operand c.in_ok-operand.operand c.in_ok-operand.was w.in_default.not-Rel (λ h. items_of (entered_with h (standing c.args.place.now)) (summaries_view c.args.items.now)) c.match-operand.items
+          items_left c.args.operand c.in_ok-operand.operand c.in_ok-operand.was w.in_default.not-Rel (λ h. items_of (entered_with h (scope_at c.args.place.now)) (summaries_view c.args.items.now)) c.match-operand.items
     ]
 
 pub check_items_inside-returns-clause-names : goal.check_items_inside-returns-clause-names
 check_items_inside-returns-clause-names t c =
     elim c.match-operand.branch [
       | check_items_inside-in-Rel+in_ok-inside-in-Rel+in_ok-items-in-Rel w ↦
-          λ some. rw (w.seen-is, in_tuples_of (standing c.args.place.now) c.in_ok-operand.operand w.in-Rel.heading w.in-Rel.is)
+          λ some. rw (w.seen-is, in_tuples_of (scope_at c.args.place.now) c.in_ok-operand.operand w.in-Rel.heading w.in-Rel.is)
           (subst (λ s. names_view w.check_items.new.seen ≡ with_names (names_view c.args.seen.now) (relvars_in_items s (summaries_view c.args.items.now)) (types_in_items (summaries_view c.args.items.now)))
           w.in_ok-inside-in-Rel.ensures w.in_ok-items-in-Rel.ensures.names)
       | check_items_inside-in_default w ↦
@@ -398,49 +398,49 @@ check_items_inside-returns-clause-names t c =
 pub check-returns-in-SummarizeBy-clause-ty : goal.check-returns-in-SummarizeBy-clause-ty
 check-returns-in-SummarizeBy-clause-ty t c =
     let is = ap tree_view c.in-SummarizeBy.is ∙ summarize_by_is c.in-SummarizeBy.operand c.in-SummarizeBy.by c.in-SummarizeBy.items ∙ (λ i. trees.summarize_by (tree_view (sym c.deref-in-SummarizeBy.ensures i)) (attributes_view c.in-SummarizeBy.by) (summaries_view (sym c.deref-in-SummarizeBy-2.ensures.value i))) in
-    let added = with_value (type_of (standing c.args.place.now) (tree_view c.deref-in-SummarizeBy.result.now)) (λ s. with_items s (λ h. items_of (entered_with h (standing c.args.place.now)) (summaries_view c.deref-in-SummarizeBy-2.result.now))) in
+    let added = with_value (type_of (scope_at c.args.place.now) (tree_view c.deref-in-SummarizeBy.result.now)) (λ s. with_items s (λ h. items_of (entered_with h (scope_at c.args.place.now)) (summaries_view c.deref-in-SummarizeBy-2.result.now))) in
     rw is
     (subst (Answers type_view c.by_attributes.result) (summary_by_typed (attributes_view c.in-SummarizeBy.by) added)
-    (c.by_attributes.ensures added (c.check_items_inside.ensures.added (type_of (standing c.args.place.now) (tree_view c.deref-in-SummarizeBy.result.now)) c.check-operand-in-SummarizeBy.ensures.ty)))
+    (c.by_attributes.ensures added (c.check_items_inside.ensures.added (type_of (scope_at c.args.place.now) (tree_view c.deref-in-SummarizeBy.result.now)) c.check-operand-in-SummarizeBy.ensures.ty)))
 
 pub check-returns-in-SummarizeBy-clause-names : goal.check-returns-in-SummarizeBy-clause-names
 check-returns-in-SummarizeBy-clause-names t c =
     let is = ap tree_view c.in-SummarizeBy.is ∙ summarize_by_is c.in-SummarizeBy.operand c.in-SummarizeBy.by c.in-SummarizeBy.items ∙ (λ i. trees.summarize_by (tree_view (sym c.deref-in-SummarizeBy.ensures i)) (attributes_view c.in-SummarizeBy.by) (summaries_view (sym c.deref-in-SummarizeBy-2.ensures.value i))) in
     let n = names_view c.args.seen.now in
     let l = names_view c.check_items_inside.new.seen in
-    let rs = relvars_in (standing c.args.place.now) (tree_view c.deref-in-SummarizeBy.result.now) ++ relvars_in_items (in_tuples (standing c.args.place.now) (type_of (standing c.args.place.now) (tree_view c.deref-in-SummarizeBy.result.now))) (summaries_view c.deref-in-SummarizeBy-2.result.now) in
+    let rs = relvars_in (scope_at c.args.place.now) (tree_view c.deref-in-SummarizeBy.result.now) ++ relvars_in_items (in_tuples (scope_at c.args.place.now) (type_of (scope_at c.args.place.now) (tree_view c.deref-in-SummarizeBy.result.now))) (summaries_view c.deref-in-SummarizeBy-2.result.now) in
     let ts = types_in (tree_view c.deref-in-SummarizeBy.result.now) ++ types_in_items (summaries_view c.deref-in-SummarizeBy-2.result.now) in
-    names_are c.by_attributes.result (standing c.args.place.now) (tree_view c.args.expr.now) n l rs ts (ap (relvars_in (standing c.args.place.now)) is) (ap types_in is)
-    (held_of_added (l ≡ with_names n rs ts) c.check_items_inside.result (summary_by (attributes_view c.in-SummarizeBy.by)) c.by_attributes.result refl c.by_attributes.ensures
-    (operand_and_items (standing c.args.place.now) (tree_view c.deref-in-SummarizeBy.result.now) (summaries_view c.deref-in-SummarizeBy-2.result.now) c.check-operand-in-SummarizeBy.result c.check_items_inside.result n (names_view c.check-operand-in-SummarizeBy.new.seen) l
+    names_are c.by_attributes.result (scope_at c.args.place.now) (tree_view c.args.expr.now) n l rs ts (ap (relvars_in (scope_at c.args.place.now)) is) (ap types_in is)
+    (held_of_added (l ≡ with_names n rs ts) c.check_items_inside.result (by_summary (attributes_view c.in-SummarizeBy.by)) c.by_attributes.result refl c.by_attributes.ensures
+    (operand_and_items (scope_at c.args.place.now) (tree_view c.deref-in-SummarizeBy.result.now) (summaries_view c.deref-in-SummarizeBy-2.result.now) c.check-operand-in-SummarizeBy.result c.check_items_inside.result n (names_view c.check-operand-in-SummarizeBy.new.seen) l
     c.check-operand-in-SummarizeBy.ensures.ty c.check-operand-in-SummarizeBy.ensures.names c.check_items_inside.ensures.operand c.check_items_inside.ensures.names))
 
 pub check-returns-in-SummarizePer-clause-ty : goal.check-returns-in-SummarizePer-clause-ty
 check-returns-in-SummarizePer-clause-ty t c =
     let is = ap tree_view c.in-SummarizePer.is ∙ summarize_per_is c.in-SummarizePer.operand c.in-SummarizePer.per c.in-SummarizePer.items ∙ (λ i. trees.summarize_per (tree_view (sym c.deref-in-SummarizePer.ensures i)) (tree_view (sym c.deref-in-SummarizePer-3.ensures i)) (summaries_view (sym c.deref-in-SummarizePer-2.ensures.value i))) in
-    let gives = subst (λ r. Gives per_view r summary_per type_view c.per_relation.result) c.both-in-SummarizePer.ensures c.per_relation.ensures in
-    let added = with_value (type_of (standing c.args.place.now) (tree_view c.deref-in-SummarizePer.result.now)) (λ s. with_items s (λ h. items_of (entered_with h (standing c.args.place.now)) (summaries_view c.deref-in-SummarizePer-2.result.now))) in
+    let gives = subst (λ r. Gives per_view r per_summary type_view c.per_relation.result) c.both-in-SummarizePer.ensures c.per_relation.ensures in
+    let added = with_value (type_of (scope_at c.args.place.now) (tree_view c.deref-in-SummarizePer.result.now)) (λ s. with_items s (λ h. items_of (entered_with h (scope_at c.args.place.now)) (summaries_view c.deref-in-SummarizePer-2.result.now))) in
     rw is
-    (per_typed added_view added (type_of (standing c.args.place.now) (tree_view c.deref-in-SummarizePer-3.result.now)) c.check_items_inside-added.result c.check-in-SummarizePer.result c.per_relation.result
-    (c.check_items_inside-added.ensures.added (type_of (standing c.args.place.now) (tree_view c.deref-in-SummarizePer.result.now)) c.check-operand.ensures.ty) c.check-in-SummarizePer.ensures.ty gives)
+    (per_typed added_view added (type_of (scope_at c.args.place.now) (tree_view c.deref-in-SummarizePer-3.result.now)) c.check_items_inside-added.result c.check-in-SummarizePer.result c.per_relation.result
+    (c.check_items_inside-added.ensures.added (type_of (scope_at c.args.place.now) (tree_view c.deref-in-SummarizePer.result.now)) c.check-operand.ensures.ty) c.check-in-SummarizePer.ensures.ty gives)
 
 pub check-returns-in-SummarizePer-clause-names : goal.check-returns-in-SummarizePer-clause-names
 check-returns-in-SummarizePer-clause-names t c =
     let is = ap tree_view c.in-SummarizePer.is ∙ summarize_per_is c.in-SummarizePer.operand c.in-SummarizePer.per c.in-SummarizePer.items ∙ (λ i. trees.summarize_per (tree_view (sym c.deref-in-SummarizePer.ensures i)) (tree_view (sym c.deref-in-SummarizePer-3.ensures i)) (summaries_view (sym c.deref-in-SummarizePer-2.ensures.value i))) in
-    let gives = subst (λ r. Gives per_view r summary_per type_view c.per_relation.result) c.both-in-SummarizePer.ensures c.per_relation.ensures in
+    let gives = subst (λ r. Gives per_view r per_summary type_view c.per_relation.result) c.both-in-SummarizePer.ensures c.per_relation.ensures in
     let n = names_view c.args.seen.now in
     let l = names_view c.check_items_inside-added.new.seen in
     let k = names_view c.check-in-SummarizePer.new.seen in
-    let rs = relvars_in (standing c.args.place.now) (tree_view c.deref-in-SummarizePer.result.now) in
-    let ri = relvars_in_items (in_tuples (standing c.args.place.now) (type_of (standing c.args.place.now) (tree_view c.deref-in-SummarizePer.result.now))) (summaries_view c.deref-in-SummarizePer-2.result.now) in
-    let rp = relvars_in (standing c.args.place.now) (tree_view c.deref-in-SummarizePer-3.result.now) in
+    let rs = relvars_in (scope_at c.args.place.now) (tree_view c.deref-in-SummarizePer.result.now) in
+    let ri = relvars_in_items (in_tuples (scope_at c.args.place.now) (type_of (scope_at c.args.place.now) (tree_view c.deref-in-SummarizePer.result.now))) (summaries_view c.deref-in-SummarizePer-2.result.now) in
+    let rp = relvars_in (scope_at c.args.place.now) (tree_view c.deref-in-SummarizePer-3.result.now) in
     let ts = types_in (tree_view c.deref-in-SummarizePer.result.now) in
     let ti = types_in_items (summaries_view c.deref-in-SummarizePer-2.result.now) in
     let tp = types_in (tree_view c.deref-in-SummarizePer-3.result.now) in
-    names_are c.per_relation.result (standing c.args.place.now) (tree_view c.args.expr.now) n k (rs ++ (ri ++ rp)) (ts ++ (ti ++ tp)) (ap (relvars_in (standing c.args.place.now)) is) (ap types_in is)
+    names_are c.per_relation.result (scope_at c.args.place.now) (tree_view c.args.expr.now) n k (rs ++ (ri ++ rp)) (ts ++ (ti ++ tp)) (ap (relvars_in (scope_at c.args.place.now)) is) (ap types_in is)
     (held_of_per (k ≡ with_names n (rs ++ (ri ++ rp)) (ts ++ (ti ++ tp))) (k ≡ with_names l rp tp)
     c.check_items_inside-added.result c.check-in-SummarizePer.result c.per_relation.result gives
     (λ b is some second. per_after n l k rs ri rp ts ti tp
-    (operand_and_items (standing c.args.place.now) (tree_view c.deref-in-SummarizePer.result.now) (summaries_view c.deref-in-SummarizePer-2.result.now) c.check-operand.result c.check_items_inside-added.result n (names_view c.check-operand.new.seen) l
+    (operand_and_items (scope_at c.args.place.now) (tree_view c.deref-in-SummarizePer.result.now) (summaries_view c.deref-in-SummarizePer-2.result.now) c.check-operand.result c.check_items_inside-added.result n (names_view c.check-operand.new.seen) l
     c.check-operand.ensures.ty c.check-operand.ensures.names c.check_items_inside-added.ensures.operand c.check_items_inside-added.ensures.names b is some) second)
     c.check-in-SummarizePer.ensures.names)

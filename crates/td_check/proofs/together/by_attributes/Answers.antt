@@ -1,6 +1,6 @@
 use Rattle.std.proofs.Common.{◌≡◌, refl, subst}
 use Rattle.std.proofs.lemmas.Result.{err_from_is_err_and}
-use Rattle.td_check.specs.CheckViews.{added_view, summary_by}
+use Rattle.td_check.specs.CheckViews.{added_view, by_summary}
 use Rattle.td_check.specs.OperatorTypes.{named_part}
 use Rattle.td_check.proofs.Added.{added_of, refused_added}
 use Rattle.td_tree.specs.Outcomes.{Answers, Valued}
@@ -12,7 +12,7 @@ returns-in_err-heading c = λ o a.
     let p = err_from_is_err_and c.from_residual-in_err-heading.result c.from_residual-in_err-heading.ensures.1 in
     let valued : o ≡ Valued (added_view (c.in_ok-operand.operand, c.in_ok-operand.items)) = subst (λ r. Answers added_view r o) c.in_ok-operand.was a in
     rw (p.1, p.2, valued)
-    (refused_added c.in_ok-operand.operand c.in_ok-operand.items _ (summary_by (attributes_view c.args.by.now)) refl c.in_err-heading.ensures)
+    (refused_added c.in_ok-operand.operand c.in_ok-operand.items _ (by_summary (attributes_view c.args.by.now)) refl c.in_err-heading.ensures)
 
 pub returns : goal.returns
 returns c = λ o a.
