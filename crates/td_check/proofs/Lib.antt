@@ -8,6 +8,7 @@ pub mod CheckedNames
 pub mod CheckedRows
 pub mod CheckedTypes
 pub mod Comparisons
+pub mod DeclaredUsers
 pub mod Entered
 pub mod GatheredAnswers
 pub mod GivenLaws

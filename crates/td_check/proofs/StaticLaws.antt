@@ -13,6 +13,7 @@ use Rattle.td_types.specs.TypeLists.{DeclaredType, IsKnown, declared_at}
 use Rattle.td_types.specs.Types.{Attribute, Attrs, IsType, Type', attr, boolean, char, integer, no_attrs, pack, relation, same_name, tuple, user}
 use Rattle.td_types.proofs.HeadingLaws.{same_name-itself}
 use Rattle.td_types.proofs.KnownTypes.{declared_more}
+use Rattle.td_check.proofs.DeclaredUsers.{users_declared}
 use Rattle.td_check.proofs.GivenLaws.{all_give, gives, parts_give}
 use Rattle.td_check.proofs.KnownLaws.{IsKnownType, known_closed, supplies}
 use Rattle.td_check.proofs.MentionLaws.{all_carried, carried, items_carried_in, named_carried}
@@ -37,6 +38,7 @@ types_are_known =
       of_trees = λ s es ts h n is. is_given (AllByRecursion (IsKnownType s.types)) (types_of s es) ts (all_give (known_closed s.types) es n s (supplies s h)) is;
       of_parts = λ s es xs h n is.
           flat s.types xs (is_given (AllByRecursion (Fits (known_closed s.types))) (named_types s es) xs (parts_give (known_closed s.types) es n s (supplies s h)) is);
+      of_users = λ s e t h is. users_declared s h e t is;
     }
 
 -- ---- what is mentioned

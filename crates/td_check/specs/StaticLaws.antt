@@ -93,6 +93,8 @@ pub record TypesAreKnown : Type 0 where
   pub of_parts :
       (scope : Scope) (parts : NamedTrees) (xs : List Attribute) → IsScope scope → PartsGiveNames parts → named_types scope parts ≡ Valued xs
       → AllByRecursion (λ a. IsName a.0 × IsType a.1 × IsKnown scope.types a.1) xs
+  -- whatever names the expression gives
+  pub of_users : (scope : Scope) (e : Tree) (t : Type') → IsScope scope → type_of scope e ≡ Valued t → IsKnown scope.types t
 
 -- ---- what is mentioned
 

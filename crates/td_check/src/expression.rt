@@ -14,7 +14,7 @@ ghost use Rattle.td_check.specs.StaticTypes.{with_items};
 ghost use Rattle.td_tree.specs.Outcomes.{Answers, Outcome, Valued, with_value};
 ghost use Rattle.td_tree.specs.TreeViews.{named_view, summaries_view, tree_view, trees_view};
 ghost use Rattle.td_types.specs.Pairs.{pair_view};
-ghost use Rattle.td_types.specs.Types.{Type'};
+ghost use Rattle.td_types.specs.Types.{IsType, Type'};
 ghost use Rattle.td_types.specs.Views.{pairs_view, type_view};
 
 use crate::both::both;
@@ -325,9 +325,12 @@ pub(crate) fn check_named_at(
 /// The type of the expression. It is refused by the least of the causes of its parts, as far as
 /// they are looked at, and where these have types by its own rule.
 pub fn check_expr(scope: &Scope<'_>, expr: &Expr) -> Result<Ty, Fault>
-    ensures { Answers type_view result (type_of scope.now (tree_view expr.now)) }
+    ensures answer { Answers type_view result (type_of scope.now (tree_view expr.now)) }
+    ensures is_type { IfOk result (λ ty. IsType (type_view ty)) }
 {
-    check_at(expr, &Place::outside(scope))
+    let ty = check_at(expr, &Place::outside(scope))?;
+    ty.reveal();
+    Ok(ty)
 }
 
 /// The names that the expression mentions, in the order in which they stand there: refused as
