@@ -1,20 +1,13 @@
 //! Each call that can want memory, with ample memory, and the texts of types.
+use super::names::name;
 use std::alloc::{AllocError, Global};
 use std::collections::HashSet;
 use std::test::Fail;
 use td_tree::cause::Cause;
 use td_tree::fault::Fault;
-use td_tree::name::{Name, is_name};
 use td_types::heading::Heading;
 use td_types::text::{put_relation_type, type_text};
 use td_types::ty::Ty;
-
-fn name(alloc: Global, text: &str) -> Result<Name, Fault> {
-    if !is_name(text) {
-        return Err(Fault::Refused(Cause::Scan));
-    }
-    Ok(Name::new(alloc, text)?)
-}
 
 /// The heading whose attributes are integers of these names.
 fn integers(alloc: Global, names: &[&str]) -> Result<Heading, Fault> {

@@ -13,7 +13,8 @@ use td_tree::cause::Cause;
 use td_tree::fault::Fault;
 use td_tree::statement::Statement;
 
-fn parse(alloc: Global, script: &[u8]) -> Result<Statement, Fault> {
+/// The first statement of the script.
+pub fn parse(alloc: Global, script: &[u8]) -> Result<Statement, Fault> {
     let mut cutter = Cutter::new(alloc);
     cutter.feed(script)?;
     cutter.finish();

@@ -1,35 +1,34 @@
 //! What a scope knows, by the calls that make it.
+use super::names::name;
 use std::alloc::Global;
 use std::test::Fail;
 use td_check::scope::{Kind, Scope};
 use td_tree::cause::Cause;
 use td_tree::fault::Fault;
-use td_tree::name::{Name, is_name};
+use td_tree::name::Name;
 use td_types::heading::Heading;
 use td_types::table::TypeTable;
 use td_types::ty::Ty;
-
-fn name(alloc: Global, text: &str) -> Result<Name, Fault> {
-    if !is_name(text) {
-        return Err(Fault::Refused(Cause::Scan));
-    }
-    Ok(Name::new(alloc, text)?)
-}
 
 fn integers(alloc: Global, text: &str) -> Result<Heading, Fault> {
     Heading::empty(alloc).with(name(alloc, text)?, Ty::Int)
 }
 
-/// The scope with a relvar of that name and heading, where it knows none of the name.
-fn with_relvar<'a>(scope: Scope<'a>, relvar: Name, heading: Heading) -> Result<Scope<'a>, Fault> {
+/// The scope with a relvar of that name, kind and heading, where it knows none of the name.
+pub fn with_relvar<'a>(
+    scope: Scope<'a>,
+    relvar: Name,
+    kind: Kind,
+    heading: Heading,
+) -> Result<Scope<'a>, Fault> {
     if scope.knows_relvar(&relvar) {
         return Err(Fault::Refused(Cause::NameTaken));
     }
-    Ok(scope.with_relvar(relvar, Kind::Base, heading)?)
+    Ok(scope.with_relvar(relvar, kind, heading)?)
 }
 
 /// The scope with a constraint of that name, where it knows none of the name.
-fn with_constraint<'a>(scope: Scope<'a>, constraint: Name) -> Result<Scope<'a>, Fault> {
+pub fn with_constraint<'a>(scope: Scope<'a>, constraint: Name) -> Result<Scope<'a>, Fault> {
     if scope.knows_constraint(&constraint) {
         return Err(Fault::Refused(Cause::NameTaken));
     }
@@ -44,6 +43,7 @@ fn knows_each(alloc: Global, table: &TypeTable) -> Result<bool, Fault> {
     let scope = with_relvar(
         Scope::new(alloc, table),
         relvar.try_clone()?,
+        Kind::Base,
         heading.try_clone()?,
     )?;
     let mut scope = with_constraint(scope, constraint.try_clone()?)?;

@@ -1,21 +1,14 @@
 //! What type trees mean where types are declared, and the ranks of types.
+use super::names::name;
 use std::alloc::Global;
 use std::test::Fail;
 use td_tree::cause::Cause;
 use td_tree::fault::Fault;
-use td_tree::name::{Name, is_name};
 use td_tree::type_tree::{AttributeTree, TypeTree};
 use td_types::rank::rank;
 use td_types::resolve::resolve;
 use td_types::table::TypeTable;
 use td_types::ty::Ty;
-
-fn name(alloc: Global, text: &str) -> Result<Name, Fault> {
-    if !is_name(text) {
-        return Err(Fault::Refused(Cause::Scan));
-    }
-    Ok(Name::new(alloc, text)?)
-}
 
 fn user(alloc: Global, text: &str) -> Result<TypeTree, Fault> {
     Ok(TypeTree::User(name(alloc, text)?))
@@ -47,7 +40,7 @@ fn deep(alloc: Global, inner: TypeTree) -> Result<TypeTree, Fault> {
 }
 
 /// Declares a type of that name with one component, of a type that is known.
-fn declare(table: &mut TypeTable, alloc: Global, text: &str, ty: Ty) -> Result<(), Fault> {
+pub fn declare(table: &mut TypeTable, alloc: Global, text: &str, ty: Ty) -> Result<(), Fault> {
     let new = name(alloc, text)?;
     if table.get(&new).is_some() {
         return Err(Fault::Refused(Cause::NameTaken));

@@ -3,25 +3,18 @@ ghost use Rattle.std.specs.Prelude.{IsTrue};
 ghost use Rattle.std.specs.List.{All};
 ghost use Rattle.td_value.specs.Values.{IsTupleOf};
 
+use super::names::name;
 use std::alloc::Global;
 use std::hash::{DefaultHasher, Hash, Hasher};
 use std::test::Fail;
 use td_tree::cause::Cause;
 use td_tree::fault::Fault;
-use td_tree::name::{Name, is_name};
 use td_types::heading::Heading;
 use td_types::ty::Ty;
 use td_value::relation::Rel;
 use td_value::tuple::Tuple;
 use td_value::user::User;
 use td_value::value::{Node, Value};
-
-fn name(alloc: Global, text: &str) -> Result<Name, Fault> {
-    if !is_name(text) {
-        return Err(Fault::Refused(Cause::Scan));
-    }
-    Ok(Name::new(alloc, text)?)
-}
 
 /// The tuple that gives each name its number.
 fn numbers(alloc: Global, entries: &[(&str, i64)]) -> Result<Tuple, Fault> {
