@@ -2,7 +2,7 @@
 ghost use Rattle.std.specs.Prelude.{◌≡◌, IfOk};
 ghost use Rattle.td_tree.specs.Outcomes.{Answers};
 ghost use Rattle.td_types.specs.Headings.{IsMap, agree, common_heading, has_attributes};
-ghost use Rattle.td_types.specs.Headings.{have_no_common, is_part, outside};
+ghost use Rattle.td_types.specs.Headings.{has_projection, have_no_common, is_part, outside};
 ghost use Rattle.td_types.specs.Headings.{projected_heading, reduced_heading, types_among};
 ghost use Rattle.td_types.specs.Headings.{types_in_both, types_in_either, types_outside};
 ghost use Rattle.td_types.specs.Headings.{types_without, united_heading};
@@ -75,12 +75,19 @@ impl Heading {
         Ok(Heading { attributes })
     }
 
+    /// Whether there is a projection on the names: each is there, and none comes twice.
+    pub fn has_projection(&self, names: &[Name]) -> bool
+        ensures { result ≡ has_projection names.now self.now }
+    {
+        self.has_all(names) && are_distinct(names)
+    }
+
     /// The attributes of those names: refused where one is not there or comes twice.
     pub fn project(&self, names: &[Name]) -> Result<Heading, Fault>
         ensures answer { Answers (λ h. h) result (projected_heading names.now self.now) }
         ensures types { IfOk result (λ h. IsMap h (types_among names.now self.now)) }
     {
-        if !self.has_all(names) || !are_distinct(names) {
+        if !self.has_projection(names) {
             return Err(Fault::Refused(Cause::Heading));
         }
         let mut attributes = Vec::new(*self.attributes.allocator());

@@ -25,8 +25,8 @@ fn new_name<'a>(name: &'a Name, renamings: &'a [(Name, Name)]) -> &'a Name
 }
 
 impl Heading {
-    /// The names that the attributes have then.
-    fn new_names(&self, renamings: &[(Name, Name)]) -> Result<Vec<Name>, AllocError>
+    /// The names that the renamings give the attributes, in the order of the old ones.
+    pub fn new_names(&self, renamings: &[(Name, Name)]) -> Result<Vec<Name>, AllocError>
         ensures { IfOk result (λ names. names.items ≡ new_names renamings.now self.now) }
     {
         let mut names = Vec::new(*self.attributes.allocator());
@@ -36,8 +36,8 @@ impl Heading {
         Ok(names)
     }
 
-    /// Whether the renamings can be done.
-    fn can_rename(&self, renamings: &[(Name, Name)]) -> Result<bool, AllocError>
+    /// Whether each old name is there, none comes twice, and the new names are distinct.
+    pub fn can_rename(&self, renamings: &[(Name, Name)]) -> Result<bool, AllocError>
         ensures { IfOk result (λ can. can ≡ can_rename renamings.now self.now) }
     {
         let old_names = names_of(*self.attributes.allocator(), renamings)?;

@@ -1,3 +1,5 @@
+pub mod Agreement
+pub mod Changes
 pub mod Ends
 pub mod Headed
 pub mod HeadingOf
@@ -7,6 +9,7 @@ pub mod LiteralHeights
 pub mod LiteralSpellings
 pub mod Maps
 pub mod Members
+pub mod Places
 pub mod Rows
 pub mod SetLaws
 pub mod Typed

@@ -13,11 +13,11 @@ use Rattle.td_value.specs.Values.{Tuple, IsRelation, Relation, tuple_cmp}
 use Rattle.td_value.specs.ValueOrder.{tuple_Decides, tuple_order_same, tuple_order_total}
 
 -- a list contains what the test finds
-contained : (t : Tuple) (ts : List Tuple) → has tuple_cmp t ts ≡ true → Contains ts t
+pub contained : (t : Tuple) (ts : List Tuple) → has tuple_cmp t ts ≡ true → Contains ts t
 contained t ts found = Contains-from_any (λ s u e. (tuple_Decides s u).0 e) t ts found
 
 -- the test finds what a list contains
-found : (t : Tuple) (ts : List Tuple) → Contains ts t → has tuple_cmp t ts ≡ true
+pub found : (t : Tuple) (ts : List Tuple) → Contains ts t → has tuple_cmp t ts ≡ true
 found t ts c = list_any-from_Contains (eq_by_cmp_equiv tuple_order_total) t ts c
 
 pub set_members : SetsHaveTheMembersOfTheirLists

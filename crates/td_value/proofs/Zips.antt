@@ -1,6 +1,8 @@
 use Rattle.std.specs.Prelude.{ℕ, suc, List, [], ◌∷◌, length, ◌≡◌, refl, ◌++◌}
 use Rattle.std.proofs.Common.{arith, ap}
+use Rattle.std.specs.List.{All}
 use Rattle.std.specs.List.Sorted.{IsStrictlySortedBy}
+use Rattle.td_value.specs.Zipped.{AreNames, AreTuple}
 use Rattle.td_tree.specs.Names.{IsName}
 use Rattle.td_value.specs.ValueCode.{unpack_pack_fields}
 use Rattle.td_value.specs.Hashes.{fed_value, fed_parts, fed_tuple}
@@ -10,7 +12,7 @@ use Rattle.std.specs.declared.cmp.Ordering.{Ordering}
 use Rattle.std.specs.declared.cmp.Ordering.TheVariants.{Less, Equal, Greater}
 use Rattle.std.specs.Cmp.Lexicographic.{slice_cmp}
 use Rattle.std.proofs.lemmas.Cmp.{nat_list_cmp_total}
-use Rattle.td_value.specs.Values.{Val, Tuple, AreFields, IsValue, IsTuple, tuple_names, tuple_cmp, parts_cmp, pack_parts, pack_fields}
+use Rattle.td_value.specs.Values.{Val, Tuple, AreFields, AreValues, IsValue, IsTuple, tuple_names, tuple_cmp, parts_cmp, pack_parts, pack_fields}
 
 -- a tuple's names and values are those that it was made of
 pub zip_names : (ns : List (List ℕ)) (vs : List Val) → length ns ≡ length vs → tuple_names (tuple_view ns vs) ≡ ns
@@ -66,3 +68,13 @@ AreFields-push (e ∷ es) n v h p q = (h.0, h.1, AreFields-push es n v h.2 p q)
 -- the tuple that is made of entries
 pub IsTuple-from : (es : Tuple) → AreFields (pack_fields es) → IsStrictlySortedBy (slice_cmp nat_cmp) (tuple_names es) → IsTuple es
 IsTuple-from es h a = (h, rw (unpack_pack_fields es) a)
+
+-- names with as many values are the entries of a tuple
+pub AreTuple-from : (ns : List (List ℕ)) (vs : List Val) → length ns ≡ length vs → AreNames ns → AreValues (pack_parts vs) → AreTuple ns vs
+AreTuple-from ns vs e names values =
+    (e, IsTuple-from (tuple_view ns vs) (fields ns vs names.1 values) (rw (zip_names ns vs e) names.0))
+  where
+    fields : (ns : List (List ℕ)) (vs : List Val) → All IsName ns → AreValues (pack_parts vs) → AreFields (pack_fields (tuple_view ns vs))
+    fields [] vs a h = tt
+    fields (n ∷ ns) [] a h = tt
+    fields (n ∷ ns) (v ∷ vs) a h = (a 0 n (omega arith), h.0, fields ns vs (λ k d p. a (suc k) d (omega arith)) h.1)

@@ -1,3 +1,4 @@
+pub mod Agreement
 pub mod Depths
 pub mod Falls
 pub mod Hashes
@@ -5,6 +6,7 @@ pub mod KnownValues
 pub mod Laws
 pub mod Literal
 pub mod LiteralTrees
+pub mod Places
 pub mod Sets
 pub mod ValueCode
 pub mod ValueOrder

@@ -1,6 +1,6 @@
 -- Values, tuples and relations (a relation is a set of tuples, as in Tutorial D; the order of values is this project's own).
-use Rattle.std.specs.Prelude.{◌≡◌, ℕ, ◌-◌, ◌^◌, ℤ, pos, ◌≤ℤ◌, negsuc, Bool, List, [], ◌∷◌, filter, map, Option, Some, None, if◌then◌else◌, IsUtf8, ◌↔◌, ⊤}
-use Rattle.std.specs.Ordering.{nat_cmp, int_cmp, bool_cmp, ordering_then}
+use Rattle.std.specs.Prelude.{◌≡◌, ℕ, ◌-◌, ◌^◌, ℤ, pos, ◌≤ℤ◌, negsuc, Bool, List, [], ◌∷◌, filter, map, Option, Some, None, if◌then◌else◌, not, IsUtf8, ◌↔◌, ⊤}
+use Rattle.std.specs.Ordering.{nat_cmp, int_cmp, bool_cmp, eq_by_cmp, ordering_then}
 use Rattle.std.specs.declared.cmp.Ordering.{Ordering}
 use Rattle.std.specs.declared.cmp.Ordering.TheVariants.{Less, Equal, Greater}
 use Rattle.std.specs.Cmp.Lexicographic.{slice_cmp}
@@ -12,7 +12,7 @@ use Rattle.td_tree.specs.declared.cause.Cause.TheVariants as causes
 use Rattle.td_types.specs.Headings.{are_distinct, has_name}
 use Rattle.td_types.specs.Types.{Type', IsHeading, same_name, Attrs, no_attrs, attr, Attribute, Heading, attrs_cmp, pack}
 use Rattle.td_types.specs.Types as types
-use Rattle.td_value.specs.Sets.{set_of}
+use Rattle.td_value.specs.Sets.{put_in, set_of}
 
 -- a value of any type: a user value is a type's name with its components, a tuple a finite map from names to values,
 -- a relation a heading with a set of tuples of that heading (the chapter's)
@@ -236,3 +236,14 @@ HaveSameMembers ss ts = (t : Tuple) → Contains ss t ↔ Contains ts t
 -- any two of the tuples have the same names
 abbrev pub HaveSameNames : List Tuple → Type 0
 HaveSameNames ts = (s t : Tuple) → Contains ts s → Contains ts t → tuple_names s ≡ tuple_names t
+
+-- the relation of the heading whose body is the set of the tuples
+abbrev pub relation_of : Heading → List Tuple → Relation
+relation_of heading tuples = record { heading = heading; body = set_of tuple_cmp tuples }
+
+-- the relation with the tuple as a member, and without it
+abbrev pub with_tuple : Tuple → Relation → Relation
+with_tuple t r = record { heading = r.heading; body = put_in tuple_cmp t r.body }
+
+abbrev pub without_tuple : Tuple → Relation → Relation
+without_tuple t r = record { heading = r.heading; body = filter (λ u. not (eq_by_cmp tuple_cmp t u)) r.body }

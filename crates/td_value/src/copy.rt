@@ -43,11 +43,11 @@ impl Tuple {
 }
 
 impl Rel {
-    /// The same relation again, which shares this one's tuples.
+    /// The same relation again, which shares this one's heading and tuples.
     pub fn try_clone(&self) -> Result<Rel, AllocError>
         ensures { IfOk result (λ r. r ≡ self.now) }
     {
-        let heading = self.heading.try_clone()?;
+        let heading = self.heading.clone()?;
         let rows = self.rows.clone()?;
         Ok(Rel { heading, rows })
     }

@@ -1,5 +1,7 @@
 //! What sets of tuples, the order of values and their literals are to their callers: each function
 //! has its contract alone.
+ghost use Rattle.td_value.specs.Agreement.{AgreementIsOfValues, ProjectionsKeepValues};
+ghost use Rattle.td_value.specs.Agreement.{TuplesAreTheirValues};
 ghost use Rattle.td_value.specs.KnownValues.{KnownValuesHaveKnownTypes, KnownValuesHaveTheirTypes};
 ghost use Rattle.td_value.specs.KnownValues.{LongerListsKeepTypes, ValuesHaveOneType};
 ghost use Rattle.td_value.specs.KnownValues.{TuplesHaveTheHeadingsOfTheirValues};
@@ -96,4 +98,19 @@ pub fn user_values_are_of_their_types()
 /// The tree of a value's literal is at most twice as high as the rank of the value's type.
 pub fn literals_are_low()
     ensures { LiteralsAreLow }
+{}
+
+/// Tuples are the values that they give to names: two that give each name the same value are one.
+pub fn tuples_are_their_values()
+    ensures { TuplesAreTheirValues }
+{}
+
+/// The projection of a tuple gives the names that it is on their values, and no other a value.
+pub fn projections_keep_values()
+    ensures { ProjectionsKeepValues }
+{}
+
+/// Two tuples agree on names exactly where they give each of them the same value.
+pub fn agreement_is_of_values()
+    ensures { AgreementIsOfValues }
 {}

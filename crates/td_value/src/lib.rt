@@ -6,6 +6,7 @@ mod hash;
 pub mod laws;
 mod lists;
 mod literal;
+pub mod names;
 mod order;
 pub mod relation;
 pub mod tuple;

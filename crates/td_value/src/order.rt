@@ -2,6 +2,7 @@
 ghost use Rattle.std.specs.Prelude.{◌≡◌, length};
 ghost use Rattle.td_value.specs.Values.{value_cmp, pack_parts, pack_rows, parts_cmp, value_kind};
 ghost use Rattle.td_value.specs.Values.{relation_cmp, rows_cmp, selected_value, tuple_cmp};
+ghost use Rattle.td_value.specs.Values.{tuple_names};
 ghost use Rattle.td_value.specs.Views.{tuple_view, values_of};
 
 use crate::relation::Rel;
@@ -83,6 +84,16 @@ pub fn compare_by_values(a: &Tuple, b: &Tuple) -> Ordering
     ensures { result ≡ parts_cmp (pack_parts (values_of a.now)) (pack_parts (values_of b.now)) }
 {
     compare_parts(a.values(), b.values())
+}
+
+impl Tuple {
+    /// How it stands to a tuple of the same names, whose values alone are looked at.
+    pub fn compare_values(&self, other: &Tuple) -> Ordering
+        requires { tuple_names self.now ≡ tuple_names other.now }
+        ensures { result ≡ tuple_cmp self.now other.now }
+    {
+        compare_by_values(self, other)
+    }
 }
 
 #[cycle(compare)]

@@ -1,9 +1,11 @@
 //! Relations.
-ghost use Rattle.std.specs.Prelude.{◌≡◌, IfOk, OnOk};
-ghost use Rattle.std.specs.List.{All, Contains};
-ghost use Rattle.td_value.specs.Sets.{set_of};
+ghost use Rattle.std.specs.Prelude.{◌≡◌, ◌<◌, ◌≤◌, IfErr, IfOk, OnErr, OnOk, length, not};
+ghost use Rattle.std.specs.List.{All, Contains, insert, remove};
+ghost use Rattle.td_value.specs.Places.{IsPlaceFor, IsPlaceOf};
+ghost use Rattle.td_value.specs.Sets.{has, set_of};
 ghost use Rattle.td_value.specs.Values.{Tuple, HaveSameMembers, HaveSameNames};
 ghost use Rattle.td_value.specs.Values.{IsAscendingBody, IsTupleOf, tuple_names, tuple_cmp};
+ghost use Rattle.td_value.specs.Values.{with_tuple, without_tuple};
 ghost use Rattle.td_value.specs.Views.{relation_view};
 
 use crate::lists::put;
@@ -15,11 +17,12 @@ use std::rc::Rc;
 use td_tree::name::Name;
 use td_types::heading::Heading;
 
-/// A heading with a set of tuples, seen as the strictly ascending list of them. Copies of a relation share its tuples.
+/// A heading with a set of tuples, seen as the strictly ascending list of them. Copies of a
+/// relation share both, and take no memory.
 #[cycle(value)]
 #[derive(Drop)]
 pub struct Rel {
-    pub(crate) heading: Heading,
+    pub(crate) heading: Rc<Heading>,
     pub(crate) rows: Rc<Vec<Tuple>>,
 }
 
@@ -34,9 +37,9 @@ impl Model for Rel {
 
     ghost use Rattle.td_value.specs.Views.{relation_view};
 
-    ghost view = { λ a. relation_view a.heading a.rows.value.items };
+    ghost view = { λ a. relation_view a.heading.value a.rows.value.items };
 
-    ghost invariant = { λ a. IsRelation (relation_view a.heading a.rows.value.items) };
+    ghost invariant = { λ a. IsRelation (relation_view a.heading.value a.rows.value.items) };
 
     ghost size = { relation_depth };
 
@@ -89,6 +92,60 @@ fn copied(rows: &Vec<Tuple>) -> Result<Vec<Tuple>, AllocError>
     Ok(copy)
 }
 
+/// Where the tuple stands among tuples that ascend, or where it would.
+fn place_of(rows: &[Tuple], tuple: &Tuple) -> Result<usize, usize>
+    requires { IsAscendingBody rows.now }
+    ensures there { IfOk result (IsPlaceOf tuple.now rows.now) }
+    ensures none { IfErr result (IsPlaceFor tuple.now rows.now) }
+{
+    rows.binary_search(tuple)
+}
+
+/// Lets no copy share the tuples.
+fn unshare(rows: &mut Rc<Vec<Tuple>>) -> Result<(), AllocError>
+    ensures { rows.new.value.items ≡ rows.old.value.items }
+{
+    if let Some(_) = Rc::get_mut(rows) {
+        return Ok(());
+    }
+    let own = copied(rows)?;
+    *rows = Rc::new(*own.allocator(), own)?;
+    Ok(())
+}
+
+/// Puts the tuple at the place. Where memory is refused it comes back.
+fn put_at(rows: &mut Rc<Vec<Tuple>>, place: usize, tuple: Tuple) -> Result<(), Tuple>
+    requires { place ≤ length rows.old.value.items }
+    ensures put { OnOk result (rows.new.value.items ≡ insert rows.old.value.items place tuple) }
+    ensures back { IfErr result (λ back. back ≡ tuple) }
+    ensures same { OnErr result (rows.new.value.items ≡ rows.old.value.items) }
+{
+    if unshare(rows).is_err() {
+        return Err(tuple);
+    }
+    let Some(own) = Rc::get_mut(rows) else {
+        return Err(tuple);
+    };
+    match own.insert(place, tuple) {
+        Ok(()) => Ok(()),
+        Err(refused) => Err(refused.value),
+    }
+}
+
+/// Takes out the tuple at the place.
+fn take_at(rows: &mut Rc<Vec<Tuple>>, place: usize) -> Result<(), AllocError>
+    requires { place < length rows.old.value.items }
+    ensures taken { OnOk result (rows.new.value.items ≡ remove rows.old.value.items place) }
+    ensures same { OnErr result (rows.new.value.items ≡ rows.old.value.items) }
+{
+    unshare(rows)?;
+    let Some(own) = Rc::get_mut(rows) else {
+        return Err(AllocError);
+    };
+    let _ = own.remove(place);
+    Ok(())
+}
+
 impl Rel {
     /// The relation with that heading whose body is the set of the tuples.
     pub fn new(heading: Heading, mut rows: Vec<Tuple>) -> Result<Rel, AllocError>
@@ -101,8 +158,56 @@ impl Rel {
         rows.dedup();
         rows.shrink_to_fit();
         share_names(&mut rows)?;
-        let rows = Rc::new(*rows.allocator(), rows)?;
+        Rel::of_ascending(heading, rows)
+    }
+
+    /// The relation with that heading of tuples that ascend already.
+    pub fn of_ascending(heading: Heading, rows: Vec<Tuple>) -> Result<Rel, AllocError>
+        requires headed { All (IsTupleOf heading) rows.items }
+        requires ascending { IsAscendingBody rows.items }
+        ensures { IfOk result (λ r. r ≡ relation_view heading rows.items) }
+    {
+        let _ = heading.len();
+        let alloc = *rows.allocator();
+        let heading = Rc::new(alloc, heading)?;
+        let rows = Rc::new(alloc, rows)?;
         Ok(Rel { heading, rows })
+    }
+
+    /// Whether the tuple is a member.
+    pub fn contains(&self, tuple: &Tuple) -> bool
+        ensures { result ≡ has tuple_cmp tuple.now self.now.body }
+    {
+        place_of(&self.rows, tuple).is_ok()
+    }
+
+    /// Makes the tuple a member, and answers whether it was none. Where memory is refused the
+    /// tuple comes back.
+    pub fn insert(&mut self, tuple: Tuple) -> Result<bool, Tuple>
+        requires { IsTupleOf self.old.heading tuple }
+        ensures new { IfOk result (λ new. new ≡ not (has tuple_cmp tuple self.old.body)) }
+        ensures with { OnOk result (self.new ≡ with_tuple tuple self.old) }
+        ensures back { IfErr result (λ back. back ≡ tuple) }
+        ensures same { OnErr result (self.new ≡ self.old) }
+    {
+        let Err(place) = place_of(&self.rows, &tuple) else {
+            return Ok(false);
+        };
+        put_at(&mut self.rows, place, tuple)?;
+        Ok(true)
+    }
+
+    /// Takes the tuple out, and answers whether it was a member.
+    pub fn remove(&mut self, tuple: &Tuple) -> Result<bool, AllocError>
+        ensures there { IfOk result (λ there. there ≡ has tuple_cmp tuple.now self.old.body) }
+        ensures without { OnOk result (self.new ≡ without_tuple tuple.now self.old) }
+        ensures same { OnErr result (self.new ≡ self.old) }
+    {
+        let Ok(place) = place_of(&self.rows, tuple) else {
+            return Ok(false);
+        };
+        take_at(&mut self.rows, place)?;
+        Ok(true)
     }
 
     /// The heading.
@@ -118,7 +223,7 @@ impl Rel {
         ensures headed { All (IsTupleOf self.now.heading) self.now.body }
         ensures ascending { IsAscendingBody self.now.body }
     {
-        &self.rows
+        self.rows.as_slice()
     }
 
     /// The tuples, ascending, in place of the relation. It wants memory where a copy shares them.

@@ -3,13 +3,16 @@ ghost use Rattle.std.specs.Prelude.{◌≡◌, ◌↔◌, ◌∷◌, ◌++◌, [
 ghost use Rattle.std.specs.Prelude.{length, option_map};
 ghost use Rattle.std.specs.Ordering.{is_lt, nat_cmp};
 ghost use Rattle.std.specs.Cmp.Lexicographic.{slice_cmp};
+ghost use Rattle.std.specs.List.{All};
 ghost use Rattle.std.specs.List.Sorted.{IsSortedBy, IsStrictlySortedBy};
 ghost use Rattle.td_tree.specs.Outcomes.{Answers};
-ghost use Rattle.td_value.specs.Values.{AreFields, HasValuesOf, IsTuple, made_tuple, tuple_names};
+ghost use Rattle.td_value.specs.Values.{AreFields, HasValuesOf, IsTuple, IsTupleOf, made_tuple, tuple_names};
 ghost use Rattle.td_value.specs.Values.{pack_fields, projected_tuple, value_at};
 ghost use Rattle.td_value.specs.Views.{tuple_view, values_of};
 
 use crate::lists::put;
+use crate::names::NameList;
+use crate::user::know_values;
 use crate::value::Value;
 use std::alloc::{AllocError, Global};
 use std::marker::Model;
@@ -17,6 +20,7 @@ use std::rc::Rc;
 use td_tree::cause::Cause;
 use td_tree::fault::Fault;
 use td_tree::name::Name;
+use td_types::heading::Heading;
 use td_types::names::{is_among, names_of, repeats_a_name};
 
 /// A finite map from names to values, seen as its entries in name order. The tuples of one relation share one list of
@@ -188,6 +192,19 @@ fn from_lists(alloc: Global, names: Vec<Name>, values: Vec<Value>) -> Result<Tup
     Ok(Tuple { names, values })
 }
 
+impl Tuple {
+    /// The tuple of the list's names with the values, in the same order. It shares the list.
+    pub fn of(alloc: Global, names: &NameList, values: Vec<Value>) -> Result<Tuple, AllocError>
+        requires { length names.now ≡ length values.items }
+        ensures { IfOk result (λ t. t ≡ tuple_view names.now values.items) }
+    {
+        know_values(&values);
+        let names = names.names.clone()?;
+        let values = Rc::new(alloc, values)?;
+        Ok(Tuple { names, values })
+    }
+}
+
 /// The tuple of the entries whose names are wanted.
 fn kept_entries(
     names: &[Name],
@@ -269,4 +286,16 @@ fn value_named<'a>(names: &[Name], values: &'a [Value], name: &Name) -> Option<&
         place += 1;
     }
     None
+}
+
+/// Whether each of the tuples has the heading.
+pub fn have_heading(tuples: &[Tuple], heading: &Heading) -> bool
+    ensures { IsTrue result ↔ All (IsTupleOf heading.now) tuples.now }
+{
+    for tuple in tuples {
+        if !tuple.has_heading(heading) {
+            return false;
+        }
+    }
+    true
 }

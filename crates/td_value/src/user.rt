@@ -92,7 +92,7 @@ fn have_types(values: &[Value], components: &[(Name, Ty)]) -> bool
 }
 
 /// Each of the values is a value at every depth.
-fn know_values(values: &[Value])
+pub fn know_values(values: &[Value])
     ensures { AreValues (pack_parts values.now) }
 {
     for v in values {
