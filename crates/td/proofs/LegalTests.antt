@@ -13,9 +13,11 @@ use Rattle.td_types.specs.Types.{Heading, attribute_names}
 use Rattle.td_value.specs.ValueCode.{unpack_pack_fields, unpack_pack_rows}
 use Rattle.td_value.specs.ValueOrder.{tuple_order_total}
 use Rattle.td_value.specs.Values as values
-use Rattle.td_value.specs.Values.{Tuple, IsRelation, IsTupleOf, Relation, tuple_cmp}
+use Rattle.td_value.specs.Agreement.{agree_on}
+use Rattle.td_value.specs.Values.{Tuple, IsRelation, IsTupleOf, Relation, projected_tuple, tuple_cmp}
+use Rattle.td_body.specs.Bodies.{key_holds}
 use Rattle.td_value.proofs.Rows.{All-from_rows, HaveSameNames-from}
-use Rattle.td.specs.Database.{Database, Relvar, agree_on, are_apart, are_keys, includes, is_legal, is_relvar, key_holds, key_part, keys_fit, keys_hold}
+use Rattle.td.specs.Database.{Database, Relvar, are_apart, are_keys, includes, is_legal, is_relvar, keys_fit, keys_hold}
 use Rattle.td.specs.Database as databases
 use Rattle.td.specs.Legality.{AreKeys, Holds, HoldingIsTested, Includes, IsKey, IsLegal, IsProper, IsRelvar, KeysAreTested, LegalityIsTested, NoTwo}
 use Rattle.td.proofs.Agreeing.{agreeing_parts, parts_agree, parts_tested, tested_parts}
@@ -89,7 +91,7 @@ keys_are_tested heading keys = (fit_tells heading keys, fit_told heading keys)
 
 -- two tuples have one part on the key
 abbrev OnePart : List (List ℕ) → Tuple → Tuple → Type 0
-OnePart key t u = key_part key t ≡ key_part key u
+OnePart key t u = projected_tuple key t ≡ projected_tuple key u
 
 key_tells : (key : List (List ℕ)) (ts : List Tuple) → key_holds key ts ≡ true → Apart (OnePart key) ts
 key_tells key [] e = tt
@@ -138,7 +140,7 @@ module _ (r : Relation) (p : IsRelation r) where
   holds_tell key e t u mt mu agree =
       let i = place_of r.body t mt in
       let j = place_of r.body u mu in
-      let part : key_part key t ≡ key_part key u = agreeing_parts key t u (HaveSameNames-from r.heading r.body tuples t u mt mu) (names_ascend t mt) agree in
+      let part : projected_tuple key t ≡ projected_tuple key u = agreeing_parts key t u (HaveSameNames-from r.heading r.body tuples t u mt mu) (names_ascend t mt) agree in
       one_tuple t u i.0 j.0 i.1 j.1 (no_two (OnePart key) r.body (key_tells key r.body e) i.0 j.0 t u i.1 j.1 part)
 
   holds_told : (key : List (List ℕ)) → Holds r.body key → key_holds key r.body ≡ true

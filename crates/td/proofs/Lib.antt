@@ -1,5 +1,4 @@
 pub mod Agreeing
-pub mod Apart
 pub mod Computing
 pub mod Done
 pub mod FirstPaths
@@ -7,11 +6,10 @@ pub mod Headings
 pub mod Joins
 pub mod Kept
 pub mod KeyLaws
-pub mod KeyParts
 pub mod Legal
-pub mod LegalTests
 pub mod LegalChanges
 pub mod LegalLaws
+pub mod LegalTests
 pub mod Literals
 pub mod NoTwo
 pub mod Places
@@ -23,7 +21,7 @@ pub mod ToldLaws
 pub mod Turning
 pub mod UnionLaws
 pub mod Unions
+pub mod Valued
 pub mod Worked
 pub mod WorkedRuns
 pub mod WorkedTrees
-pub mod Valued

@@ -1,11 +1,12 @@
 -- Databases of base relvars (the chapter's; the order of definition is this project's own).
-use Rattle.std.specs.Prelude.{ℕ, Bool, true, false, not, ◌&&◌, List, [], ◌∷◌, Option, Some, None, map, filter, if◌then◌else◌}
-use Rattle.std.specs.List.{list_all, list_any}
-use Rattle.std.specs.Ordering.{eq_by_cmp, is_eq}
+use Rattle.std.specs.Prelude.{ℕ, Bool, true, false, not, ◌&&◌, List, [], ◌∷◌, Option, Some, None, map, if◌then◌else◌}
+use Rattle.std.specs.List.{list_all}
+use Rattle.std.specs.Ordering.{eq_by_cmp}
 use Rattle.td_types.specs.Headings.{are_distinct, has_attributes, has_name}
 use Rattle.td_types.specs.TypeOrder.{heading_cmp}
 use Rattle.td_types.specs.Types.{Heading, same_name}
-use Rattle.td_value.specs.Values.{Tuple, Relation, tuple_cmp}
+use Rattle.td_value.specs.Values.{Tuple, Relation}
+use Rattle.td_body.specs.Bodies.{key_holds}
 
 -- a base relvar: its name, its declared keys, and its body with its heading
 pub record Relvar : Type 0 where
@@ -33,19 +34,7 @@ same_heading = eq_by_cmp heading_cmp
 
 -- ---- keys
 
--- a tuple's part on the names of a key
-abbrev pub key_part : List (List ℕ) → Tuple → Tuple
-key_part key = filter (λ e. has_name e.0 key)
-
--- whether two tuples agree on the names of a key
-abbrev pub agree_on : List (List ℕ) → Tuple → Tuple → Bool
-agree_on key t u = is_eq (tuple_cmp (key_part key t) (key_part key u))
-
--- whether no two of the tuples agree on the names of the key
-abbrev pub key_holds : List (List ℕ) → List Tuple → Bool
-key_holds key [] = true
-key_holds key (t ∷ ts) = not (list_any (agree_on key t) ts) && key_holds key ts
-
+-- whether no two of the tuples agree on the names of one of the keys
 abbrev pub keys_hold : List (List (List ℕ)) → List Tuple → Bool
 keys_hold keys rows = list_all (λ key. key_holds key rows) keys
 

@@ -4,7 +4,6 @@ pub mod Database
 pub mod DatabaseCode
 pub mod Faults
 pub mod FirstPath
-pub mod KeyParts
 pub mod Laws
 pub mod Legality
 pub mod Machine

@@ -1,7 +1,9 @@
 //! The tests of all crates. A crate with tests is proved twice, with them and without: so they
 //! stand in this one alone.
+mod bodies;
 mod checks;
 mod devices;
+mod grids;
 mod headings;
 mod names;
 mod parser;

@@ -10,7 +10,7 @@ use td_types::text::{put_relation_type, type_text};
 use td_types::ty::Ty;
 
 /// The heading whose attributes are integers of these names.
-fn integers(alloc: Global, names: &[&str]) -> Result<Heading, Fault> {
+pub fn integers(alloc: Global, names: &[&str]) -> Result<Heading, Fault> {
     let mut heading = Heading::empty(alloc);
     for text in names {
         heading = heading.with(name(alloc, text)?, Ty::Int)?;

@@ -1,8 +1,4 @@
 //! Each call that can want memory, with ample memory, and the literals.
-ghost use Rattle.std.specs.Prelude.{IsTrue};
-ghost use Rattle.std.specs.List.{All};
-ghost use Rattle.td_value.specs.Values.{IsTupleOf};
-
 use super::names::name;
 use std::alloc::Global;
 use std::hash::{DefaultHasher, Hash, Hasher};
@@ -12,12 +8,12 @@ use td_tree::fault::Fault;
 use td_types::heading::Heading;
 use td_types::ty::Ty;
 use td_value::relation::Rel;
-use td_value::tuple::Tuple;
+use td_value::tuple::{Tuple, have_heading};
 use td_value::user::User;
 use td_value::value::{Node, Value};
 
 /// The tuple that gives each name its number.
-fn numbers(alloc: Global, entries: &[(&str, i64)]) -> Result<Tuple, Fault> {
+pub fn numbers(alloc: Global, entries: &[(&str, i64)]) -> Result<Tuple, Fault> {
     let mut pairs = Vec::new(alloc);
     for (text, number) in entries {
         pairs.push((name(alloc, text)?, Value::int(*number)))?;
@@ -25,19 +21,8 @@ fn numbers(alloc: Global, entries: &[(&str, i64)]) -> Result<Tuple, Fault> {
     Tuple::new(alloc, pairs)
 }
 
-fn have_heading(tuples: &[Tuple], heading: &Heading) -> bool
-    ensures { IsTrue result → All (IsTupleOf heading.now) tuples.now }
-{
-    for tuple in tuples {
-        if !tuple.has_heading(heading) {
-            return false;
-        }
-    }
-    true
-}
-
 /// The relation of the heading with the tuples, which are to be of it.
-fn relation(heading: Heading, tuples: Vec<Tuple>) -> Result<Rel, Fault> {
+pub fn relation(heading: Heading, tuples: Vec<Tuple>) -> Result<Rel, Fault> {
     if !have_heading(&tuples, &heading) {
         return Err(Fault::Refused(Cause::TypeMismatch));
     }

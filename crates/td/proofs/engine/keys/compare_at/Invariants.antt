@@ -1,6 +1,0 @@
-use Rattle.std.proofs.Common.{◌≡◌, drop}
-use Rattle.td.specs.KeyParts.{by_places}
-use Rattle.td.proofs.engine.keys.compare_at.Given as goal
-
-abbrev pub invariant-loop-place : goal.invariant-loop-place
-invariant-loop-place l = by_places (drop l.place-index l.places) l.tuple l.other ≡ by_places l.places l.tuple l.other

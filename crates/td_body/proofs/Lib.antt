@@ -1,0 +1,5 @@
+pub mod Apart
+pub mod FirstNames
+pub mod Held
+pub mod KeyParts
+pub mod Parts

@@ -1,0 +1,9 @@
+use Rattle.std.proofs.Common.{subst}
+use Rattle.td_types.specs.Types.{IsHeading, pack}
+use Rattle.td_value.proofs.Changes.{relation_from}
+use Rattle.td_body.proofs.sorted.SortedBodyBody.len.Goals as goal
+
+pub returns-clause-valid : goal.returns-clause-valid
+returns-clause-valid c =
+    let r = c.args.self.now.relation in
+    relation_from r.heading r.body c.rows.ensures.headed c.rows.ensures.ascending (subst (λ h. IsHeading (pack h)) c.heading.ensures c.len.ensures.heading)

@@ -1,0 +1,26 @@
+-- Bodies of relvars: which tuples agree on a key, and when a key holds (Tutorial D's).
+use Rattle.std.specs.Prelude.{◌≡◌, ℕ, Bool, true, not, ◌&&◌, List, [], ◌∷◌, filter, IsTrue, ◌↔◌}
+use Rattle.std.specs.List.{Contains, list_any}
+use Rattle.td_value.specs.Agreement.{agree_on, AgreeOn}
+use Rattle.td_value.specs.Values.{Tuple, Relation, IsRelation}
+use Rattle.td_value.specs.Views.{relation_view}
+
+-- the tuples of a relation that agree with a part on the names
+abbrev pub agreeing : List (List ℕ) → Tuple → Relation → Relation
+agreeing names part r = relation_view r.heading (filter (agree_on names part) r.body)
+
+-- whether no two of the tuples agree on the names of the key
+abbrev pub key_holds : List (List ℕ) → List Tuple → Bool
+key_holds key [] = true
+key_holds key (t ∷ ts) = not (list_any (agree_on key t) ts) && key_holds key ts
+
+-- the key holds: two members that agree on it are one
+abbrev pub KeyHolds : List (List ℕ) → List Tuple → Type 0
+KeyHolds key tuples = (s t : Tuple) → Contains tuples s → Contains tuples t → AgreeOn key s t → s ≡ t
+
+-- ---- laws
+
+-- the test tells the fact
+abbrev pub KeysHoldByMembership : Type 0
+KeysHoldByMembership =
+    (key : List (List ℕ)) (r : Relation) → IsRelation r → IsTrue (key_holds key r.body) ↔ KeyHolds key r.body

@@ -1,0 +1,88 @@
+//! Bodies of relvars.
+ghost use Rattle.std.specs.Prelude.{◌≡◌, ℕ, ◌<◌, List, [], IfErr, IfOk, IfSome, IsTrue, OnErr};
+ghost use Rattle.std.specs.Prelude.{OnOk, length, map, not};
+ghost use Rattle.std.specs.List.{All, slice_get};
+ghost use Rattle.td_types.specs.Headings.{has_attributes, projection};
+ghost use Rattle.td_value.specs.Sets.{has};
+ghost use Rattle.td_value.specs.Values.{IsRelation, IsTupleOf, Relation, heading_of, tuple_cmp};
+ghost use Rattle.td_value.specs.Values.{with_tuple, without_tuple};
+ghost use Rattle.td_value.specs.Views.{relation_view};
+ghost use Rattle.td_body.specs.Bodies.{agreeing, key_holds};
+
+use std::alloc::{AllocError, Global};
+use td_tree::name::Name;
+use td_types::heading::Heading;
+use td_value::relation::Rel;
+use td_value::tuple::Tuple;
+
+/// The body of a relvar: a set of tuples of one heading, with the keys that are declared for it.
+/// It keeps no key: it answers whether one holds. A refused call leaves it as it was.
+pub trait Body: Drop {
+    /// Its heading with the set of its tuples.
+    ghost relation: { Self → Relation };
+
+    /// The names of each of its keys, in the order in which they are declared.
+    ghost keys: { Self → List (List (List ℕ)) };
+
+    /// The body of that heading without tuples, with the keys of those names.
+    fn empty(alloc: Global, heading: Heading, names: Vec<Vec<Name>>) -> Result<Self, AllocError>
+        requires { All (λ key. IsTrue (has_attributes key heading))
+            (map (λ key. key.items) names.items) }
+        ensures relation { IfOk result (λ b. relation b ≡ relation_view heading []) }
+        ensures keys { IfOk result (λ b. keys b ≡ map (λ key. key.items) names.items) };
+
+    /// Makes the tuple a member, and answers whether it was none. Where memory is refused the
+    /// tuple comes back.
+    fn insert(&mut self, tuple: Tuple) -> Result<bool, Tuple>
+        requires { IsTupleOf (relation self.old).heading tuple }
+        ensures new { IfOk result (λ new.
+            new ≡ not (has tuple_cmp tuple (relation self.old).body)) }
+        ensures with { OnOk result (relation self.new ≡ with_tuple tuple (relation self.old)) }
+        ensures back { IfErr result (λ back. back ≡ tuple) }
+        ensures same { OnErr result (relation self.new ≡ relation self.old) }
+        ensures keys { keys self.new ≡ keys self.old };
+
+    /// Takes the tuple out, and answers whether it was a member.
+    fn remove(&mut self, tuple: &Tuple) -> Result<bool, AllocError>
+        requires { IsTupleOf (relation self.old).heading tuple.now }
+        ensures there { IfOk result (λ there.
+            there ≡ has tuple_cmp tuple.now (relation self.old).body) }
+        ensures without { OnOk result
+            (relation self.new ≡ without_tuple tuple.now (relation self.old)) }
+        ensures same { OnErr result (relation self.new ≡ relation self.old) }
+        ensures keys { keys self.new ≡ keys self.old };
+
+    /// Whether the tuple is a member.
+    fn contains(&self, tuple: &Tuple) -> bool
+        requires { IsTupleOf (relation self.now).heading tuple.now }
+        ensures { result ≡ has tuple_cmp tuple.now (relation self.now).body };
+
+    /// How many members it has.
+    fn len(&self) -> usize
+        ensures length { result ≡ length (relation self.now).body }
+        ensures valid { IsRelation (relation self.now) };
+
+    /// The heading with the members as a relation.
+    fn to_rel(&self) -> Result<Rel, AllocError>
+        ensures { IfOk result (λ r. r ≡ relation self.now) };
+
+    /// The same body again.
+    fn try_clone(&self) -> Result<Self, AllocError>
+        ensures relation { IfOk result (λ b. relation b ≡ relation self.now) }
+        ensures keys { IfOk result (λ b. keys b ≡ keys self.now) };
+
+    /// The members that agree with the part on the key of that place, whose names and types the
+    /// part has.
+    fn find_by_key(&self, key: usize, part: &Tuple) -> Result<Rel, AllocError>
+        requires declared { key < length (keys self.now) }
+        requires part { IfSome (slice_get (keys self.now) key) (λ names.
+            heading_of part.now ≡ projection names (relation self.now).heading) }
+        ensures { IfSome (slice_get (keys self.now) key) (λ names.
+            IfOk result (λ found. found ≡ agreeing names part.now (relation self.now))) };
+
+    /// Whether the key of that place holds: no two members agree on it.
+    fn key_holds(&self, key: usize) -> Result<bool, AllocError>
+        requires { key < length (keys self.now) }
+        ensures { IfSome (slice_get (keys self.now) key) (λ names.
+            IfOk result (λ holds. holds ≡ key_holds names (relation self.now).body)) };
+}

@@ -1,0 +1,7 @@
+//! Bodies of relvars.
+#![tactic(auto)]
+
+pub mod body;
+pub mod keys;
+pub mod laws;
+pub mod sorted;
