@@ -6,6 +6,7 @@ mod devices;
 mod grids;
 mod headings;
 mod names;
+mod operators;
 mod parser;
 mod scopes;
 mod scripts;

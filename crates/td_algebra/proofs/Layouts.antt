@@ -1,0 +1,89 @@
+-- Values taken from their places.
+use Rattle.std.proofs.Common.{◌≡◌, ◌∙◌, ◌+◌, ◌<◌, ◌≤◌, ap, append_assoc, sym, refl, subst, arith, ℕ, zero, suc, Bool, true, false, List, [], ◌∷◌, ◌++◌, Option, Some, None, drop, get_or, length, map}
+use Rattle.std.specs.Prelude.{if◌then◌else◌}
+use Rattle.std.specs.List.{All, slice_get, zip}
+use Rattle.std.specs.List.Sorted.{IsPermutation, IsStrictlySortedBy}
+use Rattle.std.proofs.lemmas.List.{append-nil, at_drop_more, drop_all, length-map}
+use Rattle.std.proofs.lemmas.List.Sorted.{All-permutation, IsPermutation-map, IsPermutation-sym}
+use Rattle.std.proofs.lemmas.Option.{get_or_from_slice_get, slice_get-get_or, slice_get_within}
+use Rattle.std.proofs.lemmas.Slice.Zip.{get_or-zip}
+use Rattle.td_types.specs.Headings.{has_attribute}
+use Rattle.td_types.specs.Types.{Attribute, Heading}
+use Rattle.td_types.proofs.HeadingLaws.{name_cmp}
+use Rattle.td_value.specs.Values.{Tuple, Val, boolean, tuple_of}
+use Rattle.td_value.proofs.Maps.{sorted_is_tuple_of}
+use Rattle.td_value.proofs.Zips.{zip_names}
+use Rattle.td_algebra.specs.Layouts.{AreInRange, Sources, source_unless, sources_outside, taken}
+
+-- names with their places, taken apart and put together again
+pub zipped_sources : (ss : Sources) → zip (map (λ s. s.0) ss) (map (λ s. s.1) ss) ≡ ss
+zipped_sources [] = refl
+zipped_sources (s ∷ ss) = ap (λ r. s ∷ r) (zipped_sources ss)
+
+-- the value at a place
+abbrev pub value_in : List Val → ℕ → Val
+value_in vs p = get_or vs p (boolean false)
+
+abbrev pub entry_in : List Val → List ℕ × ℕ → List ℕ × Val
+entry_in vs s = (s.0, value_in vs s.1)
+
+pub taken_entries : (ss : Sources) (vs : List Val) → AreInRange ss vs → taken ss vs ≡ map (entry_in vs) ss
+taken_entries [] vs h = refl
+taken_entries (s ∷ ss) vs h =
+    let below : s.1 < length vs = h 0 s (omega arith) in
+    rw (slice_get-get_or vs s.1 (boolean false) below) (ap (λ r. entry_in vs s ∷ r) (taken_entries ss vs (λ k d l. h (suc k) d (omega arith))))
+
+zip_entries : (ns : List (List ℕ)) (ps : List ℕ) (vs : List Val) → zip ns (map (value_in vs) ps) ≡ map (entry_in vs) (zip ns ps)
+zip_entries [] ps vs = refl
+zip_entries (n ∷ ns) [] vs = refl
+zip_entries (n ∷ ns) (p ∷ ps) vs = ap (λ r. (n, value_in vs p) ∷ r) (zip_entries ns ps vs)
+
+-- ascending names with the values at their places are the tuple of what is taken, in each order of the sources
+pub tuple_is_taken : (ns : List (List ℕ)) (ps : List ℕ) (vs : List Val) (sources : Sources) → length ns ≡ length ps → IsStrictlySortedBy name_cmp ns
+    → AreInRange (zip ns ps) vs → IsPermutation sources (zip ns ps) → zip ns (map (value_in vs) ps) ≡ tuple_of (taken sources vs)
+tuple_is_taken ns ps vs sources e up h p =
+    let range : AreInRange sources vs = All-permutation (λ s. s.1 < length vs) (zip ns ps) sources (IsPermutation-sym sources (zip ns ps) p) h in
+    let moved : IsPermutation (map (entry_in vs) sources) (map (entry_in vs) (zip ns ps)) = IsPermutation-map (entry_in vs) sources (zip ns ps) p in
+    let names = zip_names ns (map (value_in vs) ps) (e ∙ sym (length-map ps (value_in vs))) in
+    sorted_is_tuple_of (zip ns (map (value_in vs) ps)) (taken sources vs)
+    (rw (taken_entries sources vs range, zip_entries ns ps vs) moved)
+    (subst (IsStrictlySortedBy name_cmp) (sym names) up)
+
+-- each place of a layout is in range
+pub place_below : (ns : List (List ℕ)) (ps : List ℕ) (vs : List Val) (i : ℕ) → length ns ≡ length ps → AreInRange (zip ns ps) vs → i < length ps → get_or ps i 0 < length vs
+place_below [] ps vs i e h l = absurd (omega (arith, e, l))
+place_below (n ∷ ns) [] vs i e h l = absurd (omega (arith, l))
+place_below (n ∷ ns) (p ∷ ps) vs zero e h l = h 0 (n, p) (omega arith)
+place_below (n ∷ ns) (p ∷ ps) vs (suc i) e h l = place_below ns ps vs i (omega (arith, e)) (λ k d b. h (suc k) d (omega arith)) (omega (arith, l))
+
+-- ---- the places of a heading's names
+
+pub got_first : {X : Type 0} (xs : List X) (i : ℕ) (x : X) → slice_get xs i ≡ Some x → drop i xs ≡ x ∷ drop (i + 1) xs
+got_first xs i x e = at_drop_more (λ r. r) xs i x (slice_get_within xs i x e) ∙ ap (λ y. y ∷ drop (i + 1) xs) (get_or_from_slice_get xs i x x e)
+
+pub source_first : (part : Heading) (start : ℕ) (a : Attribute) (xs : Heading)
+    → sources_outside part start (a ∷ xs) ≡ source_unless part a.0 start ++ sources_outside part (start + 1) xs
+source_first part start a xs = by_test (has_attribute a.0 part)
+  where
+    by_test : (b : Bool) → (if b then sources_outside part (start + 1) xs else (a.0, start) ∷ sources_outside part (start + 1) xs)
+        ≡ (if b then [] else (a.0, start) ∷ []) ++ sources_outside part (start + 1) xs
+    by_test true = refl
+    by_test false = refl
+
+-- one more name
+pub source_more : (part : Heading) (start i place : ℕ) (h : Heading) (a : Attribute) (old new all : Sources) → slice_get h i ≡ Some a → place ≡ start + i
+    → old ++ sources_outside part (start + i) (drop i h) ≡ all → new ≡ old ++ source_unless part a.0 place
+    → new ++ sources_outside part (start + (i + 1)) (drop (i + 1) h) ≡ all
+source_more part start i place h a old new all got at inv is =
+    let next : start + (i + 1) ≡ (start + i) + 1 = omega arith in
+    let first = ap (sources_outside part (start + i)) (got_first h i a got) ∙ source_first part (start + i) a (drop (i + 1) h) in
+    rw (is, at, next, append_assoc) (ap (λ r. old ++ r) (sym first) ∙ inv)
+
+pub got_some : {X : Type 0} (xs : List X) (i : ℕ) → i < length xs → slice_get xs i ≡ None → ⊥
+got_some [] i l e = absurd (omega arith)
+got_some (x ∷ xs) zero l e = cc
+got_some (x ∷ xs) (suc i) l e = got_some xs i (omega arith) e
+
+-- past the last name
+pub sources_end : (part : Heading) (start i : ℕ) (h : Heading) (old all : Sources) → length h ≤ i → old ++ sources_outside part start (drop i h) ≡ all → old ≡ all
+sources_end part start i h old all past e = sym (append-nil old) ∙ sym (ap (λ xs. old ++ sources_outside part start xs) (drop_all i h past)) ∙ e

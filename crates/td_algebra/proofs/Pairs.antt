@@ -1,0 +1,166 @@
+-- The tuples of pairs: what a layout takes of the values of both.
+use Rattle.std.proofs.Common.{◌≡◌, ◌∙◌, ap, sym, refl, arith, ℕ, zero, suc, ◌+◌, ◌<◌, Bool, true, false, List, [], ◌∷◌, ◌++◌, Option, Some, None, append-nil, append_assoc, drop, filter, length, map, take, get_or}
+use Rattle.std.specs.Prelude.{◌&&◌, ◌||◌, not}
+use Rattle.std.specs.List.{All, flat_map, slice_get}
+use Rattle.std.specs.List.Sorted.{IsPermutation}
+use Rattle.std.specs.Ordering.{eq_by_cmp}
+use Rattle.std.proofs.lemmas.Grind.{flat_map-append}
+use Rattle.std.proofs.lemmas.List.{length-append, map-append, take_more}
+use Rattle.std.proofs.lemmas.List.Elements.{All-cons}
+use Rattle.std.proofs.lemmas.List.Folds.{list_any-append}
+use Rattle.std.proofs.lemmas.List.Sorted.{All-permutation, IsPermutation-map, list_any-IsPermutation}
+use Rattle.std.proofs.Math.Seq.{drop-append_seam}
+use Rattle.td_types.specs.Headings.{are_distinct, has_attribute, has_name, outside}
+use Rattle.td_types.specs.Types.{Heading, IsHeading, attribute_names, pack, same_name}
+use Rattle.td_types.proofs.DistinctNames.{first_of, second_of}
+use Rattle.td_types.proofs.HeadingLaws.{IsHeading-filter, has_attribute-names, same_name-itself}
+use Rattle.td_value.specs.Sets.{set_of}
+use Rattle.td_value.specs.ValueOrder.{entry_order_same, entry_order_total}
+use Rattle.td_value.specs.Values.{Val, IsTupleOf, Tuple, entry_cmp, tuple_names, tuple_of}
+use Rattle.td_value.specs.Views.{values_of}
+use Rattle.td_value.proofs.SetLaws.{has-set_of, is_set_of, set_of-ascends}
+use Rattle.td_algebra.specs.Groups.{source_names}
+use Rattle.td_algebra.specs.Layouts.{AreInRange, Sources, sources_outside, taken, with_entry}
+use Rattle.td_algebra.specs.Operators.{united_tuple}
+use Rattle.td_algebra.specs.Pairs.{IsPaired, paired, pair_sources, pair_tuple}
+use Rattle.td_algebra.proofs.Entries.{has_name-heading, heading_distinct, names_of_heading}
+use Rattle.td_algebra.proofs.Keys.{as_many, kept_alike}
+use Rattle.td_algebra.proofs.Layouts.{entry_in, taken_entries}
+use Rattle.td_algebra.proofs.Sources.{has_attribute-outside, outside_in_range, outside_names, taken_outside}
+
+-- sources in another order make the same tuple
+pub same_tuple : (sources layout : Sources) (vs : List Val) → IsPermutation sources layout → AreInRange sources vs → tuple_of (taken sources vs) ≡ tuple_of (taken layout vs)
+same_tuple sources layout vs p h =
+    let there : AreInRange layout vs = All-permutation (λ s. s.1 < length vs) sources layout p h in
+    let moved : IsPermutation (taken sources vs) (taken layout vs) =
+    rw (taken_entries sources vs h, taken_entries layout vs there) (IsPermutation-map (entry_in vs) sources layout p) in
+    is_set_of entry_cmp entry_order_total entry_order_same (set_of entry_cmp (taken sources vs)) (taken layout vs) (set_of-ascends entry_cmp entry_order_total entry_order_same (taken sources vs))
+    (λ e. has-set_of entry_cmp entry_order_total entry_order_same e (taken sources vs) ∙ list_any-IsPermutation (eq_by_cmp entry_cmp e) (taken sources vs) (taken layout vs) moved)
+
+pub taken-append : (ss zs : Sources) (vs : List Val) → taken (ss ++ zs) vs ≡ taken ss vs ++ taken zs vs
+taken-append [] zs vs = refl
+taken-append (s ∷ ss) zs vs = by_value (slice_get vs s.1) (taken-append ss zs vs)
+  where
+    by_value : (o : Option Val) → taken (ss ++ zs) vs ≡ taken ss vs ++ taken zs vs → with_entry s.0 o (taken (ss ++ zs) vs) ≡ with_entry s.0 o (taken ss vs) ++ taken zs vs
+    by_value None rest = rest
+    by_value (Some v) rest = ap (λ es. (s.0, v) ∷ es) rest
+
+pub All-append : {X : Type 0} (P : X → Type 0) (xs ys : List X) → All P xs → All P ys → All P (xs ++ ys)
+All-append P [] ys h k = k
+All-append P (x ∷ xs) ys h k = All-cons P x (xs ++ ys) (h 0 x (omega arith)) (All-append P xs ys (λ i d l. h (suc i) d (omega (arith, l))) k)
+
+-- ---- the names
+
+names_apart : (ms ns : List (List ℕ)) → are_distinct ms ≡ true → are_distinct ns ≡ true → ((n : List ℕ) → has_name n ms ≡ true → has_name n ns ≡ false)
+    → are_distinct (ms ++ ns) ≡ true
+names_apart [] ns d f apart = f
+names_apart (m ∷ ms) ns d f apart =
+    let absent : has_name m ms ≡ false = first_of _ _ d in
+    let other : has_name m ns ≡ false = apart m (rw (same_name-itself m) refl) in
+    let none : has_name m (ms ++ ns) ≡ false = list_any-append (λ k. same_name k m) ms ns ∙ rw (absent, other) refl in
+    rw none (names_apart ms ns (second_of _ _ d) f (λ n h. apart n (later n h (same_name m n))))
+  where
+    later : (n : List ℕ) → has_name n ms ≡ true → (b : Bool) → (b || has_name n ms) ≡ true
+    later n h true = refl
+    later n h false = h
+
+pub pair_distinct : (left_out : Heading) (start : ℕ) (g : Heading) (other_start : ℕ) (h : Heading) → IsHeading (pack g) → IsHeading (pack h)
+    → are_distinct (source_names (pair_sources left_out start g other_start h)) ≡ true
+pair_distinct left_out start g other_start h p q =
+    rw (map-append (λ (s : List ℕ × ℕ). s.0) (sources_outside left_out start g) (sources_outside g other_start h), outside_names left_out g start, outside_names g h other_start)
+    (names_apart (attribute_names (outside left_out g)) (attribute_names (outside g h))
+    (heading_distinct (outside left_out g) (IsHeading-filter (λ a. not (has_attribute a.0 left_out)) g p)) (heading_distinct (outside g h) (IsHeading-filter (λ a. not (has_attribute a.0 g)) h q)) apart)
+  where
+    first_too : (b c : Bool) → (b && c) ≡ true → b ≡ true
+    first_too true c e = refl
+    first_too false c e = absurd (cc)
+
+    not_both : (b c : Bool) → b ≡ true → (c && not b) ≡ false
+    not_both true true e = refl
+    not_both true false e = refl
+    not_both false c e = absurd (cc)
+
+    apart : (n : List ℕ) → has_name n (attribute_names (outside left_out g)) ≡ true → has_name n (attribute_names (outside g h)) ≡ false
+    apart n e =
+        let there : has_attribute n g ≡ true =
+        first_too (has_attribute n g) (not (has_attribute n left_out)) (sym (has_attribute-outside left_out g n) ∙ has_attribute-names n (outside left_out g) ∙ e) in
+        sym (has_attribute-names n (outside g h)) ∙ has_attribute-outside g h n ∙ not_both (has_attribute n g) (has_attribute n h) there
+
+-- ---- the values
+
+module _ (left_out g h : Heading) (t u : Tuple) (p : IsTupleOf g t) (q : IsTupleOf h u) where
+  lacking : filter (λ e. not (has_attribute e.0 g)) u ≡ filter (λ e. not (has_name e.0 (tuple_names t))) u
+  lacking = kept_alike (λ n. not (has_attribute n g)) (λ n. not (has_name n (tuple_names t))) u (λ n there. ap not (sym (has_name-heading g t p n)))
+
+  -- the values of the first before those of the second
+  module _ (layout : Sources) (laid : IsPermutation (pair_sources left_out 0 g (length g) h) layout) where
+    in_range : AreInRange (pair_sources left_out 0 g (length g) h) (values_of t ++ values_of u)
+    in_range =
+        let first : length (values_of t) ≡ length g = sym (as_many g t p) in
+        let second : length (values_of u) ≡ length h = sym (as_many h u q) in
+        let all : length (values_of t ++ values_of u) ≡ length (values_of t) + length (values_of u) = length-append (values_of t) (values_of u) in
+        All-append (λ s. s.1 < length (values_of t ++ values_of u)) (sources_outside left_out 0 g) (sources_outside g (length g) h)
+        (outside_in_range left_out g 0 (values_of t ++ values_of u) (omega (arith, all, first, second)))
+        (outside_in_range g h (length g) (values_of t ++ values_of u) (omega (arith, all, first, second)))
+
+    pub is_paired : IsPaired layout t u
+    is_paired = All-permutation (λ s. s.1 < length (values_of t ++ values_of u)) (pair_sources left_out 0 g (length g) h) layout laid in_range
+
+    pub pair_is : pair_tuple layout t u ≡ paired left_out t u
+    pair_is =
+        let first = taken_outside left_out g t 0 (values_of t ++ values_of u) (values_of u) (names_of_heading g t p) refl in
+        let past : drop (length g) (values_of t ++ values_of u) ≡ values_of u ++ [] =
+        rw (as_many g t p) (drop-append_seam (values_of t) (values_of u) ∙ sym (append-nil (values_of u))) in
+        let second = taken_outside g h u (length g) (values_of t ++ values_of u) [] (names_of_heading h u q) past in
+        sym (same_tuple (pair_sources left_out 0 g (length g) h) layout (values_of t ++ values_of u) laid in_range)
+        ∙ ap tuple_of (taken-append (sources_outside left_out 0 g) (sources_outside g (length g) h) (values_of t ++ values_of u) ∙ (λ i. first i ++ (second ∙ lacking) i))
+
+  -- and the other way round
+  module _ (layout : Sources) (laid : IsPermutation (pair_sources left_out (length h) g 0 h) layout) where
+    turned_range : AreInRange (pair_sources left_out (length h) g 0 h) (values_of u ++ values_of t)
+    turned_range =
+        let first : length (values_of t) ≡ length g = sym (as_many g t p) in
+        let second : length (values_of u) ≡ length h = sym (as_many h u q) in
+        let all : length (values_of u ++ values_of t) ≡ length (values_of u) + length (values_of t) = length-append (values_of u) (values_of t) in
+        All-append (λ s. s.1 < length (values_of u ++ values_of t)) (sources_outside left_out (length h) g) (sources_outside g 0 h)
+        (outside_in_range left_out g (length h) (values_of u ++ values_of t) (omega (arith, all, first, second)))
+        (outside_in_range g h 0 (values_of u ++ values_of t) (omega (arith, all, first, second)))
+
+    pub is_turned : IsPaired layout u t
+    is_turned = All-permutation (λ s. s.1 < length (values_of u ++ values_of t)) (pair_sources left_out (length h) g 0 h) layout laid turned_range
+
+    pub turned_is : pair_tuple layout u t ≡ paired left_out t u
+    turned_is =
+        let past : drop (length h) (values_of u ++ values_of t) ≡ values_of t ++ [] =
+        rw (as_many h u q) (drop-append_seam (values_of u) (values_of t) ∙ sym (append-nil (values_of t))) in
+        let first = taken_outside left_out g t (length h) (values_of u ++ values_of t) [] (names_of_heading g t p) past in
+        let second = taken_outside g h u 0 (values_of u ++ values_of t) (values_of t) (names_of_heading h u q) refl in
+        sym (same_tuple (pair_sources left_out (length h) g 0 h) layout (values_of u ++ values_of t) laid turned_range)
+        ∙ ap tuple_of (taken-append (sources_outside left_out (length h) g) (sources_outside g 0 h) (values_of u ++ values_of t) ∙ (λ i. first i ++ (second ∙ lacking) i))
+
+all_kept : (t : Tuple) → filter (λ e. not (has_attribute e.0 [])) t ≡ t
+all_kept [] = refl
+all_kept (e ∷ t) = ap (λ es. e ∷ es) (all_kept t)
+
+-- where nothing is left out, that is the united tuple
+pub united_is : (t u : Tuple) → paired [] t u ≡ united_tuple t u
+united_is t u = ap (λ es. tuple_of (es ++ filter (λ e. not (has_name e.0 (tuple_names t))) u)) (all_kept t)
+
+-- ---- loops over pairs
+
+pub mapped_more : {X Y : Type 0} (f : X → Y) (xs : List X) (i : ℕ) (x : X) (before old new : List Y) → i < length xs → x ≡ get_or xs i x
+    → old ≡ before ++ map f (take i xs) → new ≡ old ++ f x ∷ [] → new ≡ before ++ map f (take (i + 1) xs)
+mapped_more f xs i x before old new h is inv e =
+    e ∙ ap (λ ys. ys ++ f x ∷ []) inv ∙ append_assoc before (map f (take i xs)) (f x ∷ [])
+    ∙ ap (λ ys. before ++ ys) (sym (ap (map f) (take_more xs i x h ∙ ap (λ y. take i xs ++ y ∷ []) (sym is)) ∙ map-append f (take i xs) (x ∷ [])))
+
+pub flat_more : {X Y : Type 0} (f : X → List Y) (xs : List X) (i : ℕ) (x : X) (old new : List Y) → i < length xs → x ≡ get_or xs i x
+    → old ≡ flat_map f (take i xs) → new ≡ old ++ f x → new ≡ flat_map f (take (i + 1) xs)
+flat_more f xs i x old new h is inv e =
+    e ∙ ap (λ ys. ys ++ f x) inv ∙ ap (λ ys. flat_map f (take i xs) ++ ys) (sym (append-nil (f x)))
+    ∙ sym (ap (flat_map f) (take_more xs i x h ∙ ap (λ y. take i xs ++ y ∷ []) (sym is)) ∙ flat_map-append f (take i xs) (x ∷ []))
+
+pub mapped_at : {X Y : Type 0} (f : X → Y) (xs : List X) (i : ℕ) (d : X) → get_or (map f xs) i (f d) ≡ f (get_or xs i d)
+mapped_at f [] i d = refl
+mapped_at f (x ∷ xs) zero d = refl
+mapped_at f (x ∷ xs) (suc i) d = mapped_at f xs i d

@@ -1,0 +1,17 @@
+use Rattle.std.proofs.Common.{◌≡◌, ◌∙◌, ◌++◌, ap, sym, subst}
+use Rattle.std.specs.Prelude.{IsTrue}
+use Rattle.td_types.specs.Headings.{are_distinct}
+use Rattle.td_algebra.specs.Groups.{source_names}
+use Rattle.td_algebra.specs.Layouts.{Sources, sources_outside}
+use Rattle.td_algebra.specs.Pairs.{pair_sources}
+use Rattle.td_algebra.proofs.Pairs.{pair_distinct}
+use Rattle.td_algebra.proofs.joins.pair_layout.Goals as goal
+
+pub new-requires : goal.new-requires
+new-requires c =
+    let are : c.put_sources-2.new.sources.items ≡ pair_sources c.args.left_out.now c.args.start c.args.heading.now c.args.other_start c.args.other.now =
+    c.in_ok-put_sources-2.ensures
+    ∙ ap (λ (ss : Sources). ss ++ sources_outside c.args.heading.now c.args.other_start c.args.other.now)
+    (c.in_ok-put_sources.ensures ∙ ap (λ (ss : Sources). ss ++ sources_outside c.args.left_out.now c.args.start c.args.heading.now) c.new-sources.ensures.items) in
+    subst (λ ss. IsTrue (are_distinct (source_names ss))) (sym are)
+    (pair_distinct c.args.left_out.now c.args.start c.args.heading.now c.args.other_start c.args.other.now c.len.ensures.heading c.len-2.ensures.heading)

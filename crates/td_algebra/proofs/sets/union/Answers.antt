@@ -1,0 +1,35 @@
+use Rattle.std.proofs.Common.{◌≡◌, ◌∙◌, ◌++◌, ap, sym, subst, List}
+use Rattle.std.specs.List.{All}
+use Rattle.std.proofs.lemmas.List.Elements.{All-from_recursion, recursion_from_All}
+use Rattle.td_types.specs.Types.{Heading}
+use Rattle.td_value.specs.Sets.{set_of}
+use Rattle.td_value.specs.Values.{Tuple, IsAscendingBody, IsTupleOf, tuple_cmp}
+use Rattle.td_algebra.specs.Merges.{merged}
+use Rattle.td_algebra.proofs.Merges.{merged-ascends, merged-is-set, merged_all}
+use Rattle.td_algebra.proofs.sets.union.Goals as goal
+
+-- what the code merges, as lists of the relations
+merges : (kept ts us xs ys : List Tuple) → kept ≡ merged ts us → ts ≡ xs → us ≡ ys → kept ≡ merged xs ys
+merges kept ts us xs ys e p q = e ∙ ap (λ l. merged l us) p ∙ ap (merged xs) q
+
+headed : (h g : Heading) (kept xs ys : List Tuple) → kept ≡ merged xs ys → h ≡ g → All (IsTupleOf h) xs → All (IsTupleOf g) ys → All (IsTupleOf h) kept
+headed h g kept xs ys e same a b =
+    let b' : All (IsTupleOf h) ys = subst (λ i. All (IsTupleOf i) ys) (sym same) b in
+    subst (All (IsTupleOf h)) (sym e)
+    (All-from_recursion (IsTupleOf h) (merged xs ys)
+    (merged_all (IsTupleOf h) xs ys (recursion_from_All (IsTupleOf h) xs a) (recursion_from_All (IsTupleOf h) ys b')))
+
+pub with_rows-requires-clause-headed : goal.with_rows-requires-clause-headed
+with_rows-requires-clause-headed c =
+    let is = merges c.in_ok-rows.rows.items c.rows.result.now c.rows-2.result.now c.args.rel.now.body c.args.other.now.body c.in_ok-rows.ensures c.rows.ensures.rows c.rows-2.ensures.rows in
+    headed c.args.rel.now.heading c.args.other.now.heading c.in_ok-rows.rows.items c.args.rel.now.body c.args.other.now.body is c.requires c.rows.ensures.headed c.rows-2.ensures.headed
+
+pub with_rows-requires-clause-ascending : goal.with_rows-requires-clause-ascending
+with_rows-requires-clause-ascending c =
+    let is = merges c.in_ok-rows.rows.items c.rows.result.now c.rows-2.result.now c.args.rel.now.body c.args.other.now.body c.in_ok-rows.ensures c.rows.ensures.rows c.rows-2.ensures.rows in
+    subst IsAscendingBody (sym is) (merged-ascends c.args.rel.now.body c.args.other.now.body c.rows.ensures.ascending c.rows-2.ensures.ascending)
+
+pub returns : goal.returns
+returns c =
+    let is = merges c.in_ok-rows.rows.items c.rows.result.now c.rows-2.result.now c.args.rel.now.body c.args.other.now.body c.in_ok-rows.ensures c.rows.ensures.rows c.rows-2.ensures.rows in
+    rw (is ∙ merged-is-set c.args.rel.now.body c.args.other.now.body c.rows.ensures.ascending c.rows-2.ensures.ascending) at c.with_rows.ensures

@@ -1,0 +1,55 @@
+-- Where the values of a result's tuples come from: each name with a place in the values of one operand's tuple followed by
+-- those of the other's (this project's own).
+use Rattle.std.specs.Prelude.{◌≡◌, ℕ, ◌+◌, ◌<◌, Bool, List, [], ◌∷◌, ◌++◌, length, Option, None, Some, if◌then◌else◌}
+use Rattle.std.specs.List.{All, slice_get}
+use Rattle.td_types.specs.Headings.{has_attribute}
+use Rattle.td_types.specs.Types.{Heading}
+use Rattle.td_value.specs.Values.{Val, Tuple, tuple_of}
+use Rattle.td_value.specs.Views.{values_of}
+
+-- names, each with the place of its value
+abbrev pub Sources : Type 0
+Sources = List (List ℕ × ℕ)
+
+-- the entry of a name with its value, where it has one, before the others
+abbrev pub with_entry : List ℕ → Option Val → Tuple → Tuple
+with_entry name None es = es
+with_entry name (Some v) es = (name, v) ∷ es
+
+-- the entries of the names with the values at their places
+abbrev pub taken : Sources → List Val → Tuple
+taken [] vs = []
+taken (s ∷ ss) vs = with_entry s.0 (slice_get vs s.1) (taken ss vs)
+
+-- each place has a value
+abbrev pub AreInRange : Sources → List Val → Type 0
+AreInRange sources vs = All (λ s. s.1 < length vs) sources
+
+-- the name with its place, unless the part has an attribute of the name
+abbrev pub source_unless : Heading → List ℕ → ℕ → Sources
+source_unless part name place = if has_attribute name part then [] else (name, place) ∷ []
+
+-- the names of a heading's attributes with their places, counted from a start; but for those that the part has too
+abbrev pub sources_outside : Heading → ℕ → Heading → Sources
+sources_outside part start [] = []
+sources_outside part start (a ∷ attributes) =
+    if has_attribute a.0 part
+    then sources_outside part (start + 1) attributes
+    else (a.0, start) ∷ sources_outside part (start + 1) attributes
+
+-- the names with their places, counted from a start
+abbrev pub numbered : ℕ → List (List ℕ) → Sources
+numbered start [] = []
+numbered start (n ∷ ns) = (n, start) ∷ numbered (start + 1) ns
+
+-- the tuple of what is taken from the values of another
+abbrev pub placed_tuple : Sources → Tuple → Tuple
+placed_tuple sources t = tuple_of (taken sources (values_of t))
+
+-- the names of a heading with their places, and then more names
+abbrev pub sources_with : Heading → List (List ℕ) → Sources
+sources_with heading names = sources_outside [] 0 heading ++ numbered (length heading) names
+
+-- the tuple of what is taken from the values of another followed by more values
+abbrev pub tuple_with : Sources → Tuple → List Val → Tuple
+tuple_with sources t vs = tuple_of (taken sources (values_of t ++ vs))

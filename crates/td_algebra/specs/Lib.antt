@@ -1,0 +1,9 @@
+pub mod Columns
+pub mod Equalities
+pub mod Groups
+pub mod Layouts
+pub mod Masks
+pub mod Membership
+pub mod Merges
+pub mod Operators
+pub mod Pairs

@@ -1,0 +1,210 @@
+//! JOIN, TIMES and COMPOSE.
+ghost use Rattle.std.specs.Prelude.{◌≡◌, ◌++◌, IfOk, IsTrue, OnOk, filter, map};
+ghost use Rattle.std.specs.List.{All};
+ghost use Rattle.std.specs.List.Sorted.{IsPermutation};
+ghost use Rattle.td_types.specs.Headings.{agree, have_no_common};
+ghost use Rattle.td_types.specs.Types.{IsHeading, pack};
+ghost use Rattle.td_value.specs.Values.{Tuple, HaveSameMembers, IsTupleOf};
+ghost use Rattle.td_algebra.specs.Groups.{IsKeyed, group, key_of};
+ghost use Rattle.td_algebra.specs.Operators.{are_partners, composition, join, product};
+ghost use Rattle.td_algebra.specs.Pairs.{IsPaired, pair_sources, pair_tuple, pairs_with};
+ghost use Rattle.td_algebra.specs.Pairs.{partners_paired};
+
+use crate::layout::{Layout, put_sources};
+use crate::partners::{grouped, key_layout, key_of};
+use crate::want::unrefused;
+use std::alloc::{AllocError, Global};
+use std::collections::HashMap;
+use td_types::heading::Heading;
+use td_value::relation::Rel;
+use td_value::tuple::Tuple;
+
+/// Puts the row's tuple with each of its partners after the others.
+fn put_pairs(
+    alloc: Global,
+    layout: &Layout,
+    row: &Tuple,
+    partners: &[&Tuple],
+    pairs: &mut Vec<Tuple>,
+) -> Result<(), AllocError>
+    requires { All (IsPaired layout.now row.now) (map (λ u. u.now) partners.now) }
+    ensures { OnOk result (pairs.new.items ≡ pairs.old.items
+        ++ map (pair_tuple layout.now row.now) (map (λ u. u.now) partners.now)) }
+{
+    for partner in partners {
+        pairs.push(layout.tuple(alloc, row.values(), partner.values())?)?;
+    }
+    Ok(())
+}
+
+/// Finds the row's partners by its key, and does so with them.
+fn put_partners(
+    alloc: Global,
+    layout: &Layout,
+    keys: &Layout,
+    row: &Tuple,
+    groups: &HashMap<Tuple, Vec<&Tuple>>,
+    pairs: &mut Vec<Tuple>,
+) -> Result<(), AllocError>
+    requires keyed { IsKeyed keys.now row.now }
+    requires paired { All (IsPaired layout.now row.now)
+        (group (key_of keys.now row.now) groups.now) }
+    ensures { OnOk result (pairs.new.items ≡ pairs.old.items
+        ++ map (pair_tuple layout.now row.now) (group (key_of keys.now row.now) groups.now)) }
+{
+    let key = key_of(alloc, keys, row)?;
+    match groups.get(&key) {
+        Some(partners) => put_pairs(alloc, layout, row, partners, pairs),
+        None => Ok(()),
+    }
+}
+
+/// The tuples of each row with each of its partners.
+fn pairs_of(
+    alloc: Global,
+    layout: &Layout,
+    keys: &Layout,
+    rows: &[Tuple],
+    groups: &HashMap<Tuple, Vec<&Tuple>>,
+) -> Result<Vec<Tuple>, AllocError>
+    requires keyed { All (IsKeyed keys.now) rows.now }
+    requires paired { All (λ t. All (IsPaired layout.now t)
+        (group (key_of keys.now t) groups.now)) rows.now }
+    ensures { IfOk result (λ pairs. pairs.items
+        ≡ pairs_with (λ t. group (key_of keys.now t) groups.now) (pair_tuple layout.now) rows.now) }
+{
+    let mut pairs = Vec::with_capacity(alloc, rows.len())?;
+    for row in rows {
+        put_partners(alloc, layout, keys, row, groups, &mut pairs)?;
+    }
+    Ok(pairs)
+}
+
+/// The tuples of the pairs of partners, found by the keys of the other's tuples.
+fn partner_pairs(
+    alloc: Global,
+    rel: &Rel,
+    other: &Rel,
+    layout: &Layout,
+) -> Result<Vec<Tuple>, AllocError>
+    requires { (t u : Tuple) → IsTupleOf rel.now.heading t → IsTupleOf other.now.heading u
+        → IsPaired layout.now t u }
+    ensures { IfOk result (λ pairs. pairs.items ≡ pairs_with
+        (λ t. filter (are_partners rel.now other.now t) other.now.body)
+        (pair_tuple layout.now) rel.now.body) }
+{
+    let partner_keys = key_layout(alloc, other.heading(), rel.heading())?;
+    let groups = grouped(alloc, &partner_keys, other.rows())?;
+    let keys = key_layout(alloc, rel.heading(), other.heading())?;
+    pairs_of(alloc, layout, &keys, rel.rows(), &groups)
+}
+
+/// The layout of the tuples of pairs: the names of the one heading but for those that are left out,
+/// and those that it lacks of the other. The values of each are counted from a start.
+fn pair_layout(
+    alloc: Global,
+    left_out: &Heading,
+    heading: &Heading,
+    start: usize,
+    other: &Heading,
+    other_start: usize,
+) -> Result<Layout, AllocError>
+    ensures { IfOk result (λ layout. IsPermutation
+        (pair_sources left_out.now start heading.now other_start other.now) layout) }
+{
+    let _ = heading.len();
+    let _ = other.len();
+    let mut sources = Vec::new(alloc);
+    put_sources(&mut sources, heading, start, left_out)?;
+    put_sources(&mut sources, other, other_start, heading)?;
+    Layout::new(alloc, sources)
+}
+
+/// The tuples of the pairs of partners, found from the first one's.
+fn pairs_from_first(
+    alloc: Global,
+    left_out: &Heading,
+    rel: &Rel,
+    other: &Rel,
+) -> Result<Vec<Tuple>, AllocError>
+    ensures { IfOk result (λ pairs. pairs.items
+        ≡ partners_paired left_out.now rel.now other.now) }
+{
+    let heading = rel.heading();
+    let others = other.heading();
+    let _ = rel.rows();
+    let _ = other.rows();
+    let layout = pair_layout(alloc, left_out, heading, 0, others, heading.len())?;
+    partner_pairs(alloc, rel, other, &layout)
+}
+
+/// The same tuples, found from the second one's.
+fn pairs_from_second(
+    alloc: Global,
+    left_out: &Heading,
+    rel: &Rel,
+    other: &Rel,
+) -> Result<Vec<Tuple>, AllocError>
+    ensures { IfOk result (λ pairs. HaveSameMembers pairs.items
+        (partners_paired left_out.now rel.now other.now)) }
+{
+    let heading = rel.heading();
+    let others = other.heading();
+    let _ = rel.rows();
+    let _ = other.rows();
+    let layout = pair_layout(alloc, left_out, heading, others.len(), others, 0)?;
+    partner_pairs(alloc, other, rel, &layout)
+}
+
+/// The same tuples. Those of the relation with fewer are found by their keys.
+fn partners_of_either(
+    alloc: Global,
+    left_out: &Heading,
+    rel: &Rel,
+    other: &Rel,
+) -> Result<Vec<Tuple>, AllocError>
+    ensures { IfOk result (λ pairs. HaveSameMembers pairs.items
+        (partners_paired left_out.now rel.now other.now)) }
+{
+    if rel.rows().len() < other.rows().len() {
+        pairs_from_second(alloc, left_out, rel, other)
+    } else {
+        pairs_from_first(alloc, left_out, rel, other)
+    }
+}
+
+/// Each tuple united with each of its partners in the other relation.
+pub fn join(alloc: Global, rel: &Rel, other: &Rel) -> Result<Rel, AllocError>
+    requires { IsTrue (agree rel.now.heading other.now.heading) }
+    ensures { IfOk result (λ r. r ≡ join rel.now other.now) }
+{
+    let _ = rel.rows();
+    let _ = other.rows();
+    let heading = unrefused(rel.heading().union(other.heading()))?;
+    let none = Heading::empty(alloc);
+    let pairs = partners_of_either(alloc, &none, rel, other)?;
+    Rel::new(heading, pairs)
+}
+
+/// Each tuple united with each of the other relation.
+pub fn times(alloc: Global, rel: &Rel, other: &Rel) -> Result<Rel, AllocError>
+    requires { IsTrue (have_no_common rel.now.heading other.now.heading) }
+    ensures { IfOk result (λ r. r ≡ product rel.now other.now) }
+{
+    join(alloc, rel, other)
+}
+
+/// The join without the common attributes.
+pub fn compose(alloc: Global, rel: &Rel, other: &Rel) -> Result<Rel, AllocError>
+    requires { IsTrue (agree rel.now.heading other.now.heading) }
+    ensures { IfOk result (λ r. r ≡ composition rel.now other.now) }
+{
+    let _ = rel.rows();
+    let _ = other.rows();
+    let _ = rel.heading().len();
+    let own = rel.heading().lacking(other.heading())?;
+    let others = other.heading().lacking(rel.heading())?;
+    let heading = unrefused(own.union(&others))?;
+    let pairs = partners_of_either(alloc, other.heading(), rel, other)?;
+    Rel::new(heading, pairs)
+}

@@ -1,0 +1,14 @@
+//! The relational operators: each gives the relation that its definition says, or wants memory.
+#![tactic(auto)]
+
+pub mod extension;
+pub mod joins;
+pub mod laws;
+mod layout;
+mod partners;
+pub mod projection;
+pub mod renaming;
+pub mod restriction;
+pub mod semijoins;
+pub mod sets;
+mod want;

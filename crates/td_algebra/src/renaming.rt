@@ -1,0 +1,42 @@
+//! RENAME: the tuples with their names changed, all at once.
+ghost use Rattle.std.specs.Prelude.{◌≡◌, IfOk, IsTrue};
+ghost use Rattle.std.specs.List.Sorted.{IsPermutation};
+ghost use Rattle.td_algebra.specs.Layouts.{numbered};
+ghost use Rattle.td_algebra.specs.Operators.{renamed_relation};
+ghost use Rattle.td_types.specs.Headings.{can_rename, new_names};
+
+use crate::layout::{Layout, put_names};
+use crate::want::unrefused;
+use std::alloc::{AllocError, Global};
+use td_tree::name::Name;
+use td_types::heading::Heading;
+use td_value::relation::Rel;
+
+/// The layout of the values under their new names.
+fn renamed_layout(
+    alloc: Global,
+    heading: &Heading,
+    renamings: &[(Name, Name)],
+) -> Result<Layout, AllocError>
+    requires { IsTrue (can_rename renamings.now heading.now) }
+    ensures { IfOk result (λ layout.
+        IsPermutation (numbered 0 (new_names renamings.now heading.now)) layout) }
+{
+    let names = heading.new_names(renamings)?;
+    let mut sources = Vec::with_capacity(alloc, names.len())?;
+    put_names(&mut sources, &names, 0)?;
+    Layout::new(alloc, sources)
+}
+
+/// The relation with its attributes renamed, each renaming a pair of an old and a new name.
+/// `Heading::can_rename` is the test of what is asked.
+pub fn rename(alloc: Global, rel: &Rel, renamings: &[(Name, Name)]) -> Result<Rel, AllocError>
+    requires { IsTrue (can_rename renamings.now rel.now.heading) }
+    ensures { IfOk result (λ r. r ≡ renamed_relation renamings.now rel.now) }
+{
+    let heading = unrefused(rel.heading().rename(renamings))?;
+    let _ = heading.len();
+    let layout = renamed_layout(alloc, rel.heading(), renamings)?;
+    let rows = layout.tuples(alloc, rel.rows())?;
+    Rel::new(heading, rows)
+}
