@@ -12,9 +12,8 @@ use Rattle.std.proofs.lemmas.List.Elements.{recursion_from_All}
 use Rattle.td_types.specs.Headings.{are_distinct, has_attribute, has_name, have_no_common}
 use Rattle.td_types.specs.Types.{Attribute, Heading, IsAscending, Type', attribute_names, same_name}
 use Rattle.td_types.proofs.HeadingLaws.{has_attribute-names, name_cmp, same_name-itself}
-use Rattle.td_value.specs.Values.{IsTupleOf, Relation, Tuple, relation_of, tuple_cmp, tuple_names, tuple_of, value_at, value_cmp}
+use Rattle.td_value.specs.Values.{IsTupleOf, Tuple, relation_of, tuple_cmp, tuple_names, tuple_of, value_at, value_cmp}
 use Rattle.td_value.specs.ValueOrder.{tuple_order_same, tuple_order_total}
-use Rattle.td_value.specs.Sets.{set_of}
 use Rattle.td_value.specs.Views.{relation_view}
 use Rattle.td_value.proofs.Agreement.{entries_of_values, names_ascend}
 use Rattle.td_value.proofs.Maps.{value_at-tuple_of}
@@ -22,7 +21,8 @@ use Rattle.td_value.proofs.SetLaws.{is_set_of}
 use Rattle.td_algebra.specs.Columns.{AreAfter, AreColumns, AreColumnsOf, IsColumn, column_attributes, columns_view}
 use Rattle.td_algebra.specs.declared.extension.Column.{Column}
 use Rattle.td_algebra.specs.Operators.{Addition, added_attributes, added_values, extended_tuple}
-use Rattle.td_algebra.proofs.Entries.{has_name-heading, has_name-tuple_of, names_of_heading, tuple_of-ascends, value_at-append}
+use Rattle.td_value.proofs.Maps.{has_name-tuple_of}
+use Rattle.td_algebra.proofs.Entries.{has_name-heading, names_of_heading, tuple_of-ascends, value_at-append}
 use Rattle.td_algebra.proofs.Extensions.{added_distinct, additions_attributes, additions_of, column_names, columns_of_additions, extended_distinct, extended_values, has_name-added}
 
 -- tuples of the same names compare as before, whatever comes after them
@@ -78,7 +78,7 @@ module _ (bs : List Addition) (h : Heading) (distinct : are_distinct (attribute_
   appended t p =
       entries_of_values (extended_tuple bs t) (t ++ tuple_of (added_values bs t)) (tuple_of-ascends (t ++ added_values bs t) (extended_distinct bs h t p distinct new))
       (joined_ascends t (tuple_of (added_values bs t)) (names_ascend t p.0) (tuple_of-ascends (added_values bs t) added)
-      (λ n m there here. after n m (sym (has_name-heading h t p n) ∙ there) (sym (has_name-added m bs t) ∙ sym (has_name-tuple_of m (added_values bs t) added) ∙ here)))
+      (λ n m there here. after n m (sym (has_name-heading h t p n) ∙ there) (sym (has_name-added m bs t) ∙ sym (has_name-tuple_of m (added_values bs t)) ∙ here)))
       (λ n. extended_values bs h t p distinct new n
       ∙ sym (value_at-append n t (tuple_of (added_values bs t)) ∙ ap (λ v. if has_name n (tuple_names t) then value_at n t else v) (value_at-tuple_of n (added_values bs t) added)))
     where

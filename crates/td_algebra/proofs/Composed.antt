@@ -14,7 +14,7 @@ use Rattle.td_value.proofs.Kept.{IsTuple-filter}
 use Rattle.td_value.proofs.Maps.{value_at-tuple_of}
 use Rattle.td_value.proofs.Members.{set_members}
 use Rattle.td_algebra.specs.Operators.{are_partners, composition, join, own_names, united_tuple}
-use Rattle.td_algebra.specs.Pairs.{paired, pairs_with, partners_paired}
+use Rattle.td_algebra.specs.Pairs.{paired_tuple, pairs_with, partners_paired}
 use Rattle.td_algebra.proofs.Entries.{IsTuple-tuple_of, distinct_append, fields_append, has_name-heading, has_value, no_value_outside, tuple_distinct, value_at-append}
 use Rattle.td_algebra.proofs.Joined.{pair_members, sets_alike}
 use Rattle.td_algebra.proofs.Lists.{contains_map}
@@ -102,10 +102,10 @@ module _ (r s : Relation) (t u : Tuple) (p : IsTupleOf r.heading t) (q : IsTuple
   parts_distinct : are_distinct (tuple_names parts) ≡ true
   parts_distinct = distinct_append own_part other_part (tuple_distinct own_part own_tuple) (tuple_distinct other_part other_tuple) parts_apart
 
-  parts_tuple : IsTuple (paired s.heading t u)
+  parts_tuple : IsTuple (paired_tuple s.heading t u)
   parts_tuple = IsTuple-tuple_of parts (fields_append own_part other_part own_tuple.0 other_tuple.0) parts_distinct
 
-  value_at-paired : (n : List ℕ) → value_at n (paired s.heading t u) ≡ value_at n (projected_tuple (either_names r s) (united_tuple t u))
+  value_at-paired : (n : List ℕ) → value_at n (paired_tuple s.heading t u) ≡ value_at n (projected_tuple (either_names r s) (united_tuple t u))
   value_at-paired n =
       value_at-tuple_of n parts parts_distinct ∙ value_at-append n own_part other_part
       ∙ (λ i. if (own_has n ∙ ap (λ b. not (has_attribute n s.heading) && b) (has_name-heading r.heading t p n)) i then own_value n i
@@ -122,12 +122,12 @@ module _ (r s : Relation) (t u : Tuple) (p : IsTupleOf r.heading t) (q : IsTuple
       by_cases false false a b e = e refl
 
   -- is the united tuple's projection
-  pub composed_is : paired s.heading t u ≡ projected_tuple (either_names r s) (united_tuple t u)
+  pub composed_is : paired_tuple s.heading t u ≡ projected_tuple (either_names r s) (united_tuple t u)
   composed_is =
-      tuples_of_values (paired s.heading t u) (projected_tuple (either_names r s) (united_tuple t u)) parts_tuple
+      tuples_of_values (paired_tuple s.heading t u) (projected_tuple (either_names r s) (united_tuple t u)) parts_tuple
       (IsTuple-filter (λ e. has_name e.0 (either_names r s)) (united_tuple t u) (IsTupleOf-united r.heading s.heading t u p q).0) value_at-paired
 
-  pub composed_headed : IsTupleOf (projection (either_names r s) (heading_union r.heading s.heading)) (paired s.heading t u)
+  pub composed_headed : IsTupleOf (projection (either_names r s) (heading_union r.heading s.heading)) (paired_tuple s.heading t u)
   composed_headed =
       subst (IsTupleOf (projection (either_names r s) (heading_union r.heading s.heading))) (sym composed_is)
       (IsTupleOf-projected (either_names r s) (heading_union r.heading s.heading) (united_tuple t u) (IsTupleOf-united r.heading s.heading t u p q))
@@ -142,11 +142,11 @@ module _ (r s : Relation) (rows : List Tuple) (firsts : All (IsTupleOf r.heading
     where
       headed : (y : Tuple) → Contains rows y → IsTupleOf (projection (either_names r s) (heading_union r.heading s.heading)) y
       headed y c =
-          let d = (pair_members (are_partners r s) (paired s.heading) r.body s.body y).0 ((same y).0 c) in
+          let d = (pair_members (are_partners r s) (paired_tuple s.heading) r.body s.body y).0 ((same y).0 c) in
           subst (IsTupleOf (projection (either_names r s) (heading_union r.heading s.heading))) d.5
           (composed_headed r s d.0 d.1 (All-contains (IsTupleOf r.heading) r.body d.0 firsts d.2) (All-contains (IsTupleOf s.heading) s.body d.1 seconds d.3))
 
-  pair_is : (t u : Tuple) → Contains r.body t → Contains s.body u → paired s.heading t u ≡ projected_tuple (either_names r s) (united_tuple t u)
+  pair_is : (t u : Tuple) → Contains r.body t → Contains s.body u → paired_tuple s.heading t u ≡ projected_tuple (either_names r s) (united_tuple t u)
   pair_is t u c d = composed_is r s t u (All-contains (IsTupleOf r.heading) r.body t firsts c) (All-contains (IsTupleOf s.heading) s.body u seconds d)
 
   same_composed : HaveSameMembers rows (map (projected_tuple (either_names r s)) (join r s).body)
@@ -154,7 +154,7 @@ module _ (r s : Relation) (rows : List Tuple) (firsts : All (IsTupleOf r.heading
     where
       there : Contains rows y → Contains (map (projected_tuple (either_names r s)) (join r s).body) y
       there c =
-          let d = (pair_members (are_partners r s) (paired s.heading) r.body s.body y).0 ((same y).0 c) in
+          let d = (pair_members (are_partners r s) (paired_tuple s.heading) r.body s.body y).0 ((same y).0 c) in
           let joined = (pair_members (are_partners r s) united_tuple r.body s.body (united_tuple d.0 d.1)).1 (d.0, d.1, d.2, d.3, d.4, refl) in
           (contains_map (projected_tuple (either_names r s)) (join r s).body y).1
           (united_tuple d.0 d.1, (set_members (pairs_with (λ t. filter (are_partners r s t) s.body) united_tuple r.body) (united_tuple d.0 d.1)).1 joined, sym (pair_is d.0 d.1 d.2 d.3) ∙ d.5)
@@ -163,7 +163,7 @@ module _ (r s : Relation) (rows : List Tuple) (firsts : All (IsTupleOf r.heading
       back c =
           let a = (contains_map (projected_tuple (either_names r s)) (join r s).body y).0 c in
           let d = (pair_members (are_partners r s) united_tuple r.body s.body a.0).0 ((set_members (pairs_with (λ t. filter (are_partners r s t) s.body) united_tuple r.body) a.0).0 a.1) in
-          (same y).1 ((pair_members (are_partners r s) (paired s.heading) r.body s.body y).1
+          (same y).1 ((pair_members (are_partners r s) (paired_tuple s.heading) r.body s.body y).1
           (d.0, d.1, d.2, d.3, d.4, pair_is d.0 d.1 d.2 d.3 ∙ ap (projected_tuple (either_names r s)) d.5 ∙ a.2))
 
   pub composed_set : set_of tuple_cmp rows ≡ (composition r s).body

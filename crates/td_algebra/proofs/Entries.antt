@@ -1,22 +1,25 @@
 -- Entries of distinct names, as the tuple that they are.
-use Rattle.std.proofs.Common.{◌≡◌, ◌∙◌, ap, sym, refl, subst, ℕ, Bool, true, false, List, [], ◌∷◌, ◌++◌, Option, Some, None, map, true≢false, rules}
-use Rattle.std.specs.Prelude.{◌&&◌, ◌||◌, not, if◌then◌else◌, is_some, option_map}
+use Rattle.std.proofs.Common.{◌≡◌, ◌∙◌, ap, sym, refl, subst, ℕ, Bool, true, false, List, [], ◌∷◌, ◌++◌, Option, Some, None, length, true≢false}
+use Rattle.std.specs.Prelude.{◌||◌, if◌then◌else◌, is_some, option_map}
 use Rattle.std.specs.declared.cmp.Ordering.{Ordering}
 use Rattle.std.specs.declared.cmp.Ordering.TheVariants.{Less, Equal, Greater}
 use Rattle.std.specs.Ordering.{is_eq, ordering_reverse}
-use Rattle.std.specs.Cmp.Lexicographic.{same_text, texts_ties}
+use Rattle.std.specs.Cmp.Lexicographic.{texts_ties}
 use Rattle.std.specs.List.{AllByRecursion}
 use Rattle.std.specs.List.Sorted.{IsStrictlySortedBy}
 use Rattle.std.proofs.lemmas.Cmp.{nat_list_cmp_total}
+use Rattle.std.proofs.lemmas.List.{length-map, map-append}
+use Rattle.std.proofs.lemmas.List.Folds.{list_any-append}
 use Rattle.td_tree.specs.Names.{IsName}
 use Rattle.td_types.specs.Headings.{are_distinct, has_attribute, has_name}
-use Rattle.td_types.specs.Types.{Type', Heading, IsAscending, IsHeading, attribute_names, pack, same_name, type_at}
+use Rattle.td_types.specs.Types.{Heading, IsHeading, attribute_names, pack, same_name, type_at}
 use Rattle.td_types.proofs.DistinctNames.{absent_below, first_of, second_of}
 use Rattle.td_types.proofs.HeadingLaws.{ascending_from_heading, attribute_from_heading, has_attribute-names, name_cmp, same_name-flips, same_name-itself, types_determine_heading}
 use Rattle.td_value.specs.Sets.{put_in}
 use Rattle.td_value.specs.Values.{Val, AreFields, IsTuple, IsTupleOf, IsValue, Tuple, entry_cmp, heading_of, pack_fields, tuple_names, tuple_of, type_of, value_at}
+use Rattle.td_value.specs.Views.{values_of}
 use Rattle.td_value.proofs.Agreement.{names_ascend, tuples_of_values}
-use Rattle.td_value.proofs.Maps.{value_at-tuple_of}
+use Rattle.td_value.proofs.Maps.{has_name-tuple_of, or_left, or_right, value_at-tuple_of}
 use Rattle.td_value.proofs.Zips.{IsTuple-from}
 
 -- ---- the heading of entries
@@ -83,14 +86,6 @@ below_put n e (f ∷ es) d h = by_order (below_put n e es d h.1) (entry_cmp e f)
     by_order rest Equal o = rw o h
     by_order rest Greater o = rw o (h.0, rest)
 
-or_left : (b c : Bool) → (b || c) ≡ false → b ≡ false
-or_left true c e = e
-or_left false c e = refl
-
-or_right : (b c : Bool) → (b || c) ≡ false → c ≡ false
-or_right true c e = absurd (true≢false e)
-or_right false c e = e
-
 put_ascends : (e : List ℕ × Val) (es : Tuple) → has_name e.0 (tuple_names es) ≡ false → IsStrictlySortedBy name_cmp (tuple_names es)
     → IsStrictlySortedBy name_cmp (tuple_names (put_in entry_cmp e es))
 unfolding IsStrictlySortedBy
@@ -116,15 +111,12 @@ put_fields e (f ∷ es) n v h = by_order (put_fields e es n v h.2) (entry_cmp e 
     by_order rest Equal o = rw o h
     by_order rest Greater o = rw o (h.0, h.1, rest)
 
-pub has_name-tuple_of : (n : List ℕ) (es : Tuple) → are_distinct (tuple_names es) ≡ true → has_name n (tuple_names (tuple_of es)) ≡ has_name n (tuple_names es)
-has_name-tuple_of n es d = sym (has_value n (tuple_of es)) ∙ ap is_some (value_at-tuple_of n es d) ∙ has_value n es
-
 pub tuple_of-ascends : (es : Tuple) → are_distinct (tuple_names es) ≡ true → IsStrictlySortedBy name_cmp (tuple_names (tuple_of es))
 unfolding IsStrictlySortedBy
 tuple_of-ascends [] d = tt
 tuple_of-ascends (e ∷ es) d =
     let rest : are_distinct (tuple_names es) ≡ true = second_of _ _ d in
-    put_ascends e (tuple_of es) (has_name-tuple_of e.0 es rest ∙ first_of _ _ d) (tuple_of-ascends es rest)
+    put_ascends e (tuple_of es) (has_name-tuple_of e.0 es ∙ first_of _ _ d) (tuple_of-ascends es rest)
 
 pub tuple_of-fields : (es : Tuple) → AreFields (pack_fields es) → AreFields (pack_fields (tuple_of es))
 tuple_of-fields [] h = tt
@@ -153,6 +145,11 @@ typed_values h t p n = sym (type_at-heading_of n t) ∙ ap (type_at n) p.1
 pub names_of_heading : (h : Heading) (t : Tuple) → IsTupleOf h t → tuple_names t ≡ attribute_names h
 names_of_heading h t p = sym (names-heading t) ∙ ap attribute_names p.1
 
+-- as many values as attributes
+pub as_many : (h : Heading) (t : Tuple) → IsTupleOf h t → length h ≡ length (values_of t)
+as_many h t p =
+    ap length (sym p.1) ∙ length-map t (λ e. (e.0, type_of e.1)) ∙ sym (length-map t (λ e. e.1))
+
 pub has_name-heading : (h : Heading) (t : Tuple) → IsTupleOf h t → (n : List ℕ) → has_name n (tuple_names t) ≡ has_attribute n h
 has_name-heading h t p n = ap (has_name n) (names_of_heading h t p) ∙ sym (has_attribute-names n h)
 
@@ -167,28 +164,25 @@ value_at-append n (e ∷ es) fs = by_name (value_at-append n es fs) (same_name e
     by_name rest true = refl
     by_name rest false = rest
 
-has_name-append : (n : List ℕ) (es fs : Tuple) → has_name n (tuple_names (es ++ fs)) ≡ (has_name n (tuple_names es) || has_name n (tuple_names fs))
-has_name-append n [] fs = refl
-has_name-append n (e ∷ es) fs = by_name (has_name-append n es fs) (same_name e.0 n)
+-- names of which none is in both lists
+pub names_apart : (ms ns : List (List ℕ)) → are_distinct ms ≡ true → are_distinct ns ≡ true → ((n : List ℕ) → has_name n ms ≡ true → has_name n ns ≡ false)
+    → are_distinct (ms ++ ns) ≡ true
+names_apart [] ns d f apart = f
+names_apart (m ∷ ms) ns d f apart =
+    let absent : has_name m ms ≡ false = first_of _ _ d in
+    let other : has_name m ns ≡ false = apart m (rw (same_name-itself m) refl) in
+    let none : has_name m (ms ++ ns) ≡ false = list_any-append (λ k. same_name k m) ms ns ∙ rw (absent, other) refl in
+    rw none (names_apart ms ns (second_of _ _ d) f (λ n h. apart n (later n h (same_name m n))))
   where
-    by_name : has_name n (tuple_names (es ++ fs)) ≡ (has_name n (tuple_names es) || has_name n (tuple_names fs)) → (b : Bool)
-        → (b || has_name n (tuple_names (es ++ fs))) ≡ ((b || has_name n (tuple_names es)) || has_name n (tuple_names fs))
-    by_name rest true = refl
-    by_name rest false = rest
+    later : (n : List ℕ) → has_name n ms ≡ true → (b : Bool) → (b || has_name n ms) ≡ true
+    later n h true = refl
+    later n h false = h
 
 -- where no name is in both, the names of both are distinct
 pub distinct_append : (es fs : Tuple) → are_distinct (tuple_names es) ≡ true → are_distinct (tuple_names fs) ≡ true
     → ((n : List ℕ) → has_name n (tuple_names es) ≡ true → has_name n (tuple_names fs) ≡ false) → are_distinct (tuple_names (es ++ fs)) ≡ true
-distinct_append [] fs d f apart = f
-distinct_append (e ∷ es) fs d f apart =
-    let absent : has_name e.0 (tuple_names es) ≡ false = first_of _ _ d in
-    let other : has_name e.0 (tuple_names fs) ≡ false = apart e.0 (rw (same_name-itself e.0) refl) in
-    let none : has_name e.0 (tuple_names (es ++ fs)) ≡ false = has_name-append e.0 es fs ∙ rw (absent, other) refl in
-    rw none (distinct_append es fs (second_of _ _ d) f (λ n h. apart n (later n h (same_name e.0 n))))
-  where
-    later : (n : List ℕ) → has_name n (tuple_names es) ≡ true → (b : Bool) → (b || has_name n (tuple_names es)) ≡ true
-    later n h true = refl
-    later n h false = h
+distinct_append es fs d f apart =
+    ap are_distinct (map-append (λ (e : List ℕ × Val). e.0) es fs) ∙ names_apart (tuple_names es) (tuple_names fs) d f apart
 
 pub fields_append : (es fs : Tuple) → AreFields (pack_fields es) → AreFields (pack_fields fs) → AreFields (pack_fields (es ++ fs))
 fields_append [] fs p q = q

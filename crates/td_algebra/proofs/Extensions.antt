@@ -1,7 +1,7 @@
 -- The extended tuples of a relation.
-use Rattle.std.proofs.Common.{◌≡◌, ◌∙◌, ◌+◌, ◌<◌, ◌≤◌, ap, drop, take, sym, refl, subst, arith, ℕ, zero, suc, Bool, true, false, cond, List, [], ◌∷◌, ◌++◌, Option, Some, None, filter, get_or, length, map, true≢false}
-use Rattle.std.specs.Prelude.{◌&&◌, ◌||◌, if◌then◌else◌, is_some, not, option_map, Result, Ok}
-use Rattle.std.specs.declared.cmp.Ordering.TheVariants.{Less, Equal, Greater}
+use Rattle.std.proofs.Common.{◌≡◌, ◌∙◌, ◌+◌, ◌<◌, ◌≤◌, ap, drop, take, sym, refl, subst, arith, ℕ, zero, suc, Bool, true, false, cond, List, [], ◌∷◌, ◌++◌, Some, get_or, length, map, true≢false}
+use Rattle.std.specs.Prelude.{if◌then◌else◌, is_some, not, option_map, Result, Ok}
+use Rattle.std.specs.declared.cmp.Ordering.TheVariants.{Less, Greater}
 use Rattle.std.specs.Ordering.{eq_by_cmp, ordering_reverse}
 use Rattle.std.specs.List.Sorted.{IsStrictlySortedBy}
 use Rattle.std.proofs.lemmas.Cmp.{tied_itself}
@@ -22,7 +22,7 @@ use Rattle.td_types.proofs.Valued.{test_holds}
 use Rattle.td_types.proofs.DistinctNames.{first_of, second_of}
 use Rattle.td_types.proofs.HeadingLaws.{has_attribute-names, same_name-itself, type_at-union}
 use Rattle.td_value.specs.Agreement.{AgreeOn}
-use Rattle.td_value.specs.Values.{IsRelation, IsTuple, IsTupleOf, Tuple, Val, boolean, tuple_cmp, tuple_names, tuple_of, type_of, value_at}
+use Rattle.td_value.specs.Values.{IsTuple, IsTupleOf, Tuple, Val, boolean, tuple_cmp, tuple_names, tuple_of, type_of, value_at}
 use Rattle.td_value.specs.ValueOrder.{tuple_order_total}
 use Rattle.td_value.specs.Views.{values_of}
 use Rattle.td_value.proofs.Agreement.{entries_of_values, names_ascend}
@@ -30,13 +30,14 @@ use Rattle.td_value.proofs.Maps.{value_at-tuple_of}
 use Rattle.td_value.proofs.Members.{set_members}
 use Rattle.td_algebra.specs.Columns.{AreColumns, AreColumnsOf, IsColumn, NamedColumn, cells_at, column_attributes, column_of, columns_view}
 use Rattle.td_algebra.specs.declared.extension.Column.{Column}
-use Rattle.td_algebra.specs.Layouts.{AreInRange, Sources, numbered, sources_outside, sources_with, taken, tuple_with}
-use Rattle.td_algebra.specs.Membership.{AreNew, ExtensionByMembership, IsExtended, IsIn}
+use Rattle.td_algebra.specs.Layouts.{AreInRange, Sources, numbered_sources, sources_outside, sources_with, placed_tuple, taken}
+use Rattle.td_algebra.specs.Membership.{ExtensionByMembership, IsExtended, IsIn}
 use Rattle.td_algebra.specs.Operators.{Addition, added_attributes, added_values, extended_relation, extended_tuple, relation_names}
-use Rattle.td_algebra.proofs.Entries.{distinct_append, heading_distinct, has_name-heading, has_value, names_of_heading, no_value, no_value_outside, tuple_distinct, tuple_heading, tuple_of-ascends, typed_values, value_at-append}
-use Rattle.td_algebra.proofs.Lists.{contains_map}
+use Rattle.td_algebra.proofs.Entries.{as_many, distinct_append, heading_distinct, has_name-heading, names_apart, names_of_heading, no_value, no_value_outside, tuple_distinct, tuple_heading, tuple_of-ascends, typed_values, value_at-append}
+use Rattle.td_algebra.proofs.Lists.{all_kept, contains_map}
 use Rattle.td_algebra.proofs.Relations.{member_headed}
-use Rattle.td_algebra.proofs.Taken.{headed_by, map_alike, names_numbered, names_outside, numbered_in_range, outside_in_range, value_of_answer, taken-append, taken_numbered, taken_outside, values_in_heading}
+use Rattle.td_algebra.proofs.Sources.{names_outside, outside_in_range, taken-append, taken_outside}
+use Rattle.td_algebra.proofs.Taken.{headed_by, map_alike, names_numbered, numbered_in_range, taken_numbered, value_of_answer}
 
 -- ---- the new entries
 
@@ -102,10 +103,6 @@ module _ (bs : List Addition) (h : Heading) (t : Tuple) (p : IsTupleOf h t) (dis
 
 -- ---- what is taken of a tuple's values and the new ones
 
-all_kept : (t : Tuple) → filter (λ e. not (has_attribute e.0 [])) t ≡ t
-all_kept [] = refl
-all_kept (e ∷ t) = ap (λ r. e ∷ r) (all_kept t)
-
 zip_added : (bs : List Addition) (t : Tuple) → zip (attribute_names (added_attributes bs)) (map (λ (a : Addition). a.value t) bs) ≡ added_values bs t
 zip_added [] t = refl
 zip_added (a ∷ bs) t = ap (λ r. (a.name, a.value t) ∷ r) (zip_added bs t)
@@ -115,8 +112,8 @@ same_count [] t = refl
 same_count (a ∷ bs) t = ap suc (same_count bs t)
 
 pub taken_extension : (bs : List Addition) (h : Heading) (t : Tuple) → IsTupleOf h t
-    → tuple_with (sources_with h (attribute_names (added_attributes bs))) t (map (λ (a : Addition). a.value t) bs) ≡ extended_tuple bs t
-taken_extension bs h t p = ap tuple_of (taken-append (sources_outside [] 0 h) (numbered (length h) names) (values_of t ++ cells) ∙ (λ i. old i ++ new i))
+    → placed_tuple (sources_with h (attribute_names (added_attributes bs))) (values_of t ++ map (λ (a : Addition). a.value t) bs) ≡ extended_tuple bs t
+taken_extension bs h t p = ap tuple_of (taken-append (sources_outside [] 0 h) (numbered_sources (length h) names) (values_of t ++ cells) ∙ (λ i. old i ++ new i))
   where
     names : List (List ℕ)
     names = attribute_names (added_attributes bs)
@@ -125,12 +122,12 @@ taken_extension bs h t p = ap tuple_of (taken-append (sources_outside [] 0 h) (n
     cells = map (λ (a : Addition). a.value t) bs
 
     old : taken (sources_outside [] 0 h) (values_of t ++ cells) ≡ t
-    old = taken_outside [] [] t cells h (names_of_heading h t p) ∙ all_kept t
+    old = taken_outside [] h t 0 (values_of t ++ cells) cells (names_of_heading h t p) refl ∙ all_kept (λ (e : List ℕ × Val). not (has_attribute e.0 [])) t (λ e. refl)
 
-    new : taken (numbered (length h) names) (values_of t ++ cells) ≡ added_values bs t
+    new : taken (numbered_sources (length h) names) (values_of t ++ cells) ≡ added_values bs t
     new =
-        ap (λ n. taken (numbered n names) (values_of t ++ cells)) (values_in_heading h t p)
-        ∙ ap (λ vs. taken (numbered (length (values_of t)) names) (values_of t ++ vs)) (sym (append-nil cells))
+        ap (λ n. taken (numbered_sources n names) (values_of t ++ cells)) (as_many h t p)
+        ∙ ap (λ vs. taken (numbered_sources (length (values_of t)) names) (values_of t ++ vs)) (sym (append-nil cells))
         ∙ taken_numbered (values_of t) names cells [] (same_count bs t) ∙ zip_added bs t
 
 -- ---- the line by membership
@@ -242,12 +239,12 @@ names_of_all (a ∷ h) = ap (λ ns. a.0 ∷ ns) (names_of_all h)
 
 pub names_with : (h : Heading) (ns : List (List ℕ)) → map (λ s. s.0) (sources_with h ns) ≡ attribute_names h ++ ns
 names_with h ns =
-    map-append (λ (s : List ℕ × ℕ). s.0) (sources_outside [] 0 h) (numbered (length h) ns)
+    map-append (λ (s : List ℕ × ℕ). s.0) (sources_outside [] 0 h) (numbered_sources (length h) ns)
     ∙ (λ i. (names_outside [] 0 h ∙ names_of_all h) i ++ names_numbered (length h) ns i)
 
 pub with_in_range : (h : Heading) (ns : List (List ℕ)) (n : ℕ) → length h + length ns ≤ n → All (λ s. s.1 < n) (sources_with h ns)
 with_in_range h ns n l =
-    All-append (λ s. s.1 < n) (sources_outside [] 0 h) (numbered (length h) ns) (outside_in_range [] 0 n h (omega arith)) (numbered_in_range (length h) n ns l)
+    All-append (λ s. s.1 < n) (sources_outside [] 0 h) (numbered_sources (length h) ns) (outside_in_range [] 0 n h (omega arith)) (numbered_in_range (length h) n ns l)
 
 -- the columns' values at a place are those that the new attributes have in the tuple there
 pub cells_are : (cs : List (List ℕ × Column)) (ts : List Tuple) (bs : List Addition) (i : ℕ) (t : Tuple) → AreColumnsOf (columns_view cs) ts bs → i < length ts
@@ -376,7 +373,7 @@ row_in_range layout rows m i t vs ws h l here is count =
 
 -- the extended tuple by a layout's sources
 abbrev pub row_with : Sources → List Addition → Tuple → Tuple
-row_with sources bs t = tuple_with sources t (map (λ (a : Addition). a.value t) bs)
+row_with sources bs t = placed_tuple sources (values_of t ++ map (λ (a : Addition). a.value t) bs)
 
 pub row_more : (sources : Sources) (bs : List Addition) (cs : List (List ℕ × Column)) (rows : List Tuple) (i : ℕ) (t made : Tuple) (vs ws : List Val) (old new : List Tuple)
     → AreColumnsOf (columns_view cs) rows bs → i < length rows → t ≡ get_or rows i t → vs ≡ values_of t → ws ≡ cells_at i cs → made ≡ tuple_of (taken sources (vs ++ ws))
@@ -393,40 +390,20 @@ All-more P xs ys x e a p = subst (All P) (sym e) (All-append P xs (x ∷ []) a (
 
 -- ---- what is asked of columns, as the code hands it on
 
-has_name-joined : (n : List ℕ) (ms ns : List (List ℕ)) → has_name n (ms ++ ns) ≡ (has_name n ms || has_name n ns)
-has_name-joined n [] ns = refl
-has_name-joined n (m ∷ ms) ns = by_name (has_name-joined n ms ns) (same_name m n)
-  where
-    by_name : has_name n (ms ++ ns) ≡ (has_name n ms || has_name n ns) → (b : Bool) → (b || has_name n (ms ++ ns)) ≡ ((b || has_name n ms) || has_name n ns)
-    by_name rest true = refl
-    by_name rest false = rest
-
-joined_distinct : (ms ns : List (List ℕ)) → are_distinct ms ≡ true → are_distinct ns ≡ true → ((n : List ℕ) → has_name n ms ≡ true → has_name n ns ≡ false) → are_distinct (ms ++ ns) ≡ true
-joined_distinct [] ns d f apart = f
-joined_distinct (m ∷ ms) ns d f apart =
-    let absent : has_name m ms ≡ false = first_of _ _ d in
-    let other : has_name m ns ≡ false = apart m (rw (same_name-itself m) refl) in
-    let none : has_name m (ms ++ ns) ≡ false = has_name-joined m ms ns ∙ rw (absent, other) refl in
-    rw none (joined_distinct ms ns (second_of _ _ d) f (λ n there. apart n (later n there (same_name m n))))
-  where
-    later : (n : List ℕ) → has_name n ms ≡ true → (b : Bool) → (b || has_name n ms) ≡ true
-    later n there true = refl
-    later n there false = there
-
 pub all_distinct : (h g : Heading) (cs : List (List ℕ × Column)) (names : List (List ℕ)) → h ≡ g → names ≡ map (λ c. c.0) cs → IsHeading (pack h)
     → are_distinct (attribute_names (column_attributes (columns_view cs))) ≡ true → have_no_common (column_attributes (columns_view cs)) g ≡ true
     → are_distinct (attribute_names h ++ names) ≡ true
 all_distinct h g cs names same is p d new =
     let added : names ≡ attribute_names (column_attributes (columns_view cs)) = is ∙ column_names cs in
     let free : have_no_common (column_attributes (columns_view cs)) h ≡ true = ap (have_no_common (column_attributes (columns_view cs))) same ∙ new in
-    joined_distinct (attribute_names h) names (heading_distinct h p) (ap are_distinct added ∙ d)
+    names_apart (attribute_names h) names (heading_distinct h p) (ap are_distinct added ∙ d)
     (λ n there. ap (has_name n) added ∙ sym (has_attribute-names n (column_attributes (columns_view cs)))
     ∙ apart (column_attributes (columns_view cs)) h free n (has_attribute-names n h ∙ there))
 
 pub layout_range : (h : Heading) (cs : List (List ℕ × Column)) (names : List (List ℕ)) (layout : Sources) (ts : List Tuple) → names ≡ map (λ c. c.0) cs
     → IsPermutation (sources_with h names) layout → All (IsTupleOf h) ts → All (λ t. All (λ s. s.1 < length (values_of t) + length cs) layout) ts
 layout_range h cs names layout ts is p a k d l =
-    let wide : length h ≡ length (values_of (get_or ts k d)) = values_in_heading h (get_or ts k d) (a k d l) in
+    let wide : length h ≡ length (values_of (get_or ts k d)) = as_many h (get_or ts k d) (a k d l) in
     let count : length names ≡ length cs = ap length is ∙ length-map cs (λ c. c.0) in
     All-permutation (λ s. s.1 < length (values_of (get_or ts k d)) + length cs) (sources_with h names) layout p
     (with_in_range h names (length (values_of (get_or ts k d)) + length cs) (omega arith))

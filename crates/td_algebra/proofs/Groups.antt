@@ -11,7 +11,7 @@ use Rattle.std.proofs.lemmas.List.Elements.{filter-append}
 use Rattle.std.proofs.lemmas.Cmp.{eq_by_cmp_equiv}
 use Rattle.td_value.specs.Values.{Tuple, tuple_cmp}
 use Rattle.td_value.specs.ValueOrder.{tuple_Decides, tuple_order_total}
-use Rattle.td_algebra.specs.Groups.{AreGrouped, AreKeys, group, has_key, key_of, listed}
+use Rattle.td_algebra.specs.Groups.{AreGrouped, AreKeysOf, group, is_at_key, key_of, tuples_there}
 use Rattle.td_algebra.specs.Layouts.{Sources}
 
 module _ {A S : Type 0} (old mid new : HashMap Tuple (Vec (Bor Tuple) A) S) (key : Tuple) (row : Bor Tuple) (was : Option (Vec (Bor Tuple) A)) (empty base rows : Vec (Bor Tuple) A)
@@ -21,7 +21,7 @@ module _ {A S : Type 0} (old mid new : HashMap Tuple (Vec (Bor Tuple) A) S) (key
   grown : rows.items ≡ (unwrap_or (get (eq_by_cmp tuple_cmp) old key) empty).items ++ row ∷ []
   grown = rows_are ∙ ap (λ (v : Vec (Bor Tuple) A). v.items ++ row ∷ []) (base_is ∙ ap (λ o. unwrap_or o empty) there)
 
-  listed_or : (o : Option (Vec (Bor Tuple) A)) → map (λ t. t.now) (unwrap_or o empty).items ≡ listed o
+  listed_or : (o : Option (Vec (Bor Tuple) A)) → map (λ t. t.now) (unwrap_or o empty).items ≡ tuples_there o
   listed_or None = ap (map (λ t. t.now)) nothing
   listed_or (Some v) = refl
 
@@ -29,7 +29,7 @@ module _ {A S : Type 0} (old mid new : HashMap Tuple (Vec (Bor Tuple) A) S) (key
   at_key =
       let own : eq_by_cmp tuple_cmp key key ≡ true = (eq_by_cmp_equiv tuple_order_total).refl key in
       let found : get (eq_by_cmp tuple_cmp) new key ≡ Some rows = back key ∙ rw own refl in
-      ap listed found ∙ ap (map (λ t. t.now)) grown
+      ap tuples_there found ∙ ap (map (λ t. t.now)) grown
       ∙ map-append (λ (t : Bor Tuple). t.now) (unwrap_or (get (eq_by_cmp tuple_cmp) old key) empty).items (row ∷ [])
       ∙ ap (λ ts. ts ++ row.now ∷ []) (listed_or (get (eq_by_cmp tuple_cmp) old key))
 
@@ -42,7 +42,7 @@ module _ {A S : Type 0} (old mid new : HashMap Tuple (Vec (Bor Tuple) A) S) (key
           let apart : eq_by_cmp tuple_cmp key q ≡ false = (eq_by_cmp_equiv tuple_order_total).symm key q ∙ e in
           let step : get (eq_by_cmp tuple_cmp) new q ≡ get (eq_by_cmp tuple_cmp) mid q = back q ∙ rw apart refl in
           let kept : get (eq_by_cmp tuple_cmp) mid q ≡ get (eq_by_cmp tuple_cmp) old q = out q ∙ rw apart refl in
-          ap listed (step ∙ kept) ∙ sym (append-nil (group q old))
+          ap tuples_there (step ∙ kept) ∙ sym (append-nil (group q old))
 
 filter_one : {X : Type 0} (p : X → Bool) (x : X) → filter p (x ∷ []) ≡ cond (p x) (x ∷ []) []
 filter_one p x = refl
@@ -58,12 +58,12 @@ pub grouped_more : {A S : Type 0} (layout : Sources) (rows : List Tuple) (i : �
     → ((q : Tuple) → group q n ≡ group q m ++ cond (eq_by_cmp tuple_cmp q key) (row ∷ []) []) → AreGrouped layout (take (i + 1) rows) n
 grouped_more layout rows i row key m n h is e inv grows q =
     grows q ∙ ap (λ ts. ts ++ cond (eq_by_cmp tuple_cmp q key) (row ∷ []) []) (inv q)
-    ∙ ap (λ k. filter (has_key layout q) (take i rows) ++ cond (eq_by_cmp tuple_cmp q k) (row ∷ []) []) e
-    ∙ sym (filter_more (has_key layout q) rows i row h is)
+    ∙ ap (λ k. filter (is_at_key layout q) (take i rows) ++ cond (eq_by_cmp tuple_cmp q k) (row ∷ []) []) e
+    ∙ sym (filter_more (is_at_key layout q) rows i row h is)
 
 pub grouped_all : {A S : Type 0} (layout : Sources) (rows : List Tuple) (i : ℕ) (m : HashMap Tuple (Vec (Bor Tuple) A) S)
     → length rows ≤ i → AreGrouped layout (take i rows) m → AreGrouped layout rows m
-grouped_all layout rows i m h inv q = subst (λ ts. group q m ≡ filter (has_key layout q) ts) (take_all i rows h) (inv q)
+grouped_all layout rows i m h inv q = subst (λ ts. group q m ≡ filter (is_at_key layout q) ts) (take_all i rows h) (inv q)
 
 -- ---- the keys of rows
 
@@ -78,13 +78,13 @@ any_more p xs i x h is =
 
 -- a key put among the others
 pub keys_more : {S : Type 0} (layout : Sources) (rows : List Tuple) (i : ℕ) (row key : Tuple) (s t : HashSet Tuple S)
-    → i < length rows → row ≡ get_or rows i row → key ≡ key_of layout row → AreKeys layout (take i rows) s
-    → ((q : Tuple) → contains (eq_by_cmp tuple_cmp) t q ≡ cond (eq_by_cmp tuple_cmp key q) true (contains (eq_by_cmp tuple_cmp) s q)) → AreKeys layout (take (i + 1) rows) t
+    → i < length rows → row ≡ get_or rows i row → key ≡ key_of layout row → AreKeysOf layout (take i rows) s
+    → ((q : Tuple) → contains (eq_by_cmp tuple_cmp) t q ≡ cond (eq_by_cmp tuple_cmp key q) true (contains (eq_by_cmp tuple_cmp) s q)) → AreKeysOf layout (take (i + 1) rows) t
 keys_more layout rows i row key s t h is e inv puts q =
     puts q ∙ ap (λ b. cond b true (contains (eq_by_cmp tuple_cmp) s q)) ((eq_by_cmp_equiv tuple_order_total).symm key q)
     ∙ ap (λ k. cond (eq_by_cmp tuple_cmp q k) true (contains (eq_by_cmp tuple_cmp) s q)) e
-    ∙ ap (cond (has_key layout q row) true) (inv q) ∙ either (has_key layout q row) (list_any (has_key layout q) (take i rows))
-    ∙ sym (any_more (has_key layout q) rows i row h is)
+    ∙ ap (cond (is_at_key layout q row) true) (inv q) ∙ either (is_at_key layout q row) (list_any (is_at_key layout q) (take i rows))
+    ∙ sym (any_more (is_at_key layout q) rows i row h is)
   where
     either : (b c : Bool) → cond b true c ≡ (c || b)
     either true true = refl
@@ -93,5 +93,5 @@ keys_more layout rows i row key s t h is e inv puts q =
     either false false = refl
 
 pub keys_all : {S : Type 0} (layout : Sources) (rows : List Tuple) (i : ℕ) (s : HashSet Tuple S)
-    → length rows ≤ i → AreKeys layout (take i rows) s → AreKeys layout rows s
-keys_all layout rows i s h inv q = subst (λ ts. contains (eq_by_cmp tuple_cmp) s q ≡ list_any (has_key layout q) ts) (take_all i rows h) (inv q)
+    → length rows ≤ i → AreKeysOf layout (take i rows) s → AreKeysOf layout rows s
+keys_all layout rows i s h inv q = subst (λ ts. contains (eq_by_cmp tuple_cmp) s q ≡ list_any (is_at_key layout q) ts) (take_all i rows h) (inv q)

@@ -2,7 +2,7 @@
 use Rattle.std.proofs.Common.{◌≡◌, ◌∙◌, ap, sym, refl, subst, ℕ, Bool, true, false, List, [], ◌++◌, Option, None, ◌⊎◌, inl, inr, filter, true≢false}
 use Rattle.std.specs.Prelude.{◌&&◌, ◌||◌, ◌↔◌, not, if◌then◌else◌, is_some, IsTrue}
 use Rattle.std.specs.List.{Contains, list_any}
-use Rattle.td_types.specs.Headings.{agree, has_attribute, has_name, heading_union, outside}
+use Rattle.td_types.specs.Headings.{has_attribute, has_name, heading_union, outside}
 use Rattle.td_types.specs.Types.{Heading, attribute_names, same_name, type_at}
 use Rattle.td_types.proofs.HeadingLaws.{has_attribute-names, type_at-union}
 use Rattle.std.proofs.lemmas.List.Folds.{list_any-append}

@@ -11,7 +11,6 @@ use Rattle.td_tree.specs.Outcomes.{Answers}
 use Rattle.td_tree.specs.declared.cause.Cause.TheVariants as causes
 use Rattle.td_tree.specs.declared.fault.Fault.{Fault}
 use Rattle.td_types.specs.Headings.{agree, common_part, has_attribute, has_name, have_no_common, heading_union, united_heading, is_type_or_none}
-use Rattle.td_types.proofs.OutcomeLaws.{value_of_test}
 use Rattle.td_types.specs.Types.{Type', Heading, attribute_names, type_at}
 use Rattle.td_value.specs.Sets.{has, set_of}
 use Rattle.td_value.specs.ValueOrder.{tuple_Decides, tuple_order_same, tuple_order_total}
@@ -19,8 +18,10 @@ use Rattle.td_value.specs.Values.{HaveSameMembers, IsTupleOf, Relation, Tuple, p
 use Rattle.td_value.proofs.SetLaws.{has-set_of, is_set_of, set_of-ascends}
 use Rattle.td_algebra.specs.Layouts.{Sources}
 use Rattle.td_algebra.specs.Operators.{are_partners, common_names, join, product, united_tuple}
-use Rattle.td_algebra.specs.Pairs.{IsPaired, paired, pair_sources, pair_tuple, pairs_with, partners_paired}
-use Rattle.td_algebra.proofs.Lists.{contains_filter, contains_flat_map, contains_map}
+use Rattle.td_algebra.specs.Pairs.{IsPaired, paired_tuple, pair_sources, pair_tuple, pairs_with, partners_paired}
+use Rattle.td_algebra.proofs.Lists.{all_kept, contains_filter, contains_flat_map, contains_map}
+use Rattle.td_algebra.proofs.Members.{second_true}
+use Rattle.td_algebra.proofs.Taken.{value_of_answer}
 use Rattle.td_algebra.proofs.Pairs.{is_paired, is_turned, pair_is, turned_is, united_is}
 use Rattle.td_algebra.proofs.PartnersByKey.{has_common}
 use Rattle.td_algebra.proofs.Relations.{All-from_members}
@@ -101,8 +102,8 @@ module _ (left_out : Heading) (r s : Relation) (g h : Heading) (eg : g ≡ r.hea
 
     pub from_first : pairs_with (λ t. filter (are_partners r s t) s.body) (pair_tuple layout) r.body ≡ partners_paired left_out r s
     from_first =
-        pairs_alike (λ t. filter (are_partners r s t) s.body) (pair_tuple layout) (paired left_out) r.body
-        (λ k d l. All-from_members (λ u. pair_tuple layout (get_or r.body k d) u ≡ paired left_out (get_or r.body k d) u) (filter (are_partners r s (get_or r.body k d)) s.body)
+        pairs_alike (λ t. filter (are_partners r s t) s.body) (pair_tuple layout) (paired_tuple left_out) r.body
+        (λ k d l. All-from_members (λ u. pair_tuple layout (get_or r.body k d) u ≡ paired_tuple left_out (get_or r.body k d) u) (filter (are_partners r s (get_or r.body k d)) s.body)
         (λ u c. pair_is left_out r.heading s.heading (get_or r.body k d) u (firsts k d l)
         (All-contains (IsTupleOf s.heading) s.body u seconds ((contains_filter (are_partners r s (get_or r.body k d)) s.body u).0 c).0) layout own_laid))
 
@@ -115,10 +116,10 @@ module _ (left_out : Heading) (r s : Relation) (g h : Heading) (eg : g ≡ r.hea
     second_paired u t q p = is_turned left_out r.heading s.heading t u p q layout other_laid
 
     turned_pairs : pairs_with (λ u. filter (are_partners s r u) r.body) (pair_tuple layout) s.body
-        ≡ pairs_with (λ u. filter (are_partners s r u) r.body) (λ u t. paired left_out t u) s.body
+        ≡ pairs_with (λ u. filter (are_partners s r u) r.body) (λ u t. paired_tuple left_out t u) s.body
     turned_pairs =
-        pairs_alike (λ u. filter (are_partners s r u) r.body) (pair_tuple layout) (λ u t. paired left_out t u) s.body
-        (λ k d l. All-from_members (λ t. pair_tuple layout (get_or s.body k d) t ≡ paired left_out t (get_or s.body k d)) (filter (are_partners s r (get_or s.body k d)) r.body)
+        pairs_alike (λ u. filter (are_partners s r u) r.body) (pair_tuple layout) (λ u t. paired_tuple left_out t u) s.body
+        (λ k d l. All-from_members (λ t. pair_tuple layout (get_or s.body k d) t ≡ paired_tuple left_out t (get_or s.body k d)) (filter (are_partners s r (get_or s.body k d)) r.body)
         (λ t c. turned_is left_out r.heading s.heading t (get_or s.body k d)
         (All-contains (IsTupleOf r.heading) r.body t firsts ((contains_filter (are_partners s r (get_or s.body k d)) r.body t).0 c).0) (seconds k d l) layout other_laid))
 
@@ -127,22 +128,21 @@ module _ (left_out : Heading) (r s : Relation) (g h : Heading) (eg : g ≡ r.hea
       where
         there : Contains (pairs_with (λ u. filter (are_partners s r u) r.body) (pair_tuple layout) s.body) y → Contains (partners_paired left_out r s) y
         there c =
-            let p = (pair_members (are_partners s r) (λ u t. paired left_out t u) s.body r.body y).0 (subst (λ ts. Contains ts y) turned_pairs c) in
-            (pair_members (are_partners r s) (paired left_out) r.body s.body y).1 (p.1, p.0, p.3, p.2, sym (partners_turned r s p.1 p.0) ∙ p.4, p.5)
+            let p = (pair_members (are_partners s r) (λ u t. paired_tuple left_out t u) s.body r.body y).0 (subst (λ ts. Contains ts y) turned_pairs c) in
+            (pair_members (are_partners r s) (paired_tuple left_out) r.body s.body y).1 (p.1, p.0, p.3, p.2, sym (partners_turned r s p.1 p.0) ∙ p.4, p.5)
 
         back : Contains (partners_paired left_out r s) y → Contains (pairs_with (λ u. filter (are_partners s r u) r.body) (pair_tuple layout) s.body) y
         back c =
-            let p = (pair_members (are_partners r s) (paired left_out) r.body s.body y).0 c in
+            let p = (pair_members (are_partners r s) (paired_tuple left_out) r.body s.body y).0 c in
             subst (λ ts. Contains ts y) (sym turned_pairs)
-            ((pair_members (are_partners s r) (λ u t. paired left_out t u) s.body r.body y).1 (p.1, p.0, p.3, p.2, partners_turned r s p.0 p.1 ∙ p.4, p.5))
+            ((pair_members (are_partners s r) (λ u t. paired_tuple left_out t u) s.body r.body y).1 (p.1, p.0, p.3, p.2, partners_turned r s p.0 p.1 ∙ p.4, p.5))
 
 -- ---- the join
 
 -- the heading that a union of two answers
 pub united_answer : (a b g h : Heading) (r : Result Heading Fault) (x : Heading) → a ≡ g → b ≡ h → r ≡ Ok x → Answers (λ v. v) r (united_heading a b) → x ≡ heading_union g h
 united_answer a b g h r x ea eb is answers =
-    sym (value_of_test (agree a b) (heading_union a b) x causes.Heading (subst (λ o. Answers (λ v. v) o (united_heading a b)) is answers)).1
-    ∙ (λ i. heading_union (ea i) (eb i))
+    value_of_answer r x (heading_union a b) (agree a b) causes.Heading answers is ∙ (λ i. heading_union (ea i) (eb i))
 
 pub join_pairs : (r s : Relation) → partners_paired [] r s ≡ flat_map (λ t. map (united_tuple t) (filter (are_partners r s t) s.body)) r.body
 join_pairs r s = λ i. flat_map (λ t. map (λ u. united_is t u i) (filter (are_partners r s t) s.body)) r.body
@@ -155,7 +155,7 @@ joined_headed r s rows firsts seconds same =
   where
     headed : (y : Tuple) → Contains rows y → IsTupleOf (heading_union r.heading s.heading) y
     headed y c =
-        let p = (pair_members (are_partners r s) (paired []) r.body s.body y).0 ((same y).0 c) in
+        let p = (pair_members (are_partners r s) (paired_tuple []) r.body s.body y).0 ((same y).0 c) in
         subst (IsTupleOf (heading_union r.heading s.heading)) (sym (united_is p.0 p.1) ∙ p.5)
         (IsTupleOf-united r.heading s.heading p.0 p.1 (All-contains (IsTupleOf r.heading) r.body p.0 firsts p.2) (All-contains (IsTupleOf s.heading) s.body p.1 seconds p.3))
 
@@ -168,15 +168,11 @@ first_lacking : (b c : Bool) → (not b && c) ≡ true → b ≡ false
 first_lacking true c f = absurd (cc)
 first_lacking false c f = refl
 
-others_lacking : (b c : Bool) → (not b && c) ≡ true → c ≡ true
-others_lacking true c f = absurd (cc)
-others_lacking false c f = f
-
 -- headings with no common attribute agree
 pub apart_agree : (g h : Heading) → have_no_common g h ≡ true → agree g h ≡ true
 apart_agree [] h e = refl
 apart_agree (a ∷ g) h e =
-    rw (lacking a.1 (type_at a.0 h) (first_lacking (has_attribute a.0 h) (have_no_common g h) e)) (apart_agree g h (others_lacking (has_attribute a.0 h) (have_no_common g h) e))
+    rw (lacking a.1 (type_at a.0 h) (first_lacking (has_attribute a.0 h) (have_no_common g h) e)) (apart_agree g h (second_true (not (has_attribute a.0 h)) (have_no_common g h) e))
   where
     lacking : (t : Type') (o : Option Type') → is_some o ≡ false → is_type_or_none t o ≡ true
     lacking t None f = refl
@@ -186,11 +182,7 @@ none_common : (g h : Heading) → have_no_common g h ≡ true → common_part g 
 none_common [] h e = refl
 none_common (a ∷ g) h e =
     let lacks : has_attribute a.0 h ≡ false = first_lacking (has_attribute a.0 h) (have_no_common g h) e in
-    rw lacks (none_common g h (others_lacking (has_attribute a.0 h) (have_no_common g h) e))
-
-all_kept : {X : Type 0} (p : X → Bool) (xs : List X) → ((x : X) → p x ≡ true) → filter p xs ≡ xs
-all_kept p [] h = refl
-all_kept p (x ∷ xs) h = rw (h x) (ap (λ ys. x ∷ ys) (all_kept p xs h))
+    rw lacks (none_common g h (second_true (not (has_attribute a.0 h)) (have_no_common g h) e))
 
 nothing_kept : (t : Tuple) → projected_tuple [] t ≡ []
 nothing_kept [] = refl

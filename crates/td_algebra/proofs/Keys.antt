@@ -2,44 +2,34 @@
 use Rattle.std.proofs.Common.{◌≡◌, ◌∙◌, ap, sym, refl, arith, ℕ, ◌<◌, Bool, true, false, List, [], ◌∷◌, ◌++◌, filter, length, append-nil, IfOk, Result, Ok, Err}
 use Rattle.std.specs.Prelude.{◌&&◌, ◌||◌, not}
 use Rattle.std.specs.List.Sorted.{IsPermutation}
-use Rattle.std.proofs.lemmas.List.{length-map}
 use Rattle.std.proofs.lemmas.List.Sorted.{All-permutation, IsPermutation-map, IsPermutation-refl, list_any-IsPermutation}
-use Rattle.td_types.specs.Headings.{are_distinct, has_attribute, has_name, outside}
-use Rattle.td_types.specs.Types.{Heading, IsHeading, pack, same_name}
-use Rattle.td_types.proofs.HeadingLaws.{IsHeading-filter, has_attribute-names, same_name-itself}
-use Rattle.td_value.specs.Values.{IsTuple, IsTupleOf, Tuple, projected_tuple, tuple_names, tuple_of, type_of}
+use Rattle.td_types.specs.Headings.{has_attribute, has_name, outside}
+use Rattle.td_types.specs.Types.{Heading, same_name}
+use Rattle.td_types.proofs.HeadingLaws.{has_attribute-names, same_name-itself}
+use Rattle.td_value.specs.Values.{IsTuple, IsTupleOf, Tuple, projected_tuple, tuple_names, tuple_of}
 use Rattle.td_value.specs.Views.{values_of}
 use Rattle.td_value.proofs.Agreement.{names_ascend}
 use Rattle.td_value.proofs.Kept.{IsTuple-filter}
 use Rattle.td_value.proofs.Maps.{sorted_is_tuple_of}
 use Rattle.td_algebra.specs.Groups.{IsKeyed, source_names}
 use Rattle.td_algebra.specs.Layouts.{AreInRange, Sources, sources_outside, taken}
-use Rattle.td_algebra.proofs.Entries.{has_name-heading, heading_distinct, names_of_heading}
-use Rattle.td_algebra.proofs.Sources.{has_attribute-outside, outside_in_range, outside_names, taken_outside}
+use Rattle.td_algebra.proofs.Entries.{as_many, has_name-heading, names_of_heading}
+use Rattle.td_algebra.proofs.Sources.{has_attribute-outside, names_outside, outside_in_range, taken_outside}
 
 -- where the values of the attributes stand that another heading has too
 abbrev pub key_sources : Heading → Heading → Sources
 key_sources other heading = sources_outside (outside other heading) 0 heading
 
-pub sources_are : (items before : Sources) (other own heading : Heading) → items ≡ before ++ sources_outside own 0 heading → before ≡ [] → own ≡ outside other heading
-    → items ≡ key_sources other heading
-sources_are items before other own heading e b o = e ∙ ap (λ ss. ss ++ sources_outside own 0 heading) b ∙ ap (λ h. sources_outside h 0 heading) o
-
 pub if_ok : {A E : Type 0} (P Q : A → Type 0) (r : Result A E) → ((a : A) → P a → Q a) → IfOk r P → IfOk r Q
 if_ok P Q (Ok a) f p = f a p
 if_ok P Q (Err e) f p = tt
-
-pub keys_distinct : (other heading : Heading) → IsHeading (pack heading) → are_distinct (source_names (key_sources other heading)) ≡ true
-keys_distinct other heading h =
-    rw (outside_names (outside other heading) heading 0)
-    (heading_distinct (outside (outside other heading) heading) (IsHeading-filter (λ a. not (has_attribute a.0 (outside other heading))) heading h))
 
 -- a layout of the same sources has the names that both headings have
 pub key_names : (other heading : Heading) (layout : Sources) → IsPermutation (key_sources other heading) layout → (n : List ℕ)
     → has_name n (source_names layout) ≡ (has_attribute n heading && has_attribute n other)
 key_names other heading layout p n =
     sym (list_any-IsPermutation (λ m. same_name m n) (source_names (key_sources other heading)) (source_names layout) (IsPermutation-map (λ s. s.0) (key_sources other heading) layout p))
-    ∙ ap (has_name n) (outside_names (outside other heading) heading 0) ∙ sym (has_attribute-names n (outside (outside other heading) heading))
+    ∙ ap (has_name n) (names_outside (outside other heading) 0 heading) ∙ sym (has_attribute-names n (outside (outside other heading) heading))
     ∙ has_attribute-outside (outside other heading) heading n ∙ ap (λ b. has_attribute n heading && not b) (has_attribute-outside other heading n)
     ∙ both (has_attribute n heading) (has_attribute n other)
   where
@@ -65,17 +55,12 @@ kept_alike p q (e ∷ t) h =
 pub tuple_of-itself : (t : Tuple) → IsTuple t → tuple_of t ≡ t
 tuple_of-itself t h = sym (sorted_is_tuple_of t t (IsPermutation-refl t) (names_ascend t h))
 
--- as many values as attributes
-pub as_many : (h : Heading) (t : Tuple) → IsTupleOf h t → length h ≡ length (values_of t)
-as_many h t p =
-    ap length (sym p.1) ∙ length-map t (λ e. (e.0, type_of e.1)) ∙ sym (length-map t (λ e. e.1))
-
 module _ (other heading : Heading) (layout : Sources) (p : IsPermutation (key_sources other heading) layout) (t : Tuple) (h : IsTupleOf heading t) where
   in_range : AreInRange layout (values_of t ++ [])
   in_range =
       let all : length heading ≡ length (values_of t ++ []) = as_many heading t h ∙ ap length (sym (append-nil (values_of t))) in
       All-permutation (λ s. s.1 < length (values_of t ++ [])) (key_sources other heading) layout p
-      (outside_in_range (outside other heading) heading 0 (values_of t ++ []) (omega (arith, all)))
+      (outside_in_range (outside other heading) 0 (length (values_of t ++ [])) heading (omega (arith, all)))
 
   kept : projected_tuple (source_names layout) t ≡ filter (λ e. not (has_attribute e.0 (outside other heading))) t
   kept =

@@ -1,16 +1,15 @@
 -- Values taken from their places.
-use Rattle.std.proofs.Common.{◌≡◌, ◌∙◌, ◌+◌, ◌<◌, ◌≤◌, ap, append_assoc, sym, refl, subst, arith, ℕ, zero, suc, Bool, true, false, List, [], ◌∷◌, ◌++◌, Option, Some, None, drop, get_or, length, map}
+use Rattle.std.proofs.Common.{◌≡◌, ◌∙◌, ◌+◌, ◌<◌, ◌≤◌, ap, append_assoc, sym, refl, subst, arith, ℕ, zero, suc, Bool, true, false, List, [], ◌∷◌, ◌++◌, Some, None, drop, get_or, length, map}
 use Rattle.std.specs.Prelude.{if◌then◌else◌}
-use Rattle.std.specs.List.{All, slice_get, zip}
+use Rattle.std.specs.List.{slice_get, zip}
 use Rattle.std.specs.List.Sorted.{IsPermutation, IsStrictlySortedBy}
 use Rattle.std.proofs.lemmas.List.{append-nil, at_drop_more, drop_all, length-map}
 use Rattle.std.proofs.lemmas.List.Sorted.{All-permutation, IsPermutation-map, IsPermutation-sym}
 use Rattle.std.proofs.lemmas.Option.{get_or_from_slice_get, slice_get-get_or, slice_get_within}
-use Rattle.std.proofs.lemmas.Slice.Zip.{get_or-zip}
 use Rattle.td_types.specs.Headings.{has_attribute}
 use Rattle.td_types.specs.Types.{Attribute, Heading}
 use Rattle.td_types.proofs.HeadingLaws.{name_cmp}
-use Rattle.td_value.specs.Values.{Tuple, Val, boolean, tuple_of}
+use Rattle.td_value.specs.Values.{Val, boolean, tuple_of}
 use Rattle.td_value.proofs.Maps.{sorted_is_tuple_of}
 use Rattle.td_value.proofs.Zips.{zip_names}
 use Rattle.td_algebra.specs.Layouts.{AreInRange, Sources, source_unless, sources_outside, taken}

@@ -78,6 +78,11 @@ module _ {X : Type 0} (p : X → Bool) where
               rw passes refl
           by_case rest (inr d) = later (rest d e) (p y) refl
 
+-- where all pass it, none is dropped
+pub all_kept : {X : Type 0} (p : X → Bool) (xs : List X) → ((x : X) → p x ≡ true) → filter p xs ≡ xs
+all_kept p [] h = refl
+all_kept p (x ∷ xs) h = rw (h x) (ap (λ ys. x ∷ ys) (all_kept p xs h))
+
 -- ---- what a function gives of the items
 
 module _ {X Y : Type 0} where

@@ -1,5 +1,5 @@
 -- Lists of tuples by their members.
-use Rattle.std.proofs.Common.{◌≡◌, ◌∙◌, ◌↔◌, ap, sym, refl, true≢false, Bool, true, false, ◌&&◌, ◌||◌, not, List, [], ◌∷◌, filter, cond}
+use Rattle.std.proofs.Common.{◌≡◌, ◌∙◌, ap, sym, refl, true≢false, Bool, true, false, ◌&&◌, ◌||◌, not, List, [], ◌∷◌}
 use Rattle.std.specs.Ordering.{eq_by_cmp}
 use Rattle.std.specs.Bool.{IsTrue}
 use Rattle.std.specs.List.{Contains, list_all}
@@ -7,31 +7,6 @@ use Rattle.td_value.specs.Sets.{has}
 use Rattle.td_value.specs.Values.{Tuple, tuple_cmp}
 use Rattle.td_value.specs.ValueOrder.{tuple_Decides}
 use Rattle.td_value.proofs.Members.{contained, found}
-
--- a list contains exactly what the test finds
-pub in_list : (t : Tuple) (ts : List Tuple) → Contains ts t ↔ IsTrue (has tuple_cmp t ts)
-in_list t ts = (found t ts, contained t ts)
-
-and_or : (a b c : Bool) → (a ≡ true → c ≡ true) → (a || (b && c)) ≡ ((a || b) && c)
-and_or true b c f = sym (f refl)
-and_or false b c f = refl
-
-not_or : (a b c : Bool) → (a ≡ true → c ≡ false) → (b && c) ≡ ((a || b) && c)
-not_or true true c f = refl
-not_or true false c f = sym (f refl)
-not_or false b c f = refl
-
--- a filter has what the list has and the test passes
-pub has-filter : (p : Tuple → Bool) (t : Tuple) (ts : List Tuple) → has tuple_cmp t (filter p ts) ≡ (has tuple_cmp t ts && p t)
-has-filter p t [] = refl
-has-filter p t (u ∷ us) = by_test (has-filter p t us) (p u) refl
-  where
-    same : eq_by_cmp tuple_cmp t u ≡ true → p t ≡ p u
-    same e = ap p ((tuple_Decides t u).0 e)
-
-    by_test : has tuple_cmp t (filter p us) ≡ (has tuple_cmp t us && p t) → (b : Bool) → p u ≡ b → has tuple_cmp t (filter p (u ∷ us)) ≡ (has tuple_cmp t (u ∷ us) && p t)
-    by_test rest true e = rw (e, rest) (and_or (eq_by_cmp tuple_cmp t u) (has tuple_cmp t us) (p t) (λ h. same h ∙ e))
-    by_test rest false e = rw (e, rest) (not_or (eq_by_cmp tuple_cmp t u) (has tuple_cmp t us) (p t) (λ h. same h ∙ e))
 
 pub both_true : (b c : Bool) → b ≡ true → c ≡ true → (b && c) ≡ true
 both_true true c e f = f
@@ -44,14 +19,6 @@ first_true false c e = e
 pub second_true : (b c : Bool) → (b && c) ≡ true → c ≡ true
 second_true true c e = e
 second_true false c e = absurd (true≢false (sym e))
-
--- a filter contains what the list contains and the test passes
-pub in_filter : (p : Tuple → Bool) (t : Tuple) (ts : List Tuple) → Contains (filter p ts) t ↔ (Contains ts t × IsTrue (p t))
-in_filter p t ts =
-    let is = has-filter p t ts in (
-      (λ c. let e = sym is ∙ found t (filter p ts) c in (contained t ts (first_true _ _ e), second_true _ _ e)),
-      (λ c. contained t (filter p ts) (is ∙ both_true _ _ (found t ts c.0) c.1)),
-    )
 
 -- a list does not contain exactly what the test misses
 pub absent : (t : Tuple) (ts : List Tuple) → IsTrue (not (has tuple_cmp t ts)) → Contains ts t → ⊥

@@ -1,9 +1,8 @@
 -- Two ascending lists of tuples side by side.
-use Rattle.std.proofs.Common.{◌≡◌, ◌∙◌, ap, sym, refl, subst, true≢false, append_assoc, Bool, true, false, ◌||◌, ◌&&◌, ℕ, zero, suc, ◌+◌, ◌<◌, List, [], ◌∷◌, ◌++◌, drop, filter, get_or, length}
+use Rattle.std.proofs.Common.{◌≡◌, ◌∙◌, ap, sym, refl, subst, true≢false, append_assoc, Bool, true, false, ◌||◌, ℕ, zero, suc, ◌+◌, ◌<◌, List, [], ◌∷◌, ◌++◌, drop, filter, get_or, length}
 use Rattle.std.specs.declared.cmp.Ordering.{Ordering}
 use Rattle.std.specs.declared.cmp.Ordering.TheVariants.{Less, Equal, Greater}
 use Rattle.std.specs.Ordering.{eq_by_cmp, is_eq, is_lt, ordering_reverse}
-use Rattle.std.specs.Cmp.{tied_itself}
 use Rattle.std.specs.List.{AllByRecursion, list_all}
 use Rattle.std.specs.List.Sorted.{IsStrictlySortedBy}
 use Rattle.std.proofs.lemmas.List.{at_drop_more}
@@ -12,7 +11,7 @@ use Rattle.td_value.specs.Sets.{has, set_of}
 use Rattle.td_value.specs.Values.{Tuple, IsAscendingBody, tuple_cmp}
 use Rattle.td_value.specs.ValueOrder.{tuple_Decides, tuple_order_same, tuple_order_total}
 use Rattle.td_value.proofs.SetLaws.{is_set_of}
-use Rattle.td_algebra.specs.Merges.{IsAbreast, after, begins_with, below, merged, not_below}
+use Rattle.td_algebra.specs.Merges.{IsAbreast, without_first, begins_with, below, merged, not_below}
 
 -- ---- the order of two tuples
 
@@ -114,15 +113,15 @@ has-split s t (u ∷ us) = by_order (has-split s t us) (is_lt (tuple_cmp u t)) r
     by_order rest false e = rw e refl
 
 -- with the tuple, its own place in the list makes no difference
-has-after : (s t : Tuple) (us : List Tuple) → (eq_by_cmp tuple_cmp s t || has tuple_cmp s (after t us)) ≡ (eq_by_cmp tuple_cmp s t || has tuple_cmp s us)
-has-after s t [] = refl
-has-after s t (u ∷ us) = by_tie (eq_by_cmp tuple_cmp t u) refl
+has-without_first : (s t : Tuple) (us : List Tuple) → (eq_by_cmp tuple_cmp s t || has tuple_cmp s (without_first t us)) ≡ (eq_by_cmp tuple_cmp s t || has tuple_cmp s us)
+has-without_first s t [] = refl
+has-without_first s t (u ∷ us) = by_tie (eq_by_cmp tuple_cmp t u) refl
   where
     again : (b c : Bool) → (b || c) ≡ (b || (b || c))
     again true c = refl
     again false c = refl
 
-    by_tie : (b : Bool) → eq_by_cmp tuple_cmp t u ≡ b → (eq_by_cmp tuple_cmp s t || has tuple_cmp s (after t (u ∷ us))) ≡ (eq_by_cmp tuple_cmp s t || has tuple_cmp s (u ∷ us))
+    by_tie : (b : Bool) → eq_by_cmp tuple_cmp t u ≡ b → (eq_by_cmp tuple_cmp s t || has tuple_cmp s (without_first t (u ∷ us))) ≡ (eq_by_cmp tuple_cmp s t || has tuple_cmp s (u ∷ us))
     by_tie true e = rw (e, sym ((tuple_Decides t u).0 e)) (again (eq_by_cmp tuple_cmp s t) (has tuple_cmp s us))
     by_tie false e = rw e refl
 
@@ -142,28 +141,28 @@ reordered a false c d e h = rw h (swapped a c d)
 has-merged : (s : Tuple) (ts us : List Tuple) → has tuple_cmp s (merged ts us) ≡ (has tuple_cmp s ts || has tuple_cmp s us)
 has-merged s [] us = refl
 has-merged s (t ∷ ts) us =
-    let rest = after t (not_below t us) in
+    let rest = without_first t (not_below t us) in
     list_any-append (eq_by_cmp tuple_cmp s) (below t us) (t ∷ merged ts rest)
     ∙ ap (λ b. has tuple_cmp s (below t us) || (eq_by_cmp tuple_cmp s t || b)) (has-merged s ts rest)
-    ∙ reordered (has tuple_cmp s (below t us)) (eq_by_cmp tuple_cmp s t) (has tuple_cmp s ts) (has tuple_cmp s (not_below t us)) (has tuple_cmp s rest) (has-after s t (not_below t us))
+    ∙ reordered (has tuple_cmp s (below t us)) (eq_by_cmp tuple_cmp s t) (has tuple_cmp s ts) (has tuple_cmp s (not_below t us)) (has tuple_cmp s rest) (has-without_first s t (not_below t us))
     ∙ ap (λ b. has tuple_cmp s (t ∷ ts) || b) (sym (has-split s t us))
 
-after-ascends : (t : Tuple) (us : List Tuple) → IsAscendingBody us → IsAscendingBody (after t us)
+without_first-ascends : (t : Tuple) (us : List Tuple) → IsAscendingBody us → IsAscendingBody (without_first t us)
 unfolding IsStrictlySortedBy
-after-ascends t [] h = tt
-after-ascends t (u ∷ us) h = by_tie (eq_by_cmp tuple_cmp t u) refl
+without_first-ascends t [] h = tt
+without_first-ascends t (u ∷ us) h = by_tie (eq_by_cmp tuple_cmp t u) refl
   where
-    by_tie : (b : Bool) → eq_by_cmp tuple_cmp t u ≡ b → IsAscendingBody (after t (u ∷ us))
+    by_tie : (b : Bool) → eq_by_cmp tuple_cmp t u ≡ b → IsAscendingBody (without_first t (u ∷ us))
     by_tie true e = rw e h.1
     by_tie false e = rw e h
 
 -- what stands after the tuple is above it
-after-above : (t : Tuple) (us : List Tuple) → IsAscendingBody us → AreAbove t (after t (not_below t us))
+without_first-above : (t : Tuple) (us : List Tuple) → IsAscendingBody us → AreAbove t (without_first t (not_below t us))
 unfolding IsStrictlySortedBy
-after-above t [] h = tt
-after-above t (u ∷ us) h = by_order (after-above t us h.1) (tuple_cmp u t) refl
+without_first-above t [] h = tt
+without_first-above t (u ∷ us) h = by_order (without_first-above t us h.1) (tuple_cmp u t) refl
   where
-    by_order : AreAbove t (after t (not_below t us)) → (o : Ordering) → tuple_cmp u t ≡ o → AreAbove t (after t (not_below t (u ∷ us)))
+    by_order : AreAbove t (without_first t (not_below t us)) → (o : Ordering) → tuple_cmp u t ≡ o → AreAbove t (without_first t (not_below t (u ∷ us)))
     by_order rest Less d = rw d rest
     by_order rest Equal d =
         let same : u ≡ t = tuple_order_same u t d in
@@ -194,19 +193,19 @@ module _ (P : Tuple → Type 0) where
       by_order rest true e = rw e rest
       by_order rest false e = rw e h
 
-  after_all : (t : Tuple) (us : List Tuple) → AllByRecursion P us → AllByRecursion P (after t us)
-  after_all t [] h = tt
-  after_all t (u ∷ us) h = by_tie (eq_by_cmp tuple_cmp t u) refl
+  without_first_all : (t : Tuple) (us : List Tuple) → AllByRecursion P us → AllByRecursion P (without_first t us)
+  without_first_all t [] h = tt
+  without_first_all t (u ∷ us) h = by_tie (eq_by_cmp tuple_cmp t u) refl
     where
-      by_tie : (b : Bool) → eq_by_cmp tuple_cmp t u ≡ b → AllByRecursion P (after t (u ∷ us))
+      by_tie : (b : Bool) → eq_by_cmp tuple_cmp t u ≡ b → AllByRecursion P (without_first t (u ∷ us))
       by_tie true e = rw e h.1
       by_tie false e = rw e h
 
   pub merged_all : (ts us : List Tuple) → AllByRecursion P ts → AllByRecursion P us → AllByRecursion P (merged ts us)
   merged_all [] us a b = b
   merged_all (t ∷ ts) us a b =
-      joined_all (below t us) (t ∷ merged ts (after t (not_below t us))) (below_all t us b)
-      (a.0, merged_all ts (after t (not_below t us)) a.1 (after_all t (not_below t us) (not_below_all t us b)))
+      joined_all (below t us) (t ∷ merged ts (without_first t (not_below t us))) (below_all t us b)
+      (a.0, merged_all ts (without_first t (not_below t us)) a.1 (without_first_all t (not_below t us) (not_below_all t us b)))
 
 below_then : (t : Tuple) (us ms : List Tuple) → IsAscendingBody us → IsAscendingBody (t ∷ ms) → IsAscendingBody (below t us ++ t ∷ ms)
 unfolding IsStrictlySortedBy
@@ -222,9 +221,9 @@ pub merged-ascends : (ts us : List Tuple) → IsAscendingBody ts → IsAscending
 unfolding IsStrictlySortedBy
 merged-ascends [] us a b = b
 merged-ascends (t ∷ ts) us a b =
-    let rest = after t (not_below t us) in
-    let ascends : IsAscendingBody rest = after-ascends t (not_below t us) (not_below-ascends t us b) in
-    below_then t us (merged ts rest) b (merged_all (λ v. tuple_cmp t v ≡ Less) ts rest a.0 (after-above t us b), merged-ascends ts rest a.1 ascends)
+    let rest = without_first t (not_below t us) in
+    let ascends : IsAscendingBody rest = without_first-ascends t (not_below t us) (not_below-ascends t us b) in
+    below_then t us (merged ts rest) b (merged_all (λ v. tuple_cmp t v ≡ Less) ts rest a.0 (without_first-above t us b), merged-ascends ts rest a.1 ascends)
 
 -- the merge of two ascending lists is the set of both
 pub merged-is-set : (ts us : List Tuple) → IsAscendingBody ts → IsAscendingBody us → merged ts us ≡ set_of tuple_cmp (ts ++ us)

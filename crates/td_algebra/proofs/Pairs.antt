@@ -1,32 +1,32 @@
 -- The tuples of pairs: what a layout takes of the values of both.
-use Rattle.std.proofs.Common.{◌≡◌, ◌∙◌, ap, sym, refl, arith, ℕ, zero, suc, ◌+◌, ◌<◌, Bool, true, false, List, [], ◌∷◌, ◌++◌, Option, Some, None, append-nil, append_assoc, drop, filter, length, map, take, get_or}
-use Rattle.std.specs.Prelude.{◌&&◌, ◌||◌, not}
-use Rattle.std.specs.List.{All, flat_map, slice_get}
+use Rattle.std.proofs.Common.{◌≡◌, ◌∙◌, ap, sym, refl, arith, ℕ, zero, suc, ◌+◌, ◌<◌, Bool, true, false, List, [], ◌∷◌, ◌++◌, append-nil, append_assoc, drop, filter, length, map, take, get_or}
+use Rattle.std.specs.Prelude.{◌&&◌, not}
+use Rattle.std.specs.List.{flat_map}
 use Rattle.std.specs.List.Sorted.{IsPermutation}
 use Rattle.std.specs.Ordering.{eq_by_cmp}
 use Rattle.std.proofs.lemmas.Grind.{flat_map-append}
 use Rattle.std.proofs.lemmas.List.{length-append, map-append, take_more}
-use Rattle.std.proofs.lemmas.List.Elements.{All-cons}
-use Rattle.std.proofs.lemmas.List.Folds.{list_any-append}
+use Rattle.std.proofs.lemmas.List.Elements.{All-append}
 use Rattle.std.proofs.lemmas.List.Sorted.{All-permutation, IsPermutation-map, list_any-IsPermutation}
 use Rattle.std.proofs.Math.Seq.{drop-append_seam}
 use Rattle.td_types.specs.Headings.{are_distinct, has_attribute, has_name, outside}
-use Rattle.td_types.specs.Types.{Heading, IsHeading, attribute_names, pack, same_name}
-use Rattle.td_types.proofs.DistinctNames.{first_of, second_of}
-use Rattle.td_types.proofs.HeadingLaws.{IsHeading-filter, has_attribute-names, same_name-itself}
+use Rattle.td_types.specs.Types.{Heading, IsHeading, attribute_names, pack}
+use Rattle.td_types.proofs.HeadingLaws.{IsHeading-filter, has_attribute-names}
 use Rattle.td_value.specs.Sets.{set_of}
 use Rattle.td_value.specs.ValueOrder.{entry_order_same, entry_order_total}
 use Rattle.td_value.specs.Values.{Val, IsTupleOf, Tuple, entry_cmp, tuple_names, tuple_of}
 use Rattle.td_value.specs.Views.{values_of}
 use Rattle.td_value.proofs.SetLaws.{has-set_of, is_set_of, set_of-ascends}
 use Rattle.td_algebra.specs.Groups.{source_names}
-use Rattle.td_algebra.specs.Layouts.{AreInRange, Sources, sources_outside, taken, with_entry}
+use Rattle.td_algebra.specs.Layouts.{AreInRange, Sources, sources_outside, taken}
 use Rattle.td_algebra.specs.Operators.{united_tuple}
-use Rattle.td_algebra.specs.Pairs.{IsPaired, paired, pair_sources, pair_tuple}
-use Rattle.td_algebra.proofs.Entries.{has_name-heading, heading_distinct, names_of_heading}
-use Rattle.td_algebra.proofs.Keys.{as_many, kept_alike}
+use Rattle.td_algebra.specs.Pairs.{IsPaired, paired_tuple, pair_sources, pair_tuple}
+use Rattle.td_algebra.proofs.Entries.{as_many, has_name-heading, heading_distinct, names_apart, names_of_heading}
+use Rattle.td_algebra.proofs.Lists.{all_kept}
+use Rattle.td_algebra.proofs.Members.{first_true}
+use Rattle.td_algebra.proofs.Keys.{kept_alike}
 use Rattle.td_algebra.proofs.Layouts.{entry_in, taken_entries}
-use Rattle.td_algebra.proofs.Sources.{has_attribute-outside, outside_in_range, outside_names, taken_outside}
+use Rattle.td_algebra.proofs.Sources.{has_attribute-outside, names_outside, outside_in_range, taken-append, taken_outside}
 
 -- sources in another order make the same tuple
 pub same_tuple : (sources layout : Sources) (vs : List Val) → IsPermutation sources layout → AreInRange sources vs → tuple_of (taken sources vs) ≡ tuple_of (taken layout vs)
@@ -37,44 +37,15 @@ same_tuple sources layout vs p h =
     is_set_of entry_cmp entry_order_total entry_order_same (set_of entry_cmp (taken sources vs)) (taken layout vs) (set_of-ascends entry_cmp entry_order_total entry_order_same (taken sources vs))
     (λ e. has-set_of entry_cmp entry_order_total entry_order_same e (taken sources vs) ∙ list_any-IsPermutation (eq_by_cmp entry_cmp e) (taken sources vs) (taken layout vs) moved)
 
-pub taken-append : (ss zs : Sources) (vs : List Val) → taken (ss ++ zs) vs ≡ taken ss vs ++ taken zs vs
-taken-append [] zs vs = refl
-taken-append (s ∷ ss) zs vs = by_value (slice_get vs s.1) (taken-append ss zs vs)
-  where
-    by_value : (o : Option Val) → taken (ss ++ zs) vs ≡ taken ss vs ++ taken zs vs → with_entry s.0 o (taken (ss ++ zs) vs) ≡ with_entry s.0 o (taken ss vs) ++ taken zs vs
-    by_value None rest = rest
-    by_value (Some v) rest = ap (λ es. (s.0, v) ∷ es) rest
-
-pub All-append : {X : Type 0} (P : X → Type 0) (xs ys : List X) → All P xs → All P ys → All P (xs ++ ys)
-All-append P [] ys h k = k
-All-append P (x ∷ xs) ys h k = All-cons P x (xs ++ ys) (h 0 x (omega arith)) (All-append P xs ys (λ i d l. h (suc i) d (omega (arith, l))) k)
-
 -- ---- the names
-
-names_apart : (ms ns : List (List ℕ)) → are_distinct ms ≡ true → are_distinct ns ≡ true → ((n : List ℕ) → has_name n ms ≡ true → has_name n ns ≡ false)
-    → are_distinct (ms ++ ns) ≡ true
-names_apart [] ns d f apart = f
-names_apart (m ∷ ms) ns d f apart =
-    let absent : has_name m ms ≡ false = first_of _ _ d in
-    let other : has_name m ns ≡ false = apart m (rw (same_name-itself m) refl) in
-    let none : has_name m (ms ++ ns) ≡ false = list_any-append (λ k. same_name k m) ms ns ∙ rw (absent, other) refl in
-    rw none (names_apart ms ns (second_of _ _ d) f (λ n h. apart n (later n h (same_name m n))))
-  where
-    later : (n : List ℕ) → has_name n ms ≡ true → (b : Bool) → (b || has_name n ms) ≡ true
-    later n h true = refl
-    later n h false = h
 
 pub pair_distinct : (left_out : Heading) (start : ℕ) (g : Heading) (other_start : ℕ) (h : Heading) → IsHeading (pack g) → IsHeading (pack h)
     → are_distinct (source_names (pair_sources left_out start g other_start h)) ≡ true
 pair_distinct left_out start g other_start h p q =
-    rw (map-append (λ (s : List ℕ × ℕ). s.0) (sources_outside left_out start g) (sources_outside g other_start h), outside_names left_out g start, outside_names g h other_start)
+    rw (map-append (λ (s : List ℕ × ℕ). s.0) (sources_outside left_out start g) (sources_outside g other_start h), names_outside left_out start g, names_outside g other_start h)
     (names_apart (attribute_names (outside left_out g)) (attribute_names (outside g h))
     (heading_distinct (outside left_out g) (IsHeading-filter (λ a. not (has_attribute a.0 left_out)) g p)) (heading_distinct (outside g h) (IsHeading-filter (λ a. not (has_attribute a.0 g)) h q)) apart)
   where
-    first_too : (b c : Bool) → (b && c) ≡ true → b ≡ true
-    first_too true c e = refl
-    first_too false c e = absurd (cc)
-
     not_both : (b c : Bool) → b ≡ true → (c && not b) ≡ false
     not_both true true e = refl
     not_both true false e = refl
@@ -83,7 +54,7 @@ pair_distinct left_out start g other_start h p q =
     apart : (n : List ℕ) → has_name n (attribute_names (outside left_out g)) ≡ true → has_name n (attribute_names (outside g h)) ≡ false
     apart n e =
         let there : has_attribute n g ≡ true =
-        first_too (has_attribute n g) (not (has_attribute n left_out)) (sym (has_attribute-outside left_out g n) ∙ has_attribute-names n (outside left_out g) ∙ e) in
+        first_true (has_attribute n g) (not (has_attribute n left_out)) (sym (has_attribute-outside left_out g n) ∙ has_attribute-names n (outside left_out g) ∙ e) in
         sym (has_attribute-names n (outside g h)) ∙ has_attribute-outside g h n ∙ not_both (has_attribute n g) (has_attribute n h) there
 
 -- ---- the values
@@ -100,13 +71,13 @@ module _ (left_out g h : Heading) (t u : Tuple) (p : IsTupleOf g t) (q : IsTuple
         let second : length (values_of u) ≡ length h = sym (as_many h u q) in
         let all : length (values_of t ++ values_of u) ≡ length (values_of t) + length (values_of u) = length-append (values_of t) (values_of u) in
         All-append (λ s. s.1 < length (values_of t ++ values_of u)) (sources_outside left_out 0 g) (sources_outside g (length g) h)
-        (outside_in_range left_out g 0 (values_of t ++ values_of u) (omega (arith, all, first, second)))
-        (outside_in_range g h (length g) (values_of t ++ values_of u) (omega (arith, all, first, second)))
+        (outside_in_range left_out 0 (length (values_of t ++ values_of u)) g (omega (arith, all, first, second)))
+        (outside_in_range g (length g) (length (values_of t ++ values_of u)) h (omega (arith, all, first, second)))
 
     pub is_paired : IsPaired layout t u
     is_paired = All-permutation (λ s. s.1 < length (values_of t ++ values_of u)) (pair_sources left_out 0 g (length g) h) layout laid in_range
 
-    pub pair_is : pair_tuple layout t u ≡ paired left_out t u
+    pub pair_is : pair_tuple layout t u ≡ paired_tuple left_out t u
     pair_is =
         let first = taken_outside left_out g t 0 (values_of t ++ values_of u) (values_of u) (names_of_heading g t p) refl in
         let past : drop (length g) (values_of t ++ values_of u) ≡ values_of u ++ [] =
@@ -123,13 +94,13 @@ module _ (left_out g h : Heading) (t u : Tuple) (p : IsTupleOf g t) (q : IsTuple
         let second : length (values_of u) ≡ length h = sym (as_many h u q) in
         let all : length (values_of u ++ values_of t) ≡ length (values_of u) + length (values_of t) = length-append (values_of u) (values_of t) in
         All-append (λ s. s.1 < length (values_of u ++ values_of t)) (sources_outside left_out (length h) g) (sources_outside g 0 h)
-        (outside_in_range left_out g (length h) (values_of u ++ values_of t) (omega (arith, all, first, second)))
-        (outside_in_range g h 0 (values_of u ++ values_of t) (omega (arith, all, first, second)))
+        (outside_in_range left_out (length h) (length (values_of u ++ values_of t)) g (omega (arith, all, first, second)))
+        (outside_in_range g 0 (length (values_of u ++ values_of t)) h (omega (arith, all, first, second)))
 
     pub is_turned : IsPaired layout u t
     is_turned = All-permutation (λ s. s.1 < length (values_of u ++ values_of t)) (pair_sources left_out (length h) g 0 h) layout laid turned_range
 
-    pub turned_is : pair_tuple layout u t ≡ paired left_out t u
+    pub turned_is : pair_tuple layout u t ≡ paired_tuple left_out t u
     turned_is =
         let past : drop (length h) (values_of u ++ values_of t) ≡ values_of t ++ [] =
         rw (as_many h u q) (drop-append_seam (values_of u) (values_of t) ∙ sym (append-nil (values_of t))) in
@@ -138,13 +109,9 @@ module _ (left_out g h : Heading) (t u : Tuple) (p : IsTupleOf g t) (q : IsTuple
         sym (same_tuple (pair_sources left_out (length h) g 0 h) layout (values_of u ++ values_of t) laid turned_range)
         ∙ ap tuple_of (taken-append (sources_outside left_out (length h) g) (sources_outside g 0 h) (values_of u ++ values_of t) ∙ (λ i. first i ++ (second ∙ lacking) i))
 
-all_kept : (t : Tuple) → filter (λ e. not (has_attribute e.0 [])) t ≡ t
-all_kept [] = refl
-all_kept (e ∷ t) = ap (λ es. e ∷ es) (all_kept t)
-
 -- where nothing is left out, that is the united tuple
-pub united_is : (t u : Tuple) → paired [] t u ≡ united_tuple t u
-united_is t u = ap (λ es. tuple_of (es ++ filter (λ e. not (has_name e.0 (tuple_names t))) u)) (all_kept t)
+pub united_is : (t u : Tuple) → paired_tuple [] t u ≡ united_tuple t u
+united_is t u = ap (λ es. tuple_of (es ++ filter (λ e. not (has_name e.0 (tuple_names t))) u)) (all_kept (λ (e : List ℕ × Val). not (has_attribute e.0 [])) t (λ e. refl))
 
 -- ---- loops over pairs
 

@@ -1,6 +1,6 @@
 -- The keys of tuples tell which are partners.
 use Rattle.std.proofs.Common.{◌≡◌, ◌∙◌, ap, sym, refl, subst, ℕ, Bool, true, false, List, filter, get_or, Bor, Vec}
-use Rattle.std.specs.Prelude.{◌&&◌, is_some, if◌then◌else◌, None}
+use Rattle.std.specs.Prelude.{◌&&◌, is_some, if◌then◌else◌, Option, None, Some}
 use Rattle.std.specs.HashMap.{HashMap}
 use Rattle.std.specs.HashSet.{HashSet, contains}
 use Rattle.std.specs.List.{All, list_any}
@@ -10,7 +10,7 @@ use Rattle.td_types.specs.Headings.{has_attribute, has_name}
 use Rattle.td_types.specs.Types.{Heading, type_at}
 use Rattle.td_types.proofs.HeadingLaws.{has_attribute-names, type_at-common}
 use Rattle.td_value.specs.Values.{IsTupleOf, Relation, Tuple, projected_tuple, tuple_cmp}
-use Rattle.td_algebra.specs.Groups.{AreGrouped, AreKeys, IsKeyed, group, has_key, key_of, source_names, wanted}
+use Rattle.td_algebra.specs.Groups.{AreGrouped, AreKeysOf, IsKeyed, group, is_at_key, key_of, source_names, wanted}
 use Rattle.td_algebra.specs.Layouts.{Sources}
 use Rattle.td_algebra.specs.Operators.{are_partners, common_names}
 use Rattle.td_algebra.specs.Pairs.{IsPaired, pairs_with}
@@ -19,21 +19,15 @@ use Rattle.td_algebra.specs.Pairs.{IsPaired, pairs_with}
 abbrev pub AreCommon : Heading → Heading → Sources → Type 0
 AreCommon g h layout = (n : List ℕ) → has_name n (source_names layout) ≡ (has_attribute n g && has_attribute n h)
 
+some_where : {A : Type 0} (o : Option A) (b : Bool) → is_some (if b then o else None) ≡ (is_some o && b)
+some_where None true = refl
+some_where None false = refl
+some_where (Some a) true = refl
+some_where (Some a) false = refl
+
 pub has_common : (r s : Relation) (n : List ℕ) → has_name n (common_names r s) ≡ (has_attribute n r.heading && has_attribute n s.heading)
 has_common r s n =
-    sym (has_attribute-names n _) ∙ ap is_some (type_at-common n r.heading s.heading) ∙ by_test (has_attribute n s.heading)
-  where
-    both : (b : Bool) → b ≡ (b && true)
-    both true = refl
-    both false = refl
-
-    neither : (b : Bool) → false ≡ (b && false)
-    neither true = refl
-    neither false = refl
-
-    by_test : (b : Bool) → is_some (if b then type_at n r.heading else None) ≡ (has_attribute n r.heading && b)
-    by_test true = both (has_attribute n r.heading)
-    by_test false = neither (has_attribute n r.heading)
+    sym (has_attribute-names n _) ∙ ap is_some (type_at-common n r.heading s.heading) ∙ some_where (type_at n r.heading) (has_attribute n s.heading)
 
 turned : (b c : Bool) → (b && c) ≡ (c && b)
 turned true true = refl
@@ -64,10 +58,10 @@ module _ (r s : Relation) (theirs own : Sources) (t_names : AreCommon s.heading 
   their_key u = λ i. filter (λ e. their_common e.0 i) u
 
   -- a tuple of the second has the key of one of the first where they are partners
-  pub partners_by_key : (t u : Tuple) → has_key theirs (key_of own t) u ≡ are_partners r s t u
+  pub partners_by_key : (t u : Tuple) → is_at_key theirs (key_of own t) u ≡ are_partners r s t u
   partners_by_key t u = λ i. eq_by_cmp tuple_cmp (own_key t i) (their_key u i)
 
-  pub kept_by_keys : {S : Type 0} (keys : HashSet Tuple S) (rows body kept : List Tuple) (there : Bool) → AreKeys theirs rows keys → rows ≡ s.body → body ≡ r.body
+  pub kept_by_keys : {S : Type 0} (keys : HashSet Tuple S) (rows body kept : List Tuple) (there : Bool) → AreKeysOf theirs rows keys → rows ≡ s.body → body ≡ r.body
       → kept ≡ filter (λ t. wanted there (contains (eq_by_cmp tuple_cmp) keys (key_of own t))) body
       → kept ≡ filter (λ t. wanted there (list_any (are_partners r s t) s.body)) r.body
   kept_by_keys keys rows body kept there are is_rows is_body e =
@@ -75,12 +69,12 @@ module _ (r s : Relation) (theirs own : Sources) (t_names : AreCommon s.heading 
       ∙ (λ i. filter (λ t. wanted there (tests t i)) r.body)
     where
       tests : (t : Tuple) → contains (eq_by_cmp tuple_cmp) keys (key_of own t) ≡ list_any (are_partners r s t) s.body
-      tests t = are (key_of own t) ∙ (λ i. list_any (has_key theirs (key_of own t)) (is_rows i)) ∙ (λ i. list_any (λ u. partners_by_key t u i) s.body)
+      tests t = are (key_of own t) ∙ (λ i. list_any (is_at_key theirs (key_of own t)) (is_rows i)) ∙ (λ i. list_any (λ u. partners_by_key t u i) s.body)
 
   pub grouped_partners : {A S : Type 0} (groups : HashMap Tuple (Vec (Bor Tuple) A) S) (rows : List Tuple) → AreGrouped theirs rows groups → rows ≡ s.body
       → (t : Tuple) → group (key_of own t) groups ≡ filter (are_partners r s t) s.body
   grouped_partners groups rows are is_rows t =
-      are (key_of own t) ∙ (λ i. filter (has_key theirs (key_of own t)) (is_rows i)) ∙ (λ i. filter (λ u. partners_by_key t u i) s.body)
+      are (key_of own t) ∙ (λ i. filter (is_at_key theirs (key_of own t)) (is_rows i)) ∙ (λ i. filter (λ u. partners_by_key t u i) s.body)
 
   pub pairs_by_keys : {A S : Type 0} (groups : HashMap Tuple (Vec (Bor Tuple) A) S) (rows body : List Tuple) (f : Tuple → Tuple → Tuple) → AreGrouped theirs rows groups
       → rows ≡ s.body → body ≡ r.body
@@ -95,6 +89,6 @@ pub all_paired : {A S : Type 0} (r s : Relation) (layout theirs own : Sources) (
 all_paired r s layout theirs own groups rows body paired are is_rows is_body firsts seconds =
     subst (All (λ t. All (IsPaired layout t) (group (key_of own t) groups))) (sym is_body)
     (λ k d l. subst (All (IsPaired layout (get_or r.body k d)))
-    (sym (are (key_of own (get_or r.body k d)) ∙ (λ i. filter (has_key theirs (key_of own (get_or r.body k d))) (is_rows i))))
-    (All-filter (has_key theirs (key_of own (get_or r.body k d))) (IsPaired layout (get_or r.body k d)) s.body
+    (sym (are (key_of own (get_or r.body k d)) ∙ (λ i. filter (is_at_key theirs (key_of own (get_or r.body k d))) (is_rows i))))
+    (All-filter (is_at_key theirs (key_of own (get_or r.body k d))) (IsPaired layout (get_or r.body k d)) s.body
     (λ k' d' l'. paired (get_or r.body k d) (get_or s.body k' d') (firsts k d l) (seconds k' d' l'))))

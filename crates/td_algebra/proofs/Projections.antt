@@ -1,12 +1,11 @@
 -- The projections of a relation's tuples.
-use Rattle.std.proofs.Common.{◌≡◌, ◌∙◌, ap, sym, refl, ℕ, Bool, true, false, List, Option, None, map}
+use Rattle.std.proofs.Common.{◌≡◌, ◌∙◌, ap, sym, refl, ℕ, Bool, true, false, List, None, map}
 use Rattle.std.specs.Prelude.{if◌then◌else◌, is_some, option_map}
-use Rattle.std.specs.List.{All, Contains}
 use Rattle.td_types.specs.Headings.{has_attribute, has_name, projection}
 use Rattle.td_types.specs.Types.{Heading, type_at}
 use Rattle.td_types.proofs.HeadingLaws.{IsHeading-filter, type_at-projection}
 use Rattle.td_value.specs.Agreement.{AgreeOn}
-use Rattle.td_value.specs.Values.{IsRelation, IsTupleOf, Tuple, projected_tuple, tuple_cmp, type_of, value_at}
+use Rattle.td_value.specs.Values.{IsTupleOf, Tuple, projected_tuple, type_of, value_at}
 use Rattle.td_value.proofs.Agreement.{value_of_projection}
 use Rattle.td_value.proofs.Kept.{IsTuple-filter}
 use Rattle.td_value.proofs.Members.{set_members}

@@ -1,5 +1,5 @@
 -- Relations that are made of tuples of a heading.
-use Rattle.std.proofs.Common.{◌≡◌, ◌∙◌, ap, sym, refl, subst, Bool, List, filter}
+use Rattle.std.proofs.Common.{subst, Bool, List, filter}
 use Rattle.std.specs.List.{All, Contains}
 use Rattle.std.specs.List.Sorted.{IsStrictlySortedBy}
 use Rattle.std.proofs.lemmas.List.Elements.{All-contains, All-contains_itself, All-filter}
@@ -10,7 +10,7 @@ use Rattle.td_value.specs.ValueCode.{unpack_pack_rows}
 use Rattle.td_value.specs.ValueOrder.{tuple_order_same, tuple_order_total}
 use Rattle.td_value.specs.Values.{IsAscendingBody, IsRelation, IsTupleOf, Relation, Tuple, relation_of, tuple_cmp}
 use Rattle.td_value.specs.Views.{relation_view}
-use Rattle.td_value.proofs.Members.{by_members, set_members}
+use Rattle.td_value.proofs.Members.{set_members}
 use Rattle.td_value.proofs.Rows.{All-from_rows, AreRows-from}
 use Rattle.td_value.proofs.SetLaws.{set_of-ascends}
 use Rattle.td_algebra.specs.Operators.{restriction}

@@ -1,24 +1,25 @@
 -- The renamed tuples of a relation.
 use Rattle.std.proofs.Common.{◌≡◌, ◌∙◌, ap, sym, refl, subst, ℕ, Bool, true, false, List, [], ◌∷◌, length, map}
-use Rattle.std.specs.Prelude.{◌&&◌, ◌||◌, is_some, not, option_map}
+use Rattle.std.specs.Prelude.{◌&&◌, ◌||◌, is_some, not}
 use Rattle.std.specs.Cmp.Lexicographic.{same_text}
-use Rattle.std.specs.List.{All, Contains, zip}
+use Rattle.std.specs.List.{All, zip}
 use Rattle.std.specs.List.Sorted.{IsPermutation}
 use Rattle.std.proofs.lemmas.List.{append-nil, length-map}
 use Rattle.td_types.specs.Headings.{are_distinct, can_rename, has_attribute, has_attributes, has_name, heading_union, new_name, new_names, renamed}
-use Rattle.td_types.specs.Types.{Heading, IsHeading, attribute_names, pack, same_name, type_at}
+use Rattle.td_types.specs.Types.{Heading, IsHeading, pack, same_name, type_at}
 use Rattle.td_types.proofs.HeadingLaws.{renaming_keeps_types, same_name-itself, type_at-renamed}
-use Rattle.td_value.specs.Values.{IsRelation, IsTupleOf, Tuple, heading_of, tuple_names, tuple_of, type_of, value_at}
+use Rattle.td_value.specs.Values.{IsTupleOf, Tuple, heading_of, tuple_names, tuple_of, type_of, value_at}
 use Rattle.td_value.specs.Views.{values_of}
 use Rattle.td_value.proofs.Maps.{value_at-tuple_of}
 use Rattle.td_value.proofs.Members.{set_members}
-use Rattle.td_algebra.specs.Layouts.{Sources, numbered, placed_tuple, taken}
+use Rattle.td_algebra.specs.Layouts.{Sources, numbered_sources, placed_tuple, taken}
 use Rattle.td_algebra.specs.Membership.{IsIn, IsRenamed, RenamingByMembership}
 use Rattle.td_algebra.specs.Operators.{renamed_relation, renamed_tuple}
-use Rattle.td_algebra.proofs.Entries.{HaveValues, IsTupleOf-made, has_name-heading, same_on_heading, type_at-heading_of, values_of_fields}
+use Rattle.td_algebra.proofs.Entries.{HaveValues, IsTupleOf-made, as_many, has_name-heading, same_on_heading, type_at-heading_of, values_of_fields}
 use Rattle.td_algebra.proofs.Lists.{contains_map}
+use Rattle.td_algebra.proofs.Members.{first_true, second_true}
 use Rattle.td_algebra.proofs.Relations.{member_headed}
-use Rattle.td_algebra.proofs.Taken.{map_alike, taken_numbered, values_in_heading}
+use Rattle.td_algebra.proofs.Taken.{map_alike, taken_numbered}
 
 module _ (rs : List (List ℕ × List ℕ)) where
   -- the entries with their names changed
@@ -41,13 +42,9 @@ module _ (rs : List (List ℕ × List ℕ)) where
   values_renamed [] h = tt
   values_renamed (e ∷ t) h = (h.0, values_renamed t h.1)
 
-  and_second : (a b : Bool) → (a && b) ≡ true → b ≡ true
-  and_second true b h = h
-  and_second false b h = cc
-
   -- where the renamings can be done, the new names are distinct
   pub new_names_distinct : (h : Heading) → can_rename rs h ≡ true → are_distinct (new_names rs h) ≡ true
-  new_names_distinct h e = and_second (has_attributes (map (λ r. r.0) rs) h && are_distinct (map (λ r. r.0) rs)) (are_distinct (new_names rs h)) e
+  new_names_distinct h e = second_true (has_attributes (map (λ r. r.0) rs) h && are_distinct (map (λ r. r.0) rs)) (are_distinct (new_names rs h)) e
 
   entries_distinct : (h : Heading) (t : Tuple) → IsTupleOf h t → can_rename rs h ≡ true → are_distinct (tuple_names (renamed_entries t)) ≡ true
   entries_distinct h t p e = ap are_distinct (names_renamed t ∙ ap (new_names rs) p.1) ∙ new_names_distinct h e
@@ -60,26 +57,22 @@ module _ (rs : List (List ℕ × List ℕ)) where
       (λ n. sym (type_at-heading_of n (renamed_entries t)) ∙ ap (type_at n) (heading_renamed t ∙ ap (renamed rs) p.1) ∙ sym (type_at-renamed rs n h))
 
   -- what is taken under the new names is the renamed tuple
-  pub placed_renaming : (h : Heading) (t : Tuple) → IsTupleOf h t → placed_tuple (numbered 0 (new_names rs h)) t ≡ renamed_tuple rs t
+  pub placed_renaming : (h : Heading) (t : Tuple) → IsTupleOf h t → placed_tuple (numbered_sources 0 (new_names rs h)) (values_of t) ≡ renamed_tuple rs t
   placed_renaming h t p =
-      let lengths : length (new_names rs h) ≡ length (values_of t) = length-map (renamed rs h) (λ a. a.0) ∙ length-map h (λ a. (new_name rs a.0, a.1)) ∙ values_in_heading h t p in
-      ap tuple_of (ap (taken (numbered 0 (new_names rs h))) (sym (append-nil (values_of t))) ∙ taken_numbered [] (new_names rs h) (values_of t) [] lengths
+      let lengths : length (new_names rs h) ≡ length (values_of t) = length-map (renamed rs h) (λ a. a.0) ∙ length-map h (λ a. (new_name rs a.0, a.1)) ∙ as_many h t p in
+      ap tuple_of (ap (taken (numbered_sources 0 (new_names rs h))) (sym (append-nil (values_of t))) ∙ taken_numbered [] (new_names rs h) (values_of t) [] lengths
       ∙ ap (λ g. zip (new_names rs g) (values_of t)) (sym p.1) ∙ zip_renamed t)
 
   pub renaming_rows : (h : Heading) (ns : List (List ℕ)) (body made : List Tuple) (layout : Sources) → ns ≡ new_names rs h → All (IsTupleOf h) body
-      → IsPermutation (numbered 0 ns) layout → ((sources : Sources) → IsPermutation sources layout → made ≡ map (placed_tuple sources) body)
+      → IsPermutation (numbered_sources 0 ns) layout → ((sources : Sources) → IsPermutation sources layout → made ≡ map (λ t. placed_tuple sources (values_of t)) body)
       → made ≡ map (renamed_tuple rs) body
   renaming_rows h ns body made layout is a p m =
-      m _ p ∙ subst (λ ms. map (placed_tuple (numbered 0 ms)) body ≡ map (renamed_tuple rs) body) (sym is)
+      m _ p ∙ subst (λ ms. map (λ t. placed_tuple (numbered_sources 0 ms) (values_of t)) body ≡ map (renamed_tuple rs) body) (sym is)
       (map_alike (IsTupleOf h) _ _ body a (placed_renaming h))
 
   or_true : (a b : Bool) → b ≡ true → (a || b) ≡ true
   or_true true b e = refl
   or_true false b e = e
-
-  and_first : (a b : Bool) → (a && b) ≡ true → a ≡ true
-  and_first true b h = refl
-  and_first false b h = cc
 
   -- the new name of an entry is one of the new names
   new_name_there : (n : List ℕ) (t : Tuple) → has_name n (tuple_names t) ≡ true → has_name (new_name rs n) (tuple_names (renamed_entries t)) ≡ true
@@ -95,7 +88,7 @@ module _ (rs : List (List ℕ × List ℕ)) where
   kept_values : (t : Tuple) → are_distinct (tuple_names (renamed_entries t)) ≡ true
       → (n : List ℕ) → has_name n (tuple_names t) ≡ true → value_at (new_name rs n) (renamed_entries t) ≡ value_at n t
   kept_values [] d n e = cc
-  kept_values (a ∷ t) d n e = by_name (kept_values t (and_second _ _ d) n) (same_name a.0 n) refl (same_name (new_name rs a.0) (new_name rs n)) refl
+  kept_values (a ∷ t) d n e = by_name (kept_values t (second_true _ _ d) n) (same_name a.0 n) refl (same_name (new_name rs a.0) (new_name rs n)) refl
     where
       by_name : (has_name n (tuple_names t) ≡ true → value_at (new_name rs n) (renamed_entries t) ≡ value_at n t)
           → (same : Bool) → same ≡ same_name a.0 n → (tied : Bool) → tied ≡ same_name (new_name rs a.0) (new_name rs n)
@@ -108,7 +101,7 @@ module _ (rs : List (List ℕ × List ℕ)) where
           let there : has_name n (tuple_names t) ≡ true = rw (← is) at e in
           let taken : has_name (new_name rs a.0) (tuple_names (renamed_entries t)) ≡ true =
           subst (λ m. has_name m (tuple_names (renamed_entries t)) ≡ true) (sym (same_text (new_name rs a.0) (new_name rs n) new)) (new_name_there n t there) in
-          let free : not (has_name (new_name rs a.0) (tuple_names (renamed_entries t))) ≡ true = and_first _ _ d in
+          let free : not (has_name (new_name rs a.0) (tuple_names (renamed_entries t))) ≡ true = first_true _ _ d in
           let clash = rw taken at free in
           cc
       by_name rest false is false new = rw (← is, ← new) (rest (rw (← is) at e))

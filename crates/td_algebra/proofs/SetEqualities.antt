@@ -1,16 +1,14 @@
 -- Equalities of union, intersection, difference and restriction, by their members.
-use Rattle.std.proofs.Common.{◌≡◌, ◌∙◌, ◌++◌, ◌↔◌, ◌⊎◌, inl, inr, ap, sym, refl, subst, Bool, true, false, not, ◌&&◌, List, [], ◌∷◌, filter}
-use Rattle.std.specs.Bool.{IsTrue}
-use Rattle.std.specs.List.{All, Contains}
+use Rattle.std.proofs.Common.{◌≡◌, ◌∙◌, ◌++◌, ◌↔◌, ◌⊎◌, inl, inr, ap, sym, refl, subst, Bool, true, false, not, List, [], ◌∷◌, filter}
+use Rattle.std.specs.List.{All}
 use Rattle.std.proofs.lemmas.List.Elements.{All-append}
-use Rattle.td_types.specs.Types.{Heading}
 use Rattle.td_value.specs.Sets.{has}
 use Rattle.td_value.specs.Values.{Tuple, Relation, IsRelation, IsTupleOf, tuple_cmp}
 use Rattle.td_value.proofs.Members.{by_members, contained, found, joined_members}
 use Rattle.td_algebra.specs.Equalities.{AreAlike, IntersectionIsAssociative, IntersectionIsCommutative, IntersectionIsIdempotent, RestrictionOfDifference, RestrictionOfIntersection, RestrictionOfUnion, UnionIsAssociative, UnionIsCommutative, UnionIsIdempotent}
 use Rattle.td_algebra.specs.Membership.{IsIn}
-use Rattle.td_algebra.specs.Operators.{difference, intersection, restriction, union}
-use Rattle.td_algebra.proofs.Members.{in_filter}
+use Rattle.td_algebra.specs.Operators.{intersection, restriction, union}
+use Rattle.td_algebra.proofs.Lists.{contains_filter}
 use Rattle.td_algebra.proofs.Relations.{IsRelation-relation_of, IsRelation-restriction, rows_headed}
 
 -- the union of two relations of one heading is a relation
@@ -73,7 +71,7 @@ union_itself r h =
 -- what is in an intersection
 in_both : (r s : Relation) (t : Tuple) → IsIn t (intersection r s) ↔ (IsIn t r × IsIn t s)
 in_both r s t =
-    let members = in_filter (λ u. has tuple_cmp u s.body) t r.body in
+    let members = contains_filter (λ u. has tuple_cmp u s.body) r.body t in
     ((λ h. let both = members.0 h in (both.0, contained t s.body both.1)), (λ h. members.1 (h.0, found t s.body h.1)))
 
 pub IsRelation-intersection : (r s : Relation) → IsRelation r → IsRelation (intersection r s)
@@ -108,10 +106,10 @@ restriction_of_union p r s alike =
     let parts : AreAlike (restriction p r) (restriction p s) = (IsRelation-restriction p r alike.0, IsRelation-restriction p s alike.1, alike.2) in
     by_members (restriction p (union r s)) (union (restriction p r) (restriction p s))
     (IsRelation-restriction p (union r s) (IsRelation-union r s alike)) (IsRelation-union (restriction p r) (restriction p s) parts) refl
-    (λ t. let whole = in_filter p t (union r s).body in
+    (λ t. let whole = contains_filter p (union r s).body t in
     let either = joined_members r.body s.body t in
-    let first = in_filter p t r.body in
-    let second = in_filter p t s.body in
+    let first = contains_filter p r.body t in
+    let second = contains_filter p s.body t in
     let joined = joined_members (restriction p r).body (restriction p s).body t in (
       (λ c. let both = whole.0 c in joined.1 (each (λ a. first.1 (a, both.1)) (λ b. second.1 (b, both.1)) (either.0 both.0))),
       (λ c. whole.1 (by_part first.0 second.0 either.1 (joined.0 c))),

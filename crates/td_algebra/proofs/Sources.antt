@@ -1,14 +1,15 @@
 -- The values at the places of a heading's attributes are those of its tuples' entries.
-use Rattle.std.proofs.Common.{◌≡◌, ◌∙◌, ap, refl, arith, ℕ, zero, suc, ◌+◌, ◌≤◌, ◌<◌, Bool, true, false, List, [], ◌∷◌, ◌++◌, Some, None, filter, length, map, drop, add-one}
+use Rattle.std.proofs.Common.{◌≡◌, ◌∙◌, ap, refl, arith, ℕ, zero, suc, ◌+◌, ◌≤◌, ◌<◌, Bool, true, false, List, [], ◌∷◌, ◌++◌, Option, Some, None, filter, length, map, drop, add-one}
 use Rattle.std.specs.Prelude.{◌&&◌, not, if◌then◌else◌, is_some}
-use Rattle.std.specs.List.{slice_get}
-use Rattle.std.proofs.lemmas.List.Elements.{All-cons}
-use Rattle.td_types.specs.Headings.{has_attribute, outside}
-use Rattle.td_types.specs.Types.{Heading, attribute_names, type_at}
-use Rattle.td_types.proofs.HeadingLaws.{type_at-outside}
+use Rattle.std.specs.List.{All, AllByRecursion, slice_get}
+use Rattle.std.proofs.lemmas.List.Elements.{All-from_recursion}
+use Rattle.td_types.specs.Headings.{are_distinct, has_attribute, outside}
+use Rattle.td_types.specs.Types.{Heading, IsHeading, attribute_names, pack, type_at}
+use Rattle.td_types.proofs.HeadingLaws.{IsHeading-filter, type_at-outside}
 use Rattle.td_value.specs.Values.{Val, Tuple, tuple_names}
 use Rattle.td_value.specs.Views.{values_of}
-use Rattle.td_algebra.specs.Layouts.{AreInRange, sources_outside, taken}
+use Rattle.td_algebra.specs.Layouts.{Sources, sources_outside, taken, with_entry}
+use Rattle.td_algebra.proofs.Entries.{heading_distinct}
 
 -- the first of what is left after a place, and the rest
 at_next : {X : Type 0} (i : ℕ) (xs : List X) (x : X) (rest : List X) → drop i xs ≡ x ∷ rest → (slice_get xs i ≡ Some x) × (drop (suc i) xs ≡ rest)
@@ -39,37 +40,47 @@ taken_outside part (a ∷ g) (e ∷ t) start all after names left =
     by_test name value rest true there = rw (name, there) rest
     by_test name value rest false there = rw (name, there, value) (ap (λ es. (a.0, e.1) ∷ es) rest)
 
--- each place has a value where there are as many as attributes
-pub outside_in_range : (part g : Heading) (start : ℕ) (all : List Val) → start + length g ≤ length all → AreInRange (sources_outside part start g) all
-outside_in_range part [] start all h = λ k d l. absurd (omega (arith, l))
-outside_in_range part (a ∷ g) start all h = by_test (outside_in_range part g (start + 1) all (omega (arith, h))) (has_attribute a.0 part)
+pub taken-append : (ss zs : Sources) (vs : List Val) → taken (ss ++ zs) vs ≡ taken ss vs ++ taken zs vs
+taken-append [] zs vs = refl
+taken-append (s ∷ ss) zs vs = by_value (slice_get vs s.1) (taken-append ss zs vs)
   where
-    by_test : AreInRange (sources_outside part (start + 1) g) all → (b : Bool)
-        → AreInRange (if b then sources_outside part (start + 1) g else (a.0, start) ∷ sources_outside part (start + 1) g) all
+    by_value : (o : Option Val) → taken (ss ++ zs) vs ≡ taken ss vs ++ taken zs vs → with_entry s.0 o (taken (ss ++ zs) vs) ≡ with_entry s.0 o (taken ss vs) ++ taken zs vs
+    by_value None rest = rest
+    by_value (Some v) rest = ap (λ es. (s.0, v) ∷ es) rest
+
+-- each place is below what is past them
+outside_below : (part : Heading) (start n : ℕ) (h : Heading) → start + length h ≤ n → AllByRecursion (λ s. s.1 < n) (sources_outside part start h)
+outside_below part start n [] l = tt
+outside_below part start n (a ∷ h) l = by_test (outside_below part (start + 1) n h (omega arith)) (has_attribute a.0 part)
+  where
+    by_test : AllByRecursion (λ s. s.1 < n) (sources_outside part (start + 1) h) → (b : Bool)
+        → AllByRecursion (λ s. s.1 < n) (if b then sources_outside part (start + 1) h else (a.0, start) ∷ sources_outside part (start + 1) h)
     by_test rest true = rest
-    by_test rest false = All-cons (λ s. s.1 < length all) (a.0, start) (sources_outside part (start + 1) g) (omega (arith, h)) rest
+    by_test rest false = (omega arith, rest)
+
+pub outside_in_range : (part : Heading) (start n : ℕ) (h : Heading) → start + length h ≤ n → All (λ s. s.1 < n) (sources_outside part start h)
+outside_in_range part start n h l = All-from_recursion (λ s. s.1 < n) (sources_outside part start h) (outside_below part start n h l)
 
 -- the names are those of the attributes that the part lacks
-pub outside_names : (part g : Heading) (start : ℕ) → map (λ s. s.0) (sources_outside part start g) ≡ attribute_names (outside part g)
-outside_names part [] start = refl
-outside_names part (a ∷ g) start = by_test (outside_names part g (start + 1)) (has_attribute a.0 part) refl
+pub names_outside : (part : Heading) (start : ℕ) (h : Heading) → map (λ s. s.0) (sources_outside part start h) ≡ attribute_names (outside part h)
+names_outside part start [] = refl
+names_outside part start (a ∷ h) = by_test (names_outside part (start + 1) h) (has_attribute a.0 part)
   where
-    by_test : map (λ s. s.0) (sources_outside part (start + 1) g) ≡ attribute_names (outside part g) → (b : Bool) → has_attribute a.0 part ≡ b
-        → map (λ s. s.0) (if b then sources_outside part (start + 1) g else (a.0, start) ∷ sources_outside part (start + 1) g) ≡ attribute_names (outside part (a ∷ g))
-    by_test rest true there = rw there rest
-    by_test rest false there = rw there (ap (λ ns. a.0 ∷ ns) rest)
+    by_test : map (λ s. s.0) (sources_outside part (start + 1) h) ≡ attribute_names (outside part h) → (b : Bool)
+        → map (λ s. s.0) (if b then sources_outside part (start + 1) h else (a.0, start) ∷ sources_outside part (start + 1) h)
+        ≡ attribute_names (if not b then a ∷ outside part h else outside part h)
+    by_test rest true = rest
+    by_test rest false = ap (λ r. a.0 ∷ r) rest
+
+pub distinct_outside : (part : Heading) (start : ℕ) (h : Heading) → IsHeading (pack h) → are_distinct (map (λ s. s.0) (sources_outside part start h)) ≡ true
+distinct_outside part start h p =
+    ap are_distinct (names_outside part start h) ∙ heading_distinct (outside part h) (IsHeading-filter (λ a. not (has_attribute a.0 part)) h p)
+
+some_unless : {A : Type 0} (o : Option A) (b : Bool) → is_some (if b then None else o) ≡ (is_some o && not b)
+some_unless None true = refl
+some_unless None false = refl
+some_unless (Some a) true = refl
+some_unless (Some a) false = refl
 
 pub has_attribute-outside : (part h : Heading) (n : List ℕ) → has_attribute n (outside part h) ≡ (has_attribute n h && not (has_attribute n part))
-has_attribute-outside part h n = ap is_some (type_at-outside n part h) ∙ by_test (has_attribute n part)
-  where
-    both : (b : Bool) → b ≡ (b && true)
-    both true = refl
-    both false = refl
-
-    neither : (b : Bool) → false ≡ (b && false)
-    neither true = refl
-    neither false = refl
-
-    by_test : (b : Bool) → is_some (if b then None else type_at n h) ≡ (has_attribute n h && not b)
-    by_test true = neither (has_attribute n h)
-    by_test false = both (has_attribute n h)
+has_attribute-outside part h n = ap is_some (type_at-outside n part h) ∙ some_unless (type_at n h) (has_attribute n part)

@@ -1,6 +1,6 @@
 -- A tuple united with another.
 use Rattle.std.proofs.Common.{◌≡◌, ◌∙◌, ap, sym, refl, ℕ, Bool, true, false, List, [], ◌∷◌, ◌++◌, None, filter}
-use Rattle.std.specs.Prelude.{not, if◌then◌else◌, option_map, IsTrue}
+use Rattle.std.specs.Prelude.{not, if◌then◌else◌, option_map}
 use Rattle.td_tree.specs.Names.{IsName}
 use Rattle.td_types.specs.Headings.{add_missing, are_distinct, has_attribute, has_name, heading_union}
 use Rattle.td_types.specs.Types.{Attribute, Heading, IsHeading, IsType, pack, type_at}

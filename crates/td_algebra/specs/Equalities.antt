@@ -1,7 +1,7 @@
 -- Equalities of the relational operators (Tutorial D's algebra): each side may be computed in place of the other.
 use Rattle.std.specs.Prelude.{◌≡◌, Bool, IsTrue}
-use Rattle.td_types.specs.Headings.{agree, have_no_common}
-use Rattle.td_value.specs.Values.{Tuple, Relation, IsRelation, IsTupleOf, projected_tuple}
+use Rattle.td_types.specs.Headings.{have_no_common}
+use Rattle.td_value.specs.Values.{Tuple, Relation, IsRelation, projected_tuple}
 use Rattle.td_algebra.specs.Membership.{AreJoinable}
 use Rattle.td_algebra.specs.Operators.{difference, intersection, join, product, projected_relation, relation_names, restriction, semidifference, semijoin, union}
 

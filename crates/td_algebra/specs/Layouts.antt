@@ -1,11 +1,10 @@
 -- Where the values of a result's tuples come from: each name with a place in the values of one operand's tuple followed by
 -- those of the other's (this project's own).
-use Rattle.std.specs.Prelude.{◌≡◌, ℕ, ◌+◌, ◌<◌, Bool, List, [], ◌∷◌, ◌++◌, length, Option, None, Some, if◌then◌else◌}
+use Rattle.std.specs.Prelude.{ℕ, ◌+◌, ◌<◌, List, [], ◌∷◌, ◌++◌, length, Option, None, Some, if◌then◌else◌}
 use Rattle.std.specs.List.{All, slice_get}
 use Rattle.td_types.specs.Headings.{has_attribute}
 use Rattle.td_types.specs.Types.{Heading}
 use Rattle.td_value.specs.Values.{Val, Tuple, tuple_of}
-use Rattle.td_value.specs.Views.{values_of}
 
 -- names, each with the place of its value
 abbrev pub Sources : Type 0
@@ -38,18 +37,14 @@ sources_outside part start (a ∷ attributes) =
     else (a.0, start) ∷ sources_outside part (start + 1) attributes
 
 -- the names with their places, counted from a start
-abbrev pub numbered : ℕ → List (List ℕ) → Sources
-numbered start [] = []
-numbered start (n ∷ ns) = (n, start) ∷ numbered (start + 1) ns
+abbrev pub numbered_sources : ℕ → List (List ℕ) → Sources
+numbered_sources start [] = []
+numbered_sources start (n ∷ ns) = (n, start) ∷ numbered_sources (start + 1) ns
 
--- the tuple of what is taken from the values of another
-abbrev pub placed_tuple : Sources → Tuple → Tuple
-placed_tuple sources t = tuple_of (taken sources (values_of t))
+-- the tuple of what is taken from the values
+abbrev pub placed_tuple : Sources → List Val → Tuple
+placed_tuple sources vs = tuple_of (taken sources vs)
 
 -- the names of a heading with their places, and then more names
 abbrev pub sources_with : Heading → List (List ℕ) → Sources
-sources_with heading names = sources_outside [] 0 heading ++ numbered (length heading) names
-
--- the tuple of what is taken from the values of another followed by more values
-abbrev pub tuple_with : Sources → Tuple → List Val → Tuple
-tuple_with sources t vs = tuple_of (taken sources (values_of t ++ vs))
+sources_with heading names = sources_outside [] 0 heading ++ numbered_sources (length heading) names

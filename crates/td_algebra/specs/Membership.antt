@@ -1,7 +1,7 @@
 -- The operators by membership: which tuples of the result's heading are in the result (Tutorial D's).
-use Rattle.std.specs.Prelude.{◌≡◌, ℕ, Bool, IsTrue, ◌↔◌, ◌⊎◌, List, [], ◌++◌, Option, Some}
+use Rattle.std.specs.Prelude.{◌≡◌, ℕ, Bool, IsTrue, ◌↔◌, ◌⊎◌, List, [], ◌++◌, Some}
 use Rattle.std.specs.List.{All, Contains}
-use Rattle.td_types.specs.Headings.{agree, are_distinct, can_rename, has_name, have_no_common, heading_union, new_name, outside, projection, renamed}
+use Rattle.td_types.specs.Headings.{agree, are_distinct, can_rename, has_name, have_no_common, heading_union, new_name, projection, renamed}
 use Rattle.td_types.specs.Types.{Heading, attribute_names}
 use Rattle.td_value.specs.Agreement.{AgreeOn}
 use Rattle.td_value.specs.Values.{Tuple, Relation, IsRelation, IsTupleOf, projected_tuple, tuple_names, value_at}
@@ -105,11 +105,11 @@ abbrev pub IsComposed : Relation → Relation → Tuple → Tuple → Tuple → 
 IsComposed r s u w t = AgreeOn (common_names r s) u w × AgreeOn (own_names r s) t u × AgreeOn (own_names s r) t w
 
 -- the heading of a composition: the attributes that one of two headings has
-abbrev pub composed_heading : Relation → Relation → Heading
-composed_heading r s = projection (own_names r s ++ own_names s r) (heading_union r.heading s.heading)
+abbrev pub composition_heading : Relation → Relation → Heading
+composition_heading r s = projection (own_names r s ++ own_names s r) (heading_union r.heading s.heading)
 
 -- r COMPOSE s: some u and w agree on the common names, and t agrees with u and with w on its own names
 abbrev pub CompositionByMembership : Type 0
 CompositionByMembership =
-    (r s : Relation) (t : Tuple) → AreJoinable r s → IsTupleOf (composed_heading r s) t
+    (r s : Relation) (t : Tuple) → AreJoinable r s → IsTupleOf (composition_heading r s) t
     → IsIn t (composition r s) ↔ ((u : Tuple) × (w : Tuple) × IsIn u r × IsIn w s × IsComposed r s u w t)

@@ -20,14 +20,14 @@ begins_with t [] = false
 begins_with t (u ∷ us) = eq_by_cmp tuple_cmp t u
 
 -- the tuples without the first where it is the tuple
-abbrev pub after : Tuple → List Tuple → List Tuple
-after t [] = []
-after t (u ∷ us) = if eq_by_cmp tuple_cmp t u then us else u ∷ us
+abbrev pub without_first : Tuple → List Tuple → List Tuple
+without_first t [] = []
+without_first t (u ∷ us) = if eq_by_cmp tuple_cmp t u then us else u ∷ us
 
 -- the tuples of two ascending lists, ascending: each tuple of the first stands after those of the second that are below it
 abbrev pub merged : List Tuple → List Tuple → List Tuple
 merged [] us = us
-merged (t ∷ ts) us = below t us ++ t ∷ merged ts (after t (not_below t us))
+merged (t ∷ ts) us = below t us ++ t ∷ merged ts (without_first t (not_below t us))
 
 -- whether a tuple is in a list, or whether it is not
 abbrev pub is_wanted : Bool → List Tuple → Tuple → Bool

@@ -1,11 +1,11 @@
 -- The tuples of pairs of tuples.
-use Rattle.std.specs.Prelude.{ℕ, Bool, not, List, ◌++◌, filter, map}
+use Rattle.std.specs.Prelude.{ℕ, not, List, ◌++◌, filter, map}
 use Rattle.std.specs.List.{flat_map}
 use Rattle.td_types.specs.Headings.{has_attribute, has_name}
 use Rattle.td_types.specs.Types.{Heading}
 use Rattle.td_value.specs.Values.{Relation, Tuple, tuple_names, tuple_of}
 use Rattle.td_value.specs.Views.{values_of}
-use Rattle.td_algebra.specs.Layouts.{AreInRange, Sources, sources_outside, taken}
+use Rattle.td_algebra.specs.Layouts.{AreInRange, Sources, placed_tuple, sources_outside}
 use Rattle.td_algebra.specs.Operators.{are_partners}
 
 -- where the values stand of a pair's tuple: those of the first but for what is left out, and those that it lacks of the second
@@ -18,7 +18,7 @@ IsPaired layout t u = AreInRange layout (values_of t ++ values_of u)
 
 -- the tuple of the layout's names with the values at their places in those of the pair
 abbrev pub pair_tuple : Sources → Tuple → Tuple → Tuple
-pair_tuple layout t u = tuple_of (taken layout (values_of t ++ values_of u))
+pair_tuple layout t u = placed_tuple layout (values_of t ++ values_of u)
 
 -- the tuples of each with each of its partners
 abbrev pub pairs_with : (Tuple → List Tuple) → (Tuple → Tuple → Tuple) → List Tuple → List Tuple
@@ -30,10 +30,10 @@ pair_entries left_out t u =
     filter (λ e. not (has_attribute e.0 left_out)) t ++ filter (λ e. not (has_name e.0 (tuple_names t))) u
 
 -- the tuple of a pair
-abbrev pub paired : Heading → Tuple → Tuple → Tuple
-paired left_out t u = tuple_of (pair_entries left_out t u)
+abbrev pub paired_tuple : Heading → Tuple → Tuple → Tuple
+paired_tuple left_out t u = tuple_of (pair_entries left_out t u)
 
 -- the tuples of each of a relation's tuples with each of its partners in another
 abbrev pub partners_paired : Heading → Relation → Relation → List Tuple
 partners_paired left_out r s =
-    pairs_with (λ t. filter (are_partners r s t) s.body) (paired left_out) r.body
+    pairs_with (λ t. filter (are_partners r s t) s.body) (paired_tuple left_out) r.body

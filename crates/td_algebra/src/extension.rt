@@ -8,7 +8,7 @@ ghost use Rattle.std.specs.Ordering.{is_lt, nat_cmp};
 ghost use Rattle.td_algebra.specs.Columns.{AreAfter, AreColumns, AreColumnsOf, IsColumn};
 ghost use Rattle.td_algebra.specs.Columns.{column_attributes};
 ghost use Rattle.td_algebra.specs.Columns.{cells_at, columns_view, new_attribute};
-ghost use Rattle.td_algebra.specs.Layouts.{Sources, sources_with, tuple_with};
+ghost use Rattle.td_algebra.specs.Layouts.{Sources, placed_tuple, sources_with};
 ghost use Rattle.td_algebra.specs.Operators.{Addition, extended_relation};
 ghost use Rattle.td_types.specs.Headings.{are_distinct, has_attribute, have_no_common};
 ghost use Rattle.td_types.specs.Headings.{heading_union};
@@ -101,7 +101,8 @@ fn extended_rows(
         → IsPermutation sources layout.now
         → AreColumnsOf (columns_view columns.now) rows.now additions
         → IfOk result (λ made. made.items
-        ≡ map (λ t. tuple_with sources t (map (λ a. a.value t) additions)) rows.now) }
+        ≡ map (λ t. placed_tuple sources
+        (values_of t ++ map (λ a. a.value t) additions)) rows.now) }
     ensures valid { IfOk result (λ made. All IsTuple made.items) }
 {
     let mut cells = Vec::with_capacity(alloc, columns.len())?;

@@ -2,10 +2,9 @@
 ghost use Rattle.std.specs.Prelude.{◌≡◌, ◌+◌, ◌<◌, ◌++◌, IfOk, IsTrue, OnOk, Some, length, map};
 ghost use Rattle.std.specs.List.{All, slice_get};
 ghost use Rattle.std.specs.List.Sorted.{IsPermutation};
-ghost use Rattle.td_algebra.specs.Layouts.{AreInRange, Sources, numbered, placed_tuple};
-ghost use Rattle.td_algebra.specs.Layouts.{source_unless, sources_outside, taken};
-ghost use Rattle.td_types.specs.Headings.{are_distinct};
-ghost use Rattle.td_value.specs.Values.{tuple_of};
+ghost use Rattle.td_algebra.specs.Layouts.{AreInRange, Sources, numbered_sources, placed_tuple};
+ghost use Rattle.td_algebra.specs.Layouts.{source_unless, sources_outside};
+ghost use Rattle.td_types.specs.Headings.{are_distinct, outside};
 ghost use Rattle.td_value.specs.Views.{values_of};
 
 use std::alloc::{AllocError, Global};
@@ -83,7 +82,7 @@ impl Layout {
     ) -> Result<Tuple, AllocError>
         requires { AreInRange self.now (first.now ++ second.now) }
         ensures { (sources : Sources) → IsPermutation sources self.now
-            → IfOk result (λ t. t ≡ tuple_of (taken sources (first.now ++ second.now))) }
+            → IfOk result (λ t. t ≡ placed_tuple sources (first.now ++ second.now)) }
     {
         let _ = self.names.as_slice();
         let mut values = Vec::with_capacity(alloc, self.places.len())?;
@@ -97,7 +96,8 @@ impl Layout {
     pub(crate) fn tuples(&self, alloc: Global, rows: &[Tuple]) -> Result<Vec<Tuple>, AllocError>
         requires { All (λ t. AreInRange self.now (values_of t)) rows.now }
         ensures { (sources : Sources) → IsPermutation sources self.now
-            → IfOk result (λ tuples. tuples.items ≡ map (placed_tuple sources) rows.now) }
+            → IfOk result (λ tuples. tuples.items
+            ≡ map (λ t. placed_tuple sources (values_of t)) rows.now) }
     {
         let mut tuples = Vec::with_capacity(alloc, rows.len())?;
         for row in rows {
@@ -136,7 +136,8 @@ pub(crate) fn put_names(
     names: &[Name],
     start: usize,
 ) -> Result<(), AllocError>
-    ensures { OnOk result (sources.new.items ≡ sources.old.items ++ numbered start names.now) }
+    ensures { OnOk result (sources.new.items
+        ≡ sources.old.items ++ numbered_sources start names.now) }
 {
     for index in 0..names.len() {
         let place = place_after(start, index)?;
@@ -163,4 +164,20 @@ pub(crate) fn put_sources(
         }
     }
     Ok(())
+}
+
+/// The layout of the values of a heading's attributes whose names another has too.
+pub(crate) fn kept_layout(
+    alloc: Global,
+    heading: &Heading,
+    kept: &Heading,
+) -> Result<Layout, AllocError>
+    ensures { IfOk result (λ layout. IsPermutation
+        (sources_outside (outside kept.now heading.now) 0 heading.now) layout) }
+{
+    let _ = heading.len();
+    let dropped = heading.lacking(kept)?;
+    let mut sources = Vec::new(alloc);
+    put_sources(&mut sources, heading, 0, &dropped)?;
+    Layout::new(alloc, sources)
 }

@@ -5,15 +5,16 @@ ghost use Rattle.std.specs.List.{All};
 ghost use Rattle.std.specs.Ordering.{eq_by_cmp};
 ghost use Rattle.td_types.specs.Headings.{has_attribute, has_name};
 ghost use Rattle.td_value.specs.Values.{Tuple, IsTupleOf, tuple_cmp};
-ghost use Rattle.td_algebra.specs.Groups.{AreGrouped, AreKeys, IsKeyed, group, key_of, source_names};
+ghost use Rattle.td_algebra.specs.Groups.{AreGrouped, AreKeysOf, IsKeyed, group, key_of};
+ghost use Rattle.td_algebra.specs.Groups.{source_names};
 
-use crate::layout::{Layout, put_sources};
+use crate::layout::{Layout, kept_layout};
 use std::alloc::{AllocError, Global};
 use std::collections::{HashMap, HashSet};
 use td_types::heading::Heading;
 use td_value::tuple::Tuple;
 
-/// The layout of the keys of a heading's tuples: of its attributes whose names another has too.
+/// The layout of the keys of a heading's tuples for another heading.
 pub(crate) fn key_layout(
     alloc: Global,
     heading: &Heading,
@@ -24,11 +25,7 @@ pub(crate) fn key_layout(
     ensures names { IfOk result (λ layout. (n : List ℕ) → has_name n (source_names layout)
         ≡ (has_attribute n heading.now && has_attribute n other.now)) }
 {
-    let own = heading.lacking(other)?;
-    let _ = heading.len();
-    let mut sources = Vec::with_capacity(alloc, heading.len())?;
-    put_sources(&mut sources, heading, 0, &own)?;
-    Layout::new(alloc, sources)
+    kept_layout(alloc, heading, other)
 }
 
 /// The key of the tuple.
@@ -79,7 +76,7 @@ pub(crate) fn keys_of(
     rows: &[Tuple],
 ) -> Result<HashSet<Tuple>, AllocError>
     requires { All (IsKeyed layout.now) rows.now }
-    ensures { IfOk result (AreKeys layout.now rows.now) }
+    ensures { IfOk result (AreKeysOf layout.now rows.now) }
 {
     let mut keys = HashSet::with_capacity(alloc, rows.len())?;
     for row in rows {

@@ -1,7 +1,7 @@
 //! RENAME: the tuples with their names changed, all at once.
 ghost use Rattle.std.specs.Prelude.{◌≡◌, IfOk, IsTrue};
 ghost use Rattle.std.specs.List.Sorted.{IsPermutation};
-ghost use Rattle.td_algebra.specs.Layouts.{numbered};
+ghost use Rattle.td_algebra.specs.Layouts.{numbered_sources};
 ghost use Rattle.td_algebra.specs.Operators.{renamed_relation};
 ghost use Rattle.td_types.specs.Headings.{can_rename, new_names};
 
@@ -20,7 +20,7 @@ fn renamed_layout(
 ) -> Result<Layout, AllocError>
     requires { IsTrue (can_rename renamings.now heading.now) }
     ensures { IfOk result (λ layout.
-        IsPermutation (numbered 0 (new_names renamings.now heading.now)) layout) }
+        IsPermutation (numbered_sources 0 (new_names renamings.now heading.now)) layout) }
 {
     let names = heading.new_names(renamings)?;
     let mut sources = Vec::with_capacity(alloc, names.len())?;

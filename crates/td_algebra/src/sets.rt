@@ -2,8 +2,10 @@
 //! by side. Both have one heading.
 ghost use Rattle.std.specs.Prelude.{◌≡◌, ◌++◌, IfOk, OnOk, filter};
 ghost use Rattle.std.specs.List.{All, list_all};
-ghost use Rattle.td_algebra.specs.Merges.{after, begins_with, below, is_wanted, merged, not_below};
-ghost use Rattle.td_algebra.specs.Operators.{difference, intersection, is_subset, restriction, union};
+ghost use Rattle.td_algebra.specs.Merges.{begins_with, below, is_wanted, merged, not_below};
+ghost use Rattle.td_algebra.specs.Merges.{without_first};
+ghost use Rattle.td_algebra.specs.Operators.{difference, intersection, is_subset, restriction};
+ghost use Rattle.td_algebra.specs.Operators.{union};
 ghost use Rattle.td_value.specs.Sets.{has};
 ghost use Rattle.td_value.specs.Values.{IsAscendingBody, IsTupleOf, tuple_cmp};
 ghost use Rattle.td_value.specs.Views.{relation_view};
@@ -37,8 +39,8 @@ fn begins_with(rows: &[Tuple], row: &Tuple) -> bool
 }
 
 /// The rows without the first where that is the row.
-fn after<'a>(rows: &'a [Tuple], row: &Tuple) -> &'a [Tuple]
-    ensures { result.now ≡ after row.now rows.now }
+fn without_first<'a>(rows: &'a [Tuple], row: &Tuple) -> &'a [Tuple]
+    ensures { result.now ≡ without_first row.now rows.now }
 {
     match rows {
         [first, later @ ..] if row == first => later,
@@ -86,7 +88,7 @@ fn merged(alloc: Global, rows: &[Tuple], others: &[Tuple]) -> Result<Vec<Tuple>,
     for row in rows {
         rest = put_below(&mut kept, rest, row)?;
         kept.push(row.try_clone()?)?;
-        rest = after(rest, row);
+        rest = without_first(rest, row);
     }
     put_all(&mut kept, rest)?;
     Ok(kept)

@@ -53,15 +53,15 @@ has_name-put_in m e (f ∷ es) = by_order (has_name-put_in m e es) (entry_cmp e 
     by_order rest Equal d = rw (d, entry_order_same e f d) (again (same_name f.0 m) (has_name m (tuple_names es)))
     by_order rest Greater d = rw d (ap (λ b. same_name f.0 m || b) rest ∙ swapped (same_name f.0 m) (same_name e.0 m) (has_name m (tuple_names es)))
 
-has_name-tuple_of : (m : List ℕ) (es : Tuple) → has_name m (tuple_names (tuple_of es)) ≡ has_name m (tuple_names es)
+pub has_name-tuple_of : (m : List ℕ) (es : Tuple) → has_name m (tuple_names (tuple_of es)) ≡ has_name m (tuple_names es)
 has_name-tuple_of m [] = refl
 has_name-tuple_of m (e ∷ es) = has_name-put_in m e (tuple_of es) ∙ ap (λ b. same_name e.0 m || b) (has_name-tuple_of m es)
 
-or_left : (b c : Bool) → (b || c) ≡ false → b ≡ false
+pub or_left : (b c : Bool) → (b || c) ≡ false → b ≡ false
 or_left true c e = e
 or_left false c e = refl
 
-or_right : (b c : Bool) → (b || c) ≡ false → c ≡ false
+pub or_right : (b c : Bool) → (b || c) ≡ false → c ≡ false
 or_right true c e = absurd (true≢false e)
 or_right false c e = e
 

@@ -3,7 +3,8 @@
 ghost use Rattle.td_algebra.specs.Equalities.{IntersectionIsAssociative, IntersectionIsCommutative};
 ghost use Rattle.td_algebra.specs.Equalities.{IntersectionIsIdempotent, RestrictionOfDifference};
 ghost use Rattle.td_algebra.specs.Equalities.{RestrictionOfIntersection, RestrictionOfUnion};
-ghost use Rattle.td_algebra.specs.Equalities.{UnionIsAssociative, UnionIsCommutative, UnionIsIdempotent};
+ghost use Rattle.td_algebra.specs.Equalities.{UnionIsAssociative, UnionIsCommutative};
+ghost use Rattle.td_algebra.specs.Equalities.{UnionIsIdempotent};
 
 /// UNION is commutative.
 pub fn union_is_commutative()

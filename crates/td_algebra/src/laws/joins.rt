@@ -23,7 +23,8 @@ pub fn semidifference_by_membership()
     ensures { SemidifferenceByMembership }
 {}
 
-/// COMPOSE: some tuples of both agree on the common names, and it agrees with each on its own names.
+/// COMPOSE: some tuples of both agree on the common names, and it agrees with each on its own
+/// names.
 pub fn composition_by_membership()
     ensures { CompositionByMembership }
 {}

@@ -1,4 +1,5 @@
-//! Which tuples a restriction, a union, an intersection and a difference have, and what inclusion is.
+//! Which tuples a restriction, a union, an intersection and a difference have, and what inclusion
+//! is.
 ghost use Rattle.td_algebra.specs.Membership.{DifferenceByMembership, IntersectionByMembership};
 ghost use Rattle.td_algebra.specs.Membership.{RestrictionByMembership, SubsetByMembership};
 ghost use Rattle.td_algebra.specs.Membership.{UnionByMembership};

@@ -2,15 +2,15 @@ use Rattle.std.proofs.Common.{◌≡◌, ◌∙◌, ◌++◌, [], ap, map, subst
 use Rattle.std.specs.List.Sorted.{IsPermutation}
 use Rattle.td_types.specs.Headings.{are_distinct}
 use Rattle.td_types.specs.Types.{Heading}
-use Rattle.td_algebra.specs.Layouts.{Sources, numbered, sources_outside, sources_with}
+use Rattle.td_algebra.specs.Layouts.{Sources, numbered_sources, sources_outside, sources_with}
 use Rattle.td_algebra.proofs.Extensions.{names_with}
 use Rattle.td_algebra.proofs.extension.extended_layout.Goals as goal
 
 -- what is put after nothing
 all_put : (h nothing : Heading) (names : List (List ℕ)) (none old all : Sources) (start : ℕ) → none ≡ [] → nothing ≡ [] → start ≡ length h
-    → old ≡ none ++ sources_outside nothing 0 h → all ≡ old ++ numbered start names → all ≡ sources_with h names
+    → old ≡ none ++ sources_outside nothing 0 h → all ≡ old ++ numbered_sources start names → all ≡ sources_with h names
 all_put h nothing names none old all start p q r e f =
-    f ∙ (λ i. (e ∙ ap (λ ss. ss ++ sources_outside nothing 0 h) p ∙ ap (λ g. sources_outside g 0 h) q) i ++ numbered (r i) names)
+    f ∙ (λ i. (e ∙ ap (λ ss. ss ++ sources_outside nothing 0 h) p ∙ ap (λ g. sources_outside g 0 h) q) i ++ numbered_sources (r i) names)
 
 pub new-requires : goal.new-requires
 new-requires c =

@@ -1,14 +1,15 @@
-use Rattle.std.proofs.Common.{◌≡◌, List, map, take}
+use Rattle.std.proofs.Common.{◌≡◌, ◌++◌, List, map, take}
 use Rattle.std.specs.List.{All}
 use Rattle.std.specs.List.Sorted.{IsPermutation}
 use Rattle.td_value.specs.Values.{IsTuple}
 use Rattle.td_algebra.specs.Columns.{AreColumnsOf, columns_view}
-use Rattle.td_algebra.specs.Layouts.{Sources, tuple_with}
+use Rattle.td_value.specs.Views.{values_of}
+use Rattle.td_algebra.specs.Layouts.{Sources, placed_tuple}
 use Rattle.td_algebra.specs.Operators.{Addition}
 use Rattle.td_algebra.proofs.extension.extended_rows.Given as goal
 
 abbrev pub invariant-loop-row : goal.invariant-loop-row
 invariant-loop-row l =
     ((sources : Sources) (additions : List Addition) → IsPermutation sources l.layout → AreColumnsOf (columns_view l.columns) l.rows additions
-    → l.extended.items ≡ map (λ t. tuple_with sources t (map (λ (a : Addition). a.value t) additions)) (take l.row l.rows))
+    → l.extended.items ≡ map (λ t. placed_tuple sources (values_of t ++ map (λ (a : Addition). a.value t) additions)) (take l.row l.rows))
     × All IsTuple l.extended.items

@@ -4,7 +4,8 @@ use Rattle.td_tree.specs.declared.cause.Cause.TheVariants as causes
 use Rattle.td_types.specs.Headings.{projection}
 use Rattle.td_value.specs.Values.{IsTupleOf, projected_tuple}
 use Rattle.td_algebra.proofs.Projections.{IsTupleOf-projected}
-use Rattle.td_algebra.proofs.Taken.{all_in_range, headed_by, outside_in_range, projection_rows, relation_is, value_of_answer}
+use Rattle.td_algebra.proofs.Sources.{outside_in_range}
+use Rattle.td_algebra.proofs.Taken.{all_in_range, headed_by, projection_rows, relation_is, value_of_answer}
 use Rattle.td_algebra.proofs.projection.project.Goals as goal
 
 pub tuples-requires : goal.tuples-requires

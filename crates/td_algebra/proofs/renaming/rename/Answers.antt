@@ -6,7 +6,7 @@ use Rattle.td_tree.specs.declared.cause.Cause.TheVariants as causes
 use Rattle.td_types.specs.Headings.{can_rename, heading_union, new_name, new_names, renamed}
 use Rattle.td_types.specs.Types.{Heading, IsHeading, pack}
 use Rattle.td_value.specs.Values.{IsTupleOf}
-use Rattle.td_algebra.specs.Layouts.{numbered}
+use Rattle.td_algebra.specs.Layouts.{numbered_sources}
 use Rattle.td_algebra.specs.Operators.{renamed_tuple}
 use Rattle.td_algebra.proofs.Renamings.{IsTupleOf-renamed, renaming_rows}
 use Rattle.td_algebra.proofs.Taken.{all_in_range, headed_by, numbered_in_range, relation_is, value_of_answer}
@@ -16,7 +16,7 @@ pub renamed_layout-requires : goal.renamed_layout-requires
 renamed_layout-requires c = subst (λ h. can_rename c.args.renamings.now h ≡ true) (sym c.heading-3.ensures) c.requires
 
 -- as many places as there are attributes
-in_heading : (rs : List (List ℕ × List ℕ)) (h : Heading) → All (λ s. s.1 < length h) (numbered 0 (new_names rs h))
+in_heading : (rs : List (List ℕ × List ℕ)) (h : Heading) → All (λ s. s.1 < length h) (numbered_sources 0 (new_names rs h))
 in_heading rs h =
     let names : length (new_names rs h) ≡ length (renamed rs h) = length-map (renamed rs h) (λ a. a.0) in
     let same : length (renamed rs h) ≡ length h = length-map h (λ a. (new_name rs a.0, a.1)) in

@@ -1,6 +1,6 @@
-use Rattle.std.proofs.Common.{◌≡◌, ◌∙◌, sym, false, true}
+use Rattle.std.proofs.Common.{◌∙◌, sym}
 use Rattle.td_value.specs.Sets.{has}
-use Rattle.td_value.specs.Values.{Tuple, tuple_cmp}
+use Rattle.td_value.specs.Values.{tuple_cmp}
 use Rattle.td_algebra.proofs.Merges.{left-ascends, step_abreast, step_failed, step_finds, step_passed}
 use Rattle.td_algebra.proofs.sets.are_among.Goals as goal
 

@@ -1,9 +1,8 @@
-use Rattle.std.proofs.Common.{◌≡◌, ◌∙◌, ap, sym, subst, filter}
+use Rattle.std.proofs.Common.{◌∙◌, ap, sym, subst, filter}
 use Rattle.std.specs.List.{All}
 use Rattle.std.proofs.lemmas.List.Elements.{All-filter}
 use Rattle.std.proofs.lemmas.List.Kept.{IsStrictlySortedBy-filter}
-use Rattle.td_value.specs.Sets.{has}
-use Rattle.td_value.specs.Values.{Tuple, IsAscendingBody, IsTupleOf, tuple_cmp}
+use Rattle.td_value.specs.Values.{IsAscendingBody, IsTupleOf, tuple_cmp}
 use Rattle.td_algebra.specs.Merges.{is_wanted}
 use Rattle.td_algebra.proofs.sets.kept.Goals as goal
 

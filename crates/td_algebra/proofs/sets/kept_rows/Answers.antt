@@ -1,4 +1,4 @@
-use Rattle.std.proofs.Common.{◌≡◌, ◌∙◌, ◌++◌, ◌∷◌, [], ap, sym, subst, Bool, true, false, List, filter, drop, ◌+◌}
+use Rattle.std.proofs.Common.{◌≡◌, ◌∙◌, ◌++◌, ◌∷◌, [], ap, sym, Bool, true, false, List, filter, drop, ◌+◌}
 use Rattle.std.proofs.Math.Bool.{beq}
 use Rattle.td_value.specs.Sets.{has}
 use Rattle.td_value.specs.Values.{Tuple, tuple_cmp}

@@ -1,8 +1,8 @@
 use Rattle.std.proofs.Common.{◌∙◌, ◌++◌, ap, map}
 use Rattle.td_types.specs.Headings.{are_distinct}
 use Rattle.td_algebra.specs.Layouts.{sources_outside}
-use Rattle.td_algebra.proofs.Taken.{distinct_outside}
-use Rattle.td_algebra.proofs.projection.kept_layout.Goals as goal
+use Rattle.td_algebra.proofs.Sources.{distinct_outside}
+use Rattle.td_algebra.proofs.layout.kept_layout.Goals as goal
 
 pub new-requires : goal.new-requires
 new-requires c =
