@@ -1,5 +1,6 @@
 pub mod Ascents
 pub mod Composed
+pub mod Distinct
 pub mod Entries
 pub mod Extensions
 pub mod Groups
