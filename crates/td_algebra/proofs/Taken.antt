@@ -131,13 +131,6 @@ pub all_in_range : (sources layout : Sources) (h : Heading) (ts : List Tuple) �
 all_in_range sources layout h ts p r a = λ k d l.
     layout_in_range sources layout (values_of (get_or ts k d)) p (subst (λ n. All (λ s. s.1 < n) sources) (as_many h (get_or ts k d) (a k d l)) r)
 
-pub projection_rows : (names : List (List ℕ)) (h kept : Heading) (body made : List Tuple) (layout : Sources) → kept ≡ projection names h → All (IsTupleOf h) body
-    → IsPermutation (sources_outside (outside kept h) 0 h) layout → ((sources : Sources) → IsPermutation sources layout → made ≡ map (λ t. placed_tuple sources (values_of t)) body)
-    → made ≡ map (projected_tuple names) body
-projection_rows names h kept body made layout is a p m =
-    m _ p ∙ subst (λ k. map (λ t. placed_tuple (sources_outside (outside k h) 0 h) (values_of t)) body ≡ map (projected_tuple names) body) (sym is)
-    (map_alike (IsTupleOf h) _ _ body a (placed_projection names h))
-
 pub headed_by : (h g : Heading) (ts us : List Tuple) → h ≡ g → ts ≡ us → All (IsTupleOf g) us → All (IsTupleOf h) ts
 headed_by h g ts us e f a = subst (λ k. All (IsTupleOf k) ts) (sym e) (subst (All (IsTupleOf g)) (sym f) a)
 

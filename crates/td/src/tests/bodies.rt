@@ -1,7 +1,6 @@
 //! Bodies of relvars, with ample memory.
 ghost use Rattle.std.specs.Prelude.{◌≡◌, ◌∷◌, IfOk, []};
 
-use super::grids::pairs;
 use super::headings::integers;
 use super::names::name;
 use super::values::numbers;
@@ -80,7 +79,12 @@ fn holds(alloc: Global, texts: &[&str], rows: &[(i64, i64)]) -> Result<bool, Fau
 }
 
 /// The members of a body of these pairs that agree with the part on a key.
-fn found(alloc: Global, names: Vec<Name>, part: &Tuple, rows: &[(i64, i64)]) -> Result<Rel, Fault> {
+fn agreeing(
+    alloc: Global,
+    names: Vec<Name>,
+    part: &Tuple,
+    rows: &[(i64, i64)],
+) -> Result<Rel, Fault> {
     let whole = integers(alloc, &["A", "B"])?;
     let heading = whole.project(&names)?;
     let body = filled(alloc, names, rows)?;
@@ -91,34 +95,72 @@ fn found(alloc: Global, names: Vec<Name>, part: &Tuple, rows: &[(i64, i64)]) -> 
     }
 }
 
+/// The literal of the members of a body of these pairs whose B is the number.
+fn found(alloc: Global, number: i64, rows: &[(i64, i64)]) -> Result<String, Fault> {
+    let part = numbers(alloc, &[("B", number)])?;
+    Ok(agreeing(alloc, key(alloc, &["B"])?, &part, rows)?.literal()?)
+}
+
+/// The tuple of A and B.
+fn pair(alloc: Global, row: (i64, i64)) -> Result<Tuple, Fault> {
+    numbers(alloc, &[("A", row.0), ("B", row.1)])
+}
+
+/// Whether a pair is new to a body of these pairs.
+fn is_new(alloc: Global, rows: &[(i64, i64)], row: (i64, i64)) -> Result<bool, Fault> {
+    let mut body = filled(alloc, key(alloc, &["A", "B"])?, rows)?;
+    put(&mut body, pair(alloc, row)?)
+}
+
+/// Whether a pair is taken out of a body of these pairs, and how many are left.
+fn taken(
+    alloc: Global,
+    rows: &[(i64, i64)],
+    row: (i64, i64),
+) -> Result<(bool, usize), Fault> {
+    let mut body = filled(alloc, key(alloc, &["A", "B"])?, rows)?;
+    let there = take(&mut body, &pair(alloc, row)?)?;
+    Ok((there, body.len()))
+}
+
+/// The literal of a body of these pairs without a pair.
+fn without(alloc: Global, rows: &[(i64, i64)], row: (i64, i64)) -> Result<String, Fault> {
+    let mut body = filled(alloc, key(alloc, &["A", "B"])?, rows)?;
+    take(&mut body, &pair(alloc, row)?)?;
+    Ok(body.to_rel()?.literal()?)
+}
+
+/// Whether a pair that is put in a body's copy is a member of the body, and of the copy.
+fn in_copy(alloc: Global, rows: &[(i64, i64)], row: (i64, i64)) -> Result<(bool, bool), Fault> {
+    let body = filled(alloc, key(alloc, &["A", "B"])?, rows)?;
+    let mut copy = body.try_clone()?;
+    put(&mut copy, pair(alloc, row)?)?;
+    let tuple = pair(alloc, row)?;
+    Ok((has(&body, &tuple)?, has(&copy, &tuple)?))
+}
+
+const ROWS: &[(i64, i64)] = &[(1, 2), (2, 3), (3, 2)];
+
 #[test]
 fn members_come_and_go(rt: HostRuntime) -> Result<(), Fail> {
     let alloc = rt.alloc();
-    let mut body = keyed(alloc, key(alloc, &["A", "B"])?)?;
-    let row = numbers(alloc, &[("A", 1), ("B", 2)])?;
-    let other = numbers(alloc, &[("A", 1), ("B", 1)])?;
-    assert!(rt; put(&mut body, row.try_clone()?)?);
-    assert!(rt; !put(&mut body, row.try_clone()?)?);
-    assert!(rt; body.to_rel()? == pairs(alloc, ["A", "B"], &[(1, 2)])?);
-    let copy = body.try_clone()?;
-    assert!(rt; put(&mut body, other.try_clone()?)?);
-    assert_eq!(rt; body.len(), 2);
-    assert!(rt; has(&body, &other)? && !has(&copy, &other)?);
-    assert!(rt; take(&mut body, &row)? && !take(&mut body, &row)?);
-    assert!(rt; body.to_rel()? == pairs(alloc, ["A", "B"], &[(1, 1)])?);
-    assert!(rt; copy.to_rel()? == pairs(alloc, ["A", "B"], &[(1, 2)])?);
+    assert!(rt; is_new(alloc, &[], (1, 2))? && !is_new(alloc, &[(1, 2)], (1, 2))?);
+    assert!(rt; taken(alloc, ROWS, (2, 3))? == (true, 2));
+    assert!(rt; taken(alloc, ROWS, (2, 2))? == (false, 3));
+    let rest = "RELATION {A INTEGER, B INTEGER} {TUPLE {A 1, B 2}, TUPLE {A 3, B 2}}";
+    assert_eq!(rt; without(alloc, ROWS, (2, 3))?.as_str(), rest);
+    assert!(rt; in_copy(alloc, ROWS, (4, 4))? == (false, true));
     Ok(())
 }
 
 #[test]
 fn keys_of_bodies(rt: HostRuntime) -> Result<(), Fail> {
     let alloc = rt.alloc();
-    let rows = [(1, 3), (2, 2), (3, 1)];
-    assert!(rt; holds(alloc, &["A", "B"], &rows)? && holds(alloc, &["B"], &rows)?);
-    assert!(rt; !holds(alloc, &["B"], &[(1, 2), (2, 3), (3, 2)])?);
-    assert!(rt; !holds(alloc, &[], &rows)? && holds(alloc, &[], &[(1, 2)])?);
-    let part = numbers(alloc, &[("B", 2)])?;
-    let both = found(alloc, key(alloc, &["B"])?, &part, &[(1, 2), (2, 3), (3, 2)])?;
-    assert!(rt; both == pairs(alloc, ["A", "B"], &[(1, 2), (3, 2)])?);
+    assert!(rt; holds(alloc, &["A", "B"], ROWS)? && holds(alloc, &["A"], ROWS)?);
+    assert!(rt; !holds(alloc, &["B"], ROWS)? && holds(alloc, &["B"], &[(1, 3), (2, 2), (3, 1)])?);
+    assert!(rt; !holds(alloc, &[], ROWS)? && holds(alloc, &[], &[(1, 2)])?);
+    let both = "RELATION {A INTEGER, B INTEGER} {TUPLE {A 1, B 2}, TUPLE {A 3, B 2}}";
+    assert_eq!(rt; found(alloc, 2, ROWS)?.as_str(), both);
+    assert_eq!(rt; found(alloc, 7, ROWS)?.as_str(), "RELATION {A INTEGER, B INTEGER} {}");
     Ok(())
 }

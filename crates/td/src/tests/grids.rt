@@ -14,14 +14,11 @@ pub fn pairs(alloc: Global, names: [&str; 2], rows: &[(i64, i64)]) -> Result<Rel
     relation(integers(alloc, &names)?, tuples)
 }
 
-/// The relation without attributes that has the empty tuple.
-pub fn dee(alloc: Global) -> Result<Rel, Fault> {
+/// The relation without attributes: that of the empty tuple, which holds, or that of none.
+pub fn nullary(alloc: Global, holds: bool) -> Result<Rel, Fault> {
     let mut tuples = Vec::new(alloc);
-    tuples.push(numbers(alloc, &[])?)?;
+    if holds {
+        tuples.push(numbers(alloc, &[])?)?;
+    }
     relation(integers(alloc, &[])?, tuples)
-}
-
-/// The relation without attributes that has no tuple.
-pub fn dum(alloc: Global) -> Result<Rel, Fault> {
-    relation(integers(alloc, &[])?, Vec::new(alloc))
 }
