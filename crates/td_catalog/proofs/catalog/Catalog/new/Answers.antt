@@ -1,0 +1,5 @@
+use Rattle.td_catalog.proofs.Changes.{catalog_empty}
+use Rattle.td_catalog.proofs.catalog.Catalog.new.Goals as goal
+
+pub invariant_of-result : goal.invariant_of-result
+invariant_of-result g c = catalog_empty g.B.Body.relation g.B.Body.keys c.new.result c.new-2.result.entries c.new.ensures c.new-2.ensures.empty

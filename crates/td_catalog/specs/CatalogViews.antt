@@ -1,0 +1,39 @@
+-- What the code's catalogue stands for, and what it keeps beside bodies.
+use Rattle.std.specs.Prelude.{◌≡◌, ℕ, List, [], map}
+use Rattle.std.specs.List.{AllByRecursion}
+use Rattle.td_catalog.specs.Database.{BaseRelvar, Database, base_relvar}
+use Rattle.td_catalog.specs.Legality.{IsLegal}
+use Rattle.td_catalog.specs.declared.entry.BaseEntry.{BaseEntry}
+use Rattle.td_types.specs.TypeLists.{DeclaredType}
+use Rattle.td_types.specs.Types.{Heading}
+use Rattle.td_value.specs.Values.{Relation}
+
+-- the names of each of an entry's keys
+abbrev pub entry_keys : {B : Type 0} → BaseEntry B → List (List (List ℕ))
+entry_keys entry = map (λ key. key.items) entry.keys.items
+
+-- the base relvar of a name and its entry, where bodies are these relations
+abbrev pub base_view : {B : Type 0} → (B → Relation) → List ℕ × BaseEntry B → BaseRelvar
+base_view relation row = base_relvar row.0 (entry_keys row.1) (relation row.1.body)
+
+-- the database of declared types and of entries by name
+abbrev pub database_view : {B : Type 0} → (B → Relation) → List DeclaredType → List (List ℕ × BaseEntry B) → Database
+database_view relation types rows = record { types = types; bases = map (base_view relation) rows; virtuals = []; constraints = [] }
+
+-- a body of this relation and of these keys, for a relvar of that heading and of those keys
+pub record IsBodyOf (heading : Heading) (names : List (List (List ℕ))) (relation : Relation) (keys : List (List (List ℕ))) : Type 0 where
+  pub heading_is : relation.heading ≡ heading
+  pub keys_are : keys ≡ names
+
+-- the entry's heading and keys are those of its body
+abbrev pub IsEntry : {B : Type 0} → (B → Relation) → (B → List (List (List ℕ))) → BaseEntry B → Type 0
+IsEntry relation keys entry = IsBodyOf entry.heading (entry_keys entry) (relation entry.body) (keys entry.body)
+
+-- each entry is as its body
+abbrev pub AreEntries : {B : Type 0} → (B → Relation) → (B → List (List (List ℕ))) → List (List ℕ × BaseEntry B) → Type 0
+AreEntries relation keys = AllByRecursion (λ row. IsEntry relation keys row.1)
+
+-- what a catalogue is: each entry is as its body, and the database is legal
+pub record IsCatalog {B : Type 0} (relation : B → Relation) (keys : B → List (List (List ℕ))) (types : List DeclaredType) (rows : List (List ℕ × BaseEntry B)) : Type 0 where
+  pub entries : AreEntries relation keys rows
+  pub legal : IsLegal (database_view relation types rows)
