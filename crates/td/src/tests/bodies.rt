@@ -113,11 +113,7 @@ fn is_new(alloc: Global, rows: &[(i64, i64)], row: (i64, i64)) -> Result<bool, F
 }
 
 /// Whether a pair is taken out of a body of these pairs, and how many are left.
-fn taken(
-    alloc: Global,
-    rows: &[(i64, i64)],
-    row: (i64, i64),
-) -> Result<(bool, usize), Fault> {
+fn taken(alloc: Global, rows: &[(i64, i64)], row: (i64, i64)) -> Result<(bool, usize), Fault> {
     let mut body = filled(alloc, key(alloc, &["A", "B"])?, rows)?;
     let there = take(&mut body, &pair(alloc, row)?)?;
     Ok((there, body.len()))
@@ -161,6 +157,9 @@ fn keys_of_bodies(rt: HostRuntime) -> Result<(), Fail> {
     assert!(rt; !holds(alloc, &[], ROWS)? && holds(alloc, &[], &[(1, 2)])?);
     let both = "RELATION {A INTEGER, B INTEGER} {TUPLE {A 1, B 2}, TUPLE {A 3, B 2}}";
     assert_eq!(rt; found(alloc, 2, ROWS)?.as_str(), both);
-    assert_eq!(rt; found(alloc, 7, ROWS)?.as_str(), "RELATION {A INTEGER, B INTEGER} {}");
+    assert_eq!(rt;
+        found(alloc, 7, ROWS)?.as_str(),
+        "RELATION {A INTEGER, B INTEGER} {}"
+    );
     Ok(())
 }

@@ -250,7 +250,10 @@ fn projection_on_names(rt: HostRuntime) -> Result<(), Fail> {
     let by_a = "RELATION {A INTEGER} {TUPLE {A 1}}";
     assert_eq!(rt; of_names(alloc, ROWS, &["A"])?.as_str(), by_a);
     assert_eq!(rt; of_names(alloc, ROWS, &["B", "A"])?.as_str(), TEXT);
-    assert_eq!(rt; of_names(alloc, ROWS, &[])?.as_str(), "RELATION {} {TUPLE {}}");
+    assert_eq!(rt;
+        of_names(alloc, ROWS, &[])?.as_str(),
+        "RELATION {} {TUPLE {}}"
+    );
     assert_eq!(rt; of_names(alloc, &[], &[])?.as_str(), "RELATION {} {}");
     Ok(())
 }
@@ -266,7 +269,10 @@ fn names_that_are_no_projection(rt: HostRuntime) {
 fn renaming_all_at_once(rt: HostRuntime) -> Result<(), Fail> {
     let alloc = rt.alloc();
     let turned = "RELATION {A INTEGER, B INTEGER} {TUPLE {A 2, B 1}, TUPLE {A 3, B 1}}";
-    assert_eq!(rt; of_renamings(alloc, ROWS, &[("A", "B"), ("B", "A")])?.as_str(), turned);
+    assert_eq!(rt;
+        of_renamings(alloc, ROWS, &[("A", "B"), ("B", "A")])?.as_str(),
+        turned
+    );
     let to_c = "RELATION {B INTEGER, C INTEGER} {TUPLE {B 2, C 1}, TUPLE {B 3, C 1}}";
     assert_eq!(rt; of_renamings(alloc, ROWS, &[("A", "C")])?.as_str(), to_c);
     assert!(rt; of_renamings(alloc, ROWS, &[("A", "B")]).err() == Some(REFUSED));
@@ -276,10 +282,18 @@ fn renaming_all_at_once(rt: HostRuntime) -> Result<(), Fail> {
 #[test]
 fn extension_by_a_column(rt: HostRuntime) -> Result<(), Fail> {
     let alloc = rt.alloc();
-    let last = "RELATION {A INTEGER, B INTEGER, C INTEGER} {TUPLE {A 1, B 2, C 5}, TUPLE {A 1, B 3, C 5}}";
-    assert_eq!(rt; of_column(alloc, ["A", "B"], ROWS, "C", &[5, 5])?.as_str(), last);
-    let first = "RELATION {A INTEGER, B INTEGER, C INTEGER} {TUPLE {A 8, B 1, C 3}, TUPLE {A 9, B 1, C 2}}";
-    assert_eq!(rt; of_column(alloc, ["B", "C"], ROWS, "A", &[9, 8])?.as_str(), first);
+    let last =
+        "RELATION {A INTEGER, B INTEGER, C INTEGER} {TUPLE {A 1, B 2, C 5}, TUPLE {A 1, B 3, C 5}}";
+    assert_eq!(rt;
+        of_column(alloc, ["A", "B"], ROWS, "C", &[5, 5])?.as_str(),
+        last
+    );
+    let first =
+        "RELATION {A INTEGER, B INTEGER, C INTEGER} {TUPLE {A 8, B 1, C 3}, TUPLE {A 9, B 1, C 2}}";
+    assert_eq!(rt;
+        of_column(alloc, ["B", "C"], ROWS, "A", &[9, 8])?.as_str(),
+        first
+    );
     assert!(rt; of_column(alloc, ["A", "B"], ROWS, "C", &[5]).err() == Some(REFUSED));
     assert!(rt; of_column(alloc, ["A", "B"], ROWS, "A", &[5, 5]).err() == Some(REFUSED));
     Ok(())
@@ -294,10 +308,14 @@ fn sets_of_one_heading(rt: HostRuntime) -> Result<(), Fail> {
     assert_eq!(rt; of_sets(alloc, Sets::Union, ROWS, ROWS)?.as_str(), TEXT);
     assert_eq!(rt; of_sets(alloc, Sets::Intersect, ROWS, ROWS)?.as_str(), TEXT);
     assert_eq!(rt; of_sets(alloc, Sets::Minus, ROWS, ROWS)?.as_str(), NONE);
-    let all = "RELATION {A INTEGER, B INTEGER} {TUPLE {A 0, B 9}, TUPLE {A 1, B 2}, TUPLE {A 1, B 3}, TUPLE {A 2, B 0}}";
+    let all =
+        "RELATION {A INTEGER, B INTEGER} {TUPLE {A 0, B 9}, TUPLE {A 1, B 2}, TUPLE {A 1, B 3}, TUPLE {A 2, B 0}}";
     assert_eq!(rt; of_sets(alloc, Sets::Union, ROWS, OTHERS)?.as_str(), all);
     let both = "RELATION {A INTEGER, B INTEGER} {TUPLE {A 1, B 3}}";
-    assert_eq!(rt; of_sets(alloc, Sets::Intersect, ROWS, OTHERS)?.as_str(), both);
+    assert_eq!(rt;
+        of_sets(alloc, Sets::Intersect, ROWS, OTHERS)?.as_str(),
+        both
+    );
     let first = "RELATION {A INTEGER, B INTEGER} {TUPLE {A 1, B 2}}";
     assert_eq!(rt; of_sets(alloc, Sets::Minus, ROWS, OTHERS)?.as_str(), first);
     Ok(())
@@ -317,13 +335,26 @@ const PARTNERS: &[(i64, i64)] = &[(2, 7), (2, 8), (4, 9)];
 #[test]
 fn joins_by_common_names(rt: HostRuntime) -> Result<(), Fail> {
     let alloc = rt.alloc();
-    assert_eq!(rt; of_joins(alloc, Joins::Join, ROWS, ["A", "B"], ROWS)?.as_str(), TEXT);
-    let both = "RELATION {A INTEGER, B INTEGER, C INTEGER} {TUPLE {A 1, B 2, C 7}, TUPLE {A 1, B 2, C 8}}";
-    assert_eq!(rt; of_joins(alloc, Joins::Join, ROWS, ["B", "C"], PARTNERS)?.as_str(), both);
+    assert_eq!(rt;
+        of_joins(alloc, Joins::Join, ROWS, ["A", "B"], ROWS)?.as_str(),
+        TEXT
+    );
+    let both =
+        "RELATION {A INTEGER, B INTEGER, C INTEGER} {TUPLE {A 1, B 2, C 7}, TUPLE {A 1, B 2, C 8}}";
+    assert_eq!(rt;
+        of_joins(alloc, Joins::Join, ROWS, ["B", "C"], PARTNERS)?.as_str(),
+        both
+    );
     let apart = "RELATION {A INTEGER, C INTEGER} {TUPLE {A 1, C 7}, TUPLE {A 1, C 8}}";
-    assert_eq!(rt; of_joins(alloc, Joins::Compose, ROWS, ["B", "C"], PARTNERS)?.as_str(), apart);
+    assert_eq!(rt;
+        of_joins(alloc, Joins::Compose, ROWS, ["B", "C"], PARTNERS)?.as_str(),
+        apart
+    );
     let dee = "RELATION {} {TUPLE {}}";
-    assert_eq!(rt; of_joins(alloc, Joins::Compose, ROWS, ["A", "B"], ROWS)?.as_str(), dee);
+    assert_eq!(rt;
+        of_joins(alloc, Joins::Compose, ROWS, ["A", "B"], ROWS)?.as_str(),
+        dee
+    );
     assert_eq!(rt; of_nullary(alloc, Joins::Join, ROWS, false)?.as_str(), NONE);
     Ok(())
 }
@@ -331,21 +362,40 @@ fn joins_by_common_names(rt: HostRuntime) -> Result<(), Fail> {
 #[test]
 fn matching_and_not_matching(rt: HostRuntime) -> Result<(), Fail> {
     let alloc = rt.alloc();
-    assert_eq!(rt; of_joins(alloc, Joins::Matching, ROWS, ["A", "B"], ROWS)?.as_str(), TEXT);
-    assert_eq!(rt; of_joins(alloc, Joins::NotMatching, ROWS, ["A", "B"], ROWS)?.as_str(), NONE);
+    assert_eq!(rt;
+        of_joins(alloc, Joins::Matching, ROWS, ["A", "B"], ROWS)?.as_str(),
+        TEXT
+    );
+    assert_eq!(rt;
+        of_joins(alloc, Joins::NotMatching, ROWS, ["A", "B"], ROWS)?.as_str(),
+        NONE
+    );
     let first = "RELATION {A INTEGER, B INTEGER} {TUPLE {A 1, B 2}}";
-    assert_eq!(rt; of_joins(alloc, Joins::Matching, ROWS, ["B", "C"], PARTNERS)?.as_str(), first);
+    assert_eq!(rt;
+        of_joins(alloc, Joins::Matching, ROWS, ["B", "C"], PARTNERS)?.as_str(),
+        first
+    );
     let second = "RELATION {A INTEGER, B INTEGER} {TUPLE {A 1, B 3}}";
-    assert_eq!(rt; of_joins(alloc, Joins::NotMatching, ROWS, ["B", "C"], PARTNERS)?.as_str(), second);
-    assert_eq!(rt; of_nullary(alloc, Joins::Matching, ROWS, true)?.as_str(), TEXT);
-    assert_eq!(rt; of_nullary(alloc, Joins::NotMatching, ROWS, false)?.as_str(), TEXT);
+    assert_eq!(rt;
+        of_joins(alloc, Joins::NotMatching, ROWS, ["B", "C"], PARTNERS)?.as_str(),
+        second
+    );
+    assert_eq!(rt;
+        of_nullary(alloc, Joins::Matching, ROWS, true)?.as_str(),
+        TEXT
+    );
+    assert_eq!(rt;
+        of_nullary(alloc, Joins::NotMatching, ROWS, false)?.as_str(),
+        TEXT
+    );
     Ok(())
 }
 
 #[test]
 fn products_without_common_names(rt: HostRuntime) -> Result<(), Fail> {
     let alloc = rt.alloc();
-    let all = "RELATION {A INTEGER, B INTEGER, C INTEGER, D INTEGER} {TUPLE {A 1, B 2, C 5, D 6}, TUPLE {A 1, B 3, C 5, D 6}}";
+    let all =
+        "RELATION {A INTEGER, B INTEGER, C INTEGER, D INTEGER} {TUPLE {A 1, B 2, C 5, D 6}, TUPLE {A 1, B 3, C 5, D 6}}";
     assert_eq!(rt; of_times(alloc, ROWS, ["C", "D"], &[(5, 6)])?.as_str(), all);
     assert_eq!(rt; of_nullary_times(alloc, true, ROWS)?.as_str(), TEXT);
     assert_eq!(rt; of_nullary_times(alloc, false, ROWS)?.as_str(), NONE);
