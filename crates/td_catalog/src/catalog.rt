@@ -67,6 +67,13 @@ impl<B: Body> Catalog<B> {
         let _ = &self.types;
     }
 
+    /// The declared types.
+    pub fn types(&self) -> &TypeTable
+        ensures { result.now ≡ self.now.types }
+    {
+        &self.types
+    }
+
     /// The declared type of that name.
     pub fn get_type(&self, name: &Name) -> Option<&TypeEntry>
         ensures { option_map (λ e. e.now) result ≡ declared_at name.now self.now.types }

@@ -5,7 +5,7 @@ ghost use Rattle.td_check.specs.Both.{both_answers};
 use td_tree::fault::Fault;
 
 /// Both values, or the least of the causes.
-pub(crate) fn both<A: Drop, B: Drop>(
+pub fn both<A: Drop, B: Drop>(
     first: Result<A, Fault>,
     second: Result<B, Fault>,
 ) -> Result<(A, B), Fault>

@@ -333,6 +333,15 @@ pub fn check_expr(scope: &Scope<'_>, expr: &Expr) -> Result<Ty, Fault>
     Ok(ty)
 }
 
+/// The types of expressions with their names, in the order written: refused by the least of the
+/// causes of them all.
+pub fn check_parts(scope: &Scope<'_>, parts: &[NamedExpr]) -> Result<Vec<(Name, Ty)>, Fault>
+    ensures { Answers (λ ts. pairs_view ts.items) result
+        (named_types scope.now (named_view parts.now)) }
+{
+    check_named_at(parts, &Place::outside(scope))
+}
+
 /// The names that the expression mentions, in the order in which they stand there: refused as
 /// `check_expr` refuses.
 pub(crate) fn names_seen(scope: &Scope<'_>, expr: &Expr) -> Result<Mentions, Fault>

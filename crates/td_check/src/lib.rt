@@ -1,7 +1,7 @@
 //! The static checker.
 #![tactic(auto)]
 
-mod both;
+pub mod both;
 pub mod expression;
 pub mod laws;
 pub mod mentioned;

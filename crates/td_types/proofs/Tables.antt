@@ -1,13 +1,13 @@
 -- What a table's rows give to a name, and that they stay a table with one more.
-use Rattle.std.proofs.Common.{◌≡◌, ◌∙◌, ◌∷◌, ◌++◌, ℕ, Bool, true, false, List, [], Option, Some, None, ap, refl, subst, sym, true≢false}
+use Rattle.std.proofs.Common.{◌≡◌, ◌∙◌, ◌∷◌, ◌++◌, ◌+◌, ℕ, suc, cond, length, nat_lt, Bool, true, false, List, [], Option, Some, None, ap, refl, subst, sym, true≢false}
 use Rattle.std.specs.Prelude.{if◌then◌else◌, is_some, not, option_map}
 use Rattle.std.specs.Cmp.Lexicographic.{same_text}
-use Rattle.std.specs.List.{AllByRecursion}
-use Rattle.std.specs.Map.{lookup}
+use Rattle.std.specs.List.{AllByRecursion, position, prefix_len}
+use Rattle.std.specs.Map.{keys_of, lookup}
 use Rattle.std.proofs.lemmas.List.{append_assoc, map-append}
 use Rattle.td_tree.specs.Outcomes.{Outcome, Valued, Refused}
 use Rattle.td_types.specs.Tables.{IsTable, kept_rank, rows_view}
-use Rattle.td_types.specs.TypeLists.{AreDeclared, DeclaredType, IsDeclarable, declared_at, is_declared, user_ranks}
+use Rattle.td_types.specs.TypeLists.{AreDeclared, DeclaredType, IsDeclarable, declared_at, declared_place, is_declared, user_ranks}
 use Rattle.td_types.specs.Types.{same_name}
 use Rattle.td_types.specs.declared.table.Row.{Row}
 use Rattle.td_types.proofs.DeclaredTypes.{AreDeclared-none, AreDeclared-push}
@@ -40,6 +40,24 @@ entry_some name rows row h e = ap (option_map (λ (r : Row). r.entry)) e ∙ fou
 pub entry_none : (name : List ℕ) (rows : List (List ℕ × Row)) → Named rows → None ≡ lookup (same_name name) rows
     → None ≡ declared_at name (rows_view rows)
 entry_none name rows h e = ap (option_map (λ (r : Row). r.entry)) e ∙ found_entry name rows h
+
+-- the place of its row is the place of the type
+pub found_place : (name : List ℕ) (rows : List (List ℕ × Row)) → Named rows
+    → position (same_name name) (keys_of rows) ≡ declared_place name (rows_view rows)
+found_place name rows h =
+    let counted : length (keys_of rows) ≡ length (rows_view rows) = same_length rows in
+    (λ i. cond (nat_lt (before rows h i) (counted i)) (Some (before rows h i)) None)
+  where
+    same_length : (xs : List (List ℕ × Row)) → length (keys_of xs) ≡ length (rows_view xs)
+    same_length [] = refl
+    same_length (x ∷ xs) = ap suc (same_length xs)
+
+    before : (xs : List (List ℕ × Row)) → Named xs
+        → prefix_len (λ n. not (same_name name n)) (keys_of xs) ≡ prefix_len (λ d. not (same_name d.name name)) (rows_view xs)
+    before [] g = refl
+    before (x ∷ xs) g =
+        let same : same_name x.1.entry.name name ≡ same_name name x.0 = ap (λ n. same_name n name) (sym g.0) ∙ same_name-flips x.0 name in
+        rw same (ap (λ n. cond (not (same_name name x.0)) (1 + n) 0) (before xs g.1))
 
 -- where no type has the name, no row has it
 pub row_none : (name : List ℕ) (rows : List (List ℕ × Row)) → Named rows → not (is_declared name (rows_view rows)) ≡ true

@@ -1,6 +1,6 @@
 -- Declared types (Tutorial D's), the type that is meant where they are known, and rank (this project's own).
 use Rattle.std.specs.Prelude.{◌≡◌, ℕ, ◌+◌, max, Bool, not, List, [], ◌∷◌, ◌++◌, fold, nat_le, Option, Some, None, is_some, if◌then◌else◌, IsTrue, ⊤}
-use Rattle.std.specs.List.{Contains}
+use Rattle.std.specs.List.{Contains, position}
 use Rattle.td_tree.specs.declared.cause.Cause.TheVariants as causes
 use Rattle.td_tree.specs.Names.{IsName}
 use Rattle.td_tree.specs.Outcomes.{Outcome, Valued, Refused, Only, with_value, with_both, value_if}
@@ -23,6 +23,10 @@ declared_type name components constraint = record { name = name; components = co
 abbrev pub declared_at : List ℕ → List DeclaredType → Option DeclaredType
 declared_at name [] = None
 declared_at name (d ∷ ds) = if same_name d.name name then Some d else declared_at name ds
+
+-- the place of the declared type of a name
+abbrev pub declared_place : List ℕ → List DeclaredType → Option ℕ
+declared_place name = position (λ d. same_name d.name name)
 
 -- whether a type of the name is declared
 abbrev pub is_declared : List ℕ → List DeclaredType → Bool

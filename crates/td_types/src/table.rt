@@ -6,7 +6,7 @@ ghost use Rattle.td_types.specs.Headings.{are_distinct};
 ghost use Rattle.td_types.specs.Pairs.{ArePairs};
 ghost use Rattle.td_types.specs.Tables.{kept_rank};
 ghost use Rattle.td_types.specs.TypeLists.{AreDeclared, AreKnown, IsKnown, declared_at};
-ghost use Rattle.td_types.specs.TypeLists.{declared_type, is_declared, user_ranks};
+ghost use Rattle.td_types.specs.TypeLists.{declared_place, declared_type, is_declared, user_ranks};
 ghost use Rattle.td_types.specs.Types.{attribute_names, pack};
 ghost use Rattle.td_types.specs.Views.{pairs_view, type_view};
 
@@ -133,6 +133,13 @@ impl TypeTable {
     {
         let (name, _) = self.rows.get_index(place)?;
         Some(name)
+    }
+
+    /// The place in declared order of the type of that name.
+    pub fn place(&self, name: &Name) -> Option<usize>
+        ensures { result ≡ declared_place name.now self.now }
+    {
+        self.rows.get_index_of(name)
     }
 
     /// The rank of the declared type of that name.

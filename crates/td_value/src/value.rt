@@ -2,6 +2,7 @@
 ghost use Rattle.std.specs.Prelude.{◌≡◌, IfOk};
 ghost use Rattle.td_value.specs.Values.{boolean, integer, pack_fields, pack_rows, relation};
 ghost use Rattle.td_value.specs.Values.{selected_value, char, tuple};
+ghost use Rattle.std.specs.Rc.{rc_str_bytes};
 ghost use Rattle.td_types.specs.Types.{pack};
 
 use crate::relation::Rel;
@@ -83,6 +84,15 @@ impl Value {
         let _ = shared.as_str();
         let node = Node::Text(shared);
         Ok(Value { node })
+    }
+
+    /// The value of a text that is shared with it. It takes no memory.
+    pub fn shared_text(content: RcStr) -> Value
+        ensures { result ≡ char (rc_str_bytes content) }
+    {
+        let _ = content.as_str();
+        let node = Node::Text(content);
+        Value { node }
     }
 
     /// The user value.

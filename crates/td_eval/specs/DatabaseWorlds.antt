@@ -1,0 +1,69 @@
+-- What the names of a database mean (Tutorial D's). A type's constraint is valued where the selectors of the types before it
+-- alone are known, no relvar is, and its components are the one tuple in hand.
+use Rattle.std.specs.Prelude.{ℕ, Bool, true, List, [], ◌∷◌, fold, map, option_map, Option, Some, None, if◌then◌else◌}
+use Rattle.std.specs.List.{zip}
+use Rattle.td_catalog.specs.Database.{Database, base_named, database_scope}
+use Rattle.td_check.specs.OperatorTypes.{are_types_of}
+use Rattle.td_check.specs.Scopes.{scope_of}
+use Rattle.td_eval.specs.OperatorValues.{relation_as_value, truth_value}
+use Rattle.td_eval.specs.TreeValues.{value_of}
+use Rattle.td_eval.specs.Worlds.{World}
+use Rattle.td_tree.specs.declared.cause.Cause.TheVariants as causes
+use Rattle.td_tree.specs.Outcomes.{Outcome, Valued, value_if, with_value}
+use Rattle.td_types.specs.TypeLists.{DeclaredType}
+use Rattle.td_types.specs.Types.{attribute_names, same_name}
+use Rattle.td_value.specs.Values.{Val, Relation, UserValue, made_tuple, selected_value, type_of}
+use Rattle.td_value.specs.Views.{user_view}
+
+-- ---- types
+
+-- which selectors are known, by name
+abbrev pub Selectors : Type 0
+Selectors = List ℕ → Option (List Val → Outcome Val)
+
+-- where the types are known with these selectors, and nothing else is
+abbrev pub types_alone : List DeclaredType → Selectors → World
+types_alone ds selectors = record { scope = scope_of ds; relvar = λ n. None; selector = selectors }
+
+-- whether the components meet the type's constraint
+abbrev pub constraint_value : World → DeclaredType → List Val → Outcome Bool
+constraint_value w d vs =
+    elim d.constraint as (λ _. Outcome Bool) [
+      | None ↦ Valued true
+      | Some e ↦ with_value (made_tuple (zip (attribute_names d.components) vs)) (λ t. truth_value (value_of w (t ∷ []) e))
+    ]
+
+-- the user value of components that have the types of the type's own, where they meet its constraint: else TYPE_CONSTRAINT
+abbrev pub selector_value : World → DeclaredType → List Val → Outcome Val
+selector_value w d vs =
+    with_value (value_if (are_types_of (map type_of vs) d.components) (user_view d.name vs) causes.TypeMismatch)
+    (λ u. with_value (constraint_value w d vs) (λ holds. value_if holds (selected_value u) causes.TypeConstraint))
+
+-- one more selector, of a name that none has
+abbrev pub with_selector : List DeclaredType → Selectors → DeclaredType → Selectors
+with_selector ds selectors d n =
+    elim (selectors n) as (λ _. Option (List Val → Outcome Val)) [
+      | Some f ↦ Some f
+      | None ↦ if same_name d.name n then Some (selector_value (types_alone ds selectors) d) else None
+    ]
+
+-- the selectors of the first types of a list, added in order
+abbrev pub selectors_of : List DeclaredType → List DeclaredType → Selectors
+selectors_of ds first = fold (with_selector ds) (λ n. None) first
+
+-- where the types alone are known, with the selectors of the first of them
+abbrev pub world_of_types : List DeclaredType → List DeclaredType → World
+world_of_types ds first = types_alone ds (selectors_of ds first)
+
+-- ---- databases
+
+-- each base relvar has the relation that it holds
+abbrev pub world_of : Database → World
+world_of db =
+    record { scope = database_scope db; relvar = λ n. option_map (λ b. Valued (relation_as_value b.relation)) (base_named n db); selector = selectors_of db.types db.types }
+
+-- the world in which the relvar of a name has another relation
+abbrev pub with_other : Option (List ℕ × Relation) → World → World
+with_other None w = w
+with_other (Some o) w =
+    record { scope = w.scope; relvar = λ n. if same_name o.0 n then Some (Valued (relation_as_value o.1)) else w.relvar n; selector = w.selector }

@@ -1,0 +1,7 @@
+pub mod Covered
+pub mod DatabaseWorlds
+pub mod OperatorValues
+pub mod TreeTexts
+pub mod TreeValues
+pub mod ValueTypes
+pub mod Worlds

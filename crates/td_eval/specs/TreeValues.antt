@@ -1,0 +1,60 @@
+-- The value of an expression where names mean what a world says and tuples are in hand, or the causes for which it has none
+-- (Tutorial D's; the causes are this project's own). The causes of all parts count, on both sides of every operator; what
+-- is applied to the tuples of an operand counts for each of them; IF counts its condition and the chosen branch alone.
+use Rattle.std.specs.Prelude.{ℕ, List, [], ◌∷◌, if◌then◌else◌}
+use Rattle.td_check.specs.OperatorTypes.{mismatch}
+use Rattle.td_check.specs.Scopes.{entered_with}
+use Rattle.td_check.specs.StaticTypes.{named_types}
+use Rattle.td_eval.specs.OperatorValues.{comparison_value, component_value, extended_value, extracted_value, headed_value, listed_value, literal_value, measure_value, on_relation, on_truth, operator_value, postfix_value, prefix_value, restricted_value, tuple_from}
+use Rattle.td_eval.specs.Worlds.{World, name_value, scope_among, selected}
+use Rattle.td_tree.specs.declared.operator.Operator.TheVariants as operators
+use Rattle.td_tree.specs.Outcomes.{Outcome, Valued, with_both, with_value}
+use Rattle.td_tree.specs.Trees.{Tree, literal, name, parentheses, prefix, extract, binary, compare, postfix, select, component, measure, aggregate, relation, headed_relation, tuple, extend, summarize_per, summarize_by, choice, Trees, none, more, NamedTrees, none_named, more_named}
+use Rattle.td_types.specs.TypeLists.{heading_meant}
+use Rattle.td_value.specs.Values.{Val, Tuple}
+
+abbrev mutual
+  pub value_of : World → List Tuple → Tree → Outcome Val
+  value_of w s (literal l) = literal_value l
+  value_of w s (name n) = name_value w s n
+  value_of w s (parentheses inner) = value_of w s inner
+  value_of w s (prefix op operand) = with_value (value_of w s operand) (prefix_value op)
+  value_of w s (extract a operand) = with_value (value_of w s operand) (extracted_value a)
+  value_of w s (binary left operators.Where right) =
+      with_value (value_of w s left) (λ v. on_relation v (restricted_value (λ t. value_of w (t ∷ s) right)))
+  value_of w s (binary left op right) = with_both (value_of w s left) (value_of w s right) (operator_value op)
+  value_of w s (compare left op right) = with_both (value_of w s left) (value_of w s right) (comparison_value op)
+  value_of w s (postfix operand op) = with_value (value_of w s operand) (postfix_value op)
+  value_of w s (select ty arguments) = with_value (argument_values w s arguments) (selected w ty)
+  value_of w s (component rest operand) = with_value (value_of w s operand) (component_value w.scope.types rest)
+  value_of w s (measure op operand) = with_value (value_of w s operand) (measure_value op)
+  -- not yet defined
+  value_of w s (aggregate op operand value) = mismatch
+  value_of w s (relation elements) = with_value (argument_values w s elements) listed_value
+  value_of w s (headed_relation heading elements) =
+      with_both (heading_meant w.scope.types heading) (argument_values w s elements) headed_value
+  value_of w s (tuple parts) = with_value (entry_values w s parts) tuple_from
+  value_of w s (extend operand parts) =
+      with_value (value_of w s operand) (λ v. on_relation v
+      (λ r. extended_value (named_types (entered_with r.heading (scope_among w s)) parts) (values_in_tuples w s parts) r))
+  -- not yet defined
+  value_of w s (summarize_per operand per items) = mismatch
+  value_of w s (summarize_by operand by items) = mismatch
+  value_of w s (choice condition consequent alternative) =
+      with_value (value_of w s condition) (λ v. on_truth v (λ b. if b then value_of w s consequent else value_of w s alternative))
+
+  -- the values of expressions, in the order written
+  pub argument_values : World → List Tuple → Trees → Outcome (List Val)
+  argument_values w s none = Valued []
+  argument_values w s (more first rest) = with_both (value_of w s first) (argument_values w s rest) (λ v vs. Valued (v ∷ vs))
+
+  -- names with the values of their expressions
+  pub entry_values : World → List Tuple → NamedTrees → Outcome Tuple
+  entry_values w s none_named = Valued []
+  entry_values w s (more_named n value rest) =
+      with_both (value_of w s value) (entry_values w s rest) (λ v entries. Valued ((n, v) ∷ entries))
+
+  -- the values of expressions where a further tuple is in hand
+  pub values_in_tuples : World → List Tuple → NamedTrees → List (Tuple → Outcome Val)
+  values_in_tuples w s none_named = []
+  values_in_tuples w s (more_named n value rest) = (λ t. value_of w (t ∷ s) value) ∷ values_in_tuples w s rest

@@ -1,0 +1,85 @@
+-- What an expression of a type may have: a value of that type, or causes that no static rule has: laws (Tutorial D's; the
+-- causes are this project's own).
+use Rattle.std.specs.Prelude.{◌≡◌, ◌≤◌, ℕ, List, ◌++◌, map, Option, Some, IsTrue, ⊤}
+use Rattle.std.specs.List.{AllByRecursion}
+use Rattle.td_catalog.specs.Database.{Database}
+use Rattle.td_catalog.specs.Legality.{IsLegal}
+use Rattle.td_check.specs.Scopes.{KnownRelvar, Scope, known_relvar}
+use Rattle.td_check.specs.StaticLaws.{GivesNames, IsScope}
+use Rattle.td_check.specs.StaticTypes.{type_of}
+use Rattle.td_eval.specs.Covered.{TypesAreCovered, is_covered}
+use Rattle.td_eval.specs.DatabaseWorlds.{world_of}
+use Rattle.td_eval.specs.TreeTexts.{HasTexts}
+use Rattle.td_eval.specs.TreeValues.{value_of}
+use Rattle.td_eval.specs.Worlds.{World}
+use Rattle.td_tree.specs.Causes.{number_of}
+use Rattle.td_tree.specs.declared.cause.Cause.{Cause}
+use Rattle.td_tree.specs.Outcomes.{Causes, Has, Outcome, Valued, Refused}
+use Rattle.td_tree.specs.Trees.{Tree}
+use Rattle.td_types.specs.TypeLists.{DeclaredType, declared_at}
+use Rattle.td_types.specs.Types.{Type', Heading, pack, user}
+use Rattle.td_types.specs.Types as forms
+use Rattle.td_value.specs.KnownValues.{AreOfTypes, HasHeading, HasType}
+use Rattle.td_value.specs.Values.{Val, IsTuple, IsValue, Parts, AreValues, Tuple, heading_of, pack_fields, pack_parts}
+
+-- each of the causes is OVERFLOW or one that stands after it
+abbrev pub AreDynamic : Causes → Type 0
+AreDynamic cs = (c : Cause) → Has cs c → 20 ≤ number_of c
+
+-- a value, of the type where these types are declared
+abbrev pub IsOfType : List DeclaredType → Val → Type' → Type 0
+IsOfType ds v t = IsValue v × HasType ds v t
+
+-- what has a type has a value of it, or such causes
+abbrev pub KeepsType : List DeclaredType → Outcome Type' → Outcome Val → Type 0
+KeepsType ds (Valued t) (Valued v) = IsOfType ds v t
+KeepsType ds (Valued t) (Refused cs) = AreDynamic cs
+KeepsType ds (Refused cs) o = ⊤
+
+-- a tuple whose values are of their types
+abbrev pub IsTypedTuple : List DeclaredType → Tuple → Type 0
+IsTypedTuple ds t = IsTuple t × HasHeading ds (pack_fields t) (pack (heading_of t))
+
+-- as many values as the type has components, each of its component's type
+abbrev pub AreComponentsOf : List DeclaredType → DeclaredType → List Val → Type 0
+AreComponentsOf ds d vs = AreValues (pack_parts vs) × AreOfTypes ds (pack_parts vs) d.components
+
+-- the scope knows the first of the world's types, and the same relvars; each relvar has a value of its relation type, and
+-- the selector of each known type gives of components a value of that type, or such causes
+pub record KeepsScope (w : World) (scope : Scope) : Type 0 where
+  pub scope_is : IsScope scope
+  pub types : (more : List DeclaredType) × (w.scope.types ≡ scope.types ++ more)
+  pub known : w.scope.relvars ≡ scope.relvars
+  pub relvars :
+      (n : List ℕ) (r : KnownRelvar) → known_relvar scope n ≡ Some r
+      → (o : Outcome Val) × (w.relvar n ≡ Some o) × KeepsType scope.types (Valued (forms.relation (pack r.heading))) o
+  pub selectors :
+      (n : List ℕ) (d : DeclaredType) → declared_at n scope.types ≡ Some d
+      → (f : List Val → Outcome Val) × (w.selector n ≡ Some f)
+      × ((vs : List Val) → AreComponentsOf scope.types d vs → KeepsType scope.types (Valued (user n)) (f vs))
+
+-- what the scope knows of tuples in hand
+abbrev pub with_tuples : Scope → List Tuple → Scope
+with_tuples scope s =
+    record { types = scope.types; relvars = scope.relvars; constraints = scope.constraints; entered = map heading_of s }
+
+-- the names that an expression gives are names, and its texts are UTF-8
+abbrev pub IsWritten : Tree → Type 0
+IsWritten e = GivesNames e × HasTexts e
+
+-- an expression that has a type has a value of that type, or such causes
+abbrev pub ValuesKeepTypes : Type 0
+ValuesKeepTypes =
+    (w : World) (scope : Scope) (s : List Tuple) (e : Tree) → KeepsScope w scope
+    → AllByRecursion (IsTypedTuple scope.types) s → IsTrue (is_covered e) → IsWritten e
+    → KeepsType scope.types (type_of (with_tuples scope s) e) (value_of w s e)
+
+-- so is the constraint of each type
+abbrev pub ConstraintsAreWritten : List DeclaredType → Type 0
+ConstraintsAreWritten = AllByRecursion (λ d. (e : Tree) → d.constraint ≡ Some e → IsWritten e)
+
+-- the world of a legal database is such a world
+abbrev pub LegalDatabasesKeepScopes : Type 0
+LegalDatabasesKeepScopes =
+    (db : Database) → IsLegal db → TypesAreCovered db.types → ConstraintsAreWritten db.types
+    → KeepsScope (world_of db) (world_of db).scope

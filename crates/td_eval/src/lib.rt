@@ -1,0 +1,5 @@
+//! Evaluation: the value of an expression.
+#![tactic(auto)]
+
+pub mod env;
+pub mod laws;
