@@ -2,6 +2,7 @@
 -- alone are known, no relvar is, and its components are the one tuple in hand.
 use Rattle.std.specs.Prelude.{ℕ, Bool, true, List, [], ◌∷◌, fold, map, option_map, Option, Some, None, if◌then◌else◌}
 use Rattle.std.specs.List.{zip}
+use Rattle.std.specs.Option.{option_or}
 use Rattle.td_catalog.specs.Database.{Database, base_named, database_scope}
 use Rattle.td_check.specs.OperatorTypes.{are_types_of}
 use Rattle.td_check.specs.Scopes.{scope_of}
@@ -42,10 +43,7 @@ selector_value w d vs =
 -- one more selector, of a name that none has
 abbrev pub with_selector : List DeclaredType → Selectors → DeclaredType → Selectors
 with_selector ds selectors d n =
-    elim (selectors n) as (λ _. Option (List Val → Outcome Val)) [
-      | Some f ↦ Some f
-      | None ↦ if same_name d.name n then Some (selector_value (types_alone ds selectors) d) else None
-    ]
+    option_or (selectors n) (if same_name d.name n then Some (selector_value (types_alone ds selectors) d) else None)
 
 -- the selectors of the first types of a list, added in order
 abbrev pub selectors_of : List DeclaredType → List DeclaredType → Selectors

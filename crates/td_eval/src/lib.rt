@@ -2,4 +2,9 @@
 #![tactic(auto)]
 
 pub mod env;
+mod extension;
 pub mod laws;
+mod operators;
+mod rows;
+mod sight;
+mod value;
