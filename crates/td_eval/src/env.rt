@@ -23,7 +23,10 @@ pub(crate) struct Sight<'a, B: Body> {
 }
 
 /// test
-pub(crate) fn relvar_of<B: Body>(sight: &Sight<'_, B>, name: &Name) -> Result<Option<Rel>, std::alloc::AllocError> {
+pub(crate) fn relvar_of<B: Body>(
+    sight: &Sight<'_, B>,
+    name: &Name,
+) -> Result<Option<Rel>, std::alloc::AllocError> {
     match sight.env {
         None => Ok(None),
         Some(env) => match env.other {
@@ -37,5 +40,9 @@ pub(crate) fn relvar_of<B: Body>(sight: &Sight<'_, B>, name: &Name) -> Result<Op
 }
 
 pub(crate) fn inner<'a, B: Body>(sight: &Sight<'a, B>, first: usize) -> Sight<'a, B> {
-    Sight { types: sight.types, first, env: None }
+    Sight {
+        types: sight.types,
+        first,
+        env: None,
+    }
 }

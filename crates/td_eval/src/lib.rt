@@ -3,3 +3,4 @@
 
 pub mod env;
 pub mod laws;
+pub(crate) mod operators;

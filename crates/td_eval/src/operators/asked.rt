@@ -1,0 +1,73 @@
+//! What operators ask of a value.
+ghost use Rattle.std.specs.Prelude.{◌≡◌, map, option_map, reverse};
+ghost use Rattle.td_check.specs.OperatorTypes.{are_types_of};
+ghost use Rattle.td_eval.specs.OperatorValues.{on_relation, on_truth, value_of_type};
+ghost use Rattle.td_eval.specs.Worlds.{innermost_value};
+ghost use Rattle.td_tree.specs.Outcomes.{Answers, Valued};
+ghost use Rattle.td_types.specs.Views.{pairs_view, type_view};
+ghost use Rattle.td_value.specs.Values.{type_of};
+
+use td_tree::cause::Cause;
+use td_tree::fault::Fault;
+use td_tree::name::Name;
+use td_types::ty::Ty;
+use td_value::relation::Rel;
+use td_value::tuple::Tuple;
+use td_value::value::{Node, Value};
+
+/// The truth value: another value is refused.
+pub(crate) fn truth(v: &Value) -> Result<bool, Fault>
+    ensures { Answers (λ b. b) result (on_truth v.now Valued) }
+{
+    match &v.node {
+        Node::Bool(b) => Ok(*b),
+        _ => Err(Fault::Refused(Cause::TypeMismatch)),
+    }
+}
+
+/// The relation: another value is refused.
+pub(crate) fn relation_in(v: &Value) -> Result<&Rel, Fault>
+    ensures { Answers (λ r. r.now) result (on_relation v.now Valued) }
+{
+    match &v.node {
+        Node::Rel(r) => Ok(r),
+        _ => Err(Fault::Refused(Cause::TypeMismatch)),
+    }
+}
+
+/// The value of the innermost attribute of the name. The innermost tuple is the last.
+pub(crate) fn attribute<'a>(tuples: &'a [Tuple], name: &Name) -> Option<&'a Value>
+    ensures { option_map (λ v. v.now) result ≡ innermost_value name.now (reverse tuples.now) }
+{
+    for tuple in tuples.iter().rev() {
+        if let Some(value) = tuple.get(name) {
+            return Some(value);
+        }
+    }
+    None
+}
+
+/// The value, where it is of the type.
+pub(crate) fn of_type(ty: &Ty, value: Value) -> Result<Value, Fault>
+    ensures { Answers (λ v. v) result (value_of_type (type_view ty.now) value) }
+{
+    if value.has_type(ty) {
+        Ok(value)
+    } else {
+        Err(Fault::Refused(Cause::TypeMismatch))
+    }
+}
+
+/// Whether these have, in number and order, the types of the components.
+pub(crate) fn have_types(values: &[Value], components: &[(Name, Ty)]) -> bool
+    ensures { result ≡ are_types_of (map type_of values.now) (pairs_view components.now) }
+{
+    let mut rest = components;
+    for value in values {
+        match rest {
+            [(_, asked), later @ ..] if value.has_type(asked) => rest = later,
+            _ => return false,
+        }
+    }
+    rest.is_empty()
+}
