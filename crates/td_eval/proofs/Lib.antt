@@ -1,1 +1,2 @@
+pub mod OpComparisons
 pub mod OpValues

@@ -1,19 +1,45 @@
 //! The values of comparisons.
+ghost use Rattle.std.specs.Prelude.{◌≡◌, IfOk, Some, false};
 ghost use Rattle.std.specs.Ordering.{eq_by_cmp};
-ghost use Rattle.td_check.specs.OperatorTypes.{equality_type};
+ghost use Rattle.td_algebra.specs.Operators.{is_subset};
+ghost use Rattle.td_check.specs.OperatorTypes.{equality_type, same_heading, same_type};
 ghost use Rattle.td_eval.specs.OperatorValues.{at_most, comparison_value, less_or_equal};
 ghost use Rattle.td_eval.specs.OperatorValues.{less_than, membership_value};
-ghost use Rattle.td_tree.specs.Outcomes.{Answers, Outcome, Valued, with_both, with_value};
-ghost use Rattle.td_value.specs.Values.{Val, type_of, value_cmp};
+ghost use Rattle.td_tree.specs.Outcomes.{Answers, Outcome, Valued, value_if, with_both};
+ghost use Rattle.td_tree.specs.Outcomes.{named_cause, with_value};
+ghost use Rattle.td_tree.specs.declared.cause.Cause.TheVariants as causes;
+ghost use Rattle.td_value.specs.Sets.{has};
+ghost use Rattle.td_value.specs.Values.{Val, boolean, heading_of, tuple_cmp, type_of, value_cmp};
 
 use crate::operators::relational::fit;
-use std::alloc::Global;
+use std::alloc::{AllocError, Global};
 use td_algebra::sets::subset;
 use td_check::both::both;
 use td_tree::cause::Cause;
 use td_tree::fault::Fault;
 use td_tree::operator::Comparison;
+use td_value::relation::Rel;
+use td_value::tuple::Tuple;
 use td_value::value::{Node, Value};
+
+/// The cause by which values of two types are refused.
+fn unlike(first: &Value, second: &Value) -> Cause
+    ensures { same_type (type_of first.now) (type_of second.now) ≡ false
+        → named_cause (equality_type (type_of first.now) (type_of second.now)) ≡ Some result }
+{
+    match (&first.node, &second.node) {
+        (Node::Rel(_), Node::Rel(_)) => Cause::Heading,
+        _ => Cause::TypeMismatch,
+    }
+}
+
+/// Whether two values are of one type.
+fn have_one_type(alloc: Global, first: &Value, second: &Value) -> Result<bool, AllocError>
+    ensures { IfOk result (λ b. b ≡ same_type (type_of first.now) (type_of second.now)) }
+{
+    let ty = second.type_of(alloc)?;
+    Ok(first.has_type(&ty))
+}
 
 /// Whether two values of one type are one value: those of two types are refused.
 fn of_one_type(alloc: Global, first: &Value, second: &Value) -> Result<bool, Fault>
@@ -21,14 +47,10 @@ fn of_one_type(alloc: Global, first: &Value, second: &Value) -> Result<bool, Fau
         (equality_type (type_of first.now) (type_of second.now))
         (λ t. Valued (eq_by_cmp value_cmp first.now second.now))) }
 {
-    let ty = second.type_of(alloc)?;
-    if first.has_type(&ty) {
+    if have_one_type(alloc, first, second)? {
         Ok(first == second)
     } else {
-        match (&first.node, &second.node) {
-            (Node::Rel(_), Node::Rel(_)) => Err(Fault::Refused(Cause::Heading)),
-            _ => Err(Fault::Refused(Cause::TypeMismatch)),
-        }
+        Err(Fault::Refused(unlike(first, second)))
     }
 }
 
@@ -46,6 +68,16 @@ fn are_one(alloc: Global, first: &Value, second: &Value) -> Result<bool, Fault>
     }
 }
 
+/// Whether each tuple of a relation is in another of its heading.
+fn is_part(rel: &Rel, other: &Rel) -> Result<bool, Fault>
+    ensures { Answers (λ b. b) result
+        (value_if (same_heading rel.now.heading other.now.heading)
+        (is_subset rel.now other.now) causes.Heading) }
+{
+    fit(rel.heading() == other.heading())?;
+    Ok(subset(rel, other))
+}
+
 /// Whether a number, a text or a relation is at most another.
 fn at_most(first: &Value, second: &Value) -> Result<bool, Fault>
     ensures { Answers (λ b. b) result (at_most first.now second.now) }
@@ -53,10 +85,7 @@ fn at_most(first: &Value, second: &Value) -> Result<bool, Fault>
     match (&first.node, &second.node) {
         (Node::Int(x), Node::Int(y)) => Ok(x <= y),
         (Node::Text(s), Node::Text(t)) => Ok(s.as_str() <= t.as_str()),
-        (Node::Rel(rel), Node::Rel(other)) => {
-            fit(rel.heading() == other.heading())?;
-            Ok(subset(rel, other))
-        }
+        (Node::Rel(rel), Node::Rel(other)) => is_part(rel, other),
         _ => Err(Fault::Refused(Cause::TypeMismatch)),
     }
 }
@@ -83,14 +112,21 @@ fn less_or_equal(first: &Value, second: &Value) -> Result<Value, Fault>
 }
 
 /// Whether a tuple is in a relation of its heading.
+fn is_member(tuple: &Tuple, rel: &Rel) -> Result<Value, Fault>
+    ensures { Answers (λ v. v) result
+        (value_if (same_heading (heading_of tuple.now) rel.now.heading)
+        (boolean (has tuple_cmp tuple.now rel.now.body)) causes.Heading) }
+{
+    fit(tuple.has_heading(rel.heading()))?;
+    Ok(Value::bool(rel.contains(tuple)))
+}
+
+/// Whether a value is a tuple that is in another, a relation of its heading.
 fn membership(first: &Value, second: &Value) -> Result<Value, Fault>
     ensures { Answers (λ v. v) result (membership_value first.now second.now) }
 {
     match (&first.node, &second.node) {
-        (Node::Tup(tuple), Node::Rel(rel)) => {
-            fit(tuple.has_heading(rel.heading()))?;
-            Ok(Value::bool(rel.contains(tuple)))
-        }
+        (Node::Tup(tuple), Node::Rel(rel)) => is_member(tuple, rel),
         _ => Err(Fault::Refused(Cause::TypeMismatch)),
     }
 }
