@@ -1,2 +1,3 @@
 pub mod OpComparisons
+pub mod OpTuples
 pub mod OpValues

@@ -8,8 +8,8 @@ use Rattle.td_tree.specs.Outcomes.{Answers, Outcome, Valued, Refused, with_value
 use Rattle.td_types.proofs.OutcomeLaws.{valued_is}
 use Rattle.td_types.specs.TypeCode.{unpack_pack}
 use Rattle.td_types.specs.Types.{Heading, pack}
-use Rattle.td_value.specs.ValueCode.{unpack_pack_rows}
-use Rattle.td_value.specs.Values.{Val, boolean, integer, char, user, tuple, relation, Relation, Tuple, pack_rows}
+use Rattle.td_value.specs.ValueCode.{unpack_pack_fields, unpack_pack_rows}
+use Rattle.td_value.specs.Values.{Val, boolean, integer, char, user, tuple, relation, Relation, Tuple, pack_fields, pack_rows}
 use Rattle.td_value.specs.Views.{relation_view}
 
 -- the relation that a value is made of
@@ -52,3 +52,7 @@ pub refused_then : {X Y A B : Type 0} (view : X → A) (next : Y → B) (e : Fau
 refused_then view next (faults.Refused c) (Valued x) f h = absurd (cc)
 refused_then view next (faults.Refused c) (Refused cs) f h = h
 refused_then view next faults.Memory o f h = tt
+
+-- the tuple that a value is made of
+pub tuple_unpacked : {A : Type 0} (t : Tuple) (f : Tuple → Outcome A) → on_tuple (tuple (pack_fields t)) f ≡ f t
+tuple_unpacked t f = rw (unpack_pack_fields t) refl

@@ -1,8 +1,5 @@
-use Rattle.std.proofs.Common.{◌∙◌, ap}
 use Rattle.td_eval.proofs.OpValues.{relation_unpacked}
-use Rattle.td_eval.specs.OperatorValues.{on_relation}
 use Rattle.td_tree.specs.Outcomes.{Valued}
-use Rattle.td_value.specs.Views.{node_view}
 use Rattle.td_eval.proofs.operators.asked.relation_in.Goals as goal
 
 pub returns-in-Rel : goal.returns-in-Rel
