@@ -1,3 +1,6 @@
 pub mod Measures
 pub mod NewAttributes
+pub mod OpComparisons
+pub mod OpTuples
+pub mod OpValues
 pub mod Selectors

@@ -1,4 +1,5 @@
 //! The values of operators, by the values of their operands.
+mod arithmetic;
 pub(crate) mod asked;
 pub(crate) mod between;
 pub(crate) mod comparisons;
@@ -6,5 +7,7 @@ pub(crate) mod elements;
 pub(crate) mod literals;
 pub(crate) mod operand;
 pub(crate) mod postfix;
+mod relational;
 pub(crate) mod selectors;
+mod simple;
 pub(crate) mod tuplewise;

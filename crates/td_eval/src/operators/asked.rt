@@ -1,11 +1,12 @@
 //! What operators ask of a value.
 ghost use Rattle.std.specs.Prelude.{◌≡◌, map, option_map, reverse};
-ghost use Rattle.td_check.specs.OperatorTypes.{are_types_of};
-ghost use Rattle.td_eval.specs.OperatorValues.{on_relation, on_truth, value_of_type};
+ghost use Rattle.td_check.specs.OperatorTypes.{are_types_of, known_or, same_type};
+ghost use Rattle.td_eval.specs.OperatorValues.{on_relation, on_truth, on_tuple};
+ghost use Rattle.td_eval.specs.OperatorValues.{value_of_type};
 ghost use Rattle.td_eval.specs.Worlds.{innermost_value};
 ghost use Rattle.td_tree.specs.Outcomes.{Answers, Valued};
 ghost use Rattle.td_types.specs.Views.{pairs_view, type_view};
-ghost use Rattle.td_value.specs.Values.{type_of};
+ghost use Rattle.td_value.specs.Values.{Val, type_of};
 
 use td_tree::cause::Cause;
 use td_tree::fault::Fault;
@@ -35,6 +36,26 @@ pub(crate) fn relation_in(v: &Value) -> Result<&Rel, Fault>
     }
 }
 
+/// The tuple: another value is refused.
+pub(crate) fn tuple_in(v: &Value) -> Result<&Tuple, Fault>
+    ensures { Answers (λ t. t.now) result (on_tuple v.now Valued) }
+{
+    match &v.node {
+        Node::Tup(t) => Ok(t),
+        _ => Err(Fault::Refused(Cause::TypeMismatch)),
+    }
+}
+
+/// The value that must be found, else that cause.
+pub(crate) fn known(found: Option<&Value>, cause: Cause) -> Result<Value, Fault>
+    ensures { Answers (λ v. v) result (known_or {A = Val} cause (option_map (λ v. v.now) found)) }
+{
+    match found {
+        Some(value) => Ok(value.try_clone()?),
+        None => Err(Fault::Refused(cause)),
+    }
+}
+
 /// The value of the innermost attribute of the name. The innermost tuple is the last.
 pub(crate) fn attribute<'a>(tuples: &'a [Tuple], name: &Name) -> Option<&'a Value>
     ensures { option_map (λ v. v.now) result ≡ innermost_value name.now (reverse tuples.now) }
@@ -47,11 +68,18 @@ pub(crate) fn attribute<'a>(tuples: &'a [Tuple], name: &Name) -> Option<&'a Valu
     None
 }
 
+/// Whether the value is of the type.
+fn is_of(value: &Value, ty: &Ty) -> bool
+    ensures { result ≡ same_type (type_of value.now) (type_view ty.now) }
+{
+    value.has_type(ty)
+}
+
 /// The value, where it is of the type.
 pub(crate) fn of_type(ty: &Ty, value: Value) -> Result<Value, Fault>
     ensures { Answers (λ v. v) result (value_of_type (type_view ty.now) value) }
 {
-    if value.has_type(ty) {
+    if is_of(&value, ty) {
         Ok(value)
     } else {
         Err(Fault::Refused(Cause::TypeMismatch))
@@ -65,7 +93,7 @@ pub(crate) fn have_types(values: &[Value], components: &[(Name, Ty)]) -> bool
     let mut rest = components;
     for value in values {
         match rest {
-            [(_, asked), later @ ..] if value.has_type(asked) => rest = later,
+            [(_, asked), later @ ..] if is_of(value, asked) => rest = later,
             _ => return false,
         }
     }

@@ -3,10 +3,45 @@ ghost use Rattle.td_eval.specs.OperatorValues.{operator_value};
 ghost use Rattle.td_tree.specs.Outcomes.{Answers, Outcome, with_both};
 ghost use Rattle.td_value.specs.Values.{Val};
 
+use crate::operators::arithmetic::{difference, product, quotient, sum};
+use crate::operators::relational::{composed, intersected, joined, matched, multiplied};
+use crate::operators::relational::{subtracted, united, unmatched};
+use crate::operators::simple::{concatenation, conjunction, disjunction};
 use std::alloc::Global;
+use td_check::both::both;
+use td_tree::cause::Cause;
 use td_tree::fault::Fault;
 use td_tree::operator::Operator;
 use td_value::value::Value;
+
+/// The value of an operator between two values. The right side of WHERE has none of its own.
+fn operator_value(
+    alloc: Global,
+    op: Operator,
+    first: &Value,
+    second: &Value,
+) -> Result<Value, Fault>
+    ensures { Answers (λ v. v) result (operator_value op first.now second.now) }
+{
+    match op {
+        Operator::Where => Err(Fault::Refused(Cause::TypeMismatch)),
+        Operator::Or => disjunction(first, second),
+        Operator::And => conjunction(first, second),
+        Operator::Union => united(alloc, first, second),
+        Operator::Intersect => intersected(alloc, first, second),
+        Operator::Minus => subtracted(alloc, first, second),
+        Operator::Join => joined(alloc, first, second),
+        Operator::Times => multiplied(alloc, first, second),
+        Operator::Compose => composed(alloc, first, second),
+        Operator::Matching => matched(alloc, first, second),
+        Operator::NotMatching => unmatched(alloc, first, second),
+        Operator::Add => sum(first, second),
+        Operator::Subtract => difference(first, second),
+        Operator::Concatenate => concatenation(alloc, first, second),
+        Operator::Multiply => product(first, second),
+        Operator::Divide => quotient(first, second),
+    }
+}
 
 /// The value of an operator between operands of these values.
 pub(crate) fn operated(
@@ -18,9 +53,6 @@ pub(crate) fn operated(
     ensures { (o p : Outcome Val) → Answers (λ v. v) first o → Answers (λ v. v) second p
         → Answers (λ v. v) result (with_both o p (operator_value op)) }
 {
-    let _ = alloc;
-    let _ = op;
-    let _ = first;
-    let _ = second;
-    Err(Fault::Memory)
+    let (first, second) = both(first, second)?;
+    operator_value(alloc, op, &first, &second)
 }

@@ -1,35 +1,77 @@
 //! The values of tuples and of relations by their parts.
-ghost use Rattle.std.specs.Prelude.{List};
-ghost use Rattle.td_eval.specs.OperatorValues.{headed_value, listed_value, tuple_from};
-ghost use Rattle.td_tree.specs.Outcomes.{Answers, Outcome, with_both};
+ghost use Rattle.std.specs.Prelude.{IfOk, List, map};
+ghost use Rattle.std.specs.List.{All};
+ghost use Rattle.td_eval.specs.OperatorValues.{element_of, headed_value, listed_value};
+ghost use Rattle.td_eval.specs.OperatorValues.{tuple_from};
+ghost use Rattle.td_tree.specs.Outcomes.{Answers, Outcome, gathered, with_both};
 ghost use Rattle.td_types.specs.Types.{Heading};
-ghost use Rattle.td_value.specs.Values.{Val};
+ghost use Rattle.td_value.specs.Values.{IsTupleOf, Val};
 
+use crate::operators::asked::tuple_in;
+use crate::operators::relational::{as_value, fit};
 use std::alloc::Global;
+use td_check::both::both;
+use td_tree::cause::Cause;
 use td_tree::fault::Fault;
+use td_tree::gathering::Gathering;
 use td_tree::name::Name;
 use td_types::heading::Heading;
+use td_value::relation::Rel;
+use td_value::tuple::Tuple;
 use td_value::value::Value;
 
 /// The tuple that gives each name its value: refused where a name comes twice.
 pub(crate) fn tuple_from(alloc: Global, entries: Vec<(Name, Value)>) -> Result<Value, Fault>
     ensures { Answers (λ v. v) result (tuple_from entries.items) }
 {
-    let _ = alloc;
-    let _ = entries;
-    Err(Fault::Memory)
+    Ok(Value::tuple(alloc, Tuple::new(alloc, entries)?)?)
+}
+
+/// The tuple that an element is, which is of the heading.
+fn element_of(heading: &Heading, element: &Value) -> Result<Tuple, Fault>
+    ensures answer { Answers (λ t. t) result (element_of heading.now element.now) }
+    ensures headed { IfOk result (IsTupleOf heading.now) }
+{
+    let tuple = tuple_in(element)?;
+    fit(tuple.has_heading(heading))?;
+    Ok(tuple.try_clone()?)
+}
+
+/// The tuples that the elements are, which are of the heading.
+fn elements_of(alloc: Global, heading: &Heading, elements: &[Value]) -> Result<Vec<Tuple>, Fault>
+    ensures answer { Answers (λ ts. ts.items) result
+        (gathered (map (element_of heading.now) elements.now)) }
+    ensures headed { IfOk result (λ ts. All (IsTupleOf heading.now) ts.items) }
+{
+    let mut causes = Gathering::new();
+    let mut tuples = Vec::with_capacity(alloc, elements.len())?;
+    for element in elements {
+        if let Some(tuple) = causes.add(element_of(heading, element))? {
+            tuples.push(tuple)?;
+        }
+    }
+    causes.finish(tuples)
+}
+
+/// The relation of the heading with the elements, which are tuples of it.
+fn headed_value(alloc: Global, heading: Heading, elements: &[Value]) -> Result<Value, Fault>
+    ensures { Answers (λ v. v) result (headed_value heading elements.now) }
+{
+    let tuples = elements_of(alloc, &heading, elements)?;
+    as_value(alloc, Rel::new(heading, tuples))
 }
 
 /// The relation of the elements, which are tuples of one heading, the first one's.
 pub(crate) fn listed_value(alloc: Global, elements: Vec<Value>) -> Result<Value, Fault>
     ensures { Answers (λ v. v) result (listed_value elements.items) }
 {
-    let _ = alloc;
-    let _ = elements;
-    Err(Fault::Memory)
+    match elements.first() {
+        Some(first) => headed_value(alloc, tuple_in(first)?.heading()?, &elements),
+        None => Err(Fault::Refused(Cause::TypeMismatch)),
+    }
 }
 
-/// The relation of the heading with the elements, which are tuples of it.
+/// The relation of the heading with the elements, by what is answered of both.
 pub(crate) fn headed(
     alloc: Global,
     heading: Result<Heading, Fault>,
@@ -39,8 +81,6 @@ pub(crate) fn headed(
         → Answers (λ vs. vs.items) elements p
         → Answers (λ v. v) result (with_both o p headed_value) }
 {
-    let _ = alloc;
-    let _ = heading;
-    let _ = elements;
-    Err(Fault::Memory)
+    let (heading, elements) = both(heading, elements)?;
+    headed_value(alloc, heading, &elements)
 }

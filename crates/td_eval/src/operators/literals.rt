@@ -1,18 +1,61 @@
 //! The values of literals.
-ghost use Rattle.td_eval.specs.OperatorValues.{literal_value};
+ghost use Rattle.std.specs.Prelude.{FitsSigned};
+ghost use Rattle.std.specs.Int.{w64};
+ghost use Rattle.std.specs.Option.{SomeIff};
+ghost use Rattle.td_eval.specs.OperatorValues.{literal_value, signed};
 ghost use Rattle.td_tree.specs.Outcomes.{Answers};
 ghost use Rattle.td_tree.specs.TreeViews.{literal_view};
+ghost use Rattle.td_tree.specs.Trees.{table_dee, table_dum};
 
+use crate::operators::arithmetic::in_range;
+use crate::operators::relational::as_value;
 use std::alloc::Global;
-use td_tree::expression::Literal;
+use td_tree::expression::{Literal, MAX_MAGNITUDE};
 use td_tree::fault::Fault;
+use td_types::heading::Heading;
+use td_value::relation::Rel;
+use td_value::tuple::Tuple;
 use td_value::value::Value;
+
+/// The number of a magnitude with its sign, where it is in range.
+fn signed(minus: bool, magnitude: u64) -> Option<i64>
+    ensures { SomeIff result (FitsSigned w64 (signed minus magnitude)) (signed minus magnitude) }
+{
+    if magnitude < MAX_MAGNITUDE {
+        let number = magnitude as i64;
+        Some(if minus { -number } else { number })
+    } else if minus && magnitude == MAX_MAGNITUDE {
+        Some(i64::MIN)
+    } else {
+        None
+    }
+}
+
+/// No attribute, and the tuple that has none.
+fn table_dee(alloc: Global) -> Result<Value, Fault>
+    ensures { Answers (λ v. v) result (literal_value table_dee) }
+{
+    let mut rows = Vec::with_capacity(alloc, 1)?;
+    rows.push(Tuple::new(alloc, Vec::new(alloc))?)?;
+    as_value(alloc, Rel::new(Heading::empty(alloc), rows))
+}
+
+/// No attribute, and no tuple.
+fn table_dum(alloc: Global) -> Result<Value, Fault>
+    ensures { Answers (λ v. v) result (literal_value table_dum) }
+{
+    as_value(alloc, Rel::new(Heading::empty(alloc), Vec::new(alloc)))
+}
 
 /// The value of a literal: a number out of range is refused.
 pub(crate) fn literal_value(alloc: Global, literal: &Literal) -> Result<Value, Fault>
     ensures { Answers (λ v. v) result (literal_value (literal_view literal.now)) }
 {
-    let _ = alloc;
-    let _ = literal;
-    Err(Fault::Memory)
+    match literal {
+        Literal::Number { minus, magnitude } => in_range(signed(*minus, *magnitude)),
+        Literal::Text(content) => Ok(Value::shared_text(content.clone()?)),
+        Literal::Truth(b) => Ok(Value::bool(*b)),
+        Literal::TableDee => table_dee(alloc),
+        Literal::TableDum => table_dum(alloc),
+    }
 }

@@ -9,8 +9,10 @@ ghost use Rattle.td_types.specs.Headings.{are_distinct, have_no_common};
 ghost use Rattle.td_types.specs.Types.{attribute_names};
 ghost use Rattle.td_value.specs.Values.{Tuple, Val};
 
+use crate::operators::relational::as_value;
 use std::alloc::Global;
-use td_algebra::extension::Column;
+use td_algebra::extension::{Column, extend_all};
+use td_algebra::restriction::restrict;
 use td_tree::fault::Fault;
 use td_tree::name::Name;
 use td_value::relation::Rel;
@@ -27,10 +29,8 @@ pub(crate) fn restricted(
         → Answers (λ m. m.items) truths (gathered (map (λ t. truth_value (p t)) operand.now.body))
         → Answers (λ v. v) result (restricted_value p operand.now) }
 {
-    let _ = alloc;
-    let _ = operand;
-    let _ = truths;
-    Err(Fault::Memory)
+    let truths = truths?;
+    as_value(alloc, restrict(alloc, operand, &truths))
 }
 
 /// The tuples with new attributes, whose values are given as columns.
@@ -48,8 +48,5 @@ pub(crate) fn extended(
         → AreColumnsOf (columns_view columns.items) operand.now.body additions
         → Answers (λ v. v) result (of_relation (extended_relation additions operand.now)) }
 {
-    let _ = alloc;
-    let _ = operand;
-    let _ = columns;
-    Err(Fault::Memory)
+    as_value(alloc, extend_all(alloc, operand, columns))
 }

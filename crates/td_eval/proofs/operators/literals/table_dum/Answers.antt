@@ -1,0 +1,5 @@
+use Rattle.std.proofs.Common.{rules}
+use Rattle.td_eval.proofs.operators.literals.table_dum.Goals as goal
+
+pub returns : goal.returns
+returns c = c.as_value.ensures _ ?

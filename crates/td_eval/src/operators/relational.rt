@@ -1,0 +1,119 @@
+//! The values of operators between two relations.
+ghost use Rattle.std.specs.Prelude.{◌≡◌, IfOk, IsTrue, OnOk};
+ghost use Rattle.td_eval.specs.OperatorValues.{of_relation, on_relation, operator_value};
+ghost use Rattle.td_tree.specs.Outcomes.{Answers, Valued, value_if};
+ghost use Rattle.td_tree.specs.declared.cause.Cause.TheVariants as causes;
+ghost use Rattle.td_tree.specs.declared.operator.Operator.TheVariants as operators;
+ghost use Rattle.td_value.specs.Values.{Relation};
+
+use crate::operators::asked::relation_in;
+use std::alloc::{AllocError, Global};
+use td_algebra::joins::{compose, join, times};
+use td_algebra::semijoins::{matching, not_matching};
+use td_algebra::sets::{intersect, minus, union};
+use td_tree::cause::Cause;
+use td_tree::fault::Fault;
+use td_value::relation::Rel;
+use td_value::value::Value;
+
+/// The relations of two values: others are refused.
+fn relations<'a>(first: &'a Value, second: &'a Value) -> Result<(&'a Rel, &'a Rel), Fault>
+    ensures { Answers {A = Relation × Relation} (λ both. (both.0.now, both.1.now)) result
+        (on_relation first.now (λ r. on_relation second.now (λ s. Valued (r, s)))) }
+{
+    let rel = relation_in(first)?;
+    Ok((rel, relation_in(second)?))
+}
+
+/// What is asked of headings.
+pub(crate) fn fit(headings_fit: bool) -> Result<(), Fault>
+    ensures answer { Answers (λ u. u) result (value_if headings_fit tt causes.Heading) }
+    ensures fits { OnOk result (IsTrue headings_fit) }
+{
+    if headings_fit {
+        Ok(())
+    } else {
+        Err(Fault::Refused(Cause::Heading))
+    }
+}
+
+/// The relation as a value.
+pub(crate) fn as_value(alloc: Global, found: Result<Rel, AllocError>) -> Result<Value, Fault>
+    ensures { (r : Relation) → IfOk found (λ s. s ≡ r)
+        → Answers (λ v. v) result (of_relation r) }
+{
+    Ok(Value::relation(alloc, found?)?)
+}
+
+/// The tuples of either of two relations.
+pub(crate) fn united(alloc: Global, first: &Value, second: &Value) -> Result<Value, Fault>
+    ensures { Answers (λ v. v) result (operator_value operators.Union first.now second.now) }
+{
+    let (rel, other) = relations(first, second)?;
+    fit(rel.heading() == other.heading())?;
+    as_value(alloc, union(alloc, rel, other))
+}
+
+/// The tuples of both of two relations.
+pub(crate) fn intersected(alloc: Global, first: &Value, second: &Value) -> Result<Value, Fault>
+    ensures { Answers (λ v. v) result (operator_value operators.Intersect first.now second.now) }
+{
+    let (rel, other) = relations(first, second)?;
+    fit(rel.heading() == other.heading())?;
+    as_value(alloc, intersect(alloc, rel, other))
+}
+
+/// The tuples of the first of two relations that are not in the second.
+pub(crate) fn subtracted(alloc: Global, first: &Value, second: &Value) -> Result<Value, Fault>
+    ensures { Answers (λ v. v) result (operator_value operators.Minus first.now second.now) }
+{
+    let (rel, other) = relations(first, second)?;
+    fit(rel.heading() == other.heading())?;
+    as_value(alloc, minus(alloc, rel, other))
+}
+
+/// The join of two relations.
+pub(crate) fn joined(alloc: Global, first: &Value, second: &Value) -> Result<Value, Fault>
+    ensures { Answers (λ v. v) result (operator_value operators.Join first.now second.now) }
+{
+    let (rel, other) = relations(first, second)?;
+    fit(rel.heading().agrees_with(other.heading()))?;
+    as_value(alloc, join(alloc, rel, other))
+}
+
+/// The product of two relations.
+pub(crate) fn multiplied(alloc: Global, first: &Value, second: &Value) -> Result<Value, Fault>
+    ensures { Answers (λ v. v) result (operator_value operators.Times first.now second.now) }
+{
+    let (rel, other) = relations(first, second)?;
+    fit(rel.heading().is_apart_from(other.heading()))?;
+    as_value(alloc, times(alloc, rel, other))
+}
+
+/// The composition of two relations.
+pub(crate) fn composed(alloc: Global, first: &Value, second: &Value) -> Result<Value, Fault>
+    ensures { Answers (λ v. v) result (operator_value operators.Compose first.now second.now) }
+{
+    let (rel, other) = relations(first, second)?;
+    fit(rel.heading().agrees_with(other.heading()))?;
+    as_value(alloc, compose(alloc, rel, other))
+}
+
+/// The tuples of the first of two relations that have a partner in the second.
+pub(crate) fn matched(alloc: Global, first: &Value, second: &Value) -> Result<Value, Fault>
+    ensures { Answers (λ v. v) result (operator_value operators.Matching first.now second.now) }
+{
+    let (rel, other) = relations(first, second)?;
+    fit(rel.heading().agrees_with(other.heading()))?;
+    as_value(alloc, matching(alloc, rel, other))
+}
+
+/// The tuples of the first of two relations that have none.
+pub(crate) fn unmatched(alloc: Global, first: &Value, second: &Value) -> Result<Value, Fault>
+    ensures { Answers (λ v. v) result
+        (operator_value operators.NotMatching first.now second.now) }
+{
+    let (rel, other) = relations(first, second)?;
+    fit(rel.heading().agrees_with(other.heading()))?;
+    as_value(alloc, not_matching(alloc, rel, other))
+}
