@@ -1,3 +1,4 @@
 pub mod OpComparisons
+pub mod OpElements
 pub mod OpTuples
 pub mod OpValues
