@@ -46,9 +46,10 @@ fn elements_of(alloc: Global, heading: &Heading, elements: &[Value]) -> Result<V
     let mut causes = Gathering::new();
     let mut tuples = Vec::with_capacity(alloc, elements.len())?;
     for element in elements {
-        if let Some(tuple) = causes.add(element_of(heading, element))? {
-            tuples.push(tuple)?;
-        }
+        let Some(tuple) = causes.add(element_of(heading, element))? else {
+            continue;
+        };
+        tuples.push(tuple)?;
     }
     causes.finish(tuples)
 }

@@ -1,19 +1,109 @@
 //! The values of operators behind their operands.
-ghost use Rattle.td_eval.specs.OperatorValues.{postfix_value};
+ghost use Rattle.std.specs.Prelude.{◌≡◌, IfOk, map};
+ghost use Rattle.td_algebra.specs.Operators.{projected_relation, renamed_relation};
+ghost use Rattle.td_check.specs.OperatorTypes.{renaming_pairs};
+ghost use Rattle.td_eval.specs.OperatorValues.{listed_names, postfix_value, projected_names};
+ghost use Rattle.td_eval.specs.OperatorValues.{relation_where};
 ghost use Rattle.td_tree.specs.Outcomes.{Answers};
-ghost use Rattle.td_tree.specs.TreeViews.{postfix_view};
+ghost use Rattle.td_tree.specs.TreeViews.{attributes_view, postfix_view, renaming_view};
+ghost use Rattle.td_tree.specs.Trees.{all_but};
+ghost use Rattle.td_types.specs.Headings.{can_rename, has_projection};
+ghost use Rattle.td_types.specs.Types.{attribute_names};
 
-use std::alloc::Global;
-use td_tree::expression::Postfix;
+use crate::operators::asked::relation_in;
+use crate::operators::relational::{as_value, fit};
+use std::alloc::{AllocError, Global};
+use td_algebra::projection::project;
+use td_algebra::renaming::rename;
+use td_tree::cause::Cause;
+use td_tree::expression::{Attributes, Postfix, Renaming};
 use td_tree::fault::Fault;
+use td_tree::name::Name;
+use td_types::heading::Heading;
+use td_value::relation::Rel;
 use td_value::value::Value;
+
+/// The names of a heading's attributes.
+fn names_in(alloc: Global, heading: &Heading) -> Result<Vec<Name>, AllocError>
+    ensures { IfOk result (λ names. names.items ≡ attribute_names heading.now) }
+{
+    let mut names = Vec::with_capacity(alloc, heading.len())?;
+    for place in 0..heading.len() {
+        let Some((name, _)) = heading.at(place) else {
+            return Ok(names);
+        };
+        names.push(name.try_clone()?)?;
+    }
+    Ok(names)
+}
+
+/// The relation projected on the names.
+fn projected_on(alloc: Global, rel: &Rel, names: &[Name]) -> Result<Value, Fault>
+    ensures { Answers (λ v. v) result (relation_where (has_projection names.now rel.now.heading)
+        (projected_relation names.now rel.now)) }
+{
+    fit(rel.heading().has_projection(names))?;
+    as_value(alloc, project(alloc, rel, names))
+}
+
+/// The relation projected on the names of its other attributes.
+fn projected_off(alloc: Global, rel: &Rel, names: &[Name]) -> Result<Value, Fault>
+    ensures { Answers (λ v. v) result (relation_where (has_projection names.now rel.now.heading)
+        (projected_relation (projected_names (all_but names.now) rel.now.heading) rel.now)) }
+{
+    let named = rel.heading().project(names)?;
+    let rest = rel.heading().lacking(&named)?;
+    let kept = names_in(alloc, &rest)?;
+    as_value(alloc, project(alloc, rel, &kept))
+}
+
+/// The relation with some of its attributes alone.
+fn projected(alloc: Global, rel: &Rel, attributes: &Attributes) -> Result<Value, Fault>
+    ensures { Answers (λ v. v) result (relation_where
+        (has_projection (listed_names (attributes_view attributes.now)) rel.now.heading)
+        (projected_relation
+        (projected_names (attributes_view attributes.now) rel.now.heading) rel.now)) }
+{
+    match attributes {
+        Attributes::Only(names) => projected_on(alloc, rel, names),
+        Attributes::AllBut(names) => projected_off(alloc, rel, names),
+    }
+}
+
+/// The renamings as pairs of an old and a new name.
+fn renaming_pairs(alloc: Global, renamings: &[Renaming]) -> Result<Vec<(Name, Name)>, AllocError>
+    ensures { IfOk result (λ pairs.
+        pairs.items ≡ renaming_pairs (map renaming_view renamings.now)) }
+{
+    let mut pairs = Vec::with_capacity(alloc, renamings.len())?;
+    for renaming in renamings {
+        let old = renaming.old.try_clone()?;
+        let new = renaming.new.try_clone()?;
+        pairs.push((old, new))?;
+    }
+    Ok(pairs)
+}
+
+/// The relation with attributes renamed.
+fn renamed(alloc: Global, rel: &Rel, renamings: &[Renaming]) -> Result<Value, Fault>
+    ensures { Answers (λ v. v) result (relation_where
+        (can_rename (renaming_pairs (map renaming_view renamings.now)) rel.now.heading)
+        (renamed_relation (renaming_pairs (map renaming_view renamings.now)) rel.now)) }
+{
+    let pairs = renaming_pairs(alloc, renamings)?;
+    fit(rel.heading().can_rename(&pairs)?)?;
+    as_value(alloc, rename(alloc, rel, &pairs))
+}
 
 /// The value that the operator gives: each asks a relation.
 pub(crate) fn postfix_value(alloc: Global, op: &Postfix, operand: &Value) -> Result<Value, Fault>
     ensures { Answers (λ v. v) result (postfix_value (postfix_view op.now) operand.now) }
 {
-    let _ = alloc;
-    let _ = op;
-    let _ = operand;
-    Err(Fault::Memory)
+    match op {
+        Postfix::Project(attributes) => projected(alloc, relation_in(operand)?, attributes),
+        Postfix::Rename(renamings) => renamed(alloc, relation_in(operand)?, renamings),
+        Postfix::Group(..) | Postfix::Ungroup(_) | Postfix::Wrap(..) | Postfix::Unwrap(_) => {
+            Err(Fault::Refused(Cause::TypeMismatch))
+        }
+    }
 }

@@ -7,5 +7,5 @@ use Rattle.td_eval.proofs.operators.elements.elements_of.Given as goal
 
 abbrev pub invariant-loop-element : goal.invariant-loop-element
 invariant-loop-element l =
-    IsGathered l.causes l.tuples.items (map (element_of l.fn.heading) (take l.element-index l.elements))
+    IsGathered l.causes (map (λ t. t) l.tuples.items) (map (element_of l.fn.heading) (take l.element-index l.elements))
     × All (IsTupleOf l.fn.heading) l.tuples.items

@@ -1,5 +1,7 @@
-use Rattle.std.proofs.Common.{rules}
+use Rattle.std.proofs.Common.{[]}
+use Rattle.td_eval.proofs.OpElements.{made_of}
+use Rattle.td_value.specs.Values.{relation_of}
 use Rattle.td_eval.proofs.operators.literals.table_dum.Goals as goal
 
 pub returns : goal.returns
-returns c = c.as_value.ensures _ ?
+returns c = c.as_value.ensures (relation_of [] []) (made_of _ _ [] _ [] c.empty.ensures c.new.ensures.items c.new-2.ensures.value)

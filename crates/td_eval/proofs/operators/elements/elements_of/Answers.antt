@@ -1,0 +1,26 @@
+use Rattle.std.proofs.Common.{map, subst}
+use Rattle.std.proofs.lemmas.List.{take_all}
+use Rattle.std.specs.List.{All}
+use Rattle.td_eval.proofs.OpElements.{elements_answered, elements_hold}
+use Rattle.td_eval.specs.OperatorValues.{element_of}
+use Rattle.td_tree.specs.Gatherings.{IsGathered}
+use Rattle.td_value.specs.Values.{IsTupleOf}
+use Rattle.std.proofs.Common.{rules}
+use Rattle.td_eval.proofs.operators.elements.elements_of.Goals as goal
+
+pub loop-element-preserved : goal.loop-element-preserved
+loop-element-preserved c = ?
+
+pub loop-element-preserved-in_default : goal.loop-element-preserved-in_default
+loop-element-preserved-in_default c = ?
+
+pub returns-clause-answer : goal.returns-clause-answer
+returns-clause-answer c =
+    rw c.finish.ensures
+    (elements_answered c.loop-element.causes c.loop-element.tuples (map (element_of c.args.heading.now) c.args.elements.now)
+    (subst (λ es. IsGathered c.loop-element.causes (map (λ t. t) c.loop-element.tuples.items) (map (element_of c.args.heading.now) es))
+    (take_all c.loop-element.element-index c.args.elements.now c.loop-element-test.false) c.loop-element.invariant.0))
+
+pub returns-clause-headed : goal.returns-clause-headed
+returns-clause-headed c =
+    rw c.finish.ensures (elements_hold (All (IsTupleOf c.args.heading.now)) c.loop-element.causes c.loop-element.tuples c.loop-element.invariant.1)
