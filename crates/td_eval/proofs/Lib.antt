@@ -1,3 +1,8 @@
+pub mod KeepsExtension
+pub mod KeepsGathered
+pub mod KeepsOperators
+pub mod KeepsPostfix
+pub mod KeepsRelations
 pub mod Measures
 pub mod NewAttributes
 pub mod OpComparisons
