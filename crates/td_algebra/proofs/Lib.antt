@@ -18,6 +18,7 @@ pub mod PartnersByKey
 pub mod Projections
 pub mod Relations
 pub mod Renamings
+pub mod Results
 pub mod SetEqualities
 pub mod Sources
 pub mod Taken

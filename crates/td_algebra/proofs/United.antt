@@ -12,7 +12,7 @@ use Rattle.td_value.proofs.Maps.{value_at-tuple_of}
 use Rattle.td_algebra.specs.Operators.{united_tuple}
 use Rattle.td_algebra.proofs.Entries.{IsTupleOf-tuple_of, distinct_append, fields_append, has_name-heading, has_value, tuple_distinct, typed_values, value_at-append}
 
-add_missing-heading : (h : Heading) (a : Attribute) → IsName a.0 → IsType a.1 → IsHeading (pack h) → IsHeading (pack (add_missing h a))
+pub add_missing-heading : (h : Heading) (a : Attribute) → IsName a.0 → IsType a.1 → IsHeading (pack h) → IsHeading (pack (add_missing h a))
 add_missing-heading h a n t p = by_test (has_attribute a.0 h) refl
   where
     by_test : (b : Bool) → has_attribute a.0 h ≡ b → IsHeading (pack (add_missing h a))

@@ -7,3 +7,4 @@ pub mod Membership
 pub mod Merges
 pub mod Operators
 pub mod Pairs
+pub mod Results

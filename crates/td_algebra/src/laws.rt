@@ -3,4 +3,5 @@ pub mod attributes;
 pub mod equalities;
 pub mod join_equalities;
 pub mod joins;
+pub mod results;
 pub mod sets;
