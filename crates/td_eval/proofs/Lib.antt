@@ -1,1 +1,3 @@
 pub mod KeepsGathered
+pub mod KeepsOperators
+pub mod KeepsRelations
