@@ -190,7 +190,7 @@ module _ {N : List ℕ → Type 0} {G : Type' → Type 0} {H : Heading → Type 
       by_name true rest = all.0
       by_name false rest = rest
 
-  renamed_fit : (rs : List Renaming) → AllByRecursion (λ r. N r.new) rs → (h : Heading) → AllByRecursion Fits h
+  pub renamed_fit : (rs : List Renaming) → AllByRecursion (λ r. N r.new) rs → (h : Heading) → AllByRecursion Fits h
       → AllByRecursion Fits (renamed (renaming_pairs rs) h)
   renamed_fit rs new [] all = tt
   renamed_fit rs new (a ∷ h) all = ((new_fits rs a.0 all.0.0 new, all.0.1), renamed_fit rs new h all.1)

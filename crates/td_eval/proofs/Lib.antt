@@ -1,3 +1,4 @@
 pub mod KeepsGathered
 pub mod KeepsOperators
+pub mod KeepsPostfix
 pub mod KeepsRelations
