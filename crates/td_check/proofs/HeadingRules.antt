@@ -73,7 +73,7 @@ lacked false false true l = refl
 lacked false false false l = refl
 
 -- a heading with one more attribute lacks those that it lacked, but for the name that it has now
-lacks_with : (h : Heading) (a : Attribute) (xs : Heading)
+pub lacks_with : (h : Heading) (a : Attribute) (xs : Heading)
     → list_all (λ x. not (has_attribute x.0 (with_attribute h a))) xs ≡ (not (has_name a.0 (attribute_names xs)) && list_all (λ x. not (has_attribute x.0 h)) xs)
 lacks_with h a [] = refl
 lacks_with h a (x ∷ xs) =

@@ -1,3 +1,4 @@
+pub mod KeepsExtension
 pub mod KeepsGathered
 pub mod KeepsOperators
 pub mod KeepsPostfix
