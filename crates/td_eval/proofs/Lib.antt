@@ -3,3 +3,8 @@ pub mod KeepsGathered
 pub mod KeepsOperators
 pub mod KeepsPostfix
 pub mod KeepsRelations
+pub mod TypedOperators
+pub mod TypedOutcomes
+pub mod TypedRows
+pub mod TypedTrees
+pub mod TypedValues
