@@ -9,6 +9,7 @@ use Rattle.td_check.specs.StaticLaws.{AgreeAt, AgreeOn, DropsChangeNothing, HasM
 use Rattle.td_check.specs.StaticTypes.{named_types, type_of, types_of}
 use Rattle.td_tree.specs.Names.{IsName}
 use Rattle.td_tree.specs.Outcomes.{Outcome, Valued}
+use Rattle.td_tree.specs.Trees.{NamedTrees}
 use Rattle.td_types.specs.TypeLists.{DeclaredType, IsKnown, declared_at}
 use Rattle.td_types.specs.Types.{Attribute, Attrs, IsType, Type', attr, boolean, char, integer, no_attrs, pack, relation, same_name, tuple, user}
 use Rattle.td_types.proofs.HeadingLaws.{same_name-itself}
@@ -106,6 +107,12 @@ pub more_changes_nothing : MoreChangesNothing
 more_changes_nothing first second e t h is =
     let c = (carried any e first second (agree_more first second h) (λ n _. refl) (λ n _. relvars_more first second h n)).carried t is in
     (c.0, c.2)
+
+-- so has a list of names with expressions
+pub more_changes_no_parts : (first second : Scope) (parts : NamedTrees) (xs : List Attribute) → HasMore first second → named_types first parts ≡ Valued xs
+    → named_types second parts ≡ Valued xs
+more_changes_no_parts first second parts xs h is =
+    ((named_carried any parts first second (agree_more first second h) (λ n _. refl) (λ n _. relvars_more first second h n)).carried xs is).0
 
 -- ---- what is dropped
 

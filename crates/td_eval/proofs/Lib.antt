@@ -10,3 +10,8 @@ pub mod OpElements
 pub mod OpTuples
 pub mod OpValues
 pub mod Selectors
+pub mod TypedOperators
+pub mod TypedOutcomes
+pub mod TypedRows
+pub mod TypedTrees
+pub mod TypedValues

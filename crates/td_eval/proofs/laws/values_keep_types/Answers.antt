@@ -1,0 +1,5 @@
+use Rattle.td_eval.proofs.TypedTrees.{values_keep_types}
+use Rattle.td_eval.proofs.laws.values_keep_types.Goals as goal
+
+pub returns : goal.returns
+returns c = values_keep_types
