@@ -1,4 +1,5 @@
 pub mod OpComparisons
 pub mod OpElements
+pub mod OpHeadings
 pub mod OpTuples
 pub mod OpValues

@@ -1,0 +1,5 @@
+use Rattle.std.proofs.Common.{rules}
+use Rattle.td_eval.proofs.operators.postfix.projected_on.Goals as goal
+
+pub returns : goal.returns
+returns c = ?
