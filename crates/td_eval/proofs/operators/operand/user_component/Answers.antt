@@ -13,7 +13,7 @@ use Rattle.td_eval.proofs.operators.operand.user_component.Goals as goal
 pub returns : goal.returns
 returns c =
     let declared : declared_at c.args.user.now.name c.args.types.now ≡ Some c.in-Some.entry.now =
-        ap (λ n. declared_at n c.args.types.now) (sym c.name.ensures) ∙ sym c.get.ensures ∙ ap (option_map (λ e. e.now)) c.in-Some.is in
+    ap (λ n. declared_at n c.args.types.now) (sym c.name.ensures) ∙ sym c.get.ensures ∙ ap (option_map (λ e. e.now)) c.in-Some.is in
     component_found c.args.types.now (rc_str_bytes c.args.name.now) c.args.user.now c.in-Some.entry.now _ declared
     (subst (λ o. Answers (λ (v : Val). v) c.known.result (known_or causes.NameUnknown o))
     (c.component_named-found.ensures
