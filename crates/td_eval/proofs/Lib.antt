@@ -7,6 +7,7 @@ pub mod Measures
 pub mod NewAttributes
 pub mod OpComparisons
 pub mod OpElements
+pub mod OpHeadings
 pub mod OpTuples
 pub mod OpValues
 pub mod Selectors

@@ -12,6 +12,7 @@ use Rattle.td_eval.specs.OperatorValues.{component_value, components_of, element
 use Rattle.td_tree.proofs.Gatherings.{answers_gathered}
 use Rattle.td_tree.specs.declared.cause.Cause.{Cause}
 use Rattle.td_tree.specs.declared.fault.Fault.{Fault}
+use Rattle.td_tree.specs.declared.fault.Fault.TheVariants as faults
 use Rattle.td_tree.specs.Gatherings.{IsGathered, IsRest, answer_of, cause_of, lesser_cause}
 use Rattle.td_tree.specs.Outcomes.{Answers, Outcome, Valued, gathered}
 use Rattle.td_tree.specs.declared.cause.Cause.TheVariants as causes
@@ -52,6 +53,14 @@ pub element_refused : {X Y : Type 0} (E : Type 0) (f : X → Outcome Y) (xs : Li
 element_refused E f xs i x inside is least ys r new so_far answers cause rest given e =
     step_taken (λ zs. IsGathered new (map (λ y. y) ys) (map f zs)) xs i x inside is
     (refusal_gathered E (λ y. y) f (take i xs) x least ys r new so_far answers cause rest given e)
+
+-- what holds of an answer's value holds of the value that is left of it
+pub rest_holds : {Y E : Type 0} (P : Y → Type 0) (r : Result Y Fault) (rest : Result (Option Y) E) (y : Y) → rest ≡ Ok (Some y) → IsRest r rest → IfOk r P → P y
+rest_holds P (Ok x) rest y given e p =
+    let same : x ≡ y = cc in
+    subst P same p
+rest_holds P (Err (faults.Refused cause)) rest y given e p = absurd (cc)
+rest_holds P (Err faults.Memory) rest y given e p = absurd (subst (IsRest (Err faults.Memory)) given e)
 
 -- what is answered at the end
 pub elements_answered : {Y : Type 0} (least : Option Cause) (ys : Vec Y) (os : List (Outcome Y)) → IsGathered least (map (λ y. y) ys.items) os

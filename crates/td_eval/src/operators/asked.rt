@@ -48,7 +48,8 @@ pub(crate) fn tuple_in(v: &Value) -> Result<&Tuple, Fault>
 
 /// The value that must be found, else that cause.
 pub(crate) fn known(found: Option<&Value>, cause: Cause) -> Result<Value, Fault>
-    ensures { Answers (λ v. v) result (known_or {A = Val} cause (option_map (λ v. v.now) found.entry)) }
+    ensures { Answers (λ v. v) result
+        (known_or {A = Val} cause (option_map (λ v. v.now) found.entry)) }
 {
     match found {
         Some(value) => Ok(value.try_clone()?),

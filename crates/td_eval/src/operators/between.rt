@@ -4,8 +4,9 @@ ghost use Rattle.td_tree.specs.Outcomes.{Answers, Outcome, with_both};
 ghost use Rattle.td_value.specs.Values.{Val};
 
 use crate::operators::arithmetic::{difference, product, quotient, sum};
-use crate::operators::relational::{composed, intersected, joined, matched, multiplied};
-use crate::operators::relational::{subtracted, united, unmatched};
+use crate::operators::relational::{
+    composed, intersected, joined, matched, multiplied, subtracted, united, unmatched,
+};
 use crate::operators::simple::{concatenation, conjunction, disjunction};
 use std::alloc::Global;
 use td_check::both::both;

@@ -1,5 +1,21 @@
-use Rattle.std.proofs.Common.{rules}
+use Rattle.std.proofs.Common.{◌≡◌, ◌∙◌, Some, ap, option_map, subst, sym}
+use Rattle.std.specs.List.{zip}
+use Rattle.std.specs.Rc.{rc_str_bytes}
+use Rattle.td_check.specs.OperatorTypes.{known_or}
+use Rattle.td_eval.proofs.OpElements.{component_found}
+use Rattle.td_tree.specs.declared.cause.Cause.TheVariants as causes
+use Rattle.td_tree.specs.Outcomes.{Answers}
+use Rattle.td_types.specs.TypeLists.{declared_at}
+use Rattle.td_types.specs.Types.{attribute_names}
+use Rattle.td_value.specs.Values.{Val, value_at}
 use Rattle.td_eval.proofs.operators.operand.user_component.Goals as goal
 
 pub returns : goal.returns
-returns c = ?
+returns c =
+    let declared : declared_at c.args.user.now.name c.args.types.now ≡ Some c.in-Some.entry.now =
+    ap (λ n. declared_at n c.args.types.now) (sym c.name.ensures) ∙ sym c.get.ensures ∙ ap (option_map (λ e. e.now)) c.in-Some.is in
+    component_found c.args.types.now (rc_str_bytes c.args.name.now) c.args.user.now c.in-Some.entry.now _ declared
+    (subst (λ o. Answers (λ (v : Val). v) c.known.result (known_or causes.NameUnknown o))
+    (c.component_named-found.ensures
+    ∙ (λ i. value_at (rc_str_bytes c.args.name.now) (zip (attribute_names (c.components.ensures i)) (c.components-2.ensures.components i))))
+    c.known.ensures)
