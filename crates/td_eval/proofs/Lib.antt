@@ -3,6 +3,7 @@ pub mod KeepsGathered
 pub mod KeepsOperators
 pub mod KeepsPostfix
 pub mod KeepsRelations
+pub mod TypedDatabases
 pub mod TypedOperators
 pub mod TypedOutcomes
 pub mod TypedRows
