@@ -1,16 +1,16 @@
 -- The world of a legal database: each relvar has a value of its type, and each selector keeps its type.
-use Rattle.std.proofs.Common.{◌≡◌, ◌∙◌, ◌++◌, ℕ, Bool, true, false, Contains, List, [], ◌∷◌, Option, Some, None, append-nil, append_assoc, ap, arith, fold, map, not, option_map, refl, subst, sym, true≢false}
+use Rattle.std.proofs.Common.{◌≡◌, ◌∙◌, ◌++◌, ℕ, Bool, true, false, List, [], ◌∷◌, Option, Some, None, append-nil, append_assoc, ap, arith, fold, map, not, refl, subst, sym}
 use Rattle.std.specs.Cmp.Lexicographic.{same_text}
 use Rattle.std.specs.List.{AllByRecursion, zip}
-use Rattle.std.specs.Prelude.{IsTrue, ⊤, if◌then◌else◌, is_some}
+use Rattle.std.specs.Prelude.{IsTrue, ⊤, is_some}
 use Rattle.td_algebra.proofs.Lists.{contains_none}
 use Rattle.td_algebra.proofs.Entries.{names-heading}
-use Rattle.td_catalog.specs.Database.{BaseRelvar, Database, base_among, base_named, database_scope, known_base}
-use Rattle.td_catalog.specs.Legality.{EachAfter, IsBase, IsConstrained, IsLegal}
+use Rattle.td_catalog.specs.Database.{BaseRelvar, base_among, known_base}
+use Rattle.td_catalog.specs.Legality.{EachAfter, IsBase, IsConstrained}
 use Rattle.td_check.specs.OperatorTypes.{are_types_of, if_type, same_type}
-use Rattle.td_check.specs.Scopes.{KnownRelvar, Scope, alone_with, relvar_in, scope_of}
+use Rattle.td_check.specs.Scopes.{KnownRelvar, alone_with, relvar_in, scope_of}
 use Rattle.td_check.specs.StatementTypes.{constraint_fits}
-use Rattle.td_check.specs.StaticLaws.{IsKnownHeading, IsScope}
+use Rattle.td_check.specs.StaticLaws.{IsKnownHeading}
 use Rattle.td_check.specs.StaticTypes.{type_of}
 use Rattle.td_check.proofs.ScopeLaws.{scopes_are_kept}
 use Rattle.td_tree.specs.declared.cause.Cause.TheVariants as causes
@@ -32,10 +32,10 @@ use Rattle.td_value.specs.Values as values
 use Rattle.td_value.specs.Views.{user_view}
 use Rattle.td_value.proofs.KnownValues.{has_its_type, kept}
 use Rattle.td_eval.specs.Covered.{TypesAreCovered, constraint_covered}
-use Rattle.td_eval.specs.DatabaseWorlds.{Selectors, constraint_value, selector_value, selectors_of, types_alone, with_selector, world_of}
+use Rattle.td_eval.specs.DatabaseWorlds.{Selectors, constraint_value, selector_value, selectors_of, types_alone, with_selector}
 use Rattle.td_eval.specs.OperatorValues.{relation_as_value, truth_value}
 use Rattle.td_eval.specs.TreeValues.{value_of}
-use Rattle.td_eval.specs.ValueTypes.{AreComponentsOf, ConstraintsAreWritten, IsOfType, IsTypedTuple, IsWritten, KeepsScope, KeepsType, LegalDatabasesKeepScopes, with_tuples}
+use Rattle.td_eval.specs.ValueTypes.{AreComponentsOf, ConstraintsAreWritten, IsOfType, IsWritten, KeepsScope, KeepsType, LegalDatabasesKeepScopes}
 use Rattle.td_eval.specs.Worlds.{World}
 use Rattle.td_eval.proofs.KeepsGathered.{Keeps, all_from_members, one_dynamic}
 use Rattle.td_eval.proofs.TypedRows.{IsTypedEntry, made_typed, own_type}
