@@ -11,6 +11,7 @@ pub mod OpHeadings
 pub mod OpTuples
 pub mod OpValues
 pub mod Selectors
+pub mod TypedDatabases
 pub mod TypedOperators
 pub mod TypedOutcomes
 pub mod TypedRows

@@ -1,12 +1,11 @@
 -- What the operators give of operands of their types: a value of the static type, or dynamic causes.
-use Rattle.std.proofs.Common.{◌≡◌, ◌∙◌, ◌+ℤ◌, ◌-ℤ◌, ◌*ℤ◌, ℕ, ℤ, pos, negsuc, neg_ℤ, int_div, nat_eq, Bool, true, false, not, ◌&&◌, ◌||◌, List, [], ◌∷◌, ◌++◌, Option, Some, length, ap, arith, refl, subst, sym}
-use Rattle.std.specs.Cmp.Lexicographic.{slice_cmp}
+use Rattle.std.proofs.Common.{◌≡◌, ◌∙◌, ◌+ℤ◌, ◌-ℤ◌, ◌*ℤ◌, ℕ, ℤ, pos, neg_ℤ, int_div, nat_eq, Bool, true, false, not, ◌&&◌, ◌||◌, List, [], ◌∷◌, ◌++◌, Some, length, ap, arith, refl, subst, sym}
 use Rattle.std.specs.List.{zip}
 use Rattle.std.specs.List.Sorted.{IsStrictlySortedBy}
-use Rattle.std.specs.Ordering.{eq_by_cmp, int_cmp, is_le, nat_cmp}
-use Rattle.std.specs.Prelude.{IsTrue, IsUtf8, ⊤, if◌then◌else◌}
+use Rattle.std.specs.Ordering.{eq_by_cmp}
+use Rattle.std.specs.Prelude.{IsTrue, if◌then◌else◌}
 use Rattle.std.proofs.lemmas.Str.{IsUtf8-append}
-use Rattle.td_check.specs.OperatorTypes.{attribute_type, both_of, choice_type, comparison_type, component_type, equality_type, extracted_type, if_type, known_or, measure_type, membership_type, operator_type, order_type, over_relation, over_tuple, prefix_type, same_heading, same_type}
+use Rattle.td_check.specs.OperatorTypes.{attribute_type, both_of, choice_type, comparison_type, component_type, equality_type, extracted_type, if_type, known_or, measure_type, membership_type, operator_type, order_type, prefix_type, same_heading, same_type}
 use Rattle.td_check.specs.StaticTypes.{literal_type, paired}
 use Rattle.td_tree.specs.declared.cause.Cause.{Cause}
 use Rattle.td_tree.specs.declared.cause.Cause.TheVariants as causes
@@ -14,28 +13,26 @@ use Rattle.td_tree.specs.declared.operator.Comparison.{Comparison}
 use Rattle.td_tree.specs.declared.operator.Comparison.TheVariants as comparisons
 use Rattle.td_tree.specs.declared.operator.Measure.{Measure}
 use Rattle.td_tree.specs.declared.operator.Measure.TheVariants as measures
-use Rattle.td_tree.specs.declared.operator.Operator.{Operator}
 use Rattle.td_tree.specs.declared.operator.Operator.TheVariants as operators
 use Rattle.td_tree.specs.declared.operator.Prefix.{Prefix}
 use Rattle.td_tree.specs.declared.operator.Prefix.TheVariants as prefixes
 use Rattle.td_tree.specs.Outcomes.{Outcome, Valued, Refused, Only, value_if, with_both, with_value}
 use Rattle.td_tree.specs.Trees.{Literal, number, text, truth, table_dee, table_dum}
-use Rattle.td_types.specs.TypeLists.{DeclaredType, declared_at}
+use Rattle.td_types.specs.TypeLists.{DeclaredType}
 use Rattle.td_types.specs.Types.{Type', Attribute, Attrs, Heading, attribute_names, pack, same_name, type_at, unpack}
 use Rattle.td_types.specs.Types as types
 use Rattle.td_types.proofs.KnownTypes.{declared_more}
 use Rattle.td_types.proofs.Meanings.{pack_unpack}
-use Rattle.td_value.specs.KnownValues.{AreOfTypes, HasHeading, HasType}
-use Rattle.td_value.specs.ValueCode.{unpack_pack_fields}
-use Rattle.td_value.specs.Values.{Val, boolean, integer, char, user, tuple, relation, Parts, no_parts, part, Fields, Rows, no_rows, row, AreValues, IsValue, IsTuple, Relation, Tuple, fields_type, heading_of, pack_fields, type_of, unpack_fields, unpack_rows, value_at, value_cmp}
+use Rattle.td_value.specs.KnownValues.{AreOfTypes}
+use Rattle.td_value.specs.Values.{Val, char, tuple, relation, Parts, no_parts, part, Rows, no_rows, row, AreValues, IsValue, heading_of, unpack_fields, unpack_rows, value_at, value_cmp}
 use Rattle.td_value.proofs.KnownValues.{has_its_type}
 use Rattle.td_eval.specs.Covered.{prefix_covered}
-use Rattle.td_eval.specs.OperatorValues.{at_most, comparison_value, component_value, components_of, equality_value, extracted_value, is_zero, less_or_equal, less_than, literal_value, measure_value, membership_value, of_number, of_truth, on_number, on_numbers, on_relation, on_text, on_texts, on_truth, on_truths, on_tuple, only_tuple, operator_value, prefix_value, quotient, signed, tuple_as_value}
+use Rattle.td_eval.specs.OperatorValues.{at_most, comparison_value, component_value, components_of, equality_value, extracted_value, is_zero, literal_value, measure_value, membership_value, of_number, of_truth, on_number, on_numbers, on_text, on_truth, on_truths, only_tuple, operator_value, prefix_value, quotient, signed}
 use Rattle.td_eval.specs.TreeTexts.{IsText}
 use Rattle.td_eval.specs.ValueTypes.{IsOfType, KeepsType}
-use Rattle.td_eval.proofs.KeepsGathered.{Keeps, one_dynamic}
+use Rattle.td_eval.proofs.KeepsGathered.{one_dynamic}
 use Rattle.td_eval.proofs.TypedOutcomes.{KeepsAs, test_keeps}
-use Rattle.td_eval.proofs.TypedValues.{BothFound, fields_heading, fields_of, found_in_fields, heading_is, in_range_keeps, integer_of, known_keeps, number_keeps, pack_unpack_fields, relation_keeps, rows_of, same_is, text_keeps, text_of, truth_keeps, truth_of, tuple_keeps, type_is, user_of}
+use Rattle.td_eval.proofs.TypedValues.{BothFound, fields_heading, fields_of, found_in_fields, in_range_keeps, integer_of, known_keeps, number_keeps, pack_unpack_fields, relation_keeps, rows_of, same_is, text_keeps, text_of, truth_keeps, tuple_keeps, type_is, user_of}
 
 module _ (ds : List DeclaredType) where
   -- ---- literals

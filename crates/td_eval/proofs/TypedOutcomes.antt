@@ -1,5 +1,5 @@
 -- Two outcomes, of which the second has what fits the first's value, or dynamic causes: what follows from them is such too.
-use Rattle.std.proofs.Common.{◌≡◌, ◌≤◌, Bool, true, false, List, refl}
+use Rattle.std.proofs.Common.{◌≡◌, Bool, true, false, List, refl}
 use Rattle.std.specs.Prelude.{⊤}
 use Rattle.td_tree.specs.declared.cause.Cause.{Cause}
 use Rattle.td_tree.specs.Outcomes.{Causes, Union, Outcome, Valued, Refused, value_if, with_value, with_both}

@@ -1,37 +1,33 @@
 -- The tuples and relations that expressions list, and what is applied to the tuples of a relation.
-use Rattle.std.proofs.Common.{◌≡◌, ◌∙◌, ◌⊎◌, inl, inr, ℕ, Bool, true, false, Contains, List, [], ◌∷◌, map, ap, refl, subst, sym}
-use Rattle.std.specs.Prelude.{⊤, if◌then◌else◌}
+use Rattle.std.proofs.Common.{◌≡◌, ◌∙◌, ℕ, Bool, true, false, Contains, List, [], ◌∷◌, map, ap, refl, subst, sym}
+use Rattle.std.specs.Prelude.{⊤}
 use Rattle.std.specs.List.{AllByRecursion}
 use Rattle.std.specs.declared.cmp.Ordering.{Ordering}
 use Rattle.std.specs.declared.cmp.Ordering.TheVariants.{Less, Equal, Greater}
 use Rattle.td_algebra.proofs.Entries.{IsTupleOf-tuple_of, names-heading, type_at-heading_of}
 use Rattle.td_algebra.proofs.Relations.{All-from_members, IsRelation-relation_of, member_headed}
-use Rattle.td_check.specs.OperatorTypes.{element_type, extension_type, headed_type, if_type, listed_type, mismatch, operator_type, over_relation, same_heading, same_type, tuple_type}
+use Rattle.td_check.specs.OperatorTypes.{element_type, extension_type, headed_type, listed_type, operator_type, over_relation, same_heading, same_type, tuple_type}
 use Rattle.td_tree.specs.declared.cause.Cause.TheVariants as causes
 use Rattle.td_tree.specs.declared.operator.Operator.TheVariants as operators
 use Rattle.td_tree.specs.Names.{IsName}
-use Rattle.td_tree.specs.Outcomes.{Outcome, Valued, Refused, Only, gathered, value_if, with_both, with_value}
+use Rattle.td_tree.specs.Outcomes.{Outcome, Valued, Refused, gathered, value_if, with_both, with_value}
 use Rattle.td_types.specs.Headings.{are_distinct, heading_from, made_heading}
 use Rattle.td_types.specs.TypeLists.{AreKnown, DeclaredType, IsKnown}
 use Rattle.td_types.specs.Types.{Type', Attribute, Attrs, Heading, IsHeading, IsType, attribute_names, pack, type_at, unpack}
 use Rattle.td_types.specs.Types as types
-use Rattle.td_types.specs.TypeCode.{unpack_pack}
 use Rattle.td_types.proofs.Made.{type_at-heading_from}
 use Rattle.td_types.proofs.Meanings.{known_heading, pack_unpack}
-use Rattle.td_value.specs.KnownValues.{HasHeading, HasType, HaveHeading}
+use Rattle.td_value.specs.KnownValues.{HasHeading, HasType}
 use Rattle.td_value.specs.Sets.{placed, put_in, set_of}
-use Rattle.td_value.specs.ValueCode.{unpack_pack_fields, unpack_pack_rows}
-use Rattle.td_value.specs.Values.{Val, tuple, relation, AreFields, Fields, IsRelation, IsTuple, IsTupleOf, IsValue, Relation, Rows, Tuple, entry_cmp, heading_of, made_tuple, pack_fields, pack_rows, relation_of, tuple_cmp, tuple_names, tuple_of, type_of, unpack_fields, unpack_rows, value_at}
+use Rattle.td_value.specs.Values.{Val, tuple, relation, AreFields, Fields, IsTuple, IsTupleOf, IsValue, Relation, Rows, Tuple, entry_cmp, heading_of, pack_fields, relation_of, tuple_cmp, tuple_names, tuple_of, type_of, unpack_fields, unpack_rows}
 use Rattle.td_value.specs.Views.{relation_view}
 use Rattle.td_value.proofs.KnownValues.{by_values, has_its_type, has_known_type}
-use Rattle.td_value.proofs.Agreement.{names_ascend}
-use Rattle.td_value.proofs.Maps.{value_at-tuple_of}
 use Rattle.td_value.proofs.Typed.{typed}
-use Rattle.td_eval.specs.OperatorValues.{element_of, extended_value, headed_value, listed_value, of_relation, on_relation, on_tuple, relation_as_value, restricted_value, tuple_as_value, tuple_from}
+use Rattle.td_eval.specs.OperatorValues.{element_of, extended_value, headed_value, listed_value, of_relation, on_relation, relation_as_value, restricted_value, tuple_from}
 use Rattle.td_eval.specs.ValueTypes.{IsOfType, IsTypedTuple, KeepsType}
-use Rattle.td_eval.proofs.KeepsGathered.{Keeps, has_type_members, has_type_rows, member_from_all, one_dynamic}
+use Rattle.td_eval.proofs.KeepsGathered.{has_type_members, member_from_all}
 use Rattle.td_eval.proofs.KeepsExtension.{PartsKeep, extended_keeps, restricted_keeps}
-use Rattle.td_eval.proofs.TypedOutcomes.{KeepsAs, Of, as_typed, keeps_both, made_keeps, test_keeps, typed_as}
+use Rattle.td_eval.proofs.TypedOutcomes.{KeepsAs, keeps_both, made_keeps, test_keeps}
 use Rattle.td_eval.proofs.TypedValues.{fields_heading, fields_of, heading_is, pack_unpack_fields, pack_unpack_rows, relation_keeps, rows_of, same_is, type_is}
 
 -- ---- what holds of each item holds of the set of them

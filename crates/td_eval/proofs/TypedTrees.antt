@@ -1,7 +1,7 @@
 -- The value of an expression that has a type is of that type, or its causes are dynamic.
-use Rattle.std.proofs.Common.{◌≡◌, ◌∙◌, ◌++◌, ℕ, Bool, true, false, Contains, List, [], ◌∷◌, Option, Some, None, map, ap, refl, subst, sym, true≢false, append-nil}
+use Rattle.std.proofs.Common.{◌≡◌, ◌∙◌, ◌++◌, ℕ, true, Contains, List, [], ◌∷◌, Option, Some, None, map, ap, refl, subst, sym, true≢false, append-nil}
 use Rattle.std.specs.List.{AllByRecursion}
-use Rattle.std.specs.Prelude.{◌&&◌, IsTrue, ⊤, if◌then◌else◌}
+use Rattle.std.specs.Prelude.{◌&&◌, IsTrue, ⊤}
 use Rattle.td_algebra.proofs.Members.{first_true, second_true}
 use Rattle.td_check.specs.OperatorTypes.{are_types_of, comparison_type, component_type, extension_type, extracted_type, headed_type, known_or, listed_type, measure_type, operator_type, over_relation, postfix_type, prefix_type, same_type, selector_type, tuple_type}
 use Rattle.td_check.specs.Scopes.{KnownRelvar, Scope, entered_with, innermost, known_relvar}
@@ -12,12 +12,11 @@ use Rattle.td_check.proofs.StaticLaws.{more_changes_no_parts, types_are_known}
 use Rattle.td_tree.specs.declared.cause.Cause.TheVariants as causes
 use Rattle.td_tree.specs.declared.operator.Operator.{Operator}
 use Rattle.td_tree.specs.declared.operator.Operator.TheVariants as operators
-use Rattle.td_tree.specs.Names.{IsName}
 use Rattle.td_tree.specs.Outcomes.{Outcome, Valued, Refused, value_if, with_both, with_value}
 use Rattle.td_tree.specs.Trees.{AttributeTrees, Tree, literal, name, parentheses, prefix, extract, binary, compare, postfix, select, component, measure, aggregate, relation, headed_relation, tuple, extend, summarize_per, summarize_by, choice, Trees, none, more, NamedTrees, none_named, more_named}
 use Rattle.td_types.specs.Headings.{made_heading}
 use Rattle.td_types.specs.TypeListLaws.{HaveNames}
-use Rattle.td_types.specs.TypeLists.{AreKnown, DeclaredType, IsKnown, attributes_meant, declared_at, heading_meant}
+use Rattle.td_types.specs.TypeLists.{AreKnown, DeclaredType, attributes_meant, declared_at, heading_meant}
 use Rattle.td_types.specs.Types.{Type', Attribute, Heading, IsHeading, IsType, pack, type_at}
 use Rattle.td_types.specs.Types as types
 use Rattle.td_types.proofs.Meanings.{attributes_later}
@@ -29,10 +28,10 @@ use Rattle.td_value.proofs.HeadingOf.{fields_type-heading}
 use Rattle.td_value.proofs.KnownValues.{has_its_type, has_known_type}
 use Rattle.td_value.proofs.Typed.{typed}
 use Rattle.td_eval.specs.Covered.{are_covered, is_covered, parts_covered, postfix_covered, prefix_covered}
-use Rattle.td_eval.specs.OperatorValues.{comparison_value, component_value, extended_value, extracted_value, headed_value, listed_value, measure_value, on_relation, on_truth, operator_value, postfix_value, prefix_value, relation_as_value, restricted_value, tuple_from}
+use Rattle.td_eval.specs.OperatorValues.{comparison_value, component_value, extended_value, extracted_value, headed_value, listed_value, measure_value, on_relation, operator_value, postfix_value, prefix_value, relation_as_value, restricted_value, tuple_from}
 use Rattle.td_eval.specs.TreeTexts.{HasTexts, HaveTexts, PartsHaveTexts}
 use Rattle.td_eval.specs.TreeValues.{argument_values, entry_values, value_of, values_in_tuples}
-use Rattle.td_eval.specs.ValueTypes.{AreComponentsOf, IsOfType, IsTypedTuple, IsWritten, KeepsScope, KeepsType, ValuesKeepTypes, with_tuples}
+use Rattle.td_eval.specs.ValueTypes.{IsOfType, IsTypedTuple, KeepsScope, KeepsType, ValuesKeepTypes, with_tuples}
 use Rattle.td_eval.specs.Worlds.{World, innermost_value, known_outcome, name_value, scope_among, selected}
 use Rattle.td_eval.proofs.KeepsGathered.{member_from_all}
 use Rattle.td_eval.proofs.KeepsExtension.{PartsKeep}
@@ -40,7 +39,7 @@ use Rattle.td_eval.proofs.KeepsOperators.{compose_keeps, intersect_keeps, join_k
 use Rattle.td_eval.proofs.KeepsPostfix.{postfix_keeps}
 use Rattle.td_eval.proofs.TypedOperators.{add_keeps, and_keeps, choice_keeps, comparison_keeps, component_keeps, concatenate_keeps, divide_keeps, extracted_keeps, literal_keeps, measure_keeps, multiply_keeps, or_keeps, prefix_keeps, subtract_keeps}
 use Rattle.td_eval.proofs.TypedOutcomes.{KeepsAs, Of, as_typed, both_keep, keeps_both, made_keeps, test_keeps, typed_as, value_keeps}
-use Rattle.td_eval.proofs.TypedRows.{AreEntriesOf, AreOf, IsTypedEntry, extend_keeps, headed_keeps, listed_keeps, own_type, rows_typed, tuple_from_keeps, where_keeps}
+use Rattle.td_eval.proofs.TypedRows.{AreEntriesOf, AreOf, extend_keeps, headed_keeps, listed_keeps, own_type, rows_typed, tuple_from_keeps, where_keeps}
 use Rattle.td_eval.proofs.TypedValues.{BothFound, found_in_tuple, type_is}
 
 -- ---- operators that value both operands

@@ -1,9 +1,9 @@
 -- What a value of a type is, and what follows of it.
-use Rattle.std.proofs.Common.{◌≡◌, ◌∙◌, ℕ, ℤ, pos, Bool, true, false, List, [], ◌∷◌, Option, Some, None, ap, ap₂, arith, refl, subst, sym, negsuc}
+use Rattle.std.proofs.Common.{◌≡◌, ℕ, ℤ, pos, Bool, true, false, List, ◌∷◌, Option, Some, None, ap, ap₂, arith, refl, subst, sym, negsuc}
 use Rattle.std.specs.Prelude.{IsUtf8, ⊤, if◌then◌else◌}
 use Rattle.std.proofs.lemmas.Bool.Decides.{nat_tests}
 use Rattle.std.proofs.lemmas.Int.{ints}
-use Rattle.td_check.specs.OperatorTypes.{known_or, over_relation, over_tuple, same_heading, same_type}
+use Rattle.td_check.specs.OperatorTypes.{known_or, same_heading, same_type}
 use Rattle.td_tree.specs.declared.cause.Cause.{Cause}
 use Rattle.td_tree.specs.declared.cause.Cause.TheVariants as causes
 use Rattle.td_tree.specs.Outcomes.{Only, Outcome, Valued, Refused}
@@ -12,14 +12,13 @@ use Rattle.td_types.specs.TypeOrder.{heading_eq-Decides, type_eq-Decides}
 use Rattle.td_types.specs.Types.{Type', Attrs, Attribute, Heading, attr, no_attrs, pack, same_name, type_at, unpack}
 use Rattle.td_types.specs.Types as types
 use Rattle.td_types.specs.TypeCode.{unpack_pack}
-use Rattle.td_types.proofs.Meanings.{pack_unpack}
 use Rattle.td_value.specs.KnownValues.{AreOfTypes, HasHeading, HasType, HaveHeading}
-use Rattle.td_value.specs.ValueCode.{unpack_pack_fields, unpack_pack_rows}
-use Rattle.td_value.specs.Values.{Val, boolean, integer, char, user, tuple, relation, Parts, Fields, no_fields, field, Rows, no_rows, row, AreFields, IsInRange, IsTuple, IsValue, Relation, Tuple, heading_of, pack_fields, pack_rows, unpack_fields, unpack_rows, value_at}
+use Rattle.td_value.specs.ValueCode.{unpack_pack_fields}
+use Rattle.td_value.specs.Values.{Val, boolean, integer, char, user, tuple, relation, Parts, Fields, no_fields, field, Rows, no_rows, row, AreFields, IsInRange, IsValue, Relation, Tuple, heading_of, pack_fields, pack_rows, unpack_fields, unpack_rows, value_at}
 use Rattle.td_value.specs.Views.{relation_view}
 use Rattle.td_value.proofs.KnownValues.{has_its_type}
-use Rattle.td_eval.specs.OperatorValues.{is_in_range, of_number, of_truth, on_number, on_relation, on_text, on_truth, on_tuple, relation_as_value}
-use Rattle.td_eval.specs.ValueTypes.{AreDynamic, IsOfType, IsTypedTuple, KeepsType}
+use Rattle.td_eval.specs.OperatorValues.{is_in_range, of_number, on_number, on_relation, on_text, on_truth, on_tuple}
+use Rattle.td_eval.specs.ValueTypes.{IsOfType, IsTypedTuple, KeepsType}
 use Rattle.td_eval.proofs.KeepsGathered.{one_dynamic}
 
 -- ---- what a test on types and headings says

@@ -1,0 +1,293 @@
+-- The world of a legal database: each relvar has a value of its type, and each selector keeps its type.
+use Rattle.std.proofs.Common.{◌≡◌, ◌∙◌, ◌++◌, ℕ, Bool, true, false, List, [], ◌∷◌, Option, Some, None, append-nil, append_assoc, ap, arith, fold, map, not, refl, subst, sym}
+use Rattle.std.specs.Cmp.Lexicographic.{same_text}
+use Rattle.std.specs.List.{AllByRecursion, zip}
+use Rattle.std.specs.Prelude.{IsTrue, ⊤, is_some}
+use Rattle.td_algebra.proofs.Lists.{contains_none}
+use Rattle.td_algebra.proofs.Entries.{names-heading}
+use Rattle.td_catalog.specs.Database.{BaseRelvar, base_among, known_base}
+use Rattle.td_catalog.specs.Legality.{EachAfter, IsBase, IsConstrained}
+use Rattle.td_check.specs.OperatorTypes.{are_types_of, if_type, same_type}
+use Rattle.td_check.specs.Scopes.{KnownRelvar, alone_with, relvar_in, scope_of}
+use Rattle.td_check.specs.StatementTypes.{constraint_fits}
+use Rattle.td_check.specs.StaticLaws.{IsKnownHeading}
+use Rattle.td_check.specs.StaticTypes.{type_of}
+use Rattle.td_check.proofs.ScopeLaws.{scopes_are_kept}
+use Rattle.td_tree.specs.declared.cause.Cause.TheVariants as causes
+use Rattle.td_tree.specs.Names.{IsName}
+use Rattle.td_tree.specs.Outcomes.{Outcome, Valued, Refused, value_if, with_value}
+use Rattle.td_tree.specs.Trees.{Tree}
+use Rattle.td_types.specs.Headings.{are_distinct, heading_from}
+use Rattle.td_types.specs.TypeLists.{AreDeclared, AreKnown, DeclaredType, IsDeclarable, IsKnown, declared_at, is_declared}
+use Rattle.td_types.specs.TypeOrder.{type_eq-Decides}
+use Rattle.td_types.specs.Types.{Attribute, Attrs, Heading, Type', attr, attribute_names, no_attrs, pack, same_name}
+use Rattle.td_types.specs.Types as types
+use Rattle.td_types.proofs.DeclaredTypes.{AreDeclared-front, IsKnown-earlier, declarable_at, declared_at-itself, declared_at-later, found, stands_in}
+use Rattle.td_types.proofs.KnownTypes.{declared_more}
+use Rattle.td_types.proofs.OutcomeLaws.{value_of_test, value_of_with}
+use Rattle.td_types.proofs.Ranks.{known_components}
+use Rattle.td_value.specs.KnownValues.{AreOfTypes, HasHeading, HasType, HaveHeading}
+use Rattle.td_value.specs.Values.{Val, boolean, integer, char, user, tuple, relation, AreValues, Fields, no_fields, field, Parts, no_parts, part, Rows, no_rows, row, Tuple, heading_of, made_tuple, pack_parts, selected_value, tuple_names, tuple_of}
+use Rattle.td_value.specs.Values as values
+use Rattle.td_value.specs.Views.{user_view}
+use Rattle.td_value.proofs.KnownValues.{has_its_type, kept}
+use Rattle.td_eval.specs.Covered.{TypesAreCovered, constraint_covered}
+use Rattle.td_eval.specs.DatabaseWorlds.{Selectors, constraint_value, selector_value, selectors_of, types_alone, with_selector}
+use Rattle.td_eval.specs.OperatorValues.{relation_as_value, truth_value}
+use Rattle.td_eval.specs.TreeValues.{value_of}
+use Rattle.td_eval.specs.ValueTypes.{AreComponentsOf, ConstraintsAreWritten, IsOfType, IsWritten, KeepsScope, KeepsType, LegalDatabasesKeepScopes}
+use Rattle.td_eval.specs.Worlds.{World}
+use Rattle.td_eval.proofs.KeepsGathered.{Keeps, all_from_members, one_dynamic}
+use Rattle.td_eval.proofs.TypedRows.{IsTypedEntry, made_typed, own_type}
+use Rattle.td_eval.proofs.TypedTrees.{values_keep_types}
+use Rattle.td_eval.proofs.TypedValues.{truth_of, type_is}
+
+-- ---- a value of a type that is known to the first types is one where they alone are declared
+
+module _ (ds more : List DeclaredType) (a : AreDeclared ds) where
+  pub components_known : (n : List ℕ) (d : DeclaredType) → declared_at n ds ≡ Some d → AreKnown ds (pack d.components)
+  components_known n d e =
+      let at = stands_in n ds d e in
+      let declared = declarable_at n ds d a at in
+      known_components ds d.components
+      (λ c there. subst (λ xs. IsKnown xs c.1) (sym at.2) (IsKnown-earlier at.0 (d ∷ at.1) c.1 (declared.known c there)))
+
+  pub some_same : (c d : DeclaredType) → Some c ≡ Some d → c ≡ d
+  some_same c d e = cc
+
+  mutual
+    pub shrunk : (v : Val) (t : Type') → HasType (ds ++ more) v t → IsKnown ds t → HasType ds v t
+    shrunk (boolean b) t h k = h
+    shrunk (integer z) t h k = h
+    shrunk (char s) t h k = h
+    shrunk (user n ps) t h k =
+        let d = found n ds (subst (IsKnown ds) h.0 k) in
+        let same : h.1 ≡ d.0 = some_same h.1 d.0 (sym h.2 ∙ declared_more n ds more d.0 d.1) in
+        (h.0, d.0, d.1, parts_shrunk ps d.0.components (components_known n d.0 d.1) (subst (λ (c : DeclaredType). AreOfTypes (ds ++ more) ps c.components) same h.3))
+    shrunk (tuple fs) t h k = (h.0, h.1, fields_shrunk fs h.0 (subst (IsKnown ds) h.1 k) h.2)
+    shrunk (relation g rs) t h k = let known = subst (IsKnown ds) h.0 k in (h.0, known, rows_shrunk rs g known h.2)
+
+    parts_shrunk : (ps : Parts) (cs : List Attribute) → AreKnown ds (pack cs) → AreOfTypes (ds ++ more) ps cs → AreOfTypes ds ps cs
+    parts_shrunk no_parts [] k h = tt
+    parts_shrunk no_parts (c ∷ cs) k h = h
+    parts_shrunk (part v ps) [] k h = h
+    parts_shrunk (part v ps) (c ∷ cs) k h = (shrunk v c.1 h.0 k.0, parts_shrunk ps cs k.1 h.1)
+
+    fields_shrunk : (fs : Fields) (g : Attrs) → AreKnown ds g → HasHeading (ds ++ more) fs g → HasHeading ds fs g
+    fields_shrunk no_fields no_attrs k h = tt
+    fields_shrunk no_fields (attr m t g) k h = h
+    fields_shrunk (field n v fs) no_attrs k h = h
+    fields_shrunk (field n v fs) (attr m t g) k h = (h.0, shrunk v t h.1 k.0, fields_shrunk fs g k.1 h.2)
+
+    rows_shrunk : (rs : Rows) (g : Attrs) → AreKnown ds g → HaveHeading (ds ++ more) rs g → HaveHeading ds rs g
+    rows_shrunk no_rows g k h = tt
+    rows_shrunk (row fs rs) g k h = (fields_shrunk fs g k h.0, rows_shrunk rs g k h.1)
+
+  pub grown : (t : Type') (o : Outcome Val) → KeepsType ds (Valued t) o → KeepsType (ds ++ more) (Valued t) o
+  grown t (Valued v) k = (k.0, kept ds more v t k.1)
+  grown t (Refused cs) k = k
+
+-- ---- selectors
+
+is_false : (b : Bool) → not b ≡ true → b ≡ false
+is_false true e = absurd (cc)
+is_false false e = refl
+
+types_fit : (ds : List DeclaredType) (vs : List Val) (cs : List Attribute) → AreOfTypes ds (pack_parts vs) cs → are_types_of (map values.type_of vs) cs ≡ true
+types_fit ds [] [] h = refl
+types_fit ds [] (c ∷ cs) h = absurd h
+types_fit ds (v ∷ vs) [] h = absurd h
+types_fit ds (v ∷ vs) (c ∷ cs) h =
+    rw ((type_eq-Decides (values.type_of v) c.1).1 (has_its_type ds v c.1 h.0)) (types_fit ds vs cs h.1)
+
+zipped : (ds : List DeclaredType) (cs : List Attribute) (vs : List Val) → AllByRecursion (λ (c : Attribute). IsName c.0) cs → AreValues (pack_parts vs)
+    → AreOfTypes ds (pack_parts vs) cs
+    → (heading_of (zip (attribute_names cs) vs) ≡ cs) × AllByRecursion (IsTypedEntry ds) (zip (attribute_names cs) vs)
+zipped ds [] [] n p h = (refl, tt)
+zipped ds [] (v ∷ vs) n p h = absurd h
+zipped ds (c ∷ cs) [] n p h = absurd h
+zipped ds (c ∷ cs) (v ∷ vs) n p h =
+    let rest = zipped ds cs vs n.1 p.1 h.1 in
+    let first = has_its_type ds v c.1 h.0 in
+    ((λ i. (c.0, first i) ∷ rest.0 i), ((n.0, own_type ds v c.1 (p.0, h.0)), rest.1))
+
+a_truth : (ds : List DeclaredType) (o : Outcome Val) → KeepsType ds (Valued types.boolean) o → Keeps (λ _. ⊤) (truth_value o)
+a_truth ds (Valued v) k = let e = truth_of ds v k.1 in rw e.1 tt
+a_truth ds (Refused cs) k = k
+
+holding : (ds : List DeclaredType) (t : Type') (v : Val) (o : Outcome Bool) → IsOfType ds v t → Keeps (λ _. ⊤) o
+    → KeepsType ds (Valued t) (with_value o (λ holds. value_if holds v causes.TypeConstraint))
+holding ds t v (Valued true) h k = h
+holding ds t v (Valued false) h k = one_dynamic causes.TypeConstraint (omega arith)
+holding ds t v (Refused cs) h k = k
+
+module _ (w : World) (front : List DeclaredType) (d : DeclaredType) (a : AreDeclared front) (k : KeepsScope w (scope_of front)) (new : IsDeclarable front d)
+    (constrained : IsConstrained front d) (covered : IsTrue (constraint_covered d.constraint)) (written : (e : Tree) → d.constraint ≡ Some e → IsWritten e) where
+  constraint_keeps : (vs : List Val) → AreComponentsOf front d vs → Keeps (λ _. ⊤) (constraint_value w d vs)
+  constraint_keeps vs h = by_option d.constraint refl
+    where
+      es : Tuple
+      es = zip (attribute_names d.components) vs
+
+      of_tree : (e : Tree) → d.constraint ≡ Some e → Keeps (λ _. ⊤) (with_value (made_tuple (zip (attribute_names d.components) vs)) (λ t. truth_value (value_of w (t ∷ []) e)))
+      of_tree e is =
+          let entries = zipped front d.components vs (all_from_members (λ (c : Attribute). IsName c.0) d.components new.names) h.0 h.1 in
+          let u = zip (attribute_names d.components) vs in
+          let distinct : are_distinct (tuple_names u) ≡ true = ap are_distinct (sym (names-heading u) ∙ ap attribute_names entries.0) ∙ new.distinct in
+          let made = made_typed front u distinct entries.1 in
+          let head : heading_of (tuple_of u) ≡ heading_from d.components = made.1 ∙ ap heading_from entries.0 in
+          let fits : with_value (type_of (alone_with (heading_from d.components) (scope_of front)) e) (λ t. if_type types.boolean t tt) ≡ Valued tt =
+              subst (λ o. constraint_fits (scope_of front) d.components o ≡ Valued tt) is constrained in
+          let asked = value_of_with (type_of (alone_with (heading_from d.components) (scope_of front)) e) (λ t. if_type types.boolean t tt) tt fits in
+          let boolean_is = type_is asked.0 types.boolean (value_of_test (same_type asked.0 types.boolean) tt tt causes.TypeMismatch asked.2).0 in
+          let value = values_keep_types w (scope_of front) (tuple_of u ∷ []) e k (made.0, tt) (subst (λ o. IsTrue (constraint_covered o)) is covered) (written e is) in
+          rw distinct (a_truth front (value_of w (tuple_of u ∷ []) e)
+          (subst (λ o. KeepsType front o (value_of w (tuple_of u ∷ []) e))
+          (ap (λ g. type_of (alone_with g (scope_of front)) e) head ∙ asked.1 ∙ ap Valued boolean_is) value))
+
+      by_option : (o : Option Tree) → d.constraint ≡ o → Keeps (λ _. ⊤) (constraint_value w d vs)
+      by_option (Some e) is = rw is (of_tree e is)
+      by_option None is = rw is tt
+
+  pub selector_keeps : (vs : List Val) → AreComponentsOf (front ++ (d ∷ [])) d vs → KeepsType (front ++ (d ∷ [])) (Valued (types.user d.name)) (selector_value w d vs)
+  selector_keeps vs h =
+      let known = known_components front d.components new.known in
+      let small = parts_shrunk front (d ∷ []) a (pack_parts vs) d.components known h.1 in
+      let itself = declared_at-itself front d [] (is_false (is_declared d.name front) new.new) in
+      rw (types_fit (front ++ (d ∷ [])) vs d.components h.1)
+      (holding (front ++ (d ∷ [])) (types.user d.name) (selected_value (user_view d.name vs)) (constraint_value w d vs)
+      ((new.named, h.0), (refl, d, itself, h.1)) (constraint_keeps vs (h.0, small)))
+
+-- ---- the types in their order
+
+-- each type that is known has a selector that keeps it, and no other has one
+record AreSelectors (front : List DeclaredType) (selectors : Selectors) : Type 0 where
+  found :
+      (n : List ℕ) (d : DeclaredType) → declared_at n front ≡ Some d
+      → (f : List Val → Outcome Val) × (selectors n ≡ Some f)
+      × ((vs : List Val) → AreComponentsOf front d vs → KeepsType front (Valued (types.user n)) (f vs))
+  missing : (n : List ℕ) → declared_at n front ≡ None → selectors n ≡ None
+
+all_at : {A : Type 0} (P : A → Type 0) (front : List A) (x : A) (rest : List A) → AllByRecursion P (front ++ (x ∷ rest)) → P x
+all_at P [] x rest h = h.0
+all_at P (y ∷ front) x rest h = all_at P front x rest h.1
+
+module _ (all : List DeclaredType) (declared : AreDeclared all) (constrained : EachAfter IsConstrained all) (covered : TypesAreCovered all)
+    (written : ConstraintsAreWritten all) where
+  module _ (front : List DeclaredType) (d : DeclaredType) (rest : List DeclaredType) (e : all ≡ front ++ (d ∷ rest)) (selectors : Selectors)
+      (s : AreSelectors front selectors) where
+    front_declared : AreDeclared front
+    front_declared = AreDeclared-front front (d ∷ rest) (subst AreDeclared e declared)
+
+    front_kept : KeepsScope (types_alone all selectors) (scope_of front)
+    front_kept =
+        record {
+          scope_is = scopes_are_kept.of_types front front_declared;
+          types = (d ∷ rest, e);
+          known = refl;
+          relvars = λ n r is. absurd (cc);
+          selectors = s.found;
+        }
+
+    new_keeps : (vs : List Val) → AreComponentsOf (front ++ (d ∷ [])) d vs
+        → KeepsType (front ++ (d ∷ [])) (Valued (types.user d.name)) (selector_value (types_alone all selectors) d vs)
+    new_keeps =
+        selector_keeps (types_alone all selectors) front d front_declared front_kept (declared front rest d e) (constrained front rest d e)
+        (all_at (λ (c : DeclaredType). IsTrue (constraint_covered c.constraint)) front d rest (subst TypesAreCovered e covered))
+        (all_at (λ (c : DeclaredType). (t : Tree) → c.constraint ≡ Some t → IsWritten t) front d rest (subst ConstraintsAreWritten e written))
+
+    abbrev Selects : List ℕ → DeclaredType → Type 0
+    Selects n c =
+        (f : List Val → Outcome Val) × (with_selector all selectors d n ≡ Some f)
+        × ((vs : List Val) → AreComponentsOf (front ++ (d ∷ [])) c vs → KeepsType (front ++ (d ∷ [])) (Valued (types.user n)) (f vs))
+
+    earlier_found : (n : List ℕ) (b c : DeclaredType) → declared_at n front ≡ Some b → declared_at n (front ++ (d ∷ [])) ≡ Some c → Selects n c
+    earlier_found n b c is there =
+        let same : b ≡ c = some_same front (d ∷ []) front_declared b c (sym (declared_more n front (d ∷ []) b is) ∙ there) in
+        let x = s.found n b is in
+        subst (Selects n) same (
+          x.0, rw (with_selector, x.1) refl,
+          λ vs h. grown front (d ∷ []) front_declared (types.user n) (x.0 vs) (x.2 vs (h.0,
+          parts_shrunk front (d ∷ []) front_declared (pack_parts vs) b.components (components_known front (d ∷ []) front_declared n b is) h.1)),
+        )
+
+    later_found : (n : List ℕ) (c : DeclaredType) → declared_at n front ≡ None → declared_at n (d ∷ []) ≡ Some c → Selects n c
+    later_found n c is there = by_test (same_name d.name n) refl
+      where
+        by_test : (b : Bool) → same_name d.name n ≡ b → Selects n c
+        by_test true e =
+            let same : d ≡ c = some_same front (d ∷ []) front_declared d c (rw e refl ∙ there) in
+            let named : d.name ≡ n = same_text d.name n (sym e) in
+            subst (Selects n) same (
+              selector_value (types_alone all selectors) d, rw (with_selector, s.missing n is, e) refl,
+              λ vs h. subst (λ m. KeepsType (front ++ (d ∷ [])) (Valued (types.user m)) (selector_value (types_alone all selectors) d vs)) named (new_keeps vs h),
+            )
+        by_test false e = let none : None ≡ Some c = rw e refl ∙ there in absurd (cc)
+
+    none_later : (n : List ℕ) → declared_at n front ≡ None → declared_at n (front ++ (d ∷ [])) ≡ declared_at n (d ∷ [])
+    none_later n is = declared_at-later n front (d ∷ []) (ap is_some is)
+
+    step : AreSelectors (front ++ (d ∷ [])) (with_selector all selectors d)
+    step = record { found = step_found; missing = step_missing; }
+      where
+        step_found : (n : List ℕ) (c : DeclaredType) → declared_at n (front ++ (d ∷ [])) ≡ Some c → Selects n c
+        step_found n c there = by_option (declared_at n front) refl
+          where
+            by_option : (o : Option DeclaredType) → declared_at n front ≡ o → Selects n c
+            by_option (Some b) is = earlier_found n b c is there
+            by_option None is = later_found n c is (sym (none_later n is) ∙ there)
+
+        step_missing : (n : List ℕ) → declared_at n (front ++ (d ∷ [])) ≡ None → with_selector all selectors d n ≡ None
+        step_missing n there = by_option (declared_at n front) refl
+          where
+            by_option : (o : Option DeclaredType) → declared_at n front ≡ o → with_selector all selectors d n ≡ None
+            by_option (Some b) is = let clash : Some b ≡ None = sym (declared_more n front (d ∷ []) b is) ∙ there in absurd (cc)
+            by_option None is = by_test (same_name d.name n) refl
+              where
+                by_test : (b : Bool) → same_name d.name n ≡ b → with_selector all selectors d n ≡ None
+                by_test true e = let clash : Some d ≡ None = sym (none_later n is ∙ rw e refl) ∙ there in absurd (cc)
+                by_test false e = rw (with_selector, s.missing n is, e) refl
+
+  walked : (front rest : List DeclaredType) (selectors : Selectors) → all ≡ front ++ rest → AreSelectors front selectors
+      → AreSelectors all (fold (with_selector all) selectors rest)
+  walked front [] selectors e s = subst (λ xs. AreSelectors xs selectors) (sym (e ∙ append-nil front)) s
+  walked front (d ∷ rest) selectors e s =
+      walked (front ++ (d ∷ [])) rest (with_selector all selectors d) (e ∙ sym (append_assoc front (d ∷ []) rest)) (step front d rest e selectors s)
+
+  all_selectors : AreSelectors all (selectors_of all all)
+  all_selectors = walked [] all (λ n. None) refl (record { found = λ n d e. absurd (cc); missing = λ n e. refl; })
+
+-- ---- base relvars
+
+base_known : (ds : List DeclaredType) (n : List ℕ) (bs : List BaseRelvar) (r : KnownRelvar) → AllByRecursion (IsBase ds) bs
+    → relvar_in n (map known_base bs) ≡ Some r → (b : BaseRelvar) × (base_among n bs ≡ Some b) × (known_base b ≡ r) × IsBase ds b
+base_known ds n [] r h e = absurd (cc)
+base_known ds n (b ∷ bs) r h e = by_test (same_name b.name n) refl (base_known ds n bs r h.1)
+  where
+    by_test : (t : Bool) → same_name b.name n ≡ t
+        → (relvar_in n (map known_base bs) ≡ Some r → (b : BaseRelvar) × (base_among n bs ≡ Some b) × (known_base b ≡ r) × IsBase ds b)
+        → (c : BaseRelvar) × (base_among n (b ∷ bs) ≡ Some c) × (known_base c ≡ r) × IsBase ds c
+    by_test true is rest = let found : Some (known_base b) ≡ Some r = sym (rw is refl) ∙ e in let same : known_base b ≡ r = cc in (b, rw is refl, same, h.0)
+    by_test false is rest = let x = rest (rw is at e) in (x.0, rw is x.1, x.2, x.3)
+
+pub legal_databases_keep_scopes : LegalDatabasesKeepScopes
+legal_databases_keep_scopes db legal covered written =
+    record {
+      scope_is = record {
+        declared = legal.declared;
+        relvars = λ n r e.
+            let b = base_known db.types n db.bases r legal.bases e in
+            subst (λ (q : KnownRelvar). IsKnownHeading db.types q.heading) b.2 (b.3.relation.2, b.3.heading.known);
+        entered = λ h c. absurd (contains_none h c);
+      };
+      types = ([], sym (append-nil db.types));
+      known = refl;
+      relvars = λ n r e.
+          let b = base_known db.types n db.bases r legal.bases e in
+          (
+            Valued (relation_as_value b.0.relation), rw b.1 refl,
+            subst (λ (q : KnownRelvar). KeepsType db.types (Valued (types.relation (pack q.heading))) (Valued (relation_as_value b.0.relation))) b.2
+            (b.3.relation, (refl, b.3.heading.known, b.3.typed)),
+          );
+      selectors = (all_selectors db.types legal.declared legal.constrained covered written).found;
+    }
