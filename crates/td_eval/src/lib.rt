@@ -7,4 +7,3 @@ pub mod laws;
 mod operators;
 mod rows;
 mod sight;
-mod value;
