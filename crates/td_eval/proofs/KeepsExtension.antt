@@ -12,20 +12,20 @@ use Rattle.td_types.specs.Types.{Attribute, Heading, IsType, Type', attribute_na
 use Rattle.td_types.specs.Types as types
 use Rattle.td_types.proofs.DistinctNames.{first_of, second_of}
 use Rattle.td_types.proofs.OutcomeLaws.{values_of_both}
-use Rattle.td_check.specs.OperatorTypes.{extension_type, relation_if, same_type}
+use Rattle.td_check.specs.OperatorTypes.{extension_type, relation_if}
 use Rattle.td_check.proofs.HeadingRules.{lacks_with}
 use Rattle.td_check.proofs.KnownLaws.{IsKnownType, known_closed}
-use Rattle.td_check.proofs.OperatorLaws.{IsClosed, united}
+use Rattle.td_check.proofs.OperatorLaws.{united}
 use Rattle.td_value.specs.KnownValues.{HasType}
 use Rattle.td_value.specs.Values.{Val, boolean, integer, char, user, tuple, relation, Relation, Tuple, type_of}
 use Rattle.td_value.proofs.KnownValues.{has_its_type}
-use Rattle.td_algebra.specs.Membership.{AreNew, IsIn}
+use Rattle.td_algebra.specs.Membership.{AreNew}
 use Rattle.td_algebra.specs.Operators.{Addition, added_attributes, added_values, extended_relation, extended_tuple, restriction}
 use Rattle.td_algebra.specs.Results.{IsTyped}
 use Rattle.td_algebra.proofs.Lists.{contains_cases, contains_map, contains_none}
 use Rattle.td_algebra.proofs.Members.{both_true, first_true, second_true}
 use Rattle.td_algebra.proofs.Results.{IsRelation-extended}
-use Rattle.td_eval.specs.OperatorValues.{additions_of, column_values, columns_values, extended_value, is_true, of_relation, on_truth, relation_as_value, restricted_value, truth_value, value_of_type, value_or_false}
+use Rattle.td_eval.specs.OperatorValues.{additions_of, columns_values, extended_value, is_true, of_relation, on_truth, relation_as_value, restricted_value, truth_value, value_of_type, value_or_false}
 use Rattle.td_eval.specs.ValueTypes.{IsOfType, KeepsType}
 use Rattle.td_eval.proofs.KeepsGathered.{Keeps, gathered_dynamic, gathered_map_keeps, keeps_type, with_value_keeps}
 use Rattle.td_eval.proofs.KeepsOperators.{typed_restriction}

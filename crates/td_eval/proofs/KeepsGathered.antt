@@ -4,7 +4,7 @@ use Rattle.std.specs.Prelude.{◌↔◌}
 use Rattle.std.specs.List.{AllByRecursion, Contains}
 use Rattle.td_tree.specs.Causes.{number_of}
 use Rattle.td_tree.specs.declared.cause.Cause.{Cause}
-use Rattle.td_tree.specs.Outcomes.{Causes, Only, Union, Has, Outcome, Valued, Refused, gathered, with_value, with_both}
+use Rattle.td_tree.specs.Outcomes.{Causes, Only, Union, Outcome, Valued, Refused, gathered, with_value, with_both}
 use Rattle.td_types.specs.TypeLists.{DeclaredType}
 use Rattle.td_types.specs.Types.{Attrs, Type'}
 use Rattle.td_value.specs.KnownValues.{HasHeading, HaveHeading}

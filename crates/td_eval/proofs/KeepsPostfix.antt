@@ -6,14 +6,14 @@ use Rattle.std.proofs.lemmas.List.Elements.{All-from_recursion}
 use Rattle.td_tree.specs.Names.{IsName}
 use Rattle.td_tree.specs.declared.cause.Cause.TheVariants as causes
 use Rattle.td_tree.specs.Trees.{Attributes, only, all_but, Renaming, Postfix, project, rename, group, ungroup, wrap, unwrap}
-use Rattle.td_types.specs.Headings.{can_rename, has_attribute, has_name, has_projection, heading_union, new_name, outside, projection, renamed}
+use Rattle.td_types.specs.Headings.{can_rename, has_attribute, has_projection, heading_union, new_name, outside, projection, renamed}
 use Rattle.td_types.specs.TypeLists.{DeclaredType}
 use Rattle.td_types.specs.Types.{Heading, IsAscending, Type', attribute_names, type_at}
 use Rattle.td_types.proofs.HeadingLaws.{IsAscending-filter, IsAscending-projection, ascending_from_heading, has_attribute-names, type_at-outside, type_at-projection, types_determine_heading}
 use Rattle.td_check.specs.OperatorTypes.{named_part, postfix_type, relation_if, renaming_pairs}
 use Rattle.td_check.specs.StaticLaws.{OperatorGivesNames}
 use Rattle.td_check.proofs.KnownLaws.{known_closed}
-use Rattle.td_check.proofs.OperatorLaws.{IsClosed, all_fit, renamed_fit, united}
+use Rattle.td_check.proofs.OperatorLaws.{all_fit, renamed_fit, united}
 use Rattle.td_value.specs.Values.{Val, Relation, Tuple}
 use Rattle.td_algebra.specs.Operators.{projected_relation, renamed_relation, renamed_tuple}
 use Rattle.td_algebra.specs.Results.{NewNamesAreNames}

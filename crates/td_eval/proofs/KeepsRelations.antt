@@ -4,7 +4,6 @@ use Rattle.std.specs.List.{AllByRecursion, Contains}
 use Rattle.std.specs.declared.cmp.Ordering.{Ordering}
 use Rattle.std.specs.declared.cmp.Ordering.TheVariants.{Less, Equal, Greater}
 use Rattle.td_tree.specs.declared.cause.Cause.{Cause}
-use Rattle.td_tree.specs.declared.cause.Cause.TheVariants as causes
 use Rattle.td_tree.specs.Outcomes.{Outcome, Valued, value_if, with_value}
 use Rattle.td_types.specs.TypeLists.{AreKnown, DeclaredType}
 use Rattle.td_types.specs.Types.{Attrs, Heading, Type', pack, unpack}
@@ -13,15 +12,15 @@ use Rattle.td_types.proofs.Meanings.{pack_unpack}
 use Rattle.td_check.specs.OperatorTypes.{mismatch, over_relation, over_relations, relation_if}
 use Rattle.td_check.specs.StaticLaws.{IsKnownHeading}
 use Rattle.td_value.specs.KnownValues.{HasHeading, HasType}
-use Rattle.td_value.specs.Sets.{put_in, set_of}
-use Rattle.td_value.specs.Values.{Val, boolean, integer, char, user, tuple, relation, Fields, no_fields, field, Rows, no_rows, row, IsRelation, Relation, Tuple, entry_cmp, pack_fields, pack_rows, relation_of, tuple_cmp, tuple_of, type_of, unpack_fields, unpack_rows}
+use Rattle.td_value.specs.Sets.{put_in}
+use Rattle.td_value.specs.Values.{Val, boolean, integer, char, user, tuple, relation, Fields, no_fields, field, Rows, no_rows, row, IsRelation, Relation, Tuple, entry_cmp, pack_fields, pack_rows, relation_of, tuple_of, type_of, unpack_fields, unpack_rows}
 use Rattle.td_value.specs.Views.{relation_view}
 use Rattle.td_value.proofs.KnownValues.{by_values}
 use Rattle.td_value.proofs.Members.{set_members}
 use Rattle.td_algebra.proofs.Relations.{member_headed}
 use Rattle.td_eval.specs.OperatorValues.{on_relation, on_relations, relation_as_value, relation_where}
 use Rattle.td_eval.specs.ValueTypes.{IsOfType, KeepsType}
-use Rattle.td_eval.proofs.KeepsGathered.{all_from_members, has_type_members, member_from_all, one_dynamic}
+use Rattle.td_eval.proofs.KeepsGathered.{all_from_members, has_type_members, member_from_all}
 
 module _ (ds : List DeclaredType) where
   -- an entry whose value is of its own type
@@ -142,7 +141,7 @@ module _ (ds : List DeclaredType) where
   pub typed_set : (h : Heading) (ts : List Tuple) → IsRelation (relation_of h ts) → AreKnown ds (pack h) → ((t : Tuple) → Contains ts t → AreOwn ds t)
       → IsTypedRelation ds (relation_of h ts)
   typed_set h ts p k own =
-      record { is_relation = p; known = k; rows = λ t c. own t ((set_members ts t).0 c); }
+      record { is_relation = p; known = k; rows = λ t c. own t ((set_members ts t).0 c) }
 
   -- where a heading is made of the one that is asked for
   pub made_if_keeps : (test : Bool) (x : Heading) (cause : Cause) (f : Heading → Heading) (r : Relation) → r.heading ≡ f x → (test ≡ true → IsTypedRelation ds r)

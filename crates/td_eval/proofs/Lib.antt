@@ -3,7 +3,6 @@ pub mod KeepsGathered
 pub mod KeepsOperators
 pub mod KeepsPostfix
 pub mod KeepsRelations
-pub mod Measures
 pub mod NewAttributes
 pub mod OpComparisons
 pub mod OpElements

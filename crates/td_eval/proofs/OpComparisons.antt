@@ -1,5 +1,5 @@
 -- What is answered of two values that are compared.
-use Rattle.std.proofs.Common.{◌≡◌, ◌∙◌, Global, Bool, true, false, List, Option, Some, ap, refl, subst, sym}
+use Rattle.std.proofs.Common.{◌≡◌, ◌∙◌, Global, Bool, true, false, Some, refl, sym}
 use Rattle.std.specs.declared.rc.Rc.{Rc}
 use Rattle.std.specs.Prelude.{◌↔◌, IsTrue}
 use Rattle.std.proofs.lemmas.Cmp.{eq_by_cmp_equiv}

@@ -1,6 +1,6 @@
 -- The names of a heading, and a relation's projections on a part of it.
-use Rattle.std.proofs.Common.{◌≡◌, ◌∙◌, ◌+◌, ◌<◌, ◌++◌, get_or, length, take, ℕ, Bool, true, false, List, [], ◌∷◌, Option, Some, None, Result, ap, refl, subst, sym, true≢false}
-use Rattle.std.specs.Prelude.{◌&&◌, ◌||◌, if◌then◌else◌, is_some, not}
+use Rattle.std.proofs.Common.{◌≡◌, ◌∙◌, ◌+◌, ◌<◌, ◌++◌, get_or, length, take, ℕ, Bool, true, false, List, [], ◌∷◌, Some, None, Result, ap, refl, sym, true≢false}
+use Rattle.std.specs.Prelude.{◌&&◌, if◌then◌else◌, is_some}
 use Rattle.std.proofs.lemmas.List.{map-append, take_more}
 use Rattle.std.proofs.lemmas.Option.{get_or_from_slice_get}
 use Rattle.std.specs.List.{list_all, slice_get}
@@ -10,7 +10,7 @@ use Rattle.td_tree.specs.Outcomes.{Answers}
 use Rattle.td_value.specs.Values.{Val, Relation}
 use Rattle.td_algebra.proofs.Entries.{heading_distinct}
 use Rattle.td_types.specs.Headings.{has_attribute, has_attributes, has_projection, outside}
-use Rattle.td_types.specs.Types.{Attribute, Heading, Type', IsHeading, attribute_names, pack, same_name, type_at}
+use Rattle.td_types.specs.Types.{Attribute, Heading, IsHeading, attribute_names, pack, same_name, type_at}
 use Rattle.td_types.proofs.HeadingLaws.{same_name-itself, type_at-outside}
 
 -- what holds of each name by one test holds by another that it implies

@@ -1,15 +1,14 @@
 -- What operators find in the tuples in hand, and what they keep of a relation's tuples.
-use Rattle.std.proofs.Common.{◌≡◌, ◌∙◌, ℕ, Bool, List, [], ◌∷◌, Option, Some, None, Result, Ok, Err, ap, length, map, option_map, refl, reverse, sym, Bor, arith}
+use Rattle.std.proofs.Common.{◌≡◌, ◌∙◌, ℕ, Bool, List, [], ◌∷◌, Option, Some, None, Result, ap, length, map, option_map, refl, reverse, sym, Bor, arith}
 use Rattle.std.specs.List.{push}
 use Rattle.std.proofs.lemmas.List.{reverse-append}
 use Rattle.td_algebra.specs.Operators.{restriction}
-use Rattle.td_eval.specs.OperatorValues.{is_true, of_relation, on_truth, restricted_value, truth_value}
+use Rattle.td_eval.specs.OperatorValues.{is_true, of_relation, restricted_value, truth_value}
 use Rattle.td_eval.specs.Worlds.{innermost_value}
 use Rattle.td_tree.specs.declared.fault.Fault.{Fault}
-use Rattle.td_tree.specs.Outcomes.{Answers, Outcome, Valued, Refused, gathered, with_value}
+use Rattle.td_tree.specs.Outcomes.{Answers, Outcome, Valued, Refused, gathered}
 use Rattle.td_types.proofs.OutcomeLaws.{valued_is, values_of_both}
 use Rattle.td_value.specs.Values.{Val, boolean, integer, char, user, tuple, relation, Relation, Tuple, value_at}
-use Rattle.td_value.specs.declared.value.Value.{Value}
 
 -- ---- the innermost attribute
 

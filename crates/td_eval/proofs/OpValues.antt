@@ -1,16 +1,14 @@
 -- What operators find in values, and what is answered of it.
-use Rattle.std.proofs.Common.{◌≡◌, ◌∙◌, ℤ, Bool, true, false, List, Result, Err, ap, refl, subst, sym}
-use Rattle.std.specs.Prelude.{IsTrue}
+use Rattle.std.proofs.Common.{◌≡◌, Bool, true, Result, Err, ap, refl}
 use Rattle.td_eval.specs.OperatorValues.{of_relation, on_relation, on_relations, on_tuple, relation_where}
 use Rattle.td_tree.specs.declared.fault.Fault.{Fault}
 use Rattle.td_tree.specs.declared.fault.Fault.TheVariants as faults
 use Rattle.td_tree.specs.Outcomes.{Answers, Outcome, Valued, Refused, with_value}
 use Rattle.td_types.proofs.OutcomeLaws.{valued_is}
 use Rattle.td_types.specs.TypeCode.{unpack_pack}
-use Rattle.td_types.specs.Types.{Heading, pack}
+use Rattle.td_types.specs.Types.{pack}
 use Rattle.td_value.specs.ValueCode.{unpack_pack_fields, unpack_pack_rows}
 use Rattle.td_value.specs.Values.{Val, boolean, integer, char, user, tuple, relation, Relation, Tuple, pack_fields, pack_rows}
-use Rattle.td_value.specs.Views.{relation_view}
 
 -- the relation that a value is made of
 pub relation_unpacked : {A : Type 0} (r : Relation) (f : Relation → Outcome A)

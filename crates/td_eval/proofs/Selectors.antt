@@ -1,6 +1,6 @@
 -- Which selectors the first types of a list have.
 use Rattle.std.proofs.Common.{◌≡◌, ◌∙◌, ◌∷◌, ◌+◌, ◌<◌, ◌≤◌, ℕ, zero, suc, Bool, true, false, List, [], Option, Some, None, ap, arith, fold, length, refl, subst, sym, take}
-use Rattle.std.specs.Prelude.{if◌then◌else◌, not, nat_lt, option_map}
+use Rattle.std.specs.Prelude.{if◌then◌else◌, not, nat_lt}
 use Rattle.std.specs.Cmp.Lexicographic.{same_text}
 use Rattle.std.specs.List.{prefix_len, slice_get}
 use Rattle.std.proofs.lemmas.Bool.Decides.{nat_tests}
@@ -8,7 +8,7 @@ use Rattle.std.proofs.lemmas.List.{take_all}
 use Rattle.std.specs.Option.{option_or}
 use Rattle.td_eval.specs.DatabaseWorlds.{Selectors, selector_value, selectors_of, types_alone, with_other, with_selector, world_of}
 use Rattle.td_eval.specs.declared.sight.Sight.{Sight}
-use Rattle.td_eval.specs.Sights.{IsSelector, IsSight, other_in, seen_by, world_in}
+use Rattle.td_eval.specs.Sights.{IsSelector, IsSight, other_in, seen_by}
 use Rattle.td_eval.specs.Worlds.{World}
 use Rattle.td_types.specs.TypeLists.{DeclaredType, declared_at, declared_place}
 use Rattle.td_types.specs.Types.{same_name}

@@ -137,7 +137,7 @@ module _ (w : World) (front : List DeclaredType) (d : DeclaredType) (a : AreDecl
           let made = made_typed front u distinct entries.1 in
           let head : heading_of (tuple_of u) ≡ heading_from d.components = made.1 ∙ ap heading_from entries.0 in
           let fits : with_value (type_of (alone_with (heading_from d.components) (scope_of front)) e) (λ t. if_type types.boolean t tt) ≡ Valued tt =
-              subst (λ o. constraint_fits (scope_of front) d.components o ≡ Valued tt) is constrained in
+          subst (λ o. constraint_fits (scope_of front) d.components o ≡ Valued tt) is constrained in
           let asked = value_of_with (type_of (alone_with (heading_from d.components) (scope_of front)) e) (λ t. if_type types.boolean t tt) tt fits in
           let boolean_is = type_is asked.0 types.boolean (value_of_test (same_type asked.0 types.boolean) tt tt causes.TypeMismatch asked.2).0 in
           let value = values_keep_types w (scope_of front) (tuple_of u ∷ []) e k (made.0, tt) (subst (λ o. IsTrue (constraint_covered o)) is covered) (written e is) in
@@ -206,9 +206,12 @@ module _ (all : List DeclaredType) (declared : AreDeclared all) (constrained : E
         let same : b ≡ c = some_same front (d ∷ []) front_declared b c (sym (declared_more n front (d ∷ []) b is) ∙ there) in
         let x = s.found n b is in
         subst (Selects n) same (
-          x.0, rw (with_selector, x.1) refl,
-          λ vs h. grown front (d ∷ []) front_declared (types.user n) (x.0 vs) (x.2 vs (h.0,
-          parts_shrunk front (d ∷ []) front_declared (pack_parts vs) b.components (components_known front (d ∷ []) front_declared n b is) h.1)),
+          x.0,
+          rw (with_selector, x.1) refl,
+          λ vs h. grown front (d ∷ []) front_declared (types.user n) (x.0 vs) (x.2 vs (
+            h.0,
+            parts_shrunk front (d ∷ []) front_declared (pack_parts vs) b.components (components_known front (d ∷ []) front_declared n b is) h.1,
+          )),
         )
 
     later_found : (n : List ℕ) (c : DeclaredType) → declared_at n front ≡ None → declared_at n (d ∷ []) ≡ Some c → Selects n c
@@ -219,7 +222,8 @@ module _ (all : List DeclaredType) (declared : AreDeclared all) (constrained : E
             let same : d ≡ c = some_same front (d ∷ []) front_declared d c (rw e refl ∙ there) in
             let named : d.name ≡ n = same_text d.name n (sym e) in
             subst (Selects n) same (
-              selector_value (types_alone all selectors) d, rw (with_selector, s.missing n is, e) refl,
+              selector_value (types_alone all selectors) d,
+              rw (with_selector, s.missing n is, e) refl,
               λ vs h. subst (λ m. KeepsType (front ++ (d ∷ [])) (Valued (types.user m)) (selector_value (types_alone all selectors) d vs)) named (new_keeps vs h),
             )
         by_test false e = let none : None ≡ Some c = rw e refl ∙ there in absurd (cc)
@@ -228,7 +232,7 @@ module _ (all : List DeclaredType) (declared : AreDeclared all) (constrained : E
     none_later n is = declared_at-later n front (d ∷ []) (ap is_some is)
 
     step : AreSelectors (front ++ (d ∷ [])) (with_selector all selectors d)
-    step = record { found = step_found; missing = step_missing; }
+    step = record { found = step_found; missing = step_missing }
       where
         step_found : (n : List ℕ) (c : DeclaredType) → declared_at n (front ++ (d ∷ [])) ≡ Some c → Selects n c
         step_found n c there = by_option (declared_at n front) refl
@@ -255,7 +259,7 @@ module _ (all : List DeclaredType) (declared : AreDeclared all) (constrained : E
       walked (front ++ (d ∷ [])) rest (with_selector all selectors d) (e ∙ sym (append_assoc front (d ∷ []) rest)) (step front d rest e selectors s)
 
   all_selectors : AreSelectors all (selectors_of all all)
-  all_selectors = walked [] all (λ n. None) refl (record { found = λ n d e. absurd (cc); missing = λ n e. refl; })
+  all_selectors = walked [] all (λ n. None) refl (record { found = λ n d e. absurd (cc); missing = λ n e. refl })
 
 -- ---- base relvars
 
@@ -283,11 +287,11 @@ legal_databases_keep_scopes db legal covered written =
       types = ([], sym (append-nil db.types));
       known = refl;
       relvars = λ n r e.
-          let b = base_known db.types n db.bases r legal.bases e in
-          (
-            Valued (relation_as_value b.0.relation), rw b.1 refl,
+          let b = base_known db.types n db.bases r legal.bases e in (
+            Valued (relation_as_value b.0.relation),
+            rw b.1 refl,
             subst (λ (q : KnownRelvar). KeepsType db.types (Valued (types.relation (pack q.heading))) (Valued (relation_as_value b.0.relation))) b.2
-            (b.3.relation, (refl, b.3.heading.known, b.3.typed)),
+                (b.3.relation, (refl, b.3.heading.known, b.3.typed)),
           );
       selectors = (all_selectors db.types legal.declared legal.constrained covered written).found;
     }

@@ -216,12 +216,11 @@ module _ (ds : List DeclaredType) where
   ordered (types.relation g) (types.relation h) v w q r =
       let x = rows_of ds g v q.1 in
       let y = rows_of ds h w r.1 in
-      let test = same_type (types.relation g) (types.relation h) in
-      (
+      let test = same_type (types.relation g) (types.relation h) in (
         rw (x.1, y.1) (ordered_by test causes.Heading (at_most (relation g x.0) (relation h y.0))
-        (λ e. relations_ordered g h x.0 y.0 (same_is (unpack g) (unpack h) (ap unpack (heads_same g h e))))),
+            (λ e. relations_ordered g h x.0 y.0 (same_is (unpack g) (unpack h) (ap unpack (heads_same g h e))))),
         rw (x.1, y.1) (ordered_by test causes.Heading (at_most (relation h y.0) (relation g x.0))
-        (λ e. relations_ordered h g y.0 x.0 (same_is (unpack h) (unpack g) (ap unpack (sym (heads_same g h e)))))),
+            (λ e. relations_ordered h g y.0 x.0 (same_is (unpack h) (unpack g) (ap unpack (sym (heads_same g h e)))))),
       )
   ordered _ _ v w h k = (tt, tt)
 
@@ -237,9 +236,9 @@ module _ (ds : List DeclaredType) where
       let head = fields_heading ds x.0 g x.2 in
       rw (x.1, y.1) (test_keeps ds (same_type (types.tuple g) (types.tuple h)) types.boolean causes.Heading (membership_value (tuple x.0) (relation h y.0))
       (λ e.
-          let is = type_is (types.tuple g) (types.tuple h) e in
-          let same : g ≡ h = cc in
-          rw (same_is (heading_of (unpack_fields x.0)) (unpack h) (head ∙ ap unpack same)) (tt, refl)))
+      let is = type_is (types.tuple g) (types.tuple h) e in
+      let same : g ≡ h = cc in
+      rw (same_is (heading_of (unpack_fields x.0)) (unpack h) (head ∙ ap unpack same)) (tt, refl)))
   member_keeps v w _ _ q r = tt
 
   pub comparison_keeps : (op : Comparison) (v w : Val) (s t : Type') → IsOfType ds v s → IsOfType ds w t

@@ -107,9 +107,8 @@ module _ (ds : List DeclaredType) where
       → IsOfType ds (relation_as_value (relation_of h ts)) (types.relation (pack h))
   relation_typed h ts p k all =
       let headed = All-from_members (IsTupleOf h) ts
-          (λ t c. let at = member_from_all (IsTupleAt h) ts all t c in (at.0, ((by_values ds t h).0 at.1).0, p)) in
-      let each = set_of_all tuple_cmp (IsTupleAt h) ts all in
-      (
+      (λ t c. let at = member_from_all (IsTupleAt h) ts all t c in (at.0, ((by_values ds t h).0 at.1).0, p)) in
+      let each = set_of_all tuple_cmp (IsTupleAt h) ts all in (
         IsRelation-relation_of h ts p headed,
         (refl, k, (has_type_members ds (set_of tuple_cmp ts) (pack h)).1 (λ t c. (member_from_all (IsTupleAt h) (set_of tuple_cmp ts) each t c).1)),
       )
@@ -132,8 +131,10 @@ module _ (ds : List DeclaredType) where
       by_test fs k p true e =
           let is : unpack g ≡ h = heading_is (unpack g) h e in
           let head : same_heading (heading_of (unpack_fields fs)) h ≡ true = same_is (heading_of (unpack_fields fs)) h (fields_heading ds fs g k ∙ is) in
-          rw head (subst (λ es. IsValue (tuple es)) (sym (pack_unpack_fields fs)) p,
-          subst (λ es. HasHeading ds es (pack h)) (sym (pack_unpack_fields fs)) (subst (HasHeading ds fs) (sym (pack_unpack g) ∙ ap pack is) k))
+          rw head (
+            subst (λ es. IsValue (tuple es)) (sym (pack_unpack_fields fs)) p,
+            subst (λ es. HasHeading ds es (pack h)) (sym (pack_unpack_fields fs)) (subst (HasHeading ds fs) (sym (pack_unpack g) ∙ ap pack is) k),
+          )
       by_test fs k p false e = tt
   element_keeps h _ v q = tt
 
@@ -176,9 +177,9 @@ module _ (ds : List DeclaredType) where
       let same : pack (unpack g) ≡ g = pack_unpack g in
       let first : element_of (unpack g) (tuple x.0) ≡ Valued (unpack_fields x.0) = rw (same_is (heading_of (unpack_fields x.0)) (unpack g) head) refl in
       let each = subst (λ (o : Outcome Tuple). KeepsAs (λ _ us. AllByRecursion (IsTupleAt (unpack g)) us) (gathered (map (element_type (unpack g)) ts))
-          (with_both o (gathered (map (element_of (unpack g)) vs)) (λ y ys. Valued (y ∷ ys)))) (sym first)
-          (one_more (unpack g) (gathered (map (element_type (unpack g)) ts)) (unpack_fields x.0) (gathered (map (element_of (unpack g)) vs))
-          (tuple_at g x.0 value x.2) (elements_keep (unpack g) ts vs k.1)) in
+      (with_both o (gathered (map (element_of (unpack g)) vs)) (λ y ys. Valued (y ∷ ys)))) (sym first)
+      (one_more (unpack g) (gathered (map (element_type (unpack g)) ts)) (unpack_fields x.0) (gathered (map (element_of (unpack g)) vs))
+      (tuple_at g x.0 value x.2) (elements_keep (unpack g) ts vs k.1)) in
       rw x.1 (subst (λ h. KeepsType ds (listed_type (types.tuple g ∷ ts)) (headed_value h (tuple x.0 ∷ vs))) (sym head)
       (made_keeps ds (λ (_ : List Type') us. AllByRecursion (IsTupleAt (unpack g)) us) (gathered (map (element_type (unpack g)) ts))
       (gathered (map (element_of (unpack g)) (tuple x.0 ∷ vs))) (λ _. Valued (types.relation (pack (unpack g)))) (λ us. of_relation (relation_of (unpack g) us)) each
@@ -215,8 +216,8 @@ module _ (ds : List DeclaredType) where
           (λ is. subst (λ g. KeepsType ds (Valued (types.relation g)) (restricted_value p (relation_view (unpack h) (unpack_rows rs)))) (pack_unpack h)
           (restricted_keeps ds (relation_view (unpack h) (unpack_rows rs)) p (parts_typed h rs w)
           (λ u c.
-              let at = rows_typed (relation_view (unpack h) (unpack_rows rs)) (parts_typed h rs w) u c in
-              subst (λ o. KeepsType ds o (p u)) (ap condition at.1 ∙ e ∙ ap Valued (type_is t types.boolean is)) (k u at.0))))
+          let at = rows_typed (relation_view (unpack h) (unpack_rows rs)) (parts_typed h rs w) u c in
+          subst (λ o. KeepsType ds o (p u)) (ap condition at.1 ∙ e ∙ ap Valued (type_is t types.boolean is)) (k u at.0))))
       restricts h rs w (Refused cs) e = tt
   where_keeps condition p _ v q k = tt
 

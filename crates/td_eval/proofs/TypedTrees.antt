@@ -82,7 +82,7 @@ meant_more scope is further heading names = by_outcome (heading_meant scope.type
     by_outcome (Valued h) e =
         let xs = value_of_with (attributes_meant scope.types heading) made_heading h e in
         let later : heading_meant (scope.types ++ further) heading ≡ Valued h =
-            ap (λ o. with_value o made_heading) (attributes_later scope.types further heading xs.0 xs.1) ∙ xs.2 in
+        ap (λ o. with_value o made_heading) (attributes_later scope.types further heading xs.0 xs.1) ∙ xs.2 in
         let known = (supplies scope is).headings heading h names e in
         rw later (refl, known.0, known.1)
     by_outcome (Refused cs) e = tt
@@ -263,7 +263,7 @@ module _ (w : World) (scope : Scope) (k : KeepsScope w scope) where
           more_changes_no_parts (entered_with r.heading (with_tuples scope s)) (entered_with r.heading (scope_among w s)) parts attributes (more_there s r.heading) e,
           types_are_known.of_parts (entered_with r.heading (with_tuples scope s)) parts attributes (entered_is s r.heading h (p.0.2, p.1.1)) n.1 e,
           subst (λ o. KeepParts ds r o (values_in_tuples w s parts)) e
-          (parts_keep parts s h (second_true (is_covered operand) (parts_covered parts) c) n.1 x.1 r p),
+              (parts_keep parts s h (second_true (is_covered operand) (parts_covered parts) c) n.1 x.1 r p),
         )))
     keeps (summarize_per operand per items) s h c n x = absurd (true≢false (sym c))
     keeps (summarize_by operand by items) s h c n x = absurd (true≢false (sym c))
@@ -294,9 +294,9 @@ module _ (w : World) (scope : Scope) (k : KeepsScope w scope) where
         (typed_as ds (type_of (with_tuples scope s) value) (value_of w s value) (keeps value s h (first_true (is_covered value) (parts_covered rest) c) n.1 x.0))
         (entries_keep rest s h (second_true (is_covered value) (parts_covered rest) c) n.2 x.1)
         (λ t v attributes es p q.
-            let first = has_its_type ds v t p.1 in
-            let others = q.0 in
-            ((λ i. (m, (sym first) i) ∷ others i), ((n.0, own_type ds v t p), q.1)))
+        let first = has_its_type ds v t p.1 in
+        let others = q.0 in
+        ((λ i. (m, (sym first) i) ∷ others i), ((n.0, own_type ds v t p), q.1)))
 
     parts_keep : (parts : NamedTrees) (s : List Tuple) → AreTyped s → IsTrue (parts_covered parts) → PartsGiveNames parts → PartsHaveTexts parts
         → (r : Relation) → IsOfType ds (relation_as_value r) (types.relation (pack r.heading))
@@ -306,9 +306,9 @@ module _ (w : World) (scope : Scope) (k : KeepsScope w scope) where
         one_more_part ds r m (type_of (entered_with r.heading (with_tuples scope s)) value) (named_types (entered_with r.heading (with_tuples scope s)) rest)
         (λ u. value_of w (u ∷ s) value) (values_in_tuples w s rest)
         (λ u b.
-            let at = rows_typed ds r p u b in
-            subst (λ g. KeepsType ds (type_of (entered_with g (with_tuples scope s)) value) (value_of w (u ∷ s) value)) at.1
-            (keeps value (u ∷ s) (at.0, h) (first_true (is_covered value) (parts_covered rest) c) n.1 x.0))
+        let at = rows_typed ds r p u b in
+        subst (λ g. KeepsType ds (type_of (entered_with g (with_tuples scope s)) value) (value_of w (u ∷ s) value)) at.1
+        (keeps value (u ∷ s) (at.0, h) (first_true (is_covered value) (parts_covered rest) c) n.1 x.0))
         (parts_keep rest s h (second_true (is_covered value) (parts_covered rest) c) n.2 x.1 r p)
 
 pub values_keep_types : ValuesKeepTypes

@@ -13,7 +13,7 @@ use Rattle.td_tree.specs.declared.cause.Cause.TheVariants as causes
 use Rattle.td_tree.specs.Outcomes.{Outcome, Valued, value_if, with_value}
 use Rattle.td_types.specs.TypeLists.{DeclaredType}
 use Rattle.td_types.specs.Types.{attribute_names, same_name}
-use Rattle.td_value.specs.Values.{Val, Relation, UserValue, made_tuple, selected_value, type_of}
+use Rattle.td_value.specs.Values.{Val, Relation, made_tuple, selected_value, type_of}
 use Rattle.td_value.specs.Views.{user_view}
 
 -- ---- types

@@ -1,6 +1,5 @@
 pub mod Covered
 pub mod DatabaseWorlds
-pub mod Entries
 pub mod OperatorValues
 pub mod Sights
 pub mod TreeTexts

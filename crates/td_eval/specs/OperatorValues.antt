@@ -1,10 +1,10 @@
 -- The values that the operators give (Tutorial D's; the causes, INTEGER's range and the inclusion of relations as an order are
 -- this project's own). An operand that is not as the static rule asks has that rule's cause, so that there is a value or a
 -- cause for all operands; an expression that has a type meets no such operand.
-use Rattle.std.specs.Prelude.{◌≡◌, ℕ, ℤ, pos, negsuc, neg_ℤ, ◌+ℤ◌, ◌-ℤ◌, ◌*ℤ◌, int_div, ◌^◌, nat_eq, nat_lt, Bool, true, false, not, ◌&&◌, ◌||◌, List, [], ◌∷◌, ◌++◌, length, map, Some, None, if◌then◌else◌}
+use Rattle.std.specs.Prelude.{ℕ, ℤ, pos, negsuc, neg_ℤ, ◌+ℤ◌, ◌-ℤ◌, ◌*ℤ◌, int_div, ◌^◌, nat_eq, nat_lt, Bool, true, false, not, ◌&&◌, ◌||◌, List, [], ◌∷◌, ◌++◌, length, map, if◌then◌else◌}
 use Rattle.std.specs.Cmp.Lexicographic.{slice_cmp}
 use Rattle.std.specs.List.{zip}
-use Rattle.std.specs.Ordering.{eq_by_cmp, int_cmp, is_le, is_lt, nat_cmp}
+use Rattle.std.specs.Ordering.{eq_by_cmp, int_cmp, is_le, nat_cmp}
 use Rattle.td_algebra.specs.Operators.{Addition, composition, difference, extended_relation, intersection, is_subset, join, product, projected_relation, renamed_relation, restriction, semidifference, semijoin, union}
 use Rattle.td_check.specs.OperatorTypes.{equality_type, extended_by, known_or, mismatch, renaming_pairs, same_heading, same_type}
 use Rattle.td_tree.specs.declared.cause.Cause.TheVariants as causes

@@ -1,7 +1,7 @@
 -- The value of an expression where names mean what a world says and tuples are in hand, or the causes for which it has none
 -- (Tutorial D's; the causes are this project's own). The causes of all parts count, on both sides of every operator; what
 -- is applied to the tuples of an operand counts for each of them; IF counts its condition and the chosen branch alone.
-use Rattle.std.specs.Prelude.{ℕ, List, [], ◌∷◌, if◌then◌else◌}
+use Rattle.std.specs.Prelude.{List, [], ◌∷◌, if◌then◌else◌}
 use Rattle.td_check.specs.OperatorTypes.{mismatch}
 use Rattle.td_check.specs.Scopes.{entered_with}
 use Rattle.td_check.specs.StaticTypes.{named_types}

@@ -1,6 +1,6 @@
 -- What an expression of a type may have: a value of that type, or causes that no static rule has: laws (Tutorial D's; the
 -- causes are this project's own).
-use Rattle.std.specs.Prelude.{◌≡◌, ◌≤◌, ℕ, List, ◌++◌, map, Option, Some, IsTrue, ⊤}
+use Rattle.std.specs.Prelude.{◌≡◌, ◌≤◌, ℕ, List, ◌++◌, map, Some, IsTrue, ⊤}
 use Rattle.std.specs.List.{AllByRecursion}
 use Rattle.td_catalog.specs.Database.{Database}
 use Rattle.td_catalog.specs.Legality.{IsLegal}
@@ -20,7 +20,7 @@ use Rattle.td_types.specs.TypeLists.{DeclaredType, declared_at}
 use Rattle.td_types.specs.Types.{Type', Heading, pack, user}
 use Rattle.td_types.specs.Types as forms
 use Rattle.td_value.specs.KnownValues.{AreOfTypes, HasHeading, HasType}
-use Rattle.td_value.specs.Values.{Val, IsTuple, IsValue, Parts, AreValues, Tuple, heading_of, pack_fields, pack_parts}
+use Rattle.td_value.specs.Values.{Val, IsTuple, IsValue, AreValues, Tuple, heading_of, pack_fields, pack_parts}
 
 -- each of the causes is OVERFLOW or one that stands after it
 abbrev pub AreDynamic : Causes → Type 0

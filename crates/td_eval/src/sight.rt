@@ -1,5 +1,5 @@
 //! What an expression may look at.
-ghost use Rattle.std.specs.Prelude.{◌≡◌, [], ◌<◌, ◌≤◌, IfNone, IfOk, IfSome, None, length, reverse, take};
+ghost use Rattle.std.specs.Prelude.{◌≡◌, [], ◌<◌, IfNone, IfOk, IfSome, None, reverse, take};
 ghost use Rattle.td_check.specs.Scopes.{entered_with};
 ghost use Rattle.td_eval.specs.DatabaseWorlds.{world_of_types};
 ghost use Rattle.td_eval.specs.OperatorValues.{relation_as_value};

@@ -1,4 +1,4 @@
-use Rattle.std.proofs.Common.{◌≡◌, ◌∙◌, Bool, true, false, ap, map, sym, refl}
+use Rattle.std.proofs.Common.{◌≡◌, ◌∙◌, true, false, ap, map, sym}
 use Rattle.std.specs.Prelude.{◌&&◌, not}
 use Rattle.std.specs.List.{list_all}
 use Rattle.td_types.specs.Headings.{are_distinct, has_attribute}
@@ -23,10 +23,10 @@ returns-else-are_distinct c =
     old_refused c.args.heading.now (pairs_view c.args.attributes.items)
     (elim c.else-are_distinct.branch as (λ _. are_new c.args.heading.now (pairs_view c.args.attributes.items) ≡ false) [
       | else-are_distinct-via-then-are_distinct+else-are_apart w ↦
-        not_new c.args.heading.now (pairs_view c.args.attributes.items)
-        (ap (λ xs. list_all (λ a. not (has_attribute a.0 c.args.heading.now)) (pairs_view xs)) (sym w.deref-then-are_distinct.ensures.value) ∙ sym w.are_apart.ensures ∙ w.if-are_apart.false)
+          not_new c.args.heading.now (pairs_view c.args.attributes.items)
+          (ap (λ xs. list_all (λ a. not (has_attribute a.0 c.args.heading.now)) (pairs_view xs)) (sym w.deref-then-are_distinct.ensures.value) ∙ sym w.are_apart.ensures ∙ w.if-are_apart.false)
       | else-are_distinct-via-else-are_distinct w ↦
-        (let distinct : are_distinct (attribute_names (pairs_view c.args.attributes.items)) ≡ false =
-        ap are_distinct (sym names) ∙ sym c.are_distinct.ensures ∙ w.if-are_distinct.false in
-        ap (λ b. b && list_all (λ a. not (has_attribute a.0 c.args.heading.now)) (pairs_view c.args.attributes.items)) distinct)
+          (let distinct : are_distinct (attribute_names (pairs_view c.args.attributes.items)) ≡ false =
+          ap are_distinct (sym names) ∙ sym c.are_distinct.ensures ∙ w.if-are_distinct.false in
+          ap (λ b. b && list_all (λ a. not (has_attribute a.0 c.args.heading.now)) (pairs_view c.args.attributes.items)) distinct)
     ])

@@ -1,7 +1,6 @@
 use Rattle.std.proofs.Common.{refl}
 use Rattle.std.specs.Cmp.Lexicographic.{texts_ties}
 use Rattle.td_eval.proofs.operators.comparisons.are_one.Goals as goal
-use Rattle.td_tree.specs.Outcomes.{Valued}
 
 pub returns-in-Text-Text : goal.returns-in-Text-Text
 returns-in-Text-Text c =

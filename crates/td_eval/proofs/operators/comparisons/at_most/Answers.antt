@@ -1,4 +1,3 @@
-use Rattle.std.proofs.Common.{rules}
 use Rattle.td_eval.proofs.OpComparisons.{at_most_relations}
 use Rattle.td_eval.proofs.operators.comparisons.at_most.Goals as goal
 

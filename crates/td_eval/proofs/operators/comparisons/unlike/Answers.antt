@@ -1,9 +1,6 @@
-use Rattle.std.proofs.Common.{Bool}
-use Rattle.td_check.specs.OperatorTypes.{same_type}
 use Rattle.td_eval.proofs.OpComparisons.{first_unlike, relations_unlike, second_unlike}
 use Rattle.td_types.specs.Types.{pack}
 use Rattle.td_value.specs.Values.{type_of}
-use Rattle.td_value.specs.Views.{node_view}
 use Rattle.td_eval.proofs.operators.comparisons.unlike.Goals as goal
 
 pub returns-in-Rel-Rel : goal.returns-in-Rel-Rel

@@ -6,7 +6,6 @@ use Rattle.td_eval.proofs.OpElements.{element_gathered, element_refused, element
 use Rattle.td_eval.specs.OperatorValues.{element_of}
 use Rattle.td_tree.specs.Gatherings.{IsGathered}
 use Rattle.td_value.specs.Values.{IsTupleOf}
-use Rattle.std.proofs.Common.{rules}
 use Rattle.td_eval.proofs.operators.elements.elements_of.Goals as goal
 
 pub loop-element-preserved : goal.loop-element-preserved

@@ -1,8 +1,8 @@
-use Rattle.std.proofs.Common.{◌≡◌, ◌∙◌, ◌∷◌, ◌++◌, [], List, ap, subst, sym}
+use Rattle.std.proofs.Common.{◌≡◌, ◌∙◌, ◌∷◌, ◌++◌, [], subst, sym}
 use Rattle.td_eval.proofs.OpElements.{made_of}
 use Rattle.td_tree.specs.Outcomes.{Valued}
 use Rattle.td_types.proofs.OutcomeLaws.{valued_is}
-use Rattle.td_value.specs.Values.{Tuple, made_tuple, relation_of}
+use Rattle.td_value.specs.Values.{made_tuple, relation_of}
 use Rattle.td_eval.proofs.operators.literals.table_dee.Goals as goal
 
 pub returns : goal.returns

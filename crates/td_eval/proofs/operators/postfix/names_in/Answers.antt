@@ -1,4 +1,4 @@
-use Rattle.std.proofs.Common.{◌<◌, length, subst, sym, refl, ap, ◌∙◌, option_map}
+use Rattle.std.proofs.Common.{◌<◌, subst, sym, ap, ◌∙◌, option_map}
 use Rattle.td_types.specs.Views.{type_view}
 use Rattle.td_eval.proofs.OpHeadings.{name_more}
 use Rattle.td_eval.proofs.operators.postfix.names_in.Goals as goal

@@ -6,7 +6,6 @@ use Rattle.td_tree.specs.declared.cause.Cause.TheVariants as causes
 use Rattle.td_types.proofs.OutcomeLaws.{value_of_test}
 use Rattle.td_types.specs.Headings.{has_projection, outside, projection}
 use Rattle.td_types.specs.Types.{IsHeading, attribute_names, pack}
-use Rattle.td_types.specs.Views.{heading_view}
 use Rattle.td_eval.proofs.operators.postfix.projected_off.Goals as goal
 
 pub project-requires-2 : goal.project-requires-2

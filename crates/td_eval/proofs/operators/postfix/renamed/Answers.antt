@@ -1,4 +1,4 @@
-use Rattle.std.proofs.Common.{◌≡◌, ◌∙◌, map, subst, sym, true}
+use Rattle.std.proofs.Common.{◌≡◌, ◌∙◌, map, subst, sym}
 use Rattle.std.specs.Prelude.{IfOk}
 use Rattle.td_algebra.specs.Operators.{renamed_relation}
 use Rattle.td_check.specs.OperatorTypes.{renaming_pairs}

@@ -1,4 +1,4 @@
-use Rattle.td_algebra.specs.Operators.{difference, intersection, union}
+use Rattle.td_algebra.specs.Operators.{difference}
 use Rattle.td_check.specs.OperatorTypes.{same_heading}
 use Rattle.td_eval.proofs.OpValues.{related_where}
 use Rattle.td_types.specs.TypeOrder.{heading_eq-Decides}

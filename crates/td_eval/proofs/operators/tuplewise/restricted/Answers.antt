@@ -1,4 +1,4 @@
-use Rattle.std.proofs.Common.{◌≡◌, ◌∙◌, Bool, map, subst}
+use Rattle.std.proofs.Common.{◌≡◌, ◌∙◌, map, subst}
 use Rattle.td_algebra.specs.Operators.{restriction}
 use Rattle.td_eval.proofs.OpTuples.{restricted_of, truths_are}
 use Rattle.td_eval.specs.OperatorValues.{is_true, truth_value}
