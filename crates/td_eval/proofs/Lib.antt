@@ -16,3 +16,4 @@ pub mod TypedOutcomes
 pub mod TypedRows
 pub mod TypedTrees
 pub mod TypedValues
+mod WorkedValues

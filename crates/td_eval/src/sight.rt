@@ -1,12 +1,10 @@
 //! What an expression may look at.
 ghost use Rattle.std.specs.Prelude.{◌≡◌, [], ◌<◌, IfNone, IfOk, IfSome, None, reverse, take};
-ghost use Rattle.td_check.specs.Scopes.{entered_with};
 ghost use Rattle.td_eval.specs.DatabaseWorlds.{world_of_types};
 ghost use Rattle.td_eval.specs.OperatorValues.{relation_as_value};
 ghost use Rattle.td_eval.specs.Sights.{IsPlaced, IsSight, seen_by};
 ghost use Rattle.td_eval.specs.Worlds.{known_outcome, scope_among};
 ghost use Rattle.td_tree.specs.Outcomes.{Answers};
-ghost use Rattle.td_types.specs.TypeLists.{declared_at, declared_place};
 
 use crate::env::Env;
 use std::alloc::{AllocError, Global};
@@ -15,7 +13,6 @@ use td_check::scope::Scope;
 use td_tree::cause::Cause;
 use td_tree::fault::Fault;
 use td_tree::name::Name;
-use td_types::heading::Heading;
 use td_types::table::TypeTable;
 use td_value::relation::Rel;
 use td_value::tuple::Tuple;

@@ -1,0 +1,97 @@
+-- The definition of values on worked expressions.
+use Rattle.std.proofs.Common.{◌≡◌, ◌∷◌, ◌-◌, ◌^◌, ℕ, Bool, true, false, List, [], Some, pos, negsuc, refl}
+use Rattle.td_catalog.specs.Database.{empty_database}
+use Rattle.td_eval.specs.DatabaseWorlds.{world_of}
+use Rattle.td_eval.specs.TreeValues.{value_of}
+use Rattle.td_tree.specs.declared.cause.Cause.TheVariants as causes
+use Rattle.td_tree.specs.declared.operator.Comparison.TheVariants as comparisons
+use Rattle.td_tree.specs.declared.operator.Operator.TheVariants as operators
+use Rattle.td_tree.specs.declared.operator.Prefix.TheVariants as prefixes
+use Rattle.td_tree.specs.Outcomes.{Outcome, Valued, named_cause}
+use Rattle.td_tree.specs.Trees.{Tree, Trees, NamedTrees}
+use Rattle.td_tree.specs.Trees as trees
+use Rattle.td_types.specs.Types as types
+use Rattle.td_value.specs.Values.{Val, boolean, integer, field, no_fields, no_rows, relation, row}
+
+abbrev value : Tree → Outcome Val
+value = value_of (world_of empty_database) []
+
+abbrev digit : ℕ → Tree
+digit n = trees.literal (trees.number false n)
+
+abbrev below_zero : ℕ → Tree
+below_zero n = trees.literal (trees.number true n)
+
+abbrev verity : Bool → Tree
+verity b = trees.literal (trees.truth b)
+
+-- the least of both sides' causes: OVERFLOW before ZERO_DIVISOR
+sum_of_refused : named_cause (value (trees.binary (trees.binary (digit 1) operators.Divide (digit 0)) operators.Add
+    (trees.parentheses (trees.binary (digit (2 ^ 63 - 1)) operators.Add (digit 1))))) ≡ Some causes.Overflow
+sum_of_refused = refl
+
+-- the least number has no opposite
+least_turned : named_cause (value (trees.binary (below_zero (2 ^ 63)) operators.Divide (below_zero 1))) ≡ Some causes.Overflow
+least_turned = refl
+
+-- the quotient is truncated toward zero
+truncated : value (trees.binary (below_zero 7) operators.Divide (digit 2)) ≡ Valued (integer (negsuc 2))
+truncated = refl
+
+-- both sides of AND count
+both_sides_count : named_cause (value (trees.binary (verity false) operators.And
+    (trees.compare (trees.binary (digit 1) operators.Divide (digit 0)) comparisons.Equal (digit 1)))) ≡ Some causes.ZeroDivisor
+both_sides_count = refl
+
+-- of IF the chosen branch alone
+chosen_counts : value (trees.choice (verity true) (digit 1) (trees.binary (digit 1) operators.Divide (digit 0))) ≡ Valued (integer (pos 1))
+chosen_counts = refl
+
+abbrev attribute_a : List ℕ
+attribute_a = 65 ∷ []
+
+abbrev tuple_of_one : ℕ → Tree
+tuple_of_one n = trees.tuple (trees.more_named attribute_a (digit n) trees.none_named)
+
+abbrev of_integers : Trees → Tree
+of_integers = trees.headed_relation (trees.attribute attribute_a trees.integer trees.no_attributes)
+
+-- TABLE_DUM joined has no tuple, and the other's heading
+joined_with_nothing : value (trees.binary (trees.literal trees.table_dum) operators.Join (trees.relation (trees.more (tuple_of_one 1) trees.none)))
+    ≡ Valued (relation (types.attr attribute_a types.integer types.no_attrs) no_rows)
+joined_with_nothing = refl
+
+-- a relation without tuples has not one
+no_tuple : named_cause (value (trees.prefix prefixes.TupleFrom (of_integers trees.none))) ≡ Some causes.NotOneTuple
+no_tuple = refl
+
+only_one : value (trees.extract attribute_a (trees.prefix prefixes.TupleFrom (trees.relation (trees.more (tuple_of_one 5) trees.none))))
+    ≡ Valued (integer (pos 5))
+only_one = refl
+
+-- a relation is a set
+once : value (of_integers (trees.more (tuple_of_one 2) (trees.more (tuple_of_one 1) (trees.more (tuple_of_one 2) trees.none))))
+    ≡ Valued (relation (types.attr attribute_a types.integer types.no_attrs)
+    (row (field attribute_a (integer (pos 1)) no_fields) (row (field attribute_a (integer (pos 2)) no_fields) no_rows)))
+once = refl
+
+-- proper inclusion
+proper : value (trees.compare (of_integers (trees.more (tuple_of_one 1) trees.none)) comparisons.Less (of_integers (trees.more (tuple_of_one 1) trees.none)))
+    ≡ Valued (boolean false)
+proper = refl
+
+-- WHERE keeps the tuples for which the condition is TRUE
+kept : value (trees.binary (of_integers (trees.more (tuple_of_one 2) (trees.more (tuple_of_one 1) trees.none))) operators.Where
+    (trees.compare (trees.name attribute_a) comparisons.Less (digit 2)))
+    ≡ Valued (relation (types.attr attribute_a types.integer types.no_attrs) (row (field attribute_a (integer (pos 1)) no_fields) no_rows))
+kept = refl
+
+-- one tuple without a value is enough, and the least of all causes is named
+one_refused : named_cause (value (trees.binary (of_integers (trees.more (tuple_of_one 0) (trees.more (tuple_of_one 1) trees.none))) operators.Where
+    (trees.compare (trees.binary (digit 1) operators.Divide (trees.name attribute_a)) comparisons.Less (digit 2)))) ≡ Some causes.ZeroDivisor
+one_refused = refl
+
+-- EXTEND of no tuples has the new attribute
+nothing_extended : value (trees.extend (of_integers trees.none) (trees.more_named (66 ∷ []) (trees.literal (trees.text (120 ∷ []))) trees.none_named))
+    ≡ Valued (relation (types.attr attribute_a types.integer (types.attr (66 ∷ []) types.char types.no_attrs)) no_rows)
+nothing_extended = refl
