@@ -27,6 +27,21 @@ read_crates() {
     done <crates.txt
 }
 
+# Leaves out the crates that td does not stand on. In crates.txt each crate stands behind those that it needs.
+keep_needed() {
+    local place name need kept=()
+    declare -A wanted=([td]=yes)
+    for ((place = ${#crates[@]} - 1; place >= 0; place--)); do
+        name=${crates[place]}
+        [ -n "${wanted[$name]:-}" ] || continue
+        kept=("$name" ${kept[@]+"${kept[@]}"})
+        for need in ${needs[$name]}; do
+            wanted[$need]=yes
+        done
+    done
+    crates=("${kept[@]}")
+}
+
 # Whether a crate waits for no other any more.
 is_ready() {
     local need
@@ -106,6 +121,7 @@ build_all() {
     trap leave EXIT
     trap 'exit 1' INT TERM
     read_crates
+    keep_needed
     build
 }
 
