@@ -56,7 +56,10 @@ is_ready() {
 lay_out() {
     local crate place=$places/$1
     mkdir -p "$place/crates"
-    cp crates.txt HANDLES "$place"
+    cp HANDLES "$place"
+    for crate in "${crates[@]}"; do
+        echo "$crate:${needs[$crate]}"
+    done >"$place/crates.txt"
     for crate in "${crates[@]}"; do
         mkdir -p "$place/crates/$crate"
         find "crates/$crate" -mindepth 1 -maxdepth 1 ! -name out -exec cp -a -t "$place/crates/$crate" {} +
