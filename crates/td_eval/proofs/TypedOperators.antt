@@ -28,7 +28,7 @@ use Rattle.td_value.specs.Values.{Val, char, tuple, relation, Parts, no_parts, p
 use Rattle.td_value.proofs.KnownValues.{has_its_type}
 use Rattle.td_eval.specs.Covered.{prefix_covered}
 use Rattle.td_eval.specs.OperatorValues.{at_most, comparison_value, component_value, components_of, equality_value, extracted_value, is_zero, literal_value, measure_value, membership_value, of_number, of_truth, on_number, on_numbers, on_text, on_truth, on_truths, only_tuple, operator_value, prefix_value, quotient, signed}
-use Rattle.td_eval.specs.TreeTexts.{IsText}
+use Rattle.td_eval.specs.TreeTexts.{IsUtf8Literal}
 use Rattle.td_eval.specs.ValueTypes.{IsOfType, KeepsType}
 use Rattle.td_eval.proofs.KeepsGathered.{one_dynamic}
 use Rattle.td_eval.proofs.TypedOutcomes.{KeepsAs, test_keeps}
@@ -37,7 +37,7 @@ use Rattle.td_eval.proofs.TypedValues.{BothFound, fields_heading, fields_of, fou
 module _ (ds : List DeclaredType) where
   -- ---- literals
 
-  pub literal_keeps : (l : Literal) → IsText l → KeepsType ds (Valued (literal_type l)) (literal_value l)
+  pub literal_keeps : (l : Literal) → IsUtf8Literal l → KeepsType ds (Valued (literal_type l)) (literal_value l)
   unfolding IsStrictlySortedBy
   literal_keeps (number minus magnitude) p = in_range_keeps ds (signed minus magnitude)
   literal_keeps (text content) p = (p, refl)

@@ -16,8 +16,8 @@ abbrev pub world_in : {B : Type 0} → Env B → World
 world_in env = with_other (other_in env) (world_of env.catalog.now)
 
 -- the tuples in hand there, the innermost first
-abbrev pub tuples_in : {B : Type 0} → Env B → List Tuple
-tuples_in env = reverse (map (λ t. t.now) env.tuples.now)
+abbrev pub tuples_in_hand : {B : Type 0} → Env B → List Tuple
+tuples_in_hand env = reverse (map (λ t. t.now) env.tuples.now)
 
 -- inside a type's constraint the types alone, with the selectors of the first of them
 abbrev pub seen_by : {B : Type 0} → Sight B → World

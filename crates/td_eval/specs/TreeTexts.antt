@@ -2,16 +2,16 @@
 use Rattle.std.specs.Prelude.{IsUtf8, ⊤}
 use Rattle.td_tree.specs.Trees.{Literal, number, text, truth, table_dee, table_dum, Tree, literal, name, parentheses, prefix, extract, binary, compare, postfix, select, component, measure, aggregate, relation, headed_relation, tuple, extend, summarize_per, summarize_by, choice, Trees, none, more, NamedTrees, none_named, more_named, Summaries, no_summaries, counted, summed}
 
-abbrev pub IsText : Literal → Type 0
-IsText (number minus magnitude) = ⊤
-IsText (text content) = IsUtf8 content
-IsText (truth value) = ⊤
-IsText table_dee = ⊤
-IsText table_dum = ⊤
+abbrev pub IsUtf8Literal : Literal → Type 0
+IsUtf8Literal (number minus magnitude) = ⊤
+IsUtf8Literal (text content) = IsUtf8 content
+IsUtf8Literal (truth value) = ⊤
+IsUtf8Literal table_dee = ⊤
+IsUtf8Literal table_dum = ⊤
 
 abbrev mutual
   pub HasTexts : Tree → Type 0
-  HasTexts (literal l) = IsText l
+  HasTexts (literal l) = IsUtf8Literal l
   HasTexts (name n) = ⊤
   HasTexts (parentheses inner) = HasTexts inner
   HasTexts (prefix op operand) = HasTexts operand
