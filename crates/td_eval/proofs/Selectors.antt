@@ -98,6 +98,20 @@ selectors_seen sight is = by_env sight.env refl
         let all : take sight.selectors sight.types.now ≡ sight.types.now = take_all sight.selectors sight.types.now (omega (arith, whole.1)) in
         rw (some, all, whole.0) (of_other (other_in env.now) (world_of env.now.catalog.now))
 
+-- so are the types
+pub types_seen : {B : Type 0} (sight : Sight B) → IsSight sight → (seen_by sight).scope.types ≡ sight.types.now
+types_seen sight is = by_env sight.env refl
+  where
+    of_other : (o : Option (List ℕ × Relation)) (w : World) → (with_other o w).scope ≡ w.scope
+    of_other None w = refl
+    of_other (Some o) w = refl
+
+    by_env : (e : _) → sight.env ≡ e → (seen_by sight).scope.types ≡ sight.types.now
+    by_env None none = rw none refl
+    by_env (Some env) some =
+        let whole = rw some at is.env in
+        rw some (ap (λ s. s.types) (of_other (other_in env.now) (world_of env.now.catalog.now)) ∙ sym whole.0)
+
 -- ---- the place of a name
 
 -- where the place is told

@@ -1,26 +1,28 @@
 -- What an expression of a type may have: a value of that type, or causes that no static rule has: laws (Tutorial D's; the
 -- causes are this project's own).
-use Rattle.std.specs.Prelude.{◌≡◌, ◌≤◌, ℕ, List, ◌++◌, map, Some, IsTrue, ⊤}
+use Rattle.std.specs.Prelude.{◌≡◌, ◌≤◌, ℕ, List, ◌++◌, map, Some, Result, Ok, Err, IsTrue, ⊤}
 use Rattle.std.specs.List.{AllByRecursion}
-use Rattle.td_catalog.specs.Database.{Database}
-use Rattle.td_catalog.specs.Legality.{IsLegal}
+use Rattle.td_catalog.specs.Database.{BaseRelvar, Database, base_named}
+use Rattle.td_catalog.specs.Legality.{AreTyped, IsLegal}
 use Rattle.td_check.specs.Scopes.{KnownRelvar, Scope, known_relvar}
 use Rattle.td_check.specs.StaticLaws.{GivesNames, IsScope}
 use Rattle.td_check.specs.StaticTypes.{type_of}
 use Rattle.td_eval.specs.Covered.{TypesAreCovered, is_covered}
-use Rattle.td_eval.specs.DatabaseWorlds.{world_of}
+use Rattle.td_eval.specs.DatabaseWorlds.{with_other, world_of}
 use Rattle.td_eval.specs.TreeTexts.{HasTexts}
 use Rattle.td_eval.specs.TreeValues.{value_of}
 use Rattle.td_eval.specs.Worlds.{World}
 use Rattle.td_tree.specs.Causes.{number_of}
 use Rattle.td_tree.specs.declared.cause.Cause.{Cause}
+use Rattle.td_tree.specs.declared.fault.Fault.{Fault}
+use Rattle.td_tree.specs.declared.fault.Fault.TheVariants as faults
 use Rattle.td_tree.specs.Outcomes.{Causes, Has, Outcome, Valued, Refused}
 use Rattle.td_tree.specs.Trees.{Tree}
 use Rattle.td_types.specs.TypeLists.{DeclaredType, declared_at}
 use Rattle.td_types.specs.Types.{Type', Heading, pack, user}
 use Rattle.td_types.specs.Types as forms
 use Rattle.td_value.specs.KnownValues.{AreOfTypes, HasHeading, HasType}
-use Rattle.td_value.specs.Values.{Val, IsTuple, IsValue, AreValues, Tuple, heading_of, pack_fields, pack_parts}
+use Rattle.td_value.specs.Values.{Val, IsRelation, IsTuple, IsValue, Relation, AreValues, Tuple, heading_of, pack_fields, pack_parts}
 
 -- each of the causes is OVERFLOW or one that stands after it
 abbrev pub AreDynamic : Causes → Type 0
@@ -35,6 +37,12 @@ abbrev pub KeepsType : List DeclaredType → Outcome Type' → Outcome Val → T
 KeepsType ds (Valued t) (Valued v) = IsOfType ds v t
 KeepsType ds (Valued t) (Refused cs) = AreDynamic cs
 KeepsType ds (Refused cs) o = ⊤
+
+-- what is answered of an expression of a type: a value of it, a cause that no static rule has, or want of memory
+abbrev pub AnswersType : List DeclaredType → Type' → Result Val Fault → Type 0
+AnswersType ds t (Ok v) = IsOfType ds v t
+AnswersType ds t (Err (faults.Refused c)) = 20 ≤ number_of c
+AnswersType ds t (Err faults.Memory) = ⊤
 
 -- a tuple whose values are of their types
 abbrev pub IsTypedTuple : List DeclaredType → Tuple → Type 0
@@ -83,3 +91,10 @@ abbrev pub LegalDatabasesKeepScopes : Type 0
 LegalDatabasesKeepScopes =
     (db : Database) → IsLegal db → TypesAreCovered db.types → ConstraintsAreWritten db.types
     → KeepsScope (world_of db) (world_of db).scope
+
+-- so is the world in which one of its base relvars has another relation of its heading
+abbrev pub OtherRelationsKeepScopes : Type 0
+OtherRelationsKeepScopes =
+    (db : Database) (n : List ℕ) (b : BaseRelvar) (r : Relation) → KeepsScope (world_of db) (world_of db).scope → base_named n db ≡ Some b
+    → IsRelation r → AreTyped db.types r → r.heading ≡ b.relation.heading
+    → KeepsScope (with_other (Some (n, r)) (world_of db)) (world_of db).scope

@@ -1,5 +1,8 @@
 //! What the values of expressions are to their callers: each function has its contract alone.
-ghost use Rattle.td_eval.specs.ValueTypes.{ValuesKeepTypes, LegalDatabasesKeepScopes};
+ghost use Rattle.td_eval.specs.ValueLaws.{LaterEntriesChangeNothing, TupleOrderDoesNotCount};
+ghost use Rattle.td_eval.specs.ValueLaws.{ValuesDependOnEntries, ValuesDependOnMentions};
+ghost use Rattle.td_eval.specs.ValueTypes.{LegalDatabasesKeepScopes, OtherRelationsKeepScopes};
+ghost use Rattle.td_eval.specs.ValueTypes.{ValuesKeepTypes};
 
 /// An expression that has a type has, if it has a value, a value of that type, and else causes
 /// from OVERFLOW up alone.
@@ -7,7 +10,30 @@ pub fn values_keep_types()
     ensures { ValuesKeepTypes }
 {}
 
-/// Legal databases are worlds in which that holds.
+/// Legal databases are worlds in which that holds, also with another relation in place of what a
+/// base relvar holds.
 pub fn legal_databases_keep_scopes()
-    ensures { LegalDatabasesKeepScopes }
+    ensures legal { LegalDatabasesKeepScopes }
+    ensures other { OtherRelationsKeepScopes }
+{}
+
+/// The value of an expression that has a type depends only on what it mentions.
+pub fn values_depend_on_mentions()
+    ensures { ValuesDependOnMentions }
+{}
+
+/// In legal databases that agree on the entries that it mentions, it has the same value.
+pub fn values_depend_on_entries()
+    ensures { ValuesDependOnEntries }
+{}
+
+/// Types and base relvars that are added to a database change no value of an expression that has
+/// a type in it.
+pub fn later_entries_change_nothing()
+    ensures { LaterEntriesChangeNothing }
+{}
+
+/// WHERE and EXTEND give the same in whatever order the tuples of a relation are taken.
+pub fn tuple_order_does_not_count()
+    ensures { TupleOrderDoesNotCount }
 {}

@@ -7,3 +7,4 @@ pub mod laws;
 mod operators;
 mod rows;
 mod sight;
+pub mod value;

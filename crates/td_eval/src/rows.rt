@@ -1,13 +1,16 @@
 //! What an expression gives of each row.
-ghost use Rattle.std.specs.Prelude.{◌≡◌, IfOk};
+ghost use Rattle.std.specs.Prelude.{◌≡◌, ℕ, IfOk, List, map};
+ghost use Rattle.td_eval.specs.NewColumns.{column_view, with_values};
 ghost use Rattle.td_eval.specs.OperatorValues.{truth_value, value_of_type};
-ghost use Rattle.td_tree.specs.Outcomes.{Answers, Outcome, with_value};
+ghost use Rattle.td_tree.specs.Outcomes.{Answers, Outcome, Valued, with_value};
 ghost use Rattle.td_types.specs.Views.{type_view};
 ghost use Rattle.td_value.specs.Values.{Val};
 
 use crate::operators::asked::{of_type, truth};
 use std::alloc::{AllocError, Global};
+use td_algebra::extension::Column;
 use td_tree::fault::Fault;
+use td_tree::name::Name;
 use td_types::ty::Ty;
 use td_value::tuple::Tuple;
 use td_value::value::Value;
@@ -17,6 +20,17 @@ pub(crate) fn copied(alloc: Global, tuples: &[Tuple]) -> Result<Vec<Tuple>, Allo
     ensures { IfOk result (λ copy. copy.items ≡ tuples.now) }
 {
     let mut copy = Vec::with_capacity(alloc, tuples.len() + 1)?;
+    for tuple in tuples {
+        copy.push(tuple.try_clone()?)?;
+    }
+    Ok(copy)
+}
+
+/// The tuples themselves, in a list of their own.
+pub(crate) fn shared(alloc: Global, tuples: &[&Tuple]) -> Result<Vec<Tuple>, AllocError>
+    ensures { IfOk result (λ copy. copy.items ≡ map (λ t. t.now) tuples.now) }
+{
+    let mut copy = Vec::with_capacity(alloc, tuples.len())?;
     for tuple in tuples {
         copy.push(tuple.try_clone()?)?;
     }
@@ -37,4 +51,28 @@ pub(crate) fn typed(ty: &Ty, answer: Result<Value, Fault>) -> Result<Value, Faul
         → Answers (λ v. v) result (with_value o (value_of_type (type_view ty.now))) }
 {
     of_type(ty, answer?)
+}
+
+/// The name with the value that was answered.
+pub(crate) fn named(name: &Name, answer: Result<Value, Fault>) -> Result<(Name, Value), Fault>
+    ensures { (o : Outcome Val) → Answers (λ v. v) answer o
+        → Answers {A = List ℕ × Val} (λ e. e) result
+        (with_value o (λ v. Valued (name.now, v))) }
+{
+    let value = answer?;
+    Ok((name.try_clone()?, value))
+}
+
+/// The new attribute with the values that were answered.
+pub(crate) fn named_column(
+    name: &Name,
+    ty: &Ty,
+    answer: Result<Vec<Value>, Fault>,
+) -> Result<(Name, Column), Fault>
+    ensures { (o : Outcome (List Val)) → Answers (λ vs. vs.items) answer o
+        → Answers column_view result (with_values (name.now, type_view ty.now) o) }
+{
+    let values = answer?;
+    let ty = ty.try_clone()?;
+    Ok((name.try_clone()?, Column { ty, values }))
 }

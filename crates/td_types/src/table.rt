@@ -1,6 +1,6 @@
 //! Declared types in their order, looked up by name.
 ghost use Rattle.std.specs.Prelude.{◌≡◌, ◌↔◌, ◌++◌, ◌∷◌, [], IsTrue, OnErr, OnOk, map, not};
-ghost use Rattle.std.specs.Prelude.{option_map, slice_get};
+ghost use Rattle.std.specs.Prelude.{length, option_map, slice_get};
 ghost use Rattle.td_tree.specs.TreeViews.{tree_view};
 ghost use Rattle.td_types.specs.Headings.{are_distinct};
 ghost use Rattle.td_types.specs.Pairs.{ArePairs};
@@ -116,6 +116,13 @@ impl TypeTable {
     /// Where the table's memory is from.
     pub(crate) fn allocator(&self) -> Global {
         *self.rows.allocator()
+    }
+
+    /// How many types are declared.
+    pub fn len(&self) -> usize
+        ensures { result ≡ length self.now }
+    {
+        self.rows.len()
     }
 
     /// The declared type of that name.

@@ -9,6 +9,7 @@ pub mod LiteralHeights
 pub mod LiteralSpellings
 pub mod Maps
 pub mod Members
+pub mod Named
 pub mod Places
 pub mod Rows
 pub mod SetLaws

@@ -85,7 +85,8 @@ module _ {K : Type 0} (R : K → K → Ordering) (o : IsTotalOrder R) (same : (x
       by_test rest true e = absurd (true≢false e)
       by_test rest false e = ap (λ ys. x ∷ ys) (rest e)
 
-  in_order : (xs : List K) → IsStrictlySortedBy R xs → IsSortedBy (λ x y. is_lt (R x y)) xs
+  -- a strictly ascending list ascends
+  pub in_order : (xs : List K) → IsStrictlySortedBy R xs → IsSortedBy (λ x y. is_lt (R x y)) xs
   unfolding IsStrictlySortedBy
   in_order [] a k d l u = absurd (omega arith)
   in_order (x ∷ []) a k d l u = absurd (omega arith)

@@ -275,17 +275,14 @@ impl Tuple {
 
 /// The value that stands where the name does.
 fn value_named<'a>(names: &[Name], values: &'a [Value], name: &Name) -> Option<&'a Value>
-    requires { length names.now ≡ length values.now }
+    requires same { length names.now ≡ length values.now }
+    requires ascending { IsStrictlySortedBy (slice_cmp nat_cmp) names.now }
     ensures { option_map (λ v. v.now) result ≡ value_at name.now (tuple_view names.now values.now) }
 {
-    let mut place = 0;
-    for value in values {
-        if names[place] == *name {
-            return Some(value);
-        }
-        place += 1;
+    match names.binary_search(name) {
+        Ok(place) => Some(&values[place]),
+        Err(_) => None,
     }
-    None
 }
 
 /// Whether each of the tuples has the heading.

@@ -119,7 +119,7 @@ fn scope<'a>(alloc: Global, table: &'a TypeTable, texts: &[&str]) -> Result<Scop
 // ---- what is answered
 
 /// The expression of that text.
-fn expression(alloc: Global, text: &str) -> Result<Expr, Fault> {
+pub fn expression(alloc: Global, text: &str) -> Result<Expr, Fault> {
     let written = format!(in alloc; "WRITE {text};")?;
     match parse(alloc, written.as_bytes())? {
         Statement::Write(tree) => Ok(tree),
@@ -128,7 +128,7 @@ fn expression(alloc: Global, text: &str) -> Result<Expr, Fault> {
 }
 
 /// Whether the answer is a refusal by that cause. Want of memory is none.
-fn is_refused<T: Drop>(answer: Result<T, Fault>, cause: Cause) -> Result<bool, Fault> {
+pub fn is_refused<T: Drop>(answer: Result<T, Fault>, cause: Cause) -> Result<bool, Fault> {
     match answer {
         Ok(_) => Ok(false),
         Err(Fault::Refused(found)) => Ok(found == cause),

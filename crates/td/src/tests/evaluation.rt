@@ -1,0 +1,157 @@
+//! The values of expressions where a few types and relvars are known, and the causes for which there
+//! are none.
+mod causes;
+mod heights;
+mod names;
+mod places;
+mod relations;
+mod scalars;
+
+use super::checks::{expression, is_refused};
+use super::databases::{add_base, add_type};
+use super::names::name;
+use std::alloc::Global;
+use td_body::sorted::SortedBody;
+use td_catalog::catalog::Catalog;
+use td_check::expression::check_expr;
+use td_eval::env::Env;
+use td_eval::value::eval;
+use td_tree::cause::Cause;
+use td_tree::fault::Fault;
+use td_tree::name::Name;
+use td_types::text::type_text;
+use td_value::relation::Rel;
+use td_value::value::{Node, Value};
+
+// ---- what is known
+
+/// The types, each with the name of its number and the condition that this meets.
+const TYPES: [(&str, &str, &str); 3] = [
+    ("QTY", "Q", "Q >= 0"),
+    // with no value for 0
+    ("INVERSE", "N", "1 / N > 0"),
+    // with the selector of another type
+    ("PART", "P", "THE_Q(QTY(P)) < 10"),
+];
+
+/// The base relvars, each with the names of its key and what it holds.
+const BASES: [(&str, &[&str], &str); 3] = [
+    (
+        "R",
+        &["A", "B"],
+        "RELATION {TUPLE {A 1, B 2}, TUPLE {A 1, B 3}, TUPLE {A 2, B 2}}",
+    ),
+    (
+        "S",
+        &["SNO"],
+        "RELATION {TUPLE {SNO 1, QTY 0}, TUPLE {SNO 3, QTY 5}}",
+    ),
+    // with an attribute of its own name
+    ("E", &["E"], "RELATION {TUPLE {E 1}, TUPLE {E 2}}"),
+];
+
+/// The relation that is the value of the text.
+fn relation(alloc: Global, catalog: &Catalog<SortedBody>, text: &str) -> Result<Rel, Fault> {
+    let value = evaluated(alloc, catalog, text)?;
+    match &value.node {
+        Node::Rel(rel) => Ok(rel.try_clone()?),
+        _ => Err(Fault::Refused(Cause::TypeMismatch)),
+    }
+}
+
+fn named(alloc: Global, texts: &[&str]) -> Result<Vec<Name>, Fault> {
+    let mut names = Vec::new(alloc);
+    for text in texts {
+        names.push(name(alloc, text)?)?;
+    }
+    Ok(names)
+}
+
+/// The database of these types and base relvars.
+fn database(alloc: Global) -> Result<Catalog<SortedBody>, Fault> {
+    let mut catalog = Catalog::new(alloc);
+    for (ty, number, condition) in TYPES {
+        let condition = expression(alloc, condition)?;
+        add_type(
+            &mut catalog,
+            alloc,
+            name(alloc, ty)?,
+            name(alloc, number)?,
+            condition,
+        )?;
+    }
+    for (relvar, key, text) in BASES {
+        let rel = relation(alloc, &catalog, text)?;
+        add_base(
+            &mut catalog,
+            alloc,
+            name(alloc, relvar)?,
+            &named(alloc, key)?,
+            &rel,
+        )?;
+    }
+    Ok(catalog)
+}
+
+// ---- what is answered
+
+/// The value of the text where no tuple is in hand.
+fn evaluated<'a>(
+    alloc: Global,
+    catalog: &'a Catalog<SortedBody>,
+    text: &str,
+) -> Result<Value, Fault> {
+    let tree = expression(alloc, text)?;
+    let other: Option<(&'a Name, &'a Rel)> = None;
+    let env = Env {
+        catalog,
+        other,
+        tuples: &[],
+    };
+    eval(alloc, &env, &tree)
+}
+
+/// The text of the type of the text.
+fn type_of(alloc: Global, catalog: &Catalog<SortedBody>, text: &str) -> Result<String, Fault> {
+    let tree = expression(alloc, text)?;
+    let ty = check_expr(&catalog.scope()?, &tree)?;
+    Ok(type_text(alloc, &ty)?)
+}
+
+/// An expression with the text of its type and the literal of its value.
+type Valued = (&'static str, &'static str, &'static str);
+
+/// An expression with a type, and the cause for which it has no value.
+type Refusal = (&'static str, Cause);
+
+fn has_value(alloc: Global, catalog: &Catalog<SortedBody>, case: &Valued) -> Result<bool, Fault> {
+    let (text, ty, literal) = case;
+    let value = evaluated(alloc, catalog, text)?;
+    Ok(type_of(alloc, catalog, text)?.as_str() == *ty && value.literal(alloc)?.as_str() == *literal)
+}
+
+fn has_cause(alloc: Global, catalog: &Catalog<SortedBody>, case: &Refusal) -> Result<bool, Fault> {
+    let (text, cause) = case;
+    type_of(alloc, catalog, text)?;
+    is_refused(evaluated(alloc, catalog, text), *cause)
+}
+
+/// The first of the expressions that is not answered as it should be.
+fn first_wrong(
+    alloc: Global,
+    values: &[Valued],
+    refusals: &[Refusal],
+) -> Result<Option<&'static str>, Fault> {
+    let catalog = database(alloc)?;
+    for case in values {
+        if has_value(alloc, &catalog, case) != Ok(true) {
+            return Ok(Some(case.0));
+        }
+    }
+    for case in refusals {
+        if has_cause(alloc, &catalog, case) != Ok(true) {
+            return Ok(Some(case.0));
+        }
+    }
+    Ok(None)
+}

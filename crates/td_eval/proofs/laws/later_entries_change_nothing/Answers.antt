@@ -1,0 +1,5 @@
+use Rattle.td_eval.proofs.LaterEntries.{later_entries_change_nothing}
+use Rattle.td_eval.proofs.laws.later_entries_change_nothing.Goals as goal
+
+pub returns : goal.returns
+returns c = later_entries_change_nothing

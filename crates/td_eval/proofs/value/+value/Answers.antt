@@ -1,0 +1,358 @@
+use Rattle.std.proofs.Common.{◌≡◌, ◌∙◌, ◌∷◌, ℕ, List, Ok, ap, arith, length, map, option_map, refl, reverse, subst, sym, take}
+use Rattle.std.proofs.lemmas.List.{length-map}
+use Rattle.std.proofs.lemmas.Result.{err_from_is_err_and}
+use Rattle.std.proofs.Math.Nat.{le-max_right}
+use Rattle.std.specs.Global.{Vec}
+use Rattle.std.specs.List.{zip}
+use Rattle.td_algebra.specs.Columns.{columns_view}
+use Rattle.td_algebra.specs.declared.extension.Column.{Column}
+use Rattle.td_check.proofs.CheckedLists.{step_taken}
+use Rattle.td_check.proofs.GatheredAnswers.{refusal_gathered, value_gathered}
+use Rattle.td_check.proofs.Gives.{answered_then}
+use Rattle.td_check.specs.OperatorTypes.{are_types_of}
+use Rattle.td_check.specs.Scopes.{entered_with}
+use Rattle.td_check.specs.StaticTypes.{named_types}
+use Rattle.td_eval.proofs.Measures.{height_listed, height_named, weight_before}
+use Rattle.td_eval.proofs.OpElements.{element_gathered, element_refused}
+use Rattle.td_eval.proofs.Selectors.{is_selector, never_missing, types_seen}
+use Rattle.td_eval.proofs.WalkedColumns.{beside_at, beside_past, beside_within, column_found, columns_are}
+use Rattle.td_eval.proofs.WalkedExtension.{answers_related, apart_given, attributes_refused, columns_fit, columns_of_additions, columns_refused, distinct_given, extended_given, same_attributes, types_given}
+use Rattle.td_eval.proofs.WalkedLists.{arguments_are, as_many_parts, as_many_types, entries_are, entry_found, of_as_many, value_found, walked, walked_values}
+use Rattle.td_eval.proofs.WalkedSelections.{constructed_of, mismatched}
+use Rattle.td_eval.specs.DatabaseWorlds.{constraint_value, world_of_types}
+use Rattle.td_eval.specs.NewColumns.{column_view, named_columns}
+use Rattle.td_eval.specs.OperatorValues.{additions_of, column_values, extended_value, listed_value, on_relation, restricted_value, truth_value, tuple_from, value_of_type}
+use Rattle.td_eval.specs.Sights.{seen_by}
+use Rattle.td_eval.specs.TreeValues.{argument_values, entry_values, value_of, values_in_tuples}
+use Rattle.td_eval.specs.Worlds.{scope_among, selected}
+use Rattle.td_tree.specs.Gatherings.{IsGathered}
+use Rattle.td_tree.specs.Heights.{height, highest, highest_named, type_height}
+use Rattle.td_tree.specs.Outcomes.{Answers, Valued, gathered, with_value}
+use Rattle.td_tree.specs.TreeViews.{heading_tree_view, named_view, tree_view, trees_view}
+use Rattle.td_tree.specs.Trees as trees
+use Rattle.td_tree.proofs.Rows.{extend_is, headed_relation_is, relation_is, select_is, tuple_is}
+use Rattle.td_types.specs.declared.ty.Ty.{Ty}
+use Rattle.td_types.specs.Headings.{are_distinct, have_no_common}
+use Rattle.td_types.specs.Pairs.{pair_view}
+use Rattle.td_types.specs.TypeLists.{heading_meant}
+use Rattle.td_types.specs.Types.{attribute_names}
+use Rattle.td_types.specs.Views.{pairs_view, type_view}
+use Rattle.td_types.proofs.Resolutions.{answers_still}
+use Rattle.td_value.specs.Values.{Val, type_of}
+use Rattle.td_eval.proofs.value.+value.Goals as goal
+
+-- ---- lists
+
+pub values_of-loop-expr-preserved : goal.values_of-loop-expr-preserved
+values_of-loop-expr-preserved g t c =
+    element_gathered _ (value_found (seen_by c.args.sight.now) (reverse c.args.tuples.now)) c.args.exprs.now c.loop-expr.expr-index c.expr-item.result c.loop-expr-test.true c.expr-item.is
+    c.loop-expr.causes c.loop-expr.values.items c.value_of.result c.add.new.self c.loop-expr.invariant c.value_of.ensures c.add.ensures.cause
+    c.in-Some.value (Ok c.in_ok-value.field-0) (ap Ok c.in-Some.is) c.in_ok-value.ensures.rest c.push.new.self.items c.in_ok-push.ensures.items
+
+pub values_of-loop-expr-preserved-in_default : goal.values_of-loop-expr-preserved-in_default
+values_of-loop-expr-preserved-in_default g t c =
+    element_refused _ (value_found (seen_by c.args.sight.now) (reverse c.args.tuples.now)) c.args.exprs.now c.loop-expr.expr-index c.expr-item.result c.loop-expr-test.true c.expr-item.is
+    c.loop-expr.causes c.loop-expr.values.items c.value_of.result c.add.new.self c.loop-expr.invariant c.value_of.ensures c.add.ensures.cause
+    (Ok c.in_ok-value.field-0) (ap Ok c.in_default.is) c.in_ok-value.ensures.rest
+
+pub values_of-returns : goal.values_of-returns
+values_of-returns g t c =
+    walked_values (value_found (seen_by c.args.sight.now) (reverse c.args.tuples.now)) c.args.exprs.now c.loop-expr.expr-index c.loop-expr-test.false c.loop-expr.causes c.loop-expr.values c.finish.result c.finish.ensures
+    c.loop-expr.invariant _ (arguments_are (seen_by c.args.sight.now) (reverse c.args.tuples.now) c.args.exprs.now)
+
+pub entries-loop-part-preserved : goal.entries-loop-part-preserved
+entries-loop-part-preserved g t c =
+    element_gathered _ (entry_found (seen_by c.args.sight.now) (reverse c.args.tuples.now)) c.args.parts.now c.loop-part.part-index c.part-item.result c.loop-part-test.true c.part-item.is
+    c.loop-part.causes c.loop-part.entries.items c.named-entry.result c.add.new.self c.loop-part.invariant (c.named-entry.ensures (value_of (seen_by c.args.sight.now) (reverse c.args.tuples.now) (tree_view c.part-item.result.value)) c.value_of.ensures) c.add.ensures.cause
+    c.in-Some.entry (Ok c.in_ok-entry.field-0) (ap Ok c.in-Some.is) c.in_ok-entry.ensures.rest c.push.new.self.items c.in_ok-push.ensures.items
+
+pub entries-loop-part-preserved-in_default : goal.entries-loop-part-preserved-in_default
+entries-loop-part-preserved-in_default g t c =
+    element_refused _ (entry_found (seen_by c.args.sight.now) (reverse c.args.tuples.now)) c.args.parts.now c.loop-part.part-index c.part-item.result c.loop-part-test.true c.part-item.is
+    c.loop-part.causes c.loop-part.entries.items c.named-entry.result c.add.new.self c.loop-part.invariant (c.named-entry.ensures (value_of (seen_by c.args.sight.now) (reverse c.args.tuples.now) (tree_view c.part-item.result.value)) c.value_of.ensures) c.add.ensures.cause
+    (Ok c.in_ok-entry.field-0) (ap Ok c.in_default.is) c.in_ok-entry.ensures.rest
+
+pub entries-returns : goal.entries-returns
+entries-returns g t c =
+    walked_values (entry_found (seen_by c.args.sight.now) (reverse c.args.tuples.now)) c.args.parts.now c.loop-part.part-index c.loop-part-test.false c.loop-part.causes c.loop-part.entries c.finish.result c.finish.ensures
+    c.loop-part.invariant _ (entries_are (seen_by c.args.sight.now) (reverse c.args.tuples.now) c.args.parts.now)
+
+pub truths-loop-row-preserved : goal.truths-loop-row-preserved
+truths-loop-row-preserved g t c = (
+  element_gathered _ (λ t. truth_value (value_of (seen_by c.args.sight.now) (t ∷ reverse c.args.tuples.now) (tree_view c.args.condition.now))) c.rows-rows.result.now c.loop-row.row-index c.row-item.result c.loop-row-test.true c.row-item.is
+      c.loop-row.causes c.loop-row.truths.items c.truth_of-truth.result c.add.new.self c.loop-row.invariant.0 (c.truth_of-truth.ensures _ (subst (λ s. Answers (λ v. v) c.value_in_row.result (value_of (seen_by c.args.sight.now) (c.row-item.result ∷ reverse s) (tree_view c.args.condition.now))) c.loop-row.invariant.1 c.value_in_row.ensures.value)) c.add.ensures.cause
+      c.in-Some.truth (Ok c.in_ok-truth.field-0) (ap Ok c.in-Some.is) c.in_ok-truth.ensures.rest c.push.new.self.items c.in_ok-push.ensures.items,
+  c.value_in_row.ensures.tuples ∙ c.loop-row.invariant.1,
+)
+
+pub truths-loop-row-preserved-in_default : goal.truths-loop-row-preserved-in_default
+truths-loop-row-preserved-in_default g t c = (
+  element_refused _ (λ t. truth_value (value_of (seen_by c.args.sight.now) (t ∷ reverse c.args.tuples.now) (tree_view c.args.condition.now))) c.rows-rows.result.now c.loop-row.row-index c.row-item.result c.loop-row-test.true c.row-item.is
+      c.loop-row.causes c.loop-row.truths.items c.truth_of-truth.result c.add.new.self c.loop-row.invariant.0 (c.truth_of-truth.ensures _ (subst (λ s. Answers (λ v. v) c.value_in_row.result (value_of (seen_by c.args.sight.now) (c.row-item.result ∷ reverse s) (tree_view c.args.condition.now))) c.loop-row.invariant.1 c.value_in_row.ensures.value)) c.add.ensures.cause
+      (Ok c.in_ok-truth.field-0) (ap Ok c.in_default.is) c.in_ok-truth.ensures.rest,
+  c.value_in_row.ensures.tuples ∙ c.loop-row.invariant.1,
+)
+
+pub truths-returns : goal.truths-returns
+truths-returns g t c =
+    walked_values (λ t. truth_value (value_of (seen_by c.args.sight.now) (t ∷ reverse c.args.tuples.now) (tree_view c.args.condition.now))) c.rows-rows.result.now c.loop-row.row-index c.loop-row-test.false c.loop-row.causes c.loop-row.truths c.finish.result c.finish.ensures
+    c.loop-row.invariant.0 _ (ap (λ ts. gathered (map (λ t. truth_value (value_of (seen_by c.args.sight.now) (t ∷ reverse c.args.tuples.now) (tree_view c.args.condition.now))) ts)) c.rows-rows.ensures.rows)
+
+pub column-loop-row-preserved : goal.column-loop-row-preserved
+column-loop-row-preserved g t c = (
+  element_gathered _ (λ t. with_value (value_of (seen_by c.args.sight.now) (t ∷ reverse c.args.tuples.now) (tree_view c.args.expr.now)) (value_of_type (type_view c.args.ty.now))) c.rows-rows.result.now c.loop-row.row-index c.row-item.result c.loop-row-test.true c.row-item.is
+      c.loop-row.causes c.loop-row.values.items c.typed-value.result c.add.new.self c.loop-row.invariant.0 (c.typed-value.ensures _ (subst (λ s. Answers (λ v. v) c.value_in_row.result (value_of (seen_by c.args.sight.now) (c.row-item.result ∷ reverse s) (tree_view c.args.expr.now))) c.loop-row.invariant.1 c.value_in_row.ensures.value)) c.add.ensures.cause
+      c.in-Some.value (Ok c.in_ok-value.field-0) (ap Ok c.in-Some.is) c.in_ok-value.ensures.rest c.push.new.self.items c.in_ok-push.ensures.items,
+  c.value_in_row.ensures.tuples ∙ c.loop-row.invariant.1,
+)
+
+pub column-loop-row-preserved-in_default : goal.column-loop-row-preserved-in_default
+column-loop-row-preserved-in_default g t c = (
+  element_refused _ (λ t. with_value (value_of (seen_by c.args.sight.now) (t ∷ reverse c.args.tuples.now) (tree_view c.args.expr.now)) (value_of_type (type_view c.args.ty.now))) c.rows-rows.result.now c.loop-row.row-index c.row-item.result c.loop-row-test.true c.row-item.is
+      c.loop-row.causes c.loop-row.values.items c.typed-value.result c.add.new.self c.loop-row.invariant.0 (c.typed-value.ensures _ (subst (λ s. Answers (λ v. v) c.value_in_row.result (value_of (seen_by c.args.sight.now) (c.row-item.result ∷ reverse s) (tree_view c.args.expr.now))) c.loop-row.invariant.1 c.value_in_row.ensures.value)) c.add.ensures.cause
+      (Ok c.in_ok-value.field-0) (ap Ok c.in_default.is) c.in_ok-value.ensures.rest,
+  c.value_in_row.ensures.tuples ∙ c.loop-row.invariant.1,
+)
+
+pub column-returns : goal.column-returns
+column-returns g t c =
+    walked_values (λ t. with_value (value_of (seen_by c.args.sight.now) (t ∷ reverse c.args.tuples.now) (tree_view c.args.expr.now)) (value_of_type (type_view c.args.ty.now))) c.rows-rows.result.now c.loop-row.row-index c.loop-row-test.false c.loop-row.causes c.loop-row.values c.finish.result c.finish.ensures
+    c.loop-row.invariant.0 _ (ap (λ ts. gathered (map (λ t. with_value (value_of (seen_by c.args.sight.now) (t ∷ reverse c.args.tuples.now) (tree_view c.args.expr.now)) (value_of_type (type_view c.args.ty.now))) ts)) c.rows-rows.ensures.rows)
+
+-- ---- tuples that are gone through
+
+pub truths-loop-row-init : goal.truths-loop-row-init
+truths-loop-row-init g t c =
+    (rw (c.new-causes.ensures, c.in_ok-truths.ensures.items) refl, c.in_ok-inner.ensures)
+
+pub column-loop-row-init : goal.column-loop-row-init
+column-loop-row-init g t c =
+    (rw (c.new-causes.ensures, c.in_ok-values.ensures.items) refl, c.in_ok-inner.ensures)
+
+-- ---- how deep
+
+pub values_of-value_of-requires : goal.values_of-value_of-requires
+values_of-value_of-requires g t c =
+    λ κs o. (
+      (let h = height_listed c.args.exprs.now c.loop-expr.expr-index c.expr-item.result c.loop-expr-test.true c.expr-item.is in omega (arith, c.decreases, h)),
+      (o, c.requires),
+    )
+
+pub entries-value_of-requires : goal.entries-value_of-requires
+entries-value_of-requires g t c =
+    λ κs o. (
+      (let h = height_named c.args.parts.now c.loop-part.part-index c.part-item.result c.loop-part-test.true c.part-item.is in omega (arith, c.decreases, h)),
+      (o, c.requires),
+    )
+
+pub columns-column-values-requires : goal.columns-column-values-requires
+columns-column-values-requires g t c =
+    λ κs o. (
+      (let h = height_named c.args.parts.now c.loop-place.place c.index-parts-place.result c.loop-place-test.true c.index-parts-place.is in omega (arith, c.decreases, h)),
+      (o, c.requires.sight),
+    )
+
+pub value_of-values_of-requires : goal.value_of-values_of-requires
+value_of-values_of-requires g t c =
+    λ κs o. (
+      (let h = ap height (ap tree_view c.in-Select.is ∙ select_is c.in-Select.ty c.in-Select.arguments ∙ ap (λ xs. trees.select c.in-Select.ty (trees_view xs)) (sym c.deref-in-Select.ensures.value)) in omega (arith, c.decreases, h)),
+      (o, c.requires),
+    )
+
+pub value_of-values_of-requires-in-Relation : goal.value_of-values_of-requires-in-Relation
+value_of-values_of-requires-in-Relation g t c =
+    λ κs o. (
+      (let h = ap height (ap tree_view c.in-Relation.is ∙ relation_is c.in-Relation.elements ∙ ap (λ xs. trees.relation (trees_view xs)) (sym c.deref-in-Relation.ensures.value)) in omega (arith, c.decreases, h)),
+      (o, c.requires),
+    )
+
+pub value_of-entries-requires : goal.value_of-entries-requires
+value_of-entries-requires g t c =
+    λ κs o. (
+      (let h = ap height (ap tree_view c.in-Tuple.is ∙ tuple_is c.in-Tuple.parts ∙ ap (λ xs. trees.tuple (named_view xs)) (sym c.deref-in-Tuple.ensures.value)) in omega (arith, c.decreases, h)),
+      (o, c.requires),
+    )
+
+pub value_of-values_of-elements-requires : goal.value_of-values_of-elements-requires
+value_of-values_of-elements-requires g t c =
+    λ κs o. (
+      (let h = ap height (ap tree_view c.in-HeadedRelation.is ∙ headed_relation_is c.in-HeadedRelation.heading c.in-HeadedRelation.elements ∙ ap (λ xs. trees.headed_relation (heading_tree_view c.in-HeadedRelation.heading.items) (trees_view xs)) (sym c.deref-in-HeadedRelation.ensures.value)) in let low = le-max_right (type_height (trees.relation_type (heading_tree_view c.in-HeadedRelation.heading.items))) (highest (trees_view c.deref-in-HeadedRelation.result.now)) in omega (arith, c.decreases, h, low)),
+      (o, c.requires),
+    )
+
+pub value_of-extension-requires : goal.value_of-extension-requires
+value_of-extension-requires g t c =
+    λ κs o. (
+      (let h = ap height (ap tree_view c.in-Extend.is ∙ extend_is c.in-Extend.operand c.in-Extend.parts ∙ (λ i. trees.extend (tree_view (sym c.deref-in-Extend.ensures i)) (named_view (sym c.deref-in-Extend-2.ensures.value i)))) in let low = le-max_right (height (tree_view c.deref-in-Extend.result.now)) (highest_named (named_view c.deref-in-Extend-2.result.now)) in omega (arith, c.decreases, h, low)),
+      (o, c.requires),
+    )
+
+-- ---- selectors
+
+pub selected-returns-in_default-get : goal.selected-returns-in_default-get
+selected-returns-in_default-get g t c =
+    absurd (never_missing c.args.sight.now c.args.name.now c.requires c.in-Some.place c.in-Some.ensures.found.0 (sym c.get.ensures ∙ ap (option_map (λ e. e.now)) c.in_default-get.is))
+
+pub selected-returns-then-not-have_types : goal.selected-returns-then-not-have_types
+selected-returns-then-not-have_types g t c =
+    let is = is_selector c.args.sight.now c.args.name.now c.requires c.in-Some.place c.in-Some-get.entry.now c.in-Some.ensures.found.0 c.in-Some.ensures.found.1 (sym c.get.ensures ∙ ap (option_map (λ e. e.now)) c.in-Some-get.is) in
+    mismatched c.args.sight.now c.args.name.now c.in-Some.place c.in-Some-get.entry.now is c.args.values.items
+    ((λ i. are_types_of (map type_of (sym c.deref.ensures.value i)) (sym c.components.ensures i)) ∙ sym c.have_types.ensures ∙ c.if-not-have_types.true)
+
+pub selected-meets_constraint-holds-requires : goal.selected-meets_constraint-holds-requires
+selected-meets_constraint-holds-requires g t c =
+    let is = is_selector c.args.sight.now c.args.name.now c.requires c.in-Some.place c.in-Some-get.entry.now c.in-Some.ensures.found.0 c.in-Some.ensures.found.1 (sym c.get.ensures ∙ ap (option_map (λ e. e.now)) c.in-Some-get.is) in
+    λ κs o. (
+      (let h = weight_before c.args.sight.now.types.now c.in-Some.place c.args.sight.now.selectors c.in-Some-get.entry.now is.entry is.known in omega (arith, c.decreases, h)),
+      (o, (c.requires, (is.known, is.entry))),
+    )
+
+pub selected-returns : goal.selected-returns
+selected-returns g t c =
+    let is = is_selector c.args.sight.now c.args.name.now c.requires c.in-Some.place c.in-Some-get.entry.now c.in-Some.ensures.found.0 c.in-Some.ensures.found.1 (sym c.get.ensures ∙ ap (option_map (λ e. e.now)) c.in-Some-get.is) in
+    constructed_of c.args.sight.now c.args.name.now c.in-Some.place c.in-Some-get.entry.now is c.args.values.items
+    ((λ i. are_types_of (map type_of (sym c.deref.ensures.value i)) (sym c.components.ensures i)) ∙ sym c.have_types.ensures ∙ c.if-not-have_types.false)
+    c.constructed.result
+    (c.constructed.ensures _
+    (subst (λ vs. Answers (λ b. b) c.meets_constraint-holds.result (constraint_value (world_of_types c.args.sight.now.types.now (take c.in-Some.place c.args.sight.now.types.now)) c.in-Some-get.entry.now vs))
+    c.deref-2.ensures.value c.meets_constraint-holds.ensures))
+
+-- ---- lists in a tree
+
+pub value_of-returns-in_err-values_of-in-Select : goal.value_of-returns-in_err-values_of-in-Select
+value_of-returns-in_err-values_of-in-Select g t c =
+    let p = err_from_is_err_and c.from_residual-in_err-values_of-in-Select.result c.from_residual-in_err-values_of-in-Select.ensures.1 in
+    let is = ap tree_view c.in-Select.is ∙ select_is c.in-Select.ty c.in-Select.arguments ∙ ap (λ xs. trees.select c.in-Select.ty (trees_view xs)) (sym c.deref-in-Select.ensures.value) in
+    rw (p.1, p.2, is)
+    (answers_still (λ (vs : Vec Val). vs.items) (λ (v : Val). v) _ (argument_values (seen_by c.args.sight.now) (reverse c.args.tuples.now) (trees_view c.deref-in-Select.result.now)) (selected (seen_by c.args.sight.now) c.in-Select.ty) c.in_err-values_of-in-Select.ensures)
+
+pub value_of-returns-in_ok-values_of-in-Select : goal.value_of-returns-in_ok-values_of-in-Select
+value_of-returns-in_ok-values_of-in-Select g t c =
+    let is = ap tree_view c.in-Select.is ∙ select_is c.in-Select.ty c.in-Select.arguments ∙ ap (λ xs. trees.select c.in-Select.ty (trees_view xs)) (sym c.deref-in-Select.ensures.value) in
+    rw is
+    (answered_then (λ vs. vs.items) c.in_ok-values_of-in-Select.field-0 (argument_values (seen_by c.args.sight.now) (reverse c.args.tuples.now) (trees_view c.deref-in-Select.result.now)) (selected (seen_by c.args.sight.now) c.in-Select.ty) (λ v. v) c.selected.result c.in_ok-values_of-in-Select.ensures c.selected.ensures)
+
+pub value_of-returns-in_err-values_of-in-Relation : goal.value_of-returns-in_err-values_of-in-Relation
+value_of-returns-in_err-values_of-in-Relation g t c =
+    let p = err_from_is_err_and c.from_residual-in_err-values_of-in-Relation.result c.from_residual-in_err-values_of-in-Relation.ensures.1 in
+    let is = ap tree_view c.in-Relation.is ∙ relation_is c.in-Relation.elements ∙ ap (λ xs. trees.relation (trees_view xs)) (sym c.deref-in-Relation.ensures.value) in
+    rw (p.1, p.2, is)
+    (answers_still (λ (vs : Vec Val). vs.items) (λ (v : Val). v) _ (argument_values (seen_by c.args.sight.now) (reverse c.args.tuples.now) (trees_view c.deref-in-Relation.result.now)) listed_value c.in_err-values_of-in-Relation.ensures)
+
+pub value_of-returns-in_ok-values_of-in-Relation : goal.value_of-returns-in_ok-values_of-in-Relation
+value_of-returns-in_ok-values_of-in-Relation g t c =
+    let is = ap tree_view c.in-Relation.is ∙ relation_is c.in-Relation.elements ∙ ap (λ xs. trees.relation (trees_view xs)) (sym c.deref-in-Relation.ensures.value) in
+    rw is
+    (answered_then (λ vs. vs.items) c.in_ok-values_of-in-Relation.field-0 (argument_values (seen_by c.args.sight.now) (reverse c.args.tuples.now) (trees_view c.deref-in-Relation.result.now)) listed_value (λ v. v) c.listed_value.result c.in_ok-values_of-in-Relation.ensures c.listed_value.ensures)
+
+pub value_of-returns-in_err-entries-in-Tuple : goal.value_of-returns-in_err-entries-in-Tuple
+value_of-returns-in_err-entries-in-Tuple g t c =
+    let p = err_from_is_err_and c.from_residual-in_err-entries-in-Tuple.result c.from_residual-in_err-entries-in-Tuple.ensures.1 in
+    let is = ap tree_view c.in-Tuple.is ∙ tuple_is c.in-Tuple.parts ∙ ap (λ xs. trees.tuple (named_view xs)) (sym c.deref-in-Tuple.ensures.value) in
+    rw (p.1, p.2, is)
+    (answers_still (λ (vs : Vec (List ℕ × Val)). vs.items) (λ (v : Val). v) _ (entry_values (seen_by c.args.sight.now) (reverse c.args.tuples.now) (named_view c.deref-in-Tuple.result.now)) tuple_from c.in_err-entries-in-Tuple.ensures)
+
+pub value_of-returns-in_ok-entries-in-Tuple : goal.value_of-returns-in_ok-entries-in-Tuple
+value_of-returns-in_ok-entries-in-Tuple g t c =
+    let is = ap tree_view c.in-Tuple.is ∙ tuple_is c.in-Tuple.parts ∙ ap (λ xs. trees.tuple (named_view xs)) (sym c.deref-in-Tuple.ensures.value) in
+    rw is
+    (answered_then (λ vs. vs.items) c.in_ok-entries-in-Tuple.field-0 (entry_values (seen_by c.args.sight.now) (reverse c.args.tuples.now) (named_view c.deref-in-Tuple.result.now)) tuple_from (λ v. v) c.tuple_from.result c.in_ok-entries-in-Tuple.ensures c.tuple_from.ensures)
+
+pub value_of-returns-in-HeadedRelation : goal.value_of-returns-in-HeadedRelation
+value_of-returns-in-HeadedRelation g t c =
+    let is = ap tree_view c.in-HeadedRelation.is ∙ headed_relation_is c.in-HeadedRelation.heading c.in-HeadedRelation.elements ∙ ap (λ xs. trees.headed_relation (heading_tree_view c.in-HeadedRelation.heading.items) (trees_view xs)) (sym c.deref-in-HeadedRelation.ensures.value) in
+    rw is
+    (c.headed.ensures (heading_meant (seen_by c.args.sight.now).scope.types (heading_tree_view c.in-HeadedRelation.heading.items)) (argument_values (seen_by c.args.sight.now) (reverse c.args.tuples.now) (trees_view c.deref-in-HeadedRelation.result.now))
+    (subst (Answers (λ h. h) c.resolve_heading.result)
+    (λ i. heading_meant (sym (types_seen c.args.sight.now c.requires) i) (heading_tree_view (c.deref-in-HeadedRelation-2.ensures.value i))) c.resolve_heading.ensures)
+    c.values_of-elements.ensures)
+
+-- ---- over tuples
+
+pub value_of-returns-in_ok-value_of-in-Where : goal.value_of-returns-in_ok-value_of-in-Where
+value_of-returns-in_ok-value_of-in-Where g t c =
+    let is = ap tree_view c.in-Binary.is ∙ (λ i. trees.binary (tree_view (sym c.deref-in-Where.ensures i)) (c.in-Where.is i) (tree_view (sym c.deref-in-Where-2.ensures i))) in
+    rw is
+    (answered_then (λ v. v) c.in_ok-value_of-in-Where.field-0 (value_of (seen_by c.args.sight.now) (reverse c.args.tuples.now) (tree_view c.deref-in-Where.result.now))
+    (λ v. on_relation v (restricted_value (λ u. value_of (seen_by c.args.sight.now) (u ∷ (reverse c.args.tuples.now)) (tree_view c.deref-in-Where-2.result.now)))) (λ v. v) c.restriction-in-Where.result
+    c.in_ok-value_of-in-Where.ensures c.restriction-in-Where.ensures)
+
+pub value_of-returns-in_ok-value_of-in-Extend : goal.value_of-returns-in_ok-value_of-in-Extend
+value_of-returns-in_ok-value_of-in-Extend g t c =
+    let is = ap tree_view c.in-Extend.is ∙ extend_is c.in-Extend.operand c.in-Extend.parts ∙ (λ i. trees.extend (tree_view (sym c.deref-in-Extend.ensures i)) (named_view (sym c.deref-in-Extend-2.ensures.value i))) in
+    rw is
+    (answered_then (λ v. v) c.in_ok-value_of-in-Extend.field-0 (value_of (seen_by c.args.sight.now) (reverse c.args.tuples.now) (tree_view c.deref-in-Extend.result.now))
+    (λ v. on_relation v (λ r. extended_value (named_types (entered_with r.heading (scope_among (seen_by c.args.sight.now) (reverse c.args.tuples.now))) (named_view c.deref-in-Extend-2.result.now))
+    (values_in_tuples (seen_by c.args.sight.now) (reverse c.args.tuples.now) (named_view c.deref-in-Extend-2.result.now)) r)) (λ v. v) c.extension-in-Extend.result
+    c.in_ok-value_of-in-Extend.ensures c.extension-in-Extend.ensures)
+
+pub restriction-restricted-requires : goal.restriction-restricted-requires
+restriction-restricted-requires g t c =
+    of_as_many c.truths.result (λ t. truth_value (value_of (seen_by c.args.sight.now) (t ∷ (reverse c.args.tuples.now)) (tree_view c.args.condition.now))) c.in_ok-rel.rel.now.body c.truths.ensures
+
+-- ---- new attributes
+
+pub columns-loop-place-preserved : goal.columns-loop-place-preserved
+columns-loop-place-preserved g t c =
+    let l = c.loop-place in
+    step_taken (λ zs. IsGathered c.add.new.self (columns_view c.push.new.self.items) (map (column_found (seen_by c.args.sight.now) (reverse c.args.tuples.now) c.args.operand.now.body) zs)) (zip c.args.attributes.now c.args.parts.now) l.place (c.index-attributes-place.result, c.index-parts-place.result)
+    (beside_within c.args.attributes.now c.args.parts.now l.place c.requires.lengths c.loop-place-test.true)
+    (beside_at c.args.attributes.now c.args.parts.now l.place c.index-attributes-place.result c.index-parts-place.result c.requires.lengths c.loop-place-test.true c.index-attributes-place.is c.index-parts-place.is)
+    (value_gathered _ column_view (column_found (seen_by c.args.sight.now) (reverse c.args.tuples.now) c.args.operand.now.body) (take l.place (zip c.args.attributes.now c.args.parts.now)) (c.index-attributes-place.result, c.index-parts-place.result) l.causes l.columns.items c.named_column.result c.add.new.self l.invariant
+    (c.named_column.ensures (column_values (type_view c.index-attributes-place.result.1) (λ t. value_of (seen_by c.args.sight.now) (t ∷ (reverse c.args.tuples.now)) (tree_view c.index-parts-place.result.value)) c.args.operand.now.body) c.column-values.ensures) c.add.ensures.cause c.in-Some.column (Ok c.in_ok-column.field-0) (ap Ok c.in-Some.is) c.in_ok-column.ensures.rest c.push.new.self.items c.in_ok-push.ensures.items)
+
+pub columns-loop-place-preserved-in_default : goal.columns-loop-place-preserved-in_default
+columns-loop-place-preserved-in_default g t c =
+    let l = c.loop-place in
+    step_taken (λ zs. IsGathered c.add.new.self (columns_view l.columns.items) (map (column_found (seen_by c.args.sight.now) (reverse c.args.tuples.now) c.args.operand.now.body) zs)) (zip c.args.attributes.now c.args.parts.now) l.place (c.index-attributes-place.result, c.index-parts-place.result)
+    (beside_within c.args.attributes.now c.args.parts.now l.place c.requires.lengths c.loop-place-test.true)
+    (beside_at c.args.attributes.now c.args.parts.now l.place c.index-attributes-place.result c.index-parts-place.result c.requires.lengths c.loop-place-test.true c.index-attributes-place.is c.index-parts-place.is)
+    (refusal_gathered _ column_view (column_found (seen_by c.args.sight.now) (reverse c.args.tuples.now) c.args.operand.now.body) (take l.place (zip c.args.attributes.now c.args.parts.now)) (c.index-attributes-place.result, c.index-parts-place.result) l.causes l.columns.items c.named_column.result c.add.new.self l.invariant
+    (c.named_column.ensures (column_values (type_view c.index-attributes-place.result.1) (λ t. value_of (seen_by c.args.sight.now) (t ∷ (reverse c.args.tuples.now)) (tree_view c.index-parts-place.result.value)) c.args.operand.now.body) c.column-values.ensures) c.add.ensures.cause (Ok c.in_ok-column.field-0) (ap Ok c.in_default.is) c.in_ok-column.ensures.rest)
+
+pub columns-returns : goal.columns-returns
+columns-returns g t c =
+    walked (λ (cs : Vec (List ℕ × Column)). columns_view cs.items) (column_found (seen_by c.args.sight.now) (reverse c.args.tuples.now) c.args.operand.now.body) (zip c.args.attributes.now c.args.parts.now) c.loop-place.place (beside_past c.args.attributes.now c.args.parts.now c.loop-place.place c.requires.lengths c.loop-place-test.false)
+    c.loop-place.causes c.loop-place.columns c.finish.result c.finish.ensures c.loop-place.invariant _
+    (ap gathered (columns_are (seen_by c.args.sight.now) (reverse c.args.tuples.now) c.args.operand.now.body c.args.attributes.now c.args.parts.now))
+
+pub extension-returns-in_err-attributes : goal.extension-returns-in_err-attributes
+extension-returns-in_err-attributes g t c =
+    let p = err_from_is_err_and c.from_residual-in_err-attributes.result c.from_residual-in_err-attributes.ensures.1 in
+    answers_related (λ (v : Val). v) c.args.operand.now c.in_ok-rel.rel.now (λ r. extended_value (named_types (entered_with r.heading (scope_among (seen_by c.args.sight.now) (reverse c.args.tuples.now))) (named_view c.args.parts.now)) (values_in_tuples (seen_by c.args.sight.now) (reverse c.args.tuples.now) (named_view c.args.parts.now)) r) c.from_residual-in_err-attributes.result c.in_ok-rel.ensures
+    (rw (p.1, p.2)
+    (attributes_refused (named_types (entered_with c.in_ok-rel.rel.now.heading (scope_among (seen_by c.args.sight.now) (reverse c.args.tuples.now))) (named_view c.args.parts.now)) (values_in_tuples (seen_by c.args.sight.now) (reverse c.args.tuples.now) (named_view c.args.parts.now)) c.in_ok-rel.rel.now (λ (ts : Vec (List ℕ × Ty)). pairs_view ts.items) _ c.in_err-attributes.ensures))
+
+pub extension-columns-requires : goal.extension-columns-requires
+extension-columns-requires g t c =
+    let many = (as_many_types (entered_with c.in_ok-rel.rel.now.heading (scope_among (seen_by c.args.sight.now) (reverse c.args.tuples.now))) c.args.parts.now (pairs_view c.in_ok-attributes.attributes.items) (types_given (named_types (entered_with c.in_ok-rel.rel.now.heading (scope_among (seen_by c.args.sight.now) (reverse c.args.tuples.now))) (named_view c.args.parts.now)) (values_in_tuples (seen_by c.args.sight.now) (reverse c.args.tuples.now) (named_view c.args.parts.now)) c.in_ok-rel.rel.now (pairs_view c.in_ok-attributes.attributes.items) c.in_ok-attributes.ensures)) in
+    λ κs o. (
+      omega (arith, c.decreases),
+      (o, (c.requires, (ap length c.deref.ensures.value ∙ sym (length-map c.in_ok-attributes.attributes.items pair_view) ∙ many))),
+    )
+
+pub extension-returns-in_err-columns : goal.extension-returns-in_err-columns
+extension-returns-in_err-columns g t c =
+    let p = err_from_is_err_and c.from_residual-in_err-columns.result c.from_residual-in_err-columns.ensures.1 in
+    answers_related (λ (v : Val). v) c.args.operand.now c.in_ok-rel.rel.now (λ r. extended_value (named_types (entered_with r.heading (scope_among (seen_by c.args.sight.now) (reverse c.args.tuples.now))) (named_view c.args.parts.now)) (values_in_tuples (seen_by c.args.sight.now) (reverse c.args.tuples.now) (named_view c.args.parts.now)) r) c.from_residual-in_err-columns.result c.in_ok-rel.ensures
+    (rw (p.1, p.2)
+    (columns_refused (named_types (entered_with c.in_ok-rel.rel.now.heading (scope_among (seen_by c.args.sight.now) (reverse c.args.tuples.now))) (named_view c.args.parts.now)) (values_in_tuples (seen_by c.args.sight.now) (reverse c.args.tuples.now) (named_view c.args.parts.now)) c.in_ok-rel.rel.now (pairs_view c.in_ok-attributes.attributes.items) c.in_ok-attributes.ensures (λ (cs : Vec (List ℕ × Column)). columns_view cs.items) _ (pairs_view c.deref.result.now)
+    (ap pairs_view c.deref.ensures.value) c.in_err-columns.ensures))
+
+pub extension-extended-requires-clause-distinct : goal.extension-extended-requires-clause-distinct
+extension-extended-requires-clause-distinct g t c =
+    ap (λ xs. are_distinct (attribute_names xs)) (same_attributes (named_types (entered_with c.in_ok-rel.rel.now.heading (scope_among (seen_by c.args.sight.now) (reverse c.args.tuples.now))) (named_view c.args.parts.now)) (values_in_tuples (seen_by c.args.sight.now) (reverse c.args.tuples.now) (named_view c.args.parts.now)) c.in_ok-rel.rel.now (pairs_view c.in_ok-attributes.attributes.items) c.in_ok-attributes.ensures (columns_view c.in_ok-columns.columns.items) (subst (λ xs. gathered (named_columns (pairs_view xs) (values_in_tuples (seen_by c.args.sight.now) (reverse c.args.tuples.now) (named_view c.args.parts.now)) c.in_ok-rel.rel.now.body) ≡ Valued (columns_view c.in_ok-columns.columns.items)) c.deref.ensures.value c.in_ok-columns.ensures) ((as_many_types (entered_with c.in_ok-rel.rel.now.heading (scope_among (seen_by c.args.sight.now) (reverse c.args.tuples.now))) c.args.parts.now (pairs_view c.in_ok-attributes.attributes.items) (types_given (named_types (entered_with c.in_ok-rel.rel.now.heading (scope_among (seen_by c.args.sight.now) (reverse c.args.tuples.now))) (named_view c.args.parts.now)) (values_in_tuples (seen_by c.args.sight.now) (reverse c.args.tuples.now) (named_view c.args.parts.now)) c.in_ok-rel.rel.now (pairs_view c.in_ok-attributes.attributes.items) c.in_ok-attributes.ensures)) ∙ sym (as_many_parts (seen_by c.args.sight.now) (reverse c.args.tuples.now) c.args.parts.now))) ∙ distinct_given (named_types (entered_with c.in_ok-rel.rel.now.heading (scope_among (seen_by c.args.sight.now) (reverse c.args.tuples.now))) (named_view c.args.parts.now)) (values_in_tuples (seen_by c.args.sight.now) (reverse c.args.tuples.now) (named_view c.args.parts.now)) c.in_ok-rel.rel.now (pairs_view c.in_ok-attributes.attributes.items) c.in_ok-attributes.ensures
+
+pub extension-extended-requires-clause-new : goal.extension-extended-requires-clause-new
+extension-extended-requires-clause-new g t c =
+    ap (λ xs. have_no_common xs c.in_ok-rel.rel.now.heading) (same_attributes (named_types (entered_with c.in_ok-rel.rel.now.heading (scope_among (seen_by c.args.sight.now) (reverse c.args.tuples.now))) (named_view c.args.parts.now)) (values_in_tuples (seen_by c.args.sight.now) (reverse c.args.tuples.now) (named_view c.args.parts.now)) c.in_ok-rel.rel.now (pairs_view c.in_ok-attributes.attributes.items) c.in_ok-attributes.ensures (columns_view c.in_ok-columns.columns.items) (subst (λ xs. gathered (named_columns (pairs_view xs) (values_in_tuples (seen_by c.args.sight.now) (reverse c.args.tuples.now) (named_view c.args.parts.now)) c.in_ok-rel.rel.now.body) ≡ Valued (columns_view c.in_ok-columns.columns.items)) c.deref.ensures.value c.in_ok-columns.ensures) ((as_many_types (entered_with c.in_ok-rel.rel.now.heading (scope_among (seen_by c.args.sight.now) (reverse c.args.tuples.now))) c.args.parts.now (pairs_view c.in_ok-attributes.attributes.items) (types_given (named_types (entered_with c.in_ok-rel.rel.now.heading (scope_among (seen_by c.args.sight.now) (reverse c.args.tuples.now))) (named_view c.args.parts.now)) (values_in_tuples (seen_by c.args.sight.now) (reverse c.args.tuples.now) (named_view c.args.parts.now)) c.in_ok-rel.rel.now (pairs_view c.in_ok-attributes.attributes.items) c.in_ok-attributes.ensures)) ∙ sym (as_many_parts (seen_by c.args.sight.now) (reverse c.args.tuples.now) c.args.parts.now))) ∙ apart_given (named_types (entered_with c.in_ok-rel.rel.now.heading (scope_among (seen_by c.args.sight.now) (reverse c.args.tuples.now))) (named_view c.args.parts.now)) (values_in_tuples (seen_by c.args.sight.now) (reverse c.args.tuples.now) (named_view c.args.parts.now)) c.in_ok-rel.rel.now (pairs_view c.in_ok-attributes.attributes.items) c.in_ok-attributes.ensures
+
+pub extension-extended-requires-clause-fit : goal.extension-extended-requires-clause-fit
+extension-extended-requires-clause-fit g t c =
+    columns_fit (named_types (entered_with c.in_ok-rel.rel.now.heading (scope_among (seen_by c.args.sight.now) (reverse c.args.tuples.now))) (named_view c.args.parts.now)) (values_in_tuples (seen_by c.args.sight.now) (reverse c.args.tuples.now) (named_view c.args.parts.now)) c.in_ok-rel.rel.now (pairs_view c.in_ok-attributes.attributes.items) c.in_ok-attributes.ensures (columns_view c.in_ok-columns.columns.items) (subst (λ xs. gathered (named_columns (pairs_view xs) (values_in_tuples (seen_by c.args.sight.now) (reverse c.args.tuples.now) (named_view c.args.parts.now)) c.in_ok-rel.rel.now.body) ≡ Valued (columns_view c.in_ok-columns.columns.items)) c.deref.ensures.value c.in_ok-columns.ensures)
+
+pub extension-returns : goal.extension-returns
+extension-returns g t c =
+    answers_related (λ (v : Val). v) c.args.operand.now c.in_ok-rel.rel.now (λ r. extended_value (named_types (entered_with r.heading (scope_among (seen_by c.args.sight.now) (reverse c.args.tuples.now))) (named_view c.args.parts.now)) (values_in_tuples (seen_by c.args.sight.now) (reverse c.args.tuples.now) (named_view c.args.parts.now)) r) c.extended.result c.in_ok-rel.ensures
+    (extended_given (named_types (entered_with c.in_ok-rel.rel.now.heading (scope_among (seen_by c.args.sight.now) (reverse c.args.tuples.now))) (named_view c.args.parts.now)) (values_in_tuples (seen_by c.args.sight.now) (reverse c.args.tuples.now) (named_view c.args.parts.now)) c.in_ok-rel.rel.now (pairs_view c.in_ok-attributes.attributes.items) c.in_ok-attributes.ensures (columns_view c.in_ok-columns.columns.items) (subst (λ xs. gathered (named_columns (pairs_view xs) (values_in_tuples (seen_by c.args.sight.now) (reverse c.args.tuples.now) (named_view c.args.parts.now)) c.in_ok-rel.rel.now.body) ≡ Valued (columns_view c.in_ok-columns.columns.items)) c.deref.ensures.value c.in_ok-columns.ensures) c.extended.result
+    (c.extended.ensures (additions_of (pairs_view c.in_ok-attributes.attributes.items) (values_in_tuples (seen_by c.args.sight.now) (reverse c.args.tuples.now) (named_view c.args.parts.now))) (columns_of_additions (named_types (entered_with c.in_ok-rel.rel.now.heading (scope_among (seen_by c.args.sight.now) (reverse c.args.tuples.now))) (named_view c.args.parts.now)) (values_in_tuples (seen_by c.args.sight.now) (reverse c.args.tuples.now) (named_view c.args.parts.now)) c.in_ok-rel.rel.now (pairs_view c.in_ok-attributes.attributes.items) c.in_ok-attributes.ensures (columns_view c.in_ok-columns.columns.items) (subst (λ xs. gathered (named_columns (pairs_view xs) (values_in_tuples (seen_by c.args.sight.now) (reverse c.args.tuples.now) (named_view c.args.parts.now)) c.in_ok-rel.rel.now.body) ≡ Valued (columns_view c.in_ok-columns.columns.items)) c.deref.ensures.value c.in_ok-columns.ensures))))

@@ -1,0 +1,120 @@
+-- What a value depends on, and what it does not depend on: laws (Tutorial D's; the causes are this project's own).
+use Rattle.std.specs.Prelude.{◌≡◌, ◌↔◌, ℕ, Bool, List, ◌++◌, filter, map, Some, IsTrue}
+use Rattle.std.specs.List.{AllByRecursion, Contains}
+use Rattle.td_catalog.specs.Database.{BaseRelvar, Database, base_named, database_scope, with_base, with_declared}
+use Rattle.td_catalog.specs.Legality.{IsLegal}
+use Rattle.td_check.specs.Mentions.{relvars_in, types_in}
+use Rattle.td_check.specs.Scopes.{Scope}
+use Rattle.td_check.specs.StaticLaws.{AgreeAt, AgreeOn, UsersAllIn}
+use Rattle.td_check.specs.StaticTypes.{type_of}
+use Rattle.td_eval.specs.Covered.{TypesAreCovered, is_covered}
+use Rattle.td_eval.specs.DatabaseWorlds.{world_of}
+use Rattle.td_eval.specs.OperatorValues.{extended_value, is_true, of_relation, restricted_value, truth_value}
+use Rattle.td_eval.specs.TreeValues.{value_of}
+use Rattle.td_eval.specs.ValueTypes.{AreComponentsOf, ConstraintsAreWritten, IsTypedTuple, IsWritten, KeepsScope, with_tuples}
+use Rattle.td_eval.specs.Worlds.{World, scope_among, selected}
+use Rattle.td_tree.specs.declared.cause.Cause.{Cause}
+use Rattle.td_tree.specs.Outcomes.{Has, Outcome, Valued, Refused, gathered, least, with_value}
+use Rattle.td_tree.specs.Trees.{Tree}
+use Rattle.td_types.specs.TypeLists.{DeclaredType, declared_at}
+use Rattle.td_types.specs.Types.{Attribute, Heading, Type', pack}
+use Rattle.td_value.specs.Values.{Val, HaveSameMembers, IsRelation, Relation, Tuple, heading_of, relation_of}
+use Rattle.td_value.specs.Views.{relation_view}
+
+-- ---- what is mentioned
+
+-- an expression that has a type where these tuples are in hand: their values are of their types, its own value is defined,
+-- the names that it gives are names, and its texts are UTF-8
+pub record IsChecked (scope : Scope) (s : List Tuple) (e : Tree) : Type 0 where
+  pub tuples : AllByRecursion (IsTypedTuple scope.types) s
+  pub covered : IsTrue (is_covered e)
+  pub written : IsWritten e
+  pub typed : (t : Type') × (type_of (with_tuples scope s) e ≡ Valued t)
+
+-- the selector of the name gives the same of the type's components in both worlds
+abbrev pub SelectsTheSame : Scope → World → World → List ℕ → Type 0
+SelectsTheSame scope first second n =
+    (d : DeclaredType) (vs : List Val) → declared_at n scope.types ≡ Some d → AreComponentsOf scope.types d vs
+    → selected second n vs ≡ selected first n vs
+
+-- the second world knows the relvar of the name by the same heading, and it has the same value there
+abbrev pub HasTheSame : (List ℕ → Bool) → Scope → World → World → List ℕ → Type 0
+HasTheSame among scope first second n = AgreeAt among scope second.scope n × (second.relvar n ≡ first.relvar n)
+
+-- both worlds agree on what the expression mentions where these tuples are in hand: on its types, with those that they and
+-- the tuples are made of, and on its relvars
+pub record AgreeOnMentions (among : List ℕ → Bool) (scope : Scope) (first second : World) (s : List Tuple) (e : Tree) : Type 0 where
+  pub known : AgreeOn among (with_tuples scope s) (scope_among second s)
+  pub types : (n : List ℕ) → Contains (types_in e) n → IsTrue (among n) × SelectsTheSame scope first second n
+  pub relvars : (n : List ℕ) → Contains (relvars_in (with_tuples scope s) e) n → HasTheSame among scope first second n
+
+-- there the expression has the same value, or the same causes: both depend only on what it mentions
+abbrev pub ValuesDependOnMentions : Type 0
+ValuesDependOnMentions =
+    (among : List ℕ → Bool) (scope : Scope) (first second : World) (s : List Tuple) (e : Tree) → KeepsScope first scope
+    → IsChecked scope s e → AgreeOnMentions among scope first second s e → value_of second s e ≡ value_of first s e
+
+-- ---- entries that are mentioned
+
+-- the second list declares the types among these as the first does, and they are made of such types and mention no others
+pub record AgreeOnTypes (among : List ℕ → Bool) (first second : List DeclaredType) : Type 0 where
+  pub same : (n : List ℕ) (d : DeclaredType) → IsTrue (among n) → declared_at n first ≡ Some d → declared_at n second ≡ Some d
+  pub components : (n : List ℕ) (d : DeclaredType) → IsTrue (among n) → declared_at n first ≡ Some d → UsersAllIn among (pack d.components)
+  pub constraints :
+      (n : List ℕ) (d : DeclaredType) (e : Tree) → IsTrue (among n) → declared_at n first ≡ Some d → d.constraint ≡ Some e
+      → (m : List ℕ) → Contains (types_in e) m → IsTrue (among m)
+
+-- both databases agree on the entries that the expression mentions where these tuples are in hand: on its types, with those
+-- that they and the tuples are made of, and on its base relvars
+pub record AgreeOnEntries (among : List ℕ → Bool) (first second : Database) (s : List Tuple) (e : Tree) : Type 0 where
+  pub types : AgreeOnTypes among first.types second.types
+  pub tuples : (h : Heading) → Contains (map heading_of s) h → UsersAllIn among (pack h)
+  pub mentioned : (n : List ℕ) → Contains (types_in e) n → IsTrue (among n)
+  pub relvars :
+      (n : List ℕ) (r : BaseRelvar) → Contains (relvars_in (with_tuples (database_scope first) s) e) n → base_named n first ≡ Some r
+      → UsersAllIn among (pack r.relation.heading) × (q : BaseRelvar) × (base_named n second ≡ Some q) × (q.relation ≡ r.relation)
+
+-- where both are legal, the expression has the same value in both, or the same causes, whatever else they have
+abbrev pub ValuesDependOnEntries : Type 0
+ValuesDependOnEntries =
+    (among : List ℕ → Bool) (first second : Database) (s : List Tuple) (e : Tree) → IsLegal first → IsLegal second
+    → TypesAreCovered first.types → ConstraintsAreWritten first.types → IsChecked (database_scope first) s e
+    → AgreeOnEntries among first second s e → value_of (world_of second) s e ≡ value_of (world_of first) s e
+
+-- ---- later entries
+
+-- the second database has what the first has, and more types and base relvars behind
+pub record HasLater (first second : Database) : Type 0 where
+  pub types : (more : List DeclaredType) × (second.types ≡ first.types ++ more)
+  pub bases : (more : List BaseRelvar) × (second.bases ≡ first.bases ++ more)
+
+-- there an expression that has a type in the first, which is legal, has the same value or the same causes; a type or a base
+-- relvar that is added stands behind
+pub record LaterEntriesChangeNothing : Type 0 where
+  pub values :
+      (first second : Database) (s : List Tuple) (e : Tree) → IsLegal first → TypesAreCovered first.types → ConstraintsAreWritten first.types
+      → HasLater first second → IsChecked (database_scope first) s e → value_of (world_of second) s e ≡ value_of (world_of first) s e
+  pub one_type : (db : Database) (d : DeclaredType) → HasLater db (with_declared d db)
+  pub one_base : (db : Database) (r : BaseRelvar) → HasLater db (with_base r db)
+
+-- ---- the order of tuples
+
+-- one value, or the same causes, of which the same one is named
+abbrev pub AreOneOutcome : Outcome Val → Outcome Val → Type 0
+AreOneOutcome (Valued v) (Valued w) = v ≡ w
+AreOneOutcome (Refused bs) (Refused cs) = ((c : Cause) → Has bs c ↔ Has cs c) × (least bs ≡ least cs)
+AreOneOutcome _ _ = ⊥
+
+-- r WHERE p, where the tuples of r are taken as a list has them
+abbrev pub restricted_in_turn : (Tuple → Outcome Val) → Heading → List Tuple → Outcome Val
+restricted_in_turn p h tuples =
+    with_value (gathered (map (λ t. truth_value (p t)) tuples)) (λ truths. of_relation (relation_of h (filter (λ t. is_true (p t)) tuples)))
+
+-- what is applied to the tuples of a relation gives the same in whatever order, and however often, they are taken
+pub record TupleOrderDoesNotCount : Type 0 where
+  pub restricted :
+      (p : Tuple → Outcome Val) (r : Relation) (tuples : List Tuple) → IsRelation r → HaveSameMembers r.body tuples
+      → AreOneOutcome (restricted_value p r) (restricted_in_turn p r.heading tuples)
+  pub extended :
+      (types : Outcome (List Attribute)) (fs : List (Tuple → Outcome Val)) (r : Relation) (tuples : List Tuple) → HaveSameMembers r.body tuples
+      → AreOneOutcome (extended_value types fs r) (extended_value types fs (relation_view r.heading tuples))

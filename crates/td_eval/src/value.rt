@@ -1,0 +1,364 @@
+//! The value of an expression.
+ghost use Rattle.std.specs.Prelude.{◌≡◌, ◌∷◌, ◌<◌, IsTrue, Some, length, map, reverse, take};
+ghost use Rattle.std.specs.List.{slice_get};
+ghost use Rattle.td_algebra.specs.Columns.{columns_view};
+ghost use Rattle.td_check.specs.Scopes.{Scope, entered_with};
+ghost use Rattle.td_check.specs.StaticTypes.{named_types};
+ghost use Rattle.td_eval.specs.Covered.{TypesAreCovered, is_covered};
+ghost use Rattle.td_eval.specs.DatabaseWorlds.{constraint_value, world_of_types};
+ghost use Rattle.td_eval.specs.NewColumns.{named_columns};
+ghost use Rattle.td_eval.specs.OperatorValues.{column_values, extended_value};
+ghost use Rattle.td_eval.specs.OperatorValues.{on_relation, restricted_value, truth_value};
+ghost use Rattle.td_eval.specs.Sights.{IsSight, seen_by, tuples_in_hand, world_in};
+ghost use Rattle.td_eval.specs.TreeValues.{argument_values, entry_values, value_of};
+ghost use Rattle.td_eval.specs.TreeValues.{values_in_tuples};
+ghost use Rattle.td_eval.specs.ValueLaws.{IsChecked};
+ghost use Rattle.td_eval.specs.ValueTypes.{AnswersType, KeepsScope};
+ghost use Rattle.td_eval.specs.Worlds.{name_value, scope_among, selected};
+ghost use Rattle.td_tree.specs.Outcomes.{Answers, gathered};
+ghost use Rattle.td_tree.specs.TreeViews.{named_view, tree_view, trees_view};
+ghost use Rattle.td_types.specs.Views.{pairs_view, type_view};
+
+use crate::env::Env;
+use crate::extension::new_attributes;
+use crate::operators::asked::{attribute, have_types, relation_in, truth};
+use crate::operators::between::operated;
+use crate::operators::comparisons::compared;
+use crate::operators::elements::{headed, listed_value, tuple_from};
+use crate::operators::literals::literal_value;
+use crate::operators::operand::{component_value, extracted_value, measure_value, prefix_value};
+use crate::operators::postfix::postfix_value;
+use crate::operators::selectors::{component_tuple, constructed};
+use crate::operators::tuplewise::{extended, restricted};
+use crate::rows::{copied, named, named_column, shared, truth_of, typed};
+use crate::sight::Sight;
+use std::alloc::Global;
+use td_algebra::extension::Column;
+use td_body::body::Body;
+use td_tree::cause::Cause;
+use td_tree::expression::{Expr, NamedExpr};
+use td_tree::fault::Fault;
+use td_tree::gathering::Gathering;
+use td_tree::name::Name;
+use td_tree::operator::Operator;
+use td_types::resolve::resolve_heading;
+use td_types::table::TypeEntry;
+use td_types::ty::Ty;
+use td_value::relation::Rel;
+use td_value::tuple::Tuple;
+use td_value::value::Value;
+
+/// The value of the innermost attribute of a name, else of the relvar. The innermost tuple is the
+/// last.
+fn name_value<B: Body>(sight: &Sight<'_, B>, tuples: &[Tuple], name: &Name) -> Result<Value, Fault>
+    requires { IsSight sight.now }
+    ensures { Answers (λ v. v) result
+        (name_value (seen_by sight.now) (reverse tuples.now) name.now) }
+{
+    match attribute(tuples, name) {
+        Some(value) => Ok(value.try_clone()?),
+        None => sight.relvar(name),
+    }
+}
+
+/// The value of an expression where these tuples are in hand. The innermost is the last.
+#[cycle(value)]
+fn value_of<B: Body>(sight: &Sight<'_, B>, tuples: &[Tuple], expr: &Expr) -> Result<Value, Fault>
+    requires { IsSight sight.now }
+    ensures { Answers (λ v. v) result
+        (value_of (seen_by sight.now) (reverse tuples.now) (tree_view expr.now)) }
+{
+    let alloc = sight.alloc;
+    match expr {
+        Expr::Literal(literal) => literal_value(alloc, literal),
+        Expr::Name(name) => name_value(sight, tuples, name),
+        Expr::Parentheses(inner) => value_of(sight, tuples, inner),
+        Expr::Prefix(op, operand) => prefix_value(alloc, *op, &value_of(sight, tuples, operand)?),
+        Expr::Extract(name, operand) => extracted_value(name, &value_of(sight, tuples, operand)?),
+        Expr::Binary(left, op, right) => match op {
+            Operator::Where => restriction(sight, tuples, &value_of(sight, tuples, left)?, right),
+            _ => {
+                let first = value_of(sight, tuples, left);
+                operated(alloc, *op, first, value_of(sight, tuples, right))
+            }
+        },
+        Expr::Compare(left, op, right) => {
+            let first = value_of(sight, tuples, left);
+            compared(alloc, *op, first, value_of(sight, tuples, right))
+        }
+        Expr::Postfix(operand, op) => postfix_value(alloc, op, &value_of(sight, tuples, operand)?),
+        Expr::Select(ty, arguments) => selected(sight, ty, values_of(sight, tuples, arguments)?),
+        Expr::Component(name, operand) => {
+            component_value(sight.types, name, &value_of(sight, tuples, operand)?)
+        }
+        Expr::Measure(op, operand) => measure_value(*op, &value_of(sight, tuples, operand)?),
+        Expr::Relation(elements) => listed_value(alloc, values_of(sight, tuples, elements)?),
+        Expr::HeadedRelation(heading, elements) => {
+            let elements = values_of(sight, tuples, elements);
+            headed(alloc, resolve_heading(sight.types, heading), elements)
+        }
+        Expr::Tuple(parts) => tuple_from(alloc, entries(sight, tuples, parts)?),
+        Expr::Extend(operand, parts) => {
+            extension(sight, tuples, &value_of(sight, tuples, operand)?, parts)
+        }
+        Expr::If(condition, consequent, alternative) => {
+            if truth(&value_of(sight, tuples, condition)?)? {
+                value_of(sight, tuples, consequent)
+            } else {
+                value_of(sight, tuples, alternative)
+            }
+        }
+        Expr::Aggregate(..) | Expr::SummarizePer(..) | Expr::SummarizeBy(..) => {
+            Err(Fault::Refused(Cause::TypeMismatch))
+        }
+    }
+}
+
+/// The values of expressions, in the order written.
+#[cycle(value)]
+fn values_of<B: Body>(
+    sight: &Sight<'_, B>,
+    tuples: &[Tuple],
+    exprs: &[Expr],
+) -> Result<Vec<Value>, Fault>
+    requires { IsSight sight.now }
+    ensures { Answers (λ vs. vs.items) result
+        (argument_values (seen_by sight.now) (reverse tuples.now) (trees_view exprs.now)) }
+{
+    let mut causes = Gathering::new();
+    let mut values = Vec::with_capacity(sight.alloc, exprs.len())?;
+    for expr in exprs {
+        let Some(value) = causes.add(value_of(sight, tuples, expr))? else {
+            continue;
+        };
+        values.push(value)?;
+    }
+    causes.finish(values)
+}
+
+/// Names with the values of their expressions.
+#[cycle(value)]
+fn entries<B: Body>(
+    sight: &Sight<'_, B>,
+    tuples: &[Tuple],
+    parts: &[NamedExpr],
+) -> Result<Vec<(Name, Value)>, Fault>
+    requires { IsSight sight.now }
+    ensures { Answers (λ es. es.items) result
+        (entry_values (seen_by sight.now) (reverse tuples.now) (named_view parts.now)) }
+{
+    let mut causes = Gathering::new();
+    let mut entries = Vec::with_capacity(sight.alloc, parts.len())?;
+    for part in parts {
+        let entry = named(&part.name, value_of(sight, tuples, &part.value));
+        let Some(entry) = causes.add(entry)? else {
+            continue;
+        };
+        entries.push(entry)?;
+    }
+    causes.finish(entries)
+}
+
+/// What the selector of the name gives of components.
+#[cycle(value)]
+fn selected<B: Body>(sight: &Sight<'_, B>, name: &Name, values: Vec<Value>) -> Result<Value, Fault>
+    requires { IsSight sight.now }
+    ensures { Answers (λ v. v) result (selected (seen_by sight.now) name.now values.items) }
+{
+    let Some(place) = sight.selector(name) else {
+        return Err(Fault::Refused(Cause::NameUnknown));
+    };
+    let Some(entry) = sight.types.get(name) else {
+        return Err(Fault::Refused(Cause::NameUnknown));
+    };
+    if !have_types(&values, entry.components()) {
+        return Err(Fault::Refused(Cause::TypeMismatch));
+    }
+    let holds = meets_constraint(sight, place, entry, &values);
+    constructed(sight.alloc, name, values, holds)
+}
+
+/// Whether components meet the constraint of the type at a place, which sees them alone and the
+/// selectors of the types before it.
+#[cycle(value)]
+fn meets_constraint<B: Body>(
+    sight: &Sight<'_, B>,
+    place: usize,
+    entry: &TypeEntry,
+    values: &[Value],
+) -> Result<bool, Fault>
+    requires sight { IsSight sight.now }
+    requires place { place < sight.now.selectors }
+    requires entry { slice_get sight.now.types.now place ≡ Some entry.now }
+    ensures { Answers (λ b. b) result (constraint_value
+        (world_of_types sight.now.types.now (take place sight.now.types.now))
+        entry.now values.now) }
+{
+    let Some(constraint) = entry.constraint() else {
+        return Ok(true);
+    };
+    let components = component_tuple(sight.alloc, entry.components(), values)?;
+    truth_of(value_of(&sight.before(place), &[components], constraint))
+}
+
+/// The value of an expression where one tuple more is in hand.
+#[cycle(value)]
+fn value_in_row<B: Body>(
+    sight: &Sight<'_, B>,
+    tuples: &mut Vec<Tuple>,
+    row: &Tuple,
+    expr: &Expr,
+) -> Result<Value, Fault>
+    requires { IsSight sight.now }
+    ensures value { Answers (λ v. v) result (value_of (seen_by sight.now)
+        (row.now ∷ reverse tuples.old.items) (tree_view expr.now)) }
+    ensures tuples { tuples.new.items ≡ tuples.old.items }
+{
+    tuples.push(row.try_clone()?)?;
+    let value = value_of(sight, tuples, expr);
+    let _ = tuples.pop();
+    value
+}
+
+/// The truth values of a condition in the tuples of a relation.
+#[cycle(value)]
+fn truths<B: Body>(
+    sight: &Sight<'_, B>,
+    tuples: &[Tuple],
+    operand: &Rel,
+    condition: &Expr,
+) -> Result<Vec<bool>, Fault>
+    requires { IsSight sight.now }
+    ensures { Answers (λ m. m.items) result (gathered (map (λ t. truth_value
+        (value_of (seen_by sight.now) (t ∷ reverse tuples.now) (tree_view condition.now)))
+        operand.now.body)) }
+{
+    let mut causes = Gathering::new();
+    let mut inner = copied(sight.alloc, tuples)?;
+    let rows = operand.rows();
+    let mut truths = Vec::with_capacity(sight.alloc, rows.len())?;
+    for row in rows {
+        let truth = truth_of(value_in_row(sight, &mut inner, row, condition));
+        let Some(truth) = causes.add(truth)? else {
+            continue;
+        };
+        truths.push(truth)?;
+    }
+    causes.finish(truths)
+}
+
+/// The tuples of an operand for which a condition is TRUE.
+#[cycle(value)]
+fn restriction<B: Body>(
+    sight: &Sight<'_, B>,
+    tuples: &[Tuple],
+    operand: &Value,
+    condition: &Expr,
+) -> Result<Value, Fault>
+    requires { IsSight sight.now }
+    ensures { Answers (λ v. v) result (on_relation operand.now (restricted_value (λ t.
+        value_of (seen_by sight.now) (t ∷ reverse tuples.now) (tree_view condition.now)))) }
+{
+    let rel = relation_in(operand)?;
+    restricted(sight.alloc, rel, truths(sight, tuples, rel, condition))
+}
+
+/// The values of an expression in the tuples of a relation, which are of a type.
+#[cycle(value)]
+fn column<B: Body>(
+    sight: &Sight<'_, B>,
+    tuples: &[Tuple],
+    operand: &Rel,
+    ty: &Ty,
+    expr: &Expr,
+) -> Result<Vec<Value>, Fault>
+    requires { IsSight sight.now }
+    ensures { Answers (λ vs. vs.items) result (column_values (type_view ty.now)
+        (λ t. value_of (seen_by sight.now) (t ∷ reverse tuples.now) (tree_view expr.now))
+        operand.now.body) }
+{
+    let mut causes = Gathering::new();
+    let mut inner = copied(sight.alloc, tuples)?;
+    let rows = operand.rows();
+    let mut values = Vec::with_capacity(sight.alloc, rows.len())?;
+    for row in rows {
+        let value = typed(ty, value_in_row(sight, &mut inner, row, expr));
+        let Some(value) = causes.add(value)? else {
+            continue;
+        };
+        values.push(value)?;
+    }
+    causes.finish(values)
+}
+
+/// The new attributes with their values in the tuples of a relation.
+#[cycle(value)]
+fn columns<B: Body>(
+    sight: &Sight<'_, B>,
+    tuples: &[Tuple],
+    operand: &Rel,
+    attributes: &[(Name, Ty)],
+    parts: &[NamedExpr],
+) -> Result<Vec<(Name, Column)>, Fault>
+    requires sight { IsSight sight.now }
+    requires lengths { length attributes.now ≡ length parts.now }
+    ensures { Answers (λ cs. columns_view cs.items) result
+        (gathered (named_columns (pairs_view attributes.now)
+        (values_in_tuples (seen_by sight.now) (reverse tuples.now) (named_view parts.now))
+        operand.now.body)) }
+{
+    let mut causes = Gathering::new();
+    let mut columns = Vec::with_capacity(sight.alloc, parts.len())?;
+    for (place, part) in parts.iter().enumerate() {
+        let (name, ty) = &attributes[place];
+        let values = column(sight, tuples, operand, ty, &part.value);
+        let Some(column) = causes.add(named_column(name, ty, values))? else {
+            continue;
+        };
+        columns.push(column)?;
+    }
+    causes.finish(columns)
+}
+
+/// The tuples of an operand with new attributes.
+#[cycle(value)]
+fn extension<B: Body>(
+    sight: &Sight<'_, B>,
+    tuples: &[Tuple],
+    operand: &Value,
+    parts: &[NamedExpr],
+) -> Result<Value, Fault>
+    requires { IsSight sight.now }
+    ensures { Answers (λ v. v) result (on_relation operand.now (λ r. extended_value
+        (named_types (entered_with r.heading
+        (scope_among (seen_by sight.now) (reverse tuples.now))) (named_view parts.now))
+        (values_in_tuples (seen_by sight.now) (reverse tuples.now) (named_view parts.now)) r)) }
+{
+    let rel = relation_in(operand)?;
+    let attributes = new_attributes(sight, tuples, rel, parts)?;
+    let columns = columns(sight, tuples, rel, &attributes, parts)?;
+    extended(sight.alloc, rel, columns)
+}
+
+/// The value of the expression in what it is evaluated in, or the least of the causes for which it
+/// has none. Until grouping, aggregates and transitive closure are done, that is said of
+/// expressions without them where no type's constraint has one: with them it may be refused by
+/// TYPE_MISMATCH. Of an expression that the checker gave a type the value is of that type, and the
+/// causes are from OVERFLOW up.
+pub fn eval<B: Body>(alloc: Global, env: &Env<'_, B>, expr: &Expr) -> Result<Value, Fault>
+    ensures value { IsTrue (is_covered (tree_view expr.now))
+        → TypesAreCovered env.now.catalog.now.types → Answers (λ v. v) result
+        (value_of (world_in env.now) (tuples_in_hand env.now) (tree_view expr.now)) }
+    ensures typed { (scope : Scope) → KeepsScope (world_in env.now) scope
+        → (is : IsChecked scope (tuples_in_hand env.now) (tree_view expr.now))
+        → AnswersType scope.types is.typed.0 result }
+{
+    let types = env.catalog.types();
+    let sight = Sight {
+        alloc,
+        types,
+        selectors: types.len(),
+        env: Some(env),
+    };
+    value_of(&sight, &shared(alloc, env.tuples)?, expr)
+}

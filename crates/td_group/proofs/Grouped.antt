@@ -1,0 +1,75 @@
+-- The parts of GROUP: the rest of a heading, and the groups as a column.
+use Rattle.std.proofs.Common.{◌≡◌, ◌∙◌, ap, sym, refl, subst, ℕ, Bool, true, false, List, [], ◌∷◌, Option, None, length, map, true≢false}
+use Rattle.std.specs.Prelude.{◌&&◌, ◌||◌, not, is_some, IsTrue, if◌then◌else◌}
+use Rattle.std.specs.List.{All, AllByRecursion, list_all}
+use Rattle.std.proofs.lemmas.List.{length-map}
+use Rattle.std.proofs.lemmas.List.Elements.{All-from_recursion}
+use Rattle.td_types.specs.Headings.{are_distinct, has_attribute, has_attributes, has_name, has_projection, outside, projection}
+use Rattle.td_types.specs.Types.{Type', Heading, IsHeading, attribute_names, pack, same_name, type_at}
+use Rattle.td_types.proofs.HeadingLaws.{IsHeading-filter, has_attribute-names, same_name-itself, type_at-projection}
+use Rattle.td_value.specs.Agreement.{agree_on}
+use Rattle.td_value.specs.Values.{Val, Relation, Tuple, type_of}
+use Rattle.td_algebra.specs.Columns.{IsColumn}
+use Rattle.td_algebra.specs.Operators.{projected_relation, restriction}
+use Rattle.td_algebra.proofs.Members.{both_true, first_true}
+use Rattle.td_algebra.proofs.Entries.{heading_distinct}
+use Rattle.td_algebra.proofs.Sources.{has_attribute-outside}
+use Rattle.td_group.specs.Groups.{groups_on}
+use Rattle.td_group.specs.Nesting.{relation_value, rest_heading}
+
+-- ---- the rest of a heading
+
+-- what holds of each name of a list passes its test
+all_named : (f : List ℕ → Bool) (ns : List (List ℕ)) → ((n : List ℕ) → has_name n ns ≡ true → f n ≡ true) → list_all f ns ≡ true
+all_named f [] h = refl
+all_named f (n ∷ ns) h =
+    both_true (f n) (list_all f ns) (h n (rw (same_name-itself n) refl)) (all_named f ns (λ m there. h m (later m there (same_name n m))))
+  where
+    later : (m : List ℕ) → has_name m ns ≡ true → (b : Bool) → (b || has_name m ns) ≡ true
+    later m there true = refl
+    later m there false = there
+
+pub rest_projects : (part h : Heading) → IsHeading (pack h) → has_projection (attribute_names (outside part h)) h ≡ true
+rest_projects part h p =
+    both_true (has_attributes (attribute_names (outside part h)) h) (are_distinct (attribute_names (outside part h)))
+    (all_named (λ n. has_attribute n h) (attribute_names (outside part h)) (λ n there.
+    first_true (has_attribute n h) (not (has_attribute n part)) (sym (has_attribute-outside part h n) ∙ has_attribute-names n (outside part h) ∙ there)))
+    (heading_distinct (outside part h) (IsHeading-filter (λ a. not (has_attribute a.0 part)) h p))
+
+-- a name that the rest lacks is not in the projection on the rest
+pub rest_lacks : (part h : Heading) (n : List ℕ) → not (has_attribute n (outside part h)) ≡ true → not (has_attribute n (projection (attribute_names (outside part h)) h)) ≡ true
+rest_lacks part h n e = by_test (has_attribute n (outside part h)) refl
+  where
+    by_test : (b : Bool) → has_attribute n (outside part h) ≡ b → not (has_attribute n (projection (attribute_names (outside part h)) h)) ≡ true
+    by_test true f = absurd (true≢false (sym (rw f at e)))
+    by_test false f =
+        let unnamed : has_name n (attribute_names (outside part h)) ≡ false = sym (has_attribute-names n (outside part h)) ∙ f in
+        let none : type_at n (projection (attribute_names (outside part h)) h) ≡ None = type_at-projection (attribute_names (outside part h)) n h ∙ rw unnamed refl in
+        ap (λ o. not (is_some o)) none
+
+-- ---- the groups
+
+groups_fit_each : (ns names : List (List ℕ)) (r : Relation) (ts : List Tuple) → has_projection names r.heading ≡ true
+    → AllByRecursion (λ (g : Tuple × Relation). IsTrue (has_projection names g.1.heading)) (groups_on ns r ts)
+groups_fit_each ns names r [] e = tt
+groups_fit_each ns names r (t ∷ ts) e = (e, groups_fit_each ns names r ts e)
+
+pub groups_fit : (ns names : List (List ℕ)) (r : Relation) (ts : List Tuple) → has_projection names r.heading ≡ true
+    → All (λ (g : Tuple × Relation). IsTrue (has_projection names g.1.heading)) (groups_on ns r ts)
+groups_fit ns names r ts e =
+    All-from_recursion (λ (g : Tuple × Relation). IsTrue (has_projection names g.1.heading)) (groups_on ns r ts) (groups_fit_each ns names r ts e)
+
+-- the values of the groups, by their tuples
+pub group_column : (ns names : List (List ℕ)) (r : Relation) (ts : List Tuple)
+    → map (λ (g : Tuple × Relation). relation_value (projected_relation names g.1)) (groups_on ns r ts)
+    ≡ map (λ t. relation_value (projected_relation names (restriction (agree_on ns t) r))) ts
+group_column ns names r [] = refl
+group_column ns names r (t ∷ ts) = ap (λ vs. relation_value (projected_relation names (restriction (agree_on ns t) r)) ∷ vs) (group_column ns names r ts)
+
+typed_each : (f : Tuple → Val) (kind : Type') (ts : List Tuple) → ((t : Tuple) → type_of (f t) ≡ kind) → AllByRecursion (λ v. type_of v ≡ kind) (map f ts)
+typed_each f kind [] h = tt
+typed_each f kind (t ∷ ts) h = (h t, typed_each f kind ts h)
+
+pub column_fits : (f : Tuple → Val) (kind : Type') (vs : List Val) (ts : List Tuple) → vs ≡ map f ts → ((t : Tuple) → type_of (f t) ≡ kind) → IsColumn kind vs ts
+column_fits f kind vs ts e h =
+    (ap length e ∙ length-map ts f, subst (All (λ v. type_of v ≡ kind)) (sym e) (All-from_recursion (λ v. type_of v ≡ kind) (map f ts) (typed_each f kind ts h)))

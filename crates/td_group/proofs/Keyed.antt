@@ -1,0 +1,76 @@
+-- Rows by their keys.
+use Rattle.std.proofs.Common.{◌≡◌, ◌∙◌, ap, sym, refl, subst, Bool, true, false, cond, List, [], ◌∷◌, ◌++◌, append-nil, map, Option, Some, None, Bor, Vec, unwrap_or, ℕ, ◌+◌, ◌<◌, ◌≤◌, length, take, get_or, filter}
+use Rattle.std.specs.HashMap.{HashMap, get}
+use Rattle.std.specs.Ordering.{eq_by_cmp}
+use Rattle.std.proofs.lemmas.List.{map-append, take_all, take_more}
+use Rattle.std.proofs.lemmas.List.Elements.{filter-append}
+use Rattle.std.proofs.lemmas.Cmp.{eq_by_cmp_equiv}
+use Rattle.std.specs.List.{All}
+use Rattle.std.proofs.lemmas.List.Elements.{All-filter}
+use Rattle.std.proofs.lemmas.List.Kept.{IsStrictlySortedBy-filter}
+use Rattle.td_types.specs.Headings.{new_names}
+use Rattle.td_types.specs.Types.{Heading, attribute_names}
+use Rattle.td_value.specs.Values.{IsAscendingBody, IsTupleOf, Tuple, projected_tuple, tuple_cmp}
+use Rattle.td_value.specs.ValueOrder.{tuple_Decides, tuple_order_total}
+use Rattle.td_group.specs.Groups.{AreByKey, is_at_key, tuples_at, tuples_there}
+
+module _ {A S : Type 0} (old mid new : HashMap Tuple (Vec (Bor Tuple) A) S) (key : Tuple) (row : Bor Tuple) (was : Option (Vec (Bor Tuple) A)) (empty base rows : Vec (Bor Tuple) A)
+    (there : was ≡ get (eq_by_cmp tuple_cmp) old key) (nothing : empty.items ≡ []) (base_is : base ≡ unwrap_or was empty) (rows_are : rows.items ≡ base.items ++ row ∷ [])
+    (out : (q : Tuple) → get (eq_by_cmp tuple_cmp) mid q ≡ cond (eq_by_cmp tuple_cmp key q) None (get (eq_by_cmp tuple_cmp) old q))
+    (back : (q : Tuple) → get (eq_by_cmp tuple_cmp) new q ≡ cond (eq_by_cmp tuple_cmp key q) (Some rows) (get (eq_by_cmp tuple_cmp) mid q)) where
+  grown : rows.items ≡ (unwrap_or (get (eq_by_cmp tuple_cmp) old key) empty).items ++ row ∷ []
+  grown = rows_are ∙ ap (λ (v : Vec (Bor Tuple) A). v.items ++ row ∷ []) (base_is ∙ ap (λ o. unwrap_or o empty) there)
+
+  listed_or : (o : Option (Vec (Bor Tuple) A)) → map (λ t. t.now) (unwrap_or o empty).items ≡ tuples_there o
+  listed_or None = ap (map (λ t. t.now)) nothing
+  listed_or (Some v) = refl
+
+  at_key : tuples_at key new ≡ tuples_at key old ++ row.now ∷ []
+  at_key =
+      let own : eq_by_cmp tuple_cmp key key ≡ true = (eq_by_cmp_equiv tuple_order_total).refl key in
+      let found : get (eq_by_cmp tuple_cmp) new key ≡ Some rows = back key ∙ rw own refl in
+      ap tuples_there found ∙ ap (map (λ t. t.now)) grown
+      ∙ map-append (λ (t : Bor Tuple). t.now) (unwrap_or (get (eq_by_cmp tuple_cmp) old key) empty).items (row ∷ [])
+      ∙ ap (λ ts. ts ++ row.now ∷ []) (listed_or (get (eq_by_cmp tuple_cmp) old key))
+
+  pub grown_by_row : (q : Tuple) → tuples_at q new ≡ tuples_at q old ++ (cond (eq_by_cmp tuple_cmp q key) (row.now ∷ []) [])
+  grown_by_row q = by_test (eq_by_cmp tuple_cmp q key) refl
+    where
+      by_test : (b : Bool) → eq_by_cmp tuple_cmp q key ≡ b → tuples_at q new ≡ tuples_at q old ++ (cond b (row.now ∷ []) [])
+      by_test true e = subst (λ k. tuples_at k new ≡ tuples_at k old ++ row.now ∷ []) (sym ((tuple_Decides q key).0 e)) at_key
+      by_test false e =
+          let apart : eq_by_cmp tuple_cmp key q ≡ false = (eq_by_cmp_equiv tuple_order_total).symm key q ∙ e in
+          let step : get (eq_by_cmp tuple_cmp) new q ≡ get (eq_by_cmp tuple_cmp) mid q = back q ∙ rw apart refl in
+          let kept : get (eq_by_cmp tuple_cmp) mid q ≡ get (eq_by_cmp tuple_cmp) old q = out q ∙ rw apart refl in
+          ap tuples_there (step ∙ kept) ∙ sym (append-nil (tuples_at q old))
+
+filter_more : {X : Type 0} (p : X → Bool) (xs : List X) (i : ℕ) (x : X) → i < length xs → x ≡ get_or xs i x
+    → filter p (take (i + 1) xs) ≡ filter p (take i xs) ++ cond (p x) (x ∷ []) []
+filter_more p xs i x h is =
+    ap (filter p) (take_more xs i x h ∙ ap (λ y. take i xs ++ y ∷ []) (sym is)) ∙ filter-append p (take i xs) (x ∷ [])
+
+-- one row more
+pub keyed_more : {A S : Type 0} (names : List (List ℕ)) (rows : List Tuple) (i : ℕ) (row key : Tuple) (m n : HashMap Tuple (Vec (Bor Tuple) A) S)
+    → i < length rows → row ≡ get_or rows i row → key ≡ projected_tuple names row → AreByKey names (take i rows) m
+    → ((q : Tuple) → tuples_at q n ≡ tuples_at q m ++ cond (eq_by_cmp tuple_cmp q key) (row ∷ []) []) → AreByKey names (take (i + 1) rows) n
+keyed_more names rows i row key m n h is e inv grows q =
+    grows q ∙ ap (λ ts. ts ++ cond (eq_by_cmp tuple_cmp q key) (row ∷ []) []) (inv q)
+    ∙ ap (λ k. filter (is_at_key names q) (take i rows) ++ cond (eq_by_cmp tuple_cmp q k) (row ∷ []) []) e
+    ∙ sym (filter_more (is_at_key names q) rows i row h is)
+
+pub keyed_all : {A S : Type 0} (names : List (List ℕ)) (rows : List Tuple) (i : ℕ) (m : HashMap Tuple (Vec (Bor Tuple) A) S)
+    → length rows ≤ i → AreByKey names (take i rows) m → AreByKey names rows m
+keyed_all names rows i m h inv q = subst (λ ts. tuples_at q m ≡ filter (is_at_key names q) ts) (take_all i rows h) (inv q)
+
+-- ---- the rows of one key
+
+pub kept_headed : (p : Tuple → Bool) (h : Heading) (kept rows : List Tuple) → kept ≡ filter p rows → All (IsTupleOf h) rows → All (IsTupleOf h) kept
+kept_headed p h kept rows e all = subst (All (IsTupleOf h)) (sym e) (All-filter p (IsTupleOf h) rows all)
+
+pub kept_ascends : (p : Tuple → Bool) (kept rows : List Tuple) → kept ≡ filter p rows → IsAscendingBody rows → IsAscendingBody kept
+kept_ascends p kept rows e up = subst IsAscendingBody (sym e) (IsStrictlySortedBy-filter tuple_cmp p rows up)
+
+-- no renaming changes no name
+pub names_unchanged : (h : Heading) → new_names [] h ≡ attribute_names h
+names_unchanged [] = refl
+names_unchanged (a ∷ h) = ap (λ ns. a.0 ∷ ns) (names_unchanged h)

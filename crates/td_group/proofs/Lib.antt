@@ -1,0 +1,3 @@
+mod Grouped
+mod Keyed
+mod Sums

@@ -1,0 +1,54 @@
+-- Aggregates (Tutorial D's; the causes and INTEGER's range are this project's own).
+use Rattle.std.specs.Prelude.{ℕ, ◌^◌, nat_lt, ℤ, pos, negsuc, ◌+ℤ◌, Bool, List, [], ◌∷◌, length, if◌then◌else◌}
+use Rattle.std.specs.Ordering.{is_lt}
+use Rattle.td_group.specs.declared.aggregates.Agg.{Agg}
+use Rattle.td_group.specs.declared.aggregates.Agg.TheVariants.{Count, Sum, Max, Min}
+use Rattle.td_tree.specs.Outcomes.{Outcome, Valued, Refused, Only, value_if}
+use Rattle.td_tree.specs.declared.cause.Cause.TheVariants as causes
+use Rattle.td_value.specs.Values.{Val, boolean, integer, char, user, tuple, relation, value_cmp}
+
+-- whether a number is one of INTEGER's
+abbrev pub is_in_range : ℤ → Bool
+is_in_range (pos n) = nat_lt n (2 ^ 63)
+is_in_range (negsuc n) = nat_lt n (2 ^ 63)
+
+-- a number out of range is OVERFLOW
+abbrev pub of_number : ℤ → Outcome Val
+of_number z = value_if (is_in_range z) (integer z) causes.Overflow
+
+-- the number that a value is; a value of another type is none and counts as zero
+abbrev pub number_in : Val → ℤ
+number_in (integer z) = z
+number_in v = pos 0
+
+-- the mathematical sum, one term for each value
+abbrev pub sum_of : List Val → ℤ
+sum_of [] = pos 0
+sum_of (v ∷ vs) = number_in v +ℤ sum_of vs
+
+-- the greater and the less of two values
+abbrev pub greater : Val → Val → Val
+greater v w = if is_lt (value_cmp v w) then w else v
+
+abbrev pub less : Val → Val → Val
+less v w = if is_lt (value_cmp w v) then w else v
+
+-- the greatest and the least of a value and others
+abbrev pub greatest : Val → List Val → Val
+greatest v [] = v
+greatest v (w ∷ ws) = greatest (greater v w) ws
+
+abbrev pub least : Val → List Val → Val
+least v [] = v
+least v (w ∷ ws) = least (less v w) ws
+
+abbrev pub aggregate : Agg → List Val → Outcome Val
+-- COUNT: how many there are, OVERFLOW where that is out of range
+aggregate Count vs = of_number (pos (length vs))
+-- SUM: the mathematical sum, OVERFLOW only where that is out of range
+aggregate Sum vs = of_number (sum_of vs)
+-- MAX and MIN: the greatest and the least, EMPTY_AGGREGATE of nothing
+aggregate Max [] = Refused (Only causes.EmptyAggregate)
+aggregate Max (v ∷ vs) = Valued (greatest v vs)
+aggregate Min [] = Refused (Only causes.EmptyAggregate)
+aggregate Min (v ∷ vs) = Valued (least v vs)

@@ -1,0 +1,3 @@
+pub mod Aggregates
+pub mod Groups
+pub mod Nesting

@@ -1,0 +1,107 @@
+//! COUNT, SUM, MAX and MIN of values.
+ghost use Rattle.std.specs.Prelude.{◌≡◌, ◌-◌, ◌^◌, ◌+ℤ◌, ◌≤ℤ◌, ℤ, FitsSigned, pos};
+ghost use Rattle.std.specs.Int.{w64};
+ghost use Rattle.std.specs.Option.{SomeIff};
+ghost use Rattle.td_group.specs.Aggregates.{aggregate, greatest, least, number_in, of_number};
+ghost use Rattle.td_group.specs.Aggregates.{sum_of};
+ghost use Rattle.td_tree.specs.Outcomes.{Answers};
+
+use td_tree::cause::Cause;
+use td_tree::fault::Fault;
+use td_value::value::{Node, Value};
+
+/// What is asked of several values.
+#[derive(Clone, Copy, Debug, PartialEq, Eq)]
+pub enum Agg {
+    /// How many there are.
+    Count,
+    /// Their sum.
+    Sum,
+    /// The greatest.
+    Max,
+    /// The least.
+    Min,
+}
+
+/// The number that the value is.
+fn number_in(value: &Value) -> i64
+    ensures { result ≡ number_in value.now }
+{
+    match &value.node {
+        Node::Int(number) => *number,
+        _ => 0,
+    }
+}
+
+/// The total with one more number, where there is room for any.
+fn with_number(total: i128, number: i64) -> i128
+    requires high { (total +ℤ pos (2 ^ 63)) ≤ℤ pos (2 ^ 127 - 1) }
+    requires low { pos 0 ≤ℤ (total +ℤ pos (2 ^ 127 - 2 ^ 63)) }
+    ensures sum { result ≡ (total +ℤ number) }
+    ensures high { result ≤ℤ (total +ℤ pos (2 ^ 63)) }
+    ensures low { total ≤ℤ (result +ℤ pos (2 ^ 63)) }
+{
+    total + i128::from(number)
+}
+
+/// The sum. So many numbers of 64 bits as memory holds have a sum of 128 bits.
+fn sum_of(values: &[Value]) -> i128
+    ensures { result ≡ sum_of values.now }
+{
+    let mut total: i128 = 0;
+    for value in values {
+        total = with_number(total, number_in(value));
+    }
+    total
+}
+
+/// The value of a number, if it was found: one out of range is refused.
+fn in_range(found: Option<i64>) -> Result<Value, Fault>
+    ensures { (z : ℤ) → SomeIff found (FitsSigned w64 z) z
+        → Answers (λ v. v) result (of_number z) }
+{
+    match found {
+        Some(z) => Ok(Value::int(z)),
+        None => Err(Fault::Refused(Cause::Overflow)),
+    }
+}
+
+/// The greatest of the value and the others.
+fn greatest<'a>(first: &'a Value, others: &'a [Value]) -> &'a Value
+    ensures { result.now ≡ greatest first.now others.now }
+{
+    let mut best = first;
+    for value in others {
+        if best.cmp(value).is_lt() {
+            best = value;
+        }
+    }
+    best
+}
+
+/// The least of the value and the others.
+fn least<'a>(first: &'a Value, others: &'a [Value]) -> &'a Value
+    ensures { result.now ≡ least first.now others.now }
+{
+    let mut best = first;
+    for value in others {
+        if value.cmp(best).is_lt() {
+            best = value;
+        }
+    }
+    best
+}
+
+/// The aggregate of the values: of nothing MAX and MIN are refused, and a sum only where the whole
+/// of it is out of range.
+pub fn aggregate(asked: Agg, values: &[Value]) -> Result<Value, Fault>
+    ensures { Answers (λ v. v) result (aggregate asked values.now) }
+{
+    match (asked, values) {
+        (Agg::Count, _) => in_range(i64::try_from(values.len()).ok()),
+        (Agg::Sum, _) => in_range(i64::try_from(sum_of(values)).ok()),
+        (Agg::Max, [first, others @ ..]) => Ok(greatest(first, others).try_clone()?),
+        (Agg::Min, [first, others @ ..]) => Ok(least(first, others).try_clone()?),
+        (Agg::Max | Agg::Min, []) => Err(Fault::Refused(Cause::EmptyAggregate)),
+    }
+}

@@ -1,0 +1,51 @@
+//! GROUP: the tuples by their rest, each with the relation of the parts that stand beside it.
+ghost use Rattle.std.specs.Prelude.{◌≡◌, IfOk, IsTrue, map};
+ghost use Rattle.std.specs.List.{All};
+ghost use Rattle.td_algebra.specs.Operators.{projected_relation};
+ghost use Rattle.td_group.specs.Nesting.{can_nest, grouped_relation, relation_value};
+ghost use Rattle.td_types.specs.Headings.{has_projection};
+
+use crate::groups::{attribute_names, groups_on};
+use crate::want::unrefused;
+use std::alloc::{AllocError, Global};
+use td_algebra::extension::{Column, extend};
+use td_algebra::projection::project;
+use td_tree::name::Name;
+use td_types::ty::Ty;
+use td_value::relation::Rel;
+use td_value::tuple::Tuple;
+use td_value::value::Value;
+
+/// The projections of the groups on the names, as values.
+fn group_values(
+    alloc: Global,
+    groups: &[(Tuple, Rel)],
+    names: &[Name],
+) -> Result<Vec<Value>, AllocError>
+    requires { All (λ g. IsTrue (has_projection names.now g.1.heading)) groups.now }
+    ensures { IfOk result (λ values. values.items
+        ≡ map (λ g. relation_value (projected_relation names.now g.1)) groups.now) }
+{
+    let mut values = Vec::with_capacity(alloc, groups.len())?;
+    for (_, group) in groups {
+        let part = project(alloc, group, names)?;
+        values.push(Value::relation(alloc, part)?)?;
+    }
+    Ok(values)
+}
+
+/// The relation with the attributes of the names put into one relation-valued attribute.
+pub fn group(alloc: Global, rel: &Rel, names: &[Name], name: Name) -> Result<Rel, AllocError>
+    requires { IsTrue (can_nest names.now name rel.now.heading) }
+    ensures { IfOk result (λ r. r ≡ grouped_relation names.now name rel.now) }
+{
+    let heading = rel.heading();
+    let _ = heading.len();
+    let part = unrefused(heading.project(names))?;
+    let rest = attribute_names(&heading.lacking(&part)?)?;
+    let keys = project(alloc, rel, &rest)?;
+    let groups = groups_on(alloc, &rest, rel, keys.rows())?;
+    let values = group_values(alloc, &groups, names)?;
+    let ty = Ty::Rel(part);
+    extend(alloc, &keys, name, Column { ty, values })
+}

@@ -1,0 +1,7 @@
+//! Grouping, aggregates and closure: each gives what its definition says, or wants memory.
+#![tactic(auto)]
+
+pub mod aggregates;
+pub mod grouping;
+pub mod groups;
+mod want;
