@@ -9,8 +9,6 @@ mod run;
 mod session;
 mod sink;
 mod source;
-#[cfg(test)]
-mod tests;
 
 use std::process::ExitCode;
 
