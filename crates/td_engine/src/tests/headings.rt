@@ -42,51 +42,12 @@ fn a_heading_and_its_text(rt: HostRuntime) -> Result<(), Fail> {
 }
 
 #[test]
-fn a_heading_has_parts(rt: HostRuntime) -> Result<(), Fail> {
-    let alloc = rt.alloc();
-    let heading = integers(alloc, &["A", "B"])?;
-    assert!(rt; is_of(alloc, &heading.without(&name(alloc, "B")?)?, &["A"])?);
-    assert!(rt; is_of(alloc, &heading.project(&[name(alloc, "A")?])?, &["A"])?);
-    Ok(())
-}
-
-#[test]
-fn a_heading_with_itself(rt: HostRuntime) -> Result<(), Fail> {
-    let alloc = rt.alloc();
-    let heading = integers(alloc, &["A", "B"])?;
-    assert!(rt; heading.common(&heading)? == heading);
-    assert!(rt; heading.union(&heading)? == heading);
-    Ok(())
-}
-
-#[test]
-fn an_attribute_is_renamed(rt: HostRuntime) -> Result<(), Fail> {
-    let alloc = rt.alloc();
-    let renaming = [(name(alloc, "A")?, name(alloc, "C")?)];
-    let renamed = integers(alloc, &["A", "B"])?.rename(&renaming)?;
-    assert!(rt; is_of(alloc, &renamed, &["B", "C"])?);
-    Ok(())
-}
-
-#[test]
 fn a_heading_by_one_list(rt: HostRuntime) -> Result<(), Fail> {
     let alloc = rt.alloc();
     let mut attributes = Vec::new(alloc);
     attributes.push((name(alloc, "B")?, Ty::Int))?;
     attributes.push((name(alloc, "A")?, Ty::Int))?;
     assert!(rt; is_of(alloc, &Heading::new(alloc, attributes)?, &["A", "B"])?);
-    Ok(())
-}
-
-#[test]
-fn headings_are_refused(rt: HostRuntime) -> Result<(), Fail> {
-    let alloc = rt.alloc();
-    let refused = Some(Fault::Refused(Cause::Heading));
-    let h = integers(alloc, &["A", "B"])?;
-    let z = name(alloc, "Z")?;
-    assert_eq!(rt; h.without(&z).err(), refused);
-    assert_eq!(rt; h.project(&[z]).err(), refused);
-    assert_eq!(rt; h.with(name(alloc, "A")?, Ty::Int).err(), refused);
     Ok(())
 }
 

@@ -1,7 +1,6 @@
 //! Each call that can want memory, with ample memory, and the literals.
 use super::names::name;
 use std::alloc::Global;
-use std::hash::{DefaultHasher, Hash, Hasher};
 use std::test::Fail;
 use td_tree::cause::Cause;
 use td_tree::fault::Fault;
@@ -85,34 +84,6 @@ fn tuples_are_maps(rt: HostRuntime) -> Result<(), Fail> {
 }
 
 #[test]
-fn relations_are_sets(rt: HostRuntime) -> Result<(), Fail> {
-    let alloc = rt.alloc();
-    let mut tuples = Vec::new(alloc);
-    for number in [3, 2, 2] {
-        tuples.push(numbers(alloc, &[("A", 1), ("B", number)])?)?;
-    }
-    let heading = numbers(alloc, &[("A", 1), ("B", 2)])?.heading()?;
-    let r = relation(heading, tuples)?;
-    let text = "RELATION {A INTEGER, B INTEGER} {TUPLE {A 1, B 2}, TUPLE {A 1, B 3}}";
-    assert_eq!(rt; r.literal()?.as_str(), text);
-    assert!(rt; r.try_clone()? == r);
-    assert!(rt; r.type_of()? == Ty::Rel(r.heading().try_clone()?));
-    Ok(())
-}
-
-#[test]
-fn dee_has_the_empty_tuple(rt: HostRuntime) -> Result<(), Fail> {
-    let alloc = rt.alloc();
-    let mut tuples = Vec::new(alloc);
-    let dum = relation(Heading::empty(alloc), Vec::new(alloc))?;
-    tuples.push(numbers(alloc, &[])?)?;
-    let dee = relation(Heading::empty(alloc), tuples)?;
-    assert_eq!(rt; dee.literal()?.as_str(), "RELATION {} {TUPLE {}}");
-    assert_eq!(rt; dum.literal()?.as_str(), "RELATION {} {}");
-    Ok(())
-}
-
-#[test]
 fn values_of_each_type(rt: HostRuntime) -> Result<(), Fail> {
     let alloc = rt.alloc();
     let mut components = Vec::new(alloc);
@@ -141,14 +112,6 @@ fn column(alloc: Global, members: &[i64]) -> Result<Rel, Fault> {
     relation(heading, tuples)
 }
 
-/// The user value of two numbers.
-fn pair(alloc: Global, first: i64, second: i64) -> Result<User, Fault> {
-    let mut components = Vec::new(alloc);
-    components.push(Value::int(first))?;
-    components.push(Value::int(second))?;
-    Ok(User::new(name(alloc, "P")?, components))
-}
-
 /// A user value of a tuple with that relation.
 fn nested(alloc: Global, members: &[i64]) -> Result<Value, Fault> {
     let mut entries = Vec::new(alloc);
@@ -160,28 +123,6 @@ fn nested(alloc: Global, members: &[i64]) -> Result<Value, Fault> {
 }
 
 #[test]
-fn values_have_an_order(rt: HostRuntime) -> Result<(), Fail> {
-    let alloc = rt.alloc();
-    assert!(rt; Value::bool(false) < Value::bool(true));
-    assert!(rt; Value::int(-1) < Value::int(0));
-    assert!(rt; Value::text(alloc, "B")? < Value::text(alloc, "b")?);
-    assert!(rt; Value::text(alloc, "AB")? < Value::text(alloc, "B")?);
-    let (low, high) = (pair(alloc, 1, 3)?, pair(alloc, 2, 1)?);
-    assert!(rt; Value::user(alloc, low)? < Value::user(alloc, high)?);
-    Ok(())
-}
-
-#[test]
-fn a_proper_prefix_comes_first(rt: HostRuntime) -> Result<(), Fail> {
-    let alloc = rt.alloc();
-    let prefix = column(alloc, &[1, 2])?;
-    assert!(rt; prefix < column(alloc, &[3, 2, 1])?);
-    assert!(rt; prefix < column(alloc, &[2])?);
-    assert!(rt; column(alloc, &[])? < prefix);
-    Ok(())
-}
-
-#[test]
 fn values_inside_values(rt: HostRuntime) -> Result<(), Fail> {
     let alloc = rt.alloc();
     let v = nested(alloc, &[2, 1])?;
@@ -190,57 +131,5 @@ fn values_inside_values(rt: HostRuntime) -> Result<(), Fail> {
     assert!(rt; v.try_clone()? == v);
     assert!(rt; v == nested(alloc, &[1, 2, 2])?);
     assert!(rt; v < nested(alloc, &[1, 3])?);
-    Ok(())
-}
-
-#[test]
-fn components_have_their_types(rt: HostRuntime) -> Result<(), Fail> {
-    let alloc = rt.alloc();
-    let u = pair(alloc, 1, 2)?;
-    let mut declared = Vec::new(alloc);
-    declared.push((name(alloc, "X")?, Ty::Int))?;
-    assert!(rt; !u.has_components(&declared));
-    declared.push((name(alloc, "Y")?, Ty::Int))?;
-    assert!(rt; u.has_components(&declared));
-    declared[1].1 = Ty::Text;
-    assert!(rt; !u.has_components(&declared));
-    Ok(())
-}
-
-fn hashed<T: Hash>(item: &T) -> u64 {
-    let mut state = DefaultHasher::new();
-    item.hash(&mut state);
-    state.finish()
-}
-
-fn texts_hash_alike(alloc: Global) -> Result<bool, Fault> {
-    let text = Value::text(alloc, "it's")?;
-    Ok(hashed(&text) == hashed(&Value::text(alloc, "it's")?))
-}
-
-fn tuples_hash_alike(alloc: Global) -> Result<bool, Fault> {
-    let t = numbers(alloc, &[("A", 1), ("B", 2)])?;
-    Ok(hashed(&t) == hashed(&numbers(alloc, &[("B", 2), ("A", 1)])?))
-}
-
-fn relations_hash_alike(alloc: Global) -> Result<bool, Fault> {
-    let r = column(alloc, &[1, 2])?;
-    Ok(hashed(&r) == hashed(&column(alloc, &[2, 1])?))
-}
-
-fn user_values_hash_alike(alloc: Global) -> Result<bool, Fault> {
-    let v = nested(alloc, &[1, 2])?;
-    Ok(hashed(&v) == hashed(&nested(alloc, &[2, 1, 2])?))
-}
-
-#[test]
-fn equal_values_hash_alike(rt: HostRuntime) -> Result<(), Fail> {
-    let alloc = rt.alloc();
-    assert_eq!(rt; hashed(&Value::bool(true)), hashed(&Value::bool(true)));
-    assert_eq!(rt; hashed(&Value::int(-1)), hashed(&Value::int(-1)));
-    assert!(rt; texts_hash_alike(alloc)?);
-    assert!(rt; tuples_hash_alike(alloc)?);
-    assert!(rt; relations_hash_alike(alloc)?);
-    assert!(rt; user_values_hash_alike(alloc)?);
     Ok(())
 }
