@@ -9,7 +9,7 @@ mod scalars;
 mod statements;
 
 use super::names::name;
-use super::parser::parse;
+use super::parser::{parse, written};
 use super::scopes::{with_constraint, with_relvar};
 use super::types::declare;
 use std::alloc::Global;
@@ -118,10 +118,9 @@ fn scope<'a>(alloc: Global, table: &'a TypeTable, texts: &[&str]) -> Result<Scop
 
 // ---- what is answered
 
-/// The expression of that text.
-pub fn expression(alloc: Global, text: &str) -> Result<Expr, Fault> {
-    let written = format!(in alloc; "WRITE {text};")?;
-    match parse(alloc, written.as_bytes())? {
+/// The expression that the statement writes.
+pub fn expression(statement: &Statement) -> Result<&Expr, Fault> {
+    match statement {
         Statement::Write(tree) => Ok(tree),
         _ => Err(Fault::Refused(Cause::Syntax)),
     }
@@ -138,15 +137,15 @@ pub fn is_refused<T: Drop>(answer: Result<T, Fault>, cause: Cause) -> Result<boo
 
 /// Whether the expression has the type of that text.
 fn has_type(alloc: Global, scope: &Scope<'_>, text: &str, ty: &str) -> Result<bool, Fault> {
-    let tree = expression(alloc, text)?;
-    let found = check_expr(scope, &tree)?;
+    let statement = written(alloc, text)?;
+    let found = check_expr(scope, expression(&statement)?)?;
     Ok(type_text(alloc, &found)?.as_str() == ty)
 }
 
 /// Whether the expression is refused by that cause.
 fn refused(alloc: Global, scope: &Scope<'_>, text: &str, cause: Cause) -> Result<bool, Fault> {
-    let tree = expression(alloc, text)?;
-    is_refused(check_expr(scope, &tree), cause)
+    let statement = written(alloc, text)?;
+    is_refused(check_expr(scope, expression(&statement)?), cause)
 }
 
 /// An expression and the text of its type.

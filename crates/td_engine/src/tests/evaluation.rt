@@ -10,6 +10,7 @@ mod scalars;
 use super::checks::{expression, is_refused};
 use super::databases::{add_base, add_type};
 use super::names::name;
+use super::parser::written;
 use std::alloc::Global;
 use td_body::sorted::SortedBody;
 use td_catalog::catalog::Catalog;
@@ -17,6 +18,7 @@ use td_check::expression::check_expr;
 use td_eval::env::Env;
 use td_eval::value::eval;
 use td_tree::cause::Cause;
+use td_tree::expression::Expr;
 use td_tree::fault::Fault;
 use td_tree::name::Name;
 use td_types::text::type_text;
@@ -67,17 +69,22 @@ fn named(alloc: Global, texts: &[&str]) -> Result<Vec<Name>, Fault> {
     Ok(names)
 }
 
+/// A copy of the expression of the text.
+fn copy_of(alloc: Global, text: &str) -> Result<Expr, Fault> {
+    let statement = written(alloc, text)?;
+    Ok(expression(&statement)?.try_clone()?)
+}
+
 /// The database of these types and base relvars.
 fn database(alloc: Global) -> Result<Catalog<SortedBody>, Fault> {
     let mut catalog = Catalog::new(alloc);
     for (ty, number, condition) in TYPES {
-        let condition = expression(alloc, condition)?;
         add_type(
             &mut catalog,
             alloc,
             name(alloc, ty)?,
             name(alloc, number)?,
-            condition,
+            copy_of(alloc, condition)?,
         )?;
     }
     for (relvar, key, text) in BASES {
@@ -95,26 +102,26 @@ fn database(alloc: Global) -> Result<Catalog<SortedBody>, Fault> {
 
 // ---- what is answered
 
+/// The value of the text in what it is evaluated in.
+fn value_in(alloc: Global, env: &Env<'_, SortedBody>, text: &str) -> Result<Value, Fault> {
+    let statement = written(alloc, text)?;
+    eval(alloc, env, expression(&statement)?)
+}
+
 /// The value of the text where no tuple is in hand.
-fn evaluated<'a>(
-    alloc: Global,
-    catalog: &'a Catalog<SortedBody>,
-    text: &str,
-) -> Result<Value, Fault> {
-    let tree = expression(alloc, text)?;
-    let other: Option<(&'a Name, &'a Rel)> = None;
+fn evaluated(alloc: Global, catalog: &Catalog<SortedBody>, text: &str) -> Result<Value, Fault> {
     let env = Env {
         catalog,
-        other,
+        other: None,
         tuples: &[],
     };
-    eval(alloc, &env, &tree)
+    value_in(alloc, &env, text)
 }
 
 /// The text of the type of the text.
 fn type_of(alloc: Global, catalog: &Catalog<SortedBody>, text: &str) -> Result<String, Fault> {
-    let tree = expression(alloc, text)?;
-    let ty = check_expr(&catalog.scope()?, &tree)?;
+    let statement = written(alloc, text)?;
+    let ty = check_expr(&catalog.scope()?, expression(&statement)?)?;
     Ok(type_text(alloc, &ty)?)
 }
 

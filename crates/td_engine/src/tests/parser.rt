@@ -18,10 +18,16 @@ pub fn parse(alloc: Global, script: &[u8]) -> Result<Statement, Fault> {
     cutter.feed(script)?;
     cutter.finish();
     let found = cutter.next_statement()?;
-    match found {
-        Some(tokens) => parse_statement(alloc, tokens.as_slice()),
+    match &found {
+        Some(tokens) => parse_statement(alloc, tokens),
         None => parse_statement(alloc, &[]),
     }
+}
+
+/// The statement that writes the expression of that text.
+pub fn written(alloc: Global, text: &str) -> Result<Statement, Fault> {
+    let script = format!(in alloc; "WRITE {text};")?;
+    parse(alloc, script.as_bytes())
 }
 
 /// Whether the statement of the script passes the test.

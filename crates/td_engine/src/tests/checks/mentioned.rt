@@ -1,4 +1,4 @@
-use super::{KNOWN, expression, is_refused, scope, types};
+use super::{KNOWN, expression, is_refused, scope, types, written};
 use std::alloc::{AllocError, Global};
 use std::test::Fail;
 use td_check::mentions::mentions;
@@ -23,8 +23,8 @@ fn listed(alloc: Global, names: &[Name]) -> Result<String, AllocError> {
 type Mentioning = (&'static str, &'static str, &'static str);
 
 fn is_met(alloc: Global, scope: &Scope<'_>, case: &Mentioning) -> Result<bool, Fault> {
-    let tree = expression(alloc, case.0)?;
-    let found = mentions(scope, &tree)?;
+    let statement = written(alloc, case.0)?;
+    let found = mentions(scope, expression(&statement)?)?;
     let relvars = listed(alloc, &found.relvars)?;
     let types = listed(alloc, &found.types)?;
     Ok(relvars.as_str() == case.1 && types.as_str() == case.2)
@@ -115,8 +115,8 @@ fn mentioned_types(rt: HostRuntime) -> Result<(), Fail> {
 }
 
 fn is_unknown(alloc: Global, scope: &Scope<'_>) -> Result<bool, Fault> {
-    let tree = expression(alloc, "R {Z} = QTY(X)")?;
-    is_refused(mentions(scope, &tree), Cause::NameUnknown)
+    let statement = written(alloc, "R {Z} = QTY(X)")?;
+    is_refused(mentions(scope, expression(&statement)?), Cause::NameUnknown)
 }
 
 #[test]

@@ -1,9 +1,8 @@
 use super::super::values::numbers;
-use super::{database, expression, name, relation};
+use super::{database, name, relation, value_in};
 use std::alloc::Global;
 use std::test::Fail;
 use td_eval::env::Env;
-use td_eval::value::eval;
 use td_tree::fault::Fault;
 
 /// The literal of the value of the text where R has another relation.
@@ -16,7 +15,7 @@ fn with_other(alloc: Global, text: &str, other: &str) -> Result<String, Fault> {
         other: Some((&relvar, &rel)),
         tuples: &[],
     };
-    Ok(eval(alloc, &env, &expression(alloc, text)?)?.literal(alloc)?)
+    Ok(value_in(alloc, &env, text)?.literal(alloc)?)
 }
 
 /// The literal of the value of the text where two tuples are in hand.
@@ -29,7 +28,7 @@ fn in_tuples(alloc: Global, text: &str) -> Result<String, Fault> {
         other: None,
         tuples: &[&outer, &inner],
     };
-    Ok(eval(alloc, &env, &expression(alloc, text)?)?.literal(alloc)?)
+    Ok(value_in(alloc, &env, text)?.literal(alloc)?)
 }
 
 #[test]

@@ -1,5 +1,5 @@
 //! Expressions that are read, copied, printed and read again.
-use super::{parse, passes};
+use super::{passes, written};
 use std::alloc::{AllocError, Global};
 use td_tree::expression::Expr;
 use td_tree::fault::Fault;
@@ -50,27 +50,16 @@ fn writes(alloc: Global, statement: &Statement, row: &Row) -> bool {
     }
 }
 
-/// `WRITE e;`, by the text of `e`.
-fn written(alloc: Global, text: &str) -> Result<Vec<u8>, AllocError> {
-    let mut script = Vec::new(alloc);
-    script.extend_from_slice(b"WRITE ")?;
-    script.extend_from_slice(text.as_bytes())?;
-    script.extend_from_slice(b";")?;
-    Ok(script)
-}
-
 /// Whether the expression's copy is printed as a text that is read as an expression of the same print and height.
 fn is_read_again(alloc: Global, tree: &Expr) -> Result<bool, Fault> {
     let copy = tree.try_clone()?;
     let text = print_expr(alloc, &copy)?;
-    let script = written(alloc, text.as_str())?;
-    match parse(alloc, script.as_slice())? {
-        Statement::Write(again) => {
-            let print = print_expr(alloc, &again)?;
-            Ok(print.as_str() == text.as_str() && again.height() == tree.height())
-        }
-        _ => Ok(false),
-    }
+    let statement = written(alloc, text.as_str())?;
+    let Statement::Write(again) = &statement else {
+        return Ok(false);
+    };
+    let print = print_expr(alloc, again)?;
+    Ok(print.as_str() == text.as_str() && again.height() == tree.height())
 }
 
 fn reads_again(alloc: Global, statement: &Statement) -> bool {
