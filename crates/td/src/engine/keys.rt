@@ -4,9 +4,6 @@ ghost use Rattle.std.specs.List.{list_all};
 ghost use Rattle.td_types.specs.Headings.{are_distinct, has_attributes};
 ghost use Rattle.td.specs.Database.{are_apart, are_keys, includes, keys_fit, keys_hold};
 
-#[cfg(test)]
-mod tests;
-
 use std::alloc::{AllocError, Global};
 use td_body::keys::key_holds;
 use td_tree::name::Name;
