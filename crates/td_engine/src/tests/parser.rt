@@ -30,23 +30,8 @@ pub fn written(alloc: Global, text: &str) -> Result<Statement, Fault> {
     parse(alloc, script.as_bytes())
 }
 
-/// Whether the statement of the script passes the test.
-fn passes<P: FnOnce(&Statement) -> bool>(
-    alloc: Global,
-    script: &[u8],
-    test: P,
-) -> Result<bool, Fault>
-    requires { P.IsAlwaysCallable test }
-{
-    let statement = parse(alloc, script)?;
-    Ok(test(&statement))
-}
-
 fn is_refused(alloc: Global, script: &[u8], cause: Cause) -> bool {
-    match passes(alloc, script, |_| true) {
-        Err(fault) => fault == Fault::Refused(cause),
-        Ok(_) => false,
-    }
+    parse(alloc, script).err() == Some(Fault::Refused(cause))
 }
 
 #[test]
