@@ -53,7 +53,7 @@ const BASES: [(&str, &[&str], &str); 3] = [
 ];
 
 /// The relation that is the value of the text.
-fn relation(alloc: Global, catalog: &Catalog<SortedBody>, text: &str) -> Result<Rel, Fault> {
+pub fn relation(alloc: Global, catalog: &Catalog<SortedBody>, text: &str) -> Result<Rel, Fault> {
     let value = evaluated(alloc, catalog, text)?;
     match &value.node {
         Node::Rel(rel) => Ok(rel.try_clone()?),
@@ -61,7 +61,7 @@ fn relation(alloc: Global, catalog: &Catalog<SortedBody>, text: &str) -> Result<
     }
 }
 
-fn named(alloc: Global, texts: &[&str]) -> Result<Vec<Name>, Fault> {
+pub fn named(alloc: Global, texts: &[&str]) -> Result<Vec<Name>, Fault> {
     let mut names = Vec::new(alloc);
     for text in texts {
         names.push(name(alloc, text)?)?;
@@ -70,13 +70,13 @@ fn named(alloc: Global, texts: &[&str]) -> Result<Vec<Name>, Fault> {
 }
 
 /// A copy of the expression of the text.
-fn copy_of(alloc: Global, text: &str) -> Result<Expr, Fault> {
+pub fn copy_of(alloc: Global, text: &str) -> Result<Expr, Fault> {
     let statement = written(alloc, text)?;
     Ok(expression(&statement)?.try_clone()?)
 }
 
 /// The database of these types and base relvars.
-fn database(alloc: Global) -> Result<Catalog<SortedBody>, Fault> {
+pub fn database(alloc: Global) -> Result<Catalog<SortedBody>, Fault> {
     let mut catalog = Catalog::new(alloc);
     for (ty, number, condition) in TYPES {
         add_type(

@@ -101,35 +101,3 @@ fn values_of_each_type(rt: HostRuntime) -> Result<(), Fail> {
     assert!(rt; matches!(&Value::bool(false).node, Node::Bool(false)));
     Ok(())
 }
-
-/// The relation whose tuples give A each of the numbers.
-fn column(alloc: Global, members: &[i64]) -> Result<Rel, Fault> {
-    let mut tuples = Vec::new(alloc);
-    for number in members {
-        tuples.push(numbers(alloc, &[("A", *number)])?)?;
-    }
-    let heading = numbers(alloc, &[("A", 1)])?.heading()?;
-    relation(heading, tuples)
-}
-
-/// A user value of a tuple with that relation.
-fn nested(alloc: Global, members: &[i64]) -> Result<Value, Fault> {
-    let mut entries = Vec::new(alloc);
-    let inner = Value::relation(alloc, column(alloc, members)?)?;
-    entries.push((name(alloc, "R")?, inner))?;
-    let mut components = Vec::new(alloc);
-    components.push(Value::tuple(alloc, Tuple::new(alloc, entries)?)?)?;
-    Ok(Value::user(alloc, User::new(name(alloc, "U")?, components))?)
-}
-
-#[test]
-fn values_inside_values(rt: HostRuntime) -> Result<(), Fail> {
-    let alloc = rt.alloc();
-    let v = nested(alloc, &[2, 1])?;
-    let text = "U(TUPLE {R RELATION {A INTEGER} {TUPLE {A 1}, TUPLE {A 2}}})";
-    assert_eq!(rt; v.literal(alloc)?.as_str(), text);
-    assert!(rt; v.try_clone()? == v);
-    assert!(rt; v == nested(alloc, &[1, 2, 2])?);
-    assert!(rt; v < nested(alloc, &[1, 3])?);
-    Ok(())
-}

@@ -2,7 +2,7 @@ use super::{Refusal, Valued, first_wrong};
 use std::test::Fail;
 use td_tree::cause::Cause;
 
-const LITERALS: [Valued; 12] = [
+const LITERALS: [Valued; 13] = [
     (
         "TUPLE {B 'x', A 1}",
         "TUPLE {A INTEGER, B CHAR}",
@@ -23,6 +23,11 @@ const LITERALS: [Valued; 12] = [
         "RELATION {K INTEGER} {}",
         "RELATION {K INTEGER}",
         "RELATION {K INTEGER} {}",
+    ),
+    (
+        "RELATION {TUPLE {R RELATION {TUPLE {A 2}, TUPLE {A 1}}}}",
+        "RELATION {R RELATION {A INTEGER}}",
+        "RELATION {R RELATION {A INTEGER}} {TUPLE {R RELATION {A INTEGER} {TUPLE {A 1}, TUPLE {A 2}}}}",
     ),
     ("TABLE_DEE", "RELATION {}", "RELATION {} {TUPLE {}}"),
     ("TABLE_DUM", "RELATION {}", "RELATION {} {}"),
