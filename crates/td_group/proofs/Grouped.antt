@@ -1,6 +1,6 @@
 -- The parts of GROUP: the rest of a heading, and the groups as a column.
-use Rattle.std.proofs.Common.{◌≡◌, ◌∙◌, ap, sym, refl, subst, ℕ, Bool, true, false, List, [], ◌∷◌, Option, None, length, map, true≢false}
-use Rattle.std.specs.Prelude.{◌&&◌, ◌||◌, not, is_some, IsTrue, if◌then◌else◌}
+use Rattle.std.proofs.Common.{◌≡◌, ◌∙◌, ap, sym, refl, subst, ℕ, Bool, true, false, List, [], ◌∷◌, None, length, map, true≢false}
+use Rattle.std.specs.Prelude.{◌||◌, not, is_some, IsTrue}
 use Rattle.std.specs.List.{All, AllByRecursion, list_all}
 use Rattle.std.proofs.lemmas.List.{length-map}
 use Rattle.std.proofs.lemmas.List.Elements.{All-from_recursion}
@@ -15,7 +15,7 @@ use Rattle.td_algebra.proofs.Members.{both_true, first_true}
 use Rattle.td_algebra.proofs.Entries.{heading_distinct}
 use Rattle.td_algebra.proofs.Sources.{has_attribute-outside}
 use Rattle.td_group.specs.Groups.{groups_on}
-use Rattle.td_group.specs.Nesting.{relation_value, rest_heading}
+use Rattle.td_group.specs.Nesting.{relation_value}
 
 -- ---- the rest of a heading
 

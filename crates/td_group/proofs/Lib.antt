@@ -1,3 +1,6 @@
+mod Apart
 mod Grouped
 mod Keyed
+mod Nested
+mod Rests
 mod Sums

@@ -1,11 +1,11 @@
 -- Aggregates (Tutorial D's; the causes and INTEGER's range are this project's own).
-use Rattle.std.specs.Prelude.{ℕ, ◌^◌, nat_lt, ℤ, pos, negsuc, ◌+ℤ◌, Bool, List, [], ◌∷◌, length, if◌then◌else◌}
+use Rattle.std.specs.Prelude.{◌^◌, nat_lt, ℤ, pos, negsuc, ◌+ℤ◌, Bool, List, [], ◌∷◌, length, if◌then◌else◌}
 use Rattle.std.specs.Ordering.{is_lt}
 use Rattle.td_group.specs.declared.aggregates.Agg.{Agg}
 use Rattle.td_group.specs.declared.aggregates.Agg.TheVariants.{Count, Sum, Max, Min}
 use Rattle.td_tree.specs.Outcomes.{Outcome, Valued, Refused, Only, value_if}
 use Rattle.td_tree.specs.declared.cause.Cause.TheVariants as causes
-use Rattle.td_value.specs.Values.{Val, boolean, integer, char, user, tuple, relation, value_cmp}
+use Rattle.td_value.specs.Values.{Val, integer, value_cmp}
 
 -- whether a number is one of INTEGER's
 abbrev pub is_in_range : ℤ → Bool

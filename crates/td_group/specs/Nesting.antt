@@ -1,5 +1,5 @@
 -- GROUP, UNGROUP, WRAP and UNWRAP, each by a comprehension over the tuples of its operand (Tutorial D's).
-use Rattle.std.specs.Prelude.{◌≡◌, ℕ, Bool, not, ◌&&◌, List, [], ◌∷◌, ◌++◌, Option, None, Some, filter, map}
+use Rattle.std.specs.Prelude.{ℕ, Bool, true, false, not, ◌&&◌, List, [], ◌∷◌, ◌++◌, Option, Some, map}
 use Rattle.std.specs.List.{flat_map}
 use Rattle.td_algebra.specs.Columns.{new_attribute}
 use Rattle.td_algebra.specs.Operators.{extended_relation, projected_relation, restriction}
@@ -7,7 +7,7 @@ use Rattle.td_types.specs.Headings.{has_attribute, has_projection, have_no_commo
 use Rattle.td_types.specs.Types.{Type', Attrs, Heading, attribute_names, pack, type_at, unpack}
 use Rattle.td_types.specs.Types as types
 use Rattle.td_value.specs.Agreement.{agree_on}
-use Rattle.td_value.specs.Values.{Val, boolean, integer, char, user, tuple, relation, Fields, Rows, Tuple, Relation, pack_fields, pack_rows, projected_tuple, relation_of, tuple_of, unpack_fields, unpack_rows, value_at}
+use Rattle.td_value.specs.Values.{Val, tuple, relation, Tuple, Relation, pack_fields, pack_rows, projected_tuple, relation_of, tuple_of, unpack_fields, unpack_rows, value_at}
 
 -- ---- some attributes, and the rest
 
@@ -66,6 +66,15 @@ heading_inside t = []
 -- the heading of an attribute of a tuple or relation type
 abbrev pub inner_heading : List ℕ → Heading → Heading
 inner_heading name h = heading_inside (type_at name h)
+
+-- whether it is a type, of relations or of tuples
+abbrev pub is_relation_type : Option Type' → Bool
+is_relation_type (Some (types.relation xs)) = true
+is_relation_type t = false
+
+abbrev pub is_tuple_type : Option Type' → Bool
+is_tuple_type (Some (types.tuple xs)) = true
+is_tuple_type t = false
 
 -- an attribute's heading has no name of the rest
 abbrev pub can_unnest : List ℕ → Heading → Bool

@@ -4,4 +4,7 @@
 pub mod aggregates;
 pub mod grouping;
 pub mod groups;
+mod tuples;
+pub mod unnesting;
 mod want;
+pub mod wrapping;

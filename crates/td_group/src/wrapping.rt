@@ -1,0 +1,58 @@
+//! WRAP: each tuple with the tuple of some of its attributes in their place.
+ghost use Rattle.std.specs.Prelude.{◌≡◌, ◌∷◌, ◌++◌, [], IfOk, IsTrue, map};
+ghost use Rattle.td_group.specs.Nesting.{can_nest, tuple_value, wrapped_relation};
+ghost use Rattle.td_value.specs.Values.{projected_tuple, tuple_of};
+
+use crate::groups::attribute_names;
+use crate::tuples::joined;
+use crate::want::unrefused;
+use std::alloc::{AllocError, Global};
+use td_tree::name::Name;
+use td_types::ty::Ty;
+use td_value::relation::Rel;
+use td_value::tuple::Tuple;
+use td_value::value::Value;
+
+/// The tuple of the name alone, with the tuple as its value.
+fn named(alloc: Global, name: &Name, tuple: Tuple) -> Result<Tuple, AllocError>
+    ensures { IfOk result (λ t. t ≡ (name.now, tuple_value tuple) ∷ []) }
+{
+    let value = Value::tuple(alloc, tuple)?;
+    let mut entries = Vec::with_capacity(alloc, 1)?;
+    entries.push((name.try_clone()?, value))?;
+    unrefused(Tuple::new(alloc, entries))
+}
+
+/// The rows on the rest, each with the tuple of its named part.
+fn wrapped_rows(
+    alloc: Global,
+    rows: &[Tuple],
+    rest: &[Name],
+    names: &[Name],
+    name: &Name,
+) -> Result<Vec<Tuple>, AllocError>
+    ensures { IfOk result (λ wrapped. wrapped.items ≡ map (λ t. tuple_of (projected_tuple rest.now t
+        ++ (name.now, tuple_value (projected_tuple names.now t)) ∷ [])) rows.now) }
+{
+    let mut wrapped = Vec::with_capacity(alloc, rows.len())?;
+    for row in rows {
+        let part = named(alloc, name, row.project(names)?)?;
+        wrapped.push(joined(alloc, &row.project(rest)?, &part)?)?;
+    }
+    Ok(wrapped)
+}
+
+/// The relation with the attributes of the names put into one tuple-valued attribute.
+pub fn wrap(alloc: Global, rel: &Rel, names: &[Name], name: Name) -> Result<Rel, AllocError>
+    requires { IsTrue (can_nest names.now name rel.now.heading) }
+    ensures { IfOk result (λ r. r ≡ wrapped_relation names.now name rel.now) }
+{
+    let heading = rel.heading();
+    let _ = heading.len();
+    let part = unrefused(heading.project(names))?;
+    let rest = heading.lacking(&part)?;
+    let rows = wrapped_rows(alloc, rel.rows(), &attribute_names(&rest)?, names, &name)?;
+    let heading = unrefused(rest.with(name, Ty::Tup(part)))?;
+    let _ = heading.len();
+    Rel::new(heading, rows)
+}
