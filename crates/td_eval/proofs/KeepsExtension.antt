@@ -156,7 +156,7 @@ module _ (ds : List DeclaredType) (r : Relation) where
   known_fit (a ∷ attributes) h = ((h.0.0, (h.0.1, h.0.2)), known_fit attributes h.1)
 
   -- the extended relation
-  typed_extended : (attributes : List Attribute) (bs : List Addition) → added_attributes bs ≡ attributes → AreNew bs r
+  pub typed_extended : (attributes : List Attribute) (bs : List Addition) → added_attributes bs ≡ attributes → AreNew bs r
       → AllByRecursion IsKnownAttribute attributes → AllByRecursion IsNew bs → IsTypedRelation ds r → IsTypedRelation ds (extended_relation bs r)
   typed_extended attributes bs is new named h m =
       typed_set ds (heading_union r.heading (added_attributes bs)) (map (extended_tuple bs) r.body)

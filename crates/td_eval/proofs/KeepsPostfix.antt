@@ -1,15 +1,16 @@
--- Projection and RENAME give values of their static types, or are refused by dynamic causes alone.
-use Rattle.std.proofs.Common.{◌≡◌, ◌∙◌, ℕ, Bool, true, false, List, [], ◌∷◌, None, Option, Some, ap, map, refl, subst, sym, true≢false}
-use Rattle.std.specs.Prelude.{IsTrue, if◌then◌else◌, is_some, not}
+-- Projection, RENAME and GROUP give values of their static types, or are refused by dynamic causes alone.
+use Rattle.std.proofs.Common.{ℕ, List, [], ◌∷◌, map, refl, subst, sym, true≢false}
+use Rattle.std.specs.Prelude.{IsTrue}
 use Rattle.std.specs.List.{AllByRecursion}
 use Rattle.std.proofs.lemmas.List.Elements.{All-from_recursion}
 use Rattle.td_tree.specs.Names.{IsName}
 use Rattle.td_tree.specs.declared.cause.Cause.TheVariants as causes
 use Rattle.td_tree.specs.Trees.{Attributes, only, all_but, Renaming, Postfix, project, rename, group, ungroup, wrap, unwrap}
-use Rattle.td_types.specs.Headings.{can_rename, has_attribute, has_projection, heading_union, new_name, outside, projection, renamed}
+use Rattle.td_types.specs.Headings.{can_rename, has_projection, heading_union, new_name, outside, projection, renamed}
 use Rattle.td_types.specs.TypeLists.{DeclaredType}
-use Rattle.td_types.specs.Types.{Heading, IsAscending, Type', attribute_names, type_at}
-use Rattle.td_types.proofs.HeadingLaws.{IsAscending-filter, IsAscending-projection, ascending_from_heading, has_attribute-names, type_at-outside, type_at-projection, types_determine_heading}
+use Rattle.td_types.specs.Types.{Heading, Type', attribute_names, pack}
+use Rattle.td_types.specs.Types as types
+use Rattle.td_types.proofs.HeadingLaws.{ascending_from_heading}
 use Rattle.td_check.specs.OperatorTypes.{named_part, postfix_type, relation_if, renaming_pairs}
 use Rattle.td_check.specs.StaticLaws.{OperatorGivesNames}
 use Rattle.td_check.proofs.KnownLaws.{known_closed}
@@ -22,24 +23,13 @@ use Rattle.td_algebra.proofs.Results.{IsRelation-renamed}
 use Rattle.td_eval.specs.Covered.{postfix_covered}
 use Rattle.td_eval.specs.OperatorValues.{listed_names, postfix_value, projected_names, relation_where}
 use Rattle.td_eval.specs.ValueTypes.{IsOfType, KeepsType}
+use Rattle.td_eval.proofs.KeepsNesting.{grouped_made, nest_keeps}
 use Rattle.td_eval.proofs.KeepsOperators.{typed_projected}
 use Rattle.td_eval.proofs.KeepsRelations.{AreOwn, IsOwn, IsTypedRelation, all_made, heading_if_keeps, made_if_keeps, over_relation_keeps, typed_heading, typed_set}
+use Rattle.td_eval.proofs.NestedNames.{rest_named}
+use Rattle.td_group.specs.Nesting.{grouped_relation}
 
 -- ---- projection
-
--- the names outside a part have the part's complement
-complement_is : (part h : Heading) → IsAscending h → projection (attribute_names (outside part h)) h ≡ outside part h
-complement_is part h up =
-    types_determine_heading (projection (attribute_names (outside part h)) h) (outside part h)
-    (IsAscending-projection (attribute_names (outside part h)) h up) (IsAscending-filter (λ n. not (has_attribute n part)) h up)
-    (λ n. type_at-projection (attribute_names (outside part h)) n h
-    ∙ ap (λ b. if b then type_at n h else None) (sym (has_attribute-names n (outside part h)) ∙ ap is_some (type_at-outside n part h))
-    ∙ by_cases (has_attribute n part) (type_at n h) ∙ sym (type_at-outside n part h))
-  where
-    by_cases : (b : Bool) (o : Option Type') → (if is_some (if b then None else o) then o else None) ≡ (if b then None else o)
-    by_cases true o = refl
-    by_cases false (Some t) = refl
-    by_cases false None = refl
 
 module _ (ds : List DeclaredType) where
   part_keeps : (attributes : Attributes) (r : Relation) → IsTypedRelation ds r
@@ -51,7 +41,7 @@ module _ (ds : List DeclaredType) where
   part_keeps (all_but names) r m =
       let others = attribute_names (outside (projection names r.heading) r.heading) in
       made_if_keeps ds (has_projection names r.heading) (projection names r.heading) causes.Heading (λ part. outside part r.heading) (projected_relation others r)
-      (complement_is (projection names r.heading) r.heading (ascending_from_heading r.heading (typed_heading ds r m).0))
+      (rest_named (projection names r.heading) r.heading (ascending_from_heading r.heading (typed_heading ds r m).0))
       (λ _. typed_projected ds others r m)
 
 -- ---- RENAME
@@ -88,7 +78,10 @@ postfix_keeps ds (rename renamings) v s covered names k =
     over_relation_keeps ds v s _ _ k
     (λ r m e. heading_if_keeps ds (can_rename (renaming_pairs renamings) r.heading) (heading_union [] (renamed (renaming_pairs renamings) r.heading)) causes.Heading
     (renamed_relation (renaming_pairs renamings) r) refl (λ fits. typed_renamed ds renamings r names fits m))
-postfix_keeps ds (group attributes name) v s covered names k = absurd (true≢false (sym covered))
+postfix_keeps ds (group attributes name) v s covered names k =
+    over_relation_keeps ds v s _ _ k
+    (λ r m e. nest_keeps ds attributes r.heading name (λ part. types.relation (pack part)) (λ ns. grouped_relation ns name r) (typed_heading ds r m).0
+    (grouped_made ds name names r m))
 postfix_keeps ds (ungroup name) v s covered names k = absurd (true≢false (sym covered))
 postfix_keeps ds (wrap attributes name) v s covered names k = absurd (true≢false (sym covered))
 postfix_keeps ds (unwrap name) v s covered names k = absurd (true≢false (sym covered))

@@ -1,6 +1,7 @@
 pub mod AlikeRows
 pub mod KeepsExtension
 pub mod KeepsGathered
+pub mod KeepsNesting
 pub mod KeepsOperators
 pub mod KeepsPostfix
 pub mod KeepsRelations
@@ -9,6 +10,7 @@ pub mod Measures
 pub mod MentionedEntries
 pub mod MentionedValues
 pub mod MoreWorlds
+pub mod NestedNames
 pub mod NewAttributes
 pub mod OpComparisons
 pub mod OpElements

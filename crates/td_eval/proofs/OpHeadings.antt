@@ -1,6 +1,6 @@
 -- The names of a heading, and a relation's projections on a part of it.
 use Rattle.std.proofs.Common.{◌≡◌, ◌∙◌, ◌+◌, ◌<◌, ◌++◌, get_or, length, take, ℕ, Bool, true, false, List, [], ◌∷◌, Some, None, Result, ap, refl, sym, true≢false}
-use Rattle.std.specs.Prelude.{◌&&◌, if◌then◌else◌, is_some}
+use Rattle.std.specs.Prelude.{◌&&◌, filter, if◌then◌else◌, is_some, not}
 use Rattle.std.proofs.lemmas.List.{map-append, take_more}
 use Rattle.std.proofs.lemmas.Option.{get_or_from_slice_get}
 use Rattle.std.specs.List.{list_all, slice_get}
@@ -11,7 +11,7 @@ use Rattle.td_value.specs.Values.{Val, Relation}
 use Rattle.td_algebra.proofs.Entries.{heading_distinct}
 use Rattle.td_types.specs.Headings.{has_attribute, has_attributes, has_projection, outside}
 use Rattle.td_types.specs.Types.{Attribute, Heading, IsHeading, attribute_names, pack, same_name, type_at}
-use Rattle.td_types.proofs.HeadingLaws.{same_name-itself, type_at-outside}
+use Rattle.td_types.proofs.HeadingLaws.{same_name-itself, type_at-filter}
 
 -- what holds of each name by one test holds by another that it implies
 all_by : (f g : List ℕ → Bool) (ns : List (List ℕ)) → ((n : List ℕ) → f n ≡ true → g n ≡ true) → list_all f ns ≡ true → list_all g ns ≡ true
@@ -37,18 +37,23 @@ names_there (a ∷ h) =
     rw (same_name-itself a.0)
     (all_by (λ n. has_attribute n h) (λ n. has_attribute n (a ∷ h)) (attribute_names h) (λ n. later n a h) (names_there h))
 
-outside_there : (n : List ℕ) (part h : Heading) → has_attribute n (outside part h) ≡ true → has_attribute n h ≡ true
-outside_there n part h e = by_part (has_attribute n part) (ap is_some (sym (type_at-outside n part h)) ∙ e)
+kept_there : (f : List ℕ → Bool) (n : List ℕ) (h : Heading) → has_attribute n (filter (λ a. f a.0) h) ≡ true → has_attribute n h ≡ true
+kept_there f n h e = by_test (f n) (ap is_some (sym (type_at-filter f n h)) ∙ e)
   where
-    by_part : (b : Bool) → is_some (if b then None else type_at n h) ≡ true → has_attribute n h ≡ true
-    by_part true i = absurd (true≢false (sym i))
-    by_part false i = i
+    by_test : (b : Bool) → is_some (if b then type_at n h else None) ≡ true → has_attribute n h ≡ true
+    by_test true i = i
+    by_test false i = absurd (true≢false (sym i))
 
--- there is a projection on the names that a part lacks
+-- there is a projection on the names of the attributes that pass a test
+pub kept_projected : (f : List ℕ → Bool) (h : Heading) → IsHeading (pack (filter (λ a. f a.0) h)) → has_projection (attribute_names (filter (λ a. f a.0) h)) h ≡ true
+kept_projected f h is =
+    let kept = filter (λ a. f a.0) h in
+    rw (all_by (λ n. has_attribute n kept) (λ n. has_attribute n h) (attribute_names kept) (λ n. kept_there f n h) (names_there kept))
+    (heading_distinct kept is)
+
+-- so there is on those that a part lacks
 pub outside_projected : (part h : Heading) → IsHeading (pack (outside part h)) → has_projection (attribute_names (outside part h)) h ≡ true
-outside_projected part h is =
-    rw (all_by (λ n. has_attribute n (outside part h)) (λ n. has_attribute n h) (attribute_names (outside part h)) (λ n. outside_there n part h) (names_there (outside part h)))
-    (heading_distinct (outside part h) is)
+outside_projected part h is = kept_projected (λ n. not (has_attribute n part)) h is
 
 -- the relation that an operator gives where the heading fits
 pub given_where : (fits : Bool) (r : Relation) (x : Result Val Fault) → fits ≡ true → Answers (λ v. v) x (of_relation r)

@@ -13,7 +13,7 @@ prefix_covered op = true
 abbrev pub postfix_covered : Postfix → Bool
 postfix_covered (project attributes) = true
 postfix_covered (rename renamings) = true
-postfix_covered (group attributes n) = false
+postfix_covered (group attributes n) = true
 postfix_covered (ungroup n) = false
 postfix_covered (wrap attributes n) = false
 postfix_covered (unwrap n) = false

@@ -6,7 +6,8 @@ use Rattle.std.specs.Cmp.Lexicographic.{slice_cmp}
 use Rattle.std.specs.List.{zip}
 use Rattle.std.specs.Ordering.{eq_by_cmp, int_cmp, is_le, nat_cmp}
 use Rattle.td_algebra.specs.Operators.{Addition, composition, difference, extended_relation, intersection, is_subset, join, product, projected_relation, renamed_relation, restriction, semidifference, semijoin, union}
-use Rattle.td_check.specs.OperatorTypes.{equality_type, extended_by, known_or, mismatch, renaming_pairs, same_heading, same_type}
+use Rattle.td_check.specs.OperatorTypes.{equality_type, extended_by, known_or, mismatch, named_part, renaming_pairs, same_heading, same_type}
+use Rattle.td_group.specs.Nesting.{can_nest, grouped_relation}
 use Rattle.td_tree.specs.declared.cause.Cause.TheVariants as causes
 use Rattle.td_tree.specs.declared.operator.Comparison.{Comparison}
 use Rattle.td_tree.specs.declared.operator.Comparison.TheVariants as comparisons
@@ -147,13 +148,20 @@ abbrev pub listed_names : Attributes → List (List ℕ)
 listed_names (only names) = names
 listed_names (all_but names) = names
 
+-- the names of the attributes that GROUP and WRAP put into a new one: one that is missing or listed twice is HEADING, and so
+-- is a new name that one of the remaining has
+abbrev pub nested_names : Attributes → List ℕ → Heading → Outcome (List (List ℕ))
+nested_names attributes name h =
+    with_value (named_part attributes h) (λ part. value_if (can_nest (attribute_names part) name h) (attribute_names part) causes.Heading)
+
 abbrev pub postfix_value : Postfix → Val → Outcome Val
 postfix_value (project attributes) v =
     on_relation v (λ r. relation_where (has_projection (listed_names attributes) r.heading) (projected_relation (projected_names attributes r.heading) r))
 postfix_value (rename renamings) v =
     on_relation v (λ r. relation_where (can_rename (renaming_pairs renamings) r.heading) (renamed_relation (renaming_pairs renamings) r))
+postfix_value (group attributes name) v =
+    on_relation v (λ r. with_value (nested_names attributes name r.heading) (λ names. of_relation (grouped_relation names name r)))
 -- not yet defined
-postfix_value (group attributes name) v = mismatch
 postfix_value (ungroup name) v = mismatch
 postfix_value (wrap attributes name) v = mismatch
 postfix_value (unwrap name) v = mismatch

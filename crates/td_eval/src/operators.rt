@@ -5,6 +5,7 @@ pub(crate) mod between;
 pub(crate) mod comparisons;
 pub(crate) mod elements;
 pub(crate) mod literals;
+mod nesting;
 pub(crate) mod operand;
 pub(crate) mod postfix;
 mod relational;

@@ -11,6 +11,7 @@ ghost use Rattle.td_types.specs.Headings.{can_rename, has_projection};
 ghost use Rattle.td_types.specs.Types.{attribute_names};
 
 use crate::operators::asked::relation_in;
+use crate::operators::nesting::grouped;
 use crate::operators::relational::{as_value, fit};
 use std::alloc::{AllocError, Global};
 use td_algebra::projection::project;
@@ -24,7 +25,7 @@ use td_value::relation::Rel;
 use td_value::value::Value;
 
 /// The names of a heading's attributes.
-fn names_in(alloc: Global, heading: &Heading) -> Result<Vec<Name>, AllocError>
+pub(crate) fn names_in(alloc: Global, heading: &Heading) -> Result<Vec<Name>, AllocError>
     ensures { IfOk result (λ names. names.items ≡ attribute_names heading.now) }
 {
     let mut names = Vec::with_capacity(alloc, heading.len())?;
@@ -103,7 +104,10 @@ pub(crate) fn postfix_value(alloc: Global, op: &Postfix, operand: &Value) -> Res
     match op {
         Postfix::Project(attributes) => projected(alloc, relation_in(operand)?, attributes),
         Postfix::Rename(renamings) => renamed(alloc, relation_in(operand)?, renamings),
-        Postfix::Group(..) | Postfix::Ungroup(_) | Postfix::Wrap(..) | Postfix::Unwrap(_) => {
+        Postfix::Group(attributes, name) => {
+            grouped(alloc, relation_in(operand)?, attributes, name)
+        }
+        Postfix::Ungroup(_) | Postfix::Wrap(..) | Postfix::Unwrap(_) => {
             Err(Fault::Refused(Cause::TypeMismatch))
         }
     }

@@ -1,0 +1,14 @@
+use Rattle.td_eval.proofs.WalkedExtension.{answers_related}
+use Rattle.td_eval.specs.OperatorValues.{nested_names, of_relation}
+use Rattle.td_group.specs.Nesting.{grouped_relation}
+use Rattle.td_tree.specs.Outcomes.{with_value}
+use Rattle.td_tree.specs.TreeViews.{attributes_view}
+use Rattle.td_value.specs.Values.{Val}
+use Rattle.td_eval.proofs.operators.postfix.postfix_value.Goals as goal
+
+pub returns-in_ok-relation_in-in-Group : goal.returns-in_ok-relation_in-in-Group
+returns-in_ok-relation_in-in-Group c =
+    rw c.in-Group.is
+    (answers_related (λ (v : Val). v) c.args.operand.now c.in_ok-relation_in-in-Group.field-0.now
+    (λ r. with_value (nested_names (attributes_view c.in-Group.attributes) c.in-Group.name r.heading) (λ names. of_relation (grouped_relation names c.in-Group.name r)))
+    c.grouped.result c.in_ok-relation_in-in-Group.ensures c.grouped.ensures)

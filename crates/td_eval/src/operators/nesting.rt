@@ -1,0 +1,62 @@
+//! The values of operators that put attributes into one.
+ghost use Rattle.td_check.specs.OperatorTypes.{named_part};
+ghost use Rattle.td_eval.specs.OperatorValues.{nested_names, of_relation};
+ghost use Rattle.td_group.specs.Nesting.{grouped_relation};
+ghost use Rattle.td_tree.specs.Outcomes.{Answers, with_value};
+ghost use Rattle.td_tree.specs.TreeViews.{attributes_view};
+
+use crate::operators::postfix::names_in;
+use crate::operators::relational::{as_value, fit};
+use std::alloc::Global;
+use td_group::grouping::group;
+use td_tree::expression::Attributes;
+use td_tree::fault::Fault;
+use td_tree::name::Name;
+use td_types::heading::Heading;
+use td_value::relation::Rel;
+use td_value::value::Value;
+
+/// Some of the attributes: refused where one that is listed is not there or comes twice.
+fn part_of(heading: &Heading, attributes: &Attributes) -> Result<Heading, Fault>
+    ensures { Answers (λ h. h) result (named_part (attributes_view attributes.now) heading.now) }
+{
+    match attributes {
+        Attributes::Only(names) => heading.project(names),
+        Attributes::AllBut(names) => {
+            let named = heading.project(names)?;
+            Ok(heading.lacking(&named)?)
+        }
+    }
+}
+
+/// The names of the attributes that are put into a new one: refused where that can't be done.
+fn nested_names(
+    alloc: Global,
+    heading: &Heading,
+    attributes: &Attributes,
+    name: &Name,
+) -> Result<Vec<Name>, Fault>
+    ensures { Answers (λ ns. ns.items) result
+        (nested_names (attributes_view attributes.now) name.now heading.now) }
+{
+    let _ = heading.len();
+    let part = part_of(heading, attributes)?;
+    let rest = heading.lacking(&part)?;
+    fit(rest.get(name).is_none())?;
+    Ok(names_in(alloc, &part)?)
+}
+
+/// The relation with attributes put into one of a relation type.
+pub(crate) fn grouped(
+    alloc: Global,
+    rel: &Rel,
+    attributes: &Attributes,
+    name: &Name,
+) -> Result<Value, Fault>
+    ensures { Answers (λ v. v) result (with_value
+        (nested_names (attributes_view attributes.now) name.now rel.now.heading)
+        (λ names. of_relation (grouped_relation names name.now rel.now))) }
+{
+    let names = nested_names(alloc, rel.heading(), attributes, name)?;
+    as_value(alloc, group(alloc, rel, &names, name.try_clone()?))
+}
