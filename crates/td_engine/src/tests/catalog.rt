@@ -1,6 +1,5 @@
 //! What a catalogue holds, by the calls that fill it.
-use super::databases::{add_base, add_type};
-use super::evaluation::{copy_of, database, named, relation};
+use super::evaluation::{database, declare, define};
 use super::names::name;
 use std::alloc::Global;
 use std::test::Fail;
@@ -31,28 +30,13 @@ fn then(alloc: Global, text: &str) -> Result<(bool, bool, bool), Fault> {
 
 /// What one more type of that name is answered there.
 fn typed_again(alloc: Global, text: &str) -> Result<(), Fault> {
-    let mut catalog = database(alloc)?;
-    let condition = copy_of(alloc, "Q >= 0")?;
-    add_type(
-        &mut catalog,
-        alloc,
-        name(alloc, text)?,
-        name(alloc, "Q")?,
-        condition,
-    )
+    declare(&mut database(alloc)?, alloc, text, "Q", "Q >= 0")
 }
 
 /// What one more base relvar of that name is answered there.
 fn held_again(alloc: Global, text: &str) -> Result<(), Fault> {
-    let mut catalog = database(alloc)?;
-    let rel = relation(alloc, &catalog, "RELATION {TUPLE {K 1}}")?;
-    add_base(
-        &mut catalog,
-        alloc,
-        name(alloc, text)?,
-        &named(alloc, &["K"])?,
-        &rel,
-    )
+    let tuples = "RELATION {TUPLE {K 1}}";
+    define(&mut database(alloc)?, alloc, text, &["K"], tuples)
 }
 
 #[test]

@@ -61,7 +61,7 @@ pub fn relation(alloc: Global, catalog: &Catalog<SortedBody>, text: &str) -> Res
     }
 }
 
-pub fn named(alloc: Global, texts: &[&str]) -> Result<Vec<Name>, Fault> {
+fn named(alloc: Global, texts: &[&str]) -> Result<Vec<Name>, Fault> {
     let mut names = Vec::new(alloc);
     for text in texts {
         names.push(name(alloc, text)?)?;
@@ -70,33 +70,60 @@ pub fn named(alloc: Global, texts: &[&str]) -> Result<Vec<Name>, Fault> {
 }
 
 /// A copy of the expression of the text.
-pub fn copy_of(alloc: Global, text: &str) -> Result<Expr, Fault> {
+fn copy_of(alloc: Global, text: &str) -> Result<Expr, Fault> {
     let statement = written(alloc, text)?;
     Ok(expression(&statement)?.try_clone()?)
+}
+
+/// Declares the type of that name, with the name of its number and the condition that this meets.
+pub fn declare(
+    catalog: &mut Catalog<SortedBody>,
+    alloc: Global,
+    ty: &str,
+    number: &str,
+    condition: &str,
+) -> Result<(), Fault> {
+    let (ty, number) = (name(alloc, ty)?, name(alloc, number)?);
+    let condition = copy_of(alloc, condition)?;
+    add_type(catalog, alloc, ty, number, condition)
+}
+
+/// Defines the base relvar of that name, with the names of its key and what it holds.
+pub fn define(
+    catalog: &mut Catalog<SortedBody>,
+    alloc: Global,
+    relvar: &str,
+    key: &[&str],
+    text: &str,
+) -> Result<(), Fault> {
+    let rel = relation(alloc, catalog, text)?;
+    let key = named(alloc, key)?;
+    add_base(catalog, alloc, name(alloc, relvar)?, &key, &rel)
+}
+
+fn declare_types(catalog: &mut Catalog<SortedBody>, alloc: Global) -> Result<(), Fault> {
+    for (ty, number, condition) in TYPES {
+        declare(catalog, alloc, ty, number, condition)?;
+    }
+    Ok(())
+}
+
+fn define_bases(catalog: &mut Catalog<SortedBody>, alloc: Global) -> Result<(), Fault> {
+    for (relvar, key, text) in BASES {
+        define(catalog, alloc, relvar, key, text)?;
+    }
+    Ok(())
+}
+
+fn fill(catalog: &mut Catalog<SortedBody>, alloc: Global) -> Result<(), Fault> {
+    declare_types(catalog, alloc)?;
+    define_bases(catalog, alloc)
 }
 
 /// The database of these types and base relvars.
 pub fn database(alloc: Global) -> Result<Catalog<SortedBody>, Fault> {
     let mut catalog = Catalog::new(alloc);
-    for (ty, number, condition) in TYPES {
-        add_type(
-            &mut catalog,
-            alloc,
-            name(alloc, ty)?,
-            name(alloc, number)?,
-            copy_of(alloc, condition)?,
-        )?;
-    }
-    for (relvar, key, text) in BASES {
-        let rel = relation(alloc, &catalog, text)?;
-        add_base(
-            &mut catalog,
-            alloc,
-            name(alloc, relvar)?,
-            &named(alloc, key)?,
-            &rel,
-        )?;
-    }
+    fill(&mut catalog, alloc)?;
     Ok(catalog)
 }
 

@@ -1,6 +1,4 @@
-use super::is_refused;
-use super::prints::is_spelled;
-use td_tree::cause::Cause;
+use super::{first_spelled, first_unspelled};
 
 const ACCEPTED: [&str; 10] = [
     // types and headings
@@ -40,17 +38,10 @@ const REFUSED: [&str; 16] = [
 
 #[test]
 fn what_the_grammar_spells(rt: HostRuntime) {
-    for script in ACCEPTED {
-        assert!(rt; is_spelled(rt.alloc(), script.as_bytes()), "{script}");
-    }
+    assert_eq!(rt; first_unspelled(rt.alloc(), &ACCEPTED), None);
 }
 
 #[test]
 fn what_it_does_not_spell(rt: HostRuntime) {
-    for script in REFUSED {
-        assert!(rt;
-            is_refused(rt.alloc(), script.as_bytes(), Cause::Syntax),
-            "{script}"
-        );
-    }
+    assert_eq!(rt; first_spelled(rt.alloc(), &REFUSED), None);
 }
