@@ -8,6 +8,7 @@ mod headings;
 mod names;
 mod parser;
 mod scopes;
+mod shapes;
 mod tokens;
 mod trees;
 mod types;

@@ -187,13 +187,22 @@ fn first_wrong_in(
     }
 }
 
+/// The first of the expressions that is not answered as it should be where those relvars are known.
+fn first_wrong_among(
+    alloc: Global,
+    table: &TypeTable,
+    typed: &[Typed],
+    refusals: &[Refusal],
+) -> Result<Option<&'static str>, Fault> {
+    let scope = scope(alloc, table, &KNOWN)?;
+    Ok(first_wrong_in(alloc, &scope, typed, refusals))
+}
+
 /// The first of the expressions that is not answered as it should be.
 fn first_wrong(
     alloc: Global,
     typed: &[Typed],
     refusals: &[Refusal],
 ) -> Result<Option<&'static str>, Fault> {
-    let table = types(alloc)?;
-    let scope = scope(alloc, &table, &KNOWN)?;
-    Ok(first_wrong_in(alloc, &scope, typed, refusals))
+    first_wrong_among(alloc, &types(alloc)?, typed, refusals)
 }

@@ -1,9 +1,11 @@
+use super::super::shapes::nested;
 use super::{KNOWN, has_type, refused, scope, types};
 use std::alloc::{AllocError, Global};
 use std::test::Fail;
 use td_check::scope::Scope;
 use td_tree::cause::Cause;
 use td_tree::fault::Fault;
+use td_types::table::TypeTable;
 
 /// An expression in which something is repeated, 200 high.
 #[derive(Drop)]
@@ -19,20 +21,9 @@ struct Shape {
     cause: Cause,
 }
 
-fn repeat(text: &mut String, part: &str, count: u8) -> Result<(), AllocError> {
-    for _ in 0..count {
-        text.push_str(part)?;
-    }
-    Ok(())
-}
-
 /// The expression with that in the middle.
 fn spelled(alloc: Global, shape: &Shape, middle: &str) -> Result<String, AllocError> {
-    let mut text = String::new(alloc);
-    repeat(&mut text, shape.open, shape.count)?;
-    text.push_str(middle)?;
-    repeat(&mut text, shape.close, shape.count)?;
-    Ok(text)
+    nested(alloc, shape.open, shape.count, middle, shape.close)
 }
 
 const SHAPES: [Shape; 9] = [
@@ -129,18 +120,24 @@ fn is_checked(alloc: Global, scope: &Scope<'_>, shape: &Shape) -> Result<bool, F
     )
 }
 
+/// What opens the first of the expressions that is not answered as it should be.
+fn first_wrong_in(alloc: Global, scope: &Scope<'_>) -> Option<&'static str> {
+    for shape in &SHAPES {
+        if is_checked(alloc, scope, shape) != Ok(true) {
+            return Some(shape.open);
+        }
+    }
+    None
+}
+
+fn first_wrong(alloc: Global, table: &TypeTable) -> Result<Option<&'static str>, Fault> {
+    Ok(first_wrong_in(alloc, &scope(alloc, table, &KNOWN)?))
+}
+
 #[test]
 fn the_highest_expressions(rt: HostRuntime) -> Result<(), Fail> {
     let alloc = rt.alloc();
-    let table = types(alloc)?;
-    let scope = scope(alloc, &table, &KNOWN)?;
-    for shape in &SHAPES {
-        assert!(rt;
-            is_checked(alloc, &scope, shape) == Ok(true),
-            "{}",
-            shape.open
-        );
-    }
+    assert_eq!(rt; first_wrong(alloc, &types(alloc)?)?, None);
     Ok(())
 }
 
@@ -168,12 +165,17 @@ fn is_unknown(alloc: Global, scope: &Scope<'_>) -> Result<bool, Fault> {
     refused(alloc, scope, text.as_str(), HEADINGS.cause)
 }
 
+fn are_answered(alloc: Global, scope: &Scope<'_>) -> Result<bool, Fault> {
+    Ok(is_typed(alloc, scope)? && is_unknown(alloc, scope)?)
+}
+
+fn are_answered_among(alloc: Global, table: &TypeTable) -> Result<bool, Fault> {
+    are_answered(alloc, &scope(alloc, table, &KNOWN)?)
+}
+
 #[test]
 fn the_highest_written_type(rt: HostRuntime) -> Result<(), Fail> {
     let alloc = rt.alloc();
-    let table = types(alloc)?;
-    let scope = scope(alloc, &table, &KNOWN)?;
-    assert!(rt; is_typed(alloc, &scope) == Ok(true));
-    assert!(rt; is_unknown(alloc, &scope) == Ok(true));
+    assert!(rt; are_answered_among(alloc, &types(alloc)?)?);
     Ok(())
 }

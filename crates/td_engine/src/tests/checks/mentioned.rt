@@ -6,6 +6,7 @@ use td_check::scope::Scope;
 use td_tree::cause::Cause;
 use td_tree::fault::Fault;
 use td_tree::name::Name;
+use td_types::table::TypeTable;
 
 /// The names with commas between.
 fn listed(alloc: Global, names: &[Name]) -> Result<String, AllocError> {
@@ -31,15 +32,25 @@ fn is_met(alloc: Global, scope: &Scope<'_>, case: &Mentioning) -> Result<bool, F
 }
 
 /// The first expression that does not mention what stands beside it.
-fn first_wrong(alloc: Global, cases: &[Mentioning]) -> Result<Option<&'static str>, Fault> {
-    let table = types(alloc)?;
-    let scope = scope(alloc, &table, &KNOWN)?;
+fn first_wrong_in(alloc: Global, scope: &Scope<'_>, cases: &[Mentioning]) -> Option<&'static str> {
     for case in cases {
-        if is_met(alloc, &scope, case) != Ok(true) {
-            return Ok(Some(case.0));
+        if is_met(alloc, scope, case) != Ok(true) {
+            return Some(case.0);
         }
     }
-    Ok(None)
+    None
+}
+
+fn first_wrong_among(
+    alloc: Global,
+    table: &TypeTable,
+    cases: &[Mentioning],
+) -> Result<Option<&'static str>, Fault> {
+    Ok(first_wrong_in(alloc, &scope(alloc, table, &KNOWN)?, cases))
+}
+
+fn first_wrong(alloc: Global, cases: &[Mentioning]) -> Result<Option<&'static str>, Fault> {
+    first_wrong_among(alloc, &types(alloc)?, cases)
 }
 
 const RELVARS: [Mentioning; 17] = [
@@ -119,11 +130,13 @@ fn is_unknown(alloc: Global, scope: &Scope<'_>) -> Result<bool, Fault> {
     is_refused(mentions(scope, expression(&statement)?), Cause::NameUnknown)
 }
 
+fn is_unknown_among(alloc: Global, table: &TypeTable) -> Result<bool, Fault> {
+    is_unknown(alloc, &scope(alloc, table, &KNOWN)?)
+}
+
 #[test]
 fn mentions_of_what_has_no_type(rt: HostRuntime) -> Result<(), Fail> {
     let alloc = rt.alloc();
-    let table = types(alloc)?;
-    let scope = scope(alloc, &table, &KNOWN)?;
-    assert!(rt; is_unknown(alloc, &scope)?);
+    assert!(rt; is_unknown_among(alloc, &types(alloc)?)?);
     Ok(())
 }

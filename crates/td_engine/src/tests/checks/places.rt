@@ -1,9 +1,11 @@
 use super::{KNOWN, Refusal, Typed, first_wrong, first_wrong_in, name, scope, types};
 use std::alloc::Global;
 use std::test::Fail;
+use td_check::scope::Scope;
 use td_tree::cause::Cause;
 use td_tree::fault::Fault;
 use td_types::heading::Heading;
+use td_types::table::TypeTable;
 use td_types::ty::Ty;
 
 const FOUND: [Typed; 9] = [
@@ -97,13 +99,20 @@ const NOT_IN_R: [Refusal; 4] = [
     ("A FROM A", Cause::TypeMismatch),
 ];
 
+/// The first that is not answered as it should be in a tuple of R's heading.
+fn wrong_in_r(alloc: Global, scope: &mut Scope<'_>) -> Result<Option<&'static str>, Fault> {
+    scope.enter(heading(alloc, Ty::Int)?)?;
+    Ok(first_wrong_in(alloc, scope, &IN_R, &NOT_IN_R))
+}
+
+fn wrong_in_r_among(alloc: Global, table: &TypeTable) -> Result<Option<&'static str>, Fault> {
+    wrong_in_r(alloc, &mut scope(alloc, table, &KNOWN)?)
+}
+
 #[test]
 fn names_in_a_tuple(rt: HostRuntime) -> Result<(), Fail> {
     let alloc = rt.alloc();
-    let table = types(alloc)?;
-    let mut scope = scope(alloc, &table, &KNOWN)?;
-    scope.enter(heading(alloc, Ty::Int)?)?;
-    assert_eq!(rt; first_wrong_in(alloc, &scope, &IN_R, &NOT_IN_R), None);
+    assert_eq!(rt; wrong_in_r_among(alloc, &types(alloc)?)?, None);
     Ok(())
 }
 
@@ -111,18 +120,22 @@ const FURTHER_IN: [Typed; 2] = [("A || 'a'", "CHAR"), ("B + 1", "INTEGER")];
 
 const NOT_FURTHER_IN: [Refusal; 1] = [("A + 1", Cause::TypeMismatch)];
 
+/// The first that is not answered as it should be in a tuple within that one, or once that is left.
+fn wrong_further_in(alloc: Global, scope: &mut Scope<'_>) -> Result<Option<&'static str>, Fault> {
+    scope.enter(heading(alloc, Ty::Int)?)?;
+    scope.enter(heading(alloc, Ty::Text)?)?;
+    let wrong = first_wrong_in(alloc, scope, &FURTHER_IN, &NOT_FURTHER_IN);
+    scope.leave();
+    Ok(wrong.or(first_wrong_in(alloc, scope, &IN_R, &NOT_IN_R)))
+}
+
+fn wrong_further_in_among(alloc: Global, table: &TypeTable) -> Result<Option<&'static str>, Fault> {
+    wrong_further_in(alloc, &mut scope(alloc, table, &KNOWN)?)
+}
+
 #[test]
 fn names_in_a_tuple_further_in(rt: HostRuntime) -> Result<(), Fail> {
     let alloc = rt.alloc();
-    let table = types(alloc)?;
-    let mut scope = scope(alloc, &table, &KNOWN)?;
-    scope.enter(heading(alloc, Ty::Int)?)?;
-    scope.enter(heading(alloc, Ty::Text)?)?;
-    assert_eq!(rt;
-        first_wrong_in(alloc, &scope, &FURTHER_IN, &NOT_FURTHER_IN),
-        None
-    );
-    scope.leave();
-    assert_eq!(rt; first_wrong_in(alloc, &scope, &IN_R, &NOT_IN_R), None);
+    assert_eq!(rt; wrong_further_in_among(alloc, &types(alloc)?)?, None);
     Ok(())
 }

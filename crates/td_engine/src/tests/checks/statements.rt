@@ -52,15 +52,24 @@ fn first_wrong_in(
     }
 }
 
+/// The first of the statements that is not answered as it should be where those relvars are known.
+fn first_wrong_among(
+    alloc: Global,
+    table: &TypeTable,
+    accepted: &[&'static str],
+    refusals: &[Refusal],
+) -> Result<Option<&'static str>, Fault> {
+    let scope = scope(alloc, table, &KNOWN)?;
+    Ok(first_wrong_in(alloc, &scope, accepted, refusals))
+}
+
 /// The first of the statements that is not answered as it should be.
 fn first_wrong(
     alloc: Global,
     accepted: &[&'static str],
     refusals: &[Refusal],
 ) -> Result<Option<&'static str>, Fault> {
-    let table = types(alloc)?;
-    let scope = scope(alloc, &table, &KNOWN)?;
-    Ok(first_wrong_in(alloc, &scope, accepted, refusals))
+    first_wrong_among(alloc, &types(alloc)?, accepted, refusals)
 }
 
 // ---- definitions and drops
@@ -435,11 +444,15 @@ const BEYOND: [Refusal; 10] = [
     ),
 ];
 
+/// The first of the statements that is not answered as it should be where those types alone are known.
+fn first_wrong_rank(alloc: Global, table: &TypeTable) -> Result<Option<&'static str>, Fault> {
+    let scope = scope(alloc, table, &[])?;
+    Ok(first_wrong_in(alloc, &scope, &WITHIN, &BEYOND))
+}
+
 #[test]
 fn ranks_of_what_is_defined(rt: HostRuntime) -> Result<(), Fail> {
     let alloc = rt.alloc();
-    let table = ranked(alloc)?;
-    let scope = scope(alloc, &table, &[])?;
-    assert_eq!(rt; first_wrong_in(alloc, &scope, &WITHIN, &BEYOND), None);
+    assert_eq!(rt; first_wrong_rank(alloc, &ranked(alloc)?)?, None);
     Ok(())
 }

@@ -1,5 +1,6 @@
+use super::super::shapes::nested;
 use super::{database, evaluated};
-use std::alloc::{AllocError, Global};
+use std::alloc::Global;
 use std::test::Fail;
 use td_tree::fault::Fault;
 
@@ -59,19 +60,9 @@ const SHAPES: [Shape; 6] = [
     },
 ];
 
-fn repeat(text: &mut String, part: &str, count: u8) -> Result<(), AllocError> {
-    for _ in 0..count {
-        text.push_str(part)?;
-    }
-    Ok(())
-}
-
 /// The literal of the value of the expression.
 fn literal_of(alloc: Global, shape: &Shape) -> Result<String, Fault> {
-    let mut text = String::new(alloc);
-    repeat(&mut text, shape.open, shape.count)?;
-    text.push_str(shape.middle)?;
-    repeat(&mut text, shape.close, shape.count)?;
+    let text = nested(alloc, shape.open, shape.count, shape.middle, shape.close)?;
     let value = evaluated(alloc, &database(alloc)?, text.as_str())?;
     Ok(value.literal(alloc)?)
 }
