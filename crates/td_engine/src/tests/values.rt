@@ -1,15 +1,13 @@
-//! Each call that can want memory, with ample memory, and the literals.
+//! Tuples and relations by their numbers.
 use super::names::name;
 use std::alloc::Global;
 use std::test::Fail;
 use td_tree::cause::Cause;
 use td_tree::fault::Fault;
 use td_types::heading::Heading;
-use td_types::ty::Ty;
 use td_value::relation::Rel;
 use td_value::tuple::{Tuple, have_heading};
-use td_value::user::User;
-use td_value::value::{Node, Value};
+use td_value::value::Value;
 
 /// The tuple that gives each name its number.
 pub fn numbers(alloc: Global, entries: &[(&str, i64)]) -> Result<Tuple, Fault> {
@@ -65,39 +63,5 @@ fn rows_of_a_relation_and_of_its_copy(rt: HostRuntime) -> Result<(), Fail> {
     let rows = r.into_rows()?;
     assert_eq!(rt; rows.len(), 1);
     assert!(rt; copy.as_slice() == rows.as_slice());
-    Ok(())
-}
-
-#[test]
-fn tuples_are_maps(rt: HostRuntime) -> Result<(), Fail> {
-    let alloc = rt.alloc();
-    let (a, b) = (name(alloc, "A")?, name(alloc, "B")?);
-    let t = numbers(alloc, &[("B", 2), ("A", 1)])?;
-    assert_eq!(rt; t.literal()?.as_str(), "TUPLE {A 1, B 2}");
-    assert!(rt; t == numbers(alloc, &[("A", 1), ("B", 2)])?);
-    assert!(rt; t.try_clone()? == t);
-    assert!(rt; t.get(&b) == Some(&Value::int(2)));
-    assert!(rt; t.project(&[a])? == numbers(alloc, &[("A", 1)])?);
-    assert!(rt; t.has_heading(&t.heading()?));
-    assert!(rt; t.type_of()? == Ty::Tup(t.heading()?));
-    Ok(())
-}
-
-#[test]
-fn values_of_each_type(rt: HostRuntime) -> Result<(), Fail> {
-    let alloc = rt.alloc();
-    let mut components = Vec::new(alloc);
-    components.push(Value::text(alloc, "it's")?)?;
-    components.push(Value::int(-9223372036854775808))?;
-    components.push(Value::bool(true))?;
-    components.push(Value::tuple(alloc, numbers(alloc, &[])?)?)?;
-    let dum = relation(Heading::empty(alloc), Vec::new(alloc))?;
-    components.push(Value::relation(alloc, dum)?)?;
-    let v = Value::user(alloc, User::new(name(alloc, "T")?, components))?;
-    let text = "T('it''s', -9223372036854775808, TRUE, TUPLE {}, RELATION {} {})";
-    assert_eq!(rt; v.literal(alloc)?.as_str(), text);
-    assert!(rt; v.try_clone()? == v);
-    assert!(rt; v.type_of(alloc)? == Ty::User(name(alloc, "T")?));
-    assert!(rt; matches!(&Value::bool(false).node, Node::Bool(false)));
     Ok(())
 }

@@ -2,6 +2,8 @@ use super::super::shapes::nested;
 use super::{database, evaluated};
 use std::alloc::Global;
 use std::test::Fail;
+use td_body::sorted::SortedBody;
+use td_catalog::catalog::Catalog;
 use td_tree::fault::Fault;
 
 /// An expression in which something is repeated, 200 high, with the literal of its value.
@@ -60,11 +62,15 @@ const SHAPES: [Shape; 6] = [
     },
 ];
 
+/// The literal of the value of the text.
+fn literal_in(alloc: Global, catalog: &Catalog<SortedBody>, text: &str) -> Result<String, Fault> {
+    Ok(evaluated(alloc, catalog, text)?.literal(alloc)?)
+}
+
 /// The literal of the value of the expression.
 fn literal_of(alloc: Global, shape: &Shape) -> Result<String, Fault> {
     let text = nested(alloc, shape.open, shape.count, shape.middle, shape.close)?;
-    let value = evaluated(alloc, &database(alloc)?, text.as_str())?;
-    Ok(value.literal(alloc)?)
+    literal_in(alloc, &database(alloc)?, text.as_str())
 }
 
 /// What closes the first of the expressions that has not the value beside it.
