@@ -1,6 +1,9 @@
 mod Apart
+mod Chains
+mod Graphs
 mod Grouped
 mod Keyed
 mod Nested
 mod Rests
 mod Sums
+mod Tables

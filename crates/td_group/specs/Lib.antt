@@ -2,3 +2,4 @@ pub mod Aggregates
 pub mod Closure
 pub mod Groups
 pub mod Nesting
+pub mod Successors

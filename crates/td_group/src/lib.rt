@@ -2,6 +2,7 @@
 #![tactic(auto)]
 
 pub mod aggregates;
+pub mod closure;
 pub mod grouping;
 pub mod groups;
 mod tuples;
