@@ -13,8 +13,8 @@ use Rattle.td_value.specs.ValueOrder.{order_total, value_Decides}
 use Rattle.td_algebra.proofs.Lists.{contains_cases, contains_filter, contains_first, contains_flat_map, contains_later, contains_map, contains_none}
 use Rattle.td_algebra.proofs.Relations.{All-from_members}
 use Rattle.td_group.specs.Closure.{chained_tuple, chained_tuples, is_closable, is_followed_by}
-use Rattle.td_group.specs.Successors.{ArePairsFrom, HaveSameValues, Leads, end_from, ends_of, left_of, pair_of, starts_in, start_of, successors}
-use Rattle.td_group.proofs.Graphs.{fewer_left, leads_more, nothing_left}
+use Rattle.td_group.specs.Successors.{ArePairsFrom, HaveSameValues, Leads, led_to, ends_of, pair_of, starts_in, start_of, successors}
+use Rattle.td_group.proofs.Graphs.{fewer_left, left_of, leads_more, nothing_left}
 
 -- ---- ways without repetition
 
@@ -90,18 +90,18 @@ module _ (a b : Attribute) (body : List Tuple) (all : All (IsTupleOf (a ∷ b �
   abbrev pair : Val → Val → Tuple
   pair = pair_of (a.0 ∷ b.0 ∷ [])
 
-  shaped : (t : Tuple) → Contains body t → (v : Val) × (w : Val) × (t ≡ pair v w)
+  pub shaped : (t : Tuple) → Contains body t → (v : Val) × (w : Val) × (t ≡ pair v w)
   shaped t c = shape a b t (All-contains (IsTupleOf (a ∷ b ∷ [])) body t all c).1
 
-  itself : (v : Val) → eq_by_cmp value_cmp v v ≡ true
+  pub itself : (v : Val) → eq_by_cmp value_cmp v v ≡ true
   itself v = (eq_by_cmp_equiv order_total).refl v
 
   -- a successor is where a tuple leads
   pub from_successor : (v w : Val) → Contains (successors body v) w → Contains body (pair v w)
   from_successor v w c =
-      let p = (contains_flat_map (λ t. end_from v (ends_of t)) body w).0 c in
+      let p = (contains_flat_map (λ t. led_to v (ends_of t)) body w).0 c in
       let s = shaped p.0 p.1 in
-      by_test s.0 s.1 (subst (Contains body) s.2 p.1) (eq_by_cmp value_cmp v s.0) refl (subst (λ t. Contains (end_from v (ends_of t)) w) s.2 p.2)
+      by_test s.0 s.1 (subst (Contains body) s.2 p.1) (eq_by_cmp value_cmp v s.0) refl (subst (λ t. Contains (led_to v (ends_of t)) w) s.2 p.2)
     where
       by_test : (x y : Val) → Contains body (pair x y) → (q : Bool) → eq_by_cmp value_cmp v x ≡ q → Contains (if q then y ∷ [] else []) w → Contains body (pair v w)
       by_test x y there true e d = by_case (contains_cases y [] w d)
@@ -113,7 +113,7 @@ module _ (a b : Attribute) (body : List Tuple) (all : All (IsTupleOf (a ∷ b �
 
   pub to_successor : (v w : Val) → Contains body (pair v w) → Contains (successors body v) w
   to_successor v w c =
-      (contains_flat_map (λ t. end_from v (ends_of t)) body w).1 (pair v w, c, rw (itself v) (contains_first w []))
+      (contains_flat_map (λ t. led_to v (ends_of t)) body w).1 (pair v w, c, rw (itself v) (contains_first w []))
 
   pub is_start : (v w : Val) → Contains (successors body v) w → Contains (starts_in body) v
   is_start v w c = (contains_flat_map (λ t. start_of (ends_of t)) body v).1 (pair v w, from_successor v w c, contains_first v [])

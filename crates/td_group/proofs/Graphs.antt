@@ -1,5 +1,5 @@
 -- Values that are reached along successors, one after another.
-use Rattle.std.proofs.Common.{◌≡◌, ◌∙◌, ◌⊎◌, inl, inr, ◌+◌, ◌<◌, ◌≤◌, ap, arith, sym, refl, subst, ℕ, suc, Bool, true, false, List, [], ◌∷◌, ◌++◌, append-nil, append_assoc, get_or, length, take, true≢false}
+use Rattle.std.proofs.Common.{◌≡◌, ◌∙◌, ◌⊎◌, inl, inr, ◌+◌, ◌<◌, ◌≤◌, ap, arith, sym, refl, subst, ℕ, suc, Bool, true, false, List, [], ◌∷◌, ◌++◌, append-nil, append_assoc, filter, get_or, length, not, take, true≢false}
 use Rattle.std.specs.Prelude.{◌||◌, if◌then◌else◌}
 use Rattle.std.specs.List.{Contains}
 use Rattle.std.specs.Ordering.{eq_by_cmp}
@@ -12,7 +12,7 @@ use Rattle.td_value.specs.Sets.{has}
 use Rattle.td_value.specs.Values.{Val, value_cmp}
 use Rattle.td_value.specs.ValueOrder.{order_total, value_Decides}
 use Rattle.td_algebra.proofs.Lists.{contains_cases, contains_first, contains_later, contains_none}
-use Rattle.td_group.specs.Successors.{AreReached, Leads, added, all_added, left_of}
+use Rattle.td_group.specs.Successors.{AreReached, Leads, added, all_added}
 
 -- a list contains what the test finds, and the test finds what a list contains
 pub value_there : (v : Val) (vs : List Val) → has value_cmp v vs ≡ true → Contains vs v
@@ -131,6 +131,10 @@ all_more found vs k v l is = ap (all_added found) (take_more vs k v l ∙ ap (λ
     at_end fs (w ∷ ws) = at_end (added fs w) ws
 
 -- ---- how many are left
+
+-- how many of all the values are not in the list
+abbrev pub left_of : List Val → List Val → ℕ
+left_of found all = length (filter (λ v. not (has value_cmp v found)) all)
 
 pub nothing_left : (all : List Val) → left_of [] all ≡ length all
 nothing_left [] = refl

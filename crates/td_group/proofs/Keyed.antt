@@ -14,7 +14,7 @@ use Rattle.std.proofs.lemmas.List.Kept.{IsStrictlySortedBy-filter}
 use Rattle.td_types.specs.Headings.{new_names}
 use Rattle.td_types.specs.Types.{Heading, attribute_names}
 use Rattle.td_value.specs.Values.{IsAscendingBody, IsTupleOf, Tuple, projected_tuple, tuple_cmp}
-use Rattle.td_group.specs.Groups.{AreByKey, is_at_key, items_there, tuples_at}
+use Rattle.td_group.specs.Groups.{AreByKey, stands_at_key, items_there, tuples_at}
 
 -- one item more at a key
 module _ {K X A S : Type 0} (R : K → K → Ordering) (o : IsTotalOrder R) (tell : (x y : K) → Decides (eq_by_cmp R x y) (x ≡ y)) (old mid new : HashMap K (Vec (Bor X) A) S)
@@ -59,12 +59,12 @@ pub keyed_more : {A S : Type 0} (names : List (List ℕ)) (rows : List Tuple) (i
     → ((q : Tuple) → tuples_at q n ≡ tuples_at q m ++ cond (eq_by_cmp tuple_cmp q key) (row ∷ []) []) → AreByKey names (take (i + 1) rows) n
 keyed_more names rows i row key m n h is e inv grows q =
     grows q ∙ ap (λ ts. ts ++ cond (eq_by_cmp tuple_cmp q key) (row ∷ []) []) (inv q)
-    ∙ ap (λ k. filter (is_at_key names q) (take i rows) ++ cond (eq_by_cmp tuple_cmp q k) (row ∷ []) []) e
-    ∙ sym (filter_more (is_at_key names q) rows i row h is)
+    ∙ ap (λ k. filter (stands_at_key names q) (take i rows) ++ cond (eq_by_cmp tuple_cmp q k) (row ∷ []) []) e
+    ∙ sym (filter_more (stands_at_key names q) rows i row h is)
 
 pub keyed_all : {A S : Type 0} (names : List (List ℕ)) (rows : List Tuple) (i : ℕ) (m : HashMap Tuple (Vec (Bor Tuple) A) S)
     → length rows ≤ i → AreByKey names (take i rows) m → AreByKey names rows m
-keyed_all names rows i m h inv q = subst (λ ts. tuples_at q m ≡ filter (is_at_key names q) ts) (take_all i rows h) (inv q)
+keyed_all names rows i m h inv q = subst (λ ts. tuples_at q m ≡ filter (stands_at_key names q) ts) (take_all i rows h) (inv q)
 
 -- ---- the rows of one key
 

@@ -14,7 +14,7 @@ use Rattle.td_value.specs.Values.{Val, Tuple, value_cmp}
 use Rattle.td_value.specs.ValueOrder.{order_total}
 use Rattle.td_algebra.proofs.Lists.{contains_cases, contains_first, contains_later, contains_map, contains_none}
 use Rattle.td_group.specs.Groups.{items_there}
-use Rattle.td_group.specs.Successors.{ArePairsFrom, AreReached, AreSeen, HaveSameValues, Leads, all_successors, pair_of, start_of, successors_at}
+use Rattle.td_group.specs.Successors.{ArePairsFrom, AreReached, AreSeen, HaveSameValues, Leads, pair_of, start_of, successors_at}
 use Rattle.td_group.proofs.Graphs.{has-pushed}
 
 -- the item at a place of a list of references
@@ -49,6 +49,10 @@ seen_pushed old new key v found grown same seen puts grows q =
     either : (b c : Bool) → cond b true c ≡ (b || c)
     either true c = refl
     either false c = refl
+
+-- all the values that stand in a table
+abbrev pub all_successors : {A S : Type 0} → HashMap Val (Vec (Bor Val) A) S → List Val
+all_successors m = flat_map (λ e. items_there (Some e.1)) m.entries
 
 -- the successors of each value are among all
 pub among_all : {A S : Type 0} (m : HashMap Val (Vec (Bor Val) A) S) (v q : Val) → Contains (successors_at m v) q → Contains (all_successors m) q

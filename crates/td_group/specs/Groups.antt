@@ -18,8 +18,8 @@ groups r per = groups_on (common_names per r) r per.body
 -- ---- the tuples of a list by their keys (this project's own)
 
 -- whether the tuple has the key
-abbrev pub is_at_key : List (List ℕ) → Tuple → Tuple → Bool
-is_at_key names q t = eq_by_cmp tuple_cmp q (projected_tuple names t)
+abbrev pub stands_at_key : List (List ℕ) → Tuple → Tuple → Bool
+stands_at_key names q t = eq_by_cmp tuple_cmp q (projected_tuple names t)
 
 -- the items of a list that is there
 abbrev pub items_there : {X A : Type 0} → Option (Vec (Bor X) A) → List X
@@ -32,4 +32,4 @@ tuples_at q m = items_there (get (eq_by_cmp tuple_cmp) m q)
 
 -- at each key stand those of the tuples that have it, in their order
 abbrev pub AreByKey : {A S : Type 0} → List (List ℕ) → List Tuple → HashMap Tuple (Vec (Bor Tuple) A) S → Type 0
-AreByKey names ts m = (q : Tuple) → tuples_at q m ≡ filter (is_at_key names q) ts
+AreByKey names ts m = (q : Tuple) → tuples_at q m ≡ filter (stands_at_key names q) ts

@@ -1,5 +1,5 @@
 -- The values to which tuples of two attributes lead, by one step or by several (this project's own).
-use Rattle.std.specs.Prelude.{◌≡◌, ℕ, not, List, [], ◌∷◌, ◌++◌, Option, None, Some, Vec, filter, if◌then◌else◌, length, ◌↔◌}
+use Rattle.std.specs.Prelude.{◌≡◌, ℕ, List, [], ◌∷◌, ◌++◌, Option, None, Some, Vec, if◌then◌else◌, ◌↔◌}
 use Rattle.std.specs.Borrow.{Bor}
 use Rattle.std.specs.HashMap.{HashMap, get}
 use Rattle.std.specs.HashSet.{HashSet, contains}
@@ -24,13 +24,13 @@ abbrev pub pair_of : List (List ℕ) → Val → Val → Tuple
 pair_of names v w = tuple_view names (v ∷ w ∷ [])
 
 -- the other end of what leads from a value
-abbrev pub end_from : Val → Option (Val × Val) → List Val
-end_from v None = []
-end_from v (Some e) = if eq_by_cmp value_cmp v e.0 then e.1 ∷ [] else []
+abbrev pub led_to : Val → Option (Val × Val) → List Val
+led_to v None = []
+led_to v (Some e) = if eq_by_cmp value_cmp v e.0 then e.1 ∷ [] else []
 
 -- the values to which the tuples lead from a value, in their order
 abbrev pub successors : List Tuple → Val → List Val
-successors ts v = flat_map (λ t. end_from v (ends_of t)) ts
+successors ts v = flat_map (λ t. led_to v (ends_of t)) ts
 
 -- ---- a table of successors
 
@@ -41,10 +41,6 @@ successors_at m v = items_there (get (eq_by_cmp value_cmp) m v)
 -- at each key stand its successors
 abbrev pub AreSuccessors : {A S : Type 0} → List Tuple → HashMap Val (Vec (Bor Val) A) S → Type 0
 AreSuccessors ts m = (v : Val) → successors_at m v ≡ successors ts v
-
--- all the values that stand in a table
-abbrev pub all_successors : {A S : Type 0} → HashMap Val (Vec (Bor Val) A) S → List Val
-all_successors m = flat_map (λ e. items_there (Some e.1)) m.entries
 
 -- ---- values that are reached
 
@@ -69,10 +65,6 @@ all_added found (v ∷ vs) = all_added (added found v) vs
 -- the values seen are those of the list
 abbrev pub AreSeen : {S : Type 0} → HashSet Val S → List Val → Type 0
 AreSeen seen found = (q : Val) → contains (eq_by_cmp value_cmp) seen q ≡ has value_cmp q found
-
--- how many of all the values are not in the list
-abbrev pub left_of : List Val → List Val → ℕ
-left_of found all = length (filter (λ v. not (has value_cmp v found)) all)
 
 -- the tuples of the names that lead from the values to those that these lead to
 abbrev pub ArePairsFrom : (Val → List Val) → List (List ℕ) → List Val → List Tuple → Type 0

@@ -5,7 +5,7 @@ ghost use Rattle.std.specs.Prelude.{if◌then◌else◌};
 ghost use Rattle.std.specs.Ordering.{eq_by_cmp};
 ghost use Rattle.td_group.specs.Closure.{closure, is_closable};
 ghost use Rattle.td_group.specs.Successors.{AreReached, AreSeen, AreSuccessors, HaveSameValues};
-ghost use Rattle.td_group.specs.Successors.{ArePairsFrom, added, all_added, end_from, ends_of};
+ghost use Rattle.td_group.specs.Successors.{ArePairsFrom, added, all_added, led_to, ends_of};
 ghost use Rattle.td_group.specs.Successors.{pair_of, start_of, starts_in, successors_at};
 ghost use Rattle.td_value.specs.Values.{Tuple, Val, value_cmp};
 
@@ -50,7 +50,7 @@ fn put_row<'a>(
     row: &'a Tuple,
 ) -> Result<(), AllocError>
     ensures { (v : Val) → OnOk result (successors_at table.new v
-        ≡ successors_at table.old v ++ end_from v (ends_of row.now)) }
+        ≡ successors_at table.old v ++ led_to v (ends_of row.now)) }
 {
     match ends(row) {
         Some((from, to)) => put_successor(alloc, table, from, to),

@@ -5,6 +5,7 @@ pub mod aggregates;
 pub mod closure;
 pub mod grouping;
 pub mod groups;
+pub mod laws;
 mod tuples;
 pub mod unnesting;
 mod want;
