@@ -1,7 +1,10 @@
 -- Rows by their keys.
 use Rattle.std.proofs.Common.{◌≡◌, ◌∙◌, ap, sym, refl, subst, Bool, true, false, cond, List, [], ◌∷◌, ◌++◌, append-nil, map, Option, Some, None, Bor, Vec, unwrap_or, ℕ, ◌+◌, ◌<◌, ◌≤◌, length, take, get_or, filter}
 use Rattle.std.specs.HashMap.{HashMap, get}
+use Rattle.std.specs.Bool.{Decides}
+use Rattle.std.specs.Cmp.{IsTotalOrder}
 use Rattle.std.specs.Ordering.{eq_by_cmp}
+use Rattle.std.specs.declared.cmp.Ordering.{Ordering}
 use Rattle.std.proofs.lemmas.List.{map-append, take_all, take_more}
 use Rattle.std.proofs.lemmas.List.Elements.{filter-append}
 use Rattle.std.proofs.lemmas.Cmp.{eq_by_cmp_equiv}
@@ -11,38 +14,39 @@ use Rattle.std.proofs.lemmas.List.Kept.{IsStrictlySortedBy-filter}
 use Rattle.td_types.specs.Headings.{new_names}
 use Rattle.td_types.specs.Types.{Heading, attribute_names}
 use Rattle.td_value.specs.Values.{IsAscendingBody, IsTupleOf, Tuple, projected_tuple, tuple_cmp}
-use Rattle.td_value.specs.ValueOrder.{tuple_Decides, tuple_order_total}
-use Rattle.td_group.specs.Groups.{AreByKey, is_at_key, tuples_at, tuples_there}
+use Rattle.td_group.specs.Groups.{AreByKey, stands_at_key, items_there, tuples_at}
 
-module _ {A S : Type 0} (old mid new : HashMap Tuple (Vec (Bor Tuple) A) S) (key : Tuple) (row : Bor Tuple) (was : Option (Vec (Bor Tuple) A)) (empty base rows : Vec (Bor Tuple) A)
-    (there : was ≡ get (eq_by_cmp tuple_cmp) old key) (nothing : empty.items ≡ []) (base_is : base ≡ unwrap_or was empty) (rows_are : rows.items ≡ base.items ++ row ∷ [])
-    (out : (q : Tuple) → get (eq_by_cmp tuple_cmp) mid q ≡ cond (eq_by_cmp tuple_cmp key q) None (get (eq_by_cmp tuple_cmp) old q))
-    (back : (q : Tuple) → get (eq_by_cmp tuple_cmp) new q ≡ cond (eq_by_cmp tuple_cmp key q) (Some rows) (get (eq_by_cmp tuple_cmp) mid q)) where
-  grown : rows.items ≡ (unwrap_or (get (eq_by_cmp tuple_cmp) old key) empty).items ++ row ∷ []
-  grown = rows_are ∙ ap (λ (v : Vec (Bor Tuple) A). v.items ++ row ∷ []) (base_is ∙ ap (λ o. unwrap_or o empty) there)
+-- one item more at a key
+module _ {K X A S : Type 0} (R : K → K → Ordering) (o : IsTotalOrder R) (tell : (x y : K) → Decides (eq_by_cmp R x y) (x ≡ y)) (old mid new : HashMap K (Vec (Bor X) A) S)
+    (key : K) (item : Bor X) (was : Option (Vec (Bor X) A)) (empty base rows : Vec (Bor X) A)
+    (there : was ≡ get (eq_by_cmp R) old key) (nothing : empty.items ≡ []) (base_is : base ≡ unwrap_or was empty) (rows_are : rows.items ≡ base.items ++ item ∷ [])
+    (out : (q : K) → get (eq_by_cmp R) mid q ≡ cond (eq_by_cmp R key q) None (get (eq_by_cmp R) old q))
+    (back : (q : K) → get (eq_by_cmp R) new q ≡ cond (eq_by_cmp R key q) (Some rows) (get (eq_by_cmp R) mid q)) where
+  grown : rows.items ≡ (unwrap_or (get (eq_by_cmp R) old key) empty).items ++ item ∷ []
+  grown = rows_are ∙ ap (λ (v : Vec (Bor X) A). v.items ++ item ∷ []) (base_is ∙ ap (λ p. unwrap_or p empty) there)
 
-  listed_or : (o : Option (Vec (Bor Tuple) A)) → map (λ t. t.now) (unwrap_or o empty).items ≡ tuples_there o
-  listed_or None = ap (map (λ t. t.now)) nothing
+  listed_or : (p : Option (Vec (Bor X) A)) → map (λ x. x.now) (unwrap_or p empty).items ≡ items_there p
+  listed_or None = ap (map (λ x. x.now)) nothing
   listed_or (Some v) = refl
 
-  at_key : tuples_at key new ≡ tuples_at key old ++ row.now ∷ []
+  at_key : items_there (get (eq_by_cmp R) new key) ≡ items_there (get (eq_by_cmp R) old key) ++ item.now ∷ []
   at_key =
-      let own : eq_by_cmp tuple_cmp key key ≡ true = (eq_by_cmp_equiv tuple_order_total).refl key in
-      let found : get (eq_by_cmp tuple_cmp) new key ≡ Some rows = back key ∙ rw own refl in
-      ap tuples_there found ∙ ap (map (λ t. t.now)) grown
-      ∙ map-append (λ (t : Bor Tuple). t.now) (unwrap_or (get (eq_by_cmp tuple_cmp) old key) empty).items (row ∷ [])
-      ∙ ap (λ ts. ts ++ row.now ∷ []) (listed_or (get (eq_by_cmp tuple_cmp) old key))
+      let own : eq_by_cmp R key key ≡ true = (eq_by_cmp_equiv o).refl key in
+      let found : get (eq_by_cmp R) new key ≡ Some rows = back key ∙ rw own refl in
+      ap items_there found ∙ ap (map (λ x. x.now)) grown
+      ∙ map-append (λ (x : Bor X). x.now) (unwrap_or (get (eq_by_cmp R) old key) empty).items (item ∷ [])
+      ∙ ap (λ xs. xs ++ item.now ∷ []) (listed_or (get (eq_by_cmp R) old key))
 
-  pub grown_by_row : (q : Tuple) → tuples_at q new ≡ tuples_at q old ++ (cond (eq_by_cmp tuple_cmp q key) (row.now ∷ []) [])
-  grown_by_row q = by_test (eq_by_cmp tuple_cmp q key) refl
+  pub grown_by_item : (q : K) → items_there (get (eq_by_cmp R) new q) ≡ items_there (get (eq_by_cmp R) old q) ++ (cond (eq_by_cmp R q key) (item.now ∷ []) [])
+  grown_by_item q = by_test (eq_by_cmp R q key) refl
     where
-      by_test : (b : Bool) → eq_by_cmp tuple_cmp q key ≡ b → tuples_at q new ≡ tuples_at q old ++ (cond b (row.now ∷ []) [])
-      by_test true e = subst (λ k. tuples_at k new ≡ tuples_at k old ++ row.now ∷ []) (sym ((tuple_Decides q key).0 e)) at_key
+      by_test : (b : Bool) → eq_by_cmp R q key ≡ b → items_there (get (eq_by_cmp R) new q) ≡ items_there (get (eq_by_cmp R) old q) ++ (cond b (item.now ∷ []) [])
+      by_test true e = subst (λ k. items_there (get (eq_by_cmp R) new k) ≡ items_there (get (eq_by_cmp R) old k) ++ item.now ∷ []) (sym ((tell q key).0 e)) at_key
       by_test false e =
-          let apart : eq_by_cmp tuple_cmp key q ≡ false = (eq_by_cmp_equiv tuple_order_total).symm key q ∙ e in
-          let step : get (eq_by_cmp tuple_cmp) new q ≡ get (eq_by_cmp tuple_cmp) mid q = back q ∙ rw apart refl in
-          let kept : get (eq_by_cmp tuple_cmp) mid q ≡ get (eq_by_cmp tuple_cmp) old q = out q ∙ rw apart refl in
-          ap tuples_there (step ∙ kept) ∙ sym (append-nil (tuples_at q old))
+          let apart : eq_by_cmp R key q ≡ false = (eq_by_cmp_equiv o).symm key q ∙ e in
+          let step : get (eq_by_cmp R) new q ≡ get (eq_by_cmp R) mid q = back q ∙ rw apart refl in
+          let kept : get (eq_by_cmp R) mid q ≡ get (eq_by_cmp R) old q = out q ∙ rw apart refl in
+          ap items_there (step ∙ kept) ∙ sym (append-nil (items_there (get (eq_by_cmp R) old q)))
 
 filter_more : {X : Type 0} (p : X → Bool) (xs : List X) (i : ℕ) (x : X) → i < length xs → x ≡ get_or xs i x
     → filter p (take (i + 1) xs) ≡ filter p (take i xs) ++ cond (p x) (x ∷ []) []
@@ -55,12 +59,12 @@ pub keyed_more : {A S : Type 0} (names : List (List ℕ)) (rows : List Tuple) (i
     → ((q : Tuple) → tuples_at q n ≡ tuples_at q m ++ cond (eq_by_cmp tuple_cmp q key) (row ∷ []) []) → AreByKey names (take (i + 1) rows) n
 keyed_more names rows i row key m n h is e inv grows q =
     grows q ∙ ap (λ ts. ts ++ cond (eq_by_cmp tuple_cmp q key) (row ∷ []) []) (inv q)
-    ∙ ap (λ k. filter (is_at_key names q) (take i rows) ++ cond (eq_by_cmp tuple_cmp q k) (row ∷ []) []) e
-    ∙ sym (filter_more (is_at_key names q) rows i row h is)
+    ∙ ap (λ k. filter (stands_at_key names q) (take i rows) ++ cond (eq_by_cmp tuple_cmp q k) (row ∷ []) []) e
+    ∙ sym (filter_more (stands_at_key names q) rows i row h is)
 
 pub keyed_all : {A S : Type 0} (names : List (List ℕ)) (rows : List Tuple) (i : ℕ) (m : HashMap Tuple (Vec (Bor Tuple) A) S)
     → length rows ≤ i → AreByKey names (take i rows) m → AreByKey names rows m
-keyed_all names rows i m h inv q = subst (λ ts. tuples_at q m ≡ filter (is_at_key names q) ts) (take_all i rows h) (inv q)
+keyed_all names rows i m h inv q = subst (λ ts. tuples_at q m ≡ filter (stands_at_key names q) ts) (take_all i rows h) (inv q)
 
 -- ---- the rows of one key
 

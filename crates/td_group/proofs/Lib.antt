@@ -1,6 +1,13 @@
 mod Apart
+mod Chains
+mod ClosureLaws
+mod Extremes
+mod Graphs
+mod GroupMembers
 mod Grouped
 mod Keyed
 mod Nested
+mod NestedMembers
 mod Rests
 mod Sums
+mod Tables

@@ -17,14 +17,14 @@ abbrev pub of_number : ℤ → Outcome Val
 of_number z = value_if (is_in_range z) (integer z) causes.Overflow
 
 -- the number that a value is; a value of another type is none and counts as zero
-abbrev pub number_in : Val → ℤ
-number_in (integer z) = z
-number_in v = pos 0
+abbrev pub summand : Val → ℤ
+summand (integer z) = z
+summand v = pos 0
 
 -- the mathematical sum, one term for each value
 abbrev pub sum_of : List Val → ℤ
 sum_of [] = pos 0
-sum_of (v ∷ vs) = number_in v +ℤ sum_of vs
+sum_of (v ∷ vs) = summand v +ℤ sum_of vs
 
 -- the greater and the less of two values
 abbrev pub greater : Val → Val → Val
@@ -34,13 +34,13 @@ abbrev pub less : Val → Val → Val
 less v w = if is_lt (value_cmp w v) then w else v
 
 -- the greatest and the least of a value and others
-abbrev pub greatest : Val → List Val → Val
-greatest v [] = v
-greatest v (w ∷ ws) = greatest (greater v w) ws
+abbrev pub greatest_value : Val → List Val → Val
+greatest_value v [] = v
+greatest_value v (w ∷ ws) = greatest_value (greater v w) ws
 
-abbrev pub least : Val → List Val → Val
-least v [] = v
-least v (w ∷ ws) = least (less v w) ws
+abbrev pub least_value : Val → List Val → Val
+least_value v [] = v
+least_value v (w ∷ ws) = least_value (less v w) ws
 
 abbrev pub aggregate : Agg → List Val → Outcome Val
 -- COUNT: how many there are, OVERFLOW where that is out of range
@@ -49,6 +49,6 @@ aggregate Count vs = of_number (pos (length vs))
 aggregate Sum vs = of_number (sum_of vs)
 -- MAX and MIN: the greatest and the least, EMPTY_AGGREGATE of nothing
 aggregate Max [] = Refused (Only causes.EmptyAggregate)
-aggregate Max (v ∷ vs) = Valued (greatest v vs)
+aggregate Max (v ∷ vs) = Valued (greatest_value v vs)
 aggregate Min [] = Refused (Only causes.EmptyAggregate)
-aggregate Min (v ∷ vs) = Valued (least v vs)
+aggregate Min (v ∷ vs) = Valued (least_value v vs)

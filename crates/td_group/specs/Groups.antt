@@ -18,18 +18,18 @@ groups r per = groups_on (common_names per r) r per.body
 -- ---- the tuples of a list by their keys (this project's own)
 
 -- whether the tuple has the key
-abbrev pub is_at_key : List (List ℕ) → Tuple → Tuple → Bool
-is_at_key names q t = eq_by_cmp tuple_cmp q (projected_tuple names t)
+abbrev pub stands_at_key : List (List ℕ) → Tuple → Tuple → Bool
+stands_at_key names q t = eq_by_cmp tuple_cmp q (projected_tuple names t)
 
--- the tuples of a list that is there
-abbrev pub tuples_there : {A : Type 0} → Option (Vec (Bor Tuple) A) → List Tuple
-tuples_there None = []
-tuples_there (Some v) = map (λ t. t.now) v.items
+-- the items of a list that is there
+abbrev pub items_there : {X A : Type 0} → Option (Vec (Bor X) A) → List X
+items_there None = []
+items_there (Some v) = map (λ x. x.now) v.items
 
 -- the tuples that stand at a key
 abbrev pub tuples_at : {A S : Type 0} → Tuple → HashMap Tuple (Vec (Bor Tuple) A) S → List Tuple
-tuples_at q m = tuples_there (get (eq_by_cmp tuple_cmp) m q)
+tuples_at q m = items_there (get (eq_by_cmp tuple_cmp) m q)
 
 -- at each key stand those of the tuples that have it, in their order
 abbrev pub AreByKey : {A S : Type 0} → List (List ℕ) → List Tuple → HashMap Tuple (Vec (Bor Tuple) A) S → Type 0
-AreByKey names ts m = (q : Tuple) → tuples_at q m ≡ filter (is_at_key names q) ts
+AreByKey names ts m = (q : Tuple) → tuples_at q m ≡ filter (stands_at_key names q) ts

@@ -1,4 +1,6 @@
 pub mod Aggregates
 pub mod Closure
 pub mod Groups
+pub mod Membership
 pub mod Nesting
+pub mod Successors

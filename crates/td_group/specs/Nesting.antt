@@ -7,7 +7,8 @@ use Rattle.td_types.specs.Headings.{has_attribute, has_projection, have_no_commo
 use Rattle.td_types.specs.Types.{Type', Attrs, Heading, attribute_names, pack, type_at, unpack}
 use Rattle.td_types.specs.Types as types
 use Rattle.td_value.specs.Agreement.{agree_on}
-use Rattle.td_value.specs.Values.{Val, tuple, relation, Tuple, Relation, pack_fields, pack_rows, projected_tuple, relation_of, tuple_of, unpack_fields, unpack_rows, value_at}
+pub use Rattle.td_value.specs.ValueOrder.{relation_value}
+use Rattle.td_value.specs.Values.{Val, tuple, relation, Tuple, Relation, pack_fields, projected_tuple, relation_of, tuple_of, unpack_fields, unpack_rows, value_at}
 
 -- ---- some attributes, and the rest
 
@@ -29,12 +30,9 @@ can_nest names name h = has_projection names h && not (has_attribute name (rest_
 abbrev pub group_of : List (List ℕ) → Relation → Tuple → Relation
 group_of names r t = projected_relation names (restriction (agree_on (rest_names names r) t) r)
 
--- a tuple and a relation as values
+-- a tuple as a value
 abbrev pub tuple_value : Tuple → Val
 tuple_value t = tuple (pack_fields t)
-
-abbrev pub relation_value : Relation → Val
-relation_value r = relation (pack r.heading) (pack_rows r.body)
 
 -- r GROUP ({N} AS X): the projection on the rest, with X the set of the N parts of the tuples that agree on the rest
 abbrev pub grouped_relation : List (List ℕ) → List ℕ → Relation → Relation

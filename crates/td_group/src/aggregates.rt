@@ -2,7 +2,7 @@
 ghost use Rattle.std.specs.Prelude.{◌≡◌, ◌-◌, ◌^◌, ◌+ℤ◌, ◌≤ℤ◌, ℤ, FitsSigned, pos};
 ghost use Rattle.std.specs.Int.{w64};
 ghost use Rattle.std.specs.Option.{SomeIff};
-ghost use Rattle.td_group.specs.Aggregates.{aggregate, greatest, least, number_in, of_number};
+ghost use Rattle.td_group.specs.Aggregates.{aggregate, greatest_value, least_value, of_number, summand};
 ghost use Rattle.td_group.specs.Aggregates.{sum_of};
 ghost use Rattle.td_tree.specs.Outcomes.{Answers};
 
@@ -24,8 +24,8 @@ pub enum Agg {
 }
 
 /// The number that the value is.
-fn number_in(value: &Value) -> i64
-    ensures { result ≡ number_in value.now }
+fn summand(value: &Value) -> i64
+    ensures { result ≡ summand value.now }
 {
     match &value.node {
         Node::Int(number) => *number,
@@ -50,7 +50,7 @@ fn sum_of(values: &[Value]) -> i128
 {
     let mut total: i128 = 0;
     for value in values {
-        total = with_number(total, number_in(value));
+        total = with_number(total, summand(value));
     }
     total
 }
@@ -68,7 +68,7 @@ fn in_range(found: Option<i64>) -> Result<Value, Fault>
 
 /// The greatest of the value and the others.
 fn greatest<'a>(first: &'a Value, others: &'a [Value]) -> &'a Value
-    ensures { result.now ≡ greatest first.now others.now }
+    ensures { result.now ≡ greatest_value first.now others.now }
 {
     let mut best = first;
     for value in others {
@@ -81,7 +81,7 @@ fn greatest<'a>(first: &'a Value, others: &'a [Value]) -> &'a Value
 
 /// The least of the value and the others.
 fn least<'a>(first: &'a Value, others: &'a [Value]) -> &'a Value
-    ensures { result.now ≡ least first.now others.now }
+    ensures { result.now ≡ least_value first.now others.now }
 {
     let mut best = first;
     for value in others {

@@ -4,7 +4,7 @@ ghost use Rattle.std.specs.Prelude.{OnOk, filter};
 ghost use Rattle.std.specs.List.{All};
 ghost use Rattle.std.specs.Ordering.{eq_by_cmp};
 ghost use Rattle.td_algebra.specs.Operators.{restriction};
-ghost use Rattle.td_group.specs.Groups.{AreByKey, groups, groups_on, is_at_key, tuples_at};
+ghost use Rattle.td_group.specs.Groups.{AreByKey, groups, groups_on, stands_at_key, tuples_at};
 ghost use Rattle.td_types.specs.Headings.{agree};
 ghost use Rattle.td_types.specs.Types.{attribute_names};
 ghost use Rattle.td_value.specs.Agreement.{agree_on};

@@ -2,8 +2,10 @@
 #![tactic(auto)]
 
 pub mod aggregates;
+pub mod closure;
 pub mod grouping;
 pub mod groups;
+pub mod laws;
 mod tuples;
 pub mod unnesting;
 mod want;

@@ -1,6 +1,6 @@
 use Rattle.std.proofs.Common.{◌≡◌, take}
-use Rattle.td_group.specs.Aggregates.{least}
+use Rattle.td_group.specs.Aggregates.{least_value}
 use Rattle.td_group.proofs.aggregates.least.Given as goal
 
 abbrev pub invariant-loop-value : goal.invariant-loop-value
-invariant-loop-value l = l.best ≡ least l.first (take l.value-index l.others)
+invariant-loop-value l = l.best ≡ least_value l.first (take l.value-index l.others)

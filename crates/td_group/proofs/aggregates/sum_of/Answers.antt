@@ -8,8 +8,8 @@ pub loop-value-preserved : goal.loop-value-preserved
 loop-value-preserved c =
     let fits : FitsSigned w128 c.with_number-total.result = search rules in
     let back = to_z-of_z w128 c.with_number-total.result fits in
-    let fits_one : FitsSigned w64 c.number_in.result = search rules in
-    let number = to_z-of_z w64 c.number_in.result fits_one ∙ c.number_in.ensures in
+    let fits_one : FitsSigned w64 c.summand.result = search rules in
+    let number = to_z-of_z w64 c.summand.result fits_one ∙ c.summand.ensures in
     let values = c.args.values.now in
     let one = sum_taken values c.loop-value.value-index c.value-item.result (omega (arith, c.loop-value-test.true)) c.value-item.is in
     let high : c.with_number-total.result ≤ℤ pos ((c.loop-value.value-index + 1) * 2 ^ 63) = search rules in
