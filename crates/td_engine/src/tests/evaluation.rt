@@ -136,10 +136,15 @@ fn value_in(alloc: Global, env: &Env<'_, SortedBody>, text: &str) -> Result<Valu
 }
 
 /// The value of the text where no tuple is in hand.
-fn evaluated(alloc: Global, catalog: &Catalog<SortedBody>, text: &str) -> Result<Value, Fault> {
+fn evaluated<'a>(
+    alloc: Global,
+    catalog: &'a Catalog<SortedBody>,
+    text: &str,
+) -> Result<Value, Fault> {
+    let other: Option<(&'a Name, &'a Rel)> = None;
     let env = Env {
         catalog,
-        other: None,
+        other,
         tuples: &[],
     };
     value_in(alloc, &env, text)

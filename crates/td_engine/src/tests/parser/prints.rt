@@ -69,25 +69,25 @@ fn reads_again(alloc: Global, statement: &Statement) -> bool {
     }
 }
 
+fn is_read(alloc: Global, script: &[u8]) -> Result<bool, Fault> {
+    let statement = parse(alloc, script)?;
+    Ok(reads_again(alloc, &statement))
+}
+
 /// Whether the statement is spelled; what one writes is copied, printed and read again too.
 pub fn is_spelled(alloc: Global, script: &[u8]) -> bool {
-    match &parse(alloc, script) {
-        Ok(statement) => reads_again(alloc, statement),
-        Err(_) => false,
-    }
+    is_read(alloc, script) == Ok(true)
 }
 
 /// Whether the script of the row writes an expression of the row's text and height.
-fn is_row(alloc: Global, row: &Row) -> bool {
-    match &parse(alloc, row.script.as_bytes()) {
-        Ok(statement) => writes(alloc, statement, row),
-        Err(_) => false,
-    }
+fn is_row(alloc: Global, row: &Row) -> Result<bool, Fault> {
+    let statement = parse(alloc, row.script.as_bytes())?;
+    Ok(writes(alloc, &statement, row))
 }
 
 #[test]
 fn expressions_are_printed(rt: HostRuntime) {
     for row in &ROWS {
-        assert!(rt; is_row(rt.alloc(), row), "{}", row.script);
+        assert!(rt; is_row(rt.alloc(), row) == Ok(true), "{}", row.script);
     }
 }
