@@ -11,3 +11,4 @@ mod NestedMembers
 mod Rests
 mod Sums
 mod Tables
+mod Worked
