@@ -1,4 +1,4 @@
--- What WHERE and EXTEND give depends only on what is applied to the tuples of the relation.
+-- What WHERE, aggregates and EXTEND give depends only on what is applied to the tuples of the relation.
 use Rattle.std.proofs.Common.{◌≡◌, ◌++◌, Bool, List, [], ◌∷◌, ap, filter, map, refl}
 use Rattle.std.specs.Prelude.{if◌then◌else◌, ⊤}
 use Rattle.std.specs.List.{Contains}
@@ -10,6 +10,8 @@ use Rattle.td_types.specs.Headings.{heading_union}
 use Rattle.td_types.specs.Types.{Attribute}
 use Rattle.td_value.specs.Values.{Val, Relation, Tuple, relation_of, tuple_of}
 use Rattle.td_value.specs.Views.{relation_view}
+use Rattle.td_eval.specs.AggregateValues.{aggregate_of, aggregated_value}
+use Rattle.td_group.specs.declared.aggregates.Agg.{Agg}
 use Rattle.td_eval.specs.OperatorValues.{additions_of, columns_values, extended_value, is_true, of_relation, restricted_value, truth_value, value_of_type, value_or_false}
 
 -- ---- lists
@@ -40,6 +42,11 @@ module _ (r : Relation) where
       let truths = map_alike (λ t. truth_value (p t)) (λ t. truth_value (q t)) r.body (λ t c. ap truth_value (same t c)) in
       let kept = filter_alike (λ t. is_true (p t)) (λ t. is_true (q t)) r.body (λ t c. ap is_true (same t c)) in
       λ i. with_value (gathered (truths i)) (λ _. of_relation (relation_view r.heading (kept i)))
+
+  -- ---- aggregates
+
+  pub aggregated_alike : (a : Agg) (p q : Tuple → Outcome Val) → AlikeIn p q → aggregated_value a p r ≡ aggregated_value a q r
+  aggregated_alike a p q same = ap (λ os. with_value (gathered os) (aggregate_of a)) (map_alike p q r.body same)
 
   -- ---- EXTEND
 

@@ -1,4 +1,5 @@
 pub mod AlikeRows
+pub mod KeepsAggregates
 pub mod KeepsExtension
 pub mod KeepsGathered
 pub mod KeepsNesting
@@ -32,4 +33,5 @@ pub mod WalkedColumns
 pub mod WalkedExtension
 pub mod WalkedLists
 pub mod WalkedSelections
+pub mod WalkedTotals
 mod WorkedValues

@@ -2,11 +2,15 @@
 use Rattle.std.proofs.Common.{◌≡◌, ◌+◌, ◌*◌, ◌<◌, ◌≤◌, ℕ, zero, suc, List, [], ◌∷◌, Some, None, ap, arith, get_or, length, refl, subst, sym, take}
 use Rattle.std.specs.List.{slice_get}
 use Rattle.std.proofs.lemmas.List.Recursion.{max_bounds}
+use Rattle.std.proofs.Math.Nat.{zero-max}
+use Rattle.std.specs.Prelude.{max}
 use Rattle.td_eval.specs.declared.sight.Sight.{Sight}
 use Rattle.td_tree.specs.declared.expression.Expr.{Expr}
 use Rattle.td_tree.specs.declared.expression.NamedExpr.{NamedExpr}
-use Rattle.td_tree.specs.Heights.{height, highest, highest_named}
-use Rattle.td_tree.specs.TreeViews.{named_view, tree_view, trees_view}
+use Rattle.td_tree.specs.declared.expression.Summary.{Summary}
+use Rattle.td_tree.specs.declared.expression.Summary.TheVariants as summaries
+use Rattle.td_tree.specs.Heights.{height, highest, highest_named, highest_summary}
+use Rattle.td_tree.specs.TreeViews.{named_view, summaries_view, tree_view, trees_view}
 use Rattle.td_types.specs.TypeLists.{DeclaredType}
 
 abbrev pub constraint_height : DeclaredType → ℕ
@@ -46,3 +50,17 @@ pub height_named : (xs : List NamedExpr) (i : ℕ) (x : NamedExpr) → i < lengt
 height_named xs i x inside is =
     subst (λ y. height (tree_view y.value) ≤ highest_named (named_view xs)) (sym is)
     (max_bounds (λ ys. highest_named (named_view ys)) (λ y. height (tree_view y.value)) refl (λ y ys. refl) xs i x inside)
+
+-- the height of what an item of SUMMARIZE is of
+abbrev pub item_height : Summary → ℕ
+item_height (summaries.Count name) = zero
+item_height (summaries.Of op value name) = height (tree_view value)
+
+pub height_item : (xs : List Summary) (i : ℕ) (x : Summary) → i < length xs → x ≡ get_or xs i x → item_height x ≤ highest_summary (summaries_view xs)
+height_item xs i x inside is =
+    subst (λ y. item_height y ≤ highest_summary (summaries_view xs)) (sym is)
+    (max_bounds (λ ys. highest_summary (summaries_view ys)) item_height refl step xs i x inside)
+  where
+    step : (y : Summary) (ys : List Summary) → highest_summary (summaries_view (y ∷ ys)) ≡ max (item_height y) (highest_summary (summaries_view ys))
+    step (summaries.Count name) ys = sym (zero-max (highest_summary (summaries_view ys)))
+    step (summaries.Of op value name) ys = refl

@@ -6,7 +6,7 @@ use Rattle.std.proofs.lemmas.List.Elements.{Contains-append_left, Contains-appen
 use Rattle.td_algebra.proofs.Entries.{type_at-heading_of}
 use Rattle.td_algebra.proofs.Members.{first_true, second_true}
 use Rattle.td_check.specs.Mentions.{in_tuples, mentioned_by_name, relvars_in, relvars_in_all, relvars_in_named, types_in, types_in_all, types_in_named, types_named_in}
-use Rattle.td_check.specs.OperatorTypes.{are_types_of, choice_type, comparison_type, component_type, extension_type, extracted_type, headed_type, known_or, listed_type, measure_type, operator_type, over_relation, postfix_type, prefix_type, selector_type, tuple_type}
+use Rattle.td_check.specs.OperatorTypes.{aggregate_type, are_types_of, choice_type, comparison_type, component_type, extension_type, extracted_type, headed_type, known_or, listed_type, measure_type, operator_type, over_relation, postfix_type, prefix_type, selector_type, tuple_type}
 use Rattle.td_check.specs.Scopes.{KnownRelvar, Scope, entered_with, innermost, known_relvar}
 use Rattle.td_check.specs.StaticLaws.{AgreeOn, GiveNames, GivesNames, HasMore, PartsGiveNames, UsersAllIn, UsersIn}
 use Rattle.td_check.specs.StaticTypes.{named_types, paired, type_of, types_of}
@@ -28,6 +28,7 @@ use Rattle.td_types.proofs.OutcomeLaws.{value_of_test, value_of_with, values_of_
 use Rattle.td_value.specs.Values.{Val, boolean, integer, char, user, Relation, Tuple, heading_of, unpack_rows, value_at}
 use Rattle.td_value.specs.Values as values
 use Rattle.td_value.specs.Views.{relation_view}
+use Rattle.td_eval.specs.AggregateValues.{aggregated_value, asked_of}
 use Rattle.td_eval.specs.Covered.{are_covered, is_covered, parts_covered, postfix_covered, prefix_covered}
 use Rattle.td_eval.specs.OperatorValues.{comparison_value, component_value, extended_value, extracted_value, headed_value, listed_value, measure_value, on_relation, on_truth, operator_value, postfix_value, prefix_value, relation_as_value, restricted_value, tuple_from}
 use Rattle.td_eval.specs.TreeTexts.{HasTexts, HaveTexts, PartsHaveTexts}
@@ -35,7 +36,7 @@ use Rattle.td_eval.specs.TreeValues.{argument_values, entry_values, value_of, va
 use Rattle.td_eval.specs.ValueLaws.{HasTheSame, SelectsTheSame, ValuesDependOnMentions}
 use Rattle.td_eval.specs.ValueTypes.{AreComponentsOf, IsOfType, IsTypedTuple, KeepsScope, KeepsType}
 use Rattle.td_eval.specs.Worlds.{World, innermost_value, known_outcome, name_value, scope_among, selected}
-use Rattle.td_eval.proofs.AlikeRows.{AreAlikeIn, extended_alike, restricted_alike}
+use Rattle.td_eval.proofs.AlikeRows.{AreAlikeIn, aggregated_alike, extended_alike, restricted_alike}
 use Rattle.td_eval.proofs.TypedArguments.{arguments_typed, known_is}
 use Rattle.td_eval.proofs.TypedRows.{parts_typed, rows_typed}
 use Rattle.td_eval.proofs.TypedTrees.{keeps}
@@ -274,7 +275,28 @@ module _ (among : List ℕ → Bool) (scope : Scope) (w v : World) (k : KeepsSco
     same (measure op operand) s t h c n x a is =
         let y = value_of_with (type_of (here (map heading_of s)) operand) (measure_type op) t is in
         ap (λ o. with_value o (measure_value op)) (same operand s y.0 h c n x a y.1)
-    same (aggregate op operand value) s t h c n x a is = absurd (true≢false (sym c))
+    same (aggregate op operand value) s t h c n x a is =
+        let hs = map heading_of s in
+        let y = value_of_with (type_of (here hs) operand)
+        (λ q. over_relation q (λ g. with_value (type_of (entered_with g (here hs)) value) (aggregate_type op))) t is in
+        let first = first_part hs (types_in operand) (types_in value) (relvars_in (here hs) operand) (relvars_in (in_tuples (here hs) (type_of (here hs) operand)) value) a in
+        let rest = rest_part hs (types_in operand) (types_in value) (relvars_in (here hs) operand) (relvars_in (in_tuples (here hs) (type_of (here hs) operand)) value) a in
+        let operand_covered = first_true (is_covered operand) (is_covered value) c in
+        let kept = subst (λ o. KeepsType ds o (value_of w s operand)) y.1 (keeps w scope k operand s h operand_covered n.0 x.0) in
+        ap (λ o. with_value o (λ z. on_relation z (aggregated_value (asked_of op) (λ u. value_of v (u ∷ s) value)))) (same operand s y.0 h operand_covered n.0 x.0 first y.1)
+        ∙ over_same y.0 (value_of w s operand) (aggregated_value (asked_of op) (λ u. value_of v (u ∷ s) value))
+        (aggregated_value (asked_of op) (λ u. value_of w (u ∷ s) value)) kept
+        (λ g r e head typed. aggregated_alike r (asked_of op) (λ u. value_of v (u ∷ s) value) (λ u. value_of w (u ∷ s) value)
+        (λ u b.
+        let at = rows_typed ds r typed u b in
+        let place : heading_of u ≡ unpack g = at.1 ∙ head in
+        let into = inside hs (type_of (here hs) operand) g (types_in value) (λ m. relvars_in m value) (y.1 ∙ ap Valued e)
+        (subst (UsersIn among) e (users_agreed hs operand y.0 first y.1)) rest in
+        let z = value_of_with (type_of (here (unpack g ∷ hs)) value) (aggregate_type op) t
+        (subst (λ q. over_relation q (λ i. with_value (type_of (entered_with i (here hs)) value) (aggregate_type op)) ≡ Valued t) e y.2) in
+        same value (u ∷ s) z.0 (at.0, h) (second_true (is_covered operand) (is_covered value) c) n.1 x.1
+        (subst (λ i. Agreed (i ∷ hs) (types_in value) (relvars_in (here (i ∷ hs)) value)) (sym place) into)
+        (subst (λ i. type_of (here (i ∷ hs)) value ≡ Valued z.0) (sym place) z.1)))
     same (relation elements) s t h c n x a is =
         let y = value_of_with (types_of (here (map heading_of s)) elements) listed_type t is in
         ap (λ o. with_value o listed_value) (same_arguments elements s y.0 h c n x a y.1)

@@ -3,7 +3,7 @@ use Rattle.std.proofs.Common.{◌≡◌, ◌∙◌, ◌++◌, ℕ, true, Contain
 use Rattle.std.specs.List.{AllByRecursion}
 use Rattle.std.specs.Prelude.{◌&&◌, IsTrue, ⊤}
 use Rattle.td_algebra.proofs.Members.{first_true, second_true}
-use Rattle.td_check.specs.OperatorTypes.{are_types_of, comparison_type, component_type, extension_type, extracted_type, headed_type, known_or, listed_type, measure_type, operator_type, over_relation, postfix_type, prefix_type, same_type, selector_type, tuple_type}
+use Rattle.td_check.specs.OperatorTypes.{aggregate_type, are_types_of, comparison_type, component_type, extension_type, extracted_type, headed_type, known_or, listed_type, measure_type, operator_type, over_relation, postfix_type, prefix_type, same_type, selector_type, tuple_type}
 use Rattle.td_check.specs.Scopes.{KnownRelvar, Scope, entered_with, innermost, known_relvar}
 use Rattle.td_check.specs.StaticLaws.{GiveNames, GivesNames, HasMore, IsKnownHeading, IsScope, PartsGiveNames}
 use Rattle.td_check.specs.StaticTypes.{name_type, named_types, type_of, types_of}
@@ -27,6 +27,7 @@ use Rattle.td_value.specs.Values as values
 use Rattle.td_value.proofs.HeadingOf.{fields_type-heading}
 use Rattle.td_value.proofs.KnownValues.{has_its_type, has_known_type}
 use Rattle.td_value.proofs.Typed.{typed}
+use Rattle.td_eval.specs.AggregateValues.{aggregated_value, asked_of}
 use Rattle.td_eval.specs.Covered.{are_covered, is_covered, parts_covered, postfix_covered, prefix_covered}
 use Rattle.td_eval.specs.OperatorValues.{comparison_value, component_value, extended_value, extracted_value, headed_value, listed_value, measure_value, on_relation, operator_value, postfix_value, prefix_value, relation_as_value, restricted_value, tuple_from}
 use Rattle.td_eval.specs.TreeTexts.{HasTexts, HaveTexts, PartsHaveTexts}
@@ -34,6 +35,7 @@ use Rattle.td_eval.specs.TreeValues.{argument_values, entry_values, value_of, va
 use Rattle.td_eval.specs.ValueTypes.{IsOfType, IsTypedTuple, KeepsScope, KeepsType, ValuesKeepTypes, with_tuples}
 use Rattle.td_eval.specs.Worlds.{World, innermost_value, known_outcome, name_value, scope_among, selected}
 use Rattle.td_eval.proofs.KeepsGathered.{member_from_all}
+use Rattle.td_eval.proofs.KeepsAggregates.{aggregation_keeps}
 use Rattle.td_eval.proofs.KeepsExtension.{PartsKeep}
 use Rattle.td_eval.proofs.KeepsOperators.{compose_keeps, intersect_keeps, join_keeps, matching_keeps, minus_keeps, not_matching_keeps, times_keeps, union_keeps}
 use Rattle.td_eval.proofs.KeepsPostfix.{postfix_keeps}
@@ -236,7 +238,13 @@ module _ (w : World) (scope : Scope) (k : KeepsScope w scope) where
     keeps (measure op operand) s h c n x =
         value_keeps ds (type_of (with_tuples scope s) operand) (value_of w s operand) (measure_type op) (measure_value op)
         (keeps operand s h c n x) (λ t v q. measure_keeps ds op v t q)
-    keeps (aggregate op operand value) s h c n x = absurd (true≢false (sym c))
+    keeps (aggregate op operand value) s h c n x =
+        value_keeps ds (type_of (with_tuples scope s) operand) (value_of w s operand)
+        (λ t. over_relation t (λ g. with_value (type_of (entered_with g (with_tuples scope s)) value) (aggregate_type op)))
+        (λ v. on_relation v (aggregated_value (asked_of op) (λ u. value_of w (u ∷ s) value)))
+        (keeps operand s h (first_true (is_covered operand) (is_covered value) c) n.0 x.0)
+        (λ t v q. aggregation_keeps ds op (λ g. type_of (entered_with g (with_tuples scope s)) value) (λ u. value_of w (u ∷ s) value) t v q
+        (λ u p. keeps value (u ∷ s) (p, h) (second_true (is_covered operand) (is_covered value) c) n.1 x.1))
     keeps (relation elements) s h c n x =
         made_keeps ds (AreOf ds) (types_of (with_tuples scope s) elements) (argument_values w s elements) listed_type listed_value
         (arguments_keep elements s h c n x) (λ ts vs q. listed_keeps ds ts vs q)

@@ -1,4 +1,5 @@
--- Which expressions have their value defined so far: those without grouping, aggregates and transitive closure.
+-- Of which expressions the laws of values are said so far: those without UNGROUP, WRAP, UNWRAP, SUMMARIZE and transitive
+-- closure.
 use Rattle.std.specs.Prelude.{Bool, true, false, ◌&&◌, List, Option, Some, None, IsTrue}
 use Rattle.std.specs.List.{AllByRecursion}
 use Rattle.td_tree.specs.declared.operator.Prefix.{Prefix}
@@ -31,7 +32,7 @@ abbrev mutual
   is_covered (select ty arguments) = are_covered arguments
   is_covered (component rest operand) = is_covered operand
   is_covered (measure op operand) = is_covered operand
-  is_covered (aggregate op operand value) = false
+  is_covered (aggregate op operand value) = is_covered operand && is_covered value
   is_covered (relation elements) = are_covered elements
   is_covered (headed_relation heading elements) = are_covered elements
   is_covered (tuple parts) = parts_covered parts

@@ -1,8 +1,10 @@
+pub mod AggregateValues
 pub mod Covered
 pub mod DatabaseWorlds
 pub mod NewColumns
 pub mod OperatorValues
 pub mod Sights
+pub mod Totals
 pub mod TreeTexts
 pub mod TreeValues
 pub mod ValueLaws

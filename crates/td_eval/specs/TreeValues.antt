@@ -1,15 +1,16 @@
 -- The value of an expression where names mean what a world says and tuples are in hand, or the causes for which it has none
 -- (Tutorial D's; the causes are this project's own). The causes of all parts count, on both sides of every operator; what
 -- is applied to the tuples of an operand counts for each of them; IF counts its condition and the chosen branch alone.
-use Rattle.std.specs.Prelude.{List, [], ◌∷◌, if◌then◌else◌}
-use Rattle.td_check.specs.OperatorTypes.{mismatch}
+use Rattle.std.specs.Prelude.{true, List, [], ◌∷◌, if◌then◌else◌}
 use Rattle.td_check.specs.Scopes.{entered_with}
 use Rattle.td_check.specs.StaticTypes.{named_types}
-use Rattle.td_eval.specs.OperatorValues.{comparison_value, component_value, extended_value, extracted_value, headed_value, listed_value, literal_value, measure_value, on_relation, on_truth, operator_value, postfix_value, prefix_value, restricted_value, tuple_from}
+use Rattle.td_eval.specs.AggregateValues.{Summand, aggregated_value, asked_of, summary_attributes, summary_value}
+use Rattle.td_eval.specs.OperatorValues.{comparison_value, component_value, extended_value, extracted_value, headed_value, listed_value, literal_value, measure_value, of_truth, on_relation, on_truth, operator_value, postfix_value, prefix_value, restricted_value, tuple_from}
 use Rattle.td_eval.specs.Worlds.{World, name_value, scope_among, selected}
+use Rattle.td_group.specs.declared.aggregates.Agg.TheVariants as asked
 use Rattle.td_tree.specs.declared.operator.Operator.TheVariants as operators
 use Rattle.td_tree.specs.Outcomes.{Outcome, Valued, with_both, with_value}
-use Rattle.td_tree.specs.Trees.{Tree, literal, name, parentheses, prefix, extract, binary, compare, postfix, select, component, measure, aggregate, relation, headed_relation, tuple, extend, summarize_per, summarize_by, choice, Trees, none, more, NamedTrees, none_named, more_named}
+use Rattle.td_tree.specs.Trees.{Tree, literal, name, parentheses, prefix, extract, binary, compare, postfix, select, component, measure, aggregate, relation, headed_relation, tuple, extend, summarize_per, summarize_by, choice, Trees, none, more, NamedTrees, none_named, more_named, Summaries, no_summaries, counted, summed, project}
 use Rattle.td_types.specs.TypeLists.{heading_meant}
 use Rattle.td_value.specs.Values.{Val, Tuple}
 
@@ -28,8 +29,8 @@ abbrev mutual
   value_of w s (select ty arguments) = with_value (argument_values w s arguments) (selected w ty)
   value_of w s (component rest operand) = with_value (value_of w s operand) (component_value w.scope.types rest)
   value_of w s (measure op operand) = with_value (value_of w s operand) (measure_value op)
-  -- not yet defined
-  value_of w s (aggregate op operand value) = mismatch
+  value_of w s (aggregate op operand value) =
+      with_value (value_of w s operand) (λ v. on_relation v (aggregated_value (asked_of op) (λ t. value_of w (t ∷ s) value)))
   value_of w s (relation elements) = with_value (argument_values w s elements) listed_value
   value_of w s (headed_relation heading elements) =
       with_both (heading_meant w.scope.types heading) (argument_values w s elements) headed_value
@@ -37,9 +38,13 @@ abbrev mutual
   value_of w s (extend operand parts) =
       with_value (value_of w s operand) (λ v. on_relation v
       (λ r. extended_value (named_types (entered_with r.heading (scope_among w s)) parts) (values_in_tuples w s parts) r))
-  -- not yet defined
-  value_of w s (summarize_per operand per items) = mismatch
-  value_of w s (summarize_by operand by items) = mismatch
+  value_of w s (summarize_per operand per items) =
+      with_both (value_of w s operand) (value_of w s per)
+      (summary_value (λ h. summary_attributes (entered_with h (scope_among w s)) items) (items_in_tuples w s items))
+  -- PER of the projection of the operand
+  value_of w s (summarize_by operand by items) =
+      with_value (value_of w s operand) (λ v. with_value (postfix_value (project by) v)
+      (summary_value (λ h. summary_attributes (entered_with h (scope_among w s)) items) (items_in_tuples w s items) v))
   value_of w s (choice condition consequent alternative) =
       with_value (value_of w s condition) (λ v. on_truth v (λ b. if b then value_of w s consequent else value_of w s alternative))
 
@@ -58,3 +63,9 @@ abbrev mutual
   pub values_in_tuples : World → List Tuple → NamedTrees → List (Tuple → Outcome Val)
   values_in_tuples w s none_named = []
   values_in_tuples w s (more_named n value rest) = (λ t. value_of w (t ∷ s) value) ∷ values_in_tuples w s rest
+
+  -- what the items of SUMMARIZE ask where a further tuple is in hand; COUNT counts a term for each tuple
+  pub items_in_tuples : World → List Tuple → Summaries → List Summand
+  items_in_tuples w s no_summaries = []
+  items_in_tuples w s (counted n rest) = (asked.Count, λ t. of_truth true) ∷ items_in_tuples w s rest
+  items_in_tuples w s (summed op value n rest) = (asked_of op, λ t. value_of w (t ∷ s) value) ∷ items_in_tuples w s rest

@@ -36,7 +36,7 @@ fn are_apart(attributes: &[(Name, Ty)], heading: &Heading) -> bool
 }
 
 /// The attributes: refused where a name comes twice or is one of the heading's.
-fn ask_new(
+pub(crate) fn ask_new(
     alloc: Global,
     attributes: Vec<(Name, Ty)>,
     heading: &Heading,

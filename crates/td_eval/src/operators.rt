@@ -1,4 +1,5 @@
 //! The values of operators, by the values of their operands.
+pub(crate) mod aggregates;
 mod arithmetic;
 pub(crate) mod asked;
 pub(crate) mod between;
@@ -8,7 +9,8 @@ pub(crate) mod literals;
 mod nesting;
 pub(crate) mod operand;
 pub(crate) mod postfix;
-mod relational;
+pub(crate) mod relational;
 pub(crate) mod selectors;
 mod simple;
+pub(crate) mod summaries;
 pub(crate) mod tuplewise;

@@ -4,43 +4,52 @@ ghost use Rattle.std.specs.List.{slice_get};
 ghost use Rattle.td_algebra.specs.Columns.{columns_view};
 ghost use Rattle.td_check.specs.Scopes.{Scope, entered_with};
 ghost use Rattle.td_check.specs.StaticTypes.{named_types};
+ghost use Rattle.td_eval.specs.AggregateValues.{aggregated_value, asked_of, summary_attributes};
+ghost use Rattle.td_eval.specs.AggregateValues.{summary_value};
 ghost use Rattle.td_eval.specs.Covered.{TypesAreCovered, is_covered};
 ghost use Rattle.td_eval.specs.DatabaseWorlds.{constraint_value, world_of_types};
 ghost use Rattle.td_eval.specs.NewColumns.{named_columns};
 ghost use Rattle.td_eval.specs.OperatorValues.{column_values, extended_value};
 ghost use Rattle.td_eval.specs.OperatorValues.{on_relation, restricted_value, truth_value};
 ghost use Rattle.td_eval.specs.Sights.{IsSight, seen_by, tuples_in_hand, world_in};
-ghost use Rattle.td_eval.specs.TreeValues.{argument_values, entry_values, value_of};
-ghost use Rattle.td_eval.specs.TreeValues.{values_in_tuples};
+ghost use Rattle.td_eval.specs.Totals.{term_in, total_of, total_view};
+ghost use Rattle.td_eval.specs.TreeValues.{argument_values, entry_values, items_in_tuples};
+ghost use Rattle.td_eval.specs.TreeValues.{value_of, values_in_tuples};
 ghost use Rattle.td_eval.specs.ValueLaws.{IsChecked};
 ghost use Rattle.td_eval.specs.ValueTypes.{AnswersType, KeepsScope};
 ghost use Rattle.td_eval.specs.Worlds.{name_value, scope_among, selected};
 ghost use Rattle.td_tree.specs.Outcomes.{Answers, gathered};
-ghost use Rattle.td_tree.specs.TreeViews.{named_view, tree_view, trees_view};
+ghost use Rattle.td_tree.specs.TreeViews.{named_view, summaries_view, tree_view, trees_view};
+ghost use Rattle.td_tree.specs.Trees.{binary, choice};
 ghost use Rattle.td_types.specs.Views.{pairs_view, type_view};
 
 use crate::env::Env;
 use crate::extension::new_attributes;
+use crate::operators::aggregates::{aggregated, terms};
 use crate::operators::asked::{attribute, have_types, relation_in, truth};
 use crate::operators::between::operated;
 use crate::operators::comparisons::compared;
 use crate::operators::elements::{headed, listed_value, tuple_from};
 use crate::operators::literals::literal_value;
 use crate::operators::operand::{component_value, extracted_value, measure_value, prefix_value};
-use crate::operators::postfix::postfix_value;
+use crate::operators::postfix::{postfix_value, projected_by};
+use crate::operators::relational::relations;
 use crate::operators::selectors::{component_tuple, constructed};
+use crate::operators::summaries::{grouped, summarized, with_aggregate};
 use crate::operators::tuplewise::{extended, restricted};
 use crate::rows::{copied, named, named_column, shared, truth_of, typed};
 use crate::sight::Sight;
 use std::alloc::Global;
 use td_algebra::extension::Column;
 use td_body::body::Body;
+use td_check::both::both;
+use td_group::aggregates::Agg;
 use td_tree::cause::Cause;
-use td_tree::expression::{Expr, NamedExpr};
+use td_tree::expression::{Expr, NamedExpr, Summary};
 use td_tree::fault::Fault;
 use td_tree::gathering::Gathering;
 use td_tree::name::Name;
-use td_tree::operator::Operator;
+use td_tree::operator::{Aggregate, Operator};
 use td_types::resolve::resolve_heading;
 use td_types::table::TypeEntry;
 use td_types::ty::Ty;
@@ -75,13 +84,7 @@ fn value_of<B: Body>(sight: &Sight<'_, B>, tuples: &[Tuple], expr: &Expr) -> Res
         Expr::Parentheses(inner) => value_of(sight, tuples, inner),
         Expr::Prefix(op, operand) => prefix_value(alloc, *op, &value_of(sight, tuples, operand)?),
         Expr::Extract(name, operand) => extracted_value(name, &value_of(sight, tuples, operand)?),
-        Expr::Binary(left, op, right) => match op {
-            Operator::Where => restriction(sight, tuples, &value_of(sight, tuples, left)?, right),
-            _ => {
-                let first = value_of(sight, tuples, left);
-                operated(alloc, *op, first, value_of(sight, tuples, right))
-            }
-        },
+        Expr::Binary(left, op, right) => binary(sight, tuples, left, *op, right),
         Expr::Compare(left, op, right) => {
             let first = value_of(sight, tuples, left);
             compared(alloc, *op, first, value_of(sight, tuples, right))
@@ -101,16 +104,74 @@ fn value_of<B: Body>(sight: &Sight<'_, B>, tuples: &[Tuple], expr: &Expr) -> Res
         Expr::Extend(operand, parts) => {
             extension(sight, tuples, &value_of(sight, tuples, operand)?, parts)
         }
-        Expr::If(condition, consequent, alternative) => {
-            if truth(&value_of(sight, tuples, condition)?)? {
-                value_of(sight, tuples, consequent)
-            } else {
-                value_of(sight, tuples, alternative)
-            }
+        Expr::If(condition, first, second) => choice(sight, tuples, condition, first, second),
+        Expr::Aggregate(op, operand, value) => {
+            aggregation(
+                sight,
+                tuples,
+                &value_of(sight, tuples, operand)?,
+                *op,
+                value,
+            )
         }
-        Expr::Aggregate(..) | Expr::SummarizePer(..) | Expr::SummarizeBy(..) => {
-            Err(Fault::Refused(Cause::TypeMismatch))
+        Expr::SummarizePer(operand, per, items) => {
+            let operand = value_of(sight, tuples, operand);
+            let (operand, per) = both(operand, value_of(sight, tuples, per))?;
+            summary(sight, tuples, &operand, &per, items)
         }
+        Expr::SummarizeBy(operand, by, items) => {
+            let operand = value_of(sight, tuples, operand)?;
+            summary(
+                sight,
+                tuples,
+                &operand,
+                &projected_by(alloc, &operand, by)?,
+                items,
+            )
+        }
+    }
+}
+
+/// The value of an operator between two operands.
+#[cycle(value)]
+fn binary<B: Body>(
+    sight: &Sight<'_, B>,
+    tuples: &[Tuple],
+    left: &Expr,
+    op: Operator,
+    right: &Expr,
+) -> Result<Value, Fault>
+    requires { IsSight sight.now }
+    ensures { Answers (λ v. v) result (value_of (seen_by sight.now) (reverse tuples.now)
+        (binary (tree_view left.now) op (tree_view right.now))) }
+{
+    match op {
+        Operator::Where => restriction(sight, tuples, &value_of(sight, tuples, left)?, right),
+        _ => {
+            let first = value_of(sight, tuples, left);
+            operated(sight.alloc, op, first, value_of(sight, tuples, right))
+        }
+    }
+}
+
+/// The value of the one of two expressions that a condition chooses.
+#[cycle(value)]
+fn choice<B: Body>(
+    sight: &Sight<'_, B>,
+    tuples: &[Tuple],
+    condition: &Expr,
+    consequent: &Expr,
+    alternative: &Expr,
+) -> Result<Value, Fault>
+    requires { IsSight sight.now }
+    ensures { Answers (λ v. v) result (value_of (seen_by sight.now) (reverse tuples.now)
+        (choice (tree_view condition.now) (tree_view consequent.now)
+        (tree_view alternative.now))) }
+{
+    if truth(&value_of(sight, tuples, condition)?)? {
+        value_of(sight, tuples, consequent)
+    } else {
+        value_of(sight, tuples, alternative)
     }
 }
 
@@ -340,11 +401,146 @@ fn extension<B: Body>(
     extended(sight.alloc, rel, columns)
 }
 
+/// The values of an expression in the tuples of a relation.
+#[cycle(value)]
+fn values_in_rows<B: Body>(
+    sight: &Sight<'_, B>,
+    tuples: &[Tuple],
+    operand: &Rel,
+    expr: &Expr,
+) -> Result<Vec<Value>, Fault>
+    requires { IsSight sight.now }
+    ensures { Answers (λ vs. vs.items) result (gathered (map (λ t.
+        value_of (seen_by sight.now) (t ∷ reverse tuples.now) (tree_view expr.now))
+        operand.now.body)) }
+{
+    let mut causes = Gathering::new();
+    let mut inner = copied(sight.alloc, tuples)?;
+    let rows = operand.rows();
+    let mut values = Vec::with_capacity(sight.alloc, rows.len())?;
+    for row in rows {
+        let value = value_in_row(sight, &mut inner, row, expr);
+        let Some(value) = causes.add(value)? else {
+            continue;
+        };
+        values.push(value)?;
+    }
+    causes.finish(values)
+}
+
+/// An aggregate of an expression over the tuples of an operand.
+#[cycle(value)]
+fn aggregation<B: Body>(
+    sight: &Sight<'_, B>,
+    tuples: &[Tuple],
+    operand: &Value,
+    op: Aggregate,
+    expr: &Expr,
+) -> Result<Value, Fault>
+    requires { IsSight sight.now }
+    ensures { Answers (λ v. v) result (on_relation operand.now
+        (aggregated_value (asked_of op) (λ t.
+        value_of (seen_by sight.now) (t ∷ reverse tuples.now) (tree_view expr.now)))) }
+{
+    let rel = relation_in(operand)?;
+    aggregated(op, values_in_rows(sight, tuples, rel, expr))
+}
+
+/// What an item of SUMMARIZE is of in the tuples of a group.
+#[cycle(value)]
+fn item_in_group<B: Body>(
+    sight: &Sight<'_, B>,
+    tuples: &[Tuple],
+    group: &Rel,
+    item: &Summary,
+) -> Result<Vec<Value>, Fault>
+    requires { IsSight sight.now }
+    ensures { Answers (λ vs. vs.items) result (gathered
+        (map (term_in (seen_by sight.now) (reverse tuples.now) item.now) group.now.body)) }
+{
+    match item {
+        Summary::Count(_) => Ok(terms(sight.alloc, group)?),
+        Summary::Of(_, value, _) => values_in_rows(sight, tuples, group, value),
+    }
+}
+
+/// The same in each of the groups.
+#[cycle(value)]
+fn item_in_groups<B: Body>(
+    sight: &Sight<'_, B>,
+    tuples: &[Tuple],
+    groups: &[(Tuple, Rel)],
+    item: &Summary,
+) -> Result<Vec<Vec<Value>>, Fault>
+    requires { IsSight sight.now }
+    ensures { Answers (λ vss. map (λ vs. vs.items) vss.items) result (gathered (map (λ g. gathered
+        (map (term_in (seen_by sight.now) (reverse tuples.now) item.now) g.1.body))
+        groups.now)) }
+{
+    let mut causes = Gathering::new();
+    let mut values = Vec::with_capacity(sight.alloc, groups.len())?;
+    for (_, group) in groups {
+        let found = item_in_group(sight, tuples, group, item);
+        let Some(found) = causes.add(found)? else {
+            continue;
+        };
+        values.push(found)?;
+    }
+    causes.finish(values)
+}
+
+/// What the items of SUMMARIZE are of in the groups, with their aggregates.
+#[cycle(value)]
+fn totals<B: Body>(
+    sight: &Sight<'_, B>,
+    tuples: &[Tuple],
+    groups: &[(Tuple, Rel)],
+    items: &[Summary],
+) -> Result<Vec<(Agg, Vec<Vec<Value>>)>, Fault>
+    requires { IsSight sight.now }
+    ensures { Answers (λ ts. map total_view ts.items) result (gathered
+        (map (total_of groups.now) (items_in_tuples (seen_by sight.now) (reverse tuples.now)
+        (summaries_view items.now)))) }
+{
+    let mut causes = Gathering::new();
+    let mut totals = Vec::with_capacity(sight.alloc, items.len())?;
+    for item in items {
+        let total = with_aggregate(item, item_in_groups(sight, tuples, groups, item));
+        let Some(total) = causes.add(total)? else {
+            continue;
+        };
+        totals.push(total)?;
+    }
+    causes.finish(totals)
+}
+
+/// The tuples of PER, each with what the items give of its group.
+#[cycle(value)]
+fn summary<B: Body>(
+    sight: &Sight<'_, B>,
+    tuples: &[Tuple],
+    operand: &Value,
+    per: &Value,
+    items: &[Summary],
+) -> Result<Value, Fault>
+    requires { IsSight sight.now }
+    ensures { Answers (λ v. v) result (summary_value
+        (λ h. summary_attributes (entered_with h
+        (scope_among (seen_by sight.now) (reverse tuples.now))) (summaries_view items.now))
+        (items_in_tuples (seen_by sight.now) (reverse tuples.now) (summaries_view items.now))
+        operand.now per.now) }
+{
+    let (rel, per) = relations(operand, per)?;
+    let groups = grouped(sight.alloc, rel, per)?;
+    let totals = totals(sight, tuples, &groups, items)?;
+    summarized(sight, tuples, rel, per, items, &totals)
+}
+
 /// The value of the expression in what it is evaluated in, or the least of the causes for which it
-/// has none. Until grouping, aggregates and transitive closure are done, that is said of
-/// expressions without them where no type's constraint has one: with them it may be refused by
-/// TYPE_MISMATCH. Of an expression that the checker gave a type the value is of that type, and the
-/// causes are from OVERFLOW up.
+/// has none. Until WRAP, UNGROUP, UNWRAP, SUMMARIZE and transitive closure are covered, that is said
+/// of expressions without them where no type's constraint has one: with another one than SUMMARIZE
+/// it may be refused by TYPE_MISMATCH. Of an expression that the checker gave a type the value is of
+/// that type, and the causes are from OVERFLOW up.
 pub fn eval<B: Body>(alloc: Global, env: &Env<'_, B>, expr: &Expr) -> Result<Value, Fault>
     ensures value { IsTrue (is_covered (tree_view expr.now))
         → TypesAreCovered env.now.catalog.now.types → Answers (λ v. v) result

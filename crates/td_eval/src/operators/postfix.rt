@@ -6,7 +6,7 @@ ghost use Rattle.td_eval.specs.OperatorValues.{listed_names, postfix_value, proj
 ghost use Rattle.td_eval.specs.OperatorValues.{relation_where};
 ghost use Rattle.td_tree.specs.Outcomes.{Answers};
 ghost use Rattle.td_tree.specs.TreeViews.{attributes_view, postfix_view, renaming_view};
-ghost use Rattle.td_tree.specs.Trees.{all_but};
+ghost use Rattle.td_tree.specs.Trees.{all_but, project};
 ghost use Rattle.td_types.specs.Headings.{can_rename, has_projection};
 ghost use Rattle.td_types.specs.Types.{attribute_names};
 
@@ -72,6 +72,18 @@ fn projected(alloc: Global, rel: &Rel, attributes: &Attributes) -> Result<Value,
     }
 }
 
+/// The same of a value, which must be a relation.
+pub(crate) fn projected_by(
+    alloc: Global,
+    operand: &Value,
+    attributes: &Attributes,
+) -> Result<Value, Fault>
+    ensures { Answers (λ v. v) result
+        (postfix_value (project (attributes_view attributes.now)) operand.now) }
+{
+    projected(alloc, relation_in(operand)?, attributes)
+}
+
 /// The renamings as pairs of an old and a new name.
 fn renaming_pairs(alloc: Global, renamings: &[Renaming]) -> Result<Vec<(Name, Name)>, AllocError>
     ensures { IfOk result (λ pairs.
@@ -102,7 +114,7 @@ pub(crate) fn postfix_value(alloc: Global, op: &Postfix, operand: &Value) -> Res
     ensures { Answers (λ v. v) result (postfix_value (postfix_view op.now) operand.now) }
 {
     match op {
-        Postfix::Project(attributes) => projected(alloc, relation_in(operand)?, attributes),
+        Postfix::Project(attributes) => projected_by(alloc, operand, attributes),
         Postfix::Rename(renamings) => renamed(alloc, relation_in(operand)?, renamings),
         Postfix::Group(attributes, name) => {
             grouped(alloc, relation_in(operand)?, attributes, name)

@@ -17,7 +17,10 @@ use td_value::relation::Rel;
 use td_value::value::Value;
 
 /// The relations of two values: others are refused.
-fn relations<'a>(first: &'a Value, second: &'a Value) -> Result<(&'a Rel, &'a Rel), Fault>
+pub(crate) fn relations<'a>(
+    first: &'a Value,
+    second: &'a Value,
+) -> Result<(&'a Rel, &'a Rel), Fault>
     ensures { Answers {A = Relation × Relation} (λ both. (both.0.now, both.1.now)) result
         (on_relation first.now (λ r. on_relation second.now (λ s. Valued (r, s)))) }
 {

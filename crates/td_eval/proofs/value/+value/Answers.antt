@@ -1,4 +1,5 @@
-use Rattle.std.proofs.Common.{◌≡◌, ◌∙◌, ◌∷◌, ℕ, List, Ok, ap, arith, length, map, option_map, refl, reverse, subst, sym, take}
+use Rattle.std.specs.Prelude.{max, true}
+use Rattle.std.proofs.Common.{◌≡◌, ◌∙◌, ◌∷◌, ℕ, Err, List, Ok, ap, arith, length, map, option_map, refl, reverse, subst, sym, take}
 use Rattle.std.proofs.lemmas.List.{length-map}
 use Rattle.std.proofs.lemmas.Result.{err_from_is_err_and}
 use Rattle.std.proofs.Math.Nat.{le-max_right}
@@ -12,33 +13,39 @@ use Rattle.td_check.proofs.Gives.{answered_then}
 use Rattle.td_check.specs.OperatorTypes.{are_types_of}
 use Rattle.td_check.specs.Scopes.{entered_with}
 use Rattle.td_check.specs.StaticTypes.{named_types}
-use Rattle.td_eval.proofs.Measures.{height_listed, height_named, weight_before}
+use Rattle.td_eval.proofs.Measures.{height_item, height_listed, height_named, weight_before}
 use Rattle.td_eval.proofs.OpElements.{element_gathered, element_refused}
 use Rattle.td_eval.proofs.Selectors.{is_selector, never_missing, types_seen}
 use Rattle.td_eval.proofs.WalkedColumns.{beside_at, beside_past, beside_within, column_found, columns_are}
 use Rattle.td_eval.proofs.WalkedExtension.{answers_related, apart_given, attributes_refused, columns_fit, columns_of_additions, columns_refused, distinct_given, extended_given, same_attributes, types_given}
 use Rattle.td_eval.proofs.WalkedLists.{arguments_are, as_many_parts, as_many_types, entries_are, entry_found, of_as_many, value_found, walked, walked_values}
 use Rattle.td_eval.proofs.WalkedSelections.{constructed_of, mismatched}
+use Rattle.td_eval.proofs.OpValues.{related as both_related}
+use Rattle.td_eval.proofs.WalkedTotals.{group_found, terms_given, total_found, totals_are, totals_given, totals_refused}
+use Rattle.td_check.proofs.BothAnswers.{both_given, both_refused}
+use Rattle.td_eval.specs.AggregateValues.{aggregated_value, asked_of, summarized_value, summary_attributes, summary_value}
 use Rattle.td_eval.specs.DatabaseWorlds.{constraint_value, world_of_types}
 use Rattle.td_eval.specs.NewColumns.{column_view, named_columns}
-use Rattle.td_eval.specs.OperatorValues.{additions_of, column_values, extended_value, listed_value, on_relation, restricted_value, truth_value, tuple_from, value_of_type}
+use Rattle.td_eval.specs.OperatorValues.{additions_of, column_values, extended_value, listed_value, on_relation, postfix_value, truth_value, tuple_from, value_of_type}
 use Rattle.td_eval.specs.Sights.{seen_by}
-use Rattle.td_eval.specs.TreeValues.{argument_values, entry_values, value_of, values_in_tuples}
+use Rattle.td_eval.specs.Totals.{term_in, total_of, total_view}
+use Rattle.td_eval.specs.TreeValues.{argument_values, entry_values, items_in_tuples, value_of, values_in_tuples}
+use Rattle.td_group.specs.declared.aggregates.Agg.{Agg}
 use Rattle.td_eval.specs.Worlds.{scope_among, selected}
 use Rattle.td_tree.specs.Gatherings.{IsGathered}
-use Rattle.td_tree.specs.Heights.{height, highest, highest_named, type_height}
+use Rattle.td_tree.specs.Heights.{height, highest, highest_named, highest_summary, type_height}
 use Rattle.td_tree.specs.Outcomes.{Answers, Valued, gathered, with_value}
-use Rattle.td_tree.specs.TreeViews.{heading_tree_view, named_view, tree_view, trees_view}
+use Rattle.td_tree.specs.TreeViews.{attributes_view, heading_tree_view, named_view, summaries_view, tree_view, trees_view}
 use Rattle.td_tree.specs.Trees as trees
-use Rattle.td_tree.proofs.Rows.{extend_is, headed_relation_is, relation_is, select_is, tuple_is}
+use Rattle.td_tree.proofs.Rows.{extend_is, headed_relation_is, relation_is, select_is, summarize_by_is, summarize_per_is, tuple_is}
 use Rattle.td_types.specs.declared.ty.Ty.{Ty}
 use Rattle.td_types.specs.Headings.{are_distinct, have_no_common}
 use Rattle.td_types.specs.Pairs.{pair_view}
 use Rattle.td_types.specs.TypeLists.{heading_meant}
-use Rattle.td_types.specs.Types.{attribute_names}
+use Rattle.td_types.specs.Types.{Heading, attribute_names}
 use Rattle.td_types.specs.Views.{pairs_view, type_view}
 use Rattle.td_types.proofs.Resolutions.{answers_still}
-use Rattle.td_value.specs.Values.{Val, type_of}
+use Rattle.td_value.specs.Values.{Tuple, Val, boolean, type_of}
 use Rattle.td_eval.proofs.value.+value.Goals as goal
 
 -- ---- lists
@@ -269,14 +276,6 @@ value_of-returns-in-HeadedRelation g t c =
 
 -- ---- over tuples
 
-pub value_of-returns-in_ok-value_of-in-Where : goal.value_of-returns-in_ok-value_of-in-Where
-value_of-returns-in_ok-value_of-in-Where g t c =
-    let is = ap tree_view c.in-Binary.is ∙ (λ i. trees.binary (tree_view (sym c.deref-in-Where.ensures i)) (c.in-Where.is i) (tree_view (sym c.deref-in-Where-2.ensures i))) in
-    rw is
-    (answered_then (λ v. v) c.in_ok-value_of-in-Where.field-0 (value_of (seen_by c.args.sight.now) (reverse c.args.tuples.now) (tree_view c.deref-in-Where.result.now))
-    (λ v. on_relation v (restricted_value (λ u. value_of (seen_by c.args.sight.now) (u ∷ (reverse c.args.tuples.now)) (tree_view c.deref-in-Where-2.result.now)))) (λ v. v) c.restriction-in-Where.result
-    c.in_ok-value_of-in-Where.ensures c.restriction-in-Where.ensures)
-
 pub value_of-returns-in_ok-value_of-in-Extend : goal.value_of-returns-in_ok-value_of-in-Extend
 value_of-returns-in_ok-value_of-in-Extend g t c =
     let is = ap tree_view c.in-Extend.is ∙ extend_is c.in-Extend.operand c.in-Extend.parts ∙ (λ i. trees.extend (tree_view (sym c.deref-in-Extend.ensures i)) (named_view (sym c.deref-in-Extend-2.ensures.value i))) in
@@ -356,3 +355,198 @@ extension-returns g t c =
     answers_related (λ (v : Val). v) c.args.operand.now c.in_ok-rel.rel.now (λ r. extended_value (named_types (entered_with r.heading (scope_among (seen_by c.args.sight.now) (reverse c.args.tuples.now))) (named_view c.args.parts.now)) (values_in_tuples (seen_by c.args.sight.now) (reverse c.args.tuples.now) (named_view c.args.parts.now)) r) c.extended.result c.in_ok-rel.ensures
     (extended_given (named_types (entered_with c.in_ok-rel.rel.now.heading (scope_among (seen_by c.args.sight.now) (reverse c.args.tuples.now))) (named_view c.args.parts.now)) (values_in_tuples (seen_by c.args.sight.now) (reverse c.args.tuples.now) (named_view c.args.parts.now)) c.in_ok-rel.rel.now (pairs_view c.in_ok-attributes.attributes.items) c.in_ok-attributes.ensures (columns_view c.in_ok-columns.columns.items) (subst (λ xs. gathered (named_columns (pairs_view xs) (values_in_tuples (seen_by c.args.sight.now) (reverse c.args.tuples.now) (named_view c.args.parts.now)) c.in_ok-rel.rel.now.body) ≡ Valued (columns_view c.in_ok-columns.columns.items)) c.deref.ensures.value c.in_ok-columns.ensures) c.extended.result
     (c.extended.ensures (additions_of (pairs_view c.in_ok-attributes.attributes.items) (values_in_tuples (seen_by c.args.sight.now) (reverse c.args.tuples.now) (named_view c.args.parts.now))) (columns_of_additions (named_types (entered_with c.in_ok-rel.rel.now.heading (scope_among (seen_by c.args.sight.now) (reverse c.args.tuples.now))) (named_view c.args.parts.now)) (values_in_tuples (seen_by c.args.sight.now) (reverse c.args.tuples.now) (named_view c.args.parts.now)) c.in_ok-rel.rel.now (pairs_view c.in_ok-attributes.attributes.items) c.in_ok-attributes.ensures (columns_view c.in_ok-columns.columns.items) (subst (λ xs. gathered (named_columns (pairs_view xs) (values_in_tuples (seen_by c.args.sight.now) (reverse c.args.tuples.now) (named_view c.args.parts.now)) c.in_ok-rel.rel.now.body) ≡ Valued (columns_view c.in_ok-columns.columns.items)) c.deref.ensures.value c.in_ok-columns.ensures))))
+
+-- ---- aggregates
+
+pub values_in_rows-loop-row-init : goal.values_in_rows-loop-row-init
+values_in_rows-loop-row-init g t c =
+    (rw (c.new-causes.ensures, c.in_ok-values.ensures.items) refl, c.in_ok-inner.ensures)
+
+pub values_in_rows-loop-row-preserved : goal.values_in_rows-loop-row-preserved
+values_in_rows-loop-row-preserved g t c = (
+  element_gathered _ (λ t. value_of (seen_by c.args.sight.now) (t ∷ reverse c.args.tuples.now) (tree_view c.args.expr.now)) c.rows-rows.result.now c.loop-row.row-index c.row-item.result c.loop-row-test.true c.row-item.is
+      c.loop-row.causes c.loop-row.values.items c.value_in_row-value.result c.add.new.self c.loop-row.invariant.0 (subst (λ s. Answers (λ v. v) c.value_in_row-value.result (value_of (seen_by c.args.sight.now) (c.row-item.result ∷ reverse s) (tree_view c.args.expr.now))) c.loop-row.invariant.1 c.value_in_row-value.ensures.value) c.add.ensures.cause
+      c.in-Some.value (Ok c.in_ok-value.field-0) (ap Ok c.in-Some.is) c.in_ok-value.ensures.rest c.push.new.self.items c.in_ok-push.ensures.items,
+  c.value_in_row-value.ensures.tuples ∙ c.loop-row.invariant.1,
+)
+
+pub values_in_rows-loop-row-preserved-in_default : goal.values_in_rows-loop-row-preserved-in_default
+values_in_rows-loop-row-preserved-in_default g t c = (
+  element_refused _ (λ t. value_of (seen_by c.args.sight.now) (t ∷ reverse c.args.tuples.now) (tree_view c.args.expr.now)) c.rows-rows.result.now c.loop-row.row-index c.row-item.result c.loop-row-test.true c.row-item.is
+      c.loop-row.causes c.loop-row.values.items c.value_in_row-value.result c.add.new.self c.loop-row.invariant.0 (subst (λ s. Answers (λ v. v) c.value_in_row-value.result (value_of (seen_by c.args.sight.now) (c.row-item.result ∷ reverse s) (tree_view c.args.expr.now))) c.loop-row.invariant.1 c.value_in_row-value.ensures.value) c.add.ensures.cause
+      (Ok c.in_ok-value.field-0) (ap Ok c.in_default.is) c.in_ok-value.ensures.rest,
+  c.value_in_row-value.ensures.tuples ∙ c.loop-row.invariant.1,
+)
+
+pub values_in_rows-returns : goal.values_in_rows-returns
+values_in_rows-returns g t c =
+    walked_values (λ t. value_of (seen_by c.args.sight.now) (t ∷ reverse c.args.tuples.now) (tree_view c.args.expr.now)) c.rows-rows.result.now c.loop-row.row-index c.loop-row-test.false c.loop-row.causes c.loop-row.values c.finish.result c.finish.ensures
+    c.loop-row.invariant.0 _ (ap (λ ts. gathered (map (λ t. value_of (seen_by c.args.sight.now) (t ∷ reverse c.args.tuples.now) (tree_view c.args.expr.now)) ts)) c.rows-rows.ensures.rows)
+
+-- ---- SUMMARIZE
+
+pub item_in_groups-loop-group-preserved : goal.item_in_groups-loop-group-preserved
+item_in_groups-loop-group-preserved g t c =
+    let l = c.loop-group in
+    let found = group_found (seen_by c.args.sight.now) (reverse c.args.tuples.now) c.args.item.now in
+    step_taken (λ zs. IsGathered c.add.new.self (map (λ vs. vs.items) c.push.new.self.items) (map found zs)) c.args.groups.now l.group-index c.loop-group-item.result
+    c.loop-group-test.true c.loop-group-item.is
+    (value_gathered _ (λ (vs : Vec Val). vs.items) found (take l.group-index c.args.groups.now) c.loop-group-item.result l.causes l.values.items c.item_in_group-found.result c.add.new.self
+    l.invariant c.item_in_group-found.ensures c.add.ensures.cause c.in-Some.found (Ok c.in_ok-found.field-0) (ap Ok c.in-Some.is) c.in_ok-found.ensures.rest
+    c.push.new.self.items c.in_ok-push.ensures.items)
+
+pub item_in_groups-loop-group-preserved-in_default : goal.item_in_groups-loop-group-preserved-in_default
+item_in_groups-loop-group-preserved-in_default g t c =
+    let l = c.loop-group in
+    let found = group_found (seen_by c.args.sight.now) (reverse c.args.tuples.now) c.args.item.now in
+    step_taken (λ zs. IsGathered c.add.new.self (map (λ vs. vs.items) l.values.items) (map found zs)) c.args.groups.now l.group-index c.loop-group-item.result
+    c.loop-group-test.true c.loop-group-item.is
+    (refusal_gathered _ (λ (vs : Vec Val). vs.items) found (take l.group-index c.args.groups.now) c.loop-group-item.result l.causes l.values.items c.item_in_group-found.result c.add.new.self
+    l.invariant c.item_in_group-found.ensures c.add.ensures.cause (Ok c.in_ok-found.field-0) (ap Ok c.in_default.is) c.in_ok-found.ensures.rest)
+
+pub item_in_groups-returns : goal.item_in_groups-returns
+item_in_groups-returns g t c =
+    walked (λ (vss : Vec (Vec Val)). map (λ vs. vs.items) vss.items) (group_found (seen_by c.args.sight.now) (reverse c.args.tuples.now) c.args.item.now) c.args.groups.now
+    c.loop-group.group-index c.loop-group-test.false c.loop-group.causes c.loop-group.values c.finish.result c.finish.ensures c.loop-group.invariant _ refl
+
+pub totals-loop-item-preserved : goal.totals-loop-item-preserved
+totals-loop-item-preserved g t c =
+    let l = c.loop-item in
+    let found = total_found (seen_by c.args.sight.now) (reverse c.args.tuples.now) c.args.groups.now in
+    let values = gathered (map (group_found (seen_by c.args.sight.now) (reverse c.args.tuples.now) c.item-item.result) c.args.groups.now) in
+    step_taken (λ zs. IsGathered c.add.new.self (map total_view c.push.new.self.items) (map found zs)) c.args.items.now l.item-index c.item-item.result
+    c.loop-item-test.true c.item-item.is
+    (value_gathered _ total_view found (take l.item-index c.args.items.now) c.item-item.result l.causes l.totals.items c.with_aggregate-total.result c.add.new.self
+    l.invariant (c.with_aggregate-total.ensures values c.item_in_groups.ensures) c.add.ensures.cause c.in-Some.total (Ok c.in_ok-total.field-0) (ap Ok c.in-Some.is) c.in_ok-total.ensures.rest
+    c.push.new.self.items c.in_ok-push.ensures.items)
+
+pub totals-loop-item-preserved-in_default : goal.totals-loop-item-preserved-in_default
+totals-loop-item-preserved-in_default g t c =
+    let l = c.loop-item in
+    let found = total_found (seen_by c.args.sight.now) (reverse c.args.tuples.now) c.args.groups.now in
+    let values = gathered (map (group_found (seen_by c.args.sight.now) (reverse c.args.tuples.now) c.item-item.result) c.args.groups.now) in
+    step_taken (λ zs. IsGathered c.add.new.self (map total_view l.totals.items) (map found zs)) c.args.items.now l.item-index c.item-item.result
+    c.loop-item-test.true c.item-item.is
+    (refusal_gathered _ total_view found (take l.item-index c.args.items.now) c.item-item.result l.causes l.totals.items c.with_aggregate-total.result c.add.new.self
+    l.invariant (c.with_aggregate-total.ensures values c.item_in_groups.ensures) c.add.ensures.cause (Ok c.in_ok-total.field-0) (ap Ok c.in_default.is) c.in_ok-total.ensures.rest)
+
+pub totals-returns : goal.totals-returns
+totals-returns g t c =
+    walked (λ (ts : Vec (Agg × Vec (Vec Val))). map total_view ts.items) (total_found (seen_by c.args.sight.now) (reverse c.args.tuples.now) c.args.groups.now) c.args.items.now
+    c.loop-item.item-index c.loop-item-test.false c.loop-item.causes c.loop-item.totals c.finish.result c.finish.ensures c.loop-item.invariant _
+    (ap gathered (totals_are (seen_by c.args.sight.now) (reverse c.args.tuples.now) c.args.groups.now c.args.items.now))
+
+pub totals-item_in_groups-requires : goal.totals-item_in_groups-requires
+totals-item_in_groups-requires g t c =
+    λ κs o. (
+      (let h = height_item c.args.items.now c.loop-item.item-index c.item-item.result c.loop-item-test.true c.item-item.is in omega (arith, c.decreases, h)),
+      (o, c.requires),
+    )
+
+pub aggregation-returns : goal.aggregation-returns
+aggregation-returns g t c =
+    let world = seen_by c.args.sight.now in
+    let tuples = reverse c.args.tuples.now in
+    let value = λ (u : Tuple). value_of world (u ∷ tuples) (tree_view c.args.expr.now) in
+    answers_related (λ (v : Val). v) c.args.operand.now c.in_ok-rel.rel.now (aggregated_value (asked_of c.args.op) value) c.aggregated.result c.in_ok-rel.ensures
+    (c.aggregated.ensures (gathered (map value c.in_ok-rel.rel.now.body)) c.values_in_rows.ensures)
+
+pub item_in_group-returns-in_ok-terms-in-Count : goal.item_in_group-returns-in_ok-terms-in-Count
+item_in_group-returns-in_ok-terms-in-Count g t c =
+    ap (λ item. gathered (map (term_in (seen_by c.args.sight.now) (reverse c.args.tuples.now) item) c.args.group.now.body)) c.in-Count.is
+    ∙ terms_given c.args.group.now.body (boolean true) ∙ ap (λ vs. Valued vs) (sym c.in_ok-terms-in-Count.ensures)
+
+pub summary-returns-in_err-totals : goal.summary-returns-in_err-totals
+summary-returns-in_err-totals g t c =
+    let world = seen_by c.args.sight.now in
+    let tuples = reverse c.args.tuples.now in
+    let e = err_from_is_err_and c.from_residual-in_err-totals.result c.from_residual-in_err-totals.ensures.1 in
+    let r = c.in_ok-rel.rel.now in
+    let p = c.in_ok-rel.per.now in
+    let attributes = λ (h : Heading). summary_attributes (entered_with h (scope_among world tuples)) (summaries_view c.args.items.now) in
+    let items = items_in_tuples world tuples (summaries_view c.args.items.now) in
+    let view = λ (ts : Vec (Agg × Vec (Vec Val))). map total_view ts.items in
+    rw (e.1, e.2)
+    (subst (Answers (λ (v : Val). v) (Err c.in_err-totals.field-0.0)) (sym (both_related c.args.operand.now c.args.per.now r p (λ r p. summarized_value (attributes r.heading) items r p) c.in_ok-rel.ensures))
+    (totals_refused (attributes r.heading) items r p c.in_ok-groups.groups.items c.in_ok-groups.ensures view c.in_err-totals.field-0.0
+    (subst (λ gs. Answers view (Err c.in_err-totals.field-0.0) (gathered (map (total_of gs) items))) c.deref.ensures.value c.in_err-totals.ensures)))
+
+pub summary-returns : goal.summary-returns
+summary-returns g t c =
+    let world = seen_by c.args.sight.now in
+    let tuples = reverse c.args.tuples.now in
+    let r = c.in_ok-rel.rel.now in
+    let p = c.in_ok-rel.per.now in
+    let attributes = λ (h : Heading). summary_attributes (entered_with h (scope_among world tuples)) (summaries_view c.args.items.now) in
+    let items = items_in_tuples world tuples (summaries_view c.args.items.now) in
+    let totals = map total_view c.in_ok-totals.totals.items in
+    subst (Answers (λ (v : Val). v) c.summarized.result) (sym (both_related c.args.operand.now c.args.per.now r p (λ r p. summarized_value (attributes r.heading) items r p) c.in_ok-rel.ensures))
+    (totals_given (attributes r.heading) items r p c.in_ok-groups.groups.items c.in_ok-groups.ensures totals
+    (subst (λ gs. gathered (map (total_of gs) items) ≡ Valued totals) c.deref.ensures.value c.in_ok-totals.ensures) c.summarized.result c.summarized.ensures)
+
+-- ---- aggregates and SUMMARIZE in a tree
+
+pub value_of-returns-in_ok-value_of-in-Aggregate : goal.value_of-returns-in_ok-value_of-in-Aggregate
+value_of-returns-in_ok-value_of-in-Aggregate g t c =
+    let world = seen_by c.args.sight.now in
+    let tuples = reverse c.args.tuples.now in
+    let is = ap tree_view c.in-Aggregate.is ∙ (λ i. trees.aggregate c.in-Aggregate.op (tree_view (sym c.deref-in-Aggregate.ensures i)) (tree_view (sym c.deref-in-Aggregate-2.ensures i))) in
+    rw is
+    (answered_then (λ v. v) c.in_ok-value_of-in-Aggregate.field-0 (value_of world tuples (tree_view c.deref-in-Aggregate.result.now))
+    (λ v. on_relation v (aggregated_value (asked_of c.in-Aggregate.op) (λ u. value_of world (u ∷ tuples) (tree_view c.deref-in-Aggregate-2.result.now)))) (λ v. v)
+    c.aggregation-in-Aggregate.result c.in_ok-value_of-in-Aggregate.ensures c.aggregation-in-Aggregate.ensures)
+
+pub value_of-returns-in_err-operand-in-SummarizePer : goal.value_of-returns-in_err-operand-in-SummarizePer
+value_of-returns-in_err-operand-in-SummarizePer g t c =
+    let world = seen_by c.args.sight.now in
+    let tuples = reverse c.args.tuples.now in
+    let e = err_from_is_err_and c.from_residual-in_err-operand-in-SummarizePer.result c.from_residual-in_err-operand-in-SummarizePer.ensures.1 in
+    let is = ap tree_view c.in-SummarizePer.is ∙ summarize_per_is c.in-SummarizePer.operand c.in-SummarizePer.per c.in-SummarizePer.items
+    ∙ (λ i. trees.summarize_per (tree_view (sym c.deref-in-SummarizePer.ensures i)) (tree_view (sym c.deref-in-SummarizePer-2.ensures i)) (summaries_view c.in-SummarizePer.items.items)) in
+    rw (e.1, e.2, is)
+    (both_refused (λ (v : Val). v) (λ (v : Val). v) (λ (v : Val). v) (summary_value (λ h. summary_attributes (entered_with h (scope_among world tuples)) (summaries_view c.in-SummarizePer.items.items)) (items_in_tuples world tuples (summaries_view c.in-SummarizePer.items.items)))
+    c.value_of-operand.result c.value_of-in-SummarizePer.result (value_of world tuples (tree_view c.deref-in-SummarizePer.result.now))
+    (value_of world tuples (tree_view c.deref-in-SummarizePer-2.result.now)) _
+    (sym c.both.ensures ∙ c.in_err-operand-in-SummarizePer.was) c.value_of-operand.ensures c.value_of-in-SummarizePer.ensures)
+
+pub value_of-summary-requires : goal.value_of-summary-requires
+value_of-summary-requires g t c =
+    λ κs o. (
+      (let h = ap height (ap tree_view c.in-SummarizePer.is ∙ summarize_per_is c.in-SummarizePer.operand c.in-SummarizePer.per c.in-SummarizePer.items ∙ (λ i. trees.summarize_per (tree_view (sym c.deref-in-SummarizePer.ensures i)) (tree_view (sym c.deref-in-SummarizePer-2.ensures i)) (summaries_view (sym c.deref-in-SummarizePer-3.ensures.value i)))) in let low = le-max_right (max (height (tree_view c.deref-in-SummarizePer.result.now)) (height (tree_view c.deref-in-SummarizePer-2.result.now))) (highest_summary (summaries_view c.deref-in-SummarizePer-3.result.now)) in omega (arith, c.decreases, h, low)),
+      (o, c.requires),
+    )
+
+pub value_of-returns-in_ok-operand-in-SummarizePer : goal.value_of-returns-in_ok-operand-in-SummarizePer
+value_of-returns-in_ok-operand-in-SummarizePer g t c =
+    let world = seen_by c.args.sight.now in
+    let tuples = reverse c.args.tuples.now in
+    let is = ap tree_view c.in-SummarizePer.is ∙ summarize_per_is c.in-SummarizePer.operand c.in-SummarizePer.per c.in-SummarizePer.items
+    ∙ (λ i. trees.summarize_per (tree_view (sym c.deref-in-SummarizePer.ensures i)) (tree_view (sym c.deref-in-SummarizePer-2.ensures i)) (summaries_view (sym c.deref-in-SummarizePer-3.ensures.value i))) in
+    rw is
+    (subst (Answers (λ (v : Val). v) c.summary.result)
+    (sym (both_given (λ (v : Val). v) (λ (v : Val). v) (summary_value (λ h. summary_attributes (entered_with h (scope_among world tuples)) (summaries_view c.deref-in-SummarizePer-3.result.now)) (items_in_tuples world tuples (summaries_view c.deref-in-SummarizePer-3.result.now)))
+    c.value_of-operand.result c.value_of-in-SummarizePer.result (value_of world tuples (tree_view c.deref-in-SummarizePer.result.now))
+    (value_of world tuples (tree_view c.deref-in-SummarizePer-2.result.now)) (c.in_ok-operand-in-SummarizePer.operand, c.in_ok-operand-in-SummarizePer.per)
+    (sym c.both.ensures ∙ c.in_ok-operand-in-SummarizePer.was) c.value_of-operand.ensures c.value_of-in-SummarizePer.ensures))
+    c.summary.ensures)
+
+pub value_of-summary-requires-in-SummarizeBy : goal.value_of-summary-requires-in-SummarizeBy
+value_of-summary-requires-in-SummarizeBy g t c =
+    λ κs o. (
+      (let h = ap height (ap tree_view c.in-SummarizeBy.is ∙ summarize_by_is c.in-SummarizeBy.operand c.in-SummarizeBy.by c.in-SummarizeBy.items ∙ (λ i. trees.summarize_by (tree_view (sym c.deref-in-SummarizeBy.ensures i)) (attributes_view c.in-SummarizeBy.by) (summaries_view (sym c.deref-in-SummarizeBy-2.ensures.value i)))) in let low = le-max_right (height (tree_view c.deref-in-SummarizeBy.result.now)) (highest_summary (summaries_view c.deref-in-SummarizeBy-2.result.now)) in omega (arith, c.decreases, h, low)),
+      (o, c.requires),
+    )
+
+pub value_of-returns-in_ok-projected_by-in-SummarizeBy : goal.value_of-returns-in_ok-projected_by-in-SummarizeBy
+value_of-returns-in_ok-projected_by-in-SummarizeBy g t c =
+    let world = seen_by c.args.sight.now in
+    let tuples = reverse c.args.tuples.now in
+    let is = ap tree_view c.in-SummarizeBy.is ∙ summarize_by_is c.in-SummarizeBy.operand c.in-SummarizeBy.by c.in-SummarizeBy.items
+    ∙ (λ i. trees.summarize_by (tree_view (sym c.deref-in-SummarizeBy.ensures i)) (attributes_view c.in-SummarizeBy.by) (summaries_view (sym c.deref-in-SummarizeBy-2.ensures.value i))) in
+    let given = summary_value (λ h. summary_attributes (entered_with h (scope_among world tuples)) (summaries_view c.deref-in-SummarizeBy-2.result.now)) (items_in_tuples world tuples (summaries_view c.deref-in-SummarizeBy-2.result.now)) in
+    let by = postfix_value (trees.project (attributes_view c.in-SummarizeBy.by)) in
+    rw is
+    (answered_then (λ v. v) c.in_ok-operand-in-SummarizeBy.operand (value_of world tuples (tree_view c.deref-in-SummarizeBy.result.now)) (λ v. with_value (by v) (given v)) (λ v. v)
+    c.summary-in-SummarizeBy-2.result c.in_ok-operand-in-SummarizeBy.ensures
+    (answered_then (λ v. v) c.in_ok-projected_by-in-SummarizeBy.field-0 (by c.in_ok-operand-in-SummarizeBy.operand) (given c.in_ok-operand-in-SummarizeBy.operand) (λ v. v)
+    c.summary-in-SummarizeBy-2.result c.in_ok-projected_by-in-SummarizeBy.ensures c.summary-in-SummarizeBy-2.ensures))

@@ -1,16 +1,19 @@
 use Rattle.std.proofs.Common.{◌≡◌, ◌∷◌, ◌+◌, ◌*◌, map, reverse, take}
 use Rattle.std.specs.List.{zip}
+use Rattle.std.specs.Prelude.{max}
 use Rattle.td_algebra.specs.Columns.{columns_view}
-use Rattle.td_eval.proofs.Measures.{constraint_height, weight, weights}
+use Rattle.td_eval.proofs.Measures.{constraint_height, item_height, weight, weights}
 use Rattle.td_eval.proofs.WalkedColumns.{column_found}
 use Rattle.td_eval.proofs.WalkedLists.{entry_found, value_found}
+use Rattle.td_eval.proofs.WalkedTotals.{group_found, total_found}
 use Rattle.td_eval.specs.OperatorValues.{truth_value, value_of_type}
 use Rattle.td_eval.specs.Sights.{seen_by}
+use Rattle.td_eval.specs.Totals.{total_view}
 use Rattle.td_eval.specs.TreeValues.{value_of}
 use Rattle.td_tree.specs.Gatherings.{IsGathered}
-use Rattle.td_tree.specs.Heights.{height, highest, highest_named}
+use Rattle.td_tree.specs.Heights.{height, highest, highest_named, highest_summary}
 use Rattle.td_tree.specs.Outcomes.{with_value}
-use Rattle.td_tree.specs.TreeViews.{named_view, tree_view, trees_view}
+use Rattle.td_tree.specs.TreeViews.{named_view, summaries_view, tree_view, trees_view}
 use Rattle.td_types.specs.Views.{type_view}
 use Rattle.td_eval.proofs.value.+value.Given as goal
 
@@ -40,6 +43,22 @@ abbrev pub invariant-columns-loop-place : goal.invariant-columns-loop-place
 invariant-columns-loop-place g l =
     IsGathered l.causes (columns_view l.columns.items)
     (map (column_found (seen_by l.sight) (reverse l.tuples) l.operand.body) (take l.place (zip l.attributes l.parts)))
+
+abbrev pub invariant-values_in_rows-loop-row : goal.invariant-values_in_rows-loop-row
+invariant-values_in_rows-loop-row g l =
+    IsGathered l.causes (map (λ v. v) l.values.items)
+    (map (λ t. value_of (seen_by l.sight) (t ∷ reverse l.tuples) (tree_view l.expr)) (take l.row-index l.rows))
+    × (l.inner.items ≡ l.tuples)
+
+abbrev pub invariant-item_in_groups-loop-group : goal.invariant-item_in_groups-loop-group
+invariant-item_in_groups-loop-group g l =
+    IsGathered l.causes (map (λ vs. vs.items) l.values.items)
+    (map (group_found (seen_by l.sight) (reverse l.tuples) l.item) (take l.group-index l.groups))
+
+abbrev pub invariant-totals-loop-item : goal.invariant-totals-loop-item
+invariant-totals-loop-item g l =
+    IsGathered l.causes (map total_view l.totals.items)
+    (map (total_found (seen_by l.sight) (reverse l.tuples) l.groups) (take l.item-index l.items))
 
 -- ---- how deep each goes
 
@@ -75,3 +94,29 @@ decreases-columns g l = weight l.sight.now + (8 * highest_named (named_view l.pa
 
 abbrev pub decreases-extension : goal.decreases-extension
 decreases-extension g l = weight l.sight.now + (8 * highest_named (named_view l.parts.now) + 4)
+
+abbrev pub decreases-binary : goal.decreases-binary
+decreases-binary g l = weight l.sight.now + (8 * max (height (tree_view l.left.now)) (height (tree_view l.right.now)) + 4)
+
+abbrev pub decreases-choice : goal.decreases-choice
+decreases-choice g l =
+    weight l.sight.now
+    + (8 * max (max (height (tree_view l.condition.now)) (height (tree_view l.consequent.now))) (height (tree_view l.alternative.now)) + 1)
+
+abbrev pub decreases-values_in_rows : goal.decreases-values_in_rows
+decreases-values_in_rows g l = weight l.sight.now + (8 * height (tree_view l.expr.now) + 2)
+
+abbrev pub decreases-aggregation : goal.decreases-aggregation
+decreases-aggregation g l = weight l.sight.now + (8 * height (tree_view l.expr.now) + 3)
+
+abbrev pub decreases-item_in_group : goal.decreases-item_in_group
+decreases-item_in_group g l = weight l.sight.now + (8 * item_height l.item.now + 3)
+
+abbrev pub decreases-item_in_groups : goal.decreases-item_in_groups
+decreases-item_in_groups g l = weight l.sight.now + (8 * item_height l.item.now + 4)
+
+abbrev pub decreases-totals : goal.decreases-totals
+decreases-totals g l = weight l.sight.now + (8 * highest_summary (summaries_view l.items.now) + 5)
+
+abbrev pub decreases-summary : goal.decreases-summary
+decreases-summary g l = weight l.sight.now + (8 * highest_summary (summaries_view l.items.now) + 6)

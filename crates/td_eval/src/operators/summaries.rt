@@ -1,0 +1,214 @@
+//! The values of SUMMARIZE, by what its items are of in the groups.
+ghost use Rattle.std.specs.Prelude.{◌≡◌, List, length, map, reverse};
+ghost use Rattle.td_algebra.specs.Columns.{columns_view};
+ghost use Rattle.td_check.specs.OperatorTypes.{aggregate_type, extended_by};
+ghost use Rattle.td_check.specs.Scopes.{entered_with};
+ghost use Rattle.td_eval.specs.AggregateValues.{summary_attributes, summary_in};
+ghost use Rattle.td_eval.specs.OperatorValues.{extended_value};
+ghost use Rattle.td_eval.specs.Sights.{IsSight, seen_by};
+ghost use Rattle.td_eval.specs.Totals.{asked_by, attribute_found, total_columns, total_of};
+ghost use Rattle.td_eval.specs.Totals.{total_values, total_view};
+ghost use Rattle.td_eval.specs.TreeValues.{items_in_tuples};
+ghost use Rattle.td_eval.specs.Worlds.{scope_among};
+ghost use Rattle.td_group.specs.Groups.{groups};
+ghost use Rattle.td_tree.specs.Outcomes.{Answers, Outcome, Valued, gathered, value_if, with_value};
+ghost use Rattle.td_tree.specs.TreeViews.{summaries_view};
+ghost use Rattle.td_tree.specs.declared.cause.Cause.TheVariants as causes;
+ghost use Rattle.td_types.specs.Headings.{is_part};
+ghost use Rattle.td_types.specs.Pairs.{pair_view};
+ghost use Rattle.td_types.specs.Views.{pairs_view, type_view};
+ghost use Rattle.td_value.specs.Values.{Val};
+
+use crate::extension::ask_new;
+use crate::operators::aggregates::{aggregate_of, asked_of};
+use crate::operators::relational::fit;
+use crate::operators::tuplewise::extended;
+use crate::rows::{named_column, typed};
+use crate::sight::Sight;
+use std::alloc::Global;
+use td_algebra::extension::Column;
+use td_body::body::Body;
+use td_check::expression::check_expr;
+use td_check::scope::Scope;
+use td_group::aggregates::Agg;
+use td_group::groups::groups;
+use td_tree::cause::Cause;
+use td_tree::expression::Summary;
+use td_tree::fault::Fault;
+use td_tree::gathering::Gathering;
+use td_tree::name::Name;
+use td_tree::operator::Aggregate;
+use td_types::ty::Ty;
+use td_value::relation::Rel;
+use td_value::tuple::Tuple;
+use td_value::value::Value;
+
+/// Each tuple of PER with its group: refused where PER's heading is no part of the operand's.
+pub(crate) fn grouped(alloc: Global, rel: &Rel, per: &Rel) -> Result<Vec<(Tuple, Rel)>, Fault>
+    ensures { Answers (λ gs. gs.items) result
+        (value_if (is_part per.now.heading rel.now.heading) (groups rel.now per.now)
+        causes.Heading) }
+{
+    fit(per.heading().is_part_of(rel.heading()))?;
+    Ok(groups(alloc, rel, per)?)
+}
+
+// ---- the new attributes
+
+/// The type of an aggregate, by the type of the values.
+fn aggregate_type(op: Aggregate, ty: Ty) -> Result<Ty, Fault>
+    ensures { Answers type_view result (aggregate_type op (type_view ty)) }
+{
+    match (op, &ty) {
+        (_, Ty::Int) | (Aggregate::Max | Aggregate::Min, Ty::Text) => Ok(ty),
+        _ => Err(Fault::Refused(Cause::TypeMismatch)),
+    }
+}
+
+/// The attribute that an item adds, with its type.
+fn item_attribute(scope: &Scope<'_>, item: &Summary) -> Result<(Name, Ty), Fault>
+    ensures { Answers pair_view result (attribute_found scope.now item.now) }
+{
+    match item {
+        Summary::Count(name) => Ok((name.try_clone()?, Ty::Int)),
+        Summary::Of(op, value, name) => {
+            let ty = aggregate_type(*op, check_expr(scope, value)?)?;
+            Ok((name.try_clone()?, ty))
+        }
+    }
+}
+
+/// The attributes that items add, with their types.
+fn item_attributes(
+    alloc: Global,
+    scope: &Scope<'_>,
+    items: &[Summary],
+) -> Result<Vec<(Name, Ty)>, Fault>
+    ensures { Answers (λ xs. pairs_view xs.items) result
+        (summary_attributes scope.now (summaries_view items.now)) }
+{
+    let mut causes = Gathering::new();
+    let mut attributes = Vec::with_capacity(alloc, items.len())?;
+    for item in items {
+        let Some(attribute) = causes.add(item_attribute(scope, item))? else {
+            continue;
+        };
+        attributes.push(attribute)?;
+    }
+    causes.finish(attributes)
+}
+
+/// The new attributes with the types of their items: refused where a name is there or comes twice.
+fn new_attributes<B: Body>(
+    sight: &Sight<'_, B>,
+    tuples: &[Tuple],
+    rel: &Rel,
+    per: &Rel,
+    items: &[Summary],
+) -> Result<Vec<(Name, Ty)>, Fault>
+    requires { IsSight sight.now }
+    ensures { Answers (λ xs. pairs_view xs.items) result (with_value
+        (summary_attributes (entered_with rel.now.heading
+        (scope_among (seen_by sight.now) (reverse tuples.now))) (summaries_view items.now))
+        (λ attributes. with_value (extended_by per.now.heading attributes)
+        (λ heading. Valued attributes))) }
+{
+    let mut scope = sight.scope(tuples)?;
+    scope.enter(rel.heading().try_clone()?)?;
+    let attributes = item_attributes(sight.alloc, &scope, items)?;
+    ask_new(sight.alloc, attributes, per.heading())
+}
+
+// ---- their values
+
+/// The aggregate that an item asks.
+fn asked_by(item: &Summary) -> Agg
+    ensures { result ≡ asked_by item.now }
+{
+    match item {
+        Summary::Count(_) => Agg::Count,
+        Summary::Of(op, _, _) => asked_of(*op),
+    }
+}
+
+/// What an item is of in the groups, with its aggregate.
+pub(crate) fn with_aggregate(
+    item: &Summary,
+    groups: Result<Vec<Vec<Value>>, Fault>,
+) -> Result<(Agg, Vec<Vec<Value>>), Fault>
+    ensures { (o : Outcome (List (List Val)))
+        → Answers (λ vss. map (λ vs. vs.items) vss.items) groups o
+        → Answers total_view result (with_value o (λ vss. Valued (asked_by item.now, vss))) }
+{
+    Ok((asked_by(item), groups?))
+}
+
+/// The values of a new attribute, which are of its type: what the aggregate gives of each group.
+fn total_values(
+    alloc: Global,
+    ty: &Ty,
+    asked: Agg,
+    groups: &[Vec<Value>],
+) -> Result<Vec<Value>, Fault>
+    ensures { Answers (λ vs. vs.items) result
+        (total_values (type_view ty.now) (asked, map (λ vs. vs.items) groups.now)) }
+{
+    let mut causes = Gathering::new();
+    let mut values = Vec::with_capacity(alloc, groups.len())?;
+    for group in groups {
+        let value = typed(ty, aggregate_of(asked, group));
+        let Some(value) = causes.add(value)? else {
+            continue;
+        };
+        values.push(value)?;
+    }
+    causes.finish(values)
+}
+
+/// The new attributes with their values.
+fn total_columns(
+    alloc: Global,
+    attributes: &[(Name, Ty)],
+    totals: &[(Agg, Vec<Vec<Value>>)],
+) -> Result<Vec<(Name, Column)>, Fault>
+    requires { length attributes.now ≡ length totals.now }
+    ensures { Answers (λ cs. columns_view cs.items) result (gathered
+        (total_columns (pairs_view attributes.now) (map total_view totals.now))) }
+{
+    let mut causes = Gathering::new();
+    let mut columns = Vec::with_capacity(alloc, totals.len())?;
+    for (place, total) in totals.iter().enumerate() {
+        let (name, ty) = &attributes[place];
+        let values = total_values(alloc, ty, total.0, &total.1);
+        let Some(column) = causes.add(named_column(name, ty, values))? else {
+            continue;
+        };
+        columns.push(column)?;
+    }
+    causes.finish(columns)
+}
+
+/// The tuples of PER with what the items give of their groups.
+pub(crate) fn summarized<B: Body>(
+    sight: &Sight<'_, B>,
+    tuples: &[Tuple],
+    rel: &Rel,
+    per: &Rel,
+    items: &[Summary],
+    totals: &[(Agg, Vec<Vec<Value>>)],
+) -> Result<Value, Fault>
+    requires sight { IsSight sight.now }
+    requires totals { gathered (map (total_of (groups rel.now per.now))
+        (items_in_tuples (seen_by sight.now) (reverse tuples.now) (summaries_view items.now)))
+        ≡ Valued (map total_view totals.now) }
+    ensures { Answers (λ v. v) result (extended_value
+        (summary_attributes (entered_with rel.now.heading
+        (scope_among (seen_by sight.now) (reverse tuples.now))) (summaries_view items.now))
+        (map (summary_in rel.now per.now)
+        (items_in_tuples (seen_by sight.now) (reverse tuples.now) (summaries_view items.now)))
+        per.now) }
+{
+    let attributes = new_attributes(sight, tuples, rel, per, items)?;
+    let columns = total_columns(sight.alloc, &attributes, totals)?;
+    extended(sight.alloc, per, columns)
+}
