@@ -1,6 +1,7 @@
 //! The values of expressions where a few types and relvars are known, and the causes for which there
 //! are none.
 mod causes;
+mod groups;
 mod heights;
 mod names;
 mod places;
