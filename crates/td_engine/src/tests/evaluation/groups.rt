@@ -2,7 +2,7 @@ use super::{Refusal, Valued, first_wrong};
 use std::test::Fail;
 use td_tree::cause::Cause;
 
-const GROUPED: [Valued; 4] = [
+const GROUPED: [Valued; 5] = [
     (
         "R GROUP ({B} AS G)",
         "RELATION {A INTEGER, G RELATION {B INTEGER}}",
@@ -18,6 +18,11 @@ const GROUPED: [Valued; 4] = [
         "RELATION {G RELATION {E INTEGER}}",
         "RELATION {G RELATION {E INTEGER}} {TUPLE {G RELATION {E INTEGER} {TUPLE {E 1}, TUPLE {E 2}}}}",
     ),
+    (
+        "R WRAP ({B} AS W)",
+        "RELATION {A INTEGER, W TUPLE {B INTEGER}}",
+        "RELATION {A INTEGER, W TUPLE {B INTEGER}} {TUPLE {A 1, W TUPLE {B 2}}, TUPLE {A 1, W TUPLE {B 3}}, TUPLE {A 2, W TUPLE {B 2}}}",
+    ),
     // there is no group of no tuple
     (
         "(E WHERE E > 2) GROUP ({E} AS G)",
@@ -27,7 +32,7 @@ const GROUPED: [Valued; 4] = [
 ];
 
 #[test]
-fn groups(rt: HostRuntime) -> Result<(), Fail> {
+fn groups_and_wraps(rt: HostRuntime) -> Result<(), Fail> {
     assert_eq!(rt; first_wrong(rt.alloc(), &GROUPED, &[])?, None);
     Ok(())
 }

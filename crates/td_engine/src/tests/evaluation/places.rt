@@ -2,33 +2,71 @@ use super::super::values::numbers;
 use super::{database, name, relation, value_in};
 use std::alloc::Global;
 use std::test::Fail;
+use td_body::sorted::SortedBody;
+use td_catalog::catalog::Catalog;
 use td_eval::env::Env;
 use td_tree::fault::Fault;
+use td_tree::name::Name;
+use td_value::relation::Rel;
+use td_value::tuple::Tuple;
 
-/// The literal of the value of the text where R has another relation.
-fn with_other(alloc: Global, text: &str, other: &str) -> Result<String, Fault> {
-    let catalog = database(alloc)?;
-    let rel = relation(alloc, &catalog, other)?;
-    let relvar = name(alloc, "R")?;
+/// The literal of the value of the text where the relvar has another relation.
+fn beside<'a>(
+    alloc: Global,
+    catalog: &'a Catalog<SortedBody>,
+    relvar: &'a Name,
+    rel: &'a Rel,
+    text: &str,
+) -> Result<String, Fault> {
+    let other = Some((relvar, rel));
     let env = Env {
-        catalog: &catalog,
-        other: Some((&relvar, &rel)),
+        catalog,
+        other,
         tuples: &[],
     };
     Ok(value_in(alloc, &env, text)?.literal(alloc)?)
 }
 
-/// The literal of the value of the text where two tuples are in hand.
-fn in_tuples(alloc: Global, text: &str) -> Result<String, Fault> {
-    let catalog = database(alloc)?;
-    let outer = numbers(alloc, &[("A", 1), ("B", 2)])?;
-    let inner = numbers(alloc, &[("A", 3), ("R", 4)])?;
+fn with_relation(
+    alloc: Global,
+    catalog: &Catalog<SortedBody>,
+    text: &str,
+    other: &str,
+) -> Result<String, Fault> {
+    let rel = relation(alloc, catalog, other)?;
+    beside(alloc, catalog, &name(alloc, "R")?, &rel, text)
+}
+
+/// The literal of the value of the text where R has another relation.
+fn with_other(alloc: Global, text: &str, other: &str) -> Result<String, Fault> {
+    with_relation(alloc, &database(alloc)?, text, other)
+}
+
+/// The literal of the value of the text where the tuples are in hand.
+fn among<'a>(
+    alloc: Global,
+    catalog: &'a Catalog<SortedBody>,
+    tuples: &'a [&'a Tuple],
+    text: &str,
+) -> Result<String, Fault> {
+    let other: Option<(&'a Name, &'a Rel)> = None;
     let env = Env {
-        catalog: &catalog,
-        other: None,
-        tuples: &[&outer, &inner],
+        catalog,
+        other,
+        tuples,
     };
     Ok(value_in(alloc, &env, text)?.literal(alloc)?)
+}
+
+fn among_two(alloc: Global, catalog: &Catalog<SortedBody>, text: &str) -> Result<String, Fault> {
+    let outer = numbers(alloc, &[("A", 1), ("B", 2)])?;
+    let inner = numbers(alloc, &[("A", 3), ("R", 4)])?;
+    among(alloc, catalog, &[&outer, &inner], text)
+}
+
+/// The literal of the value of the text where two tuples are in hand.
+fn in_tuples(alloc: Global, text: &str) -> Result<String, Fault> {
+    among_two(alloc, &database(alloc)?, text)
 }
 
 #[test]
