@@ -11,7 +11,7 @@ use Rattle.td_eval.proofs.TypedValues.{in_range_keeps, integer_of, relation_keep
 use Rattle.td_eval.specs.AggregateValues.{aggregate_of, aggregated_value, asked_of, is_number, is_number_or_text, takes}
 use Rattle.td_eval.specs.OperatorValues.{of_number, on_relation}
 use Rattle.td_eval.specs.ValueTypes.{IsOfType, IsTypedTuple, KeepsType}
-use Rattle.td_group.specs.Aggregates.{aggregate, greater, greatest, least, less, sum_of}
+use Rattle.td_group.specs.Aggregates.{aggregate, greater, greatest_value, least_value, less, sum_of}
 use Rattle.td_group.specs.declared.aggregates.Agg.{Agg}
 use Rattle.td_group.specs.declared.aggregates.Agg.TheVariants as asked
 use Rattle.td_tree.specs.declared.cause.Cause.TheVariants as causes
@@ -68,7 +68,7 @@ module _ (ds : List DeclaredType) where
 
   -- ---- it is of its type
 
-  greatest_is : (t : Type') (v : Val) (vs : List Val) → IsOfType ds v t → AllByRecursion (λ w. IsOfType ds w t) vs → IsOfType ds (greatest v vs) t
+  greatest_is : (t : Type') (v : Val) (vs : List Val) → IsOfType ds v t → AllByRecursion (λ w. IsOfType ds w t) vs → IsOfType ds (greatest_value v vs) t
   greatest_is t v [] h k = h
   greatest_is t v (w ∷ ws) h k = greatest_is t (greater v w) ws (by_test (is_lt (value_cmp v w))) k.1
     where
@@ -76,7 +76,7 @@ module _ (ds : List DeclaredType) where
       by_test true = k.0
       by_test false = h
 
-  least_is : (t : Type') (v : Val) (vs : List Val) → IsOfType ds v t → AllByRecursion (λ w. IsOfType ds w t) vs → IsOfType ds (least v vs) t
+  least_is : (t : Type') (v : Val) (vs : List Val) → IsOfType ds v t → AllByRecursion (λ w. IsOfType ds w t) vs → IsOfType ds (least_value v vs) t
   least_is t v [] h k = h
   least_is t v (w ∷ ws) h k = least_is t (less v w) ws (by_test (is_lt (value_cmp w v))) k.1
     where
@@ -88,9 +88,9 @@ module _ (ds : List DeclaredType) where
   own_keeps asked.Count t s g vs k = subst (λ u. KeepsType ds (Valued u) (of_number (pos (length vs)))) (sym g) (in_range_keeps ds (pos (length vs)))
   own_keeps asked.Sum t s g vs k = subst (λ u. KeepsType ds (Valued u) (of_number (sum_of vs))) (sym g.1) (in_range_keeps ds (sum_of vs))
   own_keeps asked.Max t s g [] k = one_dynamic causes.EmptyAggregate (omega arith)
-  own_keeps asked.Max t s g (v ∷ vs) k = subst (IsOfType ds (greatest v vs)) (sym g.0) (greatest_is t v vs k.0 k.1)
+  own_keeps asked.Max t s g (v ∷ vs) k = subst (IsOfType ds (greatest_value v vs)) (sym g.0) (greatest_is t v vs k.0 k.1)
   own_keeps asked.Min t s g [] k = one_dynamic causes.EmptyAggregate (omega arith)
-  own_keeps asked.Min t s g (v ∷ vs) k = subst (IsOfType ds (least v vs)) (sym g.0) (least_is t v vs k.0 k.1)
+  own_keeps asked.Min t s g (v ∷ vs) k = subst (IsOfType ds (least_value v vs)) (sym g.0) (least_is t v vs k.0 k.1)
 
   aggregate_keeps : (a : Agg) (t s : Type') → GivesOf a t s → (vs : List Val) → AllByRecursion (λ v. IsOfType ds v t) vs
       → KeepsType ds (Valued s) (aggregate_of a vs)

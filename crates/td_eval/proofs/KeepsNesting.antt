@@ -1,5 +1,6 @@
--- GROUP gives values of its static type, or is refused by dynamic causes alone.
-use Rattle.std.proofs.Common.{◌≡◌, ◌∙◌, ℕ, Bool, true, false, List, [], ◌∷◌, ap, refl, subst, sym}
+-- GROUP and WRAP give values of their static types, or are refused by dynamic causes alone.
+use Rattle.std.proofs.Common.{◌≡◌, ◌∙◌, ◌++◌, ℕ, Bool, true, false, List, [], ◌∷◌, ap, map, refl, subst, sym}
+use Rattle.std.specs.List.{Contains}
 use Rattle.std.specs.Prelude.{◌&&◌, if◌then◌else◌, not}
 use Rattle.td_algebra.specs.Columns.{new_attribute}
 use Rattle.td_algebra.specs.Operators.{projected_relation, restriction}
@@ -8,22 +9,32 @@ use Rattle.td_check.specs.StaticLaws.{IsKnownHeading}
 use Rattle.td_check.proofs.KnownLaws.{known_closed}
 use Rattle.td_eval.proofs.KeepsExtension.{typed_extended}
 use Rattle.td_eval.proofs.KeepsOperators.{typed_projected, typed_restriction}
-use Rattle.td_eval.proofs.KeepsRelations.{IsTypedRelation, typed_heading, value_from_typed}
-use Rattle.td_eval.proofs.NestedNames.{IsNamed, nest_test, part_is_named, rest_told}
+use Rattle.td_algebra.proofs.Entries.{IsTuple-tuple_of, fields_append}
+use Rattle.td_algebra.proofs.Extensions.{IsTupleOf-extended, extended_distinct}
+use Rattle.td_algebra.proofs.Lists.{contains_map}
+use Rattle.td_algebra.proofs.Projections.{IsTupleOf-projected}
+use Rattle.td_algebra.proofs.Relations.{member_headed}
+use Rattle.td_algebra.proofs.Results.{IsHeading-added, IsRelation-mapped}
+use Rattle.td_check.proofs.OperatorLaws.{united}
+use Rattle.td_eval.proofs.KeepsGathered.{member_from_all}
+use Rattle.td_eval.proofs.KeepsRelations.{AreOwn, IsOwn, IsTypedRelation, all_filtered, all_joined, all_made, typed_heading, typed_set, value_from_typed}
+use Rattle.td_eval.proofs.NestedNames.{IsNamed, nest_test, part_is_named, rest_named, rest_told}
 use Rattle.td_eval.specs.OperatorValues.{nested_names, of_relation, relation_as_value}
 use Rattle.td_eval.specs.ValueTypes.{IsOfType, KeepsType}
-use Rattle.td_group.specs.Nesting.{can_nest, group_of, grouped_relation, relation_value, rest_names}
+use Rattle.td_group.specs.Nesting.{can_nest, group_of, grouped_relation, relation_value, rest_heading, rest_names, tuple_value, wrapped_relation, wrapped_tuple}
 use Rattle.td_tree.specs.declared.cause.Cause.TheVariants as causes
 use Rattle.td_tree.specs.Names.{IsName}
 use Rattle.td_tree.specs.Outcomes.{Outcome, Valued, Refused, value_if, with_value}
 use Rattle.td_tree.specs.Trees.{Attributes}
-use Rattle.td_types.specs.Headings.{extended_heading, has_attribute, has_name, outside, projection, with_attribute}
-use Rattle.td_types.specs.TypeLists.{DeclaredType}
+use Rattle.td_types.specs.Headings.{extended_heading, has_attribute, has_name, heading_union, outside, projection, with_attribute}
+use Rattle.td_types.proofs.HeadingLaws.{ascending_from_heading}
+use Rattle.td_types.specs.TypeLists.{AreKnown, DeclaredType}
 use Rattle.td_types.specs.Types.{Heading, IsHeading, Type', attribute_names, pack}
 use Rattle.td_types.specs.Types as types
 use Rattle.td_value.specs.Agreement.{agree_on}
-use Rattle.td_value.specs.Values.{Relation, Tuple}
-use Rattle.td_value.proofs.KnownValues.{has_its_type}
+use Rattle.td_value.specs.KnownValues.{HasType}
+use Rattle.td_value.specs.Values.{IsRelation, IsTupleOf, Relation, Tuple, projected_tuple, relation_of}
+use Rattle.td_value.proofs.KnownValues.{by_values, has_its_type}
 
 -- ---- attributes that are put into a new one
 
@@ -100,3 +111,82 @@ module _ (ds : List DeclaredType) (name : List ℕ) (n : IsName name) (r : Relat
       else with_attribute (projection (rest_names names r) r.heading) (name, types.relation (pack (projection names r.heading)))) absent
       ∙ nested_heading r part name (λ g. types.relation (pack g)) p is lacks)
       (value_from_typed ds (grouped_relation names name r) (typed_grouped names absent))
+
+-- ---- WRAP
+
+module _ (ds : List DeclaredType) (name : List ℕ) (n : IsName name) (r : Relation) (m : IsTypedRelation ds r) where
+  -- the tuple that a part is
+  part_typed : (names : List (List ℕ)) (t : Tuple) → Contains r.body t
+      → IsOfType ds (tuple_value (projected_tuple names t)) (types.tuple (pack (projection names r.heading)))
+  part_typed names t c =
+      let headed = IsTupleOf-projected names r.heading t (member_headed r t m.is_relation c) in
+      let own = all_filtered (IsOwn ds) (λ e. has_name e.0 names) t (m.rows t c) in (
+        headed.0,
+        (
+          pack (projection names r.heading),
+          refl,
+          (by_values ds (projected_tuple names t) (projection names r.heading)).1 (headed.1, member_from_all (IsOwn ds) (projected_tuple names t) own),
+        ),
+      )
+
+  typed_wrapped : (names : List (List ℕ)) → has_attribute name (projection (rest_names names r) r.heading) ≡ false
+      → IsTypedRelation ds (wrapped_relation names name r)
+  typed_wrapped names lacks =
+      typed_set ds heading (map (wrapped_tuple names name r) r.body) (subst (λ g. IsRelation (relation_of g (map (wrapped_tuple names name r) r.body))) same relation_is)
+      (subst (λ g. AreKnown ds (pack g)) same (united (known_closed ds) rest added rest_known ((n, (known.0, known.1)), tt)).1)
+      (λ y c. let d = (contains_map (wrapped_tuple names name r) r.body y).0 c in subst (AreOwn ds) d.2 (own d.0 d.1))
+    where
+      kind : Type'
+      kind = types.tuple (pack (projection names r.heading))
+
+      known : IsKnownHeading ds (projection names r.heading)
+      known = part_known ds names r m
+
+      rest : Heading
+      rest = projection (rest_names names r) r.heading
+
+      rest_known : IsKnownHeading ds rest
+      rest_known = part_known ds (rest_names names r) r m
+
+      added : Heading
+      added = (name, kind) ∷ []
+
+      heading : Heading
+      heading = with_attribute (rest_heading names r.heading) (name, kind)
+
+      same : heading_union rest added ≡ heading
+      same =
+          ap (λ b. if b then rest else with_attribute rest (name, kind)) lacks
+          ∙ ap (λ g. with_attribute g (name, kind)) (rest_named (projection names r.heading) r.heading (ascending_from_heading r.heading (typed_heading ds r m).0))
+
+      headed : (t : Tuple) → Contains r.body t → IsTupleOf (heading_union rest added) (wrapped_tuple names name r t)
+      headed t c =
+          let v = tuple_value (projected_tuple names t) in
+          let typed = part_typed names t c in
+          let bs = new_attribute name kind (λ _. v) ∷ [] in
+          let front = projected_tuple (rest_names names r) t in
+          let p = IsTupleOf-projected (rest_names names r) r.heading t (member_headed r t m.is_relation c) in
+          let new = ap (λ b. not b && true) lacks in
+          IsTupleOf-extended bs rest front p refl new
+          (IsTuple-tuple_of (front ++ (name, v) ∷ []) (fields_append front ((name, v) ∷ []) p.0.0 (n, typed.0, tt)) (extended_distinct bs rest front p refl new))
+          (has_its_type ds v kind typed.1, tt) (IsHeading-added rest added rest_known.0 ((n, known.0), tt))
+
+      relation_is : IsRelation (relation_of (heading_union rest added) (map (wrapped_tuple names name r) r.body))
+      relation_is = IsRelation-mapped (heading_union rest added) (wrapped_tuple names name r) r (IsHeading-added rest added rest_known.0 ((n, known.0), tt)) headed
+
+      own : (t : Tuple) → Contains r.body t → AreOwn ds (wrapped_tuple names name r t)
+      own t c =
+          let v = tuple_value (projected_tuple names t) in
+          let typed = part_typed names t c in
+          let front = projected_tuple (rest_names names r) t in
+          all_made (IsOwn ds) (front ++ (name, v) ∷ [])
+          (all_joined (IsOwn ds) front ((name, v) ∷ []) (all_filtered (IsOwn ds) (λ e. has_name e.0 (rest_names names r)) t (m.rows t c))
+          (subst (HasType ds v) (sym (has_its_type ds v kind typed.1)) typed.1, tt))
+
+  pub wrapped_made : IsMade ds r.heading name (λ part. types.tuple (pack part)) (λ names. wrapped_relation names name r)
+  wrapped_made part is lacks =
+      let names = attribute_names part in
+      let absent = ap (has_attribute name) (rest_told r part (typed_heading ds r m).0 is) ∙ lacks in
+      subst (λ g. IsOfType ds (relation_as_value (wrapped_relation names name r)) (types.relation (pack g)))
+      (λ i. with_attribute (outside (is.0 i) r.heading) (name, types.tuple (pack (is.0 i))))
+      (value_from_typed ds (wrapped_relation names name r) (typed_wrapped names absent))

@@ -1,4 +1,4 @@
--- Projection, RENAME and GROUP give values of their static types, or are refused by dynamic causes alone.
+-- Projection, RENAME, GROUP and WRAP give values of their static types, or are refused by dynamic causes alone.
 use Rattle.std.proofs.Common.{ℕ, List, [], ◌∷◌, map, refl, subst, sym, true≢false}
 use Rattle.std.specs.Prelude.{IsTrue}
 use Rattle.std.specs.List.{AllByRecursion}
@@ -23,11 +23,11 @@ use Rattle.td_algebra.proofs.Results.{IsRelation-renamed}
 use Rattle.td_eval.specs.Covered.{postfix_covered}
 use Rattle.td_eval.specs.OperatorValues.{listed_names, postfix_value, projected_names, relation_where}
 use Rattle.td_eval.specs.ValueTypes.{IsOfType, KeepsType}
-use Rattle.td_eval.proofs.KeepsNesting.{grouped_made, nest_keeps}
+use Rattle.td_eval.proofs.KeepsNesting.{grouped_made, nest_keeps, wrapped_made}
 use Rattle.td_eval.proofs.KeepsOperators.{typed_projected}
 use Rattle.td_eval.proofs.KeepsRelations.{AreOwn, IsOwn, IsTypedRelation, all_made, heading_if_keeps, made_if_keeps, over_relation_keeps, typed_heading, typed_set}
 use Rattle.td_eval.proofs.NestedNames.{rest_named}
-use Rattle.td_group.specs.Nesting.{grouped_relation}
+use Rattle.td_group.specs.Nesting.{grouped_relation, wrapped_relation}
 
 -- ---- projection
 
@@ -83,5 +83,8 @@ postfix_keeps ds (group attributes name) v s covered names k =
     (λ r m e. nest_keeps ds attributes r.heading name (λ part. types.relation (pack part)) (λ ns. grouped_relation ns name r) (typed_heading ds r m).0
     (grouped_made ds name names r m))
 postfix_keeps ds (ungroup name) v s covered names k = absurd (true≢false (sym covered))
-postfix_keeps ds (wrap attributes name) v s covered names k = absurd (true≢false (sym covered))
+postfix_keeps ds (wrap attributes name) v s covered names k =
+    over_relation_keeps ds v s _ _ k
+    (λ r m e. nest_keeps ds attributes r.heading name (λ part. types.tuple (pack part)) (λ ns. wrapped_relation ns name r) (typed_heading ds r m).0
+    (wrapped_made ds name names r m))
 postfix_keeps ds (unwrap name) v s covered names k = absurd (true≢false (sym covered))

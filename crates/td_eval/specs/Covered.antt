@@ -1,5 +1,4 @@
--- Of which expressions the laws of values are said so far: those without UNGROUP, WRAP, UNWRAP, SUMMARIZE and transitive
--- closure.
+-- Of which expressions the laws of values are said so far: those without UNGROUP, UNWRAP, SUMMARIZE and transitive closure.
 use Rattle.std.specs.Prelude.{Bool, true, false, ◌&&◌, List, Option, Some, None, IsTrue}
 use Rattle.std.specs.List.{AllByRecursion}
 use Rattle.td_tree.specs.declared.operator.Prefix.{Prefix}
@@ -16,7 +15,7 @@ postfix_covered (project attributes) = true
 postfix_covered (rename renamings) = true
 postfix_covered (group attributes n) = true
 postfix_covered (ungroup n) = false
-postfix_covered (wrap attributes n) = false
+postfix_covered (wrap attributes n) = true
 postfix_covered (unwrap n) = false
 
 abbrev mutual

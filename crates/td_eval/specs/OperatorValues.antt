@@ -7,7 +7,7 @@ use Rattle.std.specs.List.{zip}
 use Rattle.std.specs.Ordering.{eq_by_cmp, int_cmp, is_le, nat_cmp}
 use Rattle.td_algebra.specs.Operators.{Addition, composition, difference, extended_relation, intersection, is_subset, join, product, projected_relation, renamed_relation, restriction, semidifference, semijoin, union}
 use Rattle.td_check.specs.OperatorTypes.{equality_type, extended_by, known_or, mismatch, named_part, renaming_pairs, same_heading, same_type}
-use Rattle.td_group.specs.Nesting.{can_nest, grouped_relation}
+use Rattle.td_group.specs.Nesting.{can_nest, grouped_relation, wrapped_relation}
 use Rattle.td_tree.specs.declared.cause.Cause.TheVariants as causes
 use Rattle.td_tree.specs.declared.operator.Comparison.{Comparison}
 use Rattle.td_tree.specs.declared.operator.Comparison.TheVariants as comparisons
@@ -161,9 +161,10 @@ postfix_value (rename renamings) v =
     on_relation v (λ r. relation_where (can_rename (renaming_pairs renamings) r.heading) (renamed_relation (renaming_pairs renamings) r))
 postfix_value (group attributes name) v =
     on_relation v (λ r. with_value (nested_names attributes name r.heading) (λ names. of_relation (grouped_relation names name r)))
+postfix_value (wrap attributes name) v =
+    on_relation v (λ r. with_value (nested_names attributes name r.heading) (λ names. of_relation (wrapped_relation names name r)))
 -- not yet defined
 postfix_value (ungroup name) v = mismatch
-postfix_value (wrap attributes name) v = mismatch
 postfix_value (unwrap name) v = mismatch
 
 -- ---- operators between two operands

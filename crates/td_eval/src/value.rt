@@ -537,9 +537,9 @@ fn summary<B: Body>(
 }
 
 /// The value of the expression in what it is evaluated in, or the least of the causes for which it
-/// has none. Until WRAP, UNGROUP, UNWRAP, SUMMARIZE and transitive closure are covered, that is said
-/// of expressions without them where no type's constraint has one: with another one than SUMMARIZE
-/// it may be refused by TYPE_MISMATCH. Of an expression that the checker gave a type the value is of
+/// has none. Until UNGROUP, UNWRAP, SUMMARIZE and transitive closure are covered, that is said of
+/// expressions without them where no type's constraint has one: with another one than SUMMARIZE it
+/// may be refused by TYPE_MISMATCH. Of an expression that the checker gave a type the value is of
 /// that type, and the causes are from OVERFLOW up.
 pub fn eval<B: Body>(alloc: Global, env: &Env<'_, B>, expr: &Expr) -> Result<Value, Fault>
     ensures value { IsTrue (is_covered (tree_view expr.now))

@@ -1,7 +1,7 @@
 //! The values of operators that put attributes into one.
 ghost use Rattle.td_check.specs.OperatorTypes.{named_part};
 ghost use Rattle.td_eval.specs.OperatorValues.{nested_names, of_relation};
-ghost use Rattle.td_group.specs.Nesting.{grouped_relation};
+ghost use Rattle.td_group.specs.Nesting.{grouped_relation, wrapped_relation};
 ghost use Rattle.td_tree.specs.Outcomes.{Answers, with_value};
 ghost use Rattle.td_tree.specs.TreeViews.{attributes_view};
 
@@ -9,6 +9,7 @@ use crate::operators::postfix::names_in;
 use crate::operators::relational::{as_value, fit};
 use std::alloc::Global;
 use td_group::grouping::group;
+use td_group::wrapping::wrap;
 use td_tree::expression::Attributes;
 use td_tree::fault::Fault;
 use td_tree::name::Name;
@@ -59,4 +60,19 @@ pub(crate) fn grouped(
 {
     let names = nested_names(alloc, rel.heading(), attributes, name)?;
     as_value(alloc, group(alloc, rel, &names, name.try_clone()?))
+}
+
+/// The relation with attributes put into one of a tuple type.
+pub(crate) fn wrapped(
+    alloc: Global,
+    rel: &Rel,
+    attributes: &Attributes,
+    name: &Name,
+) -> Result<Value, Fault>
+    ensures { Answers (λ v. v) result (with_value
+        (nested_names (attributes_view attributes.now) name.now rel.now.heading)
+        (λ names. of_relation (wrapped_relation names name.now rel.now))) }
+{
+    let names = nested_names(alloc, rel.heading(), attributes, name)?;
+    as_value(alloc, wrap(alloc, rel, &names, name.try_clone()?))
 }

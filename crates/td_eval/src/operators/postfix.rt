@@ -11,7 +11,7 @@ ghost use Rattle.td_types.specs.Headings.{can_rename, has_projection};
 ghost use Rattle.td_types.specs.Types.{attribute_names};
 
 use crate::operators::asked::relation_in;
-use crate::operators::nesting::grouped;
+use crate::operators::nesting::{grouped, wrapped};
 use crate::operators::relational::{as_value, fit};
 use std::alloc::{AllocError, Global};
 use td_algebra::projection::project;
@@ -119,8 +119,9 @@ pub(crate) fn postfix_value(alloc: Global, op: &Postfix, operand: &Value) -> Res
         Postfix::Group(attributes, name) => {
             grouped(alloc, relation_in(operand)?, attributes, name)
         }
-        Postfix::Ungroup(_) | Postfix::Wrap(..) | Postfix::Unwrap(_) => {
-            Err(Fault::Refused(Cause::TypeMismatch))
+        Postfix::Wrap(attributes, name) => {
+            wrapped(alloc, relation_in(operand)?, attributes, name)
         }
+        Postfix::Ungroup(_) | Postfix::Unwrap(_) => Err(Fault::Refused(Cause::TypeMismatch)),
     }
 }
