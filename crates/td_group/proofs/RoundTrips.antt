@@ -3,26 +3,30 @@ use Rattle.std.proofs.Common.{◌≡◌, ◌∙◌, ◌⊎◌, inl, inr, ap, sym
 use Rattle.std.specs.Prelude.{◌&&◌, ◌||◌, if◌then◌else◌, is_some, not}
 use Rattle.std.specs.Cmp.Lexicographic.{same_text}
 use Rattle.std.specs.List.{Contains, flat_map}
-use Rattle.td_tree.specs.Names.{IsName}
 use Rattle.td_types.specs.Headings.{has_attribute, has_name, has_projection, have_no_common, heading_union, projection, without_attribute}
 use Rattle.td_types.specs.TypeCode.{unpack_pack}
 use Rattle.td_types.specs.Types.{Heading, IsAscending, IsHeading, Type', attribute_names, pack, same_name, type_at}
 use Rattle.td_types.specs.Types as types
 use Rattle.td_types.proofs.HeadingLaws.{IsAscending-union, IsAscending-without, IsHeading-filter, IsHeading-with, ascending_from_heading, has_attribute-names, same_name-itself, type_at-outside, type_at-projection, type_at-union, type_at-with, type_at-without, types_determine_heading}
-use Rattle.td_value.specs.Agreement.{AgreeOn}
-use Rattle.td_value.specs.ValueCode.{unpack_pack_fields}
+use Rattle.td_value.specs.Agreement.{AgreeOn, agree_on}
+use Rattle.td_value.specs.ValueCode.{unpack_pack_fields, unpack_pack_rows}
 use Rattle.td_value.specs.Values.{IsRelation, IsTupleOf, Relation, Tuple, pack_fields, projected_tuple, tuple_names, unpack_fields, value_at}
 use Rattle.td_value.proofs.Agreement.{value_of_projection}
 use Rattle.td_value.proofs.Members.{by_members, set_members}
 use Rattle.td_algebra.specs.Membership.{IsIn}
+use Rattle.td_algebra.specs.Operators.{extended_tuple, restriction}
+use Rattle.td_algebra.proofs.Extensions.{extended_values}
+use Rattle.td_algebra.proofs.Results.{IsRelation-extended, IsRelation-projected}
 use Rattle.td_algebra.proofs.Entries.{has_name-heading, same_on_heading}
 use Rattle.td_algebra.proofs.Lists.{contains_cases, contains_first, contains_map, contains_none}
 use Rattle.td_algebra.proofs.Members.{both_true, second_true}
 use Rattle.td_algebra.proofs.Projections.{IsTupleOf-projected}
-use Rattle.td_algebra.proofs.Relations.{IsRelation-relation_of, member_headed, rows_headed}
+use Rattle.td_algebra.proofs.Relations.{IsRelation-relation_of, IsRelation-restriction, member_headed, rows_headed}
 use Rattle.td_algebra.proofs.Sources.{has_attribute-outside}
-use Rattle.td_group.specs.Membership.{UnwrapUndoesWrap}
-use Rattle.td_group.specs.Nesting.{can_nest, can_unnest, heading_inside, inner_heading, other_names, rest_heading, rest_names, tuple_value, tuples_inside, unnested_relation, unnested_tuples, wrapped_relation, wrapped_tuple}
+use Rattle.td_group.specs.Membership.{UngroupUndoesGroup, UnwrapUndoesWrap}
+use Rattle.td_group.specs.Nesting.{can_nest, can_unnest, heading_inside, group_of, grouped_relation, inner_heading, other_names, relation_value, rest_heading, rest_names, tuple_value, tuples_inside, unnested_relation, unnested_tuples, wrapped_relation, wrapped_tuple}
+use Rattle.td_group.proofs.GroupMembers.{addition, addition_new, group_by_membership, is_group, keys, keys_are}
+use Rattle.td_group.proofs.Rests.{rest_of_names}
 use Rattle.td_group.proofs.Nested.{unnested_headed, wrapped_headed}
 use Rattle.td_group.proofs.NestedMembers.{unnest_by_membership, wrap_by_membership, wrapped_agrees, wrapped_part}
 
@@ -104,43 +108,20 @@ module _ (names : List (List ℕ)) (name : List ℕ) (h whole : Heading) (kind :
       either false false None f = refl
       either false false (Some t) f = refl
 
--- ---- WRAP undone
+-- ---- a relation whose attributes of the names stand inside another
 
-module _ (names : List (List ℕ)) (name : List ℕ) (r : Relation) (p : IsRelation r) (can : can_nest names name r.heading ≡ true) (named : IsName name) where
-  abbrev whole : Relation
-  whole = wrapped_relation names name r
-
-  abbrev kind : Type'
-  kind = types.tuple (pack (projection names r.heading))
-
-  new : has_attribute name (rest_heading names r.heading) ≡ false
-  new = lacked (has_attribute name (rest_heading names r.heading)) (second_true (has_projection names r.heading) (not (has_attribute name (rest_heading names r.heading))) can)
-
-  part_heading : IsHeading (pack (projection names r.heading))
-  part_heading = IsHeading-filter (λ a. has_name a.0 names) r.heading p.2
-
-  whole_heading : IsHeading (pack whole.heading)
-  whole_heading =
-      IsHeading-with name kind (rest_heading names r.heading) named part_heading (IsHeading-filter (λ a. not (has_attribute a.0 (projection names r.heading))) r.heading p.2)
-
-  whole_is : IsRelation whole
-  whole_is = IsRelation-relation_of whole.heading (map (wrapped_tuple names name r) r.body) whole_heading (wrapped_headed names name r (rows_headed r p) can whole_heading)
-
-  types_are : (n : List ℕ) → type_at n whole.heading ≡ (if same_name name n then Some kind else type_at n (rest_heading names r.heading))
-  types_are n = type_at-with n name kind (rest_heading names r.heading)
-
-  inside : heading_inside (Some kind) ≡ projection names r.heading
-  inside = unpack_pack (projection names r.heading)
-
+module _ (names : List (List ℕ)) (name : List ℕ) (r whole : Relation) (kind : Type') (p : IsRelation r) (new : has_attribute name (rest_heading names r.heading) ≡ false)
+    (whole_is : IsRelation whole) (types_are : (n : List ℕ) → type_at n whole.heading ≡ (if same_name name n then Some kind else type_at n (rest_heading names r.heading)))
+    (inside : heading_inside (Some kind) ≡ projection names r.heading) where
   undone : can_unnest name whole.heading ≡ true
-  undone = can_be_undone names name r.heading whole.heading kind p.2 new whole_heading types_are inside
+  undone = can_be_undone names name r.heading whole.heading kind p.2 new whole_is.2 types_are inside
 
   again : (unnested_relation name whole).heading ≡ r.heading
-  again = heading_again names name r.heading whole.heading kind p.2 new whole_heading types_are inside
+  again = heading_again names name r.heading whole.heading kind p.2 new whole_is.2 types_are inside
 
   others : (n : List ℕ) → has_name n (other_names name whole) ≡ has_name n (rest_names names r)
   others n =
-      sym (has_attribute-names n (without_attribute name whole.heading)) ∙ others_are names name r.heading whole.heading kind p.2 new whole_heading types_are inside n
+      sym (has_attribute-names n (without_attribute name whole.heading)) ∙ others_are names name r.heading whole.heading kind p.2 new whole_is.2 types_are inside n
       ∙ has_attribute-names n (rest_heading names r.heading)
 
   again_is : IsRelation (unnested_relation name whole)
@@ -162,45 +143,161 @@ module _ (names : List (List ℕ)) (name : List ℕ) (r : Relation) (p : IsRelat
   names_of_part : (v : Tuple) → IsTupleOf r.heading v → (n : List ℕ) → has_name n (tuple_names (projected_tuple names v)) ≡ has_attribute n (projection names r.heading)
   names_of_part v has n = has_name-heading (projection names r.heading) (projected_tuple names v) (IsTupleOf-projected names r.heading v has) n
 
-  only : (y z : Tuple) → Contains (tuples_inside (Some (tuple_value y))) z → y ≡ z
-  only y z k = by_case (contains_cases (unpack_fields (pack_fields y)) [] z k)
+  agreed : (t x v : Tuple) → IsTupleOf r.heading t → IsTupleOf r.heading v → projected_tuple names v ≡ x → AgreeOn (tuple_names x) t x → AgreeOn (rest_names names r) t v → t ≡ v
+  agreed t x v q has is inner rest = same_on_heading r.heading t v q has (λ n f. by_part n f (has_attribute n (projection names r.heading)) refl)
     where
-      by_case : (unpack_fields (pack_fields y) ≡ z) ⊎ Contains [] z → y ≡ z
-      by_case (inl is) = sym (unpack_pack_fields y) ∙ is
-      by_case (inr none) = absurd (contains_none z none)
+      by_part : (n : List ℕ) → has_attribute n r.heading ≡ true → (b : Bool) → has_attribute n (projection names r.heading) ≡ b → value_at n t ≡ value_at n v
+      by_part n f true g =
+          inner n (ap (λ y. has_name n (tuple_names y)) (sym is) ∙ names_of_part v has n ∙ g) ∙ ap (value_at n) (sym is) ∙ part_value v n g
+      by_part n f false g =
+          rest n (sym (has_attribute-names n (rest_heading names r.heading)) ∙ has_attribute-outside (projection names r.heading) r.heading n
+          ∙ (λ i. f i && not (g i)))
 
-  there : (t : Tuple) → IsIn t (unnested_relation name whole) → IsIn t r
-  there t c =
+  -- where each tuple of the one is made from one of the other, and the other way round, it is what it was
+  from_there : (t : Tuple) → IsIn t (unnested_relation name whole)
+      → ((u x : Tuple) → IsIn u whole → Contains (tuples_inside (value_at name u)) x → (v : Tuple) × IsIn v r × (projected_tuple names v ≡ x) × AgreeOn (rest_names names r) u v) → IsIn t r
+  from_there t c source =
       let own = member_headed (unnested_relation name whole) t again_is c in
       let headed : IsTupleOf r.heading t = subst (λ h. IsTupleOf h t) again own in
       let d = (unnest_by_membership name whole t whole_is undone own).0 c in
-      let e = (wrap_by_membership names name r d.0 p can (member_headed whole d.0 whole_is d.2)).0 d.2 in
-      let member = member_headed r e.0 p e.1 in
-      let part : projected_tuple names e.0 ≡ d.1 = only (projected_tuple names e.0) d.1 (subst (λ o. Contains (tuples_inside o) d.1) e.3 d.3) in
-      subst (λ y. IsIn y r) (sym (agreed t d.1 e.0 headed member part d.5 (λ n f. d.4 n (others n ∙ f) ∙ e.2 n f))) e.1
-    where
-      agreed : (t x v : Tuple) → IsTupleOf r.heading t → IsTupleOf r.heading v → projected_tuple names v ≡ x → AgreeOn (tuple_names x) t x → AgreeOn (rest_names names r) t v → t ≡ v
-      agreed t x v q has is inner rest = same_on_heading r.heading t v q has (λ n f. by_part n f (has_attribute n (projection names r.heading)) refl)
-        where
-          by_part : (n : List ℕ) → has_attribute n r.heading ≡ true → (b : Bool) → has_attribute n (projection names r.heading) ≡ b → value_at n t ≡ value_at n v
-          by_part n f true g =
-              inner n (ap (λ y. has_name n (tuple_names y)) (sym is) ∙ names_of_part v has n ∙ g) ∙ ap (value_at n) (sym is) ∙ part_value v n g
-          by_part n f false g =
-              rest n (sym (has_attribute-names n (rest_heading names r.heading)) ∙ has_attribute-outside (projection names r.heading) r.heading n
-              ∙ (λ i. f i && not (g i)))
+      let e = source d.0 d.1 d.2 d.3 in
+      subst (λ y. IsIn y r) (sym (agreed t d.1 e.0 headed (member_headed r e.0 p e.1) e.2 d.5 (λ n f. d.4 n (others n ∙ f) ∙ e.3 n f))) e.1
 
-  back : (t : Tuple) → IsIn t r → IsIn t (unnested_relation name whole)
-  back t c =
+  back_there : (t : Tuple) → IsIn t r → (u : Tuple) → IsIn u whole → Contains (tuples_inside (value_at name u)) (projected_tuple names t) → AgreeOn (rest_names names r) u t
+      → IsIn t (unnested_relation name whole)
+  back_there t c u u_there x_there agrees =
       let has = member_headed r t p c in
-      let u = wrapped_tuple names name r t in
-      let x = projected_tuple names t in
-      let u_there : IsIn u whole = (set_members (map (wrapped_tuple names name r) r.body) u).1 ((contains_map (wrapped_tuple names name r) r.body u).1 (t, c, refl)) in
-      let x_there : Contains (tuples_inside (value_at name u)) x =
-      subst (λ o. Contains (tuples_inside o) x) (sym (wrapped_part names name r p can t has)) (subst (λ y. Contains (y ∷ []) x) (sym (unpack_pack_fields x)) (contains_first x [])) in
       (unnest_by_membership name whole t whole_is undone (subst (λ h. IsTupleOf h t) (sym again) has)).1
-      (u, x, u_there, x_there, (λ n f. sym (wrapped_agrees names name r p can t has n (sym (others n) ∙ f))), (λ n f. sym (part_value t n (sym (names_of_part t has n) ∙ f))))
+      (u, projected_tuple names t, u_there, x_there, (λ n f. sym (agrees n (sym (others n) ∙ f))), (λ n f. sym (part_value t n (sym (names_of_part t has n) ∙ f))))
+
+  undone_is : ((u x : Tuple) → IsIn u whole → Contains (tuples_inside (value_at name u)) x → (v : Tuple) × IsIn v r × (projected_tuple names v ≡ x) × AgreeOn (rest_names names r) u v)
+      → ((t : Tuple) → IsIn t r → (u : Tuple) × IsIn u whole × Contains (tuples_inside (value_at name u)) (projected_tuple names t) × AgreeOn (rest_names names r) u t)
+      → unnested_relation name whole ≡ r
+  undone_is source target =
+      by_members (unnested_relation name whole) r again_is p again
+      (λ t. ((λ c. from_there t c source), (λ c. let u = target t c in back_there t c u.0 u.1 u.2 u.3)))
+
+-- the new name is not in the rest
+new_of : (names : List (List ℕ)) (name : List ℕ) (h : Heading) → can_nest names name h ≡ true → has_attribute name (rest_heading names h) ≡ false
+new_of names name h can = lacked (has_attribute name (rest_heading names h)) (second_true (has_projection names h) (not (has_attribute name (rest_heading names h))) can)
+
+-- ---- WRAP undone
+
+only : (y z : Tuple) → Contains (tuples_inside (Some (tuple_value y))) z → y ≡ z
+only y z k = by_case (contains_cases (unpack_fields (pack_fields y)) [] z k)
+  where
+    by_case : (unpack_fields (pack_fields y) ≡ z) ⊎ Contains [] z → y ≡ z
+    by_case (inl is) = sym (unpack_pack_fields y) ∙ is
+    by_case (inr none) = absurd (contains_none z none)
 
 pub unwrap_undoes_wrap : UnwrapUndoesWrap
 unwrap_undoes_wrap names name r p can named =
-    by_members (unnested_relation name (wrapped_relation names name r)) r (again_is names name r p can named) p (again names name r p can named)
-    (λ t. (there names name r p can named t, back names name r p can named t))
+    undone_is names name r (wrapped_relation names name r) (types.tuple (pack (projection names r.heading))) p (new_of names name r.heading can) whole_is
+    (λ n. type_at-with n name (types.tuple (pack (projection names r.heading))) (rest_heading names r.heading)) (unpack_pack (projection names r.heading)) source target
+  where
+    heading : IsHeading (pack (wrapped_relation names name r).heading)
+    heading =
+        IsHeading-with name (types.tuple (pack (projection names r.heading))) (rest_heading names r.heading) named (IsHeading-filter (λ a. has_name a.0 names) r.heading p.2)
+        (IsHeading-filter (λ a. not (has_attribute a.0 (projection names r.heading))) r.heading p.2)
+
+    whole_is : IsRelation (wrapped_relation names name r)
+    whole_is =
+        IsRelation-relation_of (wrapped_relation names name r).heading (map (wrapped_tuple names name r) r.body) heading (wrapped_headed names name r (rows_headed r p) can heading)
+
+    source : (u x : Tuple) → IsIn u (wrapped_relation names name r) → Contains (tuples_inside (value_at name u)) x
+        → (v : Tuple) × IsIn v r × (projected_tuple names v ≡ x) × AgreeOn (rest_names names r) u v
+    source u x c inside =
+        let e = (wrap_by_membership names name r u p can (member_headed (wrapped_relation names name r) u whole_is c)).0 c in
+        (e.0, e.1, only (projected_tuple names e.0) x (subst (λ o. Contains (tuples_inside o) x) e.3 inside), e.2)
+
+    target : (t : Tuple) → IsIn t r
+        → (u : Tuple) × IsIn u (wrapped_relation names name r) × Contains (tuples_inside (value_at name u)) (projected_tuple names t) × AgreeOn (rest_names names r) u t
+    target t c =
+        let has = member_headed r t p c in
+        let u = wrapped_tuple names name r t in
+        let x = projected_tuple names t in (
+          u,
+          (set_members (map (wrapped_tuple names name r) r.body) u).1 ((contains_map (wrapped_tuple names name r) r.body u).1 (t, c, refl)),
+          subst (λ o. Contains (tuples_inside o) x) (sym (wrapped_part names name r p can t has)) (subst (λ y. Contains (y ∷ []) x) (sym (unpack_pack_fields x)) (contains_first x [])),
+          wrapped_agrees names name r p can t has,
+        )
+
+-- ---- GROUP undone
+
+pub ungroup_undoes_group : UngroupUndoesGroup
+ungroup_undoes_group names name r p can named =
+    undone_is names name r (grouped_relation names name r) (types.relation (pack (projection names r.heading))) p new whole_is types_are (unpack_pack (projection names r.heading)) source target
+  where
+    new : has_attribute name (rest_heading names r.heading) ≡ false
+    new = new_of names name r.heading can
+
+    key_heading : (keys names name r p can).heading ≡ rest_heading names r.heading
+    key_heading = rest_of_names (λ n. not (has_attribute n (projection names r.heading))) r.heading p.2
+
+    whole_is : IsRelation (grouped_relation names name r)
+    whole_is =
+        IsRelation-extended (addition names name r p can ∷ []) (keys names name r p can) (keys_are names name r p can) (addition_new names name r p can) (
+          (
+            named,
+            IsHeading-filter (λ a. has_name a.0 names) r.heading p.2,
+            (λ u c. (
+              IsRelation-projected names (restriction (agree_on (rest_names names r) u) r)
+                  (IsRelation-restriction (agree_on (rest_names names r) u) r p),
+              refl,
+            )),
+          ),
+          tt,
+        )
+
+    types_are : (n : List ℕ) → type_at n (grouped_relation names name r).heading
+        ≡ (if same_name name n then Some (types.relation (pack (projection names r.heading))) else type_at n (rest_heading names r.heading))
+    types_are n =
+        type_at-union n (keys names name r p can).heading ((name, types.relation (pack (projection names r.heading))) ∷ [])
+        ∙ ap (λ h. if has_attribute n h then type_at n h else (if same_name name n then Some (types.relation (pack (projection names r.heading))) else None)) key_heading
+        ∙ by_name (same_name name n) refl (type_at n (rest_heading names r.heading)) refl
+      where
+        by_name : (b : Bool) → same_name name n ≡ b → (o : Option Type') → type_at n (rest_heading names r.heading) ≡ o
+            → (if is_some o then o else (if b then Some (types.relation (pack (projection names r.heading))) else None))
+            ≡ (if b then Some (types.relation (pack (projection names r.heading))) else o)
+        by_name true e None f = refl
+        by_name true e (Some k) f =
+            absurd (true≢false (sym (ap is_some f) ∙ ap (λ m. has_attribute m (rest_heading names r.heading)) (sym (same_text name n (sym e))) ∙ new))
+        by_name false e None f = refl
+        by_name false e (Some k) f = refl
+
+    source : (u x : Tuple) → IsIn u (grouped_relation names name r) → Contains (tuples_inside (value_at name u)) x
+        → (v : Tuple) × IsIn v r × (projected_tuple names v ≡ x) × AgreeOn (rest_names names r) u v
+    source u x c inside =
+        let e = (group_by_membership names name r u p can (member_headed (grouped_relation names name r) u whole_is c)).0 c in
+        let in_group : IsIn x e.1 = subst (λ ts. Contains ts x) (unpack_pack_rows e.1.body) (subst (λ o. Contains (tuples_inside o) x) e.4 inside) in
+        let f = (e.5.1 x).0 in_group in
+        (f.0, f.1, sym f.3, f.2)
+
+    target : (t : Tuple) → IsIn t r
+        → (u : Tuple) × IsIn u (grouped_relation names name r) × Contains (tuples_inside (value_at name u)) (projected_tuple names t) × AgreeOn (rest_names names r) u t
+    target t c =
+        let k = projected_tuple (rest_names names r) t in
+        let k_there : IsIn k (keys names name r p can) =
+        (set_members (map (projected_tuple (rest_names names r)) r.body) k).1 ((contains_map (projected_tuple (rest_names names r)) r.body k).1 (t, c, refl)) in
+        let headed = member_headed (keys names name r p can) k (keys_are names name r p can) k_there in
+        let u = extended_tuple (addition names name r p can ∷ []) k in
+        let u_there : IsIn u (grouped_relation names name r) =
+        (set_members (map (extended_tuple (addition names name r p can ∷ [])) (keys names name r p can).body) u).1
+        ((contains_map (extended_tuple (addition names name r p can ∷ [])) (keys names name r p can).body u).1 (k, k_there, refl)) in
+        let values = extended_values (addition names name r p can ∷ []) (keys names name r p can).heading k headed (addition_new names name r p can).0 (addition_new names name r p can).1 in
+        let named_in : (n : List ℕ) → has_name n (tuple_names k) ≡ has_attribute n (rest_heading names r.heading) =
+        λ n. has_name-heading (keys names name r p can).heading k headed n ∙ ap (has_attribute n) key_heading in
+        let group : value_at name u ≡ Some (relation_value (group_of names r k)) =
+        values name ∙ ap (λ b. if b then value_at name k else (if same_name name name then Some (relation_value (group_of names r k)) else None)) (named_in name ∙ new)
+        ∙ ap (λ b. if b then Some (relation_value (group_of names r k)) else None) (same_name-itself name) in
+        let in_group : IsIn (projected_tuple names t) (group_of names r k) =
+        ((is_group names name r p can k k headed (λ n f. refl)).1 (projected_tuple names t)).1 (t, c, (λ n f. kept t n f), refl) in (
+          u,
+          u_there,
+          subst (λ o. Contains (tuples_inside o) (projected_tuple names t)) (sym group) (subst (λ ts. Contains ts (projected_tuple names t)) (sym (unpack_pack_rows (group_of names r k).body)) in_group),
+          (λ n f. values n ∙ ap (λ b. if b then value_at n k else (if same_name name n then Some (relation_value (group_of names r k)) else None))
+              (named_in n ∙ has_attribute-names n (rest_heading names r.heading) ∙ f) ∙ kept t n f),
+        )
+      where
+        kept : (t : Tuple) (n : List ℕ) → has_name n (rest_names names r) ≡ true → value_at n (projected_tuple (rest_names names r) t) ≡ value_at n t
+        kept t n f = value_of_projection (rest_names names r) t n ∙ ap (λ b. if b then value_at n t else None) f

@@ -45,7 +45,12 @@ UnnestByMembership =
     → IsIn t (unnested_relation name r)
     ↔ ((u : Tuple) × (x : Tuple) × IsIn u r × Contains (tuples_inside (value_at name u)) x × AgreeOn (other_names name r) t u × AgreeOn (tuple_names x) t x)
 
--- what is wrapped and unwrapped again is what it was
+-- what is grouped and ungrouped again is what it was, and so is what is wrapped and unwrapped
+abbrev pub UngroupUndoesGroup : Type 0
+UngroupUndoesGroup =
+    (names : List (List ℕ)) (name : List ℕ) (r : Relation) → IsRelation r → IsTrue (can_nest names name r.heading) → IsName name
+    → unnested_relation name (grouped_relation names name r) ≡ r
+
 abbrev pub UnwrapUndoesWrap : Type 0
 UnwrapUndoesWrap =
     (names : List (List ℕ)) (name : List ℕ) (r : Relation) → IsRelation r → IsTrue (can_nest names name r.heading) → IsName name

@@ -3,7 +3,8 @@
 ghost use Rattle.td_group.specs.Membership.{ClosureByChains, ClosureIsIdempotent, ClosureIsLeast};
 ghost use Rattle.td_group.specs.Membership.{GreatestIsAMember, GroupByMembership};
 ghost use Rattle.td_group.specs.Membership.{GroupsByMembership, LeastIsAMember};
-ghost use Rattle.td_group.specs.Membership.{UnnestByMembership, UnwrapUndoesWrap};
+ghost use Rattle.td_group.specs.Membership.{UngroupUndoesGroup, UnnestByMembership};
+ghost use Rattle.td_group.specs.Membership.{UnwrapUndoesWrap};
 ghost use Rattle.td_group.specs.Membership.{WrapByMembership};
 
 /// GROUP: some tuple of the operand agrees with it on the rest, and its new attribute has the set of
@@ -21,6 +22,11 @@ pub fn wrap_by_membership()
 /// UNGROUP and UNWRAP: it is the rest of some tuple of the operand with a tuple inside the attribute.
 pub fn unnest_by_membership()
     ensures { UnnestByMembership }
+{}
+
+/// What is grouped and ungrouped again is what it was.
+pub fn ungroup_undoes_group()
+    ensures { UngroupUndoesGroup }
 {}
 
 /// What is wrapped and unwrapped again is what it was.
