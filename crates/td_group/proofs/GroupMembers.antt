@@ -31,20 +31,20 @@ and_true true = refl
 and_true false = refl
 
 module _ (names : List (List ℕ)) (name : List ℕ) (r : Relation) (p : IsRelation r) (can : can_nest names name r.heading ≡ true) where
-  abbrev keys : Relation
+  abbrev pub keys : Relation
   keys = projected_relation (rest_names names r) r
 
-  abbrev addition : Addition
+  abbrev pub addition : Addition
   addition = new_attribute name (types.relation (pack (projection names r.heading))) (λ t. relation_value (group_of names r t))
 
-  keys_are : IsRelation keys
+  pub keys_are : IsRelation keys
   keys_are = IsRelation-projected (rest_names names r) r p
 
   -- the keys have the names of the rest
   key_names : relation_names keys ≡ rest_names names r
   key_names = ap attribute_names (rest_of_names (λ n. not (has_attribute n (projection names r.heading))) r.heading p.2)
 
-  addition_new : AreNew (addition ∷ []) keys
+  pub addition_new : AreNew (addition ∷ []) keys
   addition_new = (
     refl,
     and_true (not (has_attribute name keys.heading)) ∙ rest_lacks (projection names r.heading) r.heading name
@@ -52,7 +52,7 @@ module _ (names : List (List ℕ)) (name : List ℕ) (r : Relation) (p : IsRelat
   )
 
   -- the group of a tuple is that of a key which agrees with it on the rest
-  is_group : (t k : Tuple) → IsTupleOf keys.heading k → AgreeOn (rest_names names r) t k → IsGroupOf names r t (group_of names r k)
+  pub is_group : (t k : Tuple) → IsTupleOf keys.heading k → AgreeOn (rest_names names r) t k → IsGroupOf names r t (group_of names r k)
   is_group t k q agrees = (refl, λ x. (there x, back x))
     where
       there : (x : Tuple) → IsIn x (group_of names r k) → (u : Tuple) × IsIn u r × AgreeOn (rest_names names r) t u × (x ≡ projected_tuple names u)

@@ -9,6 +9,7 @@ mod Keyed
 mod Nested
 mod NestedMembers
 mod Rests
+mod RoundTrips
 mod Sums
 mod Tables
 mod Worked

@@ -66,13 +66,13 @@ module _ (names : List (List ℕ)) (name : List ℕ) (r : Relation) (p : IsRelat
       (distinct_append rest_part ((name, tuple_value (projected_tuple names u)) ∷ []) (tuple_distinct rest_part rest_part_headed.0) refl entry_apart)
       ∙ ap (λ b. if b then value_at n rest_part else (if same_name name n then Some (tuple_value (projected_tuple names u)) else None)) (has_name-heading (rest_heading names r.heading) rest_part rest_part_headed n)
 
-  wrapped_agrees : AgreeOn (rest_names names r) (wrapped_tuple names name r u) u
+  pub wrapped_agrees : AgreeOn (rest_names names r) (wrapped_tuple names name r u) u
   wrapped_agrees n there =
       let in_rest : has_attribute n (rest_heading names r.heading) ≡ true = has_attribute-names n (rest_heading names r.heading) ∙ there in
       wrapped_value n ∙ ap (λ b. if b then value_at n rest_part else (if same_name name n then Some (tuple_value (projected_tuple names u)) else None)) in_rest
       ∙ kept_value (rest_names names r) u n there
 
-  wrapped_part : value_at name (wrapped_tuple names name r u) ≡ Some (tuple_value (projected_tuple names u))
+  pub wrapped_part : value_at name (wrapped_tuple names name r u) ≡ Some (tuple_value (projected_tuple names u))
   wrapped_part =
       wrapped_value name
       ∙ (λ i. if new_name i then value_at name rest_part else (if same_name-itself name i then Some (tuple_value (projected_tuple names u)) else None))

@@ -3,6 +3,7 @@ use Rattle.std.specs.Prelude.{◌≡◌, ℕ, IsTrue, false, ◌↔◌, List, �
 use Rattle.std.specs.List.{All, Contains}
 use Rattle.std.specs.Ordering.{is_lt}
 use Rattle.td_types.specs.Headings.{projection}
+use Rattle.td_tree.specs.Names.{IsName}
 use Rattle.td_value.specs.Agreement.{AgreeOn}
 use Rattle.td_value.specs.Values.{Val, Tuple, Relation, IsRelation, IsTupleOf, projected_tuple, tuple_names, value_at, value_cmp}
 use Rattle.td_value.specs.ValueOrder.{relation_value}
@@ -43,6 +44,17 @@ UnnestByMembership =
     (name : List ℕ) (r : Relation) (t : Tuple) → IsRelation r → IsTrue (can_unnest name r.heading) → IsTupleOf (unnested_relation name r).heading t
     → IsIn t (unnested_relation name r)
     ↔ ((u : Tuple) × (x : Tuple) × IsIn u r × Contains (tuples_inside (value_at name u)) x × AgreeOn (other_names name r) t u × AgreeOn (tuple_names x) t x)
+
+-- what is grouped and ungrouped again is what it was, and so is what is wrapped and unwrapped
+abbrev pub UngroupUndoesGroup : Type 0
+UngroupUndoesGroup =
+    (names : List (List ℕ)) (name : List ℕ) (r : Relation) → IsRelation r → IsTrue (can_nest names name r.heading) → IsName name
+    → unnested_relation name (grouped_relation names name r) ≡ r
+
+abbrev pub UnwrapUndoesWrap : Type 0
+UnwrapUndoesWrap =
+    (names : List (List ℕ)) (name : List ℕ) (r : Relation) → IsRelation r → IsTrue (can_nest names name r.heading) → IsName name
+    → unnested_relation name (wrapped_relation names name r) ≡ r
 
 -- ---- the groups of SUMMARIZE
 

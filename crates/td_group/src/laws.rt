@@ -3,7 +3,9 @@
 ghost use Rattle.td_group.specs.Membership.{ClosureByChains, ClosureIsIdempotent, ClosureIsLeast};
 ghost use Rattle.td_group.specs.Membership.{GreatestIsAMember, GroupByMembership};
 ghost use Rattle.td_group.specs.Membership.{GroupsByMembership, LeastIsAMember};
-ghost use Rattle.td_group.specs.Membership.{UnnestByMembership, WrapByMembership};
+ghost use Rattle.td_group.specs.Membership.{UngroupUndoesGroup, UnnestByMembership};
+ghost use Rattle.td_group.specs.Membership.{UnwrapUndoesWrap};
+ghost use Rattle.td_group.specs.Membership.{WrapByMembership};
 
 /// GROUP: some tuple of the operand agrees with it on the rest, and its new attribute has the set of
 /// the parts of all such tuples.
@@ -20,6 +22,16 @@ pub fn wrap_by_membership()
 /// UNGROUP and UNWRAP: it is the rest of some tuple of the operand with a tuple inside the attribute.
 pub fn unnest_by_membership()
     ensures { UnnestByMembership }
+{}
+
+/// What is grouped and ungrouped again is what it was.
+pub fn ungroup_undoes_group()
+    ensures { UngroupUndoesGroup }
+{}
+
+/// What is wrapped and unwrapped again is what it was.
+pub fn unwrap_undoes_wrap()
+    ensures { UnwrapUndoesWrap }
 {}
 
 /// The groups of SUMMARIZE: each tuple of PER once, with the tuples that agree with it.
