@@ -10,7 +10,7 @@ use Rattle.td_value.proofs.Members.{by_members, set_members}
 use Rattle.td_algebra.specs.Membership.{IsIn}
 use Rattle.td_algebra.proofs.Lists.{contains_cases, contains_first, contains_later, contains_none}
 use Rattle.td_algebra.proofs.Relations.{All-from_members, IsRelation-relation_of, rows_headed}
-use Rattle.td_group.specs.Closure.{IsChain, chained_tuple, chained_tuples, closure, first_value, is_followed_by, second_value}
+use Rattle.td_group.specs.Closure.{IsChain, chained_tuple, chained_tuples, closure, first_value, is_closable, is_followed_by, second_value}
 use Rattle.td_group.specs.Membership.{ClosureByChains, ClosureIsIdempotent, ClosureIsLeast, IsTransitive}
 use Rattle.td_group.specs.Successors.{Leads, pair_of, successors}
 use Rattle.td_group.proofs.Chains.{chained_lead, closable_two, from_successor, itself, led_chained, led_headed, shaped, to_successor}
@@ -143,6 +143,10 @@ module _ (r : Relation) (p : IsRelation r) (two : (a : Attribute) × (b : Attrib
   IsRelation-closure =
       IsRelation-relation_of r.heading (chained_tuples (length r.body) r.body) p.2
       (subst (λ h. All (IsTupleOf h) (chained_tuples (length r.body) r.body)) (sym two.2) (closed_tuples_headed two.0 two.1 r.body headed))
+
+-- the closure is a relation
+pub closure_is_relation : (r : Relation) → IsRelation r → is_closable r.heading ≡ true → IsRelation (closure r)
+closure_is_relation r p e = IsRelation-closure r p (closable_two r.heading e)
 
 pub closure_by_chains : ClosureByChains
 closure_by_chains r t p e q =

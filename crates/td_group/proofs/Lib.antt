@@ -1,12 +1,12 @@
 mod Apart
 mod Chains
-mod ClosureLaws
+pub mod ClosureLaws
 mod Extremes
 mod Graphs
 mod GroupMembers
 mod Grouped
 mod Keyed
-mod Nested
+pub mod Nested
 mod NestedMembers
 mod Rests
 mod RoundTrips

@@ -12,6 +12,7 @@ ghost use Rattle.td_value.specs.Values.{Tuple, Val, value_cmp};
 use crate::groups::attribute_names;
 use std::alloc::{AllocError, Global};
 use std::collections::{HashMap, HashSet};
+use td_types::heading::Heading;
 use td_value::names::NameList;
 use td_value::relation::Rel;
 use td_value::tuple::Tuple;
@@ -223,6 +224,16 @@ fn starts_of<'a>(alloc: Global, rows: &'a [Tuple]) -> Result<Vec<&'a Value>, All
         put_start(&mut starts, row)?;
     }
     Ok(starts)
+}
+
+/// Whether there are two attributes, of one type.
+pub fn is_closable(heading: &Heading) -> bool
+    ensures { result ≡ is_closable heading.now }
+{
+    match (heading.at(0), heading.at(1)) {
+        (Some((_, first)), Some((_, second))) => heading.len() == 2 && first == second,
+        _ => false,
+    }
 }
 
 /// The transitive closure of a relation of two attributes of one type.
