@@ -1,5 +1,5 @@
--- Projection, RENAME, GROUP and WRAP give values of their static types, or are refused by dynamic causes alone.
-use Rattle.std.proofs.Common.{ℕ, List, [], ◌∷◌, map, refl, subst, sym, true≢false}
+-- The operators behind their operands give values of their static types, or are refused by dynamic causes alone.
+use Rattle.std.proofs.Common.{ℕ, List, [], ◌∷◌, map, refl, subst}
 use Rattle.std.specs.Prelude.{IsTrue}
 use Rattle.std.specs.List.{AllByRecursion}
 use Rattle.std.proofs.lemmas.List.Elements.{All-from_recursion}
@@ -26,6 +26,7 @@ use Rattle.td_eval.specs.ValueTypes.{IsOfType, KeepsType}
 use Rattle.td_eval.proofs.KeepsNesting.{grouped_made, nest_keeps, wrapped_made}
 use Rattle.td_eval.proofs.KeepsOperators.{typed_projected}
 use Rattle.td_eval.proofs.KeepsRelations.{AreOwn, IsOwn, IsTypedRelation, all_made, heading_if_keeps, made_if_keeps, over_relation_keeps, typed_heading, typed_set}
+use Rattle.td_eval.proofs.KeepsUnnesting.{ungroup_keeps, unwrap_keeps}
 use Rattle.td_eval.proofs.NestedNames.{rest_named}
 use Rattle.td_group.specs.Nesting.{grouped_relation, wrapped_relation}
 
@@ -82,9 +83,11 @@ postfix_keeps ds (group attributes name) v s covered names k =
     over_relation_keeps ds v s _ _ k
     (λ r m e. nest_keeps ds attributes r.heading name (λ part. types.relation (pack part)) (λ ns. grouped_relation ns name r) (typed_heading ds r m).0
     (grouped_made ds name names r m))
-postfix_keeps ds (ungroup name) v s covered names k = absurd (true≢false (sym covered))
+postfix_keeps ds (ungroup name) v s covered names k =
+    over_relation_keeps ds v s _ _ k (λ r m e. ungroup_keeps ds name r m)
 postfix_keeps ds (wrap attributes name) v s covered names k =
     over_relation_keeps ds v s _ _ k
     (λ r m e. nest_keeps ds attributes r.heading name (λ part. types.tuple (pack part)) (λ ns. wrapped_relation ns name r) (typed_heading ds r m).0
     (wrapped_made ds name names r m))
-postfix_keeps ds (unwrap name) v s covered names k = absurd (true≢false (sym covered))
+postfix_keeps ds (unwrap name) v s covered names k =
+    over_relation_keeps ds v s _ _ k (λ r m e. unwrap_keeps ds name r m)

@@ -1,11 +1,13 @@
 pub mod AlikeRows
 pub mod KeepsAggregates
+pub mod KeepsClosure
 pub mod KeepsExtension
 pub mod KeepsGathered
 pub mod KeepsNesting
 pub mod KeepsOperators
 pub mod KeepsPostfix
 pub mod KeepsRelations
+pub mod KeepsUnnesting
 pub mod LaterEntries
 pub mod Measures
 pub mod MentionedEntries
@@ -29,6 +31,7 @@ pub mod TypedOutcomes
 pub mod TypedRows
 pub mod TypedTrees
 pub mod TypedValues
+pub mod UnnestedParts
 pub mod WalkedColumns
 pub mod WalkedExtension
 pub mod WalkedLists

@@ -5,8 +5,9 @@ use Rattle.std.specs.List.Sorted.{IsStrictlySortedBy}
 use Rattle.std.specs.Ordering.{eq_by_cmp}
 use Rattle.std.specs.Prelude.{IsTrue, if◌then◌else◌}
 use Rattle.std.proofs.lemmas.Str.{IsUtf8-append}
-use Rattle.td_check.specs.OperatorTypes.{attribute_type, both_of, choice_type, comparison_type, component_type, equality_type, extracted_type, if_type, known_or, measure_type, membership_type, operator_type, order_type, prefix_type, same_heading, same_type}
+use Rattle.td_check.specs.OperatorTypes.{attribute_type, both_of, choice_type, closure_type, comparison_type, component_type, equality_type, extracted_type, if_type, known_or, measure_type, membership_type, operator_type, order_type, prefix_type, same_heading, same_type}
 use Rattle.td_check.specs.StaticTypes.{literal_type, paired}
+use Rattle.td_group.specs.Closure.{closure, is_closable}
 use Rattle.td_tree.specs.declared.cause.Cause.{Cause}
 use Rattle.td_tree.specs.declared.cause.Cause.TheVariants as causes
 use Rattle.td_tree.specs.declared.operator.Comparison.{Comparison}
@@ -27,10 +28,12 @@ use Rattle.td_value.specs.KnownValues.{AreOfTypes}
 use Rattle.td_value.specs.Values.{Val, char, tuple, relation, Parts, no_parts, part, Rows, no_rows, row, AreValues, IsValue, heading_of, unpack_fields, unpack_rows, value_at, value_cmp}
 use Rattle.td_value.proofs.KnownValues.{has_its_type}
 use Rattle.td_eval.specs.Covered.{prefix_covered}
-use Rattle.td_eval.specs.OperatorValues.{at_most, comparison_value, component_value, components_of, equality_value, extracted_value, is_zero, literal_value, measure_value, membership_value, of_number, of_truth, on_number, on_numbers, on_text, on_truth, on_truths, only_tuple, operator_value, prefix_value, quotient, signed}
+use Rattle.td_eval.specs.OperatorValues.{at_most, comparison_value, component_value, components_of, equality_value, extracted_value, is_zero, literal_value, measure_value, membership_value, of_number, of_truth, on_number, on_numbers, on_text, on_truth, on_truths, only_tuple, operator_value, prefix_value, quotient, relation_where, signed}
 use Rattle.td_eval.specs.TreeTexts.{IsUtf8Literal}
 use Rattle.td_eval.specs.ValueTypes.{IsOfType, KeepsType}
+use Rattle.td_eval.proofs.KeepsClosure.{closure_keeps}
 use Rattle.td_eval.proofs.KeepsGathered.{one_dynamic}
+use Rattle.td_eval.proofs.KeepsRelations.{over_relation_keeps}
 use Rattle.td_eval.proofs.TypedOutcomes.{KeepsAs, test_keeps}
 use Rattle.td_eval.proofs.TypedValues.{BothFound, fields_heading, fields_of, found_in_fields, in_range_keeps, integer_of, known_keeps, number_keeps, pack_unpack_fields, relation_keeps, rows_of, same_is, text_keeps, text_of, truth_keeps, tuple_keeps, type_is, user_of}
 
@@ -70,7 +73,8 @@ module _ (ds : List DeclaredType) where
   prefix_keeps prefixes.Negate v t c q =
       asked_keeps types.integer t types.integer v (prefix_value prefixes.Negate v) q
       (λ p. number_keeps ds (Valued types.integer) v (λ z. of_number (neg_ℤ z)) p (λ z. in_range_keeps ds (neg_ℤ z)))
-  prefix_keeps prefixes.TransitiveClosure v t c q = absurd (cc)
+  prefix_keeps prefixes.TransitiveClosure v t c q =
+      over_relation_keeps ds v t closure_type (λ r. relation_where (is_closable r.heading) (closure r)) q (λ r m e. closure_keeps ds r m)
   prefix_keeps prefixes.TupleFrom v t c q = tuple_from_keeps v t q
 
   pub extracted_keeps : (name : List ℕ) (v : Val) (t : Type') → IsOfType ds v t → KeepsType ds (extracted_type name t) (extracted_value name v)

@@ -11,7 +11,7 @@ use Rattle.td_tree.specs.Outcomes.{Outcome, Valued, named_cause}
 use Rattle.td_tree.specs.Trees.{Tree, Trees, NamedTrees}
 use Rattle.td_tree.specs.Trees as trees
 use Rattle.td_types.specs.Types as types
-use Rattle.td_value.specs.Values.{Val, boolean, integer, field, no_fields, no_rows, relation, row}
+use Rattle.td_value.specs.Values.{Val, boolean, integer, Fields, field, no_fields, no_rows, relation, row}
 
 abbrev value : Tree → Outcome Val
 value = value_of (world_of empty_database) []
@@ -95,3 +95,41 @@ one_refused = refl
 nothing_extended : value (trees.extend (of_integers trees.none) (trees.more_named (66 ∷ []) (trees.literal (trees.text (120 ∷ []))) trees.none_named))
     ≡ Valued (relation (types.attr attribute_a types.integer (types.attr (66 ∷ []) types.char types.no_attrs)) no_rows)
 nothing_extended = refl
+
+-- ---- UNGROUP and TCLOSE
+
+abbrev attribute_k : List ℕ
+attribute_k = 75 ∷ []
+
+abbrev attribute_x : List ℕ
+attribute_x = 88 ∷ []
+
+abbrev attribute_y : List ℕ
+attribute_y = 89 ∷ []
+
+abbrev keyed : ℕ → Tree → Tree
+keyed n inside = trees.tuple (trees.more_named attribute_k (digit n) (trees.more_named attribute_x inside trees.none_named))
+
+-- a tuple with an empty relation is gone
+emptied : value (trees.postfix (trees.relation (trees.more (keyed 1 (of_integers trees.none))
+    (trees.more (keyed 2 (of_integers (trees.more (tuple_of_one 7) trees.none))) trees.none))) (trees.ungroup attribute_x))
+    ≡ Valued (relation (types.attr attribute_a types.integer (types.attr attribute_k types.integer types.no_attrs))
+    (row (field attribute_a (integer (pos 7)) (field attribute_k (integer (pos 2)) no_fields)) no_rows))
+emptied = refl
+
+-- an attribute of a tuple type is of no relation type
+of_tuples : named_cause (value (trees.postfix (trees.relation (trees.more (keyed 1 (tuple_of_one 7)) trees.none)) (trees.ungroup attribute_x)))
+    ≡ Some causes.TypeMismatch
+of_tuples = refl
+
+abbrev leading : ℕ → ℕ → Tree
+leading m n = trees.tuple (trees.more_named attribute_x (digit m) (trees.more_named attribute_y (digit n) trees.none_named))
+
+abbrev led : ℕ → ℕ → Fields
+led m n = field attribute_x (integer (pos m)) (field attribute_y (integer (pos n)) no_fields)
+
+-- in a circle each leads to itself
+circled : value (trees.prefix prefixes.TransitiveClosure (trees.relation (trees.more (leading 1 2) (trees.more (leading 2 1) trees.none))))
+    ≡ Valued (relation (types.attr attribute_x types.integer (types.attr attribute_y types.integer types.no_attrs))
+    (row (led 1 1) (row (led 1 2) (row (led 2 1) (row (led 2 2) no_rows)))))
+circled = refl

@@ -1,22 +1,20 @@
--- Of which expressions the laws of values are said so far: those without UNGROUP, UNWRAP, SUMMARIZE and transitive closure.
+-- Of which expressions the laws of values are said so far: those without SUMMARIZE.
 use Rattle.std.specs.Prelude.{Bool, true, false, ◌&&◌, List, Option, Some, None, IsTrue}
 use Rattle.std.specs.List.{AllByRecursion}
 use Rattle.td_tree.specs.declared.operator.Prefix.{Prefix}
-use Rattle.td_tree.specs.declared.operator.Prefix.TheVariants as prefixes
 use Rattle.td_tree.specs.Trees.{Postfix, project, rename, group, ungroup, wrap, unwrap, Tree, literal, name, parentheses, prefix, extract, binary, compare, postfix, select, component, measure, aggregate, relation, headed_relation, tuple, extend, summarize_per, summarize_by, choice, Trees, none, more, NamedTrees, none_named, more_named}
 use Rattle.td_types.specs.TypeLists.{DeclaredType}
 
 abbrev pub prefix_covered : Prefix → Bool
-prefix_covered prefixes.TransitiveClosure = false
 prefix_covered op = true
 
 abbrev pub postfix_covered : Postfix → Bool
 postfix_covered (project attributes) = true
 postfix_covered (rename renamings) = true
 postfix_covered (group attributes n) = true
-postfix_covered (ungroup n) = false
+postfix_covered (ungroup n) = true
 postfix_covered (wrap attributes n) = true
-postfix_covered (unwrap n) = false
+postfix_covered (unwrap n) = true
 
 abbrev mutual
   pub is_covered : Tree → Bool

@@ -6,8 +6,9 @@ use Rattle.std.specs.Cmp.Lexicographic.{slice_cmp}
 use Rattle.std.specs.List.{zip}
 use Rattle.std.specs.Ordering.{eq_by_cmp, int_cmp, is_le, nat_cmp}
 use Rattle.td_algebra.specs.Operators.{Addition, composition, difference, extended_relation, intersection, is_subset, join, product, projected_relation, renamed_relation, restriction, semidifference, semijoin, union}
-use Rattle.td_check.specs.OperatorTypes.{equality_type, extended_by, known_or, mismatch, named_part, renaming_pairs, same_heading, same_type}
-use Rattle.td_group.specs.Nesting.{can_nest, grouped_relation, wrapped_relation}
+use Rattle.td_check.specs.OperatorTypes.{attribute_type, equality_type, extended_by, known_or, mismatch, named_part, over_relation, over_tuple, renaming_pairs, same_heading, same_type}
+use Rattle.td_group.specs.Closure.{closure, is_closable}
+use Rattle.td_group.specs.Nesting.{can_nest, can_unnest, grouped_relation, unnested_relation, wrapped_relation}
 use Rattle.td_tree.specs.declared.cause.Cause.TheVariants as causes
 use Rattle.td_tree.specs.declared.operator.Comparison.{Comparison}
 use Rattle.td_tree.specs.declared.operator.Comparison.TheVariants as comparisons
@@ -113,8 +114,8 @@ only_tuple _ = Refused (Only causes.NotOneTuple)
 abbrev pub prefix_value : Prefix → Val → Outcome Val
 prefix_value prefixes.Not v = on_truth v (λ b. of_truth (not b))
 prefix_value prefixes.Negate v = on_number v (λ z. of_number (neg_ℤ z))
--- not yet defined
-prefix_value prefixes.TransitiveClosure v = mismatch
+-- of another relation than one of two attributes of one type it is HEADING
+prefix_value prefixes.TransitiveClosure v = on_relation v (λ r. relation_where (is_closable r.heading) (closure r))
 prefix_value prefixes.TupleFrom v = on_relation v (λ r. only_tuple r.body)
 
 -- A FROM t
@@ -163,9 +164,14 @@ postfix_value (group attributes name) v =
     on_relation v (λ r. with_value (nested_names attributes name r.heading) (λ names. of_relation (grouped_relation names name r)))
 postfix_value (wrap attributes name) v =
     on_relation v (λ r. with_value (nested_names attributes name r.heading) (λ names. of_relation (wrapped_relation names name r)))
--- not yet defined
-postfix_value (ungroup name) v = mismatch
-postfix_value (unwrap name) v = mismatch
+-- an attribute that is missing is HEADING, one of another type TYPE_MISMATCH, and HEADING is a name in it that one of the
+-- remaining has
+postfix_value (ungroup name) v =
+    on_relation v (λ r. with_value (attribute_type name r.heading)
+    (λ t. over_relation t (λ part. relation_where (can_unnest name r.heading) (unnested_relation name r))))
+postfix_value (unwrap name) v =
+    on_relation v (λ r. with_value (attribute_type name r.heading)
+    (λ t. over_tuple t (λ part. relation_where (can_unnest name r.heading) (unnested_relation name r))))
 
 -- ---- operators between two operands
 

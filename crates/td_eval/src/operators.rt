@@ -14,3 +14,4 @@ pub(crate) mod selectors;
 mod simple;
 pub(crate) mod summaries;
 pub(crate) mod tuplewise;
+mod unnesting;

@@ -12,6 +12,7 @@ ghost use Rattle.td_value.specs.Values.{selected_value, value_at};
 
 use crate::operators::arithmetic::in_range;
 use crate::operators::asked::{known, relation_in, truth, tuple_in};
+use crate::operators::unnesting::closed;
 use std::alloc::Global;
 use std::rc::RcStr;
 use td_tree::cause::Cause;
@@ -51,7 +52,7 @@ pub(crate) fn prefix_value(alloc: Global, op: Prefix, operand: &Value) -> Result
     match op {
         Prefix::Not => Ok(Value::bool(!truth(operand)?)),
         Prefix::Negate => negated(operand),
-        Prefix::TransitiveClosure => Err(Fault::Refused(Cause::TypeMismatch)),
+        Prefix::TransitiveClosure => closed(alloc, relation_in(operand)?),
         Prefix::TupleFrom => only_tuple(alloc, relation_in(operand)?),
     }
 }

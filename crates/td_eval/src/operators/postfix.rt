@@ -13,10 +13,10 @@ ghost use Rattle.td_types.specs.Types.{attribute_names};
 use crate::operators::asked::relation_in;
 use crate::operators::nesting::{grouped, wrapped};
 use crate::operators::relational::{as_value, fit};
+use crate::operators::unnesting::{ungrouped, unwrapped};
 use std::alloc::{AllocError, Global};
 use td_algebra::projection::project;
 use td_algebra::renaming::rename;
-use td_tree::cause::Cause;
 use td_tree::expression::{Attributes, Postfix, Renaming};
 use td_tree::fault::Fault;
 use td_tree::name::Name;
@@ -119,9 +119,10 @@ pub(crate) fn postfix_value(alloc: Global, op: &Postfix, operand: &Value) -> Res
         Postfix::Group(attributes, name) => {
             grouped(alloc, relation_in(operand)?, attributes, name)
         }
+        Postfix::Ungroup(name) => ungrouped(alloc, relation_in(operand)?, name),
         Postfix::Wrap(attributes, name) => {
             wrapped(alloc, relation_in(operand)?, attributes, name)
         }
-        Postfix::Ungroup(_) | Postfix::Unwrap(_) => Err(Fault::Refused(Cause::TypeMismatch)),
+        Postfix::Unwrap(name) => unwrapped(alloc, relation_in(operand)?, name),
     }
 }

@@ -1,0 +1,77 @@
+//! The values of operators that put what is inside an attribute in its place, and of closures.
+ghost use Rattle.td_check.specs.OperatorTypes.{attribute_type, over_relation, over_tuple};
+ghost use Rattle.td_eval.specs.OperatorValues.{relation_where};
+ghost use Rattle.td_group.specs.Closure.{closure, is_closable};
+ghost use Rattle.td_group.specs.Nesting.{can_unnest, unnested_relation};
+ghost use Rattle.td_tree.specs.Outcomes.{Answers, Valued, with_value};
+
+use crate::operators::relational::{as_value, fit};
+use std::alloc::Global;
+use td_group::closure::{is_closable, tclose};
+use td_group::unnesting::{ungroup, unwrap};
+use td_tree::cause::Cause;
+use td_tree::fault::Fault;
+use td_tree::name::Name;
+use td_types::heading::Heading;
+use td_types::ty::Ty;
+use td_value::relation::Rel;
+use td_value::value::Value;
+
+/// The heading of an attribute of a relation type: refused where it is not there or of another type.
+fn relation_part<'a>(heading: &'a Heading, name: &Name) -> Result<&'a Heading, Fault>
+    ensures { Answers (λ h. h.now) result
+        (with_value (attribute_type name.now heading.now) (λ t. over_relation t Valued)) }
+{
+    match heading.get(name) {
+        Some(Ty::Rel(part)) => Ok(part),
+        Some(_) => Err(Fault::Refused(Cause::TypeMismatch)),
+        None => Err(Fault::Refused(Cause::Heading)),
+    }
+}
+
+/// The heading of an attribute of a tuple type: refused where it is not there or of another type.
+fn tuple_part<'a>(heading: &'a Heading, name: &Name) -> Result<&'a Heading, Fault>
+    ensures { Answers (λ h. h.now) result
+        (with_value (attribute_type name.now heading.now) (λ t. over_tuple t Valued)) }
+{
+    match heading.get(name) {
+        Some(Ty::Tup(part)) => Ok(part),
+        Some(_) => Err(Fault::Refused(Cause::TypeMismatch)),
+        None => Err(Fault::Refused(Cause::Heading)),
+    }
+}
+
+/// The relation with the tuples of an attribute of a relation type in its place.
+pub(crate) fn ungrouped(alloc: Global, rel: &Rel, name: &Name) -> Result<Value, Fault>
+    ensures { Answers (λ v. v) result
+        (with_value (attribute_type name.now rel.now.heading) (λ t. over_relation t (λ part.
+        relation_where (can_unnest name.now rel.now.heading)
+        (unnested_relation name.now rel.now)))) }
+{
+    let part = relation_part(rel.heading(), name)?;
+    let rest = rel.heading().without(name)?;
+    fit(rest.is_apart_from(part))?;
+    as_value(alloc, ungroup(alloc, rel, name))
+}
+
+/// The relation with the attributes of an attribute of a tuple type in its place.
+pub(crate) fn unwrapped(alloc: Global, rel: &Rel, name: &Name) -> Result<Value, Fault>
+    ensures { Answers (λ v. v) result
+        (with_value (attribute_type name.now rel.now.heading) (λ t. over_tuple t (λ part.
+        relation_where (can_unnest name.now rel.now.heading)
+        (unnested_relation name.now rel.now)))) }
+{
+    let part = tuple_part(rel.heading(), name)?;
+    let rest = rel.heading().without(name)?;
+    fit(rest.is_apart_from(part))?;
+    as_value(alloc, unwrap(alloc, rel, name))
+}
+
+/// The transitive closure of a relation of two attributes of one type.
+pub(crate) fn closed(alloc: Global, rel: &Rel) -> Result<Value, Fault>
+    ensures { Answers (λ v. v) result
+        (relation_where (is_closable rel.now.heading) (closure rel.now)) }
+{
+    fit(is_closable(rel.heading()))?;
+    as_value(alloc, tclose(alloc, rel))
+}
