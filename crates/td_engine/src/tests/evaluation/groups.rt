@@ -37,6 +37,73 @@ fn groups_and_wraps(rt: HostRuntime) -> Result<(), Fail> {
     Ok(())
 }
 
+const UNGROUPED: [Valued; 4] = [
+    // with no tuple for an empty relation
+    (
+        "RELATION {TUPLE {K 1, X RELATION {A INTEGER} {}}, TUPLE {K 2, X RELATION {TUPLE {A 7}}}} UNGROUP (X)",
+        "RELATION {A INTEGER, K INTEGER}",
+        "RELATION {A INTEGER, K INTEGER} {TUPLE {A 7, K 2}}",
+    ),
+    // what is inside may have the attribute's name, and a tuple may come from two
+    (
+        "RELATION {TUPLE {X RELATION {TUPLE {X 1}, TUPLE {X 2}}}, TUPLE {X RELATION {TUPLE {X 2}}}} UNGROUP (X)",
+        "RELATION {X INTEGER}",
+        "RELATION {X INTEGER} {TUPLE {X 1}, TUPLE {X 2}}",
+    ),
+    ("R = R GROUP ({B} AS X) UNGROUP (X)", "BOOLEAN", "TRUE"),
+    (
+        "R WRAP ({B} AS X) UNWRAP (X)",
+        "RELATION {A INTEGER, B INTEGER}",
+        "RELATION {A INTEGER, B INTEGER} {TUPLE {A 1, B 2}, TUPLE {A 1, B 3}, TUPLE {A 2, B 2}}",
+    ),
+];
+
+#[test]
+fn groups_and_wraps_undone(rt: HostRuntime) -> Result<(), Fail> {
+    assert_eq!(rt; first_wrong(rt.alloc(), &UNGROUPED, &[])?, None);
+    Ok(())
+}
+
+const CLOSED: [Valued; 6] = [
+    // in a circle each leads to itself
+    (
+        "TCLOSE RELATION {TUPLE {X 1, Y 2}, TUPLE {X 2, Y 1}}",
+        "RELATION {X INTEGER, Y INTEGER}",
+        "RELATION {X INTEGER, Y INTEGER} {TUPLE {X 1, Y 1}, TUPLE {X 1, Y 2}, TUPLE {X 2, Y 1}, TUPLE {X 2, Y 2}}",
+    ),
+    (
+        "TCLOSE RELATION {TUPLE {Y 2, X 1}}",
+        "RELATION {X INTEGER, Y INTEGER}",
+        "RELATION {X INTEGER, Y INTEGER} {TUPLE {X 1, Y 2}}",
+    ),
+    (
+        "COUNT(TCLOSE RELATION {TUPLE {X 1, Y 2}, TUPLE {X 2, Y 3}, TUPLE {X 3, Y 4}})",
+        "INTEGER",
+        "6",
+    ),
+    (
+        "TCLOSE RELATION {X INTEGER, Y INTEGER} {}",
+        "RELATION {X INTEGER, Y INTEGER}",
+        "RELATION {X INTEGER, Y INTEGER} {}",
+    ),
+    (
+        "TCLOSE RELATION {TUPLE {X 'a', Y 'b'}, TUPLE {X 'b', Y 'c'}}",
+        "RELATION {X CHAR, Y CHAR}",
+        "RELATION {X CHAR, Y CHAR} {TUPLE {X 'a', Y 'b'}, TUPLE {X 'a', Y 'c'}, TUPLE {X 'b', Y 'c'}}",
+    ),
+    (
+        "TCLOSE RELATION {TUPLE {X TUPLE {N 1}, Y TUPLE {N 2}}, TUPLE {X TUPLE {N 2}, Y TUPLE {N 1}}} WHERE X = Y",
+        "RELATION {X TUPLE {N INTEGER}, Y TUPLE {N INTEGER}}",
+        "RELATION {X TUPLE {N INTEGER}, Y TUPLE {N INTEGER}} {TUPLE {X TUPLE {N 1}, Y TUPLE {N 1}}, TUPLE {X TUPLE {N 2}, Y TUPLE {N 2}}}",
+    ),
+];
+
+#[test]
+fn closures(rt: HostRuntime) -> Result<(), Fail> {
+    assert_eq!(rt; first_wrong(rt.alloc(), &CLOSED, &[])?, None);
+    Ok(())
+}
+
 const TOTALS: [Valued; 6] = [
     // equal values count as often as they come
     ("SUM(R, B)", "INTEGER", "7"),
