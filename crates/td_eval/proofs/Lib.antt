@@ -1,4 +1,6 @@
+pub mod AlikeOutcomes
 pub mod AlikeRows
+pub mod AlikeSummaries
 pub mod KeepsAggregates
 pub mod KeepsExtension
 pub mod KeepsGathered
@@ -6,6 +8,7 @@ pub mod KeepsNesting
 pub mod KeepsOperators
 pub mod KeepsPostfix
 pub mod KeepsRelations
+pub mod KeepsSummaries
 pub mod LaterEntries
 pub mod Measures
 pub mod MentionedEntries
@@ -20,6 +23,7 @@ pub mod OpTuples
 pub mod OpValues
 pub mod OtherRelations
 pub mod Selectors
+pub mod SummaryParts
 pub mod TupleOrder
 pub mod TypedAnswers
 pub mod TypedArguments
