@@ -1,3 +1,4 @@
+pub mod AggregateOrder
 pub mod AlikeOutcomes
 pub mod AlikeRows
 pub mod AlikeSummaries

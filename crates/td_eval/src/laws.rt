@@ -33,7 +33,8 @@ pub fn later_entries_change_nothing()
     ensures { LaterEntriesChangeNothing }
 {}
 
-/// WHERE and EXTEND give the same in whatever order the tuples of a relation are taken.
+/// WHERE, EXTEND, aggregates and SUMMARIZE give the same in whatever order the tuples of a relation
+/// are taken.
 pub fn tuple_order_does_not_count()
     ensures { TupleOrderDoesNotCount }
 {}

@@ -1,7 +1,7 @@
 mod Apart
 mod Chains
 mod ClosureLaws
-mod Extremes
+pub mod Extremes
 mod Graphs
 mod GroupMembers
 mod Grouped
