@@ -23,6 +23,7 @@ pub mod OpHeadings
 pub mod OpTuples
 pub mod OpValues
 pub mod OtherRelations
+pub mod ProjectedSummaries
 pub mod Selectors
 pub mod SummaryParts
 pub mod TupleOrder

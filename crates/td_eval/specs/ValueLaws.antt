@@ -6,7 +6,7 @@ use Rattle.td_catalog.specs.Database.{BaseRelvar, Database, base_named, database
 use Rattle.td_catalog.specs.Legality.{IsLegal}
 use Rattle.td_check.specs.Mentions.{relvars_in, types_in}
 use Rattle.td_check.specs.Scopes.{Scope}
-use Rattle.td_check.specs.StaticLaws.{AgreeAt, AgreeOn, UsersAllIn}
+use Rattle.td_check.specs.StaticLaws.{AgreeAt, AgreeOn, GivesNames, IsScope, UsersAllIn}
 use Rattle.td_check.specs.StaticTypes.{type_of}
 use Rattle.td_eval.specs.AggregateValues.{Summand, aggregated_value, summarized_value}
 use Rattle.td_eval.specs.Covered.{TypesAreCovered, is_covered}
@@ -19,7 +19,7 @@ use Rattle.td_group.specs.Aggregates.{aggregate}
 use Rattle.td_group.specs.declared.aggregates.Agg.{Agg}
 use Rattle.td_tree.specs.declared.cause.Cause.{Cause}
 use Rattle.td_tree.specs.Outcomes.{Has, Outcome, Valued, Refused, gathered, least, with_value}
-use Rattle.td_tree.specs.Trees.{Tree}
+use Rattle.td_tree.specs.Trees.{Attributes, Tree, postfix, summarize_per, summarize_by, Summaries, project}
 use Rattle.td_types.specs.TypeLists.{DeclaredType, declared_at}
 use Rattle.td_types.specs.Types.{Attribute, Heading, Type', pack}
 use Rattle.td_value.specs.Values.{Val, HaveSameMembers, IsRelation, Relation, Tuple, heading_of, relation_of}
@@ -133,3 +133,16 @@ pub record TupleOrderDoesNotCount : Type 0 where
       (types : Outcome (List Attribute)) (items : List Summand) (r p : Relation) (tuples groups : List Tuple) → IsPermutation r.body tuples
       → HaveSameMembers p.body groups
       → AreOneOutcome (summarized_value types items r p) (summarized_value types items (relation_view r.heading tuples) (relation_view p.heading groups))
+
+-- ---- SUMMARIZE BY
+
+-- it is SUMMARIZE PER of the projection of its operand: it has the same value or the same causes and, of an operand that
+-- gives attributes names, the same type
+pub record SummarizeByIsPerOfTheProjection : Type 0 where
+  pub values :
+      (w : World) (s : List Tuple) (operand : Tree) (by : Attributes) (items : Summaries)
+      → AreOneOutcome (value_of w s (summarize_by operand by items)) (value_of w s (summarize_per operand (postfix operand (project by)) items))
+  pub types :
+      (scope : Scope) (operand : Tree) (by : Attributes) (items : Summaries) (t : Type') → IsScope scope → GivesNames operand
+      → (type_of scope (summarize_by operand by items) ≡ Valued t)
+      ↔ (type_of scope (summarize_per operand (postfix operand (project by)) items) ≡ Valued t)
