@@ -16,7 +16,7 @@ use Rattle.td_eval.specs.OperatorValues.{additions_of, columns_values, extended_
 
 -- ---- lists
 
-map_alike : {X Y : Type 0} (f g : X → Y) (xs : List X) → ((x : X) → Contains xs x → f x ≡ g x) → map f xs ≡ map g xs
+pub map_alike : {X Y : Type 0} (f g : X → Y) (xs : List X) → ((x : X) → Contains xs x → f x ≡ g x) → map f xs ≡ map g xs
 map_alike f g [] same = refl
 map_alike f g (x ∷ xs) same =
     let first = same x (contains_first x xs) in

@@ -78,7 +78,7 @@ folded_is_union h (x ∷ xs) d l =
     ∙ ap (λ b. heading_union (if b then h else with_attribute h x) xs) (sym (first_of (has_attribute x.0 h) rest l))
 
 -- where all are gathered, each has a value
-gathered_member : {X A : Type 0} (g : X → Outcome A) (xs : List X) (ys : List A) → gathered (map g xs) ≡ Valued ys
+pub gathered_member : {X A : Type 0} (g : X → Outcome A) (xs : List X) (ys : List A) → gathered (map g xs) ≡ Valued ys
     → (x : X) → Contains xs x → (y : A) × (g x ≡ Valued y)
 gathered_member {A = A} g [] ys e x c = absurd (contains_none x c)
 gathered_member {A = A} g (z ∷ zs) ys e x c =

@@ -1,4 +1,7 @@
+pub mod AggregateOrder
+pub mod AlikeOutcomes
 pub mod AlikeRows
+pub mod AlikeSummaries
 pub mod KeepsAggregates
 pub mod KeepsClosure
 pub mod KeepsExtension
@@ -7,6 +10,7 @@ pub mod KeepsNesting
 pub mod KeepsOperators
 pub mod KeepsPostfix
 pub mod KeepsRelations
+pub mod KeepsSummaries
 pub mod KeepsUnnesting
 pub mod LaterEntries
 pub mod Measures
@@ -21,7 +25,9 @@ pub mod OpHeadings
 pub mod OpTuples
 pub mod OpValues
 pub mod OtherRelations
+pub mod ProjectedSummaries
 pub mod Selectors
+pub mod SummaryParts
 pub mod TupleOrder
 pub mod TypedAnswers
 pub mod TypedArguments

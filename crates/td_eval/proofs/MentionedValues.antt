@@ -1,57 +1,47 @@
 -- The value of an expression that has a type depends only on what it mentions.
-use Rattle.std.proofs.Common.{◌≡◌, ◌∙◌, ◌++◌, ℕ, Bool, true, List, [], ◌∷◌, Option, Some, None, map, option_map, ap, refl, subst, sym, true≢false, append-nil}
+use Rattle.std.proofs.Common.{◌≡◌, ◌∙◌, ◌++◌, ℕ, Bool, true, List, [], ◌∷◌, Option, Some, None, map, option_map, ap, refl, subst, sym, append-nil}
 use Rattle.std.specs.List.{AllByRecursion}
 use Rattle.std.specs.Prelude.{◌&&◌, if◌then◌else◌, is_some, IsTrue}
 use Rattle.std.proofs.lemmas.List.Elements.{Contains-append_left, Contains-append_right}
-use Rattle.td_algebra.proofs.Entries.{type_at-heading_of}
 use Rattle.td_algebra.proofs.Members.{first_true, second_true}
-use Rattle.td_check.specs.Mentions.{in_tuples, mentioned_by_name, relvars_in, relvars_in_all, relvars_in_named, types_in, types_in_all, types_in_named, types_named_in}
-use Rattle.td_check.specs.OperatorTypes.{aggregate_type, are_types_of, choice_type, comparison_type, component_type, extension_type, extracted_type, headed_type, known_or, listed_type, measure_type, operator_type, over_relation, postfix_type, prefix_type, selector_type, tuple_type}
+use Rattle.td_check.specs.Mentions.{in_tuples, mentioned_by_name, relvars_in, relvars_in_all, relvars_in_items, relvars_in_named, types_in, types_in_all, types_in_items, types_in_named, types_named_in}
+use Rattle.td_check.specs.OperatorTypes.{count_item, aggregate_item, aggregate_type, are_types_of, choice_type, comparison_type, component_type, extension_type, extracted_type, headed_type, known_or, listed_type, measure_type, operator_type, over_relation, postfix_type, prefix_type, selector_type, tuple_type}
 use Rattle.td_check.specs.Scopes.{KnownRelvar, Scope, entered_with, innermost, known_relvar}
-use Rattle.td_check.specs.StaticLaws.{AgreeOn, GiveNames, GivesNames, HasMore, PartsGiveNames, UsersAllIn, UsersIn}
-use Rattle.td_check.specs.StaticTypes.{named_types, paired, type_of, types_of}
+use Rattle.td_check.specs.StaticLaws.{AgreeOn, GiveNames, GivesNames, HasMore, ItemsGiveNames, PartsGiveNames, UsersAllIn, UsersIn}
+use Rattle.td_check.specs.StaticTypes.{items_of, named_types, paired, type_of, types_of, with_items}
 use Rattle.td_check.proofs.AgreementLaws.{agree_entered, heading_follows, one_is}
 use Rattle.td_check.proofs.CarriedLaws.{Each}
-use Rattle.td_check.proofs.MentionLaws.{carried, named_carried}
+use Rattle.td_check.proofs.MentionLaws.{carried, items_carried_in, named_carried}
 use Rattle.td_check.proofs.StaticLaws.{more_changes_no_parts}
+use Rattle.td_check.proofs.SummaryLaws.{HeadingItems, Items}
 use Rattle.td_tree.specs.declared.cause.Cause.TheVariants as causes
 use Rattle.td_tree.specs.declared.operator.Operator.TheVariants as operators
 use Rattle.td_tree.specs.Outcomes.{Outcome, Valued, Refused, value_if, with_both, with_value}
-use Rattle.td_tree.specs.Trees.{AttributeTrees, Tree, literal, name, parentheses, prefix, extract, binary, compare, postfix, select, component, measure, aggregate, relation, headed_relation, tuple, extend, summarize_per, summarize_by, choice, Trees, none, more, NamedTrees, none_named, more_named}
+use Rattle.td_tree.specs.Trees.{AttributeTrees, Tree, literal, name, parentheses, prefix, extract, binary, compare, postfix, select, component, measure, aggregate, relation, headed_relation, tuple, extend, summarize_per, summarize_by, choice, Trees, none, more, NamedTrees, none_named, more_named, Summaries, no_summaries, counted, summed, project}
 use Rattle.td_types.specs.Headings.{made_heading}
 use Rattle.td_types.specs.TypeLists.{DeclaredType, attributes_meant, declared_at, heading_meant}
-use Rattle.td_types.specs.Types.{Type', Attribute, Attrs, Heading, pack, type_at, unpack}
+use Rattle.td_types.specs.Types.{Type', Attribute, Attrs, Heading, pack, unpack}
 use Rattle.td_types.specs.Types as types
 use Rattle.td_types.proofs.KnownTypes.{declared_more}
 use Rattle.td_types.proofs.Meanings.{attributes_later, pack_unpack}
 use Rattle.td_types.proofs.OutcomeLaws.{value_of_test, value_of_with, values_of_both}
-use Rattle.td_value.specs.Values.{Val, boolean, integer, char, user, Relation, Tuple, heading_of, unpack_rows, value_at}
+use Rattle.td_value.specs.Values.{Val, boolean, integer, char, user, Relation, Tuple, heading_of}
 use Rattle.td_value.specs.Values as values
-use Rattle.td_value.specs.Views.{relation_view}
-use Rattle.td_eval.specs.AggregateValues.{aggregated_value, asked_of}
-use Rattle.td_eval.specs.Covered.{are_covered, is_covered, parts_covered, postfix_covered, prefix_covered}
+use Rattle.td_eval.specs.AggregateValues.{aggregated_value, asked_of, summarized_value, summary_attributes, summary_value}
+use Rattle.td_eval.specs.Covered.{are_covered, is_covered, items_covered, parts_covered, postfix_covered, prefix_covered}
 use Rattle.td_eval.specs.OperatorValues.{comparison_value, component_value, extended_value, extracted_value, headed_value, listed_value, measure_value, on_relation, on_truth, operator_value, postfix_value, prefix_value, relation_as_value, restricted_value, tuple_from}
-use Rattle.td_eval.specs.TreeTexts.{HasTexts, HaveTexts, PartsHaveTexts}
-use Rattle.td_eval.specs.TreeValues.{argument_values, entry_values, value_of, values_in_tuples}
+use Rattle.td_eval.specs.TreeTexts.{HasTexts, HaveTexts, ItemsHaveTexts, PartsHaveTexts}
+use Rattle.td_eval.specs.TreeValues.{argument_values, entry_values, items_in_tuples, value_of, values_in_tuples}
 use Rattle.td_eval.specs.ValueLaws.{HasTheSame, SelectsTheSame, ValuesDependOnMentions}
 use Rattle.td_eval.specs.ValueTypes.{AreComponentsOf, IsOfType, IsTypedTuple, KeepsScope, KeepsType}
 use Rattle.td_eval.specs.Worlds.{World, innermost_value, known_outcome, name_value, scope_among, selected}
+use Rattle.td_eval.proofs.AlikeOutcomes.{both_alike, over_same, with_alike}
 use Rattle.td_eval.proofs.AlikeRows.{AreAlikeIn, aggregated_alike, extended_alike, restricted_alike}
+use Rattle.td_eval.proofs.AlikeSummaries.{SummandsAlikeIn, summarized_alike}
+use Rattle.td_eval.proofs.SummaryParts.{attributes_of_items, by_type, more_changes_no_items, per_type}
 use Rattle.td_eval.proofs.TypedArguments.{arguments_typed, known_is}
-use Rattle.td_eval.proofs.TypedRows.{parts_typed, rows_typed}
-use Rattle.td_eval.proofs.TypedTrees.{keeps}
-
--- the innermost attribute has the type of its value
-innermost_typed : (n : List ℕ) (s : List Tuple) → innermost n (map heading_of s) ≡ option_map values.type_of (innermost_value n s)
-innermost_typed n [] = refl
-innermost_typed n (t ∷ s) = by_option (type_at n (heading_of t)) (value_at n t) (type_at-heading_of n t) (innermost_typed n s)
-  where
-    by_option : (a : Option Type') (b : Option Val) → a ≡ option_map values.type_of b
-        → innermost n (map heading_of s) ≡ option_map values.type_of (innermost_value n s)
-        → elim a as (λ _. Option Type') [ Some u ↦ Some u | None ↦ innermost n (map heading_of s) ]
-        ≡ option_map values.type_of (elim b as (λ _. Option Val) [ Some v ↦ Some v | None ↦ innermost_value n s ])
-    by_option a (Some v) e rest = rw e refl
-    by_option a None e rest = rw e rest
+use Rattle.td_eval.proofs.TypedRows.{rows_typed}
+use Rattle.td_eval.proofs.TypedTrees.{innermost_typed, keeps}
 
 -- a scope where attributes of these headings are in hand
 abbrev among_headings : Scope → List Heading → Scope
@@ -179,18 +169,6 @@ module _ (among : List ℕ → Bool) (scope : Scope) (w v : World) (k : KeepsSco
 
   -- ---- what is applied to tuples
 
-  over_same : (t : Type') (o : Outcome Val) (f g : Relation → Outcome Val) → KeepsType ds (Valued t) o
-      → ((h : Attrs) (r : Relation) → t ≡ types.relation h → r.heading ≡ unpack h → IsOfType ds (relation_as_value r) (types.relation (pack r.heading)) → f r ≡ g r)
-      → with_value o (λ x. on_relation x f) ≡ with_value o (λ x. on_relation x g)
-  over_same t (Valued (values.relation h rs)) f g q same =
-      same h (relation_view (unpack h) (unpack_rows rs)) q.1.0 refl (parts_typed ds h rs (q.0, (refl, q.1.1, q.1.2)))
-  over_same t (Valued (boolean b)) f g q same = refl
-  over_same t (Valued (integer z)) f g q same = refl
-  over_same t (Valued (char c)) f g q same = refl
-  over_same t (Valued (user n ps)) f g q same = refl
-  over_same t (Valued (values.tuple fs)) f g q same = refl
-  over_same t (Refused cs) f g q same = refl
-
   -- where more is known, the parts of EXTEND have the same types
   more_there : (s : List Tuple) (h : Heading) → HasMore (here (h ∷ map heading_of s)) (entered_with h (scope_among w s))
   more_there s h = record { types = k.types; relvars = ([], k.known ∙ sym (append-nil scope.relvars)); entered = refl }
@@ -202,6 +180,42 @@ module _ (among : List ℕ → Bool) (scope : Scope) (w v : World) (k : KeepsSco
   parts_typed_same s h parts xs a is =
       ((named_carried among parts (here (h ∷ map heading_of s)) (there (h ∷ map heading_of s)) a.known (λ n c. (a.types_agree n c).0) (λ n c. (a.relvars_agree n c).0)).carried xs is).0
       ∙ sym (more_changes_no_parts (here (h ∷ map heading_of s)) (entered_with h (scope_among w s)) parts xs (more_there s h) is)
+
+  -- and so have the new attributes of SUMMARIZE
+  attributes_same : (s : List Tuple) (h : Heading) (items : Summaries) (xs : Items)
+      → Agreed (h ∷ map heading_of s) (types_in_items items) (relvars_in_items (here (h ∷ map heading_of s)) items)
+      → items_of (here (h ∷ map heading_of s)) items ≡ Valued xs
+      → summary_attributes (entered_with h (scope_among v s)) items ≡ summary_attributes (entered_with h (scope_among w s)) items
+  attributes_same s h items xs a is =
+      let hs = h ∷ map heading_of s in
+      let second = (items_carried_in among items (here hs) (there hs) a.known (λ n c. (a.types_agree n c).0) (λ n c. (a.relvars_agree n c).0)).carried xs is in
+      attributes_of_items (entered_with h (scope_among v s)) items xs second.0
+      ∙ sym (attributes_of_items (entered_with h (scope_among w s)) items xs
+      (more_changes_no_items (here hs) (entered_with h (scope_among w s)) items xs (more_there s h) is))
+
+  -- SUMMARIZE of an operand that has a type, by the same tuples
+  summary_same : (s : List Tuple) (items : Summaries) (q : Type') (o : Option HeadingItems) (z u : Val) → KeepsType ds (Valued q) (Valued z)
+      → with_items q (λ g. items_of (here (g ∷ map heading_of s)) items) ≡ Valued o
+      → ((g : Attrs) → q ≡ types.relation g
+      → Agreed (unpack g ∷ map heading_of s) (types_in_items items) (relvars_in_items (here (unpack g ∷ map heading_of s)) items))
+      → ((r : Relation) (xs : Items) → IsOfType ds (relation_as_value r) (types.relation (pack r.heading))
+      → Agreed (r.heading ∷ map heading_of s) (types_in_items items) (relvars_in_items (here (r.heading ∷ map heading_of s)) items)
+      → items_of (here (r.heading ∷ map heading_of s)) items ≡ Valued xs → SummandsAlikeIn r (items_in_tuples v s items) (items_in_tuples w s items))
+      → summary_value (λ g. summary_attributes (entered_with g (scope_among v s)) items) (items_in_tuples v s items) z u
+      ≡ summary_value (λ g. summary_attributes (entered_with g (scope_among w s)) items) (items_in_tuples w s items) z u
+  summary_same s items q o z u kept is agreed alike =
+      over_same ds q (Valued z)
+      (λ r. on_relation u (λ p. summarized_value (summary_attributes (entered_with r.heading (scope_among v s)) items) (items_in_tuples v s items) r p))
+      (λ r. on_relation u (λ p. summarized_value (summary_attributes (entered_with r.heading (scope_among w s)) items) (items_in_tuples w s items) r p)) kept
+      (λ g r e head typed.
+      let hs = map heading_of s in
+      let y = value_of_with (items_of (here (unpack g ∷ hs)) items) (λ xs. Valued (Some (unpack g, xs))) o
+      (subst (λ t. with_items t (λ i. items_of (here (i ∷ hs)) items) ≡ Valued o) e is) in
+      let within = subst (λ i. Agreed (i ∷ hs) (types_in_items items) (relvars_in_items (here (i ∷ hs)) items)) (sym head) (agreed g e) in
+      let known = subst (λ i. items_of (here (i ∷ hs)) items ≡ Valued y.0) (sym head) y.1 in
+      ap (λ x. on_relation u (λ p. summarized_value x (items_in_tuples v s items) r p)) (attributes_same s r.heading items y.0 within known)
+      ∙ (λ i. on_relation u (λ p. summarized_alike r p (summary_attributes (entered_with r.heading (scope_among w s)) items)
+      (items_in_tuples v s items) (items_in_tuples w s items) (alike r y.0 typed within known) i)))
 
   -- ---- trees
 
@@ -227,7 +241,7 @@ module _ (among : List ℕ → Bool) (scope : Scope) (w v : World) (k : KeepsSco
         let left_covered = first_true (is_covered left) (is_covered right) c in
         let kept = subst (λ o. KeepsType ds o (value_of w s left)) y.1 (keeps w scope k left s h left_covered n.0 x.0) in
         ap (λ o. with_value o (λ z. on_relation z (restricted_value (λ u. value_of v (u ∷ s) right)))) (same left s y.0 h left_covered n.0 x.0 first y.1)
-        ∙ over_same y.0 (value_of w s left) (restricted_value (λ u. value_of v (u ∷ s) right)) (restricted_value (λ u. value_of w (u ∷ s) right)) kept
+        ∙ over_same ds y.0 (value_of w s left) (restricted_value (λ u. value_of v (u ∷ s) right)) (restricted_value (λ u. value_of w (u ∷ s) right)) kept
         (λ g r e head typed. restricted_alike r (λ u. value_of v (u ∷ s) right) (λ u. value_of w (u ∷ s) right)
         (λ u b.
         let at = rows_typed ds r typed u b in
@@ -284,7 +298,7 @@ module _ (among : List ℕ → Bool) (scope : Scope) (w v : World) (k : KeepsSco
         let operand_covered = first_true (is_covered operand) (is_covered value) c in
         let kept = subst (λ o. KeepsType ds o (value_of w s operand)) y.1 (keeps w scope k operand s h operand_covered n.0 x.0) in
         ap (λ o. with_value o (λ z. on_relation z (aggregated_value (asked_of op) (λ u. value_of v (u ∷ s) value)))) (same operand s y.0 h operand_covered n.0 x.0 first y.1)
-        ∙ over_same y.0 (value_of w s operand) (aggregated_value (asked_of op) (λ u. value_of v (u ∷ s) value))
+        ∙ over_same ds y.0 (value_of w s operand) (aggregated_value (asked_of op) (λ u. value_of v (u ∷ s) value))
         (aggregated_value (asked_of op) (λ u. value_of w (u ∷ s) value)) kept
         (λ g r e head typed. aggregated_alike r (asked_of op) (λ u. value_of v (u ∷ s) value) (λ u. value_of w (u ∷ s) value)
         (λ u b.
@@ -323,7 +337,7 @@ module _ (among : List ℕ → Bool) (scope : Scope) (w v : World) (k : KeepsSco
         let kept = subst (λ o. KeepsType ds o (value_of w s operand)) y.1 (keeps w scope k operand s h operand_covered n.0 x.0) in
         ap (λ o. with_value o (λ z. on_relation z (λ r. extended_value (named_types (entered_with r.heading (scope_among v s)) parts) (values_in_tuples v s parts) r)))
         (same operand s y.0 h operand_covered n.0 x.0 first y.1)
-        ∙ over_same y.0 (value_of w s operand)
+        ∙ over_same ds y.0 (value_of w s operand)
         (λ r. extended_value (named_types (entered_with r.heading (scope_among v s)) parts) (values_in_tuples v s parts) r)
         (λ r. extended_value (named_types (entered_with r.heading (scope_among w s)) parts) (values_in_tuples w s parts) r) kept
         (λ g r e head typed.
@@ -336,8 +350,51 @@ module _ (among : List ℕ → Bool) (scope : Scope) (w v : World) (k : KeepsSco
         ap (λ o. extended_value o (values_in_tuples v s parts) r) (parts_typed_same s r.heading parts z.0 agreed known)
         ∙ extended_alike r (named_types (entered_with r.heading (scope_among w s)) parts) (values_in_tuples v s parts) (values_in_tuples w s parts)
         (same_parts parts s r z.0 typed h (second_true (is_covered operand) (parts_covered parts) c) n.1 x.1 agreed known))
-    same (summarize_per operand per items) s t h c n x a is = absurd (true≢false (sym c))
-    same (summarize_by operand by items) s t h c n x a is = absurd (true≢false (sym c))
+    same (summarize_per operand per items) s t h c n x a is =
+        let hs = map heading_of s in
+        let covered = second_true (is_covered operand) (is_covered per && items_covered items) c in
+        let y = values_of_both (with_value (type_of (here hs) operand) (λ q. with_items q (λ g. items_of (entered_with g (here hs)) items))) (type_of (here hs) per)
+        per_type t is in
+        let q = value_of_with (type_of (here hs) operand) (λ q. with_items q (λ g. items_of (entered_with g (here hs)) items)) y.0 y.2 in
+        let inner = relvars_in_items (in_tuples (here hs) (type_of (here hs) operand)) items in
+        let first = first_part hs (types_in operand) (types_in_items items ++ types_in per) (relvars_in (here hs) operand) (inner ++ relvars_in (here hs) per) a in
+        let rest = rest_part hs (types_in operand) (types_in_items items ++ types_in per) (relvars_in (here hs) operand) (inner ++ relvars_in (here hs) per) a in
+        let within = first_part hs (types_in_items items) (types_in per) inner (relvars_in (here hs) per) rest in
+        let operand_covered = first_true (is_covered operand) (is_covered per && items_covered items) c in
+        let kept = subst (λ o. KeepsType ds o (value_of w s operand)) q.1 (keeps w scope k operand s h operand_covered n.0 x.0) in
+        let one = same operand s q.0 h operand_covered n.0 x.0 first q.1 in
+        let two = same per s y.1 h (first_true (is_covered per) (items_covered items) covered) n.1 x.1
+        (rest_part hs (types_in_items items) (types_in per) inner (relvars_in (here hs) per) rest) y.3 in
+        (λ i. with_both (one i) (two i) (summary_value (λ g. summary_attributes (entered_with g (scope_among v s)) items) (items_in_tuples v s items)))
+        ∙ both_alike (value_of w s operand) (value_of w s per)
+        (summary_value (λ g. summary_attributes (entered_with g (scope_among v s)) items) (items_in_tuples v s items))
+        (summary_value (λ g. summary_attributes (entered_with g (scope_among w s)) items) (items_in_tuples w s items))
+        (λ z u e. summary_same s items q.0 y.0 z u (subst (KeepsType ds (Valued q.0)) e kept) q.2
+        (λ g f. inside hs (type_of (here hs) operand) g (types_in_items items) (λ m. relvars_in_items m items) (q.1 ∙ ap Valued f)
+        (subst (UsersIn among) f (users_agreed hs operand q.0 first q.1)) within)
+        (λ r xs typed agreed known. same_items items s r xs typed h (second_true (is_covered per) (items_covered items) covered) n.2 x.2 agreed known))
+    same (summarize_by operand by items) s t h c n x a is =
+        let hs = map heading_of s in
+        let y = value_of_with (with_value (type_of (here hs) operand) (λ q. with_items q (λ g. items_of (entered_with g (here hs)) items)))
+        (by_type by) t is in
+        let q = value_of_with (type_of (here hs) operand) (λ q. with_items q (λ g. items_of (entered_with g (here hs)) items)) y.0 y.1 in
+        let inner = relvars_in_items (in_tuples (here hs) (type_of (here hs) operand)) items in
+        let first = first_part hs (types_in operand) (types_in_items items) (relvars_in (here hs) operand) inner a in
+        let within = rest_part hs (types_in operand) (types_in_items items) (relvars_in (here hs) operand) inner a in
+        let operand_covered = first_true (is_covered operand) (items_covered items) c in
+        let kept = subst (λ o. KeepsType ds o (value_of w s operand)) q.1 (keeps w scope k operand s h operand_covered n.0 x.0) in
+        ap (λ o. with_value o (λ z. with_value (postfix_value (project by) z)
+        (summary_value (λ g. summary_attributes (entered_with g (scope_among v s)) items) (items_in_tuples v s items) z))) (same operand s q.0 h operand_covered n.0 x.0 first q.1)
+        ∙ with_alike (value_of w s operand)
+        (λ z. with_value (postfix_value (project by) z) (summary_value (λ g. summary_attributes (entered_with g (scope_among v s)) items) (items_in_tuples v s items) z))
+        (λ z. with_value (postfix_value (project by) z) (summary_value (λ g. summary_attributes (entered_with g (scope_among w s)) items) (items_in_tuples w s items) z))
+        (λ z e. with_alike (postfix_value (project by) z)
+        (summary_value (λ g. summary_attributes (entered_with g (scope_among v s)) items) (items_in_tuples v s items) z)
+        (summary_value (λ g. summary_attributes (entered_with g (scope_among w s)) items) (items_in_tuples w s items) z)
+        (λ u _. summary_same s items q.0 y.0 z u (subst (KeepsType ds (Valued q.0)) e kept) q.2
+        (λ g f. inside hs (type_of (here hs) operand) g (types_in_items items) (λ m. relvars_in_items m items) (q.1 ∙ ap Valued f)
+        (subst (UsersIn among) f (users_agreed hs operand q.0 first q.1)) within)
+        (λ r xs typed agreed known. same_items items s r xs typed h (second_true (is_covered operand) (items_covered items) c) n.1 x.1 agreed known)))
     same (choice condition consequent alternative) s t h c n x a is =
         let hs = map heading_of s in
         let y = values_of_both (type_of (here hs) condition) (paired (type_of (here hs) consequent) (type_of (here hs) alternative))
@@ -398,6 +455,29 @@ module _ (among : List ℕ → Bool) (scope : Scope) (w v : World) (k : KeepsSco
               (subst (λ i. Agreed (i ∷ hs) (types_in value) (relvars_in (here (i ∷ hs)) value)) (sym at.1) first)
               (subst (λ i. type_of (here (i ∷ hs)) value ≡ Valued y.0) (sym at.1) y.2),
           same_parts rest s r y.1 typed h (second_true (is_covered value) (parts_covered rest) c) n.2 x.1 others y.3,
+        )
+
+    same_items : (items : Summaries) (s : List Tuple) (r : Relation) (xs : Items) → IsOfType ds (relation_as_value r) (types.relation (pack r.heading)) → AreTyped s
+        → IsTrue (items_covered items) → ItemsGiveNames items → ItemsHaveTexts items
+        → Agreed (r.heading ∷ map heading_of s) (types_in_items items) (relvars_in_items (here (r.heading ∷ map heading_of s)) items)
+        → items_of (here (r.heading ∷ map heading_of s)) items ≡ Valued xs → SummandsAlikeIn r (items_in_tuples v s items) (items_in_tuples w s items)
+    same_items no_summaries s r xs typed h c n x a is = tt
+    same_items (counted m rest) s r xs typed h c n x a is =
+        let y = value_of_with (items_of (here (r.heading ∷ map heading_of s)) rest) (λ items. Valued ((m, count_item) ∷ items)) xs is in
+        (refl, (λ u b. refl), same_items rest s r y.0 typed h c n.1 x a y.1)
+    same_items (summed op value m rest) s r xs typed h c n x a is =
+        let hs = map heading_of s in
+        let in_r = here (r.heading ∷ hs) in
+        let y = values_of_both (type_of in_r value) (items_of in_r rest) (λ t items. Valued ((m, aggregate_item op t) ∷ items)) xs is in
+        let first = first_part (r.heading ∷ hs) (types_in value) (types_in_items rest) (relvars_in in_r value) (relvars_in_items in_r rest) a in
+        let others = rest_part (r.heading ∷ hs) (types_in value) (types_in_items rest) (relvars_in in_r value) (relvars_in_items in_r rest) a in (
+          refl,
+          (λ u b.
+              let at = rows_typed ds r typed u b in
+              same value (u ∷ s) y.0 (at.0, h) (first_true (is_covered value) (items_covered rest) c) n.0 x.0
+              (subst (λ i. Agreed (i ∷ hs) (types_in value) (relvars_in (here (i ∷ hs)) value)) (sym at.1) first)
+              (subst (λ i. type_of (here (i ∷ hs)) value ≡ Valued y.0) (sym at.1) y.2)),
+          same_items rest s r y.1 typed h (second_true (is_covered value) (items_covered rest) c) n.2 x.1 others y.3,
         )
 
 pub values_depend_on_mentions : ValuesDependOnMentions

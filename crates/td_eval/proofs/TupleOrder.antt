@@ -1,4 +1,4 @@
--- What is gathered from the tuples of a relation does not depend on the order in which they are taken.
+-- What WHERE and EXTEND gather from the tuples of a relation does not depend on the order in which they are taken.
 use Rattle.std.proofs.Common.{◌≡◌, ◌∙◌, ◌⊎◌, inl, inr, Bool, List, [], ◌∷◌, ap, arith, filter, map, refl, subst, sym}
 use Rattle.std.specs.Prelude.{◌↔◌, ⊤}
 use Rattle.std.specs.List.{Contains}
@@ -19,12 +19,12 @@ use Rattle.td_value.specs.Values.{Val, HaveSameMembers, IsRelation, Relation, Tu
 use Rattle.td_value.specs.Views.{relation_view}
 use Rattle.td_value.proofs.SetLaws.{is_set_of}
 use Rattle.td_eval.specs.OperatorValues.{additions_of, columns_values, extended_value, is_true, of_relation, relation_as_value, restricted_value, truth_value, value_of_type}
-use Rattle.td_eval.specs.ValueLaws.{AreOneOutcome, TupleOrderDoesNotCount, restricted_in_turn}
+use Rattle.td_eval.specs.ValueLaws.{AreOneOutcome, restricted_in_turn}
 
 -- ---- sets of causes
 
 -- there is no value, for this cause among others
-abbrev Refuses : {A : Type 0} → Outcome A → Cause → Type 0
+abbrev pub Refuses : {A : Type 0} → Outcome A → Cause → Type 0
 Refuses (Valued x) c = ⊥
 Refuses (Refused cs) c = Has cs c
 
@@ -35,7 +35,7 @@ one_number c d e =
     cc
 
 -- sets of the same causes have the same least one
-one_least : (bs cs : Causes) → ((c : Cause) → Has bs c ↔ Has cs c) → least bs ≡ least cs
+pub one_least : (bs cs : Causes) → ((c : Cause) → Has bs c ↔ Has cs c) → least bs ≡ least cs
 one_least bs cs same =
     let first = least_is_named bs in
     let second = least_is_named cs in
@@ -43,14 +43,14 @@ one_least bs cs same =
     (omega (arith, first.1 (least cs) ((same (least cs)).1 second.0), second.1 (least bs) ((same (least bs)).0 first.0)))
 
 -- outcomes with the same causes: what follows from their values is one outcome
-follows : {A B : Type 0} (o : Outcome A) (p : Outcome B) (f : A → Outcome Val) (g : B → Outcome Val) → ((c : Cause) → Refuses o c ↔ Refuses p c)
+pub follows : {A B : Type 0} (o : Outcome A) (p : Outcome B) (f : A → Outcome Val) (g : B → Outcome Val) → ((c : Cause) → Refuses o c ↔ Refuses p c)
     → ((x : A) (y : B) → o ≡ Valued x → p ≡ Valued y → AreOneOutcome (f x) (g y)) → AreOneOutcome (with_value o f) (with_value p g)
 follows (Valued x) (Valued y) f g same h = h x y refl refl
 follows (Valued x) (Refused cs) f g same h = absurd ((same (least cs)).1 (least_is_named cs).0)
 follows (Refused bs) (Valued y) f g same h = absurd ((same (least bs)).0 (least_is_named bs).0)
 follows (Refused bs) (Refused cs) f g same h = (same, one_least bs cs same)
 
-one_itself : (o : Outcome Val) → AreOneOutcome o o
+pub one_itself : (o : Outcome Val) → AreOneOutcome o o
 one_itself (Valued v) = refl
 one_itself (Refused cs) = (λ c. (λ h. h, λ h. h), refl)
 
@@ -107,7 +107,7 @@ module _ {A : Type 0} (f : Tuple → Outcome A) where
       (gathered_refuses (map f us) c).1 (at.0, (contains_map f us at.0).1 (t.0, all t.0 t.1, t.2), at.2)
 
   -- of the same tuples, the same causes
-  one_order : (ts us : List Tuple) → HaveSameMembers ts us → (c : Cause) → Refuses (gathered (map f ts)) c ↔ Refuses (gathered (map f us)) c
+  pub one_order : (ts us : List Tuple) → HaveSameMembers ts us → (c : Cause) → Refuses (gathered (map f ts)) c ↔ Refuses (gathered (map f us)) c
   one_order ts us same c = (causes_among ts us c (λ t. (same t).0), causes_among us ts c (λ t. (same t).1))
 
 -- ---- WHERE
@@ -127,7 +127,7 @@ kept_set p r us is same =
     (IsStrictlySortedBy-filter tuple_cmp p r.body (rows_ascend r is)) (λ t. refl)
     ∙ sets_alike (filter p r.body) (filter p us) (same_kept p r.body us same))
 
-restricted : (p : Tuple → Outcome Val) (r : Relation) (us : List Tuple) → IsRelation r → HaveSameMembers r.body us
+pub restricted : (p : Tuple → Outcome Val) (r : Relation) (us : List Tuple) → IsRelation r → HaveSameMembers r.body us
     → AreOneOutcome (restricted_value p r) (restricted_in_turn p r.heading us)
 restricted p r us is same =
     follows (gathered (map (λ t. truth_value (p t)) r.body)) (gathered (map (λ t. truth_value (p t)) us))
@@ -138,7 +138,7 @@ restricted p r us is same =
 -- ---- EXTEND
 
 -- outcomes by pairs, each with the causes of its other
-abbrev AreAlike : {A : Type 0} → List (Outcome A) → List (Outcome A) → Type 0
+abbrev pub AreAlike : {A : Type 0} → List (Outcome A) → List (Outcome A) → Type 0
 AreAlike [] [] = ⊤
 AreAlike [] (p ∷ ps) = ⊥
 AreAlike (o ∷ os) [] = ⊥
@@ -157,7 +157,7 @@ module _ {A : Type 0} where
       back (inl x) = inl (h.1 x)
       back (inr x) = inr (k.1 x)
 
-  gathered_alike : (os ps : List (Outcome A)) → AreAlike os ps → (c : Cause) → Refuses (gathered os) c ↔ Refuses (gathered ps) c
+  pub gathered_alike : (os ps : List (Outcome A)) → AreAlike os ps → (c : Cause) → Refuses (gathered os) c ↔ Refuses (gathered ps) c
   gathered_alike [] [] h c = (λ x. x, λ x. x)
   gathered_alike [] (p ∷ ps) h c = absurd h
   gathered_alike (o ∷ os) [] h c = absurd h
@@ -187,7 +187,7 @@ extended_set bs r us same =
     ap (relation_view (extended_relation bs r).heading)
     (sets_alike (map (extended_tuple bs) r.body) (map (extended_tuple bs) us) (same_made (extended_tuple bs) r.body us same))
 
-extended : (types : Outcome (List Attribute)) (fs : List (Tuple → Outcome Val)) (r : Relation) (us : List Tuple) → HaveSameMembers r.body us
+pub extended : (types : Outcome (List Attribute)) (fs : List (Tuple → Outcome Val)) (r : Relation) (us : List Tuple) → HaveSameMembers r.body us
     → AreOneOutcome (extended_value types fs r) (extended_value types fs (relation_view r.heading us))
 extended (Refused cs) fs r us same = one_itself (Refused cs)
 extended (Valued attributes) fs r us same = by_heading (extended_by r.heading attributes)
@@ -206,6 +206,3 @@ extended (Valued attributes) fs r us same = by_heading (extended_by r.heading at
         (with_value o (λ heading. with_value (gathered (columns_values attributes fs us)) (λ columns. of_relation (extended_relation (additions_of attributes fs) (relation_view r.heading us)))))
     by_heading (Refused cs) = one_itself (Refused cs)
     by_heading (Valued heading) = with_columns
-
-pub tuple_order_does_not_count : TupleOrderDoesNotCount
-tuple_order_does_not_count = record { restricted = restricted; extended = extended }

@@ -1,37 +1,41 @@
 -- The value of an expression that has a type is of that type, or its causes are dynamic.
-use Rattle.std.proofs.Common.{◌≡◌, ◌∙◌, ◌++◌, ℕ, true, Contains, List, [], ◌∷◌, Option, Some, None, map, ap, refl, subst, sym, true≢false, append-nil}
+use Rattle.std.proofs.Common.{◌≡◌, ◌∙◌, ◌++◌, ℕ, true, Contains, List, [], ◌∷◌, Option, Some, None, map, option_map, ap, refl, subst, sym, append-nil}
 use Rattle.std.specs.List.{AllByRecursion}
 use Rattle.std.specs.Prelude.{◌&&◌, IsTrue, ⊤}
+use Rattle.td_algebra.proofs.Entries.{type_at-heading_of}
 use Rattle.td_algebra.proofs.Members.{first_true, second_true}
-use Rattle.td_check.specs.OperatorTypes.{aggregate_type, are_types_of, comparison_type, component_type, extension_type, extracted_type, headed_type, known_or, listed_type, measure_type, operator_type, over_relation, postfix_type, prefix_type, same_type, selector_type, tuple_type}
+use Rattle.td_check.specs.OperatorTypes.{count_item, aggregate_item, aggregate_type, are_types_of, comparison_type, component_type, extension_type, extracted_type, headed_type, item_type, known_or, listed_type, measure_type, operator_type, over_relation, postfix_type, prefix_type, same_type, selector_type, tuple_type}
 use Rattle.td_check.specs.Scopes.{KnownRelvar, Scope, entered_with, innermost, known_relvar}
-use Rattle.td_check.specs.StaticLaws.{GiveNames, GivesNames, HasMore, IsKnownHeading, IsScope, PartsGiveNames}
-use Rattle.td_check.specs.StaticTypes.{name_type, named_types, type_of, types_of}
-use Rattle.td_check.proofs.KnownLaws.{supplies}
+use Rattle.td_check.specs.StaticLaws.{GiveNames, GivesNames, HasMore, IsKnownHeading, IsScope, ItemsGiveNames, PartsGiveNames}
+use Rattle.td_check.specs.StaticTypes.{items_of, name_type, named_types, type_of, types_of}
+use Rattle.td_check.proofs.GivenLaws.{items_give}
+use Rattle.td_check.proofs.KnownLaws.{known_closed, supplies}
+use Rattle.td_check.proofs.OperatorLaws.{Gives, ItemFits}
 use Rattle.td_check.proofs.StaticLaws.{more_changes_no_parts, types_are_known}
+use Rattle.td_check.proofs.SummaryLaws.{Items}
 use Rattle.td_tree.specs.declared.cause.Cause.TheVariants as causes
 use Rattle.td_tree.specs.declared.operator.Operator.{Operator}
 use Rattle.td_tree.specs.declared.operator.Operator.TheVariants as operators
-use Rattle.td_tree.specs.Outcomes.{Outcome, Valued, Refused, value_if, with_both, with_value}
-use Rattle.td_tree.specs.Trees.{AttributeTrees, Tree, literal, name, parentheses, prefix, extract, binary, compare, postfix, select, component, measure, aggregate, relation, headed_relation, tuple, extend, summarize_per, summarize_by, choice, Trees, none, more, NamedTrees, none_named, more_named}
+use Rattle.td_tree.specs.Outcomes.{Outcome, Valued, Refused, gathered, value_if, with_both, with_value}
+use Rattle.td_tree.specs.Trees.{AttributeTrees, Tree, literal, name, parentheses, prefix, extract, binary, compare, postfix, select, component, measure, aggregate, relation, headed_relation, tuple, extend, summarize_per, summarize_by, choice, Trees, none, more, NamedTrees, none_named, more_named, Summaries, no_summaries, counted, summed}
 use Rattle.td_types.specs.Headings.{made_heading}
 use Rattle.td_types.specs.TypeListLaws.{HaveNames}
 use Rattle.td_types.specs.TypeLists.{AreKnown, DeclaredType, attributes_meant, declared_at, heading_meant}
 use Rattle.td_types.specs.Types.{Type', Attribute, Heading, IsHeading, IsType, pack, type_at}
 use Rattle.td_types.specs.Types as types
 use Rattle.td_types.proofs.Meanings.{attributes_later}
-use Rattle.td_types.proofs.OutcomeLaws.{value_of_with}
+use Rattle.td_types.proofs.OutcomeLaws.{value_of_with, valued_is, values_of_both}
 use Rattle.td_value.specs.KnownValues.{AreOfTypes}
 use Rattle.td_value.specs.Values.{Val, AreValues, Relation, Tuple, heading_of, pack_fields, pack_parts, value_at}
 use Rattle.td_value.specs.Values as values
 use Rattle.td_value.proofs.HeadingOf.{fields_type-heading}
 use Rattle.td_value.proofs.KnownValues.{has_its_type, has_known_type}
 use Rattle.td_value.proofs.Typed.{typed}
-use Rattle.td_eval.specs.AggregateValues.{aggregated_value, asked_of}
-use Rattle.td_eval.specs.Covered.{are_covered, is_covered, parts_covered, postfix_covered, prefix_covered}
+use Rattle.td_eval.specs.AggregateValues.{aggregated_value, asked_of, summary_attributes}
+use Rattle.td_eval.specs.Covered.{are_covered, is_covered, items_covered, parts_covered, postfix_covered, prefix_covered}
 use Rattle.td_eval.specs.OperatorValues.{comparison_value, component_value, extended_value, extracted_value, headed_value, listed_value, measure_value, on_relation, operator_value, postfix_value, prefix_value, relation_as_value, restricted_value, tuple_from}
-use Rattle.td_eval.specs.TreeTexts.{HasTexts, HaveTexts, PartsHaveTexts}
-use Rattle.td_eval.specs.TreeValues.{argument_values, entry_values, value_of, values_in_tuples}
+use Rattle.td_eval.specs.TreeTexts.{HasTexts, HaveTexts, ItemsHaveTexts, PartsHaveTexts}
+use Rattle.td_eval.specs.TreeValues.{argument_values, entry_values, items_in_tuples, value_of, values_in_tuples}
 use Rattle.td_eval.specs.ValueTypes.{IsOfType, IsTypedTuple, KeepsScope, KeepsType, ValuesKeepTypes, with_tuples}
 use Rattle.td_eval.specs.Worlds.{World, innermost_value, known_outcome, name_value, scope_among, selected}
 use Rattle.td_eval.proofs.KeepsGathered.{member_from_all}
@@ -39,6 +43,8 @@ use Rattle.td_eval.proofs.KeepsAggregates.{aggregation_keeps}
 use Rattle.td_eval.proofs.KeepsExtension.{PartsKeep}
 use Rattle.td_eval.proofs.KeepsOperators.{compose_keeps, intersect_keeps, join_keeps, matching_keeps, minus_keeps, not_matching_keeps, times_keeps, union_keeps}
 use Rattle.td_eval.proofs.KeepsPostfix.{postfix_keeps}
+use Rattle.td_eval.proofs.KeepsSummaries.{ItemsKeep, summarize_by_keeps, summarize_per_keeps}
+use Rattle.td_eval.proofs.SummaryParts.{attributes_of_items, more_changes_no_items}
 use Rattle.td_eval.proofs.TypedOperators.{add_keeps, and_keeps, choice_keeps, comparison_keeps, component_keeps, concatenate_keeps, divide_keeps, extracted_keeps, literal_keeps, measure_keeps, multiply_keeps, or_keeps, prefix_keeps, subtract_keeps}
 use Rattle.td_eval.proofs.TypedOutcomes.{KeepsAs, Of, as_typed, both_keep, keeps_both, made_keeps, test_keeps, typed_as, value_keeps}
 use Rattle.td_eval.proofs.TypedRows.{AreEntriesOf, AreOf, extend_keeps, headed_keeps, listed_keeps, own_type, rows_typed, tuple_from_keeps, where_keeps}
@@ -120,6 +126,18 @@ innermost_found ds n (t ∷ s) h = by_option (type_at n (heading_of t)) (value_a
     by_option None (Some v) k rest = absurd k
     by_option None None k rest = rest
 
+-- it has the type of its value
+pub innermost_typed : (n : List ℕ) (s : List Tuple) → innermost n (map heading_of s) ≡ option_map values.type_of (innermost_value n s)
+innermost_typed n [] = refl
+innermost_typed n (t ∷ s) = by_option (type_at n (heading_of t)) (value_at n t) (type_at-heading_of n t) (innermost_typed n s)
+  where
+    by_option : (a : Option Type') (b : Option Val) → a ≡ option_map values.type_of b
+        → innermost n (map heading_of s) ≡ option_map values.type_of (innermost_value n s)
+        → elim a as (λ _. Option Type') [ Some u ↦ Some u | None ↦ innermost n (map heading_of s) ]
+        ≡ option_map values.type_of (elim b as (λ _. Option Val) [ Some v ↦ Some v | None ↦ innermost_value n s ])
+    by_option a (Some v) e rest = rw e refl
+    by_option a None e rest = rw e rest
+
 else_keeps : (ds : List DeclaredType) (a : Option Type') (b : Option Val) (x : Outcome Type') (o : Outcome Val) → BothFound ds a b → KeepsType ds x o
     → KeepsType ds (elim a as (λ _. Outcome Type') [ Some t ↦ Valued t | None ↦ x ]) (elim b as (λ _. Outcome Val) [ Some v ↦ Valued v | None ↦ o ])
 else_keeps ds (Some t) (Some v) x o k h = k
@@ -191,6 +209,21 @@ module _ (w : World) (scope : Scope) (k : KeepsScope w scope) where
           test_keeps ds (are_types_of ts d.components) (types.user n) causes.TypeMismatch (selected w n vs)
           (λ fit. rw (KeepsType, x.1) (x.2 vs (components_are ds ts vs d.components all fit)))
       by_option None e = tt
+
+  -- the new attributes of SUMMARIZE, where the items have types
+  items_are_kept : (items : Summaries) (s : List Tuple) (r : Relation) (xs : Items) → AreTyped s → ItemsGiveNames items
+      → IsOfType ds (relation_as_value r) (types.relation (pack r.heading)) → items_of (entered_with r.heading (with_tuples scope s)) items ≡ Valued xs
+      → ItemsKeep ds r xs (items_in_tuples w s items)
+      → (summary_attributes (entered_with r.heading (scope_among w s)) items ≡ gathered (map item_type xs))
+      × AllByRecursion (ItemFits (known_closed ds)) xs × ItemsKeep ds r xs (items_in_tuples w s items)
+  items_are_kept items s r xs h n p e kept =
+      let here = entered_with r.heading (with_tuples scope s) in
+      let there = entered_with r.heading (scope_among w s) in (
+        attributes_of_items there items xs (more_changes_no_items here there items xs (more_there s r.heading) e),
+        subst (Gives (AllByRecursion (ItemFits (known_closed ds)))) e
+            (items_give (known_closed ds) items n here (supplies here (entered_is s r.heading h (p.0.2, p.1.1)))),
+        kept,
+      )
 
   mutual
     pub keeps : (e : Tree) (s : List Tuple) → AreTyped s → IsTrue (is_covered e) → GivesNames e → HasTexts e
@@ -273,8 +306,20 @@ module _ (w : World) (scope : Scope) (k : KeepsScope w scope) where
           subst (λ o. KeepParts ds r o (values_in_tuples w s parts)) e
               (parts_keep parts s h (second_true (is_covered operand) (parts_covered parts) c) n.1 x.1 r p),
         )))
-    keeps (summarize_per operand per items) s h c n x = absurd (true≢false (sym c))
-    keeps (summarize_by operand by items) s h c n x = absurd (true≢false (sym c))
+    keeps (summarize_per operand per items) s h c n x =
+        let covered = second_true (is_covered operand) (is_covered per && items_covered items) c in
+        summarize_per_keeps ds (λ g. items_of (entered_with g (with_tuples scope s)) items) (λ g. summary_attributes (entered_with g (scope_among w s)) items)
+        (items_in_tuples w s items) (type_of (with_tuples scope s) operand) (type_of (with_tuples scope s) per) (value_of w s operand) (value_of w s per)
+        (λ r xs p e. items_are_kept items s r xs h n.2 p e
+        (items_keep items s h (second_true (is_covered per) (items_covered items) covered) n.2 x.2 r p xs e))
+        (keeps operand s h (first_true (is_covered operand) (is_covered per && items_covered items) c) n.0 x.0)
+        (keeps per s h (first_true (is_covered per) (items_covered items) covered) n.1 x.1)
+    keeps (summarize_by operand by items) s h c n x =
+        summarize_by_keeps ds (λ g. items_of (entered_with g (with_tuples scope s)) items) (λ g. summary_attributes (entered_with g (scope_among w s)) items)
+        (items_in_tuples w s items) by (type_of (with_tuples scope s) operand) (value_of w s operand)
+        (λ r xs p e. items_are_kept items s r xs h n.1 p e
+        (items_keep items s h (second_true (is_covered operand) (items_covered items) c) n.1 x.1 r p xs e))
+        (keeps operand s h (first_true (is_covered operand) (items_covered items) c) n.0 x.0)
     keeps (choice condition consequent alternative) s h c n x =
         let covered = second_true (is_covered condition) (is_covered consequent && is_covered alternative) c in
         choice_keeps ds (type_of (with_tuples scope s) condition) (type_of (with_tuples scope s) consequent) (type_of (with_tuples scope s) alternative)
@@ -318,6 +363,27 @@ module _ (w : World) (scope : Scope) (k : KeepsScope w scope) where
         subst (λ g. KeepsType ds (type_of (entered_with g (with_tuples scope s)) value) (value_of w (u ∷ s) value)) at.1
         (keeps value (u ∷ s) (at.0, h) (first_true (is_covered value) (parts_covered rest) c) n.1 x.0))
         (parts_keep rest s h (second_true (is_covered value) (parts_covered rest) c) n.2 x.1 r p)
+
+    items_keep : (items : Summaries) (s : List Tuple) → AreTyped s → IsTrue (items_covered items) → ItemsGiveNames items → ItemsHaveTexts items
+        → (r : Relation) → IsOfType ds (relation_as_value r) (types.relation (pack r.heading)) → (xs : Items)
+        → items_of (entered_with r.heading (with_tuples scope s)) items ≡ Valued xs → ItemsKeep ds r xs (items_in_tuples w s items)
+    items_keep no_summaries s h c n x r p xs e = subst (λ ys. ItemsKeep ds r ys []) (valued_is [] xs e) tt
+    items_keep (counted m rest) s h c n x r p xs e =
+        let y = value_of_with (items_of (entered_with r.heading (with_tuples scope s)) rest) (λ others. Valued ((m, count_item) ∷ others)) xs e in
+        subst (λ ys. ItemsKeep ds r ys (items_in_tuples w s (counted m rest))) (valued_is ((m, count_item) ∷ y.0) xs y.2)
+        (refl, (λ u b. (tt, refl)), items_keep rest s h c n.1 x r p y.0 y.1)
+    items_keep (summed op value m rest) s h c n x r p xs e =
+        let here = entered_with r.heading (with_tuples scope s) in
+        let y = values_of_both (type_of here value) (items_of here rest) (λ t others. Valued ((m, aggregate_item op t) ∷ others)) xs e in
+        subst (λ ys. ItemsKeep ds r ys (items_in_tuples w s (summed op value m rest))) (valued_is ((m, aggregate_item op y.0) ∷ y.1) xs y.4) (
+          refl,
+          (λ u b.
+              let at = rows_typed ds r p u b in
+              subst (λ o. KeepsType ds o (value_of w (u ∷ s) value)) y.2
+              (subst (λ g. KeepsType ds (type_of (entered_with g (with_tuples scope s)) value) (value_of w (u ∷ s) value)) at.1
+              (keeps value (u ∷ s) (at.0, h) (first_true (is_covered value) (items_covered rest) c) n.0 x.0))),
+          items_keep rest s h (second_true (is_covered value) (items_covered rest) c) n.2 x.1 r p y.1 y.3,
+        )
 
 pub values_keep_types : ValuesKeepTypes
 values_keep_types w scope s e k h c p = keeps w scope k e s h c p.0 p.1

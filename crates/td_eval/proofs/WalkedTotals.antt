@@ -10,6 +10,7 @@ use Rattle.td_algebra.proofs.Members.{both_true, first_true, second_true}
 use Rattle.td_check.specs.OperatorTypes.{aggregate_type}
 use Rattle.td_check.specs.Scopes.{Scope}
 use Rattle.td_check.specs.StaticTypes.{type_of}
+use Rattle.td_eval.proofs.SummaryParts.{first_valued, named_first}
 use Rattle.td_eval.proofs.WalkedLists.{as_many}
 use Rattle.td_eval.specs.AggregateValues.{Summand, aggregate_of, group_values, summarized_value, summary_attributes, summary_in, takes}
 use Rattle.td_eval.specs.NewColumns.{named_columns, with_values}
@@ -61,17 +62,6 @@ part_agrees (a ∷ g) h e =
     (part_agrees g h (second_true (there && typed) (is_part g h) e))
 
 -- ---- the new attributes
-
-first_valued : {A : Type 0} (a : A) (o : Outcome (List A)) → with_both (Valued a) o (λ x xs. Valued (x ∷ xs)) ≡ with_value o (λ xs. Valued (a ∷ xs))
-first_valued a (Valued xs) = refl
-first_valued a (Refused cs) = refl
-
-named_first : (n : List ℕ) (o : Outcome Type') (p : Outcome (List Attribute))
-    → with_both (with_value o (λ t. Valued (n, t))) p (λ x xs. Valued (x ∷ xs)) ≡ with_both o p (λ t attributes. Valued ((n, t) ∷ attributes))
-named_first n (Valued t) (Valued xs) = refl
-named_first n (Valued t) (Refused ds) = refl
-named_first n (Refused cs) (Valued xs) = refl
-named_first n (Refused cs) (Refused ds) = refl
 
 pub attributes_are : (scope : Scope) (xs : List Summary) → gathered (map (attribute_found scope) xs) ≡ summary_attributes scope (summaries_view xs)
 attributes_are scope [] = refl

@@ -1,8 +1,8 @@
--- Of which expressions the laws of values are said so far: those without SUMMARIZE.
+-- Of which expressions the laws of values are said so far: all.
 use Rattle.std.specs.Prelude.{Bool, true, false, ◌&&◌, List, Option, Some, None, IsTrue}
 use Rattle.std.specs.List.{AllByRecursion}
 use Rattle.td_tree.specs.declared.operator.Prefix.{Prefix}
-use Rattle.td_tree.specs.Trees.{Postfix, project, rename, group, ungroup, wrap, unwrap, Tree, literal, name, parentheses, prefix, extract, binary, compare, postfix, select, component, measure, aggregate, relation, headed_relation, tuple, extend, summarize_per, summarize_by, choice, Trees, none, more, NamedTrees, none_named, more_named}
+use Rattle.td_tree.specs.Trees.{Postfix, project, rename, group, ungroup, wrap, unwrap, Tree, literal, name, parentheses, prefix, extract, binary, compare, postfix, select, component, measure, aggregate, relation, headed_relation, tuple, extend, summarize_per, summarize_by, choice, Trees, none, more, NamedTrees, none_named, more_named, Summaries, no_summaries, counted, summed}
 use Rattle.td_types.specs.TypeLists.{DeclaredType}
 
 abbrev pub prefix_covered : Prefix → Bool
@@ -34,8 +34,8 @@ abbrev mutual
   is_covered (headed_relation heading elements) = are_covered elements
   is_covered (tuple parts) = parts_covered parts
   is_covered (extend operand parts) = is_covered operand && parts_covered parts
-  is_covered (summarize_per operand per items) = false
-  is_covered (summarize_by operand by items) = false
+  is_covered (summarize_per operand per items) = is_covered operand && (is_covered per && items_covered items)
+  is_covered (summarize_by operand by items) = is_covered operand && items_covered items
   is_covered (choice condition consequent alternative) = is_covered condition && (is_covered consequent && is_covered alternative)
 
   pub are_covered : Trees → Bool
@@ -45,6 +45,11 @@ abbrev mutual
   pub parts_covered : NamedTrees → Bool
   parts_covered none_named = true
   parts_covered (more_named n value rest) = is_covered value && parts_covered rest
+
+  pub items_covered : Summaries → Bool
+  items_covered no_summaries = true
+  items_covered (counted n rest) = items_covered rest
+  items_covered (summed op value n rest) = is_covered value && items_covered rest
 
 -- a type without a constraint, or whose constraint is covered
 abbrev pub constraint_covered : Option Tree → Bool

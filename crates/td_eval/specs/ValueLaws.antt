@@ -1,21 +1,25 @@
 -- What a value depends on, and what it does not depend on: laws (Tutorial D's; the causes are this project's own).
 use Rattle.std.specs.Prelude.{◌≡◌, ◌↔◌, ℕ, Bool, List, ◌++◌, filter, map, Some, IsTrue}
 use Rattle.std.specs.List.{AllByRecursion, Contains}
+use Rattle.std.specs.List.Sorted.{IsPermutation}
 use Rattle.td_catalog.specs.Database.{BaseRelvar, Database, base_named, database_scope, with_base, with_declared}
 use Rattle.td_catalog.specs.Legality.{IsLegal}
 use Rattle.td_check.specs.Mentions.{relvars_in, types_in}
 use Rattle.td_check.specs.Scopes.{Scope}
-use Rattle.td_check.specs.StaticLaws.{AgreeAt, AgreeOn, UsersAllIn}
+use Rattle.td_check.specs.StaticLaws.{AgreeAt, AgreeOn, GivesNames, IsScope, UsersAllIn}
 use Rattle.td_check.specs.StaticTypes.{type_of}
+use Rattle.td_eval.specs.AggregateValues.{Summand, aggregated_value, summarized_value}
 use Rattle.td_eval.specs.Covered.{TypesAreCovered, is_covered}
 use Rattle.td_eval.specs.DatabaseWorlds.{world_of}
 use Rattle.td_eval.specs.OperatorValues.{extended_value, is_true, of_relation, restricted_value, truth_value}
 use Rattle.td_eval.specs.TreeValues.{value_of}
 use Rattle.td_eval.specs.ValueTypes.{AreComponentsOf, ConstraintsAreWritten, IsTypedTuple, IsWritten, KeepsScope, with_tuples}
 use Rattle.td_eval.specs.Worlds.{World, scope_among, selected}
+use Rattle.td_group.specs.Aggregates.{aggregate}
+use Rattle.td_group.specs.declared.aggregates.Agg.{Agg}
 use Rattle.td_tree.specs.declared.cause.Cause.{Cause}
 use Rattle.td_tree.specs.Outcomes.{Has, Outcome, Valued, Refused, gathered, least, with_value}
-use Rattle.td_tree.specs.Trees.{Tree}
+use Rattle.td_tree.specs.Trees.{Attributes, Tree, postfix, summarize_per, summarize_by, Summaries, project}
 use Rattle.td_types.specs.TypeLists.{DeclaredType, declared_at}
 use Rattle.td_types.specs.Types.{Attribute, Heading, Type', pack}
 use Rattle.td_value.specs.Values.{Val, HaveSameMembers, IsRelation, Relation, Tuple, heading_of, relation_of}
@@ -110,7 +114,8 @@ abbrev pub restricted_in_turn : (Tuple → Outcome Val) → Heading → List Tup
 restricted_in_turn p h tuples =
     with_value (gathered (map (λ t. truth_value (p t)) tuples)) (λ truths. of_relation (relation_of h (filter (λ t. is_true (p t)) tuples)))
 
--- what is applied to the tuples of a relation gives the same in whatever order, and however often, they are taken
+-- what is applied to the tuples of a relation gives the same in whatever order, and however often, they are taken; what is
+-- aggregated, in whatever order, where each is taken once
 pub record TupleOrderDoesNotCount : Type 0 where
   pub restricted :
       (p : Tuple → Outcome Val) (r : Relation) (tuples : List Tuple) → IsRelation r → HaveSameMembers r.body tuples
@@ -118,3 +123,26 @@ pub record TupleOrderDoesNotCount : Type 0 where
   pub extended :
       (types : Outcome (List Attribute)) (fs : List (Tuple → Outcome Val)) (r : Relation) (tuples : List Tuple) → HaveSameMembers r.body tuples
       → AreOneOutcome (extended_value types fs r) (extended_value types fs (relation_view r.heading tuples))
+  -- COUNT, SUM, MAX and MIN of values, each as often as it comes
+  pub values : (a : Agg) (vs ws : List Val) → IsPermutation vs ws → aggregate a vs ≡ aggregate a ws
+  pub aggregated :
+      (a : Agg) (f : Tuple → Outcome Val) (r : Relation) (tuples : List Tuple) → IsPermutation r.body tuples
+      → AreOneOutcome (aggregated_value a f r) (aggregated_value a f (relation_view r.heading tuples))
+  -- SUMMARIZE: the tuples of the operand, with which those of each group come, and those of PER
+  pub summarized :
+      (types : Outcome (List Attribute)) (items : List Summand) (r p : Relation) (tuples groups : List Tuple) → IsPermutation r.body tuples
+      → HaveSameMembers p.body groups
+      → AreOneOutcome (summarized_value types items r p) (summarized_value types items (relation_view r.heading tuples) (relation_view p.heading groups))
+
+-- ---- SUMMARIZE BY
+
+-- it is SUMMARIZE PER of the projection of its operand: it has the same value or the same causes and, of an operand that
+-- gives attributes names, the same type
+pub record SummarizeByIsPerOfTheProjection : Type 0 where
+  pub values :
+      (w : World) (s : List Tuple) (operand : Tree) (by : Attributes) (items : Summaries)
+      → AreOneOutcome (value_of w s (summarize_by operand by items)) (value_of w s (summarize_per operand (postfix operand (project by)) items))
+  pub types :
+      (scope : Scope) (operand : Tree) (by : Attributes) (items : Summaries) (t : Type') → IsScope scope → GivesNames operand
+      → (type_of scope (summarize_by operand by items) ≡ Valued t)
+      ↔ (type_of scope (summarize_per operand (postfix operand (project by)) items) ≡ Valued t)

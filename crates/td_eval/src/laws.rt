@@ -1,5 +1,6 @@
 //! What the values of expressions are to their callers: each function has its contract alone.
-ghost use Rattle.td_eval.specs.ValueLaws.{LaterEntriesChangeNothing, TupleOrderDoesNotCount};
+ghost use Rattle.td_eval.specs.ValueLaws.{LaterEntriesChangeNothing};
+ghost use Rattle.td_eval.specs.ValueLaws.{SummarizeByIsPerOfTheProjection, TupleOrderDoesNotCount};
 ghost use Rattle.td_eval.specs.ValueLaws.{ValuesDependOnEntries, ValuesDependOnMentions};
 ghost use Rattle.td_eval.specs.ValueTypes.{LegalDatabasesKeepScopes, OtherRelationsKeepScopes};
 ghost use Rattle.td_eval.specs.ValueTypes.{ValuesKeepTypes};
@@ -33,7 +34,13 @@ pub fn later_entries_change_nothing()
     ensures { LaterEntriesChangeNothing }
 {}
 
-/// WHERE and EXTEND give the same in whatever order the tuples of a relation are taken.
+/// WHERE, EXTEND, aggregates and SUMMARIZE give the same in whatever order the tuples of a relation
+/// are taken.
 pub fn tuple_order_does_not_count()
     ensures { TupleOrderDoesNotCount }
+{}
+
+/// SUMMARIZE BY is SUMMARIZE PER of the projection of its operand.
+pub fn summarize_by_is_per_of_the_projection()
+    ensures { SummarizeByIsPerOfTheProjection }
 {}

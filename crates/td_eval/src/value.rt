@@ -537,10 +537,10 @@ fn summary<B: Body>(
 }
 
 /// The value of the expression in what it is evaluated in, or the least of the causes for which it
-/// has none. Until UNGROUP, UNWRAP, SUMMARIZE and transitive closure are covered, that is said of
-/// expressions without them where no type's constraint has one: with another one than SUMMARIZE it
-/// may be refused by TYPE_MISMATCH. Of an expression that the checker gave a type the value is of
-/// that type, and the causes are from OVERFLOW up.
+/// has none. Until UNGROUP, UNWRAP and transitive closure are covered, that is said of expressions
+/// without them where no type's constraint has one: with one it may be refused by TYPE_MISMATCH.
+/// Of an expression that the checker gave a type the value is of that type, and the causes are from
+/// OVERFLOW up.
 pub fn eval<B: Body>(alloc: Global, env: &Env<'_, B>, expr: &Expr) -> Result<Value, Fault>
     ensures value { IsTrue (is_covered (tree_view expr.now))
         → TypesAreCovered env.now.catalog.now.types → Answers (λ v. v) result

@@ -1,7 +1,7 @@
 mod Apart
 mod Chains
 pub mod ClosureLaws
-mod Extremes
+pub mod Extremes
 mod Graphs
 mod GroupMembers
 mod Grouped
