@@ -7,9 +7,12 @@ pub mod KeepsOperators
 pub mod KeepsPostfix
 pub mod KeepsRelations
 pub mod LaterEntries
+pub mod LiteralTypes
+pub mod LiteralValues
 pub mod Measures
 pub mod MentionedEntries
 pub mod MentionedValues
+pub mod MetConstraints
 pub mod MoreWorlds
 pub mod NestedNames
 pub mod NewAttributes

@@ -1,4 +1,8 @@
 //! What the values of expressions are to their callers: each function has its contract alone.
+ghost use Rattle.td_eval.specs.LiteralValues.{LaterTypesKeepWhatMeets, LiteralsHaveTheirTypes};
+ghost use Rattle.td_eval.specs.LiteralValues.{LiteralsHaveTheirValues, SelectorsGiveWhatMeets};
+ghost use Rattle.td_eval.specs.LiteralValues.{StoredLiteralsHaveTheirValues};
+ghost use Rattle.td_eval.specs.LiteralValues.{WhatSelectorsGiveMeets};
 ghost use Rattle.td_eval.specs.ValueLaws.{LaterEntriesChangeNothing, TupleOrderDoesNotCount};
 ghost use Rattle.td_eval.specs.ValueLaws.{ValuesDependOnEntries, ValuesDependOnMentions};
 ghost use Rattle.td_eval.specs.ValueTypes.{LegalDatabasesKeepScopes, OtherRelationsKeepScopes};
@@ -36,4 +40,25 @@ pub fn later_entries_change_nothing()
 /// WHERE and EXTEND give the same in whatever order the tuples of a relation are taken.
 pub fn tuple_order_does_not_count()
     ensures { TupleOrderDoesNotCount }
+{}
+
+/// The tree that the literal of a value spells has the value's type, and that value where
+/// selectors give the user values in it.
+pub fn literals_have_their_values()
+    ensures types { LiteralsHaveTheirTypes }
+    ensures values { LiteralsHaveTheirValues }
+{}
+
+/// The selectors of a legal database give the user values that meet the constraints of their types,
+/// and no others, and go on to do so where types are added.
+pub fn selectors_give_what_meets()
+    ensures values { SelectorsGiveWhatMeets }
+    ensures given { WhatSelectorsGiveMeets }
+    ensures later { LaterTypesKeepWhatMeets }
+{}
+
+/// In a legal database the tree of the literal of a value whose user values meet the constraints
+/// of their types has that value.
+pub fn stored_literals_have_their_values()
+    ensures { StoredLiteralsHaveTheirValues }
 {}
