@@ -315,7 +315,7 @@ base_stays n (b ∷ bs) more k = by_test (same_name b.name n) refl (base_stays n
     by_test false is rest = rw is (rest (rw is at k))
 
 module _ (first second : Database) (later : HasLater first second) (legal : AreLegal first.types) where
-  selectors_stay : (n : List ℕ) → SelectsTheSame (database_scope first) (world_of first) (world_of second) n
+  pub selectors_stay : (n : List ℕ) → SelectsTheSame (database_scope first) (world_of first) (world_of second) n
   selectors_stay n d vs is h =
       let x = (all_select first.types legal second.types later.types.0 later.types.1).found n d is in
       let there : (world_of second).selector n ≡ Some x.0 =

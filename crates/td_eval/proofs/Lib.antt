@@ -13,9 +13,12 @@ pub mod KeepsRelations
 pub mod KeepsSummaries
 pub mod KeepsUnnesting
 pub mod LaterEntries
+pub mod LiteralTypes
+pub mod LiteralValues
 pub mod Measures
 pub mod MentionedEntries
 pub mod MentionedValues
+pub mod MetConstraints
 pub mod MoreWorlds
 pub mod NestedNames
 pub mod NewAttributes

@@ -51,7 +51,7 @@ stays_on all front rest n f e is =
     ∙ ap (λ (s : Selectors). s n) (fold-append (with_selector all) none_yet front rest)
     ∙ stays all rest (selectors_of all front) n f is
 
-none_before : (all xs : List DeclaredType) (s : Selectors) (n : List ℕ) → s n ≡ None → declared_at n xs ≡ None → fold (with_selector all) s xs n ≡ None
+pub none_before : (all xs : List DeclaredType) (s : Selectors) (n : List ℕ) → s n ≡ None → declared_at n xs ≡ None → fold (with_selector all) s xs n ≡ None
 none_before all [] s n is k = is
 none_before all (x ∷ xs) s n is k = by_test (same_name x.name n) refl (none_before all xs (with_selector all s x) n)
   where
@@ -81,7 +81,7 @@ some_before all (x ∷ xs) s n k = by_option (s n) refl (some_before all xs (wit
     by_option None is rest = by_test is (same_name x.name n) refl rest
 
 -- the first type of a name has the selector
-chosen : (all earlier later : List DeclaredType) (d : DeclaredType) (n : List ℕ) → all ≡ earlier ++ (d ∷ later) → declared_at n earlier ≡ None
+pub chosen : (all earlier later : List DeclaredType) (d : DeclaredType) (n : List ℕ) → all ≡ earlier ++ (d ∷ later) → declared_at n earlier ≡ None
     → same_name d.name n ≡ true → (vs : List Val)
     → selected (world_of_types all all) n vs ≡ selector_value (types_alone all (selectors_of all earlier)) d vs
 chosen all earlier later d n e none named vs =

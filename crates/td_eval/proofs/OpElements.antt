@@ -87,7 +87,7 @@ headed_of h vs ts x e a = rw e a
 
 -- ---- a user value's component
 
-components_unpacked : (vs : List Val) → components_of (pack_parts vs) ≡ vs
+pub components_unpacked : (vs : List Val) → components_of (pack_parts vs) ≡ vs
 components_unpacked [] = refl
 components_unpacked (v ∷ vs) = ap (λ ws. v ∷ ws) (components_unpacked vs)
 

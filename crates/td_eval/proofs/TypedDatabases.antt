@@ -93,7 +93,7 @@ is_false : (b : Bool) → not b ≡ true → b ≡ false
 is_false true e = absurd (cc)
 is_false false e = refl
 
-types_fit : (ds : List DeclaredType) (vs : List Val) (cs : List Attribute) → AreOfTypes ds (pack_parts vs) cs → are_types_of (map values.type_of vs) cs ≡ true
+pub types_fit : (ds : List DeclaredType) (vs : List Val) (cs : List Attribute) → AreOfTypes ds (pack_parts vs) cs → are_types_of (map values.type_of vs) cs ≡ true
 types_fit ds [] [] h = refl
 types_fit ds [] (c ∷ cs) h = absurd h
 types_fit ds (v ∷ vs) [] h = absurd h

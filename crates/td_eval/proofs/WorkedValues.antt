@@ -1,8 +1,9 @@
 -- The definition of values on worked expressions.
 use Rattle.std.proofs.Common.{◌≡◌, ◌∷◌, ◌-◌, ◌^◌, ℕ, Bool, true, false, List, [], Some, pos, negsuc, refl}
-use Rattle.td_catalog.specs.Database.{empty_database}
+use Rattle.td_catalog.specs.Database.{empty_database, with_declared}
 use Rattle.td_eval.specs.DatabaseWorlds.{world_of}
 use Rattle.td_eval.specs.TreeValues.{value_of}
+use Rattle.td_eval.specs.Worlds.{World}
 use Rattle.td_tree.specs.declared.cause.Cause.TheVariants as causes
 use Rattle.td_tree.specs.declared.operator.Comparison.TheVariants as comparisons
 use Rattle.td_tree.specs.declared.operator.Operator.TheVariants as operators
@@ -10,8 +11,14 @@ use Rattle.td_tree.specs.declared.operator.Prefix.TheVariants as prefixes
 use Rattle.td_tree.specs.Outcomes.{Outcome, Valued, named_cause}
 use Rattle.td_tree.specs.Trees.{Tree, Trees, NamedTrees}
 use Rattle.td_tree.specs.Trees as trees
+use Rattle.td_types.specs.TypeLists.{DeclaredType, declared_type}
 use Rattle.td_types.specs.Types as types
+<<<<<<< HEAD
 use Rattle.td_value.specs.Values.{Val, boolean, integer, Fields, field, no_fields, no_rows, relation, row}
+=======
+use Rattle.td_value.specs.LiteralTrees.{literal_tree}
+use Rattle.td_value.specs.Values.{Val, boolean, integer, field, no_fields, no_parts, no_rows, part, relation, row, user}
+>>>>>>> literals
 
 abbrev value : Tree → Outcome Val
 value = value_of (world_of empty_database) []
@@ -96,6 +103,7 @@ nothing_extended : value (trees.extend (of_integers trees.none) (trees.more_name
     ≡ Valued (relation (types.attr attribute_a types.integer (types.attr (66 ∷ []) types.char types.no_attrs)) no_rows)
 nothing_extended = refl
 
+<<<<<<< HEAD
 -- ---- UNGROUP and TCLOSE
 
 abbrev attribute_k : List ℕ
@@ -133,3 +141,36 @@ circled : value (trees.prefix prefixes.TransitiveClosure (trees.relation (trees.
     ≡ Valued (relation (types.attr attribute_x types.integer (types.attr attribute_y types.integer types.no_attrs))
     (row (led 1 1) (row (led 1 2) (row (led 2 1) (row (led 2 2) no_rows)))))
 circled = refl
+=======
+-- the literal of the least number
+least_literal : value (literal_tree (integer (negsuc (2 ^ 63 - 1)))) ≡ Valued (integer (negsuc (2 ^ 63 - 1)))
+least_literal = refl
+
+-- a type of one INTEGER below 10
+abbrev attribute_n : List ℕ
+attribute_n = 78 ∷ []
+
+abbrev low_numbers : DeclaredType
+low_numbers =
+    declared_type (76 ∷ []) ((attribute_n, types.integer) ∷ [])
+    (Some (trees.compare (trees.name attribute_n) comparisons.Less (digit 10)))
+
+abbrev with_low_numbers : World
+with_low_numbers = world_of (with_declared low_numbers empty_database)
+
+abbrev low_number : ℕ → Val
+low_number n = user (76 ∷ []) (part (integer (pos n)) no_parts)
+
+abbrev low_relation : ℕ → Val
+low_relation n =
+    relation (types.attr attribute_a (types.user (76 ∷ [])) types.no_attrs)
+    (row (field attribute_a (low_number n) no_fields) no_rows)
+
+-- the literal of a relation of values that meet the constraint is that relation
+met_literal : value_of with_low_numbers [] (literal_tree (low_relation 9)) ≡ Valued (low_relation 9)
+met_literal = refl
+
+-- where one does not meet it there is none
+unmet_literal : named_cause (value_of with_low_numbers [] (literal_tree (low_relation 10))) ≡ Some causes.TypeConstraint
+unmet_literal = refl
+>>>>>>> literals

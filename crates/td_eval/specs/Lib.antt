@@ -1,6 +1,7 @@
 pub mod AggregateValues
 pub mod Covered
 pub mod DatabaseWorlds
+pub mod LiteralValues
 pub mod NewColumns
 pub mod OperatorValues
 pub mod Sights

@@ -1,0 +1,100 @@
+-- The value of the tree that a value's literal spells: laws (Tutorial D's selectors).
+use Rattle.std.specs.Prelude.{◌≡◌, ◌↔◌, ℕ, true, List, ◌∷◌, ◌++◌, ⊤}
+use Rattle.td_catalog.specs.Database.{Database}
+use Rattle.td_catalog.specs.Legality.{IsLegal}
+use Rattle.td_check.specs.Scopes.{Scope}
+use Rattle.td_check.specs.StaticTypes.{type_of}
+use Rattle.td_eval.specs.Covered.{TypesAreCovered}
+use Rattle.td_eval.specs.DatabaseWorlds.{constraint_value, world_of, world_of_types}
+use Rattle.td_eval.specs.OperatorValues.{components_of}
+use Rattle.td_eval.specs.TreeValues.{value_of}
+use Rattle.td_eval.specs.ValueLaws.{HasLater}
+use Rattle.td_eval.specs.ValueTypes.{ConstraintsAreWritten}
+use Rattle.td_eval.specs.Worlds.{World, selected}
+use Rattle.td_tree.specs.Outcomes.{Valued}
+use Rattle.td_types.specs.TypeLists.{DeclaredType}
+use Rattle.td_types.specs.Types.{Type'}
+use Rattle.td_value.specs.KnownValues.{HasType}
+use Rattle.td_value.specs.LiteralTrees.{literal_tree}
+use Rattle.td_value.specs.Values.{Val, boolean, integer, char, user, tuple, relation, Parts, no_parts, part, Fields, no_fields, field, Rows, no_rows, row, IsValue, Tuple, pack_parts}
+
+-- ---- the user values in a value
+
+-- P holds of each, at every depth: of its type's name and its components
+abbrev mutual
+  pub EachUserValue : (List ℕ → Parts → Type 0) → Val → Type 0
+  EachUserValue P (boolean b) = ⊤
+  EachUserValue P (integer z) = ⊤
+  EachUserValue P (char s) = ⊤
+  EachUserValue P (user n ps) = P n ps × EachInParts P ps
+  EachUserValue P (tuple fs) = EachInFields P fs
+  EachUserValue P (relation h rs) = EachInRows P rs
+
+  pub EachInParts : (List ℕ → Parts → Type 0) → Parts → Type 0
+  EachInParts P no_parts = ⊤
+  EachInParts P (part v ps) = EachUserValue P v × EachInParts P ps
+
+  pub EachInFields : (List ℕ → Parts → Type 0) → Fields → Type 0
+  EachInFields P no_fields = ⊤
+  EachInFields P (field n v fs) = EachUserValue P v × EachInFields P fs
+
+  pub EachInRows : (List ℕ → Parts → Type 0) → Rows → Type 0
+  EachInRows P no_rows = ⊤
+  EachInRows P (row fs rs) = EachInFields P fs × EachInRows P rs
+
+-- the selector of the type gives the user value of these components
+abbrev pub Selects : World → List ℕ → Parts → Type 0
+Selects w n ps = selected w n (components_of ps) ≡ Valued (user n ps)
+
+-- each user value in it is what a selector gives
+abbrev pub IsSelected : World → Val → Type 0
+IsSelected w = EachUserValue (Selects w)
+
+-- the components meet the constraint of the type of the name: it is TRUE of them where the selectors of the types before that
+-- type are known
+abbrev pub MeetConstraint : List DeclaredType → List ℕ → Parts → Type 0
+MeetConstraint ds n ps =
+    (earlier later : List DeclaredType) (d : DeclaredType) → ds ≡ earlier ++ (d ∷ later) → d.name ≡ n
+    → constraint_value (world_of_types ds earlier) d (components_of ps) ≡ Valued true
+
+-- each user value in it meets the constraint of its type
+abbrev pub MeetsConstraints : List DeclaredType → Val → Type 0
+MeetsConstraints ds = EachUserValue (MeetConstraint ds)
+
+-- ---- laws
+
+-- the tree of a value of a type has that type
+abbrev pub LiteralsHaveTheirTypes : Type 0
+LiteralsHaveTheirTypes =
+    (scope : Scope) (v : Val) (t : Type') → IsValue v → HasType scope.types v t → type_of scope (literal_tree v) ≡ Valued t
+
+-- and it has that value, where the selectors give its user values
+abbrev pub LiteralsHaveTheirValues : Type 0
+LiteralsHaveTheirValues =
+    (w : World) (s : List Tuple) (v : Val) (t : Type') → IsValue v → HasType w.scope.types v t → IsSelected w v
+    → value_of w s (literal_tree v) ≡ Valued v
+
+-- the selectors of a legal database give the user values in a value of a type exactly where these meet their constraints
+abbrev pub SelectorsGiveWhatMeets : Type 0
+SelectorsGiveWhatMeets =
+    (db : Database) (v : Val) (t : Type') → IsLegal db → HasType db.types v t
+    → IsSelected (world_of db) v ↔ MeetsConstraints db.types v
+
+-- what such a selector gives is the user value of its components, which meet the constraint
+abbrev pub WhatSelectorsGiveMeets : Type 0
+WhatSelectorsGiveMeets =
+    (db : Database) (n : List ℕ) (vs : List Val) (v : Val) → IsLegal db → selected (world_of db) n vs ≡ Valued v
+    → (v ≡ user n (pack_parts vs)) × MeetConstraint db.types n (pack_parts vs)
+
+-- so there the tree of a value whose user values meet their constraints has that value
+abbrev pub StoredLiteralsHaveTheirValues : Type 0
+StoredLiteralsHaveTheirValues =
+    (db : Database) (s : List Tuple) (v : Val) (t : Type') → IsLegal db → IsValue v → HasType db.types v t
+    → MeetsConstraints db.types v → value_of (world_of db) s (literal_tree v) ≡ Valued v
+
+-- they meet them still where more types stand behind
+abbrev pub LaterTypesKeepWhatMeets : Type 0
+LaterTypesKeepWhatMeets =
+    (first second : Database) (v : Val) (t : Type') → IsLegal first → IsLegal second → TypesAreCovered first.types
+    → ConstraintsAreWritten first.types → HasLater first second → IsValue v → HasType first.types v t
+    → MeetsConstraints first.types v → MeetsConstraints second.types v
