@@ -20,7 +20,6 @@ use Rattle.td_algebra.specs.Operators.{projected_relation, renamed_relation, ren
 use Rattle.td_algebra.specs.Results.{NewNamesAreNames}
 use Rattle.td_algebra.proofs.Lists.{contains_map}
 use Rattle.td_algebra.proofs.Results.{IsRelation-renamed}
-use Rattle.td_eval.specs.Covered.{postfix_covered}
 use Rattle.td_eval.specs.OperatorValues.{listed_names, postfix_value, projected_names, relation_where}
 use Rattle.td_eval.specs.ValueTypes.{IsOfType, KeepsType}
 use Rattle.td_eval.proofs.KeepsNesting.{grouped_made, nest_keeps, wrapped_made}
@@ -71,23 +70,23 @@ module _ (ds : List DeclaredType) where
 
 -- ---- the operators
 
-pub postfix_keeps : (ds : List DeclaredType) (op : Postfix) (v : Val) (s : Type') → IsTrue (postfix_covered op) → OperatorGivesNames op → IsOfType ds v s
+pub postfix_keeps : (ds : List DeclaredType) (op : Postfix) (v : Val) (s : Type') → OperatorGivesNames op → IsOfType ds v s
     → KeepsType ds (postfix_type op s) (postfix_value op v)
-postfix_keeps ds (project attributes) v s covered names k =
+postfix_keeps ds (project attributes) v s names k =
     over_relation_keeps ds v s _ _ k (λ r m e. part_keeps ds attributes r m)
-postfix_keeps ds (rename renamings) v s covered names k =
+postfix_keeps ds (rename renamings) v s names k =
     over_relation_keeps ds v s _ _ k
     (λ r m e. heading_if_keeps ds (can_rename (renaming_pairs renamings) r.heading) (heading_union [] (renamed (renaming_pairs renamings) r.heading)) causes.Heading
     (renamed_relation (renaming_pairs renamings) r) refl (λ fits. typed_renamed ds renamings r names fits m))
-postfix_keeps ds (group attributes name) v s covered names k =
+postfix_keeps ds (group attributes name) v s names k =
     over_relation_keeps ds v s _ _ k
     (λ r m e. nest_keeps ds attributes r.heading name (λ part. types.relation (pack part)) (λ ns. grouped_relation ns name r) (typed_heading ds r m).0
     (grouped_made ds name names r m))
-postfix_keeps ds (ungroup name) v s covered names k =
+postfix_keeps ds (ungroup name) v s names k =
     over_relation_keeps ds v s _ _ k (λ r m e. ungroup_keeps ds name r m)
-postfix_keeps ds (wrap attributes name) v s covered names k =
+postfix_keeps ds (wrap attributes name) v s names k =
     over_relation_keeps ds v s _ _ k
     (λ r m e. nest_keeps ds attributes r.heading name (λ part. types.tuple (pack part)) (λ ns. wrapped_relation ns name r) (typed_heading ds r m).0
     (wrapped_made ds name names r m))
-postfix_keeps ds (unwrap name) v s covered names k =
+postfix_keeps ds (unwrap name) v s names k =
     over_relation_keeps ds v s _ _ k (λ r m e. unwrap_keeps ds name r m)

@@ -266,7 +266,7 @@ module _ (ds : List DeclaredType) (items : Heading → Outcome Items) (attribute
       (λ g kinds e f. of_part g kinds f (meant_is_part by both.0 g (heading_is_one ds v both.0 q.0) e) (postfix_value (project by) v)
       (subst (λ o. KeepsType ds (relation_if o) (postfix_value (project by) v)) e
       (subst (λ h. KeepsType ds (relation_if (named_part by h)) (postfix_value (project by) v)) (unpack_pack both.0)
-      (postfix_keeps ds (project by) v (relation (pack both.0)) refl tt q.0))))
+      (postfix_keeps ds (project by) v (relation (pack both.0)) tt q.0))))
     where
       of_part : (g : Heading) (kinds : List Attribute) → gathered (map item_type both.1) ≡ Valued kinds
           → is_part g both.0 ≡ true

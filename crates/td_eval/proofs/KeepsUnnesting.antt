@@ -1,5 +1,5 @@
 -- UNGROUP and UNWRAP give values of their static types, or are refused by dynamic causes alone.
-use Rattle.std.proofs.Common.{◌≡◌, ◌∙◌, ◌++◌, ◌⊎◌, inl, inr, ℕ, Bool, true, false, List, [], ◌∷◌, None, Option, Some, ap, map, refl, subst, sym}
+use Rattle.std.proofs.Common.{◌≡◌, ◌∙◌, ◌++◌, ◌⊎◌, inl, inr, ℕ, Bool, true, false, List, [], ◌∷◌, None, Option, Some, ap, refl, subst, sym}
 use Rattle.std.specs.Prelude.{if◌then◌else◌, not}
 use Rattle.std.specs.List.{Contains, flat_map}
 use Rattle.td_algebra.proofs.Lists.{contains_cases, contains_flat_map, contains_map, contains_none}

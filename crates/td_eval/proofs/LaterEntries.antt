@@ -1,7 +1,7 @@
 -- Types and base relvars that stand behind those of a database change no value of an expression that has a type there.
 use Rattle.std.proofs.Common.{◌≡◌, ◌∙◌, ◌++◌, ℕ, Bool, true, false, List, [], ◌∷◌, Option, Some, None, append-nil, append_assoc, ap, fold, map, option_map, refl, subst, sym}
 use Rattle.std.specs.List.{AllByRecursion, zip}
-use Rattle.std.specs.Prelude.{IsTrue, is_some}
+use Rattle.std.specs.Prelude.{is_some}
 use Rattle.std.proofs.lemmas.List.{map-append}
 use Rattle.std.proofs.lemmas.List.Sums.{fold-append}
 use Rattle.td_catalog.specs.Database.{BaseRelvar, Database, base_among, database_scope, known_base}
@@ -27,7 +27,6 @@ use Rattle.td_value.specs.Values.{Val, AreValues, Parts, no_parts, part, Tuple, 
 use Rattle.td_value.specs.Values as values
 use Rattle.td_value.specs.Views.{user_view}
 use Rattle.td_value.proofs.KnownValues.{has_its_type}
-use Rattle.td_eval.specs.Covered.{TypesAreCovered, constraint_covered}
 use Rattle.td_eval.specs.DatabaseWorlds.{Selectors, constraint_value, selector_value, selectors_of, types_alone, with_selector, world_of, world_of_types}
 use Rattle.td_eval.specs.OperatorValues.{relation_as_value, truth_value}
 use Rattle.td_eval.specs.TreeValues.{value_of}
@@ -45,7 +44,6 @@ pub record AreLegal (ds : List DeclaredType) : Type 0 where
   pub declared : AreDeclared ds
   pub ranked : EachAfter IsRanked ds
   pub constrained : EachAfter IsConstrained ds
-  pub covered : TypesAreCovered ds
   pub written : ConstraintsAreWritten ds
 
 each_front : {A : Type 0} (P : List A → A → Type 0) (xs more : List A) → EachAfter P (xs ++ more) → EachAfter P xs
@@ -66,7 +64,6 @@ first_legal ds more h =
       declared = AreDeclared-front ds more h.declared;
       ranked = each_front IsRanked ds more h.ranked;
       constrained = each_front IsConstrained ds more h.constrained;
-      covered = all_front (λ (d : DeclaredType). IsTrue (constraint_covered d.constraint)) ds more h.covered;
       written = all_front (λ (d : DeclaredType). (e : Tree) → d.constraint ≡ Some e → IsWritten e) ds more h.written;
     }
 
@@ -78,7 +75,7 @@ pub types_keep : (ds : List DeclaredType) → AreLegal ds → KeepsScope (world_
 types_keep ds h =
     legal_databases_keep_scopes (types_database ds)
     (record { declared = h.declared; ranked = h.ranked; constrained = h.constrained; named = tt; distinct = refl; bases = tt })
-    h.covered h.written
+    h.written
 
 -- ---- selectors
 
@@ -130,9 +127,6 @@ module _ (front : List DeclaredType) (d : DeclaredType) (legal : AreLegal (front
   new : IsDeclarable front d
   new = legal.declared front [] d refl
 
-  covered : IsTrue (constraint_covered d.constraint)
-  covered = all_last (λ (c : DeclaredType). IsTrue (constraint_covered c.constraint)) front d legal.covered
-
   written : (e : Tree) → d.constraint ≡ Some e → IsWritten e
   written = all_last (λ (c : DeclaredType). (e : Tree) → c.constraint ≡ Some e → IsWritten e) front d legal.written
 
@@ -167,7 +161,6 @@ module _ (front : List DeclaredType) (d : DeclaredType) (legal : AreLegal (front
             (alike (tuple_of u) e is head
             (record {
               tuples = (made.0, tt);
-              covered = subst (λ o. IsTrue (constraint_covered o)) is covered;
               written = written e is;
               typed = (asked.0, ap (λ g. type_of (alone_with g (scope_of front)) e) head ∙ asked.1);
             }))
@@ -338,10 +331,10 @@ module _ (first second : Database) (later : HasLater first second) (legal : AreL
 pub later_entries_change_nothing : LaterEntriesChangeNothing
 later_entries_change_nothing =
     record {
-      values = λ first second s e legal covered written later checked.
-          let all : AreLegal first.types = record { declared = legal.declared; ranked = legal.ranked; constrained = legal.constrained; covered = covered; written = written } in
+      values = λ first second s e legal written later checked.
+          let all : AreLegal first.types = record { declared = legal.declared; ranked = legal.ranked; constrained = legal.constrained; written = written } in
           same_in_more (database_scope first) (world_of first) (world_of second) (has_more first second later all) s e
-          (legal_databases_keep_scopes first legal covered written) checked;
+          (legal_databases_keep_scopes first legal written) checked;
       one_type = λ db d. record { types = (d ∷ [], refl); bases = ([], sym (append-nil db.bases)) };
       one_base = λ db r. record { types = ([], sym (append-nil db.types)); bases = (r ∷ [], refl) };
     }

@@ -264,14 +264,14 @@ module _ (among : List ℕ → Bool) (first second : Database) (s : List Tuple) 
           )
 
 pub values_depend_on_entries : ValuesDependOnEntries
-values_depend_on_entries among first second s e legal other covered written checked agree =
-    values_depend_on_mentions among (database_scope first) (world_of first) (world_of second) s e (legal_databases_keep_scopes first legal covered written) checked
+values_depend_on_entries among first second s e legal other written checked agree =
+    values_depend_on_mentions among (database_scope first) (world_of first) (world_of second) s e (legal_databases_keep_scopes first legal written) checked
     (record {
       known = record { entered = refl; types = agree.types.same; closed = agree.types.components; entered_in = agree.tuples };
       types = λ n c. (
         agree.mentioned n c,
         λ d vs is h. all_alike among first.types second.types
-            (record { declared = legal.declared; ranked = legal.ranked; constrained = legal.constrained; covered = covered; written = written })
+            (record { declared = legal.declared; ranked = legal.ranked; constrained = legal.constrained; written = written })
             other.declared other.constrained agree.types n d (agree.mentioned n c) is vs h,
       );
       relvars = relvar_agrees among first second s e agree;

@@ -1,9 +1,8 @@
 -- The value of an expression that has a type depends only on what it mentions.
 use Rattle.std.proofs.Common.{◌≡◌, ◌∙◌, ◌++◌, ℕ, Bool, true, List, [], ◌∷◌, Option, Some, None, map, option_map, ap, refl, subst, sym, append-nil}
 use Rattle.std.specs.List.{AllByRecursion}
-use Rattle.std.specs.Prelude.{◌&&◌, if◌then◌else◌, is_some, IsTrue}
+use Rattle.std.specs.Prelude.{if◌then◌else◌, is_some, IsTrue}
 use Rattle.std.proofs.lemmas.List.Elements.{Contains-append_left, Contains-append_right}
-use Rattle.td_algebra.proofs.Members.{first_true, second_true}
 use Rattle.td_check.specs.Mentions.{in_tuples, mentioned_by_name, relvars_in, relvars_in_all, relvars_in_items, relvars_in_named, types_in, types_in_all, types_in_items, types_in_named, types_named_in}
 use Rattle.td_check.specs.OperatorTypes.{count_item, aggregate_item, aggregate_type, are_types_of, choice_type, comparison_type, component_type, extension_type, extracted_type, headed_type, known_or, listed_type, measure_type, operator_type, over_relation, postfix_type, prefix_type, selector_type, tuple_type}
 use Rattle.td_check.specs.Scopes.{KnownRelvar, Scope, entered_with, innermost, known_relvar}
@@ -28,7 +27,6 @@ use Rattle.td_types.proofs.OutcomeLaws.{value_of_test, value_of_with, values_of_
 use Rattle.td_value.specs.Values.{Val, boolean, integer, char, user, Relation, Tuple, heading_of}
 use Rattle.td_value.specs.Values as values
 use Rattle.td_eval.specs.AggregateValues.{aggregated_value, asked_of, summarized_value, summary_attributes, summary_value}
-use Rattle.td_eval.specs.Covered.{are_covered, is_covered, items_covered, parts_covered, postfix_covered, prefix_covered}
 use Rattle.td_eval.specs.OperatorValues.{comparison_value, component_value, extended_value, extracted_value, headed_value, listed_value, measure_value, on_relation, on_truth, operator_value, postfix_value, prefix_value, relation_as_value, restricted_value, tuple_from}
 use Rattle.td_eval.specs.TreeTexts.{HasTexts, HaveTexts, ItemsHaveTexts, PartsHaveTexts}
 use Rattle.td_eval.specs.TreeValues.{argument_values, entry_values, items_in_tuples, value_of, values_in_tuples}
@@ -220,27 +218,26 @@ module _ (among : List ℕ → Bool) (scope : Scope) (w v : World) (k : KeepsSco
   -- ---- trees
 
   mutual
-    same : (e : Tree) (s : List Tuple) (t : Type') → AreTyped s → IsTrue (is_covered e) → GivesNames e → HasTexts e
+    same : (e : Tree) (s : List Tuple) (t : Type') → AreTyped s → GivesNames e → HasTexts e
         → Agreed (map heading_of s) (types_in e) (relvars_in (here (map heading_of s)) e) → type_of (here (map heading_of s)) e ≡ Valued t
         → value_of v s e ≡ value_of w s e
-    same (literal l) s t h c n x a is = refl
-    same (name m) s t h c n x a is = name_same s m t a is
-    same (parentheses inner) s t h c n x a is = same inner s t h c n x a is
-    same (prefix op operand) s t h c n x a is =
+    same (literal l) s t h n x a is = refl
+    same (name m) s t h n x a is = name_same s m t a is
+    same (parentheses inner) s t h n x a is = same inner s t h n x a is
+    same (prefix op operand) s t h n x a is =
         let y = value_of_with (type_of (here (map heading_of s)) operand) (prefix_type op) t is in
-        ap (λ o. with_value o (prefix_value op)) (same operand s y.0 h (second_true (prefix_covered op) (is_covered operand) c) n x a y.1)
-    same (extract m operand) s t h c n x a is =
+        ap (λ o. with_value o (prefix_value op)) (same operand s y.0 h n x a y.1)
+    same (extract m operand) s t h n x a is =
         let y = value_of_with (type_of (here (map heading_of s)) operand) (extracted_type m) t is in
-        ap (λ o. with_value o (extracted_value m)) (same operand s y.0 h c n x a y.1)
-    same (binary left operators.Where right) s t h c n x a is =
+        ap (λ o. with_value o (extracted_value m)) (same operand s y.0 h n x a y.1)
+    same (binary left operators.Where right) s t h n x a is =
         let hs = map heading_of s in
         let y = value_of_with (type_of (here hs) left)
         (λ q. over_relation q (λ g. with_value (type_of (entered_with g (here hs)) right) (operator_type operators.Where q))) t is in
         let first = first_part hs (types_in left) (types_in right) (relvars_in (here hs) left) (relvars_in (in_tuples (here hs) (type_of (here hs) left)) right) a in
         let rest = rest_part hs (types_in left) (types_in right) (relvars_in (here hs) left) (relvars_in (in_tuples (here hs) (type_of (here hs) left)) right) a in
-        let left_covered = first_true (is_covered left) (is_covered right) c in
-        let kept = subst (λ o. KeepsType ds o (value_of w s left)) y.1 (keeps w scope k left s h left_covered n.0 x.0) in
-        ap (λ o. with_value o (λ z. on_relation z (restricted_value (λ u. value_of v (u ∷ s) right)))) (same left s y.0 h left_covered n.0 x.0 first y.1)
+        let kept = subst (λ o. KeepsType ds o (value_of w s left)) y.1 (keeps w scope k left s h n.0 x.0) in
+        ap (λ o. with_value o (λ z. on_relation z (restricted_value (λ u. value_of v (u ∷ s) right)))) (same left s y.0 h n.0 x.0 first y.1)
         ∙ over_same ds y.0 (value_of w s left) (restricted_value (λ u. value_of v (u ∷ s) right)) (restricted_value (λ u. value_of w (u ∷ s) right)) kept
         (λ g r e head typed. restricted_alike r (λ u. value_of v (u ∷ s) right) (λ u. value_of w (u ∷ s) right)
         (λ u b.
@@ -250,54 +247,53 @@ module _ (among : List ℕ → Bool) (scope : Scope) (w v : World) (k : KeepsSco
         (subst (UsersIn among) e (users_agreed hs left y.0 first y.1)) rest in
         let z = value_of_with (type_of (here (unpack g ∷ hs)) right) (operator_type operators.Where (types.relation g)) t
         (subst (λ q. over_relation q (λ i. with_value (type_of (entered_with i (here hs)) right) (operator_type operators.Where q)) ≡ Valued t) e y.2) in
-        same right (u ∷ s) z.0 (at.0, h) (second_true (is_covered left) (is_covered right) c) n.1 x.1
+        same right (u ∷ s) z.0 (at.0, h) n.1 x.1
         (subst (λ i. Agreed (i ∷ hs) (types_in right) (relvars_in (here (i ∷ hs)) right)) (sym place) into)
         (subst (λ i. type_of (here (i ∷ hs)) right ≡ Valued z.0) (sym place) z.1)))
-    same (binary left op right) s t h c n x a is =
+    same (binary left op right) s t h n x a is =
         let hs = map heading_of s in
         let y = values_of_both (type_of (here hs) left) (type_of (here hs) right) (operator_type op) t is in
-        let one = same left s y.0 h (first_true (is_covered left) (is_covered right) c) n.0 x.0
+        let one = same left s y.0 h n.0 x.0
         (first_part hs (types_in left) (types_in right) (relvars_in (here hs) left) (relvars_in (here hs) right) a) y.2 in
-        let two = same right s y.1 h (second_true (is_covered left) (is_covered right) c) n.1 x.1
+        let two = same right s y.1 h n.1 x.1
         (rest_part hs (types_in left) (types_in right) (relvars_in (here hs) left) (relvars_in (here hs) right) a) y.3 in
         λ i. with_both (one i) (two i) (operator_value op)
-    same (compare left op right) s t h c n x a is =
+    same (compare left op right) s t h n x a is =
         let hs = map heading_of s in
         let y = values_of_both (type_of (here hs) left) (type_of (here hs) right) (comparison_type op) t is in
-        let one = same left s y.0 h (first_true (is_covered left) (is_covered right) c) n.0 x.0
+        let one = same left s y.0 h n.0 x.0
         (first_part hs (types_in left) (types_in right) (relvars_in (here hs) left) (relvars_in (here hs) right) a) y.2 in
-        let two = same right s y.1 h (second_true (is_covered left) (is_covered right) c) n.1 x.1
+        let two = same right s y.1 h n.1 x.1
         (rest_part hs (types_in left) (types_in right) (relvars_in (here hs) left) (relvars_in (here hs) right) a) y.3 in
         λ i. with_both (one i) (two i) (comparison_value op)
-    same (postfix operand op) s t h c n x a is =
+    same (postfix operand op) s t h n x a is =
         let y = value_of_with (type_of (here (map heading_of s)) operand) (postfix_type op) t is in
-        ap (λ o. with_value o (postfix_value op)) (same operand s y.0 h (second_true (postfix_covered op) (is_covered operand) c) n.0 x a y.1)
-    same (select ty arguments) s t h c n x a is =
+        ap (λ o. with_value o (postfix_value op)) (same operand s y.0 h n.0 x a y.1)
+    same (select ty arguments) s t h n x a is =
         let hs = map heading_of s in
         let y = value_of_with (types_of (here hs) arguments) (selector_type ds ty) t is in
         ap (λ o. with_value o (selected v ty))
-        (same_arguments arguments s y.0 h c n x (rest_types hs (ty ∷ []) (types_in_all arguments) (relvars_in_all (here hs) arguments) a) y.1)
+        (same_arguments arguments s y.0 h n x (rest_types hs (ty ∷ []) (types_in_all arguments) (relvars_in_all (here hs) arguments) a) y.1)
         ∙ select_same ty y.0 t (argument_values w s arguments)
         (a.types_agree ty (Contains-append_left (ty ∷ []) (types_in_all arguments) ty (one_is ty))).1 y.2
-        (λ d vs fit at. arguments_typed w scope k s h arguments y.0 vs d.components c n x y.1 at fit)
-    same (component rest operand) s t h c n x a is =
+        (λ d vs fit at. arguments_typed w scope k s h arguments y.0 vs d.components n x y.1 at fit)
+    same (component rest operand) s t h n x a is =
         let hs = map heading_of s in
         let y = value_of_with (type_of (here hs) operand) (component_type ds rest) t is in
-        let kept = subst (λ o. KeepsType ds o (value_of w s operand)) y.1 (keeps w scope k operand s h c n x) in
-        ap (λ o. with_value o (component_value v.scope.types rest)) (same operand s y.0 h c n x a y.1)
+        let kept = subst (λ o. KeepsType ds o (value_of w s operand)) y.1 (keeps w scope k operand s h n x) in
+        ap (λ o. with_value o (component_value v.scope.types rest)) (same operand s y.0 h n x a y.1)
         ∙ component_same hs rest y.0 t (value_of w s operand) a.known (users_agreed hs operand y.0 a y.1) y.2 kept
-    same (measure op operand) s t h c n x a is =
+    same (measure op operand) s t h n x a is =
         let y = value_of_with (type_of (here (map heading_of s)) operand) (measure_type op) t is in
-        ap (λ o. with_value o (measure_value op)) (same operand s y.0 h c n x a y.1)
-    same (aggregate op operand value) s t h c n x a is =
+        ap (λ o. with_value o (measure_value op)) (same operand s y.0 h n x a y.1)
+    same (aggregate op operand value) s t h n x a is =
         let hs = map heading_of s in
         let y = value_of_with (type_of (here hs) operand)
         (λ q. over_relation q (λ g. with_value (type_of (entered_with g (here hs)) value) (aggregate_type op))) t is in
         let first = first_part hs (types_in operand) (types_in value) (relvars_in (here hs) operand) (relvars_in (in_tuples (here hs) (type_of (here hs) operand)) value) a in
         let rest = rest_part hs (types_in operand) (types_in value) (relvars_in (here hs) operand) (relvars_in (in_tuples (here hs) (type_of (here hs) operand)) value) a in
-        let operand_covered = first_true (is_covered operand) (is_covered value) c in
-        let kept = subst (λ o. KeepsType ds o (value_of w s operand)) y.1 (keeps w scope k operand s h operand_covered n.0 x.0) in
-        ap (λ o. with_value o (λ z. on_relation z (aggregated_value (asked_of op) (λ u. value_of v (u ∷ s) value)))) (same operand s y.0 h operand_covered n.0 x.0 first y.1)
+        let kept = subst (λ o. KeepsType ds o (value_of w s operand)) y.1 (keeps w scope k operand s h n.0 x.0) in
+        ap (λ o. with_value o (λ z. on_relation z (aggregated_value (asked_of op) (λ u. value_of v (u ∷ s) value)))) (same operand s y.0 h n.0 x.0 first y.1)
         ∙ over_same ds y.0 (value_of w s operand) (aggregated_value (asked_of op) (λ u. value_of v (u ∷ s) value))
         (aggregated_value (asked_of op) (λ u. value_of w (u ∷ s) value)) kept
         (λ g r e head typed. aggregated_alike r (asked_of op) (λ u. value_of v (u ∷ s) value) (λ u. value_of w (u ∷ s) value)
@@ -308,24 +304,24 @@ module _ (among : List ℕ → Bool) (scope : Scope) (w v : World) (k : KeepsSco
         (subst (UsersIn among) e (users_agreed hs operand y.0 first y.1)) rest in
         let z = value_of_with (type_of (here (unpack g ∷ hs)) value) (aggregate_type op) t
         (subst (λ q. over_relation q (λ i. with_value (type_of (entered_with i (here hs)) value) (aggregate_type op)) ≡ Valued t) e y.2) in
-        same value (u ∷ s) z.0 (at.0, h) (second_true (is_covered operand) (is_covered value) c) n.1 x.1
+        same value (u ∷ s) z.0 (at.0, h) n.1 x.1
         (subst (λ i. Agreed (i ∷ hs) (types_in value) (relvars_in (here (i ∷ hs)) value)) (sym place) into)
         (subst (λ i. type_of (here (i ∷ hs)) value ≡ Valued z.0) (sym place) z.1)))
-    same (relation elements) s t h c n x a is =
+    same (relation elements) s t h n x a is =
         let y = value_of_with (types_of (here (map heading_of s)) elements) listed_type t is in
-        ap (λ o. with_value o listed_value) (same_arguments elements s y.0 h c n x a y.1)
-    same (headed_relation heading elements) s t h c n x a is =
+        ap (λ o. with_value o listed_value) (same_arguments elements s y.0 h n x a y.1)
+    same (headed_relation heading elements) s t h n x a is =
         let hs = map heading_of s in
         let y = values_of_both (heading_meant ds heading) (types_of (here hs) elements) headed_type t is in
         let one = meant_same hs (relvars_in_all (here hs) elements) heading y.0
         (first_types hs (types_named_in heading) (types_in_all elements) (relvars_in_all (here hs) elements) a) y.2 in
-        let two = same_arguments elements s y.1 h c n.1 x
+        let two = same_arguments elements s y.1 h n.1 x
         (rest_types hs (types_named_in heading) (types_in_all elements) (relvars_in_all (here hs) elements) a) y.3 in
         λ i. with_both (one i) (two i) headed_value
-    same (tuple parts) s t h c n x a is =
+    same (tuple parts) s t h n x a is =
         let y = value_of_with (named_types (here (map heading_of s)) parts) tuple_type t is in
-        ap (λ o. with_value o tuple_from) (same_entries parts s y.0 h c n x a y.1)
-    same (extend operand parts) s t h c n x a is =
+        ap (λ o. with_value o tuple_from) (same_entries parts s y.0 h n x a y.1)
+    same (extend operand parts) s t h n x a is =
         let hs = map heading_of s in
         let y = value_of_with (type_of (here hs) operand)
         (λ q. over_relation q (λ g. with_value (named_types (entered_with g (here hs)) parts) (extension_type g))) t is in
@@ -333,10 +329,9 @@ module _ (among : List ℕ → Bool) (scope : Scope) (w v : World) (k : KeepsSco
         (relvars_in_named (in_tuples (here hs) (type_of (here hs) operand)) parts) a in
         let rest = rest_part hs (types_in operand) (types_in_named parts) (relvars_in (here hs) operand)
         (relvars_in_named (in_tuples (here hs) (type_of (here hs) operand)) parts) a in
-        let operand_covered = first_true (is_covered operand) (parts_covered parts) c in
-        let kept = subst (λ o. KeepsType ds o (value_of w s operand)) y.1 (keeps w scope k operand s h operand_covered n.0 x.0) in
+        let kept = subst (λ o. KeepsType ds o (value_of w s operand)) y.1 (keeps w scope k operand s h n.0 x.0) in
         ap (λ o. with_value o (λ z. on_relation z (λ r. extended_value (named_types (entered_with r.heading (scope_among v s)) parts) (values_in_tuples v s parts) r)))
-        (same operand s y.0 h operand_covered n.0 x.0 first y.1)
+        (same operand s y.0 h n.0 x.0 first y.1)
         ∙ over_same ds y.0 (value_of w s operand)
         (λ r. extended_value (named_types (entered_with r.heading (scope_among v s)) parts) (values_in_tuples v s parts) r)
         (λ r. extended_value (named_types (entered_with r.heading (scope_among w s)) parts) (values_in_tuples w s parts) r) kept
@@ -349,10 +344,9 @@ module _ (among : List ℕ → Bool) (scope : Scope) (w v : World) (k : KeepsSco
         let known = subst (λ i. named_types (here (i ∷ hs)) parts ≡ Valued z.0) (sym head) z.1 in
         ap (λ o. extended_value o (values_in_tuples v s parts) r) (parts_typed_same s r.heading parts z.0 agreed known)
         ∙ extended_alike r (named_types (entered_with r.heading (scope_among w s)) parts) (values_in_tuples v s parts) (values_in_tuples w s parts)
-        (same_parts parts s r z.0 typed h (second_true (is_covered operand) (parts_covered parts) c) n.1 x.1 agreed known))
-    same (summarize_per operand per items) s t h c n x a is =
+        (same_parts parts s r z.0 typed h n.1 x.1 agreed known))
+    same (summarize_per operand per items) s t h n x a is =
         let hs = map heading_of s in
-        let covered = second_true (is_covered operand) (is_covered per && items_covered items) c in
         let y = values_of_both (with_value (type_of (here hs) operand) (λ q. with_items q (λ g. items_of (entered_with g (here hs)) items))) (type_of (here hs) per)
         per_type t is in
         let q = value_of_with (type_of (here hs) operand) (λ q. with_items q (λ g. items_of (entered_with g (here hs)) items)) y.0 y.2 in
@@ -360,10 +354,9 @@ module _ (among : List ℕ → Bool) (scope : Scope) (w v : World) (k : KeepsSco
         let first = first_part hs (types_in operand) (types_in_items items ++ types_in per) (relvars_in (here hs) operand) (inner ++ relvars_in (here hs) per) a in
         let rest = rest_part hs (types_in operand) (types_in_items items ++ types_in per) (relvars_in (here hs) operand) (inner ++ relvars_in (here hs) per) a in
         let within = first_part hs (types_in_items items) (types_in per) inner (relvars_in (here hs) per) rest in
-        let operand_covered = first_true (is_covered operand) (is_covered per && items_covered items) c in
-        let kept = subst (λ o. KeepsType ds o (value_of w s operand)) q.1 (keeps w scope k operand s h operand_covered n.0 x.0) in
-        let one = same operand s q.0 h operand_covered n.0 x.0 first q.1 in
-        let two = same per s y.1 h (first_true (is_covered per) (items_covered items) covered) n.1 x.1
+        let kept = subst (λ o. KeepsType ds o (value_of w s operand)) q.1 (keeps w scope k operand s h n.0 x.0) in
+        let one = same operand s q.0 h n.0 x.0 first q.1 in
+        let two = same per s y.1 h n.1 x.1
         (rest_part hs (types_in_items items) (types_in per) inner (relvars_in (here hs) per) rest) y.3 in
         (λ i. with_both (one i) (two i) (summary_value (λ g. summary_attributes (entered_with g (scope_among v s)) items) (items_in_tuples v s items)))
         ∙ both_alike (value_of w s operand) (value_of w s per)
@@ -372,8 +365,8 @@ module _ (among : List ℕ → Bool) (scope : Scope) (w v : World) (k : KeepsSco
         (λ z u e. summary_same s items q.0 y.0 z u (subst (KeepsType ds (Valued q.0)) e kept) q.2
         (λ g f. inside hs (type_of (here hs) operand) g (types_in_items items) (λ m. relvars_in_items m items) (q.1 ∙ ap Valued f)
         (subst (UsersIn among) f (users_agreed hs operand q.0 first q.1)) within)
-        (λ r xs typed agreed known. same_items items s r xs typed h (second_true (is_covered per) (items_covered items) covered) n.2 x.2 agreed known))
-    same (summarize_by operand by items) s t h c n x a is =
+        (λ r xs typed agreed known. same_items items s r xs typed h n.2 x.2 agreed known))
+    same (summarize_by operand by items) s t h n x a is =
         let hs = map heading_of s in
         let y = value_of_with (with_value (type_of (here hs) operand) (λ q. with_items q (λ g. items_of (entered_with g (here hs)) items)))
         (by_type by) t is in
@@ -381,10 +374,9 @@ module _ (among : List ℕ → Bool) (scope : Scope) (w v : World) (k : KeepsSco
         let inner = relvars_in_items (in_tuples (here hs) (type_of (here hs) operand)) items in
         let first = first_part hs (types_in operand) (types_in_items items) (relvars_in (here hs) operand) inner a in
         let within = rest_part hs (types_in operand) (types_in_items items) (relvars_in (here hs) operand) inner a in
-        let operand_covered = first_true (is_covered operand) (items_covered items) c in
-        let kept = subst (λ o. KeepsType ds o (value_of w s operand)) q.1 (keeps w scope k operand s h operand_covered n.0 x.0) in
+        let kept = subst (λ o. KeepsType ds o (value_of w s operand)) q.1 (keeps w scope k operand s h n.0 x.0) in
         ap (λ o. with_value o (λ z. with_value (postfix_value (project by) z)
-        (summary_value (λ g. summary_attributes (entered_with g (scope_among v s)) items) (items_in_tuples v s items) z))) (same operand s q.0 h operand_covered n.0 x.0 first q.1)
+        (summary_value (λ g. summary_attributes (entered_with g (scope_among v s)) items) (items_in_tuples v s items) z))) (same operand s q.0 h n.0 x.0 first q.1)
         ∙ with_alike (value_of w s operand)
         (λ z. with_value (postfix_value (project by) z) (summary_value (λ g. summary_attributes (entered_with g (scope_among v s)) items) (items_in_tuples v s items) z))
         (λ z. with_value (postfix_value (project by) z) (summary_value (λ g. summary_attributes (entered_with g (scope_among w s)) items) (items_in_tuples w s items) z))
@@ -394,56 +386,55 @@ module _ (among : List ℕ → Bool) (scope : Scope) (w v : World) (k : KeepsSco
         (λ u _. summary_same s items q.0 y.0 z u (subst (KeepsType ds (Valued q.0)) e kept) q.2
         (λ g f. inside hs (type_of (here hs) operand) g (types_in_items items) (λ m. relvars_in_items m items) (q.1 ∙ ap Valued f)
         (subst (UsersIn among) f (users_agreed hs operand q.0 first q.1)) within)
-        (λ r xs typed agreed known. same_items items s r xs typed h (second_true (is_covered operand) (items_covered items) c) n.1 x.1 agreed known)))
-    same (choice condition consequent alternative) s t h c n x a is =
+        (λ r xs typed agreed known. same_items items s r xs typed h n.1 x.1 agreed known)))
+    same (choice condition consequent alternative) s t h n x a is =
         let hs = map heading_of s in
         let y = values_of_both (type_of (here hs) condition) (paired (type_of (here hs) consequent) (type_of (here hs) alternative))
         (λ t both. choice_type t both.0 both.1) t is in
         let z = values_of_both (type_of (here hs) consequent) (type_of (here hs) alternative) (λ s t. Valued (s, t)) y.1 y.3 in
-        let covered = second_true (is_covered condition) (is_covered consequent && is_covered alternative) c in
         let others = rest_part hs (types_in condition) (types_in consequent ++ types_in alternative) (relvars_in (here hs) condition)
         (relvars_in (here hs) consequent ++ relvars_in (here hs) alternative) a in
-        let one = same condition s y.0 h (first_true (is_covered condition) (is_covered consequent && is_covered alternative) c) n.0 x.0
+        let one = same condition s y.0 h n.0 x.0
         (first_part hs (types_in condition) (types_in consequent ++ types_in alternative) (relvars_in (here hs) condition)
         (relvars_in (here hs) consequent ++ relvars_in (here hs) alternative) a) y.2 in
-        let two = same consequent s z.0 h (first_true (is_covered consequent) (is_covered alternative) covered) n.1 x.1
+        let two = same consequent s z.0 h n.1 x.1
         (first_part hs (types_in consequent) (types_in alternative) (relvars_in (here hs) consequent) (relvars_in (here hs) alternative) others) z.2 in
-        let three = same alternative s z.1 h (second_true (is_covered consequent) (is_covered alternative) covered) n.2 x.2
+        let three = same alternative s z.1 h n.2 x.2
         (rest_part hs (types_in consequent) (types_in alternative) (relvars_in (here hs) consequent) (relvars_in (here hs) alternative) others) z.3 in
         λ i. with_value (one i) (λ z. on_truth z (λ b. if b then two i else three i))
 
-    same_arguments : (es : Trees) (s : List Tuple) (ts : List Type') → AreTyped s → IsTrue (are_covered es) → GiveNames es → HaveTexts es
+    same_arguments : (es : Trees) (s : List Tuple) (ts : List Type') → AreTyped s → GiveNames es → HaveTexts es
         → Agreed (map heading_of s) (types_in_all es) (relvars_in_all (here (map heading_of s)) es) → types_of (here (map heading_of s)) es ≡ Valued ts
         → argument_values v s es ≡ argument_values w s es
-    same_arguments none s ts h c n x a is = refl
-    same_arguments (more first rest) s ts h c n x a is =
+    same_arguments none s ts h n x a is = refl
+    same_arguments (more first rest) s ts h n x a is =
         let hs = map heading_of s in
         let y = values_of_both (type_of (here hs) first) (types_of (here hs) rest) (λ t ts. Valued (t ∷ ts)) ts is in
-        let one = same first s y.0 h (first_true (is_covered first) (are_covered rest) c) n.0 x.0
+        let one = same first s y.0 h n.0 x.0
         (first_part hs (types_in first) (types_in_all rest) (relvars_in (here hs) first) (relvars_in_all (here hs) rest) a) y.2 in
-        let others = same_arguments rest s y.1 h (second_true (is_covered first) (are_covered rest) c) n.1 x.1
+        let others = same_arguments rest s y.1 h n.1 x.1
         (rest_part hs (types_in first) (types_in_all rest) (relvars_in (here hs) first) (relvars_in_all (here hs) rest) a) y.3 in
         λ i. with_both (one i) (others i) (λ v vs. Valued (v ∷ vs))
 
-    same_entries : (parts : NamedTrees) (s : List Tuple) (xs : List Attribute) → AreTyped s → IsTrue (parts_covered parts) → PartsGiveNames parts → PartsHaveTexts parts
+    same_entries : (parts : NamedTrees) (s : List Tuple) (xs : List Attribute) → AreTyped s → PartsGiveNames parts → PartsHaveTexts parts
         → Agreed (map heading_of s) (types_in_named parts) (relvars_in_named (here (map heading_of s)) parts) → named_types (here (map heading_of s)) parts ≡ Valued xs
         → entry_values v s parts ≡ entry_values w s parts
-    same_entries none_named s xs h c n x a is = refl
-    same_entries (more_named m value rest) s xs h c n x a is =
+    same_entries none_named s xs h n x a is = refl
+    same_entries (more_named m value rest) s xs h n x a is =
         let hs = map heading_of s in
         let y = values_of_both (type_of (here hs) value) (named_types (here hs) rest) (λ t attributes. Valued ((m, t) ∷ attributes)) xs is in
-        let one = same value s y.0 h (first_true (is_covered value) (parts_covered rest) c) n.1 x.0
+        let one = same value s y.0 h n.1 x.0
         (first_part hs (types_in value) (types_in_named rest) (relvars_in (here hs) value) (relvars_in_named (here hs) rest) a) y.2 in
-        let others = same_entries rest s y.1 h (second_true (is_covered value) (parts_covered rest) c) n.2 x.1
+        let others = same_entries rest s y.1 h n.2 x.1
         (rest_part hs (types_in value) (types_in_named rest) (relvars_in (here hs) value) (relvars_in_named (here hs) rest) a) y.3 in
         λ i. with_both (one i) (others i) (λ v entries. Valued ((m, v) ∷ entries))
 
     same_parts : (parts : NamedTrees) (s : List Tuple) (r : Relation) (xs : List Attribute) → IsOfType ds (relation_as_value r) (types.relation (pack r.heading)) → AreTyped s
-        → IsTrue (parts_covered parts) → PartsGiveNames parts → PartsHaveTexts parts
+        → PartsGiveNames parts → PartsHaveTexts parts
         → Agreed (r.heading ∷ map heading_of s) (types_in_named parts) (relvars_in_named (here (r.heading ∷ map heading_of s)) parts)
         → named_types (here (r.heading ∷ map heading_of s)) parts ≡ Valued xs → AreAlikeIn r (values_in_tuples v s parts) (values_in_tuples w s parts)
-    same_parts none_named s r xs typed h c n x a is = tt
-    same_parts (more_named m value rest) s r xs typed h c n x a is =
+    same_parts none_named s r xs typed h n x a is = tt
+    same_parts (more_named m value rest) s r xs typed h n x a is =
         let hs = map heading_of s in
         let in_r = here (r.heading ∷ hs) in
         let y = values_of_both (type_of in_r value) (named_types in_r rest) (λ t attributes. Valued ((m, t) ∷ attributes)) xs is in
@@ -451,21 +442,21 @@ module _ (among : List ℕ → Bool) (scope : Scope) (w v : World) (k : KeepsSco
         let others = rest_part (r.heading ∷ hs) (types_in value) (types_in_named rest) (relvars_in in_r value) (relvars_in_named in_r rest) a in (
           λ u b.
               let at = rows_typed ds r typed u b in
-              same value (u ∷ s) y.0 (at.0, h) (first_true (is_covered value) (parts_covered rest) c) n.1 x.0
+              same value (u ∷ s) y.0 (at.0, h) n.1 x.0
               (subst (λ i. Agreed (i ∷ hs) (types_in value) (relvars_in (here (i ∷ hs)) value)) (sym at.1) first)
               (subst (λ i. type_of (here (i ∷ hs)) value ≡ Valued y.0) (sym at.1) y.2),
-          same_parts rest s r y.1 typed h (second_true (is_covered value) (parts_covered rest) c) n.2 x.1 others y.3,
+          same_parts rest s r y.1 typed h n.2 x.1 others y.3,
         )
 
     same_items : (items : Summaries) (s : List Tuple) (r : Relation) (xs : Items) → IsOfType ds (relation_as_value r) (types.relation (pack r.heading)) → AreTyped s
-        → IsTrue (items_covered items) → ItemsGiveNames items → ItemsHaveTexts items
+        → ItemsGiveNames items → ItemsHaveTexts items
         → Agreed (r.heading ∷ map heading_of s) (types_in_items items) (relvars_in_items (here (r.heading ∷ map heading_of s)) items)
         → items_of (here (r.heading ∷ map heading_of s)) items ≡ Valued xs → SummandsAlikeIn r (items_in_tuples v s items) (items_in_tuples w s items)
-    same_items no_summaries s r xs typed h c n x a is = tt
-    same_items (counted m rest) s r xs typed h c n x a is =
+    same_items no_summaries s r xs typed h n x a is = tt
+    same_items (counted m rest) s r xs typed h n x a is =
         let y = value_of_with (items_of (here (r.heading ∷ map heading_of s)) rest) (λ items. Valued ((m, count_item) ∷ items)) xs is in
-        (refl, (λ u b. refl), same_items rest s r y.0 typed h c n.1 x a y.1)
-    same_items (summed op value m rest) s r xs typed h c n x a is =
+        (refl, (λ u b. refl), same_items rest s r y.0 typed h n.1 x a y.1)
+    same_items (summed op value m rest) s r xs typed h n x a is =
         let hs = map heading_of s in
         let in_r = here (r.heading ∷ hs) in
         let y = values_of_both (type_of in_r value) (items_of in_r rest) (λ t items. Valued ((m, aggregate_item op t) ∷ items)) xs is in
@@ -474,13 +465,13 @@ module _ (among : List ℕ → Bool) (scope : Scope) (w v : World) (k : KeepsSco
           refl,
           (λ u b.
               let at = rows_typed ds r typed u b in
-              same value (u ∷ s) y.0 (at.0, h) (first_true (is_covered value) (items_covered rest) c) n.0 x.0
+              same value (u ∷ s) y.0 (at.0, h) n.0 x.0
               (subst (λ i. Agreed (i ∷ hs) (types_in value) (relvars_in (here (i ∷ hs)) value)) (sym at.1) first)
               (subst (λ i. type_of (here (i ∷ hs)) value ≡ Valued y.0) (sym at.1) y.2)),
-          same_items rest s r y.1 typed h (second_true (is_covered value) (items_covered rest) c) n.2 x.1 others y.3,
+          same_items rest s r y.1 typed h n.2 x.1 others y.3,
         )
 
 pub values_depend_on_mentions : ValuesDependOnMentions
 values_depend_on_mentions among scope w v s e k c a =
-    same among scope w v k e s c.typed.0 c.tuples c.covered c.written.0 c.written.1
+    same among scope w v k e s c.typed.0 c.tuples c.written.0 c.written.1
     (record { known = a.known; types_agree = a.types; relvars_agree = a.relvars }) c.typed.1

@@ -74,7 +74,7 @@ mutual
   rows_of_values g (row fs rs) p = (fields_of_values fs p.0.0, rows_of_values g rs p.1)
 
 pub later_types_keep_what_meets : LaterTypesKeepWhatMeets
-later_types_keep_what_meets first second v t legal wider covered written later p h met =
+later_types_keep_what_meets first second v t legal wider written later p h met =
     (selectors_give_what_meets second v t wider
     (subst (λ ds. HasType ds v t) (sym later.types.1) (kept first.types later.types.0 v t h))).0
     (each first.types (Selects (world_of first)) OfValues (Selects (world_of second)) still v t h
@@ -86,7 +86,6 @@ later_types_keep_what_meets first second v t legal wider covered written later p
           declared = legal.declared;
           ranked = legal.ranked;
           constrained = legal.constrained;
-          covered = covered;
           written = written;
         }
 

@@ -1,7 +1,6 @@
 -- The values of a selector's arguments, where they have the types of its components.
 use Rattle.std.proofs.Common.{◌≡◌, true, List, [], ◌∷◌, Option, Some, None, ap, subst, sym}
 use Rattle.std.specs.List.{AllByRecursion}
-use Rattle.std.specs.Prelude.{IsTrue}
 use Rattle.td_algebra.proofs.Members.{first_true, second_true}
 use Rattle.td_check.specs.OperatorTypes.{are_types_of, known_or, same_type}
 use Rattle.td_check.specs.StaticLaws.{GiveNames}
@@ -15,7 +14,6 @@ use Rattle.td_types.specs.Types.{Type', Attribute}
 use Rattle.td_types.proofs.OutcomeLaws.{valued_is, values_of_both}
 use Rattle.td_value.specs.KnownValues.{AreOfTypes}
 use Rattle.td_value.specs.Values.{Val, AreValues, Tuple, pack_parts}
-use Rattle.td_eval.specs.Covered.{are_covered, is_covered}
 use Rattle.td_eval.specs.TreeTexts.{HaveTexts}
 use Rattle.td_eval.specs.TreeValues.{argument_values, value_of}
 use Rattle.td_eval.specs.ValueTypes.{IsOfType, IsTypedTuple, KeepsScope, KeepsType, with_tuples}
@@ -37,10 +35,10 @@ of_kept ds x o t v k e f = subst (λ p. KeepsType ds (Valued t) p) f (subst (λ 
 
 module _ (w : World) (scope : Scope) (k : KeepsScope w scope) (s : List Tuple) (h : AllByRecursion (IsTypedTuple scope.types) s) where
   -- the values are of the types of the components
-  pub arguments_typed : (es : Trees) (ts : List Type') (vs : List Val) (cs : List Attribute) → IsTrue (are_covered es) → GiveNames es → HaveTexts es
+  pub arguments_typed : (es : Trees) (ts : List Type') (vs : List Val) (cs : List Attribute) → GiveNames es → HaveTexts es
       → types_of (with_tuples scope s) es ≡ Valued ts → argument_values w s es ≡ Valued vs → are_types_of ts cs ≡ true
       → AreValues (pack_parts vs) × AreOfTypes scope.types (pack_parts vs) cs
-  arguments_typed none ts vs cs c n x is at fit = none_typed ts vs cs (valued_is [] ts is) (valued_is [] vs at) fit
+  arguments_typed none ts vs cs n x is at fit = none_typed ts vs cs (valued_is [] ts is) (valued_is [] vs at) fit
     where
       none_typed : (ts : List Type') (vs : List Val) (cs : List Attribute) → [] ≡ ts → [] ≡ vs → are_types_of ts cs ≡ true
           → AreValues (pack_parts vs) × AreOfTypes scope.types (pack_parts vs) cs
@@ -48,14 +46,14 @@ module _ (w : World) (scope : Scope) (k : KeepsScope w scope) (s : List Tuple) (
       none_typed [] [] (a ∷ cs) e f fit = absurd (cc)
       none_typed [] (v ∷ vs) cs e f fit = absurd (cc)
       none_typed (t ∷ ts) vs cs e f fit = absurd (cc)
-  arguments_typed (more first rest) ts vs cs c n x is at fit =
+  arguments_typed (more first rest) ts vs cs n x is at fit =
       let types = values_of_both (type_of (with_tuples scope s) first) (types_of (with_tuples scope s) rest) (λ t ts. Valued (t ∷ ts)) ts is in
       let values = values_of_both (value_of w s first) (argument_values w s rest) (λ v vs. Valued (v ∷ vs)) vs at in
       let one = of_kept scope.types (type_of (with_tuples scope s) first) (value_of w s first) types.0 values.0
-      (keeps w scope k first s h (first_true (is_covered first) (are_covered rest) c) n.0 x.0) types.2 values.2 in
+      (keeps w scope k first s h n.0 x.0) types.2 values.2 in
       subst (λ us. AreValues (pack_parts us) × AreOfTypes scope.types (pack_parts us) cs) (valued_is (values.0 ∷ values.1) vs values.4)
       (both types.0 types.1 values.0 values.1 cs (subst (λ us. are_types_of us cs ≡ true) (sym (valued_is (types.0 ∷ types.1) ts types.4)) fit) one
-      (λ ds. arguments_typed rest types.1 values.1 ds (second_true (is_covered first) (are_covered rest) c) n.1 x.1 types.3 values.3))
+      (λ ds. arguments_typed rest types.1 values.1 ds n.1 x.1 types.3 values.3))
     where
       both : (t : Type') (ts : List Type') (v : Val) (vs : List Val) (cs : List Attribute) → are_types_of (t ∷ ts) cs ≡ true → IsOfType scope.types v t
           → ((ds : List Attribute) → are_types_of ts ds ≡ true → AreValues (pack_parts vs) × AreOfTypes scope.types (pack_parts vs) ds)

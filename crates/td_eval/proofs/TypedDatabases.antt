@@ -2,7 +2,7 @@
 use Rattle.std.proofs.Common.{◌≡◌, ◌∙◌, ◌++◌, ℕ, Bool, true, false, List, [], ◌∷◌, Option, Some, None, append-nil, append_assoc, ap, arith, fold, map, not, refl, subst, sym}
 use Rattle.std.specs.Cmp.Lexicographic.{same_text}
 use Rattle.std.specs.List.{AllByRecursion, zip}
-use Rattle.std.specs.Prelude.{IsTrue, ⊤, is_some}
+use Rattle.std.specs.Prelude.{⊤, is_some}
 use Rattle.td_algebra.proofs.Lists.{contains_none}
 use Rattle.td_algebra.proofs.Entries.{names-heading}
 use Rattle.td_catalog.specs.Database.{BaseRelvar, base_among, known_base}
@@ -31,7 +31,6 @@ use Rattle.td_value.specs.Values.{Val, boolean, integer, char, user, tuple, rela
 use Rattle.td_value.specs.Values as values
 use Rattle.td_value.specs.Views.{user_view}
 use Rattle.td_value.proofs.KnownValues.{has_its_type, kept}
-use Rattle.td_eval.specs.Covered.{TypesAreCovered, constraint_covered}
 use Rattle.td_eval.specs.DatabaseWorlds.{Selectors, constraint_value, selector_value, selectors_of, types_alone, with_selector}
 use Rattle.td_eval.specs.OperatorValues.{relation_as_value, truth_value}
 use Rattle.td_eval.specs.TreeValues.{value_of}
@@ -122,7 +121,7 @@ holding ds t v (Valued false) h k = one_dynamic causes.TypeConstraint (omega ari
 holding ds t v (Refused cs) h k = k
 
 module _ (w : World) (front : List DeclaredType) (d : DeclaredType) (a : AreDeclared front) (k : KeepsScope w (scope_of front)) (new : IsDeclarable front d)
-    (constrained : IsConstrained front d) (covered : IsTrue (constraint_covered d.constraint)) (written : (e : Tree) → d.constraint ≡ Some e → IsWritten e) where
+    (constrained : IsConstrained front d) (written : (e : Tree) → d.constraint ≡ Some e → IsWritten e) where
   constraint_keeps : (vs : List Val) → AreComponentsOf front d vs → Keeps (λ _. ⊤) (constraint_value w d vs)
   constraint_keeps vs h = by_option d.constraint refl
     where
@@ -140,7 +139,7 @@ module _ (w : World) (front : List DeclaredType) (d : DeclaredType) (a : AreDecl
           subst (λ o. constraint_fits (scope_of front) d.components o ≡ Valued tt) is constrained in
           let asked = value_of_with (type_of (alone_with (heading_from d.components) (scope_of front)) e) (λ t. if_type types.boolean t tt) tt fits in
           let boolean_is = type_is asked.0 types.boolean (value_of_test (same_type asked.0 types.boolean) tt tt causes.TypeMismatch asked.2).0 in
-          let value = values_keep_types w (scope_of front) (tuple_of u ∷ []) e k (made.0, tt) (subst (λ o. IsTrue (constraint_covered o)) is covered) (written e is) in
+          let value = values_keep_types w (scope_of front) (tuple_of u ∷ []) e k (made.0, tt) (written e is) in
           rw distinct (a_truth front (value_of w (tuple_of u ∷ []) e)
           (subst (λ o. KeepsType front o (value_of w (tuple_of u ∷ []) e))
           (ap (λ g. type_of (alone_with g (scope_of front)) e) head ∙ asked.1 ∙ ap Valued boolean_is) value))
@@ -172,7 +171,7 @@ all_at : {A : Type 0} (P : A → Type 0) (front : List A) (x : A) (rest : List A
 all_at P [] x rest h = h.0
 all_at P (y ∷ front) x rest h = all_at P front x rest h.1
 
-module _ (all : List DeclaredType) (declared : AreDeclared all) (constrained : EachAfter IsConstrained all) (covered : TypesAreCovered all)
+module _ (all : List DeclaredType) (declared : AreDeclared all) (constrained : EachAfter IsConstrained all)
     (written : ConstraintsAreWritten all) where
   module _ (front : List DeclaredType) (d : DeclaredType) (rest : List DeclaredType) (e : all ≡ front ++ (d ∷ rest)) (selectors : Selectors)
       (s : AreSelectors front selectors) where
@@ -193,7 +192,6 @@ module _ (all : List DeclaredType) (declared : AreDeclared all) (constrained : E
         → KeepsType (front ++ (d ∷ [])) (Valued (types.user d.name)) (selector_value (types_alone all selectors) d vs)
     new_keeps =
         selector_keeps (types_alone all selectors) front d front_declared front_kept (declared front rest d e) (constrained front rest d e)
-        (all_at (λ (c : DeclaredType). IsTrue (constraint_covered c.constraint)) front d rest (subst TypesAreCovered e covered))
         (all_at (λ (c : DeclaredType). (t : Tree) → c.constraint ≡ Some t → IsWritten t) front d rest (subst ConstraintsAreWritten e written))
 
     abbrev Selects : List ℕ → DeclaredType → Type 0
@@ -275,7 +273,7 @@ base_known ds n (b ∷ bs) r h e = by_test (same_name b.name n) refl (base_known
     by_test false is rest = let x = rest (rw is at e) in (x.0, rw is x.1, x.2, x.3)
 
 pub legal_databases_keep_scopes : LegalDatabasesKeepScopes
-legal_databases_keep_scopes db legal covered written =
+legal_databases_keep_scopes db legal written =
     record {
       scope_is = record {
         declared = legal.declared;
@@ -293,5 +291,5 @@ legal_databases_keep_scopes db legal covered written =
             subst (λ (q : KnownRelvar). KeepsType db.types (Valued (types.relation (pack q.heading))) (Valued (relation_as_value b.0.relation))) b.2
                 (b.3.relation, (refl, b.3.heading.known, b.3.typed)),
           );
-      selectors = (all_selectors db.types legal.declared legal.constrained covered written).found;
+      selectors = (all_selectors db.types legal.declared legal.constrained written).found;
     }

@@ -3,7 +3,7 @@ use Rattle.std.proofs.Common.{◌≡◌, ◌∙◌, ◌+ℤ◌, ◌-ℤ◌, ◌*
 use Rattle.std.specs.List.{zip}
 use Rattle.std.specs.List.Sorted.{IsStrictlySortedBy}
 use Rattle.std.specs.Ordering.{eq_by_cmp}
-use Rattle.std.specs.Prelude.{IsTrue, if◌then◌else◌}
+use Rattle.std.specs.Prelude.{if◌then◌else◌}
 use Rattle.std.proofs.lemmas.Str.{IsUtf8-append}
 use Rattle.td_check.specs.OperatorTypes.{attribute_type, both_of, choice_type, closure_type, comparison_type, component_type, equality_type, extracted_type, if_type, known_or, measure_type, membership_type, operator_type, order_type, prefix_type, same_heading, same_type}
 use Rattle.td_check.specs.StaticTypes.{literal_type, paired}
@@ -27,7 +27,6 @@ use Rattle.td_types.proofs.Meanings.{pack_unpack}
 use Rattle.td_value.specs.KnownValues.{AreOfTypes}
 use Rattle.td_value.specs.Values.{Val, char, tuple, relation, Parts, no_parts, part, Rows, no_rows, row, AreValues, IsValue, heading_of, unpack_fields, unpack_rows, value_at, value_cmp}
 use Rattle.td_value.proofs.KnownValues.{has_its_type}
-use Rattle.td_eval.specs.Covered.{prefix_covered}
 use Rattle.td_eval.specs.OperatorValues.{at_most, comparison_value, component_value, components_of, equality_value, extracted_value, is_zero, literal_value, measure_value, membership_value, of_number, of_truth, on_number, on_numbers, on_text, on_truth, on_truths, only_tuple, operator_value, prefix_value, quotient, relation_where, signed}
 use Rattle.td_eval.specs.TreeTexts.{IsUtf8Literal}
 use Rattle.td_eval.specs.ValueTypes.{IsOfType, KeepsType}
@@ -66,16 +65,16 @@ module _ (ds : List DeclaredType) where
       relation_keeps ds (Valued (types.tuple (pack (unpack h)))) v h (λ r. only_tuple r.body) q (λ rs p. only_keeps h rs p)
   tuple_from_keeps v _ q = tt
 
-  pub prefix_keeps : (op : Prefix) (v : Val) (t : Type') → IsTrue (prefix_covered op) → IsOfType ds v t → KeepsType ds (prefix_type op t) (prefix_value op v)
-  prefix_keeps prefixes.Not v t c q =
+  pub prefix_keeps : (op : Prefix) (v : Val) (t : Type') → IsOfType ds v t → KeepsType ds (prefix_type op t) (prefix_value op v)
+  prefix_keeps prefixes.Not v t q =
       asked_keeps types.boolean t types.boolean v (prefix_value prefixes.Not v) q
       (λ p. truth_keeps ds (Valued types.boolean) v (λ b. of_truth (not b)) p (λ b. (tt, refl)))
-  prefix_keeps prefixes.Negate v t c q =
+  prefix_keeps prefixes.Negate v t q =
       asked_keeps types.integer t types.integer v (prefix_value prefixes.Negate v) q
       (λ p. number_keeps ds (Valued types.integer) v (λ z. of_number (neg_ℤ z)) p (λ z. in_range_keeps ds (neg_ℤ z)))
-  prefix_keeps prefixes.TransitiveClosure v t c q =
+  prefix_keeps prefixes.TransitiveClosure v t q =
       over_relation_keeps ds v t closure_type (λ r. relation_where (is_closable r.heading) (closure r)) q (λ r m e. closure_keeps ds r m)
-  prefix_keeps prefixes.TupleFrom v t c q = tuple_from_keeps v t q
+  prefix_keeps prefixes.TupleFrom v t q = tuple_from_keeps v t q
 
   pub extracted_keeps : (name : List ℕ) (v : Val) (t : Type') → IsOfType ds v t → KeepsType ds (extracted_type name t) (extracted_value name v)
   extracted_keeps name v (types.tuple h) q =

@@ -1,7 +1,7 @@
 -- The value of an expression that has a type is of that type, or its causes are dynamic.
 use Rattle.std.proofs.Common.{◌≡◌, ◌∙◌, ◌++◌, ℕ, true, Contains, List, [], ◌∷◌, Option, Some, None, map, option_map, ap, refl, subst, sym, append-nil}
 use Rattle.std.specs.List.{AllByRecursion}
-use Rattle.std.specs.Prelude.{◌&&◌, IsTrue, ⊤}
+use Rattle.std.specs.Prelude.{⊤}
 use Rattle.td_algebra.proofs.Entries.{type_at-heading_of}
 use Rattle.td_algebra.proofs.Members.{first_true, second_true}
 use Rattle.td_check.specs.OperatorTypes.{count_item, aggregate_item, aggregate_type, are_types_of, comparison_type, component_type, extension_type, extracted_type, headed_type, item_type, known_or, listed_type, measure_type, operator_type, over_relation, postfix_type, prefix_type, same_type, selector_type, tuple_type}
@@ -32,7 +32,6 @@ use Rattle.td_value.proofs.HeadingOf.{fields_type-heading}
 use Rattle.td_value.proofs.KnownValues.{has_its_type, has_known_type}
 use Rattle.td_value.proofs.Typed.{typed}
 use Rattle.td_eval.specs.AggregateValues.{aggregated_value, asked_of, summary_attributes}
-use Rattle.td_eval.specs.Covered.{are_covered, is_covered, items_covered, parts_covered, postfix_covered, prefix_covered}
 use Rattle.td_eval.specs.OperatorValues.{comparison_value, component_value, extended_value, extracted_value, headed_value, listed_value, measure_value, on_relation, operator_value, postfix_value, prefix_value, relation_as_value, restricted_value, tuple_from}
 use Rattle.td_eval.specs.TreeTexts.{HasTexts, HaveTexts, ItemsHaveTexts, PartsHaveTexts}
 use Rattle.td_eval.specs.TreeValues.{argument_values, entry_values, items_in_tuples, value_of, values_in_tuples}
@@ -226,153 +225,151 @@ module _ (w : World) (scope : Scope) (k : KeepsScope w scope) where
       )
 
   mutual
-    pub keeps : (e : Tree) (s : List Tuple) → AreTyped s → IsTrue (is_covered e) → GivesNames e → HasTexts e
+    pub keeps : (e : Tree) (s : List Tuple) → AreTyped s → GivesNames e → HasTexts e
         → KeepsType ds (type_of (with_tuples scope s) e) (value_of w s e)
-    keeps (literal l) s h c n x = literal_keeps ds l x
-    keeps (name m) s h c n x = name_keeps s m h
-    keeps (parentheses inner) s h c n x = keeps inner s h c n x
-    keeps (prefix op operand) s h c n x =
+    keeps (literal l) s h n x = literal_keeps ds l x
+    keeps (name m) s h n x = name_keeps s m h
+    keeps (parentheses inner) s h n x = keeps inner s h n x
+    keeps (prefix op operand) s h n x =
         value_keeps ds (type_of (with_tuples scope s) operand) (value_of w s operand) (prefix_type op) (prefix_value op)
-        (keeps operand s h (second_true (prefix_covered op) (is_covered operand) c) n x)
-        (λ t v q. prefix_keeps ds op v t (first_true (prefix_covered op) (is_covered operand) c) q)
-    keeps (extract a operand) s h c n x =
+        (keeps operand s h n x)
+        (λ t v q. prefix_keeps ds op v t q)
+    keeps (extract a operand) s h n x =
         value_keeps ds (type_of (with_tuples scope s) operand) (value_of w s operand) (extracted_type a) (extracted_value a)
-        (keeps operand s h c n x) (λ t v q. extracted_keeps ds a v t q)
-    keeps (binary left operators.Where right) s h c n x =
+        (keeps operand s h n x) (λ t v q. extracted_keeps ds a v t q)
+    keeps (binary left operators.Where right) s h n x =
         value_keeps ds (type_of (with_tuples scope s) left) (value_of w s left)
         (λ t. over_relation t (λ g. with_value (type_of (entered_with g (with_tuples scope s)) right) (operator_type operators.Where t)))
         (λ v. on_relation v (restricted_value (λ u. value_of w (u ∷ s) right)))
-        (keeps left s h (first_true (is_covered left) (is_covered right) c) n.0 x.0)
+        (keeps left s h n.0 x.0)
         (λ t v q. where_keeps ds (λ g. type_of (entered_with g (with_tuples scope s)) right) (λ u. value_of w (u ∷ s) right) t v q
-        (λ u p. keeps right (u ∷ s) (p, h) (second_true (is_covered left) (is_covered right) c) n.1 x.1))
-    keeps (binary left op right) s h c n x =
+        (λ u p. keeps right (u ∷ s) (p, h) n.1 x.1))
+    keeps (binary left op right) s h n x =
         both_keep ds (type_of (with_tuples scope s) left) (type_of (with_tuples scope s) right) (value_of w s left) (value_of w s right)
         (operator_type op) (operator_value op)
-        (keeps left s h (first_true (is_covered left) (is_covered right) c) n.0 x.0)
-        (keeps right s h (second_true (is_covered left) (is_covered right) c) n.1 x.1)
+        (keeps left s h n.0 x.0)
+        (keeps right s h n.1 x.1)
         (λ t v u y q r. operator_keeps ds op tt v y t u q r)
-    keeps (compare left op right) s h c n x =
+    keeps (compare left op right) s h n x =
         both_keep ds (type_of (with_tuples scope s) left) (type_of (with_tuples scope s) right) (value_of w s left) (value_of w s right)
         (comparison_type op) (comparison_value op)
-        (keeps left s h (first_true (is_covered left) (is_covered right) c) n.0 x.0)
-        (keeps right s h (second_true (is_covered left) (is_covered right) c) n.1 x.1)
+        (keeps left s h n.0 x.0)
+        (keeps right s h n.1 x.1)
         (λ t v u y q r. comparison_keeps ds op v y t u q r)
-    keeps (postfix operand op) s h c n x =
+    keeps (postfix operand op) s h n x =
         value_keeps ds (type_of (with_tuples scope s) operand) (value_of w s operand) (postfix_type op) (postfix_value op)
-        (keeps operand s h (second_true (postfix_covered op) (is_covered operand) c) n.0 x)
-        (λ t v q. postfix_keeps ds op v t (first_true (postfix_covered op) (is_covered operand) c) n.1 q)
-    keeps (select ty arguments) s h c n x =
+        (keeps operand s h n.0 x)
+        (λ t v q. postfix_keeps ds op v t n.1 q)
+    keeps (select ty arguments) s h n x =
         made_keeps ds (AreOf ds) (types_of (with_tuples scope s) arguments) (argument_values w s arguments) (selector_type ds ty) (selected w ty)
-        (arguments_keep arguments s h c n x) (λ ts vs q. select_keeps ty ts vs q)
-    keeps (component rest operand) s h c n x =
+        (arguments_keep arguments s h n x) (λ ts vs q. select_keeps ty ts vs q)
+    keeps (component rest operand) s h n x =
         value_keeps ds (type_of (with_tuples scope s) operand) (value_of w s operand) (component_type ds rest) (component_value w.scope.types rest)
-        (keeps operand s h c n x)
+        (keeps operand s h n x)
         (λ t v q. subst (λ known. KeepsType ds (component_type ds rest t) (component_value known rest v)) (sym k.types.1) (component_keeps ds k.types.0 rest v t q))
-    keeps (measure op operand) s h c n x =
+    keeps (measure op operand) s h n x =
         value_keeps ds (type_of (with_tuples scope s) operand) (value_of w s operand) (measure_type op) (measure_value op)
-        (keeps operand s h c n x) (λ t v q. measure_keeps ds op v t q)
-    keeps (aggregate op operand value) s h c n x =
+        (keeps operand s h n x) (λ t v q. measure_keeps ds op v t q)
+    keeps (aggregate op operand value) s h n x =
         value_keeps ds (type_of (with_tuples scope s) operand) (value_of w s operand)
         (λ t. over_relation t (λ g. with_value (type_of (entered_with g (with_tuples scope s)) value) (aggregate_type op)))
         (λ v. on_relation v (aggregated_value (asked_of op) (λ u. value_of w (u ∷ s) value)))
-        (keeps operand s h (first_true (is_covered operand) (is_covered value) c) n.0 x.0)
+        (keeps operand s h n.0 x.0)
         (λ t v q. aggregation_keeps ds op (λ g. type_of (entered_with g (with_tuples scope s)) value) (λ u. value_of w (u ∷ s) value) t v q
-        (λ u p. keeps value (u ∷ s) (p, h) (second_true (is_covered operand) (is_covered value) c) n.1 x.1))
-    keeps (relation elements) s h c n x =
+        (λ u p. keeps value (u ∷ s) (p, h) n.1 x.1))
+    keeps (relation elements) s h n x =
         made_keeps ds (AreOf ds) (types_of (with_tuples scope s) elements) (argument_values w s elements) listed_type listed_value
-        (arguments_keep elements s h c n x) (λ ts vs q. listed_keeps ds ts vs q)
-    keeps (headed_relation heading elements) s h c n x =
+        (arguments_keep elements s h n x) (λ ts vs q. listed_keeps ds ts vs q)
+    keeps (headed_relation heading elements) s h n x =
         as_typed ds _ _
         (keeps_both (IsMeant ds) (AreOf ds) (Of ds) (heading_meant ds heading) (types_of (with_tuples scope s) elements)
         (heading_meant w.scope.types heading) (argument_values w s elements) headed_type headed_value
         (subst (λ known. KeepsAs (IsMeant ds) (heading_meant ds heading) (heading_meant known heading)) (sym k.types.1)
         (meant_more scope k.scope_is k.types.0 heading n.0))
-        (arguments_keep elements s h c n.1 x)
+        (arguments_keep elements s h n.1 x)
         (λ g g' ts vs p q. typed_as ds (headed_type g ts) (headed_value g' vs)
         (subst (λ f. KeepsType ds (headed_type g ts) (headed_value f vs)) (sym p.0) (headed_keeps ds g ts vs p.1 p.2 q))))
-    keeps (tuple parts) s h c n x =
+    keeps (tuple parts) s h n x =
         made_keeps ds (AreEntriesOf ds) (named_types (with_tuples scope s) parts) (entry_values w s parts) tuple_type tuple_from
-        (entries_keep parts s h c n x) (λ attributes es q. tuple_from_keeps ds attributes es q)
-    keeps (extend operand parts) s h c n x =
+        (entries_keep parts s h n x) (λ attributes es q. tuple_from_keeps ds attributes es q)
+    keeps (extend operand parts) s h n x =
         value_keeps ds (type_of (with_tuples scope s) operand) (value_of w s operand)
         (λ t. over_relation t (λ g. with_value (named_types (entered_with g (with_tuples scope s)) parts) (extension_type g)))
         (λ v. on_relation v (λ r. extended_value (named_types (entered_with r.heading (scope_among w s)) parts) (values_in_tuples w s parts) r))
-        (keeps operand s h (first_true (is_covered operand) (parts_covered parts) c) n.0 x.0)
+        (keeps operand s h n.0 x.0)
         (λ t v q. extend_keeps ds (λ g. named_types (entered_with g (with_tuples scope s)) parts) (λ g. named_types (entered_with g (scope_among w s)) parts)
         (values_in_tuples w s parts) t v q
         (λ r attributes p e. (
           more_changes_no_parts (entered_with r.heading (with_tuples scope s)) (entered_with r.heading (scope_among w s)) parts attributes (more_there s r.heading) e,
           types_are_known.of_parts (entered_with r.heading (with_tuples scope s)) parts attributes (entered_is s r.heading h (p.0.2, p.1.1)) n.1 e,
           subst (λ o. KeepParts ds r o (values_in_tuples w s parts)) e
-              (parts_keep parts s h (second_true (is_covered operand) (parts_covered parts) c) n.1 x.1 r p),
+              (parts_keep parts s h n.1 x.1 r p),
         )))
-    keeps (summarize_per operand per items) s h c n x =
-        let covered = second_true (is_covered operand) (is_covered per && items_covered items) c in
+    keeps (summarize_per operand per items) s h n x =
         summarize_per_keeps ds (λ g. items_of (entered_with g (with_tuples scope s)) items) (λ g. summary_attributes (entered_with g (scope_among w s)) items)
         (items_in_tuples w s items) (type_of (with_tuples scope s) operand) (type_of (with_tuples scope s) per) (value_of w s operand) (value_of w s per)
         (λ r xs p e. items_are_kept items s r xs h n.2 p e
-        (items_keep items s h (second_true (is_covered per) (items_covered items) covered) n.2 x.2 r p xs e))
-        (keeps operand s h (first_true (is_covered operand) (is_covered per && items_covered items) c) n.0 x.0)
-        (keeps per s h (first_true (is_covered per) (items_covered items) covered) n.1 x.1)
-    keeps (summarize_by operand by items) s h c n x =
+        (items_keep items s h n.2 x.2 r p xs e))
+        (keeps operand s h n.0 x.0)
+        (keeps per s h n.1 x.1)
+    keeps (summarize_by operand by items) s h n x =
         summarize_by_keeps ds (λ g. items_of (entered_with g (with_tuples scope s)) items) (λ g. summary_attributes (entered_with g (scope_among w s)) items)
         (items_in_tuples w s items) by (type_of (with_tuples scope s) operand) (value_of w s operand)
         (λ r xs p e. items_are_kept items s r xs h n.1 p e
-        (items_keep items s h (second_true (is_covered operand) (items_covered items) c) n.1 x.1 r p xs e))
-        (keeps operand s h (first_true (is_covered operand) (items_covered items) c) n.0 x.0)
-    keeps (choice condition consequent alternative) s h c n x =
-        let covered = second_true (is_covered condition) (is_covered consequent && is_covered alternative) c in
+        (items_keep items s h n.1 x.1 r p xs e))
+        (keeps operand s h n.0 x.0)
+    keeps (choice condition consequent alternative) s h n x =
         choice_keeps ds (type_of (with_tuples scope s) condition) (type_of (with_tuples scope s) consequent) (type_of (with_tuples scope s) alternative)
         (value_of w s condition) (value_of w s consequent) (value_of w s alternative)
-        (keeps condition s h (first_true (is_covered condition) (is_covered consequent && is_covered alternative) c) n.0 x.0)
-        (keeps consequent s h (first_true (is_covered consequent) (is_covered alternative) covered) n.1 x.1)
-        (keeps alternative s h (second_true (is_covered consequent) (is_covered alternative) covered) n.2 x.2)
+        (keeps condition s h n.0 x.0)
+        (keeps consequent s h n.1 x.1)
+        (keeps alternative s h n.2 x.2)
 
-    arguments_keep : (es : Trees) (s : List Tuple) → AreTyped s → IsTrue (are_covered es) → GiveNames es → HaveTexts es
+    arguments_keep : (es : Trees) (s : List Tuple) → AreTyped s → GiveNames es → HaveTexts es
         → KeepsAs (AreOf ds) (types_of (with_tuples scope s) es) (argument_values w s es)
-    arguments_keep none s h c n x = tt
-    arguments_keep (more first rest) s h c n x =
+    arguments_keep none s h n x = tt
+    arguments_keep (more first rest) s h n x =
         keeps_both (Of ds) (AreOf ds) (AreOf ds) (type_of (with_tuples scope s) first) (types_of (with_tuples scope s) rest)
         (value_of w s first) (argument_values w s rest) (λ t ts. Valued (t ∷ ts)) (λ v vs. Valued (v ∷ vs))
-        (typed_as ds (type_of (with_tuples scope s) first) (value_of w s first) (keeps first s h (first_true (is_covered first) (are_covered rest) c) n.0 x.0))
-        (arguments_keep rest s h (second_true (is_covered first) (are_covered rest) c) n.1 x.1)
+        (typed_as ds (type_of (with_tuples scope s) first) (value_of w s first) (keeps first s h n.0 x.0))
+        (arguments_keep rest s h n.1 x.1)
         (λ t v ts vs p q. (p, q))
 
-    entries_keep : (parts : NamedTrees) (s : List Tuple) → AreTyped s → IsTrue (parts_covered parts) → PartsGiveNames parts → PartsHaveTexts parts
+    entries_keep : (parts : NamedTrees) (s : List Tuple) → AreTyped s → PartsGiveNames parts → PartsHaveTexts parts
         → KeepsAs (AreEntriesOf ds) (named_types (with_tuples scope s) parts) (entry_values w s parts)
-    entries_keep none_named s h c n x = (refl, tt)
-    entries_keep (more_named m value rest) s h c n x =
+    entries_keep none_named s h n x = (refl, tt)
+    entries_keep (more_named m value rest) s h n x =
         keeps_both (Of ds) (AreEntriesOf ds) (AreEntriesOf ds) (type_of (with_tuples scope s) value) (named_types (with_tuples scope s) rest)
         (value_of w s value) (entry_values w s rest) (λ t attributes. Valued ((m, t) ∷ attributes)) (λ v entries. Valued ((m, v) ∷ entries))
-        (typed_as ds (type_of (with_tuples scope s) value) (value_of w s value) (keeps value s h (first_true (is_covered value) (parts_covered rest) c) n.1 x.0))
-        (entries_keep rest s h (second_true (is_covered value) (parts_covered rest) c) n.2 x.1)
+        (typed_as ds (type_of (with_tuples scope s) value) (value_of w s value) (keeps value s h n.1 x.0))
+        (entries_keep rest s h n.2 x.1)
         (λ t v attributes es p q.
         let first = has_its_type ds v t p.1 in
         let others = q.0 in
         ((λ i. (m, (sym first) i) ∷ others i), ((n.0, own_type ds v t p), q.1)))
 
-    parts_keep : (parts : NamedTrees) (s : List Tuple) → AreTyped s → IsTrue (parts_covered parts) → PartsGiveNames parts → PartsHaveTexts parts
+    parts_keep : (parts : NamedTrees) (s : List Tuple) → AreTyped s → PartsGiveNames parts → PartsHaveTexts parts
         → (r : Relation) → IsOfType ds (relation_as_value r) (types.relation (pack r.heading))
         → KeepParts ds r (named_types (entered_with r.heading (with_tuples scope s)) parts) (values_in_tuples w s parts)
-    parts_keep none_named s h c n x r p = tt
-    parts_keep (more_named m value rest) s h c n x r p =
+    parts_keep none_named s h n x r p = tt
+    parts_keep (more_named m value rest) s h n x r p =
         one_more_part ds r m (type_of (entered_with r.heading (with_tuples scope s)) value) (named_types (entered_with r.heading (with_tuples scope s)) rest)
         (λ u. value_of w (u ∷ s) value) (values_in_tuples w s rest)
         (λ u b.
         let at = rows_typed ds r p u b in
         subst (λ g. KeepsType ds (type_of (entered_with g (with_tuples scope s)) value) (value_of w (u ∷ s) value)) at.1
-        (keeps value (u ∷ s) (at.0, h) (first_true (is_covered value) (parts_covered rest) c) n.1 x.0))
-        (parts_keep rest s h (second_true (is_covered value) (parts_covered rest) c) n.2 x.1 r p)
+        (keeps value (u ∷ s) (at.0, h) n.1 x.0))
+        (parts_keep rest s h n.2 x.1 r p)
 
-    items_keep : (items : Summaries) (s : List Tuple) → AreTyped s → IsTrue (items_covered items) → ItemsGiveNames items → ItemsHaveTexts items
+    items_keep : (items : Summaries) (s : List Tuple) → AreTyped s → ItemsGiveNames items → ItemsHaveTexts items
         → (r : Relation) → IsOfType ds (relation_as_value r) (types.relation (pack r.heading)) → (xs : Items)
         → items_of (entered_with r.heading (with_tuples scope s)) items ≡ Valued xs → ItemsKeep ds r xs (items_in_tuples w s items)
-    items_keep no_summaries s h c n x r p xs e = subst (λ ys. ItemsKeep ds r ys []) (valued_is [] xs e) tt
-    items_keep (counted m rest) s h c n x r p xs e =
+    items_keep no_summaries s h n x r p xs e = subst (λ ys. ItemsKeep ds r ys []) (valued_is [] xs e) tt
+    items_keep (counted m rest) s h n x r p xs e =
         let y = value_of_with (items_of (entered_with r.heading (with_tuples scope s)) rest) (λ others. Valued ((m, count_item) ∷ others)) xs e in
         subst (λ ys. ItemsKeep ds r ys (items_in_tuples w s (counted m rest))) (valued_is ((m, count_item) ∷ y.0) xs y.2)
-        (refl, (λ u b. (tt, refl)), items_keep rest s h c n.1 x r p y.0 y.1)
-    items_keep (summed op value m rest) s h c n x r p xs e =
+        (refl, (λ u b. (tt, refl)), items_keep rest s h n.1 x r p y.0 y.1)
+    items_keep (summed op value m rest) s h n x r p xs e =
         let here = entered_with r.heading (with_tuples scope s) in
         let y = values_of_both (type_of here value) (items_of here rest) (λ t others. Valued ((m, aggregate_item op t) ∷ others)) xs e in
         subst (λ ys. ItemsKeep ds r ys (items_in_tuples w s (summed op value m rest))) (valued_is ((m, aggregate_item op y.0) ∷ y.1) xs y.4) (
@@ -381,9 +378,9 @@ module _ (w : World) (scope : Scope) (k : KeepsScope w scope) where
               let at = rows_typed ds r p u b in
               subst (λ o. KeepsType ds o (value_of w (u ∷ s) value)) y.2
               (subst (λ g. KeepsType ds (type_of (entered_with g (with_tuples scope s)) value) (value_of w (u ∷ s) value)) at.1
-              (keeps value (u ∷ s) (at.0, h) (first_true (is_covered value) (items_covered rest) c) n.0 x.0))),
-          items_keep rest s h (second_true (is_covered value) (items_covered rest) c) n.2 x.1 r p y.1 y.3,
+              (keeps value (u ∷ s) (at.0, h) n.0 x.0))),
+          items_keep rest s h n.2 x.1 r p y.1 y.3,
         )
 
 pub values_keep_types : ValuesKeepTypes
-values_keep_types w scope s e k h c p = keeps w scope k e s h c p.0 p.1
+values_keep_types w scope s e k h p = keeps w scope k e s h p.0 p.1

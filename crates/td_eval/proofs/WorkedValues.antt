@@ -13,12 +13,8 @@ use Rattle.td_tree.specs.Trees.{Tree, Trees, NamedTrees}
 use Rattle.td_tree.specs.Trees as trees
 use Rattle.td_types.specs.TypeLists.{DeclaredType, declared_type}
 use Rattle.td_types.specs.Types as types
-<<<<<<< HEAD
-use Rattle.td_value.specs.Values.{Val, boolean, integer, Fields, field, no_fields, no_rows, relation, row}
-=======
 use Rattle.td_value.specs.LiteralTrees.{literal_tree}
-use Rattle.td_value.specs.Values.{Val, boolean, integer, field, no_fields, no_parts, no_rows, part, relation, row, user}
->>>>>>> literals
+use Rattle.td_value.specs.Values.{Val, boolean, integer, Fields, field, no_fields, no_parts, no_rows, part, relation, row, user}
 
 abbrev value : Tree → Outcome Val
 value = value_of (world_of empty_database) []
@@ -103,7 +99,6 @@ nothing_extended : value (trees.extend (of_integers trees.none) (trees.more_name
     ≡ Valued (relation (types.attr attribute_a types.integer (types.attr (66 ∷ []) types.char types.no_attrs)) no_rows)
 nothing_extended = refl
 
-<<<<<<< HEAD
 -- ---- UNGROUP and TCLOSE
 
 abbrev attribute_k : List ℕ
@@ -141,7 +136,7 @@ circled : value (trees.prefix prefixes.TransitiveClosure (trees.relation (trees.
     ≡ Valued (relation (types.attr attribute_x types.integer (types.attr attribute_y types.integer types.no_attrs))
     (row (led 1 1) (row (led 1 2) (row (led 2 1) (row (led 2 2) no_rows)))))
 circled = refl
-=======
+
 -- the literal of the least number
 least_literal : value (literal_tree (integer (negsuc (2 ^ 63 - 1)))) ≡ Valued (integer (negsuc (2 ^ 63 - 1)))
 least_literal = refl
@@ -173,4 +168,3 @@ met_literal = refl
 -- where one does not meet it there is none
 unmet_literal : named_cause (value_of with_low_numbers [] (literal_tree (low_relation 10))) ≡ Some causes.TypeConstraint
 unmet_literal = refl
->>>>>>> literals

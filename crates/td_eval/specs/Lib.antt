@@ -1,5 +1,4 @@
 pub mod AggregateValues
-pub mod Covered
 pub mod DatabaseWorlds
 pub mod LiteralValues
 pub mod NewColumns

@@ -4,7 +4,6 @@ use Rattle.td_catalog.specs.Database.{Database}
 use Rattle.td_catalog.specs.Legality.{IsLegal}
 use Rattle.td_check.specs.Scopes.{Scope}
 use Rattle.td_check.specs.StaticTypes.{type_of}
-use Rattle.td_eval.specs.Covered.{TypesAreCovered}
 use Rattle.td_eval.specs.DatabaseWorlds.{constraint_value, world_of, world_of_types}
 use Rattle.td_eval.specs.OperatorValues.{components_of}
 use Rattle.td_eval.specs.TreeValues.{value_of}
@@ -95,6 +94,6 @@ StoredLiteralsHaveTheirValues =
 -- they meet them still where more types stand behind
 abbrev pub LaterTypesKeepWhatMeets : Type 0
 LaterTypesKeepWhatMeets =
-    (first second : Database) (v : Val) (t : Type') → IsLegal first → IsLegal second → TypesAreCovered first.types
+    (first second : Database) (v : Val) (t : Type') → IsLegal first → IsLegal second
     → ConstraintsAreWritten first.types → HasLater first second → IsValue v → HasType first.types v t
     → MeetsConstraints first.types v → MeetsConstraints second.types v

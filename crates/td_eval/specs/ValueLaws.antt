@@ -9,7 +9,6 @@ use Rattle.td_check.specs.Scopes.{Scope}
 use Rattle.td_check.specs.StaticLaws.{AgreeAt, AgreeOn, GivesNames, IsScope, UsersAllIn}
 use Rattle.td_check.specs.StaticTypes.{type_of}
 use Rattle.td_eval.specs.AggregateValues.{Summand, aggregated_value, summarized_value}
-use Rattle.td_eval.specs.Covered.{TypesAreCovered, is_covered}
 use Rattle.td_eval.specs.DatabaseWorlds.{world_of}
 use Rattle.td_eval.specs.OperatorValues.{extended_value, is_true, of_relation, restricted_value, truth_value}
 use Rattle.td_eval.specs.TreeValues.{value_of}
@@ -27,11 +26,10 @@ use Rattle.td_value.specs.Views.{relation_view}
 
 -- ---- what is mentioned
 
--- an expression that has a type where these tuples are in hand: their values are of their types, its own value is defined,
--- the names that it gives are names, and its texts are UTF-8
+-- an expression that has a type where these tuples are in hand: their values are of their types, the names that it gives
+-- are names, and its texts are UTF-8
 pub record IsChecked (scope : Scope) (s : List Tuple) (e : Tree) : Type 0 where
   pub tuples : AllByRecursion (IsTypedTuple scope.types) s
-  pub covered : IsTrue (is_covered e)
   pub written : IsWritten e
   pub typed : (t : Type') × (type_of (with_tuples scope s) e ≡ Valued t)
 
@@ -82,7 +80,7 @@ pub record AgreeOnEntries (among : List ℕ → Bool) (first second : Database) 
 abbrev pub ValuesDependOnEntries : Type 0
 ValuesDependOnEntries =
     (among : List ℕ → Bool) (first second : Database) (s : List Tuple) (e : Tree) → IsLegal first → IsLegal second
-    → TypesAreCovered first.types → ConstraintsAreWritten first.types → IsChecked (database_scope first) s e
+    → ConstraintsAreWritten first.types → IsChecked (database_scope first) s e
     → AgreeOnEntries among first second s e → value_of (world_of second) s e ≡ value_of (world_of first) s e
 
 -- ---- later entries
@@ -96,7 +94,7 @@ pub record HasLater (first second : Database) : Type 0 where
 -- relvar that is added stands behind
 pub record LaterEntriesChangeNothing : Type 0 where
   pub values :
-      (first second : Database) (s : List Tuple) (e : Tree) → IsLegal first → TypesAreCovered first.types → ConstraintsAreWritten first.types
+      (first second : Database) (s : List Tuple) (e : Tree) → IsLegal first → ConstraintsAreWritten first.types
       → HasLater first second → IsChecked (database_scope first) s e → value_of (world_of second) s e ≡ value_of (world_of first) s e
   pub one_type : (db : Database) (d : DeclaredType) → HasLater db (with_declared d db)
   pub one_base : (db : Database) (r : BaseRelvar) → HasLater db (with_base r db)

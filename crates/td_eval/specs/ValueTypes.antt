@@ -1,13 +1,12 @@
 -- What an expression of a type may have: a value of that type, or causes that no static rule has: laws (Tutorial D's; the
 -- causes are this project's own).
-use Rattle.std.specs.Prelude.{◌≡◌, ◌≤◌, ℕ, List, ◌++◌, map, Some, Result, Ok, Err, IsTrue, ⊤}
+use Rattle.std.specs.Prelude.{◌≡◌, ◌≤◌, ℕ, List, ◌++◌, map, Some, Result, Ok, Err, ⊤}
 use Rattle.std.specs.List.{AllByRecursion}
 use Rattle.td_catalog.specs.Database.{BaseRelvar, Database, base_named}
 use Rattle.td_catalog.specs.Legality.{AreTyped, IsLegal}
 use Rattle.td_check.specs.Scopes.{KnownRelvar, Scope, known_relvar}
 use Rattle.td_check.specs.StaticLaws.{GivesNames, IsScope}
 use Rattle.td_check.specs.StaticTypes.{type_of}
-use Rattle.td_eval.specs.Covered.{TypesAreCovered, is_covered}
 use Rattle.td_eval.specs.DatabaseWorlds.{with_other, world_of}
 use Rattle.td_eval.specs.TreeTexts.{HasTexts}
 use Rattle.td_eval.specs.TreeValues.{value_of}
@@ -79,7 +78,7 @@ IsWritten e = GivesNames e × HasTexts e
 abbrev pub ValuesKeepTypes : Type 0
 ValuesKeepTypes =
     (w : World) (scope : Scope) (s : List Tuple) (e : Tree) → KeepsScope w scope
-    → AllByRecursion (IsTypedTuple scope.types) s → IsTrue (is_covered e) → IsWritten e
+    → AllByRecursion (IsTypedTuple scope.types) s → IsWritten e
     → KeepsType scope.types (type_of (with_tuples scope s) e) (value_of w s e)
 
 -- so is the constraint of each type
@@ -89,7 +88,7 @@ ConstraintsAreWritten = AllByRecursion (λ d. (e : Tree) → d.constraint ≡ So
 -- the world of a legal database is such a world
 abbrev pub LegalDatabasesKeepScopes : Type 0
 LegalDatabasesKeepScopes =
-    (db : Database) → IsLegal db → TypesAreCovered db.types → ConstraintsAreWritten db.types
+    (db : Database) → IsLegal db → ConstraintsAreWritten db.types
     → KeepsScope (world_of db) (world_of db).scope
 
 -- so is the world in which one of its base relvars has another relation of its heading

@@ -1,14 +1,10 @@
 //! What the values of expressions are to their callers: each function has its contract alone.
-<<<<<<< HEAD
-ghost use Rattle.td_eval.specs.ValueLaws.{LaterEntriesChangeNothing};
-ghost use Rattle.td_eval.specs.ValueLaws.{SummarizeByIsPerOfTheProjection, TupleOrderDoesNotCount};
-=======
 ghost use Rattle.td_eval.specs.LiteralValues.{LaterTypesKeepWhatMeets, LiteralsHaveTheirTypes};
 ghost use Rattle.td_eval.specs.LiteralValues.{LiteralsHaveTheirValues, SelectorsGiveWhatMeets};
 ghost use Rattle.td_eval.specs.LiteralValues.{StoredLiteralsHaveTheirValues};
 ghost use Rattle.td_eval.specs.LiteralValues.{WhatSelectorsGiveMeets};
-ghost use Rattle.td_eval.specs.ValueLaws.{LaterEntriesChangeNothing, TupleOrderDoesNotCount};
->>>>>>> literals
+ghost use Rattle.td_eval.specs.ValueLaws.{LaterEntriesChangeNothing};
+ghost use Rattle.td_eval.specs.ValueLaws.{SummarizeByIsPerOfTheProjection, TupleOrderDoesNotCount};
 ghost use Rattle.td_eval.specs.ValueLaws.{ValuesDependOnEntries, ValuesDependOnMentions};
 ghost use Rattle.td_eval.specs.ValueTypes.{LegalDatabasesKeepScopes, OtherRelationsKeepScopes};
 ghost use Rattle.td_eval.specs.ValueTypes.{ValuesKeepTypes};
@@ -48,11 +44,11 @@ pub fn tuple_order_does_not_count()
     ensures { TupleOrderDoesNotCount }
 {}
 
-<<<<<<< HEAD
 /// SUMMARIZE BY is SUMMARIZE PER of the projection of its operand.
 pub fn summarize_by_is_per_of_the_projection()
     ensures { SummarizeByIsPerOfTheProjection }
-=======
+{}
+
 /// The tree that the literal of a value spells has the value's type, and that value where
 /// selectors give the user values in it.
 pub fn literals_have_their_values()
@@ -72,5 +68,4 @@ pub fn selectors_give_what_meets()
 /// of their types has that value.
 pub fn stored_literals_have_their_values()
     ensures { StoredLiteralsHaveTheirValues }
->>>>>>> literals
 {}

@@ -6,7 +6,6 @@ ghost use Rattle.td_check.specs.Scopes.{Scope, entered_with};
 ghost use Rattle.td_check.specs.StaticTypes.{named_types};
 ghost use Rattle.td_eval.specs.AggregateValues.{aggregated_value, asked_of, summary_attributes};
 ghost use Rattle.td_eval.specs.AggregateValues.{summary_value};
-ghost use Rattle.td_eval.specs.Covered.{TypesAreCovered, is_covered};
 ghost use Rattle.td_eval.specs.DatabaseWorlds.{constraint_value, world_of_types};
 ghost use Rattle.td_eval.specs.NewColumns.{named_columns};
 ghost use Rattle.td_eval.specs.OperatorValues.{column_values, extended_value};
@@ -537,13 +536,10 @@ fn summary<B: Body>(
 }
 
 /// The value of the expression in what it is evaluated in, or the least of the causes for which it
-/// has none. Until UNGROUP, UNWRAP and transitive closure are covered, that is said of expressions
-/// without them where no type's constraint has one: with one it may be refused by TYPE_MISMATCH.
-/// Of an expression that the checker gave a type the value is of that type, and the causes are from
-/// OVERFLOW up.
+/// has none. Of an expression that the checker gave a type the value is of that type, and the
+/// causes are from OVERFLOW up.
 pub fn eval<B: Body>(alloc: Global, env: &Env<'_, B>, expr: &Expr) -> Result<Value, Fault>
-    ensures value { IsTrue (is_covered (tree_view expr.now))
-        → TypesAreCovered env.now.catalog.now.types → Answers (λ v. v) result
+    ensures value { Answers (λ v. v) result
         (value_of (world_in env.now) (tuples_in_hand env.now) (tree_view expr.now)) }
     ensures typed { (scope : Scope) → KeepsScope (world_in env.now) scope
         → (is : IsChecked scope (tuples_in_hand env.now) (tree_view expr.now))

@@ -18,4 +18,4 @@ returns-clause-typed g c = λ scope keeps is.
     (subst (λ ts. Answers (λ (v : Val). v) c.value_of.result (value_of world (reverse ts) tree)) (c.deref.ensures.value ∙ c.in_ok-shared.ensures)
     c.value_of.ensures)
     (subst (λ o. KeepsType scope.types o (value_of world tuples tree)) is.typed.1
-    (values_keep_types world scope tuples tree keeps is.tuples is.covered is.written))
+    (values_keep_types world scope tuples tree keeps is.tuples is.written))
