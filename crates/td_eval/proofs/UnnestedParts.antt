@@ -1,38 +1,54 @@
--- The heading of the attribute that UNGROUP and UNWRAP put the inside of in its place, and what is answered of it.
-use Rattle.std.proofs.Common.{◌≡◌, ◌∙◌, ℕ, Bool, true, List, None, Option, Some, Result, refl, sym}
-use Rattle.td_check.specs.OperatorTypes.{known_or, over_relation, over_tuple}
-use Rattle.td_eval.proofs.OpHeadings.{given_where}
-use Rattle.td_eval.specs.OperatorValues.{of_relation, relation_where}
-use Rattle.td_group.specs.Nesting.{can_unnest, heading_inside, inner_heading, unnested_relation}
+-- The heading of the attribute that UNGROUP and UNWRAP put the inside of in its place, and what follows of it.
+use Rattle.std.proofs.Common.{◌≡◌, ◌∙◌, ℕ, Bool, true, List, None, Option, Some, refl, subst, sym}
+use Rattle.td_check.specs.OperatorTypes.{attribute_type, known_or, over_relation, over_tuple}
+use Rattle.td_group.specs.Nesting.{can_unnest, heading_inside, inner_heading, is_relation_type, is_tuple_type}
 use Rattle.td_tree.specs.declared.cause.Cause.TheVariants as causes
-use Rattle.td_tree.specs.declared.fault.Fault.{Fault}
-use Rattle.td_tree.specs.Outcomes.{Answers, Outcome, Valued, value_if, with_value}
+use Rattle.td_tree.specs.Outcomes.{Outcome, Valued, value_if, with_value}
 use Rattle.td_types.proofs.OutcomeLaws.{valued_is, value_of_test}
 use Rattle.td_types.specs.Headings.{has_attribute, have_no_common, without_attribute}
-use Rattle.td_types.specs.Types.{Heading, Type', unpack}
+use Rattle.td_types.specs.Types.{Heading, Type', type_at, unpack}
 use Rattle.td_types.specs.Types as types
-use Rattle.td_value.specs.Values.{Relation, Val}
+use Rattle.td_value.specs.Values.{Val}
 
--- an attribute of a relation type is there: its heading is inside it, and what follows of it follows
-pub relation_there : (o : Option Type') (part : Heading) → with_value (known_or causes.Heading o) (λ t. over_relation t Valued) ≡ Valued part
-    → (heading_inside o ≡ part) × ((p : Outcome Val) → with_value (known_or causes.Heading o) (λ t. over_relation t (λ g. p)) ≡ p)
-relation_there None part e = absurd (cc)
-relation_there (Some (types.relation xs)) part e = (valued_is (unpack xs) part e, λ p. refl)
-relation_there (Some _) part e = absurd (cc)
+-- an attribute of a relation type is there, the heading is inside it, and what follows of that heading is the answer
+abbrev pub HasRelationPart : List ℕ → Heading → Heading → Type 0
+HasRelationPart name h part =
+    (is_relation_type (type_at name h) ≡ true) × (inner_heading name h ≡ part)
+    × ((o : Outcome Val) → with_value (attribute_type name h) (λ t. over_relation t (λ g. o)) ≡ o)
+
+relation_found : (t : Option Type') (part : Heading) → with_value (known_or causes.Heading t) (λ s. over_relation s Valued) ≡ Valued part
+    → (is_relation_type t ≡ true) × (heading_inside t ≡ part)
+    × ((o : Outcome Val) → with_value (known_or causes.Heading t) (λ s. over_relation s (λ g. o)) ≡ o)
+relation_found None part e = absurd (cc)
+relation_found (Some (types.relation xs)) part e = (refl, valued_is (unpack xs) part e, λ o. refl)
+relation_found (Some _) part e = absurd (cc)
+
+pub relation_there : (name : List ℕ) (g h part : Heading) → g ≡ h → with_value (attribute_type name g) (λ t. over_relation t Valued) ≡ Valued part
+    → HasRelationPart name h part
+relation_there name g h part same e = subst (λ k. HasRelationPart name k part) same (relation_found (type_at name g) part e)
 
 -- the same of a tuple type
-pub tuple_there : (o : Option Type') (part : Heading) → with_value (known_or causes.Heading o) (λ t. over_tuple t Valued) ≡ Valued part
-    → (heading_inside o ≡ part) × ((p : Outcome Val) → with_value (known_or causes.Heading o) (λ t. over_tuple t (λ g. p)) ≡ p)
-tuple_there None part e = absurd (cc)
-tuple_there (Some (types.tuple xs)) part e = (valued_is (unpack xs) part e, λ p. refl)
-tuple_there (Some _) part e = absurd (cc)
+abbrev pub HasTuplePart : List ℕ → Heading → Heading → Type 0
+HasTuplePart name h part =
+    (is_tuple_type (type_at name h) ≡ true) × (inner_heading name h ≡ part)
+    × ((o : Outcome Val) → with_value (attribute_type name h) (λ t. over_tuple t (λ g. o)) ≡ o)
 
--- what is answered where the rest has none of its names
-pub unnested_answers : (name : List ℕ) (r : Relation) (rest part : Heading) (b : Bool) (x : Result Val Fault)
-    → value_if (has_attribute name r.heading) (without_attribute name r.heading) causes.Heading ≡ Valued rest
-    → inner_heading name r.heading ≡ part → b ≡ have_no_common rest part → b ≡ true
-    → Answers (λ v. v) x (of_relation (unnested_relation name r))
-    → Answers (λ v. v) x (relation_where (can_unnest name r.heading) (unnested_relation name r))
-unnested_answers name r rest part b x reduced inside test holds a =
-    let others = (value_of_test (has_attribute name r.heading) (without_attribute name r.heading) rest causes.Heading reduced).1 in
-    given_where (can_unnest name r.heading) (unnested_relation name r) x ((λ i. have_no_common (others i) (inside i)) ∙ sym test ∙ holds) a
+tuple_found : (t : Option Type') (part : Heading) → with_value (known_or causes.Heading t) (λ s. over_tuple s Valued) ≡ Valued part
+    → (is_tuple_type t ≡ true) × (heading_inside t ≡ part)
+    × ((o : Outcome Val) → with_value (known_or causes.Heading t) (λ s. over_tuple s (λ g. o)) ≡ o)
+tuple_found None part e = absurd (cc)
+tuple_found (Some (types.tuple xs)) part e = (refl, valued_is (unpack xs) part e, λ o. refl)
+tuple_found (Some _) part e = absurd (cc)
+
+pub tuple_there : (name : List ℕ) (g h part : Heading) → g ≡ h → with_value (attribute_type name g) (λ t. over_tuple t Valued) ≡ Valued part
+    → HasTuplePart name h part
+tuple_there name g h part same e = subst (λ k. HasTuplePart name k part) same (tuple_found (type_at name g) part e)
+
+-- where the rest has none of the names inside
+pub apart_there : (name : List ℕ) (g h rest part : Heading) (b : Bool) → g ≡ h
+    → value_if (has_attribute name g) (without_attribute name g) causes.Heading ≡ Valued rest
+    → inner_heading name h ≡ part → b ≡ have_no_common rest part → b ≡ true → can_unnest name h ≡ true
+apart_there name g h rest part b same reduced inside test holds =
+    let others = (value_of_test (has_attribute name g) (without_attribute name g) rest causes.Heading reduced).1 in
+    subst (λ k. inner_heading name k ≡ part → can_unnest name k ≡ true) same
+    (λ is. (λ i. have_no_common (others i) (is i)) ∙ sym test ∙ holds) inside
