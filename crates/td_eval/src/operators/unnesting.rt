@@ -17,7 +17,7 @@ use td_types::ty::Ty;
 use td_value::relation::Rel;
 use td_value::value::Value;
 
-/// The heading of an attribute of a relation type: refused where it is not there or of another type.
+/// The heading in an attribute of a relation type: another type, or none, is refused.
 fn relation_part<'a>(heading: &'a Heading, name: &Name) -> Result<&'a Heading, Fault>
     ensures { Answers (λ h. h.now) result
         (with_value (attribute_type name.now heading.now) (λ t. over_relation t Valued)) }
@@ -29,7 +29,7 @@ fn relation_part<'a>(heading: &'a Heading, name: &Name) -> Result<&'a Heading, F
     }
 }
 
-/// The heading of an attribute of a tuple type: refused where it is not there or of another type.
+/// The heading in an attribute of a tuple type: another type, or none, is refused.
 fn tuple_part<'a>(heading: &'a Heading, name: &Name) -> Result<&'a Heading, Fault>
     ensures { Answers (λ h. h.now) result
         (with_value (attribute_type name.now heading.now) (λ t. over_tuple t Valued)) }
