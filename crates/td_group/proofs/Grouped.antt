@@ -16,18 +16,9 @@ use Rattle.td_algebra.proofs.Entries.{heading_distinct}
 use Rattle.td_algebra.proofs.Sources.{has_attribute-outside}
 use Rattle.td_group.specs.Groups.{groups_on}
 use Rattle.td_group.specs.Nesting.{relation_value}
+use Rattle.td_group.proofs.OnNames.{all_named}
 
 -- ---- the rest of a heading
-
--- what holds of each name of a list passes its test
-all_named : (f : List ℕ → Bool) (ns : List (List ℕ)) → ((n : List ℕ) → has_name n ns ≡ true → f n ≡ true) → list_all f ns ≡ true
-all_named f [] h = refl
-all_named f (n ∷ ns) h =
-    both_true (f n) (list_all f ns) (h n (rw (same_name-itself n) refl)) (all_named f ns (λ m there. h m (later m there (same_name n m))))
-  where
-    later : (m : List ℕ) → has_name m ns ≡ true → (b : Bool) → (b || has_name m ns) ≡ true
-    later m there true = refl
-    later m there false = there
 
 pub rest_projects : (part h : Heading) → IsHeading (pack h) → has_projection (attribute_names (outside part h)) h ≡ true
 rest_projects part h p =

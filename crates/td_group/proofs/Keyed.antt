@@ -1,20 +1,19 @@
 -- Rows by their keys.
-use Rattle.std.proofs.Common.{◌≡◌, ◌∙◌, ap, sym, refl, subst, Bool, true, false, cond, List, [], ◌∷◌, ◌++◌, append-nil, map, Option, Some, None, Bor, Vec, unwrap_or, ℕ, ◌+◌, ◌<◌, ◌≤◌, length, take, get_or, filter}
+use Rattle.std.proofs.Common.{◌≡◌, ◌∙◌, ap, sym, refl, subst, Bool, true, false, cond, List, [], ◌∷◌, ◌++◌, append-nil, map, Option, Some, None, Bor, Vec, unwrap_or, ℕ, filter}
 use Rattle.std.specs.HashMap.{HashMap, get}
 use Rattle.std.specs.Bool.{Decides}
 use Rattle.std.specs.Cmp.{IsTotalOrder}
 use Rattle.std.specs.Ordering.{eq_by_cmp}
 use Rattle.std.specs.declared.cmp.Ordering.{Ordering}
-use Rattle.std.proofs.lemmas.List.{map-append, take_all, take_more}
-use Rattle.std.proofs.lemmas.List.Elements.{filter-append}
+use Rattle.std.proofs.lemmas.List.{map-append}
 use Rattle.std.proofs.lemmas.Cmp.{eq_by_cmp_equiv}
 use Rattle.std.specs.List.{All}
 use Rattle.std.proofs.lemmas.List.Elements.{All-filter}
 use Rattle.std.proofs.lemmas.List.Kept.{IsStrictlySortedBy-filter}
 use Rattle.td_types.specs.Headings.{new_names}
 use Rattle.td_types.specs.Types.{Heading, attribute_names}
-use Rattle.td_value.specs.Values.{IsAscendingBody, IsTupleOf, Tuple, projected_tuple, tuple_cmp}
-use Rattle.td_group.specs.Groups.{AreByKey, stands_at_key, items_there, tuples_at}
+use Rattle.td_value.specs.Values.{IsAscendingBody, IsTupleOf, Tuple, tuple_cmp}
+use Rattle.td_group.specs.Groups.{items_there}
 
 -- one item more at a key
 module _ {K X A S : Type 0} (R : K → K → Ordering) (o : IsTotalOrder R) (tell : (x y : K) → Decides (eq_by_cmp R x y) (x ≡ y)) (old mid new : HashMap K (Vec (Bor X) A) S)
@@ -47,24 +46,6 @@ module _ {K X A S : Type 0} (R : K → K → Ordering) (o : IsTotalOrder R) (tel
           let step : get (eq_by_cmp R) new q ≡ get (eq_by_cmp R) mid q = back q ∙ rw apart refl in
           let kept : get (eq_by_cmp R) mid q ≡ get (eq_by_cmp R) old q = out q ∙ rw apart refl in
           ap items_there (step ∙ kept) ∙ sym (append-nil (items_there (get (eq_by_cmp R) old q)))
-
-filter_more : {X : Type 0} (p : X → Bool) (xs : List X) (i : ℕ) (x : X) → i < length xs → x ≡ get_or xs i x
-    → filter p (take (i + 1) xs) ≡ filter p (take i xs) ++ cond (p x) (x ∷ []) []
-filter_more p xs i x h is =
-    ap (filter p) (take_more xs i x h ∙ ap (λ y. take i xs ++ y ∷ []) (sym is)) ∙ filter-append p (take i xs) (x ∷ [])
-
--- one row more
-pub keyed_more : {A S : Type 0} (names : List (List ℕ)) (rows : List Tuple) (i : ℕ) (row key : Tuple) (m n : HashMap Tuple (Vec (Bor Tuple) A) S)
-    → i < length rows → row ≡ get_or rows i row → key ≡ projected_tuple names row → AreByKey names (take i rows) m
-    → ((q : Tuple) → tuples_at q n ≡ tuples_at q m ++ cond (eq_by_cmp tuple_cmp q key) (row ∷ []) []) → AreByKey names (take (i + 1) rows) n
-keyed_more names rows i row key m n h is e inv grows q =
-    grows q ∙ ap (λ ts. ts ++ cond (eq_by_cmp tuple_cmp q key) (row ∷ []) []) (inv q)
-    ∙ ap (λ k. filter (stands_at_key names q) (take i rows) ++ cond (eq_by_cmp tuple_cmp q k) (row ∷ []) []) e
-    ∙ sym (filter_more (stands_at_key names q) rows i row h is)
-
-pub keyed_all : {A S : Type 0} (names : List (List ℕ)) (rows : List Tuple) (i : ℕ) (m : HashMap Tuple (Vec (Bor Tuple) A) S)
-    → length rows ≤ i → AreByKey names (take i rows) m → AreByKey names rows m
-keyed_all names rows i m h inv q = subst (λ ts. tuples_at q m ≡ filter (stands_at_key names q) ts) (take_all i rows h) (inv q)
 
 -- ---- the rows of one key
 

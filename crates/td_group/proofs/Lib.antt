@@ -1,4 +1,5 @@
 mod Apart
+mod AtValues
 mod Chains
 pub mod ClosureLaws
 pub mod Extremes
@@ -8,6 +9,7 @@ mod Grouped
 mod Keyed
 pub mod Nested
 mod NestedMembers
+mod OnNames
 mod Rests
 mod RoundTrips
 mod Sums

@@ -42,9 +42,9 @@ pub fn group(alloc: Global, rel: &Rel, names: &[Name], name: Name) -> Result<Rel
     let heading = rel.heading();
     let _ = heading.len();
     let part = unrefused(heading.project(names))?;
-    let rest = attribute_names(&heading.lacking(&part)?)?;
-    let keys = project(alloc, rel, &rest)?;
-    let groups = groups_on(alloc, &rest, rel, keys.rows())?;
+    let rest = heading.lacking(&part)?;
+    let keys = project(alloc, rel, &attribute_names(&rest)?)?;
+    let groups = groups_on(alloc, &rest, rel, &keys)?;
     let values = group_values(alloc, &groups, names)?;
     let ty = Ty::Rel(part);
     extend(alloc, &keys, name, Column { ty, values })

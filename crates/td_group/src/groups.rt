@@ -1,16 +1,14 @@
-//! Tuples, each with the relation of the tuples that agree with it. They are found by one table.
-ghost use Rattle.std.specs.Prelude.{◌≡◌, ◌∷◌, ◌++◌, [], IfOk, IsTrue, if◌then◌else◌, map};
-ghost use Rattle.std.specs.Prelude.{OnOk, filter};
-ghost use Rattle.std.specs.List.{All};
-ghost use Rattle.std.specs.Ordering.{eq_by_cmp};
-ghost use Rattle.td_algebra.specs.Operators.{restriction};
-ghost use Rattle.td_group.specs.Groups.{AreByKey, groups, groups_on, stands_at_key, tuples_at};
-ghost use Rattle.td_types.specs.Headings.{agree};
-ghost use Rattle.td_types.specs.Types.{attribute_names};
-ghost use Rattle.td_value.specs.Agreement.{agree_on};
-ghost use Rattle.td_value.specs.Values.{IsAscendingBody, IsTupleOf, Tuple, projected_tuple};
-ghost use Rattle.td_value.specs.Values.{tuple_cmp};
-ghost use Rattle.td_value.specs.Views.{relation_view};
+//! Tuples, each with the relation of the tuples that agree with it. They are found by one table, by
+//! their values on the names.
+ghost use Rattle.std.specs.Prelude.{◌≡◌, ◌<◌, ◌∷◌, ◌++◌, [], IfOk, IsTrue, List, Some, length};
+ghost use Rattle.std.specs.Prelude.{OnOk, filter, if◌then◌else◌, map};
+ghost use Rattle.std.specs.List.{All, slice_get};
+ghost use Rattle.td_group.specs.Groups.{ArePlacesOf, AreByValues, StandAt, are_same, groups};
+ghost use Rattle.td_group.specs.Groups.{groups_on, tuples_at, values_on};
+ghost use Rattle.td_types.specs.Headings.{agree, has_attribute, has_attributes};
+ghost use Rattle.td_types.specs.Types.{Attribute, attribute_names};
+ghost use Rattle.td_value.specs.Values.{IsAscendingBody, IsTupleOf, Tuple, Val};
+ghost use Rattle.td_value.specs.Views.{relation_view, values_of};
 
 use crate::want::unrefused;
 use std::alloc::{AllocError, Global};
@@ -19,35 +17,104 @@ use td_tree::name::Name;
 use td_types::heading::Heading;
 use td_value::relation::Rel;
 use td_value::tuple::Tuple;
+use td_value::value::Value;
 
-/// Puts the row after the others of its key.
-fn put_row<'a>(
-    alloc: Global,
-    table: &mut HashMap<Tuple, Vec<&'a Tuple>>,
-    key: Tuple,
-    row: &'a Tuple,
-) -> Result<(), AllocError>
-    ensures { (q : Tuple) → OnOk result (tuples_at q table.new
-        ≡ tuples_at q table.old ++ (if eq_by_cmp tuple_cmp q key then row.now ∷ [] else [])) }
+/// Whether the other heading has an attribute of the name that stands at the place.
+fn is_common(heading: &Heading, place: usize, other: &Heading) -> bool
+    ensures { (a : Attribute) → slice_get heading.now place ≡ Some a
+        → result ≡ has_attribute a.0 other.now }
 {
-    let mut rows = table.remove(&key).unwrap_or(Vec::new(alloc));
-    rows.push(row)?;
-    table.insert(key, rows)?;
+    match heading.at(place) {
+        Some((name, _)) => other.get(name).is_some(),
+        None => false,
+    }
+}
+
+/// The places of the common attributes in the heading.
+fn places_of(alloc: Global, common: &Heading, heading: &Heading) -> Result<Vec<usize>, AllocError>
+    ensures { IfOk result (λ places.
+        ArePlacesOf (attribute_names common.now) heading.now places.items) }
+{
+    let mut places = Vec::with_capacity(alloc, common.len())?;
+    for place in 0..heading.len() {
+        if is_common(heading, place, common) {
+            places.push(place)?;
+        }
+    }
+    Ok(places)
+}
+
+/// Puts the row's values at the places in place of those that are there.
+fn put_values(key: &mut Vec<Value>, places: &[usize], row: &Tuple) -> Result<(), AllocError>
+    requires { All (λ place. place < length (values_of row.now)) places.now }
+    ensures { OnOk result (StandAt places.now key.new.items row.now) }
+{
+    let values = row.values();
+    key.clear();
+    for place in places {
+        key.push(values[*place].try_clone()?)?;
+    }
     Ok(())
 }
 
-/// The rows by their projections on the names.
-fn by_key<'a>(
-    alloc: Global,
-    names: &[Name],
-    rows: &'a [Tuple],
-) -> Result<HashMap<Tuple, Vec<&'a Tuple>>, AllocError>
-    ensures { IfOk result (AreByKey names.now rows.now) }
+/// Copies of the values.
+fn copied_values(alloc: Global, values: &[Value]) -> Result<Vec<Value>, AllocError>
+    ensures { IfOk result (λ copies. copies.items ≡ values.now) }
 {
-    let mut table = HashMap::with_capacity(alloc, rows.len())?;
-    for row in rows {
-        let key = row.project(names)?;
-        put_row(alloc, &mut table, key, row)?;
+    let mut copies = Vec::with_capacity(alloc, values.len())?;
+    for value in values {
+        copies.push(value.try_clone()?)?;
+    }
+    Ok(copies)
+}
+
+/// Puts the row as the first at its values.
+fn put_first<'a>(
+    alloc: Global,
+    table: &mut HashMap<Vec<Value>, Vec<&'a Tuple>>,
+    key: &[Value],
+    row: &'a Tuple,
+) -> Result<(), AllocError>
+    requires { tuples_at key.now table.old ≡ [] }
+    ensures { (vs : List Val) → OnOk result (tuples_at vs table.new
+        ≡ tuples_at vs table.old ++ (if are_same vs key.now then row.now ∷ [] else [])) }
+{
+    let mut rows = Vec::new(alloc);
+    rows.push(row)?;
+    table.insert(copied_values(alloc, key)?, rows)?;
+    Ok(())
+}
+
+/// Puts the row after the others at its values.
+fn put_row<'a>(
+    alloc: Global,
+    table: &mut HashMap<Vec<Value>, Vec<&'a Tuple>>,
+    key: &[Value],
+    row: &'a Tuple,
+) -> Result<(), AllocError>
+    ensures { (vs : List Val) → OnOk result (tuples_at vs table.new
+        ≡ tuples_at vs table.old ++ (if are_same vs key.now then row.now ∷ [] else [])) }
+{
+    match table.get_mut(key) {
+        Some(rows) => Ok(rows.push(row)?),
+        None => put_first(alloc, table, key, row),
+    }
+}
+
+/// The tuples by their values on the common attributes.
+fn by_values<'a>(
+    alloc: Global,
+    common: &Heading,
+    rel: &'a Rel,
+) -> Result<HashMap<Vec<Value>, Vec<&'a Tuple>>, AllocError>
+    ensures { IfOk result (AreByValues (attribute_names common.now) rel.now.body) }
+{
+    let places = places_of(alloc, common, rel.heading())?;
+    let mut table = HashMap::with_capacity(alloc, rel.rows().len())?;
+    let mut key = Vec::with_capacity(alloc, places.len())?;
+    for row in rel.rows() {
+        put_values(&mut key, &places, row)?;
+        put_row(alloc, &mut table, &key, row)?;
     }
     Ok(table)
 }
@@ -63,11 +130,11 @@ fn copied(alloc: Global, rows: &[&Tuple]) -> Result<Vec<Tuple>, AllocError>
     Ok(copies)
 }
 
-/// The rows of the key.
+/// The rows at the values.
 fn rows_at(
     alloc: Global,
-    table: &HashMap<Tuple, Vec<&Tuple>>,
-    key: &Tuple,
+    table: &HashMap<Vec<Value>, Vec<&Tuple>>,
+    key: &[Value],
 ) -> Result<Vec<Tuple>, AllocError>
     ensures { IfOk result (λ rows. rows.items ≡ tuples_at key.now table.now) }
 {
@@ -77,35 +144,42 @@ fn rows_at(
     }
 }
 
-/// The relation of those of its tuples that agree with the tuple on the names.
-fn group_with(
+/// The relation of the heading of the rows at the values.
+fn group_at(
     alloc: Global,
-    names: &[Name],
-    rel: &Rel,
-    table: &HashMap<Tuple, Vec<&Tuple>>,
-    tuple: &Tuple,
+    heading: &Heading,
+    table: &HashMap<Vec<Value>, Vec<&Tuple>>,
+    key: &[Value],
 ) -> Result<Rel, AllocError>
-    requires { AreByKey names.now rel.now.body table.now }
-    ensures { IfOk result (λ r. r ≡ restriction (agree_on names.now tuple.now) rel.now) }
+    requires headed { All (IsTupleOf heading.now) (tuples_at key.now table.now) }
+    requires ascending { IsAscendingBody (tuples_at key.now table.now) }
+    ensures { IfOk result (λ r. r ≡ relation_view heading.now (tuples_at key.now table.now)) }
 {
-    let _ = rel.rows();
-    let rows = rows_at(alloc, table, &tuple.project(names)?)?;
-    Rel::of_ascending(rel.heading().try_clone()?, rows)
+    let rows = rows_at(alloc, table, key)?;
+    Rel::of_ascending(heading.try_clone()?, rows)
 }
 
-/// Each of the tuples with the relation of those that agree with it on the names.
+/// Each tuple of `per` with the relation of those that agree with it on the common attributes.
 pub(crate) fn groups_on(
     alloc: Global,
-    names: &[Name],
+    common: &Heading,
     rel: &Rel,
-    tuples: &[Tuple],
+    per: &Rel,
 ) -> Result<Vec<(Tuple, Rel)>, AllocError>
-    ensures { IfOk result (λ found. found.items ≡ groups_on names.now rel.now tuples.now) }
+    requires rel { IsTrue (has_attributes (attribute_names common.now) rel.now.heading) }
+    requires per { IsTrue (has_attributes (attribute_names common.now) per.now.heading) }
+    ensures { IfOk result (λ found.
+        found.items ≡ groups_on (attribute_names common.now) rel.now per.now.body) }
 {
-    let table = by_key(alloc, names, rel.rows())?;
-    let mut found = Vec::with_capacity(alloc, tuples.len())?;
-    for tuple in tuples {
-        let group = group_with(alloc, names, rel, &table, tuple)?;
+    let _ = common.len();
+    let _ = rel.rows();
+    let table = by_values(alloc, common, rel)?;
+    let places = places_of(alloc, common, per.heading())?;
+    let mut key = Vec::with_capacity(alloc, places.len())?;
+    let mut found = Vec::with_capacity(alloc, per.rows().len())?;
+    for tuple in per.rows() {
+        put_values(&mut key, &places, tuple)?;
+        let group = group_at(alloc, rel.heading(), &table, &key)?;
         found.push((tuple.try_clone()?, group))?;
     }
     Ok(found)
@@ -124,7 +198,7 @@ pub fn groups(alloc: Global, rel: &Rel, per: &Rel) -> Result<Vec<(Tuple, Rel)>, 
     requires { IsTrue (agree per.now.heading rel.now.heading) }
     ensures { IfOk result (λ found. found.items ≡ groups rel.now per.now) }
 {
+    let _ = per.heading().len();
     let common = unrefused(per.heading().common(rel.heading()))?;
-    let names = attribute_names(&common)?;
-    groups_on(alloc, &names, rel, per.rows())
+    groups_on(alloc, &common, rel, per)
 }

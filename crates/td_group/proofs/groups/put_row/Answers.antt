@@ -1,10 +1,12 @@
-use Rattle.td_value.specs.Values.{tuple_cmp}
-use Rattle.td_value.specs.ValueOrder.{tuple_Decides, tuple_order_total}
-use Rattle.td_group.proofs.Keyed.{grown_by_item}
+use Rattle.std.proofs.Common.{◌∙◌, ◌∷◌, ◌++◌, [], ap, map, rules}
+use Rattle.std.proofs.lemmas.List.{map-append}
+use Rattle.td_group.specs.Groups.{items_there}
+use Rattle.td_group.proofs.AtValues.{grown_at_values}
 use Rattle.td_group.proofs.groups.put_row.Goals as goal
 
-pub returns : goal.returns
-returns c =
-    grown_by_item tuple_cmp tuple_order_total tuple_Decides c.args.table.now c.remove.new.self c.insert.new.self c.args.key c.args.row c.remove.result c.new.result
-    c.unwrap_or-rows.result c.push.new.self c.remove.ensures.value c.new.ensures.items c.unwrap_or-rows.ensures c.in_ok-push.ensures.items
-    c.remove.ensures.updates.0 c.in_ok-insert.ensures.updates.0
+pub returns-in_ok-push-in-Some : goal.returns-in_ok-push-in-Some
+returns-in_ok-push-in-Some c =
+    grown_at_values c.args.table.now (c.get_mut.follows.lender c.push.new.self) c.args.key.now c.args.row.now c.push.new.self
+    ((c.get_mut.follows.holds c.push.new.self).3 (search rules))
+    (ap (map (λ t. t.now)) c.in_ok-push-in-Some.ensures.items ∙ map-append (λ t. t.now) c.in-Some.rows.now.items (c.args.row ∷ [])
+    ∙ ap (λ o. items_there o ++ c.args.row.now ∷ []) c.in-Some.ensures.value)

@@ -1,0 +1,10 @@
+use Rattle.std.proofs.Common.{◌≡◌, Some, map, take}
+use Rattle.std.specs.List.{slice_get}
+use Rattle.td_types.specs.Types.{attribute_names}
+use Rattle.td_value.specs.Values.{IsTupleOf, Tuple}
+use Rattle.td_value.specs.Views.{values_of}
+use Rattle.td_group.specs.Groups.{StandAt, values_on}
+use Rattle.td_group.proofs.groups.places_of.Given as goal
+
+abbrev pub invariant-loop-place : goal.invariant-loop-place
+invariant-loop-place l = (t : Tuple) → IsTupleOf l.heading t → StandAt l.places.items (values_on (attribute_names l.common) (take l.place t)) t
