@@ -41,7 +41,8 @@ some_same (x ∷ xs) (y ∷ ys) e =
 pub stand_same : (places : List ℕ) (vs ws : List Val) (t : Tuple) → StandAt places vs t → StandAt places ws t → vs ≡ ws
 stand_same places vs ws t p q = some_same vs ws (sym p ∙ q)
 
-within : (all : List Val) (places : List ℕ) (vs : List Val) → map (slice_get all) places ≡ map Some vs → AllByRecursion (λ p. p < length all) places
+within : (all : List Val) (places : List ℕ) (vs : List Val) → map (slice_get all) places ≡ map Some vs
+    → AllByRecursion (λ p. p < length all) places
 within all [] vs e = tt
 within all (p ∷ places) [] e = absurd (cc)
 within all (p ∷ places) (v ∷ vs) e =
@@ -50,33 +51,41 @@ within all (p ∷ places) (v ∷ vs) e =
     (slice_get_within all p v here, within all places vs rest)
 
 -- places at which values stand are places of the tuple
-pub stand_within : (places : List ℕ) (vs : List Val) (t : Tuple) → StandAt places vs t → All (λ p. p < length (values_of t)) places
+pub stand_within : (places : List ℕ) (vs : List Val) (t : Tuple) → StandAt places vs t
+    → All (λ p. p < length (values_of t)) places
 stand_within places vs t e = All-from_recursion (λ p. p < length (values_of t)) places (within (values_of t) places vs e)
 
 -- one place more
-pub stand_more : (places : List ℕ) (vs : List Val) (t : Tuple) (p : ℕ) (v : Val) → StandAt places vs t → slice_get (values_of t) p ≡ Some v
+pub stand_more : (places : List ℕ) (vs : List Val) (t : Tuple) (p : ℕ) (v : Val) → StandAt places vs t
+    → slice_get (values_of t) p ≡ Some v
     → StandAt (places ++ p ∷ []) (vs ++ v ∷ []) t
 stand_more places vs t p v e is =
     map-append (slice_get (values_of t)) places (p ∷ []) ∙ (λ i. e i ++ is i ∷ []) ∙ sym (map-append Some vs (v ∷ []))
 
 -- places of a heading are places of each of its tuples
-pub places_within : (names : List (List ℕ)) (h : Heading) (places passed : List ℕ) (t : Tuple) → ArePlacesOf names h places → passed ≡ places → IsTupleOf h t
+pub places_within : (names : List (List ℕ)) (h : Heading) (places passed : List ℕ) (t : Tuple) → ArePlacesOf names h places
+    → passed ≡ places → IsTupleOf h t
     → All (λ p. p < length (values_of t)) passed
-places_within names h places passed t are is p = subst (All (λ i. i < length (values_of t))) (sym is) (stand_within places (values_on names t) t (are t p))
+places_within names h places passed t are is p =
+    subst (All (λ i. i < length (values_of t))) (sym is) (stand_within places (values_on names t) t (are t p))
 
 -- a row of a relation has its heading
-pub row_headed : (h : Heading) (ts us : List Tuple) (i : ℕ) (t : Tuple) → us ≡ ts → t ≡ get_or us i t → i < length us → All (IsTupleOf h) ts → IsTupleOf h t
-row_headed h ts us i t is at l all = subst (IsTupleOf h) (sym at) (All-get_or (IsTupleOf h) us i t l (subst (All (IsTupleOf h)) (sym is) all))
+pub row_headed : (h : Heading) (ts us : List Tuple) (i : ℕ) (t : Tuple) → us ≡ ts → t ≡ get_or us i t → i < length us
+    → All (IsTupleOf h) ts → IsTupleOf h t
+row_headed h ts us i t is at l all =
+    subst (IsTupleOf h) (sym at) (All-get_or (IsTupleOf h) us i t l (subst (All (IsTupleOf h)) (sym is) all))
 
 -- ---- the places of a heading's attributes that another has too
 
 values_on_more : (names : List (List ℕ)) (t : Tuple) (e : List ℕ × Val)
     → values_on names (t ++ e ∷ []) ≡ (if has_name e.0 names then values_on names t ++ e.1 ∷ [] else values_on names t)
 values_on_more names t e =
-    ap values_of (filter-append (λ f. has_name f.0 names) t (e ∷ [])) ∙ map-append (λ f. f.1) (projected_tuple names t) (filter (λ f. has_name f.0 names) (e ∷ []))
+    ap values_of (filter-append (λ f. has_name f.0 names) t (e ∷ []))
+    ∙ map-append (λ f. f.1) (projected_tuple names t) (filter (λ f. has_name f.0 names) (e ∷ []))
     ∙ by_test (has_name e.0 names)
   where
-    by_test : (b : Bool) → values_on names t ++ values_of (if b then e ∷ [] else []) ≡ (if b then values_on names t ++ e.1 ∷ [] else values_on names t)
+    by_test : (b : Bool)
+        → values_on names t ++ values_of (if b then e ∷ [] else []) ≡ (if b then values_on names t ++ e.1 ∷ [] else values_on names t)
     by_test true = refl
     by_test false = append-nil (values_on names t)
 
@@ -89,29 +98,39 @@ none_at (f ∷ t) i l e = some_none (get_or (f ∷ t) i f) (sym (slice_get-get_o
 
 -- one attribute more
 pub places_more : (common h : Heading) (t : Tuple) (i : ℕ) (places more : List ℕ) (b : Bool) → IsTupleOf h t → i < length h
-    → ((a : Attribute) → slice_get h i ≡ Some a → b ≡ has_attribute a.0 common) → more ≡ (if b then places ++ i ∷ [] else places)
-    → StandAt places (values_on (attribute_names common) (take i t)) t → StandAt more (values_on (attribute_names common) (take (i + 1) t)) t
+    → ((a : Attribute) → slice_get h i ≡ Some a → b ≡ has_attribute a.0 common)
+    → more ≡ (if b then places ++ i ∷ [] else places)
+    → StandAt places (values_on (attribute_names common) (take i t)) t
+    → StandAt more (values_on (attribute_names common) (take (i + 1) t)) t
 places_more common h t i places more b p l tells is e = by_entry (slice_get t i) refl
   where
+    names : List (List ℕ)
+    names = attribute_names common
+
+    before : List Val
+    before = values_on names (take i t)
+
     fits : i < length t
     fits = subst (λ n. i < n) (as_many h t p ∙ length-map t (λ f. f.1)) l
 
-    more_stand : (f : List ℕ × Val) → slice_get t i ≡ Some f → (c : Bool) → c ≡ has_name f.0 (attribute_names common)
-        → StandAt (if c then places ++ i ∷ [] else places) (if c then values_on (attribute_names common) (take i t) ++ f.1 ∷ [] else values_on (attribute_names common) (take i t)) t
-    more_stand f at true named = stand_more places (values_on (attribute_names common) (take i t)) t i f.1 e (slice_get-map (λ g. g.1) t i ∙ ap (option_map (λ g. g.1)) at)
-    more_stand f at false named = e
+    more_stand : (f : List ℕ × Val) → slice_get t i ≡ Some f → (c : Bool)
+        → StandAt (if c then places ++ i ∷ [] else places) (if c then before ++ f.1 ∷ [] else before) t
+    more_stand f at true = stand_more places before t i f.1 e (slice_get-map (λ g. g.1) t i ∙ ap (option_map (λ g. g.1)) at)
+    more_stand f at false = e
 
-    by_entry : (o : Option (List ℕ × Val)) → slice_get t i ≡ o → StandAt more (values_on (attribute_names common) (take (i + 1) t)) t
+    by_entry : (o : Option (List ℕ × Val)) → slice_get t i ≡ o → StandAt more (values_on names (take (i + 1) t)) t
     by_entry None at = absurd (none_at t i fits at)
     by_entry (Some f) at =
         let here : slice_get h i ≡ Some (f.0, type_of f.1) =
-        ap (λ g. slice_get g i) (sym p.1) ∙ slice_get-map (λ g. (g.0, type_of g.1)) t i ∙ ap (option_map (λ g. (g.0, type_of g.1))) at in
-        let named : b ≡ has_name f.0 (attribute_names common) = tells (f.0, type_of f.1) here ∙ has_attribute-names f.0 common in
+        ap (λ g. slice_get g i) (sym p.1) ∙ slice_get-map (λ g. (g.0, type_of g.1)) t i
+        ∙ ap (option_map (λ g. (g.0, type_of g.1))) at in
+        let named : b ≡ has_name f.0 names = tells (f.0, type_of f.1) here ∙ has_attribute-names f.0 common in
         let passed : take (i + 1) t ≡ take i t ++ f ∷ [] =
         take_more t i f fits ∙ ap (λ g. take i t ++ g ∷ []) (get_or_from_slice_get t i f f at) in
-        subst (λ us. StandAt more us t) (sym (ap (values_on (attribute_names common)) passed ∙ values_on_more (attribute_names common) (take i t) f))
-        (subst (λ ps. StandAt ps (if has_name f.0 (attribute_names common) then values_on (attribute_names common) (take i t) ++ f.1 ∷ [] else values_on (attribute_names common) (take i t)) t)
-        (sym (is ∙ ap (λ c. if c then places ++ i ∷ [] else places) named)) (more_stand f at (has_name f.0 (attribute_names common)) refl))
+        let values = ap (values_on names) passed ∙ values_on_more names (take i t) f in
+        subst (λ us. StandAt more us t) (sym values)
+        (subst (λ ps. StandAt ps (if has_name f.0 names then before ++ f.1 ∷ [] else before) t)
+        (sym (is ∙ ap (λ c. if c then places ++ i ∷ [] else places) named)) (more_stand f at (has_name f.0 names)))
 
 -- ---- tuples of equal values on names
 
@@ -127,16 +146,19 @@ entries_same : (es fs : Tuple) → tuple_names es ≡ tuple_names fs → values_
 entries_same es fs n v = sym (unzipped es) ∙ (λ i. tuple_view (n i) (v i)) ∙ unzipped fs
 
 -- tuples that have the same of the names agree on these where their values on them are the same
-pub agree_by_values : (names : List (List ℕ)) (s t : Tuple) → tuple_names (projected_tuple names s) ≡ tuple_names (projected_tuple names t)
+pub agree_by_values : (names : List (List ℕ)) (s t : Tuple)
+    → tuple_names (projected_tuple names s) ≡ tuple_names (projected_tuple names t)
     → are_same (values_on names s) (values_on names t) ≡ agree_on names s t
 agree_by_values names s t n =
     both_or_none (are_same (values_on names s) (values_on names t)) (agree_on names s t)
     (λ e. (tuple_Decides (projected_tuple names s) (projected_tuple names t)).1
     (entries_same (projected_tuple names s) (projected_tuple names t) n ((same_values (values_on names s) (values_on names t)).0 e)))
-    (λ e. (same_values (values_on names s) (values_on names t)).1 (ap values_of ((tuple_Decides (projected_tuple names s) (projected_tuple names t)).0 e)))
+    (λ e. (same_values (values_on names s) (values_on names t)).1
+    (ap values_of ((tuple_Decides (projected_tuple names s) (projected_tuple names t)).0 e)))
 
 -- a name that is among names passes the test that all of them pass
-passes : (f : List ℕ → Bool) (names : List (List ℕ)) (n : List ℕ) → list_all f names ≡ true → has_name n names ≡ true → f n ≡ true
+passes : (f : List ℕ → Bool) (names : List (List ℕ)) (n : List ℕ) → list_all f names ≡ true → has_name n names ≡ true
+    → f n ≡ true
 passes f [] n all e = absurd (true≢false (sym e))
 passes f (m ∷ names) n all e = by_name (passes f names n (second_true (f m) (list_all f names) all)) (same_name m n) refl
   where
@@ -148,12 +170,14 @@ has_is : (n : List ℕ) (names : List (List ℕ)) → has name_cmp n names ≡ h
 has_is n names = λ i. list_any (λ m. sym (same_name-ties m n) i) names
 
 -- a tuple of a heading that has the names has these
-pub names_kept : (names : List (List ℕ)) (h : Heading) (t : Tuple) → IsStrictlySortedBy name_cmp names → has_attributes names h ≡ true → IsTupleOf h t
+pub names_kept : (names : List (List ℕ)) (h : Heading) (t : Tuple) → IsStrictlySortedBy name_cmp names
+    → has_attributes names h ≡ true → IsTupleOf h t
     → tuple_names (projected_tuple names t) ≡ names
 names_kept names h t up all p =
     same_members name_cmp nat_list_cmp_total exact_bytes (tuple_names (projected_tuple names t)) names
     (names_ascend (projected_tuple names t) (IsTuple-filter (λ e. has_name e.0 names) t p.0)) up
-    (λ n. has_is n (tuple_names (projected_tuple names t)) ∙ sym (has_value n (projected_tuple names t)) ∙ ap is_some (value_of_projection names t n)
+    (λ n. has_is n (tuple_names (projected_tuple names t)) ∙ sym (has_value n (projected_tuple names t))
+    ∙ ap is_some (value_of_projection names t n)
     ∙ by_name n (has_name n names) refl ∙ sym (has_is n names))
   where
     by_name : (n : List ℕ) (b : Bool) → has_name n names ≡ b → is_some (if b then value_at n t else None) ≡ b
@@ -161,7 +185,8 @@ names_kept names h t up all p =
     by_name n false e = refl
 
 -- tests that agree on all items keep the same
-pub kept_same : {X : Type 0} (P : X → Type 0) (p q : X → Bool) (xs : List X) → ((x : X) → P x → p x ≡ q x) → All P xs → filter p xs ≡ filter q xs
+pub kept_same : {X : Type 0} (P : X → Type 0) (p q : X → Bool) (xs : List X) → ((x : X) → P x → p x ≡ q x) → All P xs
+    → filter p xs ≡ filter q xs
 kept_same P p q [] e all = refl
 kept_same P p q (x ∷ xs) e all =
     let here : p x ≡ q x = e x (All-head P x xs all) in
@@ -169,8 +194,10 @@ kept_same P p q (x ∷ xs) e all =
     rw (here, rest) refl
 
 -- the tuples of a heading with the values of a tuple of another are those that agree with it
-pub kept_by_values : (names : List (List ℕ)) (g h : Heading) (w : Tuple) (ts : List Tuple) → IsStrictlySortedBy name_cmp names → has_attributes names g ≡ true
-    → has_attributes names h ≡ true → IsTupleOf g w → All (IsTupleOf h) ts → filter (λ t. are_same (values_on names w) (values_on names t)) ts ≡ filter (agree_on names w) ts
+pub kept_by_values : (names : List (List ℕ)) (g h : Heading) (w : Tuple) (ts : List Tuple) → IsStrictlySortedBy name_cmp names
+    → has_attributes names g ≡ true
+    → has_attributes names h ≡ true → IsTupleOf g w → All (IsTupleOf h) ts
+    → filter (λ t. are_same (values_on names w) (values_on names t)) ts ≡ filter (agree_on names w) ts
 kept_by_values names g h w ts up own all p =
     kept_same (IsTupleOf h) (λ t. are_same (values_on names w) (values_on names t)) (agree_on names w) ts
     (λ t q. agree_by_values names w t (names_kept names g w up own p ∙ sym (names_kept names h t up all q)))
@@ -178,31 +205,40 @@ kept_by_values names g h w ts up own all p =
 -- ---- the names of an operator
 
 -- what holds of each name of a list passes its test
-pub all_named : (f : List ℕ → Bool) (ns : List (List ℕ)) → ((n : List ℕ) → has_name n ns ≡ true → f n ≡ true) → list_all f ns ≡ true
+pub all_named : (f : List ℕ → Bool) (ns : List (List ℕ)) → ((n : List ℕ) → has_name n ns ≡ true → f n ≡ true)
+    → list_all f ns ≡ true
 all_named f [] h = refl
 all_named f (n ∷ ns) h =
-    both_true (f n) (list_all f ns) (h n (rw (same_name-itself n) refl)) (all_named f ns (λ m there. h m (later m there (same_name n m))))
+    both_true (f n) (list_all f ns) (h n (rw (same_name-itself n) refl))
+    (all_named f ns (λ m there. h m (later m there (same_name n m))))
   where
     later : (m : List ℕ) → has_name m ns ≡ true → (b : Bool) → (b || has_name m ns) ≡ true
     later m there true = refl
     later m there false = there
 
 -- both headings have the names of their common attributes
-pub common_there : (g h : Heading) → (has_attributes (attribute_names (common_part g h)) h ≡ true) × (has_attributes (attribute_names (common_part g h)) g ≡ true)
+pub common_there : (g h : Heading)
+    → (has_attributes (attribute_names (common_part g h)) h ≡ true)
+    × (has_attributes (attribute_names (common_part g h)) g ≡ true)
 common_there g h = (
   all_named (λ n. has_attribute n h) (attribute_names (common_part g h)) (λ n e. (in_both n e).0),
   all_named (λ n. has_attribute n g) (attribute_names (common_part g h)) (λ n e. (in_both n e).1),
 )
   where
-    by_test : (n : List ℕ) (b : Bool) → is_some (if b then type_at n g else None) ≡ true → (b ≡ true) × (has_attribute n g ≡ true)
+    by_test : (n : List ℕ) (b : Bool) → is_some (if b then type_at n g else None) ≡ true
+        → (b ≡ true) × (has_attribute n g ≡ true)
     by_test n true e = (refl, e)
     by_test n false e = absurd (true≢false (sym e))
 
-    in_both : (n : List ℕ) → has_name n (attribute_names (common_part g h)) ≡ true → (has_attribute n h ≡ true) × (has_attribute n g ≡ true)
-    in_both n e = by_test n (has_attribute n h) (sym (ap is_some (type_at-common n g h)) ∙ has_attribute-names n (common_part g h) ∙ e)
+    in_both : (n : List ℕ) → has_name n (attribute_names (common_part g h)) ≡ true
+        → (has_attribute n h ≡ true) × (has_attribute n g ≡ true)
+    in_both n e =
+        by_test n (has_attribute n h) (sym (ap is_some (type_at-common n g h)) ∙ has_attribute-names n (common_part g h) ∙ e)
 
 -- the projection on names of a heading has these
-pub projection_there : (names : List (List ℕ)) (h : Heading) → has_attributes names h ≡ true → has_attributes names (projection names h) ≡ true
+pub projection_there : (names : List (List ℕ)) (h : Heading) → has_attributes names h ≡ true
+    → has_attributes names (projection names h) ≡ true
 projection_there names h all =
     all_named (λ n. has_attribute n (projection names h)) names
-    (λ n e. ap is_some (type_at-projection names n h ∙ ap (λ b. if b then type_at n h else None) e) ∙ passes (λ m. has_attribute m h) names n all e)
+    (λ n e. ap is_some (type_at-projection names n h ∙ ap (λ b. if b then type_at n h else None) e)
+    ∙ passes (λ m. has_attribute m h) names n all e)

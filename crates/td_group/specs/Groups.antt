@@ -46,6 +46,10 @@ items_there (Some v) = map (λ x. x.now) v.items
 abbrev pub tuples_at : {A B S : Type 0} → List Val → HashMap (Vec Val B) (Vec (Bor Tuple) A) S → List Tuple
 tuples_at vs m = items_there (get_by (λ k. are_same vs k.items) m)
 
+-- a test keeps those of the tuples
+abbrev pub IsKept : List Tuple → List Tuple → Type 0
+IsKept ts kept = (p : Tuple → Bool) × (kept ≡ filter p ts)
+
 -- at each list of values stand those of the tuples that have it on the names, in their order
 abbrev pub AreByValues : {A B S : Type 0} → List (List ℕ) → List Tuple → HashMap (Vec Val B) (Vec (Bor Tuple) A) S → Type 0
 AreByValues names ts m = (vs : List Val) → tuples_at vs m ≡ filter (λ t. are_same vs (values_on names t)) ts

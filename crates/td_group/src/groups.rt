@@ -1,13 +1,13 @@
 //! Tuples, each with the relation of the tuples that agree with it. They are found by one table, by
 //! their values on the names.
 ghost use Rattle.std.specs.Prelude.{◌≡◌, ◌<◌, ◌∷◌, ◌++◌, [], IfOk, IsTrue, List, Some, length};
-ghost use Rattle.std.specs.Prelude.{OnOk, filter, if◌then◌else◌, map};
+ghost use Rattle.std.specs.Prelude.{OnOk, if◌then◌else◌, map};
 ghost use Rattle.std.specs.List.{All, slice_get};
-ghost use Rattle.td_group.specs.Groups.{ArePlacesOf, AreByValues, StandAt, are_same, groups};
-ghost use Rattle.td_group.specs.Groups.{groups_on, tuples_at, values_on};
+ghost use Rattle.td_group.specs.Groups.{ArePlacesOf, AreByValues, IsKept, StandAt, are_same};
+ghost use Rattle.td_group.specs.Groups.{groups, groups_on, tuples_at};
 ghost use Rattle.td_types.specs.Headings.{agree, has_attribute, has_attributes};
 ghost use Rattle.td_types.specs.Types.{Attribute, attribute_names};
-ghost use Rattle.td_value.specs.Values.{IsAscendingBody, IsTupleOf, Tuple, Val};
+ghost use Rattle.td_value.specs.Values.{Val};
 ghost use Rattle.td_value.specs.Views.{relation_view, values_of};
 
 use crate::want::unrefused;
@@ -144,19 +144,19 @@ fn rows_at(
     }
 }
 
-/// The relation of the heading of the rows at the values.
+/// The relation of those of its rows that stand at the values.
 fn group_at(
     alloc: Global,
-    heading: &Heading,
+    rel: &Rel,
     table: &HashMap<Vec<Value>, Vec<&Tuple>>,
     key: &[Value],
 ) -> Result<Rel, AllocError>
-    requires headed { All (IsTupleOf heading.now) (tuples_at key.now table.now) }
-    requires ascending { IsAscendingBody (tuples_at key.now table.now) }
-    ensures { IfOk result (λ r. r ≡ relation_view heading.now (tuples_at key.now table.now)) }
+    requires { IsKept rel.now.body (tuples_at key.now table.now) }
+    ensures { IfOk result (λ r. r ≡ relation_view rel.now.heading (tuples_at key.now table.now)) }
 {
+    let _ = rel.rows();
     let rows = rows_at(alloc, table, key)?;
-    Rel::of_ascending(heading.try_clone()?, rows)
+    Rel::of_ascending(rel.heading().try_clone()?, rows)
 }
 
 /// Each tuple of `per` with the relation of those that agree with it on the common attributes.
@@ -179,7 +179,7 @@ pub(crate) fn groups_on(
     let mut found = Vec::with_capacity(alloc, per.rows().len())?;
     for tuple in per.rows() {
         put_values(&mut key, &places, tuple)?;
-        let group = group_at(alloc, rel.heading(), &table, &key)?;
+        let group = group_at(alloc, rel, &table, &key)?;
         found.push((tuple.try_clone()?, group))?;
     }
     Ok(found)
