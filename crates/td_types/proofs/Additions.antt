@@ -1,6 +1,8 @@
 -- A table with one more type.
 use Rattle.std.proofs.Common.{◌≡◌, ◌∙◌, ◌∷◌, ◌++◌, ℕ, zero, suc, true, List, [], Option, Some, ap, map, refl, subst, sym}
 use Rattle.std.specs.Prelude.{not}
+use Rattle.std.specs.Global.{Global}
+use Rattle.std.specs.declared.rc.Rc.{Rc}
 use Rattle.std.specs.List.{Contains, slice_get}
 use Rattle.std.proofs.lemmas.List.{map-append}
 use Rattle.std.proofs.lemmas.Option.{slice_get-get_or}
@@ -68,9 +70,9 @@ module _ (ds : List DeclaredType) (name : List ℕ) (components : List (List ℕ
         known = λ a c. known_at ds (pairs_view components) c.0 a h.known (at_place (pairs_view components) a c);
       }
 
-  module _ {S : Type 0} (m : IndexMap (List ℕ) Row S) (key : List ℕ) (rank : Option ℕ) where
+  module _ {S : Type 0} (m : IndexMap (List ℕ) Row S) (key : List ℕ) (entry : Rc DeclaredType Global) (rank : Option ℕ) where
     abbrev row : Row
-    row = record { entry = added; rank = rank }
+    row = record { entry = entry; rank = rank }
 
     -- the rows with the new one
     rows_added : IsAddition → rows_view m.entries ≡ ds → IsTable m.entries → key ≡ name
@@ -79,15 +81,17 @@ module _ (ds : List DeclaredType) (name : List ℕ) (components : List (List ℕ
         insert_entry-new same_name m key row
         (row_none key m.entries t.named (ap (λ n. not (is_declared n (rows_view m.entries))) k ∙ ap (λ xs. not (is_declared name xs)) view ∙ h.new))
 
-    pub IsTable-added : IsAddition → rows_view m.entries ≡ ds → IsTable m.entries → key ≡ name
+    pub IsTable-added : IsAddition → rows_view m.entries ≡ ds → IsTable m.entries → key ≡ name → entry.value ≡ added
         → rank ≡ kept_rank (rank_of ds (tuple (pack (pairs_view components)))) → IsTable (insert_entry same_name m.entries key row)
-    IsTable-added h view t k r =
+    IsTable-added h view t k is r =
         subst IsTable (sym (rows_added h view t k))
-        (IsTable-push m.entries key row t k (subst (λ xs. IsDeclarable xs added) (sym view) (declarable h))
-        (r ∙ ap kept_rank (sym (rank_of_last ds added)) ∙ ap (λ xs. kept_rank (user_ranks (xs ++ (added ∷ [])) name)) (sym view)))
+        (IsTable-push m.entries key row t (k ∙ ap (λ d. d.name) (sym is))
+        (subst (IsDeclarable (rows_view m.entries)) (sym is) (subst (λ xs. IsDeclarable xs added) (sym view) (declarable h)))
+        (r ∙ ap kept_rank (sym (rank_of_last ds added)) ∙ ap (λ xs. kept_rank (user_ranks (xs ++ (added ∷ [])) name)) (sym view)
+        ∙ ap (λ d. kept_rank (user_ranks (rows_view m.entries ++ (d ∷ [])) d.name)) (sym is)))
 
-    pub view_added : IsAddition → rows_view m.entries ≡ ds → IsTable m.entries → key ≡ name
+    pub view_added : IsAddition → rows_view m.entries ≡ ds → IsTable m.entries → key ≡ name → entry.value ≡ added
         → rows_view (insert_entry same_name m.entries key row) ≡ ds ++ (added ∷ [])
-    view_added h view t k =
-        ap rows_view (rows_added h view t k) ∙ map-append (λ (x : List ℕ × Row). x.1.entry) m.entries ((key, row) ∷ [])
-        ∙ ap (λ xs. xs ++ (added ∷ [])) view
+    view_added h view t k is =
+        ap rows_view (rows_added h view t k) ∙ map-append (λ (x : List ℕ × Row). x.1.entry.value) m.entries ((key, row) ∷ [])
+        ∙ (λ i. view i ++ (is i ∷ []))

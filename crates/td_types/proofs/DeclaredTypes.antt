@@ -89,10 +89,10 @@ module _ {A : Type 0} where
   abbrev Split : List A → A → List A → A → List A → Type 0
   Split xs x earlier y later = ((earlier ≡ xs) × (y ≡ x)) ⊎ ((rest : List A) × (xs ≡ earlier ++ (y ∷ rest)))
 
-  first_is : (x y : A) (xs ys : List A) → x ∷ xs ≡ y ∷ ys → x ≡ y
+  pub first_is : (x y : A) (xs ys : List A) → x ∷ xs ≡ y ∷ ys → x ≡ y
   first_is x y xs ys e = cc
 
-  rest_is : (x y : A) (xs ys : List A) → x ∷ xs ≡ y ∷ ys → xs ≡ ys
+  pub rest_is : (x y : A) (xs ys : List A) → x ∷ xs ≡ y ∷ ys → xs ≡ ys
   rest_is x y xs ys e = cc
 
   split_push : (xs : List A) (x : A) (earlier : List A) (y : A) (later : List A) → xs ++ (x ∷ []) ≡ earlier ++ (y ∷ later)

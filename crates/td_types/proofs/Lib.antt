@@ -1,5 +1,6 @@
 pub mod Additions
 pub mod Attributes
+pub mod Copies
 pub mod DeclaredTypes
 pub mod DistinctNames
 pub mod HeadingLaws
@@ -12,6 +13,8 @@ pub mod OutcomeLaws
 pub mod Plain
 pub mod RankBounds
 pub mod Ranks
+pub mod Removals
+pub mod RemovedTypes
 pub mod Resolutions
 pub mod Search
 pub mod Tables

@@ -16,30 +16,30 @@ use Rattle.td_types.proofs.KeptRanks.{user_ranked}
 use Rattle.td_types.proofs.Ranks.{user_rank_later}
 
 abbrev Named : List (List ℕ × Row) → Type 0
-Named = AllByRecursion (λ row. row.0 ≡ row.1.entry.name)
+Named = AllByRecursion (λ row. row.0 ≡ row.1.entry.value.name)
 
 -- a name finds the row of the type that it finds
 pub found_entry : (name : List ℕ) (rows : List (List ℕ × Row)) → Named rows
-    → option_map (λ (row : Row). row.entry) (lookup (same_name name) rows) ≡ declared_at name (rows_view rows)
+    → option_map (λ (row : Row). row.entry.value) (lookup (same_name name) rows) ≡ declared_at name (rows_view rows)
 found_entry name [] h = refl
 found_entry name (row ∷ rows) h = by_test (found_entry name rows h.1) (same_name name row.0) refl
   where
-    by_test : option_map (λ (r : Row). r.entry) (lookup (same_name name) rows) ≡ declared_at name (rows_view rows) → (b : Bool) → same_name name row.0 ≡ b
-        → option_map (λ (r : Row). r.entry) (lookup (same_name name) (row ∷ rows)) ≡ declared_at name (rows_view (row ∷ rows))
+    by_test : option_map (λ (r : Row). r.entry.value) (lookup (same_name name) rows) ≡ declared_at name (rows_view rows) → (b : Bool) → same_name name row.0 ≡ b
+        → option_map (λ (r : Row). r.entry.value) (lookup (same_name name) (row ∷ rows)) ≡ declared_at name (rows_view (row ∷ rows))
     by_test rest true is =
-        let same : same_name row.1.entry.name name ≡ true = ap (λ n. same_name n name) (sym h.0) ∙ same_name-flips row.0 name ∙ is in
+        let same : same_name row.1.entry.value.name name ≡ true = ap (λ n. same_name n name) (sym h.0) ∙ same_name-flips row.0 name ∙ is in
         rw (is, same) refl
     by_test rest false is =
-        let same : same_name row.1.entry.name name ≡ false = ap (λ n. same_name n name) (sym h.0) ∙ same_name-flips row.0 name ∙ is in
+        let same : same_name row.1.entry.value.name name ≡ false = ap (λ n. same_name n name) (sym h.0) ∙ same_name-flips row.0 name ∙ is in
         rw (is, same) rest
 
 pub entry_some : (name : List ℕ) (rows : List (List ℕ × Row)) (row : Row) → Named rows → Some row ≡ lookup (same_name name) rows
-    → Some row.entry ≡ declared_at name (rows_view rows)
-entry_some name rows row h e = ap (option_map (λ (r : Row). r.entry)) e ∙ found_entry name rows h
+    → Some row.entry.value ≡ declared_at name (rows_view rows)
+entry_some name rows row h e = ap (option_map (λ (r : Row). r.entry.value)) e ∙ found_entry name rows h
 
 pub entry_none : (name : List ℕ) (rows : List (List ℕ × Row)) → Named rows → None ≡ lookup (same_name name) rows
     → None ≡ declared_at name (rows_view rows)
-entry_none name rows h e = ap (option_map (λ (r : Row). r.entry)) e ∙ found_entry name rows h
+entry_none name rows h e = ap (option_map (λ (r : Row). r.entry.value)) e ∙ found_entry name rows h
 
 -- the place of its row is the place of the type
 pub found_place : (name : List ℕ) (rows : List (List ℕ × Row)) → Named rows
@@ -56,7 +56,7 @@ found_place name rows h =
         → prefix_len (λ n. not (same_name name n)) (keys_of xs) ≡ prefix_len (λ d. not (same_name d.name name)) (rows_view xs)
     before [] g = refl
     before (x ∷ xs) g =
-        let same : same_name x.1.entry.name name ≡ same_name name x.0 = ap (λ n. same_name n name) (sym g.0) ∙ same_name-flips x.0 name in
+        let same : same_name x.1.entry.value.name name ≡ same_name name x.0 = ap (λ n. same_name n name) (sym g.0) ∙ same_name-flips x.0 name in
         rw same (ap (λ n. cond (not (same_name name x.0)) (1 + n) 0) (before xs g.1))
 
 -- where no type has the name, no row has it
@@ -64,7 +64,7 @@ pub row_none : (name : List ℕ) (rows : List (List ℕ × Row)) → Named rows 
     → lookup (same_name name) rows ≡ None
 row_none name rows h e = by_option (lookup (same_name name) rows) (found_entry name rows h)
   where
-    by_option : (o : Option Row) → option_map (λ (row : Row). row.entry) o ≡ declared_at name (rows_view rows) → o ≡ None
+    by_option : (o : Option Row) → option_map (λ (row : Row). row.entry.value) o ≡ declared_at name (rows_view rows) → o ≡ None
     by_option None is = refl
     by_option (Some row) is = absurd (true≢false (sym e ∙ ap (λ d. not (is_some d)) (sym is)))
 
@@ -110,7 +110,7 @@ ranks_stay ds d [] h k r = tt
 ranks_stay ds d (row ∷ rows) h k r =
     (r.0 ∙ ap kept_rank (sym (user_rank_later ds (d ∷ []) h row.0 k.0)), ranks_stay ds d rows h k.1 r.1)
 
-names_declared : (before rows : List (List ℕ × Row)) → Named rows
+pub names_declared : (before rows : List (List ℕ × Row)) → Named rows
     → AllByRecursion (λ row. is_declared row.0 (rows_view (before ++ rows)) ≡ true) rows
 names_declared before [] h = tt
 names_declared before (row ∷ rows) h = (
@@ -134,20 +134,20 @@ names_declared before (row ∷ rows) h = (
     among (c ∷ ds) d more name e = later c (ds ++ (d ∷ more)) name (among ds d more name e)
 
     here : is_declared row.0 (rows_view (before ++ (row ∷ rows))) ≡ true
-    here = ap (is_declared row.0) (map-append (λ (r : List ℕ × Row). r.1.entry) before (row ∷ rows)) ∙ among (rows_view before) row.1.entry (rows_view rows) row.0 h.0
+    here = ap (is_declared row.0) (map-append (λ (r : List ℕ × Row). r.1.entry.value) before (row ∷ rows)) ∙ among (rows_view before) row.1.entry.value (rows_view rows) row.0 h.0
 
 -- the table with one more row, of a type that can be declared
-pub IsTable-push : (rows : List (List ℕ × Row)) (name : List ℕ) (row : Row) → IsTable rows → name ≡ row.entry.name
-    → IsDeclarable (rows_view rows) row.entry → row.rank ≡ kept_rank (user_ranks (rows_view rows ++ (row.entry ∷ [])) row.entry.name)
+pub IsTable-push : (rows : List (List ℕ × Row)) (name : List ℕ) (row : Row) → IsTable rows → name ≡ row.entry.value.name
+    → IsDeclarable (rows_view rows) row.entry.value → row.rank ≡ kept_rank (user_ranks (rows_view rows ++ (row.entry.value ∷ [])) row.entry.value.name)
     → IsTable (rows ++ ((name, row) ∷ []))
 IsTable-push rows name row h n new r =
-    let view = map-append (λ (x : List ℕ × Row). x.1.entry) rows ((name, row) ∷ []) in
-    let declared = AreDeclared-push (rows_view rows) row.entry h.declared new in
-    let stay = ranks_stay (rows_view rows) row.entry rows declared (names_declared [] rows h.named) h.ranked in
+    let view = map-append (λ (x : List ℕ × Row). x.1.entry.value) rows ((name, row) ∷ []) in
+    let declared = AreDeclared-push (rows_view rows) row.entry.value h.declared new in
+    let stay = ranks_stay (rows_view rows) row.entry.value rows declared (names_declared [] rows h.named) h.ranked in
     record {
-      named = all_push (λ x. x.0 ≡ x.1.entry.name) rows (name, row) h.named n;
+      named = all_push (λ x. x.0 ≡ x.1.entry.value.name) rows (name, row) h.named n;
       ranked = subst (λ ds. Ranked (user_ranks ds) (rows ++ ((name, row) ∷ []))) (sym view)
-          (all_push (λ x. x.1.rank ≡ kept_rank (user_ranks (rows_view rows ++ (row.entry ∷ [])) x.0)) rows (name, row) stay
-          (r ∙ ap (λ k. kept_rank (user_ranks (rows_view rows ++ (row.entry ∷ [])) k)) (sym n)));
+          (all_push (λ x. x.1.rank ≡ kept_rank (user_ranks (rows_view rows ++ (row.entry.value ∷ [])) x.0)) rows (name, row) stay
+          (r ∙ ap (λ k. kept_rank (user_ranks (rows_view rows ++ (row.entry.value ∷ [])) k)) (sym n)));
       declared = subst AreDeclared (sym view) declared;
     }

@@ -4,6 +4,7 @@ pub mod Hashes
 pub mod Headings
 pub mod Keys
 pub mod NameTests
+pub mod NamedTypes
 pub mod Pairs
 pub mod Tables
 pub mod Texts

@@ -12,10 +12,10 @@ kept_rank (Refused causes) = None
 
 -- the declared types of the rows, each beside its name
 abbrev pub rows_view : List (List ℕ × Row) → List DeclaredType
-rows_view = map (λ row. row.1.entry)
+rows_view = map (λ row. row.1.entry.value)
 
 -- each type stands beside its name and its rank, and can be declared after those before it
 pub record IsTable (rows : List (List ℕ × Row)) : Type 0 where
-  pub named : AllByRecursion (λ row. row.0 ≡ row.1.entry.name) rows
+  pub named : AllByRecursion (λ row. row.0 ≡ row.1.entry.value.name) rows
   pub ranked : AllByRecursion (λ row. row.1.rank ≡ kept_rank (user_ranks (rows_view rows) row.0)) rows
   pub declared : AreDeclared (rows_view rows)

@@ -5,6 +5,7 @@ mod copy;
 mod hash;
 pub mod heading;
 pub mod laws;
+pub mod named;
 pub mod names;
 pub mod operations;
 mod order;

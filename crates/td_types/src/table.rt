@@ -1,8 +1,9 @@
 //! Declared types in their order, looked up by name.
-ghost use Rattle.std.specs.Prelude.{◌≡◌, ◌↔◌, ◌++◌, ◌∷◌, [], IsTrue, OnErr, OnOk, map, not};
+ghost use Rattle.std.specs.Prelude.{◌≡◌, ◌↔◌, ◌++◌, ◌∷◌, [], IfOk, IsTrue, OnErr, OnOk, map, not};
 ghost use Rattle.std.specs.Prelude.{length, option_map, slice_get};
 ghost use Rattle.td_tree.specs.TreeViews.{tree_view};
 ghost use Rattle.td_types.specs.Headings.{are_distinct};
+ghost use Rattle.td_types.specs.NamedTypes.{is_component, without_declared};
 ghost use Rattle.td_types.specs.Pairs.{ArePairs};
 ghost use Rattle.td_types.specs.Tables.{kept_rank};
 ghost use Rattle.td_types.specs.TypeLists.{AreDeclared, AreKnown, IsKnown, declared_at};
@@ -15,6 +16,7 @@ use crate::ty::Ty;
 use indexmap::IndexMap;
 use std::alloc::{AllocError, Global};
 use std::marker::Model;
+use std::rc::Rc;
 use td_tree::expression::Expr;
 use td_tree::name::Name;
 
@@ -60,11 +62,12 @@ impl TypeEntry {
 /// A declared type and its rank, as far as it is within the limit.
 #[derive(Drop)]
 struct Row {
-    entry: TypeEntry,
+    entry: Rc<TypeEntry>,
     rank: Option<u32>,
 }
 
-/// Declared types, seen as their list in declared order.
+/// Declared types, seen as their list in declared order. Copies share the types' components and
+/// constraints.
 #[derive(Drop)]
 pub struct TypeTable {
     rows: IndexMap<Name, Row>,
@@ -191,6 +194,7 @@ impl TypeTable {
         ensures unchanged { OnErr result (self.new ≡ self.old) }
     {
         reveal_all(&components);
+        let alloc = self.allocator();
         let key = name.try_clone()?;
         let rank = components_rank(self, &components);
         let entry = TypeEntry {
@@ -198,7 +202,31 @@ impl TypeTable {
             components,
             constraint,
         };
+        let entry = Rc::new(alloc, entry)?;
         self.rows.insert(key, Row { entry, rank })?;
         Ok(())
+    }
+
+    /// Takes out the type of that name. No declared type has a component that is made of it. It
+    /// takes no memory.
+    pub fn remove(&mut self, name: &Name)
+        requires unused { IsTrue (not (is_component name.now self.old)) }
+        ensures { self.new ≡ without_declared name.now self.old }
+    {
+        self.rows.shift_remove(name);
+    }
+
+    /// The same types again.
+    pub fn try_clone(&self) -> Result<TypeTable, AllocError>
+        ensures { IfOk result (λ table. table ≡ self.now) }
+    {
+        let mut rows = IndexMap::with_capacity(self.allocator(), self.len())?;
+        for (name, row) in self.rows.iter() {
+            let name = name.try_clone()?;
+            let entry = row.entry.clone()?;
+            let rank = row.rank;
+            rows.insert(name, Row { entry, rank })?;
+        }
+        Ok(TypeTable { rows })
     }
 }

@@ -1,4 +1,4 @@
-use Rattle.std.proofs.Common.{◌≡◌, ◌∙◌, None, ap}
+use Rattle.std.proofs.Common.{◌≡◌, ◌∙◌, None, Some, ap}
 use Rattle.td_types.specs.TypeLists.{declared_at}
 use Rattle.td_types.proofs.Tables.{entry_none, entry_some}
 use Rattle.td_types.proofs.table.TypeTable.get.Goals as goal
@@ -11,4 +11,5 @@ returns-in_err-row c =
 
 pub returns : goal.returns
 returns c =
-    entry_some c.args.name.now c.self.inside.rows.entries _ c.self.invariant.named c.in_ok-row.ensures.value ∙ ap (declared_at c.args.name.now) c.self.view_is
+    ap Some c.deref.ensures
+    ∙ entry_some c.args.name.now c.self.inside.rows.entries _ c.self.invariant.named c.in_ok-row.ensures.value ∙ ap (declared_at c.args.name.now) c.self.view_is
