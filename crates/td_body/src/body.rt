@@ -71,6 +71,12 @@ pub trait Body: Drop {
         ensures relation { IfOk result (λ b. relation b ≡ relation self.now) }
         ensures keys { IfOk result (λ b. keys b ≡ keys self.now) };
 
+    /// The body of the same keys whose members are the tuples of the relation, which has its heading.
+    fn holding(&self, held: Rel) -> Result<Self, AllocError>
+        requires { held.heading ≡ (relation self.now).heading }
+        ensures relation { IfOk result (λ b. relation b ≡ held) }
+        ensures keys { IfOk result (λ b. keys b ≡ keys self.now) };
+
     /// The members that agree with the part on the key of that place, whose names and types the
     /// part has.
     fn find_by_key(&self, key: usize, part: &Tuple) -> Result<Rel, AllocError>

@@ -51,9 +51,15 @@ impl Body for SortedBody {
     }
 
     fn try_clone(&self) -> Result<Self, AllocError> {
-        let relation = self.relation.try_clone()?;
+        self.holding(self.relation.try_clone()?)
+    }
+
+    fn holding(&self, held: Rel) -> Result<Self, AllocError> {
         let keys = self.keys.clone()?;
-        Ok(SortedBody { relation, keys })
+        Ok(SortedBody {
+            relation: held,
+            keys,
+        })
     }
 
     fn find_by_key(&self, key: usize, part: &Tuple) -> Result<Rel, AllocError> {

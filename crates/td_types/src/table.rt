@@ -145,6 +145,14 @@ impl TypeTable {
         Some(name)
     }
 
+    /// The declared type at a place in declared order.
+    pub fn entry_at(&self, place: usize) -> Option<&TypeEntry>
+        ensures { option_map (λ e. e.now) result ≡ slice_get self.now place }
+    {
+        let (_, declared) = self.rows.get_index(place)?;
+        Some(&declared.entry)
+    }
+
     /// The place in declared order of the type of that name.
     pub fn place(&self, name: &Name) -> Option<usize>
         ensures { result ≡ declared_place name.now self.now }
