@@ -1,43 +1,101 @@
--- Catalogues with one more type, with one more base relvar, and with another body.
-use Rattle.std.proofs.Common.{◌≡◌, ◌∷◌, ◌++◌, ◌∙◌, ℕ, false, List, [], Some, IfSome, ap, subst, sym}
-use Rattle.std.specs.Prelude.{is_some}
+-- Catalogues with one more entry, and with another body.
+use Rattle.std.proofs.Common.{◌≡◌, ◌∷◌, ◌++◌, ◌∙◌, ℕ, Bool, true, false, List, [], Some, IfSome, ap, map, refl, subst, sym}
+use Rattle.std.specs.Prelude.{◌||◌, if◌then◌else◌, is_some}
 use Rattle.std.specs.List.{prefix_len, slice_get}
 use Rattle.std.specs.Map.{keys_of, lookup}
-use Rattle.std.proofs.lemmas.List.{map-append}
 use Rattle.indexmap.specs.IndexMap.{IndexMap, insert_entry}
 use Rattle.indexmap.specs.Layout.{set_value_at}
-use Rattle.indexmap.proofs.CallerLemmas.{insert_entry-new}
-use Rattle.td_catalog.specs.CatalogViews.{IsBodyOf, IsCatalog, IsEntry, base_view, database_view, entry_keys}
-use Rattle.td_catalog.specs.Database.{BaseRelvar, base_relvar, base_named, with_base, with_body}
-use Rattle.td_catalog.specs.Legality.{AreBaseKeys, AreTyped, IsBase, IsBaseHeading, IsConstrained, IsLegal, IsRanked, KeysHold}
+use Rattle.td_catalog.specs.CatalogViews.{AreEntries, IsBodyOf, IsCatalog, IsEntry, Rows, base_view, constraint_view, database_view, entry_keys, virtual_view}
+use Rattle.td_catalog.specs.Database.{BaseRelvar, NamedConstraint, VirtualRelvar, base_relvar, base_named, database_scope, knows_constraint, knows_relvar, with_base, with_body, with_constraint, with_virtual}
+use Rattle.td_catalog.specs.Legality.{AreBaseKeys, AreTyped, IsBase, IsConstrained, IsConstraint, IsLegal, IsRanked, IsRelvarHeading, IsVirtual, KeysHold}
 use Rattle.td_catalog.specs.declared.entry.BaseEntry.{BaseEntry}
-use Rattle.td_catalog.proofs.Legal.{held, legal_empty, legal_with_base, legal_with_body, legal_with_type}
-use Rattle.td_catalog.proofs.Lists.{all_push}
+use Rattle.td_catalog.specs.declared.entry.ConstraintEntry.{ConstraintEntry}
+use Rattle.td_catalog.specs.declared.entry.VirtualEntry.{VirtualEntry}
+use Rattle.td_catalog.proofs.Legal.{held, legal_empty, legal_with_base, legal_with_body, legal_with_constraint, legal_with_type, legal_with_virtual}
+use Rattle.td_catalog.proofs.Lists.{all_push, neither}
 use Rattle.td_catalog.proofs.Places.{IsChanged, changed, other_name, with_entry_body}
-use Rattle.td_catalog.proofs.Rows.{known, no_row}
+use Rattle.td_catalog.proofs.Rows.{has_append, known, rows_with, view_with}
 use Rattle.td_tree.specs.Names.{IsName}
 use Rattle.td_types.specs.TypeLists.{AreDeclared, DeclaredType}
 use Rattle.td_types.specs.Types.{same_name}
 use Rattle.td_value.specs.Values.{IsRelation, Relation}
 
-module _ {B : Type 0} (relation : B → Relation) (keys : B → List (List (List ℕ))) where
-  pub catalog_empty : (types : List DeclaredType) (rows : List (List ℕ × BaseEntry B)) → types ≡ [] → rows ≡ [] → IsCatalog relation keys types rows
-  catalog_empty types rows e f =
-      subst (λ ts. IsCatalog relation keys ts rows) (sym e) (subst (IsCatalog relation keys []) (sym f) (record { entries = tt; legal = legal_empty }))
+-- ---- rows with other ones in one list
 
-  pub catalog_with_type : (types : List DeclaredType) (rows : List (List ℕ × BaseEntry B)) (d : DeclaredType) (after : List DeclaredType)
-      → IsCatalog relation keys types rows → after ≡ types ++ (d ∷ []) → AreDeclared after → IsRanked types d → IsConstrained types d
-      → IsCatalog relation keys after rows
-  catalog_with_type types rows d after h e all ranked constrained =
-      subst (λ ts. IsCatalog relation keys ts rows) (sym e)
-      (record { entries = h.entries; legal = legal_with_type (database_view relation types rows) d h.legal (subst AreDeclared e all) ranked constrained })
+module _ {B : Type 0} where
+  abbrev pub with_types : List DeclaredType → Rows B → Rows B
+  with_types types rows = record { types = types; bases = rows.bases; virtuals = rows.virtuals; constraints = rows.constraints }
+
+  abbrev pub with_base_rows : List (List ℕ × BaseEntry B) → Rows B → Rows B
+  with_base_rows bases rows = record { types = rows.types; bases = bases; virtuals = rows.virtuals; constraints = rows.constraints }
+
+  abbrev pub with_virtual_rows : List (List ℕ × VirtualEntry) → Rows B → Rows B
+  with_virtual_rows virtuals rows = record { types = rows.types; bases = rows.bases; virtuals = virtuals; constraints = rows.constraints }
+
+  abbrev pub with_constraint_rows : List (List ℕ × ConstraintEntry) → Rows B → Rows B
+  with_constraint_rows constraints rows = record { types = rows.types; bases = rows.bases; virtuals = rows.virtuals; constraints = constraints }
+
+module _ {B : Type 0} (relation : B → Relation) (keys : B → List (List (List ℕ))) where
+  pub catalog_empty : (rows : Rows B) → rows.types ≡ [] → rows.bases ≡ [] → rows.virtuals ≡ [] → rows.constraints ≡ [] → IsCatalog relation keys rows
+  catalog_empty rows e f g h =
+      subst (λ ts. IsCatalog relation keys (with_types ts rows)) (sym e)
+      (subst (λ bs. IsCatalog relation keys (with_types [] (with_base_rows bs rows))) (sym f)
+      (subst (λ vs. IsCatalog relation keys (with_types [] (with_base_rows [] (with_virtual_rows vs rows)))) (sym g)
+      (subst (λ cs. IsCatalog relation keys (record { types = []; bases = []; virtuals = []; constraints = cs })) (sym h)
+      (record { entries = tt; legal = legal_empty }))))
+
+  pub catalog_with_type : (rows : Rows B) (d : DeclaredType) (after : List DeclaredType)
+      → IsCatalog relation keys rows → after ≡ rows.types ++ (d ∷ []) → AreDeclared after → IsRanked rows.types d → IsConstrained rows.types d
+      → IsCatalog relation keys (with_types after rows)
+  catalog_with_type rows d after h e all ranked constrained =
+      subst (λ ts. IsCatalog relation keys (with_types ts rows)) (sym e)
+      (record { entries = h.entries; legal = legal_with_type (database_view relation rows) d h.legal (subst AreDeclared e all) ranked constrained })
+
+  -- the entry that a name finds is as its body
+  pub as_body : (name : List ℕ) (rows : List (List ℕ × BaseEntry B)) → AreEntries relation keys rows → IfSome (lookup (same_name name) rows) (IsEntry relation keys)
+  as_body name [] h = tt
+  as_body name (row ∷ rows) h = by_test (as_body name rows h.1) (same_name name row.0)
+    where
+      by_test : IfSome (lookup (same_name name) rows) (IsEntry relation keys) → (b : Bool)
+          → IfSome (if b then Some row.1 else lookup (same_name name) rows) (IsEntry relation keys)
+      by_test rest true = h.0
+      by_test rest false = rest
+
+  -- ---- names that are free
+
+  base_named_so : (row : List ℕ × BaseEntry B) → (base_view relation row).name ≡ row.0
+  base_named_so row = refl
+
+  pub knows_by : (name : List ℕ) (rows : Rows B)
+      → (is_some (lookup (same_name name) rows.bases) || is_some (lookup (same_name name) rows.virtuals)) ≡ knows_relvar name (database_view relation rows)
+  knows_by name rows =
+      (λ i. known (base_view relation) (λ (r : BaseRelvar). r.name) base_named_so name rows.bases i
+      || known virtual_view (λ (v : VirtualRelvar). v.name) (λ row. refl) name rows.virtuals i)
+      ∙ sym (has_append name (map (λ (r : BaseRelvar). r.name) (map (base_view relation) rows.bases)) (map (λ (v : VirtualRelvar). v.name) (map virtual_view rows.virtuals)))
+
+  -- which a base relvar decides where there is one of the name, and else the virtual relvars
+  pub known_base : (name : List ℕ) (rows : Rows B) → is_some (lookup (same_name name) rows.bases) ≡ true → knows_relvar name (database_view relation rows) ≡ true
+  known_base name rows e = sym (knows_by name rows) ∙ ap (λ b. b || is_some (lookup (same_name name) rows.virtuals)) e
+
+  pub unknown_base : (name : List ℕ) (rows : Rows B) → is_some (lookup (same_name name) rows.bases) ≡ false
+      → knows_relvar name (database_view relation rows) ≡ is_some (lookup (same_name name) rows.virtuals)
+  unknown_base name rows e = sym (knows_by name rows) ∙ ap (λ b. b || is_some (lookup (same_name name) rows.virtuals)) e
+
+  pub knows_constraint_by : (name : List ℕ) (rows : Rows B) → is_some (lookup (same_name name) rows.constraints) ≡ knows_constraint name (database_view relation rows)
+  knows_constraint_by name rows = known constraint_view (λ (c : NamedConstraint). c.name) (λ row. refl) name rows.constraints
+
+  no_base : (name : List ℕ) (rows : Rows B) → knows_relvar name (database_view relation rows) ≡ false → is_some (lookup (same_name name) rows.bases) ≡ false
+  no_base name rows e = (neither (is_some (lookup (same_name name) rows.bases)) (is_some (lookup (same_name name) rows.virtuals)) (knows_by name rows ∙ e)).0
+
+  no_virtual : (name : List ℕ) (rows : Rows B) → knows_relvar name (database_view relation rows) ≡ false → is_some (lookup (same_name name) rows.virtuals) ≡ false
+  no_virtual name rows e = (neither (is_some (lookup (same_name name) rows.bases)) (is_some (lookup (same_name name) rows.virtuals)) (knows_by name rows ∙ e)).1
 
   -- ---- one more base relvar
 
   -- what is asked of it
   pub record IsNewBase (types : List DeclaredType) (name : List ℕ) (entry : BaseEntry B) : Type 0 where
     pub named : IsName name
-    pub heading : IsBaseHeading types entry.heading
+    pub heading : IsRelvarHeading types entry.heading
     pub base_keys : AreBaseKeys entry.heading (entry_keys entry)
     pub of_body : IsEntry relation keys entry
     pub proper : IsRelation (relation entry.body)
@@ -47,49 +105,92 @@ module _ {B : Type 0} (relation : B → Relation) (keys : B → List (List (List
   new_base : (types : List DeclaredType) (name : List ℕ) (entry : BaseEntry B) → IsNewBase types name entry → IsBase types (base_view relation (name, entry))
   new_base types name entry h =
       record {
-        heading = subst (IsBaseHeading types) (sym h.of_body.heading_is) h.heading;
+        heading = subst (IsRelvarHeading types) (sym h.of_body.heading_is) h.heading;
         keys = subst (λ heading. AreBaseKeys heading (entry_keys entry)) (sym h.of_body.heading_is) h.base_keys;
         relation = h.proper;
         typed = h.typed;
         hold = subst (λ ks. KeysHold ks (relation entry.body).body) h.of_body.keys_are h.hold;
       }
 
-  module _ {S : Type 0} (types : List DeclaredType) (m : IndexMap (List ℕ) (BaseEntry B) S) (name : List ℕ) (entry : BaseEntry B)
-      (free : is_some (lookup (same_name name) m.entries) ≡ false) where
-    rows_with : insert_entry same_name m.entries name entry ≡ m.entries ++ ((name, entry) ∷ [])
-    rows_with = insert_entry-new same_name m name entry (no_row (lookup (same_name name) m.entries) free)
+  module _ {S : Type 0} (rows : Rows B) (m : IndexMap (List ℕ) (BaseEntry B) S) (name : List ℕ) (entry : BaseEntry B)
+      (of : rows.bases ≡ m.entries) (free : knows_relvar name (database_view relation rows) ≡ false) where
+    free_row : is_some (lookup (same_name name) m.entries) ≡ false
+    free_row = ap (λ rs. is_some (lookup (same_name name) rs)) (sym of) ∙ no_base name rows free
 
-    view_with : (rows : List (List ℕ × BaseEntry B)) → database_view relation types (rows ++ ((name, entry) ∷ [])) ≡ with_base (base_view relation (name, entry)) (database_view relation types rows)
-    view_with rows = ap (λ bs. record { types = types; bases = bs; virtuals = []; constraints = [] }) (map-append (base_view relation) rows ((name, entry) ∷ []))
+    view_added : map (base_view relation) (insert_entry same_name m.entries name entry) ≡ map (base_view relation) rows.bases ++ (base_view relation (name, entry) ∷ [])
+    view_added =
+        view_with (base_view relation) (λ (r : BaseRelvar). r.name) base_named_so m name entry free_row
+        ∙ ap (λ rs. map (base_view relation) rs ++ (base_view relation (name, entry) ∷ [])) (sym of)
 
-    pub view_with_base : database_view relation types (insert_entry same_name m.entries name entry) ≡ with_base (base_view relation (name, entry)) (database_view relation types m.entries)
-    view_with_base = ap (database_view relation types) rows_with ∙ view_with m.entries
+    pub view_with_base : database_view relation (with_base_rows (insert_entry same_name m.entries name entry) rows) ≡ with_base (base_view relation (name, entry)) (database_view relation rows)
+    view_with_base =
+        ap (λ bs. record { types = rows.types; bases = bs; virtuals = map virtual_view rows.virtuals; constraints = map constraint_view rows.constraints }) view_added
 
-    pub catalog_with_base : IsCatalog relation keys types m.entries → IsNewBase types name entry
-        → IsCatalog relation keys types (insert_entry same_name m.entries name entry)
+    pub catalog_with_base : IsCatalog relation keys rows → IsNewBase rows.types name entry
+        → IsCatalog relation keys (with_base_rows (insert_entry same_name m.entries name entry) rows)
     catalog_with_base h new =
-        let legal = legal_with_base (database_view relation types m.entries) (base_view relation (name, entry)) h.legal new.named
-        (sym (known relation types name m.entries) ∙ free) (new_base types name entry new) in
-        subst (IsCatalog relation keys types) (sym rows_with)
-        (record {
-          entries = all_push (λ row. IsEntry relation keys row.1) m.entries (name, entry) h.entries new.of_body;
-          legal = subst IsLegal (sym (view_with m.entries)) legal;
-        })
+        record {
+          entries =
+              subst (AreEntries relation keys) (sym (rows_with (base_view relation) (λ (r : BaseRelvar). r.name) base_named_so m name entry free_row))
+              (all_push (λ row. IsEntry relation keys row.1) m.entries (name, entry) (subst (AreEntries relation keys) of h.entries) new.of_body);
+          legal =
+              subst IsLegal (sym view_with_base)
+              (legal_with_base (database_view relation rows) (base_view relation (name, entry)) h.legal new.named free (new_base rows.types name entry new));
+        }
+
+  -- ---- one more virtual relvar
+
+  module _ {S : Type 0} (rows : Rows B) (m : IndexMap (List ℕ) VirtualEntry S) (name : List ℕ) (entry : VirtualEntry)
+      (of : rows.virtuals ≡ m.entries) (free : knows_relvar name (database_view relation rows) ≡ false) where
+    pub view_with_virtual : database_view relation (with_virtual_rows (insert_entry same_name m.entries name entry) rows) ≡ with_virtual (virtual_view (name, entry)) (database_view relation rows)
+    view_with_virtual =
+        ap (λ vs. record { types = rows.types; bases = map (base_view relation) rows.bases; virtuals = vs; constraints = map constraint_view rows.constraints })
+        (view_with virtual_view (λ (v : VirtualRelvar). v.name) (λ row. refl) m name entry (ap (λ rs. is_some (lookup (same_name name) rs)) (sym of) ∙ no_virtual name rows free)
+        ∙ ap (λ rs. map virtual_view rs ++ (virtual_view (name, entry) ∷ [])) (sym of))
+
+    pub catalog_with_virtual : IsCatalog relation keys rows → IsName name → IsVirtual (database_scope (database_view relation rows)) (virtual_view (name, entry))
+        → IsCatalog relation keys (with_virtual_rows (insert_entry same_name m.entries name entry) rows)
+    catalog_with_virtual h named new =
+        record {
+          entries = h.entries;
+          legal = subst IsLegal (sym view_with_virtual) (legal_with_virtual (database_view relation rows) (virtual_view (name, entry)) h.legal named free new);
+        }
+
+  -- ---- one more constraint
+
+  module _ {S : Type 0} (rows : Rows B) (m : IndexMap (List ℕ) ConstraintEntry S) (name : List ℕ) (entry : ConstraintEntry)
+      (of : rows.constraints ≡ m.entries) (free : knows_constraint name (database_view relation rows) ≡ false) where
+    pub view_with_constraint : database_view relation (with_constraint_rows (insert_entry same_name m.entries name entry) rows)
+        ≡ with_constraint (constraint_view (name, entry)) (database_view relation rows)
+    view_with_constraint =
+        ap (λ cs. record { types = rows.types; bases = map (base_view relation) rows.bases; virtuals = map virtual_view rows.virtuals; constraints = cs })
+        (view_with constraint_view (λ (c : NamedConstraint). c.name) (λ row. refl) m name entry
+        (ap (λ rs. is_some (lookup (same_name name) rs)) (sym of) ∙ knows_constraint_by name rows ∙ free)
+        ∙ ap (λ rs. map constraint_view rs ++ (constraint_view (name, entry) ∷ [])) (sym of))
+
+    pub catalog_with_constraint : IsCatalog relation keys rows → IsName name → IsConstraint (database_scope (database_view relation rows)) (constraint_view (name, entry))
+        → IsCatalog relation keys (with_constraint_rows (insert_entry same_name m.entries name entry) rows)
+    catalog_with_constraint h named new =
+        record {
+          entries = h.entries;
+          legal = subst IsLegal (sym view_with_constraint) (legal_with_constraint (database_view relation rows) (constraint_view (name, entry)) h.legal named free new);
+        }
 
   -- ---- another body
 
-  module _ (types : List DeclaredType) (rows : List (List ℕ × BaseEntry B)) (name : List ℕ) (body : B) (i : ℕ) (row : List ℕ × BaseEntry B)
-      (place : prefix_len (other_name relation keys name) (keys_of rows) ≡ i) (at : slice_get rows i ≡ Some row) where
-    change : IsChanged relation keys name body rows i row
-    change = changed relation keys name body rows i row place at
+  module _ (rows : Rows B) (name : List ℕ) (body : B) (i : ℕ) (row : List ℕ × BaseEntry B)
+      (place : prefix_len (other_name relation keys name) (keys_of rows.bases) ≡ i) (at : slice_get rows.bases i ≡ Some row) where
+    change : IsChanged relation keys name body rows.bases i row
+    change = changed relation keys name body rows.bases i row place at
 
-    pub view_with_body : database_view relation types (set_value_at rows i (with_entry_body relation keys row.1 body)) ≡ with_body name (relation body) (database_view relation types rows)
-    view_with_body = ap (λ bs. record { types = types; bases = bs; virtuals = []; constraints = [] }) change.view
+    pub view_with_body : database_view relation (with_base_rows (set_value_at rows.bases i (with_entry_body relation keys row.1 body)) rows) ≡ with_body name (relation body) (database_view relation rows)
+    view_with_body =
+        ap (λ bs. record { types = rows.types; bases = bs; virtuals = map virtual_view rows.virtuals; constraints = map constraint_view rows.constraints }) change.view
 
-    pub catalog_with_body : IsCatalog relation keys types rows
-        → IfSome (base_named name (database_view relation types rows)) (λ r. IsBodyOf r.relation.heading r.keys (relation body) (keys body))
-        → IsRelation (relation body) → AreTyped types (relation body) → KeysHold (keys body) (relation body).body
-        → IsCatalog relation keys types (set_value_at rows i (with_entry_body relation keys row.1 body))
+    pub catalog_with_body : IsCatalog relation keys rows
+        → IfSome (base_named name (database_view relation rows)) (λ r. IsBodyOf r.relation.heading r.keys (relation body) (keys body))
+        → IsRelation (relation body) → AreTyped rows.types (relation body) → KeysHold (keys body) (relation body).body
+        → IsCatalog relation keys (with_base_rows (set_value_at rows.bases i (with_entry_body relation keys row.1 body)) rows)
     catalog_with_body h fits proper typed hold =
         let was = change.was h.entries in
         let fit : IsBodyOf (relation row.1.body).heading (entry_keys row.1) (relation body) (keys body) =
@@ -97,13 +198,16 @@ module _ {B : Type 0} (relation : B → Relation) (keys : B → List (List (List
         let entry : IsEntry relation keys (with_entry_body relation keys row.1 body) = record { heading_is = fit.heading_is ∙ was.heading_is; keys_are = fit.keys_are } in
         record {
           entries = change.entries h.entries entry;
-          legal = subst IsLegal (sym view_with_body) (legal_with_body (database_view relation types rows) name (relation body) h.legal (fitting fits));
+          legal = subst IsLegal (sym view_with_body) (legal_with_body (database_view relation rows) name (relation body) h.legal (fitting fits));
         }
       where
-        fitting : IfSome (base_named name (database_view relation types rows)) (λ r. IsBodyOf r.relation.heading r.keys (relation body) (keys body))
-            → (r : BaseRelvar) → base_named name (database_view relation types rows) ≡ Some r → IsBase types (base_relvar name r.keys (relation body))
+        fitting : IfSome (base_named name (database_view relation rows)) (λ r. IsBodyOf r.relation.heading r.keys (relation body) (keys body))
+            → (r : BaseRelvar) → base_named name (database_view relation rows) ≡ Some r
+            → ((relation body).heading ≡ r.relation.heading) × IsBase rows.types (base_relvar name r.keys (relation body))
         fitting f r e =
             let fit : IsBodyOf r.relation.heading r.keys (relation body) (keys body) =
-            subst (λ o. IfSome o (λ r'. IsBodyOf r'.relation.heading r'.keys (relation body) (keys body))) e f in
-            held (database_view relation types rows) name (relation body) r h.legal e
-            (record { heading = fit.heading_is; proper = proper; typed = typed; hold = subst (λ ks. KeysHold ks (relation body).body) fit.keys_are hold })
+            subst (λ o. IfSome o (λ r'. IsBodyOf r'.relation.heading r'.keys (relation body) (keys body))) e f in (
+              fit.heading_is,
+              held (database_view relation rows) name (relation body) r h.legal e
+                  (record { heading = fit.heading_is; proper = proper; typed = typed; hold = subst (λ ks. KeysHold ks (relation body).body) fit.keys_are hold }),
+            )

@@ -1,6 +1,14 @@
 mod Changes
+mod Copies
+mod EntriesLess
+mod KnownRelvars
+mod LegalDrops
+mod LegalTypeDrops
 mod Lists
 pub mod Legal
 mod Places
 mod Reached
 mod Rows
+mod Searches
+mod ValuesLeft
+mod Visits

@@ -1,9 +1,12 @@
 -- What the code's catalogue stands for, and what it keeps beside bodies.
-use Rattle.std.specs.Prelude.{◌≡◌, ℕ, List, [], map}
+use Rattle.std.specs.Prelude.{◌≡◌, ℕ, List, map}
 use Rattle.std.specs.List.{AllByRecursion}
-use Rattle.td_catalog.specs.Database.{BaseRelvar, Database, base_relvar}
+use Rattle.td_catalog.specs.Database.{BaseRelvar, Database, NamedConstraint, VirtualRelvar, base_relvar, named_constraint, virtual_relvar}
 use Rattle.td_catalog.specs.Legality.{IsLegal}
 use Rattle.td_catalog.specs.declared.entry.BaseEntry.{BaseEntry}
+use Rattle.td_catalog.specs.declared.entry.ConstraintEntry.{ConstraintEntry}
+use Rattle.td_catalog.specs.declared.entry.VirtualEntry.{VirtualEntry}
+use Rattle.td_tree.specs.TreeViews.{tree_view}
 use Rattle.td_types.specs.TypeLists.{DeclaredType}
 use Rattle.td_types.specs.Types.{Heading}
 use Rattle.td_value.specs.Values.{Relation}
@@ -16,9 +19,31 @@ entry_keys entry = map (λ key. key.items) entry.keys.items
 abbrev pub base_view : {B : Type 0} → (B → Relation) → List ℕ × BaseEntry B → BaseRelvar
 base_view relation row = base_relvar row.0 (entry_keys row.1) (relation row.1.body)
 
--- the database of declared types and of entries by name
-abbrev pub database_view : {B : Type 0} → (B → Relation) → List DeclaredType → List (List ℕ × BaseEntry B) → Database
-database_view relation types rows = record { types = types; bases = map (base_view relation) rows; virtuals = []; constraints = [] }
+-- the virtual relvar of a name and its entry
+abbrev pub virtual_view : List ℕ × VirtualEntry → VirtualRelvar
+virtual_view row =
+    virtual_relvar row.0 row.1.heading (tree_view row.1.tree.value) (map (λ key. key.items) row.1.keys.items)
+
+-- the constraint of a name and its entry
+abbrev pub constraint_view : List ℕ × ConstraintEntry → NamedConstraint
+constraint_view row = named_constraint row.0 (tree_view row.1.tree.value)
+
+-- the rows of a catalogue, each list by name
+pub record Rows (B : Type 0) : Type 0 where
+  pub types : List DeclaredType
+  pub bases : List (List ℕ × BaseEntry B)
+  pub virtuals : List (List ℕ × VirtualEntry)
+  pub constraints : List (List ℕ × ConstraintEntry)
+
+-- the database of them
+abbrev pub database_view : {B : Type 0} → (B → Relation) → Rows B → Database
+database_view relation rows =
+    record {
+      types = rows.types;
+      bases = map (base_view relation) rows.bases;
+      virtuals = map virtual_view rows.virtuals;
+      constraints = map constraint_view rows.constraints;
+    }
 
 -- a body of this relation and of these keys, for a relvar of that heading and of those keys
 pub record IsBodyOf (heading : Heading) (names : List (List (List ℕ))) (relation : Relation) (keys : List (List (List ℕ))) : Type 0 where
@@ -34,6 +59,6 @@ abbrev pub AreEntries : {B : Type 0} → (B → Relation) → (B → List (List 
 AreEntries relation keys = AllByRecursion (λ row. IsEntry relation keys row.1)
 
 -- what a catalogue is: each entry is as its body, and the database is legal
-pub record IsCatalog {B : Type 0} (relation : B → Relation) (keys : B → List (List (List ℕ))) (types : List DeclaredType) (rows : List (List ℕ × BaseEntry B)) : Type 0 where
-  pub entries : AreEntries relation keys rows
-  pub legal : IsLegal (database_view relation types rows)
+pub record IsCatalog {B : Type 0} (relation : B → Relation) (keys : B → List (List (List ℕ))) (rows : Rows B) : Type 0 where
+  pub entries : AreEntries relation keys rows.bases
+  pub legal : IsLegal (database_view relation rows)

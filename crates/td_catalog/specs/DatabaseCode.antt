@@ -1,11 +1,13 @@
 -- How the logic stores a database: the code that a Model asks for.
 use Rattle.std.specs.Prelude.{ℕ, List, refl}
 use Rattle.std.specs.Coded.{Coded, code_by, coded×, coded_list, coded_ℕ}
-use Rattle.td_catalog.specs.Database.{BaseRelvar, Database, NamedConstraint, VirtualRelvar, base_relvar}
+use Rattle.td_catalog.specs.Database.{BaseRelvar, Database, NamedConstraint, VirtualRelvar, base_relvar, named_constraint, virtual_relvar}
 use Rattle.td_tree.specs.TreeCode.{tree_code}
 use Rattle.td_tree.specs.Trees.{Tree}
+use Rattle.td_types.specs.TypeCode.{heading_code}
 use Rattle.td_types.specs.TypeListCode.{declared_list_code}
 use Rattle.td_types.specs.TypeLists.{DeclaredType}
+use Rattle.td_types.specs.Types.{Heading}
 use Rattle.td_value.specs.ValueCode.{relation_code}
 use Rattle.td_value.specs.Values.{Relation}
 
@@ -19,13 +21,13 @@ base_code =
 
 abbrev pub virtual_code : Coded VirtualRelvar
 virtual_code =
-    code_by (List ℕ × (Tree × List (List (List ℕ)))) (coded× (coded_list coded_ℕ) (coded× tree_code keys_code))
-    (λ r. (r.name, (r.tree, r.keys))) (λ p. record { name = p.0; tree = p.1.0; keys = p.1.1 }) (λ _. refl)
+    code_by (List ℕ × (Heading × (Tree × List (List (List ℕ))))) (coded× (coded_list coded_ℕ) (coded× heading_code (coded× tree_code keys_code)))
+    (λ r. (r.name, (r.heading, (r.tree, r.keys)))) (λ p. virtual_relvar p.0 p.1.0 p.1.1.0 p.1.1.1) (λ _. refl)
 
 abbrev pub constraint_code : Coded NamedConstraint
 constraint_code =
     code_by (List ℕ × Tree) (coded× (coded_list coded_ℕ) tree_code)
-    (λ c. (c.name, c.tree)) (λ p. record { name = p.0; tree = p.1 }) (λ _. refl)
+    (λ c. (c.name, c.tree)) (λ p. named_constraint p.0 p.1) (λ _. refl)
 
 abbrev pub database_code : Coded Database
 database_code =

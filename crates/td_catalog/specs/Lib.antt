@@ -3,3 +3,5 @@ pub mod Database
 pub mod DatabaseCode
 pub mod Legality
 pub mod LegalityLaws
+pub mod Mentioned
+pub mod Sought

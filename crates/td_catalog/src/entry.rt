@@ -1,5 +1,7 @@
 //! Entries of the catalogue.
+use std::rc::Rc;
 use td_body::body::Body;
+use td_tree::expression::Expr;
 use td_tree::name::Name;
 use td_types::heading::Heading;
 
@@ -10,4 +12,20 @@ pub struct BaseEntry<B: Body> {
     /// The names of each candidate key, in the order in which they are declared.
     pub keys: Vec<Vec<Name>>,
     pub body: B,
+}
+
+/// What a catalogue keeps of a virtual relvar beside its name.
+#[derive(Drop)]
+pub struct VirtualEntry {
+    /// The heading of the expression's value.
+    pub heading: Heading,
+    pub tree: Rc<Expr>,
+    /// The names of each candidate key, in the order in which they are declared.
+    pub keys: Vec<Vec<Name>>,
+}
+
+/// What a catalogue keeps of a constraint beside its name.
+#[derive(Drop)]
+pub(crate) struct ConstraintEntry {
+    pub(crate) tree: Rc<Expr>,
 }

@@ -1,6 +1,12 @@
 //! The catalogue: what is defined in a database.
 #![tactic(auto)]
 
+pub mod by_place;
 pub mod catalog;
+mod copy;
+pub mod definitions;
+pub mod drops;
 pub mod entry;
 pub mod laws;
+mod mentioned;
+pub mod scope;

@@ -1,340 +1,220 @@
--- Types and base relvars that stand behind those of a database change no value of an expression that has a type there.
-use Rattle.std.proofs.Common.{◌≡◌, ◌∙◌, ◌++◌, ℕ, Bool, true, false, List, [], ◌∷◌, Option, Some, None, append-nil, append_assoc, ap, fold, map, option_map, refl, subst, sym}
-use Rattle.std.specs.List.{AllByRecursion, zip}
-use Rattle.std.specs.Prelude.{is_some}
+-- Entries that stand behind those of a database change no value of an expression that has a type there.
+use Rattle.std.proofs.Common.{◌≡◌, ◌∙◌, ◌++◌, ℕ, true, List, [], ◌∷◌, Option, Some, None, append-nil, append_assoc, ap, fold, map, not, option_map, refl, subst, sym, true≢false}
+use Rattle.std.specs.List.{AllByRecursion}
+use Rattle.std.specs.Option.{option_or}
+use Rattle.std.specs.Prelude.{IsTrue, if◌then◌else◌, is_some}
 use Rattle.std.proofs.lemmas.List.{map-append}
 use Rattle.std.proofs.lemmas.List.Sums.{fold-append}
-use Rattle.td_catalog.specs.Database.{BaseRelvar, Database, base_among, database_scope, known_base}
-use Rattle.td_catalog.specs.Legality.{EachAfter, IsConstrained, IsRanked}
-use Rattle.td_check.specs.OperatorTypes.{are_types_of, if_type}
-use Rattle.td_check.specs.Scopes.{alone_with, relvar_in, scope_of}
-use Rattle.td_check.specs.StatementTypes.{constraint_fits}
-use Rattle.td_check.specs.StaticTypes.{type_of}
-use Rattle.td_tree.specs.declared.cause.Cause.TheVariants as causes
-use Rattle.td_tree.specs.Names.{IsName}
-use Rattle.td_tree.specs.Outcomes.{Outcome, Valued, value_if, with_value}
+use Rattle.td_catalog.specs.Database.{BaseRelvar, Database, NamedConstraint, VirtualRelvar, base_among, base_named, database_scope, known_virtual, knows_relvar, relvar_names, virtual_named, with_base, with_constraint, with_declared, with_virtual}
+use Rattle.td_catalog.specs.Legality.{IsLegal}
+use Rattle.td_check.specs.Scopes.{KnownRelvar, Scope, known_relvar}
+use Rattle.td_tree.specs.Outcomes.{Valued}
 use Rattle.td_tree.specs.Trees.{Tree}
-use Rattle.td_types.specs.Headings.{are_distinct, heading_from}
-use Rattle.td_types.specs.TypeLists.{AreDeclared, AreKnown, DeclaredType, IsDeclarable, declared_at}
-use Rattle.td_types.specs.Types.{Attribute, attribute_names, pack, same_name}
+use Rattle.td_types.specs.Headings.{are_distinct, has_name}
+use Rattle.td_types.specs.TypeLists.{DeclaredType}
+use Rattle.td_types.specs.Types.{pack, same_name}
 use Rattle.td_types.specs.Types as types
-use Rattle.td_types.proofs.DeclaredTypes.{AreDeclared-front, declared_at-later}
-use Rattle.td_types.proofs.KnownTypes.{declared_more}
-use Rattle.td_types.proofs.OutcomeLaws.{value_of_with}
-use Rattle.td_types.proofs.Ranks.{known_components}
-use Rattle.td_value.specs.KnownValues.{AreOfTypes}
-use Rattle.td_value.specs.Values.{Val, AreValues, Parts, no_parts, part, Tuple, heading_of, made_tuple, pack_parts, selected_value, tuple_names, tuple_of}
-use Rattle.td_value.specs.Values as values
-use Rattle.td_value.specs.Views.{user_view}
-use Rattle.td_value.proofs.KnownValues.{has_its_type}
-use Rattle.td_eval.specs.DatabaseWorlds.{Selectors, constraint_value, selector_value, selectors_of, types_alone, with_selector, world_of, world_of_types}
-use Rattle.td_eval.specs.OperatorValues.{relation_as_value, truth_value}
+use Rattle.td_value.specs.Values.{Tuple}
+use Rattle.td_eval.specs.DatabaseWorlds.{Selectors, selectors_of, types_alone, with_selector, world_of}
+use Rattle.td_eval.specs.OperatorValues.{relation_as_value}
 use Rattle.td_eval.specs.TreeValues.{value_of}
 use Rattle.td_eval.specs.ValueLaws.{HasLater, IsChecked, LaterEntriesChangeNothing, SelectsTheSame}
-use Rattle.td_eval.specs.ValueTypes.{AreComponentsOf, ConstraintsAreWritten, IsWritten, KeepsScope}
+use Rattle.td_eval.specs.ValueTypes.{DefinitionsAreWritten, IsWritten}
 use Rattle.td_eval.specs.Worlds.{World, selected}
-use Rattle.td_eval.proofs.KeepsGathered.{all_from_members}
+use Rattle.td_eval.proofs.DistinctNames.{distinct_between, not_true}
+use Rattle.td_eval.proofs.KnownRelvars.{fronted, known_as_base, known_as_virtual, known_in_more, known_name, named, named_more, never_none, no_base, of_all, one_more_world, some_of, stays_behind, unnamed}
+use Rattle.td_eval.proofs.LaterTypes.{AreLegal, all_select, selected_by, stays}
 use Rattle.td_eval.proofs.MoreWorlds.{HasMoreThan, same_in_more}
-use Rattle.td_eval.proofs.TypedDatabases.{components_known, legal_databases_keep_scopes, shrunk, some_same}
-use Rattle.td_eval.proofs.TypedRows.{IsTypedEntry, made_typed, own_type}
-
--- ---- types that may stand in a legal database
-
-pub record AreLegal (ds : List DeclaredType) : Type 0 where
-  pub declared : AreDeclared ds
-  pub ranked : EachAfter IsRanked ds
-  pub constrained : EachAfter IsConstrained ds
-  pub written : ConstraintsAreWritten ds
-
-each_front : {A : Type 0} (P : List A → A → Type 0) (xs more : List A) → EachAfter P (xs ++ more) → EachAfter P xs
-each_front P xs more h earlier later x e =
-    h earlier (later ++ more) x (ap (λ ys. ys ++ more) e ∙ append_assoc earlier (x ∷ later) more)
-
-all_front : {A : Type 0} (P : A → Type 0) (xs more : List A) → AllByRecursion P (xs ++ more) → AllByRecursion P xs
-all_front P [] more h = tt
-all_front P (x ∷ xs) more h = (h.0, all_front P xs more h.1)
-
-all_last : {A : Type 0} (P : A → Type 0) (xs : List A) (x : A) → AllByRecursion P (xs ++ (x ∷ [])) → P x
-all_last P [] x h = h.0
-all_last P (y ∷ xs) x h = all_last P xs x h.1
-
-pub first_legal : (ds more : List DeclaredType) → AreLegal (ds ++ more) → AreLegal ds
-first_legal ds more h =
-    record {
-      declared = AreDeclared-front ds more h.declared;
-      ranked = each_front IsRanked ds more h.ranked;
-      constrained = each_front IsConstrained ds more h.constrained;
-      written = all_front (λ (d : DeclaredType). (e : Tree) → d.constraint ≡ Some e → IsWritten e) ds more h.written;
-    }
-
--- the database of these types alone
-abbrev types_database : List DeclaredType → Database
-types_database ds = record { types = ds; bases = []; virtuals = []; constraints = [] }
-
-pub types_keep : (ds : List DeclaredType) → AreLegal ds → KeepsScope (world_of_types ds ds) (scope_of ds)
-types_keep ds h =
-    legal_databases_keep_scopes (types_database ds)
-    (record { declared = h.declared; ranked = h.ranked; constrained = h.constrained; named = tt; distinct = refl; bases = tt })
-    h.written
-
--- ---- selectors
-
--- the selectors of the types, as they are where these alone are known
-pub record SelectThose (front : List DeclaredType) (selectors : Selectors) : Type 0 where
-  pub found :
-      (n : List ℕ) (d : DeclaredType) → declared_at n front ≡ Some d
-      → (f : List Val → Outcome Val) × (selectors n ≡ Some f)
-      × ((vs : List Val) → AreComponentsOf front d vs → f vs ≡ selected (world_of_types front front) n vs)
-  pub missing : (n : List ℕ) → declared_at n front ≡ None → selectors n ≡ None
-
--- which world that has them has more
-pub types_more : (front rest all : List DeclaredType) (selectors : Selectors) → all ≡ front ++ rest → SelectThose front selectors
-    → HasMoreThan (scope_of front) (world_of_types front front) (types_alone all selectors)
-types_more front rest all selectors e s =
-    record {
-      types = (rest, e);
-      relvars = ([], refl);
-      values = λ n k. refl;
-      selectors = λ n d vs is h. let x = s.found n d is in rw (selected, x.1) (x.2 vs h);
-    }
-
-pub parts_shrunk : (ds more : List DeclaredType) (a : AreDeclared ds) (ps : Parts) (cs : List Attribute) → AreKnown ds (pack cs)
-    → AreOfTypes (ds ++ more) ps cs → AreOfTypes ds ps cs
-parts_shrunk ds more a no_parts [] k h = tt
-parts_shrunk ds more a no_parts (c ∷ cs) k h = h
-parts_shrunk ds more a (part v ps) [] k h = h
-parts_shrunk ds more a (part v ps) (c ∷ cs) k h = (shrunk ds more a v c.1 h.0 k.0, parts_shrunk ds more a ps cs k.1 h.1)
-
--- components by their names
-zipped : (ds : List DeclaredType) (cs : List Attribute) (vs : List Val) → AllByRecursion (λ (c : Attribute). IsName c.0) cs → AreValues (pack_parts vs)
-    → AreOfTypes ds (pack_parts vs) cs
-    → (heading_of (zip (attribute_names cs) vs) ≡ cs) × AllByRecursion (IsTypedEntry ds) (zip (attribute_names cs) vs)
-zipped ds [] [] n p h = (refl, tt)
-zipped ds [] (v ∷ vs) n p h = absurd h
-zipped ds (c ∷ cs) [] n p h = absurd h
-zipped ds (c ∷ cs) (v ∷ vs) n p h =
-    let rest = zipped ds cs vs n.1 p.1 h.1 in
-    let first = has_its_type ds v c.1 h.0 in
-    ((λ i. (c.0, first i) ∷ rest.0 i), ((n.0, own_type ds v c.1 (p.0, h.0)), rest.1))
-
-module _ (front : List DeclaredType) (d : DeclaredType) (legal : AreLegal (front ++ (d ∷ []))) where
-  abbrev with_last : List DeclaredType
-  with_last = front ++ (d ∷ [])
-
-  before : AreLegal front
-  before = first_legal front (d ∷ []) legal
-
-  new : IsDeclarable front d
-  new = legal.declared front [] d refl
-
-  written : (e : Tree) → d.constraint ≡ Some e → IsWritten e
-  written = all_last (λ (c : DeclaredType). (e : Tree) → c.constraint ≡ Some e → IsWritten e) front d legal.written
-
-  -- a constraint that is valued alike in a world
-  abbrev pub IsValuedAlike : World → Type 0
-  IsValuedAlike second =
-      (t : Tuple) (e : Tree) → d.constraint ≡ Some e → heading_of t ≡ heading_from d.components → IsChecked (scope_of front) (t ∷ []) e
-      → value_of second (t ∷ []) e ≡ value_of (world_of_types front front) (t ∷ []) e
-
-  pub alike_in_more : (second : World) → HasMoreThan (scope_of front) (world_of_types front front) second → IsValuedAlike second
-  alike_in_more second more t e is head c = same_in_more (scope_of front) (world_of_types front front) second more (t ∷ []) e (types_keep front before) c
-
-  module _ (second : World) (alike : IsValuedAlike second) where
-    -- its constraint, of these components
-    constraint_same : (vs : List Val) → AreComponentsOf front d vs → constraint_value second d vs ≡ constraint_value (world_of_types front front) d vs
-    constraint_same vs h = by_option d.constraint refl
-      where
-        by_test : (e : Tree) → d.constraint ≡ Some e → heading_of (zip (attribute_names d.components) vs) ≡ d.components
-            → AllByRecursion (IsTypedEntry front) (zip (attribute_names d.components) vs)
-            → (b : Bool) → are_distinct (tuple_names (zip (attribute_names d.components) vs)) ≡ b
-            → with_value (value_if b (tuple_of (zip (attribute_names d.components) vs)) causes.Heading) (λ t. truth_value (value_of second (t ∷ []) e))
-            ≡ with_value (value_if b (tuple_of (zip (attribute_names d.components) vs)) causes.Heading) (λ t. truth_value (value_of (world_of_types front front) (t ∷ []) e))
-        by_test e is heading entries false distinct = refl
-        by_test e is heading entries true distinct =
-            let u = zip (attribute_names d.components) vs in
-            let made = made_typed front u distinct entries in
-            let head : heading_of (tuple_of u) ≡ heading_from d.components = made.1 ∙ ap heading_from heading in
-            let fits : with_value (type_of (alone_with (heading_from d.components) (scope_of front)) e) (λ t. if_type types.boolean t tt) ≡ Valued tt =
-            subst (λ o. constraint_fits (scope_of front) d.components o ≡ Valued tt) is (legal.constrained front [] d refl) in
-            let asked = value_of_with (type_of (alone_with (heading_from d.components) (scope_of front)) e) (λ t. if_type types.boolean t tt) tt fits in
-            ap truth_value
-            (alike (tuple_of u) e is head
-            (record {
-              tuples = (made.0, tt);
-              written = written e is;
-              typed = (asked.0, ap (λ g. type_of (alone_with g (scope_of front)) e) head ∙ asked.1);
-            }))
-
-        of_tree : (e : Tree) → d.constraint ≡ Some e
-            → with_value (made_tuple (zip (attribute_names d.components) vs)) (λ t. truth_value (value_of second (t ∷ []) e))
-            ≡ with_value (made_tuple (zip (attribute_names d.components) vs)) (λ t. truth_value (value_of (world_of_types front front) (t ∷ []) e))
-        of_tree e is =
-            let entries = zipped front d.components vs (all_from_members (λ (c : Attribute). IsName c.0) d.components new.names) h.0 h.1 in
-            let u = zip (attribute_names d.components) vs in
-            by_test e is entries.0 entries.1 (are_distinct (tuple_names u)) refl
-
-        by_option : (o : Option Tree) → d.constraint ≡ o → constraint_value second d vs ≡ constraint_value (world_of_types front front) d vs
-        by_option (Some e) is = rw (constraint_value, is) (of_tree e is)
-        by_option None is = rw (constraint_value, is) refl
-
-    pub selector_same : (vs : List Val) → AreComponentsOf front d vs → selector_value second d vs ≡ selector_value (world_of_types front front) d vs
-    selector_same vs h =
-        let same = constraint_same vs h in
-        λ i. with_value (value_if (are_types_of (map values.type_of vs) d.components) (user_view d.name vs) causes.TypeMismatch)
-        (λ u. with_value (same i) (λ holds. value_if holds (selected_value u) causes.TypeConstraint))
-
--- ---- the types in their order
-
--- the front of each longer list has such selectors
-abbrev pub FrontSelects : List DeclaredType → Type 0
-FrontSelects front = (all rest : List DeclaredType) → all ≡ front ++ rest → SelectThose front (selectors_of all front)
-
--- one more type
-module _ (front : List DeclaredType) (d : DeclaredType) (legal : AreLegal (front ++ (d ∷ []))) (fronts : FrontSelects front) where
-  abbrev wide : List DeclaredType
-  wide = front ++ (d ∷ [])
-
-  abbrev Selects : Selectors → List ℕ → DeclaredType → Type 0
-  Selects selectors n c =
-      (f : List Val → Outcome Val) × (selectors n ≡ Some f)
-      × ((vs : List Val) → AreComponentsOf wide c vs → f vs ≡ selected (world_of_types wide wide) n vs)
-
-  -- the selectors of all types of the list, where it is these
-  its_own : selectors_of wide wide ≡ with_selector wide (selectors_of wide front) d
-  its_own = fold-append (with_selector wide) (λ n. None) front (d ∷ [])
-
-  own_selected : (n : List ℕ) (f : List Val → Outcome Val) (vs : List Val) → with_selector wide (selectors_of wide front) d n ≡ Some f
-      → selected (world_of_types wide wide) n vs ≡ f vs
-  own_selected n f vs is =
-      let there : selectors_of wide wide n ≡ Some f = ap (λ (s : Selectors). s n) its_own ∙ is in
-      rw (selected, there) refl
-
-  front_declared : AreDeclared front
-  front_declared = AreDeclared-front front (d ∷ []) legal.declared
-
-  earlier : (all rest : List DeclaredType) → all ≡ wide ++ rest → (n : List ℕ) (b c : DeclaredType) → declared_at n front ≡ Some b → declared_at n wide ≡ Some c
-      → Selects (with_selector all (selectors_of all front) d) n c
-  earlier all rest e n b c is there =
-      let same : b ≡ c = some_same front (d ∷ []) front_declared b c (sym (declared_more n front (d ∷ []) b is) ∙ there) in
-      let x = (fronts all (d ∷ rest) (e ∙ append_assoc front (d ∷ []) rest)).found n b is in
-      let y = (fronts wide (d ∷ []) refl).found n b is in
-      subst (Selects (with_selector all (selectors_of all front) d) n) same (
-        x.0,
-        rw (with_selector, x.1) refl,
-        λ vs h.
-            let small : AreComponentsOf front b vs =
-            (h.0, parts_shrunk front (d ∷ []) front_declared (pack_parts vs) b.components (components_known front (d ∷ []) front_declared n b is) h.1) in
-            x.2 vs small ∙ sym (y.2 vs small) ∙ sym (own_selected n y.0 vs (rw (with_selector, y.1) refl)),
-      )
-
-  itself : (all rest : List DeclaredType) → all ≡ wide ++ rest → (n : List ℕ) (c : DeclaredType) → declared_at n front ≡ None → declared_at n (d ∷ []) ≡ Some c
-      → Selects (with_selector all (selectors_of all front) d) n c
-  itself all rest e n c is there = by_test (same_name d.name n) refl
-    where
-      by_test : (b : Bool) → same_name d.name n ≡ b → Selects (with_selector all (selectors_of all front) d) n c
-      by_test false named = let none : None ≡ Some c = rw named refl ∙ there in absurd (cc)
-      by_test true named =
-          let same : d ≡ c = some_same front (d ∷ []) front_declared d c (rw named refl ∙ there) in
-          let long : all ≡ front ++ (d ∷ rest) = e ∙ append_assoc front (d ∷ []) rest in
-          let x = fronts all (d ∷ rest) long in
-          let y = fronts wide (d ∷ []) refl in
-          subst (Selects (with_selector all (selectors_of all front) d) n) same (
-            selector_value (types_alone all (selectors_of all front)) d,
-            rw (with_selector, x.missing n is, named) refl,
-            λ vs h.
-                let small : AreComponentsOf front d vs = (
-                  h.0,
-                  parts_shrunk front (d ∷ []) front_declared (pack_parts vs) d.components
-                      (known_components front d.components (new front d legal).known) h.1,
-                ) in
-                selector_same front d legal (types_alone all (selectors_of all front)) (alike_in_more front d legal (types_alone all (selectors_of all front))
-                (types_more front (d ∷ rest) all (selectors_of all front) long x)) vs small
-                ∙ sym (selector_same front d legal (types_alone wide (selectors_of wide front)) (alike_in_more front d legal (types_alone wide (selectors_of wide front))
-                (types_more front (d ∷ []) wide (selectors_of wide front) refl y)) vs small)
-                ∙ sym (own_selected n (selector_value (types_alone wide (selectors_of wide front)) d) vs (rw (with_selector, y.missing n is, named) refl)),
-          )
-
-  at_end : (n : List ℕ) → declared_at n front ≡ None → declared_at n wide ≡ declared_at n (d ∷ [])
-  at_end n is = declared_at-later n front (d ∷ []) (ap is_some is)
-
-  one_more : FrontSelects wide
-  one_more all rest e =
-      subst (SelectThose wide) (sym (fold-append (with_selector all) (λ n. None) front (d ∷ []))) (record { found = is_found; missing = is_missing })
-    where
-      is_found : (n : List ℕ) (c : DeclaredType) → declared_at n wide ≡ Some c → Selects (with_selector all (selectors_of all front) d) n c
-      is_found n c there = by_option (declared_at n front) refl
-        where
-          by_option : (o : Option DeclaredType) → declared_at n front ≡ o → Selects (with_selector all (selectors_of all front) d) n c
-          by_option (Some b) is = earlier all rest e n b c is there
-          by_option None is = itself all rest e n c is (sym (at_end n is) ∙ there)
-
-      is_missing : (n : List ℕ) → declared_at n wide ≡ None → with_selector all (selectors_of all front) d n ≡ None
-      is_missing n there = by_option (declared_at n front) refl
-        where
-          by_option : (o : Option DeclaredType) → declared_at n front ≡ o → with_selector all (selectors_of all front) d n ≡ None
-          by_option (Some b) is = let clash : Some b ≡ None = sym (declared_more n front (d ∷ []) b is) ∙ there in absurd (cc)
-          by_option None is = by_test (same_name d.name n) refl
-            where
-              by_test : (b : Bool) → same_name d.name n ≡ b → with_selector all (selectors_of all front) d n ≡ None
-              by_test true named = let clash : Some d ≡ None = sym (at_end n is ∙ rw named refl) ∙ there in absurd (cc)
-              by_test false named =
-                  rw (with_selector, (fronts all (d ∷ rest) (e ∙ append_assoc front (d ∷ []) rest)).missing n is, named) refl
-
-module _ (ds : List DeclaredType) (legal : AreLegal ds) where
-  walked : (front rest : List DeclaredType) → ds ≡ front ++ rest → FrontSelects front → FrontSelects ds
-  walked front [] e s = subst FrontSelects (sym (e ∙ append-nil front)) s
-  walked front (d ∷ rest) e s =
-      let next : ds ≡ (front ++ (d ∷ [])) ++ rest = e ∙ sym (append_assoc front (d ∷ []) rest) in
-      walked (front ++ (d ∷ [])) rest next (one_more front d (first_legal (front ++ (d ∷ [])) rest (subst AreLegal next legal)) s)
-
-  pub all_select : FrontSelects ds
-  all_select = walked [] ds refl (λ all rest e. record { found = λ n d is. absurd (cc); missing = λ n is. refl })
-
--- a selector that is there stays
-pub stays : (all xs : List DeclaredType) (s : Selectors) (n : List ℕ) (f : List Val → Outcome Val) → s n ≡ Some f → fold (with_selector all) s xs n ≡ Some f
-stays all [] s n f is = is
-stays all (x ∷ xs) s n f is = stays all xs (with_selector all s x) n f (rw (with_selector, is) refl)
-
--- ---- databases
-
-base_stays : (n : List ℕ) (bs more : List BaseRelvar) → is_some (relvar_in n (map known_base bs)) ≡ true → base_among n (bs ++ more) ≡ base_among n bs
-base_stays n [] more k = absurd (cc)
-base_stays n (b ∷ bs) more k = by_test (same_name b.name n) refl (base_stays n bs more)
-  where
-    by_test : (t : Bool) → same_name b.name n ≡ t
-        → (is_some (relvar_in n (map known_base bs)) ≡ true → base_among n (bs ++ more) ≡ base_among n bs)
-        → base_among n (b ∷ (bs ++ more)) ≡ base_among n (b ∷ bs)
-    by_test true is rest = rw is refl
-    by_test false is rest = rw is (rest (rw is at k))
+use Rattle.td_eval.proofs.TypedDatabases.{all_at, database_keeps, fronts_keep}
+use Rattle.td_eval.proofs.WorldParts.{virtual_name, world_scope, world_selectors}
 
 module _ (first second : Database) (later : HasLater first second) (legal : AreLegal first.types) where
-  pub selectors_stay : (n : List ℕ) → SelectsTheSame (database_scope first) (world_of first) (world_of second) n
-  selectors_stay n d vs is h =
+  -- in worlds with the selectors of the first and of the second
+  selectors_of_both : (w v : World) → w.selector ≡ selectors_of first.types first.types → v.selector ≡ selectors_of second.types second.types
+      → (n : List ℕ) → SelectsTheSame (database_scope first) w v n
+  selectors_of_both w v e f n d vs is h =
       let x = (all_select first.types legal second.types later.types.0 later.types.1).found n d is in
-      let there : (world_of second).selector n ≡ Some x.0 =
+      let there : selectors_of second.types second.types n ≡ Some x.0 =
       ap (λ (xs : List DeclaredType). fold (with_selector second.types) (λ m. None) xs n) later.types.1
       ∙ ap (λ (s : Selectors). s n) (fold-append (with_selector second.types) (λ m. None) first.types later.types.0)
       ∙ stays second.types later.types.0 (selectors_of second.types first.types) n x.0 x.1 in
-      rw (selected, there) (x.2 vs h)
+      let here : selected (types_alone [] (selectors_of second.types second.types)) n vs ≡ x.0 vs = rw (selected, there) refl in
+      selected_by v (selectors_of second.types second.types) n vs f ∙ here ∙ x.2 vs h
+      ∙ sym (selected_by w (selectors_of first.types first.types) n vs e)
 
-  has_more : HasMoreThan (database_scope first) (world_of first) (world_of second)
-  has_more =
+  pub selectors_stay : (n : List ℕ) → SelectsTheSame (database_scope first) (world_of first) (world_of second) n
+  selectors_stay = selectors_of_both (world_of first) (world_of second) (world_selectors first) (world_selectors second)
+
+-- names where more entries stand behind
+module _ (first second : Database) (later : HasLater first second) where
+  abbrev IsNamed : List ℕ → Type 0
+  IsNamed n = has_name n (relvar_names first) ≡ true
+
+  named_later : (n : List ℕ) (v : VirtualRelvar) → virtual_named n first ≡ Some v → virtual_named n second ≡ Some v
+  named_later n v is = ap (named virtual_name n) later.virtuals.1 ∙ named_more virtual_name n first.virtuals later.virtuals.0 v is
+
+  -- a name of the first finds the same base relvar
+  base_same : (n : List ℕ) → IsNamed n → base_named n second ≡ base_named n first
+  base_same n has = by_base (base_named n first) refl
+    where
+      of_virtual : base_named n first ≡ None → (o : Option VirtualRelvar) → virtual_named n first ≡ o → base_named n second ≡ None
+      of_virtual none None is = absurd (true≢false (sym has ∙ unnamed first n none is))
+      of_virtual none (Some v) is = no_base second n later.distinct (ap is_some (named_later n v is))
+
+      by_base : (o : Option BaseRelvar) → base_named n first ≡ o → base_named n second ≡ base_named n first
+      by_base None none = of_virtual none (virtual_named n first) refl ∙ sym none
+      by_base (Some b) is =
+          ap (base_among n) later.bases.1 ∙ named_more (λ (r : BaseRelvar). r.name) n first.bases later.bases.0 b is ∙ sym is
+
+  -- a relvar that is known is known still, with these virtual relvars in the place of those
+  known_later : (vs us : List VirtualRelvar) (n : List ℕ) (r : KnownRelvar) → IsNamed n
+      → ((v : VirtualRelvar) → named virtual_name n vs ≡ Some v → named virtual_name n us ≡ Some v)
+      → known_relvar (database_scope (fronted first vs)) n ≡ Some r → known_relvar (database_scope (fronted second us)) n ≡ Some r
+  known_later vs us n r has kept is = by_base (base_named n first) refl
+    where
+      by_virtual : base_named n first ≡ None → (o : Option VirtualRelvar) → named virtual_name n vs ≡ o
+          → known_relvar (database_scope (fronted second us)) n ≡ Some r
+      by_virtual none None found =
+          never_none r (known_relvar (database_scope (fronted first vs)) n) is (known_as_virtual (fronted first vs) n none ∙ ap (option_map known_virtual) found)
+      by_virtual none (Some v) found =
+          known_as_virtual (fronted second us) n (base_same n has ∙ none) ∙ ap (option_map known_virtual) (kept v found ∙ sym found)
+          ∙ sym (known_as_virtual (fronted first vs) n none) ∙ is
+
+      by_base : (o : Option BaseRelvar) → base_named n first ≡ o → known_relvar (database_scope (fronted second us)) n ≡ Some r
+      by_base None none = by_virtual none (named virtual_name n vs) refl
+      by_base (Some b) found =
+          known_as_base (fronted second us) n b (base_same n has ∙ found) ∙ sym (known_as_base (fronted first vs) n b found) ∙ is
+
+  -- what is known with the first virtual relvars of the first is named there
+  name_of_front : (front rest : List VirtualRelvar) → first.virtuals ≡ front ++ rest → (n : List ℕ) (r : KnownRelvar)
+      → known_relvar (database_scope (fronted first front)) n ≡ Some r → IsNamed n
+  name_of_front front rest e n r is =
+      known_name first n
+      (ap is_some (ap (λ vs. known_relvar (database_scope (fronted first vs)) n) e ∙ known_in_more first front rest n r is))
+
+module _ (first second : Database) (later : HasLater first second) (legal : IsLegal first) (written : DefinitionsAreWritten first) where
+  legal_types : AreLegal first.types
+  legal_types = record { declared = legal.declared; ranked = legal.ranked; constrained = legal.constrained; written = written.constraints }
+
+  -- the relvars of the first have the same values in both, with the same virtual relvars
+  abbrev AreAlike : List VirtualRelvar → Type 0
+  AreAlike front = (n : List ℕ) → IsNamed first second later n → (world_of (fronted second front)).relvar n ≡ (world_of (fronted first front)).relvar n
+
+  module _ (vs us : List VirtualRelvar)
+      (names : (n : List ℕ) (r : KnownRelvar) → known_relvar (database_scope (fronted first vs)) n ≡ Some r → IsNamed first second later n)
+      (kept : (n : List ℕ) (v : VirtualRelvar) → named virtual_name n vs ≡ Some v → named virtual_name n us ≡ Some v)
+      (alike : (n : List ℕ) (r : KnownRelvar) → known_relvar (database_scope (fronted first vs)) n ≡ Some r
+      → (world_of (fronted second us)).relvar n ≡ (world_of (fronted first vs)).relvar n) where
+    has_more : HasMoreThan (database_scope (fronted first vs)) (world_of (fronted first vs)) (world_of (fronted second us))
+    has_more =
+        record {
+          types = (later.types.0, ap (λ (scope : Scope). scope.types) (world_scope (fronted second us)) ∙ later.types.1);
+          relvars = λ n r is.
+              subst (λ (scope : Scope). known_relvar scope n ≡ Some r) (sym (world_scope (fronted second us)))
+              (known_later first second later vs us n r (names n r is) (kept n) is);
+          values = λ n k. let x = some_of (known_relvar (database_scope (fronted first vs)) n) k in alike n x.0 x.1;
+          selectors =
+              selectors_of_both first second later legal_types (world_of (fronted first vs)) (world_of (fronted second us))
+              (world_selectors (fronted first vs)) (world_selectors (fronted second us));
+        }
+
+  none_alike : AreAlike []
+  none_alike n has = ap (option_map (λ (b : BaseRelvar). Valued (relation_as_value b.relation))) (base_same first second later n has)
+
+  next_alike : (front rest : List VirtualRelvar) (v : VirtualRelvar) → first.virtuals ≡ front ++ (v ∷ rest) → AreAlike front → AreAlike (front ++ (v ∷ []))
+  next_alike front rest v e alike n has =
+      ap (λ (w : World). w.relvar n) (one_more_world second front v)
+      ∙ (λ i. option_or (alike n has i) (if same_name v.name n then Some (value i) else None))
+      ∙ sym (ap (λ (w : World). w.relvar n) (one_more_world first front v))
+    where
+      names : (m : List ℕ) (r : KnownRelvar) → known_relvar (database_scope (fronted first front)) m ≡ Some r → IsNamed first second later m
+      names = name_of_front first second later front (v ∷ rest) e
+
+      checked : IsChecked (database_scope (fronted first front)) [] v.tree
+      checked =
+          record {
+            tuples = tt;
+            written = all_at (λ (u : VirtualRelvar). IsWritten u.tree) front v rest (subst (AllByRecursion (λ (u : VirtualRelvar). IsWritten u.tree)) e written.virtuals);
+            typed = (types.relation (pack v.heading), (legal.virtuals front rest v e).typed);
+          }
+
+      value : value_of (world_of (fronted second front)) [] v.tree ≡ value_of (world_of (fronted first front)) [] v.tree
+      value =
+          same_in_more (database_scope (fronted first front)) (world_of (fronted first front)) (world_of (fronted second front))
+          (has_more front front names (λ m u is. is) (λ m r is. alike m (names m r is))) [] v.tree
+          (fronts_keep first legal written front (v ∷ rest) e) checked
+
+  all_alike : AreAlike first.virtuals
+  all_alike = of_all AreAlike first.virtuals none_alike next_alike
+
+  relvars_stay : (n : List ℕ) (r : KnownRelvar) → known_relvar (database_scope first) n ≡ Some r → (world_of second).relvar n ≡ (world_of first).relvar n
+  relvars_stay n r is =
+      let has = known_name first n (ap is_some is) in
+      let there = known_later first second later first.virtuals first.virtuals n r has (λ v found. found) is in
+      ap (λ vs. (world_of (fronted second vs)).relvar n) later.virtuals.1
+      ∙ stays_behind second first.virtuals later.virtuals.0 n (ap is_some there) ∙ all_alike n has
+
+  values_stay : (s : List Tuple) (e : Tree) → IsChecked (database_scope first) s e → value_of (world_of second) s e ≡ value_of (world_of first) s e
+  values_stay s e checked =
+      same_in_more (database_scope first) (world_of first) (world_of second)
+      (has_more first.virtuals second.virtuals (λ n r is. known_name first n (ap is_some is)) (named_later first second later) relvars_stay)
+      s e (database_keeps first legal written) checked
+
+-- ---- one entry more
+
+module _ (db : Database) (legal : IsLegal db) where
+  abbrev base_names : List (List ℕ)
+  base_names = map (λ (r : BaseRelvar). r.name) db.bases
+
+  abbrev virtual_names : List (List ℕ)
+  virtual_names = map virtual_name db.virtuals
+
+  no_types : db.types ≡ db.types ++ []
+  no_types = sym (append-nil db.types)
+
+  no_bases : db.bases ≡ db.bases ++ []
+  no_bases = sym (append-nil db.bases)
+
+  no_virtuals : db.virtuals ≡ db.virtuals ++ []
+  no_virtuals = sym (append-nil db.virtuals)
+
+  one_type : (d : DeclaredType) → HasLater db (with_declared d db)
+  one_type d = record { types = (d ∷ [], refl); bases = ([], no_bases); virtuals = ([], no_virtuals); distinct = legal.distinct }
+
+  one_constraint : (c : NamedConstraint) → HasLater db (with_constraint c db)
+  one_constraint c = record { types = ([], no_types); bases = ([], no_bases); virtuals = ([], no_virtuals); distinct = legal.distinct }
+
+  one_base : (r : BaseRelvar) → IsTrue (not (knows_relvar r.name db)) → HasLater db (with_base r db)
+  one_base r new =
       record {
-        types = later.types;
-        relvars = (map known_base later.bases.0, ap (map known_base) later.bases.1 ∙ map-append known_base first.bases later.bases.0);
-        values = λ n k.
-            ap (option_map (λ (b : BaseRelvar). Valued (relation_as_value b.relation)))
-            (ap (base_among n) later.bases.1 ∙ base_stays n first.bases later.bases.0 k);
-        selectors = selectors_stay;
+        types = ([], no_types);
+        bases = (r ∷ [], refl);
+        virtuals = ([], no_virtuals);
+        distinct =
+            ap (λ ns. are_distinct (ns ++ virtual_names)) (map-append (λ (b : BaseRelvar). b.name) db.bases (r ∷ []))
+            ∙ distinct_between r.name base_names virtual_names legal.distinct (not_true (knows_relvar r.name db) new);
+      }
+
+  one_virtual : (v : VirtualRelvar) → IsTrue (not (knows_relvar v.name db)) → HasLater db (with_virtual v db)
+  one_virtual v new =
+      record {
+        types = ([], no_types);
+        bases = ([], no_bases);
+        virtuals = (v ∷ [], refl);
+        distinct =
+            ap are_distinct
+            (ap (λ ns. base_names ++ ns) (map-append virtual_name db.virtuals (v ∷ [])) ∙ sym (append_assoc base_names virtual_names (v.name ∷ []))
+            ∙ sym (append-nil ((base_names ++ virtual_names) ++ (v.name ∷ []))))
+            ∙ distinct_between v.name (base_names ++ virtual_names) [] (ap are_distinct (append-nil (base_names ++ virtual_names)) ∙ legal.distinct)
+            (ap (has_name v.name) (append-nil (base_names ++ virtual_names)) ∙ not_true (knows_relvar v.name db) new);
       }
 
 pub later_entries_change_nothing : LaterEntriesChangeNothing
 later_entries_change_nothing =
     record {
-      values = λ first second s e legal written later checked.
-          let all : AreLegal first.types = record { declared = legal.declared; ranked = legal.ranked; constrained = legal.constrained; written = written } in
-          same_in_more (database_scope first) (world_of first) (world_of second) (has_more first second later all) s e
-          (legal_databases_keep_scopes first legal written) checked;
-      one_type = λ db d. record { types = (d ∷ [], refl); bases = ([], sym (append-nil db.bases)) };
-      one_base = λ db r. record { types = ([], sym (append-nil db.types)); bases = (r ∷ [], refl) };
+      values = λ first second s e legal written later checked. values_stay first second later legal written s e checked;
+      one_type = λ db d legal. one_type db legal d;
+      one_base = λ db r legal new. one_base db legal r new;
+      one_virtual = λ db v legal new. one_virtual db legal v new;
+      one_constraint = λ db c legal. one_constraint db legal c;
     }

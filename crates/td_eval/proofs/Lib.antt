@@ -1,7 +1,10 @@
+pub mod AddedInTurn
 pub mod AggregateOrder
 pub mod AlikeOutcomes
 pub mod AlikeRows
 pub mod AlikeSummaries
+pub mod DistinctNames
+pub mod DroppedEntries
 pub mod KeepsAggregates
 pub mod KeepsClosure
 pub mod KeepsExtension
@@ -12,11 +15,14 @@ pub mod KeepsPostfix
 pub mod KeepsRelations
 pub mod KeepsSummaries
 pub mod KeepsUnnesting
+pub mod KnownRelvars
 pub mod LaterEntries
+pub mod LaterTypes
 pub mod LiteralTypes
 pub mod LiteralValues
 pub mod Measures
 pub mod MentionedEntries
+pub mod MentionedTypes
 pub mod MentionedValues
 pub mod MetConstraints
 pub mod MoreWorlds
@@ -41,9 +47,11 @@ pub mod TypedRows
 pub mod TypedTrees
 pub mod TypedValues
 pub mod UnnestedParts
+pub mod VirtualValues
 pub mod WalkedColumns
 pub mod WalkedExtension
 pub mod WalkedLists
 pub mod WalkedSelections
 pub mod WalkedTotals
 mod WorkedValues
+pub mod WorldParts

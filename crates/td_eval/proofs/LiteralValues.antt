@@ -6,7 +6,9 @@ use Rattle.std.proofs.lemmas.Bool.Decides.{nat_tests}
 use Rattle.std.proofs.lemmas.Int.{ints}
 use Rattle.std.proofs.lemmas.List.Sorted.{IsPermutation-refl}
 use Rattle.td_algebra.proofs.Entries.{ascending_distinct}
+use Rattle.td_catalog.specs.Database.{Database}
 use Rattle.td_check.specs.OperatorTypes.{are_types_of}
+use Rattle.td_check.specs.Scopes.{Scope}
 use Rattle.td_tree.specs.declared.cause.Cause.TheVariants as causes
 use Rattle.td_tree.specs.Outcomes.{Outcome, Valued, gathered, value_if, with_both, with_value}
 use Rattle.td_tree.specs.Trees as trees
@@ -31,10 +33,12 @@ use Rattle.td_eval.specs.LiteralValues.{EachInFields, EachInParts, EachInRows, E
 use Rattle.td_eval.specs.OperatorValues.{components_of, element_of, headed_value, is_in_range, of_relation, tuple_from}
 use Rattle.td_eval.specs.TreeValues.{argument_values, entry_values, value_of}
 use Rattle.td_eval.specs.Worlds.{World, selected}
+use Rattle.td_eval.proofs.LaterTypes.{selected_by}
 use Rattle.td_eval.proofs.LiteralTypes.{heading_means}
-use Rattle.td_eval.proofs.MentionedEntries.{chosen}
+use Rattle.td_eval.proofs.MentionedTypes.{chosen}
 use Rattle.td_eval.proofs.TypedDatabases.{types_fit}
 use Rattle.td_eval.proofs.TypedValues.{fields_heading, pack_unpack_fields, pack_unpack_rows, same_is}
+use Rattle.td_eval.proofs.WorldParts.{world_scope, world_selectors}
 
 -- ---- numbers, tuples and relations
 
@@ -220,14 +224,20 @@ module _ (ds : List DeclaredType) (P R Q : List ℕ → Parts → Type 0)
     each_row no_rows g h m r = tt
     each_row (row fs rs) g h m r = (each_field fs g h.0 m.0 r.0, each_row rs g h.1 m.1 r.1)
 
+-- what a selector of the database gives
+pub selects : (db : Database) (n : List ℕ) (vs : List Val)
+    → selected (world_of db) n vs ≡ selected (types_alone db.types (selectors_of db.types db.types)) n vs
+selects db n vs = selected_by (world_of db) (selectors_of db.types db.types) n vs (world_selectors db)
+
 pub selectors_give_what_meets : SelectorsGiveWhatMeets
 selectors_give_what_meets db v t legal h = (
   λ given. each db.types (Selects (world_of db)) (Selects (world_of db)) (MeetConstraint db.types)
-      (λ n ps d is k gives _. met_of_given db.types legal.declared n (components_of ps) (user n ps) gives) v t h given given,
+      (λ n ps d is k gives _. met_of_given db.types legal.declared n (components_of ps) (user n ps) (sym (selects db n (components_of ps)) ∙ gives)) v t h given given,
   λ met. each db.types (MeetConstraint db.types) (MeetConstraint db.types) (Selects (world_of db))
-      (λ n ps d is k meets _. given_of_met db.types legal.declared n ps d is k meets) v t h met met,
+      (λ n ps d is k meets _. selects db n (components_of ps) ∙ given_of_met db.types legal.declared n ps d is k meets) v t h met met,
 )
 
 pub stored_literals_have_their_values : StoredLiteralsHaveTheirValues
 stored_literals_have_their_values db s v t legal p h met =
-    literals_have_their_values (world_of db) s v t p h ((selectors_give_what_meets db v t legal h).1 met)
+    literals_have_their_values (world_of db) s v t p (subst (λ (scope : Scope). HasType scope.types v t) (sym (world_scope db)) h)
+    ((selectors_give_what_meets db v t legal h).1 met)

@@ -1,278 +1,242 @@
 -- In two databases that agree on the entries that an expression mentions, it has the same value.
-use Rattle.std.proofs.Common.{◌≡◌, ◌∙◌, ◌++◌, ℕ, Bool, true, false, Contains, List, [], ◌∷◌, Option, Some, None, append-nil, append_assoc, ap, fold, map, not, option_map, refl, subst, sym, true≢false}
-use Rattle.std.specs.Cmp.Lexicographic.{same_text}
+use Rattle.std.proofs.Common.{◌≡◌, ◌∙◌, ◌++◌, ℕ, Bool, true, false, Contains, List, [], ◌∷◌, Option, Some, None, ap, option_map, refl, subst, sym, true≢false}
 use Rattle.std.specs.List.{AllByRecursion}
-use Rattle.std.specs.Prelude.{IsTrue, if◌then◌else◌, is_some}
-use Rattle.std.proofs.lemmas.List.Sums.{fold-append}
-use Rattle.td_catalog.specs.Database.{BaseRelvar, Database, base_among, database_scope, known_base}
-use Rattle.td_catalog.specs.Legality.{EachAfter, IsConstrained}
-use Rattle.td_check.specs.Mentions.{relvars_in, types_in}
-use Rattle.td_check.specs.OperatorTypes.{if_type}
-use Rattle.td_check.specs.Scopes.{KnownRelvar, alone_with, relvar_in, scope_of}
-use Rattle.td_check.specs.StatementTypes.{constraint_fits}
-use Rattle.td_check.specs.StaticLaws.{UsersAllIn}
+use Rattle.std.specs.Prelude.{IsTrue, is_some}
+use Rattle.td_algebra.proofs.Lists.{contains_none}
+use Rattle.td_catalog.specs.Database.{BaseRelvar, Database, VirtualRelvar, base_named, database_scope, known_base, known_virtual, virtual_named}
+use Rattle.td_catalog.specs.Legality.{IsLegal}
+use Rattle.td_check.specs.Mentions.{relvars_in}
+use Rattle.td_check.specs.Scopes.{KnownRelvar, Scope, known_relvar}
+use Rattle.td_check.specs.StaticLaws.{AgreeAt, AgreeOn, UsersAllIn}
 use Rattle.td_check.specs.StaticTypes.{type_of}
-use Rattle.td_check.proofs.AgreementLaws.{only_one}
-use Rattle.td_check.proofs.OperatorLaws.{Fits, folded}
-use Rattle.td_check.proofs.StaticLaws.{mentions_are_known}
-use Rattle.td_check.proofs.UserTypeLaws.{users_closed}
-use Rattle.td_tree.specs.Outcomes.{Outcome, Valued, with_value}
-use Rattle.td_tree.specs.Trees.{Tree}
-use Rattle.td_types.specs.Headings.{heading_from}
-use Rattle.td_types.specs.TypeLists.{AreDeclared, DeclaredType, declared_at, is_declared}
-use Rattle.td_types.specs.Types.{Attribute, Heading, pack, same_name}
+use Rattle.td_check.proofs.StaticLaws.{depends, mentions_are_known, more_changes_nothing}
+use Rattle.td_tree.specs.Outcomes.{Valued}
+use Rattle.td_types.specs.TypeLists.{declared_at}
+use Rattle.td_types.specs.Types.{Type', pack, same_name}
 use Rattle.td_types.specs.Types as types
-use Rattle.td_types.proofs.DeclaredTypes.{declared_at-later, stands_in}
-use Rattle.td_types.proofs.KnownTypes.{declared_more}
-use Rattle.td_types.proofs.OutcomeLaws.{value_of_with}
-use Rattle.td_types.proofs.Ranks.{known_components}
-use Rattle.td_value.specs.KnownValues.{AreOfTypes}
-use Rattle.td_value.specs.Values.{Val, Parts, no_parts, part, Tuple, heading_of, pack_parts}
-use Rattle.td_value.proofs.KnownValues.{kept}
-use Rattle.td_eval.specs.DatabaseWorlds.{Selectors, selector_value, selectors_of, types_alone, with_selector, world_of, world_of_types}
+use Rattle.td_eval.specs.DatabaseWorlds.{selectors_of, world_of}
 use Rattle.td_eval.specs.OperatorValues.{relation_as_value}
-use Rattle.td_eval.specs.ValueLaws.{AgreeOnEntries, AgreeOnTypes, HasTheSame, SelectsTheSame, ValuesDependOnEntries}
-use Rattle.td_eval.specs.ValueTypes.{AreComponentsOf, with_tuples}
-use Rattle.td_eval.specs.Worlds.{World, selected}
-use Rattle.td_eval.proofs.LaterEntries.{AreLegal, IsValuedAlike, SelectThose, alike_in_more, all_select, first_legal, parts_shrunk, selector_same, stays, types_keep, types_more}
+use Rattle.td_eval.specs.TreeValues.{value_of}
+use Rattle.td_eval.specs.ValueLaws.{AgreeOnRelvars, AgreeOnTypes, HasTheSame, IsChecked, SelectsTheSame, ValuesDependOnEntries}
+use Rattle.td_eval.specs.ValueTypes.{DefinitionsAreWritten, IsWritten, with_tuples}
+use Rattle.td_eval.specs.Worlds.{World}
+use Rattle.td_eval.proofs.KnownRelvars.{NamedAt, front_has_more, fronted, known_as_base, known_as_virtual, known_in_more, named, named_at, named_behind, never_none, no_base, of_all, one_more_scope, relvar_behind, some_of, some_one, stays_behind, unknown_parts, virtual_at}
+use Rattle.td_eval.proofs.LaterTypes.{selected_by}
+use Rattle.td_eval.proofs.MentionedTypes.{all_alike}
 use Rattle.td_eval.proofs.MentionedValues.{values_depend_on_mentions}
-use Rattle.td_eval.proofs.TypedDatabases.{legal_databases_keep_scopes, some_same}
+use Rattle.td_eval.proofs.TypedDatabases.{all_at, database_keeps, fronts_keep}
+use Rattle.td_eval.proofs.WorldParts.{base_value, virtual_name, world_scope, world_selectors}
 
--- ---- the selectors of a list
+module _ (among seen : List ℕ → Bool) (first second : Database) (legal : IsLegal first) (other : IsLegal second)
+    (written : DefinitionsAreWritten first) (agree_types : AgreeOnTypes among first.types second.types)
+    (agree : AgreeOnRelvars among seen first second) where
+  -- the selectors of types that both have
+  select_alike : (w v : World) → w.selector ≡ selectors_of first.types first.types → v.selector ≡ selectors_of second.types second.types
+      → (n : List ℕ) → IsTrue (among n) → SelectsTheSame (database_scope first) w v n
+  select_alike w v e f n m d vs is h =
+      selected_by v (selectors_of second.types second.types) n vs f
+      ∙ all_alike among first.types second.types
+      (record { declared = legal.declared; ranked = legal.ranked; constrained = legal.constrained; written = written.constraints })
+      other.declared other.constrained agree_types n d m is vs h
+      ∙ sym (selected_by w (selectors_of first.types first.types) n vs e)
 
-abbrev none_yet : Selectors
-none_yet n = None
+  -- ---- relvars that both have
 
--- those of its front stay
-stays_on : (all front rest : List DeclaredType) (n : List ℕ) (f : List Val → Outcome Val) → all ≡ front ++ rest → selectors_of all front n ≡ Some f
-    → selectors_of all all n ≡ Some f
-stays_on all front rest n f e is =
-    ap (λ (xs : List DeclaredType). fold (with_selector all) none_yet xs n) e
-    ∙ ap (λ (s : Selectors). s n) (fold-append (with_selector all) none_yet front rest)
-    ∙ stays all rest (selectors_of all front) n f is
+  abbrev IsKnownIn : Scope → List ℕ → KnownRelvar → Type 0
+  IsKnownIn scope n r = (q : KnownRelvar) × (known_relvar scope n ≡ Some q) × (q.heading ≡ r.heading) × UsersAllIn among (pack r.heading)
 
-pub none_before : (all xs : List DeclaredType) (s : Selectors) (n : List ℕ) → s n ≡ None → declared_at n xs ≡ None → fold (with_selector all) s xs n ≡ None
-none_before all [] s n is k = is
-none_before all (x ∷ xs) s n is k = by_test (same_name x.name n) refl (none_before all xs (with_selector all s x) n)
-  where
-    by_test : (b : Bool) → same_name x.name n ≡ b
-        → (with_selector all s x n ≡ None → declared_at n xs ≡ None → fold (with_selector all) (with_selector all s x) xs n ≡ None)
-        → fold (with_selector all) (with_selector all s x) xs n ≡ None
-    by_test true named rest = let clash : Some x ≡ None = sym (rw named refl) ∙ k in absurd (cc)
-    by_test false named rest = rest (rw (with_selector, is, named) refl) (rw named at k)
-
--- a type that is declared has one
-some_before : (all xs : List DeclaredType) (s : Selectors) (n : List ℕ) → is_declared n xs ≡ true
-    → (f : List Val → Outcome Val) × (fold (with_selector all) s xs n ≡ Some f)
-some_before all [] s n k = absurd (true≢false (sym k))
-some_before all (x ∷ xs) s n k = by_option (s n) refl (some_before all xs (with_selector all s x) n)
-  where
-    by_test : s n ≡ None → (b : Bool) → same_name x.name n ≡ b
-        → (is_declared n xs ≡ true → (f : List Val → Outcome Val) × (fold (with_selector all) (with_selector all s x) xs n ≡ Some f))
-        → (f : List Val → Outcome Val) × (fold (with_selector all) (with_selector all s x) xs n ≡ Some f)
-    by_test is true named rest =
-        (selector_value (types_alone all s) x, stays all xs (with_selector all s x) n (selector_value (types_alone all s) x) (rw (with_selector, is, named) refl))
-    by_test is false named rest = rest (rw named at k)
-
-    by_option : (o : Option (List Val → Outcome Val)) → s n ≡ o
-        → (is_declared n xs ≡ true → (f : List Val → Outcome Val) × (fold (with_selector all) (with_selector all s x) xs n ≡ Some f))
-        → (f : List Val → Outcome Val) × (fold (with_selector all) (with_selector all s x) xs n ≡ Some f)
-    by_option (Some f) is rest = (f, stays all xs (with_selector all s x) n f (rw (with_selector, is) refl))
-    by_option None is rest = by_test is (same_name x.name n) refl rest
-
--- the first type of a name has the selector
-pub chosen : (all earlier later : List DeclaredType) (d : DeclaredType) (n : List ℕ) → all ≡ earlier ++ (d ∷ later) → declared_at n earlier ≡ None
-    → same_name d.name n ≡ true → (vs : List Val)
-    → selected (world_of_types all all) n vs ≡ selector_value (types_alone all (selectors_of all earlier)) d vs
-chosen all earlier later d n e none named vs =
-    let f = selector_value (types_alone all (selectors_of all earlier)) d in
-    let here : with_selector all (selectors_of all earlier) d n ≡ Some f = rw (with_selector, none_before all earlier none_yet n refl none, named) refl in
-    let there : selectors_of all all n ≡ Some f =
-    ap (λ (xs : List DeclaredType). fold (with_selector all) none_yet xs n) e
-    ∙ ap (λ (s : Selectors). s n) (fold-append (with_selector all) none_yet earlier (d ∷ later))
-    ∙ stays all later (with_selector all (selectors_of all earlier) d) n f here in
-    rw (selected, there) refl
-
-parts_grown : (ds more : List DeclaredType) (ps : Parts) (cs : List Attribute) → AreOfTypes ds ps cs → AreOfTypes (ds ++ more) ps cs
-parts_grown ds more no_parts [] h = tt
-parts_grown ds more no_parts (c ∷ cs) h = h
-parts_grown ds more (part v ps) [] h = h
-parts_grown ds more (part v ps) (c ∷ cs) h = (kept ds more v c.1 h.0, parts_grown ds more ps cs h.1)
-
--- the heading that a type's components make
-users_made : (among : List ℕ → Bool) (cs : List Attribute) → UsersAllIn among (pack cs) → UsersAllIn among (pack (heading_from cs))
-users_made among cs u = folded (users_closed among) [] cs tt (all_fit cs u)
-  where
-    all_fit : (xs : List Attribute) → UsersAllIn among (pack xs) → AllByRecursion (Fits (users_closed among)) xs
-    all_fit [] k = tt
-    all_fit (x ∷ xs) k = ((tt, k.0), all_fit xs k.1)
-
--- ---- types that both have
-
-module _ (among : List ℕ → Bool) (first second : List DeclaredType) (legal : AreLegal first) (declared : AreDeclared second)
-    (constrained : EachAfter IsConstrained second) (agree : AgreeOnTypes among first second) where
-  -- the selector of the name gives the same
-  abbrev SelectsAlike : List ℕ → DeclaredType → Type 0
-  SelectsAlike n d =
-      (vs : List Val) → AreComponentsOf first d vs → selected (world_of_types second second) n vs ≡ selected (world_of_types first first) n vs
-
-  abbrev FrontAlike : List DeclaredType → Type 0
-  FrontAlike front = (n : List ℕ) (d : DeclaredType) → IsTrue (among n) → declared_at n front ≡ Some d → SelectsAlike n d
-
-  module _ (front : List DeclaredType) (d : DeclaredType) (rest : List DeclaredType) (e : first ≡ front ++ (d ∷ rest)) (alike : FrontAlike front) where
-    abbrev wide : List DeclaredType
-    wide = front ++ (d ∷ [])
-
-    wide_legal : AreLegal wide
-    wide_legal = first_legal wide rest (subst AreLegal (e ∙ sym (append_assoc front (d ∷ []) rest)) legal)
-
-    front_legal : AreLegal front
-    front_legal = first_legal front (d ∷ []) wide_legal
-
-    in_first : (n : List ℕ) (b : DeclaredType) → declared_at n front ≡ Some b → declared_at n first ≡ Some b
-    in_first n b is = ap (declared_at n) e ∙ declared_more n front (d ∷ rest) b is
-
-    front_selects : SelectThose front (selectors_of first front)
-    front_selects = all_select front front_legal first (d ∷ rest) e
-
-    -- a selector of the front, where all of the first list are known
-    front_same : (n : List ℕ) (b : DeclaredType) (vs : List Val) → declared_at n front ≡ Some b → AreComponentsOf front b vs
-        → selected (world_of_types first first) n vs ≡ selected (world_of_types front front) n vs
-    front_same n b vs is h =
-        let y = front_selects.found n b is in
-        rw (selected, stays_on first front (d ∷ rest) n y.0 e y.1) (y.2 vs h)
-
-    -- the type itself, where it stands in the second list
-    module _ (n : List ℕ) (m : IsTrue (among n)) (at_first : declared_at n first ≡ Some d) (named : same_name d.name n ≡ true)
-        (earlier later : List DeclaredType) (at_second : second ≡ earlier ++ (d ∷ later)) where
-      abbrev there : World
-      there = types_alone second (selectors_of second earlier)
-
-      mentioned_earlier : (t : Tree) → d.constraint ≡ Some t → (k : List ℕ) → Contains (types_in t) k → is_declared k earlier ≡ true
-      mentioned_earlier t is k c =
-          let fits : with_value (type_of (alone_with (heading_from d.components) (scope_of earlier)) t) (λ x. if_type types.boolean x tt) ≡ Valued tt =
-          subst (λ o. constraint_fits (scope_of earlier) d.components o ≡ Valued tt) is (constrained earlier later d at_second) in
-          let asked = value_of_with (type_of (alone_with (heading_from d.components) (scope_of earlier)) t) (λ x. if_type types.boolean x tt) tt fits in
-          mentions_are_known.types (alone_with (heading_from d.components) (scope_of earlier)) t asked.0 k asked.1 c
-
-      mentioned_same : (t : Tree) → d.constraint ≡ Some t → (k : List ℕ) → Contains (types_in t) k → SelectsTheSame (scope_of front) (world_of_types front front) there k
-      mentioned_same t is k c b vs found h =
-          let x = some_before second earlier none_yet k (mentioned_earlier t is k c) in
-          let big : AreComponentsOf first b vs =
-          (h.0, subst (λ ds. AreOfTypes ds (pack_parts vs) b.components) (sym e) (parts_grown front (d ∷ rest) (pack_parts vs) b.components h.1)) in
-          let here : selected there k vs ≡ x.0 vs = rw (selected, x.1) refl in
-          let all : selected (world_of_types second second) k vs ≡ x.0 vs = rw (selected, stays_on second earlier (d ∷ later) k x.0 at_second x.1) refl in
-          here ∙ sym all ∙ alike k b (agree.constraints n d t m at_first is k c) found vs big ∙ front_same k b vs found h
-
-      valued_alike : IsValuedAlike front d wide_legal there
-      valued_alike u t is head c =
-          values_depend_on_mentions among (scope_of front) (world_of_types front front) there (u ∷ []) t (types_keep front front_legal) c
-          (record {
-            known = record {
-              entered = refl;
-              types = λ k b l found. agree.same k b l (in_first k b found);
-              closed = λ k b l found. agree.components k b l (in_first k b found);
-              entered_in = λ g has. subst (λ (i : Heading). UsersAllIn among (pack i)) (sym head ∙ only_one (heading_of u) g has)
-                  (users_made among d.components (agree.components n d m at_first));
-            };
-            types = λ k has. (agree.constraints n d t m at_first is k has, mentioned_same t is k has);
-            relvars = λ k has. absurd (true≢false (sym (mentions_are_known.relvars (with_tuples (scope_of front) (u ∷ [])) t k has)));
-          })
-
-      none_earlier : declared_at n earlier ≡ None
-      none_earlier = by_option (declared_at n earlier) refl
-        where
-          by_option : (o : Option DeclaredType) → declared_at n earlier ≡ o → declared_at n earlier ≡ None
-          by_option None is = is
-          by_option (Some b) is =
-              let there : is_declared d.name earlier ≡ true = ap (λ x. is_declared x earlier) (same_text d.name n (sym named)) ∙ ap is_some is in
-              absurd (true≢false (sym (ap not (sym there) ∙ (declared earlier later d at_second).new)))
-
-      new_alike : declared_at n front ≡ None → SelectsAlike n d
-      new_alike none vs h =
-          let declared_front = front_legal.declared in
-          let known = known_components front d.components (wide_legal.declared front [] d refl).known in
-          let small : AreComponentsOf front d vs =
-          (h.0, parts_shrunk front (d ∷ rest) declared_front (pack_parts vs) d.components known (subst (λ ds. AreOfTypes ds (pack_parts vs) d.components) e h.1)) in
-          chosen second earlier later d n at_second none_earlier named vs
-          ∙ selector_same front d wide_legal there valued_alike vs small
-          ∙ sym (selector_same front d wide_legal (types_alone first (selectors_of first front))
-          (alike_in_more front d wide_legal (types_alone first (selectors_of first front)) (types_more front (d ∷ rest) first (selectors_of first front) e front_selects)) vs small)
-          ∙ sym (chosen first front rest d n e none named vs)
-
-    one_more : FrontAlike wide
-    one_more n c m is = by_option (declared_at n front) refl
-      where
-        by_test : declared_at n front ≡ None → (b : Bool) → same_name d.name n ≡ b → (if b then Some d else None) ≡ Some c → SelectsAlike n c
-        by_test none false named at = absurd (cc)
-        by_test none true named at =
-            let same : d ≡ c = some_same front (d ∷ []) front_legal.declared d c at in
-            let at_wide : declared_at n wide ≡ Some d = is ∙ ap Some (sym same) in
-            let at_first : declared_at n first ≡ Some d =
-            ap (declared_at n) (e ∙ sym (append_assoc front (d ∷ []) rest)) ∙ declared_more n wide rest d at_wide in
-            let place = stands_in n second d (agree.same n d m at_first) in
-            subst (SelectsAlike n) same (new_alike n m at_first named place.0 place.1 place.2 none)
-
-        by_option : (o : Option DeclaredType) → declared_at n front ≡ o → SelectsAlike n c
-        by_option (Some b) found =
-            let same : b ≡ c = some_same front (d ∷ []) front_legal.declared b c (sym (declared_more n front (d ∷ []) b found) ∙ is) in
-            subst (SelectsAlike n) same (alike n b m found)
-        by_option None found = by_test found (same_name d.name n) refl (sym (declared_at-later n front (d ∷ []) (ap is_some found)) ∙ is)
-
-  walked : (front rest : List DeclaredType) → first ≡ front ++ rest → FrontAlike front → FrontAlike first
-  walked front [] e s = subst FrontAlike (sym (e ∙ append-nil front)) s
-  walked front (d ∷ rest) e s = walked (front ++ (d ∷ [])) rest (e ∙ sym (append_assoc front (d ∷ []) rest)) (one_more front d rest e s)
-
-  all_alike : FrontAlike first
-  all_alike = walked [] first refl (λ n d m is. absurd (cc))
-
--- ---- databases
-
-relvar_of_base : (n : List ℕ) (bs : List BaseRelvar) → relvar_in n (map known_base bs) ≡ option_map known_base (base_among n bs)
-relvar_of_base n [] = refl
-relvar_of_base n (b ∷ bs) = by_test (same_name b.name n) refl (relvar_of_base n bs)
-  where
-    by_test : (t : Bool) → same_name b.name n ≡ t → relvar_in n (map known_base bs) ≡ option_map known_base (base_among n bs)
-        → relvar_in n (map known_base (b ∷ bs)) ≡ option_map known_base (base_among n (b ∷ bs))
-    by_test true is rest = rw is refl
-    by_test false is rest = rw is rest
-
-same_relvar : (q r : KnownRelvar) → Some q ≡ Some r → q ≡ r
-same_relvar q r is = cc
-
-module _ (among : List ℕ → Bool) (first second : Database) (s : List Tuple) (e : Tree) (agree : AgreeOnEntries among first second s e) where
-  relvar_agrees : (n : List ℕ) → Contains (relvars_in (with_tuples (database_scope first) s) e) n
-      → HasTheSame among (database_scope first) (world_of first) (world_of second) n
-  relvar_agrees n c = by_option (base_among n first.bases) refl
+  seen_known : (n : List ℕ) → IsTrue (seen n) → AgreeAt among (database_scope first) (database_scope second) n
+  seen_known n m r is = by_base (base_named n first) refl
     where
-      known : is_some (relvar_in n (map known_base first.bases)) ≡ true
-      known = mentions_are_known.relvars (with_tuples (database_scope first) s) e n c
-
-      by_option : (o : Option BaseRelvar) → base_among n first.bases ≡ o → HasTheSame among (database_scope first) (world_of first) (world_of second) n
-      by_option None is = absurd (true≢false (sym known ∙ ap is_some (relvar_of_base n first.bases ∙ ap (option_map known_base) is)))
-      by_option (Some b) is =
-          let x = agree.relvars n b c is in
-          let found : relvar_in n (map known_base first.bases) ≡ Some (known_base b) = relvar_of_base n first.bases ∙ ap (option_map known_base) is in
-          let there : relvar_in n (map known_base second.bases) ≡ Some (known_base x.1) = relvar_of_base n second.bases ∙ ap (option_map known_base) x.2 in (
-            λ r at.
-                let same : known_base b ≡ r = same_relvar (known_base b) r (sym found ∙ at) in
-                subst (λ (q : KnownRelvar). (p : KnownRelvar) × (relvar_in n (map known_base second.bases) ≡ Some p) × (p.heading ≡ q.heading) × UsersAllIn among (pack q.heading))
-                same (known_base x.1, there, ap (λ q. q.heading) x.3, x.0),
-            ap (option_map (λ (b : BaseRelvar). Valued (relation_as_value b.relation))) x.2
-                ∙ ap (λ q. Some (Valued (relation_as_value q))) x.3
-                ∙ sym (ap (option_map (λ (b : BaseRelvar). Valued (relation_as_value b.relation))) is),
+      by_virtual : base_named n first ≡ None → (o : Option VirtualRelvar) → virtual_named n first ≡ o → IsKnownIn (database_scope second) n r
+      by_virtual none None found =
+          never_none r (known_relvar (database_scope first) n) is (known_as_virtual first n none ∙ ap (option_map known_virtual) found)
+      by_virtual none (Some v) found =
+          let x = agree.virtuals n v m found in
+          let same : known_virtual v ≡ r = some_one (known_virtual v) r (sym (known_as_virtual first n none ∙ ap (option_map known_virtual) found) ∙ is) in
+          subst (IsKnownIn (database_scope second) n) same (
+            known_virtual x.1,
+            known_as_virtual second n (no_base second n other.distinct (ap is_some x.2)) ∙ ap (option_map known_virtual) x.2,
+            x.3,
+            x.0,
           )
 
+      by_base : (o : Option BaseRelvar) → base_named n first ≡ o → IsKnownIn (database_scope second) n r
+      by_base None none = by_virtual none (virtual_named n first) refl
+      by_base (Some b) found =
+          let x = agree.bases n b m found in
+          let same : known_base b ≡ r = some_one (known_base b) r (sym (known_as_base first n b found) ∙ is) in
+          subst (IsKnownIn (database_scope second) n) same (known_base x.1, known_as_base second n x.1 x.2, ap (λ q. q.heading) x.3, x.0)
+
+  agree_scopes : AgreeOn among (database_scope first) (database_scope second)
+  agree_scopes =
+      record {
+        entered = refl;
+        types = agree_types.same;
+        closed = agree_types.components;
+        entered_in = λ h c. absurd (contains_none h c);
+      }
+
+  -- ---- values of virtual relvars
+
+  -- a relvar that is known with the first virtual relvars of the first database alone has the same value in both
+  abbrev AreAlike : List VirtualRelvar → Type 0
+  AreAlike front =
+      (n : List ℕ) → IsTrue (seen n) → is_some (known_relvar (database_scope (fronted first front)) n) ≡ true
+      → (world_of second).relvar n ≡ (world_of (fronted first front)).relvar n
+
+  -- the expression of a virtual relvar, where the earlier ones alone are known, in the first database and in the second
+  module _ (n : List ℕ) (m : IsTrue (seen n)) (v : VirtualRelvar) (found : virtual_named n first ≡ Some v) (front rest : List VirtualRelvar)
+      (e : first.virtuals ≡ front ++ (v ∷ rest)) (alike : AreAlike front) (u : VirtualRelvar) (tree : u.tree ≡ v.tree)
+      (place : NamedAt virtual_name n second.virtuals u) where
+    abbrev here : Scope
+    here = database_scope (fronted first front)
+
+    abbrev there : Scope
+    there = database_scope (fronted second place.0)
+
+    abbrev its_type : Type'
+    its_type = types.relation (pack v.heading)
+
+    typed_here : type_of here v.tree ≡ Valued its_type
+    typed_here = (legal.virtuals front rest v e).typed
+
+    in_first : (type_of (database_scope first) v.tree ≡ Valued its_type) × (relvars_in (database_scope first) v.tree ≡ relvars_in here v.tree)
+    in_first = more_changes_nothing here (database_scope first) v.tree its_type (front_has_more first front (v ∷ rest) e) typed_here
+
+    in_second : relvars_in (database_scope second) u.tree ≡ relvars_in there u.tree
+    in_second =
+        (more_changes_nothing there (database_scope second) u.tree (types.relation (pack u.heading))
+        (front_has_more second place.0 (u ∷ place.1) place.2) (other.virtuals place.0 place.1 u place.2).typed).1
+
+    across : relvars_in (database_scope second) v.tree ≡ relvars_in (database_scope first) v.tree
+    across =
+        (depends.of_tree among (database_scope first) (database_scope second) v.tree its_type agree_scopes (agree.types n v m found)
+        (λ k c. seen_known k (agree.relvars n v m found k c)) in_first.0).1
+
+    same_mentions : relvars_in here v.tree ≡ relvars_in there u.tree
+    same_mentions = sym in_first.1 ∙ sym across ∙ ap (relvars_in (database_scope second)) (sym tree) ∙ in_second
+
+    -- a relvar that it mentions
+    module _ (k : List ℕ) (c : Contains (relvars_in here v.tree) k) where
+      is_seen : IsTrue (seen k)
+      is_seen = agree.relvars n v m found k (subst (λ ns. Contains ns k) (sym in_first.1) c)
+
+      known_there : is_some (known_relvar there k) ≡ true
+      known_there = mentions_are_known.relvars there u.tree k (subst (λ ns. Contains ns k) same_mentions c)
+
+      agrees : AgreeAt among here there k
+      agrees r is =
+          let whole : known_relvar (database_scope first) k ≡ Some r =
+          ap (λ vs. known_relvar (database_scope (fronted first vs)) k) e ∙ known_in_more first front (v ∷ rest) k r is in
+          let q = seen_known k is_seen r whole in
+          let p = some_of (known_relvar there k) known_there in
+          let in_all : known_relvar (database_scope second) k ≡ Some p.0 =
+          ap (λ vs. known_relvar (database_scope (fronted second vs)) k) place.2 ∙ known_in_more second place.0 (u ∷ place.1) k p.0 p.1 in
+          let same : p.0 ≡ q.0 = some_one p.0 q.0 (sym in_all ∙ q.1) in
+          (q.0, p.1 ∙ ap Some same, q.2, q.3)
+
+      same_value : (world_of (fronted second place.0)).relvar k ≡ (world_of (fronted first front)).relvar k
+      same_value =
+          sym (ap (λ vs. (world_of (fronted second vs)).relvar k) place.2 ∙ stays_behind second place.0 (u ∷ place.1) k known_there)
+          ∙ alike k is_seen (mentions_are_known.relvars here v.tree k c)
+
+      has_same : HasTheSame among here (world_of (fronted first front)) (world_of (fronted second place.0)) k
+      has_same = (subst (λ (scope : Scope). AgreeAt among here scope k) (sym (world_scope (fronted second place.0))) agrees, same_value)
+
+    checked : IsChecked here [] v.tree
+    checked =
+        record {
+          tuples = tt;
+          written = all_at (λ (x : VirtualRelvar). IsWritten x.tree) front v rest (subst (AllByRecursion (λ (x : VirtualRelvar). IsWritten x.tree)) e written.virtuals);
+          typed = (its_type, typed_here);
+        }
+
+    value_alike : value_of (world_of (fronted second place.0)) [] u.tree ≡ value_of (world_of (fronted first front)) [] v.tree
+    value_alike =
+        ap (value_of (world_of (fronted second place.0)) []) tree
+        ∙ values_depend_on_mentions among here (world_of (fronted first front)) (world_of (fronted second place.0)) [] v.tree
+        (fronts_keep first legal written front (v ∷ rest) e) checked
+        (record {
+          known = record {
+            entered = refl;
+            types = λ k d a is. ap (λ (scope : Scope). declared_at k scope.types) (world_scope (fronted second place.0)) ∙ agree_types.same k d a is;
+            closed = agree_types.components;
+            entered_in = λ h c. absurd (contains_none h c);
+          };
+          types = λ k c. (
+            agree.types n v m found k c,
+            select_alike (world_of (fronted first front)) (world_of (fronted second place.0)) (world_selectors (fronted first front))
+                (world_selectors (fronted second place.0)) k (agree.types n v m found k c),
+          );
+          relvars = has_same;
+        })
+
+  -- ---- one virtual relvar after the other
+
+  none_alike : AreAlike []
+  none_alike n m known = by_base (base_named n first) refl
+    where
+      by_base : (o : Option BaseRelvar) → base_named n first ≡ o → (world_of second).relvar n ≡ (world_of (fronted first [])).relvar n
+      by_base None none = absurd (true≢false (sym known ∙ ap is_some (known_as_virtual (fronted first []) n none)))
+      by_base (Some b) is =
+          let x = agree.bases n b m is in
+          base_value second n x.1 x.2 ∙ ap (λ q. Some (Valued (relation_as_value q))) x.3 ∙ sym (base_value (fronted first []) n b is)
+
+  module _ (front rest : List VirtualRelvar) (v : VirtualRelvar) (e : first.virtuals ≡ front ++ (v ∷ rest)) (alike : AreAlike front)
+      (n : List ℕ) (m : IsTrue (seen n)) where
+    -- the virtual relvar itself
+    itself_alike : base_named n first ≡ None → named virtual_name n front ≡ None → same_name v.name n ≡ true
+        → (world_of second).relvar n ≡ (world_of (fronted first (front ++ (v ∷ [])))).relvar n
+    itself_alike none new same =
+        let found : virtual_named n first ≡ Some v =
+        ap (named virtual_name n) e ∙ named_behind virtual_name n front (v ∷ rest) new ∙ rw same refl in
+        let x = agree.virtuals n v m found in
+        let place = named_at virtual_name n second.virtuals x.1 x.2 in
+        virtual_at second n x.1 (no_base second n other.distinct (ap is_some x.2)) place
+        ∙ ap Some (value_alike n m v found front rest e alike x.1 x.4 place)
+        ∙ sym (virtual_at (fronted first (front ++ (v ∷ []))) n v none (front, [], refl, new, same))
+
+    next_alike : is_some (known_relvar (database_scope (fronted first (front ++ (v ∷ [])))) n) ≡ true
+        → (world_of second).relvar n ≡ (world_of (fronted first (front ++ (v ∷ [])))).relvar n
+    next_alike known = by_option (known_relvar (database_scope (fronted first front)) n) refl
+      where
+        by_test : known_relvar (database_scope (fronted first front)) n ≡ None → (b : Bool) → same_name v.name n ≡ b
+            → (world_of second).relvar n ≡ (world_of (fronted first (front ++ (v ∷ [])))).relvar n
+        by_test none true same = let parts = unknown_parts (fronted first front) n none in itself_alike parts.0 parts.1 same
+        by_test none false apart =
+            let missing : known_relvar (database_scope (fronted first (front ++ (v ∷ [])))) n ≡ None =
+            ap (λ (scope : Scope). known_relvar scope n) (one_more_scope first front v)
+            ∙ relvar_behind n (database_scope (fronted first front)).relvars (known_virtual v ∷ []) none ∙ rw apart refl in
+            absurd (true≢false (sym known ∙ ap is_some missing))
+
+        by_option : (o : Option KnownRelvar) → known_relvar (database_scope (fronted first front)) n ≡ o
+            → (world_of second).relvar n ≡ (world_of (fronted first (front ++ (v ∷ [])))).relvar n
+        by_option None none = by_test none (same_name v.name n) refl
+        by_option (Some r) is = alike n m (ap is_some is) ∙ sym (stays_behind first front (v ∷ []) n (ap is_some is))
+
+  relvars_alike : AreAlike first.virtuals
+  relvars_alike = of_all AreAlike first.virtuals none_alike next_alike
+
 pub values_depend_on_entries : ValuesDependOnEntries
-values_depend_on_entries among first second s e legal other written checked agree =
-    values_depend_on_mentions among (database_scope first) (world_of first) (world_of second) s e (legal_databases_keep_scopes first legal written) checked
+values_depend_on_entries among seen first second s e legal other written checked agree =
+    values_depend_on_mentions among (database_scope first) (world_of first) (world_of second) s e (database_keeps first legal written) checked
     (record {
-      known = record { entered = refl; types = agree.types.same; closed = agree.types.components; entered_in = agree.tuples };
+      known = record {
+        entered = refl;
+        types = λ n d m is. ap (λ (scope : Scope). declared_at n scope.types) (world_scope second) ∙ agree.types.same n d m is;
+        closed = agree.types.components;
+        entered_in = agree.tuples;
+      };
       types = λ n c. (
         agree.mentioned n c,
-        λ d vs is h. all_alike among first.types second.types
-            (record { declared = legal.declared; ranked = legal.ranked; constrained = legal.constrained; written = written })
-            other.declared other.constrained agree.types n d (agree.mentioned n c) is vs h,
+        select_alike among seen first second legal other written agree.types agree.relvars (world_of first) (world_of second)
+            (world_selectors first) (world_selectors second) n (agree.mentioned n c),
       );
-      relvars = relvar_agrees among first second s e agree;
+      relvars = λ n c. (
+        subst (λ (scope : Scope). AgreeAt among (database_scope first) scope n) (sym (world_scope second))
+            (seen_known among seen first second legal other written agree.types agree.relvars n (agree.mentioned_relvars n c)),
+        relvars_alike among seen first second legal other written agree.types agree.relvars n (agree.mentioned_relvars n c)
+            (mentions_are_known.relvars (with_tuples (database_scope first) s) e n c),
+      );
     })

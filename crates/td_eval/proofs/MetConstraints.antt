@@ -13,9 +13,10 @@ use Rattle.td_eval.specs.LiteralValues.{EachInFields, EachInParts, EachInRows, E
 use Rattle.td_eval.specs.OperatorValues.{components_of}
 use Rattle.td_eval.specs.ValueTypes.{AreComponentsOf}
 use Rattle.td_eval.specs.Worlds.{selected}
-use Rattle.td_eval.proofs.LaterEntries.{AreLegal, selectors_stay}
-use Rattle.td_eval.proofs.LiteralValues.{each, met_of_given, own_selector, packed_components, selector_gives, selectors_give_what_meets}
-use Rattle.td_eval.proofs.MentionedEntries.{none_before}
+use Rattle.td_eval.proofs.LaterEntries.{selectors_stay}
+use Rattle.td_eval.proofs.LaterTypes.{AreLegal}
+use Rattle.td_eval.proofs.LiteralValues.{each, met_of_given, own_selector, packed_components, selector_gives, selectors_give_what_meets, selects}
+use Rattle.td_eval.proofs.MentionedTypes.{none_before}
 use Rattle.td_eval.proofs.OpElements.{components_unpacked}
 
 -- ---- what a selector gives
@@ -44,7 +45,8 @@ module _ (ds : List DeclaredType) (declared : AreDeclared ds) (n : List ℕ) (vs
 
 pub what_selectors_give_meets : WhatSelectorsGiveMeets
 what_selectors_give_meets db n vs v legal gives =
-    (is_of_components db.types legal.declared n vs v gives, meets db.types legal.declared n vs v gives)
+    let given = sym (selects db n vs) ∙ gives in
+    (is_of_components db.types legal.declared n vs v given, meets db.types legal.declared n vs v given)
 
 -- ---- types that stand behind
 

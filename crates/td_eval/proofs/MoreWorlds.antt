@@ -1,12 +1,12 @@
 -- In a world that has more, an expression that has a type has the same value.
-use Rattle.std.proofs.Common.{◌≡◌, ◌∙◌, ◌++◌, ℕ, Bool, true, false, List, [], ◌∷◌, Some, ap, refl}
+use Rattle.std.proofs.Common.{◌≡◌, ◌∙◌, ◌++◌, ℕ, Bool, true, List, Some, ap, refl}
 use Rattle.std.specs.Prelude.{is_some, IsTrue}
-use Rattle.td_check.specs.Scopes.{KnownRelvar, Scope, known_relvar, relvar_in}
+use Rattle.td_check.specs.Scopes.{KnownRelvar, Scope, known_relvar}
 use Rattle.td_check.specs.StaticLaws.{AgreeAt, AgreeOn, UsersAllIn, UsersIn}
 use Rattle.td_check.proofs.StaticLaws.{mentions_are_known}
 use Rattle.td_tree.specs.Trees.{Tree}
 use Rattle.td_types.specs.TypeLists.{DeclaredType, declared_at}
-use Rattle.td_types.specs.Types.{Attrs, Type', attr, boolean, char, integer, no_attrs, pack, relation, same_name, tuple, user}
+use Rattle.td_types.specs.Types.{Attrs, Type', attr, boolean, char, integer, no_attrs, pack, relation, tuple, user}
 use Rattle.td_types.proofs.KnownTypes.{declared_more}
 use Rattle.td_value.specs.Values.{Tuple}
 use Rattle.td_eval.specs.TreeValues.{value_of}
@@ -16,7 +16,7 @@ use Rattle.td_eval.specs.Worlds.{World, scope_among}
 use Rattle.td_eval.proofs.MentionedValues.{values_depend_on_mentions}
 
 -- every name
-abbrev any : List ℕ → Bool
+abbrev pub any : List ℕ → Bool
 any n = true
 
 mutual
@@ -28,23 +28,14 @@ mutual
   any_users (tuple xs) = any_users_all xs
   any_users (relation xs) = any_users_all xs
 
-  any_users_all : (xs : Attrs) → UsersAllIn any xs
+  pub any_users_all : (xs : Attrs) → UsersAllIn any xs
   any_users_all no_attrs = tt
   any_users_all (attr n t xs) = (any_users t, any_users_all xs)
 
-relvar_more : (n : List ℕ) (rs more : List KnownRelvar) (r : KnownRelvar) → relvar_in n rs ≡ Some r → relvar_in n (rs ++ more) ≡ Some r
-relvar_more n [] more r e = absurd (cc)
-relvar_more n (q ∷ rs) more r e = by_name (same_name q.name n) refl (relvar_more n rs more r)
-  where
-    by_name : (b : Bool) → same_name q.name n ≡ b → (relvar_in n rs ≡ Some r → relvar_in n (rs ++ more) ≡ Some r)
-        → relvar_in n (q ∷ (rs ++ more)) ≡ Some r
-    by_name true is rest = rw is (rw is at e)
-    by_name false is rest = rw is (rest (rw is at e))
-
--- the second world has what the first has of the scope, and knows more types and relvars behind
+-- the second world has what the first has of the scope, knows more types behind, and may know more relvars
 pub record HasMoreThan (scope : Scope) (first second : World) : Type 0 where
   pub types : (more : List DeclaredType) × (second.scope.types ≡ scope.types ++ more)
-  pub relvars : (more : List KnownRelvar) × (second.scope.relvars ≡ scope.relvars ++ more)
+  pub relvars : (n : List ℕ) (r : KnownRelvar) → known_relvar scope n ≡ Some r → known_relvar second.scope n ≡ Some r
   pub values : (n : List ℕ) → IsTrue (is_some (known_relvar scope n)) → second.relvar n ≡ first.relvar n
   pub selectors : (n : List ℕ) → SelectsTheSame scope first second n
 
@@ -60,7 +51,7 @@ module _ (scope : Scope) (first second : World) (h : HasMoreThan scope first sec
 
   relvars_more : (n : List ℕ) → AgreeAt any scope second.scope n
   relvars_more n r e =
-      (r, ap (relvar_in n) h.relvars.1 ∙ relvar_more n scope.relvars h.relvars.0 r e, refl, any_users_all (pack r.heading))
+      (r, h.relvars n r e, refl, any_users_all (pack r.heading))
 
   pub same_in_more : (s : List Tuple) (e : Tree) → KeepsScope first scope → IsChecked scope s e → value_of second s e ≡ value_of first s e
   same_in_more s e k c =

@@ -5,14 +5,16 @@ use Rattle.std.specs.List.{AllByRecursion, zip}
 use Rattle.std.specs.Prelude.{⊤, is_some}
 use Rattle.td_algebra.proofs.Lists.{contains_none}
 use Rattle.td_algebra.proofs.Entries.{names-heading}
-use Rattle.td_catalog.specs.Database.{BaseRelvar, base_among, known_base}
-use Rattle.td_catalog.specs.Legality.{EachAfter, IsBase, IsConstrained}
+use Rattle.td_catalog.specs.Database.{BaseRelvar, Database, VirtualRelvar, base_among, database_scope, known_base, known_virtual}
+use Rattle.td_catalog.specs.Legality.{EachAfter, IsBase, IsConstrained, IsLegal, IsVirtual}
 use Rattle.td_check.specs.OperatorTypes.{are_types_of, if_type, same_type}
-use Rattle.td_check.specs.Scopes.{KnownRelvar, alone_with, relvar_in, scope_of}
+use Rattle.td_check.specs.declared.scope.Kind.TheVariants as kinds
+use Rattle.td_check.specs.Scopes.{KnownRelvar, Scope, alone_with, known_relvar, relvar_in, scope_of, with_known_relvar}
 use Rattle.td_check.specs.StatementTypes.{constraint_fits}
 use Rattle.td_check.specs.StaticLaws.{IsKnownHeading}
 use Rattle.td_check.specs.StaticTypes.{type_of}
 use Rattle.td_check.proofs.ScopeLaws.{scopes_are_kept}
+use Rattle.td_check.proofs.StaticLaws.{types_are_known}
 use Rattle.td_tree.specs.declared.cause.Cause.TheVariants as causes
 use Rattle.td_tree.specs.Names.{IsName}
 use Rattle.td_tree.specs.Outcomes.{Outcome, Valued, Refused, value_if, with_value}
@@ -31,15 +33,17 @@ use Rattle.td_value.specs.Values.{Val, boolean, integer, char, user, tuple, rela
 use Rattle.td_value.specs.Values as values
 use Rattle.td_value.specs.Views.{user_view}
 use Rattle.td_value.proofs.KnownValues.{has_its_type, kept}
-use Rattle.td_eval.specs.DatabaseWorlds.{Selectors, constraint_value, selector_value, selectors_of, types_alone, with_selector}
+use Rattle.td_eval.specs.DatabaseWorlds.{Selectors, constraint_value, selector_value, selectors_of, types_alone, with_selector, with_virtual_value, world_of}
 use Rattle.td_eval.specs.OperatorValues.{relation_as_value, truth_value}
 use Rattle.td_eval.specs.TreeValues.{value_of}
-use Rattle.td_eval.specs.ValueTypes.{AreComponentsOf, ConstraintsAreWritten, IsOfType, IsWritten, KeepsScope, KeepsType, LegalDatabasesKeepScopes}
+use Rattle.td_eval.specs.ValueTypes.{AreComponentsOf, ConstraintsAreWritten, DefinitionsAreWritten, IsOfType, IsWritten, KeepsScope, KeepsType, LegalDatabasesKeepScopes}
 use Rattle.td_eval.specs.Worlds.{World}
 use Rattle.td_eval.proofs.KeepsGathered.{Keeps, all_from_members, one_dynamic}
+use Rattle.td_eval.proofs.KnownRelvars.{fronted, never_none, of_front, one_more_scope, one_more_world, relvar_behind, relvar_more, some_one, unknown_lacks}
 use Rattle.td_eval.proofs.TypedRows.{IsTypedEntry, made_typed, own_type}
 use Rattle.td_eval.proofs.TypedTrees.{values_keep_types}
 use Rattle.td_eval.proofs.TypedValues.{truth_of, type_is}
+use Rattle.td_eval.proofs.WorldParts.{world_scope}
 
 -- ---- a value of a type that is known to the first types is one where they alone are declared
 
@@ -167,7 +171,7 @@ record AreSelectors (front : List DeclaredType) (selectors : Selectors) : Type 0
       × ((vs : List Val) → AreComponentsOf front d vs → KeepsType front (Valued (types.user n)) (f vs))
   missing : (n : List ℕ) → declared_at n front ≡ None → selectors n ≡ None
 
-all_at : {A : Type 0} (P : A → Type 0) (front : List A) (x : A) (rest : List A) → AllByRecursion P (front ++ (x ∷ rest)) → P x
+pub all_at : {A : Type 0} (P : A → Type 0) (front : List A) (x : A) (rest : List A) → AllByRecursion P (front ++ (x ∷ rest)) → P x
 all_at P [] x rest h = h.0
 all_at P (y ∷ front) x rest h = all_at P front x rest h.1
 
@@ -272,24 +276,98 @@ base_known ds n (b ∷ bs) r h e = by_test (same_name b.name n) refl (base_known
     by_test true is rest = let found : Some (known_base b) ≡ Some r = sym (rw is refl) ∙ e in let same : known_base b ≡ r = cc in (b, rw is refl, same, h.0)
     by_test false is rest = let x = rest (rw is at e) in (x.0, rw is x.1, x.2, x.3)
 
+-- ---- virtual relvars
+
+-- the scope where these headings are in hand
+abbrev in_hand : Scope → List Heading → Scope
+in_hand scope hs = record { types = scope.types; relvars = scope.relvars; constraints = scope.constraints; entered = hs }
+
+-- one more, of an expression that has its relation type there, in a world where what is not known has no value
+module _ (w : World) (scope : Scope) (v : VirtualRelvar) (k : KeepsScope w scope) (alone : scope.entered ≡ [])
+    (unknown : (n : List ℕ) → known_relvar scope n ≡ None → w.relvar n ≡ None) (is : IsVirtual scope v) (written : IsWritten v.tree) where
+  abbrev wider : Scope
+  wider = with_known_relvar v.name kinds.Virtual v.heading scope
+
+  abbrev HasItsValue : List ℕ → KnownRelvar → Type 0
+  HasItsValue n r = (o : Outcome Val) × ((with_virtual_value w v).relvar n ≡ Some o) × KeepsType scope.types (Valued (types.relation (pack r.heading))) o
+
+  its_value : KeepsType scope.types (Valued (types.relation (pack v.heading))) (value_of w [] v.tree)
+  its_value =
+      subst (λ o. KeepsType scope.types o (value_of w [] v.tree))
+      (ap (λ hs. type_of (in_hand scope hs) v.tree) (sym alone) ∙ is.typed) (values_keep_types w scope [] v.tree k tt written)
+
+  one_more_virtual : KeepsScope (with_virtual_value w v) wider
+  one_more_virtual =
+      record {
+        scope_is = scopes_are_kept.one_relvar v.name kinds.Virtual v.heading scope k.scope_is known_heading;
+        types = k.types;
+        known = ap (λ ks. ks ++ (known_virtual v ∷ [])) k.known;
+        relvars = λ n r e. by_option n r e (known_relvar scope n) refl;
+        selectors = k.selectors;
+      }
+    where
+      known_heading : IsKnownHeading scope.types v.heading
+      known_heading = ((types_are_known.of_tree scope v.tree (types.relation (pack v.heading)) k.scope_is written.0 is.typed).0, is.heading.known)
+
+      new : (n : List ℕ) (r : KnownRelvar) → known_relvar scope n ≡ None → known_relvar wider n ≡ Some r → (b : Bool) → same_name v.name n ≡ b → HasItsValue n r
+      new n r none e true named =
+          let same : known_virtual v ≡ r = some_one (known_virtual v) r (sym (relvar_behind n scope.relvars (known_virtual v ∷ []) none ∙ rw named refl) ∙ e) in
+          subst (HasItsValue n) same (value_of w [] v.tree, rw (unknown n none, named) refl, its_value)
+      new n r none e false named =
+          never_none r (known_relvar wider n) e (relvar_behind n scope.relvars (known_virtual v ∷ []) none ∙ rw named refl)
+
+      by_option : (n : List ℕ) (r : KnownRelvar) → known_relvar wider n ≡ Some r → (o : Option KnownRelvar) → known_relvar scope n ≡ o → HasItsValue n r
+      by_option n r e None none = new n r none e (same_name v.name n) refl
+      by_option n r e (Some q) there =
+          let same : q ≡ r = some_one q r (sym (relvar_more n scope.relvars (known_virtual v ∷ []) q there) ∙ e) in
+          let x = k.relvars n q there in
+          subst (HasItsValue n) same (x.0, rw x.1 refl, x.2)
+
+-- ---- databases
+
+module _ (db : Database) (legal : IsLegal db) (written : DefinitionsAreWritten db) where
+  abbrev FrontKeeps : List VirtualRelvar → Type 0
+  FrontKeeps front = KeepsScope (world_of (fronted db front)) (database_scope (fronted db front))
+
+  bases_keep : FrontKeeps []
+  bases_keep =
+      record {
+        scope_is = record {
+          declared = legal.declared;
+          relvars = λ n r e.
+              let b = base_known db.types n db.bases r legal.bases (of_bases n r e) in
+              subst (λ (q : KnownRelvar). IsKnownHeading db.types q.heading) b.2 (b.3.relation.2, b.3.heading.known);
+          entered = λ h c. absurd (contains_none h c);
+        };
+        types = ([], sym (append-nil db.types));
+        known = refl;
+        relvars = λ n r e.
+            let b = base_known db.types n db.bases r legal.bases (of_bases n r e) in (
+              Valued (relation_as_value b.0.relation),
+              rw b.1 refl,
+              subst (λ (q : KnownRelvar). KeepsType db.types (Valued (types.relation (pack q.heading))) (Valued (relation_as_value b.0.relation))) b.2
+                  (b.3.relation, (refl, b.3.heading.known, b.3.typed)),
+            );
+        selectors = (all_selectors db.types legal.declared legal.constrained written.constraints).found;
+      }
+    where
+      of_bases : (n : List ℕ) (r : KnownRelvar) → relvar_in n (map known_base db.bases ++ []) ≡ Some r → relvar_in n (map known_base db.bases) ≡ Some r
+      of_bases n r e = ap (relvar_in n) (sym (append-nil (map known_base db.bases))) ∙ e
+
+  next_keeps : (front rest : List VirtualRelvar) (v : VirtualRelvar) → db.virtuals ≡ front ++ (v ∷ rest) → FrontKeeps front → FrontKeeps (front ++ (v ∷ []))
+  next_keeps front rest v e k =
+      subst (λ w. KeepsScope w (database_scope (fronted db (front ++ (v ∷ []))))) (sym (one_more_world db front v))
+      (subst (KeepsScope (with_virtual_value (world_of (fronted db front)) v)) (sym (one_more_scope db front v))
+      (one_more_virtual (world_of (fronted db front)) (database_scope (fronted db front)) v k refl (unknown_lacks (fronted db front))
+      (legal.virtuals front rest v e) (all_at (λ (u : VirtualRelvar). IsWritten u.tree) front v rest (subst (AllByRecursion (λ (u : VirtualRelvar). IsWritten u.tree)) e written.virtuals))))
+
+  -- where the first virtual relvars alone are known
+  pub fronts_keep : (front rest : List VirtualRelvar) → db.virtuals ≡ front ++ rest → FrontKeeps front
+  fronts_keep = of_front FrontKeeps db.virtuals bases_keep next_keeps
+
+  pub database_keeps : KeepsScope (world_of db) (database_scope db)
+  database_keeps = fronts_keep db.virtuals [] (sym (append-nil db.virtuals))
+
 pub legal_databases_keep_scopes : LegalDatabasesKeepScopes
 legal_databases_keep_scopes db legal written =
-    record {
-      scope_is = record {
-        declared = legal.declared;
-        relvars = λ n r e.
-            let b = base_known db.types n db.bases r legal.bases e in
-            subst (λ (q : KnownRelvar). IsKnownHeading db.types q.heading) b.2 (b.3.relation.2, b.3.heading.known);
-        entered = λ h c. absurd (contains_none h c);
-      };
-      types = ([], sym (append-nil db.types));
-      known = refl;
-      relvars = λ n r e.
-          let b = base_known db.types n db.bases r legal.bases e in (
-            Valued (relation_as_value b.0.relation),
-            rw b.1 refl,
-            subst (λ (q : KnownRelvar). KeepsType db.types (Valued (types.relation (pack q.heading))) (Valued (relation_as_value b.0.relation))) b.2
-                (b.3.relation, (refl, b.3.heading.known, b.3.typed)),
-          );
-      selectors = (all_selectors db.types legal.declared legal.constrained written).found;
-    }
+    subst (KeepsScope (world_of db)) (sym (world_scope db)) (database_keeps db legal written)

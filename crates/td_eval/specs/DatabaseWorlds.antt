@@ -1,11 +1,13 @@
 -- What the names of a database mean (Tutorial D's). A type's constraint is valued where the selectors of the types before it
--- alone are known, no relvar is, and its components are the one tuple in hand.
+-- alone are known, no relvar is, and its components are the one tuple in hand. A virtual relvar is valued where the types, the
+-- base relvars and the virtual relvars before it alone are known, and no tuple is in hand.
 use Rattle.std.specs.Prelude.{ℕ, Bool, true, List, [], ◌∷◌, fold, map, option_map, Option, Some, None, if◌then◌else◌}
 use Rattle.std.specs.List.{zip}
 use Rattle.std.specs.Option.{option_or}
-use Rattle.td_catalog.specs.Database.{Database, base_named, database_scope}
+use Rattle.td_catalog.specs.Database.{Database, VirtualRelvar, base_named, database_scope, with_virtuals}
 use Rattle.td_check.specs.OperatorTypes.{are_types_of}
-use Rattle.td_check.specs.Scopes.{scope_of}
+use Rattle.td_check.specs.Scopes.{scope_of, with_known_relvar}
+use Rattle.td_check.specs.declared.scope.Kind.TheVariants as kinds
 use Rattle.td_eval.specs.OperatorValues.{relation_as_value, truth_value}
 use Rattle.td_eval.specs.TreeValues.{value_of}
 use Rattle.td_eval.specs.Worlds.{World}
@@ -55,10 +57,19 @@ world_of_types ds first = types_alone ds (selectors_of ds first)
 
 -- ---- databases
 
--- each base relvar has the relation that it holds
+-- each base relvar has the relation that it holds, and no virtual relvar is known
+abbrev pub world_of_bases : Database → World
+world_of_bases db =
+    record { scope = database_scope (with_virtuals [] db); relvar = λ n. option_map (λ b. Valued (relation_as_value b.relation)) (base_named n db); selector = selectors_of db.types db.types }
+
+-- one more virtual relvar: its value is that of its expression where the earlier ones alone are known and no tuple is in hand
+abbrev pub with_virtual_value : World → VirtualRelvar → World
+with_virtual_value w v =
+    record { scope = with_known_relvar v.name kinds.Virtual v.heading w.scope; relvar = λ n. option_or (w.relvar n) (if same_name v.name n then Some (value_of w [] v.tree) else None); selector = w.selector }
+
+-- the virtual relvars, in their order
 abbrev pub world_of : Database → World
-world_of db =
-    record { scope = database_scope db; relvar = λ n. option_map (λ b. Valued (relation_as_value b.relation)) (base_named n db); selector = selectors_of db.types db.types }
+world_of db = fold with_virtual_value (world_of_bases db) db.virtuals
 
 -- the world in which the relvar of a name has another relation
 abbrev pub with_other : Option (List ℕ × Relation) → World → World

@@ -1,24 +1,25 @@
 -- What a value depends on, and what it does not depend on: laws (Tutorial D's; the causes are this project's own).
-use Rattle.std.specs.Prelude.{◌≡◌, ◌↔◌, ℕ, Bool, List, ◌++◌, filter, map, Some, IsTrue}
+use Rattle.std.specs.Prelude.{◌≡◌, ◌↔◌, ℕ, Bool, List, ◌++◌, filter, map, not, Some, IsTrue}
 use Rattle.std.specs.List.{AllByRecursion, Contains}
 use Rattle.std.specs.List.Sorted.{IsPermutation}
-use Rattle.td_catalog.specs.Database.{BaseRelvar, Database, base_named, database_scope, with_base, with_declared}
+use Rattle.td_catalog.specs.Database.{BaseRelvar, Database, NamedConstraint, VirtualRelvar, base_named, database_scope, knows_relvar, relvar_names, virtual_named, with_base, with_constraint, with_declared, with_virtual, without_constraint, without_relvar, without_type}
 use Rattle.td_catalog.specs.Legality.{IsLegal}
 use Rattle.td_check.specs.Mentions.{relvars_in, types_in}
 use Rattle.td_check.specs.Scopes.{Scope}
-use Rattle.td_check.specs.StaticLaws.{AgreeAt, AgreeOn, GivesNames, IsScope, UsersAllIn}
+use Rattle.td_check.specs.StaticLaws.{AgreeAt, AgreeOn, GivesNames, IsScope, UsersAllIn, is_other}
 use Rattle.td_check.specs.StaticTypes.{type_of}
 use Rattle.td_eval.specs.AggregateValues.{Summand, aggregated_value, summarized_value}
 use Rattle.td_eval.specs.DatabaseWorlds.{world_of}
 use Rattle.td_eval.specs.OperatorValues.{extended_value, is_true, of_relation, restricted_value, truth_value}
 use Rattle.td_eval.specs.TreeValues.{value_of}
-use Rattle.td_eval.specs.ValueTypes.{AreComponentsOf, ConstraintsAreWritten, IsTypedTuple, IsWritten, KeepsScope, with_tuples}
+use Rattle.td_eval.specs.ValueTypes.{AreComponentsOf, DefinitionsAreWritten, IsTypedTuple, IsWritten, KeepsScope, with_tuples}
 use Rattle.td_eval.specs.Worlds.{World, scope_among, selected}
 use Rattle.td_group.specs.Aggregates.{aggregate}
 use Rattle.td_group.specs.declared.aggregates.Agg.{Agg}
 use Rattle.td_tree.specs.declared.cause.Cause.{Cause}
 use Rattle.td_tree.specs.Outcomes.{Has, Outcome, Valued, Refused, gathered, least, with_value}
 use Rattle.td_tree.specs.Trees.{Attributes, Tree, postfix, summarize_per, summarize_by, Summaries, project}
+use Rattle.td_types.specs.Headings.{are_distinct}
 use Rattle.td_types.specs.TypeLists.{DeclaredType, declared_at}
 use Rattle.td_types.specs.Types.{Attribute, Heading, Type', pack}
 use Rattle.td_value.specs.Values.{Val, HaveSameMembers, IsRelation, Relation, Tuple, heading_of, relation_of}
@@ -66,38 +67,79 @@ pub record AgreeOnTypes (among : List ℕ → Bool) (first second : List Declare
       (n : List ℕ) (d : DeclaredType) (e : Tree) → IsTrue (among n) → declared_at n first ≡ Some d → d.constraint ≡ Some e
       → (m : List ℕ) → Contains (types_in e) m → IsTrue (among m)
 
+-- the second database has the relvars of the first among these, the base ones with the same relations, which are made of
+-- such types, and the virtual ones with the same headings and expressions, which are made of such types, and mention no other
+-- types and no other relvars
+pub record AgreeOnRelvars (among seen : List ℕ → Bool) (first second : Database) : Type 0 where
+  pub bases :
+      (n : List ℕ) (r : BaseRelvar) → IsTrue (seen n) → base_named n first ≡ Some r
+      → UsersAllIn among (pack r.relation.heading) × (q : BaseRelvar) × (base_named n second ≡ Some q) × (q.relation ≡ r.relation)
+  pub virtuals :
+      (n : List ℕ) (v : VirtualRelvar) → IsTrue (seen n) → virtual_named n first ≡ Some v
+      → UsersAllIn among (pack v.heading) × (u : VirtualRelvar) × (virtual_named n second ≡ Some u) × (u.heading ≡ v.heading) × (u.tree ≡ v.tree)
+  pub types :
+      (n : List ℕ) (v : VirtualRelvar) → IsTrue (seen n) → virtual_named n first ≡ Some v
+      → (m : List ℕ) → Contains (types_in v.tree) m → IsTrue (among m)
+  pub relvars :
+      (n : List ℕ) (v : VirtualRelvar) → IsTrue (seen n) → virtual_named n first ≡ Some v
+      → (m : List ℕ) → Contains (relvars_in (database_scope first) v.tree) m → IsTrue (seen m)
+
 -- both databases agree on the entries that the expression mentions where these tuples are in hand: on its types, with those
--- that they and the tuples are made of, and on its base relvars
-pub record AgreeOnEntries (among : List ℕ → Bool) (first second : Database) (s : List Tuple) (e : Tree) : Type 0 where
+-- that they and the tuples are made of, and on its relvars, with those that their expressions mention
+pub record AgreeOnEntries (among seen : List ℕ → Bool) (first second : Database) (s : List Tuple) (e : Tree) : Type 0 where
   pub types : AgreeOnTypes among first.types second.types
+  pub relvars : AgreeOnRelvars among seen first second
   pub tuples : (h : Heading) → Contains (map heading_of s) h → UsersAllIn among (pack h)
   pub mentioned : (n : List ℕ) → Contains (types_in e) n → IsTrue (among n)
-  pub relvars :
-      (n : List ℕ) (r : BaseRelvar) → Contains (relvars_in (with_tuples (database_scope first) s) e) n → base_named n first ≡ Some r
-      → UsersAllIn among (pack r.relation.heading) × (q : BaseRelvar) × (base_named n second ≡ Some q) × (q.relation ≡ r.relation)
+  pub mentioned_relvars : (n : List ℕ) → Contains (relvars_in (with_tuples (database_scope first) s) e) n → IsTrue (seen n)
 
 -- where both are legal, the expression has the same value in both, or the same causes, whatever else they have
 abbrev pub ValuesDependOnEntries : Type 0
 ValuesDependOnEntries =
-    (among : List ℕ → Bool) (first second : Database) (s : List Tuple) (e : Tree) → IsLegal first → IsLegal second
-    → ConstraintsAreWritten first.types → IsChecked (database_scope first) s e
-    → AgreeOnEntries among first second s e → value_of (world_of second) s e ≡ value_of (world_of first) s e
+    (among seen : List ℕ → Bool) (first second : Database) (s : List Tuple) (e : Tree) → IsLegal first → IsLegal second
+    → DefinitionsAreWritten first → IsChecked (database_scope first) s e
+    → AgreeOnEntries among seen first second s e → value_of (world_of second) s e ≡ value_of (world_of first) s e
+
+-- so has an expression that does not mention an entry that is dropped, where the database is legal before and after; the
+-- tuples in hand are not made of a type that is
+pub record DropsChangeNoValue : Type 0 where
+  pub relvar :
+      (db : Database) (dropped : List ℕ) (s : List Tuple) (e : Tree) → IsLegal db → IsLegal (without_relvar dropped db)
+      → DefinitionsAreWritten db → IsChecked (database_scope db) s e
+      → (Contains (relvars_in (with_tuples (database_scope db) s) e) dropped → ⊥)
+      → value_of (world_of (without_relvar dropped db)) s e ≡ value_of (world_of db) s e
+  pub type :
+      (db : Database) (dropped : List ℕ) (s : List Tuple) (e : Tree) → IsLegal db → IsLegal (without_type dropped db)
+      → DefinitionsAreWritten db → IsChecked (database_scope db) s e
+      → ((h : Heading) → Contains (map heading_of s) h → UsersAllIn (is_other dropped) (pack h))
+      → (Contains (types_in e) dropped → ⊥)
+      → value_of (world_of (without_type dropped db)) s e ≡ value_of (world_of db) s e
+  -- no expression mentions a constraint
+  pub constraint :
+      (db : Database) (dropped : List ℕ) (s : List Tuple) (e : Tree) → IsLegal db → IsLegal (without_constraint dropped db)
+      → DefinitionsAreWritten db → IsChecked (database_scope db) s e
+      → value_of (world_of (without_constraint dropped db)) s e ≡ value_of (world_of db) s e
 
 -- ---- later entries
 
--- the second database has what the first has, and more types and base relvars behind
+-- the second database has what the first has, and more types, base relvars and virtual relvars behind; the names of its
+-- relvars are distinct
 pub record HasLater (first second : Database) : Type 0 where
   pub types : (more : List DeclaredType) × (second.types ≡ first.types ++ more)
   pub bases : (more : List BaseRelvar) × (second.bases ≡ first.bases ++ more)
+  pub virtuals : (more : List VirtualRelvar) × (second.virtuals ≡ first.virtuals ++ more)
+  pub distinct : IsTrue (are_distinct (relvar_names second))
 
--- there an expression that has a type in the first, which is legal, has the same value or the same causes; a type or a base
--- relvar that is added stands behind
+-- there an expression that has a type in the first, which is legal, has the same value or the same causes; an entry that is
+-- added to a legal database stands behind, a relvar where no relvar has its name
 pub record LaterEntriesChangeNothing : Type 0 where
   pub values :
-      (first second : Database) (s : List Tuple) (e : Tree) → IsLegal first → ConstraintsAreWritten first.types
+      (first second : Database) (s : List Tuple) (e : Tree) → IsLegal first → DefinitionsAreWritten first
       → HasLater first second → IsChecked (database_scope first) s e → value_of (world_of second) s e ≡ value_of (world_of first) s e
-  pub one_type : (db : Database) (d : DeclaredType) → HasLater db (with_declared d db)
-  pub one_base : (db : Database) (r : BaseRelvar) → HasLater db (with_base r db)
+  pub one_type : (db : Database) (d : DeclaredType) → IsLegal db → HasLater db (with_declared d db)
+  pub one_base : (db : Database) (r : BaseRelvar) → IsLegal db → IsTrue (not (knows_relvar r.name db)) → HasLater db (with_base r db)
+  pub one_virtual : (db : Database) (v : VirtualRelvar) → IsLegal db → IsTrue (not (knows_relvar v.name db)) → HasLater db (with_virtual v db)
+  pub one_constraint : (db : Database) (c : NamedConstraint) → IsLegal db → HasLater db (with_constraint c db)
 
 -- ---- the order of tuples
 

@@ -2,7 +2,7 @@
 -- causes are this project's own).
 use Rattle.std.specs.Prelude.{◌≡◌, ◌≤◌, ℕ, List, ◌++◌, map, Some, Result, Ok, Err, ⊤}
 use Rattle.std.specs.List.{AllByRecursion}
-use Rattle.td_catalog.specs.Database.{BaseRelvar, Database, base_named}
+use Rattle.td_catalog.specs.Database.{BaseRelvar, Database, VirtualRelvar, base_named}
 use Rattle.td_catalog.specs.Legality.{AreTyped, IsLegal}
 use Rattle.td_check.specs.Scopes.{KnownRelvar, Scope, known_relvar}
 use Rattle.td_check.specs.StaticLaws.{GivesNames, IsScope}
@@ -85,10 +85,15 @@ ValuesKeepTypes =
 abbrev pub ConstraintsAreWritten : List DeclaredType → Type 0
 ConstraintsAreWritten = AllByRecursion (λ d. (e : Tree) → d.constraint ≡ Some e → IsWritten e)
 
+-- so are the constraints of the types of a database and the expressions of its virtual relvars
+pub record DefinitionsAreWritten (db : Database) : Type 0 where
+  pub constraints : ConstraintsAreWritten db.types
+  pub virtuals : AllByRecursion (λ (v : VirtualRelvar). IsWritten v.tree) db.virtuals
+
 -- the world of a legal database is such a world
 abbrev pub LegalDatabasesKeepScopes : Type 0
 LegalDatabasesKeepScopes =
-    (db : Database) → IsLegal db → ConstraintsAreWritten db.types
+    (db : Database) → IsLegal db → DefinitionsAreWritten db
     → KeepsScope (world_of db) (world_of db).scope
 
 -- so is the world in which one of its base relvars has another relation of its heading

@@ -3,7 +3,7 @@ ghost use Rattle.td_eval.specs.LiteralValues.{LaterTypesKeepWhatMeets, LiteralsH
 ghost use Rattle.td_eval.specs.LiteralValues.{LiteralsHaveTheirValues, SelectorsGiveWhatMeets};
 ghost use Rattle.td_eval.specs.LiteralValues.{StoredLiteralsHaveTheirValues};
 ghost use Rattle.td_eval.specs.LiteralValues.{WhatSelectorsGiveMeets};
-ghost use Rattle.td_eval.specs.ValueLaws.{LaterEntriesChangeNothing};
+ghost use Rattle.td_eval.specs.ValueLaws.{DropsChangeNoValue, LaterEntriesChangeNothing};
 ghost use Rattle.td_eval.specs.ValueLaws.{SummarizeByIsPerOfTheProjection, TupleOrderDoesNotCount};
 ghost use Rattle.td_eval.specs.ValueLaws.{ValuesDependOnEntries, ValuesDependOnMentions};
 ghost use Rattle.td_eval.specs.ValueTypes.{LegalDatabasesKeepScopes, OtherRelationsKeepScopes};
@@ -32,10 +32,16 @@ pub fn values_depend_on_entries()
     ensures { ValuesDependOnEntries }
 {}
 
-/// Types and base relvars that are added to a database change no value of an expression that has
-/// a type in it.
+/// Types, relvars and constraints that are added to a database change no value of an expression
+/// that has a type in it.
 pub fn later_entries_change_nothing()
     ensures { LaterEntriesChangeNothing }
+{}
+
+/// A type, a relvar or a constraint that is dropped changes no value of an expression that does not
+/// mention it.
+pub fn drops_change_no_value()
+    ensures { DropsChangeNoValue }
 {}
 
 /// WHERE, EXTEND, aggregates and SUMMARIZE give the same in whatever order the tuples of a relation

@@ -1,60 +1,73 @@
 //! What an expression may look at.
-ghost use Rattle.std.specs.Prelude.{◌≡◌, [], ◌<◌, IfNone, IfOk, IfSome, None, reverse, take};
-ghost use Rattle.td_eval.specs.DatabaseWorlds.{world_of_types};
-ghost use Rattle.td_eval.specs.OperatorValues.{relation_as_value};
-ghost use Rattle.td_eval.specs.Sights.{IsPlaced, IsSight, seen_by};
-ghost use Rattle.td_eval.specs.Worlds.{known_outcome, scope_among};
-ghost use Rattle.td_tree.specs.Outcomes.{Answers};
+ghost use Rattle.std.specs.Prelude.{◌≡◌, [], ◌<◌, IfNone, IfOk, IfSome, None, option_map, reverse};
+ghost use Rattle.td_eval.specs.Sights.{IsNoVirtualRelvar, IsPlaced, IsSight, IsVirtualRelvar};
+ghost use Rattle.td_eval.specs.Sights.{constraint_sight, held_by, other_named, other_seen, seen_by};
+ghost use Rattle.td_eval.specs.Sights.{virtual_sight};
+ghost use Rattle.td_eval.specs.Worlds.{scope_among};
+ghost use Rattle.td_tree.specs.TreeViews.{tree_view};
 
-use crate::env::Env;
 use std::alloc::{AllocError, Global};
 use td_body::body::Body;
+use td_catalog::catalog::Catalog;
 use td_check::scope::Scope;
-use td_tree::cause::Cause;
-use td_tree::fault::Fault;
+use td_tree::expression::Expr;
 use td_tree::name::Name;
 use td_types::table::TypeTable;
 use td_value::relation::Rel;
 use td_value::tuple::Tuple;
-use td_value::value::Value;
 
-/// The declared types, how many of them have selectors that are known, and, outside of a type's
-/// constraint, what the expression is evaluated in.
+/// The declared types and how many of them have selectors that are known; outside of a type's
+/// constraint the catalogue, another relation in place of what one of its base relvars holds, and
+/// how many of its virtual relvars are known.
 #[derive(Drop)]
 pub(crate) struct Sight<'a, B: Body> {
     pub(crate) alloc: Global,
     pub(crate) types: &'a TypeTable,
     pub(crate) selectors: usize,
-    pub(crate) env: Option<&'a Env<'a, B>>,
+    pub(crate) catalog: Option<&'a Catalog<B>>,
+    pub(crate) other: Option<(&'a Name, &'a Rel)>,
+    pub(crate) virtuals: usize,
 }
 
 impl<'a, B: Body> Sight<'a, B> {
-    /// The relation that the relvar of the name has.
-    fn relation(&self, name: &Name) -> Result<Rel, Fault>
-        ensures { Answers relation_as_value result
-            (known_outcome ((seen_by self.now).relvar name.now)) }
+    /// The other relation, where it is of the name.
+    fn other_relation(&self, name: &Name) -> Option<&'a Rel>
+        ensures { option_map (λ r. r.now) result ≡ other_named name.now (other_seen self.now) }
     {
-        let Some(env) = self.env else {
-            return Err(Fault::Refused(Cause::NameUnknown));
+        let (other, rel) = self.other?;
+        if *other == *name { Some(rel) } else { None }
+    }
+
+    /// The relation that the relvar of the name holds.
+    pub(crate) fn relation(&self, name: &Name) -> Result<Option<Rel>, AllocError>
+        ensures { IfOk result (λ found. found ≡ held_by self.now name.now) }
+    {
+        let Some(catalog) = self.catalog else {
+            return Ok(None);
         };
-        if let Some((other, rel)) = env.other {
-            if *other == *name {
-                return Ok(rel.try_clone()?);
-            }
+        if let Some(rel) = self.other_relation(name) {
+            return Ok(Some(rel.try_clone()?));
         }
-        match env.catalog.get_base(name) {
-            Some(entry) => Ok(entry.body.to_rel()?),
-            None => Err(Fault::Refused(Cause::NameUnknown)),
+        match catalog.get_base(name) {
+            Some(entry) => Ok(Some(entry.body.to_rel()?)),
+            None => Ok(None),
         }
     }
 
-    /// The value of the relvar of the name.
-    pub(crate) fn relvar(&self, name: &Name) -> Result<Value, Fault>
+    /// The place of the virtual relvar of the name, with its expression, if it is known.
+    pub(crate) fn virtual_relvar(&self, name: &Name) -> Option<(usize, &Expr)>
         requires { IsSight self.now }
-        ensures { Answers (λ v. v) result (known_outcome ((seen_by self.now).relvar name.now)) }
+        ensures found { IfSome result
+            (λ found. IsVirtualRelvar self.now name.now found.0 (tree_view found.1.now)) }
+        ensures none { IfNone result (IsNoVirtualRelvar self.now name.now) }
     {
-        let rel = self.relation(name)?;
-        Ok(Value::relation(self.alloc, rel)?)
+        let catalog = self.catalog?;
+        let place = catalog.virtual_place(name)?;
+        if place < self.virtuals {
+            Some((place, catalog.virtual_tree_at(place)?))
+        } else {
+            None
+        }
     }
 
     /// What is known where no tuple is in hand.
@@ -62,8 +75,8 @@ impl<'a, B: Body> Sight<'a, B> {
         requires { IsSight self.now }
         ensures { IfOk result (λ s. s ≡ scope_among (seen_by self.now) []) }
     {
-        match self.env {
-            Some(env) => env.catalog.scope(),
+        match self.catalog {
+            Some(catalog) => catalog.scope_before(self.virtuals),
             None => Ok(Scope::new(self.alloc, self.types)),
         }
     }
@@ -95,21 +108,36 @@ impl<'a, B: Body> Sight<'a, B> {
         }
     }
 
-    /// What a type's constraint may look at: the selectors of the types before its own.
-    pub(crate) fn before(&self, place: usize) -> Sight<'a, B>
+    /// What the constraint of the type at a place may look at.
+    pub(crate) fn in_constraint(&self, place: usize) -> Sight<'a, B>
         requires sight { IsSight self.now }
         requires place { place < self.now.selectors }
         ensures sight { IsSight result }
-        ensures fewer { result.selectors ≡ place }
-        ensures types { result.types ≡ self.now.types }
-        ensures world { seen_by result
-            ≡ world_of_types self.now.types.now (take place self.now.types.now) }
+        ensures exact { result ≡ constraint_sight place self.now }
     {
         Sight {
             alloc: self.alloc,
             types: self.types,
             selectors: place,
-            env: None,
+            catalog: None,
+            other: None,
+            virtuals: 0,
+        }
+    }
+
+    /// What the expression of the virtual relvar at a place may look at.
+    pub(crate) fn in_virtual(&self, place: usize) -> Sight<'a, B>
+        requires { IsSight self.now }
+        ensures sight { IsSight result }
+        ensures exact { result ≡ virtual_sight place self.now }
+    {
+        Sight {
+            alloc: self.alloc,
+            types: self.types,
+            selectors: self.selectors,
+            catalog: self.catalog,
+            other: None,
+            virtuals: place,
         }
     }
 }

@@ -16,7 +16,7 @@ ghost use Rattle.td_eval.specs.TreeValues.{argument_values, entry_values, items_
 ghost use Rattle.td_eval.specs.TreeValues.{value_of, values_in_tuples};
 ghost use Rattle.td_eval.specs.ValueLaws.{IsChecked};
 ghost use Rattle.td_eval.specs.ValueTypes.{AnswersType, KeepsScope};
-ghost use Rattle.td_eval.specs.Worlds.{name_value, scope_among, selected};
+ghost use Rattle.td_eval.specs.Worlds.{known_outcome, name_value, scope_among, selected};
 ghost use Rattle.td_tree.specs.Outcomes.{Answers, gathered};
 ghost use Rattle.td_tree.specs.TreeViews.{named_view, summaries_view, tree_view, trees_view};
 ghost use Rattle.td_tree.specs.Trees.{binary, choice};
@@ -56,8 +56,25 @@ use td_value::relation::Rel;
 use td_value::tuple::Tuple;
 use td_value::value::Value;
 
+/// The value of the relvar of a name. A virtual relvar's is that of its expression where the
+/// virtual relvars before it alone are known and no tuple is in hand.
+#[cycle(value)]
+fn relvar_value<B: Body>(sight: &Sight<'_, B>, name: &Name) -> Result<Value, Fault>
+    requires { IsSight sight.now }
+    ensures { Answers (λ v. v) result (known_outcome ((seen_by sight.now).relvar name.now)) }
+{
+    if let Some(rel) = sight.relation(name)? {
+        return Ok(Value::relation(sight.alloc, rel)?);
+    }
+    match sight.virtual_relvar(name) {
+        Some((place, tree)) => value_of(&sight.in_virtual(place), &[], tree),
+        None => Err(Fault::Refused(Cause::NameUnknown)),
+    }
+}
+
 /// The value of the innermost attribute of a name, else of the relvar. The innermost tuple is the
 /// last.
+#[cycle(value)]
 fn name_value<B: Body>(sight: &Sight<'_, B>, tuples: &[Tuple], name: &Name) -> Result<Value, Fault>
     requires { IsSight sight.now }
     ensures { Answers (λ v. v) result
@@ -65,7 +82,7 @@ fn name_value<B: Body>(sight: &Sight<'_, B>, tuples: &[Tuple], name: &Name) -> R
 {
     match attribute(tuples, name) {
         Some(value) => Ok(value.try_clone()?),
-        None => sight.relvar(name),
+        None => relvar_value(sight, name),
     }
 }
 
@@ -258,7 +275,7 @@ fn meets_constraint<B: Body>(
         return Ok(true);
     };
     let components = component_tuple(sight.alloc, entry.components(), values)?;
-    truth_of(value_of(&sight.before(place), &[components], constraint))
+    truth_of(value_of(&sight.in_constraint(place), &[components], constraint))
 }
 
 /// The value of an expression where one tuple more is in hand.
@@ -550,7 +567,9 @@ pub fn eval<B: Body>(alloc: Global, env: &Env<'_, B>, expr: &Expr) -> Result<Val
         alloc,
         types,
         selectors: types.len(),
-        env: Some(env),
+        catalog: Some(env.catalog),
+        other: env.other,
+        virtuals: env.catalog.virtual_count(),
     };
     value_of(&sight, &shared(alloc, env.tuples)?, expr)
 }

@@ -1,10 +1,11 @@
 use Rattle.std.specs.Prelude.{max, true}
-use Rattle.std.proofs.Common.{◌≡◌, ◌∙◌, ◌∷◌, ℕ, Err, List, Ok, ap, arith, length, map, option_map, refl, reverse, subst, sym, take}
+use Rattle.std.proofs.Common.{◌≡◌, ◌∙◌, [], ◌∷◌, ℕ, Err, List, Ok, ap, arith, length, map, option_map, refl, reverse, subst, sym, take}
 use Rattle.std.proofs.lemmas.List.{length-map}
 use Rattle.std.proofs.lemmas.Result.{err_from_is_err_and}
 use Rattle.std.proofs.Math.Nat.{le-max_right}
 use Rattle.std.specs.Global.{Vec}
 use Rattle.std.specs.List.{zip}
+use Rattle.std.specs.Rc.{rc_str_bytes}
 use Rattle.td_algebra.specs.Columns.{columns_view}
 use Rattle.td_algebra.specs.declared.extension.Column.{Column}
 use Rattle.td_check.proofs.CheckedLists.{step_taken}
@@ -13,9 +14,10 @@ use Rattle.td_check.proofs.Gives.{answered_then}
 use Rattle.td_check.specs.OperatorTypes.{are_types_of}
 use Rattle.td_check.specs.Scopes.{entered_with}
 use Rattle.td_check.specs.StaticTypes.{named_types}
-use Rattle.td_eval.proofs.Measures.{height_item, height_listed, height_named, weight_before}
+use Rattle.td_eval.proofs.Measures.{constraint_height, height_if, height_item, height_listed, height_named, weight, weight_before, tree_before}
 use Rattle.td_eval.proofs.OpElements.{element_gathered, element_refused}
 use Rattle.td_eval.proofs.Selectors.{is_selector, never_missing, types_seen}
+use Rattle.td_eval.proofs.VirtualValues.{held_seen}
 use Rattle.td_eval.proofs.WalkedColumns.{beside_at, beside_past, beside_within, column_found, columns_are}
 use Rattle.td_eval.proofs.WalkedExtension.{answers_related, apart_given, attributes_refused, columns_fit, columns_of_additions, columns_refused, distinct_given, extended_given, same_attributes, types_given}
 use Rattle.td_eval.proofs.WalkedLists.{arguments_are, as_many_parts, as_many_types, entries_are, entry_found, of_as_many, value_found, walked, walked_values}
@@ -26,15 +28,15 @@ use Rattle.td_check.proofs.BothAnswers.{both_given, both_refused}
 use Rattle.td_eval.specs.AggregateValues.{aggregated_value, asked_of, summarized_value, summary_attributes, summary_value}
 use Rattle.td_eval.specs.DatabaseWorlds.{constraint_value, world_of_types}
 use Rattle.td_eval.specs.NewColumns.{column_view, named_columns}
-use Rattle.td_eval.specs.OperatorValues.{additions_of, column_values, extended_value, listed_value, on_relation, postfix_value, truth_value, tuple_from, value_of_type}
-use Rattle.td_eval.specs.Sights.{seen_by}
+use Rattle.td_eval.specs.OperatorValues.{additions_of, column_values, component_value, extended_value, listed_value, on_relation, postfix_value, truth_value, tuple_from, value_of_type}
+use Rattle.td_eval.specs.Sights.{seen_by, virtuals_of}
 use Rattle.td_eval.specs.Totals.{term_in, total_of, total_view}
 use Rattle.td_eval.specs.TreeValues.{argument_values, entry_values, items_in_tuples, value_of, values_in_tuples}
 use Rattle.td_group.specs.declared.aggregates.Agg.{Agg}
-use Rattle.td_eval.specs.Worlds.{scope_among, selected}
+use Rattle.td_eval.specs.Worlds.{known_outcome, scope_among, selected}
 use Rattle.td_tree.specs.Gatherings.{IsGathered}
 use Rattle.td_tree.specs.Heights.{height, highest, highest_named, highest_summary, type_height}
-use Rattle.td_tree.specs.Outcomes.{Answers, Valued, gathered, with_value}
+use Rattle.td_tree.specs.Outcomes.{Answers, Valued, gathered, named_cause, with_value}
 use Rattle.td_tree.specs.TreeViews.{attributes_view, heading_tree_view, named_view, summaries_view, tree_view, trees_view}
 use Rattle.td_tree.specs.Trees as trees
 use Rattle.td_tree.proofs.Rows.{extend_is, headed_relation_is, relation_is, select_is, summarize_by_is, summarize_per_is, tuple_is}
@@ -194,6 +196,47 @@ value_of-extension-requires g t c =
       (o, c.requires),
     )
 
+-- ---- relvars
+
+pub relvar_value-value_of-requires : goal.relvar_value-value_of-requires
+relvar_value-value_of-requires g t c =
+    let sight = c.args.sight.now in
+    let is = c.in-Some-virtual_relvar.ensures.found in
+    λ κs o. (
+      (let h = tree_before (virtuals_of sight) c.in-Some-virtual_relvar.place sight.virtuals (tree_view c.in-Some-virtual_relvar.tree.now) is.entry is.known in let w = ap weight c.in_virtual.ensures.exact in omega (arith, c.decreases, h, w)),
+      (o, c.in_virtual.ensures.sight),
+    )
+
+pub relvar_value-returns-in-Some : goal.relvar_value-returns-in-Some
+relvar_value-returns-in-Some g t c =
+    ap known_outcome (held_seen c.args.sight.now c.args.name.now c.in-Some.rel (sym c.in_ok-rel.ensures ∙ c.in-Some.is))
+    ∙ ap (λ v. Valued v) (sym c.in_ok-relation.ensures)
+
+pub relvar_value-returns-in-Some-virtual_relvar : goal.relvar_value-returns-in-Some-virtual_relvar
+relvar_value-returns-in-Some-virtual_relvar g t c =
+    let is = c.in-Some-virtual_relvar.ensures.found in
+    let tree = tree_view c.in-Some-virtual_relvar.tree.now in
+    subst (λ o. Answers (λ (v : Val). v) c.value_of.result (known_outcome o)) (sym (is.value (sym c.in_ok-rel.ensures ∙ c.in_default.is)))
+    (subst (λ s. Answers (λ (v : Val). v) c.value_of.result (value_of (seen_by s) [] tree)) c.in_virtual.ensures.exact c.value_of.ensures)
+
+pub relvar_value-returns-in-None : goal.relvar_value-returns-in-None
+relvar_value-returns-in-None g t c =
+    ap (λ o. named_cause (known_outcome o)) (c.in-None.ensures.none (sym c.in_ok-rel.ensures ∙ c.in_default.is))
+
+pub value_of-name_value-requires : goal.value_of-name_value-requires
+value_of-name_value-requires g t c =
+    λ κs o. (
+      (let h = ap height (ap tree_view c.in-Name.is) in omega (arith, c.decreases, h)),
+      (o, c.requires),
+    )
+
+pub meets_constraint-value_of-requires : goal.meets_constraint-value_of-requires
+meets_constraint-value_of-requires g t c =
+    λ κs o. (
+      (let h = ap height_if c.in-Some.ensures in let w = ap weight c.in_constraint.ensures.exact in omega (arith, c.decreases, h, w)),
+      (o, c.in_constraint.ensures.sight),
+    )
+
 -- ---- selectors
 
 pub selected-returns-in_default-get : goal.selected-returns-in_default-get
@@ -210,7 +253,7 @@ pub selected-meets_constraint-holds-requires : goal.selected-meets_constraint-ho
 selected-meets_constraint-holds-requires g t c =
     let is = is_selector c.args.sight.now c.args.name.now c.requires c.in-Some.place c.in-Some-get.entry.now c.in-Some.ensures.found.0 c.in-Some.ensures.found.1 (sym c.get.ensures ∙ ap (option_map (λ e. e.now)) c.in-Some-get.is) in
     λ κs o. (
-      (let h = weight_before c.args.sight.now.types.now c.in-Some.place c.args.sight.now.selectors c.in-Some-get.entry.now is.entry is.known in omega (arith, c.decreases, h)),
+      (let h = weight_before constraint_height c.args.sight.now.types.now c.in-Some.place c.args.sight.now.selectors c.in-Some-get.entry.now is.entry is.known in omega (arith, c.decreases, h)),
       (o, (c.requires, (is.known, is.entry))),
     )
 
@@ -223,6 +266,19 @@ selected-returns g t c =
     (c.constructed.ensures _
     (subst (λ vs. Answers (λ b. b) c.meets_constraint-holds.result (constraint_value (world_of_types c.args.sight.now.types.now (take c.in-Some.place c.args.sight.now.types.now)) c.in-Some-get.entry.now vs))
     c.deref-2.ensures.value c.meets_constraint-holds.ensures))
+
+-- ---- components
+
+pub value_of-returns-in_ok-value_of-in-Component : goal.value_of-returns-in_ok-value_of-in-Component
+value_of-returns-in_ok-value_of-in-Component g t c =
+    let world = seen_by c.args.sight.now in
+    let rest = rc_str_bytes c.in-Component.name in
+    let is = ap tree_view c.in-Component.is ∙ (λ i. trees.component rest (tree_view (sym c.deref-in-Component.ensures i))) in
+    rw is
+    (answered_then (λ v. v) c.in_ok-value_of-in-Component.field-0 (value_of world (reverse c.args.tuples.now) (tree_view c.deref-in-Component.result.now)) (component_value world.scope.types rest) (λ v. v)
+    c.component_value-in-Component.result c.in_ok-value_of-in-Component.ensures
+    (subst (λ ds. Answers (λ (v : Val). v) c.component_value-in-Component.result (component_value ds rest c.in_ok-value_of-in-Component.field-0)) (sym (types_seen c.args.sight.now c.requires))
+    c.component_value-in-Component.ensures))
 
 -- ---- lists in a tree
 

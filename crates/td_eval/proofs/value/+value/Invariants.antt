@@ -62,6 +62,12 @@ invariant-totals-loop-item g l =
 
 -- ---- how deep each goes
 
+abbrev pub decreases-relvar_value : goal.decreases-relvar_value
+decreases-relvar_value g l = weight l.sight.now
+
+abbrev pub decreases-name_value : goal.decreases-name_value
+decreases-name_value g l = weight l.sight.now + 1
+
 abbrev pub decreases-value_of : goal.decreases-value_of
 decreases-value_of g l = weight l.sight.now + 8 * height (tree_view l.expr.now)
 
@@ -75,7 +81,7 @@ abbrev pub decreases-selected : goal.decreases-selected
 decreases-selected g l = weight l.sight.now + 1
 
 abbrev pub decreases-meets_constraint : goal.decreases-meets_constraint
-decreases-meets_constraint g l = weights (take l.place l.sight.now.types.now) + (8 * constraint_height l.entry.now + 1)
+decreases-meets_constraint g l = weights constraint_height (take l.place l.sight.now.types.now) + (8 * constraint_height l.entry.now + 1)
 
 abbrev pub decreases-value_in_row : goal.decreases-value_in_row
 decreases-value_in_row g l = weight l.sight.now + (8 * height (tree_view l.expr.now) + 1)

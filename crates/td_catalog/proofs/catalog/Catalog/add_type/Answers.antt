@@ -15,7 +15,8 @@ add-requires-clause-distinct g c = ap are_distinct (sym (names_of_pairs c.args.c
 pub invariant_of-self-2 : goal.invariant_of-self-2
 invariant_of-self-2 g c =
     let d = declared_type c.args.name (pairs_view c.args.components.items) (option_map tree_view c.args.constraint) in
-    catalog_with_type g.B.Body.relation g.B.Body.keys c.self.inside.types c.self.inside.bases.entries d c.add.new.self c.self.invariant
-    c.in_ok-add.ensures.added c.reveal.ensures
+    catalog_with_type g.B.Body.relation g.B.Body.keys
+    (record { types = c.self.inside.types; bases = c.self.inside.bases.entries; virtuals = c.self.inside.virtuals.entries; constraints = c.self.inside.constraints.entries })
+    d c.add.new.self c.self.invariant c.in_ok-add.ensures.added c.reveal.ensures
     (subst (λ (db : Database). IsRanked db.types d) (sym c.self.view_is) c.requires.ranked)
     (subst (λ (db : Database). IsConstrained db.types d) (sym c.self.view_is) c.requires.constrained)

@@ -1,0 +1,45 @@
+-- What is answered of an expression in which a name is looked for.
+use Rattle.std.proofs.Common.{◌≡◌, ◌∙◌, ℕ, Bool, List, None, Some, Result, ap, subst, sym}
+use Rattle.std.specs.Result.{IfOk}
+use Rattle.td_catalog.specs.Mentioned.{condition_mentions_type, tree_mentions_relvar, tree_mentions_type}
+use Rattle.td_check.specs.CheckViews.{Names}
+use Rattle.td_check.specs.Mentions.{mentions_of, name_set, relvars_in, types_in}
+use Rattle.td_check.specs.Scopes.{Scope, alone_with, entered_with, scope_of}
+use Rattle.td_check.specs.StaticTypes.{type_of}
+use Rattle.td_check.proofs.NameSets.{names_are_a_set}
+use Rattle.td_tree.specs.declared.cause.Cause.{Cause}
+use Rattle.td_tree.specs.Outcomes.{Valued, named_cause, with_value}
+use Rattle.td_tree.specs.Trees.{Tree}
+use Rattle.td_types.specs.Headings.{has_name, heading_from}
+use Rattle.td_types.specs.TypeLists.{DeclaredType}
+use Rattle.td_types.specs.Types.{Type'}
+use Rattle.td_types.proofs.OutcomeLaws.{valued_is}
+
+module _ (scope : Scope) (name : List ℕ) (e : Tree) (t : Type') where
+  named : type_of scope e ≡ Valued t → mentions_of scope e ≡ Valued (name_set (relvars_in scope e), name_set (types_in e))
+  named typed = ap (λ o. with_value o (λ _. Valued (name_set (relvars_in scope e), name_set (types_in e)))) typed
+
+  seen_is : (seen : Names) → type_of scope e ≡ Valued t → mentions_of scope e ≡ Valued seen → (name_set (relvars_in scope e), name_set (types_in e)) ≡ seen
+  seen_is seen typed is = valued_is _ _ (sym (named typed) ∙ is)
+
+  pub types_answered : (seen : Names) → type_of scope e ≡ Valued t → mentions_of scope e ≡ Valued seen → has_name name seen.1 ≡ tree_mentions_type name e
+  types_answered seen typed is = ap (λ (s : Names). has_name name s.1) (sym (seen_is seen typed is)) ∙ names_are_a_set (types_in e) name
+
+  pub relvars_answered : (seen : Names) → type_of scope e ≡ Valued t → mentions_of scope e ≡ Valued seen → has_name name seen.0 ≡ tree_mentions_relvar scope name e
+  relvars_answered seen typed is = ap (λ (s : Names). has_name name s.0) (sym (seen_is seen typed is)) ∙ names_are_a_set (relvars_in scope e) name
+
+-- an expression that has a type is not refused
+pub not_refused : (scope : Scope) (e : Tree) (t : Type') (cause : Cause) → type_of scope e ≡ Valued t → named_cause (mentions_of scope e) ≡ Some cause → ⊥
+not_refused scope e t cause typed refused =
+    let none : None ≡ Some cause = sym (ap (λ o. named_cause {A = Names} (with_value o (λ _. Valued (name_set (relvars_in scope e), name_set (types_in e))))) typed) ∙ refused in
+    cc
+
+-- what is answered of a constraint's expression is answered of the constraint
+pub condition_answered : {F : Type 0} (types : List DeclaredType) (d : DeclaredType) (name : List ℕ) (e : Tree) (scope : Scope) (result : Result Bool F) → Some e ≡ d.constraint
+    → scope ≡ entered_with (heading_from d.components) (scope_of types)
+    → ((c : Tree) → d.constraint ≡ Some c → (t : Type') × (type_of (alone_with (heading_from d.components) (scope_of types)) c ≡ Valued t))
+    → ((t : Type') → type_of scope e ≡ Valued t → IfOk result (λ found. found ≡ tree_mentions_type name e))
+    → IfOk result (λ found. found ≡ condition_mentions_type name d.constraint)
+condition_answered types d name e scope result is at typed answered =
+    let t = typed e (sym is) in
+    subst (λ o. IfOk result (λ found. found ≡ condition_mentions_type name o)) is (answered t.0 (ap (λ s. type_of s e) at ∙ t.1))

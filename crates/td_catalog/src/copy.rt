@@ -1,0 +1,134 @@
+//! Copies of catalogues. They share the bodies as far as these share with their copies, and the
+//! expressions.
+ghost use Rattle.std.specs.Prelude.{◌≡◌, ℕ, IfOk, List, map};
+ghost use Rattle.td_catalog.specs.CatalogViews.{AreEntries, base_view, constraint_view};
+ghost use Rattle.td_catalog.specs.CatalogViews.{entry_keys, virtual_view};
+
+use crate::catalog::Catalog;
+use crate::entry::{BaseEntry, ConstraintEntry, VirtualEntry};
+use indexmap::IndexMap;
+use std::alloc::AllocError;
+use td_body::body::Body;
+use td_tree::name::Name;
+
+/// The same names again.
+fn copied_names(names: &Vec<Name>) -> Result<Vec<Name>, AllocError>
+    ensures { IfOk result (λ copy. copy.items ≡ names.now.items) }
+{
+    let mut copy = Vec::with_capacity(*names.allocator(), names.len())?;
+    for name in names {
+        copy.push(name.try_clone()?)?;
+    }
+    Ok(copy)
+}
+
+/// The same keys again.
+fn copied_keys(keys: &Vec<Vec<Name>>) -> Result<Vec<Vec<Name>>, AllocError>
+    ensures { IfOk result (λ copy. map (λ key. key.items) copy.items
+        ≡ map (λ key. key.items) keys.now.items) }
+{
+    let mut copy = Vec::with_capacity(*keys.allocator(), keys.len())?;
+    for key in keys {
+        copy.push(copied_names(key)?)?;
+    }
+    Ok(copy)
+}
+
+impl<B: Body> BaseEntry<B> {
+    /// The same entry again.
+    fn try_clone(&self) -> Result<BaseEntry<B>, AllocError>
+        ensures heading { IfOk result (λ copy. copy.heading ≡ self.now.heading) }
+        ensures names { IfOk result (λ copy. entry_keys copy ≡ entry_keys self.now) }
+        ensures relation { IfOk result
+            (λ copy. B.relation copy.body ≡ B.relation self.now.body) }
+        ensures keys { IfOk result (λ copy. B.keys copy.body ≡ B.keys self.now.body) }
+    {
+        let heading = self.heading.try_clone()?;
+        let keys = copied_keys(&self.keys)?;
+        let body = self.body.try_clone()?;
+        Ok(BaseEntry {
+            heading,
+            keys,
+            body,
+        })
+    }
+}
+
+impl VirtualEntry {
+    /// The same entry again, which shares the expression.
+    fn try_clone(&self) -> Result<VirtualEntry, AllocError>
+        ensures { IfOk result
+            (λ copy. (name : List ℕ) → virtual_view (name, copy) ≡ virtual_view (name, self.now)) }
+    {
+        let heading = self.heading.try_clone()?;
+        let tree = self.tree.clone()?;
+        let keys = copied_keys(&self.keys)?;
+        Ok(VirtualEntry {
+            heading,
+            tree,
+            keys,
+        })
+    }
+}
+
+impl ConstraintEntry {
+    /// The same entry again, which shares the expression.
+    fn try_clone(&self) -> Result<ConstraintEntry, AllocError>
+        ensures { IfOk result (λ copy. (name : List ℕ) →
+            constraint_view (name, copy) ≡ constraint_view (name, self.now)) }
+    {
+        let tree = self.tree.clone()?;
+        Ok(ConstraintEntry { tree })
+    }
+}
+
+impl<B: Body> Catalog<B> {
+    /// The base relvars again.
+    fn copied_bases(&self) -> Result<IndexMap<Name, BaseEntry<B>>, AllocError>
+        ensures bases { IfOk result
+            (λ copy. map (base_view B.relation) copy.entries ≡ self.now.bases) }
+        ensures entries { IfOk result (λ copy. AreEntries B.relation B.keys copy.entries) }
+    {
+        let mut copy = IndexMap::with_capacity(*self.bases.allocator(), self.bases.len())?;
+        for (name, entry) in self.bases.iter() {
+            copy.insert(name.try_clone()?, entry.try_clone()?)?;
+        }
+        Ok(copy)
+    }
+
+    /// The virtual relvars again.
+    fn copied_virtuals(&self) -> Result<IndexMap<Name, VirtualEntry>, AllocError>
+        ensures { IfOk result (λ copy. map virtual_view copy.entries ≡ self.now.virtuals) }
+    {
+        let mut copy = IndexMap::with_capacity(*self.virtuals.allocator(), self.virtuals.len())?;
+        for (name, entry) in self.virtuals.iter() {
+            copy.insert(name.try_clone()?, entry.try_clone()?)?;
+        }
+        Ok(copy)
+    }
+
+    /// The constraints again.
+    fn copied_constraints(&self) -> Result<IndexMap<Name, ConstraintEntry>, AllocError>
+        ensures { IfOk result (λ copy. map constraint_view copy.entries ≡ self.now.constraints) }
+    {
+        let alloc = *self.constraints.allocator();
+        let mut copy = IndexMap::with_capacity(alloc, self.constraints.len())?;
+        for (name, entry) in self.constraints.iter() {
+            copy.insert(name.try_clone()?, entry.try_clone()?)?;
+        }
+        Ok(copy)
+    }
+
+    /// The same catalogue again. It takes time and memory in the order of the entries, not of the
+    /// tuples, where the bodies' copies do.
+    pub fn try_clone(&self) -> Result<Catalog<B>, AllocError>
+        ensures { IfOk result (λ copy. copy ≡ self.now) }
+    {
+        Ok(Catalog {
+            types: self.types.try_clone()?,
+            bases: self.copied_bases()?,
+            virtuals: self.copied_virtuals()?,
+            constraints: self.copied_constraints()?,
+        })
+    }
+}

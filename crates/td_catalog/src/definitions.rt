@@ -1,0 +1,168 @@
+//! Entries that are added: each last in its list.
+ghost use Rattle.std.specs.Prelude.{◌≡◌, IfSome, IsSome, OnErr, OnOk, map, not, option_map};
+ghost use Rattle.td_catalog.specs.CatalogViews.{IsBodyOf};
+ghost use Rattle.td_catalog.specs.Database.{base_named, base_relvar, database_scope};
+ghost use Rattle.td_catalog.specs.Database.{knows_constraint, knows_relvar, named_constraint};
+ghost use Rattle.td_catalog.specs.Database.{virtual_relvar, with_base, with_body};
+ghost use Rattle.td_catalog.specs.Database.{with_constraint, with_declared, with_virtual};
+ghost use Rattle.td_catalog.specs.Legality.{AreBaseKeys, AreComponents, AreTyped, IsConstrained};
+ghost use Rattle.td_catalog.specs.Legality.{IsConstraint, IsRanked, IsRelvarHeading, IsVirtual};
+ghost use Rattle.td_catalog.specs.Legality.{KeysHold};
+ghost use Rattle.td_check.specs.StatementTypes.{holds_or};
+ghost use Rattle.td_tree.specs.Outcomes.{Answers};
+ghost use Rattle.td_tree.specs.TreeViews.{tree_view};
+ghost use Rattle.td_tree.specs.declared.cause.Cause.TheVariants as causes;
+ghost use Rattle.td_types.specs.TypeLists.{declared_type, is_declared};
+ghost use Rattle.td_types.specs.Views.{pairs_view};
+
+use crate::catalog::Catalog;
+use crate::entry::{BaseEntry, ConstraintEntry, VirtualEntry};
+use std::rc::Rc;
+use td_body::body::Body;
+use td_tree::cause::Cause;
+use td_tree::expression::Expr;
+use td_tree::fault::Fault;
+use td_tree::name::Name;
+use td_types::heading::Heading;
+use td_types::ty::Ty;
+
+impl<B: Body> Catalog<B> {
+    /// Adds a type, last: refused where a type of the name is declared. `check_statement` tells
+    /// whether its components, its rank and its constraint are as is asked.
+    pub fn add_type(
+        &mut self,
+        name: Name,
+        components: Vec<(Name, Ty)>,
+        constraint: Option<Expr>,
+    ) -> Result<(), Fault>
+        requires components { AreComponents self.old.types (pairs_view components.items) }
+        requires ranked { IsRanked self.old.types
+            (declared_type name (pairs_view components.items) (option_map tree_view constraint)) }
+        requires constrained { IsConstrained self.old.types
+            (declared_type name (pairs_view components.items) (option_map tree_view constraint)) }
+        ensures answer { Answers (λ u. u) result
+            (holds_or causes.NameTaken (not (is_declared name self.old.types))) }
+        ensures added { OnOk result (self.new ≡ with_declared
+            (declared_type name (pairs_view components.items) (option_map tree_view constraint))
+            self.old) }
+        ensures unchanged { OnErr result (self.new ≡ self.old) }
+    {
+        if self.types.get(&name).is_some() {
+            return Err(Fault::Refused(Cause::NameTaken));
+        }
+        self.types.add(name, components, constraint)?;
+        self.types.reveal();
+        Ok(())
+    }
+
+    /// Whether a relvar has the name, base or virtual.
+    pub(crate) fn has_relvar(&self, name: &Name) -> bool
+        ensures { result ≡ knows_relvar name.now self.now }
+    {
+        self.bases.contains_key(name) || self.virtuals.contains_key(name)
+    }
+
+    /// Adds a base relvar, last: refused where a relvar of the name is there. `check_statement`
+    /// tells whether its heading and its keys are as is asked, and `Body::key_holds` whether a key
+    /// holds.
+    pub fn add_base(
+        &mut self,
+        name: Name,
+        heading: Heading,
+        keys: Vec<Vec<Name>>,
+        body: B,
+    ) -> Result<(), Fault>
+        requires heading { IsRelvarHeading self.old.types heading }
+        requires keys { AreBaseKeys heading (map (λ key. key.items) keys.items) }
+        requires body { IsBodyOf heading (map (λ key. key.items) keys.items)
+            (B.relation body) (B.keys body) }
+        requires typed { AreTyped self.old.types (B.relation body) }
+        requires hold { KeysHold (B.keys body) (B.relation body).body }
+        ensures answer { Answers (λ u. u) result
+            (holds_or causes.NameTaken (not (knows_relvar name self.old))) }
+        ensures added { OnOk result
+            (self.new ≡ with_base (base_relvar name (B.keys body) (B.relation body)) self.old) }
+        ensures unchanged { OnErr result (self.new ≡ self.old) }
+    {
+        if self.has_relvar(&name) {
+            return Err(Fault::Refused(Cause::NameTaken));
+        }
+        let _ = body.len();
+        let _ = name.as_str();
+        let entry = BaseEntry {
+            heading,
+            keys,
+            body,
+        };
+        self.bases.insert(name, entry)?;
+        Ok(())
+    }
+
+    /// Adds a virtual relvar, last: refused where a relvar of the name is there. The heading is
+    /// that of the expression; `check_statement` tells whether that, its rank and the keys are as
+    /// is asked.
+    pub fn add_virtual(
+        &mut self,
+        name: Name,
+        heading: Heading,
+        tree: Expr,
+        keys: Vec<Vec<Name>>,
+    ) -> Result<(), Fault>
+        requires { IsVirtual (database_scope self.old) (virtual_relvar name heading
+            (tree_view tree) (map (λ key. key.items) keys.items)) }
+        ensures answer { Answers (λ u. u) result
+            (holds_or causes.NameTaken (not (knows_relvar name self.old))) }
+        ensures added { OnOk result (self.new ≡ with_virtual (virtual_relvar name heading
+            (tree_view tree) (map (λ key. key.items) keys.items)) self.old) }
+        ensures unchanged { OnErr result (self.new ≡ self.old) }
+    {
+        if self.has_relvar(&name) {
+            return Err(Fault::Refused(Cause::NameTaken));
+        }
+        let _ = name.as_str();
+        let tree = Rc::new(*self.virtuals.allocator(), tree)?;
+        let entry = VirtualEntry {
+            heading,
+            tree,
+            keys,
+        };
+        self.virtuals.insert(name, entry)?;
+        Ok(())
+    }
+
+    /// Adds a constraint, last: refused where a constraint of the name is there. `check_statement`
+    /// tells whether the expression is as is asked.
+    pub fn add_constraint(&mut self, name: Name, tree: Expr) -> Result<(), Fault>
+        requires { IsConstraint (database_scope self.old)
+            (named_constraint name (tree_view tree)) }
+        ensures answer { Answers (λ u. u) result
+            (holds_or causes.NameTaken (not (knows_constraint name self.old))) }
+        ensures added { OnOk result
+            (self.new ≡ with_constraint (named_constraint name (tree_view tree)) self.old) }
+        ensures unchanged { OnErr result (self.new ≡ self.old) }
+    {
+        if self.constraints.contains_key(&name) {
+            return Err(Fault::Refused(Cause::NameTaken));
+        }
+        let _ = name.as_str();
+        let tree = Rc::new(*self.constraints.allocator(), tree)?;
+        self.constraints.insert(name, ConstraintEntry { tree })?;
+        Ok(())
+    }
+
+    /// Gives the base relvar of the name another body. It takes no memory.
+    pub fn set_body(&mut self, name: &Name, body: B)
+        requires known { IsSome (base_named name.now self.old) }
+        requires body { IfSome (base_named name.now self.old) (λ r. IsBodyOf
+            r.relation.heading r.keys (B.relation body) (B.keys body)) }
+        requires typed { AreTyped self.old.types (B.relation body) }
+        requires hold { KeysHold (B.keys body) (B.relation body).body }
+        ensures { self.new ≡ with_body name.now (B.relation body) self.old }
+    {
+        let _ = body.len();
+        if let Some(place) = self.bases.get_index_of(name) {
+            let (_, entry) = self.bases.pair_mut(place);
+            entry.body = body;
+        }
+    }
+}

@@ -1,0 +1,87 @@
+//! What a catalogue makes known to expressions.
+ghost use Rattle.std.specs.Prelude.{◌≡◌, [], IfOk, length, option_map, position, slice_get, take};
+ghost use Rattle.td_catalog.specs.Database.{database_scope, with_constraints, with_virtuals};
+ghost use Rattle.td_tree.specs.TreeViews.{tree_view};
+ghost use Rattle.td_types.specs.Types.{same_name};
+
+use crate::catalog::Catalog;
+use std::alloc::AllocError;
+use td_body::body::Body;
+use td_check::scope::{Kind, Scope};
+use td_tree::expression::Expr;
+use td_tree::name::Name;
+
+impl<B: Body> Catalog<B> {
+    /// The types and the base relvars.
+    fn known_bases(&self) -> Result<Scope<'_>, AllocError>
+        ensures { IfOk result (λ s.
+            s ≡ database_scope (with_virtuals [] (with_constraints [] self.now))) }
+    {
+        let mut scope = Scope::new(*self.bases.allocator(), &self.types);
+        for (name, entry) in self.bases.iter() {
+            let heading = entry.heading.try_clone()?;
+            scope = scope.with_relvar(name.try_clone()?, Kind::Base, heading)?;
+        }
+        Ok(scope)
+    }
+
+    /// These, and so many of the virtual relvars, in order of definition.
+    fn known_relvars(&self, count: usize) -> Result<Scope<'_>, AllocError>
+        ensures { IfOk result (λ s. s ≡ database_scope
+            (with_virtuals (take count self.now.virtuals) (with_constraints [] self.now))) }
+    {
+        let mut scope = self.known_bases()?;
+        for place in 0..count {
+            let Some((name, entry)) = self.virtuals.get_index(place) else {
+                return Ok(scope);
+            };
+            let heading = entry.heading.try_clone()?;
+            scope = scope.with_relvar(name.try_clone()?, Kind::Virtual, heading)?;
+        }
+        Ok(scope)
+    }
+
+    /// What is known to expressions where so many of the virtual relvars are known, in order of
+    /// definition: the types, the relvars' names with their headings, and the constraints' names;
+    /// no tuple is in hand.
+    pub fn scope_before(&self, count: usize) -> Result<Scope<'_>, AllocError>
+        ensures { IfOk result (λ s. s ≡ database_scope
+            (with_virtuals (take count self.now.virtuals) self.now)) }
+    {
+        let mut scope = self.known_relvars(count)?;
+        for name in self.constraints.keys() {
+            scope = scope.with_constraint(name.try_clone()?)?;
+        }
+        Ok(scope)
+    }
+
+    /// What is known to expressions, with all of the virtual relvars.
+    pub fn scope(&self) -> Result<Scope<'_>, AllocError>
+        ensures { IfOk result (λ s. s ≡ database_scope self.now) }
+    {
+        self.scope_before(self.virtuals.len())
+    }
+
+    /// How many virtual relvars there are.
+    pub fn virtual_count(&self) -> usize
+        ensures { result ≡ length self.now.virtuals }
+    {
+        self.virtuals.len()
+    }
+
+    /// The place in order of definition of the virtual relvar of that name.
+    pub fn virtual_place(&self, name: &Name) -> Option<usize>
+        ensures { result ≡ position (λ v. same_name v.name name.now) self.now.virtuals }
+    {
+        self.virtuals.get_index_of(name)
+    }
+
+    /// The expression of the virtual relvar at a place in order of definition.
+    pub fn virtual_tree_at(&self, place: usize) -> Option<&Expr>
+        ensures { option_map (λ e. tree_view e.now) result
+            ≡ option_map (λ v. v.tree) (slice_get self.now.virtuals place) }
+    {
+        let (_, entry) = self.virtuals.get_index(place)?;
+        Some(&entry.tree)
+    }
+}
