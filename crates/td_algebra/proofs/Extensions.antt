@@ -1,5 +1,5 @@
 -- The extended tuples of a relation.
-use Rattle.std.proofs.Common.{◌≡◌, ◌∙◌, ◌+◌, ◌<◌, ◌≤◌, ap, drop, take, sym, refl, subst, arith, ℕ, zero, suc, Bool, true, false, cond, List, [], ◌∷◌, ◌++◌, Some, get_or, length, map, true≢false}
+use Rattle.std.proofs.Common.{◌≡◌, ◌∙◌, ◌+◌, ◌<◌, ◌≤◌, ap, drop, take, sym, refl, subst, arith, ℕ, zero, suc, Bool, true, false, cond, List, [], ◌∷◌, ◌++◌, Some, filter, get_or, length, map, true≢false}
 use Rattle.std.specs.Prelude.{if◌then◌else◌, is_some, not, option_map, Result, Ok}
 use Rattle.std.specs.declared.cmp.Ordering.TheVariants.{Less, Greater}
 use Rattle.std.specs.Ordering.{eq_by_cmp, ordering_reverse}
@@ -111,9 +111,14 @@ same_count : (bs : List Addition) (t : Tuple) → length (attribute_names (added
 same_count [] t = refl
 same_count (a ∷ bs) t = ap suc (same_count bs t)
 
-pub taken_extension : (bs : List Addition) (h : Heading) (t : Tuple) → IsTupleOf h t
-    → placed_tuple (sources_with h (attribute_names (added_attributes bs))) (values_of t ++ map (λ (a : Addition). a.value t) bs) ≡ extended_tuple bs t
-taken_extension bs h t p = ap tuple_of (taken-append (sources_outside [] 0 h) (numbered_sources (length h) names) (values_of t ++ cells) ∙ (λ i. old i ++ new i))
+-- the entries of a tuple whose names a part lacks
+abbrev pub entries_outside : Heading → Tuple → Tuple
+entries_outside part t = filter (λ e. not (has_attribute e.0 part)) t
+
+pub taken_beside : (part : Heading) (bs : List Addition) (h : Heading) (t : Tuple) → IsTupleOf h t
+    → placed_tuple (sources_with part h (attribute_names (added_attributes bs))) (values_of t ++ map (λ (a : Addition). a.value t) bs)
+    ≡ tuple_of (entries_outside part t ++ added_values bs t)
+taken_beside part bs h t p = ap tuple_of (taken-append (sources_outside part 0 h) (numbered_sources (length h) names) (values_of t ++ cells) ∙ (λ i. old i ++ new i))
   where
     names : List (List ℕ)
     names = attribute_names (added_attributes bs)
@@ -121,8 +126,8 @@ taken_extension bs h t p = ap tuple_of (taken-append (sources_outside [] 0 h) (n
     cells : List Val
     cells = map (λ (a : Addition). a.value t) bs
 
-    old : taken (sources_outside [] 0 h) (values_of t ++ cells) ≡ t
-    old = taken_outside [] h t 0 (values_of t ++ cells) cells (names_of_heading h t p) refl ∙ all_kept (λ (e : List ℕ × Val). not (has_attribute e.0 [])) t (λ e. refl)
+    old : taken (sources_outside part 0 h) (values_of t ++ cells) ≡ entries_outside part t
+    old = taken_outside part h t 0 (values_of t ++ cells) cells (names_of_heading h t p) refl
 
     new : taken (numbered_sources (length h) names) (values_of t ++ cells) ≡ added_values bs t
     new =
@@ -130,10 +135,15 @@ taken_extension bs h t p = ap tuple_of (taken-append (sources_outside [] 0 h) (n
         ∙ ap (λ vs. taken (numbered_sources (length (values_of t)) names) (values_of t ++ vs)) (sym (append-nil cells))
         ∙ taken_numbered (values_of t) names cells [] (same_count bs t) ∙ zip_added bs t
 
+taken_extension : (bs : List Addition) (h : Heading) (t : Tuple) → IsTupleOf h t
+    → placed_tuple (sources_with [] h (attribute_names (added_attributes bs))) (values_of t ++ map (λ (a : Addition). a.value t) bs) ≡ extended_tuple bs t
+taken_extension bs h t p =
+    taken_beside [] bs h t p ∙ ap (λ es. tuple_of (es ++ added_values bs t)) (all_kept (λ (e : List ℕ × Val). not (has_attribute e.0 [])) t (λ e. refl))
+
 -- ---- the line by membership
 
 module _ (t u : Tuple) where
-  given_values : (bs : List Addition) → AllByRecursion (λ (a : Addition). value_at a.name t ≡ Some (a.value u)) bs
+  pub given_values : (bs : List Addition) → AllByRecursion (λ (a : Addition). value_at a.name t ≡ Some (a.value u)) bs
       → (n : List ℕ) → has_name n (tuple_names (added_values bs u)) ≡ true → value_at n t ≡ value_at n (added_values bs u)
   given_values [] h n there = absurd (true≢false (sym there))
   given_values (a ∷ bs) h n there = by_name (same_name a.name n) refl (given_values bs h.1 n)
@@ -143,7 +153,7 @@ module _ (t u : Tuple) where
       by_name true is rest = subst (λ m. value_at m t ≡ Some (a.value u)) (same_text a.name n (sym is)) h.0
       by_name false is rest = rest (rw is at there)
 
-  values_given : (bs : List Addition) → are_distinct (attribute_names (added_attributes bs)) ≡ true
+  pub values_given : (bs : List Addition) → are_distinct (attribute_names (added_attributes bs)) ≡ true
       → ((n : List ℕ) → has_name n (tuple_names (added_values bs u)) ≡ true → value_at n t ≡ value_at n (added_values bs u))
       → AllByRecursion (λ (a : Addition). value_at a.name t ≡ Some (a.value u)) bs
   values_given [] d h = tt
@@ -233,18 +243,18 @@ with_is_missing r h x a ans e = by_test (has_attribute a.0 h) refl
         absurd (true≢false (sym (rw there at lacking)))
     by_test false there = value_of_answer r x (with_attribute h a) (not (has_attribute a.0 h)) causes.Heading ans e ∙ rw there refl
 
-names_of_all : (h : Heading) → attribute_names (outside [] h) ≡ attribute_names h
+pub names_of_all : (h : Heading) → attribute_names (outside [] h) ≡ attribute_names h
 names_of_all [] = refl
 names_of_all (a ∷ h) = ap (λ ns. a.0 ∷ ns) (names_of_all h)
 
-pub names_with : (h : Heading) (ns : List (List ℕ)) → map (λ s. s.0) (sources_with h ns) ≡ attribute_names h ++ ns
-names_with h ns =
-    map-append (λ (s : List ℕ × ℕ). s.0) (sources_outside [] 0 h) (numbered_sources (length h) ns)
-    ∙ (λ i. (names_outside [] 0 h ∙ names_of_all h) i ++ names_numbered (length h) ns i)
+pub names_with : (part h : Heading) (ns : List (List ℕ)) → map (λ s. s.0) (sources_with part h ns) ≡ attribute_names (outside part h) ++ ns
+names_with part h ns =
+    map-append (λ (s : List ℕ × ℕ). s.0) (sources_outside part 0 h) (numbered_sources (length h) ns)
+    ∙ (λ i. names_outside part 0 h i ++ names_numbered (length h) ns i)
 
-pub with_in_range : (h : Heading) (ns : List (List ℕ)) (n : ℕ) → length h + length ns ≤ n → All (λ s. s.1 < n) (sources_with h ns)
-with_in_range h ns n l =
-    All-append (λ s. s.1 < n) (sources_outside [] 0 h) (numbered_sources (length h) ns) (outside_in_range [] 0 n h (omega arith)) (numbered_in_range (length h) n ns l)
+pub with_in_range : (part h : Heading) (ns : List (List ℕ)) (n : ℕ) → length h + length ns ≤ n → All (λ s. s.1 < n) (sources_with part h ns)
+with_in_range part h ns n l =
+    All-append (λ s. s.1 < n) (sources_outside part 0 h) (numbered_sources (length h) ns) (outside_in_range part 0 n h (omega arith)) (numbered_in_range (length h) n ns l)
 
 -- the columns' values at a place are those that the new attributes have in the tuple there
 pub cells_are : (cs : List (List ℕ × Column)) (ts : List Tuple) (bs : List Addition) (i : ℕ) (t : Tuple) → AreColumnsOf (columns_view cs) ts bs → i < length ts
@@ -324,7 +334,7 @@ columns_of_additions (c ∷ cs) ts up h =
     λ i. (c.0, c.1, sym values i) ∷ rest i
 
 -- and their values have the types of the columns
-typed_from : (cs : List NamedColumn) (ts : List Tuple) (bs : List Addition) (i : ℕ) (t : Tuple) → AreColumnsOf cs ts bs → AllByRecursion (λ c. IsColumn c.1 c.2 ts) cs → i < length ts
+pub typed_from : (cs : List NamedColumn) (ts : List Tuple) (bs : List Addition) (i : ℕ) (t : Tuple) → AreColumnsOf cs ts bs → AllByRecursion (λ c. IsColumn c.1 c.2 ts) cs → i < length ts
     → AllByRecursion (λ (a : Addition). type_of (a.value (get_or ts i t)) ≡ a.kind) bs
 typed_from [] ts [] i t e h l = tt
 typed_from [] ts (b ∷ bs) i t e h l = absurd (cc)
@@ -400,13 +410,13 @@ all_distinct h g cs names same is p d new =
     (λ n there. ap (has_name n) added ∙ sym (has_attribute-names n (column_attributes (columns_view cs)))
     ∙ apart (column_attributes (columns_view cs)) h free n (has_attribute-names n h ∙ there))
 
-pub layout_range : (h : Heading) (cs : List (List ℕ × Column)) (names : List (List ℕ)) (layout : Sources) (ts : List Tuple) → names ≡ map (λ c. c.0) cs
-    → IsPermutation (sources_with h names) layout → All (IsTupleOf h) ts → All (λ t. All (λ s. s.1 < length (values_of t) + length cs) layout) ts
-layout_range h cs names layout ts is p a k d l =
+pub layout_range : (part h : Heading) (cs : List (List ℕ × Column)) (names : List (List ℕ)) (layout : Sources) (ts : List Tuple) → names ≡ map (λ c. c.0) cs
+    → IsPermutation (sources_with part h names) layout → All (IsTupleOf h) ts → All (λ t. All (λ s. s.1 < length (values_of t) + length cs) layout) ts
+layout_range part h cs names layout ts is p a k d l =
     let wide : length h ≡ length (values_of (get_or ts k d)) = as_many h (get_or ts k d) (a k d l) in
     let count : length names ≡ length cs = ap length is ∙ length-map cs (λ c. c.0) in
-    All-permutation (λ s. s.1 < length (values_of (get_or ts k d)) + length cs) (sources_with h names) layout p
-    (with_in_range h names (length (values_of (get_or ts k d)) + length cs) (omega arith))
+    All-permutation (λ s. s.1 < length (values_of (get_or ts k d)) + length cs) (sources_with part h names) layout p
+    (with_in_range part h names (length (values_of (get_or ts k d)) + length cs) (omega arith))
 
 pub columns_moved : (cs ds : List (List ℕ × Column)) (ss ts : List Tuple) → cs ≡ ds → ss ≡ ts → AreColumns (columns_view ds) ts → AreColumns (columns_view cs) ss
 columns_moved cs ds ss ts e f = subst (λ us. AreColumns (columns_view ds) ts → AreColumns us ss) (ap columns_view (sym e)) (subst (λ us. AreColumns (columns_view ds) ts → AreColumns (columns_view ds) us) (sym f) (λ h. h))
@@ -414,16 +424,24 @@ columns_moved cs ds ss ts e f = subst (λ us. AreColumns (columns_view ds) ts �
 pub additions_attributes : (cs : List NamedColumn) (ts : List Tuple) (bs : List Addition) → AreColumnsOf cs ts bs → column_attributes cs ≡ added_attributes bs
 additions_attributes cs ts bs e = ap column_attributes e ∙ attributes_of_additions ts bs
 
--- the rows are the extended tuples
-pub extension_rows : (cs ds : List (List ℕ × Column)) (bs : List Addition) (h : Heading) (body ts made : List Tuple) (names : List (List ℕ)) (layout : Sources)
-    → cs ≡ ds → ts ≡ body → AreColumnsOf (columns_view ds) body bs → names ≡ map (λ c. c.0) ds → All (IsTupleOf h) ts → IsPermutation (sources_with h names) layout
+-- the rows are the tuples of their entries that a part lacks, and the new ones
+pub rows_beside : (part : Heading) (cs ds : List (List ℕ × Column)) (bs : List Addition) (h : Heading) (body ts made : List Tuple) (names : List (List ℕ)) (layout : Sources)
+    → cs ≡ ds → ts ≡ body → AreColumnsOf (columns_view ds) body bs → names ≡ map (λ c. c.0) ds → All (IsTupleOf h) ts → IsPermutation (sources_with part h names) layout
     → ((sources : Sources) (additions : List Addition) → IsPermutation sources layout → AreColumnsOf (columns_view cs) ts additions → made ≡ map (row_with sources additions) ts)
-    → made ≡ map (extended_tuple bs) body
-extension_rows cs ds bs h body ts made names layout same rows e is a p m =
+    → (f : Tuple → Tuple) → ((t : Tuple) → IsTupleOf h t → row_with (sources_with part h (attribute_names (added_attributes bs))) bs t ≡ f t) → made ≡ map f body
+rows_beside part cs ds bs h body ts made names layout same rows e is a p m f each =
     let columns : AreColumnsOf (columns_view cs) ts bs = ap columns_view same ∙ e ∙ ap (λ us. map (column_of us) bs) (sym rows) in
     let named : names ≡ attribute_names (added_attributes bs) = is ∙ column_names ds ∙ ap attribute_names (additions_attributes (columns_view ds) body bs e) in
-    m (sources_with h names) bs p columns ∙ ap (λ ns. map (row_with (sources_with h ns) bs) ts) named
-    ∙ map_alike (IsTupleOf h) (row_with (sources_with h (attribute_names (added_attributes bs))) bs) (extended_tuple bs) ts a (taken_extension bs h) ∙ ap (map (extended_tuple bs)) rows
+    m (sources_with part h names) bs p columns ∙ ap (λ ns. map (row_with (sources_with part h ns) bs) ts) named
+    ∙ map_alike (IsTupleOf h) (row_with (sources_with part h (attribute_names (added_attributes bs))) bs) f ts a each ∙ ap (map f) rows
+
+-- with no part, they are the extended tuples
+pub extension_rows : (nothing : Heading) (cs ds : List (List ℕ × Column)) (bs : List Addition) (h : Heading) (body ts made : List Tuple) (names : List (List ℕ)) (layout : Sources)
+    → nothing ≡ [] → cs ≡ ds → ts ≡ body → AreColumnsOf (columns_view ds) body bs → names ≡ map (λ c. c.0) ds → All (IsTupleOf h) ts → IsPermutation (sources_with nothing h names) layout
+    → ((sources : Sources) (additions : List Addition) → IsPermutation sources layout → AreColumnsOf (columns_view cs) ts additions → made ≡ map (row_with sources additions) ts)
+    → made ≡ map (extended_tuple bs) body
+extension_rows nothing cs ds bs h body ts made names layout none same rows e is a p m =
+    rows_beside [] cs ds bs h body ts made names layout same rows e is a (subst (λ g. IsPermutation (sources_with g h names) layout) none p) m (extended_tuple bs) (taken_extension bs h)
 
 pub extension_heading : (cs : List (List ℕ × Column)) (bs : List Addition) (h g made : Heading) (ts : List Tuple) → AreColumnsOf (columns_view cs) ts bs → h ≡ g
     → made ≡ heading_union h (column_attributes (columns_view cs)) → made ≡ heading_union g (added_attributes bs)

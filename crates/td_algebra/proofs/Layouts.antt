@@ -1,18 +1,19 @@
 -- Values taken from their places.
-use Rattle.std.proofs.Common.{◌≡◌, ◌∙◌, ◌+◌, ◌<◌, ◌≤◌, ap, append_assoc, sym, refl, subst, arith, ℕ, zero, suc, Bool, true, false, List, [], ◌∷◌, ◌++◌, Some, None, drop, get_or, length, map}
+use Rattle.std.proofs.Common.{◌≡◌, ◌∙◌, ◌+◌, ◌<◌, ◌≤◌, ap, append_assoc, sym, refl, subst, arith, ℕ, zero, suc, Bool, true, false, List, [], ◌∷◌, ◌++◌, Some, None, drop, get_or, length, map, take}
 use Rattle.std.specs.Prelude.{if◌then◌else◌}
 use Rattle.std.specs.List.{slice_get, zip}
 use Rattle.std.specs.List.Sorted.{IsPermutation, IsStrictlySortedBy}
-use Rattle.std.proofs.lemmas.List.{append-nil, at_drop_more, drop_all, length-map}
-use Rattle.std.proofs.lemmas.List.Sorted.{All-permutation, IsPermutation-map, IsPermutation-sym}
+use Rattle.std.proofs.lemmas.List.{append-nil, at_drop_more, drop_all, get_or_default, length-map, map-append, take_more}
+use Rattle.std.proofs.lemmas.List.Sorted.{All-permutation, IsPermutation-map, IsPermutation-refl, IsPermutation-sym}
 use Rattle.std.proofs.lemmas.Option.{get_or_from_slice_get, slice_get-get_or, slice_get_within}
 use Rattle.td_types.specs.Headings.{has_attribute}
 use Rattle.td_types.specs.Types.{Attribute, Heading}
 use Rattle.td_types.proofs.HeadingLaws.{name_cmp}
-use Rattle.td_value.specs.Values.{Val, boolean, tuple_of}
+use Rattle.td_value.specs.Values.{Tuple, Val, boolean, tuple_of}
+use Rattle.td_value.specs.Views.{values_of}
 use Rattle.td_value.proofs.Maps.{sorted_is_tuple_of}
-use Rattle.td_value.proofs.Zips.{zip_names}
-use Rattle.td_algebra.specs.Layouts.{AreInRange, Sources, source_unless, sources_outside, taken}
+use Rattle.td_value.proofs.Zips.{zip_names, zip_values}
+use Rattle.td_algebra.specs.Layouts.{AreInRange, IsMade, Sources, source_unless, sources_outside, taken}
 
 -- names with their places, taken apart and put together again
 pub zipped_sources : (ss : Sources) → zip (map (λ s. s.0) ss) (map (λ s. s.1) ss) ≡ ss
@@ -48,12 +49,53 @@ tuple_is_taken ns ps vs sources e up h p =
     (rw (taken_entries sources vs range, zip_entries ns ps vs) moved)
     (subst (IsStrictlySortedBy name_cmp) (sym names) up)
 
+-- ---- a tuple that is made of some values
+
+module _ (ns : List (List ℕ)) (ps : List ℕ) (t : Tuple) (e : length ns ≡ length ps) (up : IsStrictlySortedBy name_cmp ns) (made : IsMade (zip ns ps) t) where
+  own_places : t ≡ zip ns (map (value_in made.0) ps)
+  own_places = made.2 ∙ sym (tuple_is_taken ns ps made.0 (zip ns ps) e up made.1 (IsPermutation-refl (zip ns ps)))
+
+  zipped_values : (vs : List Val) → values_of (zip ns (map (value_in vs) ps)) ≡ map (value_in vs) ps
+  zipped_values vs = zip_values ns (map (value_in vs) ps) (e ∙ sym (length-map ps (value_in vs)))
+
+  -- has as many values as there are places
+  pub made_length : length (values_of t) ≡ length ps
+  made_length = ap (λ u. length (values_of u)) own_places ∙ ap length (zipped_values made.0) ∙ length-map ps (value_in made.0)
+
+  -- is the one that is made of other values where its values are those at the places
+  module _ (vs : List Val) (sources : Sources) (range : AreInRange (zip ns ps) vs) (p : IsPermutation sources (zip ns ps)) where
+    pub made_of : values_of t ≡ map (value_in vs) ps → t ≡ tuple_of (taken sources vs)
+    made_of same = own_places ∙ ap (zip ns) (sym (ap values_of own_places ∙ zipped_values made.0) ∙ same) ∙ tuple_is_taken ns ps vs sources e up range p
+
+    pub values_made : t ≡ tuple_of (taken sources vs) → values_of t ≡ map (value_in vs) ps
+    values_made is = ap values_of (is ∙ sym (tuple_is_taken ns ps vs sources e up range p)) ∙ zipped_values vs
+
 -- each place of a layout is in range
 pub place_below : (ns : List (List ℕ)) (ps : List ℕ) (vs : List Val) (i : ℕ) → length ns ≡ length ps → AreInRange (zip ns ps) vs → i < length ps → get_or ps i 0 < length vs
 place_below [] ps vs i e h l = absurd (omega (arith, e, l))
 place_below (n ∷ ns) [] vs i e h l = absurd (omega (arith, l))
 place_below (n ∷ ns) (p ∷ ps) vs zero e h l = h 0 (n, p) (omega arith)
 place_below (n ∷ ns) (p ∷ ps) vs (suc i) e h l = place_below ns ps vs i (omega (arith, e)) (λ k d b. h (suc k) d (omega arith)) (omega (arith, l))
+
+-- the value that is read at a place of the list
+pub value_read : (ps : List ℕ) (vs : List Val) (i place : ℕ) (v : Val) → i < length ps → place ≡ get_or ps i place → slice_get (vs ++ []) place ≡ Some v
+    → v ≡ value_in vs (get_or ps i 0)
+value_read ps vs i place v l is e =
+    sym (get_or_from_slice_get (vs ++ []) place v (boolean false) e) ∙ ap (λ ws. value_in ws place) (append-nil vs) ∙ ap (value_in vs) (is ∙ get_or_default ps i place 0 l)
+
+pub value_there : (ps : List ℕ) (vs own : List Val) (i : ℕ) (v : Val) → i < length ps → v ≡ get_or own i v → own ≡ map (value_in vs) ps → v ≡ value_in vs (get_or ps i 0)
+value_there ps vs own i v l is e = is ∙ ap (λ ws. get_or ws i v) e ∙ mapped ps i l
+  where
+    mapped : (qs : List ℕ) (k : ℕ) → k < length qs → get_or (map (value_in vs) qs) k v ≡ value_in vs (get_or qs k 0)
+    mapped [] k m = absurd (omega arith)
+    mapped (q ∷ qs) zero m = refl
+    mapped (q ∷ qs) (suc k) m = mapped qs k (omega arith)
+
+pub values_more : (ps : List ℕ) (vs own : List Val) (i : ℕ) (v : Val) → i < length ps → i < length own → v ≡ get_or own i v → v ≡ value_in vs (get_or ps i 0)
+    → take i own ≡ map (value_in vs) (take i ps) → take (i + 1) own ≡ map (value_in vs) (take (i + 1) ps)
+values_more ps vs own i v l m is e inv =
+    take_more own i v m ∙ (λ k. inv k ++ (sym is ∙ e) k ∷ [])
+    ∙ sym (ap (map (value_in vs)) (take_more ps i 0 l) ∙ map-append (value_in vs) (take i ps) (get_or ps i 0 ∷ []))
 
 -- ---- the places of a heading's names
 

@@ -20,6 +20,7 @@ pub mod Relations
 pub mod Renamings
 pub mod Results
 pub mod SetEqualities
+pub mod Settings
 pub mod Sources
 pub mod Taken
 pub mod United

@@ -1,22 +1,24 @@
 -- What the operators give of relations are relations.
 use Rattle.std.proofs.Common.{◌≡◌, ℕ, Bool, true, false, List, [], ◌∷◌, ◌++◌, filter, map, subst, sym}
-use Rattle.std.specs.Prelude.{IsTrue, if◌then◌else◌}
+use Rattle.std.specs.Prelude.{IsTrue, if◌then◌else◌, not}
 use Rattle.std.specs.List.{All, AllByRecursion, Contains, flat_map}
 use Rattle.std.proofs.lemmas.List.Elements.{All-append, recursion_from_All}
 use Rattle.td_tree.specs.Names.{IsName}
-use Rattle.td_types.specs.Headings.{add_missing, can_rename, heading_union, new_name, projection, renamed}
-use Rattle.td_types.specs.Types.{Attribute, Heading, IsHeading, IsType, pack, same_name}
+use Rattle.td_types.specs.Headings.{add_missing, are_distinct, can_rename, has_attribute, heading_union, new_name, outside, projection, renamed}
+use Rattle.td_types.specs.Types.{Attribute, Heading, IsHeading, IsType, attribute_names, pack, same_name}
 use Rattle.td_types.proofs.HeadingLaws.{IsHeading-filter}
-use Rattle.td_value.specs.Values.{IsRelation, IsTuple, IsTupleOf, IsValue, Relation, Tuple, AreFields, pack_fields, projected_tuple, relation_of, type_of}
+use Rattle.td_value.specs.Values.{IsRelation, IsTuple, IsTupleOf, Relation, Tuple, AreFields, pack_fields, projected_tuple, relation_of, type_of}
+use Rattle.td_value.proofs.Kept.{IsTuple-filter}
 use Rattle.td_algebra.specs.Membership.{AreNew, IsIn}
-use Rattle.td_algebra.specs.Operators.{Addition, added_attributes, added_values, are_partners, composition, extended_relation, extended_tuple, join, own_names, product, projected_relation, renamed_relation, renamed_tuple, united_tuple, union}
+use Rattle.td_algebra.specs.Operators.{Addition, added_attributes, added_values, are_partners, composition, extended_relation, extended_tuple, join, own_names, product, projected_relation, renamed_relation, renamed_tuple, set_relation, set_tuple, united_tuple, union}
 use Rattle.td_algebra.specs.Results.{IsTyped, NewNamesAreNames, ResultsAreRelations}
 use Rattle.td_algebra.proofs.Entries.{IsTuple-tuple_of, fields_append}
-use Rattle.td_algebra.proofs.Extensions.{IsTupleOf-extended, extended_distinct}
+use Rattle.td_algebra.proofs.Extensions.{IsTupleOf-extended, entries_outside, extended_distinct}
 use Rattle.td_algebra.proofs.Lists.{contains_filter, contains_flat_map, contains_map}
 use Rattle.td_algebra.proofs.Projections.{IsTupleOf-projected}
 use Rattle.td_algebra.proofs.Relations.{All-from_members, IsRelation-relation_of, IsRelation-restriction, member_headed, rows_headed}
 use Rattle.td_algebra.proofs.Renamings.{IsTupleOf-renamed}
+use Rattle.td_algebra.proofs.Settings.{IsTupleOf-set, set_distinct}
 use Rattle.td_algebra.proofs.United.{IsHeading-union, IsTupleOf-united, add_missing-heading}
 
 -- ---- headings
@@ -130,12 +132,35 @@ IsRelation-extended bs r p new typed = IsRelation-mapped (heading_union r.headin
         (extended_distinct bs r.heading t member new.0 new.1) in
         IsTupleOf-extended bs r.heading t member new.0 new.1 valid (added_typed r bs t c typed) heading
 
+pub IsRelation-set : (bs : List Addition) (r : Relation) → IsRelation r → are_distinct (attribute_names (added_attributes bs)) ≡ true → AllByRecursion (IsTyped r) bs
+    → IsRelation (set_relation bs r)
+IsRelation-set bs r p distinct typed = IsRelation-mapped (heading_union others (added_attributes bs)) (set_tuple bs) r heading headed
+  where
+    others : Heading
+    others = outside (added_attributes bs) r.heading
+
+    heading : IsHeading (pack (heading_union others (added_attributes bs)))
+    heading =
+        IsHeading-added others (added_attributes bs) (IsHeading-filter (λ a. not (has_attribute a.0 (added_attributes bs))) r.heading p.2)
+        (added_are_attributes r bs typed)
+
+    headed : (t : Tuple) → IsIn t r → IsTupleOf (heading_union others (added_attributes bs)) (set_tuple bs t)
+    headed t c =
+        let member = member_headed r t p c in
+        let kept = IsTuple-filter (λ e. not (has_attribute e.0 (added_attributes bs))) t member.0 in
+        let valid : IsTuple (set_tuple bs t) =
+        IsTuple-tuple_of (entries_outside (added_attributes bs) t ++ added_values bs t)
+        (fields_append (entries_outside (added_attributes bs) t) (added_values bs t) kept.0 (added_fields r bs t c typed))
+        (set_distinct bs r.heading t member distinct) in
+        IsTupleOf-set bs r.heading t member distinct valid (added_typed r bs t c typed) heading
+
 pub are_relations : ResultsAreRelations
 are_relations = record {
   of_restriction = IsRelation-restriction;
   of_projection = IsRelation-projected;
   of_renaming = IsRelation-renamed;
   of_extension = λ bs r h new typed. IsRelation-extended bs r h new (recursion_from_All (IsTyped r) bs typed);
+  of_setting = λ bs r h distinct typed. IsRelation-set bs r h distinct (recursion_from_All (IsTyped r) bs typed);
   of_union = IsRelation-union;
   of_intersection = λ r s h. IsRelation-restriction _ r h;
   of_difference = λ r s h. IsRelation-restriction _ r h;

@@ -1,6 +1,6 @@
 -- Where the values of a result's tuples come from: each name with a place in the values of one operand's tuple followed by
 -- those of the other's (this project's own).
-use Rattle.std.specs.Prelude.{ℕ, ◌+◌, ◌<◌, List, [], ◌∷◌, ◌++◌, length, Option, None, Some, if◌then◌else◌}
+use Rattle.std.specs.Prelude.{◌≡◌, ℕ, ◌+◌, ◌<◌, List, [], ◌∷◌, ◌++◌, length, Option, None, Some, if◌then◌else◌}
 use Rattle.std.specs.List.{All, slice_get}
 use Rattle.td_types.specs.Headings.{has_attribute}
 use Rattle.td_types.specs.Types.{Heading}
@@ -45,6 +45,10 @@ numbered_sources start (n ∷ ns) = (n, start) ∷ numbered_sources (start + 1) 
 abbrev pub placed_tuple : Sources → List Val → Tuple
 placed_tuple sources vs = tuple_of (taken sources vs)
 
--- the names of a heading with their places, and then more names
-abbrev pub sources_with : Heading → List (List ℕ) → Sources
-sources_with heading names = sources_outside [] 0 heading ++ numbered_sources (length heading) names
+-- the tuple is the one of what is taken from some values
+abbrev pub IsMade : Sources → Tuple → Type 0
+IsMade sources t = (vs : List Val) × AreInRange sources vs × (t ≡ placed_tuple sources vs)
+
+-- the names of a heading with their places, but for those that the part has too; and then more names
+abbrev pub sources_with : Heading → Heading → List (List ℕ) → Sources
+sources_with part heading names = sources_outside part 0 heading ++ numbered_sources (length heading) names

@@ -1,11 +1,11 @@
 -- The operators by membership: which tuples of the result's heading are in the result (Tutorial D's).
 use Rattle.std.specs.Prelude.{◌≡◌, ℕ, Bool, IsTrue, ◌↔◌, ◌⊎◌, List, [], ◌++◌, Some}
 use Rattle.std.specs.List.{All, Contains}
-use Rattle.td_types.specs.Headings.{agree, are_distinct, can_rename, has_name, have_no_common, heading_union, new_name, projection, renamed}
+use Rattle.td_types.specs.Headings.{agree, are_distinct, can_rename, has_name, have_no_common, heading_union, new_name, outside, projection, renamed}
 use Rattle.td_types.specs.Types.{Heading, attribute_names}
 use Rattle.td_value.specs.Agreement.{AgreeOn}
 use Rattle.td_value.specs.Values.{Tuple, Relation, IsRelation, IsTupleOf, projected_tuple, tuple_names, value_at}
-use Rattle.td_algebra.specs.Operators.{Addition, added_attributes, common_names, composition, difference, extended_relation, intersection, is_subset, join, own_names, product, projected_relation, relation_names, renamed_relation, restriction, semidifference, semijoin, union}
+use Rattle.td_algebra.specs.Operators.{Addition, added_attributes, common_names, composition, difference, extended_relation, intersection, is_subset, join, own_names, product, projected_relation, relation_names, renamed_relation, restriction, semidifference, semijoin, set_relation, union}
 
 -- the tuple is in the relation
 abbrev pub IsIn : Tuple → Relation → Type 0
@@ -51,6 +51,27 @@ ExtensionByMembership =
     (additions : List Addition) (r : Relation) (t : Tuple) → IsRelation r → AreNew additions r
     → IsTupleOf (heading_union r.heading (added_attributes additions)) t
     → IsIn t (extended_relation additions r) ↔ ((u : Tuple) × IsIn u r × IsExtended additions r u t)
+
+-- the names of r that are set to nothing new
+abbrev pub other_names : List Addition → Relation → List (List ℕ)
+other_names additions r = attribute_names (outside (added_attributes additions) r.heading)
+
+-- t is u on those names, with each attribute set to its value in u
+abbrev pub IsSet : List Addition → Relation → Tuple → Tuple → Type 0
+IsSet additions r u t =
+    AgreeOn (other_names additions r) t u × All (λ (a : Addition). value_at a.name t ≡ Some (a.value u)) additions
+
+-- the heading with attributes set
+abbrev pub set_heading_of : List Addition → Relation → Heading
+set_heading_of additions r =
+    heading_union (outside (added_attributes additions) r.heading) (added_attributes additions)
+
+-- r with attributes set: t is some u with each A set to its value in u
+abbrev pub SettingByMembership : Type 0
+SettingByMembership =
+    (additions : List Addition) (r : Relation) (t : Tuple) → IsRelation r
+    → IsTrue (are_distinct (attribute_names (added_attributes additions))) → IsTupleOf (set_heading_of additions r) t
+    → IsIn t (set_relation additions r) ↔ ((u : Tuple) × IsIn u r × IsSet additions r u t)
 
 -- r UNION s: t is in r or in s
 abbrev pub UnionByMembership : Type 0

@@ -1,7 +1,7 @@
 -- The relational operators, each by a comprehension over the sets of its operands' tuples (Tutorial D's).
 use Rattle.std.specs.Prelude.{ℕ, Bool, not, List, [], ◌++◌, filter, map}
 use Rattle.std.specs.List.{flat_map, list_all, list_any}
-use Rattle.td_types.specs.Headings.{common_part, has_name, heading_union, new_name, outside, projection, renamed}
+use Rattle.td_types.specs.Headings.{common_part, has_attribute, has_name, heading_union, new_name, outside, projection, renamed}
 use Rattle.td_types.specs.Types.{Type', Heading, attribute_names}
 use Rattle.td_value.specs.Agreement.{agree_on}
 use Rattle.td_value.specs.Sets.{has}
@@ -62,6 +62,18 @@ extended_tuple additions t = tuple_of (t ++ added_values additions t)
 abbrev pub extended_relation : List Addition → Relation → Relation
 extended_relation additions r =
     relation_of (heading_union r.heading (added_attributes additions)) (map (extended_tuple additions) r.body)
+
+-- a tuple with attributes set: its entries of the other names, and theirs
+abbrev pub set_tuple : List Addition → Tuple → Tuple
+set_tuple additions t =
+    tuple_of (filter (λ e. not (has_attribute e.0 (added_attributes additions))) t ++ added_values additions t)
+
+-- r with attributes set, each there before or new: the tuples with them set, all at once
+abbrev pub set_relation : List Addition → Relation → Relation
+set_relation additions r =
+    relation_of
+    (heading_union (outside (added_attributes additions) r.heading) (added_attributes additions))
+    (map (set_tuple additions) r.body)
 
 -- ---- operators on two relations of one heading
 

@@ -2,11 +2,11 @@
 use Rattle.std.specs.Prelude.{◌≡◌, ℕ, Bool, List, IsTrue}
 use Rattle.std.specs.List.{All}
 use Rattle.td_tree.specs.Names.{IsName}
-use Rattle.td_types.specs.Headings.{can_rename}
-use Rattle.td_types.specs.Types.{IsType}
+use Rattle.td_types.specs.Headings.{are_distinct, can_rename}
+use Rattle.td_types.specs.Types.{IsType, attribute_names}
 use Rattle.td_value.specs.Values.{Relation, IsRelation, IsValue, Tuple, type_of}
 use Rattle.td_algebra.specs.Membership.{AreNew, IsIn}
-use Rattle.td_algebra.specs.Operators.{Addition, composition, difference, extended_relation, intersection, join, product, projected_relation, renamed_relation, restriction, semidifference, semijoin, union}
+use Rattle.td_algebra.specs.Operators.{Addition, added_attributes, composition, difference, extended_relation, intersection, join, product, projected_relation, renamed_relation, restriction, semidifference, semijoin, set_relation, union}
 
 -- a name, a type, and in each tuple of the relation a value of that type
 abbrev pub IsTyped : Relation → Addition → Type 0
@@ -18,7 +18,7 @@ IsTyped r a =
 abbrev pub NewNamesAreNames : List (List ℕ × List ℕ) → Type 0
 NewNamesAreNames = All (λ (r : List ℕ × List ℕ). IsName r.1)
 
--- of relations the result is a relation, of UNION where they have one heading, of RENAME and EXTEND where these can be done
+-- of relations the result is a relation, of UNION where they have one heading, of RENAME, EXTEND and a setting where these can be done
 pub record ResultsAreRelations : Type 0 where
   pub of_restriction : (p : Tuple → Bool) (r : Relation) → IsRelation r → IsRelation (restriction p r)
   pub of_projection : (names : List (List ℕ)) (r : Relation) → IsRelation r → IsRelation (projected_relation names r)
@@ -28,6 +28,10 @@ pub record ResultsAreRelations : Type 0 where
   pub of_extension :
       (additions : List Addition) (r : Relation) → IsRelation r → AreNew additions r → All (IsTyped r) additions
       → IsRelation (extended_relation additions r)
+  pub of_setting :
+      (additions : List Addition) (r : Relation) → IsRelation r
+      → IsTrue (are_distinct (attribute_names (added_attributes additions))) → All (IsTyped r) additions
+      → IsRelation (set_relation additions r)
   pub of_union : (r s : Relation) → IsRelation r → IsRelation s → r.heading ≡ s.heading → IsRelation (union r s)
   pub of_intersection : (r s : Relation) → IsRelation r → IsRelation (intersection r s)
   pub of_difference : (r s : Relation) → IsRelation r → IsRelation (difference r s)

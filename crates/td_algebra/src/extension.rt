@@ -11,7 +11,7 @@ ghost use Rattle.td_algebra.specs.Columns.{cells_at, columns_view, new_attribute
 ghost use Rattle.td_algebra.specs.Layouts.{Sources, placed_tuple, sources_with};
 ghost use Rattle.td_algebra.specs.Operators.{Addition, extended_relation};
 ghost use Rattle.td_types.specs.Headings.{are_distinct, has_attribute, have_no_common};
-ghost use Rattle.td_types.specs.Headings.{heading_union};
+ghost use Rattle.td_types.specs.Headings.{heading_union, outside};
 ghost use Rattle.td_types.specs.Types.{attribute_names};
 ghost use Rattle.td_types.specs.Views.{type_view};
 ghost use Rattle.td_value.specs.Values.{IsAscendingBody, IsTuple, IsTupleOf, Tuple, Val};
@@ -48,7 +48,10 @@ impl Column {
 }
 
 /// The heading with the columns' attributes.
-fn heading_with(heading: &Heading, columns: &[(Name, Column)]) -> Result<Heading, AllocError>
+pub(crate) fn heading_with(
+    heading: &Heading,
+    columns: &[(Name, Column)],
+) -> Result<Heading, AllocError>
     ensures { IfOk result (λ h.
         h ≡ heading_union heading.now (column_attributes (columns_view columns.now))) }
 {
@@ -59,14 +62,19 @@ fn heading_with(heading: &Heading, columns: &[(Name, Column)]) -> Result<Heading
     Ok(extended)
 }
 
-/// The layout of a row's values followed by those of the columns.
-fn extended_layout(alloc: Global, heading: &Heading, names: &[Name]) -> Result<Layout, AllocError>
-    requires { IsTrue (are_distinct (attribute_names heading.now ++ names.now)) }
-    ensures { IfOk result (λ layout. IsPermutation (sources_with heading.now names.now) layout) }
+/// The layout of a row's values, but for those of the part's names, followed by the columns'.
+pub(crate) fn extended_layout(
+    alloc: Global,
+    part: &Heading,
+    heading: &Heading,
+    names: &[Name],
+) -> Result<Layout, AllocError>
+    requires { IsTrue (are_distinct (attribute_names (outside part.now heading.now) ++ names.now)) }
+    ensures { IfOk result (λ layout.
+        IsPermutation (sources_with part.now heading.now names.now) layout) }
 {
     let mut sources = Vec::new(alloc);
-    let nothing = Heading::empty(alloc);
-    put_sources(&mut sources, heading, 0, &nothing)?;
+    put_sources(&mut sources, heading, 0, part)?;
     put_names(&mut sources, names, heading.len())?;
     Layout::new(alloc, sources)
 }
@@ -88,7 +96,7 @@ fn put_cells(
 }
 
 /// The rows, each with its values of the columns.
-fn extended_rows(
+pub(crate) fn extended_rows(
     alloc: Global,
     rows: &[Tuple],
     columns: &[(Name, Column)],
@@ -166,7 +174,8 @@ pub fn extend_all(alloc: Global, rel: &Rel, columns: Vec<(Name, Column)>) -> Res
     let heading = heading_with(old, &columns)?;
     let _ = heading.len();
     let names = names_of(alloc, &columns)?;
-    let layout = extended_layout(alloc, old, &names)?;
+    let nothing = Heading::empty(alloc);
+    let layout = extended_layout(alloc, &nothing, old, &names)?;
     let rows = extended_rows(alloc, rel.rows(), &columns, &layout)?;
     let ascend = come_after(old, &names);
     relation_of(heading, rows, ascend)

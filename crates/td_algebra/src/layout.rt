@@ -1,13 +1,15 @@
 //! Where the values of a result's tuples come from.
-ghost use Rattle.std.specs.Prelude.{◌≡◌, ◌+◌, ◌<◌, ◌++◌, IfOk, IsTrue, OnOk, Some, length, map};
+ghost use Rattle.std.specs.Prelude.{◌≡◌, ◌↔◌, ◌+◌, ◌<◌, ◌++◌, IfOk, IsTrue, OnOk, Some, length};
+ghost use Rattle.std.specs.Prelude.{map};
 ghost use Rattle.std.specs.List.{All, slice_get};
 ghost use Rattle.std.specs.List.Sorted.{IsPermutation};
-ghost use Rattle.td_algebra.specs.Layouts.{AreInRange, Sources, numbered_sources, placed_tuple};
-ghost use Rattle.td_algebra.specs.Layouts.{source_unless, sources_outside};
+ghost use Rattle.td_algebra.specs.Layouts.{AreInRange, IsMade, Sources, numbered_sources};
+ghost use Rattle.td_algebra.specs.Layouts.{placed_tuple, source_unless, sources_outside};
 ghost use Rattle.td_types.specs.Headings.{are_distinct, outside};
 ghost use Rattle.td_value.specs.Views.{values_of};
 
 use std::alloc::{AllocError, Global};
+use std::hash::{FoldHasher, Hash, Hasher};
 use std::marker::Model;
 use td_tree::name::Name;
 use td_types::heading::Heading;
@@ -90,6 +92,34 @@ impl Layout {
             values.push(value_at(*place, first, second).try_clone()?)?;
         }
         Tuple::of(alloc, &self.names, values)
+    }
+
+    /// A number by which a tuple that is made of the values can be looked up.
+    pub(crate) fn hash_of(&self, values: &[Value]) -> u64
+        requires { AreInRange self.now values.now }
+    {
+        let mut state = FoldHasher::default();
+        for place in &self.places {
+            value_at(*place, values, &[]).hash(&mut state);
+        }
+        state.finish()
+    }
+
+    /// Whether the tuple, which is made of some values, is the one that is made of these.
+    pub(crate) fn makes(&self, tuple: &Tuple, values: &[Value]) -> bool
+        requires made { IsMade self.now tuple.now }
+        requires range { AreInRange self.now values.now }
+        ensures { (sources : Sources) → IsPermutation sources self.now
+            → IsTrue result ↔ (tuple.now ≡ placed_tuple sources values.now) }
+    {
+        let _ = self.names.as_slice();
+        let own = tuple.values();
+        for index in 0..self.places.len() {
+            if own[index] != *value_at(self.places[index], values, &[]) {
+                return false;
+            }
+        }
+        true
     }
 
     /// The tuples whose values stand at the places in those of each of the tuples.

@@ -11,4 +11,5 @@ pub mod renaming;
 pub mod restriction;
 pub mod semijoins;
 pub mod sets;
+pub mod setting;
 mod want;

@@ -1,56 +1,75 @@
 //! Projection: the tuples with some of their attributes alone.
-ghost use Rattle.std.specs.Prelude.{◌≡◌, ◌∷◌, ◌++◌, ◌||◌, [], IfOk, IsTrue, OnOk, map};
-ghost use Rattle.std.specs.Prelude.{if◌then◌else◌};
-ghost use Rattle.std.specs.HashSet.{contains};
-ghost use Rattle.std.specs.List.{All};
+ghost use Rattle.std.specs.Prelude.{◌≡◌, ◌∷◌, ◌++◌, [], IfOk, IsTrue, OnOk, map};
+ghost use Rattle.std.specs.List.{All, Contains};
 ghost use Rattle.std.specs.List.Sorted.{IsPermutation};
-ghost use Rattle.std.specs.Ordering.{eq_by_cmp};
-ghost use Rattle.td_algebra.specs.Layouts.{AreInRange, Sources, placed_tuple};
+ghost use Rattle.td_algebra.specs.Layouts.{AreInRange, IsMade, Sources, placed_tuple};
 ghost use Rattle.td_algebra.specs.Operators.{projected_relation};
 ghost use Rattle.td_types.specs.Headings.{has_projection};
-ghost use Rattle.td_value.specs.Values.{HaveSameMembers, Tuple, tuple_cmp};
+ghost use Rattle.td_value.specs.Values.{HaveSameMembers};
 ghost use Rattle.td_value.specs.Views.{values_of};
 
 use crate::layout::{Layout, kept_layout};
 use crate::want::unrefused;
 use std::alloc::{AllocError, Global};
-use std::collections::HashSet;
+use std::collections::HashMap;
 use td_tree::name::Name;
 use td_value::relation::Rel;
 use td_value::tuple::Tuple;
+use td_value::value::Value;
 
-/// Puts the tuple after the others, unless it is among those seen.
-fn put_unseen(
-    seen: &mut HashSet<Tuple>,
-    kept: &mut Vec<Tuple>,
-    tuple: Tuple,
-) -> Result<(), AllocError>
-    ensures seen { (q : Tuple) → OnOk result (contains (eq_by_cmp tuple_cmp) seen.new q
-        ≡ (eq_by_cmp tuple_cmp q tuple || contains (eq_by_cmp tuple_cmp) seen.old q)) }
-    ensures kept { OnOk result (kept.new.items ≡ kept.old.items
-        ++ (if contains (eq_by_cmp tuple_cmp) seen.old tuple then [] else tuple ∷ [])) }
+/// Whether the tuple at the place, if one is there, is made of the values.
+fn stands_at(layout: &Layout, values: &[Value], kept: &[Tuple], place: Option<&usize>) -> bool
+    requires made { All (IsMade layout.now) kept.now }
+    requires range { AreInRange layout.now values.now }
+    ensures { (sources : Sources) → IsPermutation sources layout.now
+        → IsTrue result → Contains kept.now (placed_tuple sources values.now) }
 {
-    if seen.insert(tuple.try_clone()?)? {
-        kept.push(tuple)?;
+    let Some(place) = place else {
+        return false;
+    };
+    match kept.get(*place) {
+        Some(tuple) => layout.makes(tuple, values),
+        None => false,
     }
+}
+
+/// Puts the tuple that is made of the row after the others, unless it is found among them: the
+/// places tell by a hash where to look.
+fn put_unseen(
+    alloc: Global,
+    layout: &Layout,
+    places: &mut HashMap<u64, usize>,
+    kept: &mut Vec<Tuple>,
+    row: &Tuple,
+) -> Result<(), AllocError>
+    requires made { All (IsMade layout.now) kept.old.items }
+    requires range { AreInRange layout.now (values_of row.now) }
+    ensures made { OnOk result (All (IsMade layout.now) kept.new.items) }
+    ensures members { (sources : Sources) → IsPermutation sources layout.now
+        → OnOk result (HaveSameMembers kept.new.items
+        (kept.old.items ++ placed_tuple sources (values_of row.now) ∷ [])) }
+{
+    let values = row.values();
+    let hash = layout.hash_of(values);
+    if stands_at(layout, values, kept, places.get(&hash)) {
+        return Ok(());
+    }
+    places.insert(hash, kept.len())?;
+    kept.push(layout.tuple(alloc, values, &[])?)?;
     Ok(())
 }
 
-/// The tuples that the layout makes of the rows, each once.
+/// The tuples that the layout makes of the rows. One that comes again is mostly left out.
 fn distinct(alloc: Global, layout: &Layout, rows: &[Tuple]) -> Result<Vec<Tuple>, AllocError>
     requires { All (λ t. AreInRange layout.now (values_of t)) rows.now }
     ensures { (sources : Sources) → IsPermutation sources layout.now
         → IfOk result (λ tuples. HaveSameMembers tuples.items
         (map (λ t. placed_tuple sources (values_of t)) rows.now)) }
 {
-    let mut seen = HashSet::new(alloc);
+    let mut places = HashMap::new(alloc);
     let mut kept = Vec::new(alloc);
     for row in rows {
-        put_unseen(
-            &mut seen,
-            &mut kept,
-            layout.tuple(alloc, row.values(), &[])?,
-        )?;
+        put_unseen(alloc, layout, &mut places, &mut kept, row)?;
     }
     Ok(kept)
 }
