@@ -22,8 +22,8 @@ fn copied_names(names: &Vec<Name>) -> Result<Vec<Name>, AllocError>
     Ok(copy)
 }
 
-/// The same keys again.
-fn copied_keys(keys: &Vec<Vec<Name>>) -> Result<Vec<Vec<Name>>, AllocError>
+/// The same keys again, in the allocator of the list.
+pub fn copied_keys(keys: &Vec<Vec<Name>>) -> Result<Vec<Vec<Name>>, AllocError>
     ensures { IfOk result (λ copy. map (λ key. key.items) copy.items
         ≡ map (λ key. key.items) keys.now.items) }
 {

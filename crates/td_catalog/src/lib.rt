@@ -3,7 +3,7 @@
 
 pub mod by_place;
 pub mod catalog;
-mod copy;
+pub mod copy;
 pub mod definitions;
 pub mod drops;
 pub mod entry;

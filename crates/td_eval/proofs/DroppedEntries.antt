@@ -158,7 +158,7 @@ module _ (db : Database) (dropped : List ℕ) (legal : IsLegal db) (other : IsLe
 -- ---- one type less
 
 module _ (dropped : List ℕ) (ds : List DeclaredType) (none : is_declared dropped ds ≡ false) where
-  other_declared : (n : List ℕ) → is_declared n ds ≡ true → is_other dropped n ≡ true
+  pub other_declared : (n : List ℕ) → is_declared n ds ≡ true → is_other dropped n ≡ true
   other_declared n is = ap not (other_name dropped n ds none is)
 
   mutual
@@ -178,7 +178,7 @@ module _ (db : Database) (dropped : List ℕ) (legal : IsLegal db) (other : IsLe
   abbrev fewer : Database
   fewer = without_type dropped db
 
-  none_there : is_declared dropped fewer.types ≡ false
+  pub none_there : is_declared dropped fewer.types ≡ false
   none_there = removed_is_gone dropped db.types legal.declared
 
   kept_type : (n : List ℕ) (d : DeclaredType) → is_other dropped n ≡ true → declared_at n db.types ≡ Some d → declared_at n fewer.types ≡ Some d
@@ -197,7 +197,7 @@ module _ (db : Database) (dropped : List ℕ) (legal : IsLegal db) (other : IsLe
       ap (is_declared k) place.2 ∙ is_declared-earlier k place.0 (d ∷ place.1) earlier in
       other_declared dropped fewer.types none_there k whole
 
-  types_apart : AgreeOnTypes (is_other dropped) db.types fewer.types
+  pub types_apart : AgreeOnTypes (is_other dropped) db.types fewer.types
   types_apart =
       record {
         same = kept_type;

@@ -5,6 +5,7 @@ pub mod AlikeRows
 pub mod AlikeSummaries
 pub mod DistinctNames
 pub mod DroppedEntries
+pub mod DroppedTypes
 pub mod KeepsAggregates
 pub mod KeepsClosure
 pub mod KeepsExtension
@@ -24,7 +25,13 @@ pub mod Measures
 pub mod MentionedEntries
 pub mod MentionedTypes
 pub mod MentionedValues
+pub mod MetAssignments
 pub mod MetConstraints
+pub mod MetOperators
+pub mod MetRelations
+pub mod MetSummaries
+pub mod MetTrees
+pub mod MetWorlds
 pub mod MoreWorlds
 pub mod NestedNames
 pub mod NewAttributes
@@ -52,6 +59,7 @@ pub mod WalkedColumns
 pub mod WalkedExtension
 pub mod WalkedLists
 pub mod WalkedSelections
+pub mod WalkedSettings
 pub mod WalkedTotals
 mod WorkedValues
 pub mod WorldParts

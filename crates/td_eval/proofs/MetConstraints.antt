@@ -50,12 +50,12 @@ what_selectors_give_meets db n vs v legal gives =
 
 -- ---- types that stand behind
 
-abbrev OfValues : List ℕ → Parts → Type 0
+abbrev pub OfValues : List ℕ → Parts → Type 0
 OfValues n ps = AreValues ps
 
 -- the components in a value are values
 mutual
-  of_values : (v : Val) → values.IsValue v → EachUserValue OfValues v
+  pub of_values : (v : Val) → values.IsValue v → EachUserValue OfValues v
   of_values (boolean b) p = tt
   of_values (integer z) p = tt
   of_values (char s) p = tt

@@ -1,6 +1,7 @@
 pub mod AggregateValues
 pub mod DatabaseWorlds
 pub mod LiteralValues
+pub mod MetConstraints
 pub mod NewColumns
 pub mod OperatorValues
 pub mod Sights

@@ -1,6 +1,6 @@
 -- The value of the tree that a value's literal spells: laws (Tutorial D's selectors).
 use Rattle.std.specs.Prelude.{◌≡◌, ◌↔◌, ℕ, true, List, ◌∷◌, ◌++◌, ⊤}
-use Rattle.td_catalog.specs.Database.{Database}
+use Rattle.td_catalog.specs.Database.{Database, without_type}
 use Rattle.td_catalog.specs.Legality.{IsLegal}
 use Rattle.td_check.specs.Scopes.{Scope}
 use Rattle.td_check.specs.StaticTypes.{type_of}
@@ -97,3 +97,10 @@ LaterTypesKeepWhatMeets =
     (first second : Database) (v : Val) (t : Type') → IsLegal first → IsLegal second
     → ConstraintsAreWritten first.types → HasLater first second → IsValue v → HasType first.types v t
     → MeetsConstraints first.types v → MeetsConstraints second.types v
+
+-- and where one of the types is dropped
+abbrev pub DropsKeepWhatMeets : Type 0
+DropsKeepWhatMeets =
+    (db : Database) (dropped : List ℕ) (v : Val) (t : Type') → IsLegal db → IsLegal (without_type dropped db)
+    → ConstraintsAreWritten db.types → IsValue v → HasType (without_type dropped db).types v t
+    → MeetsConstraints db.types v → MeetsConstraints (without_type dropped db).types v

@@ -5,7 +5,7 @@ use Rattle.std.specs.Prelude.{ℕ, ℤ, pos, negsuc, neg_ℤ, ◌+ℤ◌, ◌-�
 use Rattle.std.specs.Cmp.Lexicographic.{slice_cmp}
 use Rattle.std.specs.List.{zip}
 use Rattle.std.specs.Ordering.{eq_by_cmp, int_cmp, is_le, nat_cmp}
-use Rattle.td_algebra.specs.Operators.{Addition, composition, difference, extended_relation, intersection, is_subset, join, product, projected_relation, renamed_relation, restriction, semidifference, semijoin, union}
+use Rattle.td_algebra.specs.Operators.{Addition, composition, difference, extended_relation, intersection, is_subset, join, product, projected_relation, renamed_relation, restriction, semidifference, semijoin, set_relation, union}
 use Rattle.td_check.specs.OperatorTypes.{attribute_type, equality_type, extended_by, known_or, mismatch, named_part, over_relation, over_tuple, renaming_pairs, same_heading, same_type}
 use Rattle.td_group.specs.Closure.{closure, is_closable}
 use Rattle.td_group.specs.Nesting.{can_nest, can_unnest, grouped_relation, unnested_relation, wrapped_relation}
@@ -305,3 +305,9 @@ extended_value types fs r =
     with_value types (λ attributes. with_value (extended_by r.heading attributes)
     (λ heading. with_value (gathered (columns_values attributes fs r.body))
     (λ columns. of_relation (extended_relation (additions_of attributes fs) r))))
+
+-- the tuples with attributes set: where each of the parts has a value of its attribute's type in each tuple, those values, all
+-- at once
+abbrev pub set_value : List Attribute → List (Tuple → Outcome Val) → Relation → Outcome Relation
+set_value attributes fs r =
+    with_value (gathered (columns_values attributes fs r.body)) (λ columns. Valued (set_relation (additions_of attributes fs) r))

@@ -1,8 +1,11 @@
 //! What the values of expressions are to their callers: each function has its contract alone.
-ghost use Rattle.td_eval.specs.LiteralValues.{LaterTypesKeepWhatMeets, LiteralsHaveTheirTypes};
+ghost use Rattle.td_eval.specs.LiteralValues.{DropsKeepWhatMeets, LaterTypesKeepWhatMeets};
+ghost use Rattle.td_eval.specs.LiteralValues.{LiteralsHaveTheirTypes};
 ghost use Rattle.td_eval.specs.LiteralValues.{LiteralsHaveTheirValues, SelectorsGiveWhatMeets};
 ghost use Rattle.td_eval.specs.LiteralValues.{StoredLiteralsHaveTheirValues};
 ghost use Rattle.td_eval.specs.LiteralValues.{WhatSelectorsGiveMeets};
+ghost use Rattle.td_eval.specs.MetConstraints.{AssignedRelationsMeetConstraints};
+ghost use Rattle.td_eval.specs.MetConstraints.{ValuesMeetConstraints};
 ghost use Rattle.td_eval.specs.ValueLaws.{DropsChangeNoValue, LaterEntriesChangeNothing};
 ghost use Rattle.td_eval.specs.ValueLaws.{SummarizeByIsPerOfTheProjection, TupleOrderDoesNotCount};
 ghost use Rattle.td_eval.specs.ValueLaws.{ValuesDependOnEntries, ValuesDependOnMentions};
@@ -63,15 +66,27 @@ pub fn literals_have_their_values()
 {}
 
 /// The selectors of a legal database give the user values that meet the constraints of their types,
-/// and no others, and go on to do so where types are added.
+/// and no others, and go on to do so where types are added or one is dropped.
 pub fn selectors_give_what_meets()
     ensures values { SelectorsGiveWhatMeets }
     ensures given { WhatSelectorsGiveMeets }
     ensures later { LaterTypesKeepWhatMeets }
+    ensures dropped { DropsKeepWhatMeets }
 {}
 
 /// In a legal database the tree of the literal of a value whose user values meet the constraints
 /// of their types has that value.
 pub fn stored_literals_have_their_values()
     ensures { StoredLiteralsHaveTheirValues }
+{}
+
+/// Expressions have only user values that meet the constraints of their types, where the relvars,
+/// the selectors and the tuples in hand give no others, as in a database that holds no others.
+pub fn values_meet_constraints()
+    ensures { ValuesMeetConstraints }
+{}
+
+/// So have the relations that assignments make of such.
+pub fn assigned_relations_meet_constraints()
+    ensures { AssignedRelationsMeetConstraints }
 {}

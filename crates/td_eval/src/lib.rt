@@ -3,6 +3,7 @@
 
 pub mod env;
 mod extension;
+pub mod in_tuples;
 pub mod laws;
 mod operators;
 mod rows;

@@ -2,10 +2,11 @@
 ghost use Rattle.std.specs.Prelude.{◌≡◌, [], ◌<◌, IfNone, IfOk, IfSome, None, option_map, reverse};
 ghost use Rattle.td_eval.specs.Sights.{IsNoVirtualRelvar, IsPlaced, IsSight, IsVirtualRelvar};
 ghost use Rattle.td_eval.specs.Sights.{constraint_sight, held_by, other_named, other_seen, seen_by};
-ghost use Rattle.td_eval.specs.Sights.{virtual_sight};
+ghost use Rattle.td_eval.specs.Sights.{virtual_sight, world_in};
 ghost use Rattle.td_eval.specs.Worlds.{scope_among};
 ghost use Rattle.td_tree.specs.TreeViews.{tree_view};
 
+use crate::env::Env;
 use std::alloc::{AllocError, Global};
 use td_body::body::Body;
 use td_catalog::catalog::Catalog;
@@ -30,6 +31,22 @@ pub(crate) struct Sight<'a, B: Body> {
 }
 
 impl<'a, B: Body> Sight<'a, B> {
+    /// What an expression that is evaluated there may look at.
+    pub(crate) fn of_env(alloc: Global, env: &Env<'a, B>) -> Self
+        ensures sight { IsSight result }
+        ensures exact { seen_by result ≡ world_in env.now }
+    {
+        let types = env.catalog.types();
+        Sight {
+            alloc,
+            types,
+            selectors: types.len(),
+            catalog: Some(env.catalog),
+            other: env.other,
+            virtuals: env.catalog.virtual_count(),
+        }
+    }
+
     /// The other relation, where it is of the name.
     fn other_relation(&self, name: &Name) -> Option<&'a Rel>
         ensures { option_map (λ r. r.now) result ≡ other_named name.now (other_seen self.now) }

@@ -299,7 +299,7 @@ fn value_in_row<B: Body>(
 
 /// The truth values of a condition in the tuples of a relation.
 #[cycle(value)]
-fn truths<B: Body>(
+pub(crate) fn truths<B: Body>(
     sight: &Sight<'_, B>,
     tuples: &[Tuple],
     operand: &Rel,
@@ -370,7 +370,7 @@ fn column<B: Body>(
 
 /// The new attributes with their values in the tuples of a relation.
 #[cycle(value)]
-fn columns<B: Body>(
+pub(crate) fn columns<B: Body>(
     sight: &Sight<'_, B>,
     tuples: &[Tuple],
     operand: &Rel,
@@ -562,14 +562,6 @@ pub fn eval<B: Body>(alloc: Global, env: &Env<'_, B>, expr: &Expr) -> Result<Val
         → (is : IsChecked scope (tuples_in_hand env.now) (tree_view expr.now))
         → AnswersType scope.types is.typed.0 result }
 {
-    let types = env.catalog.types();
-    let sight = Sight {
-        alloc,
-        types,
-        selectors: types.len(),
-        catalog: Some(env.catalog),
-        other: env.other,
-        virtuals: env.catalog.virtual_count(),
-    };
+    let sight = Sight::of_env(alloc, env);
     value_of(&sight, &shared(alloc, env.tuples)?, expr)
 }

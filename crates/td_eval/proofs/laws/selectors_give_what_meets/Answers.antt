@@ -1,3 +1,4 @@
+use Rattle.td_eval.proofs.DroppedTypes.{drops_keep_what_meets}
 use Rattle.td_eval.proofs.LiteralValues.{selectors_give_what_meets}
 use Rattle.td_eval.proofs.MetConstraints.{later_types_keep_what_meets, what_selectors_give_meets}
 use Rattle.td_eval.proofs.laws.selectors_give_what_meets.Goals as goal
@@ -10,3 +11,6 @@ returns-clause-given c = what_selectors_give_meets
 
 pub returns-clause-later : goal.returns-clause-later
 returns-clause-later c = later_types_keep_what_meets
+
+pub returns-clause-dropped : goal.returns-clause-dropped
+returns-clause-dropped c = drops_keep_what_meets

@@ -1,9 +1,7 @@
 use Rattle.std.proofs.Common.{◌∙◌, reverse, subst}
 use Rattle.td_eval.proofs.TypedAnswers.{answers_type}
 use Rattle.td_eval.proofs.TypedTrees.{values_keep_types}
-use Rattle.td_eval.proofs.VirtualValues.{all_known}
-use Rattle.td_eval.specs.DatabaseWorlds.{with_other, world_of}
-use Rattle.td_eval.specs.Sights.{other_in, tuples_in_hand, with_first_virtuals, world_in}
+use Rattle.td_eval.specs.Sights.{seen_by, tuples_in_hand, world_in}
 use Rattle.td_eval.specs.TreeValues.{value_of}
 use Rattle.td_eval.specs.ValueTypes.{KeepsType}
 use Rattle.td_tree.specs.Outcomes.{Answers}
@@ -16,10 +14,9 @@ returns g c =
     let env = c.args.env.now in
     let tuples = tuples_in_hand env in
     let tree = tree_view c.args.expr.now in
-    let seen = with_other (other_in env) (world_of (with_first_virtuals c.virtual_count.result env.catalog.now)) in
     let value : Answers (λ (v : Val). v) c.value_of.result (value_of (world_in env) tuples tree) =
-    subst (λ w. Answers (λ (v : Val). v) c.value_of.result (value_of w tuples tree)) (all_known (other_in env) env.catalog.now c.virtual_count.result c.virtual_count.ensures)
-    (subst (λ ts. Answers (λ (v : Val). v) c.value_of.result (value_of seen (reverse ts) tree)) (c.deref.ensures.value ∙ c.in_ok-shared.ensures) c.value_of.ensures) in
+    subst (λ w. Answers (λ (v : Val). v) c.value_of.result (value_of w tuples tree)) c.of_env-sight.ensures.exact
+    (subst (λ ts. Answers (λ (v : Val). v) c.value_of.result (value_of (seen_by c.of_env-sight.result) (reverse ts) tree)) (c.deref.ensures.value ∙ c.in_ok-shared.ensures) c.value_of.ensures) in
     record {
       value = value;
       typed = λ scope keeps is.

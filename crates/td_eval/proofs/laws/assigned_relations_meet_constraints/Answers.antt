@@ -1,0 +1,5 @@
+use Rattle.td_eval.proofs.MetAssignments.{assigned_relations_meet_constraints}
+use Rattle.td_eval.proofs.laws.assigned_relations_meet_constraints.Goals as goal
+
+pub returns : goal.returns
+returns c = assigned_relations_meet_constraints

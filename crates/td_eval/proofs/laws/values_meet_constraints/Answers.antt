@@ -1,0 +1,5 @@
+use Rattle.td_eval.proofs.MetWorlds.{values_meet_constraints}
+use Rattle.td_eval.proofs.laws.values_meet_constraints.Goals as goal
+
+pub returns : goal.returns
+returns c = values_meet_constraints

@@ -1,0 +1,8 @@
+use Rattle.td_eval.proofs.VirtualValues.{all_known}
+use Rattle.td_eval.specs.Sights.{other_in}
+use Rattle.td_eval.proofs.sight.Sight.of_env.Goals as goal
+
+pub returns-clause-exact : goal.returns-clause-exact
+returns-clause-exact g c =
+    let env = c.args.env.now in
+    all_known (other_in env) env.catalog.now c.virtual_count.result c.virtual_count.ensures

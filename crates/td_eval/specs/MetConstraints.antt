@@ -1,0 +1,65 @@
+-- The user values in the values of expressions and in the relations of assignments are such as are in their operands, or as
+-- selectors give: laws (Tutorial D's selectors).
+use Rattle.std.specs.Prelude.{◌≡◌, ℕ, Bool, List, Some}
+use Rattle.std.specs.List.{AllByRecursion, Contains}
+use Rattle.td_algebra.specs.Operators.{restriction, union}
+use Rattle.td_catalog.specs.Database.{BaseRelvar, Database}
+use Rattle.td_catalog.specs.Legality.{IsLegal}
+use Rattle.td_eval.specs.DatabaseWorlds.{with_other, world_of}
+use Rattle.td_eval.specs.LiteralValues.{EachInFields, EachUserValue, MeetConstraint, MeetsConstraints}
+use Rattle.td_eval.specs.OperatorValues.{on_relation, relation_as_value, set_value}
+use Rattle.td_eval.specs.TreeValues.{value_of, values_in_tuples}
+use Rattle.td_eval.specs.Worlds.{World, selected}
+use Rattle.td_tree.specs.Outcomes.{Outcome, Valued}
+use Rattle.td_tree.specs.Trees.{NamedTrees, Tree}
+use Rattle.td_types.specs.TypeLists.{DeclaredType}
+use Rattle.td_types.specs.Types.{Attribute}
+use Rattle.td_value.specs.Values.{Val, Parts, Relation, Tuple, pack_fields}
+
+-- P holds of each user value in a tuple
+abbrev pub EachInTuple : (List ℕ → Parts → Type 0) → Tuple → Type 0
+EachInTuple P t = EachInFields P (pack_fields t)
+
+-- and in each value that one of these has in a tuple of r
+abbrev pub EachInValues : (List ℕ → Parts → Type 0) → Relation → List (Tuple → Outcome Val) → Type 0
+EachInValues P r = AllByRecursion (λ f. (t : Tuple) (v : Val) → Contains r.body t → f t ≡ Valued v → EachUserValue P v)
+
+-- it holds of each user value in the relvars, and in what a selector gives of components in which it holds of each
+pub record GivesOnly (P : List ℕ → Parts → Type 0) (w : World) : Type 0 where
+  pub relvars : (n : List ℕ) (v : Val) → w.relvar n ≡ Some (Valued v) → EachUserValue P v
+  pub selectors :
+      (n : List ℕ) (vs : List Val) (v : Val) → AllByRecursion (EachUserValue P) vs → selected w n vs ≡ Valued v → EachUserValue P v
+
+-- where the world and the tuples in hand have only user values that meet the constraints of their types, so has each value;
+-- a database whose base relvars have only such is such a world, also where a relvar has another such relation
+pub record ValuesMeetConstraints : Type 0 where
+  pub values :
+      (ds : List DeclaredType) (w : World) (s : List Tuple) (e : Tree) (v : Val) → GivesOnly (MeetConstraint ds) w
+      → AllByRecursion (EachInTuple (MeetConstraint ds)) s → value_of w s e ≡ Valued v → MeetsConstraints ds v
+  pub parts :
+      (ds : List DeclaredType) (w : World) (s : List Tuple) (parts : NamedTrees) (r : Relation) → GivesOnly (MeetConstraint ds) w
+      → AllByRecursion (EachInTuple (MeetConstraint ds)) s → MeetsConstraints ds (relation_as_value r)
+      → EachInValues (MeetConstraint ds) r (values_in_tuples w s parts)
+  pub world :
+      (db : Database) → IsLegal db
+      → AllByRecursion (λ (b : BaseRelvar). MeetsConstraints db.types (relation_as_value b.relation)) db.bases
+      → GivesOnly (MeetConstraint db.types) (world_of db)
+  pub other :
+      (ds : List DeclaredType) (w : World) (n : List ℕ) (r : Relation) → GivesOnly (MeetConstraint ds) w
+      → MeetsConstraints ds (relation_as_value r) → GivesOnly (MeetConstraint ds) (with_other (Some (n, r)) w)
+
+-- so has what assignments make of relations that have only such
+pub record AssignedRelationsMeetConstraints : Type 0 where
+  pub related :
+      (ds : List DeclaredType) (v : Val) (r : Relation) → MeetsConstraints ds v → on_relation v Valued ≡ Valued r
+      → MeetsConstraints ds (relation_as_value r)
+  pub united :
+      (ds : List DeclaredType) (r s : Relation) → MeetsConstraints ds (relation_as_value r) → MeetsConstraints ds (relation_as_value s)
+      → MeetsConstraints ds (relation_as_value (union r s))
+  pub restricted :
+      (ds : List DeclaredType) (p : Tuple → Bool) (r : Relation) → MeetsConstraints ds (relation_as_value r)
+      → MeetsConstraints ds (relation_as_value (restriction p r))
+  pub set :
+      (ds : List DeclaredType) (attributes : List Attribute) (fs : List (Tuple → Outcome Val)) (r q : Relation)
+      → MeetsConstraints ds (relation_as_value r) → EachInValues (MeetConstraint ds) r fs → set_value attributes fs r ≡ Valued q
+      → MeetsConstraints ds (relation_as_value q)
