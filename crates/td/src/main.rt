@@ -1,14 +1,11 @@
 //! `td run [--stop] [FILE]`: runs a script of Tutorial D and writes an answer for each statement.
 #![tactic(auto)]
 
-mod engine;
-mod laws;
 mod line;
 mod program;
-mod run;
 mod session;
-mod sink;
-mod source;
+#[cfg(test)]
+mod tests;
 
 use std::process::ExitCode;
 

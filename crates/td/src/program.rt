@@ -1,14 +1,14 @@
 //! The program: words, files and streams are handed to a session.
 use crate::line::{Line, read_line};
-use crate::run::RunFault;
 use crate::session::session;
-use crate::sink::{IoSink, Sink};
-use crate::source::{IoSource, Source};
 use clap::Error;
 use clap::error::ErrorKind;
 use std::alloc::{AllocError, Global};
 use std::rt::{Env, Files};
 use std::{env, fs, io};
+use td_engine::run::RunFault;
+use td_engine::sink::{IoSink, Sink};
+use td_engine::source::{IoSource, Source};
 
 /// The status of a wrong command line.
 const WRONG_LINE: u8 = 2;

@@ -1,6 +1,17 @@
-//! The engine: statements over a database, from bytes to bytes. Of it stand the tests of the crates below, all in one
-//! place, since a crate with tests is proved twice, with them and without.
+//! The engine: statements over a database, from bytes to bytes.
 #![tactic(auto)]
 
-#[cfg(test)]
-mod tests;
+pub mod answer;
+mod assignments;
+mod bases;
+mod checks;
+mod definitions;
+pub mod engine;
+pub mod laws;
+mod refusal;
+pub mod run;
+pub mod sink;
+pub mod source;
+mod statement;
+mod updates;
+mod written;

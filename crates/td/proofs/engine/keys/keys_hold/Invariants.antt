@@ -1,6 +1,0 @@
-use Rattle.std.proofs.Common.{◌≡◌, drop, map}
-use Rattle.td.specs.Database.{keys_hold}
-use Rattle.td.proofs.engine.keys.keys_hold.Given as goal
-
-abbrev pub invariant-loop-key : goal.invariant-loop-key
-invariant-loop-key l = keys_hold (map (λ key. key.items) (drop l.key-index l.keys)) l.value.body ≡ keys_hold (map (λ key. key.items) l.keys) l.value.body

@@ -1,0 +1,272 @@
+//! The engine's calls, each once with ample memory, and a reader that fails in mid-stream.
+ghost use Rattle.std.specs.Prelude.{◌≤◌, None, false, length};
+
+use std::alloc::{AllocError, Global};
+use std::io::{self, ErrorKind, Read};
+use std::test::Fail;
+use td_body::sorted::SortedBody;
+use td_engine::answer::Answer;
+use td_engine::engine::Engine;
+use td_engine::run::{Report, RunFault, run};
+use td_engine::sink::Sink;
+use td_engine::source::{Broken, IoSource, Source};
+use td_scan::cutter::Cutter;
+use td_tree::cause::Cause;
+use td_tree::name::{Name, is_name};
+
+/// The script of `examples/first.td`.
+const SCRIPT: &[u8] = b"VAR R BASE RELATION {K INTEGER} KEY {K}; \
+    R := R UNION RELATION {TUPLE {K 2}, TUPLE {K 1}}; WRITE R;\n";
+
+/// What `examples/first.out` has.
+const ANSWERS: &[u8] = b"OK\nOK\nRELATION {K INTEGER} {TUPLE {K 1}, TUPLE {K 2}}\n";
+
+// ---- statements
+
+/// What the engine answers to the statement of that text.
+fn step(alloc: Global, engine: &mut Engine<SortedBody>, text: &str) -> Result<Answer, AllocError> {
+    let mut cutter = Cutter::new(alloc);
+    cutter.feed(text.as_bytes())?;
+    cutter.finish();
+    match cutter.next_statement()? {
+        Some(tokens) => engine.step(&tokens),
+        None => engine.step(&[]),
+    }
+}
+
+/// Whether the engine's database has a base relvar of that name.
+fn has_base(alloc: Global, engine: &Engine<SortedBody>, text: &str) -> Result<bool, AllocError> {
+    if !is_name(text) {
+        return Ok(false);
+    }
+    let name = Name::new(alloc, text)?;
+    Ok(engine.catalog().get_base(&name).is_some())
+}
+
+#[test]
+fn what_statements_answer(rt: HostRuntime) -> Result<(), Fail> {
+    let cases = [
+        ("WRITE 1;", None, "1\n"),
+        (
+            "WRITE Q;",
+            Some(Cause::NameUnknown),
+            "REFUSED 3 NAME_UNKNOWN\n",
+        ),
+        (
+            "CONSTRAINT C FALSE;",
+            Some(Cause::Constraint),
+            "REFUSED 31 CONSTRAINT C\n",
+        ),
+        ("CONSTRAINT C TRUE;", None, "OK\n"),
+    ];
+    let mut engine = Engine::new(rt.alloc());
+    for (statement, cause, text) in cases {
+        let answer = step(rt.alloc(), &mut engine, statement)?;
+        assert!(rt; answer.accepted == cause.is_none(), "{statement}");
+        assert!(rt; answer.cause == cause, "{statement}");
+        assert_eq!(rt; answer.text.as_str(), text, "{statement}");
+    }
+    Ok(())
+}
+
+#[test]
+fn a_relvar_is_there_once_it_is_defined(rt: HostRuntime) -> Result<(), Fail> {
+    let mut engine = Engine::new(rt.alloc());
+    assert!(rt; !has_base(rt.alloc(), &engine, "R")?);
+    step(
+        rt.alloc(),
+        &mut engine,
+        "VAR R BASE RELATION {K INTEGER} KEY {K};",
+    )?;
+    assert!(rt; has_base(rt.alloc(), &engine, "R")?);
+    Ok(())
+}
+
+/// What is found of that name and at a place of that number in the engine's catalogue: a type, a virtual relvar with
+/// so many keys, a constraint; and whether a base relvar, a virtual relvar and a constraint stand at the place.
+fn found(
+    alloc: Global,
+    engine: &Engine<SortedBody>,
+    text: &str,
+    place: usize,
+) -> Result<(bool, Option<usize>, bool, [bool; 3]), AllocError> {
+    if !is_name(text) {
+        return Err(AllocError);
+    }
+    let name = Name::new(alloc, text)?;
+    let catalog = engine.catalog();
+    let keys = catalog.get_virtual(&name).map(|entry| entry.keys.len());
+    let at = [
+        catalog.base_at(place).is_some(),
+        catalog.virtual_at(place).is_some(),
+        catalog.constraint_at(place).is_some(),
+    ];
+    Ok((
+        catalog.get_type(&name).is_some(),
+        keys,
+        catalog.get_constraint(&name).is_some(),
+        at,
+    ))
+}
+
+#[test]
+fn what_is_defined_is_found_by_name_and_by_place(rt: HostRuntime) -> Result<(), Fail> {
+    let alloc = rt.alloc();
+    let mut engine = Engine::new(alloc);
+    let statements = [
+        "TYPE QTY POSSREP {Q INTEGER CONSTRAINT Q >= 0};",
+        "VAR P BASE RELATION {Q QTY, N CHAR} KEY {N};",
+        "VAR V VIRTUAL (P {N}) KEY {N};",
+        "CONSTRAINT C COUNT(P) < 10;",
+    ];
+    for statement in statements {
+        assert!(rt;
+            step(alloc, &mut engine, statement)?.accepted,
+            "{statement}"
+        );
+    }
+    assert!(rt; found(alloc, &engine, "QTY", 0)? == (true, None, false, [true, true, true]));
+    assert!(rt; found(alloc, &engine, "V", 1)? == (false, Some(1), false, [false, false, false]));
+    assert!(rt; found(alloc, &engine, "C", 1)? == (false, None, true, [false, false, false]));
+    Ok(())
+}
+
+#[test]
+fn what_is_in_use_is_not_dropped(rt: HostRuntime) -> Result<(), Fail> {
+    let alloc = rt.alloc();
+    let mut engine = Engine::new(alloc);
+    let in_use = Some(Cause::InUse);
+    let cases = [
+        ("TYPE QTY POSSREP {Q INTEGER};", None),
+        ("VAR P BASE RELATION {Q QTY} KEY {Q};", None),
+        ("CONSTRAINT C COUNT(P) < 10;", None),
+        ("TYPE QTY POSSREP {Q INTEGER};", Some(Cause::NameTaken)),
+        ("DROP TYPE QTY;", in_use),
+        ("DROP VAR P;", in_use),
+        ("DROP CONSTRAINT C;", None),
+        ("DROP CONSTRAINT C;", Some(Cause::NameUnknown)),
+        ("DROP VAR P;", None),
+        ("DROP TYPE QTY;", None),
+    ];
+    for (statement, cause) in cases {
+        assert!(rt;
+            step(alloc, &mut engine, statement)?.cause == cause,
+            "{statement}"
+        );
+    }
+    Ok(())
+}
+
+// ---- runs
+
+/// A script that is given in pieces of three bytes, and tells no bytes.
+#[derive(Drop)]
+struct Pieces<'a> {
+    rest: &'a [u8],
+}
+
+impl<'a> Pieces<'a> {
+    /// Moves at most three bytes into the buffer.
+    fn give(&mut self, buffer: &mut [u8]) -> usize
+        ensures { result ≤ length buffer.new }
+    {
+        let count = self.rest.len().min(3).min(buffer.len());
+        let (front, rest) = self.rest.split_at(count);
+        buffer[..count].copy_from_slice(front);
+        self.rest = rest;
+        count
+    }
+}
+
+impl<'a> Source for Pieces<'a> {
+    ghost left = { λ s. None };
+
+    ghost is_broken = { λ s. false };
+
+    fn pull(&mut self, buffer: &mut [u8]) -> Result<usize, Broken> {
+        Ok(self.give(buffer))
+    }
+}
+
+/// A sink that takes three bytes at a time, and tells none.
+#[derive(Drop)]
+struct Kept {
+    bytes: Vec<u8>,
+    is_broken: bool,
+}
+
+impl Sink for Kept {
+    ghost taken = { λ s. None };
+
+    ghost is_broken = { λ s. s.is_broken };
+
+    fn put(&mut self, bytes: &[u8]) -> Result<usize, Broken> {
+        if self.is_broken {
+            return Err(Broken);
+        }
+        let count = bytes.len().min(3);
+        self.is_broken = self.bytes.extend_from_slice(&bytes[..count]).is_err();
+        if self.is_broken {
+            return Err(Broken);
+        }
+        Ok(count)
+    }
+}
+
+/// What a run of the source on an empty database comes to, and what it writes.
+fn ran<R: Source>(alloc: Global, reader: &mut R) -> (Result<Report, RunFault>, Vec<u8>) {
+    let mut engine: Engine<SortedBody> = Engine::new(alloc);
+    let mut writer = Kept {
+        bytes: Vec::new(alloc),
+        is_broken: false,
+    };
+    let answer = run(alloc, &mut engine, reader, &mut writer, false);
+    let Kept {
+        bytes,
+        is_broken: _,
+    } = writer;
+    (answer, bytes)
+}
+
+#[test]
+fn a_script_in_pieces(rt: HostRuntime) {
+    let (answer, written) = ran(rt.alloc(), &mut Pieces { rest: SCRIPT });
+    let report = Report {
+        statements: 3,
+        refused: 0,
+    };
+    assert!(rt; answer == Ok(report));
+    assert!(rt; written.as_slice() == ANSWERS);
+}
+
+/// A reader that fails once, after so many calls, and would go on then.
+#[derive(Drop)]
+struct Failing<'a> {
+    script: Pieces<'a>,
+    calls: u8,
+    has_failed: bool,
+}
+
+impl<'a> Read for Failing<'a> {
+    fn read(&mut self, buffer: &mut [u8]) -> io::Result<usize> {
+        if self.calls == 0 && !self.has_failed {
+            self.has_failed = true;
+            return Err(io::Error::from(ErrorKind::PermissionDenied));
+        }
+        self.calls = self.calls.saturating_sub(1);
+        Ok(self.script.give(buffer))
+    }
+}
+
+#[test]
+fn a_reader_that_fails_in_mid_stream(rt: HostRuntime) {
+    let mut reader = IoSource::new(Failing {
+        script: Pieces { rest: SCRIPT },
+        calls: 20,
+        has_failed: false,
+    });
+    let (answer, written) = ran(rt.alloc(), &mut reader);
+    assert!(rt; answer == Err(RunFault::Read { done: 0 }));
+    assert!(rt; written.is_empty());
+    assert!(rt; reader.pull(&mut [0; 4]) == Err(Broken));
+}

@@ -1,0 +1,53 @@
+-- Statements in turn: runs joined, the machine's one answer, and what a run leaves.
+use Rattle.std.proofs.Common.{◌≡◌, Bool, true, false, List, [], ◌∷◌, ◌++◌, refl, sym, ap, ◌∙◌, subst}
+use Rattle.td_catalog.specs.Database.{Database}
+use Rattle.td_engine.specs.Machine.{Progress, Step, Steps, stepped, Runs, nothing, stopped, next, and_then, has_stopped}
+use Rattle.td_parse.proofs.Parsed.{one_meaning}
+use Rattle.td_tree.specs.Statements.{PlacedToken}
+
+-- after a stop nothing is run
+pub runs_stopped : (stop : Bool) (p : Progress) (ss : List (List PlacedToken)) → has_stopped stop p ≡ true → Runs stop p ss p
+runs_stopped stop p [] h = nothing
+runs_stopped stop p (s ∷ ss) h = stopped h
+
+pub stays_stopped : (stop : Bool) (p : Progress) (ss : List (List PlacedToken)) (q : Progress) → Runs stop p ss q → has_stopped stop p ≡ true → q ≡ p
+stays_stopped stop p ss q nothing h = refl
+stays_stopped stop p ss q (stopped over) h = refl
+stays_stopped stop p ss q (next step goes steps rest) h = let e : false ≡ true = sym goes ∙ h in absurd cc
+
+-- these and then those
+pub runs_append : (stop : Bool) (p : Progress) (xs : List (List PlacedToken)) (q : Progress) (ys : List (List PlacedToken)) (r : Progress) → Runs stop p xs q → Runs stop q ys r → Runs stop p (xs ++ ys) r
+runs_append stop p xs q ys r nothing k = k
+runs_append stop p xs q ys r (stopped over) k = subst (λ (z : Progress). Runs stop p (xs ++ ys) z) (sym (stays_stopped stop p ys r k over)) (runs_stopped stop p (xs ++ ys) over)
+runs_append stop p xs q ys r (next step goes steps rest) k = next step goes steps (runs_append stop _ _ q ys r rest k)
+
+-- a list of tokens does one thing
+pub one_step : (db : Database) (tokens : List PlacedToken) (s t : Step) → Steps db tokens s → Steps db tokens t → s ≡ t
+one_step db tokens s t does also =
+    let meaning = one_meaning tokens in
+    does.2 ∙ ap (stepped db) (meaning.2 does.0 does.1 ∙ sym (meaning.2 also.0 also.1)) ∙ sym also.2
+
+-- a list of statements has one outcome
+pub one_outcome : (stop : Bool) (p : Progress) (ss : List (List PlacedToken)) (q r : Progress) → Runs stop p ss q → Runs stop p ss r → q ≡ r
+one_outcome stop p [] q r nothing nothing = refl
+one_outcome stop p (s ∷ ss) q r (stopped over) k = sym (stays_stopped stop p (s ∷ ss) r k over)
+one_outcome stop p (s ∷ ss) q r (next step goes steps rest) (stopped over) = let e : false ≡ true = sym goes ∙ over in absurd cc
+one_outcome stop p (s ∷ ss) q r (next step goes steps rest) (next other also does more) =
+    let same : step ≡ other = one_step p.database s step other steps does in
+    one_outcome stop (and_then p step) ss q r rest (subst (λ (z : Step). Runs stop (and_then p z) ss r) (sym same) more)
+
+-- what a list of tokens does
+some_step : (db : Database) (tokens : List PlacedToken) → (s : Step) × Steps db tokens s
+some_step db tokens = let meaning = one_meaning tokens in (stepped db meaning.0, (meaning.0, meaning.1, refl))
+
+-- a list of statements has an outcome
+pub some_outcome : (stop : Bool) (p : Progress) (ss : List (List PlacedToken)) → (q : Progress) × Runs stop p ss q
+some_outcome stop p [] = (p, nothing)
+some_outcome stop p (s ∷ ss) =
+    (elim (has_stopped stop p) as (λ b. has_stopped stop p ≡ b → (q : Progress) × Runs stop p (s ∷ ss) q) [
+      | true ↦ λ over. (p, stopped over)
+      | false ↦ λ goes.
+          let step = some_step p.database s in
+          let rest = some_outcome stop (and_then p step.0) ss in
+          (rest.0, next step.0 goes step.1 rest.1)
+    ]) refl

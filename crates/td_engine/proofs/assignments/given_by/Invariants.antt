@@ -1,0 +1,9 @@
+use Rattle.std.proofs.Common.{◌≡◌, [], drop, map}
+use Rattle.td_engine.specs.Assignments.{given_by}
+use Rattle.td_tree.specs.TreeViews.{assignment_view}
+use Rattle.td_engine.proofs.assignments.given_by.Given as goal
+
+abbrev pub invariant-loop-assignment : goal.invariant-loop-assignment
+invariant-loop-assignment g l =
+    given_by l.catalog [] (map assignment_view l.assignments)
+    ≡ given_by l.catalog l.given.entries (map assignment_view (drop l.assignment-index l.assignments))

@@ -1,0 +1,31 @@
+use Rattle.std.proofs.Common.{List, subst, sym}
+use Rattle.td_catalog.specs.Database.{Database}
+use Rattle.td_engine.proofs.Answered.{parsed_step, refused_does}
+use Rattle.td_engine.proofs.Turning.{ok_map}
+use Rattle.td_engine.specs.Carried.{IsRefusedBy}
+use Rattle.td_engine.specs.Machine.{effect, step_of, stepped}
+use Rattle.td_engine.specs.Steps.{Does, IsParsed, IsStep}
+use Rattle.td_tree.specs.Outcomes.{Answers}
+use Rattle.td_tree.specs.Statements.{PlacedToken}
+use Rattle.td_tree.specs.TreeViews.{statement_view}
+use Rattle.td_engine.proofs.engine.Engine.carry_out.Goals as goal
+
+pub returns-in-Ok-clause-step : goal.returns-in-Ok-clause-step
+returns-in-Ok-clause-step g c =
+    let db = c.args.self.now in
+    let new = c.execute.new.self in
+    let s = statement_view c.in-Ok.statement in
+    ok_map (λ a. Does (step_of db (effect db s)) a new) (λ a. (tokens : List PlacedToken) → IsParsed tokens c.args.parsed → IsStep db tokens a new)
+    (λ a d tokens parsed.
+    let told = subst (λ r. Answers statement_view r parsed.0) c.in-Ok.is parsed.2 in
+    parsed_step db new tokens parsed.0 a parsed.1 (subst (λ o. Does (stepped db o) a new) (sym told) d))
+    c.execute.result c.execute.ensures.done
+
+pub returns-in-Err-clause-step : goal.returns-in-Err-clause-step
+returns-in-Err-clause-step g c =
+    let db = c.args.self.now in
+    ok_map (λ a. (d : Database) → IsRefusedBy d c.in-Err.fault a) (λ a. (tokens : List PlacedToken) → IsParsed tokens c.args.parsed → IsStep db tokens a db)
+    (λ a d tokens parsed.
+    parsed_step db db tokens parsed.0 a parsed.1
+    (refused_does statement_view c.in-Err.fault a db parsed.0 (effect db) (subst (λ r. Answers statement_view r parsed.0) c.in-Err.is parsed.2) (d db)))
+    c.refused.result c.refused.ensures

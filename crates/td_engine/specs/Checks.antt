@@ -1,0 +1,57 @@
+-- What is asked of a database after a definition or an assignment: its keys and its constraints (Tutorial D's; the order of
+-- the checks is this project's own).
+use Rattle.std.specs.Prelude.{ℕ, Bool, true, false, List, [], ◌∷◌, Option, Some, None}
+use Rattle.std.specs.List.{list_all}
+use Rattle.std.specs.Option.{option_or}
+use Rattle.td_body.specs.Bodies.{key_holds}
+use Rattle.td_catalog.specs.Database.{BaseRelvar, Database, NamedConstraint, VirtualRelvar}
+use Rattle.td_engine.specs.Refusals.{Refusal, by_cause, by_constraint, by_key}
+use Rattle.td_eval.specs.DatabaseWorlds.{world_of}
+use Rattle.td_eval.specs.OperatorValues.{on_relation, truth_value}
+use Rattle.td_eval.specs.TreeValues.{value_of}
+use Rattle.td_eval.specs.Worlds.{World, name_value}
+use Rattle.td_tree.specs.Outcomes.{Outcome, Valued, Refused, least, with_value}
+use Rattle.td_value.specs.Values.{Tuple}
+
+-- why a test is not passed: it is FALSE, or it has causes, of which the least is named
+abbrev pub unpassed : Refusal → Outcome Bool → Option Refusal
+unpassed refusal (Valued true) = None
+unpassed refusal (Valued false) = Some refusal
+unpassed refusal (Refused cs) = Some (by_cause (least cs))
+
+-- the first of a list for which a check refuses decides
+abbrev pub first_refusal : {A : Type 0} → (A → Option Refusal) → List A → Option Refusal
+first_refusal check [] = None
+first_refusal check (x ∷ xs) = option_or (check x) (first_refusal check xs)
+
+-- whether each of the keys holds
+abbrev pub keys_hold : List (List (List ℕ)) → List Tuple → Bool
+keys_hold keys tuples = list_all (λ key. key_holds key tuples) keys
+
+-- the keys of a base relvar hold
+abbrev pub base_check : BaseRelvar → Option Refusal
+base_check r = unpassed (by_key r.name) (Valued (keys_hold r.keys r.relation.body))
+
+-- a virtual relvar that has keys is valued, and they hold
+abbrev pub virtual_test : World → VirtualRelvar → Outcome Bool
+virtual_test w v =
+    elim v.keys as (λ _. Outcome Bool) [
+      | [] ↦ Valued true
+      | key ∷ keys ↦ with_value (name_value w [] v.name) (λ value. on_relation value (λ r. Valued (keys_hold v.keys r.body)))
+    ]
+
+abbrev pub virtual_check : World → VirtualRelvar → Option Refusal
+virtual_check w v = unpassed (by_key v.name) (virtual_test w v)
+
+-- a constraint is TRUE
+abbrev pub constraint_check : World → NamedConstraint → Option Refusal
+constraint_check w c = unpassed (by_constraint c.name) (truth_value (value_of w [] c.tree))
+
+-- the keys of virtual relvars and then the constraints, each list in order of definition
+abbrev pub derived_check : Database → Option Refusal
+derived_check db =
+    option_or (first_refusal (virtual_check (world_of db)) db.virtuals) (first_refusal (constraint_check (world_of db)) db.constraints)
+
+-- the keys of base relvars first
+abbrev pub database_check : Database → Option Refusal
+database_check db = option_or (first_refusal base_check db.bases) (derived_check db)

@@ -1,0 +1,56 @@
+-- What assignments gave, on the way to a database with it (this project's own).
+use Rattle.std.specs.Prelude.{◌≡◌, ℕ, List, ◌++◌, drop, map, take, Option, Some, None, Result, Ok, Err, ⊤}
+use Rattle.std.specs.List.{AllByRecursion}
+use Rattle.td_algebra.specs.Operators.{restriction}
+use Rattle.td_catalog.specs.Database.{BaseRelvar, Database, base_named}
+use Rattle.td_catalog.specs.Legality.{AreTyped}
+use Rattle.td_check.specs.OperatorTypes.{attribute_type}
+use Rattle.td_engine.specs.Assignments.{Given, assignment_value, current, source_world, target_of, with_gift}
+use Rattle.td_engine.specs.Carried.{refusal_view}
+use Rattle.td_engine.specs.Refusals.{Refusal}
+use Rattle.td_engine.specs.declared.refusal.Failure.{Failure}
+use Rattle.td_engine.specs.declared.refusal.Failure.TheVariants as failures
+use Rattle.td_eval.specs.OperatorValues.{is_true, truth_value}
+use Rattle.td_tree.specs.Outcomes.{Outcome, Valued, gathered, with_value}
+use Rattle.td_tree.specs.Trees.{Assignment}
+use Rattle.td_types.specs.Types.{Attribute, Heading}
+use Rattle.td_value.specs.Values.{IsRelation, Relation, Tuple, Val}
+
+-- ---- the parts of an assignment
+
+-- the tuples of a relation for which a condition, which has a truth value in each, is TRUE
+abbrev pub restricted_relation : (Tuple → Outcome Val) → Relation → Outcome Relation
+restricted_relation p r =
+    with_value (gathered (map (λ t. truth_value (p t)) r.body)) (λ truths. Valued (restriction (λ t. is_true (p t)) r))
+
+-- the attribute of a name that is set
+abbrev pub setting_attribute : Heading → List ℕ → Outcome Attribute
+setting_attribute h n = with_value (attribute_type n h) (λ t. Valued (n, t))
+
+-- what an assignment gives to its target
+abbrev pub gift_of : Database → Given → Assignment → Outcome Relation
+gift_of db given a =
+    with_value (current db given (target_of a)) (λ so_far. assignment_value (source_world db (target_of a) so_far) so_far a)
+
+-- ---- what targets were given
+
+-- a relation that the base relvar of a name may hold: one of its heading, with values of their types
+pub record IsGift (db : Database) (gift : List ℕ × Relation) : Type 0 where
+  pub target : BaseRelvar
+  pub named : base_named gift.0 db ≡ Some target
+  pub heading : gift.1.heading ≡ target.relation.heading
+  pub relation : IsRelation gift.1
+  pub typed : AreTyped db.types gift.1
+
+abbrev pub AreGifts : Database → Given → Type 0
+AreGifts db = AllByRecursion (IsGift db)
+
+-- the base relvars, of which the first hold what they were given
+abbrev pub gifted : Given → ℕ → List BaseRelvar → List BaseRelvar
+gifted given count bases = map (with_gift given) (take count bases) ++ drop count bases
+
+-- a check was passed by what was made, or it refuses
+abbrev pub PassesWith : {X : Type 0} → Result X Failure → Option Refusal → Type 0
+PassesWith (Ok x) o = o ≡ None
+PassesWith (Err (failures.Refused refusal)) o = o ≡ Some (refusal_view refusal)
+PassesWith (Err failures.Memory) o = ⊤

@@ -1,0 +1,14 @@
+pub mod Assignments
+pub mod Carried
+pub mod Checks
+pub mod Faults
+pub mod Gifts
+pub mod Machine
+pub mod Refusals
+pub mod Scripts
+pub mod Soundness
+pub mod SoundnessLaws
+pub mod Standing
+pub mod Steps
+pub mod Told
+pub mod Turns

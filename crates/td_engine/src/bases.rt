@@ -1,0 +1,140 @@
+//! Definitions of base relvars.
+ghost use Rattle.std.specs.Prelude.{◌≡◌, IfOk, IsTrue, [], map, option_map};
+ghost use Rattle.td_catalog.specs.Database.{base_relvar, with_base};
+ghost use Rattle.td_catalog.specs.Legality.{AreBaseKeys, AreTyped, IsRelvarHeading};
+ghost use Rattle.td_engine.specs.Assignments.{of_heading, relation_for};
+ghost use Rattle.td_engine.specs.Carried.{Changes, IsAdmitted};
+ghost use Rattle.td_engine.specs.Checks.{keys_hold};
+ghost use Rattle.td_engine.specs.Machine.{base_defined, by_outcome, changed, init_relation};
+ghost use Rattle.td_engine.specs.Soundness.{IsSound};
+ghost use Rattle.td_eval.specs.DatabaseWorlds.{world_of};
+ghost use Rattle.td_eval.specs.OperatorValues.{on_relation};
+ghost use Rattle.td_tree.specs.Outcomes.{Answers, Outcome, Valued, with_value};
+ghost use Rattle.td_tree.specs.TreeViews.{heading_tree_view, statement_view, tree_view};
+ghost use Rattle.td_tree.specs.declared.cause.Cause.TheVariants as causes;
+ghost use Rattle.td_types.specs.TypeLists.{heading_meant};
+ghost use Rattle.td_value.specs.Values.{Val};
+ghost use Rattle.td_value.specs.Views.{relation_view};
+
+use crate::checks::{keys_hold, settled, value};
+use crate::definitions::failed;
+use crate::refusal::{Failure, Refusal};
+use crate::updates::relation_of;
+use crate::written::{tell_heading, tell_if_given};
+use std::alloc::{AllocError, Global};
+use td_body::body::Body;
+use td_catalog::catalog::Catalog;
+use td_catalog::copy::copied_keys;
+use td_tree::cause::Cause;
+use td_tree::expression::Expr;
+use td_tree::fault::Fault;
+use td_tree::name::Name;
+use td_tree::statement::{BaseDefinition, Statement};
+use td_types::heading::Heading;
+use td_types::resolve::resolve_heading;
+use td_value::relation::Rel;
+use td_value::value::{Node, Value};
+
+/// The relation of a new relvar of the heading.
+fn init_relation<B: Body>(
+    alloc: Global,
+    catalog: &Catalog<B>,
+    heading: Heading,
+    init: Option<&Expr>,
+) -> Result<Rel, Fault>
+    ensures { Answers (λ r. r) result (init_relation catalog.now
+        (option_map (λ e. tree_view e.now) init.entry) heading) }
+{
+    let empty = Rel::new(heading, Vec::new(alloc))?;
+    match init {
+        None => Ok(empty),
+        Some(init) => relation_of(&empty, value(alloc, catalog, init)),
+    }
+}
+
+/// The relation of a new relvar of the definition.
+fn new_relation<B: Body>(
+    alloc: Global,
+    catalog: &Catalog<B>,
+    definition: &BaseDefinition,
+) -> Result<Rel, Fault>
+    ensures { Answers (λ r. r) result (with_value
+        (heading_meant catalog.now.types (heading_tree_view definition.now.heading.items))
+        (init_relation catalog.now (option_map tree_view definition.now.init))) }
+{
+    let heading = resolve_heading(catalog.types(), &definition.heading)?;
+    init_relation(alloc, catalog, heading, definition.init.as_ref())
+}
+
+/// The catalogue with a base relvar that holds the relation, whose keys hold.
+fn with_body<B: Body>(
+    alloc: Global,
+    catalog: &Catalog<B>,
+    name: Name,
+    keys: Vec<Vec<Name>>,
+    relation: Rel,
+) -> Result<Catalog<B>, AllocError>
+    requires heading { IsRelvarHeading catalog.now.types relation.heading }
+    requires keys { AreBaseKeys relation.heading (map (λ key. key.items) keys.items) }
+    requires typed { AreTyped catalog.now.types relation }
+    requires hold { IsTrue (keys_hold (map (λ key. key.items) keys.items) relation.body) }
+    ensures { IfOk result (λ db. db ≡ with_base
+        (base_relvar name (map (λ key. key.items) keys.items) relation) catalog.now) }
+{
+    let heading = relation.heading().try_clone()?;
+    let empty: B = B::empty(alloc, relation.heading().try_clone()?, copied_keys(&keys)?)?;
+    let body = empty.holding(relation)?;
+    let _ = body.len();
+    let mut next = catalog.try_clone()?;
+    match next.add_base(name, heading, keys, body) {
+        Ok(()) => Ok(next),
+        Err(_) => Err(AllocError),
+    }
+}
+
+/// The catalogue with a base relvar that holds the relation, where its keys hold and what else is
+/// checked is passed.
+fn with_relvar<B: Body>(
+    alloc: Global,
+    catalog: &Catalog<B>,
+    name: Name,
+    keys: Vec<Vec<Name>>,
+    relation: Rel,
+) -> Result<Catalog<B>, Failure>
+    requires heading { IsRelvarHeading catalog.now.types relation.heading }
+    requires keys { AreBaseKeys relation.heading (map (λ key. key.items) keys.items) }
+    requires typed { AreTyped catalog.now.types relation }
+    ensures { Changes result (changed (with_base
+        (base_relvar name (map (λ key. key.items) keys.items) relation) catalog.now)) }
+{
+    catalog.reveal();
+    match keys_hold(alloc, &keys, &relation) {
+        Ok(true) => {}
+        Ok(false) => return Err(Failure::Refused(Refusal::Key(name))),
+        Err(_) => return Err(Failure::Memory),
+    }
+    match with_body(alloc, catalog, name, keys, relation) {
+        Ok(next) => settled(alloc, next),
+        Err(_) => Err(Failure::Memory),
+    }
+}
+
+/// The catalogue with a base relvar of the definition.
+pub(crate) fn with_base<B: Body>(
+    alloc: Global,
+    catalog: &Catalog<B>,
+    definition: BaseDefinition,
+) -> Result<Catalog<B>, Failure>
+    requires sound { IsSound catalog.now }
+    requires admitted { IsAdmitted catalog.now (statement_view (Statement.DefineBase definition)) }
+    ensures { Changes result (by_outcome (base_defined catalog.now definition.name
+        (heading_tree_view definition.heading.items) (option_map tree_view definition.init)
+        (map (λ key. key.items) definition.keys.items)) changed) }
+{
+    tell_heading(&definition.heading);
+    tell_if_given(definition.init.as_ref());
+    match new_relation(alloc, catalog, &definition) {
+        Ok(relation) => { with_relvar(alloc, catalog, definition.name, definition.keys, relation) }
+        Err(fault) => Err(failed(fault)),
+    }
+}

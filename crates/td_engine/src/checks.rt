@@ -1,0 +1,197 @@
+//! The keys of virtual relvars and the constraints of a catalogue, after a definition or an
+//! assignment.
+ghost use Rattle.std.specs.Prelude.{◌≡◌, [], IfOk, None, map};
+ghost use Rattle.td_catalog.specs.CatalogViews.{virtual_view};
+ghost use Rattle.td_catalog.specs.Database.{named_constraint};
+ghost use Rattle.td_engine.specs.Carried.{Changes, Passes};
+ghost use Rattle.td_engine.specs.Checks.{constraint_check, derived_check, first_refusal};
+ghost use Rattle.td_engine.specs.Checks.{keys_hold, unpassed, virtual_check, virtual_test};
+ghost use Rattle.td_engine.specs.Machine.{changed};
+ghost use Rattle.td_engine.specs.Refusals.{by_constraint, by_key};
+ghost use Rattle.td_eval.specs.DatabaseWorlds.{world_of};
+ghost use Rattle.td_eval.specs.OperatorValues.{on_relation, truth_value};
+ghost use Rattle.td_eval.specs.TreeValues.{value_of};
+ghost use Rattle.td_eval.specs.Worlds.{name_value};
+ghost use Rattle.td_tree.specs.Outcomes.{Answers, Outcome, Valued, with_value};
+ghost use Rattle.td_tree.specs.TreeViews.{tree_view};
+ghost use Rattle.td_value.specs.Values.{Val};
+
+use crate::refusal::{Failure, Refusal};
+use std::alloc::{AllocError, Global};
+use td_body::body::Body;
+use td_body::keys::key_holds;
+use td_catalog::catalog::Catalog;
+use td_catalog::entry::VirtualEntry;
+use td_eval::env::Env;
+use td_eval::value::eval;
+use td_tree::cause::Cause;
+use td_tree::expression::Expr;
+use td_tree::fault::Fault;
+use td_tree::name::Name;
+use td_value::relation::Rel;
+use td_value::value::{Node, Value};
+
+/// The value of an expression where the catalogue is known and no tuple is in hand.
+pub(crate) fn value<'a, B: Body>(
+    alloc: Global,
+    catalog: &'a Catalog<B>,
+    expr: &Expr,
+) -> Result<Value, Fault>
+    ensures { Answers (λ v. v) result
+        (value_of (world_of catalog.now) [] (tree_view expr.now)) }
+{
+    let other: Option<(&'a Name, &'a Rel)> = None;
+    let env = Env {
+        catalog,
+        other,
+        tuples: &[],
+    };
+    eval(alloc, &env, expr)
+}
+
+/// Whether each of the keys holds.
+pub(crate) fn keys_hold(
+    alloc: Global,
+    keys: &[Vec<Name>],
+    relation: &Rel,
+) -> Result<bool, AllocError>
+    ensures { IfOk result (λ b.
+        b ≡ keys_hold (map (λ key. key.items) keys.now) relation.now.body) }
+{
+    for key in keys {
+        if !key_holds(alloc, key, relation)? {
+            return Ok(false);
+        }
+    }
+    Ok(true)
+}
+
+/// Whether each of the keys holds of the relation that the value is.
+fn keys_hold_in(alloc: Global, keys: &[Vec<Name>], value: &Value) -> Result<bool, Fault>
+    ensures { Answers (λ b. b) result (on_relation value.now
+        (λ r. Valued (keys_hold (map (λ key. key.items) keys.now) r.body))) }
+{
+    match &value.node {
+        Node::Rel(relation) => Ok(keys_hold(alloc, keys, relation)?),
+        _ => Err(Fault::Refused(Cause::TypeMismatch)),
+    }
+}
+
+/// Whether each of the keys holds of what was answered.
+fn keys_hold_of(
+    alloc: Global,
+    keys: &[Vec<Name>],
+    answer: Result<Value, Fault>,
+) -> Result<bool, Fault>
+    ensures { (o : Outcome Val) → Answers (λ v. v) answer o
+        → Answers (λ b. b) result (with_value o (λ v. on_relation v
+        (λ r. Valued (keys_hold (map (λ key. key.items) keys.now) r.body)))) }
+{
+    keys_hold_in(alloc, keys, &answer?)
+}
+
+/// The value of the relvar of a name.
+fn relvar_value<B: Body>(alloc: Global, catalog: &Catalog<B>, name: &Name) -> Result<Value, Fault>
+    ensures { Answers (λ v. v) result (name_value (world_of catalog.now) [] name.now) }
+{
+    let relvar = Expr::Name(name.try_clone()?);
+    value(alloc, catalog, &relvar)
+}
+
+/// Whether a virtual relvar that has keys has a value of which they hold.
+fn test_virtual<B: Body>(
+    alloc: Global,
+    catalog: &Catalog<B>,
+    name: &Name,
+    entry: &VirtualEntry,
+) -> Result<bool, Fault>
+    ensures { Answers (λ b. b) result
+        (virtual_test (world_of catalog.now) (virtual_view (name.now, entry.now))) }
+{
+    if entry.keys.is_empty() {
+        return Ok(true);
+    }
+    keys_hold_of(alloc, &entry.keys, relvar_value(alloc, catalog, name))
+}
+
+/// What a test of the keys of a relvar comes to.
+fn key_passed(name: &Name, test: Result<bool, Fault>) -> Result<(), Failure>
+    ensures { (o : Outcome _) → Answers (λ b. b) test o
+        → Passes result (unpassed (by_key name.now) o) }
+{
+    if test? {
+        Ok(())
+    } else {
+        Err(Failure::Refused(Refusal::Key(name.try_clone()?)))
+    }
+}
+
+/// What a test of a constraint comes to.
+fn constraint_passed(name: &Name, test: Result<Value, Fault>) -> Result<(), Failure>
+    ensures { (o : Outcome Val) → Answers (λ v. v) test o
+        → Passes result (unpassed (by_constraint name.now) (truth_value o)) }
+{
+    match test?.node {
+        Node::Bool(true) => Ok(()),
+        Node::Bool(false) => Err(Failure::Refused(Refusal::Constraint(name.try_clone()?))),
+        _ => Err(Failure::Refused(Refusal::Cause(Cause::TypeMismatch))),
+    }
+}
+
+/// The virtual relvars have keys that hold.
+fn check_virtuals<B: Body>(alloc: Global, catalog: &Catalog<B>) -> Result<(), Failure>
+    ensures { Passes result
+        (first_refusal (virtual_check (world_of catalog.now)) catalog.now.virtuals) }
+{
+    for place in 0..catalog.virtual_count() {
+        let Some((name, entry)) = catalog.nth_virtual(place) else {
+            return Ok(());
+        };
+        match key_passed(name, test_virtual(alloc, catalog, name, entry)) {
+            Ok(()) => {}
+            Err(failure) => return Err(failure),
+        }
+    }
+    Ok(())
+}
+
+/// The constraints are TRUE.
+fn check_constraints<B: Body>(alloc: Global, catalog: &Catalog<B>) -> Result<(), Failure>
+    ensures { Passes result
+        (first_refusal (constraint_check (world_of catalog.now)) catalog.now.constraints) }
+{
+    for place in 0..catalog.constraint_count() {
+        let Some((name, tree)) = catalog.nth_constraint(place) else {
+            return Ok(());
+        };
+        match constraint_passed(name, value(alloc, catalog, tree)) {
+            Ok(()) => {}
+            Err(failure) => return Err(failure),
+        }
+    }
+    Ok(())
+}
+
+/// The virtual relvars have keys that hold, and then the constraints are TRUE.
+fn check_derived<B: Body>(alloc: Global, catalog: &Catalog<B>) -> Result<(), Failure>
+    ensures { Passes result (derived_check catalog.now) }
+{
+    match check_virtuals(alloc, catalog) {
+        Ok(()) => check_constraints(alloc, catalog),
+        Err(failure) => Err(failure),
+    }
+}
+
+/// The catalogue after a change, where the keys of its virtual relvars hold and its constraints
+/// are TRUE. Those of base relvars do in every catalogue.
+pub(crate) fn settled<B: Body>(alloc: Global, next: Catalog<B>) -> Result<Catalog<B>, Failure>
+    ensures change { Changes result (changed next) }
+    ensures same { IfOk result (λ db. db ≡ next) }
+    ensures holds { IfOk result (λ db. derived_check db ≡ None) }
+{
+    next.reveal();
+    match check_derived(alloc, &next) {
+        Ok(()) => Ok(next),
+        Err(failure) => Err(failure),
+    }
+}

@@ -1,0 +1,189 @@
+//! Definitions of types, virtual relvars and constraints, and drops.
+ghost use Rattle.std.specs.Prelude.{◌≡◌, map, option_map};
+ghost use Rattle.td_catalog.specs.Database.{Database, named_constraint, with_constraint};
+ghost use Rattle.td_catalog.specs.Database.{database_scope};
+ghost use Rattle.td_check.specs.OperatorTypes.{over_relation};
+ghost use Rattle.td_check.specs.StaticTypes.{type_of};
+ghost use Rattle.td_engine.specs.Carried.{Changes, IsAdmitted, failure_of};
+ghost use Rattle.td_engine.specs.Machine.{by_outcome, changed, constraint_dropped};
+ghost use Rattle.td_engine.specs.Machine.{relvar_dropped, type_defined, type_dropped, unchecked};
+ghost use Rattle.td_engine.specs.Machine.{virtual_defined};
+ghost use Rattle.td_engine.specs.Soundness.{IsSound};
+ghost use Rattle.td_tree.specs.Outcomes.{Answers, Outcome, Valued, with_value};
+ghost use Rattle.td_tree.specs.TreeViews.{heading_tree_view, statement_view, tree_view};
+ghost use Rattle.td_types.specs.Types.{Type'};
+ghost use Rattle.td_types.specs.Views.{type_view};
+
+use crate::checks::settled;
+use crate::refusal::{Failure, Refusal};
+use crate::written::tell_heading;
+use std::alloc::Global;
+use td_body::body::Body;
+use td_catalog::catalog::Catalog;
+use td_check::expression::check_expr;
+use td_tree::cause::Cause;
+use td_tree::expression::Expr;
+use td_tree::fault::Fault;
+use td_tree::name::Name;
+use td_tree::statement::{Statement, TypeDefinition, VirtualDefinition};
+use td_types::heading::Heading;
+use td_types::resolve::resolve_attributes;
+use td_types::ty::Ty;
+
+/// What a fault of the crates below comes to.
+pub(crate) fn failed(fault: Fault) -> Failure
+    ensures { result ≡ failure_of fault }
+{
+    match fault {
+        Fault::Refused(cause) => Failure::Refused(Refusal::Cause(cause)),
+        Fault::Memory => Failure::Memory,
+    }
+}
+
+/// The catalogue that a definition makes, where the checks that follow are passed.
+pub(crate) fn checked<B: Body>(
+    alloc: Global,
+    next: Result<Catalog<B>, Fault>,
+) -> Result<Catalog<B>, Failure>
+    ensures { (o : Outcome Database) → Answers (λ db. db) next o
+        → Changes result (by_outcome o changed) }
+{
+    match next {
+        Ok(next) => settled(alloc, next),
+        Err(fault) => Err(failed(fault)),
+    }
+}
+
+/// The catalogue that a drop makes: no check follows.
+pub(crate) fn unchecked<B: Body>(next: Result<Catalog<B>, Fault>) -> Result<Catalog<B>, Failure>
+    ensures { (o : Outcome Database) → Answers (λ db. db) next o
+        → Changes result (by_outcome o unchecked) }
+{
+    match next {
+        Ok(next) => Ok(next),
+        Err(fault) => Err(failed(fault)),
+    }
+}
+
+/// The catalogue with a type of the definition.
+pub(crate) fn with_type<B: Body>(
+    catalog: &Catalog<B>,
+    definition: TypeDefinition,
+) -> Result<Catalog<B>, Fault>
+    requires sound { IsSound catalog.now }
+    requires admitted { IsAdmitted catalog.now (statement_view (Statement.DefineType definition)) }
+    ensures { Answers (λ db. db) result (type_defined catalog.now definition.name
+        (heading_tree_view definition.components.items)
+        (option_map tree_view definition.constraint)) }
+{
+    tell_heading(&definition.components);
+    let components = resolve_attributes(catalog.types(), &definition.components)?;
+    let mut next = catalog.try_clone()?;
+    match next.add_type(definition.name, components, definition.constraint) {
+        Ok(()) => Ok(next),
+        Err(fault) => Err(fault),
+    }
+}
+
+/// The heading of a relation's type that was answered: another type is refused.
+fn over_relation(answer: Result<Ty, Fault>) -> Result<Heading, Fault>
+    ensures { (o : Outcome Type') → Answers type_view answer o
+        → Answers (λ h. h) result (with_value o (λ t. over_relation t Valued)) }
+{
+    match answer {
+        Ok(Ty::Rel(heading)) => Ok(heading),
+        Ok(_) => Err(Fault::Refused(Cause::TypeMismatch)),
+        Err(fault) => Err(fault),
+    }
+}
+
+/// The heading of an expression's value, which is a relation.
+fn heading_of<B: Body>(catalog: &Catalog<B>, expression: &Expr) -> Result<Heading, Fault>
+    ensures { Answers (λ h. h) result (with_value
+        (type_of (database_scope catalog.now) (tree_view expression.now))
+        (λ t. over_relation t Valued)) }
+{
+    let scope = catalog.scope()?;
+    over_relation(check_expr(&scope, expression))
+}
+
+/// The catalogue with a virtual relvar of the definition.
+pub(crate) fn with_virtual<B: Body>(
+    catalog: &Catalog<B>,
+    definition: VirtualDefinition,
+) -> Result<Catalog<B>, Fault>
+    requires sound { IsSound catalog.now }
+    requires admitted { IsAdmitted catalog.now (statement_view (Statement.DefineVirtual definition)) }
+    ensures { Answers (λ db. db) result (virtual_defined catalog.now definition.name
+        (tree_view definition.expression)
+        (map (λ key. key.items) definition.keys.items)) }
+{
+    let heading = heading_of(catalog, &definition.expression)?;
+    let mut next = catalog.try_clone()?;
+    match next.add_virtual(
+        definition.name,
+        heading,
+        definition.expression,
+        definition.keys,
+    ) {
+        Ok(()) => Ok(next),
+        Err(fault) => Err(fault),
+    }
+}
+
+/// The catalogue with a constraint.
+pub(crate) fn with_constraint<B: Body>(
+    catalog: &Catalog<B>,
+    name: Name,
+    condition: Expr,
+) -> Result<Catalog<B>, Fault>
+    requires sound { IsSound catalog.now }
+    requires admitted { IsAdmitted catalog.now (statement_view (Statement.DefineConstraint name condition)) }
+    ensures { Answers (λ db. db) result (Valued
+        (with_constraint (named_constraint name (tree_view condition)) catalog.now)) }
+{
+    let mut next = catalog.try_clone()?;
+    match next.add_constraint(name, condition) {
+        Ok(()) => Ok(next),
+        Err(fault) => Err(fault),
+    }
+}
+
+/// The catalogue without a type that no entry mentions.
+pub(crate) fn without_type<B: Body>(catalog: &Catalog<B>, name: &Name) -> Result<Catalog<B>, Fault>
+    ensures { Answers (λ db. db) result (type_dropped catalog.now name.now) }
+{
+    let mut next = catalog.try_clone()?;
+    match next.drop_type(name) {
+        Ok(()) => Ok(next),
+        Err(fault) => Err(fault),
+    }
+}
+
+/// The catalogue without a relvar that no entry mentions.
+pub(crate) fn without_relvar<B: Body>(
+    catalog: &Catalog<B>,
+    name: &Name,
+) -> Result<Catalog<B>, Fault>
+    ensures { Answers (λ db. db) result (relvar_dropped catalog.now name.now) }
+{
+    let mut next = catalog.try_clone()?;
+    match next.drop_var(name) {
+        Ok(()) => Ok(next),
+        Err(fault) => Err(fault),
+    }
+}
+
+/// The catalogue without a constraint.
+pub(crate) fn without_constraint<B: Body>(
+    catalog: &Catalog<B>,
+    name: &Name,
+) -> Result<Catalog<B>, Fault>
+    ensures { Answers (λ db. db) result (constraint_dropped catalog.now name.now) }
+{
+    let mut next = catalog.try_clone()?;
+    match next.drop_constraint(name) {
+        Ok(()) => Ok(next),
+        Err(fault) => Err(fault),
+    }
+}

@@ -1,0 +1,32 @@
+//! Laws of the set machine: each function has its contract alone.
+ghost use Rattle.std.specs.Prelude.{◌≡◌, ◌≢◌, Bool, List, None};
+ghost use Rattle.td_catalog.specs.Database.{Database};
+ghost use Rattle.td_engine.specs.Machine.{Progress, Runs, Step, Steps};
+ghost use Rattle.td_engine.specs.SoundnessLaws.{AcceptedStatementsKeepSoundness};
+ghost use Rattle.td_tree.specs.Statements.{PlacedToken};
+
+/// Every list of statements has an outcome.
+#[tactic(auto, using(crate::proofs::Runs::some_outcome))]
+pub fn statements_have_an_outcome()
+    ensures { (stop : Bool) (so_far : Progress) (script : List (List PlacedToken))
+        → (p : Progress) × Runs stop so_far script p }
+{}
+
+/// No list of statements has two outcomes.
+#[tactic(auto, using(crate::proofs::Runs::one_outcome))]
+pub fn statements_have_one_outcome()
+    ensures { (stop : Bool) (so_far : Progress) (script : List (List PlacedToken)) (p q : Progress)
+        → Runs stop so_far script p → Runs stop so_far script q → p ≡ q }
+{}
+
+/// A refused statement changes nothing.
+#[tactic(auto, using(crate::proofs::Kept::refused_keeps))]
+pub fn refused_statements_change_nothing()
+    ensures { (db : Database) (tokens : List PlacedToken) (s : Step)
+        → Steps db tokens s → s.cause ≢ None → s.database ≡ db }
+{}
+
+/// What an accepted statement makes of a sound database is sound.
+pub fn accepted_statements_keep_soundness()
+    ensures { AcceptedStatementsKeepSoundness }
+{}

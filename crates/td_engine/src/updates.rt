@@ -1,0 +1,409 @@
+//! What an assignment gives to its target.
+ghost use Rattle.std.specs.Prelude.{◌≡◌, ◌∷◌, ℕ, List, [], IfOk, IsTrue, length, map, not};
+ghost use Rattle.std.specs.Prelude.{Bool, option_map};
+ghost use Rattle.td_algebra.specs.Operators.{difference, union};
+ghost use Rattle.td_check.specs.OperatorTypes.{attribute_type};
+ghost use Rattle.td_engine.specs.Assignments.{assignment_value, chosen_for, of_heading};
+ghost use Rattle.td_engine.specs.Assignments.{relation_for, setting_attributes, setting_names};
+ghost use Rattle.td_engine.specs.Assignments.{source_world, target_of, updated_relation};
+ghost use Rattle.td_engine.specs.Assignments.{with_inserted, without_deleted};
+ghost use Rattle.td_engine.specs.Gifts.{restricted_relation, setting_attribute};
+ghost use Rattle.td_eval.specs.OperatorValues.{on_relation, truth_value};
+ghost use Rattle.td_eval.specs.Sights.{tuples_in_hand, world_in};
+ghost use Rattle.td_eval.specs.TreeValues.{value_of, values_in_tuples};
+ghost use Rattle.td_tree.specs.Outcomes.{Answers, Outcome, Valued, gathered, with_value};
+ghost use Rattle.td_tree.specs.TreeViews.{assignment_view, named_view, tree_view};
+ghost use Rattle.td_tree.specs.Trees.{delete};
+ghost use Rattle.td_types.specs.Headings.{are_distinct};
+ghost use Rattle.td_types.specs.Types.{Type', attribute_names};
+ghost use Rattle.td_types.specs.Views.{pairs_view, type_view};
+ghost use Rattle.td_value.specs.Values.{Tuple, Val};
+ghost use Rattle.td_value.specs.Views.{relation_view};
+
+use std::alloc::{AllocError, Global};
+use td_algebra::restriction::restrict;
+use td_algebra::sets::{minus, union};
+use td_body::body::Body;
+use td_catalog::catalog::Catalog;
+use td_eval::env::Env;
+use td_eval::in_tuples::{set_in_tuples, truths_in};
+use td_eval::value::eval;
+use td_tree::cause::Cause;
+use td_tree::expression::{Expr, NamedExpr};
+use td_tree::fault::Fault;
+use td_tree::gathering::Gathering;
+use td_tree::name::Name;
+use td_tree::statement::Assignment;
+use td_types::heading::Heading;
+use td_types::names::{are_distinct, names_of};
+use td_types::ty::Ty;
+use td_value::relation::Rel;
+use td_value::value::{Node, Value};
+
+// ---- sources
+
+/// The relation, where it is of the target's heading.
+fn of_heading(target: &Rel, relation: &Rel) -> Result<Rel, Fault>
+    ensures answer { Answers (λ r. r) result (of_heading target.now relation.now) }
+    ensures heading { IfOk result (λ r. r.heading ≡ target.now.heading) }
+{
+    if relation.heading() == target.heading() {
+        Ok(relation.try_clone()?)
+    } else {
+        Err(Fault::Refused(Cause::Heading))
+    }
+}
+
+/// The relation that the value is, of the target's heading.
+fn relation_in(target: &Rel, value: &Value) -> Result<Rel, Fault>
+    ensures answer { Answers (λ r. r) result (on_relation value.now (of_heading target.now)) }
+    ensures heading { IfOk result (λ r. r.heading ≡ target.now.heading) }
+{
+    match &value.node {
+        Node::Rel(relation) => of_heading(target, relation),
+        _ => Err(Fault::Refused(Cause::TypeMismatch)),
+    }
+}
+
+/// The relation that was answered, of the target's heading.
+pub(crate) fn relation_of(target: &Rel, answer: Result<Value, Fault>) -> Result<Rel, Fault>
+    ensures answer { (o : Outcome Val) → Answers (λ v. v) answer o
+        → Answers (λ r. r) result (with_value o (λ v. on_relation v (of_heading target.now))) }
+    ensures heading { IfOk result (λ r. r.heading ≡ target.now.heading) }
+{
+    relation_in(target, &answer?)
+}
+
+/// The value of an expression, where the name of the target means its relation so far.
+fn assigned_value<'a, B: Body>(
+    alloc: Global,
+    catalog: &'a Catalog<B>,
+    target: &'a Name,
+    so_far: &'a Rel,
+    source: &Expr,
+) -> Result<Value, Fault>
+    ensures { Answers (λ v. v) result (value_of
+        (source_world catalog.now target.now so_far.now) [] (tree_view source.now)) }
+{
+    let env = Env {
+        catalog,
+        other: Some((target, so_far)),
+        tuples: &[],
+    };
+    eval(alloc, &env, source)
+}
+
+/// What an assignment of the value of an expression gives.
+fn assigned<B: Body>(
+    alloc: Global,
+    catalog: &Catalog<B>,
+    target: &Name,
+    so_far: &Rel,
+    source: &Expr,
+) -> Result<Rel, Fault>
+    ensures answer { Answers (λ r. r) result (relation_for so_far.now
+        (source_world catalog.now target.now so_far.now) (tree_view source.now)) }
+    ensures heading { IfOk result (λ r. r.heading ≡ so_far.now.heading) }
+{
+    relation_of(
+        so_far,
+        assigned_value(alloc, catalog, target, so_far, source),
+    )
+}
+
+/// What INSERT gives.
+fn inserted<B: Body>(
+    alloc: Global,
+    catalog: &Catalog<B>,
+    target: &Name,
+    so_far: &Rel,
+    source: &Expr,
+) -> Result<Rel, Fault>
+    ensures { Answers (λ r. r) result (relation_for so_far.now
+        (source_world catalog.now target.now so_far.now)
+        (with_inserted target.now (tree_view source.now))) }
+{
+    let source = assigned(alloc, catalog, target, so_far, source)?;
+    Ok(union(alloc, so_far, &source)?)
+}
+
+// ---- conditions
+
+/// The tuples whose truth values are TRUE.
+fn restricted(alloc: Global, so_far: &Rel, truths: Result<Vec<bool>, Fault>) -> Result<Rel, Fault>
+    requires { IfOk truths (λ m. length m.items ≡ length so_far.now.body) }
+    ensures { (p : Tuple → Outcome Val) → Answers (λ m. m.items) truths
+        (gathered (map (λ t. truth_value (p t)) so_far.now.body))
+        → Answers (λ r. r) result (restricted_relation p so_far.now) }
+{
+    let truths = truths?;
+    Ok(restrict(alloc, so_far, &truths)?)
+}
+
+/// The truth values the other way round.
+fn negated(alloc: Global, truths: &[bool]) -> Result<Vec<bool>, AllocError>
+    ensures { IfOk result (λ m. m.items ≡ map not truths.now) }
+{
+    let mut others = Vec::with_capacity(alloc, truths.len())?;
+    for truth in truths {
+        others.push(!*truth)?;
+    }
+    Ok(others)
+}
+
+/// The truth values that were answered the other way round.
+fn negated_of(alloc: Global, truths: Result<Vec<bool>, Fault>) -> Result<Vec<bool>, Fault>
+    ensures { (o : Outcome (List Bool)) → Answers (λ m. m.items) truths o
+        → Answers (λ m. m.items) result (with_value o (λ m. Valued (map not m))) }
+{
+    Ok(negated(alloc, &truths?)?)
+}
+
+/// The truth values of a condition in the target's tuples so far, in their order.
+fn truths_so_far<'a, B: Body>(
+    alloc: Global,
+    catalog: &'a Catalog<B>,
+    target: &'a Name,
+    so_far: &'a Rel,
+    condition: &Expr,
+) -> Result<Vec<bool>, Fault>
+    ensures { Answers (λ m. m.items) result (gathered (map (λ t. truth_value (value_of
+        (source_world catalog.now target.now so_far.now) (t ∷ []) (tree_view condition.now)))
+        so_far.now.body)) }
+{
+    let env = Env {
+        catalog,
+        other: Some((target, so_far)),
+        tuples: &[],
+    };
+    truths_in(alloc, &env, so_far, condition)
+}
+
+/// What DELETE with a condition leaves.
+fn deleted<B: Body>(
+    alloc: Global,
+    catalog: &Catalog<B>,
+    target: &Name,
+    so_far: &Rel,
+    condition: &Expr,
+) -> Result<Rel, Fault>
+    ensures { Answers (λ r. r) result (relation_for so_far.now
+        (source_world catalog.now target.now so_far.now)
+        (without_deleted target.now (tree_view condition.now))) }
+{
+    let truths = truths_so_far(alloc, catalog, target, so_far, condition);
+    restricted(alloc, so_far, negated_of(alloc, truths))
+}
+
+/// The relation of the same heading without tuples.
+fn emptied(alloc: Global, so_far: &Rel) -> Result<Rel, AllocError>
+    ensures { IfOk result (λ r. r ≡ relation_view so_far.now.heading []) }
+{
+    let _ = so_far.rows();
+    Rel::of_ascending(so_far.heading().try_clone()?, Vec::new(alloc))
+}
+
+// ---- UPDATE
+
+/// The tuples that UPDATE changes.
+fn chosen<B: Body>(
+    alloc: Global,
+    catalog: &Catalog<B>,
+    target: &Name,
+    so_far: &Rel,
+    condition: Option<&Expr>,
+) -> Result<Rel, Fault>
+    ensures answer { Answers (λ r. r) result (chosen_for so_far.now
+        (source_world catalog.now target.now so_far.now) target.now
+        (option_map (λ e. tree_view e.now) condition.entry)) }
+    ensures heading { IfOk result (λ r. r.heading ≡ so_far.now.heading) }
+{
+    match condition {
+        None => Ok(so_far.try_clone()?),
+        Some(condition) => {
+            let truths = truths_so_far(alloc, catalog, target, so_far, condition);
+            restricted(alloc, so_far, truths)
+        }
+    }
+}
+
+/// The attribute of a name that UPDATE sets: one that is missing is refused.
+fn setting_attribute(heading: &Heading, name: &Name) -> Result<(Name, Ty), Fault>
+    ensures { Answers {A = List ℕ × Type'} (λ a. (a.0, type_view a.1)) result
+        (setting_attribute heading.now name.now) }
+{
+    match heading.get(name) {
+        Some(ty) => Ok((name.try_clone()?, ty.try_clone()?)),
+        None => Err(Fault::Refused(Cause::Heading)),
+    }
+}
+
+/// The attributes that UPDATE sets: one that is missing is refused.
+fn known_attributes(
+    alloc: Global,
+    heading: &Heading,
+    settings: &[NamedExpr],
+) -> Result<Vec<(Name, Ty)>, Fault>
+    ensures { Answers (λ a. pairs_view a.items) result (gathered
+        (map (setting_attribute heading.now) (setting_names (named_view settings.now)))) }
+{
+    let mut causes = Gathering::new();
+    let mut attributes = Vec::with_capacity(alloc, settings.len())?;
+    for setting in settings {
+        let Some(attribute) = causes.add(setting_attribute(heading, &setting.name))? else {
+            continue;
+        };
+        attributes.push(attribute)?;
+    }
+    causes.finish(attributes)
+}
+
+/// The attributes that UPDATE sets: one that is missing is refused, and so is one twice.
+fn setting_attributes(
+    alloc: Global,
+    heading: &Heading,
+    settings: &[NamedExpr],
+) -> Result<Vec<(Name, Ty)>, Fault>
+    ensures answer { Answers (λ a. pairs_view a.items) result
+        (setting_attributes heading.now (setting_names (named_view settings.now))) }
+    ensures lengths { IfOk result (λ a. length a.items ≡ length settings.now) }
+    ensures distinct { IfOk result (λ a.
+        IsTrue (are_distinct (attribute_names (pairs_view a.items)))) }
+{
+    let attributes = known_attributes(alloc, heading, settings)?;
+    let names = names_of(alloc, &attributes)?;
+    if are_distinct(&names) {
+        Ok(attributes)
+    } else {
+        Err(Fault::Refused(Cause::Heading))
+    }
+}
+
+/// The relation with other tuples in place of some.
+fn replaced(alloc: Global, so_far: &Rel, chosen: &Rel, changed: &Rel) -> Result<Rel, AllocError>
+    requires chosen { chosen.now.heading ≡ so_far.now.heading }
+    requires changed { changed.now.heading ≡ so_far.now.heading }
+    ensures { IfOk result (λ r. r ≡ union (difference so_far.now chosen.now) changed.now) }
+{
+    let others = minus(alloc, so_far, chosen)?;
+    union(alloc, &others, changed)
+}
+
+/// What UPDATE makes of the chosen tuples, in place of them.
+fn changed<'a, B: Body>(
+    alloc: Global,
+    env: &Env<'a, B>,
+    so_far: &Rel,
+    chosen: &Rel,
+    settings: &[NamedExpr],
+) -> Result<Rel, Fault>
+    requires { chosen.now.heading ≡ so_far.now.heading }
+    ensures { Answers (λ r. r) result (updated_relation so_far.now
+        (setting_names (named_view settings.now))
+        (values_in_tuples (world_in env.now) (tuples_in_hand env.now) (named_view settings.now))
+        chosen.now) }
+{
+    let attributes = setting_attributes(alloc, so_far.heading(), settings)?;
+    let changed = set_in_tuples(alloc, env, chosen, &attributes, settings)?;
+    let changed = of_heading(so_far, &changed)?;
+    Ok(replaced(alloc, so_far, chosen, &changed)?)
+}
+
+/// What UPDATE makes of the target's tuples so far.
+fn updated<'a, B: Body>(
+    alloc: Global,
+    catalog: &'a Catalog<B>,
+    target: &'a Name,
+    so_far: &'a Rel,
+    chosen: &Rel,
+    settings: &[NamedExpr],
+) -> Result<Rel, Fault>
+    requires { chosen.now.heading ≡ so_far.now.heading }
+    ensures { Answers (λ r. r) result (updated_relation so_far.now
+        (setting_names (named_view settings.now))
+        (values_in_tuples (source_world catalog.now target.now so_far.now) []
+        (named_view settings.now)) chosen.now) }
+{
+    let env = Env {
+        catalog,
+        other: Some((target, so_far)),
+        tuples: &[],
+    };
+    changed(alloc, &env, so_far, chosen, settings)
+}
+
+/// What UPDATE gives.
+fn update<B: Body>(
+    alloc: Global,
+    catalog: &Catalog<B>,
+    target: &Name,
+    so_far: &Rel,
+    condition: Option<&Expr>,
+    settings: &[NamedExpr],
+) -> Result<Rel, Fault>
+    ensures { Answers (λ r. r) result (with_value
+        (chosen_for so_far.now (source_world catalog.now target.now so_far.now) target.now
+        (option_map (λ e. tree_view e.now) condition.entry))
+        (updated_relation so_far.now (setting_names (named_view settings.now))
+        (values_in_tuples (source_world catalog.now target.now so_far.now) []
+        (named_view settings.now)))) }
+{
+    let chosen = chosen(alloc, catalog, target, so_far, condition)?;
+    updated(alloc, catalog, target, so_far, &chosen, settings)
+}
+
+// ---- assignments
+
+/// The name of the target.
+pub(crate) fn target_of(assignment: &Assignment) -> &Name
+    ensures { result.now ≡ target_of (assignment_view assignment.now) }
+{
+    match assignment {
+        Assignment::Assign(target, _)
+        | Assignment::Insert(target, _)
+        | Assignment::Delete(target, _)
+        | Assignment::Update(target, _, _) => target,
+    }
+}
+
+/// What DELETE gives.
+fn delete<B: Body>(
+    alloc: Global,
+    catalog: &Catalog<B>,
+    target: &Name,
+    so_far: &Rel,
+    condition: &Option<Expr>,
+) -> Result<Rel, Fault>
+    ensures { Answers (λ r. r) result (assignment_value
+        (source_world catalog.now target.now so_far.now) so_far.now
+        (delete target.now (option_map tree_view condition.now))) }
+{
+    match condition {
+        None => Ok(emptied(alloc, so_far)?),
+        Some(condition) => deleted(alloc, catalog, target, so_far, condition),
+    }
+}
+
+/// What an assignment gives to its target, whose relation so far is this.
+pub(crate) fn assignment_value<B: Body>(
+    alloc: Global,
+    catalog: &Catalog<B>,
+    so_far: &Rel,
+    assignment: &Assignment,
+) -> Result<Rel, Fault>
+    ensures { Answers (λ r. r) result (assignment_value
+        (source_world catalog.now (target_of (assignment_view assignment.now)) so_far.now)
+        so_far.now (assignment_view assignment.now)) }
+{
+    match assignment {
+        Assignment::Assign(target, source) => assigned(alloc, catalog, target, so_far, source),
+        Assignment::Insert(target, source) => inserted(alloc, catalog, target, so_far, source),
+        Assignment::Delete(target, condition) => {
+            delete(alloc, catalog, target, so_far, condition)
+        }
+        Assignment::Update(target, condition, settings) => {
+            let condition = condition.as_ref();
+            update(alloc, catalog, target, so_far, condition, settings)
+        }
+    }
+}
