@@ -1,9 +1,11 @@
 mod Changes
 mod Copies
 mod EntriesLess
+mod KeyNames
 mod KnownRelvars
 mod LegalDrops
 mod LegalTypeDrops
+mod Lines
 mod Lists
 pub mod Legal
 mod Places
