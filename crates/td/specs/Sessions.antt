@@ -1,9 +1,14 @@
--- What a session answers (this project's own).
-use Rattle.std.specs.Prelude.{◌≡◌, ℕ, ◌≤◌, List, Option, None, Some, ⊤, nat_lt, if◌then◌else◌}
-use Rattle.td_catalog.specs.Database.{Database}
-use Rattle.td_engine.specs.Soundness.{IsSound}
-use Rattle.td_engine.specs.Standing.{HasRun, HasRunCut, IsLeft, Run, standing}
-use Rattle.td_engine.specs.declared.run.Report.{Report}
+-- What a session writes and answers (this project's own).
+use Rattle.std.specs.Prelude.{◌≡◌, ℕ, ◌≤◌, List, [], Option, None, Some, nat_lt, take, if◌then◌else◌, ⊤}
+use Rattle.std.specs.Io.KnownBytes.{Appends}
+use Rattle.td.specs.declared.line.Mode.{Mode}
+use Rattle.td.specs.declared.line.Mode.TheVariants.{Run, Dump}
+use Rattle.td_catalog.specs.Dumps.{dump_text}
+use Rattle.td_engine.specs.Machine.{Progress, State}
+use Rattle.td_engine.specs.Soundness.{IsSoundState}
+use Rattle.td_engine.specs.Standing.{HasRun, HasRunCut, RunsTo, standing}
+use Rattle.td_engine.specs.Standing as runs
+use Rattle.td_engine.specs.Told.{AppendsIfTold}
 use Rattle.td_engine.specs.declared.run.RunFault.{RunFault}
 use Rattle.td_engine.specs.declared.run.RunFault.TheVariants.{Memory}
 
@@ -16,21 +21,45 @@ IsStatus status (Some fault) = status ≡ 3
 abbrev pub status_of : ℕ → ℕ
 status_of refusals = if nat_lt 0 refusals then 1 else 0
 
--- the run was run to its end, the sink has taken its text, and the database is sound
-pub record HasAnswered (run : Run) (status : ℕ) (taken : Option (List ℕ)) : Type 0 where
-  pub database : Database
-  pub report : Report
-  pub left : IsLeft run (standing database taken) report
-  pub status_is : status ≡ status_of report.refused
-  pub sound : IsSound database
+-- what is written of a run: its answers, or the dump of the database that it leaves
+abbrev pub output_of : Mode → Progress → List ℕ
+output_of Run progress = progress.text
+output_of Dump progress = dump_text progress.state.database
 
--- the first `done` statements were run, and the database is sound
-abbrev pub HasBegun : Run → ℕ → Option (List ℕ) → Type 0
-HasBegun run done taken = (db : Database) × HasRun run done (standing db taken) × IsSound db
+-- the run was run to its end, the sink has taken what is written of it, and the databases are sound
+pub record HasAnswered (mode : Mode) (run : runs.Run) (status : ℕ) (taken : Option (List ℕ)) : Type 0 where
+  pub progress : Progress
+  pub runs : RunsTo run run.script progress
+  pub written : Appends run.old.taken taken (output_of mode progress)
+  pub status_is : status ≡ status_of progress.refusals
+  pub sound : IsSoundState progress.state
 
--- so they were, and the text of the last one is cut
-abbrev pub HasBegunCut : Run → ℕ → Option (List ℕ) → Type 0
-HasBegunCut run done taken = (db : Database) × HasRunCut run done (standing db taken) × IsSound db
+-- what is written before memory is refused: the answers so far, and nothing of a dump
+abbrev pub output_so_far : Mode → Progress → List ℕ
+output_so_far Run progress = progress.text
+output_so_far Dump progress = []
+
+-- the first `done` statements were run, each of them, the sink has taken what is written so far, and the databases are sound
+pub record HasBegun (mode : Mode) (run : runs.Run) (done : ℕ) (taken : Option (List ℕ)) : Type 0 where
+  pub progress : Progress
+  pub runs : RunsTo run (take done run.script) progress
+  pub each_run : progress.statements ≡ done
+  pub written : Appends run.old.taken taken (output_so_far mode progress)
+  pub sound : IsSoundState progress.state
+
+-- the run was run to its end, `done` statements, and the dump is cut
+pub record HasDumpedCut (run : runs.Run) (done : ℕ) (taken : Option (List ℕ)) : Type 0 where
+  pub progress : Progress
+  pub runs : RunsTo run run.script progress
+  pub each_run : progress.statements ≡ done
+  pub count : ℕ
+  pub cut : AppendsIfTold run.old.taken taken (take count (dump_text progress.state.database))
+  pub sound : IsSoundState progress.state
+
+-- what was written is cut: the text of the last of the first `done` statements, or the dump
+abbrev pub HasBegunCut : Mode → runs.Run → ℕ → Option (List ℕ) → Type 0
+HasBegunCut Run run done taken = (s : State) × HasRunCut run done (standing s taken) × IsSoundState s
+HasBegunCut Dump run done taken = HasDumpedCut run done taken
 
 -- unless memory was refused
 abbrev pub UnlessMemory : Option RunFault → Type 0 → Type 0

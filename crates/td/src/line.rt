@@ -1,10 +1,14 @@
 //! The words of the command line.
-ghost use Rattle.std.specs.Prelude.{◌≡◌, IfOk, IfSome, List, Ok, Some, codes, map, IsFalse};
-ghost use Rattle.clap.specs.Words.{IsPlainArg, app_of, new_rule, rule_of, subcommand_of, subcommand_rows_of};
+ghost use Rattle.std.specs.Prelude.{◌≡◌, IfNone, IfOk, IfSome, codes, map, IsFalse};
+ghost use Rattle.clap.specs.Faults.{fault_of};
+ghost use Rattle.clap.specs.Kinds.{FailsBy};
+ghost use Rattle.clap.specs.Words.{IsPlainArg, app_of, found_of, new_rule, rows_of, rule_of, subcommand_of};
+ghost use Rattle.clap.specs.Words.{subcommand_rows_of};
 ghost use Rattle.clap.specs.declared.builder.command.Command.TheViews.{out-Command};
-ghost use Rattle.td.specs.CommandLine.{IsSaidBy, mode_word, part_app, stop_rule, td_app};
+ghost use Rattle.td.specs.CommandLine.{IsOfMode, IsSaidBy, Stops, dump_app, mode_word, run_app, stop_rule};
+ghost use Rattle.td.specs.CommandLine.{td_app};
+ghost use Rattle.td.specs.declared.line.Mode.{Mode};
 
-use clap::error::ErrorKind;
 use clap::{Arg, ArgAction, ArgMatches, Command, Error};
 use std::alloc::{AllocError, Global};
 
@@ -13,6 +17,8 @@ use std::alloc::{AllocError, Global};
 pub enum Mode {
     /// Its answers.
     Run,
+    /// The dump of the database that it leaves.
+    Dump,
 }
 
 /// What the command line says.
@@ -49,82 +55,102 @@ fn file_word<'a>(alloc: Global) -> Arg<'a>
     )
 }
 
-/// A subcommand: a flag `--stop` and the file.
-fn part<'a>(alloc: Global, name: &'a str, about: &'a str) -> Result<Command<'a>, AllocError>
-    ensures app { IfOk result (λ c. app_of c ≡ part_app name.entry.now) }
+/// `run`: a flag `--stop` and the file.
+fn run_part<'a>(alloc: Global) -> Result<Command<'a>, AllocError>
+    ensures app { IfOk result (λ c. app_of c ≡ run_app) }
     ensures local { IfOk result (λ c. IsFalse (out-Command c).has_globals) }
 {
     let stop = stop_flag(alloc);
     let file = file_word(alloc);
-    Command::new(alloc, name).about(about).arg(stop)?.arg(file)
+    Command::new(alloc, "run")
+        .about("Runs a script and writes an answer for each statement")
+        .arg(stop)?
+        .arg(file)
+}
+
+/// `dump`: the file.
+fn dump_part<'a>(alloc: Global) -> Result<Command<'a>, AllocError>
+    ensures app { IfOk result (λ c. app_of c ≡ dump_app) }
+    ensures local { IfOk result (λ c. IsFalse (out-Command c).has_globals) }
+{
+    let file = file_word(alloc);
+    Command::new(alloc, "dump")
+        .about("Runs a script and writes the dump of the database that it leaves")
+        .arg(file)
 }
 
 /// The whole command.
 fn command<'a>(alloc: Global) -> Result<Command<'a>, AllocError>
     ensures app { IfOk result (λ c. app_of c ≡ td_app) }
 {
-    let run = part(
-        alloc,
-        "run",
-        "Runs a script and writes an answer for each statement",
-    )?;
+    let run = run_part(alloc)?;
+    let dump = dump_part(alloc)?;
     Command::new(alloc, "td")
         .about("An engine for Tutorial D")
         .subcommand_required(true)
-        .subcommand(run)
+        .subcommand(run)?
+        .subcommand(dump)
 }
 
 fn mode_of(name: &str) -> Option<Mode>
-    ensures { IfSome result (λ mode. name.now ≡ mode_word mode) }
+    ensures some { IfSome result (λ mode. name.now ≡ mode_word mode) }
+    ensures none { IfNone result ((mode : Mode) → name.now ≡ mode_word mode → ⊥) }
 {
-    if name == "run" { Some(Mode::Run) } else { None }
+    match name {
+        "run" => Some(Mode::Run),
+        "dump" => Some(Mode::Dump),
+        _ => None,
+    }
 }
 
+/// Whether the first refusal ends the run: `dump` has no such flag.
+fn stops(mode: Mode, found: &ArgMatches<'_>) -> bool
+    ensures { Stops mode (rows_of (found_of found.now)) result }
+{
+    match mode {
+        Mode::Run => found.get_flag("stop"),
+        Mode::Dump => false,
+    }
+}
+
+/// What the matches say, where they are those of a subcommand that names a mode.
 fn line_of<'a>(matches: &ArgMatches<'a>) -> Option<Line<'a>>
-    ensures { IfSome result (λ line. IsSaidBy line (subcommand_rows_of matches.now)) }
+    ensures some { IfSome result (λ line. IsSaidBy line (subcommand_rows_of matches.now)) }
+    ensures none { IfNone result (IsOfMode (subcommand_rows_of matches.now) → ⊥) }
 {
     let (name, found) = matches.subcommand()?;
     let mode = mode_of(name)?;
     Some(Line {
         mode,
-        stop: found.get_flag("stop"),
+        stop: stops(mode, found),
         file: found.get_str("file"),
     })
 }
 
-/// What the words say to the command, where they say a subcommand.
-fn said<'a>(command: &mut Command<'a>, words: &'a [&'a str]) -> Result<Option<Line<'a>>, Error>
-    ensures { app_of command.old ≡ td_app → IfOk result (λ line. IfSome line (λ l.
-        IsSaidBy l (subcommand_of td_app (map (λ s. s.now) words.entry.now)))) }
+/// What the words say to the command.
+fn said<'a>(command: &mut Command<'a>, words: &'a [&'a str]) -> Result<Line<'a>, Error>
+    requires { app_of command.old ≡ td_app }
+    ensures said { IfOk result (λ line.
+        IsSaidBy line (subcommand_of td_app (map (λ s. s.now) words.entry.now))) }
+    ensures refused { FailsBy (fault_of td_app (map (λ s. s.now) words.entry.now)) result }
 {
     let matches = command.try_get_matches_from_mut(words)?;
-    let line = line_of(&matches);
+    let Some(line) = line_of(&matches) else {
+        unreachable!()
+    };
     drop(matches);
     Ok(line)
 }
 
-/// What was said; an error where it is no subcommand.
-fn wanted<'a>(
-    line: Result<Option<Line<'a>>, Error>,
-    command: &mut Command<'_>,
-) -> Result<Line<'a>, Error>
-    ensures { IfOk result (λ l. line.entry ≡ Ok (Some l)) }
-{
-    match line? {
-        Some(line) => Ok(line),
-        None => Err(command.error(ErrorKind::MissingSubcommand, "run is wanted")?),
-    }
-}
-
 /// Reads the words of the command line, of which the first is the program's name. What it
-/// refuses is refused by `clap`, in its words.
+/// refuses is refused by `clap`, in its words: for memory, or where these words have a fault.
 pub fn read_line<'a>(alloc: Global, words: &'a [&'a str]) -> Result<Line<'a>, Error>
-    ensures { IfOk result (λ line.
+    ensures said { IfOk result (λ line.
         IsSaidBy line (subcommand_of td_app (map (λ s. s.now) words.entry.now))) }
+    ensures refused { FailsBy (fault_of td_app (map (λ s. s.now) words.entry.now)) result }
 {
     let mut command = command(alloc)?;
     let line = said(&mut command, words);
-    let line = wanted(line, &mut command);
     drop(command);
     line
 }

@@ -1,18 +1,21 @@
 //! Sessions: a script on an engine of its own.
-ghost use Rattle.std.specs.Prelude.{◌≡◌, ◌≤◌, [], None, IfNone, IfSome, IsTrue, IsFalse};
+ghost use Rattle.std.specs.Prelude.{◌≡◌, ◌≤◌, [], None, IfErr, IfNone, IfOk, IfSome, IsFalse, IsOk, IsTrue, OnOk};
 ghost use Rattle.std.specs.Io.KnownBytes.{Appends};
 ghost use Rattle.td.specs.Sessions.{HasAnswered, HasBegun, HasBegunCut, IsStatus, UnlessMemory};
-ghost use Rattle.td_catalog.specs.Database.{empty_database};
-ghost use Rattle.td_engine.specs.Faults.{IfMemory, IfRead, IfReadLimit, IfWrite};
+ghost use Rattle.td.specs.Sessions.{status_of};
+ghost use Rattle.td_engine.specs.Faults.{IfMemory, IfNotMemory, IfRead, IfReadLimit, IfWrite};
+ghost use Rattle.td_engine.specs.Machine.{empty_state};
 ghost use Rattle.td_engine.specs.Scripts.{GaveTooMuch, OfFront, OfScript, script_limit};
 ghost use Rattle.td_engine.specs.Standing.{run_of, standing};
 ghost use Rattle.td_engine.specs.Told.{GaveAtMost, StaysWhole};
 
+use crate::dump::dump;
 use crate::line::Mode;
 use std::alloc::Global;
+use td_body::body::Body;
 use td_body::sorted::SortedBody;
 use td_engine::engine::Engine;
-use td_engine::run::{RunFault, run};
+use td_engine::run::{Report, RunFault, run};
 use td_engine::sink::Sink;
 use td_engine::source::Source;
 
@@ -21,12 +24,58 @@ use td_engine::source::Source;
 pub struct Outcome {
     /// The status that the program exits with.
     pub status: u8,
-    /// Why the script was not run to its end.
+    /// Why the script was not run to its end, or the dump not written.
     pub fault: Option<RunFault>,
 }
 
-/// Runs a script on an empty database. The status is 0 where nothing was refused, 1 where
-/// something was, and 3 where there is a fault.
+/// The status of a script that was run to its end.
+fn status_of(report: Report) -> u8
+    ensures { result ≡ status_of report.refused }
+{
+    if report.refused == 0 { 0 } else { 1 }
+}
+
+/// Runs a script, and writes what the mode wants of it.
+fn written<B: Body, R: Source, W: Sink>(
+    alloc: Global,
+    mode: Mode,
+    stop: bool,
+    engine: &mut Engine<B>,
+    reader: &mut R,
+    writer: &mut W,
+) -> Result<Report, RunFault>
+    ensures headline { IfNotMemory result (
+        IsFalse (R.is_broken reader.new) → IsFalse (W.is_broken writer.new)
+        → GaveAtMost script_limit (R.left reader.old) (R.left reader.new) → IsOk result) }
+    ensures answers { IfOk result (λ report.
+        OfScript (R.left reader.old) (R.left reader.new) (λ script. HasAnswered mode
+        (run_of stop (standing engine.old (W.taken writer.old)) script)
+        (status_of report.refused) (W.taken writer.new))) }
+    ensures whole { OnOk result (IsFalse (R.is_broken reader.new)
+        × StaysWhole (W.is_broken writer.old) (W.is_broken writer.new)) }
+    ensures memory { IfErr result (IfMemory (λ done.
+        OfFront done (R.left reader.old) (R.left reader.new) (λ script. HasBegun mode
+        (run_of stop (standing engine.old (W.taken writer.old)) script) done
+        (W.taken writer.new)))) }
+    ensures read { IfErr result (IfRead (λ done. IsTrue (R.is_broken reader.new)
+        × (done ≡ 0) × Appends (W.taken writer.old) (W.taken writer.new) [])) }
+    ensures too_long { IfErr result (IfReadLimit (λ done.
+        GaveTooMuch (R.left reader.old) (R.left reader.new)
+        × (done ≡ 0) × Appends (W.taken writer.old) (W.taken writer.new) [])) }
+    ensures write { IfErr result (IfWrite (λ done. IsTrue (W.is_broken writer.new)
+        × OfScript (R.left reader.old) (R.left reader.new) (λ script. HasBegunCut mode
+        (run_of stop (standing engine.old (W.taken writer.old)) script) done
+        (W.taken writer.new)))) }
+{
+    match mode {
+        Mode::Run => run(alloc, engine, reader, writer, stop),
+        Mode::Dump => dump(alloc, engine, reader, writer, stop),
+    }
+}
+
+/// Runs a script on an empty database, and writes its answers or the dump of the database that it
+/// leaves. The status is 0 where nothing was refused, 1 where something was, and 3 where there is a
+/// fault.
 pub fn session<R: Source, W: Sink>(
     alloc: Global,
     mode: Mode,
@@ -39,14 +88,14 @@ pub fn session<R: Source, W: Sink>(
         → GaveAtMost script_limit (R.left reader.old) (R.left reader.new) → result.fault ≡ None) }
     ensures status { IsStatus result.status result.fault }
     ensures answers { IfNone result.fault (
-        OfScript (R.left reader.old) (R.left reader.new) (λ script. HasAnswered
-        (run_of stop (standing empty_database (W.taken writer.old)) script)
+        OfScript (R.left reader.old) (R.left reader.new) (λ script. HasAnswered mode
+        (run_of stop (standing empty_state (W.taken writer.old)) script)
         result.status (W.taken writer.new))) }
     ensures whole { IfNone result.fault (IsFalse (R.is_broken reader.new)
         × StaysWhole (W.is_broken writer.old) (W.is_broken writer.new)) }
     ensures memory { IfSome result.fault (IfMemory (λ done.
-        OfFront done (R.left reader.old) (R.left reader.new) (λ script. HasBegun
-        (run_of stop (standing empty_database (W.taken writer.old)) script) done
+        OfFront done (R.left reader.old) (R.left reader.new) (λ script. HasBegun mode
+        (run_of stop (standing empty_state (W.taken writer.old)) script) done
         (W.taken writer.new)))) }
     ensures read { IfSome result.fault (IfRead (λ done. IsTrue (R.is_broken reader.new)
         × (done ≡ 0) × Appends (W.taken writer.old) (W.taken writer.new) [])) }
@@ -54,18 +103,16 @@ pub fn session<R: Source, W: Sink>(
         GaveTooMuch (R.left reader.old) (R.left reader.new)
         × (done ≡ 0) × Appends (W.taken writer.old) (W.taken writer.new) [])) }
     ensures write { IfSome result.fault (IfWrite (λ done. IsTrue (W.is_broken writer.new)
-        × OfScript (R.left reader.old) (R.left reader.new) (λ script. HasBegunCut
-        (run_of stop (standing empty_database (W.taken writer.old)) script) done
+        × OfScript (R.left reader.old) (R.left reader.new) (λ script. HasBegunCut mode
+        (run_of stop (standing empty_state (W.taken writer.old)) script) done
         (W.taken writer.new)))) }
 {
     let mut engine: Engine<SortedBody> = Engine::new(alloc);
-    let answered = match mode {
-        Mode::Run => run(alloc, &mut engine, reader, writer, stop),
-    };
+    let answered = written(alloc, mode, stop, &mut engine, reader, writer);
     drop(engine);
     match answered {
         Ok(report) => Outcome {
-            status: if report.refused == 0 { 0 } else { 1 },
+            status: status_of(report),
             fault: None,
         },
         Err(fault) => Outcome {

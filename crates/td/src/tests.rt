@@ -1,6 +1,8 @@
 //! The engine's calls, each once with ample memory, and a reader that fails in mid-stream.
 ghost use Rattle.std.specs.Prelude.{◌≤◌, None, false, length};
 
+use crate::line::{Mode, read_line};
+use crate::session::session;
 use std::alloc::{AllocError, Global};
 use std::io::{self, ErrorKind, Read};
 use std::test::Fail;
@@ -157,6 +159,29 @@ fn what_is_in_use_is_not_dropped(rt: HostRuntime) -> Result<(), Fail> {
     Ok(())
 }
 
+/// The dump of what the script of `examples/first.td` leaves.
+const DUMP: &[u8] = b"VAR R BASE RELATION {K INTEGER} \
+    INIT (RELATION {K INTEGER} {TUPLE {K 1}, TUPLE {K 2}}) KEY {K};\n";
+
+#[test]
+fn transactions_and_the_dump(rt: HostRuntime) -> Result<(), Fail> {
+    let alloc = rt.alloc();
+    let mut engine = Engine::new(alloc);
+    assert!(rt; engine.dump()?.is_empty());
+    let cases = [
+        ("BEGIN TRANSACTION;", 1),
+        ("CONSTRAINT C TRUE;", 1),
+        ("COMMIT;", 0),
+        ("ROLLBACK;", 0),
+    ];
+    for (statement, depth) in cases {
+        step(alloc, &mut engine, statement)?;
+        assert!(rt; engine.depth() == depth, "{statement}");
+    }
+    assert_eq!(rt; engine.dump()?.as_str(), "CONSTRAINT C TRUE;\n");
+    Ok(())
+}
+
 // ---- runs
 
 /// A script that is given in pieces of three bytes, and tells no bytes.
@@ -226,6 +251,35 @@ fn ran<R: Source>(alloc: Global, reader: &mut R) -> (Result<Report, RunFault>, V
         is_broken: _,
     } = writer;
     (answer, bytes)
+}
+
+#[test]
+fn a_session_that_dumps(rt: HostRuntime) {
+    let mut reader = Pieces { rest: SCRIPT };
+    let mut writer = Kept {
+        bytes: Vec::new(rt.alloc()),
+        is_broken: false,
+    };
+    let outcome = session(rt.alloc(), Mode::Dump, false, &mut reader, &mut writer);
+    let Kept {
+        bytes,
+        is_broken: _,
+    } = writer;
+    assert!(rt; outcome.status == 0 && outcome.fault.is_none());
+    assert!(rt; bytes.as_slice() == DUMP);
+}
+
+#[test]
+fn the_words_of_a_line(rt: HostRuntime) {
+    let cases = [
+        (["td", "run", "a"], Some((Mode::Run, Some("a")))),
+        (["td", "dump", "-"], Some((Mode::Dump, Some("-")))),
+        (["td", "walk", "a"], None),
+    ];
+    for (words, said) in cases {
+        let line = read_line(rt.alloc(), &words).ok();
+        assert!(rt; line.map(|line| (line.mode, line.file)) == said);
+    }
 }
 
 #[test]

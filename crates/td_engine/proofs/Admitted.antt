@@ -1,8 +1,9 @@
 -- What is known of a definition that is spelled and meets the static rules.
-use Rattle.std.proofs.Common.{◌≡◌, ◌∙◌, ◌∷◌, Bool, true, false, List, [], Option, Some, None, Err, ap, refl, subst, sym}
+use Rattle.std.proofs.Common.{◌≡◌, ◌∙◌, ◌∷◌, Bool, true, false, List, [], Option, Some, None, Err, ap, map, refl, subst, sym}
 use Rattle.std.specs.Prelude.{IsTrue, is_some, not, ⊤}
 use Rattle.std.specs.List.{AllByRecursion}
 use Rattle.td_catalog.specs.Database.{Database, NamedConstraint, VirtualRelvar, database_scope, knows_constraint, knows_relvar, named_constraint, virtual_relvar}
+use Rattle.td_catalog.specs.Dumps.{ordered_names}
 use Rattle.td_catalog.specs.Legality.{AreComponents, IsConstrained, IsConstraint, IsRanked, IsVirtual}
 use Rattle.td_check.specs.OperatorTypes.{over_relation, same_type}
 use Rattle.td_check.specs.Scopes.{KnownRelvar, known_relvar, scope_of}
@@ -10,6 +11,7 @@ use Rattle.td_tree.specs.Names.{IsName}
 use Rattle.td_tree.specs.declared.cause.Cause.TheVariants as causes
 use Rattle.td_check.specs.StatementTypes.{both_hold, components_meant, constraint_fits, heading_rank_fits, holds_or, keys_asked, keys_allowed, rank_fits}
 use Rattle.td_check.specs.StaticTypes.{type_of}
+use Rattle.td_engine.proofs.OrderedKeys.{keys_stay_allowed}
 use Rattle.td_engine.specs.Carried.{Changes, IsAdmitted, IsSpelled, failure_of}
 use Rattle.td_engine.specs.Machine.{Denied, Effect, by_outcome}
 use Rattle.td_engine.specs.Refusals.{by_cause}
@@ -17,6 +19,7 @@ use Rattle.td_tree.specs.Grammar.{AttributesSpelling, last_attribute, next_attri
 use Rattle.td_tree.specs.Lexemes.{Lexeme}
 use Rattle.td_tree.specs.Outcomes.{Answers, Outcome, Valued, Refused, least, named_cause, with_value}
 use Rattle.td_tree.specs.StatementGrammar.{BodySpelling, StatementSpelling, statement, type_definition}
+use Rattle.td_tree.specs.TokenLexemes.{lexemes}
 use Rattle.td_tree.specs.Trees as trees
 use Rattle.td_tree.specs.Trees.{AttributeTrees, Text, Tree}
 use Rattle.td_tree.specs.declared.cause.Cause.{Cause}
@@ -25,7 +28,7 @@ use Rattle.td_tree.specs.declared.fault.Fault.TheVariants as faults
 use Rattle.td_types.specs.Headings.{are_distinct}
 use Rattle.td_types.specs.TypeListLaws.{HaveNames}
 use Rattle.td_types.specs.TypeLists.{AreKnown, DeclaredType, IsKnown, attributes_meant, declared_type, is_declared}
-use Rattle.td_types.specs.Types.{Attribute, Heading, IsType, Type', attribute_names, boolean, char, integer, pack, relation, tuple, unpack, user}
+use Rattle.td_types.specs.Types.{Attribute, Heading, IsHeading, IsType, Type', attribute_names, boolean, char, integer, pack, relation, tuple, unpack, user}
 use Rattle.td_types.proofs.Meanings.{known_attributes, pack_unpack}
 use Rattle.td_check.proofs.StaticLaws.{types_are_known}
 use Rattle.td_engine.specs.Soundness.{IsSound}
@@ -51,7 +54,7 @@ pub some_cause : (a b : Cause) → Some a ≡ Some b → a ≡ b
 some_cause a b e = cc
 
 -- what is refused, or finds no memory, is denied so
-pub failed_follows : {X A : Type 0} (u : X → A) (f : Fault) (o : Outcome A) (k : A → Effect) → Answers u (Err f) o → Changes (Err (failure_of f)) (by_outcome o k)
+pub failed_follows : {X A : Type 0} (u : X → A) (f : Fault) (o : Outcome A) (k : A → Effect Database) → Answers u (Err f) o → Changes (Err (failure_of f)) (by_outcome o k)
 failed_follows u (faults.Refused c) (Valued x) k h = absurd (cc)
 failed_follows u (faults.Refused c) (Refused cs) k h = ap (λ d. Denied (by_cause d)) (some_cause (least cs) c h)
 failed_follows u faults.Memory o k h = tt
@@ -78,7 +81,7 @@ spelled_some xs _ (last_attribute s) e = absurd (cc)
 spelled_some xs _ (next_attribute s r) e = absurd (cc)
 
 type_some : (n : Text) (h : AttributeTrees) (t : Option Tree) → IsSpelled (trees.define_type n h t) → AreSome h
-type_some n h t s = by_spelling s.0 s.1
+type_some n h t s = by_spelling (lexemes s.0) s.1
   where
     by_body : (xs : List Lexeme) → BodySpelling xs (trees.define_type n h t) → AreSome h
     by_body xs (type_definition a low part) = spelled_some _ h a
@@ -183,9 +186,9 @@ free_in db n e = by_option (known_relvar (database_scope db) n) refl (is_held ca
         ap (λ b. holds_or causes.NameTaken (not b)) (unnamed db n parts.0 parts.1)
     by_option (Some r) is h = absurd (cc)
 
-pub virtual_admitted : (db : Database) (n : Text) (e : Tree) (keys : List (List Text)) (h : Heading) → IsSound db → IsAdmitted db (trees.define_virtual n e keys)
-    → with_value (type_of (database_scope db) e) (λ t. over_relation t Valued) ≡ Valued h → VirtualAdmitted db (virtual_relvar n h e keys)
-virtual_admitted db n e keys h sound is has =
+pub virtual_admitted : (db : Database) (n : Text) (e : Tree) (keys : List (List Text)) (h : Heading) → IsHeading (pack h) → IsSound db → IsAdmitted db (trees.define_virtual n e keys)
+    → with_value (type_of (database_scope db) e) (λ t. over_relation t Valued) ≡ Valued h → VirtualAdmitted db (virtual_relvar n h e (map (ordered_names h) keys))
+virtual_admitted db n e keys h headed sound is has =
     let both = both_asked _ _ is.checked in
     let typed = typed_relation (type_of (database_scope db) e) h has in
     let asked : Heading → Outcome ⊤ = λ g. both_hold (keys_asked g keys) (heading_rank_fits db.types g) in
@@ -197,6 +200,6 @@ virtual_admitted db n e keys h sound is has =
           record {
             heading = record { known = types_are_known.of_users (database_scope db) e (relation (pack h)) (database_keeps db sound.legal sound.definitions).scope_is typed; ranked = parts.1 };
             typed = typed;
-            keys = is_held causes.KeyDeclaration (keys_allowed h keys) parts.0;
+            keys = keys_stay_allowed h headed keys (is_held causes.KeyDeclaration (keys_allowed h keys) parts.0);
           };
     }

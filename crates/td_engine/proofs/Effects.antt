@@ -7,11 +7,11 @@ use Rattle.td_engine.specs.Refusals.{Refusal}
 use Rattle.td_tree.specs.Outcomes.{Outcome, Valued, Refused}
 
 -- an effect that is accepted tells the database
-accepted_is : (db new : Database) (t u : List ℕ) → Accepted db t ≡ Accepted new u → db ≡ new
+pub accepted_is : (db new : Database) (t u : List ℕ) → Accepted db t ≡ Accepted new u → db ≡ new
 accepted_is db new t u e = cc
 
 -- there was a value, and what followed was accepted
-pub followed : {A : Type 0} (o : Outcome A) (f : A → Effect) (new : Database) (text : List ℕ) → by_outcome o f ≡ Accepted new text
+pub followed : {A : Type 0} (o : Outcome A) (f : A → Effect Database) (new : Database) (text : List ℕ) → by_outcome o f ≡ Accepted new text
     → (x : A) × (o ≡ Valued x) × (f x ≡ Accepted new text)
 followed (Valued x) f new text e = (x, refl, e)
 followed (Refused cs) f new text e = absurd (cc)

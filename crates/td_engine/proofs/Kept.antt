@@ -1,16 +1,15 @@
--- A refused statement keeps the database.
+-- A refused statement keeps the state.
 use Rattle.std.proofs.Common.{◌≡◌, ◌≢◌, List, None, refl, sym, subst}
-use Rattle.td_catalog.specs.Database.{Database}
-use Rattle.td_engine.specs.Machine.{Accepted, Denied, Effect, Step, Steps, by_outcome, effect, step_of}
+use Rattle.td_engine.specs.Machine.{Accepted, Denied, Effect, State, Step, Steps, by_outcome, effect_in, step_of}
 use Rattle.td_tree.specs.Statements.{PlacedToken}
 
--- the step has no cause, or the database is the same
-abbrev Keeps : Database → Step → Type 0
-Keeps db step = step.cause ≢ None → step.database ≡ db
+-- the step has no cause, or the state is the same
+abbrev Keeps : State → Step State → Type 0
+Keeps old step = step.cause ≢ None → step.after ≡ old
 
-keeps : (db : Database) (e : Effect) → Keeps db (step_of db e)
-keeps db (Accepted new text) = λ refused. absurd (refused refl)
-keeps db (Denied refusal) = λ _. refl
+keeps : (old : State) (e : Effect State) → Keeps old (step_of old e)
+keeps old (Accepted new text) = λ refused. absurd (refused refl)
+keeps old (Denied refusal) = λ _. refl
 
-pub refused_keeps : (db : Database) (tokens : List PlacedToken) (s : Step) → Steps db tokens s → s.cause ≢ None → s.database ≡ db
-refused_keeps db tokens s steps = subst (Keeps db) (sym steps.2) (keeps db (by_outcome steps.0 (effect db)))
+pub refused_keeps : (old : State) (tokens : List PlacedToken) (s : Step State) → Steps old tokens s → s.cause ≢ None → s.after ≡ old
+refused_keeps old tokens s steps = subst (Keeps old) (sym steps.2) (keeps old (by_outcome steps.0 (effect_in old)))

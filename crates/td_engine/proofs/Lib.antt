@@ -1,25 +1,47 @@
 mod Admitted
 mod Answered
 mod BaseAdmitted
+pub mod DumpFacts
+pub mod DumpInner
+mod DumpLaws
+pub mod DumpLines
+pub mod DumpLists
+pub mod DumpPhrases
+pub mod DumpRead
+pub mod DumpScript
+pub mod DumpSplit
 mod EachOf
 mod Effects
-mod GivenRelations
 mod Gifted
 mod GiftsInTurn
+mod GivenRelations
 mod InOrder
 pub mod Kept
-mod Renamings
 pub mod KeptSound
+mod OrderedGifts
+mod OrderedKeys
 mod PassedChecks
+mod Rebuilds
+mod RebuiltChecks
+mod RebuiltDumps
+mod RebuiltEffects
+mod RebuiltLists
+mod RebuiltParts
+mod RebuiltRelvars
+mod RebuiltTypes
+mod Renamings
 pub mod Runs
+mod SameTests
 mod SettingNames
 mod Settled
 mod SoundChanges
-mod TestsAfterDrops
 mod Sources
+mod SpelledParts
+mod TestsAfterDrops
 pub mod ToldLaws
+mod Transactions
 pub mod Turning
-mod TypedRelations
 mod TypedGifts
+mod TypedRelations
 mod TypedSettings
 mod VirtualTests

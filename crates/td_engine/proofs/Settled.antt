@@ -1,5 +1,5 @@
 -- The checks of a legal database: the keys of its base relvars hold.
-use Rattle.std.proofs.Common.{◌≡◌, ◌∙◌, ◌∷◌, ◌++◌, ℕ, Bool, true, false, List, [], Option, Some, None, Err, ap, refl, sym, codes}
+use Rattle.std.proofs.Common.{◌≡◌, ◌∙◌, ◌∷◌, ◌++◌, ℕ, Bool, true, false, List, [], Option, Some, None, Err, ap, refl, sym}
 use Rattle.std.specs.Prelude.{◌&&◌}
 use Rattle.std.specs.List.{AllByRecursion}
 use Rattle.std.specs.Option.{option_or}
@@ -9,7 +9,7 @@ use Rattle.td_catalog.specs.Database.{BaseRelvar, Database, with_base}
 use Rattle.td_catalog.specs.Legality.{IsBase, IsLegal, KeysHold}
 use Rattle.td_engine.specs.Carried.{Changes, Passes}
 use Rattle.td_engine.specs.Checks.{base_check, database_check, derived_check, first_refusal, keys_hold, unpassed}
-use Rattle.td_engine.specs.Machine.{Accepted, Denied, changed, unless_refused}
+use Rattle.td_engine.specs.Machine.{Accepted, Denied, changed, ok_text, unless_refused}
 use Rattle.td_engine.specs.Refusals.{Refusal, by_key}
 use Rattle.td_engine.specs.declared.refusal.Failure.{Failure}
 use Rattle.td_engine.specs.declared.refusal.Failure.TheVariants as failures
@@ -32,7 +32,8 @@ keys_are_held (key ∷ keys) r is h =
     let parts = both_true (key_holds key r.body) (keys_hold keys r.body) h in
     ((held_by_membership key r is).0 parts.0, keys_are_held keys r is parts.1)
 
-bases_hold : (types : List DeclaredType) (bases : List BaseRelvar) → AllByRecursion (IsBase types) bases → first_refusal base_check bases ≡ None
+-- so do those of all base relvars
+pub bases_hold : (types : List DeclaredType) (bases : List BaseRelvar) → AllByRecursion (IsBase types) bases → first_refusal base_check bases ≡ None
 bases_hold types [] h = refl
 bases_hold types (r ∷ rs) h =
     ap (λ b. option_or (unpassed (by_key r.name) (Valued b)) (first_refusal base_check rs)) (all_keys_hold r.keys r.relation h.0.relation h.0.hold)
@@ -41,7 +42,7 @@ bases_hold types (r ∷ rs) h =
 pub legal_check : (db : Database) → IsLegal db → database_check db ≡ derived_check db
 legal_check db h = ap (λ o. option_or o (derived_check db)) (bases_hold db.types db.bases h.bases)
 
-pub settled : (db : Database) → IsLegal db → derived_check db ≡ None → changed db ≡ Accepted db (codes "OK")
+pub settled : (db : Database) → IsLegal db → derived_check db ≡ None → changed db ≡ Accepted db ok_text
 settled db h none = ap (λ o. unless_refused o db) (legal_check db h ∙ none)
 
 pub unsettled : (db : Database) (f : Failure) → IsLegal db → Passes (Err f) (derived_check db) → Changes (Err f) (changed db)

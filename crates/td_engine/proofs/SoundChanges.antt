@@ -8,10 +8,12 @@ use Rattle.td_catalog.specs.Legality.{IsBase, IsLegal}
 use Rattle.td_catalog.specs.Mentioned.{base_mentions_type, is_relvar_in_use, is_type_in_use, tree_mentions_relvar, tree_mentions_type, type_mentions_type}
 use Rattle.td_engine.proofs.EachOf.{all_given, all_push, all_removed, neither, none_passes}
 use Rattle.td_engine.proofs.GivenRelations.{Meets, all_given_meet, gifts_meet}
+use Rattle.td_engine.proofs.OrderedGifts.{gifts_ordered}
 use Rattle.td_engine.proofs.PassedChecks.{Passed}
 use Rattle.td_engine.proofs.TestsAfterDrops.{constraints_without_constraint, constraints_without_relvar, constraints_without_type, virtuals_without_constraint, virtuals_without_relvar, virtuals_without_type}
 use Rattle.td_engine.specs.Assignments.{Given, given_by, with_gifts}
-use Rattle.td_engine.specs.Soundness.{IsSound}
+use Rattle.td_engine.specs.Gifts.{AreGifts}
+use Rattle.td_engine.specs.Soundness.{AreOrdered, IsSound, IsSpelledExpression, IsSpelledIf}
 use Rattle.td_eval.proofs.DroppedTypes.{drops_keep_what_meets}
 use Rattle.td_eval.proofs.LaterEntries.{later_entries_change_nothing}
 use Rattle.td_eval.proofs.MetConstraints.{later_types_keep_what_meets}
@@ -34,9 +36,9 @@ module _ (db : Database) (sound : IsSound db) where
   -- ---- what is added
 
   -- a type stands behind the others, and what met their constraints meets them still
-  pub sound_with_type : (d : DeclaredType) → ((e : Tree) → d.constraint ≡ Some e → IsWritten e) → IsLegal (with_declared d db) → Passed (with_declared d db)
+  pub sound_with_type : (d : DeclaredType) → ((e : Tree) → d.constraint ≡ Some e → IsWritten e) → IsSpelledIf d.constraint → IsLegal (with_declared d db) → Passed (with_declared d db)
       → IsSound (with_declared d db)
-  sound_with_type d written legal checked =
+  sound_with_type d written spelled legal checked =
       record {
         legal = legal;
         definitions = record {
@@ -44,6 +46,12 @@ module _ (db : Database) (sound : IsSound db) where
           virtuals = sound.definitions.virtuals;
         };
         conditions = sound.conditions;
+        spelled = record {
+          types = all_push (λ (c : DeclaredType). IsSpelledIf c.constraint) db.types d sound.spelled.types spelled;
+          virtuals = sound.spelled.virtuals;
+          constraints = sound.spelled.constraints;
+        };
+        ordered = record { bases = sound.ordered.bases; virtuals = sound.ordered.virtuals };
         types =
             all_given (IsBase db.types) (λ (r : BaseRelvar). Meets db.types r.relation) (λ (r : BaseRelvar). Meets (with_declared d db).types r.relation)
             (λ r is. later_types_keep_what_meets db (with_declared d db) (relation_as_value r.relation) (relation (pack r.relation.heading)) sound.legal legal
@@ -54,20 +62,26 @@ module _ (db : Database) (sound : IsSound db) where
       }
 
   -- a base relvar whose relation meets them
-  pub sound_with_base : (r : BaseRelvar) → Meets db.types r.relation → IsLegal (with_base r db) → Passed (with_base r db) → IsSound (with_base r db)
-  sound_with_base r met legal checked =
+  pub sound_with_base : (r : BaseRelvar) → Meets db.types r.relation → AreOrdered r.relation.heading r.keys → IsLegal (with_base r db) → Passed (with_base r db)
+      → IsSound (with_base r db)
+  sound_with_base r met ordered legal checked =
       record {
         legal = legal;
         definitions = record { constraints = sound.definitions.constraints; virtuals = sound.definitions.virtuals };
         conditions = sound.conditions;
+        spelled = record { types = sound.spelled.types; virtuals = sound.spelled.virtuals; constraints = sound.spelled.constraints };
+        ordered = record {
+          bases = all_push (λ (b : BaseRelvar). AreOrdered b.relation.heading b.keys) db.bases r sound.ordered.bases ordered;
+          virtuals = sound.ordered.virtuals;
+        };
         types = all_push (λ (b : BaseRelvar). Meets db.types b.relation) db.bases r sound.types met;
         virtuals = checked.virtuals;
         constraints = checked.constraints;
       }
 
   -- a virtual relvar whose expression is written
-  pub sound_with_virtual : (v : VirtualRelvar) → IsWritten v.tree → IsLegal (with_virtual v db) → Passed (with_virtual v db) → IsSound (with_virtual v db)
-  sound_with_virtual v written legal checked =
+  pub sound_with_virtual : (v : VirtualRelvar) → IsWritten v.tree → IsSpelledExpression v.tree → AreOrdered v.heading v.keys → IsLegal (with_virtual v db) → Passed (with_virtual v db) → IsSound (with_virtual v db)
+  sound_with_virtual v written spelled ordered legal checked =
       record {
         legal = legal;
         definitions = record {
@@ -75,19 +89,34 @@ module _ (db : Database) (sound : IsSound db) where
           virtuals = all_push (λ (u : VirtualRelvar). IsWritten u.tree) db.virtuals v sound.definitions.virtuals written;
         };
         conditions = sound.conditions;
+        spelled = record {
+          types = sound.spelled.types;
+          virtuals = all_push (λ (u : VirtualRelvar). IsSpelledExpression u.tree) db.virtuals v sound.spelled.virtuals spelled;
+          constraints = sound.spelled.constraints;
+        };
+        ordered = record {
+          bases = sound.ordered.bases;
+          virtuals = all_push (λ (u : VirtualRelvar). AreOrdered u.heading u.keys) db.virtuals v sound.ordered.virtuals ordered;
+        };
         types = sound.types;
         virtuals = checked.virtuals;
         constraints = checked.constraints;
       }
 
   -- a constraint whose expression is written
-  pub sound_with_constraint : (c : NamedConstraint) → IsWritten c.tree → IsLegal (with_constraint c db) → Passed (with_constraint c db)
+  pub sound_with_constraint : (c : NamedConstraint) → IsWritten c.tree → IsSpelledExpression c.tree → IsLegal (with_constraint c db) → Passed (with_constraint c db)
       → IsSound (with_constraint c db)
-  sound_with_constraint c written legal checked =
+  sound_with_constraint c written spelled legal checked =
       record {
         legal = legal;
         definitions = record { constraints = sound.definitions.constraints; virtuals = sound.definitions.virtuals };
         conditions = all_push (λ (d : NamedConstraint). IsWritten d.tree) db.constraints c sound.conditions written;
+        spelled = record {
+          types = sound.spelled.types;
+          virtuals = sound.spelled.virtuals;
+          constraints = all_push (λ (d : NamedConstraint). IsSpelledExpression d.tree) db.constraints c sound.spelled.constraints spelled;
+        };
+        ordered = record { bases = sound.ordered.bases; virtuals = sound.ordered.virtuals };
         types = sound.types;
         virtuals = checked.virtuals;
         constraints = checked.constraints;
@@ -96,13 +125,15 @@ module _ (db : Database) (sound : IsSound db) where
   -- ---- what is assigned
 
   -- what the assignments gave meets the constraints of its types
-  pub sound_with_gifts : (given : Given) (assignments : List Assignment) → given_by db [] assignments ≡ Valued given → IsLegal (with_gifts given db)
+  pub sound_with_gifts : (given : Given) (assignments : List Assignment) → given_by db [] assignments ≡ Valued given → AreGifts db given → IsLegal (with_gifts given db)
       → Passed (with_gifts given db) → IsSound (with_gifts given db)
-  sound_with_gifts given assignments is legal checked =
+  sound_with_gifts given assignments is gifts legal checked =
       record {
         legal = legal;
         definitions = record { constraints = sound.definitions.constraints; virtuals = sound.definitions.virtuals };
         conditions = sound.conditions;
+        spelled = record { types = sound.spelled.types; virtuals = sound.spelled.virtuals; constraints = sound.spelled.constraints };
+        ordered = record { bases = gifts_ordered db given sound.legal gifts sound.ordered.bases; virtuals = sound.ordered.virtuals };
         types =
             gifts_meet db.types given (all_given_meet db.types db world_gives sound.types [] given assignments tt is) db.bases sound.types;
         virtuals = checked.virtuals;
@@ -131,6 +162,12 @@ module _ (db : Database) (sound : IsSound db) where
           virtuals = sound.definitions.virtuals;
         };
         conditions = sound.conditions;
+        spelled = record {
+          types = all_removed (λ (d : DeclaredType). IsSpelledIf d.constraint) (λ (d : DeclaredType). same_name d.name dropped) db.types sound.spelled.types;
+          virtuals = sound.spelled.virtuals;
+          constraints = sound.spelled.constraints;
+        };
+        ordered = record { bases = sound.ordered.bases; virtuals = sound.ordered.virtuals };
         types =
             all_given (IsBase few.types) (λ (r : BaseRelvar). Meets db.types r.relation) (λ (r : BaseRelvar). Meets few.types r.relation)
             (λ r is. drops_keep_what_meets db dropped (relation_as_value r.relation) (relation (pack r.relation.heading)) sound.legal legal
@@ -159,6 +196,21 @@ module _ (db : Database) (sound : IsSound db) where
               sound.definitions.virtuals;
         };
         conditions = sound.conditions;
+        spelled = record {
+          types = sound.spelled.types;
+          virtuals =
+              all_removed (λ (v : VirtualRelvar). IsSpelledExpression v.tree) (λ (v : VirtualRelvar). same_name v.name dropped) db.virtuals
+              sound.spelled.virtuals;
+          constraints = sound.spelled.constraints;
+        };
+        ordered = record {
+          bases =
+              all_removed (λ (r : BaseRelvar). AreOrdered r.relation.heading r.keys) (λ (r : BaseRelvar). same_name r.name dropped) db.bases
+              sound.ordered.bases;
+          virtuals =
+              all_removed (λ (v : VirtualRelvar). AreOrdered v.heading v.keys) (λ (v : VirtualRelvar). same_name v.name dropped) db.virtuals
+              sound.ordered.virtuals;
+        };
         types = all_removed (λ (r : BaseRelvar). Meets db.types r.relation) (λ (r : BaseRelvar). same_name r.name dropped) db.bases sound.types;
         virtuals = virtuals_without_relvar db sound dropped legal;
         constraints =
@@ -174,6 +226,14 @@ module _ (db : Database) (sound : IsSound db) where
         definitions = record { constraints = sound.definitions.constraints; virtuals = sound.definitions.virtuals };
         conditions =
             all_removed (λ (c : NamedConstraint). IsWritten c.tree) (λ (c : NamedConstraint). same_name c.name dropped) db.constraints sound.conditions;
+        spelled = record {
+          types = sound.spelled.types;
+          virtuals = sound.spelled.virtuals;
+          constraints =
+              all_removed (λ (c : NamedConstraint). IsSpelledExpression c.tree) (λ (c : NamedConstraint). same_name c.name dropped) db.constraints
+              sound.spelled.constraints;
+        };
+        ordered = record { bases = sound.ordered.bases; virtuals = sound.ordered.virtuals };
         types = sound.types;
         virtuals = virtuals_without_constraint db sound dropped legal;
         constraints = constraints_without_constraint db sound dropped legal;

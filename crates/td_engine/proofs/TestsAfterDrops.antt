@@ -1,6 +1,6 @@
 -- An entry that is dropped, which none mentions, changes no test of the virtual relvars and constraints that are left.
-use Rattle.std.proofs.Common.{◌≡◌, ◌∙◌, ◌∷◌, ℕ, Bool, true, false, Contains, List, [], Option, Some, None, ap, map, refl, sym, true≢false}
-use Rattle.std.specs.Prelude.{if◌then◌else◌, is_some}
+use Rattle.std.proofs.Common.{◌≡◌, ◌∙◌, ◌∷◌, ℕ, Bool, true, false, Contains, List, [], ap, map, refl, sym, true≢false}
+use Rattle.std.specs.Prelude.{if◌then◌else◌}
 use Rattle.std.specs.List.{AllByRecursion}
 use Rattle.std.specs.Set.{remove_key}
 use Rattle.td_algebra.proofs.Lists.{contains_none}
@@ -9,72 +9,27 @@ use Rattle.td_catalog.specs.Legality.{IsConstraint, IsLegal}
 use Rattle.td_catalog.specs.Mentioned.{tree_mentions_relvar, tree_mentions_type}
 use Rattle.td_check.proofs.AgreementLaws.{only_one}
 use Rattle.td_check.specs.Mentions.{relvars_in, types_in}
-use Rattle.td_check.specs.Scopes.{KnownRelvar, known_relvar}
 use Rattle.td_engine.proofs.EachOf.{all_both, all_given, all_removed}
-use Rattle.td_engine.specs.Checks.{keys_hold}
+use Rattle.td_engine.proofs.SameTests.{IsKnown, all_known, name_checked, same_test, same_truth}
 use Rattle.td_engine.specs.Soundness.{HasKeysThatHold, IsSound, IsTrueOf}
 use Rattle.td_eval.proofs.DistinctNames.{distinct_rest, first_apart}
 use Rattle.td_eval.proofs.DroppedEntries.{drops_change_no_value}
-use Rattle.td_eval.proofs.KnownRelvars.{named, unknown_parts}
 use Rattle.td_eval.proofs.WorldParts.{virtual_name}
 use Rattle.td_eval.specs.DatabaseWorlds.{world_of}
-use Rattle.td_eval.specs.OperatorValues.{on_relation, truth_value}
-use Rattle.td_eval.specs.TreeValues.{value_of}
 use Rattle.td_eval.specs.ValueLaws.{IsChecked}
 use Rattle.td_eval.specs.ValueTypes.{IsWritten}
-use Rattle.td_eval.specs.Worlds.{World, name_value}
-use Rattle.td_tree.specs.Outcomes.{Outcome, Valued, with_value}
 use Rattle.td_tree.specs.Trees.{name}
 use Rattle.td_types.proofs.HeadingLaws.{same_name-itself}
 use Rattle.td_types.proofs.NameTests.{name_tests_tell}
 use Rattle.td_types.specs.Headings.{are_distinct, has_name}
-use Rattle.td_types.specs.Types.{boolean, pack, relation, same_name}
+use Rattle.td_types.specs.Types.{boolean, same_name}
 use Rattle.std.specs.Cmp.Lexicographic.{same_text}
-
--- ---- tests where names and expressions have the same values
-
--- the keys of a virtual relvar hold where its name has the same value
-same_test : (w u : World) (v : VirtualRelvar) → name_value u [] v.name ≡ name_value w [] v.name → HasKeysThatHold w v → HasKeysThatHold u v
-same_test w u v e h = by_keys v.keys ∙ h
-  where
-    by_keys : (keys : List (List (List ℕ)))
-        → (elim keys as (λ _. Outcome Bool) [
-          | [] ↦ Valued true
-          | key ∷ rest ↦ with_value (name_value u [] v.name) (λ value. on_relation value (λ r. Valued (keys_hold v.keys r.body)))
-        ])
-        ≡ (elim keys as (λ _. Outcome Bool) [
-          | [] ↦ Valued true
-          | key ∷ rest ↦ with_value (name_value w [] v.name) (λ value. on_relation value (λ r. Valued (keys_hold v.keys r.body)))
-        ])
-    by_keys [] = refl
-    by_keys (key ∷ rest) = ap (λ o. with_value o (λ value. on_relation value (λ r. Valued (keys_hold v.keys r.body)))) e
-
--- a constraint is TRUE where its expression has the same value
-same_truth : (w u : World) (c : NamedConstraint) → value_of u [] c.tree ≡ value_of w [] c.tree → IsTrueOf w c → IsTrueOf u c
-same_truth w u c e h = ap truth_value e ∙ h
 
 -- ---- names
 
 -- a name that is not among names is not one of them
 not_contained : (n : List ℕ) (ns : List (List ℕ)) → has_name n ns ≡ false → Contains ns n → ⊥
 not_contained n ns e c = true≢false (sym ((name_tests_tell.0 n ns).1 c) ∙ e)
-
--- each of a list of virtual relvars is found there by its name
-abbrev IsFound : List VirtualRelvar → VirtualRelvar → Type 0
-IsFound vs v = is_some (named virtual_name v.name vs) ≡ true
-
--- so is each
-all_found : (vs : List VirtualRelvar) → AllByRecursion (IsFound vs) vs
-all_found [] = tt
-all_found (v ∷ vs) =
-    (rw (same_name-itself v.name) refl, all_given (IsFound vs) (IsFound vs) (IsFound (v ∷ vs)) (λ u f g. behind u f) vs (all_found vs) (all_found vs))
-  where
-    behind : (u : VirtualRelvar) → IsFound vs u → IsFound (v ∷ vs) u
-    behind u f = by_test (same_name v.name u.name)
-      where
-        by_test : (b : Bool) → is_some (if b then Some v else named virtual_name u.name vs) ≡ true
-        by_test true = refl
-        by_test false = f
 
 -- those that are left have other names than the one that is dropped
 abbrev IsOther : List ℕ → VirtualRelvar → Type 0
@@ -109,26 +64,6 @@ all_other dropped (v ∷ vs) d = by_test (same_name v.name dropped) refl (all_ot
 -- ---- a database
 
 module _ (db : Database) (sound : IsSound db) where
-  -- each virtual relvar is known by its name
-  abbrev IsKnown : VirtualRelvar → Type 0
-  IsKnown v = (k : KnownRelvar) × (known_relvar (database_scope db) v.name ≡ Some k)
-
-  -- one that is found by its name is known
-  found_known : (v : VirtualRelvar) → IsFound db.virtuals v → IsKnown v
-  found_known v found = by_option (known_relvar (database_scope db) v.name) refl
-    where
-      by_option : (o : Option KnownRelvar) → known_relvar (database_scope db) v.name ≡ o → IsKnown v
-      by_option (Some k) is = (k, is)
-      by_option None is = absurd (true≢false (sym found ∙ ap is_some (unknown_parts db v.name is).1))
-
-  -- all are
-  all_known : AllByRecursion IsKnown db.virtuals
-  all_known = all_given (IsFound db.virtuals) (IsFound db.virtuals) IsKnown (λ v f g. found_known v f) db.virtuals (all_found db.virtuals) (all_found db.virtuals)
-
-  -- its name is an expression that has a type
-  name_checked : (v : VirtualRelvar) → IsKnown v → IsChecked (database_scope db) [] (name v.name)
-  name_checked v (k, is) = record { tuples = tt; written = (tt, tt); typed = (relation (pack k.heading), rw is refl) }
-
   -- a constraint is one that has a type
   abbrev IsAsked : NamedConstraint → Type 0
   IsAsked c = IsConstraint (database_scope db) c × IsWritten c.tree
@@ -148,10 +83,10 @@ module _ (db : Database) (sound : IsSound db) where
     -- the virtual relvars
     pub virtuals_without_constraint : AllByRecursion (HasKeysThatHold (world_of (without_constraint dropped db))) db.virtuals
     virtuals_without_constraint =
-        all_given IsKnown (HasKeysThatHold (world_of db)) (HasKeysThatHold (world_of (without_constraint dropped db)))
+        all_given (IsKnown db) (HasKeysThatHold (world_of db)) (HasKeysThatHold (world_of (without_constraint dropped db)))
         (λ v known. same_test (world_of db) (world_of (without_constraint dropped db)) v
-        (drops_change_no_value.constraint db dropped [] (name v.name) sound.legal legal sound.definitions (name_checked v known)))
-        db.virtuals all_known sound.virtuals
+        (drops_change_no_value.constraint db dropped [] (name v.name) sound.legal legal sound.definitions (name_checked db v known)))
+        db.virtuals (all_known db) sound.virtuals
 
     -- the constraints that are left
     pub constraints_without_constraint : AllByRecursion (IsTrueOf (world_of (without_constraint dropped db))) (without_constraint dropped db).constraints
@@ -168,11 +103,11 @@ module _ (db : Database) (sound : IsSound db) where
     -- the virtual relvars
     pub virtuals_without_type : AllByRecursion (HasKeysThatHold (world_of (without_type dropped db))) db.virtuals
     virtuals_without_type =
-        all_given IsKnown (HasKeysThatHold (world_of db)) (HasKeysThatHold (world_of (without_type dropped db)))
+        all_given (IsKnown db) (HasKeysThatHold (world_of db)) (HasKeysThatHold (world_of (without_type dropped db)))
         (λ v known. same_test (world_of db) (world_of (without_type dropped db)) v
-        (drops_change_no_value.type db dropped [] (name v.name) sound.legal legal sound.definitions (name_checked v known)
+        (drops_change_no_value.type db dropped [] (name v.name) sound.legal legal sound.definitions (name_checked db v known)
         (λ h c. absurd (contains_none h c)) (λ c. contains_none dropped c)))
-        db.virtuals all_known sound.virtuals
+        db.virtuals (all_known db) sound.virtuals
 
     -- a constraint that does not mention it
     abbrev pub LacksType : NamedConstraint → Type 0
@@ -191,7 +126,7 @@ module _ (db : Database) (sound : IsSound db) where
 
   module _ (dropped : List ℕ) (legal : IsLegal (without_relvar dropped db)) where
     -- the name of another does not mention it
-    name_unmentioned : (v : VirtualRelvar) → IsKnown v → IsOther dropped v → Contains (relvars_in (database_scope db) (name v.name)) dropped → ⊥
+    name_unmentioned : (v : VirtualRelvar) → IsKnown db v → IsOther dropped v → Contains (relvars_in (database_scope db) (name v.name)) dropped → ⊥
     name_unmentioned v (k, is) other c =
         let mentioned : Contains (v.name ∷ []) dropped = rw is at c in
         let same : v.name ≡ dropped = only_one v.name dropped mentioned in
@@ -203,11 +138,11 @@ module _ (db : Database) (sound : IsSound db) where
         let test = λ (v : VirtualRelvar). same_name v.name dropped in
         let few = remove_key test db.virtuals in
         let distinct = distinct_rest (map (λ (r : BaseRelvar). r.name) db.bases) (map virtual_name db.virtuals) sound.legal.distinct in
-        all_given (λ (v : VirtualRelvar). IsKnown v × IsOther dropped v) (HasKeysThatHold (world_of db)) (HasKeysThatHold (world_of (without_relvar dropped db)))
+        all_given (λ (v : VirtualRelvar). IsKnown db v × IsOther dropped v) (HasKeysThatHold (world_of db)) (HasKeysThatHold (world_of (without_relvar dropped db)))
         (λ v known. same_test (world_of db) (world_of (without_relvar dropped db)) v
-        (drops_change_no_value.relvar db dropped [] (name v.name) sound.legal legal sound.definitions (name_checked v known.0)
+        (drops_change_no_value.relvar db dropped [] (name v.name) sound.legal legal sound.definitions (name_checked db v known.0)
         (name_unmentioned v known.0 known.1)))
-        few (all_both IsKnown (IsOther dropped) few (all_removed IsKnown test db.virtuals all_known) (all_other dropped db.virtuals distinct))
+        few (all_both (IsKnown db) (IsOther dropped) few (all_removed (IsKnown db) test db.virtuals (all_known db)) (all_other dropped db.virtuals distinct))
         (all_removed (HasKeysThatHold (world_of db)) test db.virtuals sound.virtuals)
 
     -- a constraint that does not mention it

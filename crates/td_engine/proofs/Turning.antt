@@ -4,11 +4,10 @@ use Rattle.std.proofs.KnownBytes.{Appends-trans, Appends-nil}
 use Rattle.std.proofs.Math.Seq.{take-append_seam, take-append-add}
 use Rattle.std.specs.Io.KnownBytes.{Appends, Consumes}
 use Rattle.std.specs.String.{string_bytes}
-use Rattle.td_catalog.specs.Database.{Database}
 use Rattle.td_engine.proofs.Runs.{runs_append, runs_stopped}
 use Rattle.td_engine.proofs.ToldLaws.{told_after}
 use Rattle.td_engine.specs.Faults.{IfMemory, IfWrite}
-use Rattle.td_engine.specs.Machine.{Progress, Step, Steps, Runs, nothing, next, and_then, begun, has_stopped, refusals_of}
+use Rattle.td_engine.specs.Machine.{Progress, State, Step, Steps, Runs, nothing, next, and_then, begun, has_stopped, refusals_of}
 use Rattle.td_engine.specs.Scripts.{GaveScript, OfFront, OfScript}
 use Rattle.td_engine.specs.Standing.{HasRun, HasRunCut, IsLeft, Run, RunsTo, Standing, Stands, run_of, standing}
 use Rattle.td_engine.specs.Steps.{IsParsed, IsStep, step_view}
@@ -27,13 +26,13 @@ use Rattle.td_tree.specs.declared.statement.Statement.{Statement}
 
 -- it was read, and what it was read as was carried out
 pub first_step : (held : Held) (old new : Standing) (parsed : Result Statement Fault) (end : ℕ) (answer : code.Answer) → IsReading held parsed end
-    → ((tokens : List PlacedToken) → IsParsed tokens parsed → IsStep old.database tokens answer new.database) → FirstStep held old new
+    → ((tokens : List PlacedToken) → IsParsed tokens parsed → IsStep old.state tokens answer new.state) → FirstStep held old new
 first_step held old new parsed end answer r does = record {
   statement = r.statement;
   is = r.is;
-  step = step_view answer new.database;
+  step = step_view answer new.state;
   steps = (does r.statement r.means).step;
-  database_is = refl;
+  state_is = refl;
 }
 
 -- the counts of refusals agree
@@ -42,7 +41,7 @@ refused_more None accepted refused more h e = e ∙ ap (λ b. refused + (if b th
 refused_more (Some cause) accepted refused more h e = e ∙ ap (λ b. refused + (if b then 0 else 1)) h
 
 pub turned : (old new : Place) (parsed : Result Statement Fault) (end : ℕ) (answer : code.Answer) → IsReading old.held parsed end
-    → ((tokens : List PlacedToken) → IsParsed tokens parsed → IsStep old.standing.database tokens answer new.standing.database)
+    → ((tokens : List PlacedToken) → IsParsed tokens parsed → IsStep old.standing.state tokens answer new.standing.state)
     → new.held ≡ after old.held → Appends old.standing.taken new.standing.taken (string_bytes answer.text)
     → new.report.statements ≡ old.report.statements + 1 → new.report.refused ≡ old.report.refused + (if answer.accepted then 0 else 1)
     → HasTurned old new
@@ -56,7 +55,7 @@ turned old new parsed end answer r does held wrote counted refusals = record {
 }
 
 pub turned_cut : (old : Place) (new : Standing) (parsed : Result Statement Fault) (end : ℕ) (answer : code.Answer) (count : ℕ) → IsReading old.held parsed end
-    → ((tokens : List PlacedToken) → IsParsed tokens parsed → IsStep old.standing.database tokens answer new.database)
+    → ((tokens : List PlacedToken) → IsParsed tokens parsed → IsStep old.standing.state tokens answer new.state)
     → AppendsIfTold old.standing.taken new.taken (take count (string_bytes answer.text)) → HasTurnedCut old new
 unfolding first_step
 turned_cut old new parsed end answer count r does wrote = record {
@@ -91,22 +90,22 @@ turned_refused old new t h = by_cause t.first.step.cause t.refused_are
 goes_on : (stop : Bool) (p : Progress) (refused : ℕ) → refused ≡ p.refusals → (stop && nat_lt 0 refused) ≡ false → has_stopped stop p ≡ false
 goes_on stop p refused is h = ap (λ n. stop && nat_lt 0 n) (sym is) ∙ h
 
-runs_more : (run : Run) (done : List (List PlacedToken)) (p : Progress) (db : Database) (x : List PlacedToken) (step : Step)
-    → RunsTo run done p → has_stopped run.stop p ≡ false → db ≡ p.database → Steps db x step → RunsTo run (done ++ (x ∷ [])) (and_then p step)
-runs_more run done p db x step runs goes is steps =
-    runs_append run.stop (begun run.old.database) done p (x ∷ []) (and_then p step) runs (next step goes (subst (λ (d : Database). Steps d x step) is steps) nothing)
+runs_more : (run : Run) (done : List (List PlacedToken)) (p : Progress) (old : State) (x : List PlacedToken) (step : Step State)
+    → RunsTo run done p → has_stopped run.stop p ≡ false → old ≡ p.state → Steps old x step → RunsTo run (done ++ (x ∷ [])) (and_then p step)
+runs_more run done p old x step runs goes is steps =
+    runs_append run.stop (begun run.old.state) done p (x ∷ []) (and_then p step) runs (next step goes (subst (λ (d : State). Steps d x step) is steps) nothing)
 
 left_more : (run : Run) (done : List (List PlacedToken)) (old new : Place) → (run.stop && nat_lt 0 old.report.refused) ≡ false
     → IsLeft (record run { script = done }) old.standing old.report → (t : HasTurned old new)
     → IsLeft (record run { script = done ++ (t.first.statement ∷ []) }) new.standing new.report
 left_more run done old new goes left t =
     let p : Progress = left.progress in
-    let step : Step = t.first.step in
+    let step : Step State = t.first.step in
     record {
       progress = and_then p step;
-      runs = runs_more run done p old.standing.database t.first.statement step left.runs (goes_on run.stop p old.report.refused left.refused_are goes) left.stands.database_is t.first.steps;
+      runs = runs_more run done p old.standing.state t.first.statement step left.runs (goes_on run.stop p old.report.refused left.refused_are goes) left.stands.state_is t.first.steps;
       stands = record {
-        database_is = t.first.database_is;
+        state_is = t.first.state_is;
         written = Appends-trans run.old.taken old.standing.taken new.standing.taken p.text step.text left.stands.written t.written;
       };
       statements_are = t.statements_are ∙ ap (λ n. n + 1) left.statements_are;
@@ -136,9 +135,9 @@ reached_none run held same = record {
   done = [];
   cut = same;
   left = record {
-    progress = begun run.old.database;
+    progress = begun run.old.state;
     runs = nothing;
-    stands = record { database_is = refl; written = Appends-nil run.old.taken };
+    stands = record { state_is = refl; written = Appends-nil run.old.taken };
     statements_are = refl;
     refused_are = refl;
   };
@@ -156,7 +155,7 @@ left_over run place r over =
     record {
       progress = p;
       runs = subst (λ (ss : List (List PlacedToken)). RunsTo run ss p) (sym r.cut)
-          (runs_append run.stop (begun run.old.database) r.done p rest p r.left.runs
+          (runs_append run.stop (begun run.old.state) r.done p rest p r.left.runs
           (elim over as (λ _. Runs run.stop p rest p) [
             | inl none ↦ subst (λ (ss : List (List PlacedToken)). Runs run.stop p ss p) (sym none) nothing
             | inr stopped ↦ runs_stopped run.stop p rest (ap (λ n. run.stop && nat_lt 0 n) (sym r.left.refused_are) ∙ stopped)
@@ -198,7 +197,7 @@ has_run_cut run old done new goes r counted t =
     let x : List PlacedToken = t.first.statement in
     let rest : List (List PlacedToken) = statements (after old.held).offset (after old.held).bytes in
     let p : Progress = r.left.progress in
-    let step : Step = t.first.step in
+    let step : Step State = t.first.step in
     let all : run.script ≡ r.done ++ (x ∷ rest) = next_of run.script r.done old.held x r.cut t.first.is in
     let longer : length (r.done ++ (x ∷ [])) ≡ done = length-append r.done (x ∷ []) ∙ (ap (λ k. k + 1) r.each ∙ sym counted) in
     let fewer : length r.done ≡ done - 1 = omega (arith, r.each, counted) in
@@ -206,10 +205,10 @@ has_run_cut run old done new goes r counted t =
       progress = and_then p step;
       runs = subst (λ (ss : List (List PlacedToken)). RunsTo run ss (and_then p step))
           (taken run.script (r.done ++ (x ∷ [])) rest done (all ∙ sym (append_assoc r.done (x ∷ []) rest)) longer)
-          (runs_more run r.done p old.standing.database x step r.left.runs (goes_on run.stop p old.report.refused r.left.refused_are goes) r.left.stands.database_is t.first.steps);
+          (runs_more run r.done p old.standing.state x step r.left.runs (goes_on run.stop p old.report.refused r.left.refused_are goes) r.left.stands.state_is t.first.steps);
       some = omega (arith, counted);
       each_run = ap (λ k. k + 1) (sym r.left.statements_are) ∙ sym counted;
-      database_is = t.first.database_is;
+      state_is = t.first.state_is;
       others = p;
       runs_of_others = subst (λ (ss : List (List PlacedToken)). RunsTo run ss p) (taken run.script r.done (x ∷ rest) (done - 1) all fewer) r.left.runs;
       count = length p.text + t.count;
@@ -260,9 +259,9 @@ front_unrun stop old before after =
     (λ done h. (h.1.0, record { given = h.1.1; whole = λ (some : 0 < done). absurd (let wrong : 0 < 0 = subst (λ n. 0 < n) h.0 some in omega (arith, wrong)) }, none_run stop old h.1.0 done h.0))
 
 -- nothing more was run before a fault of memory
-pub has_run_at : (run : Run) (old : Place) (db : Database) (taken : Option (List ℕ)) (fault : RunFault) → Reached run old
-    → IfMemory (λ done. (done ≡ old.report.statements) × (db ≡ old.standing.database) × (taken ≡ old.standing.taken)) fault
-    → IfMemory (λ done. HasRun run done (standing db taken)) fault
-has_run_at run old db taken fault r =
-    memory_map (λ done. (done ≡ old.report.statements) × (db ≡ old.standing.database) × (taken ≡ old.standing.taken)) (λ done. HasRun run done (standing db taken))
-    (λ done h. has_run run old done (standing db taken) r h.0 (λ i. standing (h.1 i) (h.2 i))) fault
+pub has_run_at : (run : Run) (old : Place) (state : State) (taken : Option (List ℕ)) (fault : RunFault) → Reached run old
+    → IfMemory (λ done. (done ≡ old.report.statements) × (state ≡ old.standing.state) × (taken ≡ old.standing.taken)) fault
+    → IfMemory (λ done. HasRun run done (standing state taken)) fault
+has_run_at run old state taken fault r =
+    memory_map (λ done. (done ≡ old.report.statements) × (state ≡ old.standing.state) × (taken ≡ old.standing.taken)) (λ done. HasRun run done (standing state taken))
+    (λ done h. has_run run old done (standing state taken) r h.0 (λ i. standing (h.1 i) (h.2 i))) fault

@@ -4,6 +4,7 @@ pub mod Checks
 pub mod Faults
 pub mod Gifts
 pub mod Machine
+pub mod Rebuilding
 pub mod Refusals
 pub mod Scripts
 pub mod Soundness
@@ -11,4 +12,5 @@ pub mod SoundnessLaws
 pub mod Standing
 pub mod Steps
 pub mod Told
+pub mod Transactions
 pub mod Turns

@@ -1,7 +1,8 @@
 -- The set machine: what a statement does to a database, and what it answers (Tutorial D's; causes, the order of checks and the
 -- texts are this project's own).
-use Rattle.std.specs.Prelude.{◌≡◌, ℕ, ◌+◌, Bool, true, false, ◌&&◌, List, [], ◌∷◌, ◌++◌, Option, Some, None, codes, nat_lt}
-use Rattle.td_catalog.specs.Database.{Database, base_relvar, database_scope, named_constraint, virtual_relvar, with_base, with_constraint, with_declared, with_virtual, without_constraint, without_relvar, without_type}
+use Rattle.std.specs.Prelude.{◌≡◌, ℕ, ◌+◌, Bool, true, false, ◌&&◌, if◌then◌else◌, List, [], ◌∷◌, ◌++◌, length, map, Option, Some, None, codes, nat_lt}
+use Rattle.td_catalog.specs.Database.{Database, base_relvar, database_scope, empty_database, named_constraint, virtual_relvar, with_base, with_constraint, with_declared, with_virtual, without_constraint, without_relvar, without_type}
+use Rattle.td_catalog.specs.Dumps.{dump_text, ordered_names}
 use Rattle.td_catalog.specs.Mentioned.{constraint_droppable, relvar_droppable, type_droppable}
 use Rattle.td_check.specs.OperatorTypes.{over_relation}
 use Rattle.td_check.specs.StatementTypes.{components_meant, statement_checked}
@@ -23,25 +24,29 @@ use Rattle.td_value.specs.Literal.{literal}
 use Rattle.td_value.specs.Values.{Relation}
 use Rattle.td_value.specs.Views.{relation_view}
 
--- what a statement comes to: the database after it with what it prints, or why it is refused
-pub data Effect : Type 0 where
-  Accepted : Database → List ℕ → Effect
-  Denied : Refusal → Effect
+-- what a statement comes to: what stands after it, with the text of its answer, or why it is refused
+pub data Effect (S : Type 0) : Type 0 where
+  Accepted : S → List ℕ → Effect S
+  Denied : Refusal → Effect S
 
 -- what follows where there is a value; else the least of its causes is named
-abbrev pub by_outcome : {A : Type 0} → Outcome A → (A → Effect) → Effect
+abbrev pub by_outcome : {A S : Type 0} → Outcome A → (A → Effect S) → Effect S
 by_outcome (Valued x) f = f x
 by_outcome (Refused cs) f = Denied (by_cause (least cs))
 
+-- the answer to what is accepted and prints nothing else
+abbrev pub ok_text : List ℕ
+ok_text = line (codes "OK")
+
 -- a change is accepted where no check refuses
-abbrev pub unless_refused : Option Refusal → Database → Effect
-unless_refused None db = Accepted db (codes "OK")
+abbrev pub unless_refused : Option Refusal → Database → Effect Database
+unless_refused None db = Accepted db ok_text
 unless_refused (Some refusal) db = Denied refusal
 
-abbrev pub changed : Database → Effect
+abbrev pub changed : Database → Effect Database
 changed db = unless_refused (database_check db) db
 
--- ---- definitions: what is defined stands last in its list
+-- ---- definitions: what is defined stands last in its list; a key is a set of names, kept in name order
 
 abbrev pub type_defined : Database → Text → AttributeTrees → Option Tree → Outcome Database
 type_defined db name components constraint =
@@ -54,12 +59,13 @@ init_relation db (Some init) h = relation_for (relation_view h []) (world_of db)
 
 abbrev pub base_defined : Database → Text → AttributeTrees → Option Tree → List (List Text) → Outcome Database
 base_defined db name heading init keys =
-    with_value (with_value (heading_meant db.types heading) (init_relation db init)) (λ r. Valued (with_base (base_relvar name keys r) db))
+    with_value (with_value (heading_meant db.types heading) (init_relation db init))
+    (λ r. Valued (with_base (base_relvar name (map (ordered_names r.heading) keys) r) db))
 
 abbrev pub virtual_defined : Database → Text → Tree → List (List Text) → Outcome Database
 virtual_defined db name expression keys =
     with_value (type_of (database_scope db) expression)
-    (λ t. over_relation t (λ h. Valued (with_virtual (virtual_relvar name h expression keys) db)))
+    (λ t. over_relation t (λ h. Valued (with_virtual (virtual_relvar name h expression (map (ordered_names h) keys)) db)))
 
 -- ---- drops: what no entry mentions
 
@@ -72,14 +78,15 @@ relvar_dropped db name = with_value (relvar_droppable name db) (λ _. Valued (wi
 abbrev pub constraint_dropped : Database → Text → Outcome Database
 constraint_dropped db name = with_value (constraint_droppable name db) (λ _. Valued (without_constraint name db))
 
--- ---- statements
+-- ---- statements that are of the database alone
 
 -- a change that no check follows
-abbrev pub unchecked : Database → Effect
-unchecked db = Accepted db (codes "OK")
+abbrev pub unchecked : Database → Effect Database
+unchecked db = Accepted db ok_text
 
--- what a statement that meets the static rules does; those of transactions and the dump are not carried out yet
-abbrev pub carried_out : Database → Statement → Effect
+-- what a statement that meets the static rules does to the database; those of transactions do nothing here: they change which
+-- database stands, below
+abbrev pub carried_out : Database → Statement → Effect Database
 carried_out db empty = unchecked db
 carried_out db (define_type name components constraint) = by_outcome (type_defined db name components constraint) changed
 carried_out db (drop_type name) = by_outcome (type_dropped db name) unchecked
@@ -89,58 +96,106 @@ carried_out db (drop_var name) = by_outcome (relvar_dropped db name) unchecked
 carried_out db (define_constraint name condition) = changed (with_constraint (named_constraint name condition) db)
 carried_out db (drop_constraint name) = by_outcome (constraint_dropped db name) unchecked
 carried_out db (assign_all assignments) = by_outcome (assigned_database db assignments) changed
-carried_out db begin_transaction = Denied (by_cause causes.Syntax)
-carried_out db commit = Denied (by_cause causes.Syntax)
-carried_out db rollback = Denied (by_cause causes.Syntax)
-carried_out db (write expression) = by_outcome (value_of (world_of db) [] expression) (λ v. Accepted db (literal v))
-carried_out db dump = Denied (by_cause causes.Syntax)
+carried_out db begin_transaction = unchecked db
+carried_out db commit = unchecked db
+carried_out db rollback = unchecked db
+carried_out db (write expression) = by_outcome (value_of (world_of db) [] expression) (λ v. Accepted db (line (literal v)))
+carried_out db dump = Accepted db (dump_text db)
 
 -- the static causes come before what follows
-abbrev pub effect : Database → Statement → Effect
+abbrev pub effect : Database → Statement → Effect Database
 effect db statement = by_outcome (statement_checked (database_scope db) statement) (λ _. carried_out db statement)
+
+-- ---- transactions
+
+-- the state of the machine: the database, and those that the open transactions keep, the last begun first
+pub record State : Type 0 where
+  pub database : Database
+  pub kept : List Database
+
+abbrev pub state_of : Database → List Database → State
+state_of database kept = record { database = database; kept = kept }
+
+-- nothing is defined, and no transaction is open
+abbrev pub empty_state : State
+empty_state = state_of empty_database []
+
+-- the most transactions that may be open
+abbrev pub transaction_limit : ℕ
+transaction_limit = 16
+
+abbrev pub denied_transaction : Effect State
+denied_transaction = Denied (by_cause causes.Transaction)
+
+-- BEGIN TRANSACTION keeps the database
+abbrev pub begun_transaction : State → Effect State
+begun_transaction s =
+    if nat_lt (length s.kept) transaction_limit then Accepted (state_of s.database (s.database ∷ s.kept)) ok_text else denied_transaction
+
+-- COMMIT lets go of the database kept last
+abbrev pub committed : Database → List Database → Effect State
+committed db [] = denied_transaction
+committed db (last ∷ others) = Accepted (state_of db others) ok_text
+
+-- ROLLBACK goes back to it
+abbrev pub rolled_back : List Database → Effect State
+rolled_back [] = denied_transaction
+rolled_back (last ∷ others) = Accepted (state_of last others) ok_text
+
+-- what changes the database alone leaves what is kept
+abbrev pub keeping : List Database → Effect Database → Effect State
+keeping kept (Accepted db text) = Accepted (state_of db kept) text
+keeping kept (Denied refusal) = Denied refusal
+
+-- what a statement does
+abbrev pub effect_in : State → Statement → Effect State
+effect_in s begin_transaction = begun_transaction s
+effect_in s commit = committed s.database s.kept
+effect_in s rollback = rolled_back s.kept
+effect_in s statement = keeping s.kept (effect s.database statement)
 
 -- ---- steps
 
--- what a statement does: the database after it, why it is refused, if it is, and the text of its answer
-pub record Step : Type 0 where
-  pub database : Database
+-- what a statement does: what stands after it, why it is refused, if it is, and the text of its answer
+pub record Step (S : Type 0) : Type 0 where
+  pub after : S
   pub cause : Option Cause
   pub text : List ℕ
 
 -- a refused statement changes nothing
-abbrev pub step_of : Database → Effect → Step
-step_of db (Accepted new text) = record { database = new; cause = None; text = line text }
-step_of db (Denied refusal) = record { database = db; cause = Some (cause_of refusal); text = line (refusal_text refusal) }
+abbrev pub step_of : {S : Type 0} → S → Effect S → Step S
+step_of old (Accepted new text) = record { after = new; cause = None; text = text }
+step_of old (Denied refusal) = record { after = old; cause = Some (cause_of refusal); text = line (refusal_text refusal) }
 
 -- what is meant, or is refused by the least of its causes
-abbrev pub stepped : Database → Outcome Statement → Step
-stepped db meant = step_of db (by_outcome meant (effect db))
+abbrev pub stepped : State → Outcome Statement → Step State
+stepped s meant = step_of s (by_outcome meant (effect_in s))
 
 -- what a list of tokens does: what they mean does it, and what they mean is SCAN where one is bad, else SYNTAX where they spell
 -- no statement
-abbrev pub Steps : Database → List PlacedToken → Step → Type 0
-Steps db tokens step = (meant : Outcome Statement) × Parsed tokens meant × (step ≡ stepped db meant)
+abbrev pub Steps : State → List PlacedToken → Step State → Type 0
+Steps s tokens step = (meant : Outcome Statement) × Parsed tokens meant × (step ≡ stepped s meant)
 
 -- ---- runs
 
 -- what a run has done so far
 pub record Progress : Type 0 where
-  pub database : Database
+  pub state : State
   pub text : List ℕ
   pub statements : ℕ
   pub refusals : ℕ
 
-abbrev pub begun : Database → Progress
-begun db = record { database = db; text = []; statements = 0; refusals = 0 }
+abbrev pub begun : State → Progress
+begun s = record { state = s; text = []; statements = 0; refusals = 0 }
 
 abbrev pub refusals_of : Option Cause → ℕ
 refusals_of None = 0
 refusals_of (Some cause) = 1
 
 -- one statement more
-abbrev pub and_then : Progress → Step → Progress
+abbrev pub and_then : Progress → Step State → Progress
 and_then so_far step = record {
-  database = step.database;
+  state = step.after;
   text = so_far.text ++ step.text;
   statements = so_far.statements + 1;
   refusals = so_far.refusals + refusals_of step.cause;
@@ -154,4 +209,4 @@ has_stopped stop so_far = stop && nat_lt 0 so_far.refusals
 pub data Runs (stop : Bool) : Progress → List (List PlacedToken) → Progress → Type 0 where
   nothing : {p : Progress} → Runs stop p [] p
   stopped : {p : Progress} {s : List PlacedToken} {ss : List (List PlacedToken)} → has_stopped stop p ≡ true → Runs stop p (s ∷ ss) p
-  next : {p q : Progress} {s : List PlacedToken} {ss : List (List PlacedToken)} (step : Step) → has_stopped stop p ≡ false → Steps p.database s step → Runs stop (and_then p step) ss q → Runs stop p (s ∷ ss) q
+  next : {p q : Progress} {s : List PlacedToken} {ss : List (List PlacedToken)} (step : Step State) → has_stopped stop p ≡ false → Steps p.state s step → Runs stop (and_then p step) ss q → Runs stop p (s ∷ ss) q

@@ -44,7 +44,7 @@ IsWrittenStatement _ = ⊤
 
 -- ---- the law
 
--- what an accepted statement makes of a sound database is sound, where it meets the static rules
+-- what an accepted statement makes of a sound database is sound, where some tokens spell it and it meets the static rules
 abbrev pub AcceptedStatementsKeepSoundness : Type 0
 AcceptedStatementsKeepSoundness =
     (db new : Database) (s : Statement) (text : List ℕ) → IsSound db → IsAdmitted db s → IsWrittenStatement s

@@ -1,19 +1,18 @@
 -- What a run leaves (this project's own, in the words of the set machine).
 use Rattle.std.specs.Prelude.{◌≡◌, ℕ, ◌-◌, ◌<◌, ◌≤◌, Bool, List, [], length, take, Option}
 use Rattle.std.specs.Io.KnownBytes.{Appends}
-use Rattle.td_catalog.specs.Database.{Database}
-use Rattle.td_engine.specs.Machine.{Progress, Runs, begun}
+use Rattle.td_engine.specs.Machine.{Progress, Runs, State, begun}
 use Rattle.td_engine.specs.Told.{AppendsIfTold}
 use Rattle.td_engine.specs.declared.run.Report.{Report}
 use Rattle.td_tree.specs.Statements.{PlacedToken, statements}
 
--- what stands between two statements: the database, and what the sink tells that it has taken
+-- what stands between two statements: the state, and what the sink tells that it has taken
 pub record Standing : Type 0 where
-  pub database : Database
+  pub state : State
   pub taken : Option (List ℕ)
 
-abbrev pub standing : Database → Option (List ℕ) → Standing
-standing database taken = record { database = database; taken = taken }
+abbrev pub standing : State → Option (List ℕ) → Standing
+standing state taken = record { state = state; taken = taken }
 
 -- a run: whether the first refusal ends it, what stood before it, and its statements
 pub record Run : Type 0 where
@@ -27,11 +26,11 @@ run_of stop old bytes = record { stop = stop; old = old; script = statements 0 b
 
 -- the machine comes so far by these statements of the run
 abbrev pub RunsTo : Run → List (List PlacedToken) → Progress → Type 0
-RunsTo run script progress = Runs run.stop (begun run.old.database) script progress
+RunsTo run script progress = Runs run.stop (begun run.old.state) script progress
 
--- after what stood, this is what the machine's progress leaves: its database, and its text behind what was taken
+-- after what stood, this is what the machine's progress leaves: its state, and its text behind what was taken
 pub record Stands (old : Standing) (progress : Progress) (new : Standing) : Type 0 where
-  pub database_is : new.database ≡ progress.database
+  pub state_is : new.state ≡ progress.state
   pub written : Appends old.taken new.taken progress.text
 
 -- the statements were run: what stands is what the machine leaves, and the report has its two numbers
@@ -55,7 +54,7 @@ pub record HasRunCut (run : Run) (done : ℕ) (new : Standing) : Type 0 where
   pub runs : RunsTo run (take done run.script) progress
   pub some : 0 < done
   pub each_run : progress.statements ≡ done
-  pub database_is : new.database ≡ progress.database
+  pub state_is : new.state ≡ progress.state
   pub others : Progress
   pub runs_of_others : RunsTo run (take (done - 1) run.script) others
   pub count : ℕ
@@ -65,5 +64,5 @@ pub record HasRunCut (run : Run) (done : ℕ) (new : Standing) : Type 0 where
 -- nothing was run or written
 pub record IsUnrun (done : ℕ) (old new : Standing) : Type 0 where
   pub none : done ≡ 0
-  pub same : new.database ≡ old.database
+  pub same : new.state ≡ old.state
   pub unwritten : Appends old.taken new.taken []

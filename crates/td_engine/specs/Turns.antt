@@ -1,7 +1,7 @@
 -- One statement of a run, and how far a run has come (the code's own way; it is said in the words of the set machine).
 use Rattle.std.specs.Prelude.{◌≡◌, ℕ, ◌+◌, Bool, true, false, List, ◌++◌, length, take, Some, None, Result}
 use Rattle.std.specs.Io.KnownBytes.{Appends}
-use Rattle.td_engine.specs.Machine.{Step, Steps, refusals_of}
+use Rattle.td_engine.specs.Machine.{State, Step, Steps, refusals_of}
 use Rattle.td_engine.specs.Standing.{IsLeft, Run, Standing}
 use Rattle.td_engine.specs.Steps.{IsParsed}
 use Rattle.td_engine.specs.Told.{AppendsIfTold}
@@ -26,13 +26,13 @@ pub record IsReading (held : Held) (parsed : Result Statement Fault) (end : ℕ)
   pub means : IsParsed statement parsed
   pub ends : end ≡ behind held
 
--- what the first of the statements held does to the database
+-- what the first of the statements held does to the state
 pub record FirstStep (held : Held) (old new : Standing) : Type 0 where
   pub statement : List PlacedToken
   pub is : first_statement held ≡ Some statement
-  pub step : Step
-  pub steps : Steps old.database statement step
-  pub database_is : new.database ≡ step.database
+  pub step : Step State
+  pub steps : Steps old.state statement step
+  pub state_is : new.state ≡ step.after
 
 -- the first of the statements held was run and taken off, its text was written whole, and it is counted
 pub record HasTurned (old new : Place) : Type 0 where

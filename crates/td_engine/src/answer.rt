@@ -2,6 +2,7 @@
 ghost use Rattle.std.specs.Prelude.{◌≡◌, ◌++◌, codes, IfOk, None, Some, IsTrue, IsFalse};
 ghost use Rattle.std.specs.String.{string_bytes};
 ghost use Rattle.td_tree.specs.declared.cause.Cause.TheVariants as causes;
+ghost use Rattle.td_engine.specs.Machine.{ok_text};
 ghost use Rattle.td_engine.specs.Refusals.{cause_text, line, named_text};
 
 use std::alloc::{AllocError, Global};
@@ -19,7 +20,7 @@ pub struct Answer {
 }
 
 /// Ends a text by a newline.
-fn line(text: String) -> Result<String, AllocError>
+pub(crate) fn line(text: String) -> Result<String, AllocError>
     ensures { IfOk result (λ s. string_bytes s ≡ line (string_bytes text)) }
 {
     let mut text = text;
@@ -40,25 +41,24 @@ fn refusal(alloc: Global, cause: Cause) -> Result<String, AllocError>
 }
 
 impl Answer {
-    /// A statement that is accepted and prints this.
-    pub fn accepted(text: String) -> Result<Answer, AllocError>
-        ensures flag { IfOk result (λ a. IsTrue a.accepted × (a.cause ≡ None)) }
-        ensures text { IfOk result (λ a. string_bytes a.text ≡ line (string_bytes text)) }
+    /// A statement that is accepted and prints this, its newline with it.
+    pub fn accepted(text: String) -> Answer
+        ensures flag { IsTrue result.accepted × (result.cause ≡ None) }
+        ensures text { string_bytes result.text ≡ string_bytes text }
     {
-        let text = line(text)?;
-        Ok(Answer {
+        Answer {
             accepted: true,
             cause: None,
             text,
-        })
+        }
     }
 
     /// A statement that is accepted and prints no value.
     pub fn ok(alloc: Global) -> Result<Answer, AllocError>
         ensures flag { IfOk result (λ a. IsTrue a.accepted × (a.cause ≡ None)) }
-        ensures text { IfOk result (λ a. string_bytes a.text ≡ line (codes "OK")) }
+        ensures text { IfOk result (λ a. string_bytes a.text ≡ ok_text) }
     {
-        Answer::accepted(String::from_str(alloc, "OK")?)
+        Ok(Answer::accepted(line(String::from_str(alloc, "OK")?)?))
     }
 
     /// A statement that is refused by this cause.

@@ -1,6 +1,7 @@
 //! Definitions of base relvars.
 ghost use Rattle.std.specs.Prelude.{◌≡◌, IfOk, IsTrue, [], map, option_map};
 ghost use Rattle.td_catalog.specs.Database.{base_relvar, with_base};
+ghost use Rattle.td_catalog.specs.Dumps.{ordered_names};
 ghost use Rattle.td_catalog.specs.Legality.{AreBaseKeys, AreTyped, IsRelvarHeading};
 ghost use Rattle.td_engine.specs.Assignments.{of_heading, relation_for};
 ghost use Rattle.td_engine.specs.Carried.{Changes, IsAdmitted};
@@ -25,6 +26,7 @@ use std::alloc::{AllocError, Global};
 use td_body::body::Body;
 use td_catalog::catalog::Catalog;
 use td_catalog::copy::copied_keys;
+use td_catalog::keys::ordered_keys;
 use td_tree::cause::Cause;
 use td_tree::expression::Expr;
 use td_tree::fault::Fault;
@@ -119,6 +121,25 @@ fn with_relvar<B: Body>(
     }
 }
 
+/// The catalogue with a base relvar that holds the relation, of these keys, each in name order.
+fn with_keys<B: Body>(
+    alloc: Global,
+    catalog: &Catalog<B>,
+    name: Name,
+    keys: Vec<Vec<Name>>,
+    relation: Rel,
+) -> Result<Catalog<B>, Failure>
+    requires heading { IsRelvarHeading catalog.now.types relation.heading }
+    requires keys { AreBaseKeys relation.heading (map (λ key. key.items) keys.items) }
+    requires typed { AreTyped catalog.now.types relation }
+    ensures { Changes result (changed (with_base (base_relvar name
+        (map (ordered_names relation.heading) (map (λ key. key.items) keys.items)) relation) catalog.now)) }
+{
+    let _ = relation.heading().len();
+    let ordered = ordered_keys(alloc, relation.heading(), &keys)?;
+    with_relvar(alloc, catalog, name, ordered, relation)
+}
+
 /// The catalogue with a base relvar of the definition.
 pub(crate) fn with_base<B: Body>(
     alloc: Global,
@@ -134,7 +155,7 @@ pub(crate) fn with_base<B: Body>(
     tell_heading(&definition.heading);
     tell_if_given(definition.init.as_ref());
     match new_relation(alloc, catalog, &definition) {
-        Ok(relation) => { with_relvar(alloc, catalog, definition.name, definition.keys, relation) }
+        Ok(relation) => with_keys(alloc, catalog, definition.name, definition.keys, relation),
         Err(fault) => Err(failed(fault)),
     }
 }

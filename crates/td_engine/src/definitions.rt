@@ -1,7 +1,8 @@
 //! Definitions of types, virtual relvars and constraints, and drops.
-ghost use Rattle.std.specs.Prelude.{◌≡◌, map, option_map};
+ghost use Rattle.std.specs.Prelude.{◌≡◌, IfOk, map, option_map};
 ghost use Rattle.td_catalog.specs.Database.{Database, named_constraint, with_constraint};
 ghost use Rattle.td_catalog.specs.Database.{database_scope};
+ghost use Rattle.td_catalog.specs.Dumps.{ordered_names};
 ghost use Rattle.td_check.specs.OperatorTypes.{over_relation};
 ghost use Rattle.td_check.specs.StaticTypes.{type_of};
 ghost use Rattle.td_engine.specs.Carried.{Changes, IsAdmitted, failure_of};
@@ -11,7 +12,7 @@ ghost use Rattle.td_engine.specs.Machine.{virtual_defined};
 ghost use Rattle.td_engine.specs.Soundness.{IsSound};
 ghost use Rattle.td_tree.specs.Outcomes.{Answers, Outcome, Valued, with_value};
 ghost use Rattle.td_tree.specs.TreeViews.{heading_tree_view, statement_view, tree_view};
-ghost use Rattle.td_types.specs.Types.{Type'};
+ghost use Rattle.td_types.specs.Types.{IsHeading, Type', pack};
 ghost use Rattle.td_types.specs.Views.{type_view};
 
 use crate::checks::settled;
@@ -20,6 +21,7 @@ use crate::written::tell_heading;
 use std::alloc::Global;
 use td_body::body::Body;
 use td_catalog::catalog::Catalog;
+use td_catalog::keys::ordered_keys;
 use td_check::expression::check_expr;
 use td_tree::cause::Cause;
 use td_tree::expression::Expr;
@@ -107,8 +109,35 @@ fn heading_of<B: Body>(catalog: &Catalog<B>, expression: &Expr) -> Result<Headin
     over_relation(check_expr(&scope, expression))
 }
 
+/// What the relvar of a definition has beside its expression: the heading of that, and its keys,
+/// each in name order.
+#[derive(Drop)]
+struct Derived {
+    heading: Heading,
+    keys: Vec<Vec<Name>>,
+}
+
+fn parts_of<B: Body>(
+    alloc: Global,
+    catalog: &Catalog<B>,
+    definition: &VirtualDefinition,
+) -> Result<Derived, Fault>
+    ensures answer { Answers (λ d. d.heading) result (with_value
+        (type_of (database_scope catalog.now) (tree_view definition.now.expression))
+        (λ t. over_relation t Valued)) }
+    ensures headed { IfOk result (λ d. IsHeading (pack d.heading)) }
+    ensures keys { IfOk result (λ d. map (λ key. key.items) d.keys.items
+        ≡ map (ordered_names d.heading) (map (λ key. key.items) definition.now.keys.items)) }
+{
+    let heading = heading_of(catalog, &definition.expression)?;
+    let _ = heading.len();
+    let keys = ordered_keys(alloc, &heading, &definition.keys)?;
+    Ok(Derived { heading, keys })
+}
+
 /// The catalogue with a virtual relvar of the definition.
 pub(crate) fn with_virtual<B: Body>(
+    alloc: Global,
     catalog: &Catalog<B>,
     definition: VirtualDefinition,
 ) -> Result<Catalog<B>, Fault>
@@ -118,13 +147,14 @@ pub(crate) fn with_virtual<B: Body>(
         (tree_view definition.expression)
         (map (λ key. key.items) definition.keys.items)) }
 {
-    let heading = heading_of(catalog, &definition.expression)?;
+    let derived = parts_of(alloc, catalog, &definition)?;
     let mut next = catalog.try_clone()?;
+    drop(definition.keys);
     match next.add_virtual(
         definition.name,
-        heading,
+        derived.heading,
         definition.expression,
-        definition.keys,
+        derived.keys,
     ) {
         Ok(()) => Ok(next),
         Err(fault) => Err(fault),

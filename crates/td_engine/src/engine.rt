@@ -1,23 +1,20 @@
-//! An engine over a database: types, relvars and constraints.
-ghost use Rattle.std.specs.Prelude.{◌≡◌, IfNone, IfOk, IfSome, List, OnErr};
-ghost use Rattle.td_catalog.specs.Database.{empty_database};
-ghost use Rattle.td_engine.specs.Soundness.{IsSound};
-ghost use Rattle.td_catalog.specs.Database.{Database};
-ghost use Rattle.td_engine.specs.Carried.{IsAdmitted, IsChange, IsDenied, IsRefusedBy, IsSpelled};
-ghost use Rattle.td_engine.specs.Carried.{Prints};
-ghost use Rattle.td_engine.specs.Machine.{Accepted, by_outcome, effect, step_of};
-ghost use Rattle.td_engine.specs.SoundnessLaws.{IsWrittenStatement};
+//! An engine: a database, and those that its open transactions keep.
+ghost use Rattle.std.specs.Prelude.{◌≡◌, Bool, IfOk, List, OnErr, length};
+ghost use Rattle.std.specs.String.{string_bytes};
+ghost use Rattle.td_catalog.specs.Dumps.{dump_text};
+ghost use Rattle.td_engine.specs.Carried.{IsSpelled};
+ghost use Rattle.td_engine.specs.Machine.{begun_transaction, committed, effect_in, empty_state};
+ghost use Rattle.td_engine.specs.Machine.{rolled_back, step_of};
+ghost use Rattle.td_engine.specs.Rebuilding.{Rebuilds};
+ghost use Rattle.td_engine.specs.Soundness.{IsSoundState};
 ghost use Rattle.td_engine.specs.Steps.{Does, IsParsed, IsStep};
-ghost use Rattle.td_tree.specs.Outcomes.{Answers, Outcome};
-ghost use Rattle.td_tree.specs.TreeViews.{statement_view};
-ghost use Rattle.td_value.specs.Literal.{literal};
-ghost use Rattle.td_value.specs.Values.{Val};
+ghost use Rattle.td_engine.specs.Transactions.{transaction_view};
 ghost use Rattle.td_tree.specs.Statements.{PlacedToken};
+ghost use Rattle.td_tree.specs.TreeViews.{statement_view};
 
 use crate::answer::Answer;
-use crate::checks::value;
-use crate::refusal::{Failure, Refusal};
-use crate::statement::{admitted, changed, tell_statement};
+use crate::present::{Present, refused};
+use crate::transaction::{Transaction, transaction_of};
 use std::alloc::{AllocError, Global};
 use std::marker::Model;
 use td_body::body::Body;
@@ -27,111 +24,85 @@ use td_scan::token::Token;
 use td_tree::cause::Cause;
 use td_tree::fault::Fault;
 use td_tree::statement::Statement;
-use td_value::value::Value;
 
-/// An engine, seen as its database: it changes by statements alone.
+/// The most transactions that may be open.
+const TRANSACTION_LIMIT: usize = 16;
+
+/// An engine, seen as its database and those that the open transactions keep, the last begun
+/// first: it changes by statements alone.
 #[derive(Drop)]
 pub struct Engine<B: Body> {
     alloc: Global,
-    catalog: Catalog<B>,
+    present: Present<B>,
+    /// What the open transactions keep, the last begun last.
+    kept: Vec<Catalog<B>>,
 }
 
 impl<B: Body> Model for Engine<B> {
-    ghost use Rattle.td_catalog.specs.Database.{Database};
-    ghost use Rattle.td_catalog.specs.DatabaseCode.{database_code};
+    ghost use Rattle.std.specs.Prelude.{reverse};
+    ghost use Rattle.td_engine.specs.Machine.{State, state_of};
+    ghost use Rattle.td_engine.specs.Soundness.{IsSoundState};
+    ghost use Rattle.td_engine.specs.Transactions.{state_code};
 
-    ghost Value = { Database };
+    ghost Value = { State };
 
-    ghost coded = { database_code };
+    ghost coded = { state_code };
 
-    ghost view = { λ e. e.catalog };
+    ghost view = { λ e. state_of e.present (reverse e.kept.items) };
 
-    ghost use Rattle.td_engine.specs.Soundness.{IsSound};
-
-    ghost invariant = { λ e. IsSound e.catalog };
-}
-
-/// The answer to what is refused by a cause.
-fn refused(alloc: Global, fault: Fault) -> Result<Answer, AllocError>
-    ensures { IfOk result (λ answer. (db : Database) → IsRefusedBy db fault answer) }
-{
-    match fault {
-        Fault::Refused(cause) => Answer::refused(alloc, cause),
-        Fault::Memory => Err(AllocError),
-    }
-}
-
-/// The answer to a statement that is refused.
-fn failed(alloc: Global, failure: Failure) -> Result<Answer, AllocError>
-    ensures { IfOk result (λ answer. (db : Database) → IsDenied db failure answer) }
-{
-    match failure {
-        Failure::Refused(Refusal::Cause(cause)) => Answer::refused(alloc, cause),
-        Failure::Refused(Refusal::Key(name)) => Answer::named(alloc, Cause::Key, &name),
-        Failure::Refused(Refusal::Constraint(name)) => {
-            Answer::named(alloc, Cause::Constraint, &name)
-        }
-        Failure::Memory => Err(AllocError),
-    }
-}
-
-/// The value that a statement prints, if it prints one.
-fn printed<B: Body>(
-    alloc: Global,
-    catalog: &Catalog<B>,
-    statement: &Statement,
-) -> Option<Result<Value, Fault>>
-    ensures some { IfSome result (Prints catalog.now (statement_view statement.now)) }
-    ensures none { IfNone result (IsChange (statement_view statement.now)) }
-{
-    match statement {
-        Statement::Write(expression) => Some(value(alloc, catalog, expression)),
-        _ => None,
-    }
-}
-
-/// The answer that prints a value.
-fn write(alloc: Global, value: Result<Value, Fault>) -> Result<Answer, AllocError>
-    ensures { IfOk result (λ answer. (o : Outcome Val) → Answers (λ v. v) value o
-        → (db : Database) → Does (step_of db (by_outcome o (λ v. Accepted db (literal v)))) answer db) }
-{
-    match value {
-        Ok(value) => Answer::accepted(value.literal(alloc)?),
-        Err(fault) => refused(alloc, fault),
-    }
+    ghost invariant = { λ e. IsSoundState (state_of e.present (reverse e.kept.items)) };
 }
 
 impl<B: Body> Engine<B> {
-    /// An engine with an empty database. It takes no memory.
+    /// An engine with an empty database, in no transaction. It takes no memory.
     pub fn new(alloc: Global) -> Engine<B>
-        ensures { result ≡ empty_database }
+        ensures { result ≡ empty_state }
     {
+        let present = Present::new(alloc);
+        let _ = present.catalog();
         Engine {
             alloc,
-            catalog: Catalog::new(alloc),
+            present,
+            kept: Vec::new(alloc),
         }
     }
 
     /// The database.
     pub fn catalog(&self) -> &Catalog<B>
-        ensures { result.now ≡ self.now }
+        ensures { result.now ≡ self.now.database }
     {
-        &self.catalog
+        self.present.catalog()
     }
 
-    /// Tells what every engine's database is, where no part of it is seen.
-    pub fn reveal(&self)
-        ensures { IsSound self.now }
+    /// How many transactions are open.
+    pub fn depth(&self) -> u32
+        ensures { result ≡ length self.now.kept }
     {
-        let _ = &self.catalog;
+        self.kept.len() as u32
+    }
+
+    /// Tells what every engine's databases are, where no part of it is seen.
+    pub fn reveal(&self)
+        ensures { IsSoundState self.now }
+    {
+        let _ = &self.present;
+    }
+
+    /// The script that makes the database anew, with no transaction open.
+    pub fn dump(&self) -> Result<String, AllocError>
+        ensures text { IfOk result (λ text. string_bytes text ≡ dump_text self.now.database) }
+        ensures rebuilds { IfOk result (λ text.
+            (stop : Bool) → Rebuilds stop (string_bytes text) self.now.database) }
+    {
+        self.present.catalog().dump_text()
     }
 
     /// Runs the statement that the tokens are. A statement that is refused or finds no memory
-    /// leaves the database as it was.
+    /// leaves the database and the transactions as they were.
     pub fn step(&mut self, tokens: &[Token<'_>]) -> Result<Answer, AllocError>
         ensures step { IfOk result (λ answer. IsStep self.old tokens.now answer self.new) }
         ensures err { OnErr result (self.new ≡ self.old) }
-        ensures sound { IsSound self.new }
+        ensures sound { IsSoundState self.new }
     {
         self.carry_out(parse_statement(self.alloc, tokens))
     }
@@ -145,12 +116,12 @@ impl<B: Body> Engine<B> {
         ensures step { IfOk result (λ answer. (tokens : List PlacedToken)
             → IsParsed tokens parsed → IsStep self.old tokens answer self.new) }
         ensures err { OnErr result (self.new ≡ self.old) }
-        ensures sound { IsSound self.new }
+        ensures sound { IsSoundState self.new }
     {
         match parsed {
             Ok(statement) => self.execute(statement),
             Err(fault) => {
-                let _ = &self.catalog;
+                let _ = &self.present;
                 refused(self.alloc, fault)
             }
         }
@@ -160,56 +131,80 @@ impl<B: Body> Engine<B> {
     fn execute(&mut self, statement: Statement) -> Result<Answer, AllocError>
         requires { IsSpelled (statement_view statement) }
         ensures done { IfOk result (λ answer.
-            Does (step_of self.old (effect self.old (statement_view statement))) answer self.new) }
+            Does (step_of self.old (effect_in self.old (statement_view statement))) answer self.new) }
         ensures err { OnErr result (self.new ≡ self.old) }
-        ensures sound { IsSound self.new }
+        ensures sound { IsSoundState self.new }
     {
-        match admitted(&self.catalog, &statement) {
-            Ok(()) => self.do_admitted(statement),
-            Err(fault) => {
+        match transaction_of(&statement) {
+            None => self.present.execute(statement),
+            Some(transaction) => {
                 drop(statement);
-                refused(self.alloc, fault)
+                self.transact(transaction)
             }
         }
     }
 
-    /// Does what a statement means that meets the static rules.
-    fn do_admitted(&mut self, statement: Statement) -> Result<Answer, AllocError>
-        requires { IsAdmitted self.old (statement_view statement) }
+    /// Does what a statement of transactions means.
+    fn transact(&mut self, transaction: Transaction) -> Result<Answer, AllocError>
         ensures done { IfOk result (λ answer.
-            Does (step_of self.old (effect self.old (statement_view statement))) answer self.new) }
+            Does (step_of self.old (effect_in self.old (transaction_view transaction)))
+            answer self.new) }
         ensures err { OnErr result (self.new ≡ self.old) }
-        ensures sound { IsSound self.new }
+        ensures sound { IsSoundState self.new }
     {
-        tell_statement(&statement);
-        match printed(self.alloc, &self.catalog, &statement) {
-            None => self.change(statement),
-            Some(value) => {
-                drop(statement);
-                write(self.alloc, value)
-            }
+        match transaction {
+            Transaction::Begin => self.begin(),
+            Transaction::Commit => self.commit(),
+            Transaction::Rollback => self.roll_back(),
         }
     }
 
-    /// Puts the catalogue that a statement makes in place of the present one, after the answer is
-    /// made.
-    fn change(&mut self, statement: Statement) -> Result<Answer, AllocError>
-        requires admitted { IsAdmitted self.old (statement_view statement) }
-        requires written { IsWrittenStatement (statement_view statement) }
-        requires change { IsChange (statement_view statement) }
+    /// Keeps the database.
+    fn begin(&mut self) -> Result<Answer, AllocError>
         ensures done { IfOk result (λ answer.
-            Does (step_of self.old (effect self.old (statement_view statement))) answer self.new) }
+            Does (step_of self.old (begun_transaction self.old)) answer self.new) }
         ensures err { OnErr result (self.new ≡ self.old) }
-        ensures sound { IsSound self.new }
+        ensures sound { IsSoundState self.new }
     {
-        match changed(self.alloc, &self.catalog, statement) {
-            Ok(next) => {
-                let answer = Answer::ok(self.alloc)?;
-                next.reveal();
-                self.catalog = next;
-                Ok(answer)
-            }
-            Err(failure) => failed(self.alloc, failure),
+        if self.kept.len() >= TRANSACTION_LIMIT {
+            return Answer::refused(self.alloc, Cause::Transaction);
         }
+        let catalog = self.present.catalog().try_clone()?;
+        let answer = Answer::ok(self.alloc)?;
+        self.kept.push(catalog)?;
+        Ok(answer)
+    }
+
+    /// Lets go of the database kept last.
+    fn commit(&mut self) -> Result<Answer, AllocError>
+        ensures done { IfOk result (λ answer.
+            Does (step_of self.old (committed self.old.database self.old.kept)) answer self.new) }
+        ensures err { OnErr result (self.new ≡ self.old) }
+        ensures sound { IsSoundState self.new }
+    {
+        if self.kept.is_empty() {
+            return Answer::refused(self.alloc, Cause::Transaction);
+        }
+        let answer = Answer::ok(self.alloc)?;
+        let _ = self.kept.pop();
+        Ok(answer)
+    }
+
+    /// Goes back to the database kept last.
+    fn roll_back(&mut self) -> Result<Answer, AllocError>
+        ensures done { IfOk result (λ answer.
+            Does (step_of self.old (rolled_back self.old.kept)) answer self.new) }
+        ensures err { OnErr result (self.new ≡ self.old) }
+        ensures sound { IsSoundState self.new }
+    {
+        if self.kept.is_empty() {
+            return Answer::refused(self.alloc, Cause::Transaction);
+        }
+        let answer = Answer::ok(self.alloc)?;
+        let Some(catalog) = self.kept.pop() else {
+            unreachable!()
+        };
+        self.present = Present::of(self.alloc, catalog);
+        Ok(answer)
     }
 }

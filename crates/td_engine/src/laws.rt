@@ -1,7 +1,7 @@
 //! Laws of the set machine: each function has its contract alone.
 ghost use Rattle.std.specs.Prelude.{◌≡◌, ◌≢◌, Bool, List, None};
-ghost use Rattle.td_catalog.specs.Database.{Database};
-ghost use Rattle.td_engine.specs.Machine.{Progress, Runs, Step, Steps};
+ghost use Rattle.td_engine.specs.Machine.{Progress, Runs, State, Step, Steps};
+ghost use Rattle.td_engine.specs.Rebuilding.{DumpsRebuild};
 ghost use Rattle.td_engine.specs.SoundnessLaws.{AcceptedStatementsKeepSoundness};
 ghost use Rattle.td_tree.specs.Statements.{PlacedToken};
 
@@ -22,11 +22,16 @@ pub fn statements_have_one_outcome()
 /// A refused statement changes nothing.
 #[tactic(auto, using(crate::proofs::Kept::refused_keeps))]
 pub fn refused_statements_change_nothing()
-    ensures { (db : Database) (tokens : List PlacedToken) (s : Step)
-        → Steps db tokens s → s.cause ≢ None → s.database ≡ db }
+    ensures { (old : State) (tokens : List PlacedToken) (s : Step State)
+        → Steps old tokens s → s.cause ≢ None → s.after ≡ old }
 {}
 
 /// What an accepted statement makes of a sound database is sound.
 pub fn accepted_statements_keep_soundness()
     ensures { AcceptedStatementsKeepSoundness }
+{}
+
+/// The dump of a sound database, run from nothing, makes that database.
+pub fn dumps_rebuild()
+    ensures { DumpsRebuild }
 {}

@@ -16,13 +16,12 @@ use crate::definitions::{
     checked, unchecked, with_constraint, with_type, with_virtual, without_constraint,
     without_relvar, without_type,
 };
-use crate::refusal::{Failure, Refusal};
+use crate::refusal::Failure;
 use crate::written::{tell_if_given, tell_parts, tell_written};
 use std::alloc::Global;
 use td_body::body::Body;
 use td_catalog::catalog::Catalog;
 use td_check::statement::check_statement;
-use td_tree::cause::Cause;
 use td_tree::expression::Expr;
 use td_tree::fault::Fault;
 use td_tree::statement::{Assignment, Statement};
@@ -36,7 +35,7 @@ pub(crate) fn admitted<B: Body>(catalog: &Catalog<B>, statement: &Statement) -> 
     check_statement(&scope, statement)
 }
 
-/// The catalogue that a statement makes, which meets the static rules and prints no value.
+/// The catalogue that a statement makes, which meets the static rules and prints nothing but OK.
 pub(crate) fn changed<B: Body>(
     alloc: Global,
     catalog: &Catalog<B>,
@@ -52,19 +51,18 @@ pub(crate) fn changed<B: Body>(
         Statement::DefineType(definition) => checked(alloc, with_type(catalog, definition)),
         Statement::DropType(name) => unchecked(without_type(catalog, &name)),
         Statement::DefineBase(definition) => with_base(alloc, catalog, definition),
-        Statement::DefineVirtual(definition) => checked(alloc, with_virtual(catalog, definition)),
+        Statement::DefineVirtual(definition) => {
+            checked(alloc, with_virtual(alloc, catalog, definition))
+        }
         Statement::DropVar(name) => unchecked(without_relvar(catalog, &name)),
         Statement::DefineConstraint(name, condition) => {
             checked(alloc, with_constraint(catalog, name, condition))
         }
         Statement::DropConstraint(name) => unchecked(without_constraint(catalog, &name)),
         Statement::Assign(assignments) => assigned(alloc, catalog, assignments),
-        Statement::Empty => Ok(catalog.try_clone()?),
-        Statement::BeginTransaction
-        | Statement::Commit
-        | Statement::Rollback
-        | Statement::Dump
-        | Statement::Write(_) => Err(Failure::Refused(Refusal::Cause(Cause::Syntax))),
+        Statement::Empty | Statement::BeginTransaction | Statement::Commit | Statement::Rollback =>
+            Ok(catalog.try_clone()?),
+        Statement::Dump | Statement::Write(_) => Err(Failure::Memory),
     }
 }
 

@@ -1,23 +1,27 @@
-use Rattle.std.proofs.Common.{Err, subst}
-use Rattle.td_catalog.specs.Database.{Database, database_scope}
-use Rattle.td_check.specs.StatementTypes.{statement_checked}
-use Rattle.td_engine.proofs.Answered.{refused_does}
+use Rattle.std.proofs.Common.{IfOk, reverse, subst, sym}
+use Rattle.td_engine.proofs.Answered.{database_does}
 use Rattle.td_engine.proofs.Turning.{ok_map}
-use Rattle.td_engine.specs.Carried.{IsRefusedBy}
-use Rattle.td_engine.specs.Machine.{carried_out, effect, step_of}
+use Rattle.td_engine.specs.Machine.{State, effect, effect_in, state_of, step_of}
 use Rattle.td_engine.specs.Steps.{Does}
-use Rattle.td_tree.specs.Outcomes.{Answers}
+use Rattle.td_engine.specs.Transactions.{transaction_view}
 use Rattle.td_tree.specs.TreeViews.{statement_view}
 use Rattle.td_engine.proofs.engine.Engine.execute.Goals as goal
 
-pub returns-in-Ok-clause-done : goal.returns-in-Ok-clause-done
-returns-in-Ok-clause-done g c = c.do_admitted.ensures.done
-
-pub returns-in-Err-clause-done : goal.returns-in-Err-clause-done
-returns-in-Err-clause-done g c =
-    let db = c.args.self.now in
+pub returns-in-None-clause-done : goal.returns-in-None-clause-done
+returns-in-None-clause-done g c =
     let s = statement_view c.args.statement in
-    let told =
-    subst (λ (d : Database). Answers (λ u. u) (Err c.in-Err.fault) (statement_checked (database_scope d) s)) c.self.view_is c.in-Err.ensures in
-    ok_map (λ a. (d : Database) → IsRefusedBy d c.in-Err.fault a) (λ a. Does (step_of db (effect db s)) a db)
-    (λ a d. refused_does (λ u. u) c.in-Err.fault a db (statement_checked (database_scope db) s) (λ _. carried_out db s) told (d db)) c.refused.result c.refused.ensures
+    let kept = reverse c.self.inside.kept.items in
+    let db = c.self.inside.present in
+    let new = c.execute.new.self in
+    subst (λ (old : State). IfOk c.execute.result (λ a. Does (step_of old (effect_in old s)) a (state_of new kept))) c.self.view_is
+    (ok_map (λ a. Does (step_of db (effect db s)) a new) (λ a. Does (step_of (state_of db kept) (effect_in (state_of db kept) s)) a (state_of new kept))
+    (λ a d. database_does kept a db new s c.in-None.ensures.none d) c.execute.result c.execute.ensures.done)
+
+pub returns-in-Some-clause-done : goal.returns-in-Some-clause-done
+returns-in-Some-clause-done g c =
+    let s = statement_view c.args.statement in
+    let old = c.args.self.now in
+    let new = c.transact.new.self in
+    let t = c.in-Some.transaction in
+    ok_map (λ a. Does (step_of old (effect_in old (transaction_view t))) a new) (λ a. Does (step_of old (effect_in old s)) a new)
+    (λ a d. subst (λ v. Does (step_of old (effect_in old v)) a new) (sym c.in-Some.ensures.some) d) c.transact.result c.transact.ensures.done

@@ -1,0 +1,278 @@
+-- What a run writes, as its answers or as the dump of what it leaves.
+use Rattle.std.proofs.Common.{◌≡◌, ◌∙◌, ℕ, Bool, List, [], Option, Some, None, Result, Ok, Err, ap, refl, sym, subst, append-nil, arith, true≢false}
+use Rattle.std.specs.Prelude.{IfErr, IfOk, IsFalse, IsOk, IsTrue, OnOk, take}
+use Rattle.std.specs.Io.KnownBytes.{Appends}
+use Rattle.td.specs.Sessions.{HasAnswered, HasBegun, HasBegunCut, HasDumpedCut, status_of}
+use Rattle.td.specs.declared.line.Mode.TheVariants.{Dump, Run}
+use Rattle.td_catalog.specs.Dumps.{dump_text}
+use Rattle.td_engine.proofs.Runs.{runs_front}
+use Rattle.td_engine.proofs.Turning.{memory_map, ok_map, write_map}
+use Rattle.td_engine.specs.Faults.{IfMemory, IfNotMemory, IfRead, IfReadLimit, IfWrite}
+use Rattle.td_engine.specs.Machine.{State, begun}
+use Rattle.td_engine.specs.Scripts.{OfFront, OfScript}
+use Rattle.td_engine.specs.Soundness.{IsSoundState}
+use Rattle.td_engine.specs.Standing.{HasRun, HasRunCut, IsLeft, IsUnrun, run_of, standing}
+use Rattle.td_engine.specs.Told.{AppendsIfTold}
+use Rattle.td_engine.specs.declared.run.Report.{Report}
+use Rattle.td_engine.specs.declared.run.RunFault.{RunFault}
+use Rattle.td_engine.specs.declared.run.RunFault.TheVariants as faults
+use Rattle.td_tree.specs.Statements.{statements}
+
+-- nothing was written
+pub appends_nothing : (taken new : Option (List ℕ)) → new ≡ taken → Appends taken new []
+appends_nothing None new e = tt
+appends_nothing (Some bytes) (Some more) e = some_same more bytes e ∙ sym (append-nil bytes)
+  where
+    some_same : (xs ys : List ℕ) → Some xs ≡ Some ys → xs ≡ ys
+    some_same xs ys e = cc
+appends_nothing (Some bytes) None e = absurd (cc)
+
+-- ---- answers
+
+module _ (stop : Bool) (old new : State) (told taken : Option (List ℕ)) (sound : IsSoundState new) where
+  -- the run was run to its end
+  ran : (script : List ℕ) (report : Report) → IsLeft (run_of stop (standing old told) script) (standing new taken) report
+      → HasAnswered Run (run_of stop (standing old told) script) (status_of report.refused) taken
+  ran script report left =
+      record {
+        progress = left.progress;
+        runs = left.runs;
+        written = left.stands.written;
+        status_is = ap status_of left.refused_are;
+        sound = subst IsSoundState left.stands.state_is sound;
+      }
+
+  -- a front of it was run
+  ran_front : (script : List ℕ) (done : ℕ) → HasRun (run_of stop (standing old told) script) done (standing new taken)
+      → HasBegun Run (run_of stop (standing old told) script) done taken
+  ran_front script done has =
+      record {
+        progress = has.progress;
+        runs = has.runs;
+        each_run = has.each_run;
+        written = has.stands.written;
+        sound = subst IsSoundState has.stands.state_is sound;
+      }
+
+  module _ (before after : Option (List ℕ)) where
+    pub run_answers : (r : Result Report RunFault)
+        → IfOk r (λ report. OfScript before after (λ script. IsLeft (run_of stop (standing old told) script) (standing new taken) report))
+        → IfOk r (λ report. OfScript before after (λ script. HasAnswered Run (run_of stop (standing old told) script) (status_of report.refused) taken))
+    run_answers r =
+        ok_map (λ report. OfScript before after (λ script. IsLeft (run_of stop (standing old told) script) (standing new taken) report))
+        (λ report. OfScript before after (λ script. HasAnswered Run (run_of stop (standing old told) script) (status_of report.refused) taken))
+        (λ report h. (h.0, h.1, ran h.0 report h.2)) r
+
+    pub run_memory : (fault : RunFault)
+        → IfMemory (λ done. OfFront done before after (λ script. HasRun (run_of stop (standing old told) script) done (standing new taken))) fault
+        → IfMemory (λ done. OfFront done before after (λ script. HasBegun Run (run_of stop (standing old told) script) done taken)) fault
+    run_memory =
+        memory_map (λ done. OfFront done before after (λ script. HasRun (run_of stop (standing old told) script) done (standing new taken)))
+        (λ done. OfFront done before after (λ script. HasBegun Run (run_of stop (standing old told) script) done taken))
+        (λ done h. (h.0, h.1, ran_front h.0 done h.2))
+
+    pub run_write : (P : Type 0) (fault : RunFault)
+        → IfWrite (λ done. P × OfScript before after (λ script. HasRunCut (run_of stop (standing old told) script) done (standing new taken))) fault
+        → IfWrite (λ done. P × OfScript before after (λ script. HasBegunCut Run (run_of stop (standing old told) script) done taken)) fault
+    run_write P =
+        write_map (λ done. P × OfScript before after (λ script. HasRunCut (run_of stop (standing old told) script) done (standing new taken)))
+        (λ done. P × OfScript before after (λ script. HasBegunCut Run (run_of stop (standing old told) script) done taken))
+        (λ done h. (h.0, (h.1.0, h.1.1, (new, h.1.2, sound))))
+
+-- ---- facts of faults
+
+pub err_map : {T : Type 0} (P Q : RunFault → Type 0) → ((fault : RunFault) → P fault → Q fault) → (r : Result T RunFault) → IfErr r P → IfErr r Q
+err_map P Q f (Ok x) h = tt
+err_map P Q f (Err fault) h = f fault h
+
+pub on_ok : {T E : Type 0} (P Q : Type 0) → (P → Q) → (r : Result T E) → OnOk r P → OnOk r Q
+on_ok P Q f (Ok x) h = f h
+on_ok P Q f (Err e) h = tt
+
+pub read_map : (P Q : ℕ → Type 0) → ((done : ℕ) → P done → Q done) → (fault : RunFault) → IfRead P fault → IfRead Q fault
+read_map P Q f (faults.Memory done) h = tt
+read_map P Q f (faults.Read done) h = f done h
+read_map P Q f (faults.ReadLimit done) h = tt
+read_map P Q f (faults.Write done) h = tt
+
+pub limit_map : (P Q : ℕ → Type 0) → ((done : ℕ) → P done → Q done) → (fault : RunFault) → IfReadLimit P fault → IfReadLimit Q fault
+limit_map P Q f (faults.Memory done) h = tt
+limit_map P Q f (faults.Read done) h = tt
+limit_map P Q f (faults.ReadLimit done) h = f done h
+limit_map P Q f (faults.Write done) h = tt
+
+pub not_memory_map : {T : Type 0} (P Q : Type 0) → (P → Q) → (r : Result T RunFault) → IfNotMemory r P → IfNotMemory r Q
+not_memory_map P Q f (Ok x) h = f h
+not_memory_map P Q f (Err (faults.Memory done)) h = tt
+not_memory_map P Q f (Err (faults.Read done)) h = f h
+not_memory_map P Q f (Err (faults.ReadLimit done)) h = f h
+not_memory_map P Q f (Err (faults.Write done)) h = f h
+
+-- nothing was run or written
+pub read_unrun : (old new : State) (told taken : Option (List ℕ)) (P : Type 0) (fault : RunFault)
+    → IfRead (λ done. P × IsUnrun done (standing old told) (standing new taken)) fault
+    → IfRead (λ done. P × (done ≡ 0) × Appends told taken []) fault
+read_unrun old new told taken P =
+    read_map (λ done. P × IsUnrun done (standing old told) (standing new taken)) (λ done. P × (done ≡ 0) × Appends told taken [])
+    (λ done h. (h.0, h.1.none, h.1.unwritten))
+
+pub limit_unrun : (old new : State) (told taken : Option (List ℕ)) (P : Type 0) (fault : RunFault)
+    → IfReadLimit (λ done. P × IsUnrun done (standing old told) (standing new taken)) fault
+    → IfReadLimit (λ done. P × (done ≡ 0) × Appends told taken []) fault
+limit_unrun old new told taken P =
+    limit_map (λ done. P × IsUnrun done (standing old told) (standing new taken)) (λ done. P × (done ≡ 0) × Appends told taken [])
+    (λ done h. (h.0, h.1.none, h.1.unwritten))
+
+-- ---- dumps
+
+module _ (stop : Bool) (old new : State) (told nowhere : Option (List ℕ)) (sound : IsSoundState new) (script : List ℕ) (report : Report)
+    (left : IsLeft (run_of stop (standing old nowhere) script) (standing new nowhere) report) where
+  the_dump : dump_text new.database ≡ dump_text left.progress.state.database
+  the_dump = ap (λ (s : State). dump_text s.database) left.stands.state_is
+
+  sound_end : IsSoundState left.progress.state
+  sound_end = subst IsSoundState left.stands.state_is sound
+
+  all_done : (done : ℕ) → done ≡ report.statements → left.progress.statements ≡ done
+  all_done done is = sym (is ∙ left.statements_are)
+
+  -- the dump was written
+  pub dumped : (taken : Option (List ℕ)) → Appends told taken (dump_text new.database)
+      → HasAnswered Dump (run_of stop (standing old told) script) (status_of report.refused) taken
+  dumped taken written =
+      record {
+        progress = left.progress;
+        runs = left.runs;
+        written = subst (λ bytes. Appends told taken bytes) the_dump written;
+        status_is = ap status_of left.refused_are;
+        sound = sound_end;
+      }
+
+  -- all was run, and no dump was made
+  pub undumped : (done : ℕ) (taken : Option (List ℕ)) → done ≡ report.statements → taken ≡ told
+      → HasBegun Dump (run_of stop (standing old told) script) done taken
+  undumped done taken is kept =
+      record {
+        progress = left.progress;
+        runs = runs_front stop (begun old) (statements 0 script) left.progress done left.runs (let same = all_done done is in omega (arith, same));
+        each_run = all_done done is;
+        written = appends_nothing told taken kept;
+        sound = sound_end;
+      }
+
+  -- all was run, and the dump is cut
+  pub dump_cut : (done : ℕ) (taken : Option (List ℕ)) (count : ℕ) → done ≡ report.statements
+      → AppendsIfTold told taken (take count (dump_text new.database)) → HasDumpedCut (run_of stop (standing old told) script) done taken
+  dump_cut done taken count is cut =
+      record {
+        progress = left.progress;
+        runs = left.runs;
+        each_run = all_done done is;
+        count = count;
+        cut = subst (λ bytes. AppendsIfTold told taken (take count bytes)) the_dump cut;
+        sound = sound_end;
+      }
+
+-- a front of the script was run, and nothing is written
+pub dump_front : (stop : Bool) (old new : State) (told nowhere taken : Option (List ℕ)) (script : List ℕ) (done : ℕ) → IsSoundState new
+    → taken ≡ told → HasRun (run_of stop (standing old nowhere) script) done (standing new nowhere)
+    → HasBegun Dump (run_of stop (standing old told) script) done taken
+dump_front stop old new told nowhere taken script done sound kept has =
+    record {
+      progress = has.progress;
+      runs = has.runs;
+      each_run = has.each_run;
+      written = appends_nothing told taken kept;
+      sound = subst IsSoundState has.stands.state_is sound;
+    }
+
+-- ---- what a dump comes to after a run to the end
+
+module _ (stop : Bool) (old new : State) (told taken before after : Option (List ℕ)) (sound : IsSoundState new) (report : Report)
+    (ran : OfScript before after (λ script. IsLeft (run_of stop (standing old None) script) (standing new None) report)) (r : Result Report RunFault) where
+  pub dump_answers : IfOk r (λ x. (x ≡ report) × Appends told taken (dump_text new.database))
+      → IfOk r (λ x. OfScript before after (λ script. HasAnswered Dump (run_of stop (standing old told) script) (status_of x.refused) taken))
+  dump_answers =
+      ok_map (λ x. (x ≡ report) × Appends told taken (dump_text new.database))
+      (λ x. OfScript before after (λ script. HasAnswered Dump (run_of stop (standing old told) script) (status_of x.refused) taken))
+      (λ x h. (
+        ran.0,
+        ran.1,
+        subst (λ (y : Report). HasAnswered Dump (run_of stop (standing old told) ran.0) (status_of y.refused) taken) (sym h.0)
+            (dumped stop old new told None sound ran.0 report ran.2 taken h.1),
+      )) r
+
+  pub dump_memory : IfErr r (IfMemory (λ done. (done ≡ report.statements) × (taken ≡ told)))
+      → IfErr r (IfMemory (λ done. OfFront done before after (λ script. HasBegun Dump (run_of stop (standing old told) script) done taken)))
+  dump_memory =
+      err_map (IfMemory (λ done. (done ≡ report.statements) × (taken ≡ told)))
+      (IfMemory (λ done. OfFront done before after (λ script. HasBegun Dump (run_of stop (standing old told) script) done taken)))
+      (memory_map (λ done. (done ≡ report.statements) × (taken ≡ told))
+      (λ done. OfFront done before after (λ script. HasBegun Dump (run_of stop (standing old told) script) done taken))
+      (λ done h. (
+        ran.0,
+        record { given = ran.1.given; whole = λ some. ran.1 },
+        undumped stop old new told None sound ran.0 report ran.2 done taken h.0 h.1,
+      ))) r
+
+  pub dump_write : (broken : Type 0)
+      → IfErr r (IfWrite (λ done. (done ≡ report.statements) × ((n : ℕ) × AppendsIfTold told taken (take n (dump_text new.database)))))
+      → IfErr r (IfWrite (λ done. broken))
+      → IfErr r (IfWrite (λ done. broken × OfScript before after (λ script. HasBegunCut Dump (run_of stop (standing old told) script) done taken)))
+  dump_write broken = by_result r
+    where
+      by_fault : (fault : RunFault)
+          → IfWrite (λ done. (done ≡ report.statements) × ((n : ℕ) × AppendsIfTold told taken (take n (dump_text new.database)))) fault
+          → IfWrite (λ done. broken) fault
+          → IfWrite (λ done. broken × OfScript before after (λ script. HasBegunCut Dump (run_of stop (standing old told) script) done taken)) fault
+      by_fault (faults.Memory done) h b = tt
+      by_fault (faults.Read done) h b = tt
+      by_fault (faults.ReadLimit done) h b = tt
+      by_fault (faults.Write done) h b = (b, (ran.0, ran.1, dump_cut stop old new told None sound ran.0 report ran.2 done taken h.1.0 h.0 h.1.1))
+
+      by_result : (x : Result Report RunFault)
+          → IfErr x (IfWrite (λ done. (done ≡ report.statements) × ((n : ℕ) × AppendsIfTold told taken (take n (dump_text new.database)))))
+          → IfErr x (IfWrite (λ done. broken))
+          → IfErr x (IfWrite (λ done. broken × OfScript before after (λ script. HasBegunCut Dump (run_of stop (standing old told) script) done taken)))
+      by_result (Ok y) h b = tt
+      by_result (Err fault) h b = by_fault fault h b
+
+-- only memory and the sink can fail
+pub dump_headline : (r : Result Report RunFault) (P Q : Type 0) (broken : Bool) → IfErr r (IfWrite (λ done. IsTrue broken)) → IfErr r (IfRead (λ done. ⊥))
+    → IfErr r (IfReadLimit (λ done. ⊥)) → IfNotMemory r (P → IsFalse broken → Q → IsOk r)
+dump_headline (Ok x) P Q broken w a b = λ p f q. refl
+dump_headline (Err (faults.Memory done)) P Q broken w a b = tt
+dump_headline (Err (faults.Read done)) P Q broken w a b = absurd a
+dump_headline (Err (faults.ReadLimit done)) P Q broken w a b = absurd b
+dump_headline (Err (faults.Write done)) P Q broken w a b = λ p f q. absurd (true≢false (sym w ∙ f))
+
+-- what can't come
+pub no_read : {T : Type 0} (P : ℕ → Type 0) (r : Result T RunFault) → IfErr r (IfRead (λ done. ⊥)) → IfErr r (IfRead P)
+no_read P = err_map (IfRead (λ done. ⊥)) (IfRead P) (read_map (λ done. ⊥) P (λ done h. absurd h))
+
+pub no_limit : {T : Type 0} (P : ℕ → Type 0) (r : Result T RunFault) → IfErr r (IfReadLimit (λ done. ⊥)) → IfErr r (IfReadLimit P)
+no_limit P = err_map (IfReadLimit (λ done. ⊥)) (IfReadLimit P) (limit_map (λ done. ⊥) P (λ done h. absurd h))
+
+-- ---- what it comes to after a run that was not to the end
+
+pub fault_memory : (stop : Bool) (old new : State) (told before after : Option (List ℕ)) → IsSoundState new → (fault : RunFault)
+    → IfMemory (λ done. OfFront done before after (λ script. HasRun (run_of stop (standing old None) script) done (standing new None))) fault
+    → IfMemory (λ done. OfFront done before after (λ script. HasBegun Dump (run_of stop (standing old told) script) done told)) fault
+fault_memory stop old new told before after sound =
+    memory_map (λ done. OfFront done before after (λ script. HasRun (run_of stop (standing old None) script) done (standing new None)))
+    (λ done. OfFront done before after (λ script. HasBegun Dump (run_of stop (standing old told) script) done told))
+    (λ done h. (h.0, h.1, dump_front stop old new told None told h.0 done sound refl h.2))
+
+pub fault_read : (old new : State) (told : Option (List ℕ)) (P : Type 0) (fault : RunFault)
+    → IfRead (λ done. P × IsUnrun done (standing old None) (standing new None)) fault
+    → IfRead (λ done. P × (done ≡ 0) × Appends told told []) fault
+fault_read old new told P =
+    read_map (λ done. P × IsUnrun done (standing old None) (standing new None)) (λ done. P × (done ≡ 0) × Appends told told [])
+    (λ done h. (h.0, h.1.none, appends_nothing told told refl))
+
+pub fault_limit : (old new : State) (told : Option (List ℕ)) (P : Type 0) (fault : RunFault)
+    → IfReadLimit (λ done. P × IsUnrun done (standing old None) (standing new None)) fault
+    → IfReadLimit (λ done. P × (done ≡ 0) × Appends told told []) fault
+fault_limit old new told P =
+    limit_map (λ done. P × IsUnrun done (standing old None) (standing new None)) (λ done. P × (done ≡ 0) × Appends told told [])
+    (λ done h. (h.0, h.1.none, appends_nothing told told refl))

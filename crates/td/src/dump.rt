@@ -1,0 +1,101 @@
+//! The dump of the database that a script leaves.
+ghost use Rattle.std.specs.Prelude.{◌≡◌, ℕ, ◌≤◌, [], IfErr, IfOk, IsFalse, IsOk, IsTrue, OnOk, None};
+ghost use Rattle.std.specs.Prelude.{false, take};
+ghost use Rattle.std.specs.Io.KnownBytes.{Appends};
+ghost use Rattle.td.specs.Sessions.{HasAnswered, HasBegun, HasBegunCut, status_of};
+ghost use Rattle.td.specs.declared.line.Mode.TheVariants.{Dump};
+ghost use Rattle.td_catalog.specs.Dumps.{dump_text};
+ghost use Rattle.td_engine.specs.Faults.{IfMemory, IfNotMemory, IfRead, IfReadLimit, IfWrite};
+ghost use Rattle.td_engine.specs.Scripts.{GaveTooMuch, OfFront, OfScript, script_limit};
+ghost use Rattle.td_engine.specs.Standing.{run_of, standing};
+ghost use Rattle.td_engine.specs.Told.{AppendsIfTold, GaveAtMost, StaysWhole};
+
+use std::alloc::Global;
+use td_body::body::Body;
+use td_engine::engine::Engine;
+use td_engine::run::{Report, RunFault, run};
+use td_engine::sink::{Sink, put_all};
+use td_engine::source::{Broken, Source};
+
+/// A sink that lets all bytes go.
+#[derive(Drop)]
+struct Nowhere;
+
+impl Sink for Nowhere {
+    ghost use Rattle.std.specs.Prelude.{None, false};
+
+    ghost taken = { λ _. None };
+
+    ghost is_broken = { λ _. false };
+
+    fn put(&mut self, bytes: &[u8]) -> Result<usize, Broken> {
+        Ok(bytes.len())
+    }
+}
+
+/// Writes the dump of the database, after a run that answered this report.
+fn write_dump<B: Body, W: Sink>(
+    engine: &Engine<B>,
+    writer: &mut W,
+    report: Report,
+) -> Result<Report, RunFault>
+    ensures written { IfOk result (λ r. (r ≡ report)
+        × Appends (W.taken writer.old) (W.taken writer.new) (dump_text engine.now.database)) }
+    ensures whole { OnOk result (StaysWhole (W.is_broken writer.old) (W.is_broken writer.new)) }
+    ensures memory { IfErr result (IfMemory (λ done. (done ≡ report.statements)
+        × (W.taken writer.new ≡ W.taken writer.old))) }
+    ensures write { IfErr result (IfWrite (λ done. (done ≡ report.statements)
+        × ((n : ℕ) × AppendsIfTold (W.taken writer.old) (W.taken writer.new)
+        (take n (dump_text engine.now.database))))) }
+    ensures broken { IfErr result (IfWrite (λ done. IsTrue (W.is_broken writer.new))) }
+    ensures read { IfErr result (IfRead (λ done. ⊥)) }
+    ensures limit { IfErr result (IfReadLimit (λ done. ⊥)) }
+{
+    let done = report.statements;
+    let Ok(text) = engine.dump() else {
+        return Err(RunFault::Memory { done });
+    };
+    match put_all(writer, text.as_bytes()) {
+        Ok(()) => Ok(report),
+        Err(Broken) => Err(RunFault::Write { done }),
+    }
+}
+
+/// Runs a script, lets its answers go and writes the dump of the database that it leaves; at a fault
+/// of the run it writes nothing.
+pub(crate) fn dump<B: Body, R: Source, W: Sink>(
+    alloc: Global,
+    engine: &mut Engine<B>,
+    reader: &mut R,
+    writer: &mut W,
+    stop: bool,
+) -> Result<Report, RunFault>
+    ensures headline { IfNotMemory result (
+        IsFalse (R.is_broken reader.new) → IsFalse (W.is_broken writer.new)
+        → GaveAtMost script_limit (R.left reader.old) (R.left reader.new) → IsOk result) }
+    ensures answers { IfOk result (λ report.
+        OfScript (R.left reader.old) (R.left reader.new) (λ script. HasAnswered Dump
+        (run_of stop (standing engine.old (W.taken writer.old)) script)
+        (status_of report.refused) (W.taken writer.new))) }
+    ensures whole { OnOk result (IsFalse (R.is_broken reader.new)
+        × StaysWhole (W.is_broken writer.old) (W.is_broken writer.new)) }
+    ensures memory { IfErr result (IfMemory (λ done.
+        OfFront done (R.left reader.old) (R.left reader.new) (λ script. HasBegun Dump
+        (run_of stop (standing engine.old (W.taken writer.old)) script) done
+        (W.taken writer.new)))) }
+    ensures read { IfErr result (IfRead (λ done. IsTrue (R.is_broken reader.new)
+        × (done ≡ 0) × Appends (W.taken writer.old) (W.taken writer.new) [])) }
+    ensures too_long { IfErr result (IfReadLimit (λ done.
+        GaveTooMuch (R.left reader.old) (R.left reader.new)
+        × (done ≡ 0) × Appends (W.taken writer.old) (W.taken writer.new) [])) }
+    ensures write { IfErr result (IfWrite (λ done. IsTrue (W.is_broken writer.new)
+        × OfScript (R.left reader.old) (R.left reader.new) (λ script. HasBegunCut Dump
+        (run_of stop (standing engine.old (W.taken writer.old)) script) done
+        (W.taken writer.new)))) }
+{
+    let mut nowhere = Nowhere;
+    match run(alloc, engine, reader, &mut nowhere, stop) {
+        Ok(report) => write_dump(engine, writer, report),
+        Err(fault) => Err(fault),
+    }
+}

@@ -1,0 +1,5 @@
+use Rattle.td_engine.proofs.DumpLaws.{dumps_rebuild}
+use Rattle.td_engine.proofs.laws.dumps_rebuild.Goals as goal
+
+pub returns : goal.returns
+returns c = dumps_rebuild

@@ -1,0 +1,23 @@
+use Rattle.std.proofs.Common.{Err, subst}
+use Rattle.td_catalog.specs.Database.{Database, database_scope}
+use Rattle.td_check.specs.StatementTypes.{statement_checked}
+use Rattle.td_engine.proofs.Answered.{refused_does}
+use Rattle.td_engine.proofs.Turning.{ok_map}
+use Rattle.td_engine.specs.Carried.{IsRefusedBy}
+use Rattle.td_engine.specs.Machine.{carried_out, effect, step_of}
+use Rattle.td_engine.specs.Steps.{Does}
+use Rattle.td_tree.specs.Outcomes.{Answers}
+use Rattle.td_tree.specs.TreeViews.{statement_view}
+use Rattle.td_engine.proofs.present.Present.execute.Goals as goal
+
+pub returns-in-Ok-clause-done : goal.returns-in-Ok-clause-done
+returns-in-Ok-clause-done g c = c.do_admitted.ensures.done
+
+pub returns-in-Err-clause-done : goal.returns-in-Err-clause-done
+returns-in-Err-clause-done g c =
+    let db = c.args.self.now in
+    let s = statement_view c.args.statement in
+    let told =
+    subst (λ (d : Database). Answers (λ u. u) (Err c.in-Err.fault) (statement_checked (database_scope d) s)) c.self.view_is c.in-Err.ensures in
+    ok_map (λ a. (d : Database) → IsRefusedBy d c.in-Err.fault a) (λ a. Does (step_of db (effect db s)) a db)
+    (λ a d. refused_does (λ u. u) c.in-Err.fault a db (statement_checked (database_scope db) s) (λ _. carried_out db s) told (d db)) c.refused.result c.refused.ensures.databases

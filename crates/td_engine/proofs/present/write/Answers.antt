@@ -1,0 +1,5 @@
+use Rattle.td_engine.proofs.Answered.{text_refused}
+use Rattle.td_engine.proofs.present.write.Goals as goal
+
+pub returns-in-Err : goal.returns-in-Err
+returns-in-Err c = text_refused _ c.args.text c.in-Err.fault c.refused.result c.in-Err.is c.refused.ensures.databases

@@ -1,0 +1,208 @@
+//! The present database of an engine, and what a statement does that is not of transactions.
+ghost use Rattle.std.specs.Prelude.{◌≡◌, IfNone, IfOk, IfSome, OnErr};
+ghost use Rattle.std.specs.String.{string_bytes};
+ghost use Rattle.td_catalog.specs.Database.{Database, empty_database};
+ghost use Rattle.td_catalog.specs.Dumps.{dump_text};
+ghost use Rattle.td_engine.specs.Carried.{IsAdmitted, IsChange, IsDenied, IsRefusedBy, IsSpelled};
+ghost use Rattle.td_engine.specs.Carried.{AnswersText, Prints};
+ghost use Rattle.td_engine.specs.Machine.{State, effect, step_of};
+ghost use Rattle.td_engine.specs.Refusals.{line};
+ghost use Rattle.td_engine.specs.Soundness.{IsSound};
+ghost use Rattle.td_engine.specs.SoundnessLaws.{IsWrittenStatement};
+ghost use Rattle.td_engine.specs.Steps.{Does};
+ghost use Rattle.td_tree.specs.Outcomes.{Answers, Outcome, Valued, with_value};
+ghost use Rattle.td_tree.specs.TreeViews.{statement_view};
+ghost use Rattle.td_value.specs.Literal.{literal};
+ghost use Rattle.td_value.specs.Values.{Val};
+
+use crate::answer::{Answer, line};
+use crate::checks::value;
+use crate::refusal::{Failure, Refusal};
+use crate::statement::{admitted, changed, tell_statement};
+use std::alloc::{AllocError, Global};
+use std::marker::Model;
+use td_body::body::Body;
+use td_catalog::catalog::Catalog;
+use td_tree::cause::Cause;
+use td_tree::fault::Fault;
+use td_tree::statement::Statement;
+use td_value::value::Value;
+
+/// The present database of an engine, seen as that.
+#[derive(Drop)]
+pub(crate) struct Present<B: Body> {
+    alloc: Global,
+    catalog: Catalog<B>,
+}
+
+impl<B: Body> Model for Present<B> {
+    ghost use Rattle.td_catalog.specs.Database.{Database};
+    ghost use Rattle.td_catalog.specs.DatabaseCode.{database_code};
+
+    ghost Value = { Database };
+
+    ghost coded = { database_code };
+
+    ghost view = { λ p. p.catalog };
+
+    ghost use Rattle.td_engine.specs.Soundness.{IsSound};
+
+    ghost invariant = { λ p. IsSound p.catalog };
+}
+
+/// The answer to what is refused by a cause.
+pub(crate) fn refused(alloc: Global, fault: Fault) -> Result<Answer, AllocError>
+    ensures databases { IfOk result (λ answer. (db : Database) → IsRefusedBy db fault answer) }
+    ensures states { IfOk result (λ answer. (s : State) → IsRefusedBy s fault answer) }
+{
+    match fault {
+        Fault::Refused(cause) => Answer::refused(alloc, cause),
+        Fault::Memory => Err(AllocError),
+    }
+}
+
+/// The answer to a statement that is refused.
+fn failed(alloc: Global, failure: Failure) -> Result<Answer, AllocError>
+    ensures { IfOk result (λ answer. (db : Database) → IsDenied db failure answer) }
+{
+    match failure {
+        Failure::Refused(Refusal::Cause(cause)) => Answer::refused(alloc, cause),
+        Failure::Refused(Refusal::Key(name)) => Answer::named(alloc, Cause::Key, &name),
+        Failure::Refused(Refusal::Constraint(name)) => {
+            Answer::named(alloc, Cause::Constraint, &name)
+        }
+        Failure::Memory => Err(AllocError),
+    }
+}
+
+/// The line of a value's literal.
+fn literal_line(alloc: Global, value: Result<Value, Fault>) -> Result<String, Fault>
+    ensures { (o : Outcome Val) → Answers (λ v. v) value o
+        → Answers string_bytes result (with_value o (λ v. Valued (line (literal v)))) }
+{
+    match value {
+        Ok(value) => Ok(line(value.literal(alloc)?)?),
+        Err(fault) => Err(fault),
+    }
+}
+
+/// The lines of the dump.
+fn dumped<B: Body>(catalog: &Catalog<B>) -> Result<String, Fault>
+    ensures { Answers string_bytes result (Valued (dump_text catalog.now)) }
+{
+    Ok(catalog.dump_text()?)
+}
+
+/// The text that a statement prints, if it prints a value or the dump.
+fn printed<B: Body>(
+    alloc: Global,
+    catalog: &Catalog<B>,
+    statement: &Statement,
+) -> Option<Result<String, Fault>>
+    ensures some { IfSome result (Prints string_bytes catalog.now (statement_view statement.now)) }
+    ensures none { IfNone result (IsChange (statement_view statement.now)) }
+{
+    match statement {
+        Statement::Write(expression) => {
+            Some(literal_line(alloc, value(alloc, catalog, expression)))
+        }
+        Statement::Dump => Some(dumped(catalog)),
+        _ => None,
+    }
+}
+
+/// The answer that prints a text.
+fn write(alloc: Global, text: Result<String, Fault>) -> Result<Answer, AllocError>
+    ensures { IfOk result (AnswersText string_bytes text) }
+{
+    match text {
+        Ok(text) => Ok(Answer::accepted(text)),
+        Err(fault) => refused(alloc, fault),
+    }
+}
+
+impl<B: Body> Present<B> {
+    /// An empty database. It takes no memory.
+    pub(crate) fn new(alloc: Global) -> Present<B>
+        ensures { result ≡ empty_database }
+    {
+        Present {
+            alloc,
+            catalog: Catalog::new(alloc),
+        }
+    }
+
+    /// The database of a catalogue.
+    pub(crate) fn of(alloc: Global, catalog: Catalog<B>) -> Present<B>
+        requires { IsSound catalog }
+        ensures { result ≡ catalog }
+    {
+        Present { alloc, catalog }
+    }
+
+    /// The catalogue of the database.
+    pub(crate) fn catalog(&self) -> &Catalog<B>
+        ensures same { result.now ≡ self.now }
+        ensures sound { IsSound self.now }
+    {
+        &self.catalog
+    }
+
+    /// Does what a statement means. A statement that is refused or finds no memory leaves the
+    /// database as it was.
+    pub(crate) fn execute(&mut self, statement: Statement) -> Result<Answer, AllocError>
+        requires { IsSpelled (statement_view statement) }
+        ensures done { IfOk result (λ answer.
+            Does (step_of self.old (effect self.old (statement_view statement))) answer self.new) }
+        ensures err { OnErr result (self.new ≡ self.old) }
+        ensures sound { IsSound self.new }
+    {
+        match admitted(&self.catalog, &statement) {
+            Ok(()) => self.do_admitted(statement),
+            Err(fault) => {
+                drop(statement);
+                refused(self.alloc, fault)
+            }
+        }
+    }
+
+    /// Does what a statement means that meets the static rules.
+    fn do_admitted(&mut self, statement: Statement) -> Result<Answer, AllocError>
+        requires { IsAdmitted self.old (statement_view statement) }
+        ensures done { IfOk result (λ answer.
+            Does (step_of self.old (effect self.old (statement_view statement))) answer self.new) }
+        ensures err { OnErr result (self.new ≡ self.old) }
+        ensures sound { IsSound self.new }
+    {
+        tell_statement(&statement);
+        match printed(self.alloc, &self.catalog, &statement) {
+            None => self.change(statement),
+            Some(text) => {
+                drop(statement);
+                write(self.alloc, text)
+            }
+        }
+    }
+
+    /// Puts the catalogue that a statement makes in place of the present one, after the answer is
+    /// made.
+    fn change(&mut self, statement: Statement) -> Result<Answer, AllocError>
+        requires admitted { IsAdmitted self.old (statement_view statement) }
+        requires written { IsWrittenStatement (statement_view statement) }
+        requires change { IsChange (statement_view statement) }
+        ensures done { IfOk result (λ answer.
+            Does (step_of self.old (effect self.old (statement_view statement))) answer self.new) }
+        ensures err { OnErr result (self.new ≡ self.old) }
+        ensures sound { IsSound self.new }
+    {
+        match changed(self.alloc, &self.catalog, statement) {
+            Ok(next) => {
+                let answer = Answer::ok(self.alloc)?;
+                next.reveal();
+                self.catalog = next;
+                Ok(answer)
+            }
+            Err(failure) => failed(self.alloc, failure),
+        }
+    }
+}
