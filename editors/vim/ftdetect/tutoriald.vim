@@ -1,0 +1,1 @@
+autocmd BufNewFile,BufRead *.td setlocal filetype=tutoriald
