@@ -1,6 +1,6 @@
 -- What a run writes, as its answers or as the dump of what it leaves.
 use Rattle.std.proofs.Common.{◌≡◌, ◌∙◌, ℕ, Bool, List, [], Option, Some, None, Result, Ok, Err, ap, refl, sym, subst, append-nil, arith, true≢false}
-use Rattle.std.specs.Prelude.{IfErr, IfOk, IsFalse, IsOk, IsTrue, OnOk, take}
+use Rattle.std.specs.Prelude.{IfErr, IfOk, IsFalse, IsOk, IsTrue, take}
 use Rattle.std.specs.Io.KnownBytes.{Appends}
 use Rattle.td.specs.Sessions.{HasAnswered, HasBegun, HasBegunCut, HasDumpedCut, status_of}
 use Rattle.td.specs.declared.line.Mode.TheVariants.{Dump, Run}
@@ -19,7 +19,7 @@ use Rattle.td_engine.specs.declared.run.RunFault.TheVariants as faults
 use Rattle.td_tree.specs.Statements.{statements}
 
 -- nothing was written
-pub appends_nothing : (taken new : Option (List ℕ)) → new ≡ taken → Appends taken new []
+appends_nothing : (taken new : Option (List ℕ)) → new ≡ taken → Appends taken new []
 appends_nothing None new e = tt
 appends_nothing (Some bytes) (Some more) e = some_same more bytes e ∙ sym (append-nil bytes)
   where
@@ -85,28 +85,17 @@ pub err_map : {T : Type 0} (P Q : RunFault → Type 0) → ((fault : RunFault) �
 err_map P Q f (Ok x) h = tt
 err_map P Q f (Err fault) h = f fault h
 
-pub on_ok : {T E : Type 0} (P Q : Type 0) → (P → Q) → (r : Result T E) → OnOk r P → OnOk r Q
-on_ok P Q f (Ok x) h = f h
-on_ok P Q f (Err e) h = tt
-
-pub read_map : (P Q : ℕ → Type 0) → ((done : ℕ) → P done → Q done) → (fault : RunFault) → IfRead P fault → IfRead Q fault
+read_map : (P Q : ℕ → Type 0) → ((done : ℕ) → P done → Q done) → (fault : RunFault) → IfRead P fault → IfRead Q fault
 read_map P Q f (faults.Memory done) h = tt
 read_map P Q f (faults.Read done) h = f done h
 read_map P Q f (faults.ReadLimit done) h = tt
 read_map P Q f (faults.Write done) h = tt
 
-pub limit_map : (P Q : ℕ → Type 0) → ((done : ℕ) → P done → Q done) → (fault : RunFault) → IfReadLimit P fault → IfReadLimit Q fault
+limit_map : (P Q : ℕ → Type 0) → ((done : ℕ) → P done → Q done) → (fault : RunFault) → IfReadLimit P fault → IfReadLimit Q fault
 limit_map P Q f (faults.Memory done) h = tt
 limit_map P Q f (faults.Read done) h = tt
 limit_map P Q f (faults.ReadLimit done) h = f done h
 limit_map P Q f (faults.Write done) h = tt
-
-pub not_memory_map : {T : Type 0} (P Q : Type 0) → (P → Q) → (r : Result T RunFault) → IfNotMemory r P → IfNotMemory r Q
-not_memory_map P Q f (Ok x) h = f h
-not_memory_map P Q f (Err (faults.Memory done)) h = tt
-not_memory_map P Q f (Err (faults.Read done)) h = f h
-not_memory_map P Q f (Err (faults.ReadLimit done)) h = f h
-not_memory_map P Q f (Err (faults.Write done)) h = f h
 
 -- nothing was run or written
 pub read_unrun : (old new : State) (told taken : Option (List ℕ)) (P : Type 0) (fault : RunFault)
@@ -137,7 +126,7 @@ module _ (stop : Bool) (old new : State) (told nowhere : Option (List ℕ)) (sou
   all_done done is = sym (is ∙ left.statements_are)
 
   -- the dump was written
-  pub dumped : (taken : Option (List ℕ)) → Appends told taken (dump_text new.database)
+  dumped : (taken : Option (List ℕ)) → Appends told taken (dump_text new.database)
       → HasAnswered Dump (run_of stop (standing old told) script) (status_of report.refused) taken
   dumped taken written =
       record {
@@ -149,7 +138,7 @@ module _ (stop : Bool) (old new : State) (told nowhere : Option (List ℕ)) (sou
       }
 
   -- all was run, and no dump was made
-  pub undumped : (done : ℕ) (taken : Option (List ℕ)) → done ≡ report.statements → taken ≡ told
+  undumped : (done : ℕ) (taken : Option (List ℕ)) → done ≡ report.statements → taken ≡ told
       → HasBegun Dump (run_of stop (standing old told) script) done taken
   undumped done taken is kept =
       record {
@@ -161,7 +150,7 @@ module _ (stop : Bool) (old new : State) (told nowhere : Option (List ℕ)) (sou
       }
 
   -- all was run, and the dump is cut
-  pub dump_cut : (done : ℕ) (taken : Option (List ℕ)) (count : ℕ) → done ≡ report.statements
+  dump_cut : (done : ℕ) (taken : Option (List ℕ)) (count : ℕ) → done ≡ report.statements
       → AppendsIfTold told taken (take count (dump_text new.database)) → HasDumpedCut (run_of stop (standing old told) script) done taken
   dump_cut done taken count is cut =
       record {
@@ -174,15 +163,14 @@ module _ (stop : Bool) (old new : State) (told nowhere : Option (List ℕ)) (sou
       }
 
 -- a front of the script was run, and nothing is written
-pub dump_front : (stop : Bool) (old new : State) (told nowhere taken : Option (List ℕ)) (script : List ℕ) (done : ℕ) → IsSoundState new
-    → taken ≡ told → HasRun (run_of stop (standing old nowhere) script) done (standing new nowhere)
-    → HasBegun Dump (run_of stop (standing old told) script) done taken
-dump_front stop old new told nowhere taken script done sound kept has =
+dump_front : (stop : Bool) (old new : State) (told : Option (List ℕ)) (script : List ℕ) (done : ℕ) → IsSoundState new
+    → HasRun (run_of stop (standing old None) script) done (standing new None) → HasBegun Dump (run_of stop (standing old told) script) done told
+dump_front stop old new told script done sound has =
     record {
       progress = has.progress;
       runs = has.runs;
       each_run = has.each_run;
-      written = appends_nothing told taken kept;
+      written = appends_nothing told told refl;
       sound = subst IsSoundState has.stands.state_is sound;
     }
 
@@ -261,7 +249,7 @@ pub fault_memory : (stop : Bool) (old new : State) (told before after : Option (
 fault_memory stop old new told before after sound =
     memory_map (λ done. OfFront done before after (λ script. HasRun (run_of stop (standing old None) script) done (standing new None)))
     (λ done. OfFront done before after (λ script. HasBegun Dump (run_of stop (standing old told) script) done told))
-    (λ done h. (h.0, h.1, dump_front stop old new told None told h.0 done sound refl h.2))
+    (λ done h. (h.0, h.1, dump_front stop old new told h.0 done sound h.2))
 
 pub fault_read : (old new : State) (told : Option (List ℕ)) (P : Type 0) (fault : RunFault)
     → IfRead (λ done. P × IsUnrun done (standing old None) (standing new None)) fault
