@@ -17,6 +17,7 @@ ghost use Rattle.td_types.specs.TypeLists.{heading_meant};
 ghost use Rattle.td_value.specs.Values.{Val};
 ghost use Rattle.td_value.specs.Views.{relation_view};
 
+use crate::beside::beside;
 use crate::checks::{keys_hold, settled, value};
 use crate::definitions::failed;
 use crate::refusal::{Failure, Refusal};
@@ -68,6 +69,48 @@ fn new_relation<B: Body>(
     init_relation(alloc, catalog, heading, definition.init.as_ref())
 }
 
+/// The body of the keys that holds the relation.
+fn body_of<B: Body>(alloc: Global, keys: &Vec<Vec<Name>>, relation: Rel) -> Result<B, AllocError>
+    requires { AreBaseKeys relation.heading (map (λ key. key.items) keys.now.items) }
+    ensures relation { IfOk result (λ b. B.relation b ≡ relation) }
+    ensures keys { IfOk result (λ b. B.keys b ≡ map (λ key. key.items) keys.now.items) }
+{
+    let empty: B = B::empty(alloc, relation.heading().try_clone()?, copied_keys(keys)?)?;
+    empty.holding(relation)
+}
+
+/// What a new base relvar is made of.
+#[derive(Drop)]
+struct Parts<B> {
+    name: Name,
+    heading: Heading,
+    keys: Vec<Vec<Name>>,
+    body: B,
+}
+
+fn parts_of<B: Body>(
+    alloc: Global,
+    name: Name,
+    keys: Vec<Vec<Name>>,
+    relation: Rel,
+) -> Result<Parts<B>, AllocError>
+    requires { AreBaseKeys relation.heading (map (λ key. key.items) keys.items) }
+    ensures name { IfOk result (λ parts. parts.name ≡ name) }
+    ensures heading { IfOk result (λ parts. parts.heading ≡ relation.heading) }
+    ensures keys { IfOk result (λ parts. parts.keys ≡ keys) }
+    ensures relation { IfOk result (λ parts. B.relation parts.body ≡ relation) }
+    ensures body { IfOk result (λ parts. B.keys parts.body ≡ map (λ key. key.items) keys.items) }
+{
+    let heading = relation.heading().try_clone()?;
+    let body = body_of(alloc, &keys, relation)?;
+    Ok(Parts {
+        name,
+        heading,
+        keys,
+        body,
+    })
+}
+
 /// The catalogue with a base relvar that holds the relation, whose keys hold.
 fn with_body<B: Body>(
     alloc: Global,
@@ -75,7 +118,7 @@ fn with_body<B: Body>(
     name: Name,
     keys: Vec<Vec<Name>>,
     relation: Rel,
-) -> Result<Catalog<B>, AllocError>
+) -> Result<Catalog<B>, Fault>
     requires heading { IsRelvarHeading catalog.now.types relation.heading }
     requires keys { AreBaseKeys relation.heading (map (λ key. key.items) keys.items) }
     requires typed { AreTyped catalog.now.types relation }
@@ -83,15 +126,11 @@ fn with_body<B: Body>(
     ensures { IfOk result (λ db. db ≡ with_base
         (base_relvar name (map (λ key. key.items) keys.items) relation) catalog.now) }
 {
-    let heading = relation.heading().try_clone()?;
-    let empty: B = B::empty(alloc, relation.heading().try_clone()?, copied_keys(&keys)?)?;
-    let body = empty.holding(relation)?;
-    let _ = body.len();
-    let mut next = catalog.try_clone()?;
-    match next.add_base(name, heading, keys, body) {
-        Ok(()) => Ok(next),
-        Err(_) => Err(AllocError),
-    }
+    let parts = parts_of(alloc, name, keys, relation)?;
+    let (mut next, parts): (Catalog<B>, Parts<B>) = beside(catalog.try_clone(), parts)?;
+    let _ = parts.body.len();
+    let done = next.add_base(parts.name, parts.heading, parts.keys, parts.body);
+    done.and(Ok(next))
 }
 
 /// The catalogue with a base relvar that holds the relation, where its keys hold and what else is
@@ -154,8 +193,14 @@ pub(crate) fn with_base<B: Body>(
 {
     tell_heading(&definition.heading);
     tell_if_given(definition.init.as_ref());
-    match new_relation(alloc, catalog, &definition) {
-        Ok(relation) => with_keys(alloc, catalog, definition.name, definition.keys, relation),
+    let relation = new_relation(alloc, catalog, &definition);
+    drop(definition.heading);
+    drop(definition.init);
+    match beside(relation, (definition.name, definition.keys)) {
+        Ok(parts) => {
+            let (relation, (name, keys)) = parts;
+            with_keys(alloc, catalog, name, keys, relation)
+        }
         Err(fault) => Err(failed(fault)),
     }
 }

@@ -15,6 +15,7 @@ ghost use Rattle.td_tree.specs.TreeViews.{heading_tree_view, statement_view, tre
 ghost use Rattle.td_types.specs.Types.{IsHeading, Type', pack};
 ghost use Rattle.td_types.specs.Views.{type_view};
 
+use crate::beside::beside;
 use crate::checks::settled;
 use crate::refusal::{Failure, Refusal};
 use crate::written::tell_heading;
@@ -79,12 +80,15 @@ pub(crate) fn with_type<B: Body>(
         (option_map tree_view definition.constraint)) }
 {
     tell_heading(&definition.components);
-    let components = resolve_attributes(catalog.types(), &definition.components)?;
-    let mut next = catalog.try_clone()?;
-    match next.add_type(definition.name, components, definition.constraint) {
-        Ok(()) => Ok(next),
-        Err(fault) => Err(fault),
-    }
+    let components = resolve_attributes(catalog.types(), &definition.components);
+    drop(definition.components);
+    let (components, entry) = beside(components, (definition.name, definition.constraint))?;
+    let (mut next, (components, (name, constraint))) = beside(
+        catalog.try_clone(),
+        (components, entry),
+    )?;
+    let done = next.add_type(name, components, constraint);
+    done.and(Ok(next))
 }
 
 /// The heading of a relation's type that was answered: another type is refused.
@@ -147,18 +151,12 @@ pub(crate) fn with_virtual<B: Body>(
         (tree_view definition.expression)
         (map (λ key. key.items) definition.keys.items)) }
 {
-    let derived = parts_of(alloc, catalog, &definition)?;
-    let mut next = catalog.try_clone()?;
+    let derived = parts_of(alloc, catalog, &definition);
     drop(definition.keys);
-    match next.add_virtual(
-        definition.name,
-        derived.heading,
-        definition.expression,
-        derived.keys,
-    ) {
-        Ok(()) => Ok(next),
-        Err(fault) => Err(fault),
-    }
+    let (derived, entry) = beside(derived, (definition.name, definition.expression))?;
+    let (mut next, (derived, (name, expression))) = beside(catalog.try_clone(), (derived, entry))?;
+    let done = next.add_virtual(name, derived.heading, expression, derived.keys);
+    done.and(Ok(next))
 }
 
 /// The catalogue with a constraint.
@@ -172,11 +170,9 @@ pub(crate) fn with_constraint<B: Body>(
     ensures { Answers (λ db. db) result (Valued
         (with_constraint (named_constraint name (tree_view condition)) catalog.now)) }
 {
-    let mut next = catalog.try_clone()?;
-    match next.add_constraint(name, condition) {
-        Ok(()) => Ok(next),
-        Err(fault) => Err(fault),
-    }
+    let (mut next, (name, condition)) = beside(catalog.try_clone(), (name, condition))?;
+    let done = next.add_constraint(name, condition);
+    done.and(Ok(next))
 }
 
 /// The catalogue without a type that no entry mentions.

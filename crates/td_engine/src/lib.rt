@@ -4,6 +4,7 @@
 pub mod answer;
 mod assignments;
 mod bases;
+mod beside;
 mod checks;
 mod definitions;
 pub mod engine;

@@ -1,13 +1,14 @@
 use Rattle.std.proofs.Common.{Err, ap, map, option_map, subst, sym}
 use Rattle.td_catalog.specs.Database.{Database, base_relvar, with_base}
 use Rattle.td_catalog.specs.Dumps.{ordered_names}
+use Rattle.td_catalog.specs.Legality.{AreBaseKeys}
 use Rattle.td_check.proofs.StatementAnswers.{given_is}
 use Rattle.td_engine.proofs.Admitted.{failed_follows, refused_on}
 use Rattle.td_engine.proofs.BaseAdmitted.{base_admitted}
 use Rattle.td_engine.specs.Carried.{Changes}
 use Rattle.td_engine.specs.Machine.{by_outcome, changed, init_relation}
 use Rattle.td_engine.specs.SoundnessLaws.{IsWrittenIf}
-use Rattle.td_tree.specs.Outcomes.{Outcome, Valued, with_value}
+use Rattle.td_tree.specs.Outcomes.{Answers, Outcome, Valued, with_value}
 use Rattle.td_tree.specs.TreeViews.{heading_tree_view, tree_view}
 use Rattle.td_types.specs.TypeListLaws.{HaveNames}
 use Rattle.td_types.specs.TypeLists.{heading_meant}
@@ -17,32 +18,43 @@ use Rattle.td_engine.proofs.bases.with_base.Goals as goal
 pub with_keys-requires-clause-heading : goal.with_keys-requires-clause-heading
 with_keys-requires-clause-heading g c =
     let d = c.args.definition in
+    let made = with_value (heading_meant c.args.catalog.now.types (heading_tree_view d.heading.items)) (init_relation c.args.catalog.now (option_map tree_view d.init)) in
+    let made-is = subst (λ r. Answers (λ r. r) r made) c.in-Ok.ensures.value c.new_relation-relation.ensures in
     let names = subst (λ xs. HaveNames (heading_tree_view xs)) c.deref.ensures.value c.tell_heading.ensures in
     let written = subst IsWrittenIf (given_is tree_view c.as_ref.result d.init c.as_ref.ensures.value) c.tell_if_given.ensures in
     (base_admitted c.args.catalog.now d.name (heading_tree_view d.heading.items) (option_map tree_view d.init) (map (λ key. key.items) d.keys.items)
-    c.in-Ok.relation c.requires.sound c.requires.admitted names written c.in-Ok.ensures).heading
+    c.in-Ok.parts.0 c.requires.sound c.requires.admitted names written made-is).heading
 
 pub with_keys-requires-clause-keys : goal.with_keys-requires-clause-keys
 with_keys-requires-clause-keys g c =
     let d = c.args.definition in
+    let made = with_value (heading_meant c.args.catalog.now.types (heading_tree_view d.heading.items)) (init_relation c.args.catalog.now (option_map tree_view d.init)) in
+    let made-is = subst (λ r. Answers (λ r. r) r made) c.in-Ok.ensures.value c.new_relation-relation.ensures in
     let names = subst (λ xs. HaveNames (heading_tree_view xs)) c.deref.ensures.value c.tell_heading.ensures in
     let written = subst IsWrittenIf (given_is tree_view c.as_ref.result d.init c.as_ref.ensures.value) c.tell_if_given.ensures in
+    subst (λ p. AreBaseKeys c.in-Ok.parts.0.heading (map (λ key. key.items) p.1.items)) (sym c.in-Ok.ensures.other)
     (base_admitted c.args.catalog.now d.name (heading_tree_view d.heading.items) (option_map tree_view d.init) (map (λ key. key.items) d.keys.items)
-    c.in-Ok.relation c.requires.sound c.requires.admitted names written c.in-Ok.ensures).keys_are
+    c.in-Ok.parts.0 c.requires.sound c.requires.admitted names written made-is).keys_are
 
 pub with_keys-requires-clause-typed : goal.with_keys-requires-clause-typed
 with_keys-requires-clause-typed g c =
     let d = c.args.definition in
+    let made = with_value (heading_meant c.args.catalog.now.types (heading_tree_view d.heading.items)) (init_relation c.args.catalog.now (option_map tree_view d.init)) in
+    let made-is = subst (λ r. Answers (λ r. r) r made) c.in-Ok.ensures.value c.new_relation-relation.ensures in
     let names = subst (λ xs. HaveNames (heading_tree_view xs)) c.deref.ensures.value c.tell_heading.ensures in
     let written = subst IsWrittenIf (given_is tree_view c.as_ref.result d.init c.as_ref.ensures.value) c.tell_if_given.ensures in
     (base_admitted c.args.catalog.now d.name (heading_tree_view d.heading.items) (option_map tree_view d.init) (map (λ key. key.items) d.keys.items)
-    c.in-Ok.relation c.requires.sound c.requires.admitted names written c.in-Ok.ensures).typed
+    c.in-Ok.parts.0 c.requires.sound c.requires.admitted names written made-is).typed
 
 pub returns-in-Ok : goal.returns-in-Ok
 returns-in-Ok g c =
+    let d = c.args.definition in
+    let db = c.args.catalog.now in
+    let made = with_value (heading_meant c.args.catalog.now.types (heading_tree_view d.heading.items)) (init_relation c.args.catalog.now (option_map tree_view d.init)) in
+    let made-is = subst (λ r. Answers (λ r. r) r made) c.in-Ok.ensures.value c.new_relation-relation.ensures in
     subst (λ o. Changes c.with_keys.result (by_outcome o changed))
-    (sym (ap (λ o. with_value o (λ r. Valued (with_base (base_relvar c.args.definition.name (map (ordered_names r.heading) (map (λ key. key.items) c.args.definition.keys.items)) r) c.args.catalog.now))) c.in-Ok.ensures))
-    c.with_keys.ensures
+    (sym (ap (λ o. with_value o (λ r. Valued (with_base (base_relvar d.name (map (ordered_names r.heading) (map (λ key. key.items) d.keys.items)) r) db))) made-is))
+    (subst (λ p. Changes c.with_keys.result (changed (with_base (base_relvar p.0 (map (ordered_names c.in-Ok.parts.0.heading) (map (λ key. key.items) p.1.items)) c.in-Ok.parts.0) db))) c.in-Ok.ensures.other c.with_keys.ensures)
 
 pub returns-in-Err : goal.returns-in-Err
 returns-in-Err g c =
@@ -51,4 +63,4 @@ returns-in-Err g c =
     let made = with_value (heading_meant db.types (heading_tree_view d.heading.items)) (init_relation db (option_map tree_view d.init)) in
     let defined : Relation → Outcome Database = λ r. Valued (with_base (base_relvar d.name (map (ordered_names r.heading) (map (λ key. key.items) d.keys.items)) r) db) in
     subst (λ f. Changes (Err f) (by_outcome (with_value made defined) changed)) (sym c.failed.ensures)
-    (failed_follows (λ x. x) c.in-Err.fault (with_value made defined) changed (refused_on (λ r. r) (λ x. x) c.in-Err.fault made defined c.in-Err.ensures))
+    (failed_follows (λ x. x) c.in-Err.fault (with_value made defined) changed (refused_on (λ r. r) (λ x. x) c.in-Err.fault made defined (subst (λ r. Answers (λ r. r) r made) c.in-Err.ensures.fault c.new_relation-relation.ensures)))

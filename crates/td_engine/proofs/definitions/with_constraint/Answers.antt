@@ -1,22 +1,32 @@
-use Rattle.std.proofs.Common.{◌∙◌, ap, subst, sym}
-use Rattle.td_catalog.specs.Database.{Database, database_scope, named_constraint, with_constraint}
+use Rattle.std.proofs.Common.{◌≡◌, ◌∙◌, ap, subst, sym}
+use Rattle.std.specs.Prelude.{IfOk, OnOk, not}
+use Rattle.td_catalog.specs.Database.{Database, database_scope, knows_constraint, named_constraint, with_constraint}
 use Rattle.td_catalog.specs.Legality.{IsConstraint}
-use Rattle.td_engine.proofs.Admitted.{constraint_admitted, only_memory}
-use Rattle.td_tree.specs.Outcomes.{Valued}
+use Rattle.td_check.specs.StatementTypes.{holds_or}
+use Rattle.td_engine.proofs.Admitted.{and_answers, constraint_admitted, only_memory}
+use Rattle.td_tree.specs.Outcomes.{Answers, Valued}
 use Rattle.td_tree.specs.TreeViews.{tree_view}
+use Rattle.td_tree.specs.declared.cause.Cause.TheVariants as causes
 use Rattle.td_engine.proofs.definitions.with_constraint.Goals as goal
 
-pub add_constraint-requires : goal.add_constraint-requires
-add_constraint-requires g c =
+pub add_constraint-done-requires : goal.add_constraint-done-requires
+add_constraint-done-requires g c =
+    let both = c.in_ok-next.ensures in
+    let next-is = subst (λ r. IfOk r (λ db. db ≡ c.args.catalog.now)) both.value c.try_clone.ensures in
     let is = constraint_admitted c.args.catalog.now c.args.name (tree_view c.args.condition) c.requires.admitted in
-    subst (λ (db : Database). IsConstraint (database_scope db) (named_constraint c.args.name (tree_view c.args.condition))) (sym c.in_ok-next.ensures) is.constraint
+    let there = subst (λ (db : Database). IsConstraint (database_scope db) (named_constraint c.args.name (tree_view c.args.condition))) (sym next-is) is.constraint in
+    subst (λ p. IsConstraint (database_scope c.in_ok-next.next) (named_constraint p.0 (tree_view p.1))) (sym both.other) there
 
-pub returns-in-Ok : goal.returns-in-Ok
-returns-in-Ok g c =
-    ap Valued (sym (c.in-Ok.ensures.added ∙ ap (with_constraint (named_constraint c.args.name (tree_view c.args.condition))) c.in_ok-next.ensures))
-
-pub returns-in-Err : goal.returns-in-Err
-returns-in-Err g c =
+pub returns : goal.returns
+returns g c =
+    let both = c.in_ok-next.ensures in
+    let next-is = subst (λ r. IfOk r (λ db. db ≡ c.args.catalog.now)) both.value c.try_clone.ensures in
     let is = constraint_admitted c.args.catalog.now c.args.name (tree_view c.args.condition) c.requires.admitted in
-    only_memory (λ u. u) (λ db. db) c.in-Err.fault _ tt _ is.free
-    (rw (← c.in_ok-next.ensures) c.in-Err.ensures.answer)
+    let free = subst (λ p. holds_or causes.NameTaken (not (knows_constraint p.0 c.in_ok-next.next)) ≡ Valued tt) (sym both.other) (subst (λ (db : Database). holds_or causes.NameTaken (not (knows_constraint c.args.name db)) ≡ Valued tt) (sym next-is) is.free) in
+    let new = named_constraint c.args.name (tree_view c.args.condition) in
+    subst (λ r. Answers (λ db. db) r (Valued (with_constraint new c.args.catalog.now))) (sym c.and.ensures)
+    (and_answers (λ db. db) c.add_constraint-done.result c.add_constraint-done.new.self _
+    (λ u e. ap Valued (sym (subst (λ r. OnOk r (c.add_constraint-done.new.self ≡ with_constraint (named_constraint c.in_ok-next.name (tree_view c.in_ok-next.condition)) c.in_ok-next.next)) e c.add_constraint-done.ensures.added
+    ∙ ap (λ p. with_constraint (named_constraint p.0 (tree_view p.1)) c.in_ok-next.next) both.other
+    ∙ ap (with_constraint new) next-is)))
+    (λ f e. only_memory (λ u. u) (λ db. db) f _ tt _ free (subst (λ r. Answers (λ u. u) r (holds_or causes.NameTaken (not (knows_constraint c.in_ok-next.name c.in_ok-next.next)))) e c.add_constraint-done.ensures.answer)))

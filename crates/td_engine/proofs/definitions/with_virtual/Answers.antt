@@ -1,34 +1,58 @@
-use Rattle.std.proofs.Common.{◌∙◌, ap, map, subst, sym}
-use Rattle.td_catalog.specs.Database.{Database, database_scope, virtual_relvar, with_virtual}
+use Rattle.std.proofs.Common.{◌≡◌, ◌∙◌, ap, map, subst, sym}
+use Rattle.std.specs.Prelude.{IfOk, OnOk, not}
+use Rattle.td_catalog.specs.Database.{Database, database_scope, knows_relvar, virtual_relvar, with_virtual}
 use Rattle.td_catalog.specs.Dumps.{ordered_names}
 use Rattle.td_catalog.specs.Legality.{IsVirtual}
-use Rattle.td_engine.proofs.Admitted.{only_memory, over_typed, virtual_admitted}
-use Rattle.td_tree.specs.Outcomes.{Valued}
+use Rattle.td_check.specs.OperatorTypes.{over_relation}
+use Rattle.td_check.specs.StatementTypes.{holds_or}
+use Rattle.td_check.specs.StaticTypes.{type_of}
+use Rattle.td_engine.proofs.Admitted.{and_answers, only_memory, over_typed, virtual_admitted}
+use Rattle.td_engine.specs.Machine.{virtual_defined}
+use Rattle.td_tree.specs.Outcomes.{Answers, Valued, with_value}
 use Rattle.td_tree.specs.TreeViews.{tree_view}
+use Rattle.td_tree.specs.declared.cause.Cause.TheVariants as causes
+use Rattle.td_types.specs.Types.{IsHeading, pack}
 use Rattle.td_engine.proofs.definitions.with_virtual.Goals as goal
 
-pub add_virtual-requires : goal.add_virtual-requires
-add_virtual-requires g c =
+pub add_virtual-done-requires : goal.add_virtual-done-requires
+add_virtual-done-requires g c =
     let d = c.args.definition in
+    let db = c.args.catalog.now in
+    let first = c.in_ok-derived.ensures in
+    let second = c.in_ok-next.ensures in
     let h = c.in_ok-derived.derived.heading in
     let written = map (λ key. key.items) d.keys.items in
-    let is = virtual_admitted c.args.catalog.now d.name (tree_view d.expression) written h c.in_ok-derived.ensures.headed c.requires.sound c.requires.admitted c.in_ok-derived.ensures.answer in
-    let there = subst (λ (db : Database). IsVirtual (database_scope db) (virtual_relvar d.name h (tree_view d.expression) (map (ordered_names h) written))) (sym c.in_ok-next.ensures) is.virtual in
-    subst (λ ks. IsVirtual (database_scope c.in_ok-next.next) (virtual_relvar d.name h (tree_view d.expression) ks)) (sym c.in_ok-derived.ensures.keys) there
+    let typed = subst (λ r. Answers (λ d. d.heading) r (with_value (type_of (database_scope db) (tree_view d.expression)) (λ t. over_relation t Valued))) first.value c.parts_of-derived.ensures.answer in
+    let headed = subst (λ r. IfOk r (λ d. IsHeading (pack d.heading))) first.value c.parts_of-derived.ensures.headed in
+    let keys = subst (λ r. IfOk r (λ d. map (λ key. key.items) d.keys.items ≡ map (ordered_names d.heading) written)) first.value c.parts_of-derived.ensures.keys in
+    let is = virtual_admitted db d.name (tree_view d.expression) written h headed c.requires.sound c.requires.admitted typed in
+    let next-is = subst (λ r. IfOk r (λ copy. copy ≡ db)) second.value c.try_clone.ensures in
+    let same = second.other ∙ ap (λ e. (c.in_ok-derived.derived, e)) first.other in
+    let there = subst (λ (db : Database). IsVirtual (database_scope db) (virtual_relvar d.name h (tree_view d.expression) (map (ordered_names h) written))) (sym next-is) is.virtual in
+    subst (λ p. IsVirtual (database_scope c.in_ok-next.next) (virtual_relvar p.1.0 p.0.heading (tree_view p.1.1) (map (λ key. key.items) p.0.keys.items))) (sym same)
+    (subst (λ ks. IsVirtual (database_scope c.in_ok-next.next) (virtual_relvar d.name h (tree_view d.expression) ks)) (sym keys) there)
 
-pub returns-in-Ok : goal.returns-in-Ok
-returns-in-Ok g c =
+pub returns : goal.returns
+returns g c =
     let d = c.args.definition in
+    let db = c.args.catalog.now in
+    let first = c.in_ok-derived.ensures in
+    let second = c.in_ok-next.ensures in
     let h = c.in_ok-derived.derived.heading in
     let written = map (λ key. key.items) d.keys.items in
-    over_typed _ h (λ g. Valued (with_virtual (virtual_relvar d.name g (tree_view d.expression) (map (ordered_names g) written)) c.args.catalog.now)) c.in_ok-derived.ensures.answer
-    ∙ ap (λ ks. Valued (with_virtual (virtual_relvar d.name h (tree_view d.expression) ks) c.args.catalog.now)) (sym c.in_ok-derived.ensures.keys)
-    ∙ ap Valued (sym (c.in-Ok.ensures.added ∙ ap (with_virtual (virtual_relvar d.name h (tree_view d.expression) (map (λ key. key.items) c.in_ok-derived.derived.keys.items))) c.in_ok-next.ensures))
-
-pub returns-in-Err : goal.returns-in-Err
-returns-in-Err g c =
-    let d = c.args.definition in
-    let h = c.in_ok-derived.derived.heading in
-    let written = map (λ key. key.items) d.keys.items in
-    let is = virtual_admitted c.args.catalog.now d.name (tree_view d.expression) written h c.in_ok-derived.ensures.headed c.requires.sound c.requires.admitted c.in_ok-derived.ensures.answer in
-    only_memory (λ u. u) (λ db. db) c.in-Err.fault _ tt _ is.free (rw (← c.in_ok-next.ensures) c.in-Err.ensures.answer)
+    let typed = subst (λ r. Answers (λ d. d.heading) r (with_value (type_of (database_scope db) (tree_view d.expression)) (λ t. over_relation t Valued))) first.value c.parts_of-derived.ensures.answer in
+    let headed = subst (λ r. IfOk r (λ d. IsHeading (pack d.heading))) first.value c.parts_of-derived.ensures.headed in
+    let keys = subst (λ r. IfOk r (λ d. map (λ key. key.items) d.keys.items ≡ map (ordered_names d.heading) written)) first.value c.parts_of-derived.ensures.keys in
+    let is = virtual_admitted db d.name (tree_view d.expression) written h headed c.requires.sound c.requires.admitted typed in
+    let next-is = subst (λ r. IfOk r (λ copy. copy ≡ db)) second.value c.try_clone.ensures in
+    let same = second.other ∙ ap (λ e. (c.in_ok-derived.derived, e)) first.other in
+    let free = subst (λ p. holds_or causes.NameTaken (not (knows_relvar p.1.0 c.in_ok-next.next)) ≡ Valued tt) (sym same) (subst (λ (db : Database). holds_or causes.NameTaken (not (knows_relvar d.name db)) ≡ Valued tt) (sym next-is) is.free) in
+    let new = virtual_relvar d.name h (tree_view d.expression) (map (λ key. key.items) c.in_ok-derived.derived.keys.items) in
+    subst (λ r. Answers (λ db. db) r (virtual_defined db d.name (tree_view d.expression) written)) (sym c.and.ensures)
+    (and_answers (λ db. db) c.add_virtual-done.result c.add_virtual-done.new.self _
+    (λ u e. over_typed _ h (λ g. Valued (with_virtual (virtual_relvar d.name g (tree_view d.expression) (map (ordered_names g) written)) db)) typed
+    ∙ ap (λ ks. Valued (with_virtual (virtual_relvar d.name h (tree_view d.expression) ks) db)) (sym keys)
+    ∙ ap Valued (sym (subst (λ r. OnOk r (c.add_virtual-done.new.self ≡ with_virtual (virtual_relvar c.in_ok-next.name c.in_ok-next.derived.heading (tree_view c.in_ok-next.expression) (map (λ key. key.items) c.in_ok-next.derived.keys.items)) c.in_ok-next.next)) e c.add_virtual-done.ensures.added
+    ∙ ap (λ p. with_virtual (virtual_relvar p.1.0 p.0.heading (tree_view p.1.1) (map (λ key. key.items) p.0.keys.items)) c.in_ok-next.next) same
+    ∙ ap (with_virtual new) next-is)))
+    (λ f e. only_memory (λ u. u) (λ db. db) f _ tt _ free (subst (λ r. Answers (λ u. u) r (holds_or causes.NameTaken (not (knows_relvar c.in_ok-next.name c.in_ok-next.next)))) e c.add_virtual-done.ensures.answer)))
