@@ -1,12 +1,6 @@
 //! The static rules, by the types and causes that texts are given.
-mod groups;
-mod heights;
-mod literals;
 mod mentioned;
 mod places;
-mod relations;
-mod scalars;
-mod statements;
 
 use super::names::name;
 use super::parser::{parse, written};
@@ -30,14 +24,11 @@ use td_types::ty::Ty;
 
 /// The relvars that are known where texts are checked, beside the types QTY and PAIR and the
 /// constraint C.
-const KNOWN: [&str; 7] = [
+const KNOWN: [&str; 5] = [
     "VAR R BASE RELATION {A INTEGER, B INTEGER};",
     "VAR S BASE RELATION {B INTEGER, C CHAR};",
-    // with R's A of another type
-    "VAR D BASE RELATION {A CHAR, B INTEGER};",
     // with an attribute of its own name
     "VAR E BASE RELATION {E INTEGER};",
-    "VAR N BASE RELATION {A INTEGER, X RELATION {B INTEGER}, T TUPLE {C CHAR}};",
     "VAR Q BASE RELATION {Q QTY, P PAIR};",
     "VAR V VIRTUAL (R);",
 ];
@@ -107,10 +98,10 @@ fn with_defined<'a>(
     with_relvar(scope, name, kind, heading)
 }
 
-/// Where those types, the relvars that the texts define and the constraint C are known.
-fn scope<'a>(alloc: Global, table: &'a TypeTable, texts: &[&str]) -> Result<Scope<'a>, Fault> {
+/// Where those types, the relvars and the constraint C are known.
+fn scope<'a>(alloc: Global, table: &'a TypeTable) -> Result<Scope<'a>, Fault> {
     let mut scope = Scope::new(alloc, table);
-    for text in texts {
+    for text in KNOWN {
         scope = with_defined(alloc, scope, table, text)?;
     }
     with_constraint(scope, name(alloc, "C")?)
@@ -185,24 +176,4 @@ fn first_wrong_in(
         Some(text) => Some(text),
         None => first_taken(alloc, scope, refusals),
     }
-}
-
-/// The first of the expressions that is not answered as it should be where those relvars are known.
-fn first_wrong_among(
-    alloc: Global,
-    table: &TypeTable,
-    typed: &[Typed],
-    refusals: &[Refusal],
-) -> Result<Option<&'static str>, Fault> {
-    let scope = scope(alloc, table, &KNOWN)?;
-    Ok(first_wrong_in(alloc, &scope, typed, refusals))
-}
-
-/// The first of the expressions that is not answered as it should be.
-fn first_wrong(
-    alloc: Global,
-    typed: &[Typed],
-    refusals: &[Refusal],
-) -> Result<Option<&'static str>, Fault> {
-    first_wrong_among(alloc, &types(alloc)?, typed, refusals)
 }

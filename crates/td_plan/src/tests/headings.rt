@@ -1,4 +1,4 @@
-//! Each call that can want memory, with ample memory, and the texts of types.
+//! Headings, with ample memory.
 use super::names::name;
 use std::alloc::{AllocError, Global};
 use std::collections::HashSet;
@@ -6,7 +6,7 @@ use std::test::Fail;
 use td_tree::cause::Cause;
 use td_tree::fault::Fault;
 use td_types::heading::Heading;
-use td_types::text::{put_relation_type, type_text};
+use td_types::text::put_relation_type;
 use td_types::ty::Ty;
 
 /// The heading whose attributes are integers of these names.
@@ -48,23 +48,6 @@ fn a_heading_by_one_list(rt: HostRuntime) -> Result<(), Fail> {
     attributes.push((name(alloc, "B")?, Ty::Int))?;
     attributes.push((name(alloc, "A")?, Ty::Int))?;
     assert!(rt; is_of(alloc, &Heading::new(alloc, attributes)?, &["A", "B"])?);
-    Ok(())
-}
-
-#[test]
-fn each_type_has_its_text(rt: HostRuntime) -> Result<(), Fail> {
-    let alloc = rt.alloc();
-    let quantity = Ty::User(name(alloc, "QTY")?);
-    let inner = Heading::empty(alloc).with(name(alloc, "Q")?, quantity)?;
-    let heading = integers(alloc, &["N"])?
-        .with(name(alloc, "C")?, Ty::Text)?
-        .with(name(alloc, "B")?, Ty::Bool)?
-        .with(name(alloc, "T")?, Ty::Tup(inner))?
-        .with(name(alloc, "R")?, Ty::Rel(Heading::empty(alloc)))?;
-    let ty = Ty::Tup(heading);
-    let want = "TUPLE {B BOOLEAN, C CHAR, N INTEGER, R RELATION {}, T TUPLE {Q QTY}}";
-    assert_eq!(rt; type_text(alloc, &ty)?.as_str(), want);
-    assert!(rt; ty.try_clone()? == ty);
     Ok(())
 }
 

@@ -1,11 +1,3 @@
-mod heights;
-mod operators;
-mod primaries;
-mod prints;
-mod statements;
-mod types;
-
-use self::prints::is_spelled;
 use std::alloc::Global;
 use td_parse::statement::parse_statement;
 use td_scan::cutter::Cutter;
@@ -33,26 +25,6 @@ pub fn written(alloc: Global, text: &str) -> Result<Statement, Fault> {
 
 fn is_refused(alloc: Global, script: &[u8], cause: Cause) -> bool {
     parse(alloc, script).err() == Some(Fault::Refused(cause))
-}
-
-/// The first of the scripts that is not spelled.
-fn first_unspelled(alloc: Global, scripts: &[&'static str]) -> Option<&'static str> {
-    for script in scripts {
-        if !is_spelled(alloc, script.as_bytes()) {
-            return Some(*script);
-        }
-    }
-    None
-}
-
-/// The first of the scripts that the grammar spells.
-fn first_spelled(alloc: Global, scripts: &[&'static str]) -> Option<&'static str> {
-    for script in scripts {
-        if !is_refused(alloc, script.as_bytes(), Cause::Syntax) {
-            return Some(*script);
-        }
-    }
-    None
 }
 
 #[test]

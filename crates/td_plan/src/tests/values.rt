@@ -36,23 +36,6 @@ fn a_name_twice_is_refused(rt: HostRuntime) -> Result<(), Fail> {
 }
 
 #[test]
-fn a_tuple_like_another(rt: HostRuntime) -> Result<(), Fail> {
-    let alloc = rt.alloc();
-    let t = numbers(alloc, &[("A", 1), ("B", 2)])?;
-    let mut same = Vec::new(alloc);
-    same.push((name(alloc, "B")?, Value::int(4)))?;
-    same.push((name(alloc, "A")?, Value::int(3)))?;
-    let same = Tuple::new_like(alloc, Some(&t), same)?;
-    assert!(rt; same == numbers(alloc, &[("A", 3), ("B", 4)])?);
-    let mut other = Vec::new(alloc);
-    other.push((name(alloc, "A")?, Value::int(3)))?;
-    other.push((name(alloc, "C")?, Value::int(4)))?;
-    let other = Tuple::new_like(alloc, Some(&t), other)?;
-    assert!(rt; other == numbers(alloc, &[("A", 3), ("C", 4)])?);
-    Ok(())
-}
-
-#[test]
 fn rows_of_a_relation_and_of_its_copy(rt: HostRuntime) -> Result<(), Fail> {
     let alloc = rt.alloc();
     let mut tuples = Vec::new(alloc);

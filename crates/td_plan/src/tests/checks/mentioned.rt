@@ -1,4 +1,4 @@
-use super::{KNOWN, expression, is_refused, scope, types, written};
+use super::{expression, is_refused, scope, types, written};
 use std::alloc::{AllocError, Global};
 use std::test::Fail;
 use td_check::mentions::mentions;
@@ -46,7 +46,7 @@ fn first_wrong_among(
     table: &TypeTable,
     cases: &[Mentioning],
 ) -> Result<Option<&'static str>, Fault> {
-    Ok(first_wrong_in(alloc, &scope(alloc, table, &KNOWN)?, cases))
+    Ok(first_wrong_in(alloc, &scope(alloc, table)?, cases))
 }
 
 fn first_wrong(alloc: Global, cases: &[Mentioning]) -> Result<Option<&'static str>, Fault> {
@@ -131,7 +131,7 @@ fn is_unknown(alloc: Global, scope: &Scope<'_>) -> Result<bool, Fault> {
 }
 
 fn is_unknown_among(alloc: Global, table: &TypeTable) -> Result<bool, Fault> {
-    is_unknown(alloc, &scope(alloc, table, &KNOWN)?)
+    is_unknown(alloc, &scope(alloc, table)?)
 }
 
 #[test]

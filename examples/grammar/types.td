@@ -1,0 +1,36 @@
+// Types, headings and lists of names, by what an empty database answers: no name is known.
+
+// what the grammar spells
+// types and headings
+VAR R BASE RELATION {};
+VAR R BASE RELATION {A INTEGER, B CHAR, C BOOLEAN, D T};
+VAR R BASE RELATION {A RELATION {B CHAR}};
+VAR R BASE RELATION {A TUPLE {}};
+// lists of names
+VAR R BASE RELATION {} KEY {};
+DROP VAR R;
+VAR R BASE RELATION {} KEY {A, B};
+WRITE R {};
+WRITE R {A, B};
+WRITE R {ALL BUT};
+WRITE R {ALL BUT A, B};
+
+// what it does not spell
+// types and headings
+VAR R BASE RELATION {A};
+VAR R BASE RELATION {INTEGER};
+VAR R BASE RELATION {A 1};
+VAR R BASE RELATION {A INTEGER B CHAR};
+VAR R BASE RELATION {A INTEGER,};
+VAR R BASE RELATION {A INTEGER;
+VAR R BASE RELATION {A RELATION};
+VAR R BASE RELATION {A TUPLE B};
+// lists of names
+VAR R BASE RELATION {} KEY {A B};
+VAR R BASE RELATION {} KEY {A,};
+VAR R BASE RELATION {} KEY {ALL BUT A};
+WRITE R {,};
+WRITE R {ALL A};
+WRITE R {BUT A};
+WRITE R {ALL BUT A,};
+WRITE R {A + 1};

@@ -1,0 +1,73 @@
+// Assignments.
+TYPE QTY POSSREP {C INTEGER};
+TYPE PAIR POSSREP {X INTEGER, Y CHAR};
+VAR R BASE RELATION {A INTEGER, B INTEGER} KEY {A, B};
+VAR S BASE RELATION {B INTEGER, C CHAR} KEY {B, C};
+VAR D BASE RELATION {A CHAR, B INTEGER} KEY {A, B};
+VAR E BASE RELATION {E INTEGER} KEY {E};
+VAR N BASE RELATION {A INTEGER, X RELATION {B INTEGER}, T TUPLE {C CHAR}} KEY {A};
+VAR Q BASE RELATION {Q QTY, P PAIR} KEY {Q, P};
+VAR V VIRTUAL (R);
+CONSTRAINT C TRUE;
+
+// what is accepted
+R := V;
+R := R WHERE A = 1 AND B = COUNT(R);
+INSERT R RELATION {TUPLE {A 1, B 2}};
+DELETE R;
+DELETE R WHERE A = B;
+// the target's attributes hide relvars
+DELETE E WHERE E = 1;
+UPDATE R (A := B, B := A);
+UPDATE R WHERE A = 1 (A := COUNT(S WHERE B = A));
+UPDATE Q (Q := QTY(THE_C(Q)));
+R := V, DELETE S, INSERT R R, UPDATE E (E := 1);
+R := R, R := R;
+
+// what is refused
+NOPE := R;
+QTY := R;
+INSERT NOPE R;
+DELETE NOPE;
+UPDATE NOPE (A := 1);
+V := R;
+INSERT V R;
+DELETE V;
+DELETE V WHERE A = 1;
+UPDATE V (A := 1);
+R := 1;
+R := TUPLE {A 1, B 1};
+R := S;
+R := R {Z};
+R := A;
+INSERT R TUPLE {A 1, B 1};
+INSERT R D;
+INSERT R Z;
+DELETE R WHERE A;
+DELETE R WHERE R {Z} = R;
+DELETE R WHERE Z = 1;
+DELETE E WHERE COUNT(E) = 1;
+UPDATE R WHERE A (A := 1);
+UPDATE R WHERE Z (A := 1);
+UPDATE R (A := 'a');
+UPDATE R (A := Z);
+UPDATE R (Z := 1);
+UPDATE R (A := 1, A := 2);
+// the least of several
+UPDATE R (Z := 1, A := 'a');
+UPDATE R (A := 1, A := TRUE);
+UPDATE R WHERE 1 (Z := 1);
+UPDATE R WHERE 1 (A := R {Z});
+UPDATE R WHERE Z (A := 1 + 'a');
+R := S, S := 1;
+V := R, R := S, DELETE R WHERE Z;
+DELETE V, UPDATE R (Z := 1);
+// of an unknown target the source alone is looked at
+INSERT NOPE 1;
+UPDATE NOPE WHERE 1 (A := Z);
+// of a virtual one all is
+V := 1;
+V := Z;
+INSERT V S;
+DELETE V WHERE 1;
+UPDATE V (Z := 1);
