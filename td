@@ -88,7 +88,7 @@ start() {
     built_by[$!]=$name
     stage[$name]=building
     begun=$((begun + 1))
-    echo "td: building crate $begun of ${#crates[@]}, $name" >&2
+    echo "td: crate $begun of ${#crates[@]}, $name, is proved and built ($((SECONDS / 60)) min so far)" >&2
 }
 
 build() {
@@ -125,6 +125,7 @@ build_all() {
     trap 'exit 1' INT TERM
     read_crates
     keep_needed
+    echo "td: each crate is proved before it is built; ./try answers now, without the proofs" >&2
     build
 }
 
