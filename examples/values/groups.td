@@ -55,3 +55,14 @@ WRITE SUMMARIZE R PER (RELATION {TUPLE {A 1}, TUPLE {A 9}}) ADD (COUNT() AS N);
 WRITE SUMMARIZE R PER (RELATION {TUPLE {A 9}}) ADD (MAX(B) AS M);
 // what an item is refused for counts alone
 WRITE SUMMARIZE S PER (RELATION {TUPLE {SNO 1}, TUPLE {SNO 9}}) ADD (MAX(10 / QTY) AS M);
+// a cause of an item stands before what the aggregates of another group come to
+WRITE SUMMARIZE RELATION {TUPLE {G 1, N 9223372036854775807}, TUPLE {G 1, N 1}, TUPLE {G 2, N 0}}
+    BY {G} ADD (SUM(N) AS S, MAX(1 / N) AS M);
+// a tuple that is in no group is asked for nothing
+WRITE SUMMARIZE S PER (RELATION {TUPLE {SNO 3}}) ADD (MAX(10 / QTY) AS M);
+
+// a tuple without attributes in each tuple
+WRITE R WRAP ({} AS T);
+
+// texts by their bytes
+WRITE MIN(RELATION {TUPLE {C 'ab'}, TUPLE {C 'b'}, TUPLE {C 'B'}}, C);
