@@ -28,4 +28,6 @@ pub mod SoundTypes
 pub mod Stops
 pub mod Turns
 pub mod Views
+pub mod WalkTurns
+pub mod Walks
 pub mod WorkedTrees

@@ -7,3 +7,4 @@ pub mod ReadingStatements
 pub mod ReadingSteps
 pub mod ReadingTypes
 pub mod Views
+pub mod Walking

@@ -5,9 +5,11 @@ ghost use Rattle.td_parse.specs.Views.{item_view, named_part_view};
 ghost use Rattle.td_tree.specs.Heights as heights;
 ghost use Rattle.td_parse.specs.Reading.{named_from, summaries_from, trees_from};
 ghost use Rattle.td_tree.specs.Trees as trees;
+ghost use Rattle.td_parse.specs.Walking.{joined};
 ghost use Rattle.td_tree.specs.TreeViews.{attributes_view, heading_tree_view, literal_view};
 ghost use Rattle.td_tree.specs.TreeViews.{postfix_view, summaries_view, tree_view, trees_view};
 
+use crate::operators::Infix;
 use crate::parts::{Elements, NamedParts, Summaries};
 use std::alloc::{AllocError, Global};
 use std::marker::Model;
@@ -161,12 +163,7 @@ impl Found {
     }
 
     /// An operator between its operands.
-    pub fn binary(
-        alloc: Global,
-        left: Found,
-        op: Operator,
-        right: Found,
-    ) -> Result<Found, AllocError>
+    fn binary(alloc: Global, left: Found, op: Operator, right: Found) -> Result<Found, AllocError>
         ensures { IfOk result (λ e. tree_view e
             ≡ trees.binary (tree_view left) op (tree_view right)) }
     {
@@ -177,7 +174,7 @@ impl Found {
     }
 
     /// A comparison of two operands.
-    pub fn compare(
+    fn compare(
         alloc: Global,
         left: Found,
         op: Comparison,
@@ -190,6 +187,17 @@ impl Found {
         let (left, right) = boxed_both(alloc, left.tree, right.tree)?;
         let tree = Expr::Compare(left, op, right);
         Ok(Found { tree, height })
+    }
+
+    /// Two operands with what stands between them.
+    pub fn joined(alloc: Global, left: Found, op: Infix, right: Found) -> Result<Found, AllocError>
+        ensures { IfOk result (λ e. tree_view e
+            ≡ joined (tree_view left) op (tree_view right)) }
+    {
+        match op {
+            Infix::Operator(op) => Found::binary(alloc, left, op, right),
+            Infix::Comparison(op) => Found::compare(alloc, left, op, right),
+        }
     }
 
     /// An operator behind its operand.

@@ -1,20 +1,20 @@
-//! The levels of expressions, the tightest first.
+//! Expressions by precedence: an operand, and then what stands between operands, the tightest first.
 ghost use Rattle.std.specs.Prelude.{suc};
 ghost use Rattle.td_parse.specs.Nests.{Nests};
 ghost use Rattle.td_parse.specs.Parsing.{Moves};
 ghost use Rattle.td_parse.specs.Reading as reading;
 ghost use Rattle.td_parse.specs.Reading.{read};
+ghost use Rattle.td_parse.specs.Walking.{tightness, walk, walked};
 ghost use Rattle.td_tree.specs.TreeViews.{tree_view};
 
 use crate::cursor::{Cursor, SYNTAX};
 use crate::found::Found;
 use crate::grammar::Grammar;
-use crate::operators::{comparison, extraction, operator, prefix, tighter};
+use crate::operators::{extraction, negation, next_infix, prefix, tighter};
 use crate::postfix::{begins_postfix, postfix};
 use crate::steps::{both, kept};
 use std::alloc::Global;
 use td_tree::fault::Fault;
-use td_tree::keyword::Keyword;
 use td_tree::operator::{Level, Prefix};
 
 impl<F: Fn(Global, u8, Level, &mut Cursor<'_, '_>) -> Result<Found, Fault>> Grammar<F> {
@@ -77,126 +77,47 @@ impl<F: Fn(Global, u8, Level, &mut Cursor<'_, '_>) -> Result<Found, Fault>> Gram
         Ok(Found::extract(self.alloc, attribute, operand)?)
     }
 
-    /// Goes on with the operators of a level.
-    #[tactic(auto, unfolding(crate::specs::Reading::operations))]
-    fn operations(
+    /// Goes on with what stands between operands at these levels, the tightest first.
+    #[tactic(auto, unfolding(crate::specs::Walking::walk))]
+    fn walk(
         &self,
-        level: Level,
+        loosest: Level,
+        mut tightest: Level,
         first: Found,
         tokens: &mut Cursor<'_, '_>,
     ) -> Result<Found, Fault>
         requires { Nests self.now.depth (F.pre self.now.inner) (F.post self.now.inner) }
         ensures { Moves tree_view result tokens.new
-            (reading.operations (read self.now.depth) self.now.depth level (suc self.now.depth)
-            (tree_view first) tokens.old) }
+            (walk (read self.now.depth) self.now.depth (tightness loosest) (suc self.now.depth)
+            (tightness tightest) (tree_view first) tokens.old) }
     {
         let mut left = first;
         let limit = u64::from(self.depth) + 1;
         for _turn in 0..limit {
-            let Some(op) = operator(level, tokens) else {
+            let Some(op) = next_infix(loosest, tightest, tokens) else {
                 return Ok(left);
             };
-            let right = self.inner(tighter(level), tokens);
+            let right = self.inner(tighter(op.level()), tokens);
             let (operand, right) = both(left, right)?;
-            left = self.low(Found::binary(self.alloc, operand, op, right)?)?;
+            left = self.low(Found::joined(self.alloc, operand, op, right)?)?;
+            tightest = op.tightest_after();
         }
         kept(left, false)
     }
 
-    /// Operands with `*` and `/`.
-    #[tactic(auto, unfolding(crate::specs::Reading::multiplicative, crate::specs::Reading::chain))]
-    fn multiplicative(&self, tokens: &mut Cursor<'_, '_>) -> Result<Found, Fault>
+    /// An operand, and what stands between it and others down to this level.
+    #[tactic(auto, unfolding(crate::specs::Walking::walked))]
+    fn walked(&self, level: Level, tokens: &mut Cursor<'_, '_>) -> Result<Found, Fault>
         requires { Nests self.now.depth (F.pre self.now.inner) (F.post self.now.inner) }
         ensures { Moves tree_view result tokens.new
-            (reading.multiplicative (read self.now.depth) self.now.depth tokens.old) }
+            (walked (read self.now.depth) self.now.depth level tokens.old) }
     {
-        let first = self.prefixed(tokens)?;
-        self.operations(Level::Multiplicative, first, tokens)
-    }
-
-    /// Operands with `+`, `-` and `||`.
-    #[tactic(auto, unfolding(crate::specs::Reading::additive, crate::specs::Reading::chain))]
-    fn additive(&self, tokens: &mut Cursor<'_, '_>) -> Result<Found, Fault>
-        requires { Nests self.now.depth (F.pre self.now.inner) (F.post self.now.inner) }
-        ensures { Moves tree_view result tokens.new
-            (reading.additive (read self.now.depth) self.now.depth tokens.old) }
-    {
-        let first = self.multiplicative(tokens)?;
-        self.operations(Level::Additive, first, tokens)
-    }
-
-    /// Operands with `UNION` and its kin.
-    #[tactic(auto, unfolding(crate::specs::Reading::relational, crate::specs::Reading::chain))]
-    fn relational(&self, tokens: &mut Cursor<'_, '_>) -> Result<Found, Fault>
-        requires { Nests self.now.depth (F.pre self.now.inner) (F.post self.now.inner) }
-        ensures { Moves tree_view result tokens.new
-            (reading.relational (read self.now.depth) self.now.depth tokens.old) }
-    {
-        let first = self.additive(tokens)?;
-        self.operations(Level::Relational, first, tokens)
-    }
-
-    /// An operand, or a comparison of two.
-    #[tactic(auto, unfolding(crate::specs::Reading::compared, crate::specs::Reading::compared_to))]
-    fn compared(&self, tokens: &mut Cursor<'_, '_>) -> Result<Found, Fault>
-        requires { Nests self.now.depth (F.pre self.now.inner) (F.post self.now.inner) }
-        ensures { Moves tree_view result tokens.new
-            (reading.compared (read self.now.depth) self.now.depth tokens.old) }
-    {
-        let left = self.relational(tokens)?;
-        let Some(op) = comparison(tokens) else {
-            return Ok(left);
-        };
-        let right = self.inner(Level::Relational, tokens);
-        let (left, right) = both(left, right)?;
-        self.low(Found::compare(self.alloc, left, op, right)?)
-    }
-
-    /// A comparison with `NOT` before it, or without.
-    #[tactic(auto, unfolding(crate::specs::Reading::negated))]
-    fn negated(&self, tokens: &mut Cursor<'_, '_>) -> Result<Found, Fault>
-        requires { Nests self.now.depth (F.pre self.now.inner) (F.post self.now.inner) }
-        ensures { Moves tree_view result tokens.new
-            (reading.negated (read self.now.depth) self.now.depth tokens.old) }
-    {
-        if tokens.keyword(Keyword::Not) {
-            self.applied(Level::Negation, Prefix::Not, tokens)
-        } else {
-            self.compared(tokens)
+        if negation(level, tokens) {
+            let first = self.applied(Level::Negation, Prefix::Not, tokens)?;
+            return self.walk(level, Level::Negation, first, tokens);
         }
-    }
-
-    /// Operands with `AND`.
-    #[tactic(auto, unfolding(crate::specs::Reading::conjunction, crate::specs::Reading::chain))]
-    fn conjunction(&self, tokens: &mut Cursor<'_, '_>) -> Result<Found, Fault>
-        requires { Nests self.now.depth (F.pre self.now.inner) (F.post self.now.inner) }
-        ensures { Moves tree_view result tokens.new
-            (reading.conjunction (read self.now.depth) self.now.depth tokens.old) }
-    {
-        let first = self.negated(tokens)?;
-        self.operations(Level::Conjunction, first, tokens)
-    }
-
-    /// Operands with `OR`.
-    #[tactic(auto, unfolding(crate::specs::Reading::disjunction, crate::specs::Reading::chain))]
-    fn disjunction(&self, tokens: &mut Cursor<'_, '_>) -> Result<Found, Fault>
-        requires { Nests self.now.depth (F.pre self.now.inner) (F.post self.now.inner) }
-        ensures { Moves tree_view result tokens.new
-            (reading.disjunction (read self.now.depth) self.now.depth tokens.old) }
-    {
-        let first = self.conjunction(tokens)?;
-        self.operations(Level::Disjunction, first, tokens)
-    }
-
-    /// Operands with `WHERE`.
-    #[tactic(auto, unfolding(crate::specs::Reading::restriction, crate::specs::Reading::chain))]
-    fn restriction(&self, tokens: &mut Cursor<'_, '_>) -> Result<Found, Fault>
-        requires { Nests self.now.depth (F.pre self.now.inner) (F.post self.now.inner) }
-        ensures { Moves tree_view result tokens.new
-            (reading.restriction (read self.now.depth) self.now.depth tokens.old) }
-    {
-        let first = self.disjunction(tokens)?;
-        self.operations(Level::Restriction, first, tokens)
+        let first = self.prefixed(tokens)?;
+        self.walk(level, Level::Multiplicative, first, tokens)
     }
 
     /// An expression of this level.
@@ -207,17 +128,10 @@ impl<F: Fn(Global, u8, Level, &mut Cursor<'_, '_>) -> Result<Found, Fault>> Gram
             (reading.by_level (read self.now.depth) self.now.depth level tokens.old) }
     {
         match level {
-            Level::Restriction => self.restriction(tokens),
-            Level::Disjunction => self.disjunction(tokens),
-            Level::Conjunction => self.conjunction(tokens),
-            Level::Negation => self.negated(tokens),
-            Level::Comparison => self.compared(tokens),
-            Level::Relational => self.relational(tokens),
-            Level::Additive => self.additive(tokens),
-            Level::Multiplicative => self.multiplicative(tokens),
             Level::Prefixed => self.prefixed(tokens),
             Level::Postfixed => self.postfixed(tokens),
             Level::Primary => self.primary(tokens),
+            _ => self.walked(level, tokens),
         }
     }
 }

@@ -3,6 +3,7 @@ ghost use Rattle.std.specs.Prelude.{◌≡◌, IfOk};
 ghost use Rattle.td_parse.specs.Parsing.{Eats, Finds, Tries};
 ghost use Rattle.td_tree.specs.Grammar as grammar;
 ghost use Rattle.td_parse.specs.ReadingOperators as reading;
+ghost use Rattle.td_parse.specs.Walking as walking;
 
 use crate::ahead::Ahead;
 use crate::cursor::Cursor;
@@ -13,6 +14,13 @@ use td_tree::operator::{Comparison, Level, Operator, Prefix};
 use td_tree::token::{Kind, Sign};
 
 // ---- between operands
+
+/// What stands between two operands.
+#[derive(Clone, Copy)]
+pub enum Infix {
+    Operator(Operator),
+    Comparison(Comparison),
+}
 
 fn operator_of_word(word: Keyword) -> Option<Operator>
     ensures { result ≡ reading.operator_of_word word }
@@ -42,6 +50,47 @@ fn operator_of_sign(sign: Sign) -> Option<Operator>
         Sign::Times => Some(Operator::Multiply),
         Sign::Divide => Some(Operator::Divide),
         _ => None,
+    }
+}
+
+fn comparison_of_word(word: Keyword) -> Option<Comparison>
+    ensures { result ≡ reading.comparison_of_word word }
+{
+    match word {
+        Keyword::In => Some(Comparison::In),
+        _ => None,
+    }
+}
+
+fn comparison_of_sign(sign: Sign) -> Option<Comparison>
+    ensures { result ≡ reading.comparison_of_sign sign }
+{
+    match sign {
+        Sign::Equal => Some(Comparison::Equal),
+        Sign::NotEqual => Some(Comparison::NotEqual),
+        Sign::Less => Some(Comparison::Less),
+        Sign::LessOrEqual => Some(Comparison::LessOrEqual),
+        Sign::Greater => Some(Comparison::Greater),
+        Sign::GreaterOrEqual => Some(Comparison::GreaterOrEqual),
+        _ => None,
+    }
+}
+
+fn infix_of_word(word: Keyword) -> Option<Infix>
+    ensures { result ≡ walking.infix_of_word word }
+{
+    match operator_of_word(word) {
+        Some(op) => Some(Infix::Operator(op)),
+        None => comparison_of_word(word).map(Infix::Comparison),
+    }
+}
+
+fn infix_of_sign(sign: Sign) -> Option<Infix>
+    ensures { result ≡ walking.infix_of_sign sign }
+{
+    match operator_of_sign(sign) {
+        Some(op) => Some(Infix::Operator(op)),
+        None => comparison_of_sign(sign).map(Infix::Comparison),
     }
 }
 
@@ -84,74 +133,96 @@ pub fn tighter(level: Level) -> Level
     }
 }
 
-/// Takes an operator, at whatever level.
-fn any_operator(tokens: &mut Ahead<'_, '_>) -> Option<Operator>
-    ensures { Finds result tokens.new (reading.any_operator tokens.old) }
+/// How tightly the operators of a level bind.
+fn tightness(level: Level) -> u8
+    ensures { result ≡ walking.tightness level }
+{
+    match level {
+        Level::Restriction => 0,
+        Level::Disjunction => 1,
+        Level::Conjunction => 2,
+        Level::Negation => 3,
+        Level::Comparison => 4,
+        Level::Relational => 5,
+        Level::Additive => 6,
+        Level::Multiplicative => 7,
+        Level::Prefixed => 8,
+        Level::Postfixed => 9,
+        Level::Primary => 10,
+    }
+}
+
+impl Infix {
+    /// The level at which it stands.
+    pub fn level(self) -> Level
+        ensures { result ≡ walking.infix_level self }
+    {
+        match self {
+            Infix::Operator(op) => level_of(op),
+            Infix::Comparison(_) => Level::Comparison,
+        }
+    }
+
+    /// The tightest level of what may follow its operands: comparisons do not chain.
+    pub fn tightest_after(self) -> Level
+        ensures { result ≡ walking.tightest_after self }
+    {
+        match self {
+            Infix::Operator(op) => level_of(op),
+            Infix::Comparison(_) => Level::Negation,
+        }
+    }
+
+    /// Whether it binds neither looser nor tighter than these levels.
+    fn is_between(self, loosest: Level, tightest: Level) -> bool
+        ensures { result ≡ walking.is_between (walking.tightness loosest)
+            (walking.tightness tightest) (walking.tightness (walking.infix_level self)) }
+    {
+        let tightness_here = tightness(self.level());
+        tightness(loosest) <= tightness_here && tightness_here <= tightness(tightest)
+    }
+}
+
+/// Takes what stands between operands, whatever its level.
+#[tactic(auto, unfolding(crate::specs::Walking::any_infix))]
+fn any_infix(tokens: &mut Ahead<'_, '_>) -> Option<Infix>
+    ensures { Finds result tokens.new (walking.any_infix tokens.old) }
 {
     match tokens.take()? {
         (Kind::Reserved(Keyword::Not), _) => {
             if tokens.keyword(Keyword::Matching) {
-                Some(Operator::NotMatching)
+                Some(Infix::Operator(Operator::NotMatching))
             } else {
                 None
             }
         }
-        (Kind::Reserved(word), _) => operator_of_word(word),
-        (Kind::Sign(sign), _) => operator_of_sign(sign),
+        (Kind::Reserved(word), _) => infix_of_word(word),
+        (Kind::Sign(sign), _) => infix_of_sign(sign),
         _ => None,
     }
 }
 
-/// Takes an operator that stands at this level, if one comes next.
-#[tactic(auto, unfolding(crate::specs::ReadingOperators::operator_at))]
-pub fn operator(level: Level, tokens: &mut Cursor<'_, '_>) -> Option<Operator>
-    ensures { Tries result tokens.old tokens.new (reading.operator_at level tokens.old) }
+/// Takes what stands between operands at one of these levels, if it comes next.
+#[tactic(auto, unfolding(crate::specs::Walking::infix_at))]
+pub fn next_infix(loosest: Level, tightest: Level, tokens: &mut Cursor<'_, '_>) -> Option<Infix>
+    ensures { Tries result tokens.old tokens.new
+        (walking.infix_at (walking.tightness loosest) (walking.tightness tightest) tokens.old) }
 {
     let mut ahead = tokens.ahead();
-    let op = any_operator(&mut ahead)?;
-    if level_of(op) != level {
+    let op = any_infix(&mut ahead)?;
+    if !op.is_between(loosest, tightest) {
         return None;
     }
     tokens.go_to(ahead);
     Some(op)
 }
 
-fn comparison_of_word(word: Keyword) -> Option<Comparison>
-    ensures { result ≡ reading.comparison_of_word word }
+/// Takes `NOT`, if it comes next and what it makes may stand at this level.
+#[tactic(auto, unfolding(crate::specs::Walking::not_at))]
+pub fn negation(level: Level, tokens: &mut Cursor<'_, '_>) -> bool
+    ensures { Eats (walking.not_at level tokens.old) result tokens.old tokens.new }
 {
-    match word {
-        Keyword::In => Some(Comparison::In),
-        _ => None,
-    }
-}
-
-fn comparison_of_sign(sign: Sign) -> Option<Comparison>
-    ensures { result ≡ reading.comparison_of_sign sign }
-{
-    match sign {
-        Sign::Equal => Some(Comparison::Equal),
-        Sign::NotEqual => Some(Comparison::NotEqual),
-        Sign::Less => Some(Comparison::Less),
-        Sign::LessOrEqual => Some(Comparison::LessOrEqual),
-        Sign::Greater => Some(Comparison::Greater),
-        Sign::GreaterOrEqual => Some(Comparison::GreaterOrEqual),
-        _ => None,
-    }
-}
-
-/// Takes a comparison, if one comes next.
-#[tactic(auto, unfolding(crate::specs::ReadingOperators::comparison_at))]
-pub fn comparison(tokens: &mut Cursor<'_, '_>) -> Option<Comparison>
-    ensures { Tries result tokens.old tokens.new (reading.comparison_at tokens.old) }
-{
-    let mut ahead = tokens.ahead();
-    let op = match ahead.take()? {
-        (Kind::Reserved(word), _) => comparison_of_word(word),
-        (Kind::Sign(sign), _) => comparison_of_sign(sign),
-        _ => None,
-    }?;
-    tokens.go_to(ahead);
-    Some(op)
+    tightness(level) <= tightness(Level::Negation) && tokens.keyword(Keyword::Not)
 }
 
 // ---- before an operand
