@@ -12,6 +12,7 @@ pub mod BeginsNames
 pub mod BeginsPlain
 pub mod Decimals
 pub mod Highest
+pub mod LoopTurns
 pub mod OneTree
 pub mod Parsed
 pub mod ReadingLaws
@@ -28,6 +29,5 @@ pub mod SoundTypes
 pub mod Stops
 pub mod Turns
 pub mod Views
-pub mod WalkTurns
 pub mod Walks
 pub mod WorkedTrees

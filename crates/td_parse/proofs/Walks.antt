@@ -207,10 +207,6 @@ place_of least cut most n =
           ]
     ]
 
-after_is_looser : (i : Infix) → tightness (tightest_after i) ≤ tightness (infix_level i)
-after_is_looser (infixes.Operator op) = omega arith
-after_is_looser (infixes.Comparison op) = omega arith
-
 after_is_no_looser : (i : Infix) → tightness (infix_level i) ≤ suc (tightness (tightest_after i))
 after_is_no_looser (infixes.Operator op) = omega arith
 after_is_no_looser (infixes.Comparison op) = omega arith

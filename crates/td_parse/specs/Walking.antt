@@ -1,5 +1,5 @@
--- Reading what stands between operands in one walk: level by level, the tightest first. It reads
--- what `Reading` reads, with one look at the next lexeme for each operator.
+-- Reading an operand and then all that stands between it and others in one walk, with one look at
+-- the next lexeme for each operator. It reads what the levels of `Reading` read one after another.
 use Rattle.std.specs.Prelude.{ℕ, zero, suc, Bool, List, ◌∷◌, Option, Some, None, option_map, nat_le, ◌&&◌, if◌then◌else◌}
 use Rattle.td_tree.specs.declared.keyword.Keyword.{Keyword}
 use Rattle.td_tree.specs.declared.keyword.Keyword.TheVariants as k
@@ -18,7 +18,7 @@ use Rattle.td_parse.specs.Reading.{Read, applied, fits, prefixed}
 use Rattle.td_parse.specs.ReadingOperators.{comparison_of_sign, comparison_of_word, operator_of_sign, operator_of_word, with_rest}
 use Rattle.td_parse.specs.ReadingSteps.{◌>>=◌, either, ReadOf, expect}
 
--- how tightly the operators of a level bind
+-- how tightly a level binds: more than each looser one
 abbrev pub tightness : Level → ℕ
 tightness levels.Restriction = 0
 tightness levels.Disjunction = 1
@@ -32,59 +32,59 @@ tightness levels.Prefixed = 8
 tightness levels.Postfixed = 9
 tightness levels.Primary = 10
 
--- ---- operators and comparisons
+-- ---- between operands: an operator or a comparison
 
 -- the level at which it stands
 abbrev pub infix_level : Infix → Level
 infix_level (infixes.Operator op) = level_of op
 infix_level (infixes.Comparison op) = levels.Comparison
 
--- the tightest level of what may follow its operands: comparisons do not chain
+-- the tightest level of what may follow its right operand: comparisons do not chain
 abbrev pub tightest_after : Infix → Level
 tightest_after (infixes.Operator op) = level_of op
 tightest_after (infixes.Comparison op) = levels.Negation
 
--- it and its operands
+-- the tree of two operands with what stands between them
 abbrev pub joined : Tree → Infix → Tree → Tree
 joined left (infixes.Operator op) right = tree.binary left op right
 joined left (infixes.Comparison op) right = tree.compare left op right
 
--- one of one word
+-- the operator or comparison that is this word
 abbrev pub infix_of_word : Keyword → Option Infix
 infix_of_word w =
     either (option_map infixes.Comparison (comparison_of_word w))
     (λ op. Some (infixes.Operator op)) (operator_of_word w)
 
--- one of one sign
+-- the operator or comparison that is this sign
 abbrev pub infix_of_sign : Sign → Option Infix
 infix_of_sign s =
     either (option_map infixes.Comparison (comparison_of_sign s))
     (λ op. Some (infixes.Operator op)) (operator_of_sign s)
 
--- NOT begins NOT MATCHING alone
+-- what begins with this word: NOT begins NOT MATCHING alone
 abbrev pub infix_after_word : Keyword → List Lexeme → ReadOf Infix
 infix_after_word k.Not ts =
     expect (keyword k.Matching) ts
     >>= λ after. Some (infixes.Operator operators.NotMatching, after)
 infix_after_word w ts = with_rest ts (infix_of_word w)
 
--- the one at the front
+-- the operator or comparison at the front
 unfoldable pub any_infix : List Lexeme → ReadOf Infix
 any_infix (keyword w ∷ ts) = infix_after_word w ts
 any_infix (sign s ∷ ts) = with_rest ts (infix_of_sign s)
 any_infix _ = None
 
--- whether this is not below the first and not above the second
+-- whether a number is at least the first and at most the second
 abbrev pub is_between : ℕ → ℕ → ℕ → Bool
 is_between least most n = nat_le least n && nat_le n most
 
--- the one at the front, where it binds neither looser nor tighter than this
+-- the operator or comparison at the front, where it binds at least and at most so tightly
 unfoldable pub infix_at : ℕ → ℕ → List Lexeme → ReadOf Infix
 infix_at least most ts =
     any_infix ts >>= λ p.
     if is_between least most (tightness (infix_level p.0)) then Some p else None
 
--- NOT at the front, where what it makes may stand at this level
+-- NOT at the front, where a negation may stand at this level
 unfoldable pub not_at : Level → List Lexeme → Option (List Lexeme)
 not_at level ts =
     if nat_le (tightness level) (tightness levels.Negation)
@@ -93,7 +93,8 @@ not_at level ts =
 -- ---- the walk
 
 module _ (inner : Level → List Lexeme → Read) (depth : ℕ) where
-  -- goes on with what binds neither looser nor tighter than this, at most so many times
+  -- goes on behind a tree with what binds at least and at most so tightly, at most so many times:
+  -- behind an operand only what binds as loosely or looser can follow
   unfoldable pub walk : ℕ → ℕ → ℕ → Tree → List Lexeme → Read
   walk least zero most left ts = None
   walk least (suc n) most left ts =
@@ -103,12 +104,12 @@ module _ (inner : Level → List Lexeme → Read) (depth : ℕ) where
       then walk least n (tightness (tightest_after p.0)) (joined left p.0 x.0) x.1 else None)
       (infix_at least most ts)
 
-  -- from what is read first on to this level, where such a level is the tightest to follow
+  -- from what is read first down to this level, where the other is the tightest that may follow
   abbrev pub walk_from : Level → Level → Read → Read
   walk_from level tightest first =
       first >>= λ x. walk (tightness level) (suc depth) (tightness tightest) x.0 x.1
 
-  -- an expression of a level of operators between operands, from its first operand on
+  -- an expression with operators between operands: its first operand, and then the walk
   unfoldable pub walked : Level → List Lexeme → Read
   walked level ts =
       either (walk_from level levels.Multiplicative (prefixed inner depth ts))

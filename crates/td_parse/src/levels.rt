@@ -1,4 +1,4 @@
-//! Expressions by precedence: an operand, and then what stands between operands, the tightest first.
+//! Expressions by precedence: an operand, and what stands between operands, the tightest first.
 ghost use Rattle.std.specs.Prelude.{suc};
 ghost use Rattle.td_parse.specs.Nests.{Nests};
 ghost use Rattle.td_parse.specs.Parsing.{Moves};
@@ -105,7 +105,7 @@ impl<F: Fn(Global, u8, Level, &mut Cursor<'_, '_>) -> Result<Found, Fault>> Gram
         kept(left, false)
     }
 
-    /// An operand, and what stands between it and others down to this level.
+    /// An expression with operators between operands: its first operand, and then the walk.
     #[tactic(auto, unfolding(crate::specs::Walking::walked))]
     fn walked(&self, level: Level, tokens: &mut Cursor<'_, '_>) -> Result<Found, Fault>
         requires { Nests self.now.depth (F.pre self.now.inner) (F.post self.now.inner) }

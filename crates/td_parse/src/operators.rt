@@ -15,7 +15,7 @@ use td_tree::token::{Kind, Sign};
 
 // ---- between operands
 
-/// What stands between two operands.
+/// What stands between two operands: an operator or a comparison.
 #[derive(Clone, Copy)]
 pub enum Infix {
     Operator(Operator),
@@ -133,7 +133,7 @@ pub fn tighter(level: Level) -> Level
     }
 }
 
-/// How tightly the operators of a level bind.
+/// How tightly a level binds: more than each looser one.
 fn tightness(level: Level) -> u8
     ensures { result ≡ walking.tightness level }
 {
@@ -163,7 +163,7 @@ impl Infix {
         }
     }
 
-    /// The tightest level of what may follow its operands: comparisons do not chain.
+    /// The tightest level of what may follow its right operand: comparisons do not chain.
     pub fn tightest_after(self) -> Level
         ensures { result ≡ walking.tightest_after self }
     {
@@ -173,7 +173,7 @@ impl Infix {
         }
     }
 
-    /// Whether it binds neither looser nor tighter than these levels.
+    /// Whether it stands at one of these levels.
     fn is_between(self, loosest: Level, tightest: Level) -> bool
         ensures { result ≡ walking.is_between (walking.tightness loosest)
             (walking.tightness tightest) (walking.tightness (walking.infix_level self)) }
@@ -217,7 +217,7 @@ pub fn next_infix(loosest: Level, tightest: Level, tokens: &mut Cursor<'_, '_>) 
     Some(op)
 }
 
-/// Takes `NOT`, if it comes next and what it makes may stand at this level.
+/// Takes `NOT`, if it comes next and a negation may stand at this level.
 #[tactic(auto, unfolding(crate::specs::Walking::not_at))]
 pub fn negation(level: Level, tokens: &mut Cursor<'_, '_>) -> bool
     ensures { Eats (walking.not_at level tokens.old) result tokens.old tokens.new }
