@@ -1,6 +1,6 @@
 #!/usr/bin/env bash
-# Runs td with the words and the standard input given. Where it is out of date it is built first: crates that don't need
-# each other side by side, and each is told on standard error as it begins.
+# Runs td with the words and the standard input given. Where it is out of date it is built first:
+# crates that don't need each other side by side, and each is told on standard error as it begins.
 set -u
 top=$(cd "$(dirname "${BASH_SOURCE[0]}")" && pwd)
 binary=$top/crates/td/out/td
@@ -8,7 +8,8 @@ stamp=$top/crates/td/out/td.built
 
 is_current() {
     [ -x "$binary" ] && [ -e "$stamp" ] &&
-        [ -z "$(find "$top/crates" "$top/crates.txt" -name out -prune -o -newer "$stamp" -type f -print -quit)" ]
+        [ -z "$(find "$top/crates" "$top/crates.txt" -name out -prune \
+            -o -newer "$stamp" -type f -print -quit)" ]
 }
 
 crates=()          # the crates, in the order of crates.txt
@@ -27,7 +28,8 @@ read_crates() {
     done <crates.txt
 }
 
-# Leaves out the crates that td does not stand on. In crates.txt each crate stands behind those that it needs.
+# Leaves out the crates that td does not stand on. In crates.txt each crate stands behind those
+# that it needs.
 keep_needed() {
     local place name need kept=()
     declare -A wanted=([td]=yes)
@@ -51,8 +53,8 @@ is_ready() {
     done
 }
 
-# Makes a place where a crate is built by itself, since rt keeps all crates below it from others while it works: the crate
-# with what is kept of it, and the libraries below it.
+# Makes a place where a crate is built by itself, since rt keeps all crates below it from others
+# while it works: the crate with what is kept of it, and the libraries below it.
 lay_out() {
     local crate place=$places/$1
     mkdir -p "$place/crates"
@@ -62,7 +64,8 @@ lay_out() {
     done >"$place/crates.txt"
     for crate in "${crates[@]}"; do
         mkdir -p "$place/crates/$crate"
-        find "crates/$crate" -mindepth 1 -maxdepth 1 ! -name out -exec cp -a -t "$place/crates/$crate" {} +
+        find "crates/$crate" -mindepth 1 -maxdepth 1 ! -name out \
+            -exec cp -a -t "$place/crates/$crate" {} +
         if [ "${stage[$crate]}" = built ]; then
             mkdir -p "$place/crates/$crate/out"
             cp -al "crates/$crate/out/rlib" "$place/crates/$crate/out" 2>/dev/null ||
@@ -84,11 +87,13 @@ start() {
     local name=$1 words=(lib --jobs "$(nproc)")
     [ "$name" = td ] && words=(run --jobs "$(nproc)" -- run)
     lay_out "$name"
-    (cd "$places/$name/crates/$name" && exec rt "${words[@]}") </dev/null >"$places/$name.log" 2>&1 &
+    (cd "$places/$name/crates/$name" && exec rt "${words[@]}") \
+        </dev/null >"$places/$name.log" 2>&1 &
     built_by[$!]=$name
     stage[$name]=building
     begun=$((begun + 1))
-    echo "td: crate $begun of ${#crates[@]}, $name, is proved and built ($((SECONDS / 60)) min so far)" >&2
+    echo "td: crate $begun of ${#crates[@]}, $name, is proved and built" \
+        "($((SECONDS / 60)) min so far)" >&2
 }
 
 build() {
