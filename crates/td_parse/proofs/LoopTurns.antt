@@ -18,7 +18,7 @@ use Rattle.td_parse.specs.Parsing.{Fits, Moves}
 use Rattle.td_parse.specs.Reading.{Read, postfixes, read_postfix}
 use Rattle.td_parse.specs.ReadingOperators.{postfix_at}
 use Rattle.td_parse.specs.ReadingSteps.{ReadOf}
-use Rattle.td_parse.specs.Walking.{infix_at, infix_level, joined, tightest_after, tightness, walk}
+use Rattle.td_parse.specs.Walking.{infix_at, infix_level, infix_tree, tightest_after, tightness, walk}
 use Rattle.td_parse.proofs.Separated.{read_is}
 use Rattle.td_parse.proofs.Turns.{one_more}
 
@@ -61,22 +61,22 @@ turns_away_behind inner depth all n k left operand whole op ts last r fault lt s
 -- what stood at the front took its operand
 turned : (inner : Level → List Lexeme → Read) (depth : ℕ) (all : Read) (n k least most : ℕ) (left right : Tree) (i : Infix) (ts rest last : List Lexeme) → k < n → all ≡ walk inner depth least (n - k) most left ts
     → infix_at least most ts ≡ Some (i, rest) → inner (tighter (infix_level i)) rest ≡ Some (right, last)
-    → all ≡ cond (nat_le (height (joined left i right)) (suc depth)) (walk inner depth least (n - (k + 1)) (tightness (tightest_after i)) (joined left i right) last) None
+    → all ≡ cond (nat_le (height (infix_tree left i right)) (suc depth)) (walk inner depth least (n - (k + 1)) (tightness (tightest_after i)) (infix_tree left i right) last) None
 unfolding walk
 turned inner depth all n k least most left right i ts rest last lt so_far found read = so_far ∙ (one_more (λ m. walk inner depth least m most left ts) n k lt ∙ rw (found, read) refl)
 
 turned_so : (inner : Level → List Lexeme → Read) (depth : ℕ) (all : Read) (n k least most : ℕ) (left operand right whole : Expr) (i : Infix) (level tight : Level) (ts rest last : List Lexeme) (r : Result Expr Fault) → k < n → all ≡ walk inner depth least (n - k) most (tree_view left) ts
-    → infix_at least most ts ≡ Some (i, rest) → level ≡ infix_level i → tight ≡ tighter level → Moves tree_view r last (inner tight rest) → (r ≡ Ok right) × (operand ≡ left) → tree_view whole ≡ joined (tree_view operand) i (tree_view right)
+    → infix_at least most ts ≡ Some (i, rest) → level ≡ infix_level i → tight ≡ tighter level → Moves tree_view r last (inner tight rest) → (r ≡ Ok right) × (operand ≡ left) → tree_view whole ≡ infix_tree (tree_view operand) i (tree_view right)
     → all ≡ cond (nat_le (height (tree_view whole)) (suc depth)) (walk inner depth least (n - (k + 1)) (tightness (tightest_after i)) (tree_view whole) last) None
 turned_so inner depth all n k least most left operand right whole i level tight ts rest last r lt so_far found is_level is_tight moves both is_whole =
     let read : inner (tighter (infix_level i)) rest ≡ Some (tree_view right, last) = ap (λ (l : Level). inner l rest) (sym (is_tight ∙ ap tighter is_level)) ∙ was_read tree_view r (inner tight rest) right last moves both.0 in
-    let is : tree_view whole ≡ joined (tree_view left) i (tree_view right) = is_whole ∙ ap (λ (x : Expr). joined (tree_view x) i (tree_view right)) both.1 in
+    let is : tree_view whole ≡ infix_tree (tree_view left) i (tree_view right) = is_whole ∙ ap (λ (x : Expr). infix_tree (tree_view x) i (tree_view right)) both.1 in
     turned inner depth all n k least most (tree_view left) (tree_view right) i ts rest last lt so_far found read
     ∙ ap (λ (t : Tree). cond (nat_le (height t) (suc depth)) (walk inner depth least (n - (k + 1)) (tightness (tightest_after i)) t last) None) (sym is)
 
 -- the tree is low enough: the walk goes on from it
 pub goes_on : (inner : Level → List Lexeme → Read) (depth : ℕ) (all : Read) (n k least most : ℕ) (left operand right whole kept : Expr) (i : Infix) (level tight after : Level) (ts rest last : List Lexeme) (r : Result Expr Fault) → k < n → all ≡ walk inner depth least (n - k) most (tree_view left) ts
-    → infix_at least most ts ≡ Some (i, rest) → level ≡ infix_level i → tight ≡ tighter level → Moves tree_view r last (inner tight rest) → (r ≡ Ok right) × (operand ≡ left) → tree_view whole ≡ joined (tree_view operand) i (tree_view right)
+    → infix_at least most ts ≡ Some (i, rest) → level ≡ infix_level i → tight ≡ tighter level → Moves tree_view r last (inner tight rest) → (r ≡ Ok right) × (operand ≡ left) → tree_view whole ≡ infix_tree (tree_view operand) i (tree_view right)
     → (nat_le (height (tree_view whole)) (suc depth) ≡ true) × (kept ≡ whole) → after ≡ tightest_after i → all ≡ walk inner depth least (n - (k + 1)) (tightness after) (tree_view kept) last
 goes_on inner depth all n k least most left operand right whole kept i level tight after ts rest last r lt so_far found is_level is_tight moves both is_whole fits is_after =
     let e = turned_so inner depth all n k least most left operand right whole i level tight ts rest last r lt so_far found is_level is_tight moves both is_whole in
@@ -86,7 +86,7 @@ goes_on inner depth all n k least most left operand right whole kept i level tig
 
 -- the tree is too high
 pub turns_away : (inner : Level → List Lexeme → Read) (depth : ℕ) (all : Read) (n k least most : ℕ) (left operand right whole : Expr) (i : Infix) (level tight : Level) (ts rest last : List Lexeme) (r : Result Expr Fault) (fault : Fault) → k < n → all ≡ walk inner depth least (n - k) most (tree_view left) ts
-    → infix_at least most ts ≡ Some (i, rest) → level ≡ infix_level i → tight ≡ tighter level → Moves tree_view r last (inner tight rest) → (r ≡ Ok right) × (operand ≡ left) → tree_view whole ≡ joined (tree_view operand) i (tree_view right)
+    → infix_at least most ts ≡ Some (i, rest) → level ≡ infix_level i → tight ≡ tighter level → Moves tree_view r last (inner tight rest) → (r ≡ Ok right) × (operand ≡ left) → tree_view whole ≡ infix_tree (tree_view operand) i (tree_view right)
     → Fits whole (nat_le (height (tree_view whole)) (suc depth)) (Err fault) → Moves tree_view (Err fault) last all
 turns_away inner depth all n k least most left operand right whole i level tight ts rest last r fault lt so_far found is_level is_tight moves both is_whole fits =
     refused (nat_le (height (tree_view whole)) (suc depth)) whole fault all (walk inner depth least (n - (k + 1)) (tightness (tightest_after i)) (tree_view whole) last) last

@@ -24,7 +24,7 @@ use Rattle.td_parse.specs.declared.operators.Infix.TheVariants as infixes
 use Rattle.td_parse.specs.Reading.{Read, additive, applied, by_level, chain, compared, compared_to, conjunction, disjunction, multiplicative, negated, operations, prefixed, relational, restriction}
 use Rattle.td_parse.specs.ReadingOperators.{any_operator, comparison_at, comparison_of_sign, comparison_of_word, operator_at, operator_of_sign, operator_of_word, same_level, with_rest}
 use Rattle.td_parse.specs.ReadingSteps.{◌>>=◌, either, ReadOf, expect}
-use Rattle.td_parse.specs.Walking.{any_infix, infix_at, infix_level, is_between, joined, not_at, tightest_after, tightness, walk, walked}
+use Rattle.td_parse.specs.Walking.{any_infix, infix_at, infix_level, is_between, infix_tree, not_at, tightest_after, tightness, walk, walked}
 use Rattle.td_parse.proofs.Again.{height_pos}
 
 -- ---- what stands at the front
@@ -185,9 +185,9 @@ nothing_at_negation ts (Some p) e = rw (e, no_infix_negation p.0) refl
 
 -- ---- one turn
 
-joined_higher : (left right : Tree) (i : Infix) → height left < height (joined left i right)
-joined_higher left right (infixes.Operator op) = omega arith
-joined_higher left right (infixes.Comparison op) = omega arith
+infix_tree_higher : (left right : Tree) (i : Infix) → height left < height (infix_tree left i right)
+infix_tree_higher left right (infixes.Operator op) = omega arith
+infix_tree_higher left right (infixes.Comparison op) = omega arith
 
 -- where a place is beside two ranges, of which the first begins above the other's end
 data Place (least cut most n : ℕ) : Type 0 where
@@ -224,16 +224,16 @@ module _ (inner : Level → List Lexeme → Read) (depth : ℕ) where
 
   -- what stands at the front takes an operand, and then it goes on
   abbrev taken : (Tree → List Lexeme → Read) → Infix → Tree → List Lexeme → Read
-  taken go i left rest = inner (tighter (infix_level i)) rest >>= λ x. cond (nat_le (height (joined left i x.0)) (suc depth)) (go (joined left i x.0) x.1) None
+  taken go i left rest = inner (tighter (infix_level i)) rest >>= λ x. cond (nat_le (height (infix_tree left i x.0)) (suc depth)) (go (infix_tree left i x.0) x.1) None
 
   taken_fits : (go on : Tree → List Lexeme → Read) (t : Tree) (ts : List Lexeme) (b : Bool) → nat_le (height t) (suc depth) ≡ b → (height t ≤ suc depth → go t ts ≡ on t ts) → cond b (go t ts) None ≡ cond b (on t ts) None
   taken_fits go on t ts true e same = same (leb-true _ _ e)
   taken_fits go on t ts false e same = refl
 
   taken_read : (go on : Tree → List Lexeme → Read) (i : Infix) (left : Tree) → ((t : Tree) (ts : List Lexeme) → height left < height t → height t ≤ suc depth → go t ts ≡ on t ts) → (r : Read)
-      → (r >>= λ x. cond (nat_le (height (joined left i x.0)) (suc depth)) (go (joined left i x.0) x.1) None) ≡ (r >>= λ x. cond (nat_le (height (joined left i x.0)) (suc depth)) (on (joined left i x.0) x.1) None)
+      → (r >>= λ x. cond (nat_le (height (infix_tree left i x.0)) (suc depth)) (go (infix_tree left i x.0) x.1) None) ≡ (r >>= λ x. cond (nat_le (height (infix_tree left i x.0)) (suc depth)) (on (infix_tree left i x.0) x.1) None)
   taken_read go on i left same None = refl
-  taken_read go on i left same (Some (right, ts)) = taken_fits go on (joined left i right) ts (nat_le (height (joined left i right)) (suc depth)) refl (λ low. same (joined left i right) ts (joined_higher left right i) low)
+  taken_read go on i left same (Some (right, ts)) = taken_fits go on (infix_tree left i right) ts (nat_le (height (infix_tree left i right)) (suc depth)) refl (λ low. same (infix_tree left i right) ts (infix_tree_higher left right i) low)
 
   taken_same : (go on : Tree → List Lexeme → Read) (i : Infix) (left : Tree) (rest : List Lexeme) → ((t : Tree) (ts : List Lexeme) → height left < height t → height t ≤ suc depth → go t ts ≡ on t ts) → taken go i left rest ≡ taken on i left rest
   taken_same go on i left rest same = taken_read go on i left same (inner (tighter (infix_level i)) rest)
@@ -243,9 +243,9 @@ module _ (inner : Level → List Lexeme → Read) (depth : ℕ) where
   cond_then false r f = refl
 
   read_then : (go : Tree → List Lexeme → Read) (i : Infix) (left : Tree) (f : Tree × List Lexeme → Read) (r : Read)
-      → ((r >>= λ x. cond (nat_le (height (joined left i x.0)) (suc depth)) (go (joined left i x.0) x.1) None) >>= f) ≡ (r >>= λ x. cond (nat_le (height (joined left i x.0)) (suc depth)) (go (joined left i x.0) x.1 >>= f) None)
+      → ((r >>= λ x. cond (nat_le (height (infix_tree left i x.0)) (suc depth)) (go (infix_tree left i x.0) x.1) None) >>= f) ≡ (r >>= λ x. cond (nat_le (height (infix_tree left i x.0)) (suc depth)) (go (infix_tree left i x.0) x.1 >>= f) None)
   read_then go i left f None = refl
-  read_then go i left f (Some (right, ts)) = cond_then (nat_le (height (joined left i right)) (suc depth)) (go (joined left i right) ts) f
+  read_then go i left f (Some (right, ts)) = cond_then (nat_le (height (infix_tree left i right)) (suc depth)) (go (infix_tree left i right) ts) f
 
   taken_then : (go : Tree → List Lexeme → Read) (i : Infix) (left : Tree) (rest : List Lexeme) (f : Tree × List Lexeme → Read) → (taken go i left rest >>= f) ≡ taken (λ t ts. go t ts >>= f) i left rest
   taken_then go i left rest f = read_then go i left f (inner (tighter (infix_level i)) rest)

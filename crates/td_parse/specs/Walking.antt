@@ -45,9 +45,9 @@ tightest_after (infixes.Operator op) = level_of op
 tightest_after (infixes.Comparison op) = levels.Negation
 
 -- the tree of two operands with what stands between them
-abbrev pub joined : Tree → Infix → Tree → Tree
-joined left (infixes.Operator op) right = tree.binary left op right
-joined left (infixes.Comparison op) right = tree.compare left op right
+abbrev pub infix_tree : Tree → Infix → Tree → Tree
+infix_tree left (infixes.Operator op) right = tree.binary left op right
+infix_tree left (infixes.Comparison op) right = tree.compare left op right
 
 -- the operator or comparison that is this word
 abbrev pub infix_of_word : Keyword → Option Infix
@@ -100,8 +100,8 @@ module _ (inner : Level → List Lexeme → Read) (depth : ℕ) where
   walk least (suc n) most left ts =
       either (Some (left, ts))
       (λ p. inner (tighter (infix_level p.0)) p.1 >>= λ x.
-      if fits inner depth (joined left p.0 x.0)
-      then walk least n (tightness (tightest_after p.0)) (joined left p.0 x.0) x.1 else None)
+      if fits inner depth (infix_tree left p.0 x.0)
+      then walk least n (tightness (tightest_after p.0)) (infix_tree left p.0 x.0) x.1 else None)
       (infix_at least most ts)
 
   -- from what is read first down to this level, where the other is the tightest that may follow

@@ -5,7 +5,7 @@ ghost use Rattle.td_parse.specs.Views.{item_view, named_part_view};
 ghost use Rattle.td_tree.specs.Heights as heights;
 ghost use Rattle.td_parse.specs.Reading.{named_from, summaries_from, trees_from};
 ghost use Rattle.td_tree.specs.Trees as trees;
-ghost use Rattle.td_parse.specs.Walking.{joined};
+ghost use Rattle.td_parse.specs.Walking.{infix_tree};
 ghost use Rattle.td_tree.specs.TreeViews.{attributes_view, heading_tree_view, literal_view};
 ghost use Rattle.td_tree.specs.TreeViews.{postfix_view, summaries_view, tree_view, trees_view};
 
@@ -190,9 +190,14 @@ impl Found {
     }
 
     /// Two operands with what stands between them.
-    pub fn joined(alloc: Global, left: Found, op: Infix, right: Found) -> Result<Found, AllocError>
+    pub fn of_infix(
+        alloc: Global,
+        left: Found,
+        op: Infix,
+        right: Found,
+    ) -> Result<Found, AllocError>
         ensures { IfOk result (λ e. tree_view e
-            ≡ joined (tree_view left) op (tree_view right)) }
+            ≡ infix_tree (tree_view left) op (tree_view right)) }
     {
         match op {
             Infix::Operator(op) => Found::binary(alloc, left, op, right),

@@ -99,7 +99,7 @@ impl<F: Fn(Global, u8, Level, &mut Cursor<'_, '_>) -> Result<Found, Fault>> Gram
             };
             let right = self.inner(tighter(op.level()), tokens);
             let (operand, right) = both(left, right)?;
-            left = self.low(Found::joined(self.alloc, operand, op, right)?)?;
+            left = self.low(Found::of_infix(self.alloc, operand, op, right)?)?;
             tightest = op.tightest_after();
         }
         kept(left, false)

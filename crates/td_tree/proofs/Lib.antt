@@ -13,6 +13,7 @@ pub mod EndOfStatement
 pub mod FrontLaws
 pub mod Gatherings
 pub mod HeldLaws
+pub mod Initials
 pub mod KindLaws
 pub mod LeastCauses
 pub mod Letters

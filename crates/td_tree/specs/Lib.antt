@@ -7,6 +7,7 @@ pub mod Gatherings
 pub mod Grammar
 pub mod Hashes
 pub mod Heights
+pub mod Initials
 pub mod Keywords
 pub mod Lexemes
 pub mod Lists

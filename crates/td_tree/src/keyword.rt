@@ -1,6 +1,7 @@
 //! The reserved words of the language.
-ghost use Rattle.std.specs.Prelude.{◌≡◌, find};
+ghost use Rattle.std.specs.Prelude.{◌≡◌, find, nat_eq, option_map};
 ghost use Rattle.std.specs.Str.{str_eq_ignore_ascii_case};
+ghost use Rattle.td_tree.specs.Initials.{AreInitials};
 ghost use Rattle.td_tree.specs.Keywords.{keyword_of, word_of};
 
 /// A reserved word. In a script it may stand in any ASCII case.
@@ -236,12 +237,170 @@ impl Keyword {
     }
 
     /// The reserved word that these bytes spell in some ASCII case.
-    #[tactic(auto, unfolding(crate::specs::Keywords::keyword_of))]
     pub fn of_word(text: &[u8]) -> Option<Keyword>
         ensures { result ≡ keyword_of text.now }
     {
-        first_spelled(&Keyword::ALL, text)
+        word_among(&INITIALS, text)
     }
+}
+
+/// The reserved words that begin with a letter, which is in lower case.
+struct Initial {
+    letter: u8,
+    keywords: &'static [Keyword],
+}
+
+/// Every reserved word under its first letter.
+const INITIALS: [Initial; 20] = [
+    Initial {
+        letter: b'a',
+        keywords: &[Keyword::Add, Keyword::All, Keyword::And, Keyword::As],
+    },
+    Initial {
+        letter: b'b',
+        keywords: &[
+            Keyword::Base,
+            Keyword::Begin,
+            Keyword::Boolean,
+            Keyword::But,
+            Keyword::By,
+        ],
+    },
+    Initial {
+        letter: b'c',
+        keywords: &[
+            Keyword::Char,
+            Keyword::Commit,
+            Keyword::Compose,
+            Keyword::Constraint,
+            Keyword::Count,
+        ],
+    },
+    Initial {
+        letter: b'd',
+        keywords: &[
+            Keyword::Delete,
+            Keyword::Drop,
+            Keyword::Dump,
+            Keyword::DInsert,
+            Keyword::DUnion,
+        ],
+    },
+    Initial {
+        letter: b'e',
+        keywords: &[Keyword::Else, Keyword::End, Keyword::Extend],
+    },
+    Initial {
+        letter: b'f',
+        keywords: &[Keyword::False, Keyword::From],
+    },
+    Initial {
+        letter: b'g',
+        keywords: &[Keyword::Group],
+    },
+    Initial {
+        letter: b'i',
+        keywords: &[
+            Keyword::If,
+            Keyword::In,
+            Keyword::Init,
+            Keyword::Insert,
+            Keyword::Integer,
+            Keyword::Intersect,
+            Keyword::IsEmpty,
+            Keyword::IDelete,
+            Keyword::IMinus,
+        ],
+    },
+    Initial {
+        letter: b'j',
+        keywords: &[Keyword::Join],
+    },
+    Initial {
+        letter: b'k',
+        keywords: &[Keyword::Key],
+    },
+    Initial {
+        letter: b'm',
+        keywords: &[
+            Keyword::Matching,
+            Keyword::Max,
+            Keyword::Min,
+            Keyword::Minus,
+        ],
+    },
+    Initial {
+        letter: b'n',
+        keywords: &[Keyword::Not],
+    },
+    Initial {
+        letter: b'o',
+        keywords: &[Keyword::Or],
+    },
+    Initial {
+        letter: b'p',
+        keywords: &[Keyword::Per, Keyword::Possrep],
+    },
+    Initial {
+        letter: b'r',
+        keywords: &[
+            Keyword::Real,
+            Keyword::Relation,
+            Keyword::Rename,
+            Keyword::Rollback,
+        ],
+    },
+    Initial {
+        letter: b's',
+        keywords: &[Keyword::Sum, Keyword::Summarize],
+    },
+    Initial {
+        letter: b't',
+        keywords: &[
+            Keyword::TableDee,
+            Keyword::TableDum,
+            Keyword::Tclose,
+            Keyword::Then,
+            Keyword::Times,
+            Keyword::Transaction,
+            Keyword::True,
+            Keyword::Tuple,
+            Keyword::Type,
+        ],
+    },
+    Initial {
+        letter: b'u',
+        keywords: &[
+            Keyword::Ungroup,
+            Keyword::Union,
+            Keyword::Unwrap,
+            Keyword::Update,
+        ],
+    },
+    Initial {
+        letter: b'v',
+        keywords: &[Keyword::Var, Keyword::Virtual],
+    },
+    Initial {
+        letter: b'w',
+        keywords: &[Keyword::Where, Keyword::With, Keyword::Wrap, Keyword::Write],
+    },
+];
+
+/// The words of the letter, which is in lower case.
+fn initial_of(initials: &[Initial], letter: u8) -> Option<&Initial>
+    ensures { option_map (λ i. i.now) result ≡ find (λ i. nat_eq i.letter letter) initials.now }
+{
+    initials.iter().find(|initial| initial.letter == letter)
+}
+
+/// The reserved word that the bytes spell: it is among those that begin with their first letter.
+fn word_among(initials: &[Initial], text: &[u8]) -> Option<Keyword>
+    requires { AreInitials (λ i. i.letter) (λ i. i.keywords.now) initials.now }
+    ensures { result ≡ keyword_of text.now }
+{
+    let initial = initial_of(initials, text.first()?.to_ascii_lowercase())?;
+    first_spelled(initial.keywords, text)
 }
 
 /// The first of these words that the bytes spell.
