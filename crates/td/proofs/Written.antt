@@ -10,7 +10,7 @@ use Rattle.td_engine.proofs.Turning.{memory_map, ok_map, write_map}
 use Rattle.td_engine.specs.Faults.{IfMemory, IfNotMemory, IfRead, IfReadLimit, IfWrite}
 use Rattle.td_engine.specs.Machine.{State, begun}
 use Rattle.td_engine.specs.Scripts.{OfFront, OfScript}
-use Rattle.td_engine.specs.Soundness.{IsSoundState}
+use Rattle.td_engine.specs.Legality.{IsLegalState}
 use Rattle.td_engine.specs.Standing.{HasRun, HasRunCut, IsLeft, IsUnrun, run_of, standing}
 use Rattle.td_engine.specs.Told.{AppendsIfTold}
 use Rattle.td_engine.specs.declared.run.Report.{Report}
@@ -29,7 +29,7 @@ appends_nothing (Some bytes) None e = absurd (cc)
 
 -- ---- answers
 
-module _ (stop : Bool) (old new : State) (told taken : Option (List ℕ)) (sound : IsSoundState new) where
+module _ (stop : Bool) (old new : State) (told taken : Option (List ℕ)) (legal : IsLegalState new) where
   -- the run was run to its end
   ran : (script : List ℕ) (report : Report) → IsLeft (run_of stop (standing old told) script) (standing new taken) report
       → HasAnswered Run (run_of stop (standing old told) script) (status_of report.refused) taken
@@ -39,7 +39,7 @@ module _ (stop : Bool) (old new : State) (told taken : Option (List ℕ)) (sound
         runs = left.runs;
         written = left.stands.written;
         status_is = ap status_of left.refused_are;
-        sound = subst IsSoundState left.stands.state_is sound;
+        legal = subst IsLegalState left.stands.state_is legal;
       }
 
   -- a front of it was run
@@ -51,7 +51,7 @@ module _ (stop : Bool) (old new : State) (told taken : Option (List ℕ)) (sound
         runs = has.runs;
         each_run = has.each_run;
         written = has.stands.written;
-        sound = subst IsSoundState has.stands.state_is sound;
+        legal = subst IsLegalState has.stands.state_is legal;
       }
 
   module _ (before after : Option (List ℕ)) where
@@ -77,7 +77,7 @@ module _ (stop : Bool) (old new : State) (told taken : Option (List ℕ)) (sound
     run_write P =
         write_map (λ done. P × OfScript before after (λ script. HasRunCut (run_of stop (standing old told) script) done (standing new taken)))
         (λ done. P × OfScript before after (λ script. HasBegunCut Run (run_of stop (standing old told) script) done taken))
-        (λ done h. (h.0, (h.1.0, h.1.1, (new, h.1.2, sound))))
+        (λ done h. (h.0, (h.1.0, h.1.1, (new, h.1.2, legal))))
 
 -- ---- facts of faults
 
@@ -114,13 +114,13 @@ limit_unrun old new told taken P =
 
 -- ---- dumps
 
-module _ (stop : Bool) (old new : State) (told nowhere : Option (List ℕ)) (sound : IsSoundState new) (script : List ℕ) (report : Report)
+module _ (stop : Bool) (old new : State) (told nowhere : Option (List ℕ)) (legal : IsLegalState new) (script : List ℕ) (report : Report)
     (left : IsLeft (run_of stop (standing old nowhere) script) (standing new nowhere) report) where
   the_dump : dump_text new.database ≡ dump_text left.progress.state.database
   the_dump = ap (λ (s : State). dump_text s.database) left.stands.state_is
 
-  sound_end : IsSoundState left.progress.state
-  sound_end = subst IsSoundState left.stands.state_is sound
+  legal_end : IsLegalState left.progress.state
+  legal_end = subst IsLegalState left.stands.state_is legal
 
   all_done : (done : ℕ) → done ≡ report.statements → left.progress.statements ≡ done
   all_done done is = sym (is ∙ left.statements_are)
@@ -134,7 +134,7 @@ module _ (stop : Bool) (old new : State) (told nowhere : Option (List ℕ)) (sou
         runs = left.runs;
         written = subst (λ bytes. Appends told taken bytes) the_dump written;
         status_is = ap status_of left.refused_are;
-        sound = sound_end;
+        legal = legal_end;
       }
 
   -- all was run, and no dump was made
@@ -146,7 +146,7 @@ module _ (stop : Bool) (old new : State) (told nowhere : Option (List ℕ)) (sou
         runs = runs_front stop (begun old) (statements 0 script) left.progress done left.runs (let same = all_done done is in omega (arith, same));
         each_run = all_done done is;
         written = appends_nothing told taken kept;
-        sound = sound_end;
+        legal = legal_end;
       }
 
   -- all was run, and the dump is cut
@@ -159,24 +159,24 @@ module _ (stop : Bool) (old new : State) (told nowhere : Option (List ℕ)) (sou
         each_run = all_done done is;
         count = count;
         cut = subst (λ bytes. AppendsIfTold told taken (take count bytes)) the_dump cut;
-        sound = sound_end;
+        legal = legal_end;
       }
 
 -- a front of the script was run, and nothing is written
-dump_front : (stop : Bool) (old new : State) (told : Option (List ℕ)) (script : List ℕ) (done : ℕ) → IsSoundState new
+dump_front : (stop : Bool) (old new : State) (told : Option (List ℕ)) (script : List ℕ) (done : ℕ) → IsLegalState new
     → HasRun (run_of stop (standing old None) script) done (standing new None) → HasBegun Dump (run_of stop (standing old told) script) done told
-dump_front stop old new told script done sound has =
+dump_front stop old new told script done legal has =
     record {
       progress = has.progress;
       runs = has.runs;
       each_run = has.each_run;
       written = appends_nothing told told refl;
-      sound = subst IsSoundState has.stands.state_is sound;
+      legal = subst IsLegalState has.stands.state_is legal;
     }
 
 -- ---- what a dump comes to after a run to the end
 
-module _ (stop : Bool) (old new : State) (told taken before after : Option (List ℕ)) (sound : IsSoundState new) (report : Report)
+module _ (stop : Bool) (old new : State) (told taken before after : Option (List ℕ)) (legal : IsLegalState new) (report : Report)
     (ran : OfScript before after (λ script. IsLeft (run_of stop (standing old None) script) (standing new None) report)) (r : Result Report RunFault) where
   pub dump_answers : IfOk r (λ x. (x ≡ report) × Appends told taken (dump_text new.database))
       → IfOk r (λ x. OfScript before after (λ script. HasAnswered Dump (run_of stop (standing old told) script) (status_of x.refused) taken))
@@ -187,7 +187,7 @@ module _ (stop : Bool) (old new : State) (told taken before after : Option (List
         ran.0,
         ran.1,
         subst (λ (y : Report). HasAnswered Dump (run_of stop (standing old told) ran.0) (status_of y.refused) taken) (sym h.0)
-            (dumped stop old new told None sound ran.0 report ran.2 taken h.1),
+            (dumped stop old new told None legal ran.0 report ran.2 taken h.1),
       )) r
 
   pub dump_memory : IfErr r (IfMemory (λ done. (done ≡ report.statements) × (taken ≡ told)))
@@ -200,7 +200,7 @@ module _ (stop : Bool) (old new : State) (told taken before after : Option (List
       (λ done h. (
         ran.0,
         record { given = ran.1.given; whole = λ some. ran.1 },
-        undumped stop old new told None sound ran.0 report ran.2 done taken h.0 h.1,
+        undumped stop old new told None legal ran.0 report ran.2 done taken h.0 h.1,
       ))) r
 
   pub dump_write : (broken : Type 0)
@@ -216,7 +216,7 @@ module _ (stop : Bool) (old new : State) (told taken before after : Option (List
       by_fault (faults.Memory done) h b = tt
       by_fault (faults.Read done) h b = tt
       by_fault (faults.ReadLimit done) h b = tt
-      by_fault (faults.Write done) h b = (b, (ran.0, ran.1, dump_cut stop old new told None sound ran.0 report ran.2 done taken h.1.0 h.0 h.1.1))
+      by_fault (faults.Write done) h b = (b, (ran.0, ran.1, dump_cut stop old new told None legal ran.0 report ran.2 done taken h.1.0 h.0 h.1.1))
 
       by_result : (x : Result Report RunFault)
           → IfErr x (IfWrite (λ done. (done ≡ report.statements) × ((n : ℕ) × AppendsIfTold told taken (take n (dump_text new.database)))))
@@ -243,13 +243,13 @@ no_limit P = err_map (IfReadLimit (λ done. ⊥)) (IfReadLimit P) (limit_map (λ
 
 -- ---- what it comes to after a run that was not to the end
 
-pub fault_memory : (stop : Bool) (old new : State) (told before after : Option (List ℕ)) → IsSoundState new → (fault : RunFault)
+pub fault_memory : (stop : Bool) (old new : State) (told before after : Option (List ℕ)) → IsLegalState new → (fault : RunFault)
     → IfMemory (λ done. OfFront done before after (λ script. HasRun (run_of stop (standing old None) script) done (standing new None))) fault
     → IfMemory (λ done. OfFront done before after (λ script. HasBegun Dump (run_of stop (standing old told) script) done told)) fault
-fault_memory stop old new told before after sound =
+fault_memory stop old new told before after legal =
     memory_map (λ done. OfFront done before after (λ script. HasRun (run_of stop (standing old None) script) done (standing new None)))
     (λ done. OfFront done before after (λ script. HasBegun Dump (run_of stop (standing old told) script) done told))
-    (λ done h. (h.0, h.1, dump_front stop old new told h.0 done sound h.2))
+    (λ done h. (h.0, h.1, dump_front stop old new told h.0 done legal h.2))
 
 pub fault_read : (old new : State) (told : Option (List ℕ)) (P : Type 0) (fault : RunFault)
     → IfRead (λ done. P × IsUnrun done (standing old None) (standing new None)) fault

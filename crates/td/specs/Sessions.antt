@@ -5,7 +5,7 @@ use Rattle.td.specs.declared.line.Mode.{Mode}
 use Rattle.td.specs.declared.line.Mode.TheVariants.{Run, Dump}
 use Rattle.td_catalog.specs.Dumps.{dump_text}
 use Rattle.td_engine.specs.Machine.{Progress, State}
-use Rattle.td_engine.specs.Soundness.{IsSoundState}
+use Rattle.td_engine.specs.Legality.{IsLegalState}
 use Rattle.td_engine.specs.Standing.{HasRun, HasRunCut, RunsTo, standing}
 use Rattle.td_engine.specs.Standing as runs
 use Rattle.td_engine.specs.Told.{AppendsIfTold}
@@ -26,26 +26,26 @@ abbrev pub output_of : Mode → Progress → List ℕ
 output_of Run progress = progress.text
 output_of Dump progress = dump_text progress.state.database
 
--- the run was run to its end, the sink has taken what is written of it, and the databases are sound
+-- the run was run to its end, the sink has taken what is written of it, and the databases are legal
 pub record HasAnswered (mode : Mode) (run : runs.Run) (status : ℕ) (taken : Option (List ℕ)) : Type 0 where
   pub progress : Progress
   pub runs : RunsTo run run.script progress
   pub written : Appends run.old.taken taken (output_of mode progress)
   pub status_is : status ≡ status_of progress.refusals
-  pub sound : IsSoundState progress.state
+  pub legal : IsLegalState progress.state
 
 -- what is written before memory is refused: the answers so far, and nothing of a dump
 abbrev pub output_so_far : Mode → Progress → List ℕ
 output_so_far Run progress = progress.text
 output_so_far Dump progress = []
 
--- the first `done` statements were run, each of them, the sink has taken what is written so far, and the databases are sound
+-- the first `done` statements were run, each of them, the sink has taken what is written so far, and the databases are legal
 pub record HasBegun (mode : Mode) (run : runs.Run) (done : ℕ) (taken : Option (List ℕ)) : Type 0 where
   pub progress : Progress
   pub runs : RunsTo run (take done run.script) progress
   pub each_run : progress.statements ≡ done
   pub written : Appends run.old.taken taken (output_so_far mode progress)
-  pub sound : IsSoundState progress.state
+  pub legal : IsLegalState progress.state
 
 -- the run was run to its end, `done` statements, and the dump is cut
 pub record HasDumpedCut (run : runs.Run) (done : ℕ) (taken : Option (List ℕ)) : Type 0 where
@@ -54,11 +54,11 @@ pub record HasDumpedCut (run : runs.Run) (done : ℕ) (taken : Option (List ℕ)
   pub each_run : progress.statements ≡ done
   pub count : ℕ
   pub cut : AppendsIfTold run.old.taken taken (take count (dump_text progress.state.database))
-  pub sound : IsSoundState progress.state
+  pub legal : IsLegalState progress.state
 
 -- what was written is cut: the text of the last of the first `done` statements, or the dump
 abbrev pub HasBegunCut : Mode → runs.Run → ℕ → Option (List ℕ) → Type 0
-HasBegunCut Run run done taken = (s : State) × HasRunCut run done (standing s taken) × IsSoundState s
+HasBegunCut Run run done taken = (s : State) × HasRunCut run done (standing s taken) × IsLegalState s
 HasBegunCut Dump run done taken = HasDumpedCut run done taken
 
 -- unless memory was refused

@@ -79,12 +79,14 @@ fn out_of_memory<R: Eprint>(rt: &R) -> u8 {
     FAILED
 }
 
-/// Says why there are no words: one of them is no text, or memory was refused.
+/// Says why there are no words: one of them is no text, in the form of `clap`'s refusals, or memory
+/// was refused.
 fn refuse_words<R: Eprint>(rt: &R, error: &io::Error) -> u8 {
     if error.kind() != io::ErrorKind::InvalidData {
         return out_of_memory(rt);
     }
-    let _ = eprintln!(rt; "td: a word of the command line is not UTF-8");
+    let _ = eprintln!(rt; "error: invalid UTF-8 was detected in one or more arguments");
+    let _ = eprintln!(rt; "\nFor more information, try '--help'.");
     WRONG_LINE
 }
 
@@ -98,7 +100,7 @@ fn answer_words<R: Print + Eprint>(rt: &R, error: &Error) -> u8 {
         return WRONG_LINE;
     }
     if printed.is_err() {
-        let _ = eprintln!(rt; "td: help cannot be written");
+        report_fault(rt, RunFault::Write { done: 0 });
         return FAILED;
     }
     0

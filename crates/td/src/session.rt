@@ -5,6 +5,7 @@ ghost use Rattle.td.specs.Sessions.{HasAnswered, HasBegun, HasBegunCut, IsStatus
 ghost use Rattle.td.specs.Sessions.{status_of};
 ghost use Rattle.td_engine.specs.Faults.{IfMemory, IfNotMemory, IfRead, IfReadLimit, IfWrite};
 ghost use Rattle.td_engine.specs.Machine.{empty_state};
+ghost use Rattle.td_engine.specs.LegalityLaws.{IsLegalThroughout};
 ghost use Rattle.td_engine.specs.Scripts.{GaveTooMuch, OfFront, OfScript, script_limit};
 ghost use Rattle.td_engine.specs.Standing.{run_of, standing};
 ghost use Rattle.td_engine.specs.Told.{GaveAtMost, StaysWhole};
@@ -15,6 +16,7 @@ use std::alloc::Global;
 use td_body::body::Body;
 use td_body::sorted::SortedBody;
 use td_engine::engine::Engine;
+use td_engine::laws::runs_keep_legality;
 use td_engine::run::{Report, RunFault, run};
 use td_engine::sink::Sink;
 use td_engine::source::Source;
@@ -106,8 +108,11 @@ pub fn session<R: Source, W: Sink>(
         × OfScript (R.left reader.old) (R.left reader.new) (λ script. HasBegunCut mode
         (run_of stop (standing empty_state (W.taken writer.old)) script) done
         (W.taken writer.new)))) }
+    ensures between { IsLegalThroughout stop empty_state }
 {
     let mut engine: Engine<SortedBody> = Engine::new(alloc);
+    engine.reveal();
+    runs_keep_legality();
     let answered = written(alloc, mode, stop, &mut engine, reader, writer);
     drop(engine);
     match answered {

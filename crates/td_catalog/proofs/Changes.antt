@@ -7,17 +7,17 @@ use Rattle.indexmap.specs.IndexMap.{IndexMap, insert_entry}
 use Rattle.indexmap.specs.Layout.{set_value_at}
 use Rattle.td_catalog.specs.CatalogViews.{AreEntries, IsBodyOf, IsCatalog, IsEntry, Rows, base_view, constraint_view, database_view, entry_keys, virtual_view}
 use Rattle.td_catalog.specs.Database.{BaseRelvar, NamedConstraint, VirtualRelvar, base_relvar, base_named, database_scope, knows_constraint, knows_relvar, with_base, with_body, with_constraint, with_virtual}
-use Rattle.td_catalog.specs.Legality.{AreBaseKeys, AreTyped, IsBase, IsConstrained, IsConstraint, IsLegal, IsRanked, IsRelvarHeading, IsVirtual, KeysHold}
+use Rattle.td_catalog.specs.TypedDatabases.{AreTyped, IsConstrained, IsTyped, IsTypedBase, IsTypedConstraint, IsTypedVirtual}
 use Rattle.td_catalog.specs.declared.entry.BaseEntry.{BaseEntry}
 use Rattle.td_catalog.specs.declared.entry.ConstraintEntry.{ConstraintEntry}
 use Rattle.td_catalog.specs.declared.entry.VirtualEntry.{VirtualEntry}
-use Rattle.td_catalog.proofs.Legal.{held, legal_empty, legal_with_base, legal_with_body, legal_with_constraint, legal_with_type, legal_with_virtual}
+use Rattle.td_catalog.proofs.TypedChanges.{held, typed_empty, typed_with_base, typed_with_body, typed_with_constraint, typed_with_type, typed_with_virtual}
 use Rattle.td_catalog.proofs.Lists.{all_push, neither}
 use Rattle.td_catalog.proofs.Places.{IsChanged, changed, other_name, with_entry_body}
 use Rattle.td_catalog.proofs.Rows.{has_append, known, rows_with, view_with}
 use Rattle.td_tree.specs.Names.{IsName}
-use Rattle.td_types.specs.TypeLists.{AreDeclared, DeclaredType}
-use Rattle.td_types.specs.Types.{same_name}
+use Rattle.td_types.specs.TypeLists.{AreDeclared, AreKnown, DeclaredType}
+use Rattle.td_types.specs.Types.{pack, same_name}
 use Rattle.td_value.specs.Values.{IsRelation, Relation}
 
 -- ---- rows with other ones in one list
@@ -42,14 +42,14 @@ module _ {B : Type 0} (relation : B → Relation) (keys : B → List (List (List
       (subst (λ bs. IsCatalog relation keys (with_types [] (with_base_rows bs rows))) (sym f)
       (subst (λ vs. IsCatalog relation keys (with_types [] (with_base_rows [] (with_virtual_rows vs rows)))) (sym g)
       (subst (λ cs. IsCatalog relation keys (record { types = []; bases = []; virtuals = []; constraints = cs })) (sym h)
-      (record { entries = tt; legal = legal_empty }))))
+      (record { entries = tt; is_typed = typed_empty }))))
 
   pub catalog_with_type : (rows : Rows B) (d : DeclaredType) (after : List DeclaredType)
-      → IsCatalog relation keys rows → after ≡ rows.types ++ (d ∷ []) → AreDeclared after → IsRanked rows.types d → IsConstrained rows.types d
+      → IsCatalog relation keys rows → after ≡ rows.types ++ (d ∷ []) → AreDeclared after → IsConstrained rows.types d
       → IsCatalog relation keys (with_types after rows)
-  catalog_with_type rows d after h e all ranked constrained =
+  catalog_with_type rows d after h e all constrained =
       subst (λ ts. IsCatalog relation keys (with_types ts rows)) (sym e)
-      (record { entries = h.entries; legal = legal_with_type (database_view relation rows) d h.legal (subst AreDeclared e all) ranked constrained })
+      (record { entries = h.entries; is_typed = typed_with_type (database_view relation rows) d h.is_typed (subst AreDeclared e all) constrained })
 
   -- the entry that a name finds is as its body
   pub as_body : (name : List ℕ) (rows : List (List ℕ × BaseEntry B)) → AreEntries relation keys rows → IfSome (lookup (same_name name) rows) (IsEntry relation keys)
@@ -95,21 +95,17 @@ module _ {B : Type 0} (relation : B → Relation) (keys : B → List (List (List
   -- what is asked of it
   pub record IsNewBase (types : List DeclaredType) (name : List ℕ) (entry : BaseEntry B) : Type 0 where
     pub named : IsName name
-    pub heading : IsRelvarHeading types entry.heading
-    pub base_keys : AreBaseKeys entry.heading (entry_keys entry)
+    pub heading : AreKnown types (pack entry.heading)
     pub of_body : IsEntry relation keys entry
     pub proper : IsRelation (relation entry.body)
     pub typed : AreTyped types (relation entry.body)
-    pub hold : KeysHold (keys entry.body) (relation entry.body).body
 
-  new_base : (types : List DeclaredType) (name : List ℕ) (entry : BaseEntry B) → IsNewBase types name entry → IsBase types (base_view relation (name, entry))
+  new_base : (types : List DeclaredType) (name : List ℕ) (entry : BaseEntry B) → IsNewBase types name entry → IsTypedBase types (base_view relation (name, entry))
   new_base types name entry h =
       record {
-        heading = subst (IsRelvarHeading types) (sym h.of_body.heading_is) h.heading;
-        keys = subst (λ heading. AreBaseKeys heading (entry_keys entry)) (sym h.of_body.heading_is) h.base_keys;
+        known = subst (λ g. AreKnown types (pack g)) (sym h.of_body.heading_is) h.heading;
         relation = h.proper;
         typed = h.typed;
-        hold = subst (λ ks. KeysHold ks (relation entry.body).body) h.of_body.keys_are h.hold;
       }
 
   module _ {S : Type 0} (rows : Rows B) (m : IndexMap (List ℕ) (BaseEntry B) S) (name : List ℕ) (entry : BaseEntry B)
@@ -133,9 +129,9 @@ module _ {B : Type 0} (relation : B → Relation) (keys : B → List (List (List
           entries =
               subst (AreEntries relation keys) (sym (rows_with (base_view relation) (λ (r : BaseRelvar). r.name) base_named_so m name entry free_row))
               (all_push (λ row. IsEntry relation keys row.1) m.entries (name, entry) (subst (AreEntries relation keys) of h.entries) new.of_body);
-          legal =
-              subst IsLegal (sym view_with_base)
-              (legal_with_base (database_view relation rows) (base_view relation (name, entry)) h.legal new.named free (new_base rows.types name entry new));
+          is_typed =
+              subst IsTyped (sym view_with_base)
+              (typed_with_base (database_view relation rows) (base_view relation (name, entry)) h.is_typed new.named free (new_base rows.types name entry new));
         }
 
   -- ---- one more virtual relvar
@@ -148,12 +144,12 @@ module _ {B : Type 0} (relation : B → Relation) (keys : B → List (List (List
         (view_with virtual_view (λ (v : VirtualRelvar). v.name) (λ row. refl) m name entry (ap (λ rs. is_some (lookup (same_name name) rs)) (sym of) ∙ no_virtual name rows free)
         ∙ ap (λ rs. map virtual_view rs ++ (virtual_view (name, entry) ∷ [])) (sym of))
 
-    pub catalog_with_virtual : IsCatalog relation keys rows → IsName name → IsVirtual (database_scope (database_view relation rows)) (virtual_view (name, entry))
+    pub catalog_with_virtual : IsCatalog relation keys rows → IsName name → IsTypedVirtual (database_scope (database_view relation rows)) (virtual_view (name, entry))
         → IsCatalog relation keys (with_virtual_rows (insert_entry same_name m.entries name entry) rows)
     catalog_with_virtual h named new =
         record {
           entries = h.entries;
-          legal = subst IsLegal (sym view_with_virtual) (legal_with_virtual (database_view relation rows) (virtual_view (name, entry)) h.legal named free new);
+          is_typed = subst IsTyped (sym view_with_virtual) (typed_with_virtual (database_view relation rows) (virtual_view (name, entry)) h.is_typed named free new);
         }
 
   -- ---- one more constraint
@@ -168,12 +164,12 @@ module _ {B : Type 0} (relation : B → Relation) (keys : B → List (List (List
         (ap (λ rs. is_some (lookup (same_name name) rs)) (sym of) ∙ knows_constraint_by name rows ∙ free)
         ∙ ap (λ rs. map constraint_view rs ++ (constraint_view (name, entry) ∷ [])) (sym of))
 
-    pub catalog_with_constraint : IsCatalog relation keys rows → IsName name → IsConstraint (database_scope (database_view relation rows)) (constraint_view (name, entry))
+    pub catalog_with_constraint : IsCatalog relation keys rows → IsName name → IsTypedConstraint (database_scope (database_view relation rows)) (constraint_view (name, entry))
         → IsCatalog relation keys (with_constraint_rows (insert_entry same_name m.entries name entry) rows)
     catalog_with_constraint h named new =
         record {
           entries = h.entries;
-          legal = subst IsLegal (sym view_with_constraint) (legal_with_constraint (database_view relation rows) (constraint_view (name, entry)) h.legal named free new);
+          is_typed = subst IsTyped (sym view_with_constraint) (typed_with_constraint (database_view relation rows) (constraint_view (name, entry)) h.is_typed named free new);
         }
 
   -- ---- another body
@@ -189,25 +185,24 @@ module _ {B : Type 0} (relation : B → Relation) (keys : B → List (List (List
 
     pub catalog_with_body : IsCatalog relation keys rows
         → IfSome (base_named name (database_view relation rows)) (λ r. IsBodyOf r.relation.heading r.keys (relation body) (keys body))
-        → IsRelation (relation body) → AreTyped rows.types (relation body) → KeysHold (keys body) (relation body).body
+        → IsRelation (relation body) → AreTyped rows.types (relation body)
         → IsCatalog relation keys (with_base_rows (set_value_at rows.bases i (with_entry_body relation keys row.1 body)) rows)
-    catalog_with_body h fits proper typed hold =
+    catalog_with_body h fits proper typed =
         let was = change.was h.entries in
         let fit : IsBodyOf (relation row.1.body).heading (entry_keys row.1) (relation body) (keys body) =
         subst (λ o. IfSome o (λ r. IsBodyOf r.relation.heading r.keys (relation body) (keys body))) change.found fits in
         let entry : IsEntry relation keys (with_entry_body relation keys row.1 body) = record { heading_is = fit.heading_is ∙ was.heading_is; keys_are = fit.keys_are } in
         record {
           entries = change.entries h.entries entry;
-          legal = subst IsLegal (sym view_with_body) (legal_with_body (database_view relation rows) name (relation body) h.legal (fitting fits));
+          is_typed = subst IsTyped (sym view_with_body) (typed_with_body (database_view relation rows) name (relation body) h.is_typed (fitting fits));
         }
       where
         fitting : IfSome (base_named name (database_view relation rows)) (λ r. IsBodyOf r.relation.heading r.keys (relation body) (keys body))
             → (r : BaseRelvar) → base_named name (database_view relation rows) ≡ Some r
-            → ((relation body).heading ≡ r.relation.heading) × IsBase rows.types (base_relvar name r.keys (relation body))
+            → ((relation body).heading ≡ r.relation.heading) × IsTypedBase rows.types (base_relvar name r.keys (relation body))
         fitting f r e =
             let fit : IsBodyOf r.relation.heading r.keys (relation body) (keys body) =
             subst (λ o. IfSome o (λ r'. IsBodyOf r'.relation.heading r'.keys (relation body) (keys body))) e f in (
               fit.heading_is,
-              held (database_view relation rows) name (relation body) r h.legal e
-                  (record { heading = fit.heading_is; proper = proper; typed = typed; hold = subst (λ ks. KeysHold ks (relation body).body) fit.keys_are hold }),
+              held (database_view relation rows) name (relation body) r h.is_typed e fit.heading_is proper typed,
             )

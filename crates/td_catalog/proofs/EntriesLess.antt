@@ -3,13 +3,13 @@ use Rattle.std.proofs.Common.{◌≡◌, ℕ, Bool, true, false, List, [], ◌�
 use Rattle.std.specs.Map.{remove_entry}
 use Rattle.td_catalog.specs.CatalogViews.{AreEntries, IsCatalog, Rows, base_view, constraint_view, database_view, virtual_view}
 use Rattle.td_catalog.specs.Database.{BaseRelvar, NamedConstraint, VirtualRelvar, without_constraint, without_relvar}
-use Rattle.td_catalog.specs.Legality.{IsLegal}
-use Rattle.td_catalog.specs.LegalityLaws.{DropsKeepLegality}
+use Rattle.td_catalog.specs.TypedDatabases.{IsTyped}
+use Rattle.td_catalog.specs.TypedDatabaseLaws.{DropsKeepTyped}
 use Rattle.td_catalog.specs.Mentioned.{is_relvar_in_use, is_type_in_use}
 use Rattle.td_catalog.specs.declared.entry.BaseEntry.{BaseEntry}
 use Rattle.td_catalog.proofs.Changes.{with_constraint_rows, with_types}
-use Rattle.td_catalog.proofs.LegalDrops.{legal_without_constraint, legal_without_relvar}
-use Rattle.td_catalog.proofs.LegalTypeDrops.{legal_without_type}
+use Rattle.td_catalog.proofs.TypedDrops.{typed_without_constraint, typed_without_relvar}
+use Rattle.td_catalog.proofs.TypedTypeDrops.{typed_without_type}
 use Rattle.td_catalog.proofs.Lists.{not_true}
 use Rattle.td_catalog.proofs.Rows.{removed}
 use Rattle.td_types.specs.NamedTypes.{without_declared}
@@ -50,7 +50,7 @@ module _ {B : Type 0} (relation : B → Relation) (keys : B → List (List (List
     catalog_without_relvar h free =
         record {
           entries = entries_removed (same_name name) rows.bases h.entries;
-          legal = subst IsLegal (sym view_without_relvar) (legal_without_relvar (database_view relation rows) name h.legal free);
+          is_typed = subst IsTyped (sym view_without_relvar) (typed_without_relvar (database_view relation rows) name h.is_typed free);
         }
 
     pub view_without_constraint : database_view relation (with_constraint_rows (remove_entry (same_name name) rows.constraints) rows) ≡ without_constraint name (database_view relation rows)
@@ -62,7 +62,7 @@ module _ {B : Type 0} (relation : B → Relation) (keys : B → List (List (List
     catalog_without_constraint h =
         record {
           entries = h.entries;
-          legal = subst IsLegal (sym view_without_constraint) (legal_without_constraint (database_view relation rows) name h.legal);
+          is_typed = subst IsTyped (sym view_without_constraint) (typed_without_constraint (database_view relation rows) name h.is_typed);
         }
 
     -- without the type of the name
@@ -71,17 +71,17 @@ module _ {B : Type 0} (relation : B → Relation) (keys : B → List (List (List
     catalog_without_type types is h free =
         record {
           entries = h.entries;
-          legal =
-              subst (λ ts. IsLegal (database_view relation (with_types ts rows))) (sym is)
-              (legal_without_type name (database_view relation rows) h.legal free);
+          is_typed =
+              subst (λ ts. IsTyped (database_view relation (with_types ts rows))) (sym is)
+              (typed_without_type name (database_view relation rows) h.is_typed free);
         }
 
 -- ---- laws
 
-pub drops_keep : DropsKeepLegality
+pub drops_keep : DropsKeepTyped
 drops_keep =
     record {
-      type = λ db name h unused. legal_without_type name db h (not_true (is_type_in_use name db) unused);
-      relvar = λ db name h unused. legal_without_relvar db name h (not_true (is_relvar_in_use name db) unused);
-      constraint = legal_without_constraint;
+      type = λ db name h unused. typed_without_type name db h (not_true (is_type_in_use name db) unused);
+      relvar = λ db name h unused. typed_without_relvar db name h (not_true (is_relvar_in_use name db) unused);
+      constraint = typed_without_constraint;
     }

@@ -1,13 +1,13 @@
 mod Changes
 mod Copies
-mod EntriesLess
+pub mod EntriesLess
 mod KeyNames
 mod KnownRelvars
-mod LegalDrops
-mod LegalTypeDrops
+mod TypedDrops
+pub mod TypedTypeDrops
 mod Lines
-mod Lists
-pub mod Legal
+pub mod Lists
+pub mod TypedChanges
 mod Places
 mod Reached
 mod Rows

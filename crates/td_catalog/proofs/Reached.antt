@@ -7,12 +7,12 @@ use Rattle.std.proofs.lemmas.Option.{slice_get-map}
 use Rattle.std.proofs.lemmas.List.{append_assoc, append-nil, length-map, map-append}
 use Rattle.td_catalog.specs.CatalogViews.{AreEntries, base_view, constraint_view, virtual_view}
 use Rattle.td_catalog.specs.Database.{BaseRelvar, Database, NamedConstraint, VirtualRelvar, constraint_names, database_scope, known_base, known_virtual, with_virtuals}
-use Rattle.td_catalog.specs.Legality.{IsLegal}
+use Rattle.td_catalog.specs.TypedDatabases.{IsTyped}
 use Rattle.td_catalog.specs.declared.entry.BaseEntry.{BaseEntry}
 use Rattle.td_catalog.specs.declared.entry.ConstraintEntry.{ConstraintEntry}
 use Rattle.td_catalog.specs.declared.entry.VirtualEntry.{VirtualEntry}
 use Rattle.td_catalog.proofs.KnownRelvars.{unfound}
-use Rattle.td_catalog.proofs.Legal.{names_known}
+use Rattle.td_catalog.proofs.TypedChanges.{names_known}
 use Rattle.td_catalog.proofs.Lists.{both, distinct_front, not_true}
 use Rattle.td_check.specs.Scopes.{KnownRelvar, Scope, known_relvar, knows_constraint, with_known_constraint, with_known_relvar}
 use Rattle.td_check.specs.declared.scope.Kind.{Kind}
@@ -142,12 +142,12 @@ pub constraints_named : (rows : List (List ℕ × ConstraintEntry)) → keys_of 
 constraints_named [] = refl
 constraints_named (row ∷ rows) = ap (λ ns. row.0 ∷ ns) (constraints_named rows)
 
--- in a legal database no two relvars that are known have one name
-pub distinct_known : (db : Database) → IsLegal db → are_distinct (map (λ (r : KnownRelvar). r.name) (map known_base db.bases ++ map known_virtual db.virtuals)) ≡ true
+-- in a typed database no two relvars that are known have one name
+pub distinct_known : (db : Database) → IsTyped db → are_distinct (map (λ (r : KnownRelvar). r.name) (map known_base db.bases ++ map known_virtual db.virtuals)) ≡ true
 distinct_known db h = ap are_distinct (names_known db.bases db.virtuals) ∙ h.distinct
 
 -- nor have two base relvars
-pub distinct_bases : (db : Database) → IsLegal db → are_distinct (map (λ (r : KnownRelvar). r.name) ([] ++ map known_base db.bases)) ≡ true
+pub distinct_bases : (db : Database) → IsTyped db → are_distinct (map (λ (r : KnownRelvar). r.name) ([] ++ map known_base db.bases)) ≡ true
 distinct_bases db h =
     let names = map (λ (b : BaseRelvar). b.name) db.bases in
     ap are_distinct (ap (map (λ (r : KnownRelvar). r.name)) (sym (append-nil (map known_base db.bases))) ∙ names_known db.bases [] ∙ append-nil names)
@@ -180,7 +180,7 @@ module _ {A : Type 0} where
   none_past (x ∷ xs) (suc i) e = let h = none_past xs i e in omega (arith, h)
 
 -- the name of the next virtual relvar is not known
-pub next_new : (db : Database) (place : ℕ) (v : VirtualRelvar) → IsLegal db → slice_get db.virtuals place ≡ Some v
+pub next_new : (db : Database) (place : ℕ) (v : VirtualRelvar) → IsTyped db → slice_get db.virtuals place ≡ Some v
     → not (is_some (known_relvar (database_scope (with_virtuals (take place db.virtuals) db)) v.name)) ≡ true
 next_new db place v h is =
     let name_of : KnownRelvar → List ℕ = λ r. r.name in

@@ -5,12 +5,12 @@ use Rattle.std.specs.List.{AllByRecursion, list_any, slice_get}
 use Rattle.std.proofs.lemmas.List.Folds.{list_any-append}
 use Rattle.td_catalog.specs.CatalogViews.{AreEntries, base_view, constraint_view, virtual_view}
 use Rattle.td_catalog.specs.Database.{Database, NamedConstraint, VirtualRelvar, database_scope, with_virtuals}
-use Rattle.td_catalog.specs.Legality.{IsConstraint, IsLegal}
+use Rattle.td_catalog.specs.TypedDatabases.{IsTypedConstraint, IsTyped}
 use Rattle.td_catalog.specs.Mentioned.{base_mentions_type}
 use Rattle.td_catalog.specs.declared.entry.BaseEntry.{BaseEntry}
 use Rattle.td_catalog.specs.declared.entry.ConstraintEntry.{ConstraintEntry}
 use Rattle.td_catalog.specs.declared.entry.VirtualEntry.{VirtualEntry}
-use Rattle.td_catalog.proofs.LegalDrops.{earlier_virtuals}
+use Rattle.td_catalog.proofs.TypedDrops.{earlier_virtuals}
 use Rattle.td_catalog.proofs.Lists.{each_all}
 use Rattle.td_catalog.proofs.Reached.{one_more_taken, stands_at}
 use Rattle.td_check.specs.OperatorTypes.{if_type}
@@ -74,17 +74,17 @@ module _ {A : Type 0} (test : A → Bool) (xs : List A) (i : ℕ) (x : A) (at : 
 abbrev pub HasTypeIn : Scope → Tree → Type 0
 HasTypeIn scope e = (t : Type') × (type_of scope e ≡ Valued t)
 
-module _ (db : Database) (legal : IsLegal db) where
+module _ (db : Database) (is_typed : IsTyped db) where
   virtual_typed : AllByRecursion (λ (v : VirtualRelvar). HasTypeIn (database_scope db) v.tree) db.virtuals
   virtual_typed =
       each_all (λ (v : VirtualRelvar). HasTypeIn (database_scope db) v.tree) db.virtuals
       (λ earlier later v is. (
         types.relation (pack v.heading),
         (more_changes_nothing (database_scope (with_virtuals earlier db)) (database_scope db) v.tree (types.relation (pack v.heading))
-            (earlier_virtuals db earlier v later is) (legal.virtuals earlier later v is).typed).0,
+            (earlier_virtuals db earlier v later is) (is_typed.virtuals earlier later v is).typed).0,
       ))
 
-  constraints_typed : (cs : List NamedConstraint) → AllByRecursion (IsConstraint (database_scope db)) cs
+  constraints_typed : (cs : List NamedConstraint) → AllByRecursion (IsTypedConstraint (database_scope db)) cs
       → AllByRecursion (λ (c : NamedConstraint). HasTypeIn (database_scope db) c.tree) cs
   constraints_typed [] h = tt
   constraints_typed (c ∷ cs) h = ((types.boolean, h.0), constraints_typed cs h.1)
@@ -95,7 +95,7 @@ module _ (db : Database) (legal : IsLegal db) where
   condition_typed place d at e is =
       let split = stands_at db.types place d at in
       let first = alone_with (heading_from d.components) (scope_of (take place db.types)) in
-      let fits = subst (λ o. constraint_fits (scope_of (take place db.types)) d.components o ≡ Valued tt) is (legal.constrained (take place db.types) split.0 d split.1) in
+      let fits = subst (λ o. constraint_fits (scope_of (take place db.types)) d.components o ≡ Valued tt) is (is_typed.constrained (take place db.types) split.0 d split.1) in
       let typed = value_of_with (type_of first e) (λ t. if_type types.boolean t tt) tt fits in (
         typed.0,
         (more_changes_nothing first (alone_with (heading_from d.components) (scope_of db.types)) e typed.0
@@ -105,7 +105,7 @@ module _ (db : Database) (legal : IsLegal db) where
   pub components_distinct : (place : ℕ) (d : DeclaredType) → slice_get db.types place ≡ Some d → are_distinct (attribute_names d.components) ≡ true
   components_distinct place d at =
       let split = stands_at db.types place d at in
-      (legal.declared (take place db.types) split.0 d split.1).distinct
+      (is_typed.declared (take place db.types) split.0 d split.1).distinct
 
 -- ---- a catalogue's rows
 
@@ -141,19 +141,19 @@ abbrev pub ConstraintTyped : Scope → ConstraintEntry → Type 0
 ConstraintTyped scope entry = HasTypeIn scope (tree_view entry.tree.value)
 
 -- their expressions have types
-pub virtual_rows_typed : (db : Database) (rows : List (List ℕ × VirtualEntry)) → IsLegal db → map virtual_view rows ≡ db.virtuals
+pub virtual_rows_typed : (db : Database) (rows : List (List ℕ × VirtualEntry)) → IsTyped db → map virtual_view rows ≡ db.virtuals
     → AllByRecursion (VirtualTyped (database_scope db)) (map (λ row. row.1) rows)
-virtual_rows_typed db rows legal seen = of_rows rows (subst (AllByRecursion (λ (v : VirtualRelvar). HasTypeIn (database_scope db) v.tree)) (sym seen) (virtual_typed db legal))
+virtual_rows_typed db rows is_typed seen = of_rows rows (subst (AllByRecursion (λ (v : VirtualRelvar). HasTypeIn (database_scope db) v.tree)) (sym seen) (virtual_typed db is_typed))
   where
     of_rows : (rs : List (List ℕ × VirtualEntry)) → AllByRecursion (λ (v : VirtualRelvar). HasTypeIn (database_scope db) v.tree) (map virtual_view rs)
         → AllByRecursion (VirtualTyped (database_scope db)) (map (λ row. row.1) rs)
     of_rows [] h = tt
     of_rows (row ∷ rs) h = (h.0, of_rows rs h.1)
 
-pub constraint_rows_typed : (db : Database) (rows : List (List ℕ × ConstraintEntry)) → IsLegal db → map constraint_view rows ≡ db.constraints
+pub constraint_rows_typed : (db : Database) (rows : List (List ℕ × ConstraintEntry)) → IsTyped db → map constraint_view rows ≡ db.constraints
     → AllByRecursion (ConstraintTyped (database_scope db)) (map (λ row. row.1) rows)
-constraint_rows_typed db rows legal seen =
-    of_rows rows (subst (AllByRecursion (λ (c : NamedConstraint). HasTypeIn (database_scope db) c.tree)) (sym seen) (constraints_typed db legal db.constraints legal.constraints))
+constraint_rows_typed db rows is_typed seen =
+    of_rows rows (subst (AllByRecursion (λ (c : NamedConstraint). HasTypeIn (database_scope db) c.tree)) (sym seen) (constraints_typed db is_typed db.constraints is_typed.constraints))
   where
     of_rows : (rs : List (List ℕ × ConstraintEntry)) → AllByRecursion (λ (c : NamedConstraint). HasTypeIn (database_scope db) c.tree) (map constraint_view rs)
         → AllByRecursion (ConstraintTyped (database_scope db)) (map (λ row. row.1) rs)

@@ -2,7 +2,7 @@
 use Rattle.std.specs.Prelude.{◌≡◌, ℕ, List, map}
 use Rattle.std.specs.List.{AllByRecursion}
 use Rattle.td_catalog.specs.Database.{BaseRelvar, Database, NamedConstraint, VirtualRelvar, base_relvar, named_constraint, virtual_relvar}
-use Rattle.td_catalog.specs.Legality.{IsLegal}
+use Rattle.td_catalog.specs.TypedDatabases.{IsTyped}
 use Rattle.td_catalog.specs.declared.entry.BaseEntry.{BaseEntry}
 use Rattle.td_catalog.specs.declared.entry.ConstraintEntry.{ConstraintEntry}
 use Rattle.td_catalog.specs.declared.entry.VirtualEntry.{VirtualEntry}
@@ -58,7 +58,7 @@ IsEntry relation keys entry = IsBodyOf entry.heading (entry_keys entry) (relatio
 abbrev pub AreEntries : {B : Type 0} → (B → Relation) → (B → List (List (List ℕ))) → List (List ℕ × BaseEntry B) → Type 0
 AreEntries relation keys = AllByRecursion (λ row. IsEntry relation keys row.1)
 
--- what a catalogue is: each entry is as its body, and the database is legal
+-- what a catalogue is: each entry is as its body, and the database is typed
 pub record IsCatalog {B : Type 0} (relation : B → Relation) (keys : B → List (List (List ℕ))) (rows : Rows B) : Type 0 where
   pub entries : AreEntries relation keys rows.bases
-  pub legal : IsLegal (database_view relation rows)
+  pub is_typed : IsTyped (database_view relation rows)

@@ -2,7 +2,7 @@ pub mod CatalogViews
 pub mod Database
 pub mod DatabaseCode
 pub mod Dumps
-pub mod Legality
-pub mod LegalityLaws
+pub mod TypedDatabases
+pub mod TypedDatabaseLaws
 pub mod Mentioned
 pub mod Sought

@@ -3,7 +3,7 @@ ghost use Rattle.std.specs.Prelude.{◌≡◌, IfSome, option_map, slice_get};
 ghost use Rattle.td_catalog.specs.CatalogViews.{IsEntry, base_view, virtual_view};
 ghost use Rattle.td_catalog.specs.Database.{base_named, constraint_named, empty_database};
 ghost use Rattle.td_catalog.specs.Database.{virtual_named};
-ghost use Rattle.td_catalog.specs.Legality.{IsLegal};
+ghost use Rattle.td_catalog.specs.TypedDatabases.{IsTyped};
 ghost use Rattle.td_tree.specs.TreeViews.{tree_view};
 ghost use Rattle.td_types.specs.TypeLists.{declared_at};
 
@@ -65,7 +65,7 @@ impl<B: Body> Catalog<B> {
 
     /// What holds of every catalogue. It takes no time.
     pub fn reveal(&self)
-        ensures { IsLegal self.now }
+        ensures { IsTyped self.now }
     {
         let _ = &self.types;
     }

@@ -5,14 +5,14 @@ ghost use Rattle.td_catalog.specs.Database.{base_named, base_relvar, database_sc
 ghost use Rattle.td_catalog.specs.Database.{knows_constraint, knows_relvar, named_constraint};
 ghost use Rattle.td_catalog.specs.Database.{virtual_relvar, with_base, with_body};
 ghost use Rattle.td_catalog.specs.Database.{with_constraint, with_declared, with_virtual};
-ghost use Rattle.td_catalog.specs.Legality.{AreBaseKeys, AreComponents, AreTyped, IsConstrained};
-ghost use Rattle.td_catalog.specs.Legality.{IsConstraint, IsRanked, IsRelvarHeading, IsVirtual};
-ghost use Rattle.td_catalog.specs.Legality.{KeysHold};
+ghost use Rattle.td_catalog.specs.TypedDatabases.{AreComponents, AreTyped, IsConstrained};
+ghost use Rattle.td_catalog.specs.TypedDatabases.{IsTypedConstraint, IsTypedVirtual};
 ghost use Rattle.td_check.specs.StatementTypes.{holds_or};
 ghost use Rattle.td_tree.specs.Outcomes.{Answers};
 ghost use Rattle.td_tree.specs.TreeViews.{tree_view};
 ghost use Rattle.td_tree.specs.declared.cause.Cause.TheVariants as causes;
-ghost use Rattle.td_types.specs.TypeLists.{declared_type, is_declared};
+ghost use Rattle.td_types.specs.TypeLists.{AreKnown, declared_type, is_declared};
+ghost use Rattle.td_types.specs.Types.{pack};
 ghost use Rattle.td_types.specs.Views.{pairs_view};
 
 use crate::catalog::Catalog;
@@ -28,7 +28,7 @@ use td_types::ty::Ty;
 
 impl<B: Body> Catalog<B> {
     /// Adds a type, last: refused where a type of the name is declared. `check_statement` tells
-    /// whether its components, its rank and its constraint are as is asked.
+    /// whether its components and its constraint are as is asked.
     pub fn add_type(
         &mut self,
         name: Name,
@@ -36,8 +36,6 @@ impl<B: Body> Catalog<B> {
         constraint: Option<Expr>,
     ) -> Result<(), Fault>
         requires components { AreComponents self.old.types (pairs_view components.items) }
-        requires ranked { IsRanked self.old.types
-            (declared_type name (pairs_view components.items) (option_map tree_view constraint)) }
         requires constrained { IsConstrained self.old.types
             (declared_type name (pairs_view components.items) (option_map tree_view constraint)) }
         ensures answer { Answers (λ u. u) result
@@ -62,9 +60,8 @@ impl<B: Body> Catalog<B> {
         self.bases.contains_key(name) || self.virtuals.contains_key(name)
     }
 
-    /// Adds a base relvar, last: refused where a relvar of the name is there. `check_statement`
-    /// tells whether its heading and its keys are as is asked, and `Body::key_holds` whether a key
-    /// holds.
+    /// Adds a base relvar, last: refused where a relvar of the name is there. Whether its keys are
+    /// allowed and hold is not asked: that is a statement's to check, after its changes.
     pub fn add_base(
         &mut self,
         name: Name,
@@ -72,12 +69,10 @@ impl<B: Body> Catalog<B> {
         keys: Vec<Vec<Name>>,
         body: B,
     ) -> Result<(), Fault>
-        requires heading { IsRelvarHeading self.old.types heading }
-        requires keys { AreBaseKeys heading (map (λ key. key.items) keys.items) }
+        requires heading { AreKnown self.old.types (pack heading) }
         requires body { IsBodyOf heading (map (λ key. key.items) keys.items)
             (B.relation body) (B.keys body) }
         requires typed { AreTyped self.old.types (B.relation body) }
-        requires hold { KeysHold (B.keys body) (B.relation body).body }
         ensures answer { Answers (λ u. u) result
             (holds_or causes.NameTaken (not (knows_relvar name self.old))) }
         ensures added { OnOk result
@@ -99,8 +94,7 @@ impl<B: Body> Catalog<B> {
     }
 
     /// Adds a virtual relvar, last: refused where a relvar of the name is there. The heading is
-    /// that of the expression; `check_statement` tells whether that, its rank and the keys are as
-    /// is asked.
+    /// that of the expression.
     pub fn add_virtual(
         &mut self,
         name: Name,
@@ -108,7 +102,7 @@ impl<B: Body> Catalog<B> {
         tree: Expr,
         keys: Vec<Vec<Name>>,
     ) -> Result<(), Fault>
-        requires { IsVirtual (database_scope self.old) (virtual_relvar name heading
+        requires { IsTypedVirtual (database_scope self.old) (virtual_relvar name heading
             (tree_view tree) (map (λ key. key.items) keys.items)) }
         ensures answer { Answers (λ u. u) result
             (holds_or causes.NameTaken (not (knows_relvar name self.old))) }
@@ -133,7 +127,7 @@ impl<B: Body> Catalog<B> {
     /// Adds a constraint, last: refused where a constraint of the name is there. `check_statement`
     /// tells whether the expression is as is asked.
     pub fn add_constraint(&mut self, name: Name, tree: Expr) -> Result<(), Fault>
-        requires { IsConstraint (database_scope self.old)
+        requires { IsTypedConstraint (database_scope self.old)
             (named_constraint name (tree_view tree)) }
         ensures answer { Answers (λ u. u) result
             (holds_or causes.NameTaken (not (knows_constraint name self.old))) }
@@ -150,13 +144,12 @@ impl<B: Body> Catalog<B> {
         Ok(())
     }
 
-    /// Gives the base relvar of the name another body. It takes no memory.
+    /// Gives the base relvar of the name another body, whose keys need not hold. It takes no memory.
     pub fn set_body(&mut self, name: &Name, body: B)
         requires known { IsSome (base_named name.now self.old) }
         requires body { IfSome (base_named name.now self.old) (λ r. IsBodyOf
             r.relation.heading r.keys (B.relation body) (B.keys body)) }
         requires typed { AreTyped self.old.types (B.relation body) }
-        requires hold { KeysHold (B.keys body) (B.relation body).body }
         ensures { self.new ≡ with_body name.now (B.relation body) self.old }
     {
         let _ = body.len();

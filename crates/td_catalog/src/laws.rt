@@ -1,40 +1,40 @@
 //! What changes of databases are to their callers: each function has its contract alone.
-ghost use Rattle.td_catalog.specs.LegalityLaws.{BaseRelvarsKeepLegality, BodiesKeepLegality};
-ghost use Rattle.td_catalog.specs.LegalityLaws.{ConstraintsKeepLegality, DropsKeepLegality};
-ghost use Rattle.td_catalog.specs.LegalityLaws.{EmptyDatabaseIsLegal, TypesKeepLegality};
-ghost use Rattle.td_catalog.specs.LegalityLaws.{VirtualRelvarsKeepLegality};
+ghost use Rattle.td_catalog.specs.TypedDatabaseLaws.{BaseRelvarsKeepTyped, BodiesKeepTyped};
+ghost use Rattle.td_catalog.specs.TypedDatabaseLaws.{ConstraintsKeepTyped, DropsKeepTyped};
+ghost use Rattle.td_catalog.specs.TypedDatabaseLaws.{EmptyDatabaseIsTyped, TypesKeepTyped};
+ghost use Rattle.td_catalog.specs.TypedDatabaseLaws.{VirtualRelvarsKeepTyped};
 
-/// A database in which nothing is defined is legal.
-pub fn empty_database_is_legal()
-    ensures { EmptyDatabaseIsLegal }
+/// A database in which nothing is defined is typed.
+pub fn empty_database_is_typed()
+    ensures { EmptyDatabaseIsTyped }
 {}
 
-/// A legal database stays so with one more type, that may stand after the others.
-pub fn types_keep_legality()
-    ensures { TypesKeepLegality }
+/// A typed database stays so with one more type, that may stand after the others.
+pub fn types_keep_typed()
+    ensures { TypesKeepTyped }
 {}
 
-/// A legal database stays so with one more base relvar, of a name that is new.
-pub fn base_relvars_keep_legality()
-    ensures { BaseRelvarsKeepLegality }
+/// A typed database stays so with one more base relvar, of a name that is new.
+pub fn base_relvars_keep_typed()
+    ensures { BaseRelvarsKeepTyped }
 {}
 
-/// A legal database stays so with one more virtual relvar, of a name that is new.
-pub fn virtual_relvars_keep_legality()
-    ensures { VirtualRelvarsKeepLegality }
+/// A typed database stays so with one more virtual relvar, of a name that is new.
+pub fn virtual_relvars_keep_typed()
+    ensures { VirtualRelvarsKeepTyped }
 {}
 
-/// A legal database stays so with one more constraint, of a name that is new.
-pub fn constraints_keep_legality()
-    ensures { ConstraintsKeepLegality }
+/// A typed database stays so with one more constraint, of a name that is new.
+pub fn constraints_keep_typed()
+    ensures { ConstraintsKeepTyped }
 {}
 
-/// A legal database stays so where a base relvar holds another relation that it may hold.
-pub fn bodies_keep_legality()
-    ensures { BodiesKeepLegality }
+/// A typed database stays so where a base relvar holds another relation that it may hold.
+pub fn bodies_keep_typed()
+    ensures { BodiesKeepTyped }
 {}
 
-/// A legal database stays so without an entry that none mentions.
-pub fn drops_keep_legality()
-    ensures { DropsKeepLegality }
+/// A typed database stays so without an entry that none mentions.
+pub fn drops_keep_typed()
+    ensures { DropsKeepTyped }
 {}

@@ -5,7 +5,7 @@ use Rattle.std.specs.List.{AllByRecursion}
 use Rattle.std.specs.Result.{result_and}
 use Rattle.td_catalog.specs.Database.{Database, NamedConstraint, VirtualRelvar, database_scope, knows_constraint, knows_relvar, named_constraint, virtual_relvar}
 use Rattle.td_catalog.specs.Dumps.{ordered_names}
-use Rattle.td_catalog.specs.Legality.{AreComponents, IsConstrained, IsConstraint, IsRanked, IsVirtual}
+use Rattle.td_catalog.specs.TypedDatabases.{AreComponents, IsConstrained, IsTypedConstraint, IsTypedVirtual}
 use Rattle.td_check.specs.OperatorTypes.{over_relation, same_type}
 use Rattle.td_check.specs.Scopes.{KnownRelvar, known_relvar, scope_of}
 use Rattle.td_tree.specs.Names.{IsName}
@@ -32,7 +32,8 @@ use Rattle.td_types.specs.TypeLists.{AreKnown, DeclaredType, IsKnown, attributes
 use Rattle.td_types.specs.Types.{Attribute, Heading, IsHeading, IsType, Type', attribute_names, boolean, char, integer, pack, relation, tuple, unpack, user}
 use Rattle.td_types.proofs.Meanings.{known_attributes, pack_unpack}
 use Rattle.td_check.proofs.StaticLaws.{types_are_known}
-use Rattle.td_engine.specs.Soundness.{IsSound}
+use Rattle.td_engine.proofs.WrittenStatements.{definitions_written}
+use Rattle.td_engine.specs.Legality.{IsRuledVirtual, IsRanked, IsLegal}
 use Rattle.td_eval.proofs.KnownRelvars.{unknown_parts, unnamed}
 use Rattle.td_eval.proofs.TypedDatabases.{database_keeps}
 use Rattle.td_eval.proofs.TypedValues.{type_is}
@@ -153,11 +154,12 @@ type_admitted db n cs k xs names is meant =
 -- what is asked of a virtual relvar that is added
 pub record VirtualAdmitted (db : Database) (v : VirtualRelvar) : Type 0 where
   pub free : holds_or causes.NameTaken (not (knows_relvar v.name db)) ≡ Valued tt
-  pub virtual : IsVirtual (database_scope db) v
+  pub virtual : IsTypedVirtual (database_scope db) v
+  pub ruled : IsRuledVirtual db.types v
 
 pub record ConstraintAdmitted (db : Database) (c : NamedConstraint) : Type 0 where
   pub free : holds_or causes.NameTaken (not (knows_constraint c.name db)) ≡ Valued tt
-  pub constraint : IsConstraint (database_scope db) c
+  pub constraint : IsTypedConstraint (database_scope db) c
 
 pub constraint_admitted : (db : Database) (n : Text) (e : Tree) → IsAdmitted db (trees.define_constraint n e) → ConstraintAdmitted db (named_constraint n e)
 constraint_admitted db n e is =
@@ -188,7 +190,7 @@ pub over_typed : {A : Type 0} (o : Outcome Type') (h : Heading) (f : Heading →
 over_typed o h f e = ap (λ p. with_value p (λ t. over_relation t f)) (typed_relation o h e) ∙ ap f (unpacked h)
 
 -- a name that no relvar of the scope has
-free_in : (db : Database) (n : Text) → holds_or causes.NameTaken (not (is_some (known_relvar (database_scope db) n))) ≡ Valued tt
+pub free_in : (db : Database) (n : Text) → holds_or causes.NameTaken (not (is_some (known_relvar (database_scope db) n))) ≡ Valued tt
     → holds_or causes.NameTaken (not (knows_relvar n db)) ≡ Valued tt
 free_in db n e = by_option (known_relvar (database_scope db) n) refl (is_held causes.NameTaken (not (is_some (known_relvar (database_scope db) n))) e)
   where
@@ -198,9 +200,9 @@ free_in db n e = by_option (known_relvar (database_scope db) n) refl (is_held ca
         ap (λ b. holds_or causes.NameTaken (not b)) (unnamed db n parts.0 parts.1)
     by_option (Some r) is h = absurd (cc)
 
-pub virtual_admitted : (db : Database) (n : Text) (e : Tree) (keys : List (List Text)) (h : Heading) → IsHeading (pack h) → IsSound db → IsAdmitted db (trees.define_virtual n e keys)
+pub virtual_admitted : (db : Database) (n : Text) (e : Tree) (keys : List (List Text)) (h : Heading) → IsHeading (pack h) → IsLegal db → IsAdmitted db (trees.define_virtual n e keys)
     → with_value (type_of (database_scope db) e) (λ t. over_relation t Valued) ≡ Valued h → VirtualAdmitted db (virtual_relvar n h e (map (ordered_names h) keys))
-virtual_admitted db n e keys h headed sound is has =
+virtual_admitted db n e keys h headed legal is has =
     let both = both_asked _ _ is.checked in
     let typed = typed_relation (type_of (database_scope db) e) h has in
     let asked : Heading → Outcome ⊤ = λ g. both_hold (keys_asked g keys) (heading_rank_fits db.types g) in
@@ -210,8 +212,8 @@ virtual_admitted db n e keys h headed sound is has =
       free = free_in db n (both.0);
       virtual =
           record {
-            heading = record { known = types_are_known.of_users (database_scope db) e (relation (pack h)) (database_keeps db sound.legal sound.definitions).scope_is typed; ranked = parts.1 };
+            known = types_are_known.of_users (database_scope db) e (relation (pack h)) (database_keeps db legal.typed (definitions_written db legal.spelled)).scope_is typed;
             typed = typed;
-            keys = keys_stay_allowed h headed keys (is_held causes.KeyDeclaration (keys_allowed h keys) parts.0);
           };
+      ruled = record { ranked = parts.1; keys = keys_stay_allowed h headed keys (is_held causes.KeyDeclaration (keys_allowed h keys) parts.0) };
     }

@@ -3,18 +3,16 @@ use Rattle.std.proofs.Common.{◌≡◌, ◌∙◌, ℕ, List, None, Result, Ok,
 use Rattle.std.specs.Prelude.{IfOk, IsTrue, is_none}
 use Rattle.std.specs.String.{string_bytes}
 use Rattle.td_catalog.specs.Database.{Database}
-use Rattle.td_catalog.specs.Legality.{IsLegal}
 use Rattle.td_engine.specs.Carried.{AnswersText, Changes, IsAdmitted, IsDenied, IsOfDatabase, IsRefusedBy, IsSpelled, Prints}
 use Rattle.td_engine.specs.Machine.{Accepted, Denied, Effect, State, Step, by_outcome, carried_out, effect, effect_in, keeping, ok_text, state_of, step_of, stepped}
 use Rattle.td_engine.specs.Refusals.{by_cause}
-use Rattle.td_engine.specs.Soundness.{IsSound}
-use Rattle.td_engine.specs.SoundnessLaws.{IsWrittenStatement}
+use Rattle.td_engine.specs.Legality.{IsLegal}
 use Rattle.td_engine.specs.Steps.{Does, IsParsed, IsStep}
 use Rattle.td_engine.specs.declared.answer.Answer as code
 use Rattle.td_engine.specs.declared.refusal.Failure.{Failure}
 use Rattle.td_engine.specs.declared.refusal.Failure.TheVariants as failures
 use Rattle.td_engine.proofs.Admitted.{some_cause}
-use Rattle.td_engine.proofs.KeptSound.{accepted_keep_sound}
+use Rattle.td_engine.proofs.KeptLegal.{carried_legal}
 use Rattle.td_parse.specs.Parsing.{Parsed, bad_token, nothing_spelled, statement_spelled}
 use Rattle.td_tree.specs.Outcomes.{Answers, Outcome, Valued, Refused, least}
 use Rattle.td_tree.specs.Statements.{PlacedToken}
@@ -59,11 +57,9 @@ text_does view inside db s text (Ok a) at is prints answers =
     subst (λ e. Does (step_of db e) a db) same (answers there.text there.told db)
 text_does view inside db s text (Err e) at is prints answers = tt
 
--- what it makes is sound
-pub changed_sound : (db new : Database) (s : Statement) → IsSound db → IsAdmitted db s → IsWrittenStatement s → carried_out db s ≡ Accepted new ok_text → IsLegal new
-    → IsSound new
-changed_sound db new s sound is written accepted legal =
-    accepted_keep_sound db new s ok_text sound is written (admitted_effect db s is ∙ accepted) legal
+-- what it makes is legal
+pub changed_legal : (db new : Database) (s : Statement) → IsLegal db → IsAdmitted db s → carried_out db s ≡ Accepted new ok_text → IsLegal new
+changed_legal db new s legal is accepted = carried_legal db new ok_text legal s is accepted
 
 -- what was done is a step of the tokens that were read so
 pub parsed_step : (old new : State) (tokens : List PlacedToken) (o : Outcome Statement) (answer : code.Answer) → Parsed tokens o → Does (stepped old o) answer new

@@ -1,11 +1,11 @@
--- What a sound database's definitions give to its dump: names that are names, and types and literals that are not too high.
+-- What a legal database's definitions give to its dump: names that are names, and types and literals that are not too high.
 use Rattle.std.proofs.Common.{◌≡◌, ◌∷◌, ◌+◌, ◌*◌, ◌≤◌, ℕ, List, [], get_or, refl, true, arith}
 use Rattle.std.specs.Prelude.{nat_le}
 use Rattle.std.specs.List.{AllByRecursion}
 use Rattle.std.proofs.lemmas.Bool.Decides.{nat_tests}
 use Rattle.std.proofs.lemmas.List.Elements.{Contains-get_or, recursion_from_All}
 use Rattle.td_check.specs.StatementTypes.{heading_rank_fits, holds_or, rank_fits}
-use Rattle.td_engine.specs.Soundness.{IsSpelledExpression}
+use Rattle.td_engine.specs.Legality.{IsSpelledExpression}
 use Rattle.td_eval.specs.OperatorValues.{relation_as_value}
 use Rattle.td_tree.specs.declared.cause.Cause.TheVariants as causes
 use Rattle.td_tree.specs.Grammar.{height_limit}

@@ -4,7 +4,7 @@ use Rattle.std.specs.List.{AllByRecursion}
 use Rattle.td_catalog.specs.Database.{BaseRelvar, NamedConstraint, VirtualRelvar}
 use Rattle.td_catalog.specs.Dumps.{base_line, condition_text, constraint_line, line_end, type_line, virtual_line}
 use Rattle.td_engine.specs.Rebuilding.{base_statement, constraint_statement, type_statement, virtual_statement}
-use Rattle.td_engine.specs.Soundness.{IsSpelledExpression, IsSpelledIf}
+use Rattle.td_engine.specs.Legality.{IsSpelledExpression, IsSpelledIf}
 use Rattle.td_eval.specs.OperatorValues.{relation_as_value}
 use Rattle.td_tree.specs.declared.keyword.Keyword.{Keyword}
 use Rattle.td_tree.specs.declared.keyword.Keyword.TheVariants as k

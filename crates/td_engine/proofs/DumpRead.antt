@@ -1,12 +1,13 @@
--- The tokens of the dump of a sound database are read as the statements of its lines.
+-- The tokens of the dump of a legal database are read as the statements of its lines.
 use Rattle.std.proofs.Common.{◌≡◌, ℕ, List, [], ◌∷◌, ◌++◌, ap, append-nil, append_assoc, map, refl, subst}
 use Rattle.std.specs.List.{AllByRecursion, flat_map}
 use Rattle.td_catalog.specs.Database.{BaseRelvar, Database, NamedConstraint, VirtualRelvar, database_scope}
 use Rattle.td_catalog.specs.Dumps.{base_line, constraint_line, dump_text, type_line, virtual_line}
-use Rattle.td_catalog.specs.Legality.{IsBase}
+use Rattle.td_catalog.specs.TypedDatabases.{IsTypedBase}
 use Rattle.td_check.proofs.StaticLaws.{types_are_known}
+use Rattle.td_engine.proofs.WrittenStatements.{definitions_written}
 use Rattle.td_engine.specs.Rebuilding.{DumpsAreRead, base_statement, constraint_statement, dump_statements, type_statement, virtual_statement}
-use Rattle.td_engine.specs.Soundness.{IsSound, IsSpelledExpression, IsSpelledIf}
+use Rattle.td_engine.specs.Legality.{IsRuledBase, IsLegal, IsSpelledExpression, IsSpelledIf}
 use Rattle.td_eval.specs.ValueTypes.{IsWritten}
 use Rattle.td_eval.proofs.KnownRelvars.{fronted}
 use Rattle.td_eval.proofs.TypedDatabases.{all_at, fronts_keep}
@@ -48,34 +49,35 @@ each_first : {A : Type 0} (line : A → List ℕ) (meant : A → Statement) (xs 
     → {rest : List ℕ} {ss : List Statement} → IsScript rest ss → IsScript (flat_map line xs ++ rest) (map meant xs ++ ss)
 each_first line meant xs at {rest} {ss} script = lines_first line meant xs (all_in_place (λ x. IsLine (line x) (meant x)) xs at) rest ss script
 
--- ---- the lines of a sound database
+-- ---- the lines of a legal database
 
-module _ (db : Database) (sound : IsSound db) where
+module _ (db : Database) (legal : IsLegal db) where
   type_line_at : (earlier later : List DeclaredType) (d : DeclaredType) → db.types ≡ earlier ++ (d ∷ later) → IsLine (type_line d) (type_statement d)
   type_line_at earlier later d e =
-      let declarable = sound.legal.declared earlier later d e in
+      let declarable = legal.typed.declared earlier later d e in
       type_line_is d declarable.named declarable.has_component (typed_names earlier d declarable)
-      (components_low earlier d.components (sound.legal.ranked earlier later d e))
-      (one_in_place (λ (c : DeclaredType). IsSpelledIf c.constraint) db.types earlier later d e sound.spelled.types)
+      (components_low earlier d.components (legal.ranked earlier later d e))
+      (one_in_place (λ (c : DeclaredType). IsSpelledIf c.constraint) db.types earlier later d e legal.spelled.types)
 
   relvars_named : AllByRecursion IsName (map (λ (r : BaseRelvar). r.name) db.bases) × AllByRecursion IsName (map (λ (v : VirtualRelvar). v.name) db.virtuals)
-  relvars_named = names_parted (map (λ (r : BaseRelvar). r.name) db.bases) (map (λ (v : VirtualRelvar). v.name) db.virtuals) sound.legal.named
+  relvars_named = names_parted (map (λ (r : BaseRelvar). r.name) db.bases) (map (λ (v : VirtualRelvar). v.name) db.virtuals) legal.typed.named
 
   base_line_at : (earlier later : List BaseRelvar) (r : BaseRelvar) → db.bases ≡ earlier ++ (r ∷ later) → IsLine (base_line r) (base_statement r)
   base_line_at earlier later r e =
-      let base : IsBase db.types r = one_in_place (IsBase db.types) db.bases earlier later r e sound.legal.bases in
+      let base : IsTypedBase db.types r = one_in_place (IsTypedBase db.types) db.bases earlier later r e legal.typed.bases in
+      let ruled : IsRuledBase db.types r = one_in_place (IsRuledBase db.types) db.bases earlier later r e legal.bases in
       let h = r.relation.heading in
       let names = names_of_each (λ (x : BaseRelvar). x.name) db.bases relvars_named.0 in
       base_line_is r (one_in_place (λ (x : BaseRelvar). IsName x.name) db.bases earlier later r e names) base.relation.2
-      (heading_names h base.relation.2) base.relation (heading_is_low db.types h base.heading.ranked)
-      (literal_spelled db.types r.relation sound.legal.declared base.heading.ranked base.relation base.heading.known base.typed)
+      (heading_names h base.relation.2) base.relation (heading_is_low db.types h ruled.ranked)
+      (literal_spelled db.types r.relation legal.typed.declared ruled.ranked base.relation base.known base.typed)
 
   -- the heading of a virtual relvar is one
   virtual_heading : (earlier later : List VirtualRelvar) (v : VirtualRelvar) → db.virtuals ≡ earlier ++ (v ∷ later) → IsHeading (pack v.heading)
   virtual_heading earlier later v e =
-      let scope = (fronts_keep db sound.legal sound.definitions earlier (v ∷ later) e).scope_is in
-      let written = one_in_place (λ (x : VirtualRelvar). IsWritten x.tree) db.virtuals earlier later v e sound.definitions.virtuals in
-      let typed = (sound.legal.virtuals earlier later v e).typed in
+      let scope = (fronts_keep db legal.typed (definitions_written db legal.spelled) earlier (v ∷ later) e).scope_is in
+      let written = one_in_place (λ (x : VirtualRelvar). IsWritten x.tree) db.virtuals earlier later v e (definitions_written db legal.spelled).virtuals in
+      let typed = (legal.typed.virtuals earlier later v e).typed in
       (types_are_known.of_tree (database_scope (fronted db earlier)) v.tree (relation (pack v.heading)) scope written.0 typed).0
 
   virtual_line_at : (earlier later : List VirtualRelvar) (v : VirtualRelvar) → db.virtuals ≡ earlier ++ (v ∷ later)
@@ -84,14 +86,14 @@ module _ (db : Database) (sound : IsSound db) where
       let names = names_of_each (λ (x : VirtualRelvar). x.name) db.virtuals relvars_named.1 in
       virtual_line_is v (one_in_place (λ (x : VirtualRelvar). IsName x.name) db.virtuals earlier later v e names)
       (heading_names v.heading (virtual_heading earlier later v e))
-      (one_in_place (λ (x : VirtualRelvar). IsSpelledExpression x.tree) db.virtuals earlier later v e sound.spelled.virtuals)
+      (one_in_place (λ (x : VirtualRelvar). IsSpelledExpression x.tree) db.virtuals earlier later v e legal.spelled.virtuals)
 
   constraint_line_at : (earlier later : List NamedConstraint) (c : NamedConstraint) → db.constraints ≡ earlier ++ (c ∷ later)
       → IsLine (constraint_line c) (constraint_statement c)
   constraint_line_at earlier later c e =
-      let names = names_of_each (λ (x : NamedConstraint). x.name) db.constraints sound.legal.constraints_named in
+      let names = names_of_each (λ (x : NamedConstraint). x.name) db.constraints legal.typed.constraints_named in
       constraint_line_is c (one_in_place (λ (x : NamedConstraint). IsName x.name) db.constraints earlier later c e names)
-      (one_in_place (λ (x : NamedConstraint). IsSpelledExpression x.tree) db.constraints earlier later c e sound.spelled.constraints)
+      (one_in_place (λ (x : NamedConstraint). IsSpelledExpression x.tree) db.constraints earlier later c e legal.spelled.constraints)
 
   dump_script : IsScript (dump_text db) (dump_statements db)
   unfolding dump_text
@@ -108,4 +110,4 @@ module _ (db : Database) (sound : IsSound db) where
 
 -- so the statements of the dump are read as these
 pub dumps_read : DumpsAreRead
-dumps_read db sound = script_reads (dump_text db) (dump_statements db) (dump_script db sound)
+dumps_read db legal = script_reads (dump_text db) (dump_statements db) (dump_script db legal)

@@ -1,8 +1,9 @@
 -- What holds of each of a list, where one is added, one is left out, or each is changed.
-use Rattle.std.proofs.Common.{◌≡◌, ◌∷◌, ◌++◌, Bool, true, false, List, [], Some, map, refl, subst}
+use Rattle.std.proofs.Common.{◌≡◌, ◌∙◌, ◌∷◌, ◌++◌, Bool, true, false, List, [], Some, append_assoc, map, refl, subst, sym}
 use Rattle.std.specs.Prelude.{◌||◌, if◌then◌else◌}
 use Rattle.std.specs.List.{AllByRecursion, find, list_any}
 use Rattle.std.specs.Set.{remove_key}
+use Rattle.td_catalog.specs.TypedDatabases.{EachAfter}
 
 module _ {A : Type 0} where
   -- one more
@@ -23,6 +24,19 @@ module _ {A : Type 0} where
   pub all_given : (R P Q : A → Type 0) → ((x : A) → R x → P x → Q x) → (xs : List A) → AllByRecursion R xs → AllByRecursion P xs → AllByRecursion Q xs
   all_given R P Q f [] r h = tt
   all_given R P Q f (x ∷ xs) r h = (f x r.0 h.0, all_given R P Q f xs r.1 h.1)
+
+  -- what follows of each
+  pub all_follow : (P Q : A → Type 0) → ((x : A) → P x → Q x) → (xs : List A) → AllByRecursion P xs → AllByRecursion Q xs
+  all_follow P Q f [] h = tt
+  all_follow P Q f (x ∷ xs) h = (f x h.0, all_follow P Q f xs h.1)
+
+  -- what follows of each, whatever stands before it
+  pub all_from_each : (P : List A → A → Type 0) (Q : A → Type 0) → ((earlier : List A) (x : A) → P earlier x → Q x) → (xs : List A) → EachAfter P xs → AllByRecursion Q xs
+  all_from_each P Q f xs each = from [] xs refl
+    where
+      from : (earlier rest : List A) → xs ≡ earlier ++ rest → AllByRecursion Q rest
+      from earlier [] is = tt
+      from earlier (x ∷ rest) is = (f earlier x (each earlier rest x is), from (earlier ++ (x ∷ [])) rest (is ∙ sym (append_assoc earlier (x ∷ []) rest)))
 
   -- two things hold
   pub all_both : (P Q : A → Type 0) (xs : List A) → AllByRecursion P xs → AllByRecursion Q xs → AllByRecursion (λ x. P x × Q x) xs

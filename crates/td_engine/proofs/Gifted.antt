@@ -6,10 +6,11 @@ use Rattle.std.specs.Cmp.Lexicographic.{same_text}
 use Rattle.td_body.specs.Bodies.{key_holds}
 use Rattle.td_body.proofs.Held.{held_by_membership}
 use Rattle.td_catalog.specs.Database.{BaseRelvar, Database, base_among, base_named, base_relvar, with_bases, with_relation}
-use Rattle.td_catalog.specs.Legality.{IsBase, IsLegal, KeysHold}
-use Rattle.td_engine.proofs.Settled.{all_keys_hold}
+use Rattle.td_catalog.specs.TypedDatabases.{IsTyped}
+use Rattle.td_engine.specs.Legality.{KeysHold}
+use Rattle.td_engine.proofs.PassedChecks.{all_pass}
 use Rattle.td_engine.specs.Assignments.{Given, given_to, with_gift}
-use Rattle.td_engine.specs.Checks.{base_check, keys_hold, unpassed}
+use Rattle.td_engine.specs.Checks.{base_check, first_refusal, keys_hold, unpassed}
 use Rattle.td_engine.specs.Gifts.{AreGifts, IsGift, gifted}
 use Rattle.td_engine.specs.Refusals.{Refusal, by_key}
 use Rattle.td_eval.proofs.DistinctNames.{distinct_first, first_apart}
@@ -63,10 +64,10 @@ found_at (b ∷ bs) zero r d e =
 found_at (b ∷ bs) (suc i) r d e = rw (other_name b bs i r d e) (found_at bs i r (first_apart b.name (names_of bs) d).1 e)
 
 module _ (given : Given) where
-  given_none : (r : BaseRelvar) → given_to r.name given ≡ None → with_gift given r ≡ r
+  pub given_none : (r : BaseRelvar) → given_to r.name given ≡ None → with_gift given r ≡ r
   given_none r e = rw (with_gift, e) refl
 
-  given_some : (r : BaseRelvar) (q : Relation) → given_to r.name given ≡ Some q → with_gift given r ≡ base_relvar r.name r.keys q
+  pub given_some : (r : BaseRelvar) (q : Relation) → given_to r.name given ≡ Some q → with_gift given r ≡ base_relvar r.name r.keys q
   given_some r q e = rw (with_gift, e) refl
 
   same_named : (r : BaseRelvar) → (with_gift given r).name ≡ r.name
@@ -128,11 +129,11 @@ passed refusal false e = absurd (cc)
 pub checked_keys : (r : BaseRelvar) → IsRelation r.relation → base_check r ≡ None → KeysHold r.keys r.relation.body
 checked_keys r is e = keys_that_hold r.keys r.relation is (passed (by_key r.name) (keys_hold r.keys r.relation.body) e)
 
--- ---- one base relvar of a legal database
+-- ---- one base relvar of a typed database
 
-module _ (db : Database) (given : Given) (legal : IsLegal db) (i : ℕ) (r : BaseRelvar) (at : slice_get db.bases i ≡ Some r) where
+module _ (db : Database) (given : Given) (is_typed : IsTyped db) (i : ℕ) (r : BaseRelvar) (at : slice_get db.bases i ≡ Some r) where
   apart : AreApart db.bases
-  apart = distinct_first (names_of db.bases) (map (λ v. v.name) db.virtuals) legal.distinct
+  apart = distinct_first (names_of db.bases) (map (λ v. v.name) db.virtuals) is_typed.distinct
 
   pub found : base_named r.name db ≡ Some r
   found = found_at db.bases i r apart at
@@ -147,11 +148,8 @@ module _ (db : Database) (given : Given) (legal : IsLegal db) (i : ℕ) (r : Bas
       → with_bases (with_relation r.name q (gifted given i db.bases)) db ≡ with_bases (gifted given (i + 1) db.bases) db
   put q k = ap (λ bs. with_bases bs db) (put_next given db.bases i r q apart at k ∙ one_more given db.bases i)
 
-  pub skipped_passes : given_to r.name given ≡ None → base_check (with_gift given r) ≡ None
-  skipped_passes k =
-      let is = member_at (IsBase db.types) db.bases i r at legal.bases in
-      ap base_check (given_none given r k)
-      ∙ ap (λ b. unpassed (by_key r.name) (Valued b)) (all_keys_hold r.keys r.relation is.relation is.hold)
+  pub skipped_passes : first_refusal base_check db.bases ≡ None → given_to r.name given ≡ None → base_check (with_gift given r) ≡ None
+  skipped_passes held k = ap base_check (given_none given r k) ∙ member_at (λ b. base_check b ≡ None) db.bases i r at (all_pass base_check (λ b. base_check b ≡ None) (λ b e. e) db.bases held)
 
   pub put_check : (q : Relation) → given_to r.name given ≡ Some q → base_check (with_gift given r) ≡ base_check (base_relvar r.name r.keys q)
   put_check q k = ap base_check (given_some given r q k)

@@ -47,7 +47,7 @@ module _ (given : Given) where
   gift_at (b ∷ bs) (suc i) r e = gift_at bs i r e
 
   -- there is one at each place
-  one_at : (bs : List BaseRelvar) (i : ℕ) → i < length bs → (r : BaseRelvar) × (slice_get bs i ≡ Some r)
+  pub one_at : (bs : List BaseRelvar) (i : ℕ) → i < length bs → (r : BaseRelvar) × (slice_get bs i ≡ Some r)
   one_at bs i inside = let none = base_relvar [] [] (relation_view [] []) in (get_or bs i none, slice_get-get_or bs i none inside)
 
   pub gift_refused : (bs : List BaseRelvar) (i : ℕ) (f : Failure) → i < length bs → IsLeft base_check (gifts bs) i

@@ -17,10 +17,11 @@ mod GiftsInTurn
 mod GivenRelations
 mod InOrder
 pub mod Kept
-pub mod KeptSound
+pub mod KeptLegal
 mod OrderedGifts
 mod OrderedKeys
 mod PassedChecks
+mod RankChanges
 mod Rebuilds
 mod RebuiltChecks
 mod RebuiltDumps
@@ -29,19 +30,22 @@ mod RebuiltLists
 mod RebuiltParts
 mod RebuiltRelvars
 mod RebuiltTypes
-mod Renamings
 pub mod Runs
 mod SameTests
 mod SettingNames
 mod Settled
-mod SoundChanges
+mod LegalChanges
+pub mod LegalRuns
 mod Sources
 mod SpelledParts
 mod TestsAfterDrops
 pub mod ToldLaws
 mod Transactions
 pub mod Turning
+mod TypedAfter
 mod TypedGifts
 mod TypedRelations
 mod TypedSettings
 mod VirtualTests
+pub mod WrittenSpellings
+mod WrittenStatements

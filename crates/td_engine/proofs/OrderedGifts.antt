@@ -2,12 +2,12 @@
 use Rattle.std.proofs.Common.{◌≡◌, ◌∷◌, ℕ, zero, suc, List, [], Option, Some, None, map, refl, subst, sym}
 use Rattle.std.specs.List.{AllByRecursion, slice_get}
 use Rattle.td_catalog.specs.Database.{BaseRelvar, Database, base_named, base_relvar}
-use Rattle.td_catalog.specs.Legality.{IsLegal}
+use Rattle.td_catalog.specs.TypedDatabases.{IsTyped}
 use Rattle.td_engine.proofs.EachOf.{all_both, all_mapped}
 use Rattle.td_engine.proofs.Gifted.{found, gift_heading}
 use Rattle.td_engine.specs.Assignments.{Given, given_to, with_gift}
 use Rattle.td_engine.specs.Gifts.{AreGifts}
-use Rattle.td_engine.specs.Soundness.{AreOrdered}
+use Rattle.td_engine.specs.Legality.{AreOrdered}
 use Rattle.td_value.specs.Values.{Relation}
 
 -- what holds at each place holds of each
@@ -15,10 +15,14 @@ each_at : {A : Type 0} (P : A → Type 0) (xs : List A) → ((i : ℕ) (x : A) �
 each_at P [] f = tt
 each_at P (x ∷ xs) f = (f zero x refl, each_at P xs (λ i y is. f (suc i) y is))
 
+-- each base relvar of a typed database is found by its name
+pub each_found : (db : Database) (given : Given) → IsTyped db → AllByRecursion (λ (b : BaseRelvar). base_named b.name db ≡ Some b) db.bases
+each_found db given is_typed = each_at (λ (b : BaseRelvar). base_named b.name db ≡ Some b) db.bases (λ i b is. found db given is_typed i b is)
+
 abbrev IsOrdered : BaseRelvar → Type 0
 IsOrdered b = AreOrdered b.relation.heading b.keys
 
-module _ (db : Database) (given : Given) (legal : IsLegal db) (gifts : AreGifts db given) where
+module _ (db : Database) (given : Given) (is_typed : IsTyped db) (gifts : AreGifts db given) where
   abbrev IsFound : BaseRelvar → Type 0
   IsFound b = base_named b.name db ≡ Some b
 
@@ -33,4 +37,4 @@ module _ (db : Database) (given : Given) (legal : IsLegal db) (gifts : AreGifts 
   pub gifts_ordered : AllByRecursion IsOrdered db.bases → AllByRecursion IsOrdered (map (with_gift given) db.bases)
   gifts_ordered ordered =
       all_mapped (λ b. IsOrdered b × IsFound b) IsOrdered (with_gift given) gift_ordered db.bases
-      (all_both IsOrdered IsFound db.bases ordered (each_at IsFound db.bases (λ i b is. found db given legal i b is)))
+      (all_both IsOrdered IsFound db.bases ordered (each_found db given is_typed))

@@ -5,9 +5,9 @@ use Rattle.std.specs.List.{AllByRecursion, list_all}
 use Rattle.std.specs.Prelude.{◌&&◌, ◌||◌, if◌then◌else◌}
 use Rattle.td_algebra.proofs.Entries.{heading_distinct}
 use Rattle.td_catalog.specs.Dumps.{ordered_names}
-use Rattle.td_catalog.specs.Legality.{AreBaseKeys}
+use Rattle.td_engine.specs.Legality.{AreBaseKeys}
 use Rattle.td_check.specs.StatementTypes.{is_included, keys_allowed, none_includes}
-use Rattle.td_engine.specs.Soundness.{AreOrdered}
+use Rattle.td_engine.specs.Legality.{AreOrdered}
 use Rattle.td_eval.proofs.DistinctNames.{first_apart, has_rest}
 use Rattle.td_types.proofs.HeadingLaws.{has_attribute-names, same_name-itself}
 use Rattle.td_types.specs.Headings.{are_distinct, has_attribute, has_attributes, has_name}

@@ -5,25 +5,25 @@ use Rattle.std.specs.Option.{option_or}
 use Rattle.td_catalog.specs.Database.{Database}
 use Rattle.td_engine.specs.Checks.{base_check, constraint_check, database_check, derived_check, first_refusal, unpassed, virtual_check, virtual_test}
 use Rattle.td_engine.specs.Refusals.{Refusal, by_constraint, by_key}
-use Rattle.td_engine.specs.Soundness.{HasKeysThatHold, IsTrueOf}
+use Rattle.td_engine.specs.Legality.{HasKeysThatHold, IsTrueOf}
 use Rattle.td_eval.specs.DatabaseWorlds.{world_of}
 use Rattle.td_eval.specs.OperatorValues.{truth_value}
 use Rattle.td_eval.specs.TreeValues.{value_of}
 use Rattle.td_tree.specs.Outcomes.{Outcome, Valued, Refused}
 
 -- a test that is passed is TRUE
-passed_test : (r : Refusal) (o : Outcome Bool) → unpassed r o ≡ None → o ≡ Valued true
+pub passed_test : (r : Refusal) (o : Outcome Bool) → unpassed r o ≡ None → o ≡ Valued true
 passed_test r (Valued true) e = refl
 passed_test r (Valued false) e = absurd (cc)
 passed_test r (Refused cs) e = absurd (cc)
 
 -- neither of two is there
-neither_there : {A : Type 0} (o p : Option A) → option_or o p ≡ None → (o ≡ None) × (p ≡ None)
+pub neither_there : {A : Type 0} (o p : Option A) → option_or o p ≡ None → (o ≡ None) × (p ≡ None)
 neither_there None p e = (refl, e)
 neither_there (Some x) p e = absurd (cc)
 
 -- where no check refuses, each is passed
-all_pass : {A : Type 0} (check : A → Option Refusal) (P : A → Type 0) → ((x : A) → check x ≡ None → P x) → (xs : List A) → first_refusal check xs ≡ None
+pub all_pass : {A : Type 0} (check : A → Option Refusal) (P : A → Type 0) → ((x : A) → check x ≡ None → P x) → (xs : List A) → first_refusal check xs ≡ None
     → AllByRecursion P xs
 all_pass check P says [] e = tt
 all_pass check P says (x ∷ xs) e =

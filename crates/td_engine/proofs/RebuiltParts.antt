@@ -1,9 +1,9 @@
--- The first entries of a legal database are a legal database.
+-- The first entries of a typed database are a typed database.
 use Rattle.std.proofs.Common.{◌≡◌, ◌∙◌, ◌∷◌, ◌++◌, ℕ, false, List, [], append-nil, ap, map, not, refl, sym}
 use Rattle.std.specs.List.{AllByRecursion}
 use Rattle.td_catalog.specs.Database.{BaseRelvar, Database, NamedConstraint, VirtualRelvar, constraint_names, database_scope, relvar_names, with_virtuals}
-use Rattle.td_catalog.specs.Legality.{IsBase, IsConstraint, IsLegal, IsVirtual}
-use Rattle.td_catalog.proofs.Legal.{base_relvars_keep, constraints_keep, legal_empty, types_keep, virtual_relvars_keep}
+use Rattle.td_catalog.specs.TypedDatabases.{IsTyped, IsTypedBase, IsTypedConstraint, IsTypedVirtual}
+use Rattle.td_catalog.proofs.TypedChanges.{base_relvars_keep, constraints_keep, typed_empty, types_keep, virtual_relvars_keep}
 use Rattle.td_check.specs.Scopes.{Scope}
 use Rattle.td_check.specs.StaticTypes.{type_of}
 use Rattle.td_check.proofs.StaticLaws.{more_changes_nothing}
@@ -49,83 +49,82 @@ same_type first second e t types relvars entered is =
       entered = entered;
     }) is).0
 
-module _ (db : Database) (legal : IsLegal db) where
+module _ (db : Database) (is_typed : IsTyped db) where
   -- ---- names
 
   abbrev pub base_names : List (List ℕ)
   base_names = map base_name db.bases
 
   bases_named : AllByRecursion (λ (r : BaseRelvar). IsName r.name) db.bases
-  bases_named = all_unmapped IsName base_name db.bases (all_first IsName (relvar_names db) base_names (map virtual_name db.virtuals, refl) legal.named)
+  bases_named = all_unmapped IsName base_name db.bases (all_first IsName (relvar_names db) base_names (map virtual_name db.virtuals, refl) is_typed.named)
 
   virtuals_named : AllByRecursion (λ (v : VirtualRelvar). IsName v.name) db.virtuals
-  virtuals_named = all_unmapped IsName virtual_name db.virtuals (all_behind IsName base_names (map virtual_name db.virtuals) legal.named)
+  virtuals_named = all_unmapped IsName virtual_name db.virtuals (all_behind IsName base_names (map virtual_name db.virtuals) is_typed.named)
 
   conditions_named : AllByRecursion (λ (c : NamedConstraint). IsName c.name) db.constraints
-  conditions_named = all_unmapped IsName constraint_name db.constraints legal.constraints_named
+  conditions_named = all_unmapped IsName constraint_name db.constraints is_typed.constraints_named
 
   -- a base relvar, a virtual relvar and a constraint have names that no earlier entry has
   pub base_is_new : (front rest : List BaseRelvar) (r : BaseRelvar) → db.bases ≡ front ++ (r ∷ rest)
       → has_name r.name (relvar_names (database_of db.types front [] [])) ≡ false
   base_is_new front rest r e =
       ap (has_name r.name) (append-nil (map base_name front))
-      ∙ new_name base_name [] db.bases front rest r e (distinct_first base_names (map virtual_name db.virtuals) legal.distinct)
+      ∙ new_name base_name [] db.bases front rest r e (distinct_first base_names (map virtual_name db.virtuals) is_typed.distinct)
 
   pub virtual_is_new : (front rest : List VirtualRelvar) (v : VirtualRelvar) → db.virtuals ≡ front ++ (v ∷ rest)
       → has_name v.name (relvar_names (database_of db.types db.bases front [])) ≡ false
-  virtual_is_new front rest v e = new_name virtual_name base_names db.virtuals front rest v e legal.distinct
+  virtual_is_new front rest v e = new_name virtual_name base_names db.virtuals front rest v e is_typed.distinct
 
   pub constraint_is_new : (front rest : List NamedConstraint) (c : NamedConstraint) → db.constraints ≡ front ++ (c ∷ rest)
       → has_name c.name (constraint_names (database_of db.types db.bases db.virtuals front)) ≡ false
-  constraint_is_new front rest c e = new_name constraint_name [] db.constraints front rest c e legal.constraints_distinct
+  constraint_is_new front rest c e = new_name constraint_name [] db.constraints front rest c e is_typed.constraints_distinct
 
   -- ---- what virtual relvars and constraints are where the earlier entries alone are known
 
   pub virtual_there : (front rest : List VirtualRelvar) (v : VirtualRelvar) → db.virtuals ≡ front ++ (v ∷ rest)
-      → IsVirtual (database_scope (database_of db.types db.bases front [])) v
+      → IsTypedVirtual (database_scope (database_of db.types db.bases front [])) v
   virtual_there front rest v e =
-      let is = legal.virtuals front rest v e in
+      let is = is_typed.virtuals front rest v e in
       record {
-        heading = is.heading;
+        known = is.known;
         typed =
             same_type (database_scope (with_virtuals front db)) (database_scope (database_of db.types db.bases front [])) v.tree (relation (pack v.heading))
             refl refl refl is.typed;
-        keys = is.keys;
       }
 
   pub constraint_there : (front rest : List NamedConstraint) (c : NamedConstraint) → db.constraints ≡ front ++ (c ∷ rest)
-      → IsConstraint (database_scope (database_of db.types db.bases db.virtuals front)) c
+      → IsTypedConstraint (database_scope (database_of db.types db.bases db.virtuals front)) c
   constraint_there front rest c e =
       same_type (database_scope db) (database_scope (database_of db.types db.bases db.virtuals front)) c.tree boolean refl refl refl
-      (all_at (IsConstraint (database_scope db)) db.constraints front rest c e legal.constraints)
+      (all_at (IsTypedConstraint (database_scope db)) db.constraints front rest c e is_typed.constraints)
 
   -- ---- parts
 
-  pub legal_types : (front : List DeclaredType) → BeginsWith db.types front → IsLegal (database_of front [] [] [])
-  legal_types front begins =
-      of_front (λ ds. IsLegal (database_of ds [] [] [])) db.types legal_empty
-      (λ ds rest d e h. types_keep (database_of ds [] [] []) d h (legal.declared ds rest d e) (legal.ranked ds rest d e) (legal.constrained ds rest d e))
+  pub typed_types : (front : List DeclaredType) → BeginsWith db.types front → IsTyped (database_of front [] [] [])
+  typed_types front begins =
+      of_front (λ ds. IsTyped (database_of ds [] [] [])) db.types typed_empty
+      (λ ds rest d e h. types_keep (database_of ds [] [] []) d h (is_typed.declared ds rest d e) (is_typed.constrained ds rest d e))
       front begins.0 begins.1
 
-  pub legal_bases : (front : List BaseRelvar) → BeginsWith db.bases front → IsLegal (database_of db.types front [] [])
-  legal_bases front begins =
-      of_front (λ rs. IsLegal (database_of db.types rs [] [])) db.bases (legal_types db.types (all_of db.types))
+  pub typed_bases : (front : List BaseRelvar) → BeginsWith db.bases front → IsTyped (database_of db.types front [] [])
+  typed_bases front begins =
+      of_front (λ rs. IsTyped (database_of db.types rs [] [])) db.bases (typed_types db.types (all_of db.types))
       (λ rs rest r e h.
       base_relvars_keep (database_of db.types rs [] []) r h (all_at (λ (b : BaseRelvar). IsName b.name) db.bases rs rest r e bases_named)
-      (ap not (base_is_new rs rest r e)) (all_at (IsBase db.types) db.bases rs rest r e legal.bases))
+      (ap not (base_is_new rs rest r e)) (all_at (IsTypedBase db.types) db.bases rs rest r e is_typed.bases))
       front begins.0 begins.1
 
-  pub legal_virtuals : (front : List VirtualRelvar) → BeginsWith db.virtuals front → IsLegal (database_of db.types db.bases front [])
-  legal_virtuals front begins =
-      of_front (λ vs. IsLegal (database_of db.types db.bases vs [])) db.virtuals (legal_bases db.bases (all_of db.bases))
+  pub typed_virtuals : (front : List VirtualRelvar) → BeginsWith db.virtuals front → IsTyped (database_of db.types db.bases front [])
+  typed_virtuals front begins =
+      of_front (λ vs. IsTyped (database_of db.types db.bases vs [])) db.virtuals (typed_bases db.bases (all_of db.bases))
       (λ vs rest v e h.
       virtual_relvars_keep (database_of db.types db.bases vs []) v h (all_at (λ (u : VirtualRelvar). IsName u.name) db.virtuals vs rest v e virtuals_named)
       (ap not (virtual_is_new vs rest v e)) (virtual_there vs rest v e))
       front begins.0 begins.1
 
-  pub legal_constraints : (front : List NamedConstraint) → BeginsWith db.constraints front → IsLegal (database_of db.types db.bases db.virtuals front)
-  legal_constraints front begins =
-      of_front (λ cs. IsLegal (database_of db.types db.bases db.virtuals cs)) db.constraints (legal_virtuals db.virtuals (all_of db.virtuals))
+  pub typed_constraints : (front : List NamedConstraint) → BeginsWith db.constraints front → IsTyped (database_of db.types db.bases db.virtuals front)
+  typed_constraints front begins =
+      of_front (λ cs. IsTyped (database_of db.types db.bases db.virtuals cs)) db.constraints (typed_virtuals db.virtuals (all_of db.virtuals))
       (λ cs rest c e h.
       constraints_keep (database_of db.types db.bases db.virtuals cs) c h
       (all_at (λ (d : NamedConstraint). IsName d.name) db.constraints cs rest c e conditions_named) (ap not (constraint_is_new cs rest c e))

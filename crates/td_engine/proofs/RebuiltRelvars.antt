@@ -2,19 +2,19 @@
 use Rattle.std.proofs.Common.{◌≡◌, ◌∙◌, ◌∷◌, ◌++◌, ℕ, List, [], Option, Some, ap, map, not, refl}
 use Rattle.std.specs.Prelude.{is_some, ⊤}
 use Rattle.td_catalog.specs.Database.{BaseRelvar, Database, NamedConstraint, VirtualRelvar, base_relvar, database_scope, virtual_relvar, with_base, with_virtual}
-use Rattle.td_catalog.specs.Legality.{IsBase, IsLegal, IsVirtual}
+use Rattle.td_catalog.specs.TypedDatabases.{IsTyped, IsTypedBase, IsTypedVirtual}
 use Rattle.td_check.specs.OperatorTypes.{if_type, over_relation}
 use Rattle.td_check.specs.Scopes.{known_relvar, knows_constraint}
 use Rattle.td_check.specs.StatementTypes.{both_hold, has_key, heading_rank_fits, holds_or, init_fits, init_type, keys_asked, statement_checked}
 use Rattle.td_check.specs.StaticTypes.{type_of}
 use Rattle.td_engine.proofs.RebuiltEffects.{both_asked, is_asked, is_free, over_heading, unknown_name}
 use Rattle.td_engine.proofs.RebuiltLists.{all_at}
-use Rattle.td_engine.proofs.RebuiltParts.{base_is_new, constraint_is_new, constraint_there, database_of, legal_bases, virtual_is_new, virtual_there}
+use Rattle.td_engine.proofs.RebuiltParts.{base_is_new, constraint_is_new, constraint_there, database_of, typed_bases, virtual_is_new, virtual_there}
 use Rattle.td_engine.specs.Assignments.{of_heading}
 use Rattle.td_catalog.specs.Dumps.{ordered_names}
 use Rattle.td_engine.specs.Machine.{by_outcome, carried_out, changed, init_relation}
 use Rattle.td_engine.specs.Rebuilding.{base_statement, constraint_statement, virtual_statement}
-use Rattle.td_engine.specs.Soundness.{AreOrdered, IsSound}
+use Rattle.td_engine.specs.Legality.{AreOrdered, IsRuledBase, IsRuledVirtual, IsLegal}
 use Rattle.td_eval.proofs.LiteralTypes.{heading_means, literals_have_their_types}
 use Rattle.td_eval.proofs.LiteralValues.{stored_literals_have_their_values}
 use Rattle.td_eval.proofs.TypedValues.{same_is}
@@ -48,7 +48,7 @@ own_heading r h e =
     (λ i. of_heading (relation_view h []) (relation_view (unpack_pack r.heading i) (unpack_pack_rows r.body i)))
     ∙ ap (λ b. value_if b r causes.Heading) (same_is r.heading h e)
 
-module _ (db : Database) (sound : IsSound db) (front rest : List BaseRelvar) (r : BaseRelvar) (e : db.bases ≡ front ++ (r ∷ rest)) where
+module _ (db : Database) (legal : IsLegal db) (front rest : List BaseRelvar) (r : BaseRelvar) (e : db.bases ≡ front ++ (r ∷ rest)) where
   abbrev before_base : Database
   before_base = database_of db.types front [] []
 
@@ -58,20 +58,23 @@ module _ (db : Database) (sound : IsSound db) (front rest : List BaseRelvar) (r 
   abbrev init : Tree
   init = literal_tree (relation_as_value r.relation)
 
-  is_base : IsBase db.types r
-  is_base = all_at (IsBase db.types) db.bases front rest r e sound.legal.bases
+  is_base : IsTypedBase db.types r
+  is_base = all_at (IsTypedBase db.types) db.bases front rest r e legal.typed.bases
+
+  is_legal : IsRuledBase db.types r
+  is_legal = all_at (IsRuledBase db.types) db.bases front rest r e legal.bases
 
   keys_ordered : AreOrdered heading r.keys
-  keys_ordered = all_at (λ (b : BaseRelvar). AreOrdered b.relation.heading b.keys) db.bases front rest r e sound.ordered.bases
+  keys_ordered = all_at (λ (b : BaseRelvar). AreOrdered b.relation.heading b.keys) db.bases front rest r e legal.ordered.bases
 
   heading_is : heading_meant db.types (attribute_trees (pack heading)) ≡ Valued heading
-  heading_is = heading_means db.types (pack heading) is_base.relation.2 is_base.heading.known ∙ ap Valued (unpack_pack heading)
+  heading_is = heading_means db.types (pack heading) is_base.relation.2 is_base.known ∙ ap Valued (unpack_pack heading)
 
   init_typed : init_type (database_scope before_base) (Some init) ≡ Valued (Some (relation (pack heading)))
   init_typed =
       ap (λ o. with_value o (λ t. Valued (Some t)))
       (literals_have_their_types (database_scope before_base) (relation_as_value r.relation) (relation (pack heading)) is_base.relation
-      (refl, is_base.heading.known, is_base.typed))
+      (refl, is_base.known, is_base.typed))
 
   -- the keys as they are
   base_keyed : statement_checked (database_scope before_base) (base_with_keys r r.keys) ≡ Valued tt
@@ -81,13 +84,13 @@ module _ (db : Database) (sound : IsSound db) (front rest : List BaseRelvar) (r 
       λ h t. both_hold (init_fits h t) (both_hold (both_hold (has_key r.keys) (keys_asked h r.keys)) (heading_rank_fits db.types h)) in
       both_asked (holds_or causes.NameTaken (not (is_some (known_relvar scope r.name))))
       (with_both (heading_meant db.types (attribute_trees (pack heading))) (init_type scope (Some init)) asked)
-      (is_free _ (unknown_name before_base r.name (base_is_new db sound.legal front rest r e)))
+      (is_free _ (unknown_name before_base r.name (base_is_new db legal.typed front rest r e)))
       ((λ i. with_both (heading_is i) (init_typed i) asked)
       ∙ both_asked (init_fits heading (Some (relation (pack heading)))) _
       (is_asked causes.Heading _ (same_is _ heading (unpack_pack heading)))
       (both_asked _ (heading_rank_fits db.types heading)
-      (both_asked (has_key r.keys) (keys_asked heading r.keys) (some_key r.keys is_base.keys.some) (is_asked causes.KeyDeclaration _ is_base.keys.allowed))
-      is_base.heading.ranked))
+      (both_asked (has_key r.keys) (keys_asked heading r.keys) (some_key r.keys is_legal.keys.some) (is_asked causes.KeyDeclaration _ is_legal.keys.allowed))
+      is_legal.ranked))
 
   pub base_checked : statement_checked (database_scope before_base) (base_statement r) ≡ Valued tt
   base_checked = ap (λ keys. statement_checked (database_scope before_base) (base_with_keys r keys)) keys_ordered ∙ base_keyed
@@ -97,8 +100,8 @@ module _ (db : Database) (sound : IsSound db) (front rest : List BaseRelvar) (r 
   init_valued =
       ap (λ o. with_value o (λ v. on_relation v (of_heading (relation_view heading []))))
       (stored_literals_have_their_values before_base [] (relation_as_value r.relation) (relation (pack heading))
-      (legal_bases db sound.legal front (r ∷ rest, e)) is_base.relation (refl, is_base.heading.known, is_base.typed)
-      (all_at (λ (b : BaseRelvar). MeetsConstraints db.types (relation_as_value b.relation)) db.bases front rest r e sound.types))
+      (typed_bases db legal.typed front (r ∷ rest, e)) is_base.relation (refl, is_base.known, is_base.typed)
+      (all_at (λ (b : BaseRelvar). MeetsConstraints db.types (relation_as_value b.relation)) db.bases front rest r e legal.types))
       ∙ own_heading r.relation heading refl
 
   pub base_made : carried_out before_base (base_statement r) ≡ changed (database_of db.types (front ++ (r ∷ [])) [] [])
@@ -110,15 +113,18 @@ module _ (db : Database) (sound : IsSound db) (front rest : List BaseRelvar) (r 
 
 -- ---- a virtual relvar
 
-module _ (db : Database) (sound : IsSound db) (front rest : List VirtualRelvar) (v : VirtualRelvar) (e : db.virtuals ≡ front ++ (v ∷ rest)) where
+module _ (db : Database) (legal : IsLegal db) (front rest : List VirtualRelvar) (v : VirtualRelvar) (e : db.virtuals ≡ front ++ (v ∷ rest)) where
   abbrev before_virtual : Database
   before_virtual = database_of db.types db.bases front []
 
-  is_virtual : IsVirtual (database_scope before_virtual) v
-  is_virtual = virtual_there db sound.legal front rest v e
+  is_virtual : IsTypedVirtual (database_scope before_virtual) v
+  is_virtual = virtual_there db legal.typed front rest v e
+
+  is_derived : IsRuledVirtual db.types v
+  is_derived = all_at (IsRuledVirtual db.types) db.virtuals front rest v e legal.derived
 
   names_ordered : AreOrdered v.heading v.keys
-  names_ordered = all_at (λ (u : VirtualRelvar). AreOrdered u.heading u.keys) db.virtuals front rest v e sound.ordered.virtuals
+  names_ordered = all_at (λ (u : VirtualRelvar). AreOrdered u.heading u.keys) db.virtuals front rest v e legal.ordered.virtuals
 
   -- the keys as they are
   virtual_keyed : statement_checked (database_scope before_virtual) (define_virtual v.name v.tree v.keys) ≡ Valued tt
@@ -127,10 +133,10 @@ module _ (db : Database) (sound : IsSound db) (front rest : List VirtualRelvar) 
       let asked : Heading → Outcome ⊤ = λ h. both_hold (keys_asked h v.keys) (heading_rank_fits db.types h) in
       both_asked (holds_or causes.NameTaken (not (is_some (known_relvar scope v.name))))
       (with_value (type_of scope v.tree) (λ t. over_relation t asked))
-      (is_free _ (unknown_name before_virtual v.name (virtual_is_new db sound.legal front rest v e)))
+      (is_free _ (unknown_name before_virtual v.name (virtual_is_new db legal.typed front rest v e)))
       (over_heading (type_of scope v.tree) v.heading asked is_virtual.typed
-      ∙ both_asked (keys_asked v.heading v.keys) (heading_rank_fits db.types v.heading) (is_asked causes.KeyDeclaration _ is_virtual.keys)
-      is_virtual.heading.ranked)
+      ∙ both_asked (keys_asked v.heading v.keys) (heading_rank_fits db.types v.heading) (is_asked causes.KeyDeclaration _ is_derived.keys)
+      is_derived.ranked)
 
   pub virtual_checked : statement_checked (database_scope before_virtual) (virtual_statement v) ≡ Valued tt
   virtual_checked = ap (λ keys. statement_checked (database_scope before_virtual) (define_virtual v.name v.tree keys)) names_ordered ∙ virtual_keyed
@@ -144,7 +150,7 @@ module _ (db : Database) (sound : IsSound db) (front rest : List VirtualRelvar) 
 
 -- ---- a constraint
 
-module _ (db : Database) (legal : IsLegal db) (front rest : List NamedConstraint) (c : NamedConstraint) (e : db.constraints ≡ front ++ (c ∷ rest)) where
+module _ (db : Database) (is_typed : IsTyped db) (front rest : List NamedConstraint) (c : NamedConstraint) (e : db.constraints ≡ front ++ (c ∷ rest)) where
   abbrev before_constraint : Database
   before_constraint = database_of db.types db.bases db.virtuals front
 
@@ -152,8 +158,8 @@ module _ (db : Database) (legal : IsLegal db) (front rest : List NamedConstraint
   constraint_checked =
       both_asked (holds_or causes.NameTaken (not (knows_constraint (database_scope before_constraint) c.name)))
       (with_value (type_of (database_scope before_constraint) c.tree) (λ t. if_type boolean t tt))
-      (is_free _ (constraint_is_new db legal front rest c e))
-      (ap (λ o. with_value o (λ t. if_type boolean t tt)) (constraint_there db legal front rest c e))
+      (is_free _ (constraint_is_new db is_typed front rest c e))
+      (ap (λ o. with_value o (λ t. if_type boolean t tt)) (constraint_there db is_typed front rest c e))
 
   pub constraint_made : carried_out before_constraint (constraint_statement c) ≡ changed (database_of db.types db.bases db.virtuals (front ++ (c ∷ [])))
   constraint_made = refl

@@ -3,10 +3,10 @@ use Rattle.std.proofs.Common.{◌≡◌, ◌∙◌, ◌∷◌, ◌++◌, List, [
 use Rattle.std.specs.Prelude.{⊤}
 use Rattle.std.specs.List.{AllByRecursion}
 use Rattle.td_catalog.specs.Database.{Database, database_scope, with_declared}
-use Rattle.td_catalog.specs.Legality.{IsLegal}
 use Rattle.td_check.specs.StatementTypes.{both_hold, components_meant, constraint_fits, holds_or, rank_fits, statement_checked}
 use Rattle.td_engine.proofs.RebuiltEffects.{both_asked}
 use Rattle.td_engine.proofs.RebuiltParts.{database_of}
+use Rattle.td_engine.specs.Legality.{IsLegal}
 use Rattle.td_engine.specs.Machine.{by_outcome, carried_out, changed}
 use Rattle.td_engine.specs.Rebuilding.{type_statement}
 use Rattle.td_eval.proofs.KeepsGathered.{all_from_members}
@@ -46,7 +46,7 @@ module _ (db : Database) (legal : IsLegal db) (front rest : List DeclaredType) (
   old = database_of front [] [] []
 
   declarable : IsDeclarable front d
-  declarable = legal.declared front rest d e
+  declarable = legal.typed.declared front rest d e
 
   pub type_checked : statement_checked (database_scope old) (type_statement d) ≡ Valued tt
   type_checked =
@@ -55,7 +55,7 @@ module _ (db : Database) (legal : IsLegal db) (front rest : List DeclaredType) (
       (with_value (components_meant front (attribute_trees (pack d.components))) asked)
       (ap (holds_or causes.NameTaken) declarable.new)
       (ap (λ o. with_value o asked) (components_mean front d declarable)
-      ∙ both_asked (constraint_fits (database_scope old) d.components d.constraint) (rank_fits front d.components) (legal.constrained front rest d e)
+      ∙ both_asked (constraint_fits (database_scope old) d.components d.constraint) (rank_fits front d.components) (legal.typed.constrained front rest d e)
       (legal.ranked front rest d e))
 
   pub type_made : carried_out old (type_statement d) ≡ changed (database_of (front ++ (d ∷ [])) [] [] [])

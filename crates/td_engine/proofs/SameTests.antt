@@ -7,7 +7,7 @@ use Rattle.td_catalog.specs.Database.{Database, NamedConstraint, VirtualRelvar, 
 use Rattle.td_check.specs.Scopes.{KnownRelvar, known_relvar}
 use Rattle.td_engine.proofs.EachOf.{all_given}
 use Rattle.td_engine.specs.Checks.{keys_hold}
-use Rattle.td_engine.specs.Soundness.{HasKeysThatHold, IsTrueOf}
+use Rattle.td_engine.specs.Legality.{HasKeysThatHold, IsTrueOf}
 use Rattle.td_eval.proofs.KnownRelvars.{named, unknown_parts}
 use Rattle.td_eval.proofs.WorldParts.{virtual_name}
 use Rattle.td_eval.specs.OperatorValues.{on_relation, truth_value}

@@ -6,7 +6,8 @@ use Rattle.std.specs.Option.{option_or}
 use Rattle.td_body.specs.Bodies.{key_holds}
 use Rattle.td_body.proofs.Held.{held_by_membership}
 use Rattle.td_catalog.specs.Database.{BaseRelvar, Database, with_base}
-use Rattle.td_catalog.specs.Legality.{IsBase, IsLegal, KeysHold}
+use Rattle.td_catalog.specs.TypedDatabases.{IsTypedBase}
+use Rattle.td_engine.specs.Legality.{IsRuledBase, IsLegal, KeysHold}
 use Rattle.td_engine.specs.Carried.{Changes, Passes}
 use Rattle.td_engine.specs.Checks.{base_check, database_check, derived_check, first_refusal, keys_hold, unpassed}
 use Rattle.td_engine.specs.Machine.{Accepted, Denied, changed, ok_text, unless_refused}
@@ -33,21 +34,27 @@ keys_are_held (key ∷ keys) r is h =
     ((held_by_membership key r is).0 parts.0, keys_are_held keys r is parts.1)
 
 -- so do those of all base relvars
-pub bases_hold : (types : List DeclaredType) (bases : List BaseRelvar) → AllByRecursion (IsBase types) bases → first_refusal base_check bases ≡ None
-bases_hold types [] h = refl
-bases_hold types (r ∷ rs) h =
-    ap (λ b. option_or (unpassed (by_key r.name) (Valued b)) (first_refusal base_check rs)) (all_keys_hold r.keys r.relation h.0.relation h.0.hold)
-    ∙ bases_hold types rs h.1
+all_bases_hold : (types : List DeclaredType) (bases : List BaseRelvar) → AllByRecursion (IsTypedBase types) bases → AllByRecursion (IsRuledBase types) bases
+    → first_refusal base_check bases ≡ None
+all_bases_hold types [] h g = refl
+all_bases_hold types (r ∷ rs) h g =
+    ap (λ b. option_or (unpassed (by_key r.name) (Valued b)) (first_refusal base_check rs)) (all_keys_hold r.keys r.relation h.0.relation g.0.hold)
+    ∙ all_bases_hold types rs h.1 g.1
 
-pub legal_check : (db : Database) → IsLegal db → database_check db ≡ derived_check db
-legal_check db h = ap (λ o. option_or o (derived_check db)) (bases_hold db.types db.bases h.bases)
+pub bases_hold : (db : Database) → IsLegal db → first_refusal base_check db.bases ≡ None
+bases_hold db legal = all_bases_hold db.types db.bases legal.typed.bases legal.bases
 
-pub settled : (db : Database) → IsLegal db → derived_check db ≡ None → changed db ≡ Accepted db ok_text
-settled db h none = ap (λ o. unless_refused o db) (legal_check db h ∙ none)
+-- ---- a database whose base relvars pass
 
-pub unsettled : (db : Database) (f : Failure) → IsLegal db → Passes (Err f) (derived_check db) → Changes (Err f) (changed db)
-unsettled db (failures.Refused r) h is = ap (λ o. unless_refused o db) (legal_check db h ∙ is)
-unsettled db failures.Memory h is = tt
+pub held_check : (db : Database) → first_refusal base_check db.bases ≡ None → database_check db ≡ derived_check db
+held_check db held = ap (λ o. option_or o (derived_check db)) held
+
+pub settled : (db : Database) → first_refusal base_check db.bases ≡ None → derived_check db ≡ None → changed db ≡ Accepted db ok_text
+settled db held none = ap (λ o. unless_refused o db) (held_check db held ∙ none)
+
+pub unsettled : (db : Database) (f : Failure) → first_refusal base_check db.bases ≡ None → Passes (Err f) (derived_check db) → Changes (Err f) (changed db)
+unsettled db (failures.Refused r) held is = ap (λ o. unless_refused o db) (held_check db held ∙ is)
+unsettled db failures.Memory held is = tt
 
 -- a new base relvar of which a key does not hold
 refused_behind : {A : Type 0} (check : A → Option Refusal) (xs : List A) (x : A) (o : Option Refusal) (r : Refusal) → first_refusal check xs ≡ None → check x ≡ Some r
@@ -62,8 +69,22 @@ refused_behind check (y ∷ ys) x o r none is = by_check (check y) refl (λ n. r
         ap (λ p. option_or (option_or p (first_refusal check (ys ++ (x ∷ [])))) o) e ∙ rest (ap (λ p. option_or p (first_refusal check ys)) (sym e) ∙ none)
     by_check (Some q) e rest = let no : Some q ≡ None = ap (λ p. option_or p (first_refusal check ys)) (sym e) ∙ none in absurd (cc)
 
-pub broken_base : (db : Database) (r : BaseRelvar) → IsLegal db → keys_hold r.keys r.relation.body ≡ false → changed (with_base r db) ≡ Denied (by_key r.name)
-broken_base db r h broken =
+pub broken_base : (db : Database) (r : BaseRelvar) → first_refusal base_check db.bases ≡ None → keys_hold r.keys r.relation.body ≡ false
+    → changed (with_base r db) ≡ Denied (by_key r.name)
+broken_base db r held broken =
     ap (λ o. unless_refused o (with_base r db))
-    (refused_behind base_check db.bases r (derived_check (with_base r db)) (by_key r.name) (bases_hold db.types db.bases h.bases)
-    (ap (λ b. unpassed (by_key r.name) (Valued b)) broken))
+    (refused_behind base_check db.bases r (derived_check (with_base r db)) (by_key r.name) held (ap (λ b. unpassed (by_key r.name) (Valued b)) broken))
+
+-- one of which they do
+passed_behind : {A : Type 0} (check : A → Option Refusal) (xs : List A) (x : A) → first_refusal check xs ≡ None → check x ≡ None → first_refusal check (xs ++ (x ∷ [])) ≡ None
+passed_behind check [] x none is = ap (λ p. option_or p None) is
+passed_behind check (y ∷ ys) x none is = by_check (check y) refl (λ n. passed_behind check ys x n is)
+  where
+    by_check : (p : Option Refusal) → check y ≡ p → (first_refusal check ys ≡ None → first_refusal check (ys ++ (x ∷ [])) ≡ None)
+        → option_or (check y) (first_refusal check (ys ++ (x ∷ []))) ≡ None
+    by_check None e rest = ap (λ p. option_or p (first_refusal check (ys ++ (x ∷ [])))) e ∙ rest (ap (λ p. option_or p (first_refusal check ys)) (sym e) ∙ none)
+    by_check (Some q) e rest = let no : Some q ≡ None = ap (λ p. option_or p (first_refusal check ys)) (sym e) ∙ none in absurd (cc)
+
+pub held_with_base : (db : Database) (r : BaseRelvar) → first_refusal base_check db.bases ≡ None → keys_hold r.keys r.relation.body ≡ true
+    → first_refusal base_check (with_base r db).bases ≡ None
+held_with_base db r held hold = passed_behind base_check db.bases r held (ap (λ b. unpassed (by_key r.name) (Valued b)) hold)

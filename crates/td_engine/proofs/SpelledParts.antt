@@ -1,7 +1,7 @@
 -- Expressions in a statement that some tokens spell are spelled by some of these tokens.
 use Rattle.std.proofs.Common.{◌≡◌, ◌∷◌, ◌++◌, List, [], Option, Some, None, append_assoc, refl, subst, sym}
 use Rattle.td_engine.specs.Carried.{IsSpelled}
-use Rattle.td_engine.specs.Soundness.{IsSpelledExpression, IsSpelledIf}
+use Rattle.td_engine.specs.Legality.{IsSpelledExpression, IsSpelledIf}
 use Rattle.td_tree.specs.Lexemes.{Lexeme, keyword, sign}
 use Rattle.td_tree.specs.Lexemes as lexeme
 use Rattle.td_tree.specs.Lists.{Optional, braced, parenthesized, present}

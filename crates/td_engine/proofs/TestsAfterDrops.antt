@@ -5,13 +5,14 @@ use Rattle.std.specs.List.{AllByRecursion}
 use Rattle.std.specs.Set.{remove_key}
 use Rattle.td_algebra.proofs.Lists.{contains_none}
 use Rattle.td_catalog.specs.Database.{BaseRelvar, Database, NamedConstraint, VirtualRelvar, database_scope, without_constraint, without_relvar, without_type}
-use Rattle.td_catalog.specs.Legality.{IsConstraint, IsLegal}
+use Rattle.td_catalog.specs.TypedDatabases.{IsTyped, IsTypedConstraint}
 use Rattle.td_catalog.specs.Mentioned.{tree_mentions_relvar, tree_mentions_type}
 use Rattle.td_check.proofs.AgreementLaws.{only_one}
 use Rattle.td_check.specs.Mentions.{relvars_in, types_in}
 use Rattle.td_engine.proofs.EachOf.{all_both, all_given, all_removed}
 use Rattle.td_engine.proofs.SameTests.{IsKnown, all_known, name_checked, same_test, same_truth}
-use Rattle.td_engine.specs.Soundness.{HasKeysThatHold, IsSound, IsTrueOf}
+use Rattle.td_engine.proofs.WrittenStatements.{conditions_written, definitions_written}
+use Rattle.td_engine.specs.Legality.{HasKeysThatHold, IsLegal, IsTrueOf}
 use Rattle.td_eval.proofs.DistinctNames.{distinct_rest, first_apart}
 use Rattle.td_eval.proofs.DroppedEntries.{drops_change_no_value}
 use Rattle.td_eval.proofs.WorldParts.{virtual_name}
@@ -63,15 +64,15 @@ all_other dropped (v ∷ vs) d = by_test (same_name v.name dropped) refl (all_ot
 
 -- ---- a database
 
-module _ (db : Database) (sound : IsSound db) where
+module _ (db : Database) (legal : IsLegal db) where
   -- a constraint is one that has a type
   abbrev IsAsked : NamedConstraint → Type 0
-  IsAsked c = IsConstraint (database_scope db) c × IsWritten c.tree
+  IsAsked c = IsTypedConstraint (database_scope db) c × IsWritten c.tree
 
   -- all are such
   all_asked : AllByRecursion IsAsked db.constraints
   all_asked =
-      all_both (IsConstraint (database_scope db)) (λ (c : NamedConstraint). IsWritten c.tree) db.constraints sound.legal.constraints sound.conditions
+      all_both (IsTypedConstraint (database_scope db)) (λ (c : NamedConstraint). IsWritten c.tree) db.constraints legal.typed.constraints (conditions_written db legal.spelled)
 
   -- its expression has a type, and is written
   tree_checked : (c : NamedConstraint) → IsAsked c → IsChecked (database_scope db) [] c.tree
@@ -79,14 +80,14 @@ module _ (db : Database) (sound : IsSound db) where
 
   -- ---- one constraint less
 
-  module _ (dropped : List ℕ) (legal : IsLegal (without_constraint dropped db)) where
+  module _ (dropped : List ℕ) (is_typed : IsTyped (without_constraint dropped db)) where
     -- the virtual relvars
     pub virtuals_without_constraint : AllByRecursion (HasKeysThatHold (world_of (without_constraint dropped db))) db.virtuals
     virtuals_without_constraint =
         all_given (IsKnown db) (HasKeysThatHold (world_of db)) (HasKeysThatHold (world_of (without_constraint dropped db)))
         (λ v known. same_test (world_of db) (world_of (without_constraint dropped db)) v
-        (drops_change_no_value.constraint db dropped [] (name v.name) sound.legal legal sound.definitions (name_checked db v known)))
-        db.virtuals (all_known db) sound.virtuals
+        (drops_change_no_value.constraint db dropped [] (name v.name) legal.typed is_typed (definitions_written db legal.spelled) (name_checked db v known)))
+        db.virtuals (all_known db) legal.virtuals
 
     -- the constraints that are left
     pub constraints_without_constraint : AllByRecursion (IsTrueOf (world_of (without_constraint dropped db))) (without_constraint dropped db).constraints
@@ -94,20 +95,20 @@ module _ (db : Database) (sound : IsSound db) where
         all_removed (IsTrueOf (world_of (without_constraint dropped db))) (λ (c : NamedConstraint). same_name c.name dropped) db.constraints
         (all_given IsAsked (IsTrueOf (world_of db)) (IsTrueOf (world_of (without_constraint dropped db)))
         (λ c asked. same_truth (world_of db) (world_of (without_constraint dropped db)) c
-        (drops_change_no_value.constraint db dropped [] c.tree sound.legal legal sound.definitions (tree_checked c asked)))
-        db.constraints all_asked sound.constraints)
+        (drops_change_no_value.constraint db dropped [] c.tree legal.typed is_typed (definitions_written db legal.spelled) (tree_checked c asked)))
+        db.constraints all_asked legal.constraints)
 
   -- ---- one type less
 
-  module _ (dropped : List ℕ) (legal : IsLegal (without_type dropped db)) where
+  module _ (dropped : List ℕ) (is_typed : IsTyped (without_type dropped db)) where
     -- the virtual relvars
     pub virtuals_without_type : AllByRecursion (HasKeysThatHold (world_of (without_type dropped db))) db.virtuals
     virtuals_without_type =
         all_given (IsKnown db) (HasKeysThatHold (world_of db)) (HasKeysThatHold (world_of (without_type dropped db)))
         (λ v known. same_test (world_of db) (world_of (without_type dropped db)) v
-        (drops_change_no_value.type db dropped [] (name v.name) sound.legal legal sound.definitions (name_checked db v known)
+        (drops_change_no_value.type db dropped [] (name v.name) legal.typed is_typed (definitions_written db legal.spelled) (name_checked db v known)
         (λ h c. absurd (contains_none h c)) (λ c. contains_none dropped c)))
-        db.virtuals (all_known db) sound.virtuals
+        db.virtuals (all_known db) legal.virtuals
 
     -- a constraint that does not mention it
     abbrev pub LacksType : NamedConstraint → Type 0
@@ -118,13 +119,13 @@ module _ (db : Database) (sound : IsSound db) where
     constraints_without_type unused =
         all_given (λ (c : NamedConstraint). IsAsked c × LacksType c) (IsTrueOf (world_of db)) (IsTrueOf (world_of (without_type dropped db)))
         (λ c known. same_truth (world_of db) (world_of (without_type dropped db)) c
-        (drops_change_no_value.type db dropped [] c.tree sound.legal legal sound.definitions (tree_checked c known.0)
+        (drops_change_no_value.type db dropped [] c.tree legal.typed is_typed (definitions_written db legal.spelled) (tree_checked c known.0)
         (λ h i. absurd (contains_none h i)) (not_contained dropped (types_in c.tree) known.1)))
-        db.constraints (all_both IsAsked LacksType db.constraints all_asked unused) sound.constraints
+        db.constraints (all_both IsAsked LacksType db.constraints all_asked unused) legal.constraints
 
   -- ---- one relvar less
 
-  module _ (dropped : List ℕ) (legal : IsLegal (without_relvar dropped db)) where
+  module _ (dropped : List ℕ) (is_typed : IsTyped (without_relvar dropped db)) where
     -- the name of another does not mention it
     name_unmentioned : (v : VirtualRelvar) → IsKnown db v → IsOther dropped v → Contains (relvars_in (database_scope db) (name v.name)) dropped → ⊥
     name_unmentioned v (k, is) other c =
@@ -137,13 +138,13 @@ module _ (db : Database) (sound : IsSound db) where
     virtuals_without_relvar =
         let test = λ (v : VirtualRelvar). same_name v.name dropped in
         let few = remove_key test db.virtuals in
-        let distinct = distinct_rest (map (λ (r : BaseRelvar). r.name) db.bases) (map virtual_name db.virtuals) sound.legal.distinct in
+        let distinct = distinct_rest (map (λ (r : BaseRelvar). r.name) db.bases) (map virtual_name db.virtuals) legal.typed.distinct in
         all_given (λ (v : VirtualRelvar). IsKnown db v × IsOther dropped v) (HasKeysThatHold (world_of db)) (HasKeysThatHold (world_of (without_relvar dropped db)))
         (λ v known. same_test (world_of db) (world_of (without_relvar dropped db)) v
-        (drops_change_no_value.relvar db dropped [] (name v.name) sound.legal legal sound.definitions (name_checked db v known.0)
+        (drops_change_no_value.relvar db dropped [] (name v.name) legal.typed is_typed (definitions_written db legal.spelled) (name_checked db v known.0)
         (name_unmentioned v known.0 known.1)))
         few (all_both (IsKnown db) (IsOther dropped) few (all_removed (IsKnown db) test db.virtuals (all_known db)) (all_other dropped db.virtuals distinct))
-        (all_removed (HasKeysThatHold (world_of db)) test db.virtuals sound.virtuals)
+        (all_removed (HasKeysThatHold (world_of db)) test db.virtuals legal.virtuals)
 
     -- a constraint that does not mention it
     abbrev pub LacksRelvar : NamedConstraint → Type 0
@@ -154,6 +155,6 @@ module _ (db : Database) (sound : IsSound db) where
     constraints_without_relvar unused =
         all_given (λ (c : NamedConstraint). IsAsked c × LacksRelvar c) (IsTrueOf (world_of db)) (IsTrueOf (world_of (without_relvar dropped db)))
         (λ c known. same_truth (world_of db) (world_of (without_relvar dropped db)) c
-        (drops_change_no_value.relvar db dropped [] c.tree sound.legal legal sound.definitions (tree_checked c known.0)
+        (drops_change_no_value.relvar db dropped [] c.tree legal.typed is_typed (definitions_written db legal.spelled) (tree_checked c known.0)
         (not_contained dropped (relvars_in (database_scope db) c.tree) known.1)))
-        db.constraints (all_both IsAsked LacksRelvar db.constraints all_asked unused) sound.constraints
+        db.constraints (all_both IsAsked LacksRelvar db.constraints all_asked unused) legal.constraints

@@ -8,7 +8,7 @@ use Rattle.td_catalog.specs.Database.{Database}
 use Rattle.td_engine.proofs.Answered.{ok_does}
 use Rattle.td_engine.specs.Machine.{Accepted, Effect, State, begun_transaction, committed, denied_transaction, ok_text, rolled_back, state_of, step_of, transaction_limit}
 use Rattle.td_engine.specs.Refusals.{cause_text, line}
-use Rattle.td_engine.specs.Soundness.{IsSound, IsSoundState}
+use Rattle.td_engine.specs.Legality.{IsLegal, IsLegalState}
 use Rattle.td_engine.specs.Steps.{Does}
 use Rattle.td_engine.specs.declared.answer.Answer as code
 use Rattle.td_tree.specs.declared.cause.Cause.TheVariants as causes
@@ -64,24 +64,24 @@ pub rollback_does : (answer : code.Answer) (s : State) (last : Database) (others
     → Does (step_of s (rolled_back s.kept)) answer (state_of last others)
 rollback_does answer s last others says is = ok_does answer s (state_of last others) (rolled_back s.kept) (ap rolled_back is) says.0 says.1
 
--- ---- soundness
+-- ---- legality
 
-pub begin_sound : (s : State) (kept : List Database) → IsSoundState s → length s.kept < transaction_limit → kept ≡ s.database ∷ s.kept
-    → IsSoundState (state_of s.database kept)
-begin_sound s kept sound room is =
-    subst (λ k. IsSoundState (state_of s.database k)) (sym is)
-    (record { database = sound.database; kept = (sound.database, sound.kept); few = room })
+pub begin_legal : (s : State) (kept : List Database) → IsLegalState s → length s.kept < transaction_limit → kept ≡ s.database ∷ s.kept
+    → IsLegalState (state_of s.database kept)
+begin_legal s kept legal room is =
+    subst (λ k. IsLegalState (state_of s.database k)) (sym is)
+    (record { database = legal.database; kept = (legal.database, legal.kept); few = room })
 
 -- the database that was kept last, and the others
-pub last_sound : (s : State) (last : Database) (others : List Database) → IsSoundState s → s.kept ≡ last ∷ others
-    → IsSound last × AllByRecursion IsSound others × (length others ≤ transaction_limit)
-last_sound s last others sound is =
-    let all = subst (AllByRecursion IsSound) is sound.kept in
-    let few : length (last ∷ others) ≤ transaction_limit = subst (λ k. length k ≤ transaction_limit) is sound.few in
+pub last_legal : (s : State) (last : Database) (others : List Database) → IsLegalState s → s.kept ≡ last ∷ others
+    → IsLegal last × AllByRecursion IsLegal others × (length others ≤ transaction_limit)
+last_legal s last others legal is =
+    let all = subst (AllByRecursion IsLegal) is legal.kept in
+    let few : length (last ∷ others) ≤ transaction_limit = subst (λ k. length k ≤ transaction_limit) is legal.few in
     (all.0, all.1, omega (arith, few))
 
-pub commit_sound : (s : State) (last : Database) (others : List Database) → IsSoundState s → s.kept ≡ last ∷ others → IsSoundState (state_of s.database others)
-commit_sound s last others sound is = let parts = last_sound s last others sound is in record { database = sound.database; kept = parts.1; few = parts.2 }
+pub commit_legal : (s : State) (last : Database) (others : List Database) → IsLegalState s → s.kept ≡ last ∷ others → IsLegalState (state_of s.database others)
+commit_legal s last others legal is = let parts = last_legal s last others legal is in record { database = legal.database; kept = parts.1; few = parts.2 }
 
-pub rollback_sound : (s : State) (last : Database) (others : List Database) → IsSoundState s → s.kept ≡ last ∷ others → IsSoundState (state_of last others)
-rollback_sound s last others sound is = let parts = last_sound s last others sound is in record { database = parts.0; kept = parts.1; few = parts.2 }
+pub rollback_legal : (s : State) (last : Database) (others : List Database) → IsLegalState s → s.kept ≡ last ∷ others → IsLegalState (state_of last others)
+rollback_legal s last others legal is = let parts = last_legal s last others legal is in record { database = parts.0; kept = parts.1; few = parts.2 }

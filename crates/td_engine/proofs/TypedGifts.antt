@@ -6,7 +6,7 @@ use Rattle.std.specs.Prelude.{⊤}
 use Rattle.std.specs.List.{AllByRecursion, Contains}
 use Rattle.td_algebra.specs.Operators.{difference, restriction, union}
 use Rattle.td_catalog.specs.Database.{BaseRelvar, Database, base_among, base_named, database_scope, known_base}
-use Rattle.td_catalog.specs.Legality.{IsBase, IsLegal}
+use Rattle.td_catalog.specs.TypedDatabases.{IsTyped, IsTypedBase}
 use Rattle.td_check.specs.OperatorTypes.{known_or, same_heading}
 use Rattle.td_check.specs.Scopes.{Scope, entered_with, known_relvar}
 use Rattle.td_check.specs.StatementTypes.{assignment_checked, both_hold, condition_fits, condition_type, in_target, is_target, settings_fit, source_fits, statement_checked}
@@ -18,12 +18,12 @@ use Rattle.td_engine.proofs.Sources.{inserted_is, restricted_is}
 use Rattle.td_engine.proofs.TypedSettings.{AreOwnParts, additions_are, set_attributes, typed_setting}
 use Rattle.td_engine.specs.Assignments.{Given, assignment_value, chosen_for, current, given_by, given_to, of_heading, relation_for, setting_attributes, setting_names, source_world, target_of, updated_relation, with_assignment, with_given, with_inserted, without_deleted}
 use Rattle.td_engine.specs.Gifts.{AreGifts, IsGift, restricted_relation, setting_attribute}
-use Rattle.td_engine.specs.SoundnessLaws.{AreWritten, AreWrittenSettings, IsWrittenAssignment}
+use Rattle.td_engine.proofs.WrittenStatements.{AreWritten, AreWrittenSettings, IsWrittenAssignment}
 use Rattle.td_eval.proofs.KeepsOperators.{typed_restriction, typed_union}
 use Rattle.td_eval.proofs.KeepsRelations.{IsTypedRelation, typed_from_value, value_from_typed}
 use Rattle.td_eval.proofs.KnownRelvars.{known_as_base}
 use Rattle.td_eval.proofs.OtherRelations.{other_relations_keep_scopes}
-use Rattle.td_eval.proofs.TypedDatabases.{legal_databases_keep_scopes}
+use Rattle.td_eval.proofs.TypedDatabases.{typed_databases_keep_scopes}
 use Rattle.td_eval.proofs.TypedRows.{own_type, parts_typed, rows_typed}
 use Rattle.td_eval.proofs.TypedTrees.{values_keep_types}
 use Rattle.td_eval.proofs.WorldParts.{world_scope}
@@ -113,28 +113,28 @@ module _ (ds : List DeclaredType) (so_far : Relation) where
 
 -- ---- a database
 
-module _ (db : Database) (legal : IsLegal db) (written : DefinitionsAreWritten db) where
+module _ (db : Database) (is_typed : IsTyped db) (written : DefinitionsAreWritten db) where
   abbrev ds : List DeclaredType
   ds = db.types
 
   abbrev scope : Scope
   scope = database_scope db
 
-  base_at : (n : List ℕ) (bs : List BaseRelvar) (b : BaseRelvar) → AllByRecursion (IsBase ds) bs → base_among n bs ≡ Some b → IsBase ds b
+  base_at : (n : List ℕ) (bs : List BaseRelvar) (b : BaseRelvar) → AllByRecursion (IsTypedBase ds) bs → base_among n bs ≡ Some b → IsTypedBase ds b
   base_at n [] b h e = absurd (cc)
   base_at n (c ∷ bs) b h e = by_test (same_name c.name n) refl (base_at n bs b h.1)
     where
-      by_test : (t : Bool) → same_name c.name n ≡ t → (base_among n bs ≡ Some b → IsBase ds b) → IsBase ds b
-      by_test true is rest = subst (IsBase ds) (some_is c b (rw is at e)) h.0
+      by_test : (t : Bool) → same_name c.name n ≡ t → (base_among n bs ≡ Some b → IsTypedBase ds b) → IsTypedBase ds b
+      by_test true is rest = subst (IsTypedBase ds) (some_is c b (rw is at e)) h.0
       by_test false is rest = rest (rw is at e)
 
-  is_base : (n : List ℕ) (b : BaseRelvar) → base_named n db ≡ Some b → IsBase ds b
-  is_base n b e = base_at n db.bases b legal.bases e
+  is_base : (n : List ℕ) (b : BaseRelvar) → base_named n db ≡ Some b → IsTypedBase ds b
+  is_base n b e = base_at n db.bases b is_typed.bases e
 
   -- what a target may be given is typed
   typed_gift : (n : List ℕ) (q : Relation) → IsGift db (n, q) → IsTypedRelation ds q
   typed_gift n q gift =
-      let known = (is_base n gift.target gift.named).heading.known in
+      let known = (is_base n gift.target gift.named).known in
       typed_from_value ds q (gift.relation, (refl, subst (λ (h : Heading). AreKnown ds (pack h)) (sym gift.heading) known, gift.typed))
 
   -- what is of its heading is what it may be given
@@ -167,7 +167,7 @@ module _ (db : Database) (legal : IsLegal db) (written : DefinitionsAreWritten d
     keeps : KeepsScope w scope
     keeps =
         subst (KeepsScope w) (world_scope db)
-        (other_relations_keep_scopes db n gift.target so_far (legal_databases_keep_scopes db legal written) gift.named gift.relation gift.typed gift.heading)
+        (other_relations_keep_scopes db n gift.target so_far (typed_databases_keep_scopes db is_typed written) gift.named gift.relation gift.typed gift.heading)
 
     known : known_relvar scope n ≡ Some (known_base gift.target)
     known = known_as_base db n gift.target gift.named

@@ -1,7 +1,7 @@
 -- The relations that expressions give to relvars: their headings, and the types of their values.
 use Rattle.std.proofs.Common.{◌≡◌, ◌∙◌, List, [], ap, subst, sym}
 use Rattle.td_catalog.specs.Database.{Database, database_scope}
-use Rattle.td_catalog.specs.Legality.{AreTyped}
+use Rattle.td_catalog.specs.TypedDatabases.{AreTyped}
 use Rattle.td_check.specs.OperatorTypes.{same_heading}
 use Rattle.td_check.specs.StaticTypes.{type_of}
 use Rattle.td_engine.specs.Assignments.{of_heading, relation_for}

@@ -1,6 +1,6 @@
 -- What is asked of a database after a definition or an assignment: its keys and its constraints (Tutorial D's; the order of
 -- the checks is this project's own).
-use Rattle.std.specs.Prelude.{ℕ, Bool, true, false, List, [], ◌∷◌, Option, Some, None}
+use Rattle.std.specs.Prelude.{◌≡◌, ℕ, Bool, true, false, List, [], ◌∷◌, Option, Some, None}
 use Rattle.std.specs.List.{list_all}
 use Rattle.std.specs.Option.{option_or}
 use Rattle.td_body.specs.Bodies.{key_holds}
@@ -31,6 +31,10 @@ keys_hold keys tuples = list_all (λ key. key_holds key tuples) keys
 -- the keys of a base relvar hold
 abbrev pub base_check : BaseRelvar → Option Refusal
 base_check r = unpassed (by_key r.name) (Valued (keys_hold r.keys r.relation.body))
+
+-- those of each base relvar do
+abbrev pub BasesHold : Database → Type 0
+BasesHold db = first_refusal base_check db.bases ≡ None
 
 -- a virtual relvar that has keys is valued, and they hold
 abbrev pub virtual_test : World → VirtualRelvar → Outcome Bool

@@ -3,7 +3,7 @@ use Rattle.std.specs.Prelude.{◌≡◌, ℕ, List, ◌++◌, drop, map, take, O
 use Rattle.std.specs.List.{AllByRecursion}
 use Rattle.td_algebra.specs.Operators.{restriction}
 use Rattle.td_catalog.specs.Database.{BaseRelvar, Database, base_named}
-use Rattle.td_catalog.specs.Legality.{AreTyped}
+use Rattle.td_catalog.specs.TypedDatabases.{AreTyped}
 use Rattle.td_check.specs.OperatorTypes.{attribute_type}
 use Rattle.td_engine.specs.Assignments.{Given, assignment_value, current, source_world, target_of, with_gift}
 use Rattle.td_engine.specs.Carried.{refusal_view}

@@ -7,8 +7,8 @@ pub mod Machine
 pub mod Rebuilding
 pub mod Refusals
 pub mod Scripts
-pub mod Soundness
-pub mod SoundnessLaws
+pub mod Legality
+pub mod LegalityLaws
 pub mod Standing
 pub mod Steps
 pub mod Told

@@ -3,7 +3,7 @@ use Rattle.std.specs.Prelude.{◌≡◌, ℕ, Bool, false, List, [], ◌∷◌, 
 use Rattle.td_catalog.specs.Database.{BaseRelvar, Database, NamedConstraint, VirtualRelvar, empty_database}
 use Rattle.td_catalog.specs.Dumps.{dump_text, ordered_names}
 use Rattle.td_engine.specs.Machine.{Accepted, Progress, Runs, begun, effect, empty_state, ok_text, state_of}
-use Rattle.td_engine.specs.Soundness.{IsSound}
+use Rattle.td_engine.specs.Legality.{IsLegal}
 use Rattle.td_eval.specs.OperatorValues.{relation_as_value}
 use Rattle.td_parse.specs.Parsing.{has_bad}
 use Rattle.td_tree.specs.StatementGrammar.{StatementSpelling}
@@ -51,7 +51,7 @@ AreReadAs (ts ∷ tss) (s ∷ ss) = IsReadAs ts s × AreReadAs tss ss
 AreReadAs _ _ = ⊥
 
 abbrev pub DumpsAreRead : Type 0
-DumpsAreRead = (db : Database) → IsSound db → AreReadAs (statements 0 (dump_text db)) (dump_statements db)
+DumpsAreRead = (db : Database) → IsLegal db → AreReadAs (statements 0 (dump_text db)) (dump_statements db)
 
 -- ---- what these statements do
 
@@ -62,7 +62,7 @@ pub data AcceptsAll : Database → List Statement → Database → Type 0 where
 
 -- from nothing
 abbrev pub DumpsAreAccepted : Type 0
-DumpsAreAccepted = (db : Database) → IsSound db → AcceptsAll empty_database (dump_statements db) db
+DumpsAreAccepted = (db : Database) → IsLegal db → AcceptsAll empty_database (dump_statements db) db
 
 -- ---- the law
 
@@ -73,6 +73,6 @@ pub record Rebuilds (stop : Bool) (script : List ℕ) (db : Database) : Type 0 w
   pub accepted : progress.refusals ≡ 0
   pub state_is : progress.state ≡ state_of db []
 
--- the dump of each sound database rebuilds it
+-- the dump of each legal database rebuilds it
 abbrev pub DumpsRebuild : Type 0
-DumpsRebuild = (stop : Bool) (db : Database) → IsSound db → Rebuilds stop (dump_text db) db
+DumpsRebuild = (stop : Bool) (db : Database) → IsLegal db → Rebuilds stop (dump_text db) db

@@ -3,15 +3,14 @@ ghost use Rattle.std.specs.Prelude.{◌≡◌, ◌+◌, ◌<◌, [], IfOk, IfSom
 ghost use Rattle.std.specs.Prelude.{length, map, option_map, slice_get};
 ghost use Rattle.td_catalog.specs.CatalogViews.{IsEntry, base_view, entry_keys};
 ghost use Rattle.td_catalog.specs.Database.{base_named, base_relvar, with_bases, with_body};
-ghost use Rattle.td_catalog.specs.Legality.{AreTyped};
+ghost use Rattle.td_catalog.specs.TypedDatabases.{AreTyped};
 ghost use Rattle.td_engine.specs.Assignments.{assigned_database, current, given_by, with_assignment};
 ghost use Rattle.td_engine.specs.Assignments.{with_gift, with_gifts};
 ghost use Rattle.td_engine.specs.Carried.{Changes, IsAdmitted};
-ghost use Rattle.td_engine.specs.Checks.{base_check, first_refusal};
+ghost use Rattle.td_engine.specs.Checks.{BasesHold, base_check, first_refusal};
 ghost use Rattle.td_engine.specs.Gifts.{AreGifts, PassesWith, gift_of, gifted};
 ghost use Rattle.td_engine.specs.Machine.{by_outcome, changed};
-ghost use Rattle.td_engine.specs.Soundness.{IsSound};
-ghost use Rattle.td_engine.specs.SoundnessLaws.{AreWritten};
+ghost use Rattle.td_engine.specs.Legality.{IsLegal};
 ghost use Rattle.td_tree.specs.Outcomes.{Answers};
 ghost use Rattle.td_tree.specs.TreeViews.{assignment_view, statement_view, tree_view};
 
@@ -137,7 +136,6 @@ fn hold<B: Body>(
 {
     match body_holding(alloc, name, entry, relation) {
         Ok(body) => {
-            let _ = body.len();
             next.set_body(name, body);
             Ok(())
         }
@@ -154,6 +152,7 @@ fn put_gift<B: Body>(
     place: usize,
     next: &mut Catalog<B>,
 ) -> Result<(), Failure>
+    requires held { BasesHold catalog.now }
     requires gifts { AreGifts catalog.now given.now.entries }
     requires next { next.old ≡ with_bases
         (gifted given.now.entries place catalog.now.bases) catalog.now }
@@ -182,7 +181,8 @@ fn with_gifts<B: Body>(
     catalog: &Catalog<B>,
     given: &IndexMap<Name, Rel>,
 ) -> Result<Catalog<B>, Failure>
-    requires { AreGifts catalog.now given.now.entries }
+    requires held { BasesHold catalog.now }
+    requires gifts { AreGifts catalog.now given.now.entries }
     ensures check { PassesWith result (first_refusal base_check
         (with_gifts given.now.entries catalog.now).bases) }
     ensures next { IfOk result (λ next. next ≡ with_gifts given.now.entries catalog.now) }
@@ -203,7 +203,8 @@ fn settled_with<B: Body>(
     catalog: &Catalog<B>,
     given: &IndexMap<Name, Rel>,
 ) -> Result<Catalog<B>, Failure>
-    requires { AreGifts catalog.now given.now.entries }
+    requires held { BasesHold catalog.now }
+    requires gifts { AreGifts catalog.now given.now.entries }
     ensures { Changes result (changed (with_gifts given.now.entries catalog.now)) }
 {
     match with_gifts(alloc, catalog, given) {
@@ -218,9 +219,8 @@ pub(crate) fn assigned<B: Body>(
     catalog: &Catalog<B>,
     assignments: Vec<Assignment>,
 ) -> Result<Catalog<B>, Failure>
-    requires sound { IsSound catalog.now }
+    requires legal { IsLegal catalog.now }
     requires admitted { IsAdmitted catalog.now (statement_view (Statement.Assign assignments)) }
-    requires written { AreWritten (map assignment_view assignments.items) }
     ensures { Changes result (by_outcome
         (assigned_database catalog.now (map assignment_view assignments.items)) changed) }
 {

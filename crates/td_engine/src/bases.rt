@@ -1,19 +1,20 @@
 //! Definitions of base relvars.
-ghost use Rattle.std.specs.Prelude.{◌≡◌, IfOk, IsTrue, [], map, option_map};
+ghost use Rattle.std.specs.Prelude.{◌≡◌, IfOk, [], map, option_map};
 ghost use Rattle.td_catalog.specs.Database.{base_relvar, with_base};
 ghost use Rattle.td_catalog.specs.Dumps.{ordered_names};
-ghost use Rattle.td_catalog.specs.Legality.{AreBaseKeys, AreTyped, IsRelvarHeading};
+ghost use Rattle.td_catalog.specs.TypedDatabases.{AreTyped};
 ghost use Rattle.td_engine.specs.Assignments.{of_heading, relation_for};
 ghost use Rattle.td_engine.specs.Carried.{Changes, IsAdmitted};
-ghost use Rattle.td_engine.specs.Checks.{keys_hold};
+ghost use Rattle.td_engine.specs.Checks.{BasesHold};
 ghost use Rattle.td_engine.specs.Machine.{base_defined, by_outcome, changed, init_relation};
-ghost use Rattle.td_engine.specs.Soundness.{IsSound};
+ghost use Rattle.td_engine.specs.Legality.{AreBaseKeys, IsLegal};
 ghost use Rattle.td_eval.specs.DatabaseWorlds.{world_of};
 ghost use Rattle.td_eval.specs.OperatorValues.{on_relation};
 ghost use Rattle.td_tree.specs.Outcomes.{Answers, Outcome, Valued, with_value};
 ghost use Rattle.td_tree.specs.TreeViews.{heading_tree_view, statement_view, tree_view};
 ghost use Rattle.td_tree.specs.declared.cause.Cause.TheVariants as causes;
-ghost use Rattle.td_types.specs.TypeLists.{heading_meant};
+ghost use Rattle.td_types.specs.TypeLists.{AreKnown, heading_meant};
+ghost use Rattle.td_types.specs.Types.{pack};
 ghost use Rattle.td_value.specs.Values.{Val};
 ghost use Rattle.td_value.specs.Views.{relation_view};
 
@@ -22,7 +23,6 @@ use crate::checks::{keys_hold, settled, value};
 use crate::definitions::failed;
 use crate::refusal::{Failure, Refusal};
 use crate::updates::relation_of;
-use crate::written::{tell_heading, tell_if_given};
 use std::alloc::{AllocError, Global};
 use td_body::body::Body;
 use td_catalog::catalog::Catalog;
@@ -111,7 +111,7 @@ fn parts_of<B: Body>(
     })
 }
 
-/// The catalogue with a base relvar that holds the relation, whose keys hold.
+/// The catalogue with a base relvar that holds the relation.
 fn with_body<B: Body>(
     alloc: Global,
     catalog: &Catalog<B>,
@@ -119,10 +119,9 @@ fn with_body<B: Body>(
     keys: Vec<Vec<Name>>,
     relation: Rel,
 ) -> Result<Catalog<B>, Fault>
-    requires heading { IsRelvarHeading catalog.now.types relation.heading }
+    requires heading { AreKnown catalog.now.types (pack relation.heading) }
     requires keys { AreBaseKeys relation.heading (map (λ key. key.items) keys.items) }
     requires typed { AreTyped catalog.now.types relation }
-    requires hold { IsTrue (keys_hold (map (λ key. key.items) keys.items) relation.body) }
     ensures { IfOk result (λ db. db ≡ with_base
         (base_relvar name (map (λ key. key.items) keys.items) relation) catalog.now) }
 {
@@ -142,13 +141,13 @@ fn with_relvar<B: Body>(
     keys: Vec<Vec<Name>>,
     relation: Rel,
 ) -> Result<Catalog<B>, Failure>
-    requires heading { IsRelvarHeading catalog.now.types relation.heading }
+    requires held { BasesHold catalog.now }
+    requires heading { AreKnown catalog.now.types (pack relation.heading) }
     requires keys { AreBaseKeys relation.heading (map (λ key. key.items) keys.items) }
     requires typed { AreTyped catalog.now.types relation }
     ensures { Changes result (changed (with_base
         (base_relvar name (map (λ key. key.items) keys.items) relation) catalog.now)) }
 {
-    catalog.reveal();
     match keys_hold(alloc, &keys, &relation) {
         Ok(true) => {}
         Ok(false) => return Err(Failure::Refused(Refusal::Key(name))),
@@ -168,7 +167,8 @@ fn with_keys<B: Body>(
     keys: Vec<Vec<Name>>,
     relation: Rel,
 ) -> Result<Catalog<B>, Failure>
-    requires heading { IsRelvarHeading catalog.now.types relation.heading }
+    requires held { BasesHold catalog.now }
+    requires heading { AreKnown catalog.now.types (pack relation.heading) }
     requires keys { AreBaseKeys relation.heading (map (λ key. key.items) keys.items) }
     requires typed { AreTyped catalog.now.types relation }
     ensures { Changes result (changed (with_base (base_relvar name
@@ -185,14 +185,12 @@ pub(crate) fn with_base<B: Body>(
     catalog: &Catalog<B>,
     definition: BaseDefinition,
 ) -> Result<Catalog<B>, Failure>
-    requires sound { IsSound catalog.now }
+    requires legal { IsLegal catalog.now }
     requires admitted { IsAdmitted catalog.now (statement_view (Statement.DefineBase definition)) }
     ensures { Changes result (by_outcome (base_defined catalog.now definition.name
         (heading_tree_view definition.heading.items) (option_map tree_view definition.init)
         (map (λ key. key.items) definition.keys.items)) changed) }
 {
-    tell_heading(&definition.heading);
-    tell_if_given(definition.init.as_ref());
     let relation = new_relation(alloc, catalog, &definition);
     drop(definition.heading);
     drop(definition.init);

@@ -4,7 +4,8 @@ ghost use Rattle.std.specs.Prelude.{◌≡◌, [], IfOk, None, map};
 ghost use Rattle.td_catalog.specs.CatalogViews.{virtual_view};
 ghost use Rattle.td_catalog.specs.Database.{named_constraint};
 ghost use Rattle.td_engine.specs.Carried.{Changes, Passes};
-ghost use Rattle.td_engine.specs.Checks.{constraint_check, derived_check, first_refusal};
+ghost use Rattle.td_engine.specs.Checks.{BasesHold, constraint_check, derived_check};
+ghost use Rattle.td_engine.specs.Checks.{first_refusal};
 ghost use Rattle.td_engine.specs.Checks.{keys_hold, unpassed, virtual_check, virtual_test};
 ghost use Rattle.td_engine.specs.Machine.{changed};
 ghost use Rattle.td_engine.specs.Refusals.{by_constraint, by_key};
@@ -183,13 +184,13 @@ fn check_derived<B: Body>(alloc: Global, catalog: &Catalog<B>) -> Result<(), Fai
 }
 
 /// The catalogue after a change, where the keys of its virtual relvars hold and its constraints
-/// are TRUE. Those of base relvars do in every catalogue.
+/// are TRUE. Those of its base relvars were found to hold before.
 pub(crate) fn settled<B: Body>(alloc: Global, next: Catalog<B>) -> Result<Catalog<B>, Failure>
+    requires { BasesHold next }
     ensures change { Changes result (changed next) }
     ensures same { IfOk result (λ db. db ≡ next) }
     ensures holds { IfOk result (λ db. derived_check db ≡ None) }
 {
-    next.reveal();
     match check_derived(alloc, &next) {
         Ok(()) => Ok(next),
         Err(failure) => Err(failure),

@@ -6,10 +6,11 @@ ghost use Rattle.td_catalog.specs.Dumps.{ordered_names};
 ghost use Rattle.td_check.specs.OperatorTypes.{over_relation};
 ghost use Rattle.td_check.specs.StaticTypes.{type_of};
 ghost use Rattle.td_engine.specs.Carried.{Changes, IsAdmitted, failure_of};
+ghost use Rattle.td_engine.specs.Checks.{BasesHold};
 ghost use Rattle.td_engine.specs.Machine.{by_outcome, changed, constraint_dropped};
 ghost use Rattle.td_engine.specs.Machine.{relvar_dropped, type_defined, type_dropped, unchecked};
 ghost use Rattle.td_engine.specs.Machine.{virtual_defined};
-ghost use Rattle.td_engine.specs.Soundness.{IsSound};
+ghost use Rattle.td_engine.specs.Legality.{IsLegal};
 ghost use Rattle.td_tree.specs.Outcomes.{Answers, Outcome, Valued, with_value};
 ghost use Rattle.td_tree.specs.TreeViews.{heading_tree_view, statement_view, tree_view};
 ghost use Rattle.td_types.specs.Types.{IsHeading, Type', pack};
@@ -18,7 +19,6 @@ ghost use Rattle.td_types.specs.Views.{type_view};
 use crate::beside::beside;
 use crate::checks::settled;
 use crate::refusal::{Failure, Refusal};
-use crate::written::tell_heading;
 use std::alloc::Global;
 use td_body::body::Body;
 use td_catalog::catalog::Catalog;
@@ -48,6 +48,7 @@ pub(crate) fn checked<B: Body>(
     alloc: Global,
     next: Result<Catalog<B>, Fault>,
 ) -> Result<Catalog<B>, Failure>
+    requires { IfOk next BasesHold }
     ensures { (o : Outcome Database) → Answers (λ db. db) next o
         → Changes result (by_outcome o changed) }
 {
@@ -73,13 +74,13 @@ pub(crate) fn with_type<B: Body>(
     catalog: &Catalog<B>,
     definition: TypeDefinition,
 ) -> Result<Catalog<B>, Fault>
-    requires sound { IsSound catalog.now }
+    requires legal { IsLegal catalog.now }
     requires admitted { IsAdmitted catalog.now (statement_view (Statement.DefineType definition)) }
-    ensures { Answers (λ db. db) result (type_defined catalog.now definition.name
+    ensures answer { Answers (λ db. db) result (type_defined catalog.now definition.name
         (heading_tree_view definition.components.items)
         (option_map tree_view definition.constraint)) }
+    ensures held { IfOk result BasesHold }
 {
-    tell_heading(&definition.components);
     let components = resolve_attributes(catalog.types(), &definition.components);
     drop(definition.components);
     let (components, entry) = beside(components, (definition.name, definition.constraint))?;
@@ -145,11 +146,12 @@ pub(crate) fn with_virtual<B: Body>(
     catalog: &Catalog<B>,
     definition: VirtualDefinition,
 ) -> Result<Catalog<B>, Fault>
-    requires sound { IsSound catalog.now }
+    requires legal { IsLegal catalog.now }
     requires admitted { IsAdmitted catalog.now (statement_view (Statement.DefineVirtual definition)) }
-    ensures { Answers (λ db. db) result (virtual_defined catalog.now definition.name
+    ensures answer { Answers (λ db. db) result (virtual_defined catalog.now definition.name
         (tree_view definition.expression)
         (map (λ key. key.items) definition.keys.items)) }
+    ensures held { IfOk result BasesHold }
 {
     let derived = parts_of(alloc, catalog, &definition);
     drop(definition.keys);
@@ -165,10 +167,11 @@ pub(crate) fn with_constraint<B: Body>(
     name: Name,
     condition: Expr,
 ) -> Result<Catalog<B>, Fault>
-    requires sound { IsSound catalog.now }
+    requires legal { IsLegal catalog.now }
     requires admitted { IsAdmitted catalog.now (statement_view (Statement.DefineConstraint name condition)) }
-    ensures { Answers (λ db. db) result (Valued
+    ensures answer { Answers (λ db. db) result (Valued
         (with_constraint (named_constraint name (tree_view condition)) catalog.now)) }
+    ensures held { IfOk result BasesHold }
 {
     let (mut next, (name, condition)) = beside(catalog.try_clone(), (name, condition))?;
     let done = next.add_constraint(name, condition);

@@ -6,7 +6,7 @@ ghost use Rattle.td_engine.specs.Carried.{IsSpelled};
 ghost use Rattle.td_engine.specs.Machine.{begun_transaction, committed, effect_in, empty_state};
 ghost use Rattle.td_engine.specs.Machine.{rolled_back, step_of};
 ghost use Rattle.td_engine.specs.Rebuilding.{Rebuilds};
-ghost use Rattle.td_engine.specs.Soundness.{IsSoundState};
+ghost use Rattle.td_engine.specs.Legality.{IsLegalState};
 ghost use Rattle.td_engine.specs.Steps.{Does, IsParsed, IsStep};
 ghost use Rattle.td_engine.specs.Transactions.{transaction_view};
 ghost use Rattle.td_tree.specs.Statements.{PlacedToken};
@@ -41,7 +41,7 @@ pub struct Engine<B: Body> {
 impl<B: Body> Model for Engine<B> {
     ghost use Rattle.std.specs.Prelude.{reverse};
     ghost use Rattle.td_engine.specs.Machine.{State, state_of};
-    ghost use Rattle.td_engine.specs.Soundness.{IsSoundState};
+    ghost use Rattle.td_engine.specs.Legality.{IsLegalState};
     ghost use Rattle.td_engine.specs.Transactions.{state_code};
 
     ghost Value = { State };
@@ -50,7 +50,7 @@ impl<B: Body> Model for Engine<B> {
 
     ghost view = { λ e. state_of e.present (reverse e.kept.items) };
 
-    ghost invariant = { λ e. IsSoundState (state_of e.present (reverse e.kept.items)) };
+    ghost invariant = { λ e. IsLegalState (state_of e.present (reverse e.kept.items)) };
 }
 
 impl<B: Body> Engine<B> {
@@ -83,7 +83,7 @@ impl<B: Body> Engine<B> {
 
     /// Tells what every engine's databases are, where no part of it is seen.
     pub fn reveal(&self)
-        ensures { IsSoundState self.now }
+        ensures { IsLegalState self.now }
     {
         let _ = &self.present;
     }
@@ -102,7 +102,7 @@ impl<B: Body> Engine<B> {
     pub fn step(&mut self, tokens: &[Token<'_>]) -> Result<Answer, AllocError>
         ensures step { IfOk result (λ answer. IsStep self.old tokens.now answer self.new) }
         ensures err { OnErr result (self.new ≡ self.old) }
-        ensures sound { IsSoundState self.new }
+        ensures legal { IsLegalState self.new }
     {
         self.carry_out(parse_statement(self.alloc, tokens))
     }
@@ -116,7 +116,7 @@ impl<B: Body> Engine<B> {
         ensures step { IfOk result (λ answer. (tokens : List PlacedToken)
             → IsParsed tokens parsed → IsStep self.old tokens answer self.new) }
         ensures err { OnErr result (self.new ≡ self.old) }
-        ensures sound { IsSoundState self.new }
+        ensures legal { IsLegalState self.new }
     {
         match parsed {
             Ok(statement) => self.execute(statement),
@@ -133,7 +133,7 @@ impl<B: Body> Engine<B> {
         ensures done { IfOk result (λ answer.
             Does (step_of self.old (effect_in self.old (statement_view statement))) answer self.new) }
         ensures err { OnErr result (self.new ≡ self.old) }
-        ensures sound { IsSoundState self.new }
+        ensures legal { IsLegalState self.new }
     {
         match transaction_of(&statement) {
             None => self.present.execute(statement),
@@ -150,7 +150,7 @@ impl<B: Body> Engine<B> {
             Does (step_of self.old (effect_in self.old (transaction_view transaction)))
             answer self.new) }
         ensures err { OnErr result (self.new ≡ self.old) }
-        ensures sound { IsSoundState self.new }
+        ensures legal { IsLegalState self.new }
     {
         match transaction {
             Transaction::Begin => self.begin(),
@@ -164,7 +164,7 @@ impl<B: Body> Engine<B> {
         ensures done { IfOk result (λ answer.
             Does (step_of self.old (begun_transaction self.old)) answer self.new) }
         ensures err { OnErr result (self.new ≡ self.old) }
-        ensures sound { IsSoundState self.new }
+        ensures legal { IsLegalState self.new }
     {
         if self.kept.len() >= TRANSACTION_LIMIT {
             return Answer::refused(self.alloc, Cause::Transaction);
@@ -180,7 +180,7 @@ impl<B: Body> Engine<B> {
         ensures done { IfOk result (λ answer.
             Does (step_of self.old (committed self.old.database self.old.kept)) answer self.new) }
         ensures err { OnErr result (self.new ≡ self.old) }
-        ensures sound { IsSoundState self.new }
+        ensures legal { IsLegalState self.new }
     {
         if self.kept.is_empty() {
             return Answer::refused(self.alloc, Cause::Transaction);
@@ -195,7 +195,7 @@ impl<B: Body> Engine<B> {
         ensures done { IfOk result (λ answer.
             Does (step_of self.old (rolled_back self.old.kept)) answer self.new) }
         ensures err { OnErr result (self.new ≡ self.old) }
-        ensures sound { IsSoundState self.new }
+        ensures legal { IsLegalState self.new }
     {
         if self.kept.is_empty() {
             return Answer::refused(self.alloc, Cause::Transaction);

@@ -2,7 +2,8 @@
 ghost use Rattle.std.specs.Prelude.{◌≡◌, ◌≢◌, Bool, List, None};
 ghost use Rattle.td_engine.specs.Machine.{Progress, Runs, State, Step, Steps};
 ghost use Rattle.td_engine.specs.Rebuilding.{DumpsRebuild};
-ghost use Rattle.td_engine.specs.SoundnessLaws.{AcceptedStatementsKeepSoundness};
+ghost use Rattle.td_engine.specs.LegalityLaws.{AcceptedStatementsKeepLegality, RunsKeepLegality};
+ghost use Rattle.td_engine.specs.LegalityLaws.{SpelledExpressionsAreWritten};
 ghost use Rattle.td_tree.specs.Statements.{PlacedToken};
 
 /// Every list of statements has an outcome.
@@ -26,12 +27,22 @@ pub fn refused_statements_change_nothing()
         → Steps old tokens s → s.cause ≢ None → s.after ≡ old }
 {}
 
-/// What an accepted statement makes of a sound database is sound.
-pub fn accepted_statements_keep_soundness()
-    ensures { AcceptedStatementsKeepSoundness }
+/// In an expression that some tokens spell the names are names, and the texts are UTF-8.
+pub fn spelled_expressions_are_written()
+    ensures { SpelledExpressionsAreWritten }
 {}
 
-/// The dump of a sound database, run from nothing, makes that database.
+/// What an accepted statement makes of a legal database is legal.
+pub fn accepted_statements_keep_legality()
+    ensures { AcceptedStatementsKeepLegality }
+{}
+
+/// From a legal state every run comes to legal states alone.
+pub fn runs_keep_legality()
+    ensures { RunsKeepLegality }
+{}
+
+/// The dump of a legal database, run from nothing, makes that database.
 pub fn dumps_rebuild()
     ensures { DumpsRebuild }
 {}

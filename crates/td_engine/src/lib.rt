@@ -17,4 +17,3 @@ pub mod source;
 mod statement;
 mod transaction;
 mod updates;
-mod written;

@@ -7,8 +7,7 @@ ghost use Rattle.td_engine.specs.Carried.{IsAdmitted, IsChange, IsDenied, IsRefu
 ghost use Rattle.td_engine.specs.Carried.{AnswersText, Prints};
 ghost use Rattle.td_engine.specs.Machine.{State, effect, step_of};
 ghost use Rattle.td_engine.specs.Refusals.{line};
-ghost use Rattle.td_engine.specs.Soundness.{IsSound};
-ghost use Rattle.td_engine.specs.SoundnessLaws.{IsWrittenStatement};
+ghost use Rattle.td_engine.specs.Legality.{IsLegal};
 ghost use Rattle.td_engine.specs.Steps.{Does};
 ghost use Rattle.td_tree.specs.Outcomes.{Answers, Outcome, Valued, with_value};
 ghost use Rattle.td_tree.specs.TreeViews.{statement_view};
@@ -18,7 +17,7 @@ ghost use Rattle.td_value.specs.Values.{Val};
 use crate::answer::{Answer, line};
 use crate::checks::value;
 use crate::refusal::{Failure, Refusal};
-use crate::statement::{admitted, changed, tell_statement};
+use crate::statement::{admitted, changed};
 use std::alloc::{AllocError, Global};
 use std::marker::Model;
 use td_body::body::Body;
@@ -45,9 +44,9 @@ impl<B: Body> Model for Present<B> {
 
     ghost view = { λ p. p.catalog };
 
-    ghost use Rattle.td_engine.specs.Soundness.{IsSound};
+    ghost use Rattle.td_engine.specs.Legality.{IsLegal};
 
-    ghost invariant = { λ p. IsSound p.catalog };
+    ghost invariant = { λ p. IsLegal p.catalog };
 }
 
 /// The answer to what is refused by a cause.
@@ -134,7 +133,7 @@ impl<B: Body> Present<B> {
 
     /// The database of a catalogue.
     pub(crate) fn of(alloc: Global, catalog: Catalog<B>) -> Present<B>
-        requires { IsSound catalog }
+        requires { IsLegal catalog }
         ensures { result ≡ catalog }
     {
         Present { alloc, catalog }
@@ -143,7 +142,7 @@ impl<B: Body> Present<B> {
     /// The catalogue of the database.
     pub(crate) fn catalog(&self) -> &Catalog<B>
         ensures same { result.now ≡ self.now }
-        ensures sound { IsSound self.now }
+        ensures legal { IsLegal self.now }
     {
         &self.catalog
     }
@@ -155,7 +154,7 @@ impl<B: Body> Present<B> {
         ensures done { IfOk result (λ answer.
             Does (step_of self.old (effect self.old (statement_view statement))) answer self.new) }
         ensures err { OnErr result (self.new ≡ self.old) }
-        ensures sound { IsSound self.new }
+        ensures legal { IsLegal self.new }
     {
         match admitted(&self.catalog, &statement) {
             Ok(()) => self.do_admitted(statement),
@@ -172,9 +171,8 @@ impl<B: Body> Present<B> {
         ensures done { IfOk result (λ answer.
             Does (step_of self.old (effect self.old (statement_view statement))) answer self.new) }
         ensures err { OnErr result (self.new ≡ self.old) }
-        ensures sound { IsSound self.new }
+        ensures legal { IsLegal self.new }
     {
-        tell_statement(&statement);
         match printed(self.alloc, &self.catalog, &statement) {
             None => self.change(statement),
             Some(text) => {
@@ -188,17 +186,15 @@ impl<B: Body> Present<B> {
     /// made.
     fn change(&mut self, statement: Statement) -> Result<Answer, AllocError>
         requires admitted { IsAdmitted self.old (statement_view statement) }
-        requires written { IsWrittenStatement (statement_view statement) }
         requires change { IsChange (statement_view statement) }
         ensures done { IfOk result (λ answer.
             Does (step_of self.old (effect self.old (statement_view statement))) answer self.new) }
         ensures err { OnErr result (self.new ≡ self.old) }
-        ensures sound { IsSound self.new }
+        ensures legal { IsLegal self.new }
     {
         match changed(self.alloc, &self.catalog, statement) {
             Ok(next) => {
                 let answer = Answer::ok(self.alloc)?;
-                next.reveal();
                 self.catalog = next;
                 Ok(answer)
             }

@@ -4,13 +4,15 @@ ghost use Rattle.std.specs.Prelude.{length, None, IfOk, IfErr, IfNone, IfSome, I
 ghost use Rattle.std.specs.Io.KnownBytes.{Consumes};
 ghost use Rattle.td_engine.specs.Faults.{IfMemory, IfNotMemory, IfRead, IfReadLimit, IfWrite};
 ghost use Rattle.td_engine.specs.Scripts.{GaveScript, GaveTooMuch, OfFront, OfScript, script_limit};
-ghost use Rattle.td_engine.specs.Soundness.{IsSoundState};
+ghost use Rattle.td_engine.specs.Legality.{IsLegalState};
+ghost use Rattle.td_engine.specs.LegalityLaws.{IsLegalThroughout};
 ghost use Rattle.td_engine.specs.Standing.{HasRun, HasRunCut, IsLeft, IsUnrun, run_of, standing};
 ghost use Rattle.td_engine.specs.Told.{GaveAtMost, StaysWhole};
 ghost use Rattle.td_engine.specs.Turns.{HasTurnedCut, IsReading, Turned, place_at};
 ghost use Rattle.td_tree.specs.Statements.{first_statement, statements};
 
 use crate::engine::Engine;
+use crate::laws::runs_keep_legality;
 use crate::sink::{Sink, put_all};
 use crate::source::{Broken, Source};
 use std::alloc::{AllocError, Global};
@@ -141,7 +143,7 @@ fn run_one<B: Body, W: Sink>(
     ensures turn { IfOk result (Turned
         (place_at cutter.old (standing engine.old (W.taken writer.old)) report.old)
         (place_at cutter.new (standing engine.new (W.taken writer.new)) report.new)) }
-    ensures sound { IsSoundState engine.old → IsSoundState engine.new }
+    ensures legal { IsLegalState engine.old → IsLegalState engine.new }
     ensures whole { OnOk result (StaysWhole (W.is_broken writer.old) (W.is_broken writer.new)) }
     ensures memory { IfErr result (IfMemory (λ done. (done ≡ report.old.statements)
         × (engine.new ≡ engine.old) × (W.taken writer.new ≡ W.taken writer.old))) }
@@ -184,7 +186,7 @@ fn run_held<B: Body, W: Sink>(
     ensures answers { IfOk result (IsLeft
         (run_of stop (standing engine.old (W.taken writer.old)) cutter.old.bytes)
         (standing engine.new (W.taken writer.new))) }
-    ensures sound { IsSoundState engine.old → IsSoundState engine.new }
+    ensures legal { IsLegalState engine.old → IsLegalState engine.new }
     ensures whole { OnOk result (StaysWhole (W.is_broken writer.old) (W.is_broken writer.new)) }
     ensures memory { IfErr result (IfMemory (λ done. HasRun
         (run_of stop (standing engine.old (W.taken writer.old)) cutter.old.bytes) done
@@ -244,9 +246,11 @@ pub fn run<B: Body, R: Source, W: Sink>(
         × OfScript (R.left reader.old) (R.left reader.new) (λ script. HasRunCut
         (run_of stop (standing engine.old (W.taken writer.old)) script) done
         (standing engine.new (W.taken writer.new))))) }
-    ensures sound { IsSoundState engine.new }
+    ensures legal { IsLegalState engine.new }
+    ensures between { IsLegalThroughout stop engine.old }
 {
     engine.reveal();
+    runs_keep_legality();
     let mut cutter = match read_all(alloc, reader) {
         Ok(cutter) => cutter,
         Err(fault) => return Err(fault),

@@ -12,7 +12,7 @@ pub trait Sink {
     /// The bytes that it has taken, where it tells them.
     ghost taken: { Self → Option (List ℕ) };
 
-    /// Whether its last call answered `Broken`: then each later one does, and nothing moves.
+    /// Whether its last call answered `Broken`.
     ghost is_broken: { Self → Bool };
 
     /// Takes bytes off the front and answers how many: at least 1, where there are any.
@@ -20,8 +20,7 @@ pub trait Sink {
         ensures bound { IfOk result (λ n. n ≤ length bytes.now) }
         ensures some { IfOk result (λ n. 0 < length bytes.now → 0 < n) }
         ensures bytes { Puts (taken self.old) (taken self.new) result bytes.now }
-        ensures broken { is_broken self.new ≡ is_err result }
-        ensures still { IsTrue (is_broken self.old) → self.new ≡ self.old };
+        ensures broken { is_broken self.new ≡ is_err result };
 }
 
 /// A sink over a writer of std. An error, a write of no byte or too many answers `Interrupted`
@@ -58,7 +57,16 @@ impl<W: Write> Sink for IoSink<W> {
 
     ghost is_broken = { λ s. s.gave_up };
 
-    fn put(&mut self, bytes: &[u8]) -> Result<usize, Broken> {
+    /// Once the sink is broken, each later call answers `Broken` and takes nothing.
+    fn put(&mut self, bytes: &[u8]) -> Result<usize, Broken>
+        ensures bound { IfOk result (λ n. n ≤ length bytes.now) }
+        ensures some { IfOk result (λ n. 0 < length bytes.now → 0 < n) }
+        ensures bytes { Puts (⟦<IoSink<W> as Sink>⟧.taken self.old)
+            (⟦<IoSink<W> as Sink>⟧.taken self.new) result bytes.now }
+        ensures broken { ⟦<IoSink<W> as Sink>⟧.is_broken self.new ≡ is_err result }
+        ensures still { IsTrue (⟦<IoSink<W> as Sink>⟧.is_broken self.old)
+            → self.new ≡ self.old }
+    {
         if self.gave_up {
             return Err(Broken);
         }

@@ -18,7 +18,7 @@ pub trait Source {
     /// The bytes that it still has to give, where it tells them.
     ghost left: { Self → Option (List ℕ) };
 
-    /// Whether its last call answered `Broken`: then each later one does, and nothing moves.
+    /// Whether its last call answered `Broken`.
     ghost is_broken: { Self → Bool };
 
     /// Moves the next bytes into the front of the buffer and answers how many they are: 0, for
@@ -27,8 +27,7 @@ pub trait Source {
         ensures bound { IfOk result (λ n. n ≤ length buffer.new) }
         ensures bytes { Pulls (left self.old) (left self.new) result buffer.new }
         ensures end { IfOk result (λ n. n ≡ 0 → 0 < length buffer.new → IsAtEnd (left self.new)) }
-        ensures broken { is_broken self.new ≡ is_err result }
-        ensures still { IsTrue (is_broken self.old) → self.new ≡ self.old };
+        ensures broken { is_broken self.new ≡ is_err result };
 }
 
 /// A source over a reader of std. An error or too many answers `Interrupted` in a row break
@@ -65,7 +64,17 @@ impl<R: Read> Source for IoSource<R> {
 
     ghost is_broken = { λ s. s.gave_up };
 
-    fn pull(&mut self, buffer: &mut [u8]) -> Result<usize, Broken> {
+    /// Once the source is broken, each later call answers `Broken` and moves nothing.
+    fn pull(&mut self, buffer: &mut [u8]) -> Result<usize, Broken>
+        ensures bound { IfOk result (λ n. n ≤ length buffer.new) }
+        ensures bytes { Pulls (⟦<IoSource<R> as Source>⟧.left self.old)
+            (⟦<IoSource<R> as Source>⟧.left self.new) result buffer.new }
+        ensures end { IfOk result (λ n. n ≡ 0 → 0 < length buffer.new
+            → IsAtEnd (⟦<IoSource<R> as Source>⟧.left self.new)) }
+        ensures broken { ⟦<IoSource<R> as Source>⟧.is_broken self.new ≡ is_err result }
+        ensures still { IsTrue (⟦<IoSource<R> as Source>⟧.is_broken self.old)
+            → self.new ≡ self.old }
+    {
         if self.gave_up {
             return Err(Broken);
         }

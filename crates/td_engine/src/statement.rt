@@ -1,14 +1,11 @@
 //! Statements: what one does to a catalogue.
-ghost use Rattle.std.specs.Prelude.{◌≡◌, map};
 ghost use Rattle.td_catalog.specs.Database.{database_scope};
 ghost use Rattle.td_check.specs.StatementTypes.{statement_checked};
 ghost use Rattle.td_engine.specs.Carried.{Changes, IsAdmitted, IsChange};
 ghost use Rattle.td_engine.specs.Machine.{carried_out};
-ghost use Rattle.td_engine.specs.Soundness.{IsSound};
-ghost use Rattle.td_engine.specs.SoundnessLaws.{AreWritten, IsWrittenAssignment};
-ghost use Rattle.td_engine.specs.SoundnessLaws.{IsWrittenStatement};
+ghost use Rattle.td_engine.specs.Legality.{IsLegal};
 ghost use Rattle.td_tree.specs.Outcomes.{Answers};
-ghost use Rattle.td_tree.specs.TreeViews.{assignment_view, statement_view, tree_view};
+ghost use Rattle.td_tree.specs.TreeViews.{statement_view};
 
 use crate::assignments::assigned;
 use crate::bases::with_base;
@@ -17,14 +14,12 @@ use crate::definitions::{
     without_relvar, without_type,
 };
 use crate::refusal::Failure;
-use crate::written::{tell_if_given, tell_parts, tell_written};
 use std::alloc::Global;
 use td_body::body::Body;
 use td_catalog::catalog::Catalog;
 use td_check::statement::check_statement;
-use td_tree::expression::Expr;
 use td_tree::fault::Fault;
-use td_tree::statement::{Assignment, Statement};
+use td_tree::statement::Statement;
 
 /// Whether the statement meets the static rules where the catalogue is known.
 pub(crate) fn admitted<B: Body>(catalog: &Catalog<B>, statement: &Statement) -> Result<(), Fault>
@@ -41,9 +36,8 @@ pub(crate) fn changed<B: Body>(
     catalog: &Catalog<B>,
     statement: Statement,
 ) -> Result<Catalog<B>, Failure>
-    requires sound { IsSound catalog.now }
+    requires legal { IsLegal catalog.now }
     requires admitted { IsAdmitted catalog.now (statement_view statement) }
-    requires written { IsWrittenStatement (statement_view statement) }
     ensures { IsChange (statement_view statement)
         → Changes result (carried_out catalog.now (statement_view statement)) }
 {
@@ -63,43 +57,5 @@ pub(crate) fn changed<B: Body>(
         Statement::Empty | Statement::BeginTransaction | Statement::Commit | Statement::Rollback =>
             Ok(catalog.try_clone()?),
         Statement::Dump | Statement::Write(_) => Err(Failure::Memory),
-    }
-}
-
-fn tell_assignment(assignment: &Assignment)
-    ensures { IsWrittenAssignment (assignment_view assignment.now) }
-{
-    match assignment {
-        Assignment::Assign(_, source) => tell_written(source),
-        Assignment::Insert(_, source) => tell_written(source),
-        Assignment::Delete(_, condition) => tell_if_given(condition.as_ref()),
-        Assignment::Update(_, condition, settings) => {
-            tell_if_given(condition.as_ref());
-            tell_parts(settings);
-        }
-    }
-}
-
-fn tell_assignments(assignments: &[Assignment])
-    ensures { AreWritten (map assignment_view assignments.now) }
-{
-    for assignment in assignments {
-        tell_assignment(assignment);
-    }
-}
-
-/// Tells that the names in a statement's expressions are names and their texts UTF-8, where no part
-/// of it is seen.
-pub(crate) fn tell_statement(statement: &Statement)
-    ensures { IsWrittenStatement (statement_view statement.now) }
-{
-    match statement {
-        Statement::DefineType(definition) => tell_if_given(definition.constraint.as_ref()),
-        Statement::DefineBase(definition) => tell_if_given(definition.init.as_ref()),
-        Statement::DefineVirtual(definition) => tell_written(&definition.expression),
-        Statement::DefineConstraint(_, condition) => tell_written(condition),
-        Statement::Assign(assignments) => tell_assignments(assignments),
-        Statement::Write(expression) => tell_written(expression),
-        _ => {}
     }
 }

@@ -6,7 +6,7 @@ use Rattle.std.specs.Option.{option_or}
 use Rattle.std.specs.Prelude.{if◌then◌else◌, is_some}
 use Rattle.std.specs.Set.{remove_key}
 use Rattle.td_catalog.specs.Database.{BaseRelvar, Database, VirtualRelvar, base_named, database_scope, known_base, known_virtual, virtual_named, without_constraint, without_relvar, without_type}
-use Rattle.td_catalog.specs.Legality.{IsBase, IsLegal, IsVirtual}
+use Rattle.td_catalog.specs.TypedDatabases.{IsTypedBase, IsTyped, IsTypedVirtual}
 use Rattle.td_check.specs.Mentions.{relvars_in, types_in}
 use Rattle.td_check.specs.OperatorTypes.{if_type}
 use Rattle.td_check.specs.Scopes.{alone_with, known_relvar, scope_of}
@@ -93,7 +93,7 @@ base_name r = r.name
 
 -- ---- one relvar less
 
-module _ (db : Database) (dropped : List ℕ) (legal : IsLegal db) (other : IsLegal (without_relvar dropped db)) where
+module _ (db : Database) (dropped : List ℕ) (is_typed : IsTyped db) (other : IsTyped (without_relvar dropped db)) where
   abbrev less : Database
   less = without_relvar dropped db
 
@@ -104,10 +104,10 @@ module _ (db : Database) (dropped : List ℕ) (legal : IsLegal db) (other : IsLe
       ∙ sym (known_in db n)
 
   distinct_bases : are_distinct (map base_name db.bases) ≡ true
-  distinct_bases = distinct_first (map base_name db.bases) (map virtual_name db.virtuals) legal.distinct
+  distinct_bases = distinct_first (map base_name db.bases) (map virtual_name db.virtuals) is_typed.distinct
 
   distinct_virtuals : are_distinct (map virtual_name db.virtuals) ≡ true
-  distinct_virtuals = distinct_rest (map base_name db.bases) (map virtual_name db.virtuals) legal.distinct
+  distinct_virtuals = distinct_rest (map base_name db.bases) (map virtual_name db.virtuals) is_typed.distinct
 
   not_there : known_relvar (database_scope less) dropped ≡ None
   not_there =
@@ -174,12 +174,12 @@ module _ (dropped : List ℕ) (ds : List DeclaredType) (none : is_declared dropp
     all_users_other no_attrs k = tt
     all_users_other (attr n t xs) k = (users_other t k.0, all_users_other xs k.1)
 
-module _ (db : Database) (dropped : List ℕ) (legal : IsLegal db) (other : IsLegal (without_type dropped db)) where
+module _ (db : Database) (dropped : List ℕ) (is_typed : IsTyped db) (other : IsTyped (without_type dropped db)) where
   abbrev fewer : Database
   fewer = without_type dropped db
 
   pub none_there : is_declared dropped fewer.types ≡ false
-  none_there = removed_is_gone dropped db.types legal.declared
+  none_there = removed_is_gone dropped db.types is_typed.declared
 
   kept_type : (n : List ℕ) (d : DeclaredType) → is_other dropped n ≡ true → declared_at n db.types ≡ Some d → declared_at n fewer.types ≡ Some d
   kept_type n d m is = declared_at-without dropped n db.types (not_true (same_name n dropped) m) ∙ is
@@ -206,12 +206,12 @@ module _ (db : Database) (dropped : List ℕ) (legal : IsLegal db) (other : IsLe
         constraints = constraint_other;
       }
 
-  is_base : (n : List ℕ) (r : BaseRelvar) → base_named n db ≡ Some r → IsBase fewer.types r
+  is_base : (n : List ℕ) (r : BaseRelvar) → base_named n db ≡ Some r → IsTypedBase fewer.types r
   is_base n r is =
       let place = named_at base_name n db.bases r is in
-      all_at (IsBase fewer.types) place.0 r place.1 (subst (AllByRecursion (IsBase fewer.types)) place.2 other.bases)
+      all_at (IsTypedBase fewer.types) place.0 r place.1 (subst (AllByRecursion (IsTypedBase fewer.types)) place.2 other.bases)
 
-  is_virtual : (n : List ℕ) (v : VirtualRelvar) → virtual_named n db ≡ Some v → (front : List VirtualRelvar) × IsVirtual (database_scope (fronted fewer front)) v
+  is_virtual : (n : List ℕ) (v : VirtualRelvar) → virtual_named n db ≡ Some v → (front : List VirtualRelvar) × IsTypedVirtual (database_scope (fronted fewer front)) v
   is_virtual n v is =
       let place = named_at virtual_name n db.virtuals v is in
       (place.0, other.virtuals place.0 place.1 v place.2)
@@ -219,8 +219,8 @@ module _ (db : Database) (dropped : List ℕ) (legal : IsLegal db) (other : IsLe
   relvars_apart : AgreeOnRelvars (is_other dropped) any db fewer
   relvars_apart =
       record {
-        bases = λ n r m is. (all_users_other dropped fewer.types none_there (pack r.relation.heading) (is_base n r is).heading.known, r, is, refl);
-        virtuals = λ n v m is. (all_users_other dropped fewer.types none_there (pack v.heading) (is_virtual n v is).1.heading.known, v, is, refl, refl);
+        bases = λ n r m is. (all_users_other dropped fewer.types none_there (pack r.relation.heading) (is_base n r is).known, r, is, refl);
+        virtuals = λ n v m is. (all_users_other dropped fewer.types none_there (pack v.heading) (is_virtual n v is).1.known, v, is, refl, refl);
         types = λ n v m is k c.
             let at = is_virtual n v is in
             other_declared dropped fewer.types none_there k
@@ -241,26 +241,26 @@ all_types ds =
 pub drops_change_no_value : DropsChangeNoValue
 drops_change_no_value =
     record {
-      relvar = λ db dropped s e legal other written checked absent.
-          values_depend_on_entries any (is_other dropped) db (without_relvar dropped db) s e legal other written checked
+      relvar = λ db dropped s e is_typed other written checked absent.
+          values_depend_on_entries any (is_other dropped) db (without_relvar dropped db) s e is_typed other written checked
           (record {
             types = all_types db.types;
-            relvars = agree_apart db dropped legal other;
+            relvars = agree_apart db dropped is_typed other;
             tuples = λ h c. any_users_all (pack h);
             mentioned = λ n c. refl;
             mentioned_relvars = other_of dropped (Contains (relvars_in (with_tuples (database_scope db) s) e)) absent;
           });
-      type = λ db dropped s e legal other written checked tuples absent.
-          values_depend_on_entries (is_other dropped) any db (without_type dropped db) s e legal other written checked
+      type = λ db dropped s e is_typed other written checked tuples absent.
+          values_depend_on_entries (is_other dropped) any db (without_type dropped db) s e is_typed other written checked
           (record {
-            types = types_apart db dropped legal other;
-            relvars = relvars_apart db dropped legal other;
+            types = types_apart db dropped is_typed other;
+            relvars = relvars_apart db dropped is_typed other;
             tuples = tuples;
             mentioned = other_of dropped (Contains (types_in e)) absent;
             mentioned_relvars = λ n c. refl;
           });
-      constraint = λ db dropped s e legal other written checked.
-          values_depend_on_entries any any db (without_constraint dropped db) s e legal other written checked
+      constraint = λ db dropped s e is_typed other written checked.
+          values_depend_on_entries any any db (without_constraint dropped db) s e is_typed other written checked
           (record {
             types = all_types db.types;
             relvars = record {

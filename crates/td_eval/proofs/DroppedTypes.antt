@@ -2,11 +2,11 @@
 use Rattle.std.proofs.Common.{◌≡◌, ◌∙◌, ℕ, true, List, [], ◌∷◌, None, Option, Some, ap, subst, sym}
 use Rattle.std.specs.Prelude.{is_some}
 use Rattle.td_catalog.specs.Database.{Database, without_type}
-use Rattle.td_catalog.specs.Legality.{IsLegal}
+use Rattle.td_catalog.specs.TypedDatabases.{IsTyped}
 use Rattle.td_check.specs.StaticLaws.{is_other}
 use Rattle.td_eval.proofs.DistinctNames.{not_true}
 use Rattle.td_eval.proofs.DroppedEntries.{none_there, other_declared, types_apart}
-use Rattle.td_eval.proofs.LaterTypes.{AreLegal}
+use Rattle.td_eval.proofs.LaterTypes.{AreTypedTypes}
 use Rattle.td_eval.proofs.LiteralValues.{each, packed_components, selectors_give_what_meets, selects}
 use Rattle.td_eval.proofs.MentionedTypes.{all_alike}
 use Rattle.td_eval.proofs.MetConstraints.{OfValues, of_values}
@@ -72,12 +72,12 @@ module _ (ds es : List DeclaredType) (there : (n : List ℕ) (d : DeclaredType) 
 
 -- ---- one type less
 
-module _ (db : Database) (dropped : List ℕ) (legal : IsLegal db) (other : IsLegal (without_type dropped db)) (written : ConstraintsAreWritten db.types) where
+module _ (db : Database) (dropped : List ℕ) (is_typed : IsTyped db) (other : IsTyped (without_type dropped db)) (written : ConstraintsAreWritten db.types) where
   abbrev few : Database
   few = without_type dropped db
 
   stays_other : (n : List ℕ) (d : DeclaredType) → declared_at n few.types ≡ Some d → is_other dropped n ≡ true
-  stays_other n d is = other_declared dropped few.types (none_there db dropped legal other) n (ap is_some is)
+  stays_other n d is = other_declared dropped few.types (none_there db dropped is_typed other) n (ap is_some is)
 
   was_there : (n : List ℕ) (d : DeclaredType) → declared_at n few.types ≡ Some d → declared_at n db.types ≡ Some d
   was_there n d is = sym (declared_at-without dropped n db.types (not_true (same_name n dropped) (stays_other n d is))) ∙ is
@@ -86,20 +86,20 @@ module _ (db : Database) (dropped : List ℕ) (legal : IsLegal db) (other : IsLe
   still : (n : List ℕ) (ps : Parts) (d : DeclaredType) → declared_at n few.types ≡ Some d → AreOfTypes few.types ps d.components
       → Selects (world_of db) n ps → AreValues ps → Selects (world_of few) n ps
   still n ps d is k gives q =
-      let legal_types : AreLegal db.types =
-      record { declared = legal.declared; ranked = legal.ranked; constrained = legal.constrained; written = written } in
+      let typed_types : AreTypedTypes db.types =
+      record { declared = is_typed.declared; constrained = is_typed.constrained; written = written } in
       let typed : AreComponentsOf db.types d (components_of ps) =
       subst (λ qs. AreValues qs × AreOfTypes db.types qs d.components) (sym (packed_components ps))
       (q, parts_there few.types db.types was_there ps d.components k) in
       selects few n (components_of ps)
-      ∙ all_alike (is_other dropped) db.types few.types legal_types other.declared other.constrained (types_apart db dropped legal other)
+      ∙ all_alike (is_other dropped) db.types few.types typed_types other.declared other.constrained (types_apart db dropped is_typed other)
       n d (stays_other n d is) (was_there n d is) (components_of ps) typed
       ∙ sym (selects db n (components_of ps)) ∙ gives
 
 pub drops_keep_what_meets : DropsKeepWhatMeets
-drops_keep_what_meets db dropped v t legal other written p h met =
+drops_keep_what_meets db dropped v t is_typed other written p h met =
     let few = without_type dropped db in
-    let typed = typed_there few.types db.types (was_there db dropped legal other written) v t h in
+    let typed = typed_there few.types db.types (was_there db dropped is_typed other written) v t h in
     (selectors_give_what_meets few v t other h).0
-    (each few.types (Selects (world_of db)) OfValues (Selects (world_of few)) (still db dropped legal other written) v t h
-    ((selectors_give_what_meets db v t legal typed).1 met) (of_values v p))
+    (each few.types (Selects (world_of db)) OfValues (Selects (world_of few)) (still db dropped is_typed other written) v t h
+    ((selectors_give_what_meets db v t is_typed typed).1 met) (of_values v p))

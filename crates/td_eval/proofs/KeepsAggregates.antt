@@ -1,5 +1,5 @@
 -- Aggregates give values of their static types, or are refused by dynamic causes alone.
-use Rattle.std.proofs.Common.{◌≡◌, ◌∙◌, pos, Bool, true, false, List, [], ◌∷◌, length, ap, arith, map, refl, subst, sym, true≢false}
+use Rattle.std.proofs.Common.{◌≡◌, ◌∙◌, pos, Bool, true, false, List, [], ◌∷◌, length, ap, map, refl, subst, sym, true≢false}
 use Rattle.std.specs.Prelude.{◌||◌, if◌then◌else◌}
 use Rattle.std.specs.List.{AllByRecursion, Contains, list_all}
 use Rattle.std.specs.Ordering.{is_lt}
@@ -87,9 +87,9 @@ module _ (ds : List DeclaredType) where
   own_keeps : (a : Agg) (t s : Type') → GivesOf a t s → (vs : List Val) → AllByRecursion (λ v. IsOfType ds v t) vs → KeepsType ds (Valued s) (aggregate a vs)
   own_keeps asked.Count t s g vs k = subst (λ u. KeepsType ds (Valued u) (of_number (pos (length vs)))) (sym g) (in_range_keeps ds (pos (length vs)))
   own_keeps asked.Sum t s g vs k = subst (λ u. KeepsType ds (Valued u) (of_number (sum_of vs))) (sym g.1) (in_range_keeps ds (sum_of vs))
-  own_keeps asked.Max t s g [] k = one_dynamic causes.EmptyAggregate (omega arith)
+  own_keeps asked.Max t s g [] k = one_dynamic causes.EmptyAggregate tt
   own_keeps asked.Max t s g (v ∷ vs) k = subst (IsOfType ds (greatest_value v vs)) (sym g.0) (greatest_is t v vs k.0 k.1)
-  own_keeps asked.Min t s g [] k = one_dynamic causes.EmptyAggregate (omega arith)
+  own_keeps asked.Min t s g [] k = one_dynamic causes.EmptyAggregate tt
   own_keeps asked.Min t s g (v ∷ vs) k = subst (IsOfType ds (least_value v vs)) (sym g.0) (least_is t v vs k.0 k.1)
 
   aggregate_keeps : (a : Agg) (t s : Type') → GivesOf a t s → (vs : List Val) → AllByRecursion (λ v. IsOfType ds v t) vs

@@ -1,15 +1,14 @@
 -- Outcomes whose values keep a property and whose causes are dynamic: what follows from them keeps it.
-use Rattle.std.proofs.Common.{◌≡◌, ◌≤◌, ◌⊎◌, inl, inr, List, [], ◌∷◌, map, subst, sym}
+use Rattle.std.proofs.Common.{◌≡◌, ◌⊎◌, inl, inr, List, [], ◌∷◌, map, subst, sym}
 use Rattle.std.specs.Prelude.{◌↔◌}
 use Rattle.std.specs.List.{AllByRecursion, Contains}
-use Rattle.td_tree.specs.Causes.{number_of}
 use Rattle.td_tree.specs.declared.cause.Cause.{Cause}
 use Rattle.td_tree.specs.Outcomes.{Causes, Only, Union, Outcome, Valued, Refused, gathered, with_value, with_both}
 use Rattle.td_types.specs.TypeLists.{DeclaredType}
 use Rattle.td_types.specs.Types.{Attrs, Type'}
 use Rattle.td_value.specs.KnownValues.{HasHeading, HaveHeading}
 use Rattle.td_value.specs.Values.{Tuple, Val, pack_fields, pack_rows}
-use Rattle.td_eval.specs.ValueTypes.{AreDynamic, IsOfType, KeepsType}
+use Rattle.td_eval.specs.ValueTypes.{AreDynamic, IsDynamic, IsOfType, KeepsType}
 use Rattle.td_algebra.proofs.Lists.{contains_cases, contains_first, contains_later, contains_none}
 
 -- a value that has the property, or dynamic causes
@@ -28,9 +27,9 @@ type_keeps ds t (Refused cs) k = k
 
 -- ---- causes
 
--- a cause of such a number
-pub one_dynamic : (c : Cause) → 20 ≤ number_of c → AreDynamic (Only c)
-one_dynamic c k d has = subst (λ (e : Cause). 20 ≤ number_of e) (sym has) k
+-- one such cause
+pub one_dynamic : (c : Cause) → IsDynamic c → AreDynamic (Only c)
+one_dynamic c k d has = subst IsDynamic (sym has) k
 
 -- the causes of both
 pub both_dynamic : (cs ds : Causes) → AreDynamic cs → AreDynamic ds → AreDynamic (Union cs ds)

@@ -6,7 +6,7 @@ use Rattle.std.specs.Prelude.{IsTrue, if◌then◌else◌, is_some}
 use Rattle.std.proofs.lemmas.List.{map-append}
 use Rattle.std.proofs.lemmas.List.Sums.{fold-append}
 use Rattle.td_catalog.specs.Database.{BaseRelvar, Database, NamedConstraint, VirtualRelvar, base_among, base_named, database_scope, known_virtual, knows_relvar, relvar_names, virtual_named, with_base, with_constraint, with_declared, with_virtual}
-use Rattle.td_catalog.specs.Legality.{IsLegal}
+use Rattle.td_catalog.specs.TypedDatabases.{IsTyped}
 use Rattle.td_check.specs.Scopes.{KnownRelvar, Scope, known_relvar}
 use Rattle.td_tree.specs.Outcomes.{Valued}
 use Rattle.td_tree.specs.Trees.{Tree}
@@ -23,17 +23,17 @@ use Rattle.td_eval.specs.ValueTypes.{DefinitionsAreWritten, IsWritten}
 use Rattle.td_eval.specs.Worlds.{World, selected}
 use Rattle.td_eval.proofs.DistinctNames.{distinct_between, not_true}
 use Rattle.td_eval.proofs.KnownRelvars.{fronted, known_as_base, known_as_virtual, known_in_more, known_name, named, named_more, never_none, no_base, of_all, one_more_world, some_of, stays_behind, unnamed}
-use Rattle.td_eval.proofs.LaterTypes.{AreLegal, all_select, selected_by, stays}
+use Rattle.td_eval.proofs.LaterTypes.{AreTypedTypes, all_select, selected_by, stays}
 use Rattle.td_eval.proofs.MoreWorlds.{HasMoreThan, same_in_more}
 use Rattle.td_eval.proofs.TypedDatabases.{all_at, database_keeps, fronts_keep}
 use Rattle.td_eval.proofs.WorldParts.{virtual_name, world_scope, world_selectors}
 
-module _ (first second : Database) (later : HasLater first second) (legal : AreLegal first.types) where
+module _ (first second : Database) (later : HasLater first second) (is_typed : AreTypedTypes first.types) where
   -- in worlds with the selectors of the first and of the second
   selectors_of_both : (w v : World) → w.selector ≡ selectors_of first.types first.types → v.selector ≡ selectors_of second.types second.types
       → (n : List ℕ) → SelectsTheSame (database_scope first) w v n
   selectors_of_both w v e f n d vs is h =
-      let x = (all_select first.types legal second.types later.types.0 later.types.1).found n d is in
+      let x = (all_select first.types is_typed second.types later.types.0 later.types.1).found n d is in
       let there : selectors_of second.types second.types n ≡ Some x.0 =
       ap (λ (xs : List DeclaredType). fold (with_selector second.types) (λ m. None) xs n) later.types.1
       ∙ ap (λ (s : Selectors). s n) (fold-append (with_selector second.types) (λ m. None) first.types later.types.0)
@@ -92,9 +92,9 @@ module _ (first second : Database) (later : HasLater first second) where
       known_name first n
       (ap is_some (ap (λ vs. known_relvar (database_scope (fronted first vs)) n) e ∙ known_in_more first front rest n r is))
 
-module _ (first second : Database) (later : HasLater first second) (legal : IsLegal first) (written : DefinitionsAreWritten first) where
-  legal_types : AreLegal first.types
-  legal_types = record { declared = legal.declared; ranked = legal.ranked; constrained = legal.constrained; written = written.constraints }
+module _ (first second : Database) (later : HasLater first second) (is_typed : IsTyped first) (written : DefinitionsAreWritten first) where
+  typed_types : AreTypedTypes first.types
+  typed_types = record { declared = is_typed.declared; constrained = is_typed.constrained; written = written.constraints }
 
   -- the relvars of the first have the same values in both, with the same virtual relvars
   abbrev AreAlike : List VirtualRelvar → Type 0
@@ -114,7 +114,7 @@ module _ (first second : Database) (later : HasLater first second) (legal : IsLe
               (known_later first second later vs us n r (names n r is) (kept n) is);
           values = λ n k. let x = some_of (known_relvar (database_scope (fronted first vs)) n) k in alike n x.0 x.1;
           selectors =
-              selectors_of_both first second later legal_types (world_of (fronted first vs)) (world_of (fronted second us))
+              selectors_of_both first second later typed_types (world_of (fronted first vs)) (world_of (fronted second us))
               (world_selectors (fronted first vs)) (world_selectors (fronted second us));
         }
 
@@ -135,14 +135,14 @@ module _ (first second : Database) (later : HasLater first second) (legal : IsLe
           record {
             tuples = tt;
             written = all_at (λ (u : VirtualRelvar). IsWritten u.tree) front v rest (subst (AllByRecursion (λ (u : VirtualRelvar). IsWritten u.tree)) e written.virtuals);
-            typed = (types.relation (pack v.heading), (legal.virtuals front rest v e).typed);
+            typed = (types.relation (pack v.heading), (is_typed.virtuals front rest v e).typed);
           }
 
       value : value_of (world_of (fronted second front)) [] v.tree ≡ value_of (world_of (fronted first front)) [] v.tree
       value =
           same_in_more (database_scope (fronted first front)) (world_of (fronted first front)) (world_of (fronted second front))
           (has_more front front names (λ m u is. is) (λ m r is. alike m (names m r is))) [] v.tree
-          (fronts_keep first legal written front (v ∷ rest) e) checked
+          (fronts_keep first is_typed written front (v ∷ rest) e) checked
 
   all_alike : AreAlike first.virtuals
   all_alike = of_all AreAlike first.virtuals none_alike next_alike
@@ -158,11 +158,11 @@ module _ (first second : Database) (later : HasLater first second) (legal : IsLe
   values_stay s e checked =
       same_in_more (database_scope first) (world_of first) (world_of second)
       (has_more first.virtuals second.virtuals (λ n r is. known_name first n (ap is_some is)) (named_later first second later) relvars_stay)
-      s e (database_keeps first legal written) checked
+      s e (database_keeps first is_typed written) checked
 
 -- ---- one entry more
 
-module _ (db : Database) (legal : IsLegal db) where
+module _ (db : Database) (is_typed : IsTyped db) where
   abbrev base_names : List (List ℕ)
   base_names = map (λ (r : BaseRelvar). r.name) db.bases
 
@@ -179,10 +179,10 @@ module _ (db : Database) (legal : IsLegal db) where
   no_virtuals = sym (append-nil db.virtuals)
 
   one_type : (d : DeclaredType) → HasLater db (with_declared d db)
-  one_type d = record { types = (d ∷ [], refl); bases = ([], no_bases); virtuals = ([], no_virtuals); distinct = legal.distinct }
+  one_type d = record { types = (d ∷ [], refl); bases = ([], no_bases); virtuals = ([], no_virtuals); distinct = is_typed.distinct }
 
   one_constraint : (c : NamedConstraint) → HasLater db (with_constraint c db)
-  one_constraint c = record { types = ([], no_types); bases = ([], no_bases); virtuals = ([], no_virtuals); distinct = legal.distinct }
+  one_constraint c = record { types = ([], no_types); bases = ([], no_bases); virtuals = ([], no_virtuals); distinct = is_typed.distinct }
 
   one_base : (r : BaseRelvar) → IsTrue (not (knows_relvar r.name db)) → HasLater db (with_base r db)
   one_base r new =
@@ -192,7 +192,7 @@ module _ (db : Database) (legal : IsLegal db) where
         virtuals = ([], no_virtuals);
         distinct =
             ap (λ ns. are_distinct (ns ++ virtual_names)) (map-append (λ (b : BaseRelvar). b.name) db.bases (r ∷ []))
-            ∙ distinct_between r.name base_names virtual_names legal.distinct (not_true (knows_relvar r.name db) new);
+            ∙ distinct_between r.name base_names virtual_names is_typed.distinct (not_true (knows_relvar r.name db) new);
       }
 
   one_virtual : (v : VirtualRelvar) → IsTrue (not (knows_relvar v.name db)) → HasLater db (with_virtual v db)
@@ -205,16 +205,16 @@ module _ (db : Database) (legal : IsLegal db) where
             ap are_distinct
             (ap (λ ns. base_names ++ ns) (map-append virtual_name db.virtuals (v ∷ [])) ∙ sym (append_assoc base_names virtual_names (v.name ∷ []))
             ∙ sym (append-nil ((base_names ++ virtual_names) ++ (v.name ∷ []))))
-            ∙ distinct_between v.name (base_names ++ virtual_names) [] (ap are_distinct (append-nil (base_names ++ virtual_names)) ∙ legal.distinct)
+            ∙ distinct_between v.name (base_names ++ virtual_names) [] (ap are_distinct (append-nil (base_names ++ virtual_names)) ∙ is_typed.distinct)
             (ap (has_name v.name) (append-nil (base_names ++ virtual_names)) ∙ not_true (knows_relvar v.name db) new);
       }
 
 pub later_entries_change_nothing : LaterEntriesChangeNothing
 later_entries_change_nothing =
     record {
-      values = λ first second s e legal written later checked. values_stay first second later legal written s e checked;
-      one_type = λ db d legal. one_type db legal d;
-      one_base = λ db r legal new. one_base db legal r new;
-      one_virtual = λ db v legal new. one_virtual db legal v new;
-      one_constraint = λ db c legal. one_constraint db legal c;
+      values = λ first second s e is_typed written later checked. values_stay first second later is_typed written s e checked;
+      one_type = λ db d is_typed. one_type db is_typed d;
+      one_base = λ db r is_typed new. one_base db is_typed r new;
+      one_virtual = λ db v is_typed new. one_virtual db is_typed v new;
+      one_constraint = λ db c is_typed. one_constraint db is_typed c;
     }

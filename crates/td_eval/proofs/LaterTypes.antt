@@ -4,7 +4,7 @@ use Rattle.std.specs.List.{AllByRecursion, zip}
 use Rattle.std.specs.Prelude.{is_some}
 use Rattle.std.proofs.lemmas.List.Sums.{fold-append}
 use Rattle.td_catalog.specs.Database.{Database, VirtualRelvar, database_scope, with_virtuals}
-use Rattle.td_catalog.specs.Legality.{EachAfter, IsConstrained, IsRanked, IsVirtual}
+use Rattle.td_catalog.specs.TypedDatabases.{EachAfter, IsConstrained, IsTypedVirtual}
 use Rattle.td_check.specs.OperatorTypes.{are_types_of, if_type}
 use Rattle.td_check.specs.Scopes.{alone_with, scope_of}
 use Rattle.td_check.specs.StatementTypes.{constraint_fits}
@@ -34,14 +34,13 @@ use Rattle.td_eval.specs.ValueTypes.{AreComponentsOf, ConstraintsAreWritten, IsW
 use Rattle.td_eval.specs.Worlds.{World, selected}
 use Rattle.td_eval.proofs.KeepsGathered.{all_from_members}
 use Rattle.td_eval.proofs.MoreWorlds.{HasMoreThan, same_in_more}
-use Rattle.td_eval.proofs.TypedDatabases.{components_known, legal_databases_keep_scopes, shrunk, some_same}
+use Rattle.td_eval.proofs.TypedDatabases.{components_known, typed_databases_keep_scopes, shrunk, some_same}
 use Rattle.td_eval.proofs.TypedRows.{IsTypedEntry, made_typed, own_type}
 
--- ---- types that may stand in a legal database
+-- ---- types that may stand in a typed database
 
-pub record AreLegal (ds : List DeclaredType) : Type 0 where
+pub record AreTypedTypes (ds : List DeclaredType) : Type 0 where
   pub declared : AreDeclared ds
-  pub ranked : EachAfter IsRanked ds
   pub constrained : EachAfter IsConstrained ds
   pub written : ConstraintsAreWritten ds
 
@@ -57,11 +56,10 @@ all_last : {A : Type 0} (P : A → Type 0) (xs : List A) (x : A) → AllByRecurs
 all_last P [] x h = h.0
 all_last P (y ∷ xs) x h = all_last P xs x h.1
 
-pub first_legal : (ds more : List DeclaredType) → AreLegal (ds ++ more) → AreLegal ds
-first_legal ds more h =
+pub first_typed : (ds more : List DeclaredType) → AreTypedTypes (ds ++ more) → AreTypedTypes ds
+first_typed ds more h =
     record {
       declared = AreDeclared-front ds more h.declared;
-      ranked = each_front IsRanked ds more h.ranked;
       constrained = each_front IsConstrained ds more h.constrained;
       written = all_front (λ (d : DeclaredType). (e : Tree) → d.constraint ≡ Some e → IsWritten e) ds more h.written;
     }
@@ -74,17 +72,16 @@ no_virtual : (P : List VirtualRelvar → VirtualRelvar → Type 0) → EachAfter
 no_virtual P [] later v e = absurd (cc)
 no_virtual P (u ∷ earlier) later v e = absurd (cc)
 
-pub types_keep : (ds : List DeclaredType) → AreLegal ds → KeepsScope (world_of_types ds ds) (scope_of ds)
+pub types_keep : (ds : List DeclaredType) → AreTypedTypes ds → KeepsScope (world_of_types ds ds) (scope_of ds)
 types_keep ds h =
-    legal_databases_keep_scopes (types_database ds)
+    typed_databases_keep_scopes (types_database ds)
     (record {
       declared = h.declared;
-      ranked = h.ranked;
       constrained = h.constrained;
       named = tt;
       distinct = refl;
       bases = tt;
-      virtuals = no_virtual (λ earlier v. IsVirtual (database_scope (with_virtuals earlier (types_database ds))) v);
+      virtuals = no_virtual (λ earlier v. IsTypedVirtual (database_scope (with_virtuals earlier (types_database ds))) v);
       constraints_named = tt;
       constraints_distinct = refl;
       constraints = tt;
@@ -135,18 +132,18 @@ zipped ds (c ∷ cs) (v ∷ vs) n p h =
     let first = has_its_type ds v c.1 h.0 in
     ((λ i. (c.0, first i) ∷ rest.0 i), ((n.0, own_type ds v c.1 (p.0, h.0)), rest.1))
 
-module _ (front : List DeclaredType) (d : DeclaredType) (legal : AreLegal (front ++ (d ∷ []))) where
+module _ (front : List DeclaredType) (d : DeclaredType) (is_typed : AreTypedTypes (front ++ (d ∷ []))) where
   abbrev with_last : List DeclaredType
   with_last = front ++ (d ∷ [])
 
-  before : AreLegal front
-  before = first_legal front (d ∷ []) legal
+  before : AreTypedTypes front
+  before = first_typed front (d ∷ []) is_typed
 
   new : IsDeclarable front d
-  new = legal.declared front [] d refl
+  new = is_typed.declared front [] d refl
 
   written : (e : Tree) → d.constraint ≡ Some e → IsWritten e
-  written = all_last (λ (c : DeclaredType). (e : Tree) → c.constraint ≡ Some e → IsWritten e) front d legal.written
+  written = all_last (λ (c : DeclaredType). (e : Tree) → c.constraint ≡ Some e → IsWritten e) front d is_typed.written
 
   -- a constraint that is valued alike in a world
   abbrev pub IsValuedAlike : World → Type 0
@@ -173,7 +170,7 @@ module _ (front : List DeclaredType) (d : DeclaredType) (legal : AreLegal (front
             let made = made_typed front u distinct entries in
             let head : heading_of (tuple_of u) ≡ heading_from d.components = made.1 ∙ ap heading_from heading in
             let fits : with_value (type_of (alone_with (heading_from d.components) (scope_of front)) e) (λ t. if_type types.boolean t tt) ≡ Valued tt =
-            subst (λ o. constraint_fits (scope_of front) d.components o ≡ Valued tt) is (legal.constrained front [] d refl) in
+            subst (λ o. constraint_fits (scope_of front) d.components o ≡ Valued tt) is (is_typed.constrained front [] d refl) in
             let asked = value_of_with (type_of (alone_with (heading_from d.components) (scope_of front)) e) (λ t. if_type types.boolean t tt) tt fits in
             ap truth_value
             (alike (tuple_of u) e is head
@@ -208,7 +205,7 @@ abbrev pub FrontSelects : List DeclaredType → Type 0
 FrontSelects front = (all rest : List DeclaredType) → all ≡ front ++ rest → SelectThose front (selectors_of all front)
 
 -- one more type
-module _ (front : List DeclaredType) (d : DeclaredType) (legal : AreLegal (front ++ (d ∷ []))) (fronts : FrontSelects front) where
+module _ (front : List DeclaredType) (d : DeclaredType) (is_typed : AreTypedTypes (front ++ (d ∷ []))) (fronts : FrontSelects front) where
   abbrev wide : List DeclaredType
   wide = front ++ (d ∷ [])
 
@@ -228,7 +225,7 @@ module _ (front : List DeclaredType) (d : DeclaredType) (legal : AreLegal (front
       rw (selected, there) refl
 
   front_declared : AreDeclared front
-  front_declared = AreDeclared-front front (d ∷ []) legal.declared
+  front_declared = AreDeclared-front front (d ∷ []) is_typed.declared
 
   earlier : (all rest : List DeclaredType) → all ≡ wide ++ rest → (n : List ℕ) (b c : DeclaredType) → declared_at n front ≡ Some b → declared_at n wide ≡ Some c
       → Selects (with_selector all (selectors_of all front) d) n c
@@ -263,11 +260,11 @@ module _ (front : List DeclaredType) (d : DeclaredType) (legal : AreLegal (front
                 let small : AreComponentsOf front d vs = (
                   h.0,
                   parts_shrunk front (d ∷ []) front_declared (pack_parts vs) d.components
-                      (known_components front d.components (new front d legal).known) h.1,
+                      (known_components front d.components (new front d is_typed).known) h.1,
                 ) in
-                selector_same front d legal (types_alone all (selectors_of all front)) (alike_in_more front d legal (types_alone all (selectors_of all front))
+                selector_same front d is_typed (types_alone all (selectors_of all front)) (alike_in_more front d is_typed (types_alone all (selectors_of all front))
                 (types_more front (d ∷ rest) all (selectors_of all front) long x)) vs small
-                ∙ sym (selector_same front d legal (types_alone wide (selectors_of wide front)) (alike_in_more front d legal (types_alone wide (selectors_of wide front))
+                ∙ sym (selector_same front d is_typed (types_alone wide (selectors_of wide front)) (alike_in_more front d is_typed (types_alone wide (selectors_of wide front))
                 (types_more front (d ∷ []) wide (selectors_of wide front) refl y)) vs small)
                 ∙ sym (own_selected n (selector_value (types_alone wide (selectors_of wide front)) d) vs (rw (with_selector, y.missing n is, named) refl)),
           )
@@ -298,12 +295,12 @@ module _ (front : List DeclaredType) (d : DeclaredType) (legal : AreLegal (front
               by_test false named =
                   rw (with_selector, (fronts all (d ∷ rest) (e ∙ append_assoc front (d ∷ []) rest)).missing n is, named) refl
 
-module _ (ds : List DeclaredType) (legal : AreLegal ds) where
+module _ (ds : List DeclaredType) (is_typed : AreTypedTypes ds) where
   walked : (front rest : List DeclaredType) → ds ≡ front ++ rest → FrontSelects front → FrontSelects ds
   walked front [] e s = subst FrontSelects (sym (e ∙ append-nil front)) s
   walked front (d ∷ rest) e s =
       let next : ds ≡ (front ++ (d ∷ [])) ++ rest = e ∙ sym (append_assoc front (d ∷ []) rest) in
-      walked (front ++ (d ∷ [])) rest next (one_more front d (first_legal (front ++ (d ∷ [])) rest (subst AreLegal next legal)) s)
+      walked (front ++ (d ∷ [])) rest next (one_more front d (first_typed (front ++ (d ∷ [])) rest (subst AreTypedTypes next is_typed)) s)
 
   pub all_select : FrontSelects ds
   all_select = walked [] ds refl (λ all rest e. record { found = λ n d is. absurd (cc); missing = λ n is. refl })

@@ -230,14 +230,14 @@ pub selects : (db : Database) (n : List ℕ) (vs : List Val)
 selects db n vs = selected_by (world_of db) (selectors_of db.types db.types) n vs (world_selectors db)
 
 pub selectors_give_what_meets : SelectorsGiveWhatMeets
-selectors_give_what_meets db v t legal h = (
+selectors_give_what_meets db v t is_typed h = (
   λ given. each db.types (Selects (world_of db)) (Selects (world_of db)) (MeetConstraint db.types)
-      (λ n ps d is k gives _. met_of_given db.types legal.declared n (components_of ps) (user n ps) (sym (selects db n (components_of ps)) ∙ gives)) v t h given given,
+      (λ n ps d is k gives _. met_of_given db.types is_typed.declared n (components_of ps) (user n ps) (sym (selects db n (components_of ps)) ∙ gives)) v t h given given,
   λ met. each db.types (MeetConstraint db.types) (MeetConstraint db.types) (Selects (world_of db))
-      (λ n ps d is k meets _. selects db n (components_of ps) ∙ given_of_met db.types legal.declared n ps d is k meets) v t h met met,
+      (λ n ps d is k meets _. selects db n (components_of ps) ∙ given_of_met db.types is_typed.declared n ps d is k meets) v t h met met,
 )
 
 pub stored_literals_have_their_values : StoredLiteralsHaveTheirValues
-stored_literals_have_their_values db s v t legal p h met =
+stored_literals_have_their_values db s v t is_typed p h met =
     literals_have_their_values (world_of db) s v t p (subst (λ (scope : Scope). HasType scope.types v t) (sym (world_scope db)) h)
-    ((selectors_give_what_meets db v t legal h).1 met)
+    ((selectors_give_what_meets db v t is_typed h).1 met)

@@ -4,7 +4,7 @@ use Rattle.std.specs.List.{AllByRecursion}
 use Rattle.std.specs.Prelude.{IsTrue, is_some}
 use Rattle.td_algebra.proofs.Lists.{contains_none}
 use Rattle.td_catalog.specs.Database.{BaseRelvar, Database, VirtualRelvar, base_named, database_scope, known_base, known_virtual, virtual_named}
-use Rattle.td_catalog.specs.Legality.{IsLegal}
+use Rattle.td_catalog.specs.TypedDatabases.{IsTyped}
 use Rattle.td_check.specs.Mentions.{relvars_in}
 use Rattle.td_check.specs.Scopes.{KnownRelvar, Scope, known_relvar}
 use Rattle.td_check.specs.StaticLaws.{AgreeAt, AgreeOn, UsersAllIn}
@@ -27,7 +27,7 @@ use Rattle.td_eval.proofs.MentionedValues.{values_depend_on_mentions}
 use Rattle.td_eval.proofs.TypedDatabases.{all_at, database_keeps, fronts_keep}
 use Rattle.td_eval.proofs.WorldParts.{base_value, virtual_name, world_scope, world_selectors}
 
-module _ (among seen : List ℕ → Bool) (first second : Database) (legal : IsLegal first) (other : IsLegal second)
+module _ (among seen : List ℕ → Bool) (first second : Database) (is_typed : IsTyped first) (other : IsTyped second)
     (written : DefinitionsAreWritten first) (agree_types : AgreeOnTypes among first.types second.types)
     (agree : AgreeOnRelvars among seen first second) where
   -- the selectors of types that both have
@@ -36,7 +36,7 @@ module _ (among seen : List ℕ → Bool) (first second : Database) (legal : IsL
   select_alike w v e f n m d vs is h =
       selected_by v (selectors_of second.types second.types) n vs f
       ∙ all_alike among first.types second.types
-      (record { declared = legal.declared; ranked = legal.ranked; constrained = legal.constrained; written = written.constraints })
+      (record { declared = is_typed.declared; constrained = is_typed.constrained; written = written.constraints })
       other.declared other.constrained agree_types n d m is vs h
       ∙ sym (selected_by w (selectors_of first.types first.types) n vs e)
 
@@ -99,7 +99,7 @@ module _ (among seen : List ℕ → Bool) (first second : Database) (legal : IsL
     its_type = types.relation (pack v.heading)
 
     typed_here : type_of here v.tree ≡ Valued its_type
-    typed_here = (legal.virtuals front rest v e).typed
+    typed_here = (is_typed.virtuals front rest v e).typed
 
     in_first : (type_of (database_scope first) v.tree ≡ Valued its_type) × (relvars_in (database_scope first) v.tree ≡ relvars_in here v.tree)
     in_first = more_changes_nothing here (database_scope first) v.tree its_type (front_has_more first front (v ∷ rest) e) typed_here
@@ -156,7 +156,7 @@ module _ (among seen : List ℕ → Bool) (first second : Database) (legal : IsL
     value_alike =
         ap (value_of (world_of (fronted second place.0)) []) tree
         ∙ values_depend_on_mentions among here (world_of (fronted first front)) (world_of (fronted second place.0)) [] v.tree
-        (fronts_keep first legal written front (v ∷ rest) e) checked
+        (fronts_keep first is_typed written front (v ∷ rest) e) checked
         (record {
           known = record {
             entered = refl;
@@ -219,8 +219,8 @@ module _ (among seen : List ℕ → Bool) (first second : Database) (legal : IsL
   relvars_alike = of_all AreAlike first.virtuals none_alike next_alike
 
 pub values_depend_on_entries : ValuesDependOnEntries
-values_depend_on_entries among seen first second s e legal other written checked agree =
-    values_depend_on_mentions among (database_scope first) (world_of first) (world_of second) s e (database_keeps first legal written) checked
+values_depend_on_entries among seen first second s e is_typed other written checked agree =
+    values_depend_on_mentions among (database_scope first) (world_of first) (world_of second) s e (database_keeps first is_typed written) checked
     (record {
       known = record {
         entered = refl;
@@ -230,13 +230,13 @@ values_depend_on_entries among seen first second s e legal other written checked
       };
       types = λ n c. (
         agree.mentioned n c,
-        select_alike among seen first second legal other written agree.types agree.relvars (world_of first) (world_of second)
+        select_alike among seen first second is_typed other written agree.types agree.relvars (world_of first) (world_of second)
             (world_selectors first) (world_selectors second) n (agree.mentioned n c),
       );
       relvars = λ n c. (
         subst (λ (scope : Scope). AgreeAt among (database_scope first) scope n) (sym (world_scope second))
-            (seen_known among seen first second legal other written agree.types agree.relvars n (agree.mentioned_relvars n c)),
-        relvars_alike among seen first second legal other written agree.types agree.relvars n (agree.mentioned_relvars n c)
+            (seen_known among seen first second is_typed other written agree.types agree.relvars n (agree.mentioned_relvars n c)),
+        relvars_alike among seen first second is_typed other written agree.types agree.relvars n (agree.mentioned_relvars n c)
             (mentions_are_known.relvars (with_tuples (database_scope first) s) e n c),
       );
     })

@@ -4,7 +4,7 @@ use Rattle.std.specs.Cmp.Lexicographic.{same_text}
 use Rattle.std.specs.List.{AllByRecursion}
 use Rattle.std.specs.Prelude.{IsTrue, if◌then◌else◌, is_some}
 use Rattle.std.proofs.lemmas.List.Sums.{fold-append}
-use Rattle.td_catalog.specs.Legality.{EachAfter, IsConstrained}
+use Rattle.td_catalog.specs.TypedDatabases.{EachAfter, IsConstrained}
 use Rattle.td_check.specs.Mentions.{types_in}
 use Rattle.td_check.specs.OperatorTypes.{if_type}
 use Rattle.td_check.specs.Scopes.{alone_with, scope_of}
@@ -32,7 +32,7 @@ use Rattle.td_eval.specs.DatabaseWorlds.{Selectors, selector_value, selectors_of
 use Rattle.td_eval.specs.ValueLaws.{AgreeOnTypes, SelectsTheSame}
 use Rattle.td_eval.specs.ValueTypes.{AreComponentsOf, with_tuples}
 use Rattle.td_eval.specs.Worlds.{World, selected}
-use Rattle.td_eval.proofs.LaterTypes.{AreLegal, IsValuedAlike, SelectThose, alike_in_more, all_select, first_legal, parts_shrunk, selector_same, stays, types_keep, types_more}
+use Rattle.td_eval.proofs.LaterTypes.{AreTypedTypes, IsValuedAlike, SelectThose, alike_in_more, all_select, first_typed, parts_shrunk, selector_same, stays, types_keep, types_more}
 use Rattle.td_eval.proofs.MentionedValues.{values_depend_on_mentions}
 use Rattle.td_eval.proofs.TypedDatabases.{some_same}
 
@@ -107,7 +107,7 @@ users_made among cs u = folded (users_closed among) [] cs tt (all_fit cs u)
 
 -- ---- types that both have
 
-module _ (among : List ℕ → Bool) (first second : List DeclaredType) (legal : AreLegal first) (declared : AreDeclared second)
+module _ (among : List ℕ → Bool) (first second : List DeclaredType) (is_typed : AreTypedTypes first) (declared : AreDeclared second)
     (constrained : EachAfter IsConstrained second) (agree : AgreeOnTypes among first second) where
   -- the selector of the name gives the same
   abbrev SelectsAlike : List ℕ → DeclaredType → Type 0
@@ -121,17 +121,17 @@ module _ (among : List ℕ → Bool) (first second : List DeclaredType) (legal :
     abbrev wide : List DeclaredType
     wide = front ++ (d ∷ [])
 
-    wide_legal : AreLegal wide
-    wide_legal = first_legal wide rest (subst AreLegal (e ∙ sym (append_assoc front (d ∷ []) rest)) legal)
+    wide_typed : AreTypedTypes wide
+    wide_typed = first_typed wide rest (subst AreTypedTypes (e ∙ sym (append_assoc front (d ∷ []) rest)) is_typed)
 
-    front_legal : AreLegal front
-    front_legal = first_legal front (d ∷ []) wide_legal
+    front_typed : AreTypedTypes front
+    front_typed = first_typed front (d ∷ []) wide_typed
 
     in_first : (n : List ℕ) (b : DeclaredType) → declared_at n front ≡ Some b → declared_at n first ≡ Some b
     in_first n b is = ap (declared_at n) e ∙ declared_more n front (d ∷ rest) b is
 
     front_selects : SelectThose front (selectors_of first front)
-    front_selects = all_select front front_legal first (d ∷ rest) e
+    front_selects = all_select front front_typed first (d ∷ rest) e
 
     -- a selector of the front, where all of the first list are known
     front_same : (n : List ℕ) (b : DeclaredType) (vs : List Val) → declared_at n front ≡ Some b → AreComponentsOf front b vs
@@ -162,9 +162,9 @@ module _ (among : List ℕ → Bool) (first second : List DeclaredType) (legal :
           let all : selected (world_of_types second second) k vs ≡ x.0 vs = rw (selected, stays_on second earlier (d ∷ later) k x.0 at_second x.1) refl in
           here ∙ sym all ∙ alike k b (agree.constraints n d t m at_first is k c) found vs big ∙ front_same k b vs found h
 
-      valued_alike : IsValuedAlike front d wide_legal there
+      valued_alike : IsValuedAlike front d wide_typed there
       valued_alike u t is head c =
-          values_depend_on_mentions among (scope_of front) (world_of_types front front) there (u ∷ []) t (types_keep front front_legal) c
+          values_depend_on_mentions among (scope_of front) (world_of_types front front) there (u ∷ []) t (types_keep front front_typed) c
           (record {
             known = record {
               entered = refl;
@@ -188,14 +188,14 @@ module _ (among : List ℕ → Bool) (first second : List DeclaredType) (legal :
 
       new_alike : declared_at n front ≡ None → SelectsAlike n d
       new_alike none vs h =
-          let declared_front = front_legal.declared in
-          let known = known_components front d.components (wide_legal.declared front [] d refl).known in
+          let declared_front = front_typed.declared in
+          let known = known_components front d.components (wide_typed.declared front [] d refl).known in
           let small : AreComponentsOf front d vs =
           (h.0, parts_shrunk front (d ∷ rest) declared_front (pack_parts vs) d.components known (subst (λ ds. AreOfTypes ds (pack_parts vs) d.components) e h.1)) in
           chosen second earlier later d n at_second none_earlier named vs
-          ∙ selector_same front d wide_legal there valued_alike vs small
-          ∙ sym (selector_same front d wide_legal (types_alone first (selectors_of first front))
-          (alike_in_more front d wide_legal (types_alone first (selectors_of first front)) (types_more front (d ∷ rest) first (selectors_of first front) e front_selects)) vs small)
+          ∙ selector_same front d wide_typed there valued_alike vs small
+          ∙ sym (selector_same front d wide_typed (types_alone first (selectors_of first front))
+          (alike_in_more front d wide_typed (types_alone first (selectors_of first front)) (types_more front (d ∷ rest) first (selectors_of first front) e front_selects)) vs small)
           ∙ sym (chosen first front rest d n e none named vs)
 
     one_more : FrontAlike wide
@@ -204,7 +204,7 @@ module _ (among : List ℕ → Bool) (first second : List DeclaredType) (legal :
         by_test : declared_at n front ≡ None → (b : Bool) → same_name d.name n ≡ b → (if b then Some d else None) ≡ Some c → SelectsAlike n c
         by_test none false named at = absurd (cc)
         by_test none true named at =
-            let same : d ≡ c = some_same front (d ∷ []) front_legal.declared d c at in
+            let same : d ≡ c = some_same front (d ∷ []) front_typed.declared d c at in
             let at_wide : declared_at n wide ≡ Some d = is ∙ ap Some (sym same) in
             let at_first : declared_at n first ≡ Some d =
             ap (declared_at n) (e ∙ sym (append_assoc front (d ∷ []) rest)) ∙ declared_more n wide rest d at_wide in
@@ -213,7 +213,7 @@ module _ (among : List ℕ → Bool) (first second : List DeclaredType) (legal :
 
         by_option : (o : Option DeclaredType) → declared_at n front ≡ o → SelectsAlike n c
         by_option (Some b) found =
-            let same : b ≡ c = some_same front (d ∷ []) front_legal.declared b c (sym (declared_more n front (d ∷ []) b found) ∙ is) in
+            let same : b ≡ c = some_same front (d ∷ []) front_typed.declared b c (sym (declared_more n front (d ∷ []) b found) ∙ is) in
             subst (SelectsAlike n) same (alike n b m found)
         by_option None found = by_test found (same_name d.name n) refl (sym (declared_at-later n front (d ∷ []) (ap is_some found)) ∙ is)
 

@@ -14,7 +14,7 @@ use Rattle.td_eval.specs.OperatorValues.{components_of}
 use Rattle.td_eval.specs.ValueTypes.{AreComponentsOf}
 use Rattle.td_eval.specs.Worlds.{selected}
 use Rattle.td_eval.proofs.LaterEntries.{selectors_stay}
-use Rattle.td_eval.proofs.LaterTypes.{AreLegal}
+use Rattle.td_eval.proofs.LaterTypes.{AreTypedTypes}
 use Rattle.td_eval.proofs.LiteralValues.{each, met_of_given, own_selector, packed_components, selector_gives, selectors_give_what_meets, selects}
 use Rattle.td_eval.proofs.MentionedTypes.{none_before}
 use Rattle.td_eval.proofs.OpElements.{components_unpacked}
@@ -44,9 +44,9 @@ module _ (ds : List DeclaredType) (declared : AreDeclared ds) (n : List ℕ) (vs
       ∙ met_of_given ds declared n vs v gives earlier later d e named
 
 pub what_selectors_give_meets : WhatSelectorsGiveMeets
-what_selectors_give_meets db n vs v legal gives =
+what_selectors_give_meets db n vs v is_typed gives =
     let given = sym (selects db n vs) ∙ gives in
-    (is_of_components db.types legal.declared n vs v given, meets db.types legal.declared n vs v given)
+    (is_of_components db.types is_typed.declared n vs v given, meets db.types is_typed.declared n vs v given)
 
 -- ---- types that stand behind
 
@@ -76,18 +76,17 @@ mutual
   rows_of_values g (row fs rs) p = (fields_of_values fs p.0.0, rows_of_values g rs p.1)
 
 pub later_types_keep_what_meets : LaterTypesKeepWhatMeets
-later_types_keep_what_meets first second v t legal wider written later p h met =
+later_types_keep_what_meets first second v t is_typed wider written later p h met =
     (selectors_give_what_meets second v t wider
     (subst (λ ds. HasType ds v t) (sym later.types.1) (kept first.types later.types.0 v t h))).0
     (each first.types (Selects (world_of first)) OfValues (Selects (world_of second)) still v t h
-    ((selectors_give_what_meets first v t legal h).1 met) (of_values v p))
+    ((selectors_give_what_meets first v t is_typed h).1 met) (of_values v p))
   where
-    all : AreLegal first.types
+    all : AreTypedTypes first.types
     all =
         record {
-          declared = legal.declared;
-          ranked = legal.ranked;
-          constrained = legal.constrained;
+          declared = is_typed.declared;
+          constrained = is_typed.constrained;
           written = written;
         }
 

@@ -4,7 +4,7 @@ use Rattle.std.specs.Option.{option_or}
 use Rattle.std.specs.Prelude.{if◌then◌else◌}
 use Rattle.std.specs.List.{AllByRecursion}
 use Rattle.td_catalog.specs.Database.{BaseRelvar, Database, VirtualRelvar, base_among}
-use Rattle.td_catalog.specs.Legality.{IsLegal}
+use Rattle.td_catalog.specs.TypedDatabases.{IsTyped}
 use Rattle.td_eval.proofs.LiteralValues.{selects}
 use Rattle.td_eval.proofs.MetConstraints.{what_selectors_give_meets}
 use Rattle.td_eval.proofs.MetOperators.{HasOnly}
@@ -66,12 +66,12 @@ module _ (P : List ℕ → Parts → Type 0) where
       by_test true rest f = let is : relation_as_value b.relation ≡ v = cc in subst (HasOnly P) is h.0
       by_test false rest f = rest f
 
-module _ (db : Database) (legal : IsLegal db) where
+module _ (db : Database) (is_typed : IsTyped db) where
   selectors_give : (n : List ℕ) (vs : List Val) (v : Val) → AllByRecursion (HasOnly (MeetConstraint db.types)) vs
       → selected (world_of_bases db) n vs ≡ Valued v → HasOnly (MeetConstraint db.types) v
   selectors_give n vs v h e =
       let P = MeetConstraint db.types in
-      let given = what_selectors_give_meets db n vs v legal (selects db n vs ∙ e) in
+      let given = what_selectors_give_meets db n vs v is_typed (selects db n vs ∙ e) in
       subst (HasOnly P) (sym given.0) (given.1, packed_parts_meet P vs h)
 
   pub database_gives : AllByRecursion (λ (b : BaseRelvar). HasOnly (MeetConstraint db.types) (relation_as_value b.relation)) db.bases

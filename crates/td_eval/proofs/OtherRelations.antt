@@ -2,7 +2,7 @@
 use Rattle.std.proofs.Common.{◌≡◌, ◌∙◌, ℕ, Bool, true, false, List, Some, ap, refl, subst, sym}
 use Rattle.std.specs.Cmp.Lexicographic.{same_text}
 use Rattle.td_catalog.specs.Database.{Database}
-use Rattle.td_catalog.specs.Legality.{AreTyped}
+use Rattle.td_catalog.specs.TypedDatabases.{AreTyped}
 use Rattle.td_check.specs.Scopes.{KnownRelvar, Scope, known_relvar}
 use Rattle.td_eval.specs.DatabaseWorlds.{with_other, world_of}
 use Rattle.td_eval.specs.OperatorValues.{relation_as_value}

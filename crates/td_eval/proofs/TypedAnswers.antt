@@ -1,9 +1,7 @@
 -- What is answered of an outcome that keeps a type.
-use Rattle.std.proofs.Common.{◌≡◌, ◌≤◌, List, Result, Ok, Err, subst}
-use Rattle.td_eval.specs.ValueTypes.{AnswersType, KeepsType}
+use Rattle.std.proofs.Common.{◌≡◌, List, Result, Ok, Err, subst}
+use Rattle.td_eval.specs.ValueTypes.{AnswersType, IsDynamic, KeepsType}
 use Rattle.td_tree.proofs.LeastCauses.{least_is_named}
-use Rattle.td_tree.specs.Causes.{number_of}
-use Rattle.td_tree.specs.declared.cause.Cause.{Cause}
 use Rattle.td_tree.specs.declared.fault.Fault.{Fault}
 use Rattle.td_tree.specs.declared.fault.Fault.TheVariants as faults
 use Rattle.td_tree.specs.Outcomes.{Answers, Outcome, Valued, Refused, least}
@@ -17,5 +15,5 @@ answers_type ds t o (Ok v) a k = subst (KeepsType ds (Valued t)) a k
 answers_type ds t (Valued v) (Err (faults.Refused c)) a k = absurd (cc)
 answers_type ds t (Refused cs) (Err (faults.Refused c)) a k =
     let same : least cs ≡ c = cc in
-    subst (λ (d : Cause). 20 ≤ number_of d) same (k (least cs) (least_is_named cs).0)
+    subst IsDynamic same (k (least cs) (least_is_named cs).0)
 answers_type ds t o (Err faults.Memory) a k = tt

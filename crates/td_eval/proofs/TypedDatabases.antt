@@ -1,12 +1,12 @@
--- The world of a legal database: each relvar has a value of its type, and each selector keeps its type.
-use Rattle.std.proofs.Common.{◌≡◌, ◌∙◌, ◌++◌, ℕ, Bool, true, false, List, [], ◌∷◌, Option, Some, None, append-nil, append_assoc, ap, arith, fold, map, not, refl, subst, sym}
+-- The world of a typed database: each relvar has a value of its type, and each selector keeps its type.
+use Rattle.std.proofs.Common.{◌≡◌, ◌∙◌, ◌++◌, ℕ, Bool, true, false, List, [], ◌∷◌, Option, Some, None, append-nil, append_assoc, ap, fold, map, not, refl, subst, sym}
 use Rattle.std.specs.Cmp.Lexicographic.{same_text}
 use Rattle.std.specs.List.{AllByRecursion, zip}
 use Rattle.std.specs.Prelude.{⊤, is_some}
 use Rattle.td_algebra.proofs.Lists.{contains_none}
 use Rattle.td_algebra.proofs.Entries.{names-heading}
 use Rattle.td_catalog.specs.Database.{BaseRelvar, Database, VirtualRelvar, base_among, database_scope, known_base, known_virtual}
-use Rattle.td_catalog.specs.Legality.{EachAfter, IsBase, IsConstrained, IsLegal, IsVirtual}
+use Rattle.td_catalog.specs.TypedDatabases.{EachAfter, IsTypedBase, IsConstrained, IsTyped, IsTypedVirtual}
 use Rattle.td_check.specs.OperatorTypes.{are_types_of, if_type, same_type}
 use Rattle.td_check.specs.declared.scope.Kind.TheVariants as kinds
 use Rattle.td_check.specs.Scopes.{KnownRelvar, Scope, alone_with, known_relvar, relvar_in, scope_of, with_known_relvar}
@@ -36,7 +36,7 @@ use Rattle.td_value.proofs.KnownValues.{has_its_type, kept}
 use Rattle.td_eval.specs.DatabaseWorlds.{Selectors, constraint_value, selector_value, selectors_of, types_alone, with_selector, with_virtual_value, world_of}
 use Rattle.td_eval.specs.OperatorValues.{relation_as_value, truth_value}
 use Rattle.td_eval.specs.TreeValues.{value_of}
-use Rattle.td_eval.specs.ValueTypes.{AreComponentsOf, ConstraintsAreWritten, DefinitionsAreWritten, IsOfType, IsWritten, KeepsScope, KeepsType, LegalDatabasesKeepScopes}
+use Rattle.td_eval.specs.ValueTypes.{AreComponentsOf, ConstraintsAreWritten, DefinitionsAreWritten, IsOfType, IsWritten, KeepsScope, KeepsType, TypedDatabasesKeepScopes}
 use Rattle.td_eval.specs.Worlds.{World}
 use Rattle.td_eval.proofs.KeepsGathered.{Keeps, all_from_members, one_dynamic}
 use Rattle.td_eval.proofs.KnownRelvars.{fronted, never_none, of_front, one_more_scope, one_more_world, relvar_behind, relvar_more, some_one, unknown_lacks}
@@ -121,7 +121,7 @@ a_truth ds (Refused cs) k = k
 holding : (ds : List DeclaredType) (t : Type') (v : Val) (o : Outcome Bool) → IsOfType ds v t → Keeps (λ _. ⊤) o
     → KeepsType ds (Valued t) (with_value o (λ holds. value_if holds v causes.TypeConstraint))
 holding ds t v (Valued true) h k = h
-holding ds t v (Valued false) h k = one_dynamic causes.TypeConstraint (omega arith)
+holding ds t v (Valued false) h k = one_dynamic causes.TypeConstraint tt
 holding ds t v (Refused cs) h k = k
 
 module _ (w : World) (front : List DeclaredType) (d : DeclaredType) (a : AreDeclared front) (k : KeepsScope w (scope_of front)) (new : IsDeclarable front d)
@@ -265,14 +265,14 @@ module _ (all : List DeclaredType) (declared : AreDeclared all) (constrained : E
 
 -- ---- base relvars
 
-base_known : (ds : List DeclaredType) (n : List ℕ) (bs : List BaseRelvar) (r : KnownRelvar) → AllByRecursion (IsBase ds) bs
-    → relvar_in n (map known_base bs) ≡ Some r → (b : BaseRelvar) × (base_among n bs ≡ Some b) × (known_base b ≡ r) × IsBase ds b
+base_known : (ds : List DeclaredType) (n : List ℕ) (bs : List BaseRelvar) (r : KnownRelvar) → AllByRecursion (IsTypedBase ds) bs
+    → relvar_in n (map known_base bs) ≡ Some r → (b : BaseRelvar) × (base_among n bs ≡ Some b) × (known_base b ≡ r) × IsTypedBase ds b
 base_known ds n [] r h e = absurd (cc)
 base_known ds n (b ∷ bs) r h e = by_test (same_name b.name n) refl (base_known ds n bs r h.1)
   where
     by_test : (t : Bool) → same_name b.name n ≡ t
-        → (relvar_in n (map known_base bs) ≡ Some r → (b : BaseRelvar) × (base_among n bs ≡ Some b) × (known_base b ≡ r) × IsBase ds b)
-        → (c : BaseRelvar) × (base_among n (b ∷ bs) ≡ Some c) × (known_base c ≡ r) × IsBase ds c
+        → (relvar_in n (map known_base bs) ≡ Some r → (b : BaseRelvar) × (base_among n bs ≡ Some b) × (known_base b ≡ r) × IsTypedBase ds b)
+        → (c : BaseRelvar) × (base_among n (b ∷ bs) ≡ Some c) × (known_base c ≡ r) × IsTypedBase ds c
     by_test true is rest = let found : Some (known_base b) ≡ Some r = sym (rw is refl) ∙ e in let same : known_base b ≡ r = cc in (b, rw is refl, same, h.0)
     by_test false is rest = let x = rest (rw is at e) in (x.0, rw is x.1, x.2, x.3)
 
@@ -284,7 +284,7 @@ in_hand scope hs = record { types = scope.types; relvars = scope.relvars; constr
 
 -- one more, of an expression that has its relation type there, in a world where what is not known has no value
 module _ (w : World) (scope : Scope) (v : VirtualRelvar) (k : KeepsScope w scope) (alone : scope.entered ≡ [])
-    (unknown : (n : List ℕ) → known_relvar scope n ≡ None → w.relvar n ≡ None) (is : IsVirtual scope v) (written : IsWritten v.tree) where
+    (unknown : (n : List ℕ) → known_relvar scope n ≡ None → w.relvar n ≡ None) (is : IsTypedVirtual scope v) (written : IsWritten v.tree) where
   abbrev wider : Scope
   wider = with_known_relvar v.name kinds.Virtual v.heading scope
 
@@ -307,7 +307,7 @@ module _ (w : World) (scope : Scope) (v : VirtualRelvar) (k : KeepsScope w scope
       }
     where
       known_heading : IsKnownHeading scope.types v.heading
-      known_heading = ((types_are_known.of_tree scope v.tree (types.relation (pack v.heading)) k.scope_is written.0 is.typed).0, is.heading.known)
+      known_heading = ((types_are_known.of_tree scope v.tree (types.relation (pack v.heading)) k.scope_is written.0 is.typed).0, is.known)
 
       new : (n : List ℕ) (r : KnownRelvar) → known_relvar scope n ≡ None → known_relvar wider n ≡ Some r → (b : Bool) → same_name v.name n ≡ b → HasItsValue n r
       new n r none e true named =
@@ -325,7 +325,7 @@ module _ (w : World) (scope : Scope) (v : VirtualRelvar) (k : KeepsScope w scope
 
 -- ---- databases
 
-module _ (db : Database) (legal : IsLegal db) (written : DefinitionsAreWritten db) where
+module _ (db : Database) (is_typed : IsTyped db) (written : DefinitionsAreWritten db) where
   abbrev FrontKeeps : List VirtualRelvar → Type 0
   FrontKeeps front = KeepsScope (world_of (fronted db front)) (database_scope (fronted db front))
 
@@ -333,22 +333,22 @@ module _ (db : Database) (legal : IsLegal db) (written : DefinitionsAreWritten d
   bases_keep =
       record {
         scope_is = record {
-          declared = legal.declared;
+          declared = is_typed.declared;
           relvars = λ n r e.
-              let b = base_known db.types n db.bases r legal.bases (of_bases n r e) in
-              subst (λ (q : KnownRelvar). IsKnownHeading db.types q.heading) b.2 (b.3.relation.2, b.3.heading.known);
+              let b = base_known db.types n db.bases r is_typed.bases (of_bases n r e) in
+              subst (λ (q : KnownRelvar). IsKnownHeading db.types q.heading) b.2 (b.3.relation.2, b.3.known);
           entered = λ h c. absurd (contains_none h c);
         };
         types = ([], sym (append-nil db.types));
         known = refl;
         relvars = λ n r e.
-            let b = base_known db.types n db.bases r legal.bases (of_bases n r e) in (
+            let b = base_known db.types n db.bases r is_typed.bases (of_bases n r e) in (
               Valued (relation_as_value b.0.relation),
               rw b.1 refl,
               subst (λ (q : KnownRelvar). KeepsType db.types (Valued (types.relation (pack q.heading))) (Valued (relation_as_value b.0.relation))) b.2
-                  (b.3.relation, (refl, b.3.heading.known, b.3.typed)),
+                  (b.3.relation, (refl, b.3.known, b.3.typed)),
             );
-        selectors = (all_selectors db.types legal.declared legal.constrained written.constraints).found;
+        selectors = (all_selectors db.types is_typed.declared is_typed.constrained written.constraints).found;
       }
     where
       of_bases : (n : List ℕ) (r : KnownRelvar) → relvar_in n (map known_base db.bases ++ []) ≡ Some r → relvar_in n (map known_base db.bases) ≡ Some r
@@ -359,7 +359,7 @@ module _ (db : Database) (legal : IsLegal db) (written : DefinitionsAreWritten d
       subst (λ w. KeepsScope w (database_scope (fronted db (front ++ (v ∷ []))))) (sym (one_more_world db front v))
       (subst (KeepsScope (with_virtual_value (world_of (fronted db front)) v)) (sym (one_more_scope db front v))
       (one_more_virtual (world_of (fronted db front)) (database_scope (fronted db front)) v k refl (unknown_lacks (fronted db front))
-      (legal.virtuals front rest v e) (all_at (λ (u : VirtualRelvar). IsWritten u.tree) front v rest (subst (AllByRecursion (λ (u : VirtualRelvar). IsWritten u.tree)) e written.virtuals))))
+      (is_typed.virtuals front rest v e) (all_at (λ (u : VirtualRelvar). IsWritten u.tree) front v rest (subst (AllByRecursion (λ (u : VirtualRelvar). IsWritten u.tree)) e written.virtuals))))
 
   -- where the first virtual relvars alone are known
   pub fronts_keep : (front rest : List VirtualRelvar) → db.virtuals ≡ front ++ rest → FrontKeeps front
@@ -368,6 +368,6 @@ module _ (db : Database) (legal : IsLegal db) (written : DefinitionsAreWritten d
   pub database_keeps : KeepsScope (world_of db) (database_scope db)
   database_keeps = fronts_keep db.virtuals [] (sym (append-nil db.virtuals))
 
-pub legal_databases_keep_scopes : LegalDatabasesKeepScopes
-legal_databases_keep_scopes db legal written =
-    subst (KeepsScope (world_of db)) (sym (world_scope db)) (database_keeps db legal written)
+pub typed_databases_keep_scopes : TypedDatabasesKeepScopes
+typed_databases_keep_scopes db is_typed written =
+    subst (KeepsScope (world_of db)) (sym (world_scope db)) (database_keeps db is_typed written)

@@ -1,5 +1,5 @@
 -- What the operators give of operands of their types: a value of the static type, or dynamic causes.
-use Rattle.std.proofs.Common.{◌≡◌, ◌∙◌, ◌+ℤ◌, ◌-ℤ◌, ◌*ℤ◌, ℕ, ℤ, pos, neg_ℤ, int_div, nat_eq, Bool, true, false, not, ◌&&◌, ◌||◌, List, [], ◌∷◌, ◌++◌, Some, length, ap, arith, refl, subst, sym}
+use Rattle.std.proofs.Common.{◌≡◌, ◌∙◌, ◌+ℤ◌, ◌-ℤ◌, ◌*ℤ◌, ℕ, ℤ, pos, neg_ℤ, int_div, nat_eq, Bool, true, false, not, ◌&&◌, ◌||◌, List, [], ◌∷◌, ◌++◌, Some, length, ap, refl, subst, sym}
 use Rattle.std.specs.List.{zip}
 use Rattle.std.specs.List.Sorted.{IsStrictlySortedBy}
 use Rattle.std.specs.Ordering.{eq_by_cmp}
@@ -56,9 +56,9 @@ module _ (ds : List DeclaredType) where
 
   only_keeps : (h : Attrs) (rs : Rows) → IsOfType ds (relation h rs) (types.relation h)
       → KeepsType ds (Valued (types.tuple (pack (unpack h)))) (only_tuple (unpack_rows rs))
-  only_keeps h no_rows q = one_dynamic causes.NotOneTuple (omega arith)
+  only_keeps h no_rows q = one_dynamic causes.NotOneTuple tt
   only_keeps h (row fs no_rows) q = rw (pack_unpack h, pack_unpack_fields fs) ((q.0.0.0.0, q.0.0.0.1), (h, refl, q.1.2.0))
-  only_keeps h (row fs (row gs rs)) q = one_dynamic causes.NotOneTuple (omega arith)
+  only_keeps h (row fs (row gs rs)) q = one_dynamic causes.NotOneTuple tt
 
   tuple_from_keeps : (v : Val) (t : Type') → IsOfType ds v t → KeepsType ds (prefix_type prefixes.TupleFrom t) (prefix_value prefixes.TupleFrom v)
   tuple_from_keeps v (types.relation h) q =
@@ -143,7 +143,7 @@ module _ (ds : List DeclaredType) where
   quotient_keeps x y = by_test (is_zero y)
     where
       by_test : (b : Bool) → KeepsType ds (Valued types.integer) (if b then Refused (Only causes.ZeroDivisor) else of_number (int_div x y))
-      by_test true = one_dynamic causes.ZeroDivisor (omega arith)
+      by_test true = one_dynamic causes.ZeroDivisor tt
       by_test false = in_range_keeps ds (int_div x y)
 
   pub or_keeps : (v w : Val) (s t : Type') → IsOfType ds v s → IsOfType ds w t → KeepsType ds (operator_type operators.Or s t) (operator_value operators.Or v w)

@@ -151,7 +151,7 @@ in_range_keeps ds z = by_test (is_in_range z) refl
   where
     by_test : (b : Bool) → is_in_range z ≡ b → KeepsType ds (Valued types.integer) (if b then Valued (integer z) else Refused (Only causes.Overflow))
     by_test true e = (range_is z e, refl)
-    by_test false e = one_dynamic causes.Overflow (omega arith)
+    by_test false e = one_dynamic causes.Overflow tt
 
 -- ---- the values of names
 

@@ -1,7 +1,7 @@
 -- The value of the tree that a value's literal spells: laws (Tutorial D's selectors).
 use Rattle.std.specs.Prelude.{◌≡◌, ◌↔◌, ℕ, true, List, ◌∷◌, ◌++◌, ⊤}
 use Rattle.td_catalog.specs.Database.{Database, without_type}
-use Rattle.td_catalog.specs.Legality.{IsLegal}
+use Rattle.td_catalog.specs.TypedDatabases.{IsTyped}
 use Rattle.td_check.specs.Scopes.{Scope}
 use Rattle.td_check.specs.StaticTypes.{type_of}
 use Rattle.td_eval.specs.DatabaseWorlds.{constraint_value, world_of, world_of_types}
@@ -73,34 +73,34 @@ LiteralsHaveTheirValues =
     (w : World) (s : List Tuple) (v : Val) (t : Type') → IsValue v → HasType w.scope.types v t → IsSelected w v
     → value_of w s (literal_tree v) ≡ Valued v
 
--- the selectors of a legal database give the user values in a value of a type exactly where these meet their constraints
+-- the selectors of a typed database give the user values in a value of a type exactly where these meet their constraints
 abbrev pub SelectorsGiveWhatMeets : Type 0
 SelectorsGiveWhatMeets =
-    (db : Database) (v : Val) (t : Type') → IsLegal db → HasType db.types v t
+    (db : Database) (v : Val) (t : Type') → IsTyped db → HasType db.types v t
     → IsSelected (world_of db) v ↔ MeetsConstraints db.types v
 
 -- what such a selector gives is the user value of its components, which meet the constraint
 abbrev pub WhatSelectorsGiveMeets : Type 0
 WhatSelectorsGiveMeets =
-    (db : Database) (n : List ℕ) (vs : List Val) (v : Val) → IsLegal db → selected (world_of db) n vs ≡ Valued v
+    (db : Database) (n : List ℕ) (vs : List Val) (v : Val) → IsTyped db → selected (world_of db) n vs ≡ Valued v
     → (v ≡ user n (pack_parts vs)) × MeetConstraint db.types n (pack_parts vs)
 
 -- so there the tree of a value whose user values meet their constraints has that value
 abbrev pub StoredLiteralsHaveTheirValues : Type 0
 StoredLiteralsHaveTheirValues =
-    (db : Database) (s : List Tuple) (v : Val) (t : Type') → IsLegal db → IsValue v → HasType db.types v t
+    (db : Database) (s : List Tuple) (v : Val) (t : Type') → IsTyped db → IsValue v → HasType db.types v t
     → MeetsConstraints db.types v → value_of (world_of db) s (literal_tree v) ≡ Valued v
 
 -- they meet them still where more types stand behind
 abbrev pub LaterTypesKeepWhatMeets : Type 0
 LaterTypesKeepWhatMeets =
-    (first second : Database) (v : Val) (t : Type') → IsLegal first → IsLegal second
+    (first second : Database) (v : Val) (t : Type') → IsTyped first → IsTyped second
     → ConstraintsAreWritten first.types → HasLater first second → IsValue v → HasType first.types v t
     → MeetsConstraints first.types v → MeetsConstraints second.types v
 
 -- and where one of the types is dropped
 abbrev pub DropsKeepWhatMeets : Type 0
 DropsKeepWhatMeets =
-    (db : Database) (dropped : List ℕ) (v : Val) (t : Type') → IsLegal db → IsLegal (without_type dropped db)
+    (db : Database) (dropped : List ℕ) (v : Val) (t : Type') → IsTyped db → IsTyped (without_type dropped db)
     → ConstraintsAreWritten db.types → IsValue v → HasType (without_type dropped db).types v t
     → MeetsConstraints db.types v → MeetsConstraints (without_type dropped db).types v

@@ -4,7 +4,7 @@ use Rattle.std.specs.Prelude.{◌≡◌, ℕ, Bool, List, Some}
 use Rattle.std.specs.List.{AllByRecursion, Contains}
 use Rattle.td_algebra.specs.Operators.{restriction, union}
 use Rattle.td_catalog.specs.Database.{BaseRelvar, Database}
-use Rattle.td_catalog.specs.Legality.{IsLegal}
+use Rattle.td_catalog.specs.TypedDatabases.{IsTyped}
 use Rattle.td_eval.specs.DatabaseWorlds.{with_other, world_of}
 use Rattle.td_eval.specs.LiteralValues.{EachInFields, EachUserValue, MeetConstraint, MeetsConstraints}
 use Rattle.td_eval.specs.OperatorValues.{on_relation, relation_as_value, set_value}
@@ -41,7 +41,7 @@ pub record ValuesMeetConstraints : Type 0 where
       → AllByRecursion (EachInTuple (MeetConstraint ds)) s → MeetsConstraints ds (relation_as_value r)
       → EachInValues (MeetConstraint ds) r (values_in_tuples w s parts)
   pub world :
-      (db : Database) → IsLegal db
+      (db : Database) → IsTyped db
       → AllByRecursion (λ (b : BaseRelvar). MeetsConstraints db.types (relation_as_value b.relation)) db.bases
       → GivesOnly (MeetConstraint db.types) (world_of db)
   pub other :

@@ -3,7 +3,7 @@ use Rattle.std.specs.Prelude.{◌≡◌, ◌↔◌, ℕ, Bool, List, ◌++◌, f
 use Rattle.std.specs.List.{AllByRecursion, Contains}
 use Rattle.std.specs.List.Sorted.{IsPermutation}
 use Rattle.td_catalog.specs.Database.{BaseRelvar, Database, NamedConstraint, VirtualRelvar, base_named, database_scope, knows_relvar, relvar_names, virtual_named, with_base, with_constraint, with_declared, with_virtual, without_constraint, without_relvar, without_type}
-use Rattle.td_catalog.specs.Legality.{IsLegal}
+use Rattle.td_catalog.specs.TypedDatabases.{IsTyped}
 use Rattle.td_check.specs.Mentions.{relvars_in, types_in}
 use Rattle.td_check.specs.Scopes.{Scope}
 use Rattle.td_check.specs.StaticLaws.{AgreeAt, AgreeOn, GivesNames, IsScope, UsersAllIn, is_other}
@@ -93,30 +93,30 @@ pub record AgreeOnEntries (among seen : List ℕ → Bool) (first second : Datab
   pub mentioned : (n : List ℕ) → Contains (types_in e) n → IsTrue (among n)
   pub mentioned_relvars : (n : List ℕ) → Contains (relvars_in (with_tuples (database_scope first) s) e) n → IsTrue (seen n)
 
--- where both are legal, the expression has the same value in both, or the same causes, whatever else they have
+-- where both are typed, the expression has the same value in both, or the same causes, whatever else they have
 abbrev pub ValuesDependOnEntries : Type 0
 ValuesDependOnEntries =
-    (among seen : List ℕ → Bool) (first second : Database) (s : List Tuple) (e : Tree) → IsLegal first → IsLegal second
+    (among seen : List ℕ → Bool) (first second : Database) (s : List Tuple) (e : Tree) → IsTyped first → IsTyped second
     → DefinitionsAreWritten first → IsChecked (database_scope first) s e
     → AgreeOnEntries among seen first second s e → value_of (world_of second) s e ≡ value_of (world_of first) s e
 
--- so has an expression that does not mention an entry that is dropped, where the database is legal before and after; the
+-- so has an expression that does not mention an entry that is dropped, where the database is is_typed before and after; the
 -- tuples in hand are not made of a type that is
 pub record DropsChangeNoValue : Type 0 where
   pub relvar :
-      (db : Database) (dropped : List ℕ) (s : List Tuple) (e : Tree) → IsLegal db → IsLegal (without_relvar dropped db)
+      (db : Database) (dropped : List ℕ) (s : List Tuple) (e : Tree) → IsTyped db → IsTyped (without_relvar dropped db)
       → DefinitionsAreWritten db → IsChecked (database_scope db) s e
       → (Contains (relvars_in (with_tuples (database_scope db) s) e) dropped → ⊥)
       → value_of (world_of (without_relvar dropped db)) s e ≡ value_of (world_of db) s e
   pub type :
-      (db : Database) (dropped : List ℕ) (s : List Tuple) (e : Tree) → IsLegal db → IsLegal (without_type dropped db)
+      (db : Database) (dropped : List ℕ) (s : List Tuple) (e : Tree) → IsTyped db → IsTyped (without_type dropped db)
       → DefinitionsAreWritten db → IsChecked (database_scope db) s e
       → ((h : Heading) → Contains (map heading_of s) h → UsersAllIn (is_other dropped) (pack h))
       → (Contains (types_in e) dropped → ⊥)
       → value_of (world_of (without_type dropped db)) s e ≡ value_of (world_of db) s e
   -- no expression mentions a constraint
   pub constraint :
-      (db : Database) (dropped : List ℕ) (s : List Tuple) (e : Tree) → IsLegal db → IsLegal (without_constraint dropped db)
+      (db : Database) (dropped : List ℕ) (s : List Tuple) (e : Tree) → IsTyped db → IsTyped (without_constraint dropped db)
       → DefinitionsAreWritten db → IsChecked (database_scope db) s e
       → value_of (world_of (without_constraint dropped db)) s e ≡ value_of (world_of db) s e
 
@@ -130,16 +130,16 @@ pub record HasLater (first second : Database) : Type 0 where
   pub virtuals : (more : List VirtualRelvar) × (second.virtuals ≡ first.virtuals ++ more)
   pub distinct : IsTrue (are_distinct (relvar_names second))
 
--- there an expression that has a type in the first, which is legal, has the same value or the same causes; an entry that is
--- added to a legal database stands behind, a relvar where no relvar has its name
+-- there an expression that has a type in the first, which is typed, has the same value or the same causes; an entry that is
+-- added to a typed database stands behind, a relvar where no relvar has its name
 pub record LaterEntriesChangeNothing : Type 0 where
   pub values :
-      (first second : Database) (s : List Tuple) (e : Tree) → IsLegal first → DefinitionsAreWritten first
+      (first second : Database) (s : List Tuple) (e : Tree) → IsTyped first → DefinitionsAreWritten first
       → HasLater first second → IsChecked (database_scope first) s e → value_of (world_of second) s e ≡ value_of (world_of first) s e
-  pub one_type : (db : Database) (d : DeclaredType) → IsLegal db → HasLater db (with_declared d db)
-  pub one_base : (db : Database) (r : BaseRelvar) → IsLegal db → IsTrue (not (knows_relvar r.name db)) → HasLater db (with_base r db)
-  pub one_virtual : (db : Database) (v : VirtualRelvar) → IsLegal db → IsTrue (not (knows_relvar v.name db)) → HasLater db (with_virtual v db)
-  pub one_constraint : (db : Database) (c : NamedConstraint) → IsLegal db → HasLater db (with_constraint c db)
+  pub one_type : (db : Database) (d : DeclaredType) → IsTyped db → HasLater db (with_declared d db)
+  pub one_base : (db : Database) (r : BaseRelvar) → IsTyped db → IsTrue (not (knows_relvar r.name db)) → HasLater db (with_base r db)
+  pub one_virtual : (db : Database) (v : VirtualRelvar) → IsTyped db → IsTrue (not (knows_relvar v.name db)) → HasLater db (with_virtual v db)
+  pub one_constraint : (db : Database) (c : NamedConstraint) → IsTyped db → HasLater db (with_constraint c db)
 
 -- ---- the order of tuples
 

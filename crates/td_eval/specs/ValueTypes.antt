@@ -1,9 +1,9 @@
 -- What an expression of a type may have: a value of that type, or causes that no static rule has: laws (Tutorial D's; the
 -- causes are this project's own).
-use Rattle.std.specs.Prelude.{◌≡◌, ◌≤◌, ℕ, List, ◌++◌, map, Some, Result, Ok, Err, ⊤}
+use Rattle.std.specs.Prelude.{◌≡◌, ℕ, List, ◌++◌, map, Some, Result, Ok, Err, ⊤}
 use Rattle.std.specs.List.{AllByRecursion}
 use Rattle.td_catalog.specs.Database.{BaseRelvar, Database, VirtualRelvar, base_named}
-use Rattle.td_catalog.specs.Legality.{AreTyped, IsLegal}
+use Rattle.td_catalog.specs.TypedDatabases.{AreTyped, IsTyped}
 use Rattle.td_check.specs.Scopes.{KnownRelvar, Scope, known_relvar}
 use Rattle.td_check.specs.StaticLaws.{GivesNames, IsScope}
 use Rattle.td_check.specs.StaticTypes.{type_of}
@@ -11,8 +11,8 @@ use Rattle.td_eval.specs.DatabaseWorlds.{with_other, world_of}
 use Rattle.td_eval.specs.TreeTexts.{HasTexts}
 use Rattle.td_eval.specs.TreeValues.{value_of}
 use Rattle.td_eval.specs.Worlds.{World}
-use Rattle.td_tree.specs.Causes.{number_of}
 use Rattle.td_tree.specs.declared.cause.Cause.{Cause}
+use Rattle.td_tree.specs.declared.cause.Cause.TheVariants as causes
 use Rattle.td_tree.specs.declared.fault.Fault.{Fault}
 use Rattle.td_tree.specs.declared.fault.Fault.TheVariants as faults
 use Rattle.td_tree.specs.Outcomes.{Causes, Has, Outcome, Valued, Refused}
@@ -23,9 +23,18 @@ use Rattle.td_types.specs.Types as forms
 use Rattle.td_value.specs.KnownValues.{AreOfTypes, HasHeading, HasType}
 use Rattle.td_value.specs.Values.{Val, IsRelation, IsTuple, IsValue, Relation, AreValues, Tuple, heading_of, pack_fields, pack_parts}
 
--- each of the causes is OVERFLOW or one that stands after it
+-- the causes that an expression which meets the static rules may be refused by (this project's own)
+abbrev pub IsDynamic : Cause → Type 0
+IsDynamic causes.Overflow = ⊤
+IsDynamic causes.ZeroDivisor = ⊤
+IsDynamic causes.EmptyAggregate = ⊤
+IsDynamic causes.NotOneTuple = ⊤
+IsDynamic causes.TypeConstraint = ⊤
+IsDynamic _ = ⊥
+
+-- each of the causes is such a one
 abbrev pub AreDynamic : Causes → Type 0
-AreDynamic cs = (c : Cause) → Has cs c → 20 ≤ number_of c
+AreDynamic cs = (c : Cause) → Has cs c → IsDynamic c
 
 -- a value, of the type where these types are declared
 abbrev pub IsOfType : List DeclaredType → Val → Type' → Type 0
@@ -37,10 +46,10 @@ KeepsType ds (Valued t) (Valued v) = IsOfType ds v t
 KeepsType ds (Valued t) (Refused cs) = AreDynamic cs
 KeepsType ds (Refused cs) o = ⊤
 
--- what is answered of an expression of a type: a value of it, a cause that no static rule has, or want of memory
+-- what is answered of an expression of a type: a value of it, such a cause, or want of memory
 abbrev pub AnswersType : List DeclaredType → Type' → Result Val Fault → Type 0
 AnswersType ds t (Ok v) = IsOfType ds v t
-AnswersType ds t (Err (faults.Refused c)) = 20 ≤ number_of c
+AnswersType ds t (Err (faults.Refused c)) = IsDynamic c
 AnswersType ds t (Err faults.Memory) = ⊤
 
 -- a tuple whose values are of their types
@@ -90,10 +99,10 @@ pub record DefinitionsAreWritten (db : Database) : Type 0 where
   pub constraints : ConstraintsAreWritten db.types
   pub virtuals : AllByRecursion (λ (v : VirtualRelvar). IsWritten v.tree) db.virtuals
 
--- the world of a legal database is such a world
-abbrev pub LegalDatabasesKeepScopes : Type 0
-LegalDatabasesKeepScopes =
-    (db : Database) → IsLegal db → DefinitionsAreWritten db
+-- the world of a typed database is such a world
+abbrev pub TypedDatabasesKeepScopes : Type 0
+TypedDatabasesKeepScopes =
+    (db : Database) → IsTyped db → DefinitionsAreWritten db
     → KeepsScope (world_of db) (world_of db).scope
 
 -- so is the world in which one of its base relvars has another relation of its heading

@@ -9,7 +9,7 @@ ghost use Rattle.td_eval.specs.MetConstraints.{ValuesMeetConstraints};
 ghost use Rattle.td_eval.specs.ValueLaws.{DropsChangeNoValue, LaterEntriesChangeNothing};
 ghost use Rattle.td_eval.specs.ValueLaws.{SummarizeByIsPerOfTheProjection, TupleOrderDoesNotCount};
 ghost use Rattle.td_eval.specs.ValueLaws.{ValuesDependOnEntries, ValuesDependOnMentions};
-ghost use Rattle.td_eval.specs.ValueTypes.{LegalDatabasesKeepScopes, OtherRelationsKeepScopes};
+ghost use Rattle.td_eval.specs.ValueTypes.{TypedDatabasesKeepScopes, OtherRelationsKeepScopes};
 ghost use Rattle.td_eval.specs.ValueTypes.{ValuesKeepTypes};
 
 /// An expression that has a type has, if it has a value, a value of that type, and else causes
@@ -18,10 +18,10 @@ pub fn values_keep_types()
     ensures { ValuesKeepTypes }
 {}
 
-/// Legal databases are worlds in which that holds, also with another relation in place of what a
+/// Typed databases are worlds in which that holds, also with another relation in place of what a
 /// base relvar holds.
-pub fn legal_databases_keep_scopes()
-    ensures legal { LegalDatabasesKeepScopes }
+pub fn typed_databases_keep_scopes()
+    ensures typed { TypedDatabasesKeepScopes }
     ensures other { OtherRelationsKeepScopes }
 {}
 
@@ -30,7 +30,7 @@ pub fn values_depend_on_mentions()
     ensures { ValuesDependOnMentions }
 {}
 
-/// In legal databases that agree on the entries that it mentions, it has the same value.
+/// In typed databases that agree on the entries that it mentions, it has the same value.
 pub fn values_depend_on_entries()
     ensures { ValuesDependOnEntries }
 {}
@@ -65,7 +65,7 @@ pub fn literals_have_their_values()
     ensures values { LiteralsHaveTheirValues }
 {}
 
-/// The selectors of a legal database give the user values that meet the constraints of their types,
+/// The selectors of a typed database give the user values that meet the constraints of their types,
 /// and no others, and go on to do so where types are added or one is dropped.
 pub fn selectors_give_what_meets()
     ensures values { SelectorsGiveWhatMeets }
@@ -74,7 +74,7 @@ pub fn selectors_give_what_meets()
     ensures dropped { DropsKeepWhatMeets }
 {}
 
-/// In a legal database the tree of the literal of a value whose user values meet the constraints
+/// In a typed database the tree of the literal of a value whose user values meet the constraints
 /// of their types has that value.
 pub fn stored_literals_have_their_values()
     ensures { StoredLiteralsHaveTheirValues }

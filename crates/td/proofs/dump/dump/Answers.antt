@@ -7,12 +7,12 @@ returns-in-Ok-clause-headline g c =
 
 pub returns-in-Ok-clause-answers : goal.returns-in-Ok-clause-answers
 returns-in-Ok-clause-answers g c =
-    dump_answers c.args.stop c.args.engine.now c.run.new.engine _ _ _ _ c.run.ensures.sound c.in-Ok.report c.in-Ok.ensures.answers c.write_dump.result
+    dump_answers c.args.stop c.args.engine.now c.run.new.engine _ _ _ _ c.run.ensures.legal c.in-Ok.report c.in-Ok.ensures.answers c.write_dump.result
     c.write_dump.ensures.written
 
 pub returns-in-Ok-clause-memory : goal.returns-in-Ok-clause-memory
 returns-in-Ok-clause-memory g c =
-    dump_memory c.args.stop c.args.engine.now c.run.new.engine _ _ _ _ c.run.ensures.sound c.in-Ok.report c.in-Ok.ensures.answers c.write_dump.result
+    dump_memory c.args.stop c.args.engine.now c.run.new.engine _ _ _ _ c.run.ensures.legal c.in-Ok.report c.in-Ok.ensures.answers c.write_dump.result
     c.write_dump.ensures.memory
 
 pub returns-in-Ok-clause-read : goal.returns-in-Ok-clause-read
@@ -23,12 +23,12 @@ returns-in-Ok-clause-too_long g c = no_limit _ c.write_dump.result c.write_dump.
 
 pub returns-in-Ok-clause-write : goal.returns-in-Ok-clause-write
 returns-in-Ok-clause-write g c =
-    dump_write c.args.stop c.args.engine.now c.run.new.engine _ _ _ _ c.run.ensures.sound c.in-Ok.report c.in-Ok.ensures.answers c.write_dump.result
+    dump_write c.args.stop c.args.engine.now c.run.new.engine _ _ _ _ c.run.ensures.legal c.in-Ok.report c.in-Ok.ensures.answers c.write_dump.result
     _ c.write_dump.ensures.write c.write_dump.ensures.broken
 
 pub returns-in-Err-clause-memory : goal.returns-in-Err-clause-memory
 returns-in-Err-clause-memory g c =
-    fault_memory c.args.stop c.args.engine.now c.run.new.engine (g.W.Sink.taken c.args.writer.now) _ _ c.run.ensures.sound c.in-Err.fault
+    fault_memory c.args.stop c.args.engine.now c.run.new.engine (g.W.Sink.taken c.args.writer.now) _ _ c.run.ensures.legal c.in-Err.fault
     c.in-Err.ensures.memory
 
 pub returns-in-Err-clause-read : goal.returns-in-Err-clause-read

@@ -18,7 +18,7 @@ returns-in-Run-clause-answers g c =
     subst
     (λ (mode : Mode). IfOk c.run.result (λ report. OfScript before after (λ script. HasAnswered mode (run_of c.args.stop (standing old told) script)
     (status_of report.refused) taken)))
-    (sym c.in-Run.is) (run_answers c.args.stop old c.run.new.engine told taken c.run.ensures.sound before after c.run.result c.run.ensures.answers)
+    (sym c.in-Run.is) (run_answers c.args.stop old c.run.new.engine told taken c.run.ensures.legal before after c.run.result c.run.ensures.answers)
 
 pub returns-in-Run-clause-memory : goal.returns-in-Run-clause-memory
 returns-in-Run-clause-memory g c =
@@ -31,7 +31,7 @@ returns-in-Run-clause-memory g c =
     (λ (mode : Mode). IfErr c.run.result (IfMemory (λ done. OfFront done before after (λ script. HasBegun mode (run_of c.args.stop (standing old told) script)
     done taken))))
     (sym c.in-Run.is)
-    (err_map _ _ (run_memory c.args.stop old c.run.new.engine told taken c.run.ensures.sound before after) c.run.result c.run.ensures.memory)
+    (err_map _ _ (run_memory c.args.stop old c.run.new.engine told taken c.run.ensures.legal before after) c.run.result c.run.ensures.memory)
 
 pub returns-in-Run-clause-read : goal.returns-in-Run-clause-read
 returns-in-Run-clause-read g c =
@@ -56,7 +56,7 @@ returns-in-Run-clause-write g c =
     (λ (mode : Mode). IfErr c.run.result (IfWrite (λ done. broken × OfScript before after (λ script. HasBegunCut mode
     (run_of c.args.stop (standing old told) script) done taken))))
     (sym c.in-Run.is)
-    (err_map _ _ (run_write c.args.stop old c.run.new.engine told taken c.run.ensures.sound before after broken) c.run.result c.run.ensures.write)
+    (err_map _ _ (run_write c.args.stop old c.run.new.engine told taken c.run.ensures.legal before after broken) c.run.result c.run.ensures.write)
 
 pub returns-in-Dump-clause-answers : goal.returns-in-Dump-clause-answers
 returns-in-Dump-clause-answers g c =

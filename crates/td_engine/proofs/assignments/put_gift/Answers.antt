@@ -3,7 +3,7 @@ use Rattle.std.specs.List.{slice_get}
 use Rattle.std.specs.Result.{OnOk}
 use Rattle.td_catalog.specs.CatalogViews.{base_view}
 use Rattle.td_catalog.specs.Database.{Database, base_named, with_body}
-use Rattle.td_catalog.specs.Legality.{AreTyped}
+use Rattle.td_catalog.specs.TypedDatabases.{AreTyped}
 use Rattle.td_engine.proofs.Gifted.{found, gift_heading, gift_to, never_none, put, put_check, skipped, skipped_passes, still_found}
 use Rattle.td_engine.proofs.assignments.put_gift.Goals as goal
 
@@ -11,7 +11,7 @@ pub returns-in_default-get-clause-check : goal.returns-in_default-get-clause-che
 returns-in_default-get-clause-check g c =
     let r = base_view g.B.Body.relation (c.in-Some.name.now, c.in-Some.field-0-1.now) in
     rw (← c.in-Some.ensures)
-    (skipped_passes c.args.catalog.now c.args.given.now.entries c.reveal.ensures c.args.place r (sym c.in-Some.ensures) (sym c.in_default-get.ensures.value))
+    (skipped_passes c.args.catalog.now c.args.given.now.entries c.reveal.ensures c.args.place r (sym c.in-Some.ensures) c.requires.held (sym c.in_default-get.ensures.value))
 
 pub returns-in_default-get-clause-next : goal.returns-in_default-get-clause-next
 returns-in_default-get-clause-next g c =

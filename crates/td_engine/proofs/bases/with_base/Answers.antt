@@ -1,50 +1,50 @@
 use Rattle.std.proofs.Common.{Err, ap, map, option_map, subst, sym}
 use Rattle.td_catalog.specs.Database.{Database, base_relvar, with_base}
 use Rattle.td_catalog.specs.Dumps.{ordered_names}
-use Rattle.td_catalog.specs.Legality.{AreBaseKeys}
-use Rattle.td_check.proofs.StatementAnswers.{given_is}
+use Rattle.td_engine.proofs.Settled.{bases_hold}
+use Rattle.td_engine.specs.Legality.{AreBaseKeys}
 use Rattle.td_engine.proofs.Admitted.{failed_follows, refused_on}
 use Rattle.td_engine.proofs.BaseAdmitted.{base_admitted}
 use Rattle.td_engine.specs.Carried.{Changes}
 use Rattle.td_engine.specs.Machine.{by_outcome, changed, init_relation}
-use Rattle.td_engine.specs.SoundnessLaws.{IsWrittenIf}
+use Rattle.td_engine.proofs.WrittenStatements.{statement_written}
 use Rattle.td_tree.specs.Outcomes.{Answers, Outcome, Valued, with_value}
 use Rattle.td_tree.specs.TreeViews.{heading_tree_view, tree_view}
-use Rattle.td_types.specs.TypeListLaws.{HaveNames}
+use Rattle.td_tree.specs.Trees.{define_base}
 use Rattle.td_types.specs.TypeLists.{heading_meant}
 use Rattle.td_value.specs.Values.{Relation}
 use Rattle.td_engine.proofs.bases.with_base.Goals as goal
+
+pub with_keys-requires-clause-held : goal.with_keys-requires-clause-held
+with_keys-requires-clause-held g c = bases_hold c.args.catalog.now c.requires.legal
 
 pub with_keys-requires-clause-heading : goal.with_keys-requires-clause-heading
 with_keys-requires-clause-heading g c =
     let d = c.args.definition in
     let made = with_value (heading_meant c.args.catalog.now.types (heading_tree_view d.heading.items)) (init_relation c.args.catalog.now (option_map tree_view d.init)) in
     let made-is = subst (λ r. Answers (λ r. r) r made) c.in-Ok.ensures.value c.new_relation-relation.ensures in
-    let names = subst (λ xs. HaveNames (heading_tree_view xs)) c.deref.ensures.value c.tell_heading.ensures in
-    let written = subst IsWrittenIf (given_is tree_view c.as_ref.result d.init c.as_ref.ensures.value) c.tell_if_given.ensures in
+    let names = statement_written (define_base d.name (heading_tree_view d.heading.items) (option_map tree_view d.init) (map (λ key. key.items) d.keys.items)) c.requires.admitted.spelled in
     (base_admitted c.args.catalog.now d.name (heading_tree_view d.heading.items) (option_map tree_view d.init) (map (λ key. key.items) d.keys.items)
-    c.in-Ok.parts.0 c.requires.sound c.requires.admitted names written made-is).heading
+    c.in-Ok.parts.0 c.requires.legal c.requires.admitted names.1 names.2 made-is).known
 
 pub with_keys-requires-clause-keys : goal.with_keys-requires-clause-keys
 with_keys-requires-clause-keys g c =
     let d = c.args.definition in
     let made = with_value (heading_meant c.args.catalog.now.types (heading_tree_view d.heading.items)) (init_relation c.args.catalog.now (option_map tree_view d.init)) in
     let made-is = subst (λ r. Answers (λ r. r) r made) c.in-Ok.ensures.value c.new_relation-relation.ensures in
-    let names = subst (λ xs. HaveNames (heading_tree_view xs)) c.deref.ensures.value c.tell_heading.ensures in
-    let written = subst IsWrittenIf (given_is tree_view c.as_ref.result d.init c.as_ref.ensures.value) c.tell_if_given.ensures in
+    let names = statement_written (define_base d.name (heading_tree_view d.heading.items) (option_map tree_view d.init) (map (λ key. key.items) d.keys.items)) c.requires.admitted.spelled in
     subst (λ p. AreBaseKeys c.in-Ok.parts.0.heading (map (λ key. key.items) p.1.items)) (sym c.in-Ok.ensures.other)
     (base_admitted c.args.catalog.now d.name (heading_tree_view d.heading.items) (option_map tree_view d.init) (map (λ key. key.items) d.keys.items)
-    c.in-Ok.parts.0 c.requires.sound c.requires.admitted names written made-is).keys_are
+    c.in-Ok.parts.0 c.requires.legal c.requires.admitted names.1 names.2 made-is).keys_are
 
 pub with_keys-requires-clause-typed : goal.with_keys-requires-clause-typed
 with_keys-requires-clause-typed g c =
     let d = c.args.definition in
     let made = with_value (heading_meant c.args.catalog.now.types (heading_tree_view d.heading.items)) (init_relation c.args.catalog.now (option_map tree_view d.init)) in
     let made-is = subst (λ r. Answers (λ r. r) r made) c.in-Ok.ensures.value c.new_relation-relation.ensures in
-    let names = subst (λ xs. HaveNames (heading_tree_view xs)) c.deref.ensures.value c.tell_heading.ensures in
-    let written = subst IsWrittenIf (given_is tree_view c.as_ref.result d.init c.as_ref.ensures.value) c.tell_if_given.ensures in
+    let names = statement_written (define_base d.name (heading_tree_view d.heading.items) (option_map tree_view d.init) (map (λ key. key.items) d.keys.items)) c.requires.admitted.spelled in
     (base_admitted c.args.catalog.now d.name (heading_tree_view d.heading.items) (option_map tree_view d.init) (map (λ key. key.items) d.keys.items)
-    c.in-Ok.parts.0 c.requires.sound c.requires.admitted names written made-is).typed
+    c.in-Ok.parts.0 c.requires.legal c.requires.admitted names.1 names.2 made-is).typed
 
 pub returns-in-Ok : goal.returns-in-Ok
 returns-in-Ok g c =

@@ -1,10 +1,10 @@
-use Rattle.std.proofs.Common.{◌≡◌, ◌∙◌, ap, map, subst, sym, true}
+use Rattle.std.proofs.Common.{◌≡◌, ◌∙◌, ap, map, subst, sym}
 use Rattle.std.specs.Prelude.{IfOk, OnOk}
 use Rattle.td_catalog.specs.Database.{Database, base_relvar, with_base}
-use Rattle.td_catalog.specs.Legality.{AreBaseKeys, AreTyped, IsRelvarHeading, KeysHold}
+use Rattle.td_catalog.specs.TypedDatabases.{AreTyped}
 use Rattle.td_engine.proofs.Admitted.{and_if_ok}
-use Rattle.td_engine.proofs.Settled.{keys_are_held}
-use Rattle.td_engine.specs.Checks.{keys_hold}
+use Rattle.td_types.specs.TypeLists.{AreKnown}
+use Rattle.td_types.specs.Types.{pack}
 use Rattle.td_value.specs.Values.{Relation}
 use Rattle.td_engine.proofs.bases.with_body.Goals as goal
 
@@ -12,14 +12,8 @@ pub add_base-done-requires-clause-heading : goal.add_base-done-requires-clause-h
 add_base-done-requires-clause-heading g c =
     let next-is = subst (λ r. IfOk r (λ copy. copy ≡ c.args.catalog.now)) c.in_ok-next.ensures.value c.try_clone.ensures in
     let heading-is = ap (λ p. p.heading) c.in_ok-next.ensures.other ∙ c.in_ok-parts.ensures.heading in
-    subst (IsRelvarHeading c.in_ok-next.next.types) (sym heading-is) (subst (λ (db : Database). IsRelvarHeading db.types c.args.relation.heading) (sym next-is) c.requires.heading)
-
-pub add_base-done-requires-clause-keys : goal.add_base-done-requires-clause-keys
-add_base-done-requires-clause-keys g c =
-    let heading-is = ap (λ p. p.heading) c.in_ok-next.ensures.other ∙ c.in_ok-parts.ensures.heading in
-    let written-are = ap (λ p. map (λ key. key.items) p.keys.items) c.in_ok-next.ensures.other ∙ ap (λ ks. map (λ key. key.items) ks.items) c.in_ok-parts.ensures.keys in
-    subst (λ h. AreBaseKeys h (map (λ key. key.items) c.in_ok-next.parts.keys.items)) (sym heading-is)
-    (subst (AreBaseKeys c.args.relation.heading) (sym written-are) c.requires.keys)
+    subst (λ h. AreKnown c.in_ok-next.next.types (pack h)) (sym heading-is)
+    (subst (λ (db : Database). AreKnown db.types (pack c.args.relation.heading)) (sym next-is) c.requires.heading)
 
 pub add_base-done-requires-clause-body : goal.add_base-done-requires-clause-body
 add_base-done-requires-clause-body g c =
@@ -37,14 +31,6 @@ add_base-done-requires-clause-typed g c =
     let next-is = subst (λ r. IfOk r (λ copy. copy ≡ c.args.catalog.now)) c.in_ok-next.ensures.value c.try_clone.ensures in
     let relation-is = ap (λ p. g.B.Body.relation p.body) c.in_ok-next.ensures.other ∙ c.in_ok-parts.ensures.relation in
     subst (AreTyped c.in_ok-next.next.types) (sym relation-is) (subst (λ (db : Database). AreTyped db.types c.args.relation) (sym next-is) c.requires.typed)
-
-pub add_base-done-requires-clause-hold : goal.add_base-done-requires-clause-hold
-add_base-done-requires-clause-hold g c =
-    let relation-is = ap (λ p. g.B.Body.relation p.body) c.in_ok-next.ensures.other ∙ c.in_ok-parts.ensures.relation in
-    let keys-are = ap (λ p. g.B.Body.keys p.body) c.in_ok-next.ensures.other ∙ c.in_ok-parts.ensures.body in
-    let r = g.B.Body.relation c.in_ok-next.parts.body in
-    subst (λ ks. KeysHold ks r.body) (sym keys-are)
-    (keys_are_held _ r c.len.ensures.valid (subst (λ (q : Relation). keys_hold (map (λ key. key.items) c.args.keys.items) q.body ≡ true) (sym relation-is) c.requires.hold))
 
 pub returns : goal.returns
 returns g c =

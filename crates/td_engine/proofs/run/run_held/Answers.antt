@@ -35,7 +35,7 @@ statements-preserved g c =
       omega (arith, before.1, turned_fewer old new t, t.statements_are),
       turned_refused old new t before.2,
       turned_finished old new t before.3,
-      λ h. c.in-Ok-true.ensures.sound (before.4 h),
+      λ h. c.in-Ok-true.ensures.legal (before.4 h),
       λ h. c.in-Ok-true.ensures.whole (before.5 h),
     )
 

@@ -1,6 +1,6 @@
 use Rattle.std.proofs.Common.{◌≡◌, ◌+◌, ◌≤◌, true, false, length}
 use Rattle.td_engine.proofs.run.run_held.Given as goal
-use Rattle.td_engine.specs.Soundness.{IsSoundState}
+use Rattle.td_engine.specs.Legality.{IsLegalState}
 use Rattle.td_engine.specs.Standing.{run_of, standing}
 use Rattle.td_engine.specs.Turns.{Reached, place_at}
 
@@ -11,7 +11,7 @@ invariant-statements g l = Reached (run_of l.stop (standing l.fn.engine (g.W.Sin
     × (l.report.statements + length l.cutter.bytes ≤ length l.fn.cutter.bytes)
     × (l.report.refused ≤ l.report.statements)
     × (l.cutter.finished ≡ true)
-    × (IsSoundState l.fn.engine → IsSoundState l.engine)
+    × (IsLegalState l.fn.engine → IsLegalState l.engine)
     × (g.W.Sink.is_broken l.fn.writer ≡ false → g.W.Sink.is_broken l.writer ≡ false)
 
 abbrev pub decreases-statements : goal.decreases-statements

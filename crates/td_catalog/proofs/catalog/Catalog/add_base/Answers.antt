@@ -1,11 +1,13 @@
 use Rattle.std.proofs.Common.{◌∙◌, ap, refl, subst, sym}
 use Rattle.td_catalog.specs.CatalogViews.{IsCatalog, Rows, database_view}
 use Rattle.td_catalog.specs.Database.{Database, base_relvar, knows_relvar, with_base}
-use Rattle.td_catalog.specs.Legality.{AreTyped, IsRelvarHeading}
+use Rattle.td_catalog.specs.TypedDatabases.{AreTyped}
 use Rattle.td_catalog.proofs.Changes.{catalog_with_base, view_with_base, with_base_rows}
 use Rattle.td_catalog.proofs.Rows.{accepted, refused}
 use Rattle.td_catalog.proofs.catalog.Catalog.add_base.Goals as goal
 use Rattle.td_tree.specs.declared.cause.Cause.TheVariants as causes
+use Rattle.td_types.specs.TypeLists.{AreKnown}
+use Rattle.td_types.specs.Types.{pack}
 
 pub returns-then-has_relvar-clause-answer : goal.returns-then-has_relvar-clause-answer
 returns-then-has_relvar-clause-answer g c =
@@ -20,12 +22,10 @@ invariant_of-self-2 g c =
     (ap (knows_relvar c.args.name) c.self.view_is ∙ sym c.has_relvar.ensures ∙ c.if-has_relvar.false) c.self.invariant
     (record {
       named = c.as_str.ensures.is_name;
-      heading = subst (λ (db : Database). IsRelvarHeading db.types c.args.heading) (sym c.self.view_is) c.requires.heading;
-      base_keys = c.requires.keys;
+      heading = subst (λ (db : Database). AreKnown db.types (pack c.args.heading)) (sym c.self.view_is) c.requires.heading;
       of_body = c.requires.body;
       proper = c.len.ensures.valid;
       typed = subst (λ (db : Database). AreTyped db.types (g.B.Body.relation c.args.body)) (sym c.self.view_is) c.requires.typed;
-      hold = c.requires.hold;
     }))
 
 pub returns-clause-answer : goal.returns-clause-answer

@@ -1,7 +1,7 @@
 use Rattle.std.proofs.Common.{◌∙◌, ap, refl, subst, sym}
 use Rattle.td_catalog.specs.CatalogViews.{Rows, IsCatalog, database_view}
 use Rattle.td_catalog.specs.Database.{Database, database_scope, knows_constraint, named_constraint, with_constraint}
-use Rattle.td_catalog.specs.Legality.{IsConstraint}
+use Rattle.td_catalog.specs.TypedDatabases.{IsTypedConstraint}
 use Rattle.td_catalog.proofs.Changes.{catalog_with_constraint, knows_constraint_by, view_with_constraint, with_constraint_rows}
 use Rattle.td_catalog.proofs.Rows.{accepted, refused}
 use Rattle.td_catalog.proofs.catalog.Catalog.add_constraint.Goals as goal
@@ -24,8 +24,8 @@ invariant_of-self-2 g c =
     (catalog_with_constraint g.B.Body.relation g.B.Body.keys rows c.self.inside.constraints c.args.name _ refl
     (sym (knows_constraint_by g.B.Body.relation g.B.Body.keys c.args.name rows) ∙ sym c.contains_key.ensures ∙ c.if-contains_key.false) c.self.invariant
     c.as_str.ensures.is_name
-    (subst (λ e. IsConstraint (database_scope (database_view g.B.Body.relation rows)) (named_constraint c.args.name (tree_view e))) (sym c.in_ok-tree.ensures.ok)
-    (subst (λ (db : Database). IsConstraint (database_scope db) (named_constraint c.args.name (tree_view c.args.tree))) (sym c.self.view_is) c.requires)))
+    (subst (λ e. IsTypedConstraint (database_scope (database_view g.B.Body.relation rows)) (named_constraint c.args.name (tree_view e))) (sym c.in_ok-tree.ensures.ok)
+    (subst (λ (db : Database). IsTypedConstraint (database_scope db) (named_constraint c.args.name (tree_view c.args.tree))) (sym c.self.view_is) c.requires)))
 
 pub returns-clause-answer : goal.returns-clause-answer
 returns-clause-answer g c =

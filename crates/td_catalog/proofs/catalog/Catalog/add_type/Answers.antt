@@ -1,6 +1,6 @@
 use Rattle.std.proofs.Common.{◌∙◌, ap, option_map, subst, sym}
 use Rattle.td_catalog.specs.Database.{Database}
-use Rattle.td_catalog.specs.Legality.{IsConstrained, IsRanked}
+use Rattle.td_catalog.specs.TypedDatabases.{IsConstrained}
 use Rattle.td_catalog.proofs.Changes.{catalog_with_type}
 use Rattle.td_catalog.proofs.catalog.Catalog.add_type.Goals as goal
 use Rattle.td_tree.specs.TreeViews.{tree_view}
@@ -18,5 +18,4 @@ invariant_of-self-2 g c =
     catalog_with_type g.B.Body.relation g.B.Body.keys
     (record { types = c.self.inside.types; bases = c.self.inside.bases.entries; virtuals = c.self.inside.virtuals.entries; constraints = c.self.inside.constraints.entries })
     d c.add.new.self c.self.invariant c.in_ok-add.ensures.added c.reveal.ensures
-    (subst (λ (db : Database). IsRanked db.types d) (sym c.self.view_is) c.requires.ranked)
     (subst (λ (db : Database). IsConstrained db.types d) (sym c.self.view_is) c.requires.constrained)

@@ -1,7 +1,7 @@
 use Rattle.std.proofs.Common.{◌∙◌, ap, map, refl, subst, sym}
 use Rattle.td_catalog.specs.CatalogViews.{Rows, IsCatalog, database_view}
 use Rattle.td_catalog.specs.Database.{Database, database_scope, knows_relvar, virtual_relvar, with_virtual}
-use Rattle.td_catalog.specs.Legality.{IsVirtual}
+use Rattle.td_catalog.specs.TypedDatabases.{IsTypedVirtual}
 use Rattle.td_catalog.proofs.Changes.{catalog_with_virtual, view_with_virtual, with_virtual_rows}
 use Rattle.td_catalog.proofs.Rows.{accepted, refused}
 use Rattle.td_catalog.proofs.catalog.Catalog.add_virtual.Goals as goal
@@ -19,9 +19,9 @@ invariant_of-self-2 g c =
     subst (λ vs. IsCatalog g.B.Body.relation g.B.Body.keys (with_virtual_rows vs rows)) (sym c.in_ok-insert.ensures.entries)
     (catalog_with_virtual g.B.Body.relation g.B.Body.keys rows c.self.inside.virtuals c.args.name _ refl
     (ap (knows_relvar c.args.name) c.self.view_is ∙ sym c.has_relvar.ensures ∙ c.if-has_relvar.false) c.self.invariant c.as_str.ensures.is_name
-    (subst (λ e. IsVirtual (database_scope (database_view g.B.Body.relation rows)) (virtual_relvar c.args.name c.args.heading (tree_view e) (map (λ key. key.items) c.args.keys.items)))
+    (subst (λ e. IsTypedVirtual (database_scope (database_view g.B.Body.relation rows)) (virtual_relvar c.args.name c.args.heading (tree_view e) (map (λ key. key.items) c.args.keys.items)))
     (sym c.in_ok-tree.ensures.ok)
-    (subst (λ (db : Database). IsVirtual (database_scope db) (virtual_relvar c.args.name c.args.heading (tree_view c.args.tree) (map (λ key. key.items) c.args.keys.items)))
+    (subst (λ (db : Database). IsTypedVirtual (database_scope db) (virtual_relvar c.args.name c.args.heading (tree_view c.args.tree) (map (λ key. key.items) c.args.keys.items)))
     (sym c.self.view_is) c.requires)))
 
 pub returns-clause-answer : goal.returns-clause-answer

@@ -1,7 +1,7 @@
 use Rattle.std.proofs.Common.{◌∙◌, ap, map, subst, sym}
 use Rattle.std.specs.List.{AllByRecursion, list_any}
 use Rattle.td_catalog.specs.Database.{Database, NamedConstraint}
-use Rattle.td_catalog.specs.Legality.{IsLegal}
+use Rattle.td_catalog.specs.TypedDatabases.{IsTyped}
 use Rattle.td_catalog.specs.Sought.{tree_mentions}
 use Rattle.td_catalog.proofs.Visits.{AreLeft, ConstraintTyped, constraint_passes, constraint_rows_typed, constraints_as, left_all, left_next, left_none, left_passed}
 use Rattle.td_catalog.proofs.catalog.Catalog.constraints_mention.Goals as goal
@@ -19,7 +19,7 @@ loop-entry-init g c =
       tt,
       tt,
       left_all (ConstraintTyped scope) (constraint_passes test) total (map (λ row. row.1) rows) c.into_iter-entry-iterator.result
-          (subst (λ s. AllByRecursion (ConstraintTyped s) (map (λ row. row.1) rows)) (sym c.requires) (constraint_rows_typed db rows (subst IsLegal c.self.view_is c.self.invariant.legal) seen))
+          (subst (λ s. AllByRecursion (ConstraintTyped s) (map (λ row. row.1) rows)) (sym c.requires) (constraint_rows_typed db rows (subst IsTyped c.self.view_is c.self.invariant.is_typed) seen))
           (ap (list_any (λ (x : NamedConstraint). test x.tree)) (sym seen) ∙ constraints_as test rows)
           (c.into_iter-entry-iterator.ensures.into_iter_gives ∙ c.values-entry-items.ensures.rest),
     )

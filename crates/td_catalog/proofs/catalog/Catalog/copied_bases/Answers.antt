@@ -18,7 +18,7 @@ loop-name-init g c =
       copied_none (base_parts relation keys) (λ (p : BaseParts). p.base.name) (λ row. refl) (map (base_parts relation keys) c.into_iter-name-iterator.result)
           c.in_ok-copy.copy.entries c.into_iter-name-iterator.result
           (ap are_distinct (names_of relation keys c.into_iter-name-iterator.result ∙ ap (λ rs. map (λ (r : BaseRelvar). r.name) (map (base_view relation) rs)) start)
-          ∙ distinct_front (map (λ (r : BaseRelvar). r.name) bases) _ c.self.invariant.legal.distinct)
+          ∙ distinct_front (map (λ (r : BaseRelvar). r.name) bases) _ c.self.invariant.is_typed.distinct)
           refl c.in_ok-copy.ensures.empty,
     )
 

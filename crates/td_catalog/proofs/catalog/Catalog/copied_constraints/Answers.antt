@@ -1,18 +1,18 @@
 use Rattle.std.proofs.Common.{ap, map, refl, subst, ◌∙◌}
 use Rattle.td_catalog.specs.CatalogViews.{constraint_view}
 use Rattle.td_catalog.specs.Database.{Database, NamedConstraint}
-use Rattle.td_catalog.specs.Legality.{IsLegal}
+use Rattle.td_catalog.specs.TypedDatabases.{IsTyped}
 use Rattle.td_catalog.proofs.Copies.{IsCopied, copied_next, copied_none}
 use Rattle.td_catalog.proofs.catalog.Catalog.copied_constraints.Goals as goal
 
 pub loop-name-init : goal.loop-name-init
 loop-name-init g c =
     let db = c.args.self.now in
-    let legal = subst IsLegal c.self.view_is c.self.invariant.legal in (
+    let is_typed = subst IsTyped c.self.view_is c.self.invariant.is_typed in (
       tt,
       tt,
       copied_none constraint_view (λ (k : NamedConstraint). k.name) (λ row. refl) db.constraints c.in_ok-copy.copy.entries c.into_iter-name-iterator.result
-          (legal.constraints_distinct)
+          (is_typed.constraints_distinct)
           (ap (map constraint_view) (c.into_iter-name-iterator.ensures.into_iter_gives ∙ c.iter-name-items.ensures.rest) ∙ ap (λ (d : Database). d.constraints) c.self.view_is)
           c.in_ok-copy.ensures.empty,
     )

@@ -1,7 +1,7 @@
 use Rattle.std.proofs.Common.{ap, map, refl, subst, ◌∙◌}
 use Rattle.td_catalog.specs.CatalogViews.{virtual_view}
 use Rattle.td_catalog.specs.Database.{BaseRelvar, Database, VirtualRelvar}
-use Rattle.td_catalog.specs.Legality.{IsLegal}
+use Rattle.td_catalog.specs.TypedDatabases.{IsTyped}
 use Rattle.td_catalog.proofs.Copies.{IsCopied, copied_next, copied_none}
 use Rattle.td_catalog.proofs.Lists.{distinct_behind}
 use Rattle.td_catalog.proofs.catalog.Catalog.copied_virtuals.Goals as goal
@@ -9,11 +9,11 @@ use Rattle.td_catalog.proofs.catalog.Catalog.copied_virtuals.Goals as goal
 pub loop-name-init : goal.loop-name-init
 loop-name-init g c =
     let db = c.args.self.now in
-    let legal = subst IsLegal c.self.view_is c.self.invariant.legal in (
+    let is_typed = subst IsTyped c.self.view_is c.self.invariant.is_typed in (
       tt,
       tt,
       copied_none virtual_view (λ (v : VirtualRelvar). v.name) (λ row. refl) db.virtuals c.in_ok-copy.copy.entries c.into_iter-name-iterator.result
-          (distinct_behind (map (λ (b : BaseRelvar). b.name) db.bases) (map (λ (v : VirtualRelvar). v.name) db.virtuals) legal.distinct)
+          (distinct_behind (map (λ (b : BaseRelvar). b.name) db.bases) (map (λ (v : VirtualRelvar). v.name) db.virtuals) is_typed.distinct)
           (ap (map virtual_view) (c.into_iter-name-iterator.ensures.into_iter_gives ∙ c.iter-name-items.ensures.rest) ∙ ap (λ (d : Database). d.virtuals) c.self.view_is)
           c.in_ok-copy.ensures.empty,
     )

@@ -5,7 +5,7 @@ use Rattle.td_catalog.specs.Database.{without_type}
 use Rattle.td_catalog.specs.Mentioned.{is_type_in_use}
 use Rattle.td_catalog.proofs.Changes.{with_types}
 use Rattle.td_catalog.proofs.EntriesLess.{catalog_without_type}
-use Rattle.td_catalog.proofs.LegalTypeDrops.{made_of_none}
+use Rattle.td_catalog.proofs.TypedTypeDrops.{made_of_none}
 use Rattle.td_catalog.proofs.catalog.Catalog.drop_type.Goals as goal
 
 pub remove-requires : goal.remove-requires
@@ -15,7 +15,7 @@ remove-requires g c =
     let rows : Rows _ =
     record { types = c.self.inside.types; bases = c.self.inside.bases.entries; virtuals = c.self.inside.virtuals.entries; constraints = c.self.inside.constraints.entries } in
     let free = ap (is_type_in_use c.args.name.now) c.self.view_is ∙ sym c.in_ok-is_type_in_use.ensures ∙ c.if-branch.false in
-    record { unused = ap not (made_of_none c.args.name.now (database_view relation rows) c.self.invariant.legal free) }
+    record { unused = ap not (made_of_none c.args.name.now (database_view relation rows) c.self.invariant.is_typed free) }
 
 pub returns-clause-dropped : goal.returns-clause-dropped
 returns-clause-dropped g c =

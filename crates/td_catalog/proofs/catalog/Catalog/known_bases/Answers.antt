@@ -2,7 +2,7 @@ use Rattle.std.proofs.Common.{[], ◌∙◌, ap, map, subst, sym}
 use Rattle.std.proofs.lemmas.List.{append-nil}
 use Rattle.std.specs.Prelude.{is_some, not}
 use Rattle.td_catalog.specs.Database.{Database, known_base}
-use Rattle.td_catalog.specs.Legality.{IsLegal}
+use Rattle.td_catalog.specs.TypedDatabases.{IsTyped}
 use Rattle.td_catalog.proofs.Reached.{IsReached, base_heading, bases_known, distinct_bases, reached_all, reached_new, reached_next, reached_none, scope_with}
 use Rattle.td_catalog.proofs.catalog.Catalog.known_bases.Goals as goal
 use Rattle.td_check.specs.Scopes.{known_relvar}
@@ -23,7 +23,7 @@ with_relvar-requires g c =
     let reached = subst (IsReached base_heading kinds.Base c.args.self.now.types [] (map known_base c.args.self.now.bases) c.loop-name.scope) c.in-Some.ensures.steps c.loop-name.invariant.2 in
     let new =
     reached_new base_heading kinds.Base c.args.self.now.types [] (map known_base c.args.self.now.bases) c.loop-name.scope _ _ reached
-    (distinct_bases c.args.self.now (subst IsLegal c.self.view_is c.self.invariant.legal)) in
+    (distinct_bases c.args.self.now (subst IsTyped c.self.view_is c.self.invariant.is_typed)) in
     record { new = ap (λ s. not (is_some (known_relvar s c.in_ok-try_clone.field-0))) c.scope.view_is ∙ ap (λ n. not (is_some (known_relvar c.loop-name.scope n))) c.in_ok-try_clone.ensures ∙ new }
 
 pub loop-name-preserved : goal.loop-name-preserved

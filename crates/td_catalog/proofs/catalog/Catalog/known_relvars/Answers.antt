@@ -3,7 +3,7 @@ use Rattle.std.proofs.lemmas.List.{take_all}
 use Rattle.std.specs.Prelude.{is_some, not}
 use Rattle.td_catalog.specs.CatalogViews.{virtual_view}
 use Rattle.td_catalog.specs.Database.{Database, database_scope, with_constraints, with_virtuals}
-use Rattle.td_catalog.specs.Legality.{IsLegal}
+use Rattle.td_catalog.specs.TypedDatabases.{IsTyped}
 use Rattle.td_catalog.proofs.Reached.{next_known, next_new, none_past, row_at, rows_counted}
 use Rattle.td_catalog.proofs.catalog.Catalog.known_relvars.Goals as goal
 use Rattle.td_check.specs.Scopes.{known_relvar, with_known_relvar}
@@ -22,7 +22,7 @@ with_relvar-requires g c =
       new =
           ap (λ s. not (is_some (known_relvar s c.in_ok-try_clone.field-0))) (c.scope.view_is ∙ c.loop-place.invariant)
           ∙ ap (λ n. not (is_some (known_relvar (database_scope (with_virtuals (take c.loop-place.place db.virtuals) db)) n))) c.in_ok-try_clone.ensures
-          ∙ next_new db c.loop-place.place (virtual_view (c.in-Some.name.now, c.in-Some.entry.now)) (subst IsLegal c.self.view_is c.self.invariant.legal) at;
+          ∙ next_new db c.loop-place.place (virtual_view (c.in-Some.name.now, c.in-Some.entry.now)) (subst IsTyped c.self.view_is c.self.invariant.is_typed) at;
     }
 
 pub loop-place-preserved : goal.loop-place-preserved

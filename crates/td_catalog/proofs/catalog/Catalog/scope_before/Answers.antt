@@ -1,7 +1,7 @@
 use Rattle.std.proofs.Common.{◌++◌, ◌∙◌, ap, map, refl, subst, take}
 use Rattle.std.specs.Prelude.{not}
 use Rattle.td_catalog.specs.Database.{constraint_names, known_base, known_virtual}
-use Rattle.td_catalog.specs.Legality.{IsLegal}
+use Rattle.td_catalog.specs.TypedDatabases.{IsTyped}
 use Rattle.td_catalog.proofs.Reached.{AreReached, constraints_named, names_reached_all, names_reached_new, names_reached_next, names_reached_none}
 use Rattle.td_catalog.proofs.catalog.Catalog.scope_before.Goals as goal
 use Rattle.td_check.specs.Scopes.{knows_constraint}
@@ -20,8 +20,8 @@ with_constraint-requires g c =
     let db = c.args.self.now in
     let relvars = map known_base db.bases ++ map known_virtual (take c.args.count db.virtuals) in
     let reached = subst (AreReached db.types relvars (constraint_names db) c.loop-name.scope) c.in-Some.ensures.steps c.loop-name.invariant.2 in
-    let legal = subst IsLegal c.self.view_is c.self.invariant.legal in
-    let new = names_reached_new db.types relvars (constraint_names db) c.loop-name.scope _ _ reached legal.constraints_distinct in
+    let is_typed = subst IsTyped c.self.view_is c.self.invariant.is_typed in
+    let new = names_reached_new db.types relvars (constraint_names db) c.loop-name.scope _ _ reached is_typed.constraints_distinct in
     record { new = ap (λ n. not (knows_constraint c.loop-name.scope n)) c.in_ok-try_clone.ensures ∙ new }
 
 pub loop-name-preserved : goal.loop-name-preserved

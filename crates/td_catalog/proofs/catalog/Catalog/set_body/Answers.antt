@@ -2,7 +2,7 @@ use Rattle.std.proofs.Common.{◌∙◌, IfSome, ap, refl, subst, sym, true≢fa
 use Rattle.std.specs.Prelude.{is_some}
 use Rattle.td_catalog.specs.CatalogViews.{Rows, IsBodyOf, base_view}
 use Rattle.td_catalog.specs.Database.{BaseRelvar, Database, base_named, with_body}
-use Rattle.td_catalog.specs.Legality.{AreTyped}
+use Rattle.td_catalog.specs.TypedDatabases.{AreTyped}
 use Rattle.td_catalog.proofs.Changes.{catalog_with_body, view_with_body}
 use Rattle.td_catalog.proofs.Places.{place_is}
 use Rattle.td_catalog.proofs.Rows.{unnamed}
@@ -19,7 +19,7 @@ invariant_of-self g c =
     (subst (λ (db : Database). IfSome (base_named c.args.name.now db) (λ r. IsBodyOf r.relation.heading r.keys (relation c.args.body) (keys c.args.body)))
     (sym c.self.view_is) c.requires.body)
     c.len.ensures.valid
-    (subst (λ (db : Database). AreTyped db.types (relation c.args.body)) (sym c.self.view_is) c.requires.typed) c.requires.hold
+    (subst (λ (db : Database). AreTyped db.types (relation c.args.body)) (sym c.self.view_is) c.requires.typed)
 
 pub returns-in-Some : goal.returns-in-Some
 returns-in-Some g c =

@@ -15,7 +15,7 @@ pub constraint_mentions-requires : goal.constraint_mentions-requires
 constraint_mentions-requires g c =
     let name = c.args.name.now in
     let db = database_view g.B.Body.relation (record { types = c.self.inside.types; bases = c.self.inside.bases.entries; virtuals = c.self.inside.virtuals.entries; constraints = c.self.inside.constraints.entries }) in
-    components_distinct db c.self.invariant.legal c.loop-place.place c.in-Some.entry.now (sym c.in-Some.ensures)
+    components_distinct db c.self.invariant.is_typed c.loop-place.place c.in-Some.entry.now (sym c.in-Some.ensures)
 
 pub returns-then-components_name_user : goal.returns-then-components_name_user
 returns-then-components_name_user g c =
@@ -26,7 +26,7 @@ returns-then-components_name_user g c =
     let at = ap (λ (d : Database). slice_get d.types c.loop-place.place) (sym c.self.view_is) ∙ sym c.in-Some.ensures in
     let made = c.components_name_user.ensures ∙ ap (λ xs. any_names_user name (pack xs)) c.components.ensures in
     let d = c.in-Some.entry.now in
-    let typed = condition_typed db c.self.invariant.legal c.loop-place.place d (sym c.in-Some.ensures) in
+    let typed = condition_typed db c.self.invariant.is_typed c.loop-place.place d (sym c.in-Some.ensures) in
     passes_at (type_mentions_type name) c.args.self.now.types c.loop-place.place d at
     (elim c.then-components_name_user.branch [
       | then-components_name_user-via-then-components_name_user w ↦ ap (λ b. b || condition_mentions_type name d.constraint) (sym made ∙ w.if-components_name_user.true)
@@ -39,7 +39,7 @@ loop-place-preserved g c =
     let db = database_view g.B.Body.relation (record { types = c.self.inside.types; bases = c.self.inside.bases.entries; virtuals = c.self.inside.virtuals.entries; constraints = c.self.inside.constraints.entries }) in
     let at = ap (λ (d : Database). slice_get d.types c.loop-place.place) (sym c.self.view_is) ∙ sym c.in-Some.ensures in
     let made = c.components_name_user.ensures ∙ ap (λ xs. any_names_user name (pack xs)) c.components.ensures in
-    let mentioned = c.in_ok-constraint_mentions.ensures (condition_typed db c.self.invariant.legal c.loop-place.place c.in-Some.entry.now (sym c.in-Some.ensures)) in
+    let mentioned = c.in_ok-constraint_mentions.ensures (condition_typed db c.self.invariant.is_typed c.loop-place.place c.in-Some.entry.now (sym c.in-Some.ensures)) in
     none_next (type_mentions_type name) c.args.self.now.types c.loop-place.place c.in-Some.entry.now at c.loop-place.invariant
     (λ i. (sym made ∙ c.if-components_name_user.false) i || (sym mentioned ∙ c.if-branch.false) i)
 

@@ -1,10 +1,10 @@
 use Rattle.std.proofs.Common.{Err, ◌≡◌, ◌∙◌, ap, subst, sym}
 use Rattle.td_catalog.specs.Database.{Database}
-use Rattle.td_engine.proofs.Answered.{admitted_effect, changed_sound, denied_does, ok_does}
+use Rattle.td_engine.proofs.Answered.{admitted_effect, changed_legal, denied_does, ok_does}
 use Rattle.td_engine.proofs.Turning.{ok_map}
 use Rattle.td_engine.specs.Carried.{Changes, IsDenied}
 use Rattle.td_engine.specs.Machine.{Accepted, carried_out, effect, ok_text, step_of}
-use Rattle.td_engine.specs.Soundness.{IsSound}
+use Rattle.td_engine.specs.Legality.{IsLegal}
 use Rattle.td_engine.specs.Steps.{Does}
 use Rattle.td_tree.specs.TreeViews.{statement_view}
 use Rattle.td_engine.proofs.present.Present.change.Goals as goal
@@ -14,7 +14,7 @@ invariant_of-self g c =
     let db = c.args.self.now in
     let s = statement_view c.args.statement in
     let accepted : carried_out db s ≡ Accepted c.in-Ok.next ok_text = ap (λ d. carried_out d s) (sym c.self.view_is) ∙ c.in-Ok.ensures c.requires.change in
-    changed_sound db c.in-Ok.next s (subst IsSound c.self.view_is c.self.invariant) c.requires.admitted c.requires.written accepted c.reveal.ensures
+    changed_legal db c.in-Ok.next s (subst IsLegal c.self.view_is c.self.invariant) c.requires.admitted accepted
 
 pub returns-in_ok-answer-in-Ok-clause-done : goal.returns-in_ok-answer-in-Ok-clause-done
 returns-in_ok-answer-in-Ok-clause-done g c =
@@ -24,12 +24,12 @@ returns-in_ok-answer-in-Ok-clause-done g c =
     ok_does c.in_ok-answer-in-Ok.answer db c.in-Ok.next (effect db s) (admitted_effect db s c.requires.admitted ∙ accepted) c.in_ok-answer-in-Ok.ensures.flag
     c.in_ok-answer-in-Ok.ensures.text
 
-pub returns-in_ok-answer-in-Ok-clause-sound : goal.returns-in_ok-answer-in-Ok-clause-sound
-returns-in_ok-answer-in-Ok-clause-sound g c =
+pub returns-in_ok-answer-in-Ok-clause-legal : goal.returns-in_ok-answer-in-Ok-clause-legal
+returns-in_ok-answer-in-Ok-clause-legal g c =
     let db = c.args.self.now in
     let s = statement_view c.args.statement in
     let accepted : carried_out db s ≡ Accepted c.in-Ok.next ok_text = ap (λ d. carried_out d s) (sym c.self.view_is) ∙ c.in-Ok.ensures c.requires.change in
-    changed_sound db c.in-Ok.next s (subst IsSound c.self.view_is c.self.invariant) c.requires.admitted c.requires.written accepted c.reveal.ensures
+    changed_legal db c.in-Ok.next s (subst IsLegal c.self.view_is c.self.invariant) c.requires.admitted accepted
 
 pub returns-in-Err-clause-done : goal.returns-in-Err-clause-done
 returns-in-Err-clause-done g c =

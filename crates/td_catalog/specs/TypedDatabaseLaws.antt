@@ -1,0 +1,48 @@
+-- Laws of typed databases: which changes keep one typed.
+use Rattle.std.specs.Prelude.{◌≡◌, ℕ, List, IsTrue, Some, not}
+use Rattle.td_catalog.specs.Database.{BaseRelvar, Database, NamedConstraint, VirtualRelvar, base_named, base_relvar, database_scope, empty_database, knows_constraint, knows_relvar, with_base, with_body, with_constraint, with_declared, with_virtual, without_constraint, without_relvar, without_type}
+use Rattle.td_catalog.specs.Mentioned.{is_relvar_in_use, is_type_in_use}
+use Rattle.td_catalog.specs.TypedDatabases.{IsConstrained, IsTyped, IsTypedBase, IsTypedConstraint, IsTypedVirtual}
+use Rattle.td_tree.specs.Names.{IsName}
+use Rattle.td_types.specs.TypeLists.{DeclaredType, IsDeclarable}
+use Rattle.td_value.specs.Values.{Relation}
+
+-- a database in which nothing is defined
+abbrev pub EmptyDatabaseIsTyped : Type 0
+EmptyDatabaseIsTyped = IsTyped empty_database
+
+-- one more type, that can be declared after the others and is constrained where they are declared
+abbrev pub TypesKeepTyped : Type 0
+TypesKeepTyped =
+    (db : Database) (d : DeclaredType) → IsTyped db → IsDeclarable db.types d → IsConstrained db.types d → IsTyped (with_declared d db)
+
+-- one more base relvar, of a name that no relvar has
+abbrev pub BaseRelvarsKeepTyped : Type 0
+BaseRelvarsKeepTyped =
+    (db : Database) (r : BaseRelvar) → IsTyped db → IsName r.name → IsTrue (not (knows_relvar r.name db)) → IsTypedBase db.types r
+    → IsTyped (with_base r db)
+
+-- one more virtual relvar, of a name that no relvar has
+abbrev pub VirtualRelvarsKeepTyped : Type 0
+VirtualRelvarsKeepTyped =
+    (db : Database) (v : VirtualRelvar) → IsTyped db → IsName v.name → IsTrue (not (knows_relvar v.name db))
+    → IsTypedVirtual (database_scope db) v → IsTyped (with_virtual v db)
+
+-- one more constraint, of a name that no constraint has
+abbrev pub ConstraintsKeepTyped : Type 0
+ConstraintsKeepTyped =
+    (db : Database) (c : NamedConstraint) → IsTyped db → IsName c.name → IsTrue (not (knows_constraint c.name db))
+    → IsTypedConstraint (database_scope db) c → IsTyped (with_constraint c db)
+
+-- another relation in a base relvar, of the same heading
+abbrev pub BodiesKeepTyped : Type 0
+BodiesKeepTyped =
+    (db : Database) (name : List ℕ) (relation : Relation) → IsTyped db
+    → ((r : BaseRelvar) → base_named name db ≡ Some r → (relation.heading ≡ r.relation.heading) × IsTypedBase db.types (base_relvar name r.keys relation))
+    → IsTyped (with_body name relation db)
+
+-- one entry less, that no entry mentions
+pub record DropsKeepTyped : Type 0 where
+  pub type : (db : Database) (name : List ℕ) → IsTyped db → IsTrue (not (is_type_in_use name db)) → IsTyped (without_type name db)
+  pub relvar : (db : Database) (name : List ℕ) → IsTyped db → IsTrue (not (is_relvar_in_use name db)) → IsTyped (without_relvar name db)
+  pub constraint : (db : Database) (name : List ℕ) → IsTyped db → IsTyped (without_constraint name db)
