@@ -1,6 +1,2 @@
-//! Plans that mean what an expression means are to come. Of the crate stand the tests of the crates below it, all in one place,
-//! since a crate with tests is proved twice, with them and without.
+//! Plans that mean what an expression means are to come: the crate has no code yet.
 #![tactic(auto)]
-
-#[cfg(test)]
-mod tests;
