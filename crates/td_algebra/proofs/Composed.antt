@@ -4,8 +4,8 @@ use Rattle.std.specs.Prelude.{◌&&◌, ◌||◌, not, if◌then◌else◌, is_s
 use Rattle.std.specs.List.{All, Contains}
 use Rattle.std.proofs.lemmas.List.Elements.{All-contains}
 use Rattle.std.proofs.lemmas.List.Folds.{list_any-append}
-use Rattle.td_types.specs.Headings.{are_distinct, has_attribute, has_name, heading_union, outside, projection}
-use Rattle.td_types.specs.Types.{IsAscending, same_name, type_at}
+use Rattle.td_types.specs.Headings.{agree, are_distinct, has_attribute, has_name, heading_union, outside, projection}
+use Rattle.td_types.specs.Types.{Heading, IsAscending, same_name, type_at}
 use Rattle.td_types.proofs.HeadingLaws.{IsAscending-filter, IsAscending-projection, IsAscending-union, has_attribute-names, type_at-outside, type_at-projection, type_at-union, types_determine_heading}
 use Rattle.td_value.specs.Sets.{set_of}
 use Rattle.td_value.specs.Values.{Val, HaveSameMembers, IsTuple, IsTupleOf, Relation, Tuple, projected_tuple, tuple_cmp, tuple_names, value_at}
@@ -16,10 +16,12 @@ use Rattle.td_value.proofs.Members.{set_members}
 use Rattle.td_algebra.specs.Operators.{are_partners, composition, join, own_names, united_tuple}
 use Rattle.td_algebra.specs.Pairs.{paired_tuple, pairs_with, partners_paired}
 use Rattle.td_algebra.proofs.Entries.{IsTuple-tuple_of, distinct_append, fields_append, has_name-heading, has_value, no_value_outside, tuple_distinct, value_at-append}
-use Rattle.td_algebra.proofs.Joined.{pair_members, sets_alike}
+use Rattle.td_algebra.proofs.Joined.{apart_agree, pair_members, sets_alike}
 use Rattle.td_algebra.proofs.Lists.{contains_map}
 use Rattle.td_algebra.proofs.Projections.{IsTupleOf-projected}
+use Rattle.td_algebra.proofs.Members.{first_true}
 use Rattle.td_algebra.proofs.Relations.{All-from_members}
+use Rattle.td_algebra.proofs.Settings.{none_left}
 use Rattle.td_algebra.proofs.Sources.{has_attribute-outside}
 use Rattle.td_algebra.proofs.United.{IsTupleOf-united, value_at-united}
 
@@ -168,3 +170,9 @@ module _ (r s : Relation) (rows : List Tuple) (firsts : All (IsTupleOf r.heading
 
   pub composed_set : set_of tuple_cmp rows ≡ (composition r s).body
   composed_set = sets_alike rows (map (projected_tuple (either_names r s)) (join r s).body) same_composed
+
+-- what each of two headings has alone has no name in common
+pub rests_agree : (g h : Heading) → agree (outside h g) (outside g h) ≡ true
+rests_agree g h =
+    apart_agree (outside h g) (outside g h)
+    (none_left (outside h g) g h (λ n there. first_true (has_attribute n g) (not (has_attribute n h)) (sym (has_attribute-outside h g n) ∙ there)))

@@ -1,24 +1,19 @@
 -- The extended tuples of a relation.
 use Rattle.std.proofs.Common.{◌≡◌, ◌∙◌, ◌+◌, ◌<◌, ◌≤◌, ap, drop, take, sym, refl, subst, arith, ℕ, zero, suc, Bool, true, false, cond, List, [], ◌∷◌, ◌++◌, Some, filter, get_or, length, map, true≢false}
-use Rattle.std.specs.Prelude.{if◌then◌else◌, is_some, not, option_map, Result, Ok}
+use Rattle.std.specs.Prelude.{if◌then◌else◌, is_some, not, option_map}
 use Rattle.std.specs.declared.cmp.Ordering.TheVariants.{Less, Greater}
 use Rattle.std.specs.Ordering.{eq_by_cmp, ordering_reverse}
 use Rattle.std.specs.List.Sorted.{IsStrictlySortedBy}
 use Rattle.std.proofs.lemmas.Cmp.{tied_itself}
 use Rattle.std.proofs.lemmas.List.Sorted.{All-permutation}
-use Rattle.std.proofs.lemmas.Result.{IfOk-at_ok}
-use Rattle.td_tree.specs.Outcomes.{Answers}
-use Rattle.td_tree.specs.declared.cause.Cause.TheVariants as causes
-use Rattle.td_tree.specs.declared.fault.Fault.{Fault}
 use Rattle.std.specs.Cmp.Lexicographic.{same_text}
 use Rattle.std.specs.List.{All, AllByRecursion, Contains, zip}
 use Rattle.std.specs.List.Sorted.{IsPermutation}
 use Rattle.std.proofs.lemmas.List.{append-nil, at_drop_more, drop_all, length-append, length-map, map-append, take_more}
 use Rattle.std.proofs.lemmas.List.Elements.{All-append, All-from_recursion, All-map, recursion_from_All}
-use Rattle.td_types.specs.Headings.{add_missing, are_distinct, extended_heading, has_attribute, has_name, have_no_common, heading_union, outside, with_attribute}
-use Rattle.td_types.specs.Types.{Attribute, Heading, IsHeading, Type', attribute_names, pack, same_name, type_at}
+use Rattle.td_types.specs.Headings.{add_missing, are_distinct, has_attribute, has_name, have_no_common, heading_union, outside}
+use Rattle.td_types.specs.Types.{Heading, IsHeading, Type', attribute_names, pack, same_name, type_at}
 use Rattle.td_types.specs.Views.{type_view}
-use Rattle.td_types.proofs.Valued.{test_holds}
 use Rattle.td_types.proofs.DistinctNames.{first_of, second_of}
 use Rattle.td_types.proofs.HeadingLaws.{has_attribute-names, same_name-itself, type_at-union}
 use Rattle.td_value.specs.Agreement.{AgreeOn}
@@ -37,7 +32,7 @@ use Rattle.td_algebra.proofs.Entries.{as_many, distinct_append, heading_distinct
 use Rattle.td_algebra.proofs.Lists.{all_kept, contains_map}
 use Rattle.td_algebra.proofs.Relations.{member_headed}
 use Rattle.td_algebra.proofs.Sources.{names_outside, outside_in_range, taken-append, taken_outside}
-use Rattle.td_algebra.proofs.Taken.{headed_by, map_alike, names_numbered, numbered_in_range, taken_numbered, value_of_answer}
+use Rattle.td_algebra.proofs.Taken.{headed_by, map_alike, names_numbered, numbered_in_range, taken_numbered}
 
 -- ---- the new entries
 
@@ -232,16 +227,6 @@ extension_members bs r t p new q = (some_extended, extends)
 
 pub item_first : {X : Type 0} (xs : List X) (i : ℕ) (x : X) → i < length xs → x ≡ get_or xs i x → drop i xs ≡ x ∷ drop (i + 1) xs
 item_first xs i x h e = at_drop_more (λ r. r) xs i x h ∙ ap (λ y. y ∷ drop (i + 1) xs) (sym e)
-
--- a heading takes one more attribute of a name that it lacks
-pub with_is_missing : (r : Result Heading Fault) (h x : Heading) (a : Attribute) → Answers (λ v. v) r (extended_heading h a) → r ≡ Ok x → x ≡ add_missing h a
-with_is_missing r h x a ans e = by_test (has_attribute a.0 h) refl
-  where
-    by_test : (b : Bool) → has_attribute a.0 h ≡ b → x ≡ add_missing h a
-    by_test true there =
-        let lacking : not (has_attribute a.0 h) ≡ true = IfOk-at_ok (λ v. not (has_attribute a.0 h) ≡ true) e (test_holds (λ v. v) r (with_attribute h a) (not (has_attribute a.0 h)) causes.Heading ans) in
-        absurd (true≢false (sym (rw there at lacking)))
-    by_test false there = value_of_answer r x (with_attribute h a) (not (has_attribute a.0 h)) causes.Heading ans e ∙ rw there refl
 
 pub names_of_all : (h : Heading) → attribute_names (outside [] h) ≡ attribute_names h
 names_of_all [] = refl

@@ -19,7 +19,6 @@ ghost use Rattle.td_value.specs.Values.{relation_of};
 ghost use Rattle.td_value.specs.Views.{values_of};
 
 use crate::layout::{Layout, put_names, put_sources};
-use crate::want::unrefused;
 use std::alloc::{AllocError, Global};
 use td_tree::name::Name;
 use td_types::heading::Heading;
@@ -57,7 +56,7 @@ pub(crate) fn heading_with(
 {
     let mut extended = heading.try_clone()?;
     for (name, column) in columns {
-        extended = unrefused(extended.with(name.try_clone()?, column.ty.try_clone()?))?;
+        extended = extended.add(name.try_clone()?, column.ty.try_clone()?)?;
     }
     Ok(extended)
 }
@@ -73,6 +72,7 @@ pub(crate) fn extended_layout(
     ensures { IfOk result (λ layout.
         IsPermutation (sources_with part.now heading.now names.now) layout) }
 {
+    heading.reveal();
     let mut sources = Vec::new(alloc);
     put_sources(&mut sources, heading, 0, part)?;
     put_names(&mut sources, names, heading.len())?;
@@ -170,9 +170,9 @@ pub fn extend_all(alloc: Global, rel: &Rel, columns: Vec<(Name, Column)>) -> Res
         → IfOk result (λ r. r ≡ extended_relation additions rel.now) }
 {
     let old = rel.heading();
-    let _ = old.len();
+    old.reveal();
     let heading = heading_with(old, &columns)?;
-    let _ = heading.len();
+    heading.reveal();
     let names = names_of(alloc, &columns)?;
     let nothing = Heading::empty(alloc);
     let layout = extended_layout(alloc, &nothing, old, &names)?;

@@ -1,5 +1,5 @@
 //! JOIN, TIMES and COMPOSE.
-ghost use Rattle.std.specs.Prelude.{◌≡◌, ◌++◌, IfOk, IsTrue, OnOk, filter, map};
+ghost use Rattle.std.specs.Prelude.{◌≡◌, ◌+◌, ◌<◌, ◌^◌, ◌++◌, IfOk, IsTrue, OnOk, filter, length, map};
 ghost use Rattle.std.specs.List.{All};
 ghost use Rattle.std.specs.List.Sorted.{IsPermutation};
 ghost use Rattle.td_types.specs.Headings.{agree, have_no_common};
@@ -12,9 +12,9 @@ ghost use Rattle.td_algebra.specs.Pairs.{partners_paired};
 
 use crate::layout::{Layout, put_sources};
 use crate::partners::{grouped, key_layout, key_of};
-use crate::want::unrefused;
 use std::alloc::{AllocError, Global};
 use std::collections::HashMap;
+use td_tree::fault::unrefused;
 use td_types::heading::Heading;
 use td_value::relation::Rel;
 use td_value::tuple::Tuple;
@@ -109,11 +109,13 @@ fn pair_layout(
     other: &Heading,
     other_start: usize,
 ) -> Result<Layout, AllocError>
+    requires own { start + length heading.now < 2 ^ 64 }
+    requires other { other_start + length other.now < 2 ^ 64 }
     ensures { IfOk result (λ layout. IsPermutation
         (pair_sources left_out.now start heading.now other_start other.now) layout) }
 {
-    let _ = heading.len();
-    let _ = other.len();
+    heading.reveal();
+    other.reveal();
     let mut sources = Vec::new(alloc);
     put_sources(&mut sources, heading, start, left_out)?;
     put_sources(&mut sources, other, other_start, heading)?;
@@ -134,6 +136,8 @@ fn pairs_from_first(
     let others = other.heading();
     let _ = rel.rows();
     let _ = other.rows();
+    heading.reveal();
+    others.reveal();
     let layout = pair_layout(alloc, left_out, heading, 0, others, heading.len())?;
     partner_pairs(alloc, rel, other, &layout)
 }
@@ -152,6 +156,8 @@ fn pairs_from_second(
     let others = other.heading();
     let _ = rel.rows();
     let _ = other.rows();
+    heading.reveal();
+    others.reveal();
     let layout = pair_layout(alloc, left_out, heading, others.len(), others, 0)?;
     partner_pairs(alloc, other, rel, &layout)
 }
@@ -201,7 +207,7 @@ pub fn compose(alloc: Global, rel: &Rel, other: &Rel) -> Result<Rel, AllocError>
 {
     let _ = rel.rows();
     let _ = other.rows();
-    let _ = rel.heading().len();
+    rel.heading().reveal();
     let own = rel.heading().lacking(other.heading())?;
     let others = other.heading().lacking(rel.heading())?;
     let heading = unrefused(own.union(&others))?;

@@ -1,5 +1,5 @@
 //! Where the values of a result's tuples come from.
-ghost use Rattle.std.specs.Prelude.{◌≡◌, ◌↔◌, ◌+◌, ◌<◌, ◌++◌, IfOk, IsTrue, OnOk, Some, length};
+ghost use Rattle.std.specs.Prelude.{◌≡◌, ◌↔◌, ◌+◌, ◌<◌, ◌^◌, ◌++◌, IfOk, IsTrue, OnOk, Some, length};
 ghost use Rattle.std.specs.Prelude.{map};
 ghost use Rattle.std.specs.List.{All, slice_get};
 ghost use Rattle.std.specs.List.Sorted.{IsPermutation};
@@ -137,13 +137,6 @@ impl Layout {
     }
 }
 
-/// The place that stands so many after the start. A place past all numbers would need such memory.
-fn place_after(start: usize, index: usize) -> Result<usize, AllocError>
-    ensures { IfOk result (λ place. place ≡ start + index) }
-{
-    start.checked_add(index).ok_or(AllocError)
-}
-
 /// Puts the name with its place after the others, unless the part has an attribute of the name.
 fn put_source(
     sources: &mut Vec<(Name, usize)>,
@@ -166,12 +159,12 @@ pub(crate) fn put_names(
     names: &[Name],
     start: usize,
 ) -> Result<(), AllocError>
+    requires { start + length names.now < 2 ^ 64 }
     ensures { OnOk result (sources.new.items
         ≡ sources.old.items ++ numbered_sources start names.now) }
 {
     for index in 0..names.len() {
-        let place = place_after(start, index)?;
-        sources.push((names[index].try_clone()?, place))?;
+        sources.push((names[index].try_clone()?, start + index))?;
     }
     Ok(())
 }
@@ -184,13 +177,13 @@ pub(crate) fn put_sources(
     start: usize,
     part: &Heading,
 ) -> Result<(), AllocError>
+    requires { start + length heading.now < 2 ^ 64 }
     ensures { OnOk result (sources.new.items
         ≡ sources.old.items ++ sources_outside part.now start heading.now) }
 {
     for index in 0..heading.len() {
-        let place = place_after(start, index)?;
         if let Some((name, _)) = heading.at(index) {
-            put_source(sources, name, place, part)?;
+            put_source(sources, name, start + index, part)?;
         }
     }
     Ok(())
@@ -205,7 +198,7 @@ pub(crate) fn kept_layout(
     ensures { IfOk result (λ layout. IsPermutation
         (sources_outside (outside kept.now heading.now) 0 heading.now) layout) }
 {
-    let _ = heading.len();
+    heading.reveal();
     let dropped = heading.lacking(kept)?;
     let mut sources = Vec::new(alloc);
     put_sources(&mut sources, heading, 0, &dropped)?;

@@ -12,4 +12,3 @@ pub mod restriction;
 pub mod semijoins;
 pub mod sets;
 pub mod setting;
-mod want;

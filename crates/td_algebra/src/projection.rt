@@ -9,9 +9,9 @@ ghost use Rattle.td_value.specs.Values.{HaveSameMembers};
 ghost use Rattle.td_value.specs.Views.{values_of};
 
 use crate::layout::{Layout, kept_layout};
-use crate::want::unrefused;
 use std::alloc::{AllocError, Global};
 use std::collections::HashMap;
+use td_tree::fault::unrefused;
 use td_tree::name::Name;
 use td_value::relation::Rel;
 use td_value::tuple::Tuple;

@@ -6,8 +6,8 @@ ghost use Rattle.td_algebra.specs.Operators.{renamed_relation};
 ghost use Rattle.td_types.specs.Headings.{can_rename, new_names};
 
 use crate::layout::{Layout, put_names};
-use crate::want::unrefused;
 use std::alloc::{AllocError, Global};
+use td_tree::fault::unrefused;
 use td_tree::name::Name;
 use td_types::heading::Heading;
 use td_value::relation::Rel;
@@ -35,7 +35,7 @@ pub fn rename(alloc: Global, rel: &Rel, renamings: &[(Name, Name)]) -> Result<Re
     ensures { IfOk result (λ r. r ≡ renamed_relation renamings.now rel.now) }
 {
     let heading = unrefused(rel.heading().rename(renamings))?;
-    let _ = heading.len();
+    heading.reveal();
     let layout = renamed_layout(alloc, rel.heading(), renamings)?;
     let rows = layout.tuples(alloc, rel.rows())?;
     Rel::new(heading, rows)

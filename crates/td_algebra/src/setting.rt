@@ -24,12 +24,12 @@ pub fn set_all(alloc: Global, rel: &Rel, columns: Vec<(Name, Column)>) -> Result
         → IfOk result (λ r. r ≡ set_relation additions rel.now) }
 {
     let old = rel.heading();
-    let _ = old.len();
+    old.reveal();
     let nothing = Heading::empty(alloc);
     let set = heading_with(&nothing, &columns)?;
     let others = old.lacking(&set)?;
     let heading = heading_with(&others, &columns)?;
-    let _ = heading.len();
+    heading.reveal();
     let names = names_of(alloc, &columns)?;
     let layout = extended_layout(alloc, &set, old, &names)?;
     let rows = extended_rows(alloc, rel.rows(), &columns, &layout)?;

@@ -42,7 +42,7 @@ impl Body for SortedBody {
     }
 
     fn len(&self) -> usize {
-        let _ = self.relation.heading().len();
+        self.relation.heading().reveal();
         self.relation.rows().len()
     }
 

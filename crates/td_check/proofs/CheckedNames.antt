@@ -1,5 +1,5 @@
 -- The names that an expression mentions by those of its parts.
-use Rattle.std.proofs.Common.{◌≡◌, ◌∙◌, ◌++◌, ℕ, List, [], Result, Ok, Err, ap, refl, sym}
+use Rattle.std.proofs.Common.{◌≡◌, ◌∙◌, ◌++◌, ℕ, List, [], Result, Ok, Err, ap, sym}
 use Rattle.std.proofs.lemmas.List.{append-nil, append_assoc}
 use Rattle.std.specs.Prelude.{OnOk}
 use Rattle.td_check.specs.Both.{both_answers}
@@ -8,10 +8,8 @@ use Rattle.td_check.specs.Mentions.{relvars_in, types_in}
 use Rattle.td_check.specs.Scopes.{Scope}
 use Rattle.td_check.proofs.Gives.{Gives, both_there, held_of_parts, weaker}
 use Rattle.td_tree.specs.declared.fault.Fault.{Fault}
-use Rattle.td_tree.specs.declared.operator.Operator.{Operator}
-use Rattle.td_tree.specs.declared.operator.Operator.TheVariants as operators
 use Rattle.td_tree.specs.Outcomes.{Outcome}
-use Rattle.td_tree.specs.Trees.{Tree, binary}
+use Rattle.td_tree.specs.Trees.{Tree}
 
 pub no_names : (n : Names) → n ≡ with_names n [] []
 no_names n = sym (λ i. (append-nil n.0 i, append-nil n.1 i))
@@ -48,23 +46,3 @@ names_held view x f next z n l r t gives h = held_of_parts (l ≡ with_names n r
 pub known_names : {Z : Type 0} (P : Type 0) (z : Result Z Fault) → P → OnOk z P
 known_names P (Ok z) p = p
 known_names P (Err e) p = tt
-
--- an operator but WHERE mentions what its operands do
-pub binary_mentions : (scope : Scope) (op : Operator) (left right : Tree) → (op ≡ operators.Where → ⊥)
-    → relvars_in scope (binary left op right) ≡ relvars_in scope left ++ relvars_in scope right
-binary_mentions scope operators.Where left right other = absurd (other refl)
-binary_mentions scope operators.Or left right other = refl
-binary_mentions scope operators.And left right other = refl
-binary_mentions scope operators.Union left right other = refl
-binary_mentions scope operators.Intersect left right other = refl
-binary_mentions scope operators.Minus left right other = refl
-binary_mentions scope operators.Join left right other = refl
-binary_mentions scope operators.Compose left right other = refl
-binary_mentions scope operators.Matching left right other = refl
-binary_mentions scope operators.NotMatching left right other = refl
-binary_mentions scope operators.Times left right other = refl
-binary_mentions scope operators.Add left right other = refl
-binary_mentions scope operators.Subtract left right other = refl
-binary_mentions scope operators.Multiply left right other = refl
-binary_mentions scope operators.Divide left right other = refl
-binary_mentions scope operators.Concatenate left right other = refl

@@ -5,37 +5,14 @@ use Rattle.td_check.specs.Both.{both_answers}
 use Rattle.td_check.specs.CheckViews.{Added, choice_of, headed_view, by_summary, per_summary, three_types_view, types_view}
 use Rattle.td_check.specs.OperatorTypes as own
 use Rattle.td_check.specs.OperatorTypes.{comparison_type, extension_type, headed_type, operator_type, over_relation}
-use Rattle.td_check.specs.Scopes.{Scope}
-use Rattle.td_check.specs.StaticTypes.{paired, type_of}
+use Rattle.td_check.specs.StaticTypes.{paired}
 use Rattle.td_check.proofs.Gives.{Gives, answers_paired, paired_first, with_pair}
 use Rattle.td_tree.specs.declared.fault.Fault.{Fault}
-use Rattle.td_tree.specs.declared.operator.Operator.{Operator}
-use Rattle.td_tree.specs.declared.operator.Operator.TheVariants as operators
 use Rattle.td_tree.specs.Outcomes.{Answers, Outcome, Valued, Refused, with_both, with_value}
-use Rattle.td_tree.specs.Trees.{Attributes, Tree, binary}
+use Rattle.td_tree.specs.Trees.{Attributes}
 use Rattle.td_types.specs.Types.{Type', boolean, integer, char, user, tuple, relation, Attribute, Heading}
 use Rattle.td_types.specs.Views.{type_view}
 use Rattle.td_types.specs.declared.ty.Ty.{Ty}
-
--- an operator but WHERE looks at both operands in the same scope
-pub binary_type : (scope : Scope) (op : Operator) (left right : Tree) → (op ≡ operators.Where → ⊥)
-    → type_of scope (binary left op right) ≡ with_both (type_of scope left) (type_of scope right) (operator_type op)
-binary_type scope operators.Where left right other = absurd (other refl)
-binary_type scope operators.Or left right other = refl
-binary_type scope operators.And left right other = refl
-binary_type scope operators.Union left right other = refl
-binary_type scope operators.Intersect left right other = refl
-binary_type scope operators.Minus left right other = refl
-binary_type scope operators.Join left right other = refl
-binary_type scope operators.Compose left right other = refl
-binary_type scope operators.Matching left right other = refl
-binary_type scope operators.NotMatching left right other = refl
-binary_type scope operators.Times left right other = refl
-binary_type scope operators.Add left right other = refl
-binary_type scope operators.Subtract left right other = refl
-binary_type scope operators.Multiply left right other = refl
-binary_type scope operators.Divide left right other = refl
-binary_type scope operators.Concatenate left right other = refl
 
 -- ---- two parts, and three
 

@@ -2,22 +2,21 @@
 use Rattle.std.proofs.Common.{◌≡◌, ◌∷◌, ℕ, List, [], ◌⊎◌, inl, inr, Option, Some, None, refl, subst}
 use Rattle.std.specs.List.{AllByRecursion, Contains}
 use Rattle.std.proofs.lemmas.List.Elements.{Contains-append_cases, Contains-append_left, Contains-append_right}
-use Rattle.td_check.specs.OperatorTypes.{Item, count_item, aggregate_item, aggregate_type, are_types_of, choice_type, comparison_type, component_type, extension_type, extracted_type, headed_type, known_or, listed_type, measure_type, mismatch, named_part, operator_type, per_heading, postfix_type, prefix_type, selector_type, summary_type, tuple_type}
+use Rattle.td_check.specs.OperatorTypes.{Item, count_item, aggregate_item, aggregate_type, are_types_of, choice_type, comparison_type, component_type, extension_type, extracted_type, headed_type, known_or, listed_type, measure_type, mismatch, named_part, operator_type, per_heading, postfix_type, prefix_type, selector_type, summary_type, tuple_type, restriction_type}
 use Rattle.td_check.specs.Scopes.{KnownRelvar, Scope, entered_with, innermost, known_relvar}
 use Rattle.td_check.specs.StaticLaws.{GiveNames, GivesNames, ItemsGiveNames, OperatorGivesNames, PartsGiveNames}
 use Rattle.td_check.specs.StaticTypes.{items_of, literal_type, name_type, named_types, paired, type_of, types_of, with_items}
 use Rattle.td_tree.specs.declared.cause.Cause.TheVariants as causes
 use Rattle.td_tree.specs.declared.operator.Operator.{Operator}
-use Rattle.td_tree.specs.declared.operator.Operator.TheVariants as operators
 use Rattle.td_tree.specs.Names.{IsName}
 use Rattle.td_tree.specs.Outcomes.{Outcome, Valued, Refused, value_if, with_both, with_value}
-use Rattle.td_tree.specs.Trees.{Literal, number, text, truth, table_dee, table_dum, Postfix, project, rename, group, ungroup, wrap, unwrap, Tree, literal, name, parentheses, prefix, extract, binary, compare, postfix, select, component, measure, aggregate, relation, headed_relation, tuple, extend, summarize_per, summarize_by, choice, Trees, none, more, NamedTrees, none_named, more_named, Summaries, no_summaries, counted, summed}
+use Rattle.td_tree.specs.Trees.{Literal, number, text, truth, table_dee, table_dum, Postfix, project, rename, group, ungroup, wrap, unwrap, Tree, literal, name, parentheses, prefix, extract, restriction, binary, compare, postfix, select, component, measure, aggregate, relation, headed_relation, tuple, extend, summarize_per, summarize_by, choice, Trees, none, more, NamedTrees, none_named, more_named, Summaries, no_summaries, counted, summed}
 use Rattle.td_types.specs.TypeLists.{DeclaredType, declared_at, heading_meant}
 use Rattle.td_types.specs.Types.{Attribute, Attrs, Heading, Type', pack, type_at, unpack}
 use Rattle.td_types.specs.Types as types
 use Rattle.td_check.proofs.AgreementLaws.{one_is, only_one}
 use Rattle.td_check.proofs.KnownLaws.{Supplies}
-use Rattle.td_check.proofs.OperatorLaws.{Fits, Gives, IsClosed, ItemFits, NewNames, aggregate_gives, choice_gives, comparison_gives, extension_gives, extracted_gives, gives_both, gives_if, gives_known, gives_with, headed_gives, listed_gives, measure_gives, operator_gives, over_relation_gives, part_gives, per_gives, postfix_gives, prefix_gives, summary_gives, tuple_gives, type_fits}
+use Rattle.td_check.proofs.OperatorLaws.{Fits, Gives, IsClosed, ItemFits, NewNames, aggregate_gives, choice_gives, comparison_gives, extension_gives, extracted_gives, gives_both, gives_if, gives_known, gives_with, headed_gives, listed_gives, measure_gives, operator_gives, over_relation_gives, part_gives, per_gives, postfix_gives, prefix_gives, restricted_gives, summary_gives, tuple_gives, type_fits}
 
 gives_value : {A : Type 0} (P : A → Type 0) (o : Outcome A) → ((x : A) → o ≡ Valued x → P x) → Gives P o
 gives_value P (Valued x) p = p x refl
@@ -122,26 +121,11 @@ module _ {G : Type' → Type 0} {H : Heading → Type 0} (c : IsClosed IsName G 
   plain_gives op left right l r s a =
       gives_both G G G (type_of s left) (type_of s right) (operator_type op) (l s a) (r s a) (operator_gives c op)
 
-  binary_gives : (op : Operator) (left right : Tree) → Part left → Part right → (s : Scope) → Supplies G H s → Gives G (type_of s (binary left op right))
-  binary_gives operators.Where left right l r s a =
-      gives_with G G (type_of s left) _ (l s a) (λ t g. over_relation_gives c G t _ g (λ h k.
-      gives_with G G (type_of (entered_with h s) right) (operator_type operators.Where t) (r (entered_with h s) (supplies_entered s a h k))
-      (λ u v. operator_gives c operators.Where t u g v)))
-  binary_gives operators.Or left right l r s a = plain_gives operators.Or left right l r s a
-  binary_gives operators.And left right l r s a = plain_gives operators.And left right l r s a
-  binary_gives operators.Union left right l r s a = plain_gives operators.Union left right l r s a
-  binary_gives operators.Intersect left right l r s a = plain_gives operators.Intersect left right l r s a
-  binary_gives operators.Minus left right l r s a = plain_gives operators.Minus left right l r s a
-  binary_gives operators.Join left right l r s a = plain_gives operators.Join left right l r s a
-  binary_gives operators.Compose left right l r s a = plain_gives operators.Compose left right l r s a
-  binary_gives operators.Matching left right l r s a = plain_gives operators.Matching left right l r s a
-  binary_gives operators.NotMatching left right l r s a = plain_gives operators.NotMatching left right l r s a
-  binary_gives operators.Times left right l r s a = plain_gives operators.Times left right l r s a
-  binary_gives operators.Add left right l r s a = plain_gives operators.Add left right l r s a
-  binary_gives operators.Subtract left right l r s a = plain_gives operators.Subtract left right l r s a
-  binary_gives operators.Multiply left right l r s a = plain_gives operators.Multiply left right l r s a
-  binary_gives operators.Divide left right l r s a = plain_gives operators.Divide left right l r s a
-  binary_gives operators.Concatenate left right l r s a = plain_gives operators.Concatenate left right l r s a
+  restriction_gives : (operand condition : Tree) → Part operand → Part condition → (s : Scope) → Supplies G H s → Gives G (type_of s (restriction operand condition))
+  restriction_gives operand condition l r s a =
+      gives_with G G (type_of s operand) _ (l s a) (λ t g. over_relation_gives c G t _ g (λ h k.
+      gives_with G G (type_of (entered_with h s) condition) (restriction_type t) (r (entered_with h s) (supplies_entered s a h k))
+      (λ u v. restricted_gives c t u g)))
 
   -- the operand's heading and the items, where there are some
   abbrev SomeFit : Option (Heading × List (List ℕ × Item)) → Type 0
@@ -175,7 +159,8 @@ module _ {G : Type' → Type 0} {H : Heading → Type 0} (c : IsClosed IsName G 
     gives (parentheses inner) n s a = gives inner n s a
     gives (prefix op operand) n s a = gives_with G G (type_of s operand) (prefix_type op) (gives operand n s a) (prefix_gives c op)
     gives (extract m operand) n s a = gives_with G G (type_of s operand) (extracted_type m) (gives operand n s a) (extracted_gives c m)
-    gives (binary left op right) n s a = binary_gives op left right (gives left n.0) (gives right n.1) s a
+    gives (restriction operand condition) n s a = restriction_gives operand condition (gives operand n.0) (gives condition n.1) s a
+    gives (binary left op right) n s a = plain_gives op left right (gives left n.0) (gives right n.1) s a
     gives (compare left op right) n s a =
         gives_both G G G (type_of s left) (type_of s right) (comparison_type op) (gives left n.0 s a) (gives right n.1 s a)
         (λ t u _ _. comparison_gives c op t u)

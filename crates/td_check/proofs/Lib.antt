@@ -21,9 +21,11 @@ pub mod MentionedTypeLaws
 pub mod NameSets
 pub mod NamedTypes
 pub mod OperatorLaws
+pub mod Refusals
 pub mod ScopeLaws
 pub mod Scopes
 pub mod StatementAnswers
+pub mod StaticCauses
 pub mod StaticLaws
 pub mod SummaryLaws
 pub mod UserTypeLaws

@@ -4,20 +4,19 @@ use Rattle.std.specs.Prelude.{IsTrue, ⊤}
 use Rattle.std.specs.List.{AllByRecursion}
 use Rattle.std.proofs.lemmas.List.Elements.{Contains-append_left, Contains-append_right}
 use Rattle.td_check.specs.Mentions.{in_tuples, relvars_in, relvars_in_all, relvars_in_items, relvars_in_named, types_in, types_in_all, types_in_items, types_in_named, types_named_in}
-use Rattle.td_check.specs.OperatorTypes.{count_item, aggregate_item, aggregate_type, choice_type, comparison_type, component_type, extension_type, extracted_type, headed_type, listed_type, measure_type, named_part, operator_type, per_heading, postfix_type, prefix_type, selector_type, summary_type, tuple_type}
+use Rattle.td_check.specs.OperatorTypes.{count_item, aggregate_item, aggregate_type, choice_type, comparison_type, component_type, extension_type, extracted_type, headed_type, listed_type, measure_type, named_part, operator_type, per_heading, postfix_type, prefix_type, selector_type, summary_type, tuple_type, restriction_type}
 use Rattle.td_check.specs.Scopes.{Scope, entered_with}
 use Rattle.td_check.specs.StaticLaws.{AgreeAt, AgreeOn, UsersAllIn, UsersIn}
 use Rattle.td_check.specs.StaticTypes.{items_of, literal_type, named_types, type_of, types_of}
 use Rattle.td_tree.specs.declared.operator.Operator.{Operator}
-use Rattle.td_tree.specs.declared.operator.Operator.TheVariants as operators
 use Rattle.td_tree.specs.Outcomes.{Valued, with_both}
-use Rattle.td_tree.specs.Trees.{Literal, number, text, truth, table_dee, table_dum, Renaming, Postfix, project, rename, group, ungroup, wrap, unwrap, Tree, literal, name, parentheses, prefix, extract, binary, compare, postfix, select, component, measure, aggregate, relation, headed_relation, tuple, extend, summarize_per, summarize_by, choice, Trees, none, more, NamedTrees, none_named, more_named, Summaries, no_summaries, counted, summed}
+use Rattle.td_tree.specs.Trees.{Literal, number, text, truth, table_dee, table_dum, Renaming, Postfix, project, rename, group, ungroup, wrap, unwrap, Tree, literal, name, parentheses, prefix, extract, restriction, binary, compare, postfix, select, component, measure, aggregate, relation, headed_relation, tuple, extend, summarize_per, summarize_by, choice, Trees, none, more, NamedTrees, none_named, more_named, Summaries, no_summaries, counted, summed}
 use Rattle.td_types.specs.Types.{Attribute, Attrs, Heading, Type', pack, unpack}
 use Rattle.td_types.specs.Types as types
 use Rattle.td_types.proofs.OutcomeLaws.{valued_is}
 use Rattle.td_check.proofs.AgreementLaws.{Mentioned, agree_entered, component_follows, heading_follows, name_carried, one_is, selector_follows}
 use Rattle.td_check.proofs.CarriedLaws.{Carries, Each, carries_after, carries_both, carries_with, carries_within, follows_itself}
-use Rattle.td_check.proofs.OperatorLaws.{Fits, IsClosed, ItemFits, NewNames, aggregate_gives, choice_gives, comparison_gives, extension_gives, extracted_gives, headed_gives, listed_gives, measure_gives, operator_gives, part_gives, per_gives, postfix_gives, prefix_gives, summary_gives, tuple_gives}
+use Rattle.td_check.proofs.OperatorLaws.{Fits, IsClosed, ItemFits, NewNames, aggregate_gives, choice_gives, comparison_gives, extension_gives, extracted_gives, headed_gives, listed_gives, measure_gives, operator_gives, part_gives, per_gives, postfix_gives, prefix_gives, summary_gives, tuple_gives, restricted_gives}
 use Rattle.td_check.proofs.SummaryLaws.{Both, Items, items_carried, summary_by, summary_per}
 use Rattle.td_check.proofs.UserTypeLaws.{users_closed, users_unpacked}
 
@@ -112,31 +111,16 @@ module _ (among : List ℕ → Bool) where
         (r first second a (rest_known first second (relvars_in first left) (relvars_in first right) k))
         (λ s t u v. follows_itself G (operator_type op s t) (operator_gives closed op s t u v))
 
-    binary_carried : (op : Operator) (left right : Tree) → Part left → Part right
-        → Known first second (relvars_in first (binary left op right)) → CarriesType first second (binary left op right)
-    binary_carried operators.Where left right l r k =
-        carries_within first second G (AgreeAt among first second) (λ s. relvars_in s right) G _ _
-        (type_of first left) (type_of second left) (relvars_in first left) (relvars_in second left)
-        (l first second a (first_known first second (relvars_in first left) _ k))
-        (rest_known first second (relvars_in first left) _ k)
-        (λ xs u inside. carries_with G G _ _ (operator_type operators.Where (types.relation xs)) (operator_type operators.Where (types.relation xs)) _ _
+    restriction_carried : (operand condition : Tree) → Part operand → Part condition
+        → Known first second (relvars_in first (restriction operand condition)) → CarriesType first second (restriction operand condition)
+    restriction_carried operand condition l r k =
+        carries_within first second G (AgreeAt among first second) (λ s. relvars_in s condition) G _ _
+        (type_of first operand) (type_of second operand) (relvars_in first operand) (relvars_in second operand)
+        (l first second a (first_known first second (relvars_in first operand) _ k))
+        (rest_known first second (relvars_in first operand) _ k)
+        (λ xs u inside. carries_with G G _ _ (restriction_type (types.relation xs)) (restriction_type (types.relation xs)) _ _
         (r _ _ (within first second a xs u) inside)
-        (λ t v. follows_itself G (operator_type operators.Where (types.relation xs) t) (operator_gives closed operators.Where (types.relation xs) t u v)))
-    binary_carried operators.Or left right l r k = plain_carried operators.Or left right l r k
-    binary_carried operators.And left right l r k = plain_carried operators.And left right l r k
-    binary_carried operators.Union left right l r k = plain_carried operators.Union left right l r k
-    binary_carried operators.Intersect left right l r k = plain_carried operators.Intersect left right l r k
-    binary_carried operators.Minus left right l r k = plain_carried operators.Minus left right l r k
-    binary_carried operators.Join left right l r k = plain_carried operators.Join left right l r k
-    binary_carried operators.Compose left right l r k = plain_carried operators.Compose left right l r k
-    binary_carried operators.Matching left right l r k = plain_carried operators.Matching left right l r k
-    binary_carried operators.NotMatching left right l r k = plain_carried operators.NotMatching left right l r k
-    binary_carried operators.Times left right l r k = plain_carried operators.Times left right l r k
-    binary_carried operators.Add left right l r k = plain_carried operators.Add left right l r k
-    binary_carried operators.Subtract left right l r k = plain_carried operators.Subtract left right l r k
-    binary_carried operators.Multiply left right l r k = plain_carried operators.Multiply left right l r k
-    binary_carried operators.Divide left right l r k = plain_carried operators.Divide left right l r k
-    binary_carried operators.Concatenate left right l r k = plain_carried operators.Concatenate left right l r k
+        (λ t v. follows_itself G (restriction_type (types.relation xs) t) (restricted_gives closed (types.relation xs) t u)))
 
   -- ---- every expression
 
@@ -152,8 +136,12 @@ module _ (among : List ℕ → Bool) where
     carried (extract n operand) first second a m k =
         carries_with G G _ _ (extracted_type n) (extracted_type n) _ _ (carried operand first second a m k)
         (λ t u. follows_itself G (extracted_type n t) (extracted_gives closed n t u))
+    carried (restriction operand condition) first second a m k =
+        restriction_carried first second a operand condition
+        (λ s t b. carried operand s t b (first_of Passes (types_in operand) (types_in condition) m))
+        (λ s t b. carried condition s t b (rest_of Passes (types_in operand) (types_in condition) m)) k
     carried (binary left op right) first second a m k =
-        binary_carried first second a op left right
+        plain_carried first second a op left right
         (λ s t b. carried left s t b (first_of Passes (types_in left) (types_in right) m))
         (λ s t b. carried right s t b (rest_of Passes (types_in left) (types_in right) m)) k
     carried (compare left op right) first second a m k =

@@ -6,10 +6,8 @@ use Rattle.std.proofs.lemmas.List.Elements.{Contains-append_cases}
 use Rattle.td_check.specs.Mentions.{in_tuples, mentioned_by_name, relvars_in, relvars_in_all, relvars_in_named, relvars_in_items}
 use Rattle.td_check.specs.Scopes.{KnownRelvar, Scope, innermost, known_relvar}
 use Rattle.td_check.specs.StaticTypes.{type_of}
-use Rattle.td_tree.specs.declared.operator.Operator.{Operator}
-use Rattle.td_tree.specs.declared.operator.Operator.TheVariants as operators
 use Rattle.td_tree.specs.Outcomes.{Outcome, Valued, Refused}
-use Rattle.td_tree.specs.Trees.{Tree, literal, name, parentheses, prefix, extract, binary, compare, postfix, select, component, measure, aggregate, relation, headed_relation, tuple, extend, summarize_per, summarize_by, choice, Trees, none, more, NamedTrees, none_named, more_named, Summaries, no_summaries, counted, summed}
+use Rattle.td_tree.specs.Trees.{Tree, literal, name, parentheses, prefix, extract, restriction, binary, compare, postfix, select, component, measure, aggregate, relation, headed_relation, tuple, extend, summarize_per, summarize_by, choice, Trees, none, more, NamedTrees, none_named, more_named, Summaries, no_summaries, counted, summed}
 use Rattle.td_types.specs.Types.{Type'}
 use Rattle.td_types.specs.Types as types
 use Rattle.td_check.proofs.AgreementLaws.{only_one}
@@ -68,24 +66,6 @@ module _ (operand : Tree) (known : Part operand) (s : Scope) (mentioned : Scope 
       each_both (IsKnownIn s) (relvars_in s operand) (mentioned (in_tuples s (type_of s operand))) (known s)
       (from_tuples s (type_of s operand) _ (inside (in_tuples s (type_of s operand))))
 
-binary_known : (op : Operator) (left right : Tree) → Part left → Part right → (s : Scope) → Each (IsKnownIn s) (relvars_in s (binary left op right))
-binary_known operators.Where left right l r s = within_known left l s (λ t. relvars_in t right) r
-binary_known operators.Or left right l r s = both_known left right l r s
-binary_known operators.And left right l r s = both_known left right l r s
-binary_known operators.Union left right l r s = both_known left right l r s
-binary_known operators.Intersect left right l r s = both_known left right l r s
-binary_known operators.Minus left right l r s = both_known left right l r s
-binary_known operators.Join left right l r s = both_known left right l r s
-binary_known operators.Compose left right l r s = both_known left right l r s
-binary_known operators.Matching left right l r s = both_known left right l r s
-binary_known operators.NotMatching left right l r s = both_known left right l r s
-binary_known operators.Times left right l r s = both_known left right l r s
-binary_known operators.Add left right l r s = both_known left right l r s
-binary_known operators.Subtract left right l r s = both_known left right l r s
-binary_known operators.Multiply left right l r s = both_known left right l r s
-binary_known operators.Divide left right l r s = both_known left right l r s
-binary_known operators.Concatenate left right l r s = both_known left right l r s
-
 mutual
   pub relvars_known : (e : Tree) (s : Scope) → Each (IsKnownIn s) (relvars_in s e)
   relvars_known (literal l) s = each_none (IsKnownIn s)
@@ -93,7 +73,9 @@ mutual
   relvars_known (parentheses inner) s = relvars_known inner s
   relvars_known (prefix op operand) s = relvars_known operand s
   relvars_known (extract a operand) s = relvars_known operand s
-  relvars_known (binary left op right) s = binary_known op left right (relvars_known left) (relvars_known right) s
+  relvars_known (restriction operand condition) s =
+      within_known operand (relvars_known operand) s (λ t. relvars_in t condition) (relvars_known condition)
+  relvars_known (binary left op right) s = both_known left right (relvars_known left) (relvars_known right) s
   relvars_known (compare left op right) s = both_known left right (relvars_known left) (relvars_known right) s
   relvars_known (postfix operand op) s = relvars_known operand s
   relvars_known (select ty arguments) s = all_known arguments s

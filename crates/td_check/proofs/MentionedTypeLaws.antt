@@ -2,14 +2,13 @@
 use Rattle.std.proofs.Common.{◌≡◌, ◌∷◌, ◌++◌, ℕ, Bool, true, false, List, [], Option, Some, None, refl}
 use Rattle.std.specs.Prelude.{is_some}
 use Rattle.td_check.specs.Mentions.{types_in, types_in_all, types_in_named, types_in_items, types_named, types_named_in}
-use Rattle.td_check.specs.OperatorTypes.{Item, are_types_of, comparison_type, component_type, count_item, aggregate_item, aggregate_type, choice_type, extension_type, extracted_type, headed_type, known_or, listed_type, measure_type, mismatch, named_part, operator_type, over_relation, per_heading, postfix_type, prefix_type, selector_type, summary_type, tuple_type}
+use Rattle.td_check.specs.OperatorTypes.{Item, are_types_of, comparison_type, component_type, count_item, aggregate_item, aggregate_type, choice_type, extension_type, extracted_type, headed_type, known_or, listed_type, measure_type, mismatch, named_part, operator_type, over_relation, per_heading, postfix_type, prefix_type, selector_type, summary_type, tuple_type, restriction_type}
 use Rattle.td_check.specs.Scopes.{Scope, entered_with}
 use Rattle.td_check.specs.StaticTypes.{items_of, named_types, paired, type_of, types_of, with_items}
 use Rattle.td_tree.specs.declared.cause.Cause.TheVariants as causes
 use Rattle.td_tree.specs.declared.operator.Operator.{Operator}
-use Rattle.td_tree.specs.declared.operator.Operator.TheVariants as operators
 use Rattle.td_tree.specs.Outcomes.{Outcome, Valued, Refused, value_if, with_both, with_value}
-use Rattle.td_tree.specs.Trees.{TypeTree, AttributeTrees, no_attributes, attribute, Tree, literal, name, parentheses, prefix, extract, binary, compare, postfix, select, component, measure, aggregate, relation, headed_relation, tuple, extend, summarize_per, summarize_by, choice, Trees, none, more, NamedTrees, none_named, more_named, Summaries, no_summaries, counted, summed}
+use Rattle.td_tree.specs.Trees.{TypeTree, AttributeTrees, no_attributes, attribute, Tree, literal, name, parentheses, prefix, extract, restriction, binary, compare, postfix, select, component, measure, aggregate, relation, headed_relation, tuple, extend, summarize_per, summarize_by, choice, Trees, none, more, NamedTrees, none_named, more_named, Summaries, no_summaries, counted, summed}
 use Rattle.td_tree.specs.Trees as trees
 use Rattle.td_types.specs.Headings.{made_heading}
 use Rattle.td_types.specs.TypeLists.{DeclaredType, attributes_meant, declared_at, heading_meant, is_declared, type_meant}
@@ -146,26 +145,11 @@ or_mismatch_shows : {A : Type 0} (D : Type 0) (f : A → Outcome Type') (o : Opt
 or_mismatch_shows D f None k = tt
 or_mismatch_shows D f (Some x) k = shows D (f x) (k refl)
 
-binary_shows : (op : Operator) (left right : Tree) → Part left → Part right → (s : Scope)
-    → Shows (AreThere s.types (types_in left ++ types_in right)) (type_of s (binary left op right))
-binary_shows operators.Where left right l r s =
-    within_shows left l s (types_in right) _
-    (λ t h. shows_with (AreThere s.types (types_in right)) (type_of (entered_with h s) right) (operator_type operators.Where t) (r (entered_with h s)))
-binary_shows operators.Or left right l r s = plain_shows operators.Or left right l r s
-binary_shows operators.And left right l r s = plain_shows operators.And left right l r s
-binary_shows operators.Union left right l r s = plain_shows operators.Union left right l r s
-binary_shows operators.Intersect left right l r s = plain_shows operators.Intersect left right l r s
-binary_shows operators.Minus left right l r s = plain_shows operators.Minus left right l r s
-binary_shows operators.Join left right l r s = plain_shows operators.Join left right l r s
-binary_shows operators.Compose left right l r s = plain_shows operators.Compose left right l r s
-binary_shows operators.Matching left right l r s = plain_shows operators.Matching left right l r s
-binary_shows operators.NotMatching left right l r s = plain_shows operators.NotMatching left right l r s
-binary_shows operators.Times left right l r s = plain_shows operators.Times left right l r s
-binary_shows operators.Add left right l r s = plain_shows operators.Add left right l r s
-binary_shows operators.Subtract left right l r s = plain_shows operators.Subtract left right l r s
-binary_shows operators.Multiply left right l r s = plain_shows operators.Multiply left right l r s
-binary_shows operators.Divide left right l r s = plain_shows operators.Divide left right l r s
-binary_shows operators.Concatenate left right l r s = plain_shows operators.Concatenate left right l r s
+restriction_shows : (operand condition : Tree) → Part operand → Part condition → (s : Scope)
+    → Shows (AreThere s.types (types_in operand ++ types_in condition)) (type_of s (restriction operand condition))
+restriction_shows operand condition l r s =
+    within_shows operand l s (types_in condition) _
+    (λ t h. shows_with (AreThere s.types (types_in condition)) (type_of (entered_with h s) condition) (restriction_type t) (r (entered_with h s)))
 
 -- ---- every expression
 
@@ -176,7 +160,8 @@ mutual
   types_show (parentheses inner) s = types_show inner s
   types_show (prefix op operand) s = shows_with (AreThere s.types (types_in operand)) (type_of s operand) (prefix_type op) (types_show operand s)
   types_show (extract a operand) s = shows_with (AreThere s.types (types_in operand)) (type_of s operand) (extracted_type a) (types_show operand s)
-  types_show (binary left op right) s = binary_shows op left right (types_show left) (types_show right) s
+  types_show (restriction operand condition) s = restriction_shows operand condition (types_show operand) (types_show condition) s
+  types_show (binary left op right) s = plain_shows op left right (types_show left) (types_show right) s
   types_show (compare left op right) s =
       both_show s.types (types_in left) (types_in right) (type_of s left) (type_of s right) (comparison_type op) (types_show left s) (types_show right s)
   types_show (postfix operand op) s = shows_with (AreThere s.types (types_in operand)) (type_of s operand) (postfix_type op) (types_show operand s)

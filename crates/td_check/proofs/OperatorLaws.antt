@@ -2,7 +2,7 @@
 use Rattle.std.proofs.Common.{◌≡◌, ◌∷◌, ℕ, Bool, true, false, List, [], Option, Some, None, fold, map, refl, subst}
 use Rattle.std.specs.Prelude.{not, if◌then◌else◌, ⊤}
 use Rattle.std.specs.List.{AllByRecursion, filter}
-use Rattle.td_check.specs.OperatorTypes.{Item, count_item, aggregate_item, aggregate_type, choice_type, closure_type, comparison_type, element_type, equality_type, extension_type, extracted_type, headed_type, item_type, joined_apart, known_or, listed_type, measure_type, membership_type, named_part, operator_type, order_type, over_relation, over_tuple, per_heading, postfix_type, prefix_type, relation_if, renaming_pairs, summary_type, tuple_type}
+use Rattle.td_check.specs.OperatorTypes.{Item, count_item, aggregate_item, aggregate_type, choice_type, closure_type, comparison_type, element_type, equality_type, extension_type, extracted_type, headed_type, item_type, joined_apart, known_or, listed_type, measure_type, membership_type, named_part, operator_type, order_type, over_relation, over_tuple, per_heading, postfix_type, prefix_type, relation_if, renaming_pairs, summary_type, tuple_type, restriction_type}
 use Rattle.td_tree.specs.declared.cause.Cause.{Cause}
 use Rattle.td_tree.specs.declared.cause.Cause.TheVariants as causes
 use Rattle.td_tree.specs.declared.operator.Aggregate.{Aggregate}
@@ -220,8 +220,10 @@ module _ {N : List ℕ → Type 0} {G : Type' → Type 0} {H : Heading → Type 
   over_both s t f a b p =
       over_relation_gives G s _ a (λ g k. over_relation_gives G t _ b (λ h l. p g h k l))
 
+  pub restricted_gives : (s t : Type') → G s → Gives G (restriction_type s t)
+  restricted_gives s t a = search (gives_if, a)
+
   pub operator_gives : (op : Operator) (s t : Type') → G s → G t → Gives G (operator_type op s t)
-  operator_gives operators.Where s t a b = over_relation_gives G s _ a (λ _ _. search (gives_if, a))
   operator_gives operators.Or s t a b = search (gives_if, c.truth)
   operator_gives operators.And s t a b = search (gives_if, c.truth)
   operator_gives operators.Union s t a b = over_both s t _ a b (λ _ _ _ _. search (gives_if, a))

@@ -7,12 +7,12 @@ use Rattle.td_check.specs.StatementTypes.{statement_checked}
 use Rattle.td_check.specs.StaticTypes.{type_of}
 use Rattle.td_check.specs.declared.scope.Kind.TheVariants.{Base, Virtual}
 use Rattle.td_tree.specs.Outcomes.{Valued, named_cause}
-use Rattle.td_tree.specs.Trees.{Tree, literal, number, text, name, parentheses, compare, binary, postfix, project, only, extend, NamedTrees, more_named, none_named, AttributeTrees, attribute, no_attributes, define_base, define_virtual, assign_all, assign, insert, delete, update, summarize_per, summed, no_summaries, headed_relation, more, none, select, prefix, group, rename}
+use Rattle.td_tree.specs.Trees.{Tree, literal, number, text, name, parentheses, compare, binary, postfix, project, only, extend, NamedTrees, more_named, none_named, AttributeTrees, attribute, no_attributes, define_base, define_virtual, assign_all, assign, insert, delete, update, summarize_per, summed, no_summaries, headed_relation, more, none, select, prefix, group, rename, restriction}
 use Rattle.td_tree.specs.Trees as trees
 use Rattle.td_tree.specs.declared.cause.Cause.TheVariants as causes
 use Rattle.td_tree.specs.declared.operator.Aggregate.TheVariants.{Sum}
 use Rattle.td_tree.specs.declared.operator.Comparison.TheVariants.{Equal}
-use Rattle.td_tree.specs.declared.operator.Operator.TheVariants.{Add, Times, Where}
+use Rattle.td_tree.specs.declared.operator.Operator.TheVariants.{Add, Times}
 use Rattle.td_types.specs.Types.{Type', Heading, integer, char, boolean, pack}
 use Rattle.td_types.specs.Types as types
 
@@ -73,11 +73,11 @@ attribute_twice : named_cause (type_of scope (extend r (more_named (codes "K") (
 attribute_twice = refl
 
 -- 1 WHERE Z is TYPE_MISMATCH: the predicate is checked only where the operand is a relation
-predicate_not_checked : named_cause (type_of scope (binary one Where z)) ≡ Some causes.TypeMismatch
+predicate_not_checked : named_cause (type_of scope (restriction one z)) ≡ Some causes.TypeMismatch
 predicate_not_checked = refl
 
 -- R WHERE K = 1: the predicate stands in the tuples of R
-predicate_in_tuples : type_of scope (binary r Where (compare (name (codes "K")) Equal one))
+predicate_in_tuples : type_of scope (restriction r (compare (name (codes "K")) Equal one))
     ≡ Valued (types.relation (pack ((codes "K", integer) ∷ [])))
 predicate_in_tuples = refl
 

@@ -8,5 +8,6 @@ pub mod PlaceViews
 pub mod ScopeCode
 pub mod Scopes
 pub mod StatementTypes
+pub mod StaticCauses
 pub mod StaticLaws
 pub mod StaticTypes

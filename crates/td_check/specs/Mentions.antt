@@ -6,9 +6,8 @@ use Rattle.std.specs.Ordering.{nat_cmp}
 use Rattle.std.specs.BTreeSet.{insert_key}
 use Rattle.td_check.specs.Scopes.{Scope, entered_with, innermost, known_relvar}
 use Rattle.td_check.specs.StaticTypes.{type_of}
-use Rattle.td_tree.specs.declared.operator.Operator.TheVariants as operators
 use Rattle.td_tree.specs.Outcomes.{Outcome, Valued, with_value}
-use Rattle.td_tree.specs.Trees.{TypeTree, AttributeTrees, no_attributes, attribute, user, tuple_type, relation_type, Tree, literal, name, parentheses, prefix, extract, binary, compare, postfix, select, component, measure, aggregate, relation, headed_relation, tuple, extend, summarize_per, summarize_by, choice, Trees, none, more, NamedTrees, none_named, more_named, Summaries, no_summaries, counted, summed}
+use Rattle.td_tree.specs.Trees.{TypeTree, AttributeTrees, no_attributes, attribute, user, tuple_type, relation_type, Tree, literal, name, parentheses, prefix, extract, restriction, binary, compare, postfix, select, component, measure, aggregate, relation, headed_relation, tuple, extend, summarize_per, summarize_by, choice, Trees, none, more, NamedTrees, none_named, more_named, Summaries, no_summaries, counted, summed}
 use Rattle.td_tree.specs.Trees as trees
 use Rattle.td_types.specs.Types as types
 
@@ -25,15 +24,15 @@ in_tuples scope (Valued (types.relation h)) = entered_with (types.unpack h) scop
 in_tuples scope _ = scope
 
 abbrev mutual
-  -- the relvars, in the order in which they are mentioned
+  -- the relvars, in the order written, but for SUMMARIZE: those of what it adds come before those of PER
   pub relvars_in : Scope → Tree → List (List ℕ)
   relvars_in scope (literal l) = []
   relvars_in scope (name n) = mentioned_by_name scope n
   relvars_in scope (parentheses inner) = relvars_in scope inner
   relvars_in scope (prefix op operand) = relvars_in scope operand
   relvars_in scope (extract a operand) = relvars_in scope operand
-  relvars_in scope (binary left operators.Where right) =
-      relvars_in scope left ++ relvars_in (in_tuples scope (type_of scope left)) right
+  relvars_in scope (restriction operand condition) =
+      relvars_in scope operand ++ relvars_in (in_tuples scope (type_of scope operand)) condition
   relvars_in scope (binary left op right) = relvars_in scope left ++ relvars_in scope right
   relvars_in scope (compare left op right) = relvars_in scope left ++ relvars_in scope right
   relvars_in scope (postfix operand op) = relvars_in scope operand
@@ -85,13 +84,14 @@ abbrev mutual
   types_named_in (attribute n ty rest) = types_named ty ++ types_named_in rest
 
 abbrev mutual
-  -- the types, in the order in which they are mentioned
+  -- the types, in the same order
   pub types_in : Tree → List (List ℕ)
   types_in (literal l) = []
   types_in (name n) = []
   types_in (parentheses inner) = types_in inner
   types_in (prefix op operand) = types_in operand
   types_in (extract a operand) = types_in operand
+  types_in (restriction operand condition) = types_in operand ++ types_in condition
   types_in (binary left op right) = types_in left ++ types_in right
   types_in (compare left op right) = types_in left ++ types_in right
   types_in (postfix operand op) = types_in operand

@@ -165,9 +165,11 @@ of_one_heading s t = over_relations s t (λ g h. value_if (same_heading g h) s c
 abbrev pub first_where_agreed : Type' → Type' → Outcome Type'
 first_where_agreed s t = over_relations s t (λ g h. value_if (agree g h) s causes.Heading)
 
+-- WHERE asks a condition that is BOOLEAN in the relation's tuples
+abbrev pub restriction_type : Type' → Type' → Outcome Type'
+restriction_type s t = if_type boolean t s
+
 abbrev pub operator_type : Operator → Type' → Type' → Outcome Type'
--- WHERE asks a relation and, in its tuples, BOOLEAN
-operator_type operators.Where s t = over_relation s (λ h. if_type boolean t s)
 -- AND and OR ask BOOLEAN
 operator_type operators.Or s t = both_of boolean s t
 operator_type operators.And s t = both_of boolean s t

@@ -1,7 +1,7 @@
 -- What is asked of a statement before anything is carried out: the static rules of definitions, drops and assignments
 -- (Tutorial D's; the causes are this project's own). A name that is taken, a target that is not known and one that is
 -- virtual count beside the causes of the parts.
-use Rattle.std.specs.Prelude.{ℕ, Bool, true, not, ◌&&◌, ◌||◌, List, [], ◌∷◌, map, nat_le, Option, Some, None, is_some, ◌+◌, ⊤}
+use Rattle.std.specs.Prelude.{ℕ, Bool, true, not, ◌&&◌, ◌||◌, List, [], ◌∷◌, map, Option, Some, None, is_some, ⊤}
 use Rattle.std.specs.List.{list_all}
 use Rattle.td_check.specs.declared.scope.Kind.TheVariants as kinds
 use Rattle.td_check.specs.OperatorTypes.{attribute_type, if_type, over_relation, same_heading}
@@ -12,8 +12,8 @@ use Rattle.td_tree.specs.declared.cause.Cause.TheVariants as causes
 use Rattle.td_tree.specs.Outcomes.{Outcome, Valued, Refused, Only, gathered, with_value, with_both, value_if}
 use Rattle.td_tree.specs.Trees.{AttributeTrees, Tree, Assignment, assign, insert, delete, update, Statement, empty, define_type, drop_type, define_base, define_virtual, drop_var, define_constraint, drop_constraint, assign_all, begin_transaction, commit, rollback, write, dump}
 use Rattle.td_types.specs.Headings.{are_distinct, has_attributes, has_name, heading_from}
-use Rattle.td_types.specs.TypeLists.{DeclaredType, attributes_meant, greatest_rank, heading_meant, is_declared, limited_rank, rank_limit, user_ranks}
-use Rattle.td_types.specs.Types.{Type', boolean, relation, Attribute, Heading, attribute_names, pack}
+use Rattle.td_types.specs.TypeLists.{DeclaredType, attributes_meant, heading_meant, is_declared, limited_rank}
+use Rattle.td_types.specs.Types.{Type', boolean, tuple, relation, Attribute, Heading, attribute_names, pack}
 
 -- what holds, else that cause
 abbrev pub holds_or : Cause → Bool → Outcome ⊤
@@ -31,11 +31,13 @@ components_meant ds components =
     with_value (attributes_meant ds components)
     (λ attributes. value_if (are_distinct (attribute_names attributes)) attributes causes.Heading)
 
--- a type of these components has a rank within the limit
+-- the rank of a type is within the limit
+abbrev pub type_rank_fits : List DeclaredType → Type' → Outcome ⊤
+type_rank_fits ds t = with_value (limited_rank ds t) (λ _. Valued tt)
+
+-- so is that of a user type, which is that of a tuple of its components
 abbrev pub rank_fits : List DeclaredType → List Attribute → Outcome ⊤
-rank_fits ds components =
-    with_value (greatest_rank (user_ranks ds) (pack components))
-    (λ greatest. holds_or causes.Rank (nat_le (greatest + 1) rank_limit))
+rank_fits ds components = type_rank_fits ds (tuple (pack components))
 
 -- the constraint of a type is BOOLEAN where its components and the earlier types alone are known
 abbrev pub constraint_fits : Scope → List Attribute → Option Tree → Outcome ⊤
@@ -81,7 +83,7 @@ init_fits h (Some t) = relation_fits h t
 
 -- the rank of a relvar's type is within the limit
 abbrev pub heading_rank_fits : List DeclaredType → Heading → Outcome ⊤
-heading_rank_fits ds h = with_value (limited_rank ds (relation (pack h))) (λ _. Valued tt)
+heading_rank_fits ds h = type_rank_fits ds (relation (pack h))
 
 -- ---- assignments
 

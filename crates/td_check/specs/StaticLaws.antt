@@ -7,7 +7,7 @@ use Rattle.td_check.specs.Scopes.{KnownRelvar, Scope, alone_with, entered_with, 
 use Rattle.td_check.specs.StaticTypes.{items_of, named_types, type_of, types_of}
 use Rattle.td_tree.specs.Names.{IsName}
 use Rattle.td_tree.specs.Outcomes.{Outcome, Valued}
-use Rattle.td_tree.specs.Trees.{Postfix, project, rename, group, ungroup, wrap, unwrap, Tree, literal, name, parentheses, prefix, extract, binary, compare, postfix, select, component, measure, aggregate, headed_relation, extend, summarize_per, summarize_by, choice, Trees, none, more, NamedTrees, none_named, more_named, Summaries, no_summaries, counted, summed}
+use Rattle.td_tree.specs.Trees.{Postfix, project, rename, group, ungroup, wrap, unwrap, Tree, literal, name, parentheses, prefix, extract, restriction, binary, compare, postfix, select, component, measure, aggregate, headed_relation, extend, summarize_per, summarize_by, choice, Trees, none, more, NamedTrees, none_named, more_named, Summaries, no_summaries, counted, summed}
 use Rattle.td_tree.specs.Trees as trees
 use Rattle.td_types.specs.Headings.{has_name}
 use Rattle.td_types.specs.TypeListLaws.{HaveNames}
@@ -54,6 +54,7 @@ abbrev mutual
   GivesNames (parentheses inner) = GivesNames inner
   GivesNames (prefix op operand) = GivesNames operand
   GivesNames (extract a operand) = GivesNames operand
+  GivesNames (restriction operand condition) = GivesNames operand × GivesNames condition
   GivesNames (binary left op right) = GivesNames left × GivesNames right
   GivesNames (compare left op right) = GivesNames left × GivesNames right
   GivesNames (postfix operand op) = GivesNames operand × OperatorGivesNames op

@@ -2,12 +2,11 @@
 -- own). The causes of all parts count; a node's own rule is asked only where all its parts that are checked have types. A
 -- part that stands in an operand's tuples is checked only where that operand is a relation.
 use Rattle.std.specs.Prelude.{ℕ, List, [], ◌∷◌, Option, Some, None}
-use Rattle.td_check.specs.OperatorTypes.{Item, count_item, aggregate_item, aggregate_type, choice_type, comparison_type, component_type, extension_type, extracted_type, headed_type, known_or, listed_type, measure_type, mismatch, named_part, operator_type, over_relation, per_heading, postfix_type, prefix_type, selector_type, summary_type, tuple_type}
+use Rattle.td_check.specs.OperatorTypes.{Item, count_item, aggregate_item, aggregate_type, choice_type, comparison_type, component_type, extension_type, extracted_type, headed_type, known_or, listed_type, measure_type, mismatch, named_part, operator_type, over_relation, per_heading, postfix_type, prefix_type, selector_type, summary_type, tuple_type, restriction_type}
 use Rattle.td_check.specs.Scopes.{Scope, entered_with, innermost, known_relvar}
 use Rattle.td_tree.specs.declared.cause.Cause.TheVariants as causes
-use Rattle.td_tree.specs.declared.operator.Operator.TheVariants as operators
 use Rattle.td_tree.specs.Outcomes.{Outcome, Valued, with_value, with_both}
-use Rattle.td_tree.specs.Trees.{Literal, number, text, truth, table_dee, table_dum, Tree, literal, name, parentheses, prefix, extract, binary, compare, postfix, select, component, measure, aggregate, relation, headed_relation, tuple, extend, summarize_per, summarize_by, choice, Trees, none, more, NamedTrees, none_named, more_named, Summaries, no_summaries, counted, summed}
+use Rattle.td_tree.specs.Trees.{Literal, number, text, truth, table_dee, table_dum, Tree, literal, name, parentheses, prefix, extract, restriction, binary, compare, postfix, select, component, measure, aggregate, relation, headed_relation, tuple, extend, summarize_per, summarize_by, choice, Trees, none, more, NamedTrees, none_named, more_named, Summaries, no_summaries, counted, summed}
 use Rattle.td_types.specs.TypeLists.{heading_meant}
 use Rattle.td_types.specs.Types.{Type', boolean, integer, char, no_attrs, Attribute, Heading, pack}
 use Rattle.td_types.specs.Types as types
@@ -43,8 +42,8 @@ abbrev mutual
   type_of scope (parentheses inner) = type_of scope inner
   type_of scope (prefix op operand) = with_value (type_of scope operand) (prefix_type op)
   type_of scope (extract a operand) = with_value (type_of scope operand) (extracted_type a)
-  type_of scope (binary left operators.Where right) =
-      with_value (type_of scope left) (λ s. over_relation s (λ h. with_value (type_of (entered_with h scope) right) (operator_type operators.Where s)))
+  type_of scope (restriction operand condition) =
+      with_value (type_of scope operand) (λ s. over_relation s (λ h. with_value (type_of (entered_with h scope) condition) (restriction_type s)))
   type_of scope (binary left op right) = with_both (type_of scope left) (type_of scope right) (operator_type op)
   type_of scope (compare left op right) = with_both (type_of scope left) (type_of scope right) (comparison_type op)
   type_of scope (postfix operand op) = with_value (type_of scope operand) (postfix_type op)

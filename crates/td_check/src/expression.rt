@@ -70,18 +70,16 @@ fn check(expr: &Expr, place: &Place<'_, '_, '_>, seen: &mut Mentions) -> Result<
         Expr::Parentheses(inner) => check(inner, place, seen),
         Expr::Prefix(op, operand) => prefix_type(*op, &check(operand, place, seen)?),
         Expr::Extract(name, operand) => extracted_type(name, &check(operand, place, seen)?),
-        Expr::Binary(left, op, right) => match op {
-            Operator::Where => {
-                let operand = check(left, place, seen)?;
-                let condition = check_inside(right, &operand, place, seen);
-                restricted(operand, condition)
-            }
-            _ => {
-                let first = check(left, place, seen);
-                let second = check(right, place, seen);
-                operated(*op, both(first, second))
-            }
-        },
+        Expr::Restriction(operand, condition) => {
+            let operand = check(operand, place, seen)?;
+            let condition = check_inside(condition, &operand, place, seen);
+            restricted(operand, condition)
+        }
+        Expr::Binary(left, op, right) => {
+            let first = check(left, place, seen);
+            let second = check(right, place, seen);
+            operated(*op, both(first, second))
+        }
         Expr::Compare(left, op, right) => {
             let first = check(left, place, seen);
             let second = check(right, place, seen);

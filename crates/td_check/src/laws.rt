@@ -1,4 +1,5 @@
 //! What the types of expressions are to their callers: each function has its contract alone.
+ghost use Rattle.td_check.specs.StaticCauses.{CausesAreStatic};
 ghost use Rattle.td_check.specs.StaticLaws.{DropsChangeNothing, MentionsAreKnown};
 ghost use Rattle.td_check.specs.StaticLaws.{MoreChangesNothing, NamesAreASet, ScopesAreKept};
 ghost use Rattle.td_check.specs.StaticLaws.{TypesAreKnown, TypesAreMadeOfMentions};
@@ -36,4 +37,10 @@ pub fn drops_change_nothing()
 /// The names that `mentions` answers are exactly those that stand in the expression.
 pub fn names_are_a_set()
     ensures { NamesAreASet }
+{}
+
+/// `resolve`, `check_expr` and `check_statement` refuse by the causes of types, of expressions and
+/// of statements alone.
+pub fn causes_are_static()
+    ensures { CausesAreStatic }
 {}

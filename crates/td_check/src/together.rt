@@ -3,8 +3,7 @@ ghost use Rattle.std.specs.Prelude.{List, Option};
 ghost use Rattle.td_check.specs.CheckViews.{Added, added_view, choice_of, headed_view, per_view, by_summary};
 ghost use Rattle.td_check.specs.CheckViews.{per_summary, three_types_view, types_view};
 ghost use Rattle.td_check.specs.OperatorTypes.{comparison_type, extension_type, headed_type};
-ghost use Rattle.td_check.specs.OperatorTypes.{operator_type, over_relation};
-ghost use Rattle.td_tree.specs.declared.operator.Operator.TheVariants as operators;
+ghost use Rattle.td_check.specs.OperatorTypes.{operator_type, over_relation, restriction_type};
 ghost use Rattle.td_tree.specs.Outcomes.{Answers, Outcome, with_value};
 ghost use Rattle.td_tree.specs.TreeViews.{attributes_view};
 ghost use Rattle.td_types.specs.Types.{Attribute, Heading, Type'};
@@ -13,7 +12,7 @@ ghost use Rattle.td_types.specs.Views.{pairs_view, type_view};
 use crate::rules::asked::relation_heading;
 use crate::rules::headings::named_part;
 use crate::rules::lists::{Item, extension_type, headed_type, per_heading, summary_type};
-use crate::rules::operator::{choice_type, comparison_type, operator_type};
+use crate::rules::operator::{choice_type, comparison_type, operator_type, restriction_type};
 use td_tree::cause::Cause;
 use td_tree::expression::Attributes;
 use td_tree::fault::Fault;
@@ -44,9 +43,9 @@ pub(crate) fn compared(op: Comparison, operands: Result<(Ty, Ty), Fault>) -> Res
 pub(crate) fn restricted(operand: Ty, condition: Result<Ty, Fault>) -> Result<Ty, Fault>
     ensures { (o : Outcome Type') → Answers type_view condition o
         → Answers type_view result
-        (with_value o (λ t. operator_type operators.Where (type_view operand) t)) }
+        (with_value o (restriction_type (type_view operand))) }
 {
-    operator_type(Operator::Where, operand, condition?)
+    restriction_type(operand, &condition?)
 }
 
 /// The type of an operand extended by attributes.

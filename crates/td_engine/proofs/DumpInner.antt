@@ -115,6 +115,7 @@ mutual
   tree_inner (trees.parentheses a) = in_parentheses (tree_inner a)
   tree_inner (trees.prefix op a) = join (prefix_inner op) (tree_inner a)
   tree_inner (trees.extract n a) = also tt (also tt (tree_inner a))
+  tree_inner (trees.restriction a p) = join (tree_inner a) (also tt (tree_inner p))
   tree_inner (trees.binary a op b) = join (tree_inner a) (join (operator_inner op) (tree_inner b))
   tree_inner (trees.compare a op b) = join (tree_inner a) (also (comparison_inner op) (tree_inner b))
   tree_inner (trees.postfix a op) = join (tree_inner a) (postfix_inner op)

@@ -18,9 +18,8 @@ use Rattle.td_eval.specs.OperatorValues.{on_relation, relation_as_value, set_val
 use Rattle.td_eval.specs.TreeValues.{value_of, values_in_tuples}
 use Rattle.td_eval.specs.Worlds.{World}
 use Rattle.td_tree.specs.Outcomes.{Outcome, Valued}
-use Rattle.td_tree.specs.Trees.{Tree, name, binary, parentheses, Assignment, assign, insert, delete, update}
+use Rattle.td_tree.specs.Trees.{Tree, name, parentheses, Assignment, assign, insert, delete, update, restriction}
 use Rattle.td_tree.specs.declared.cause.Cause.TheVariants as causes
-use Rattle.td_tree.specs.declared.operator.Operator.TheVariants as operators
 use Rattle.td_types.proofs.OutcomeLaws.{value_of_test, value_of_with, valued_is}
 use Rattle.td_types.specs.TypeLists.{DeclaredType}
 use Rattle.td_types.specs.Types.{Heading, same_name, unpack}
@@ -58,7 +57,7 @@ module _ (ds : List DeclaredType) where
     chosen_meets : (cur : Relation) (target : List ℕ) (condition : Option Tree) (r : Relation) → Meets ds cur → chosen_for cur w target condition ≡ Valued r
         → Meets ds r
     chosen_meets cur target None r met is = subst (Meets ds) (valued_is cur r is) met
-    chosen_meets cur target (Some p) r met is = source_meets cur (binary (name target) operators.Where (parentheses p)) r is
+    chosen_meets cur target (Some p) r met is = source_meets cur (restriction (name target) (parentheses p)) r is
 
     -- the chosen tuples with what is set, and the others
     updated_meets : (cur : Relation) (names : List (List ℕ)) (fs : List (Tuple → Outcome Val)) (chosen r : Relation) → Meets ds cur → Meets ds chosen

@@ -1,5 +1,5 @@
 -- Ranks stay within the limit with one more type, and without a type that no entry mentions.
-use Rattle.std.proofs.Common.{◌≡◌, ◌∙◌, ◌∷◌, ◌++◌, ◌+◌, ℕ, false, List, [], ap, subst, sym}
+use Rattle.std.proofs.Common.{◌≡◌, ◌∙◌, ◌∷◌, ◌++◌, ℕ, false, List, [], ap, subst, sym}
 use Rattle.std.specs.Prelude.{nat_le}
 use Rattle.std.proofs.lemmas.List.Folds.{list_any-append}
 use Rattle.std.specs.List.{AllByRecursion}
@@ -8,17 +8,16 @@ use Rattle.td_catalog.proofs.TypedTypeDrops.{headings_apart, made_of_none, other
 use Rattle.td_catalog.specs.Database.{BaseRelvar, Database, VirtualRelvar, database_scope, with_virtuals}
 use Rattle.td_catalog.specs.Mentioned.{base_mentions_type, is_type_in_use}
 use Rattle.td_catalog.specs.TypedDatabases.{EachAfter, IsTyped, IsTypedBase, IsTypedVirtual}
-use Rattle.td_check.specs.StatementTypes.{holds_or}
 use Rattle.td_check.specs.StaticLaws.{UsersAllIn, is_other}
 use Rattle.td_engine.proofs.EachOf.{all_follow, all_from_each, all_given, none_passes}
 use Rattle.td_engine.specs.Legality.{IsRuledBase, IsRuledVirtual, IsRanked, IsRankedHeading, IsLegal}
 use Rattle.td_tree.specs.Outcomes.{Valued, value_if, with_value}
 use Rattle.td_tree.specs.declared.cause.Cause.TheVariants as causes
 use Rattle.td_types.proofs.Ranks.{rank_later}
-use Rattle.td_types.proofs.RemovedTypes.{greatest_rank-without, is_made_of-among, limited_rank-without}
+use Rattle.td_types.proofs.RemovedTypes.{is_made_of-among, limited_rank-without}
 use Rattle.td_types.specs.NamedTypes.{any_names_user, is_component, is_made_of, without_declared}
 use Rattle.td_types.specs.TypeLists.{AreDeclared, AreKnown, DeclaredType, rank_limit}
-use Rattle.td_types.specs.Types.{Heading, pack, relation, same_name}
+use Rattle.td_types.specs.Types.{Heading, pack, relation, same_name, tuple}
 
 -- the headings of typed virtual relvars are known
 pub virtuals_known : (db : Database) → IsTyped db → AllByRecursion (λ (v : VirtualRelvar). AreKnown db.types (pack v.heading)) db.virtuals
@@ -59,8 +58,8 @@ module _ (name : List ℕ) (db : Database) (legal : IsLegal db) (unused : is_typ
       let whole : is_component name (before ++ (d ∷ after)) ≡ false = subst (λ ds. is_component name ds ≡ false) is none in
       let front : is_component name before ≡ false =
       (neither (is_component name before) (is_component name (d ∷ after)) (sym (list_any-append (is_made_of name) before (d ∷ after)) ∙ whole)).0 in
-      ap (λ o. with_value o (λ greatest. holds_or causes.Rank (nat_le (greatest + 1) rank_limit)))
-      (greatest_rank-without name before (pack d.components) front (is_made_of-among name before d after whole))
+      ap (λ o. with_value o (λ _. Valued tt))
+      (limited_rank-without name before (tuple (pack d.components)) front (is_made_of-among name before d after whole))
       ∙ ranked
 
   pub types_left : EachAfter IsRanked (without_declared name db.types)

@@ -16,6 +16,7 @@ use Rattle.td_tree.specs.declared.operator.Prefix.TheVariants as prefixes
 use Rattle.td_tree.specs.declared.fault.Fault.{Fault}
 use Rattle.td_tree.specs.Outcomes.{Answers, Outcome, Valued, Refused, gathered, value_if, with_both, with_value}
 use Rattle.td_tree.specs.Trees.{Tree, binary, name}
+use Rattle.td_tree.specs.Trees as trees
 use Rattle.td_types.proofs.HeadingLaws.{same_name-itself}
 use Rattle.td_types.proofs.OutcomeLaws.{valued_is}
 use Rattle.td_types.specs.TypeOrder.{heading_eq-Decides}
@@ -115,7 +116,7 @@ module _ (db : Database) (n : List ℕ) (cur : Relation) where
           ∙ by_test s (same_heading cur.heading s.heading) (same_heading s.heading cur.heading) (other_way s.heading cur.heading)
 
   -- R WHERE p, of the target
-  pub restricted_is : (p : Tree) → relation_for cur w (binary (name n) operators.Where p) ≡ restricted_relation (λ t. value_of w (t ∷ []) p) cur
+  pub restricted_is : (p : Tree) → relation_for cur w (trees.restriction (name n) p) ≡ restricted_relation (λ t. value_of w (t ∷ []) p) cur
   restricted_is p =
       ap (λ o. with_value (with_value o (λ v. on_relation v (restricted_value f))) (λ v. on_relation v (of_heading cur))) target_value
       ∙ ap (λ o. with_value o (λ v. on_relation v (of_heading cur))) (relation_unpacked cur (restricted_value f))

@@ -149,6 +149,7 @@ three p q r = ((p.0, q.0, r.0), (p.1, q.1, r.1))
 mutual
   pub written : {level : Level} {xs : List Lexeme} {t : Tree} → Spelling level xs t → AreOfTokens xs → IsWritten t
   written (g.looser p) h = written p h
+  written (g.restriction {xs} {ys} p q) h = both (written p (front xs _ h)) (written q (back xs _ h).1)
   written (g.between {op} {xs} {ys} p q) h = both (written p (front xs _ h)) (written q (back (operator_words op) ys (back xs _ h)))
   written (g.negation p) h = written p h.1
   written (g.comparison {op} {xs} {ys} p q) h = both (written p (front xs _ h)) (written q (back xs _ h).1)

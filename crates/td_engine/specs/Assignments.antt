@@ -12,7 +12,7 @@ use Rattle.td_eval.specs.OperatorValues.{on_relation, set_value}
 use Rattle.td_eval.specs.TreeValues.{value_of, values_in_tuples}
 use Rattle.td_eval.specs.Worlds.{World}
 use Rattle.td_tree.specs.Outcomes.{Outcome, Valued, gathered, value_if, with_value}
-use Rattle.td_tree.specs.Trees.{Tree, name, binary, prefix, parentheses, Assignment, assign, insert, delete, update, NamedTrees, none_named, more_named}
+use Rattle.td_tree.specs.Trees.{Tree, name, binary, prefix, parentheses, Assignment, assign, insert, delete, update, NamedTrees, none_named, more_named, restriction}
 use Rattle.td_tree.specs.declared.cause.Cause.TheVariants as causes
 use Rattle.td_tree.specs.declared.operator.Operator.TheVariants as operators
 use Rattle.td_tree.specs.declared.operator.Prefix.TheVariants as prefixes
@@ -55,12 +55,12 @@ with_inserted target source = binary (name target) operators.Union (parentheses 
 
 -- DELETE R WHERE p is R := R WHERE NOT (p)
 abbrev pub without_deleted : List ℕ → Tree → Tree
-without_deleted target p = binary (name target) operators.Where (prefix prefixes.Not (parentheses p))
+without_deleted target p = restriction (name target) (prefix prefixes.Not (parentheses p))
 
 -- the tuples that UPDATE R WHERE p changes: R WHERE (p); without WHERE all
 abbrev pub chosen_for : Relation → World → List ℕ → Option Tree → Outcome Relation
 chosen_for cur w target None = Valued cur
-chosen_for cur w target (Some p) = relation_for cur w (binary (name target) operators.Where (parentheses p))
+chosen_for cur w target (Some p) = relation_for cur w (restriction (name target) (parentheses p))
 
 -- the names that UPDATE sets
 abbrev pub setting_names : NamedTrees → List (List ℕ)

@@ -174,7 +174,7 @@ fn with_keys<B: Body>(
     ensures { Changes result (changed (with_base (base_relvar name
         (map (ordered_names relation.heading) (map (λ key. key.items) keys.items)) relation) catalog.now)) }
 {
-    let _ = relation.heading().len();
+    relation.heading().reveal();
     let ordered = ordered_keys(alloc, relation.heading(), &keys)?;
     with_relvar(alloc, catalog, name, ordered, relation)
 }

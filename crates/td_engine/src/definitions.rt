@@ -135,7 +135,7 @@ fn parts_of<B: Body>(
         ≡ map (ordered_names d.heading) (map (λ key. key.items) definition.now.keys.items)) }
 {
     let heading = heading_of(catalog, &definition.expression)?;
-    let _ = heading.len();
+    heading.reveal();
     let keys = ordered_keys(alloc, &heading, &definition.keys)?;
     Ok(Derived { heading, keys })
 }

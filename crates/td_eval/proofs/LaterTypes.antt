@@ -4,7 +4,7 @@ use Rattle.std.specs.List.{AllByRecursion, zip}
 use Rattle.std.specs.Prelude.{is_some}
 use Rattle.std.proofs.lemmas.List.Sums.{fold-append}
 use Rattle.td_catalog.specs.Database.{Database, VirtualRelvar, database_scope, with_virtuals}
-use Rattle.td_catalog.specs.TypedDatabases.{EachAfter, IsConstrained, IsTypedVirtual}
+use Rattle.td_catalog.specs.TypedDatabases.{EachAfter, IsConstrained, IsTyped, IsTypedVirtual}
 use Rattle.td_check.specs.OperatorTypes.{are_types_of, if_type}
 use Rattle.td_check.specs.Scopes.{alone_with, scope_of}
 use Rattle.td_check.specs.StatementTypes.{constraint_fits}
@@ -27,6 +27,7 @@ use Rattle.td_value.specs.Values as values
 use Rattle.td_value.specs.Views.{user_view}
 use Rattle.td_value.proofs.KnownValues.{has_its_type}
 use Rattle.td_eval.specs.DatabaseWorlds.{Selectors, constraint_value, selector_value, selectors_of, types_alone, with_selector, world_of_types}
+use Rattle.td_eval.specs.LiteralValues.{CutTypesKeepConstraints}
 use Rattle.td_eval.specs.OperatorValues.{truth_value}
 use Rattle.td_eval.specs.TreeValues.{value_of}
 use Rattle.td_eval.specs.ValueLaws.{IsChecked}
@@ -309,3 +310,23 @@ module _ (ds : List DeclaredType) (is_typed : AreTypedTypes ds) where
 pub stays : (all xs : List DeclaredType) (s : Selectors) (n : List ℕ) (f : List Val → Outcome Val) → s n ≡ Some f → fold (with_selector all) s xs n ≡ Some f
 stays all [] s n f is = is
 stays all (x ∷ xs) s n f is = stays all xs (with_selector all s x) n f (rw (with_selector, is) refl)
+
+-- ---- the types behind a type
+
+pub typed_types : (db : Database) → IsTyped db → ConstraintsAreWritten db.types → AreTypedTypes db.types
+typed_types db is written = record { declared = is.declared; constrained = is.constrained; written = written }
+
+pub cut_types_keep_constraints : CutTypesKeepConstraints
+cut_types_keep_constraints db earlier later d vs is written e h =
+    let whole : AreTypedTypes ((earlier ++ (d ∷ [])) ++ later) =
+    subst AreTypedTypes (e ∙ sym (append_assoc earlier (d ∷ []) later)) (typed_types db is written) in
+    let upto : AreTypedTypes (earlier ++ (d ∷ [])) = first_typed (earlier ++ (d ∷ [])) later whole in
+    let before_it : AreTypedTypes earlier = first_typed earlier (d ∷ []) upto in
+    let selects : SelectThose earlier (selectors_of db.types earlier) = all_select earlier before_it db.types (d ∷ later) e in
+    let small : AreComponentsOf earlier d vs = (
+      h.0,
+      parts_shrunk earlier (d ∷ later) before_it.declared (pack_parts vs) d.components (known_components earlier d.components (upto.declared earlier [] d refl).known)
+          (subst (λ ds. AreOfTypes ds (pack_parts vs) d.components) e h.1),
+    ) in
+    constraint_same earlier d upto (world_of_types db.types earlier)
+    (alike_in_more earlier d upto (world_of_types db.types earlier) (types_more earlier (d ∷ later) db.types (selectors_of db.types earlier) e selects)) vs small

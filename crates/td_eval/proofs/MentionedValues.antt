@@ -4,7 +4,7 @@ use Rattle.std.specs.List.{AllByRecursion}
 use Rattle.std.specs.Prelude.{if◌then◌else◌, is_some, IsTrue}
 use Rattle.std.proofs.lemmas.List.Elements.{Contains-append_left, Contains-append_right}
 use Rattle.td_check.specs.Mentions.{in_tuples, mentioned_by_name, relvars_in, relvars_in_all, relvars_in_items, relvars_in_named, types_in, types_in_all, types_in_items, types_in_named, types_named_in}
-use Rattle.td_check.specs.OperatorTypes.{count_item, aggregate_item, aggregate_type, are_types_of, choice_type, comparison_type, component_type, extension_type, extracted_type, headed_type, known_or, listed_type, measure_type, operator_type, over_relation, postfix_type, prefix_type, selector_type, tuple_type}
+use Rattle.td_check.specs.OperatorTypes.{count_item, aggregate_item, aggregate_type, are_types_of, choice_type, comparison_type, component_type, extension_type, extracted_type, headed_type, known_or, listed_type, measure_type, operator_type, over_relation, postfix_type, prefix_type, selector_type, tuple_type, restriction_type}
 use Rattle.td_check.specs.Scopes.{KnownRelvar, Scope, entered_with, innermost, known_relvar}
 use Rattle.td_check.specs.StaticLaws.{AgreeOn, GiveNames, GivesNames, HasMore, ItemsGiveNames, PartsGiveNames, UsersAllIn, UsersIn}
 use Rattle.td_check.specs.StaticTypes.{items_of, named_types, paired, type_of, types_of, with_items}
@@ -14,9 +14,8 @@ use Rattle.td_check.proofs.MentionLaws.{carried, items_carried_in, named_carried
 use Rattle.td_check.proofs.StaticLaws.{more_changes_no_parts}
 use Rattle.td_check.proofs.SummaryLaws.{HeadingItems, Items}
 use Rattle.td_tree.specs.declared.cause.Cause.TheVariants as causes
-use Rattle.td_tree.specs.declared.operator.Operator.TheVariants as operators
 use Rattle.td_tree.specs.Outcomes.{Outcome, Valued, Refused, value_if, with_both, with_value}
-use Rattle.td_tree.specs.Trees.{AttributeTrees, Tree, literal, name, parentheses, prefix, extract, binary, compare, postfix, select, component, measure, aggregate, relation, headed_relation, tuple, extend, summarize_per, summarize_by, choice, Trees, none, more, NamedTrees, none_named, more_named, Summaries, no_summaries, counted, summed, project}
+use Rattle.td_tree.specs.Trees.{AttributeTrees, Tree, literal, name, parentheses, prefix, extract, restriction, binary, compare, postfix, select, component, measure, aggregate, relation, headed_relation, tuple, extend, summarize_per, summarize_by, choice, Trees, none, more, NamedTrees, none_named, more_named, Summaries, no_summaries, counted, summed, project}
 use Rattle.td_types.specs.Headings.{made_heading}
 use Rattle.td_types.specs.TypeLists.{DeclaredType, attributes_meant, declared_at, heading_meant}
 use Rattle.td_types.specs.Types.{Type', Attribute, Attrs, Heading, pack, unpack}
@@ -230,26 +229,26 @@ module _ (among : List ℕ → Bool) (scope : Scope) (w v : World) (k : KeepsSco
     same (extract m operand) s t h n x a is =
         let y = value_of_with (type_of (here (map heading_of s)) operand) (extracted_type m) t is in
         ap (λ o. with_value o (extracted_value m)) (same operand s y.0 h n x a y.1)
-    same (binary left operators.Where right) s t h n x a is =
+    same (restriction operand condition) s t h n x a is =
         let hs = map heading_of s in
-        let y = value_of_with (type_of (here hs) left)
-        (λ q. over_relation q (λ g. with_value (type_of (entered_with g (here hs)) right) (operator_type operators.Where q))) t is in
-        let first = first_part hs (types_in left) (types_in right) (relvars_in (here hs) left) (relvars_in (in_tuples (here hs) (type_of (here hs) left)) right) a in
-        let rest = rest_part hs (types_in left) (types_in right) (relvars_in (here hs) left) (relvars_in (in_tuples (here hs) (type_of (here hs) left)) right) a in
-        let kept = subst (λ o. KeepsType ds o (value_of w s left)) y.1 (keeps w scope k left s h n.0 x.0) in
-        ap (λ o. with_value o (λ z. on_relation z (restricted_value (λ u. value_of v (u ∷ s) right)))) (same left s y.0 h n.0 x.0 first y.1)
-        ∙ over_same ds y.0 (value_of w s left) (restricted_value (λ u. value_of v (u ∷ s) right)) (restricted_value (λ u. value_of w (u ∷ s) right)) kept
-        (λ g r e head typed. restricted_alike r (λ u. value_of v (u ∷ s) right) (λ u. value_of w (u ∷ s) right)
+        let y = value_of_with (type_of (here hs) operand)
+        (λ q. over_relation q (λ g. with_value (type_of (entered_with g (here hs)) condition) (restriction_type q))) t is in
+        let first = first_part hs (types_in operand) (types_in condition) (relvars_in (here hs) operand) (relvars_in (in_tuples (here hs) (type_of (here hs) operand)) condition) a in
+        let rest = rest_part hs (types_in operand) (types_in condition) (relvars_in (here hs) operand) (relvars_in (in_tuples (here hs) (type_of (here hs) operand)) condition) a in
+        let kept = subst (λ o. KeepsType ds o (value_of w s operand)) y.1 (keeps w scope k operand s h n.0 x.0) in
+        ap (λ o. with_value o (λ z. on_relation z (restricted_value (λ u. value_of v (u ∷ s) condition)))) (same operand s y.0 h n.0 x.0 first y.1)
+        ∙ over_same ds y.0 (value_of w s operand) (restricted_value (λ u. value_of v (u ∷ s) condition)) (restricted_value (λ u. value_of w (u ∷ s) condition)) kept
+        (λ g r e head typed. restricted_alike r (λ u. value_of v (u ∷ s) condition) (λ u. value_of w (u ∷ s) condition)
         (λ u b.
         let at = rows_typed ds r typed u b in
         let place : heading_of u ≡ unpack g = at.1 ∙ head in
-        let into = inside hs (type_of (here hs) left) g (types_in right) (λ m. relvars_in m right) (y.1 ∙ ap Valued e)
-        (subst (UsersIn among) e (users_agreed hs left y.0 first y.1)) rest in
-        let z = value_of_with (type_of (here (unpack g ∷ hs)) right) (operator_type operators.Where (types.relation g)) t
-        (subst (λ q. over_relation q (λ i. with_value (type_of (entered_with i (here hs)) right) (operator_type operators.Where q)) ≡ Valued t) e y.2) in
-        same right (u ∷ s) z.0 (at.0, h) n.1 x.1
-        (subst (λ i. Agreed (i ∷ hs) (types_in right) (relvars_in (here (i ∷ hs)) right)) (sym place) into)
-        (subst (λ i. type_of (here (i ∷ hs)) right ≡ Valued z.0) (sym place) z.1)))
+        let into = inside hs (type_of (here hs) operand) g (types_in condition) (λ m. relvars_in m condition) (y.1 ∙ ap Valued e)
+        (subst (UsersIn among) e (users_agreed hs operand y.0 first y.1)) rest in
+        let z = value_of_with (type_of (here (unpack g ∷ hs)) condition) (restriction_type (types.relation g)) t
+        (subst (λ q. over_relation q (λ i. with_value (type_of (entered_with i (here hs)) condition) (restriction_type q)) ≡ Valued t) e y.2) in
+        same condition (u ∷ s) z.0 (at.0, h) n.1 x.1
+        (subst (λ i. Agreed (i ∷ hs) (types_in condition) (relvars_in (here (i ∷ hs)) condition)) (sym place) into)
+        (subst (λ i. type_of (here (i ∷ hs)) condition ≡ Valued z.0) (sym place) z.1)))
     same (binary left op right) s t h n x a is =
         let hs = map heading_of s in
         let y = values_of_both (type_of (here hs) left) (type_of (here hs) right) (operator_type op) t is in

@@ -182,7 +182,6 @@ module _ (P : List ℕ → Parts → Type 0) where
       by_test false = in_range_meets (int_div x y)
 
   pub operator_meets : (op : Operator) (v w : Val) → HasOnly v → HasOnly w → GivesMet (operator_value op v w)
-  operator_meets operators.Where v w m n = tt
   operator_meets operators.Or v w m n = truths_meet v w _
   operator_meets operators.And v w m n = truths_meet v w _
   operator_meets operators.Union v w m n =

@@ -15,9 +15,8 @@ use Rattle.td_eval.specs.MetConstraints.{EachInTuple, EachInValues, GivesOnly}
 use Rattle.td_eval.specs.OperatorValues.{comparison_value, component_value, extended_value, extracted_value, headed_value, listed_value, measure_value, on_relation, on_truth, operator_value, postfix_value, prefix_value, relation_as_value, restricted_value, tuple_from}
 use Rattle.td_eval.specs.TreeValues.{argument_values, entry_values, items_in_tuples, value_of, values_in_tuples}
 use Rattle.td_eval.specs.Worlds.{World, innermost_value, known_outcome, name_value, scope_among, selected}
-use Rattle.td_tree.specs.declared.operator.Operator.TheVariants as operators
 use Rattle.td_tree.specs.Outcomes.{Outcome, Valued, Refused}
-use Rattle.td_tree.specs.Trees.{Tree, literal, name, parentheses, prefix, extract, binary, compare, postfix, select, component, measure, aggregate, relation, headed_relation, tuple, extend, summarize_per, summarize_by, choice, Trees, none, more, NamedTrees, none_named, more_named, Summaries, no_summaries, counted, summed, project}
+use Rattle.td_tree.specs.Trees.{Tree, literal, name, parentheses, prefix, extract, restriction, binary, compare, postfix, select, component, measure, aggregate, relation, headed_relation, tuple, extend, summarize_per, summarize_by, choice, Trees, none, more, NamedTrees, none_named, more_named, Summaries, no_summaries, counted, summed, project}
 use Rattle.td_types.specs.TypeLists.{heading_meant}
 use Rattle.td_types.specs.Types.{Heading}
 use Rattle.td_value.specs.Values.{Val, Parts, Relation, Tuple, value_at}
@@ -78,11 +77,11 @@ module _ (P : List ℕ → Parts → Type 0) where
           gives_with (HasOnly P) (HasOnly P) (value_of w s operand) (prefix_value op) (value_has operand s m) (prefix_meets P op)
       value_has (extract a operand) s m =
           gives_with (HasOnly P) (HasOnly P) (value_of w s operand) (extracted_value a) (value_has operand s m) (extracted_meets P a)
-      value_has (binary left operators.Where right) s m =
-          gives_with (HasOnly P) (HasOnly P) (value_of w s left) (λ v. on_relation v (restricted_value (λ t. value_of w (t ∷ s) right)))
-          (value_has left s m)
-          (λ v a. relation_gives P (HasOnly P) v (restricted_value (λ t. value_of w (t ∷ s) right)) a
-          (λ r b. restricted_meets P (λ t. value_of w (t ∷ s) right) r b))
+      value_has (restriction operand condition) s m =
+          gives_with (HasOnly P) (HasOnly P) (value_of w s operand) (λ v. on_relation v (restricted_value (λ t. value_of w (t ∷ s) condition)))
+          (value_has operand s m)
+          (λ v a. relation_gives P (HasOnly P) v (restricted_value (λ t. value_of w (t ∷ s) condition)) a
+          (λ r b. restricted_meets P (λ t. value_of w (t ∷ s) condition) r b))
       value_has (binary left op right) s m =
           gives_both (HasOnly P) (HasOnly P) (HasOnly P) (value_of w s left) (value_of w s right) (operator_value op)
           (value_has left s m) (value_has right s m) (λ v u a b. operator_meets P op v u a b)

@@ -65,20 +65,18 @@ rest_told r part p is =
 
 -- ---- what is answered of their names
 
-module _ (attributes : Attributes) (h part : Heading) (name : List ℕ) (p : IsHeading (pack h)) (e : named_part attributes h ≡ Valued part) where
-  by_test : nested_names attributes name h ≡ value_if (not (has_attribute name (outside part h))) (attribute_names part) causes.Heading
-  by_test =
-      ap (λ o. with_value o (λ g. value_if (can_nest (attribute_names g) name h) (attribute_names g) causes.Heading)) e
-      ∙ ap (λ b. value_if b (attribute_names part) causes.Heading) (nest_test h part (part_is_named attributes h part p e) name)
+module _ (attributes : Attributes) (h part : Heading) (name : List ℕ) (e : named_part attributes h ≡ Valued part) where
+  by_test : nested_names attributes name h ≡ value_if (can_nest (attribute_names part) name h) (attribute_names part) causes.Heading
+  by_test = ap (λ o. with_value o (λ g. value_if (can_nest (attribute_names g) name h) (attribute_names g) causes.Heading)) e
 
-  pub names_given : not (has_attribute name (outside part h)) ≡ true → nested_names attributes name h ≡ Valued (attribute_names part)
+  pub names_given : can_nest (attribute_names part) name h ≡ true → nested_names attributes name h ≡ Valued (attribute_names part)
   names_given new = by_test ∙ ap (λ b. value_if b (attribute_names part) causes.Heading) new
 
-  pub names_refused : not (has_attribute name (outside part h)) ≡ false → named_cause (nested_names attributes name h) ≡ Some causes.Heading
+  pub names_refused : can_nest (attribute_names part) name h ≡ false → named_cause (nested_names attributes name h) ≡ Some causes.Heading
   names_refused old = ap named_cause (by_test ∙ ap (λ b. value_if b (attribute_names part) causes.Heading) old)
 
-  -- what is answered where the new name is one of the rest's
-  pub names_misfit : {X Y : Type 0} (view : X → List (List ℕ)) (unit : Y → Unit {0}) (f : Fault) (b : Bool) → b ≡ not (has_attribute name (outside part h))
+  -- what is answered where they can't be put into it
+  pub names_misfit : {X Y : Type 0} (view : X → List (List ℕ)) (unit : Y → Unit {0}) (f : Fault) (b : Bool) → b ≡ can_nest (attribute_names part) name h
       → Answers unit (Err f) (value_if b tt causes.Heading) → Answers view (Err f) (nested_names attributes name h)
   names_misfit view unit faults.Memory b test a = tt
   names_misfit view unit (faults.Refused c) true test a = absurd (cc)

@@ -6,9 +6,8 @@ use Rattle.std.specs.declared.cmp.Ordering.{Ordering}
 use Rattle.std.specs.declared.cmp.Ordering.TheVariants.{Less, Equal, Greater}
 use Rattle.td_algebra.proofs.Entries.{IsTupleOf-tuple_of, names-heading, type_at-heading_of}
 use Rattle.td_algebra.proofs.Relations.{All-from_members, IsRelation-relation_of, member_headed}
-use Rattle.td_check.specs.OperatorTypes.{element_type, extension_type, headed_type, listed_type, operator_type, over_relation, same_heading, same_type, tuple_type}
+use Rattle.td_check.specs.OperatorTypes.{element_type, extension_type, headed_type, listed_type, over_relation, same_heading, same_type, tuple_type, restriction_type}
 use Rattle.td_tree.specs.declared.cause.Cause.TheVariants as causes
-use Rattle.td_tree.specs.declared.operator.Operator.TheVariants as operators
 use Rattle.td_tree.specs.Names.{IsName}
 use Rattle.td_tree.specs.Outcomes.{Outcome, Valued, Refused, gathered, value_if, with_both, with_value}
 use Rattle.td_types.specs.Headings.{are_distinct, heading_from, made_heading}
@@ -204,13 +203,13 @@ module _ (ds : List DeclaredType) where
 
   pub where_keeps : (condition : Heading → Outcome Type') (p : Tuple → Outcome Val) (t : Type') (v : Val) → IsOfType ds v t
       → ((u : Tuple) → IsTypedTuple ds u → KeepsType ds (condition (heading_of u)) (p u))
-      → KeepsType ds (over_relation t (λ h. with_value (condition h) (operator_type operators.Where t))) (on_relation v (restricted_value p))
+      → KeepsType ds (over_relation t (λ h. with_value (condition h) (restriction_type t))) (on_relation v (restricted_value p))
   where_keeps condition p (types.relation h) v q k =
-      relation_keeps ds (with_value (condition (unpack h)) (operator_type operators.Where (types.relation h))) v h (restricted_value p) q
+      relation_keeps ds (with_value (condition (unpack h)) (restriction_type (types.relation h))) v h (restricted_value p) q
       (λ rs w. restricts h rs w (condition (unpack h)) refl)
     where
       restricts : (h : Attrs) (rs : Rows) → IsOfType ds (relation h rs) (types.relation h) → (o : Outcome Type') → condition (unpack h) ≡ o
-          → KeepsType ds (with_value o (operator_type operators.Where (types.relation h))) (restricted_value p (relation_view (unpack h) (unpack_rows rs)))
+          → KeepsType ds (with_value o (restriction_type (types.relation h))) (restricted_value p (relation_view (unpack h) (unpack_rows rs)))
       restricts h rs w (Valued t) e =
           test_keeps ds (same_type t types.boolean) (types.relation h) causes.TypeMismatch (restricted_value p (relation_view (unpack h) (unpack_rows rs)))
           (λ is. subst (λ g. KeepsType ds (Valued (types.relation g)) (restricted_value p (relation_view (unpack h) (unpack_rows rs)))) (pack_unpack h)

@@ -4,7 +4,7 @@ use Rattle.std.specs.List.{AllByRecursion}
 use Rattle.std.specs.Prelude.{⊤}
 use Rattle.td_algebra.proofs.Entries.{type_at-heading_of}
 use Rattle.td_algebra.proofs.Members.{first_true, second_true}
-use Rattle.td_check.specs.OperatorTypes.{count_item, aggregate_item, aggregate_type, are_types_of, comparison_type, component_type, extension_type, extracted_type, headed_type, item_type, known_or, listed_type, measure_type, operator_type, over_relation, postfix_type, prefix_type, same_type, selector_type, tuple_type}
+use Rattle.td_check.specs.OperatorTypes.{count_item, aggregate_item, aggregate_type, are_types_of, comparison_type, component_type, extension_type, extracted_type, headed_type, item_type, known_or, listed_type, measure_type, operator_type, over_relation, postfix_type, prefix_type, same_type, selector_type, tuple_type, restriction_type}
 use Rattle.td_check.specs.Scopes.{KnownRelvar, Scope, entered_with, innermost, known_relvar}
 use Rattle.td_check.specs.StaticLaws.{GiveNames, GivesNames, HasMore, IsKnownHeading, IsScope, ItemsGiveNames, PartsGiveNames}
 use Rattle.td_check.specs.StaticTypes.{items_of, name_type, named_types, type_of, types_of}
@@ -17,7 +17,7 @@ use Rattle.td_tree.specs.declared.cause.Cause.TheVariants as causes
 use Rattle.td_tree.specs.declared.operator.Operator.{Operator}
 use Rattle.td_tree.specs.declared.operator.Operator.TheVariants as operators
 use Rattle.td_tree.specs.Outcomes.{Outcome, Valued, Refused, gathered, value_if, with_both, with_value}
-use Rattle.td_tree.specs.Trees.{AttributeTrees, Tree, literal, name, parentheses, prefix, extract, binary, compare, postfix, select, component, measure, aggregate, relation, headed_relation, tuple, extend, summarize_per, summarize_by, choice, Trees, none, more, NamedTrees, none_named, more_named, Summaries, no_summaries, counted, summed}
+use Rattle.td_tree.specs.Trees.{AttributeTrees, Tree, literal, name, parentheses, prefix, extract, restriction, binary, compare, postfix, select, component, measure, aggregate, relation, headed_relation, tuple, extend, summarize_per, summarize_by, choice, Trees, none, more, NamedTrees, none_named, more_named, Summaries, no_summaries, counted, summed}
 use Rattle.td_types.specs.Headings.{made_heading}
 use Rattle.td_types.specs.TypeListLaws.{HaveNames}
 use Rattle.td_types.specs.TypeLists.{AreKnown, DeclaredType, attributes_meant, declared_at, heading_meant}
@@ -49,31 +49,25 @@ use Rattle.td_eval.proofs.TypedOutcomes.{KeepsAs, Of, as_typed, both_keep, keeps
 use Rattle.td_eval.proofs.TypedRows.{AreEntriesOf, AreOf, extend_keeps, headed_keeps, listed_keeps, own_type, rows_typed, tuple_from_keeps, where_keeps}
 use Rattle.td_eval.proofs.TypedValues.{BothFound, found_in_tuple, type_is}
 
--- ---- operators that value both operands
+-- ---- operators between two operands
 
--- all but WHERE
-abbrev ValuesBoth : Operator → Type 0
-ValuesBoth operators.Where = ⊥
-ValuesBoth op = ⊤
-
-operator_keeps : (ds : List DeclaredType) (op : Operator) → ValuesBoth op → (v w : Val) (s t : Type') → IsOfType ds v s → IsOfType ds w t
+operator_keeps : (ds : List DeclaredType) (op : Operator) (v w : Val) (s t : Type') → IsOfType ds v s → IsOfType ds w t
     → KeepsType ds (operator_type op s t) (operator_value op v w)
-operator_keeps ds operators.Where o v w s t h k = absurd o
-operator_keeps ds operators.Or o v w s t h k = or_keeps ds v w s t h k
-operator_keeps ds operators.And o v w s t h k = and_keeps ds v w s t h k
-operator_keeps ds operators.Union o v w s t h k = union_keeps ds v w s t h k
-operator_keeps ds operators.Intersect o v w s t h k = intersect_keeps ds v w s t h k
-operator_keeps ds operators.Minus o v w s t h k = minus_keeps ds v w s t h k
-operator_keeps ds operators.Join o v w s t h k = join_keeps ds v w s t h k
-operator_keeps ds operators.Times o v w s t h k = times_keeps ds v w s t h k
-operator_keeps ds operators.Compose o v w s t h k = compose_keeps ds v w s t h k
-operator_keeps ds operators.Matching o v w s t h k = matching_keeps ds v w s t h k
-operator_keeps ds operators.NotMatching o v w s t h k = not_matching_keeps ds v w s t h k
-operator_keeps ds operators.Add o v w s t h k = add_keeps ds v w s t h k
-operator_keeps ds operators.Subtract o v w s t h k = subtract_keeps ds v w s t h k
-operator_keeps ds operators.Multiply o v w s t h k = multiply_keeps ds v w s t h k
-operator_keeps ds operators.Divide o v w s t h k = divide_keeps ds v w s t h k
-operator_keeps ds operators.Concatenate o v w s t h k = concatenate_keeps ds v w s t h k
+operator_keeps ds operators.Or v w s t h k = or_keeps ds v w s t h k
+operator_keeps ds operators.And v w s t h k = and_keeps ds v w s t h k
+operator_keeps ds operators.Union v w s t h k = union_keeps ds v w s t h k
+operator_keeps ds operators.Intersect v w s t h k = intersect_keeps ds v w s t h k
+operator_keeps ds operators.Minus v w s t h k = minus_keeps ds v w s t h k
+operator_keeps ds operators.Join v w s t h k = join_keeps ds v w s t h k
+operator_keeps ds operators.Times v w s t h k = times_keeps ds v w s t h k
+operator_keeps ds operators.Compose v w s t h k = compose_keeps ds v w s t h k
+operator_keeps ds operators.Matching v w s t h k = matching_keeps ds v w s t h k
+operator_keeps ds operators.NotMatching v w s t h k = not_matching_keeps ds v w s t h k
+operator_keeps ds operators.Add v w s t h k = add_keeps ds v w s t h k
+operator_keeps ds operators.Subtract v w s t h k = subtract_keeps ds v w s t h k
+operator_keeps ds operators.Multiply v w s t h k = multiply_keeps ds v w s t h k
+operator_keeps ds operators.Divide v w s t h k = divide_keeps ds v w s t h k
+operator_keeps ds operators.Concatenate v w s t h k = concatenate_keeps ds v w s t h k
 
 -- ---- names of types, where more are declared
 
@@ -237,19 +231,19 @@ module _ (w : World) (scope : Scope) (k : KeepsScope w scope) where
     keeps (extract a operand) s h n x =
         value_keeps ds (type_of (with_tuples scope s) operand) (value_of w s operand) (extracted_type a) (extracted_value a)
         (keeps operand s h n x) (λ t v q. extracted_keeps ds a v t q)
-    keeps (binary left operators.Where right) s h n x =
-        value_keeps ds (type_of (with_tuples scope s) left) (value_of w s left)
-        (λ t. over_relation t (λ g. with_value (type_of (entered_with g (with_tuples scope s)) right) (operator_type operators.Where t)))
-        (λ v. on_relation v (restricted_value (λ u. value_of w (u ∷ s) right)))
-        (keeps left s h n.0 x.0)
-        (λ t v q. where_keeps ds (λ g. type_of (entered_with g (with_tuples scope s)) right) (λ u. value_of w (u ∷ s) right) t v q
-        (λ u p. keeps right (u ∷ s) (p, h) n.1 x.1))
+    keeps (restriction operand condition) s h n x =
+        value_keeps ds (type_of (with_tuples scope s) operand) (value_of w s operand)
+        (λ t. over_relation t (λ g. with_value (type_of (entered_with g (with_tuples scope s)) condition) (restriction_type t)))
+        (λ v. on_relation v (restricted_value (λ u. value_of w (u ∷ s) condition)))
+        (keeps operand s h n.0 x.0)
+        (λ t v q. where_keeps ds (λ g. type_of (entered_with g (with_tuples scope s)) condition) (λ u. value_of w (u ∷ s) condition) t v q
+        (λ u p. keeps condition (u ∷ s) (p, h) n.1 x.1))
     keeps (binary left op right) s h n x =
         both_keep ds (type_of (with_tuples scope s) left) (type_of (with_tuples scope s) right) (value_of w s left) (value_of w s right)
         (operator_type op) (operator_value op)
         (keeps left s h n.0 x.0)
         (keeps right s h n.1 x.1)
-        (λ t v u y q r. operator_keeps ds op tt v y t u q r)
+        (λ t v u y q r. operator_keeps ds op v y t u q r)
     keeps (compare left op right) s h n x =
         both_keep ds (type_of (with_tuples scope s) left) (type_of (with_tuples scope s) right) (value_of w s left) (value_of w s right)
         (comparison_type op) (comparison_value op)

@@ -1,11 +1,10 @@
 -- The heading of the attribute that UNGROUP and UNWRAP put the inside of in its place, and what follows of it.
-use Rattle.std.proofs.Common.{◌≡◌, ◌∙◌, ℕ, Bool, true, List, None, Option, Some, refl, subst, sym}
+use Rattle.std.proofs.Common.{◌≡◌, ℕ, true, List, None, Option, Some, refl, subst}
 use Rattle.td_check.specs.OperatorTypes.{attribute_type, known_or, over_relation, over_tuple}
-use Rattle.td_group.specs.Nesting.{can_unnest, heading_inside, inner_heading, is_relation_type, is_tuple_type}
+use Rattle.td_group.specs.Nesting.{heading_inside, inner_heading, is_relation_type, is_tuple_type}
 use Rattle.td_tree.specs.declared.cause.Cause.TheVariants as causes
-use Rattle.td_tree.specs.Outcomes.{Outcome, Valued, value_if, with_value}
-use Rattle.td_types.proofs.OutcomeLaws.{valued_is, value_of_test}
-use Rattle.td_types.specs.Headings.{has_attribute, have_no_common, without_attribute}
+use Rattle.td_tree.specs.Outcomes.{Outcome, Valued, with_value}
+use Rattle.td_types.proofs.OutcomeLaws.{valued_is}
 use Rattle.td_types.specs.Types.{Heading, Type', type_at, unpack}
 use Rattle.td_types.specs.Types as types
 use Rattle.td_value.specs.Values.{Val}
@@ -43,12 +42,3 @@ tuple_found (Some _) part e = absurd (cc)
 pub tuple_there : (name : List ℕ) (g h part : Heading) → g ≡ h → with_value (attribute_type name g) (λ t. over_tuple t Valued) ≡ Valued part
     → HasTuplePart name h part
 tuple_there name g h part same e = subst (λ k. HasTuplePart name k part) same (tuple_found (type_at name g) part e)
-
--- where the rest has none of the names inside
-pub apart_there : (name : List ℕ) (g h rest part : Heading) (b : Bool) → g ≡ h
-    → value_if (has_attribute name g) (without_attribute name g) causes.Heading ≡ Valued rest
-    → inner_heading name h ≡ part → b ≡ have_no_common rest part → b ≡ true → can_unnest name h ≡ true
-apart_there name g h rest part b same reduced inside test holds =
-    let others = (value_of_test (has_attribute name g) (without_attribute name g) rest causes.Heading reduced).1 in
-    subst (λ k. inner_heading name k ≡ part → can_unnest name k ≡ true) same
-    (λ is. (λ i. have_no_common (others i) (is i)) ∙ sym test ∙ holds) inside

@@ -84,13 +84,13 @@ proper : value (trees.compare (of_integers (trees.more (tuple_of_one 1) trees.no
 proper = refl
 
 -- WHERE keeps the tuples for which the condition is TRUE
-kept : value (trees.binary (of_integers (trees.more (tuple_of_one 2) (trees.more (tuple_of_one 1) trees.none))) operators.Where
+kept : value (trees.restriction (of_integers (trees.more (tuple_of_one 2) (trees.more (tuple_of_one 1) trees.none)))
     (trees.compare (trees.name attribute_a) comparisons.Less (digit 2)))
     ≡ Valued (relation (types.attr attribute_a types.integer types.no_attrs) (row (field attribute_a (integer (pos 1)) no_fields) no_rows))
 kept = refl
 
 -- one tuple without a value is enough, and the least of all causes is named
-one_refused : named_cause (value (trees.binary (of_integers (trees.more (tuple_of_one 0) (trees.more (tuple_of_one 1) trees.none))) operators.Where
+one_refused : named_cause (value (trees.restriction (of_integers (trees.more (tuple_of_one 0) (trees.more (tuple_of_one 1) trees.none)))
     (trees.compare (trees.binary (digit 1) operators.Divide (trees.name attribute_a)) comparisons.Less (digit 2)))) ≡ Some causes.ZeroDivisor
 one_refused = refl
 

@@ -8,7 +8,7 @@ use Rattle.td_eval.specs.DatabaseWorlds.{constraint_value, world_of, world_of_ty
 use Rattle.td_eval.specs.OperatorValues.{components_of}
 use Rattle.td_eval.specs.TreeValues.{value_of}
 use Rattle.td_eval.specs.ValueLaws.{HasLater}
-use Rattle.td_eval.specs.ValueTypes.{ConstraintsAreWritten}
+use Rattle.td_eval.specs.ValueTypes.{AreComponentsOf, ConstraintsAreWritten}
 use Rattle.td_eval.specs.Worlds.{World, selected}
 use Rattle.td_tree.specs.Outcomes.{Valued}
 use Rattle.td_types.specs.TypeLists.{DeclaredType}
@@ -61,6 +61,13 @@ abbrev pub MeetsConstraints : List DeclaredType → Val → Type 0
 MeetsConstraints ds = EachUserValue (MeetConstraint ds)
 
 -- ---- laws
+
+-- a type's constraint has the same value where the list of types is cut before it: the types behind it don't count
+abbrev pub CutTypesKeepConstraints : Type 0
+CutTypesKeepConstraints =
+    (db : Database) (earlier later : List DeclaredType) (d : DeclaredType) (vs : List Val) → IsTyped db → ConstraintsAreWritten db.types
+    → db.types ≡ earlier ++ (d ∷ later) → AreComponentsOf db.types d vs
+    → constraint_value (world_of_types db.types earlier) d vs ≡ constraint_value (world_of_types earlier earlier) d vs
 
 -- the tree of a value of a type has that type
 abbrev pub LiteralsHaveTheirTypes : Type 0

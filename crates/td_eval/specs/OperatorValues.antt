@@ -184,8 +184,6 @@ abbrev pub quotient : ℤ → ℤ → Outcome Val
 quotient x y = if is_zero y then Refused (Only causes.ZeroDivisor) else of_number (int_div x y)
 
 abbrev pub operator_value : Operator → Val → Val → Outcome Val
--- the right side of WHERE has no value of its own: it is applied to each tuple
-operator_value operators.Where v w = mismatch
 operator_value operators.Or v w = on_truths v w (λ a b. of_truth (a || b))
 operator_value operators.And v w = on_truths v w (λ a b. of_truth (a && b))
 operator_value operators.Union v w = on_relations v w (λ r s. relation_where (same_heading r.heading s.heading) (union r s))

@@ -1,6 +1,6 @@
 -- The texts in an expression are UTF-8, at every depth (this project's own: what tokens spell is such).
 use Rattle.std.specs.Prelude.{IsUtf8, ⊤}
-use Rattle.td_tree.specs.Trees.{Literal, number, text, truth, table_dee, table_dum, Tree, literal, name, parentheses, prefix, extract, binary, compare, postfix, select, component, measure, aggregate, relation, headed_relation, tuple, extend, summarize_per, summarize_by, choice, Trees, none, more, NamedTrees, none_named, more_named, Summaries, no_summaries, counted, summed}
+use Rattle.td_tree.specs.Trees.{Literal, number, text, truth, table_dee, table_dum, Tree, literal, name, parentheses, prefix, extract, restriction, binary, compare, postfix, select, component, measure, aggregate, relation, headed_relation, tuple, extend, summarize_per, summarize_by, choice, Trees, none, more, NamedTrees, none_named, more_named, Summaries, no_summaries, counted, summed}
 
 abbrev pub IsUtf8Literal : Literal → Type 0
 IsUtf8Literal (number minus magnitude) = ⊤
@@ -16,6 +16,7 @@ abbrev mutual
   HasTexts (parentheses inner) = HasTexts inner
   HasTexts (prefix op operand) = HasTexts operand
   HasTexts (extract a operand) = HasTexts operand
+  HasTexts (restriction operand condition) = HasTexts operand × HasTexts condition
   HasTexts (binary left op right) = HasTexts left × HasTexts right
   HasTexts (compare left op right) = HasTexts left × HasTexts right
   HasTexts (postfix operand op) = HasTexts operand

@@ -8,9 +8,8 @@ use Rattle.td_eval.specs.AggregateValues.{Summand, aggregated_value, asked_of, s
 use Rattle.td_eval.specs.OperatorValues.{comparison_value, component_value, extended_value, extracted_value, headed_value, listed_value, literal_value, measure_value, of_truth, on_relation, on_truth, operator_value, postfix_value, prefix_value, restricted_value, tuple_from}
 use Rattle.td_eval.specs.Worlds.{World, name_value, scope_among, selected}
 use Rattle.td_group.specs.declared.aggregates.Agg.TheVariants as asked
-use Rattle.td_tree.specs.declared.operator.Operator.TheVariants as operators
 use Rattle.td_tree.specs.Outcomes.{Outcome, Valued, with_both, with_value}
-use Rattle.td_tree.specs.Trees.{Tree, literal, name, parentheses, prefix, extract, binary, compare, postfix, select, component, measure, aggregate, relation, headed_relation, tuple, extend, summarize_per, summarize_by, choice, Trees, none, more, NamedTrees, none_named, more_named, Summaries, no_summaries, counted, summed, project}
+use Rattle.td_tree.specs.Trees.{Tree, literal, name, parentheses, prefix, extract, restriction, binary, compare, postfix, select, component, measure, aggregate, relation, headed_relation, tuple, extend, summarize_per, summarize_by, choice, Trees, none, more, NamedTrees, none_named, more_named, Summaries, no_summaries, counted, summed, project}
 use Rattle.td_types.specs.TypeLists.{heading_meant}
 use Rattle.td_value.specs.Values.{Val, Tuple}
 
@@ -21,8 +20,8 @@ abbrev mutual
   value_of w s (parentheses inner) = value_of w s inner
   value_of w s (prefix op operand) = with_value (value_of w s operand) (prefix_value op)
   value_of w s (extract a operand) = with_value (value_of w s operand) (extracted_value a)
-  value_of w s (binary left operators.Where right) =
-      with_value (value_of w s left) (λ v. on_relation v (restricted_value (λ t. value_of w (t ∷ s) right)))
+  value_of w s (restriction operand condition) =
+      with_value (value_of w s operand) (λ v. on_relation v (restricted_value (λ t. value_of w (t ∷ s) condition)))
   value_of w s (binary left op right) = with_both (value_of w s left) (value_of w s right) (operator_value op)
   value_of w s (compare left op right) = with_both (value_of w s left) (value_of w s right) (comparison_value op)
   value_of w s (postfix operand op) = with_value (value_of w s operand) (postfix_value op)

@@ -1,4 +1,5 @@
 //! What the values of expressions are to their callers: each function has its contract alone.
+ghost use Rattle.td_eval.specs.LiteralValues.{CutTypesKeepConstraints};
 ghost use Rattle.td_eval.specs.LiteralValues.{DropsKeepWhatMeets, LaterTypesKeepWhatMeets};
 ghost use Rattle.td_eval.specs.LiteralValues.{LiteralsHaveTheirTypes};
 ghost use Rattle.td_eval.specs.LiteralValues.{LiteralsHaveTheirValues, SelectorsGiveWhatMeets};
@@ -12,8 +13,8 @@ ghost use Rattle.td_eval.specs.ValueLaws.{ValuesDependOnEntries, ValuesDependOnM
 ghost use Rattle.td_eval.specs.ValueTypes.{TypedDatabasesKeepScopes, OtherRelationsKeepScopes};
 ghost use Rattle.td_eval.specs.ValueTypes.{ValuesKeepTypes};
 
-/// An expression that has a type has, if it has a value, a value of that type, and else causes
-/// from OVERFLOW up alone.
+/// An expression that has a type has, if it has a value, a value of that type, and else causes of
+/// evaluation alone: OVERFLOW, ZERO_DIVISOR, EMPTY_AGGREGATE, NOT_ONE_TUPLE or TYPE_CONSTRAINT.
 pub fn values_keep_types()
     ensures { ValuesKeepTypes }
 {}
@@ -72,6 +73,11 @@ pub fn selectors_give_what_meets()
     ensures given { WhatSelectorsGiveMeets }
     ensures later { LaterTypesKeepWhatMeets }
     ensures dropped { DropsKeepWhatMeets }
+{}
+
+/// A type's constraint has the same value where the types behind that type are cut off.
+pub fn cut_types_keep_constraints()
+    ensures { CutTypesKeepConstraints }
 {}
 
 /// In a typed database the tree of the literal of a value whose user values meet the constraints

@@ -19,7 +19,7 @@ ghost use Rattle.td_eval.specs.ValueTypes.{AnswersType, KeepsScope};
 ghost use Rattle.td_eval.specs.Worlds.{known_outcome, name_value, scope_among, selected};
 ghost use Rattle.td_tree.specs.Outcomes.{Answers, gathered};
 ghost use Rattle.td_tree.specs.TreeViews.{named_view, summaries_view, tree_view, trees_view};
-ghost use Rattle.td_tree.specs.Trees.{binary, choice};
+ghost use Rattle.td_tree.specs.Trees.{choice};
 ghost use Rattle.td_types.specs.Views.{pairs_view, type_view};
 
 use crate::env::Env;
@@ -100,7 +100,13 @@ fn value_of<B: Body>(sight: &Sight<'_, B>, tuples: &[Tuple], expr: &Expr) -> Res
         Expr::Parentheses(inner) => value_of(sight, tuples, inner),
         Expr::Prefix(op, operand) => prefix_value(alloc, *op, &value_of(sight, tuples, operand)?),
         Expr::Extract(name, operand) => extracted_value(name, &value_of(sight, tuples, operand)?),
-        Expr::Binary(left, op, right) => binary(sight, tuples, left, *op, right),
+        Expr::Restriction(operand, condition) => {
+            restriction(sight, tuples, &value_of(sight, tuples, operand)?, condition)
+        }
+        Expr::Binary(left, op, right) => {
+            let first = value_of(sight, tuples, left);
+            operated(alloc, *op, first, value_of(sight, tuples, right))
+        }
         Expr::Compare(left, op, right) => {
             let first = value_of(sight, tuples, left);
             compared(alloc, *op, first, value_of(sight, tuples, right))
@@ -144,28 +150,6 @@ fn value_of<B: Body>(sight: &Sight<'_, B>, tuples: &[Tuple], expr: &Expr) -> Res
                 &projected_by(alloc, &operand, by)?,
                 items,
             )
-        }
-    }
-}
-
-/// The value of an operator between two operands.
-#[cycle(value)]
-fn binary<B: Body>(
-    sight: &Sight<'_, B>,
-    tuples: &[Tuple],
-    left: &Expr,
-    op: Operator,
-    right: &Expr,
-) -> Result<Value, Fault>
-    requires { IsSight sight.now }
-    ensures { Answers (λ v. v) result (value_of (seen_by sight.now) (reverse tuples.now)
-        (binary (tree_view left.now) op (tree_view right.now))) }
-{
-    match op {
-        Operator::Where => restriction(sight, tuples, &value_of(sight, tuples, left)?, right),
-        _ => {
-            let first = value_of(sight, tuples, left);
-            operated(sight.alloc, op, first, value_of(sight, tuples, right))
         }
     }
 }

@@ -65,17 +65,30 @@ joined_headed g h t x p q e =
     (λ n there. has_name-heading h x q n ∙ turned (has_attribute n g) (has_attribute n h) (apart g h e n) there)
     (λ n. ap (λ o. if has_attribute n g then type_at n g else o) (typed_values h x q n) ∙ sym (type_at-union n g h))
 
+pub tuples_apart : (g h : Heading) (t x : Tuple) → IsTupleOf g t → IsTupleOf h x → have_no_common g h ≡ true → are_distinct (tuple_names (t ++ x)) ≡ true
+tuples_apart g h t x p q e =
+    distinct_append t x (tuple_distinct t p.0) (tuple_distinct x q.0)
+    (λ n there. has_name-heading h x q n ∙ turned (has_attribute n g) (has_attribute n h) (apart g h e n) (sym (has_name-heading g t p n) ∙ there))
+
+-- a name that is there is not one that is lacking
+other_name : (g : Heading) (name : List ℕ) → has_attribute name g ≡ false → (n : List ℕ) → has_attribute n g ≡ true → (b : Bool) → same_name name n ≡ b
+    → has_name n (name ∷ []) ≡ false
+other_name g name new n there true e = absurd (true≢false (sym there ∙ ap (λ m. has_attribute m g) (sym (same_text name n (sym e))) ∙ new))
+other_name g name new n there false e = rw e refl
+
+pub entry_apart : (g : Heading) (t : Tuple) (name : List ℕ) (v : Val) → IsTupleOf g t → has_attribute name g ≡ false
+    → are_distinct (tuple_names (t ++ (name, v) ∷ [])) ≡ true
+entry_apart g t name v p new =
+    distinct_append t ((name, v) ∷ []) (tuple_distinct t p.0) refl
+    (λ n there. other_name g name new n (sym (has_name-heading g t p n) ∙ there) (same_name name n) refl)
+
 -- a tuple with one more entry, of a name that its heading lacks
 pub entry_headed : (g : Heading) (t : Tuple) (name : List ℕ) (v : Val) (kind : Type') → IsTupleOf g t → has_attribute name g ≡ false → IsValue v → type_of v ≡ kind
     → IsHeading (pack (with_attribute g (name, kind))) → IsTupleOf (with_attribute g (name, kind)) (tuple_of (t ++ (name, v) ∷ []))
 entry_headed g t name v kind p new val typed w =
-    together_headed g (with_attribute g (name, kind)) t ((name, v) ∷ []) p (val, tt) refl w (λ n there. other n there (same_name name n) refl)
+    together_headed g (with_attribute g (name, kind)) t ((name, v) ∷ []) p (val, tt) refl w (λ n there. other_name g name new n there (same_name name n) refl)
     (λ n. by_name n (same_name name n) refl ∙ sym (type_at-with n name kind g))
   where
-    other : (n : List ℕ) → has_attribute n g ≡ true → (b : Bool) → same_name name n ≡ b → has_name n (name ∷ []) ≡ false
-    other n there true e = absurd (true≢false (sym there ∙ ap (λ m. has_attribute m g) (sym (same_text name n (sym e))) ∙ new))
-    other n there false e = rw e refl
-
     by_name : (n : List ℕ) (b : Bool) → same_name name n ≡ b
         → (if has_attribute n g then type_at n g else option_map type_of (if b then Some v else None)) ≡ (if b then Some kind else type_at n g)
     by_name n true e =

@@ -1,12 +1,12 @@
 -- The parts of GROUP: the rest of a heading, and the groups as a column.
 use Rattle.std.proofs.Common.{◌≡◌, ◌∙◌, ap, sym, refl, subst, ℕ, Bool, true, false, List, [], ◌∷◌, None, length, map, true≢false}
-use Rattle.std.specs.Prelude.{◌||◌, not, is_some, IsTrue}
-use Rattle.std.specs.List.{All, AllByRecursion, list_all}
+use Rattle.std.specs.Prelude.{not, is_some, IsTrue}
+use Rattle.std.specs.List.{All, AllByRecursion}
 use Rattle.std.proofs.lemmas.List.{length-map}
 use Rattle.std.proofs.lemmas.List.Elements.{All-from_recursion}
 use Rattle.td_types.specs.Headings.{are_distinct, has_attribute, has_attributes, has_name, has_projection, outside, projection}
-use Rattle.td_types.specs.Types.{Type', Heading, IsHeading, attribute_names, pack, same_name, type_at}
-use Rattle.td_types.proofs.HeadingLaws.{IsHeading-filter, has_attribute-names, same_name-itself, type_at-projection}
+use Rattle.td_types.specs.Types.{Type', Heading, IsHeading, attribute_names, pack, type_at}
+use Rattle.td_types.proofs.HeadingLaws.{IsHeading-filter, has_attribute-names, type_at-projection}
 use Rattle.td_value.specs.Agreement.{agree_on}
 use Rattle.td_value.specs.Values.{Val, Relation, Tuple, type_of}
 use Rattle.td_algebra.specs.Columns.{IsColumn}

@@ -8,6 +8,7 @@ mod GroupMembers
 mod Grouped
 mod Keyed
 pub mod Nested
+mod NestTests
 mod NestedMembers
 mod OnNames
 mod Rests

@@ -1,6 +1,6 @@
 -- The rows of WRAP, UNGROUP and UNWRAP have the headings of their results.
 use Rattle.std.proofs.Common.{◌≡◌, ◌∙◌, ap, sym, refl, subst, ℕ, Bool, true, false, List, [], ◌∷◌, ◌++◌, Option, None, Some, inl, inr, map, true≢false, ◌⊎◌}
-use Rattle.std.specs.Prelude.{IsTrue, if◌then◌else◌, not, option_map}
+use Rattle.std.specs.Prelude.{IsTrue, if◌then◌else◌, is_some, not, option_map}
 use Rattle.std.specs.List.{All, Contains, flat_map}
 use Rattle.std.proofs.lemmas.List.Elements.{All-contains}
 use Rattle.td_types.specs.Headings.{has_attribute, has_projection, heading_union, projection, with_attribute, without_attribute}
@@ -15,8 +15,8 @@ use Rattle.td_algebra.proofs.Lists.{contains_cases, contains_flat_map, contains_
 use Rattle.td_algebra.proofs.Members.{second_true}
 use Rattle.td_algebra.proofs.Projections.{IsTupleOf-projected}
 use Rattle.td_algebra.proofs.Relations.{All-from_members}
-use Rattle.td_group.specs.Nesting.{can_nest, can_unnest, heading_inside, inner_heading, other_names, rest_heading, rest_names, tuple_value, tuples_inside, unnested_tuples, wrapped_tuple}
-use Rattle.td_group.proofs.Apart.{entry_headed, joined_headed}
+use Rattle.td_group.specs.Nesting.{AreApart, can_nest, can_unnest, heading_inside, inner_heading, is_relation_type, is_tuple_type, other_names, rest_heading, rest_names, tuple_value, tuples_inside, unnested_tuples, wrapped_tuple}
+use Rattle.td_group.proofs.Apart.{entry_apart, entry_headed, joined_headed, tuples_apart}
 use Rattle.td_group.proofs.Rests.{rest_headed}
 
 -- what is packed again
@@ -56,6 +56,15 @@ wrapped_headed names name r all can w =
         (entry_headed (rest_heading names r.heading) (projected_tuple (rest_names names r) t) name (tuple_value (projected_tuple names t)) (types.tuple (pack (projection names r.heading)))
         (rest_headed (λ n. not (has_attribute n (projection names r.heading))) r.heading t has)
         (lacked (has_attribute name (rest_heading names r.heading)) (second_true (has_projection names r.heading) (not (has_attribute name (rest_heading names r.heading))) can)) (IsTupleOf-projected names r.heading t has).0 (part_typed names r.heading t has) w)
+
+-- the rest of a tuple has no name of the new one
+pub wrapped_apart : (names : List (List ℕ)) (name : List ℕ) (r : Relation) → All (IsTupleOf r.heading) r.body → IsTrue (can_nest names name r.heading)
+    → All (λ t. AreApart (projected_tuple (rest_names names r) t) ((name, tuple_value (projected_tuple names t)) ∷ [])) r.body
+wrapped_apart names name r all can =
+    All-from_members (λ t. AreApart (projected_tuple (rest_names names r) t) ((name, tuple_value (projected_tuple names t)) ∷ [])) r.body (λ t c.
+    entry_apart (rest_heading names r.heading) (projected_tuple (rest_names names r) t) name (tuple_value (projected_tuple names t))
+    (rest_headed (λ n. not (has_attribute n (projection names r.heading))) r.heading t (All-contains (IsTupleOf r.heading) r.body t all c))
+    (lacked (has_attribute name (rest_heading names r.heading)) (second_true (has_projection names r.heading) (not (has_attribute name (rest_heading names r.heading))) can)))
 
 -- ---- UNGROUP and UNWRAP
 
@@ -116,3 +125,22 @@ unnested_headed name r all can =
         subst (IsTupleOf (unnested_heading name r)) q.2
         (joined_headed (without_attribute name r.heading) (inner_heading name r.heading) (projected_tuple (other_names name r) u) q.0
         (rest_headed (λ n. not (same_name n name)) r.heading u has) (inside_headed name r.heading u q.0 has q.1) can)
+
+-- the rest of a tuple has no name of a tuple inside
+pub unnested_apart : (name : List ℕ) (r : Relation) → All (IsTupleOf r.heading) r.body → IsTrue (can_unnest name r.heading)
+    → All (λ u. All (AreApart (projected_tuple (other_names name r) u)) (tuples_inside (value_at name u))) r.body
+unnested_apart name r all can =
+    All-from_members (λ u. All (AreApart (projected_tuple (other_names name r) u)) (tuples_inside (value_at name u))) r.body (λ u c.
+    let has : IsTupleOf r.heading u = All-contains (IsTupleOf r.heading) r.body u all c in
+    All-from_members (AreApart (projected_tuple (other_names name r) u)) (tuples_inside (value_at name u)) (λ x d.
+    tuples_apart (without_attribute name r.heading) (inner_heading name r.heading) (projected_tuple (other_names name r) u) x
+    (rest_headed (λ n. not (same_name n name)) r.heading u has) (inside_headed name r.heading u x has d) can))
+
+-- an attribute of a relation type, or of a tuple type, is there
+pub there_of_relations : (t : Option Type') → is_relation_type t ≡ true → is_some t ≡ true
+there_of_relations None e = absurd (true≢false (sym e))
+there_of_relations (Some t) e = refl
+
+pub there_of_tuples : (t : Option Type') → is_tuple_type t ≡ true → is_some t ≡ true
+there_of_tuples None e = absurd (true≢false (sym e))
+there_of_tuples (Some t) e = refl

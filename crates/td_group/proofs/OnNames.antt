@@ -15,7 +15,7 @@ use Rattle.td_types.specs.Types.{Attribute, Heading, attribute_names, same_name,
 use Rattle.td_types.proofs.HeadingLaws.{has_attribute-names, name_cmp, same_name-itself, same_name-ties, type_at-common, type_at-projection}
 use Rattle.td_value.specs.Agreement.{agree_on}
 use Rattle.td_value.specs.Sets.{has}
-use Rattle.td_value.specs.ValueOrder.{order_same, tuple_Decides, value_Decides}
+use Rattle.td_value.specs.ValueOrder.{tuple_Decides, value_Decides}
 use Rattle.td_value.specs.Values.{Val, IsTupleOf, Tuple, projected_tuple, tuple_names, type_of, value_at}
 use Rattle.td_value.specs.Views.{tuple_view, values_of}
 use Rattle.td_value.proofs.Agreement.{names_ascend, value_of_projection}

@@ -242,7 +242,7 @@ pub fn tclose(alloc: Global, rel: &Rel) -> Result<Rel, AllocError>
     ensures { IfOk result (λ r. r ≡ closure rel.now) }
 {
     let heading = rel.heading();
-    let _ = heading.len();
+    heading.reveal();
     let names = NameList::new(alloc, attribute_names(heading)?)?;
     let table = successors_of(alloc, rel.rows())?;
     let pairs = pairs_from(alloc, &names, &table, &starts_of(alloc, rel.rows())?)?;

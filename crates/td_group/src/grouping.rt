@@ -6,10 +6,10 @@ ghost use Rattle.td_group.specs.Nesting.{can_nest, grouped_relation, relation_va
 ghost use Rattle.td_types.specs.Headings.{has_projection};
 
 use crate::groups::{attribute_names, groups_on};
-use crate::want::unrefused;
 use std::alloc::{AllocError, Global};
 use td_algebra::extension::{Column, extend};
 use td_algebra::projection::project;
+use td_tree::fault::unrefused;
 use td_tree::name::Name;
 use td_types::ty::Ty;
 use td_value::relation::Rel;
@@ -34,13 +34,14 @@ fn group_values(
     Ok(values)
 }
 
-/// The relation with the attributes of the names put into one relation-valued attribute.
+/// The relation with the attributes of the names put into one relation-valued attribute. `can_nest`
+/// is the test of what is asked.
 pub fn group(alloc: Global, rel: &Rel, names: &[Name], name: Name) -> Result<Rel, AllocError>
     requires { IsTrue (can_nest names.now name rel.now.heading) }
     ensures { IfOk result (λ r. r ≡ grouped_relation names.now name rel.now) }
 {
     let heading = rel.heading();
-    let _ = heading.len();
+    heading.reveal();
     let part = unrefused(heading.project(names))?;
     let rest = heading.lacking(&part)?;
     let keys = project(alloc, rel, &attribute_names(&rest)?)?;

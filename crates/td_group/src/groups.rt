@@ -10,9 +10,9 @@ ghost use Rattle.td_types.specs.Types.{Attribute, attribute_names};
 ghost use Rattle.td_value.specs.Values.{Val};
 ghost use Rattle.td_value.specs.Views.{relation_view, values_of};
 
-use crate::want::unrefused;
 use std::alloc::{AllocError, Global};
 use std::collections::HashMap;
+use td_tree::fault::unrefused;
 use td_tree::name::Name;
 use td_types::heading::Heading;
 use td_value::relation::Rel;
@@ -171,7 +171,7 @@ pub(crate) fn groups_on(
     ensures { IfOk result (λ found.
         found.items ≡ groups_on (attribute_names common.now) rel.now per.now.body) }
 {
-    let _ = common.len();
+    common.reveal();
     let _ = rel.rows();
     let table = by_values(alloc, common, rel)?;
     let places = places_of(alloc, common, per.heading())?;
@@ -198,7 +198,7 @@ pub fn groups(alloc: Global, rel: &Rel, per: &Rel) -> Result<Vec<(Tuple, Rel)>, 
     requires { IsTrue (agree per.now.heading rel.now.heading) }
     ensures { IfOk result (λ found. found.items ≡ groups rel.now per.now) }
 {
-    let _ = per.heading().len();
+    per.heading().reveal();
     let common = unrefused(per.heading().common(rel.heading()))?;
     groups_on(alloc, &common, rel, per)
 }

@@ -1,15 +1,16 @@
 //! UNGROUP and UNWRAP: the tuples that an attribute's value has or is, each with the rest.
 ghost use Rattle.std.specs.Prelude.{◌≡◌, ◌++◌, IfOk, IsTrue, OnOk, Some, map};
-ghost use Rattle.std.specs.List.{flat_map};
-ghost use Rattle.td_group.specs.Nesting.{can_unnest, inner_heading, is_relation_type};
+ghost use Rattle.std.specs.List.{All, flat_map};
+ghost use Rattle.td_group.specs.Nesting.{AreApart, can_unnest, inner_heading, is_relation_type};
 ghost use Rattle.td_group.specs.Nesting.{is_tuple_type, tuples_inside, unnested_relation};
+ghost use Rattle.td_types.specs.Headings.{has_attribute};
 ghost use Rattle.td_types.specs.Types.{type_at};
 ghost use Rattle.td_value.specs.Values.{projected_tuple, tuple_of, value_at};
 
 use crate::groups::attribute_names;
 use crate::tuples::joined;
-use crate::want::unrefused;
 use std::alloc::{AllocError, Global};
+use td_tree::fault::unrefused;
 use td_tree::name::Name;
 use td_types::heading::Heading;
 use td_types::ty::Ty;
@@ -35,6 +36,7 @@ fn put_joined(
     tuples: &[Tuple],
     rows: &mut Vec<Tuple>,
 ) -> Result<(), AllocError>
+    requires { All (AreApart rest.now) tuples.now }
     ensures { OnOk result (rows.new.items
         ≡ rows.old.items ++ map (λ x. tuple_of (rest.now ++ x)) tuples.now) }
 {
@@ -51,6 +53,7 @@ fn put_inside(
     value: &Value,
     rows: &mut Vec<Tuple>,
 ) -> Result<(), AllocError>
+    requires { All (AreApart rest.now) (tuples_inside (Some value.now)) }
     ensures { OnOk result (rows.new.items ≡ rows.old.items
         ++ map (λ x. tuple_of (rest.now ++ x)) (tuples_inside (Some value.now))) }
 {
@@ -70,6 +73,8 @@ fn put_unnested(
     name: &Name,
     rows: &mut Vec<Tuple>,
 ) -> Result<(), AllocError>
+    requires { All (AreApart (projected_tuple rest.now row.now))
+        (tuples_inside (value_at name.now row.now)) }
     ensures { OnOk result (rows.new.items ≡ rows.old.items
         ++ map (λ x. tuple_of (projected_tuple rest.now row.now ++ x))
         (tuples_inside (value_at name.now row.now))) }
@@ -87,6 +92,8 @@ fn unnested_rows(
     rest: &[Name],
     name: &Name,
 ) -> Result<Vec<Tuple>, AllocError>
+    requires { All (λ u. All (AreApart (projected_tuple rest.now u))
+        (tuples_inside (value_at name.now u))) rows.now }
     ensures { IfOk result (λ unnested. unnested.items ≡ flat_map (λ u.
         map (λ x. tuple_of (projected_tuple rest.now u ++ x))
         (tuples_inside (value_at name.now u))) rows.now) }
@@ -100,11 +107,12 @@ fn unnested_rows(
 
 /// The relation with what is inside the attribute in its place.
 fn unnest(alloc: Global, rel: &Rel, name: &Name) -> Result<Rel, AllocError>
-    requires { IsTrue (can_unnest name.now rel.now.heading) }
+    requires there { IsTrue (has_attribute name.now rel.now.heading) }
+    requires apart { IsTrue (can_unnest name.now rel.now.heading) }
     ensures { IfOk result (λ r. r ≡ unnested_relation name.now rel.now) }
 {
     let heading = rel.heading();
-    let _ = heading.len();
+    heading.reveal();
     let inner = inner_heading(alloc, heading, name)?;
     let rest = unrefused(heading.without(name))?;
     let rows = unnested_rows(alloc, rel.rows(), &attribute_names(&rest)?, name)?;
@@ -112,7 +120,8 @@ fn unnest(alloc: Global, rel: &Rel, name: &Name) -> Result<Rel, AllocError>
     Rel::new(heading, rows)
 }
 
-/// The relation with the tuples of a relation-valued attribute in its place.
+/// The relation with the tuples of a relation-valued attribute in its place. `can_unnest` is the
+/// test of what is asked of the names.
 pub fn ungroup(alloc: Global, rel: &Rel, name: &Name) -> Result<Rel, AllocError>
     requires relation { IsTrue (is_relation_type (type_at name.now rel.now.heading)) }
     requires apart { IsTrue (can_unnest name.now rel.now.heading) }
@@ -121,7 +130,8 @@ pub fn ungroup(alloc: Global, rel: &Rel, name: &Name) -> Result<Rel, AllocError>
     unnest(alloc, rel, name)
 }
 
-/// The relation with the attributes of a tuple-valued attribute in its place.
+/// The relation with the attributes of a tuple-valued attribute in its place. `can_unnest` is the
+/// test of what is asked of the names.
 pub fn unwrap(alloc: Global, rel: &Rel, name: &Name) -> Result<Rel, AllocError>
     requires tuple { IsTrue (is_tuple_type (type_at name.now rel.now.heading)) }
     requires apart { IsTrue (can_unnest name.now rel.now.heading) }

@@ -1,12 +1,13 @@
 //! WRAP: each tuple with the tuple of some of its attributes in their place.
 ghost use Rattle.std.specs.Prelude.{◌≡◌, ◌∷◌, ◌++◌, [], IfOk, IsTrue, map};
-ghost use Rattle.td_group.specs.Nesting.{can_nest, tuple_value, wrapped_relation};
+ghost use Rattle.std.specs.List.{All};
+ghost use Rattle.td_group.specs.Nesting.{AreApart, can_nest, tuple_value, wrapped_relation};
 ghost use Rattle.td_value.specs.Values.{projected_tuple, tuple_of};
 
 use crate::groups::attribute_names;
 use crate::tuples::joined;
-use crate::want::unrefused;
 use std::alloc::{AllocError, Global};
+use td_tree::fault::unrefused;
 use td_tree::name::Name;
 use td_types::ty::Ty;
 use td_value::relation::Rel;
@@ -31,6 +32,8 @@ fn wrapped_rows(
     names: &[Name],
     name: &Name,
 ) -> Result<Vec<Tuple>, AllocError>
+    requires { All (λ t. AreApart (projected_tuple rest.now t)
+        ((name.now, tuple_value (projected_tuple names.now t)) ∷ [])) rows.now }
     ensures { IfOk result (λ wrapped. wrapped.items ≡ map (λ t. tuple_of (projected_tuple rest.now t
         ++ (name.now, tuple_value (projected_tuple names.now t)) ∷ [])) rows.now) }
 {
@@ -42,17 +45,18 @@ fn wrapped_rows(
     Ok(wrapped)
 }
 
-/// The relation with the attributes of the names put into one tuple-valued attribute.
+/// The relation with the attributes of the names put into one tuple-valued attribute. `can_nest` is
+/// the test of what is asked.
 pub fn wrap(alloc: Global, rel: &Rel, names: &[Name], name: Name) -> Result<Rel, AllocError>
     requires { IsTrue (can_nest names.now name rel.now.heading) }
     ensures { IfOk result (λ r. r ≡ wrapped_relation names.now name rel.now) }
 {
     let heading = rel.heading();
-    let _ = heading.len();
+    heading.reveal();
     let part = unrefused(heading.project(names))?;
     let rest = heading.lacking(&part)?;
     let rows = wrapped_rows(alloc, rel.rows(), &attribute_names(&rest)?, names, &name)?;
     let heading = unrefused(rest.with(name, Ty::Tup(part)))?;
-    let _ = heading.len();
+    heading.reveal();
     Rel::new(heading, rows)
 }

@@ -1,27 +1,28 @@
 -- What reading an expression of a level comes to: its tree, or the level's loop with the tree on the left.
-use Rattle.std.proofs.Common.{◌≡◌, ℕ, zero, suc, ◌+◌, ◌<◌, ◌≤◌, false, List, [], ◌∷◌, ◌++◌, Some, None, refl, ap, ◌∙◌, append_assoc, arith}
+use Rattle.std.proofs.Common.{◌≡◌, ℕ, zero, suc, ◌+◌, ◌<◌, ◌≤◌, false, List, [], ◌∷◌, ◌++◌, Some, None, refl, ap, ◌∙◌, append_assoc, arith, max}
 use Rattle.std.proofs.lemmas.Bool.{le-leb}
 use Rattle.td_tree.specs.declared.keyword.Keyword.TheVariants as k
 use Rattle.td_tree.specs.declared.operator.Comparison.{Comparison}
 use Rattle.td_tree.specs.declared.operator.Level.{Level}
 use Rattle.td_tree.specs.declared.operator.Level.TheVariants as levels
-use Rattle.td_tree.specs.declared.operator.Operator.{Operator}
+use Rattle.td_parse.specs.declared.operators.Link.{Link}
 use Rattle.td_tree.specs.declared.operator.Operator.TheVariants as operators
+use Rattle.td_parse.specs.declared.operators.Link.TheVariants as links
 use Rattle.td_tree.specs.declared.operator.Prefix.TheVariants as prefixes
 use Rattle.td_tree.specs.declared.token.Sign.TheVariants as signs
-use Rattle.td_tree.specs.Grammar.{tighter, level_of, operator_words, comparison_word, BeginsOtherwise, PostfixSpelling}
+use Rattle.td_tree.specs.Grammar.{tighter, comparison_word, BeginsOtherwise, PostfixSpelling}
 use Rattle.td_tree.specs.Heights.{height}
 use Rattle.td_tree.specs.Lexemes.{Lexeme, keyword, sign}
 use Rattle.td_tree.specs.Lexemes as lexeme
 use Rattle.td_parse.specs.Reading.{Read, postfixes, postfixed, extracted, applied, prefixed, operations, chain, multiplicative, additive, relational, compared_to, compared, negated, conjunction, disjunction, restriction, by_level, read}
-use Rattle.td_parse.specs.ReadingOperators.{operator_at, prefix_at, extraction_at, postfix_at}
+use Rattle.td_parse.specs.ReadingOperators.{link_level, link_words, linked, link_at, prefix_at, extraction_at, postfix_at}
 use Rattle.td_parse.specs.ReadingSteps.{◌>>=◌, expect}
 use Rattle.td_tree.specs.Trees as tree
 use Rattle.td_tree.specs.Trees.{Text, Tree, Postfix}
 use Rattle.td_parse.proofs.AgainNames.{postfix_again, postfix_is}
 use Rattle.td_parse.proofs.Begins.{Begins, begins_no}
 use Rattle.td_parse.proofs.BeginsPlain.{from, IsPlain, Plain}
-use Rattle.td_parse.proofs.Stops.{Stops, operator_stops, is_operator, comparison_stops, is_comparison, postfix_stops}
+use Rattle.td_parse.proofs.Stops.{Stops, link_stops, is_link, comparison_stops, is_comparison, postfix_stops}
 
 -- reading at a level gives the tree, whatever follows
 pub record Again (level : Level) (xs : List Lexeme) (t : Tree) : Type 0 where
@@ -67,6 +68,7 @@ height_pos (tree.name n) = omega arith
 height_pos (tree.parentheses a) = omega arith
 height_pos (tree.prefix op a) = omega arith
 height_pos (tree.extract n a) = omega arith
+height_pos (tree.restriction a b) = omega arith
 height_pos (tree.binary a op b) = omega arith
 height_pos (tree.compare a op b) = omega arith
 height_pos (tree.postfix a p) = omega arith
@@ -84,7 +86,7 @@ height_pos (tree.choice a b c) = omega arith
 
 -- ---- where a loop ends
 
-stop : (level : Level) (d k : ℕ) (t : Tree) (s : List Lexeme) → 0 < k → operator_at level s ≡ None → operations (read d) d level k t s ≡ Some (t, s)
+stop : (level : Level) (d k : ℕ) (t : Tree) (s : List Lexeme) → 0 < k → link_at level s ≡ None → operations (read d) d level k t s ≡ Some (t, s)
 unfolding operations
 stop level d zero t s lt e = absurd (omega arith)
 stop level d (suc k) t s lt e = rw e refl
@@ -104,7 +106,7 @@ ended tight level start loop xs t tighter_stops stops go = record {
       g.2 ∙ stops d g.0 s (omega (arith, g.1)) st;
 }
 
-chain_ended : (level : Level) (xs : List Lexeme) (t : Tree) → ((s : List Lexeme) → Stops level s → Stops (tighter level) s) → ((s : List Lexeme) → Stops level s → operator_at level s ≡ None) → Chained level xs t → Gets level (at level) xs t
+chain_ended : (level : Level) (xs : List Lexeme) (t : Tree) → ((s : List Lexeme) → Stops level s → Stops (tighter level) s) → ((s : List Lexeme) → Stops level s → link_at level s ≡ None) → Chained level xs t → Gets level (at level) xs t
 chain_ended level xs t tight none = ended (tighter level) level (at level) (loop_at level) xs t tight (λ d k s lt st. stop level d k t s lt (none s st))
 
 gets_at : (level : Level) (xs : List Lexeme) (t : Tree) → Reads level xs t → Gets level (at level) xs t
@@ -201,43 +203,48 @@ alone levels.Primary xs t b p r = r
 
 -- ---- operators
 
-turn : (op : Operator) (d k : ℕ) (a b : Tree) (ts s : List Lexeme) → read d (tighter (level_of op)) ts ≡ Some (b, s) → height (tree.binary a op b) ≤ suc d
-    → operations (read d) d (level_of op) (suc k) a (operator_words op ++ ts) ≡ operations (read d) d (level_of op) k (tree.binary a op b) s
-unfolding operations
-turn op d k a b ts s h lt = rw (is_operator op ts, h, le-leb _ _ lt) refl
+linked_height : (a : Tree) (op : Link) (b : Tree) → height (linked a op b) ≡ max (height a) (height b) + 1
+linked_height a links.Where b = refl
+linked_height a (links.Operator op) b = refl
 
-longer : (op : Operator) (xs ys : List Lexeme) (a b : Tree) → Chained (level_of op) xs a → Again (tighter (level_of op)) ys b → Chained (level_of op) (xs ++ (operator_words op ++ ys)) (tree.binary a op b)
+turn : (op : Link) (d k : ℕ) (a b : Tree) (ts s : List Lexeme) → read d (tighter (link_level op)) ts ≡ Some (b, s) → height (linked a op b) ≤ suc d
+    → operations (read d) d (link_level op) (suc k) a (link_words op ++ ts) ≡ operations (read d) d (link_level op) k (linked a op b) s
+unfolding operations
+turn op d k a b ts s h lt = rw (is_link op ts, h, le-leb _ _ lt) refl
+
+longer : (op : Link) (xs ys : List Lexeme) (a b : Tree) → Chained (link_level op) xs a → Again (tighter (link_level op)) ys b → Chained (link_level op) (xs ++ (link_words op ++ ys)) (linked a op b)
 longer op xs ys a b go r = record {
   goes = λ d s lt st.
-      let g = go.goes d (operator_words op ++ (ys ++ s)) (omega arith) (operator_stops op (ys ++ s)) in
-      let regroup : (xs ++ (operator_words op ++ ys)) ++ s ≡ xs ++ (operator_words op ++ (ys ++ s)) = append_assoc xs (operator_words op ++ ys) s ∙ ap (λ (x : List Lexeme). xs ++ x) (append_assoc (operator_words op) ys s) in
-      elim g.0 as (λ k. suc d < k + height a → at (level_of op) d (xs ++ (operator_words op ++ (ys ++ s))) ≡ loop_at (level_of op) d k a (operator_words op ++ (ys ++ s))
-      → (k : ℕ) × (suc d < k + height (tree.binary a op b)) × (at (level_of op) d ((xs ++ (operator_words op ++ ys)) ++ s) ≡ loop_at (level_of op) d k (tree.binary a op b) s)) [
+      let high = linked_height a op b in
+      let g = go.goes d (link_words op ++ (ys ++ s)) (omega (arith, high)) (link_stops op (ys ++ s)) in
+      let regroup : (xs ++ (link_words op ++ ys)) ++ s ≡ xs ++ (link_words op ++ (ys ++ s)) = append_assoc xs (link_words op ++ ys) s ∙ ap (λ (x : List Lexeme). xs ++ x) (append_assoc (link_words op) ys s) in
+      elim g.0 as (λ k. suc d < k + height a → at (link_level op) d (xs ++ (link_words op ++ (ys ++ s))) ≡ loop_at (link_level op) d k a (link_words op ++ (ys ++ s))
+      → (k : ℕ) × (suc d < k + height (linked a op b)) × (at (link_level op) d ((xs ++ (link_words op ++ ys)) ++ s) ≡ loop_at (link_level op) d k (linked a op b) s)) [
         | zero ↦ λ l e. absurd (omega arith)
-        | suc k ↦ λ l e. (k, omega arith, ap (at (level_of op) d) regroup ∙ (e ∙ turn op d k a b (ys ++ s) s (r.reads d s (omega arith) st) lt))
+        | suc k ↦ λ l e. (k, omega (arith, high), ap (at (link_level op) d) regroup ∙ (e ∙ turn op d k a b (ys ++ s) s (r.reads d s (omega (arith, high)) st) lt))
       ] g.1 g.2;
 }
 
-between_chained : (op : Operator) (xs ys : List Lexeme) (a b : Tree) → Chained (level_of op) xs a → Reads (tighter (level_of op)) ys b → Chained (level_of op) (xs ++ (operator_words op ++ ys)) (tree.binary a op b)
-between_chained op xs ys a b p q = longer op xs ys a b p (again_from (tighter (level_of op)) ys b q)
+between_chained : (op : Link) (xs ys : List Lexeme) (a b : Tree) → Chained (link_level op) xs a → Reads (tighter (link_level op)) ys b → Chained (link_level op) (xs ++ (link_words op ++ ys)) (linked a op b)
+between_chained op xs ys a b p q = longer op xs ys a b p (again_from (tighter (link_level op)) ys b q)
 
-pub between_reads : (op : Operator) (xs ys : List Lexeme) (a b : Tree) → Reads (level_of op) xs a → Reads (tighter (level_of op)) ys b → Reads (level_of op) (xs ++ (operator_words op ++ ys)) (tree.binary a op b)
-between_reads operators.Where xs ys a b p q = between_chained operators.Where xs ys a b p q
-between_reads operators.Or xs ys a b p q = between_chained operators.Or xs ys a b p q
-between_reads operators.And xs ys a b p q = between_chained operators.And xs ys a b p q
-between_reads operators.Union xs ys a b p q = between_chained operators.Union xs ys a b p q
-between_reads operators.Intersect xs ys a b p q = between_chained operators.Intersect xs ys a b p q
-between_reads operators.Minus xs ys a b p q = between_chained operators.Minus xs ys a b p q
-between_reads operators.Join xs ys a b p q = between_chained operators.Join xs ys a b p q
-between_reads operators.Times xs ys a b p q = between_chained operators.Times xs ys a b p q
-between_reads operators.Compose xs ys a b p q = between_chained operators.Compose xs ys a b p q
-between_reads operators.Matching xs ys a b p q = between_chained operators.Matching xs ys a b p q
-between_reads operators.NotMatching xs ys a b p q = between_chained operators.NotMatching xs ys a b p q
-between_reads operators.Add xs ys a b p q = between_chained operators.Add xs ys a b p q
-between_reads operators.Subtract xs ys a b p q = between_chained operators.Subtract xs ys a b p q
-between_reads operators.Concatenate xs ys a b p q = between_chained operators.Concatenate xs ys a b p q
-between_reads operators.Multiply xs ys a b p q = between_chained operators.Multiply xs ys a b p q
-between_reads operators.Divide xs ys a b p q = between_chained operators.Divide xs ys a b p q
+pub link_reads : (op : Link) (xs ys : List Lexeme) (a b : Tree) → Reads (link_level op) xs a → Reads (tighter (link_level op)) ys b → Reads (link_level op) (xs ++ (link_words op ++ ys)) (linked a op b)
+link_reads links.Where xs ys a b p q = between_chained links.Where xs ys a b p q
+link_reads (links.Operator operators.Or) xs ys a b p q = between_chained (links.Operator operators.Or) xs ys a b p q
+link_reads (links.Operator operators.And) xs ys a b p q = between_chained (links.Operator operators.And) xs ys a b p q
+link_reads (links.Operator operators.Union) xs ys a b p q = between_chained (links.Operator operators.Union) xs ys a b p q
+link_reads (links.Operator operators.Intersect) xs ys a b p q = between_chained (links.Operator operators.Intersect) xs ys a b p q
+link_reads (links.Operator operators.Minus) xs ys a b p q = between_chained (links.Operator operators.Minus) xs ys a b p q
+link_reads (links.Operator operators.Join) xs ys a b p q = between_chained (links.Operator operators.Join) xs ys a b p q
+link_reads (links.Operator operators.Times) xs ys a b p q = between_chained (links.Operator operators.Times) xs ys a b p q
+link_reads (links.Operator operators.Compose) xs ys a b p q = between_chained (links.Operator operators.Compose) xs ys a b p q
+link_reads (links.Operator operators.Matching) xs ys a b p q = between_chained (links.Operator operators.Matching) xs ys a b p q
+link_reads (links.Operator operators.NotMatching) xs ys a b p q = between_chained (links.Operator operators.NotMatching) xs ys a b p q
+link_reads (links.Operator operators.Add) xs ys a b p q = between_chained (links.Operator operators.Add) xs ys a b p q
+link_reads (links.Operator operators.Subtract) xs ys a b p q = between_chained (links.Operator operators.Subtract) xs ys a b p q
+link_reads (links.Operator operators.Concatenate) xs ys a b p q = between_chained (links.Operator operators.Concatenate) xs ys a b p q
+link_reads (links.Operator operators.Multiply) xs ys a b p q = between_chained (links.Operator operators.Multiply) xs ys a b p q
+link_reads (links.Operator operators.Divide) xs ys a b p q = between_chained (links.Operator operators.Divide) xs ys a b p q
 
 pub comparison_reads : (op : Comparison) (xs ys : List Lexeme) (a b : Tree) → Reads levels.Relational xs a → Reads levels.Relational ys b → Reads levels.Comparison (xs ++ (comparison_word op ∷ ys)) (tree.compare a op b)
 unfolding by_level compared compared_to

@@ -12,7 +12,7 @@ use Rattle.td_tree.specs.Lexemes.{Lexeme, keyword, sign}
 use Rattle.td_tree.specs.Lexemes as lexeme
 use Rattle.td_tree.specs.Lists.{Separated, one_item, next_item, Repeated, no_more, one_more, Optional, absent, present, braced, parenthesized}
 use Rattle.td_parse.specs.Reading.{read}
-use Rattle.td_parse.specs.ReadingOperators.{operator_at, comparison_at, postfix_at, call_at}
+use Rattle.td_parse.specs.ReadingOperators.{link_at, comparison_at, postfix_at, call_at}
 use Rattle.td_parse.specs.ReadingSteps.{expect, read_name, read_up_to, enclosed, optional, repeated_from, repeated, names}
 use Rattle.td_parse.specs.ReadingStatements as reading
 use Rattle.td_parse.specs.ReadingTypes.{attribute, read_type}
@@ -91,7 +91,7 @@ settings_again (next_setting {n} {xs} {ys} {t} {rest} p q) = next_again reading.
 
 -- settings are no arguments of a call
 settings_stop : {xs : List Lexeme} {all : NamedTrees} → SettingsSpelling xs all → (ys s : List Lexeme) → EndsCondition (sign signs.OpenParenthesis ∷ ((xs ++ ys) ++ s))
-unfolding operator_at comparison_at postfix_at call_at expect
+unfolding link_at comparison_at postfix_at call_at expect
 settings_stop (last_setting p) ys s = record { no_where = refl; stops = (refl, (refl, (refl, (refl, (refl, (refl, (refl, (refl, refl)))))))) }
 settings_stop (next_setting p q) ys s = record { no_where = refl; stops = (refl, (refl, (refl, (refl, (refl, (refl, (refl, (refl, refl)))))))) }
 

@@ -12,7 +12,7 @@ use Rattle.td_tree.specs.declared.operator.Level.TheVariants as levels
 use Rattle.td_tree.specs.declared.operator.Measure.{Measure}
 use Rattle.td_tree.specs.declared.operator.Measure.TheVariants as measures
 use Rattle.td_tree.specs.declared.token.Sign.TheVariants as signs
-use Rattle.td_tree.specs.Grammar.{tighter, measure_word, aggregate_word, Spelling, looser, between, negation, comparison, minus, closure, tuple_from, extraction, behind, literal, reference, selector, component, parentheses, measure, aggregate, headed_relation, relation, empty_tuple, tuple, extension, summary_per, summary_by, choice, LiteralSpelling, number_literal, minus_literal, text_literal, true_literal, false_literal, dee_literal, dum_literal, ExpressionsSpelling, last_expression, next_expression}
+use Rattle.td_tree.specs.Grammar.{tighter, measure_word, aggregate_word, Spelling, looser, restriction, between, negation, comparison, minus, closure, tuple_from, extraction, behind, literal, reference, selector, component, parentheses, measure, aggregate, headed_relation, relation, empty_tuple, tuple, extension, summary_per, summary_by, choice, LiteralSpelling, number_literal, minus_literal, text_literal, true_literal, false_literal, dee_literal, dum_literal, ExpressionsSpelling, last_expression, next_expression}
 use Rattle.td_tree.specs.Lexemes.{Lexeme, keyword, sign}
 use Rattle.td_tree.specs.Lexemes as lexeme
 use Rattle.td_parse.specs.ReadingSteps.{same_lexeme, expect}
@@ -146,6 +146,7 @@ begins_literal dum_literal = refl
 
 pub spelled_begins : {level : Level} {xs : List Lexeme} {t : Tree} → Spelling level xs t → Begins level xs
 spelled_begins (looser {level} {xs} p) = begins_looser level xs (spelled_begins p)
+spelled_begins (restriction {xs} {ys} p q) = begins_append _ xs _ (spelled_begins p)
 spelled_begins (between {op} {xs} {ys} p q) = begins_append _ xs _ (spelled_begins p)
 spelled_begins (negation p) = refl
 spelled_begins (comparison {op} {xs} {ys} p q) = begins_append _ xs _ (spelled_begins p)

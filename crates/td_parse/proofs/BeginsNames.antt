@@ -7,7 +7,7 @@ use Rattle.td_tree.specs.declared.operator.Level.{Level}
 use Rattle.td_tree.specs.declared.operator.Operator.{Operator}
 use Rattle.td_tree.specs.declared.operator.Operator.TheVariants as operators
 use Rattle.td_tree.specs.declared.token.Sign.TheVariants as signs
-use Rattle.td_tree.specs.Grammar.{operator_words, comparison_word, Spelling, looser, between, negation, comparison, minus, closure, tuple_from, extraction, behind, literal, reference, selector, component, parentheses, measure, aggregate, headed_relation, relation, empty_tuple, tuple, extension, summary_per, summary_by, choice, LiteralSpelling, number_literal, minus_literal, text_literal, true_literal, false_literal, dee_literal, dum_literal, PostfixSpelling, projection, renamings, grouping, wrapping, ungrouping, unwrapping, AttributeListSpelling, only_names, all_but_names, ExpressionsSpelling, last_expression, next_expression, HeadingSpelling, empty_heading, AttributesSpelling, last_attribute, next_attribute, TypeSpelling, integer_type, char_type, boolean_type, user_type, relation_type, tuple_type}
+use Rattle.td_tree.specs.Grammar.{operator_words, comparison_word, Spelling, looser, restriction, between, negation, comparison, minus, closure, tuple_from, extraction, behind, literal, reference, selector, component, parentheses, measure, aggregate, headed_relation, relation, empty_tuple, tuple, extension, summary_per, summary_by, choice, LiteralSpelling, number_literal, minus_literal, text_literal, true_literal, false_literal, dee_literal, dum_literal, PostfixSpelling, projection, renamings, grouping, wrapping, ungrouping, unwrapping, AttributeListSpelling, only_names, all_but_names, ExpressionsSpelling, last_expression, next_expression, HeadingSpelling, empty_heading, AttributesSpelling, last_attribute, next_attribute, TypeSpelling, integer_type, char_type, boolean_type, user_type, relation_type, tuple_type}
 use Rattle.td_tree.specs.Grammar as grammar
 use Rattle.td_tree.specs.Lexemes.{Lexeme, keyword, sign}
 use Rattle.td_tree.specs.Lexemes as lexeme
@@ -24,6 +24,7 @@ first_is what (x ∷ xs) = what x
 
 -- no lexeme of this kind follows a name in an expression
 pub record NeverFollows (what : Lexeme → Bool) : Type 0 where
+  pub condition : what (keyword k.Where) ≡ false
   pub operators : (op : Operator) (s : List Lexeme) → first_is what (operator_words op ++ s) ≡ false
   pub comparisons : (op : Comparison) → what (comparison_word op) ≡ false
   pub postfixes : {xs : List Lexeme} {p : Postfix} → PostfixSpelling xs p → (s : List Lexeme) → first_is what (xs ++ s) ≡ false
@@ -77,6 +78,7 @@ avoids_literal what dum_literal = avoids_word what _ _
 
 pub avoids : (what : Lexeme → Bool) → NeverFollows what → {level : Level} {xs : List Lexeme} {t : Tree} → Spelling level xs t → Avoids what xs
 avoids what h (looser p) = avoids what h p
+avoids what h (restriction {xs} {ys} p q) = avoids_before what (keyword k.Where) xs ys h.condition (avoids what h p)
 avoids what h (between {op} {xs} {ys} p q) = avoids_between what op xs ys h (avoids what h p)
 avoids what h (negation p) = avoids_word what _ _
 avoids what h (comparison {op} {xs} {ys} p q) = avoids_before what (comparison_word op) xs ys (h.comparisons op) (avoids what h p)
@@ -120,7 +122,6 @@ postfix_no_type ungrouping s = refl
 postfix_no_type unwrapping s = refl
 
 operator_no_type : (op : Operator) (s : List Lexeme) → first_is begins_type (operator_words op ++ s) ≡ false
-operator_no_type operators.Where s = refl
 operator_no_type operators.Or s = refl
 operator_no_type operators.And s = refl
 operator_no_type operators.Union s = refl
@@ -147,7 +148,7 @@ comparison_no_type comparisons.GreaterOrEqual = refl
 comparison_no_type comparisons.In = refl
 
 no_type_follows : NeverFollows begins_type
-no_type_follows = record { operators = operator_no_type; comparisons = comparison_no_type; postfixes = postfix_no_type; parenthesis = refl; from = refl; comma = refl }
+no_type_follows = record { condition = refl; operators = operator_no_type; comparisons = comparison_no_type; postfixes = postfix_no_type; parenthesis = refl; from = refl; comma = refl }
 
 projection_no_assign : {xs : List Lexeme} {a : Attributes} → AttributeListSpelling xs a → (s : List Lexeme) → first_is is_assign (xs ++ s) ≡ false
 projection_no_assign (only_names (grammar.names p)) s = refl
@@ -162,7 +163,6 @@ postfix_no_assign ungrouping s = refl
 postfix_no_assign unwrapping s = refl
 
 operator_no_assign : (op : Operator) (s : List Lexeme) → first_is is_assign (operator_words op ++ s) ≡ false
-operator_no_assign operators.Where s = refl
 operator_no_assign operators.Or s = refl
 operator_no_assign operators.And s = refl
 operator_no_assign operators.Union s = refl
@@ -189,7 +189,7 @@ comparison_no_assign comparisons.GreaterOrEqual = refl
 comparison_no_assign comparisons.In = refl
 
 no_assign_follows : NeverFollows is_assign
-no_assign_follows = record { operators = operator_no_assign; comparisons = comparison_no_assign; postfixes = postfix_no_assign; parenthesis = refl; from = refl; comma = refl }
+no_assign_follows = record { condition = refl; operators = operator_no_assign; comparisons = comparison_no_assign; postfixes = postfix_no_assign; parenthesis = refl; from = refl; comma = refl }
 
 -- ---- the two decisions
 

@@ -6,18 +6,20 @@ use Rattle.td_tree.specs.declared.keyword.Keyword.TheVariants as k
 use Rattle.td_tree.specs.declared.operator.Comparison.{Comparison}
 use Rattle.td_tree.specs.declared.operator.Level.{Level}
 use Rattle.td_tree.specs.declared.operator.Level.TheVariants as levels
-use Rattle.td_tree.specs.declared.operator.Operator.{Operator}
+use Rattle.td_parse.specs.declared.operators.Link.{Link}
+use Rattle.td_parse.specs.declared.operators.Link.TheVariants as links
 use Rattle.td_tree.specs.declared.operator.Prefix.{Prefix}
-use Rattle.td_tree.specs.Grammar.{tighter, level_of, operator_words, comparison_word, Spelling, looser, between, negation, comparison, minus, closure, tuple_from, extraction, behind}
+use Rattle.td_tree.specs.Grammar as grammar
+use Rattle.td_tree.specs.Grammar.{tighter, comparison_word, Spelling, looser, between, negation, comparison, minus, closure, tuple_from, extraction, behind}
 use Rattle.td_tree.specs.Heights.{height}
 use Rattle.td_tree.specs.Lexemes.{Lexeme, keyword}
 use Rattle.td_parse.specs.Reading.{Read, read_postfix, primary, postfixes, postfixed, extracted, applied, prefixed, operations, chain, multiplicative, additive, relational, compared_to, compared, negated, conjunction, disjunction, restriction, by_level, read}
-use Rattle.td_parse.specs.ReadingOperators.{operator_at, comparison_at, prefix_at, extraction_at, postfix_at}
+use Rattle.td_parse.specs.ReadingOperators.{link_level, link_words, linked, link_at, comparison_at, prefix_at, extraction_at, postfix_at}
 use Rattle.td_parse.specs.ReadingSteps.{◌>>=◌, expect}
 use Rattle.td_tree.specs.Trees as tree
 use Rattle.td_tree.specs.Trees.{Text, Tree}
 use Rattle.td_parse.proofs.SoundNames.{after_word, postfix_sound}
-use Rattle.td_parse.proofs.SoundOperators.{operator_is, comparison_is, PrefixFront, minus_front, closure_front, tuple_front, prefix_is, otherwise, extraction_is}
+use Rattle.td_parse.proofs.SoundOperators.{link_is, comparison_is, PrefixFront, minus_front, closure_front, tuple_front, prefix_is, otherwise, extraction_is}
 use Rattle.td_parse.proofs.SoundParts.{IsAt, Inside}
 use Rattle.td_parse.proofs.SoundPrimary.{primary_sound}
 use Rattle.td_parse.proofs.SoundSteps.{some, bind_some, guard_some, either_cases, pair_is, Front, glue, expect_front, Takes, Sound, retake}
@@ -50,8 +52,12 @@ extends_more level d left ys ts after t rest e m = record {
 extended : (level : Level) (d : ℕ) (ts front after : List Lexeme) (t : Tree) (rest : List Lexeme) → Front ts front after → Extends level d front after t rest → Takes (IsAt level d) ts t rest
 extended level d ts front after t rest e m = record { front = front ++ m.front; spelled = record { spelled = m.spelled; low = m.low }; parts = glue e m.parts }
 
-between_at : (level : Level) (op : Operator) (xs ys : List Lexeme) (a b : Tree) → level_of op ≡ level → Spelling level xs a → Spelling (tighter level) ys b → Spelling level (xs ++ (operator_words op ++ ys)) (tree.binary a op b)
-between_at level op xs ys a b e = subst (λ (l : Level). Spelling l xs a → Spelling (tighter l) ys b → Spelling l (xs ++ (operator_words op ++ ys)) (tree.binary a op b)) e (λ p q. between p q)
+linked_spelled : (op : Link) (xs ys : List Lexeme) (a b : Tree) → Spelling (link_level op) xs a → Spelling (tighter (link_level op)) ys b → Spelling (link_level op) (xs ++ (link_words op ++ ys)) (linked a op b)
+linked_spelled links.Where xs ys a b p q = grammar.restriction p q
+linked_spelled (links.Operator op) xs ys a b p q = between p q
+
+between_at : (level : Level) (op : Link) (xs ys : List Lexeme) (a b : Tree) → link_level op ≡ level → Spelling level xs a → Spelling (tighter level) ys b → Spelling level (xs ++ (link_words op ++ ys)) (linked a op b)
+between_at level op xs ys a b e = subst (λ (l : Level). Spelling l xs a → Spelling (tighter l) ys b → Spelling l (xs ++ (link_words op ++ ys)) (linked a op b)) e (linked_spelled op xs ys a b)
 
 takes_looser : (level : Level) (d : ℕ) (ts : List Lexeme) (t : Tree) (rest : List Lexeme) → Takes (IsAt (tighter level) d) ts t rest → Takes (IsAt level d) ts t rest
 takes_looser level d ts t rest k = record { front = k.front; spelled = record { spelled = looser k.spelled.spelled; low = k.spelled.low }; parts = k.parts }
@@ -116,15 +122,15 @@ module _ (inner : Level → List Lexeme → Read) (d : ℕ) (inside : Inside d i
   unfolding operations
   operations_sound level zero left a ts t rest p lt e = absurd cc
   operations_sound level (suc n) left a ts t rest p lt e =
-      elim (either_cases _ _ (operator_at level ts) _ e) [
+      elim (either_cases _ _ (link_at level ts) _ e) [
         | inl g ↦ extends_none level (suc d) left ts a t rest g.1 p lt
         | inr g ↦
             let b = bind_some (inner (tighter level) g.0.1) _ _ g.2 in
-            let c = guard_some (leb (height (tree.binary a g.0.0 b.0.0)) (suc d)) _ _ b.2 in
-            let o = operator_is level ts g.0.0 g.0.1 g.1 in
+            let c = guard_some (leb (height (linked a g.0.0 b.0.0)) (suc d)) _ _ b.2 in
+            let o = link_is level ts g.0.0 g.0.1 g.1 in
             let q = inside (tighter level) g.0.1 b.0.0 b.0.1 b.1 in
-            extends_more level (suc d) left (operator_words g.0.0 ++ q.front) ts b.0.1 t rest (glue o.parts q.parts)
-            (operations_sound level n (left ++ (operator_words g.0.0 ++ q.front)) (tree.binary a g.0.0 b.0.0) b.0.1 t rest (between_at level g.0.0 left q.front a b.0.0 o.stands p q.spelled.spelled) (leb-true _ _ c.0) c.1)
+            extends_more level (suc d) left (link_words g.0.0 ++ q.front) ts b.0.1 t rest (glue o.parts q.parts)
+            (operations_sound level n (left ++ (link_words g.0.0 ++ q.front)) (linked a g.0.0 b.0.0) b.0.1 t rest (between_at level g.0.0 left q.front a b.0.0 o.stands p q.spelled.spelled) (leb-true _ _ c.0) c.1)
       ]
 
   chain_sound : (level : Level) (first : List Lexeme → Read) → Sound (IsAt (tighter level) (suc d)) first → Sound (IsAt level (suc d)) (chain inner d level first)

@@ -7,16 +7,17 @@ use Rattle.td_tree.specs.declared.keyword.Keyword.TheVariants as k
 use Rattle.td_tree.specs.declared.operator.Comparison.{Comparison}
 use Rattle.td_tree.specs.declared.operator.Comparison.TheVariants as comparisons
 use Rattle.td_tree.specs.declared.operator.Level.{Level}
-use Rattle.td_tree.specs.declared.operator.Operator.{Operator}
+use Rattle.td_parse.specs.declared.operators.Link.{Link}
 use Rattle.td_tree.specs.declared.operator.Operator.TheVariants as operators
+use Rattle.td_parse.specs.declared.operators.Link.TheVariants as links
 use Rattle.td_tree.specs.declared.operator.Prefix.{Prefix}
 use Rattle.td_tree.specs.declared.operator.Prefix.TheVariants as prefixes
 use Rattle.td_tree.specs.declared.token.Sign.{Sign}
 use Rattle.td_tree.specs.declared.token.Sign.TheVariants as signs
-use Rattle.td_tree.specs.Grammar.{level_of, operator_words, comparison_word, BeginsOtherwise}
+use Rattle.td_tree.specs.Grammar.{comparison_word, BeginsOtherwise}
 use Rattle.td_tree.specs.Lexemes.{Lexeme, keyword, sign}
 use Rattle.td_tree.specs.Lexemes as lexeme
-use Rattle.td_parse.specs.ReadingOperators.{with_rest, operator_of_word, operator_of_sign, operator_after_word, any_operator, same_level, operator_at, comparison_of_word, comparison_of_sign, comparison_at, begins_with_number, prefix_after_sign, prefix_after_word, prefix_at, extraction_at, name_and, is_assign, call_at}
+use Rattle.td_parse.specs.ReadingOperators.{link_level, link_words, with_rest, link_of_word, link_of_sign, link_after_word, any_link, same_level, link_at, comparison_of_word, comparison_of_sign, comparison_at, begins_with_number, prefix_after_sign, prefix_after_word, prefix_at, extraction_at, name_and, is_assign, call_at}
 use Rattle.td_parse.specs.ReadingSteps.{expect}
 use Rattle.td_tree.specs.Trees.{Text}
 use Rattle.td_parse.proofs.BeginsPlain.{from}
@@ -34,69 +35,69 @@ with_rest_is ts (Some x) a after e =
 
 -- ---- between operands
 
-word_of_is : (w : Keyword) (op : Operator) → operator_of_word w ≡ Some op → keyword w ∷ [] ≡ operator_words op
-word_of_is k.Where op e = ap operator_words (some_is operators.Where op e)
-word_of_is k.Or op e = ap operator_words (some_is operators.Or op e)
-word_of_is k.And op e = ap operator_words (some_is operators.And op e)
-word_of_is k.Union op e = ap operator_words (some_is operators.Union op e)
-word_of_is k.Intersect op e = ap operator_words (some_is operators.Intersect op e)
-word_of_is k.Minus op e = ap operator_words (some_is operators.Minus op e)
-word_of_is k.Join op e = ap operator_words (some_is operators.Join op e)
-word_of_is k.Times op e = ap operator_words (some_is operators.Times op e)
-word_of_is k.Compose op e = ap operator_words (some_is operators.Compose op e)
-word_of_is k.Matching op e = ap operator_words (some_is operators.Matching op e)
+word_of_is : (w : Keyword) (op : Link) → link_of_word w ≡ Some op → keyword w ∷ [] ≡ link_words op
+word_of_is k.Where op e = ap link_words (some_is links.Where op e)
+word_of_is k.Or op e = ap link_words (some_is (links.Operator operators.Or) op e)
+word_of_is k.And op e = ap link_words (some_is (links.Operator operators.And) op e)
+word_of_is k.Union op e = ap link_words (some_is (links.Operator operators.Union) op e)
+word_of_is k.Intersect op e = ap link_words (some_is (links.Operator operators.Intersect) op e)
+word_of_is k.Minus op e = ap link_words (some_is (links.Operator operators.Minus) op e)
+word_of_is k.Join op e = ap link_words (some_is (links.Operator operators.Join) op e)
+word_of_is k.Times op e = ap link_words (some_is (links.Operator operators.Times) op e)
+word_of_is k.Compose op e = ap link_words (some_is (links.Operator operators.Compose) op e)
+word_of_is k.Matching op e = ap link_words (some_is (links.Operator operators.Matching) op e)
 word_of_is _ op e = absurd cc
 
-sign_of_is : (s : Sign) (op : Operator) → operator_of_sign s ≡ Some op → sign s ∷ [] ≡ operator_words op
-sign_of_is signs.Plus op e = ap operator_words (some_is operators.Add op e)
-sign_of_is signs.Minus op e = ap operator_words (some_is operators.Subtract op e)
-sign_of_is signs.Concatenate op e = ap operator_words (some_is operators.Concatenate op e)
-sign_of_is signs.Times op e = ap operator_words (some_is operators.Multiply op e)
-sign_of_is signs.Divide op e = ap operator_words (some_is operators.Divide op e)
+sign_of_is : (s : Sign) (op : Link) → link_of_sign s ≡ Some op → sign s ∷ [] ≡ link_words op
+sign_of_is signs.Plus op e = ap link_words (some_is (links.Operator operators.Add) op e)
+sign_of_is signs.Minus op e = ap link_words (some_is (links.Operator operators.Subtract) op e)
+sign_of_is signs.Concatenate op e = ap link_words (some_is (links.Operator operators.Concatenate) op e)
+sign_of_is signs.Times op e = ap link_words (some_is (links.Operator operators.Multiply) op e)
+sign_of_is signs.Divide op e = ap link_words (some_is (links.Operator operators.Divide) op e)
 sign_of_is _ op e = absurd cc
 
 -- these words, and what follows
-words_front : (x : Lexeme) (ts after : List Lexeme) (op : Operator) → x ∷ [] ≡ operator_words op → ts ≡ after → Front (x ∷ ts) (operator_words op) after
-words_front x ts after op is_op is_after = record { parts = ap (λ (l : List Lexeme). l ++ ts) is_op ∙ ap (λ (l : List Lexeme). operator_words op ++ l) is_after }
+words_front : (x : Lexeme) (ts after : List Lexeme) (op : Link) → x ∷ [] ≡ link_words op → ts ≡ after → Front (x ∷ ts) (link_words op) after
+words_front x ts after op is_op is_after = record { parts = ap (λ (l : List Lexeme). l ++ ts) is_op ∙ ap (λ (l : List Lexeme). link_words op ++ l) is_after }
 
-one_word : (w : Keyword) (ts : List Lexeme) (op : Operator) (after : List Lexeme) → with_rest ts (operator_of_word w) ≡ Some (op, after) → Front (keyword w ∷ ts) (operator_words op) after
+one_word : (w : Keyword) (ts : List Lexeme) (op : Link) (after : List Lexeme) → with_rest ts (link_of_word w) ≡ Some (op, after) → Front (keyword w ∷ ts) (link_words op) after
 one_word w ts op after e =
-    let g = with_rest_is ts (operator_of_word w) op after e in
+    let g = with_rest_is ts (link_of_word w) op after e in
     words_front (keyword w) ts after op (word_of_is w op g.0) g.1
 
-one_sign : (s : Sign) (ts : List Lexeme) (op : Operator) (after : List Lexeme) → with_rest ts (operator_of_sign s) ≡ Some (op, after) → Front (sign s ∷ ts) (operator_words op) after
+one_sign : (s : Sign) (ts : List Lexeme) (op : Link) (after : List Lexeme) → with_rest ts (link_of_sign s) ≡ Some (op, after) → Front (sign s ∷ ts) (link_words op) after
 one_sign s ts op after e =
-    let g = with_rest_is ts (operator_of_sign s) op after e in
+    let g = with_rest_is ts (link_of_sign s) op after e in
     words_front (sign s) ts after op (sign_of_is s op g.0) g.1
 
-after_word_is : (w : Keyword) (ts : List Lexeme) (op : Operator) (after : List Lexeme) → operator_after_word w ts ≡ Some (op, after) → Front (keyword w ∷ ts) (operator_words op) after
+after_word_is : (w : Keyword) (ts : List Lexeme) (op : Link) (after : List Lexeme) → link_after_word w ts ≡ Some (op, after) → Front (keyword w ∷ ts) (link_words op) after
 after_word_is k.Not ts op after e =
     let b = bind_some (expect (keyword k.Matching) ts) _ _ e in
-    let g = pair_is operators.NotMatching op b.0 after b.2 in
-    let f : Front (keyword k.Not ∷ ts) (operator_words operators.NotMatching) b.0 = after_word (keyword k.Not) (expect_front (keyword k.Matching) ts b.0 b.1) in
-    subst (λ (o : Operator). Front (keyword k.Not ∷ ts) (operator_words o) after) g.0 (subst (λ (l : List Lexeme). Front (keyword k.Not ∷ ts) (operator_words operators.NotMatching) l) g.1 f)
+    let g = pair_is (links.Operator operators.NotMatching) op b.0 after b.2 in
+    let f : Front (keyword k.Not ∷ ts) (link_words (links.Operator operators.NotMatching)) b.0 = after_word (keyword k.Not) (expect_front (keyword k.Matching) ts b.0 b.1) in
+    subst (λ (o : Link). Front (keyword k.Not ∷ ts) (link_words o) after) g.0 (subst (λ (l : List Lexeme). Front (keyword k.Not ∷ ts) (link_words (links.Operator operators.NotMatching)) l) g.1 f)
 after_word_is w ts op after e = one_word w ts op after e
 
-any_operator_is : (ts : List Lexeme) (op : Operator) (after : List Lexeme) → any_operator ts ≡ Some (op, after) → Front ts (operator_words op) after
-any_operator_is (keyword w ∷ ts) op after e = after_word_is w ts op after e
-any_operator_is (sign s ∷ ts) op after e = one_sign s ts op after e
-any_operator_is _ op after e = absurd cc
+any_link_is : (ts : List Lexeme) (op : Link) (after : List Lexeme) → any_link ts ≡ Some (op, after) → Front ts (link_words op) after
+any_link_is (keyword w ∷ ts) op after e = after_word_is w ts op after e
+any_link_is (sign s ∷ ts) op after e = one_sign s ts op after e
+any_link_is _ op after e = absurd cc
 
 -- an operator that stands at the level
-pub record IsOperator (level : Level) (ts : List Lexeme) (op : Operator) (after : List Lexeme) : Type 0 where
-  pub stands : level_of op ≡ level
-  pub parts : Front ts (operator_words op) after
+pub record IsLink (level : Level) (ts : List Lexeme) (op : Link) (after : List Lexeme) : Type 0 where
+  pub stands : link_level op ≡ level
+  pub parts : Front ts (link_words op) after
 
-pub operator_is : (level : Level) (ts : List Lexeme) (op : Operator) (after : List Lexeme) → operator_at level ts ≡ Some (op, after) → IsOperator level ts op after
-unfolding operator_at
-operator_is level ts op after e =
-    let b = bind_some (any_operator ts) _ _ e in
-    let g = guard_some (same_level (level_of b.0.0) level) _ _ b.2 in
+pub link_is : (level : Level) (ts : List Lexeme) (op : Link) (after : List Lexeme) → link_at level ts ≡ Some (op, after) → IsLink level ts op after
+unfolding link_at
+link_is level ts op after e =
+    let b = bind_some (any_link ts) _ _ e in
+    let g = guard_some (same_level (link_level b.0.0) level) _ _ b.2 in
     let q = pair_is b.0.0 op b.0.1 after g.1 in
-    let f = any_operator_is ts b.0.0 b.0.1 b.1 in
+    let f = any_link_is ts b.0.0 b.0.1 b.1 in
     record {
-      stands = ap level_of (sym q.0) ∙ same_true level_type.the_type (search) (level_of b.0.0) level g.0;
-      parts = subst (λ (o : Operator). Front ts (operator_words o) after) q.0 (subst (λ (l : List Lexeme). Front ts (operator_words b.0.0) l) q.1 f);
+      stands = ap link_level (sym q.0) ∙ same_true level_type.the_type (search) (link_level b.0.0) level g.0;
+      parts = subst (λ (o : Link). Front ts (link_words o) after) q.0 (subst (λ (l : List Lexeme). Front ts (link_words b.0.0) l) q.1 f);
     }
 
 comparison_word_is : (w : Keyword) (op : Comparison) → comparison_of_word w ≡ Some op → keyword w ≡ comparison_word op

@@ -5,13 +5,14 @@ use Rattle.td_tree.specs.declared.operator.Comparison.{Comparison}
 use Rattle.td_tree.specs.declared.operator.Comparison.TheVariants as comparisons
 use Rattle.td_tree.specs.declared.operator.Level.{Level}
 use Rattle.td_tree.specs.declared.operator.Level.TheVariants as levels
-use Rattle.td_tree.specs.declared.operator.Operator.{Operator}
+use Rattle.td_parse.specs.declared.operators.Link.{Link}
 use Rattle.td_tree.specs.declared.operator.Operator.TheVariants as operators
+use Rattle.td_parse.specs.declared.operators.Link.TheVariants as links
 use Rattle.td_tree.specs.declared.token.Sign.TheVariants as signs
-use Rattle.td_tree.specs.Grammar.{tighter, level_of, operator_words, comparison_word, PostfixSpelling, projection, renamings, grouping, wrapping, ungrouping, unwrapping, AttributeListSpelling, only_names, all_but_names, loosest}
+use Rattle.td_tree.specs.Grammar.{tighter, comparison_word, PostfixSpelling, projection, renamings, grouping, wrapping, ungrouping, unwrapping, AttributeListSpelling, only_names, all_but_names, loosest}
 use Rattle.td_tree.specs.Grammar as grammar
 use Rattle.td_tree.specs.Lexemes.{Lexeme, keyword, sign}
-use Rattle.td_parse.specs.ReadingOperators.{any_operator, operator_at, comparison_at, postfix_at, call_at}
+use Rattle.td_parse.specs.ReadingOperators.{link_level, link_words, any_link, link_at, comparison_at, postfix_at, call_at}
 use Rattle.td_parse.specs.ReadingSteps.{expect}
 use Rattle.td_tree.specs.Trees.{Attributes, Postfix}
 use Rattle.td_parse.proofs.BeginsPlain.{from}
@@ -24,25 +25,25 @@ abbrev pub EndsPostfixed : List Lexeme → Type 0
 EndsPostfixed ts = (postfix_at ts ≡ false) × EndsPrimary ts
 
 abbrev pub EndsMultiplicative : List Lexeme → Type 0
-EndsMultiplicative ts = (operator_at levels.Multiplicative ts ≡ None) × EndsPostfixed ts
+EndsMultiplicative ts = (link_at levels.Multiplicative ts ≡ None) × EndsPostfixed ts
 
 abbrev pub EndsAdditive : List Lexeme → Type 0
-EndsAdditive ts = (operator_at levels.Additive ts ≡ None) × EndsMultiplicative ts
+EndsAdditive ts = (link_at levels.Additive ts ≡ None) × EndsMultiplicative ts
 
 abbrev pub EndsRelational : List Lexeme → Type 0
-EndsRelational ts = (operator_at levels.Relational ts ≡ None) × EndsAdditive ts
+EndsRelational ts = (link_at levels.Relational ts ≡ None) × EndsAdditive ts
 
 abbrev pub EndsComparison : List Lexeme → Type 0
 EndsComparison ts = (comparison_at ts ≡ None) × EndsRelational ts
 
 abbrev pub EndsConjunction : List Lexeme → Type 0
-EndsConjunction ts = (operator_at levels.Conjunction ts ≡ None) × EndsComparison ts
+EndsConjunction ts = (link_at levels.Conjunction ts ≡ None) × EndsComparison ts
 
 abbrev pub EndsDisjunction : List Lexeme → Type 0
-EndsDisjunction ts = (operator_at levels.Disjunction ts ≡ None) × EndsConjunction ts
+EndsDisjunction ts = (link_at levels.Disjunction ts ≡ None) × EndsConjunction ts
 
 abbrev pub EndsRestriction : List Lexeme → Type 0
-EndsRestriction ts = (operator_at levels.Restriction ts ≡ None) × EndsDisjunction ts
+EndsRestriction ts = (link_at levels.Restriction ts ≡ None) × EndsDisjunction ts
 
 abbrev pub Stops : Level → List Lexeme → Type 0
 Stops levels.Restriction ts = EndsRestriction ts
@@ -65,15 +66,15 @@ Ends = Stops loosest
 
 -- the lexemes go on with no operator of any level
 record GoesOnWithNone (ts : List Lexeme) : Type 0 where
-  operator : any_operator ts ≡ None
+  operator : any_link ts ≡ None
   comparison : comparison_at ts ≡ None
   postfix : postfix_at ts ≡ false
   call : call_at ts ≡ None
   extraction : expect from ts ≡ None
 
-no_operator : (level : Level) (ts : List Lexeme) → any_operator ts ≡ None → operator_at level ts ≡ None
-unfolding operator_at
-no_operator level ts e = rw e refl
+no_link : (level : Level) (ts : List Lexeme) → any_link ts ≡ None → link_at level ts ≡ None
+unfolding link_at
+no_link level ts e = rw e refl
 
 ends_primary : (ts : List Lexeme) → GoesOnWithNone ts → EndsPrimary ts
 ends_primary ts h = (h.call, h.extraction)
@@ -82,25 +83,25 @@ ends_postfixed : (ts : List Lexeme) → GoesOnWithNone ts → EndsPostfixed ts
 ends_postfixed ts h = (h.postfix, ends_primary ts h)
 
 ends_multiplicative : (ts : List Lexeme) → GoesOnWithNone ts → EndsMultiplicative ts
-ends_multiplicative ts h = (no_operator levels.Multiplicative ts h.operator, ends_postfixed ts h)
+ends_multiplicative ts h = (no_link levels.Multiplicative ts h.operator, ends_postfixed ts h)
 
 ends_additive : (ts : List Lexeme) → GoesOnWithNone ts → EndsAdditive ts
-ends_additive ts h = (no_operator levels.Additive ts h.operator, ends_multiplicative ts h)
+ends_additive ts h = (no_link levels.Additive ts h.operator, ends_multiplicative ts h)
 
 ends_relational : (ts : List Lexeme) → GoesOnWithNone ts → EndsRelational ts
-ends_relational ts h = (no_operator levels.Relational ts h.operator, ends_additive ts h)
+ends_relational ts h = (no_link levels.Relational ts h.operator, ends_additive ts h)
 
 ends_comparison : (ts : List Lexeme) → GoesOnWithNone ts → EndsComparison ts
 ends_comparison ts h = (h.comparison, ends_relational ts h)
 
 ends_conjunction : (ts : List Lexeme) → GoesOnWithNone ts → EndsConjunction ts
-ends_conjunction ts h = (no_operator levels.Conjunction ts h.operator, ends_comparison ts h)
+ends_conjunction ts h = (no_link levels.Conjunction ts h.operator, ends_comparison ts h)
 
 ends_disjunction : (ts : List Lexeme) → GoesOnWithNone ts → EndsDisjunction ts
-ends_disjunction ts h = (no_operator levels.Disjunction ts h.operator, ends_conjunction ts h)
+ends_disjunction ts h = (no_link levels.Disjunction ts h.operator, ends_conjunction ts h)
 
 ends_restriction : (ts : List Lexeme) → GoesOnWithNone ts → EndsRestriction ts
-ends_restriction ts h = (no_operator levels.Restriction ts h.operator, ends_disjunction ts h)
+ends_restriction ts h = (no_link levels.Restriction ts h.operator, ends_disjunction ts h)
 
 -- every level ends before them
 stops_all : (level : Level) (ts : List Lexeme) → GoesOnWithNone ts → Stops level ts
@@ -166,46 +167,46 @@ by_stops s = stops_all loosest (keyword k.By ∷ s) (record { operator = refl; c
 
 -- ---- operators
 
-pub operator_stops : (op : Operator) (s : List Lexeme) → Stops (tighter (level_of op)) (operator_words op ++ s)
-unfolding operator_at comparison_at postfix_at call_at expect
-operator_stops operators.Where s = (refl, (refl, (refl, (refl, (refl, (refl, (refl, (refl, refl))))))))
-operator_stops operators.Or s = (refl, (refl, (refl, (refl, (refl, (refl, (refl, refl)))))))
-operator_stops operators.And s = (refl, (refl, (refl, (refl, (refl, (refl, refl))))))
-operator_stops operators.Union s = (refl, (refl, (refl, (refl, refl))))
-operator_stops operators.Intersect s = (refl, (refl, (refl, (refl, refl))))
-operator_stops operators.Minus s = (refl, (refl, (refl, (refl, refl))))
-operator_stops operators.Join s = (refl, (refl, (refl, (refl, refl))))
-operator_stops operators.Times s = (refl, (refl, (refl, (refl, refl))))
-operator_stops operators.Compose s = (refl, (refl, (refl, (refl, refl))))
-operator_stops operators.Matching s = (refl, (refl, (refl, (refl, refl))))
-operator_stops operators.NotMatching s = (refl, (refl, (refl, (refl, refl))))
-operator_stops operators.Add s = (refl, (refl, (refl, refl)))
-operator_stops operators.Subtract s = (refl, (refl, (refl, refl)))
-operator_stops operators.Concatenate s = (refl, (refl, (refl, refl)))
-operator_stops operators.Multiply s = (refl, (refl, refl))
-operator_stops operators.Divide s = (refl, (refl, refl))
+pub link_stops : (op : Link) (s : List Lexeme) → Stops (tighter (link_level op)) (link_words op ++ s)
+unfolding link_at comparison_at postfix_at call_at expect
+link_stops links.Where s = (refl, (refl, (refl, (refl, (refl, (refl, (refl, (refl, refl))))))))
+link_stops (links.Operator operators.Or) s = (refl, (refl, (refl, (refl, (refl, (refl, (refl, refl)))))))
+link_stops (links.Operator operators.And) s = (refl, (refl, (refl, (refl, (refl, (refl, refl))))))
+link_stops (links.Operator operators.Union) s = (refl, (refl, (refl, (refl, refl))))
+link_stops (links.Operator operators.Intersect) s = (refl, (refl, (refl, (refl, refl))))
+link_stops (links.Operator operators.Minus) s = (refl, (refl, (refl, (refl, refl))))
+link_stops (links.Operator operators.Join) s = (refl, (refl, (refl, (refl, refl))))
+link_stops (links.Operator operators.Times) s = (refl, (refl, (refl, (refl, refl))))
+link_stops (links.Operator operators.Compose) s = (refl, (refl, (refl, (refl, refl))))
+link_stops (links.Operator operators.Matching) s = (refl, (refl, (refl, (refl, refl))))
+link_stops (links.Operator operators.NotMatching) s = (refl, (refl, (refl, (refl, refl))))
+link_stops (links.Operator operators.Add) s = (refl, (refl, (refl, refl)))
+link_stops (links.Operator operators.Subtract) s = (refl, (refl, (refl, refl)))
+link_stops (links.Operator operators.Concatenate) s = (refl, (refl, (refl, refl)))
+link_stops (links.Operator operators.Multiply) s = (refl, (refl, refl))
+link_stops (links.Operator operators.Divide) s = (refl, (refl, refl))
 
-pub is_operator : (op : Operator) (s : List Lexeme) → operator_at (level_of op) (operator_words op ++ s) ≡ Some (op, s)
-unfolding operator_at expect
-is_operator operators.Where s = refl
-is_operator operators.Or s = refl
-is_operator operators.And s = refl
-is_operator operators.Union s = refl
-is_operator operators.Intersect s = refl
-is_operator operators.Minus s = refl
-is_operator operators.Join s = refl
-is_operator operators.Times s = refl
-is_operator operators.Compose s = refl
-is_operator operators.Matching s = refl
-is_operator operators.NotMatching s = refl
-is_operator operators.Add s = refl
-is_operator operators.Subtract s = refl
-is_operator operators.Concatenate s = refl
-is_operator operators.Multiply s = refl
-is_operator operators.Divide s = refl
+pub is_link : (op : Link) (s : List Lexeme) → link_at (link_level op) (link_words op ++ s) ≡ Some (op, s)
+unfolding link_at expect
+is_link links.Where s = refl
+is_link (links.Operator operators.Or) s = refl
+is_link (links.Operator operators.And) s = refl
+is_link (links.Operator operators.Union) s = refl
+is_link (links.Operator operators.Intersect) s = refl
+is_link (links.Operator operators.Minus) s = refl
+is_link (links.Operator operators.Join) s = refl
+is_link (links.Operator operators.Times) s = refl
+is_link (links.Operator operators.Compose) s = refl
+is_link (links.Operator operators.Matching) s = refl
+is_link (links.Operator operators.NotMatching) s = refl
+is_link (links.Operator operators.Add) s = refl
+is_link (links.Operator operators.Subtract) s = refl
+is_link (links.Operator operators.Concatenate) s = refl
+is_link (links.Operator operators.Multiply) s = refl
+is_link (links.Operator operators.Divide) s = refl
 
 pub comparison_stops : (op : Comparison) (s : List Lexeme) → Stops levels.Relational (comparison_word op ∷ s)
-unfolding operator_at comparison_at postfix_at call_at expect
+unfolding link_at comparison_at postfix_at call_at expect
 comparison_stops comparisons.Equal s = (refl, (refl, (refl, (refl, (refl, refl)))))
 comparison_stops comparisons.NotEqual s = (refl, (refl, (refl, (refl, (refl, refl)))))
 comparison_stops comparisons.Less s = (refl, (refl, (refl, (refl, (refl, refl)))))

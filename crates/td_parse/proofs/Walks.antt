@@ -10,19 +10,20 @@ use Rattle.td_tree.specs.declared.keyword.Keyword.TheVariants as k
 use Rattle.td_tree.specs.declared.operator.Comparison.{Comparison}
 use Rattle.td_tree.specs.declared.operator.Level.{Level}
 use Rattle.td_tree.specs.declared.operator.Level.TheVariants as levels
-use Rattle.td_tree.specs.declared.operator.Operator.{Operator}
+use Rattle.td_parse.specs.declared.operators.Link.{Link}
 use Rattle.td_tree.specs.declared.operator.Operator.TheVariants as operators
+use Rattle.td_parse.specs.declared.operators.Link.TheVariants as links
 use Rattle.td_tree.specs.declared.operator.Prefix.TheVariants as prefixes
 use Rattle.td_tree.specs.declared.token.Sign.{Sign}
 use Rattle.td_tree.specs.declared.token.Sign.TheVariants as signs
-use Rattle.td_tree.specs.Grammar.{level_of, tighter}
+use Rattle.td_tree.specs.Grammar.{tighter}
 use Rattle.td_tree.specs.Heights.{height}
 use Rattle.td_tree.specs.Lexemes.{Lexeme, keyword, sign}
 use Rattle.td_tree.specs.Trees.{Tree}
 use Rattle.td_parse.specs.declared.operators.Infix.{Infix}
 use Rattle.td_parse.specs.declared.operators.Infix.TheVariants as infixes
 use Rattle.td_parse.specs.Reading.{Read, additive, applied, by_level, chain, compared, compared_to, conjunction, disjunction, multiplicative, negated, operations, prefixed, relational, restriction}
-use Rattle.td_parse.specs.ReadingOperators.{any_operator, comparison_at, comparison_of_sign, comparison_of_word, operator_at, operator_of_sign, operator_of_word, same_level, with_rest}
+use Rattle.td_parse.specs.ReadingOperators.{link_level, any_link, comparison_at, comparison_of_sign, comparison_of_word, link_at, link_of_sign, link_of_word, same_level, with_rest}
 use Rattle.td_parse.specs.ReadingSteps.{◌>>=◌, either, ReadOf, expect}
 use Rattle.td_parse.specs.Walking.{any_infix, infix_at, infix_level, is_between, infix_tree, not_at, tightest_after, tightness, walk, walked}
 use Rattle.td_parse.proofs.Again.{height_pos}
@@ -30,37 +31,37 @@ use Rattle.td_parse.proofs.Again.{height_pos}
 -- ---- what stands at the front
 
 -- an operator that was found, or else a comparison
-abbrev infix_from : ReadOf Comparison → ReadOf Operator → ReadOf Infix
-infix_from c o = either (c >>= λ p. Some (infixes.Comparison p.0, p.1)) (λ p. Some (infixes.Operator p.0, p.1)) o
+abbrev infix_from : ReadOf Comparison → ReadOf Link → ReadOf Infix
+infix_from c o = either (c >>= λ p. Some (infixes.Comparison p.0, p.1)) (λ p. Some (infixes.Link p.0, p.1)) o
 
-infix_from_rest : (ts : List Lexeme) (c : Option Comparison) (o : Option Operator) → with_rest ts (either (option_map infixes.Comparison c) (λ op. Some (infixes.Operator op)) o) ≡ infix_from (with_rest ts c) (with_rest ts o)
+infix_from_rest : (ts : List Lexeme) (c : Option Comparison) (o : Option Link) → with_rest ts (either (option_map infixes.Comparison c) (λ op. Some (infixes.Link op)) o) ≡ infix_from (with_rest ts c) (with_rest ts o)
 infix_from_rest ts None None = refl
 infix_from_rest ts (Some c) None = refl
 infix_from_rest ts None (Some o) = refl
 infix_from_rest ts (Some c) (Some o) = refl
 
-not_matching : (o : Option (List Lexeme)) → (o >>= λ after. Some (infixes.Operator operators.NotMatching, after)) ≡ infix_from None (o >>= λ after. Some (operators.NotMatching, after))
+not_matching : (o : Option (List Lexeme)) → (o >>= λ after. Some (infixes.Link (links.Operator operators.NotMatching), after)) ≡ infix_from None (o >>= λ after. Some ((links.Operator operators.NotMatching), after))
 not_matching None = refl
 not_matching (Some after) = refl
 
-infix_after : (w : Keyword) (ts : List Lexeme) → any_infix (keyword w ∷ ts) ≡ infix_from (comparison_at (keyword w ∷ ts)) (any_operator (keyword w ∷ ts))
+infix_after : (w : Keyword) (ts : List Lexeme) → any_infix (keyword w ∷ ts) ≡ infix_from (comparison_at (keyword w ∷ ts)) (any_link (keyword w ∷ ts))
 unfolding any_infix comparison_at
 infix_after k.Not ts = not_matching (expect (keyword k.Matching) ts)
-infix_after w ts = infix_from_rest ts (comparison_of_word w) (operator_of_word w)
+infix_after w ts = infix_from_rest ts (comparison_of_word w) (link_of_word w)
 
-infix_is : (ts : List Lexeme) → any_infix ts ≡ infix_from (comparison_at ts) (any_operator ts)
+infix_is : (ts : List Lexeme) → any_infix ts ≡ infix_from (comparison_at ts) (any_link ts)
 unfolding any_infix comparison_at
 infix_is (keyword w ∷ ts) = infix_after w ts
-infix_is (sign s ∷ ts) = infix_from_rest ts (comparison_of_sign s) (operator_of_sign s)
+infix_is (sign s ∷ ts) = infix_from_rest ts (comparison_of_sign s) (link_of_sign s)
 infix_is _ = refl
 
 -- ---- no operator is a comparison
 
-word_is_one : (w : Keyword) (ts : List Lexeme) (p : Operator × List Lexeme) → any_operator (keyword w ∷ ts) ≡ Some p → comparison_of_word w ≡ None
+word_is_one : (w : Keyword) (ts : List Lexeme) (p : Link × List Lexeme) → any_link (keyword w ∷ ts) ≡ Some p → comparison_of_word w ≡ None
 word_is_one k.In ts p e = absurd cc
 word_is_one _ ts p e = refl
 
-sign_is_one : (s : Sign) (ts : List Lexeme) (p : Operator × List Lexeme) → with_rest ts (operator_of_sign s) ≡ Some p → comparison_of_sign s ≡ None
+sign_is_one : (s : Sign) (ts : List Lexeme) (p : Link × List Lexeme) → with_rest ts (link_of_sign s) ≡ Some p → comparison_of_sign s ≡ None
 sign_is_one signs.Equal ts p e = absurd cc
 sign_is_one signs.NotEqual ts p e = absurd cc
 sign_is_one signs.Less ts p e = absurd cc
@@ -69,7 +70,7 @@ sign_is_one signs.Greater ts p e = absurd cc
 sign_is_one signs.GreaterOrEqual ts p e = absurd cc
 sign_is_one _ ts p e = refl
 
-no_comparison : (ts : List Lexeme) (p : Operator × List Lexeme) → any_operator ts ≡ Some p → comparison_at ts ≡ None
+no_comparison : (ts : List Lexeme) (p : Link × List Lexeme) → any_link ts ≡ Some p → comparison_at ts ≡ None
 unfolding comparison_at
 no_comparison (keyword w ∷ ts) p e = rw (word_is_one w ts p e) refl
 no_comparison (sign s ∷ ts) p e = rw (sign_is_one s ts p e) refl
@@ -77,15 +78,15 @@ no_comparison _ p e = absurd cc
 
 -- ---- at some levels
 
-at_operator : (least most : ℕ) (ts rest : List Lexeme) (op : Operator) → any_operator ts ≡ Some (op, rest) → infix_at least most ts ≡ cond (is_between least most (tightness (level_of op))) (Some (infixes.Operator op, rest)) None
+at_operator : (least most : ℕ) (ts rest : List Lexeme) (op : Link) → any_link ts ≡ Some (op, rest) → infix_at least most ts ≡ cond (is_between least most (tightness (link_level op))) (Some (infixes.Link op, rest)) None
 unfolding infix_at
 at_operator least most ts rest op e = rw (infix_is ts, e) refl
 
-at_comparison : (least most : ℕ) (ts rest : List Lexeme) (op : Comparison) → any_operator ts ≡ None → comparison_at ts ≡ Some (op, rest) → infix_at least most ts ≡ cond (is_between least most (tightness levels.Comparison)) (Some (infixes.Comparison op, rest)) None
+at_comparison : (least most : ℕ) (ts rest : List Lexeme) (op : Comparison) → any_link ts ≡ None → comparison_at ts ≡ Some (op, rest) → infix_at least most ts ≡ cond (is_between least most (tightness levels.Comparison)) (Some (infixes.Comparison op, rest)) None
 unfolding infix_at
 at_comparison least most ts rest op none e = rw (infix_is ts, none, e) refl
 
-at_nothing : (least most : ℕ) (ts : List Lexeme) → any_operator ts ≡ None → comparison_at ts ≡ None → infix_at least most ts ≡ None
+at_nothing : (least most : ℕ) (ts : List Lexeme) → any_link ts ≡ None → comparison_at ts ≡ None → infix_at least most ts ≡ None
 unfolding infix_at
 at_nothing least most ts none e = rw (infix_is ts, none, e) refl
 
@@ -141,41 +142,43 @@ same_tightness _ _ = refl
 abbrev if_so : {A : Type 0} → A → Bool → Option A
 if_so x b = cond b (Some x) None
 
-no_operator_there : (level : Level) (ts : List Lexeme) → any_operator ts ≡ None → operator_at level ts ≡ None
-unfolding operator_at
-no_operator_there level ts e = rw e refl
+no_link_there : (level : Level) (ts : List Lexeme) → any_link ts ≡ None → link_at level ts ≡ None
+unfolding link_at
+no_link_there level ts e = rw e refl
 
-operator_test : (level : Level) (ts rest : List Lexeme) (op : Operator) → any_operator ts ≡ Some (op, rest) → operator_at level ts ≡ if_so (op, rest) (same_level (level_of op) level)
-unfolding operator_at
-operator_test level ts rest op e = rw e refl
+link_test : (level : Level) (ts rest : List Lexeme) (op : Link) → any_link ts ≡ Some (op, rest) → link_at level ts ≡ if_so (op, rest) (same_level (link_level op) level)
+unfolding link_at
+link_test level ts rest op e = rw e refl
 
-operator_there : (level : Level) (ts rest : List Lexeme) (op : Operator) → any_operator ts ≡ Some (op, rest) → same_level (level_of op) level ≡ true → operator_at level ts ≡ Some (op, rest)
-operator_there level ts rest op e same = operator_test level ts rest op e ∙ ap (if_so (op, rest)) same
+link_there : (level : Level) (ts rest : List Lexeme) (op : Link) → any_link ts ≡ Some (op, rest) → same_level (link_level op) level ≡ true → link_at level ts ≡ Some (op, rest)
+link_there level ts rest op e same = link_test level ts rest op e ∙ ap (if_so (op, rest)) same
 
-operator_elsewhere : (level : Level) (ts rest : List Lexeme) (op : Operator) → any_operator ts ≡ Some (op, rest) → same_level (level_of op) level ≡ false → operator_at level ts ≡ None
-operator_elsewhere level ts rest op e same = operator_test level ts rest op e ∙ ap (if_so (op, rest)) same
+link_elsewhere : (level : Level) (ts rest : List Lexeme) (op : Link) → any_link ts ≡ Some (op, rest) → same_level (link_level op) level ≡ false → link_at level ts ≡ None
+link_elsewhere level ts rest op e same = link_test level ts rest op e ∙ ap (if_so (op, rest)) same
 
-infix_there : (level : Level) (ts rest : List Lexeme) (op : Operator) → any_operator ts ≡ Some (op, rest) → same_level (level_of op) level ≡ true → infix_at (tightness level) (tightness level) ts ≡ Some (infixes.Operator op, rest)
-infix_there level ts rest op e same = at_operator (tightness level) (tightness level) ts rest op e ∙ ap (if_so (infixes.Operator op, rest)) (same_tightness (level_of op) level ∙ same)
+infix_there : (level : Level) (ts rest : List Lexeme) (op : Link) → any_link ts ≡ Some (op, rest) → same_level (link_level op) level ≡ true → infix_at (tightness level) (tightness level) ts ≡ Some (infixes.Link op, rest)
+infix_there level ts rest op e same = at_operator (tightness level) (tightness level) ts rest op e ∙ ap (if_so (infixes.Link op, rest)) (same_tightness (link_level op) level ∙ same)
 
-infix_elsewhere : (level : Level) (ts rest : List Lexeme) (op : Operator) → any_operator ts ≡ Some (op, rest) → same_level (level_of op) level ≡ false → infix_at (tightness level) (tightness level) ts ≡ None
-infix_elsewhere level ts rest op e same = at_operator (tightness level) (tightness level) ts rest op e ∙ ap (if_so (infixes.Operator op, rest)) (same_tightness (level_of op) level ∙ same)
+infix_elsewhere : (level : Level) (ts rest : List Lexeme) (op : Link) → any_link ts ≡ Some (op, rest) → same_level (link_level op) level ≡ false → infix_at (tightness level) (tightness level) ts ≡ None
+infix_elsewhere level ts rest op e same = at_operator (tightness level) (tightness level) ts rest op e ∙ ap (if_so (infixes.Link op, rest)) (same_tightness (link_level op) level ∙ same)
 
-no_comparison_there : (level : Level) (ts : List Lexeme) → same_level levels.Comparison level ≡ false → any_operator ts ≡ None → (c : ReadOf Comparison) → comparison_at ts ≡ c → infix_at (tightness level) (tightness level) ts ≡ None
+no_comparison_there : (level : Level) (ts : List Lexeme) → same_level levels.Comparison level ≡ false → any_link ts ≡ None → (c : ReadOf Comparison) → comparison_at ts ≡ c → infix_at (tightness level) (tightness level) ts ≡ None
 no_comparison_there level ts other none None e = at_nothing (tightness level) (tightness level) ts none e
 no_comparison_there level ts other none (Some (op, rest)) e =
     at_comparison (tightness level) (tightness level) ts rest op none e ∙ ap (if_so (infixes.Comparison op, rest)) (same_tightness levels.Comparison level ∙ other)
 
-no_comparison_level : (op : Operator) → same_level (level_of op) levels.Comparison ≡ false
-no_comparison_level operators.Where = refl
-no_comparison_level _ = refl
+no_comparison_level : (op : Link) → same_level (link_level op) levels.Comparison ≡ false
+no_comparison_level links.Where = refl
+no_comparison_level (links.Operator operators.Or) = refl
+no_comparison_level (links.Operator _) = refl
 
-no_operator_negation : (op : Operator) → is_between 3 3 (tightness (level_of op)) ≡ false
-no_operator_negation operators.Where = refl
-no_operator_negation _ = refl
+no_link_negation : (op : Link) → is_between 3 3 (tightness (link_level op)) ≡ false
+no_link_negation links.Where = refl
+no_link_negation (links.Operator operators.Or) = refl
+no_link_negation (links.Operator _) = refl
 
 no_infix_negation : (i : Infix) → is_between 3 3 (tightness (infix_level i)) ≡ false
-no_infix_negation (infixes.Operator op) = no_operator_negation op
+no_infix_negation (infixes.Link op) = no_link_negation op
 no_infix_negation (infixes.Comparison op) = refl
 
 nothing_at_negation : (ts : List Lexeme) (o : ReadOf Infix) → any_infix ts ≡ o → infix_at 3 3 ts ≡ None
@@ -186,7 +189,8 @@ nothing_at_negation ts (Some p) e = rw (e, no_infix_negation p.0) refl
 -- ---- one turn
 
 infix_tree_higher : (left right : Tree) (i : Infix) → height left < height (infix_tree left i right)
-infix_tree_higher left right (infixes.Operator op) = omega arith
+infix_tree_higher left right (infixes.Link links.Where) = omega arith
+infix_tree_higher left right (infixes.Link (links.Operator op)) = omega arith
 infix_tree_higher left right (infixes.Comparison op) = omega arith
 
 -- where a place is beside two ranges, of which the first begins above the other's end
@@ -208,7 +212,7 @@ place_of least cut most n =
     ]
 
 after_is_no_looser : (i : Infix) → tightness (infix_level i) ≤ suc (tightness (tightest_after i))
-after_is_no_looser (infixes.Operator op) = omega arith
+after_is_no_looser (infixes.Link op) = omega arith
 after_is_no_looser (infixes.Comparison op) = omega arith
 
 module _ (inner : Level → List Lexeme → Read) (depth : ℕ) where
@@ -321,12 +325,12 @@ module _ (inner : Level → List Lexeme → Read) (depth : ℕ) where
 
   -- ---- one level
 
-  operations_end : (level : Level) (n : ℕ) (left : Tree) (ts : List Lexeme) → operator_at level ts ≡ None → operations inner depth level (suc n) left ts ≡ Some (left, ts)
+  operations_end : (level : Level) (n : ℕ) (left : Tree) (ts : List Lexeme) → link_at level ts ≡ None → operations inner depth level (suc n) left ts ≡ Some (left, ts)
   unfolding operations
   operations_end level n left ts e = rw e refl
 
-  operations_take : (op : Operator) (n : ℕ) (left : Tree) (ts rest : List Lexeme) → operator_at (level_of op) ts ≡ Some (op, rest)
-      → operations inner depth (level_of op) (suc n) left ts ≡ taken (operations inner depth (level_of op) n) (infixes.Operator op) left rest
+  operations_take : (op : Link) (n : ℕ) (left : Tree) (ts rest : List Lexeme) → link_at (link_level op) ts ≡ Some (op, rest)
+      → operations inner depth (link_level op) (suc n) left ts ≡ taken (operations inner depth (link_level op) n) (infixes.Link op) left rest
   unfolding operations
   operations_take op n left ts rest e = rw e refl
 
@@ -334,29 +338,29 @@ module _ (inner : Level → List Lexeme → Read) (depth : ℕ) where
   abbrev OneLevel : ℕ → Level → Type 0
   OneLevel n level = (left : Tree) (ts : List Lexeme) → operations inner depth level n left ts ≡ go_on (tightness level) n (tightness level) left ts
 
-  one_level_takes : (op : Operator) (n : ℕ) (left : Tree) (ts rest : List Lexeme) → any_operator ts ≡ Some (op, rest) → (level : Level) → level_of op ≡ level → same_level (level_of op) level ≡ true
+  one_level_takes : (op : Link) (n : ℕ) (left : Tree) (ts rest : List Lexeme) → any_link ts ≡ Some (op, rest) → (level : Level) → link_level op ≡ level → same_level (link_level op) level ≡ true
       → OneLevel n level → operations inner depth level (suc n) left ts ≡ go_on (tightness level) (suc n) (tightness level) left ts
   one_level_takes op n left ts rest e level is_level =
-      subst (λ (l : Level). same_level (level_of op) l ≡ true → OneLevel n l → operations inner depth l (suc n) left ts ≡ go_on (tightness l) (suc n) (tightness l) left ts) is_level
+      subst (λ (l : Level). same_level (link_level op) l ≡ true → OneLevel n l → operations inner depth l (suc n) left ts ≡ go_on (tightness l) (suc n) (tightness l) left ts) is_level
       (λ same later.
-      operations_take op n left ts rest (operator_there (level_of op) ts rest op e same)
-      ∙ (taken_same (operations inner depth (level_of op) n) (go_on (tightness (level_of op)) n (tightness (level_of op))) (infixes.Operator op) left rest (λ t us lt low. later t us)
-      ∙ sym (walk_takes (tightness (level_of op)) n (tightness (level_of op)) left ts rest (infixes.Operator op) (infix_there (level_of op) ts rest op e same))))
+      operations_take op n left ts rest (link_there (link_level op) ts rest op e same)
+      ∙ (taken_same (operations inner depth (link_level op) n) (go_on (tightness (link_level op)) n (tightness (link_level op))) (infixes.Link op) left rest (λ t us lt low. later t us)
+      ∙ sym (walk_takes (tightness (link_level op)) n (tightness (link_level op)) left ts rest (infixes.Link op) (infix_there (link_level op) ts rest op e same))))
 
-  one_level_turn : (level : Level) → same_level levels.Comparison level ≡ false → (n : ℕ) → OneLevel n level → (left : Tree) (ts : List Lexeme) (o : ReadOf Operator) → any_operator ts ≡ o → operations inner depth level (suc n) left ts ≡ go_on (tightness level) (suc n) (tightness level) left ts
+  one_level_turn : (level : Level) → same_level levels.Comparison level ≡ false → (n : ℕ) → OneLevel n level → (left : Tree) (ts : List Lexeme) (o : ReadOf Link) → any_link ts ≡ o → operations inner depth level (suc n) left ts ≡ go_on (tightness level) (suc n) (tightness level) left ts
   one_level_turn level other n later left ts None e =
-      operations_end level n left ts (no_operator_there level ts e) ∙ sym (walk_ends (tightness level) (suc n) (tightness level) left ts (omega arith) (no_comparison_there level ts other e (comparison_at ts) refl))
+      operations_end level n left ts (no_link_there level ts e) ∙ sym (walk_ends (tightness level) (suc n) (tightness level) left ts (omega arith) (no_comparison_there level ts other e (comparison_at ts) refl))
   one_level_turn level other n later left ts (Some (op, rest)) e =
-      elim (same_level (level_of op) level) as (λ b. same_level (level_of op) level ≡ b → operations inner depth level (suc n) left ts ≡ go_on (tightness level) (suc n) (tightness level) left ts) [
-        | true ↦ λ same. one_level_takes op n left ts rest e level (same_true level_type.the_type (search) (level_of op) level same) same later
+      elim (same_level (link_level op) level) as (λ b. same_level (link_level op) level ≡ b → operations inner depth level (suc n) left ts ≡ go_on (tightness level) (suc n) (tightness level) left ts) [
+        | true ↦ λ same. one_level_takes op n left ts rest e level (same_true level_type.the_type (search) (link_level op) level same) same later
         | false ↦ λ same.
-            operations_end level n left ts (operator_elsewhere level ts rest op e same) ∙ sym (walk_ends (tightness level) (suc n) (tightness level) left ts (omega arith) (infix_elsewhere level ts rest op e same))
+            operations_end level n left ts (link_elsewhere level ts rest op e same) ∙ sym (walk_ends (tightness level) (suc n) (tightness level) left ts (omega arith) (infix_elsewhere level ts rest op e same))
       ] refl
 
   one_level : (level : Level) → same_level levels.Comparison level ≡ false → (n : ℕ) → OneLevel n level
   unfolding operations walk
   one_level level other zero left ts = refl
-  one_level level other (suc n) left ts = one_level_turn level other n (one_level level other n) left ts (any_operator ts) refl
+  one_level level other (suc n) left ts = one_level_turn level other n (one_level level other n) left ts (any_link ts) refl
 
   -- ---- comparisons
 
@@ -368,7 +372,7 @@ module _ (inner : Level → List Lexeme → Read) (depth : ℕ) where
       ∙ taken_same (go_on (tightness levels.Comparison) depth (tightness levels.Negation)) (λ t us. Some (t, us)) (infixes.Comparison op) left rest
       (λ t us lt low. walk_ends (tightness levels.Comparison) depth (tightness levels.Negation) t us (omega (arith, height_pos left)) (nothing_between (tightness levels.Comparison) (tightness levels.Negation) us (omega arith)))
 
-  compared_turn : (left : Tree) (ts : List Lexeme) (o : ReadOf Operator) (c : ReadOf Comparison) → any_operator ts ≡ o → comparison_at ts ≡ c
+  compared_turn : (left : Tree) (ts : List Lexeme) (o : ReadOf Link) (c : ReadOf Comparison) → any_link ts ≡ o → comparison_at ts ≡ c
       → either (Some (left, ts)) (λ p. compared_to inner depth left p.0 p.1) c ≡ go_on (tightness levels.Comparison) (suc depth) (tightness levels.Comparison) left ts
   compared_turn left ts (Some (op, rest)) (Some p) e f = absurd (let g : comparison_at ts ≡ None = no_comparison ts (op, rest) e in cc)
   compared_turn left ts (Some (op, rest)) None e f = sym (walk_ends (tightness levels.Comparison) (suc depth) (tightness levels.Comparison) left ts (omega arith) (infix_elsewhere levels.Comparison ts rest op e (no_comparison_level op)))
@@ -412,7 +416,7 @@ module _ (inner : Level → List Lexeme → Read) (depth : ℕ) where
 
   compared_from : (r : Read) → (r >>= λ x. either (Some x) (λ p. compared_to inner depth x.0 p.0 p.1) (comparison_at x.1)) ≡ go_from 4 4 r
   compared_from None = refl
-  compared_from (Some x) = compared_turn x.0 x.1 (any_operator x.1) (comparison_at x.1) refl refl
+  compared_from (Some x) = compared_turn x.0 x.1 (any_link x.1) (comparison_at x.1) refl refl
 
   compared_is : (ts : List Lexeme) → compared inner depth ts ≡ go_from 4 7 (prefixed inner depth ts)
   unfolding compared

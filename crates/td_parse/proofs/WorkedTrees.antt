@@ -7,6 +7,7 @@ use Rattle.td_tree.specs.declared.operator.Level.TheVariants as levels
 use Rattle.td_tree.specs.declared.operator.Operator.TheVariants as operators
 use Rattle.td_tree.specs.declared.operator.Prefix.TheVariants as prefixes
 use Rattle.td_tree.specs.declared.token.Sign.TheVariants as signs
+use Rattle.td_tree.specs.Grammar as grammar
 use Rattle.td_tree.specs.Grammar.{height_limit, Spelling, IsExpression, looser, between, negation, minus, comparison, literal, reference, component, number_literal, minus_literal, loosest}
 use Rattle.td_tree.specs.Heights.{height}
 use Rattle.td_tree.specs.Keywords.{keyword_of}
@@ -18,7 +19,7 @@ use Rattle.td_tree.specs.Prints.{print}
 use Rattle.td_tree.specs.Statements.{tokens}
 use Rattle.td_tree.specs.TokenLexemes.{lexemes}
 use Rattle.td_parse.specs.Reading.{read, by_level, restriction, disjunction, conjunction, negated, compared, compared_to, relational, additive, multiplicative, chain, operations, prefixed, postfixed, postfixes, primary, numeral}
-use Rattle.td_parse.specs.ReadingOperators.{operator_at, comparison_at, prefix_at, extraction_at, postfix_at}
+use Rattle.td_parse.specs.ReadingOperators.{link_at, comparison_at, prefix_at, extraction_at, postfix_at}
 use Rattle.td_parse.specs.ReadingSteps.{expect}
 use Rattle.td_tree.specs.Trees as tree
 use Rattle.td_tree.specs.Trees.{Tree}
@@ -110,7 +111,7 @@ negated_zero_worked = record { spelled = record { spelled = whole_sum (looser (l
 -- ---- R where not A=-5 or the_q(B)=1
 
 abbrev restricted : Tree
-restricted = tree.binary (tree.name (codes "R")) operators.Where
+restricted = tree.restriction (tree.name (codes "R"))
     (tree.binary (tree.prefix prefixes.Not (tree.compare (tree.name (codes "A")) comparisons.Equal (tree.literal (tree.number true 5)))) operators.Or
     (tree.compare (tree.component (codes "q") (tree.name (codes "B"))) comparisons.Equal (tree.literal (tree.number false 1))))
 
@@ -147,7 +148,7 @@ pub restricted_worked : IsWorked (codes "R where not A=-5 or the_q(B)=1") restri
 unfolding computing
 restricted_worked = record {
   spelled = record {
-    spelled = as_whole (between (as_restriction (as_sum r_named)) (between (looser (looser (negation (looser first_test)))) (as_conjunction second_test)));
+    spelled = as_whole (grammar.restriction (as_restriction (as_sum r_named)) (between (looser (looser (negation (looser first_test)))) (as_conjunction second_test)));
     low = omega arith;
   };
   height_is = refl;
@@ -158,7 +159,7 @@ restricted_worked = record {
 
 -- `unfolding reading` lets `refl` compute what is read
 unfoldable reading : Unit {0}
-unfolding read by_level restriction disjunction conjunction negated compared compared_to relational additive multiplicative chain operations prefixed postfixed postfixes primary numeral expect operator_at comparison_at prefix_at extraction_at postfix_at
+unfolding read by_level restriction disjunction conjunction negated compared compared_to relational additive multiplicative chain operations prefixed postfixed postfixes primary numeral expect link_at comparison_at prefix_at extraction_at postfix_at
 reading = tt
 
 chained : List Lexeme

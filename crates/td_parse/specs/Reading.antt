@@ -19,7 +19,7 @@ use Rattle.td_tree.specs.Heights.{height}
 use Rattle.td_tree.specs.Lexemes.{Lexeme, keyword, sign}
 use Rattle.td_tree.specs.Lexemes as lexeme
 use Rattle.td_tree.specs.Numbers.{numeral_limit}
-use Rattle.td_parse.specs.ReadingOperators.{operator_at, comparison_at, prefix_at, extraction_at, postfix_at, call_at, heading_at}
+use Rattle.td_parse.specs.ReadingOperators.{linked, link_at, comparison_at, prefix_at, extraction_at, postfix_at, call_at, heading_at}
 use Rattle.td_parse.specs.ReadingSteps.{◌>>=◌, either, ReadOf, expect, read_name, read_as, read_up_to, enclosed, separated, listed_to, attribute_list, read_renaming}
 use Rattle.td_parse.specs.ReadingTypes.{relation_heading}
 use Rattle.td_tree.specs.Trees as tree
@@ -290,9 +290,8 @@ module _ (inner : Level → List Lexeme → Read) (depth : ℕ) where
   operations level (suc n) left ts =
       either (Some (left, ts))
       (λ p. inner (tighter level) p.1 >>= λ x.
-      if fits (tree.binary left p.0 x.0)
-      then operations level n (tree.binary left p.0 x.0) x.1 else None)
-      (operator_at level ts)
+      if fits (linked left p.0 x.0) then operations level n (linked left p.0 x.0) x.1 else None)
+      (link_at level ts)
 
   -- operands of the next level with the operators of this one
   unfoldable pub chain : Level → (List Lexeme → Read) → List Lexeme → Read

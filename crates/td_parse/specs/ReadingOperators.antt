@@ -8,17 +8,20 @@ use Rattle.td_tree.specs.declared.keyword.Keyword.TheVariants as k
 use Rattle.td_tree.specs.declared.operator.Comparison.{Comparison}
 use Rattle.td_tree.specs.declared.operator.Comparison.TheVariants as comparisons
 use Rattle.td_tree.specs.declared.operator.Level.{Level}
-use Rattle.td_tree.specs.declared.operator.Operator.{Operator}
+use Rattle.td_tree.specs.declared.operator.Level.TheVariants as levels
 use Rattle.td_tree.specs.declared.operator.Operator.TheVariants as operators
 use Rattle.td_tree.specs.declared.operator.Prefix.{Prefix}
 use Rattle.td_tree.specs.declared.operator.Prefix.TheVariants as prefixes
 use Rattle.td_tree.specs.declared.token.Sign.{Sign}
 use Rattle.td_tree.specs.declared.token.Sign.TheVariants as signs
-use Rattle.td_tree.specs.Grammar.{level_of}
+use Rattle.td_tree.specs.Grammar.{level_of, operator_words}
 use Rattle.td_tree.specs.Lexemes.{Lexeme, keyword, sign}
 use Rattle.td_tree.specs.Lexemes as lexeme
 use Rattle.td_parse.specs.ReadingSteps.{◌>>=◌, either, ReadOf, same_lexeme, expect}
-use Rattle.td_tree.specs.Trees.{Text}
+use Rattle.td_tree.specs.Trees as tree
+use Rattle.td_tree.specs.Trees.{Text, Tree}
+use Rattle.td_parse.specs.declared.operators.Link.{Link}
+use Rattle.td_parse.specs.declared.operators.Link.TheVariants as links
 
 -- what a word or a sign stands for, and the lexemes after it
 abbrev pub with_rest : {A : Type 0} → List Lexeme → Option A → ReadOf A
@@ -27,49 +30,63 @@ with_rest ts (Some a) = Some (a, ts)
 
 -- ---- between operands
 
--- an operator of one word
-abbrev pub operator_of_word : Keyword → Option Operator
-operator_of_word k.Where = Some operators.Where
-operator_of_word k.Or = Some operators.Or
-operator_of_word k.And = Some operators.And
-operator_of_word k.Union = Some operators.Union
-operator_of_word k.Intersect = Some operators.Intersect
-operator_of_word k.Minus = Some operators.Minus
-operator_of_word k.Join = Some operators.Join
-operator_of_word k.Times = Some operators.Times
-operator_of_word k.Compose = Some operators.Compose
-operator_of_word k.Matching = Some operators.Matching
-operator_of_word _ = None
+-- the level at which it stands
+abbrev pub link_level : Link → Level
+link_level links.Where = levels.Restriction
+link_level (links.Operator op) = level_of op
 
--- an operator of one sign
-abbrev pub operator_of_sign : Sign → Option Operator
-operator_of_sign signs.Plus = Some operators.Add
-operator_of_sign signs.Minus = Some operators.Subtract
-operator_of_sign signs.Concatenate = Some operators.Concatenate
-operator_of_sign signs.Times = Some operators.Multiply
-operator_of_sign signs.Divide = Some operators.Divide
-operator_of_sign _ = None
+-- how it is written
+abbrev pub link_words : Link → List Lexeme
+link_words links.Where = keyword k.Where ∷ []
+link_words (links.Operator op) = operator_words op
+
+-- the tree of two operands with what stands between them
+abbrev pub linked : Tree → Link → Tree → Tree
+linked left links.Where right = tree.restriction left right
+linked left (links.Operator op) right = tree.binary left op right
+
+-- what is one word
+abbrev pub link_of_word : Keyword → Option Link
+link_of_word k.Where = Some links.Where
+link_of_word k.Or = Some (links.Operator operators.Or)
+link_of_word k.And = Some (links.Operator operators.And)
+link_of_word k.Union = Some (links.Operator operators.Union)
+link_of_word k.Intersect = Some (links.Operator operators.Intersect)
+link_of_word k.Minus = Some (links.Operator operators.Minus)
+link_of_word k.Join = Some (links.Operator operators.Join)
+link_of_word k.Times = Some (links.Operator operators.Times)
+link_of_word k.Compose = Some (links.Operator operators.Compose)
+link_of_word k.Matching = Some (links.Operator operators.Matching)
+link_of_word _ = None
+
+-- what is one sign
+abbrev pub link_of_sign : Sign → Option Link
+link_of_sign signs.Plus = Some (links.Operator operators.Add)
+link_of_sign signs.Minus = Some (links.Operator operators.Subtract)
+link_of_sign signs.Concatenate = Some (links.Operator operators.Concatenate)
+link_of_sign signs.Times = Some (links.Operator operators.Multiply)
+link_of_sign signs.Divide = Some (links.Operator operators.Divide)
+link_of_sign _ = None
 
 -- NOT begins NOT MATCHING alone
-abbrev pub operator_after_word : Keyword → List Lexeme → ReadOf Operator
-operator_after_word k.Not ts =
-    expect (keyword k.Matching) ts >>= λ after. Some (operators.NotMatching, after)
-operator_after_word w ts = with_rest ts (operator_of_word w)
+abbrev pub link_after_word : Keyword → List Lexeme → ReadOf Link
+link_after_word k.Not ts =
+    expect (keyword k.Matching) ts >>= λ after. Some (links.Operator operators.NotMatching, after)
+link_after_word w ts = with_rest ts (link_of_word w)
 
--- the operator at the front
-abbrev pub any_operator : List Lexeme → ReadOf Operator
-any_operator (keyword w ∷ ts) = operator_after_word w ts
-any_operator (sign s ∷ ts) = with_rest ts (operator_of_sign s)
-any_operator _ = None
+-- what stands at the front and groups to the left
+abbrev pub any_link : List Lexeme → ReadOf Link
+any_link (keyword w ∷ ts) = link_after_word w ts
+any_link (sign s ∷ ts) = with_rest ts (link_of_sign s)
+any_link _ = None
 
 -- whether two levels are one
 abbrev pub same_level : Level → Level → Bool
 same_level = sameb level_type.the_type
 
--- the operator at the front, where it stands at this level
-unfoldable pub operator_at : Level → List Lexeme → ReadOf Operator
-operator_at level ts =
-    any_operator ts >>= λ p. if same_level (level_of p.0) level then Some p else None
+-- the same, where it stands at this level
+unfoldable pub link_at : Level → List Lexeme → ReadOf Link
+link_at level ts = any_link ts >>= λ p. if same_level (link_level p.0) level then Some p else None
 
 -- the comparison that is a word
 abbrev pub comparison_of_word : Keyword → Option Comparison

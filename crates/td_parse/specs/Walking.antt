@@ -8,14 +8,15 @@ use Rattle.td_tree.specs.declared.operator.Level.TheVariants as levels
 use Rattle.td_tree.specs.declared.operator.Operator.TheVariants as operators
 use Rattle.td_tree.specs.declared.operator.Prefix.TheVariants as prefixes
 use Rattle.td_tree.specs.declared.token.Sign.{Sign}
-use Rattle.td_tree.specs.Grammar.{level_of, tighter}
+use Rattle.td_tree.specs.Grammar.{tighter}
 use Rattle.td_tree.specs.Lexemes.{Lexeme, keyword, sign}
 use Rattle.td_tree.specs.Trees as tree
 use Rattle.td_tree.specs.Trees.{Tree}
 use Rattle.td_parse.specs.declared.operators.Infix.{Infix}
 use Rattle.td_parse.specs.declared.operators.Infix.TheVariants as infixes
+use Rattle.td_parse.specs.declared.operators.Link.TheVariants as links
 use Rattle.td_parse.specs.Reading.{Read, applied, fits, prefixed}
-use Rattle.td_parse.specs.ReadingOperators.{comparison_of_sign, comparison_of_word, operator_of_sign, operator_of_word, with_rest}
+use Rattle.td_parse.specs.ReadingOperators.{comparison_of_sign, comparison_of_word, link_level, link_of_sign, link_of_word, linked, with_rest}
 use Rattle.td_parse.specs.ReadingSteps.{◌>>=◌, either, ReadOf, expect}
 
 -- how tightly a level binds: more than each looser one
@@ -36,36 +37,36 @@ tightness levels.Primary = 10
 
 -- the level at which it stands
 abbrev pub infix_level : Infix → Level
-infix_level (infixes.Operator op) = level_of op
+infix_level (infixes.Link link) = link_level link
 infix_level (infixes.Comparison op) = levels.Comparison
 
 -- the tightest level of what may follow its right operand: comparisons do not chain
 abbrev pub tightest_after : Infix → Level
-tightest_after (infixes.Operator op) = level_of op
+tightest_after (infixes.Link link) = link_level link
 tightest_after (infixes.Comparison op) = levels.Negation
 
 -- the tree of two operands with what stands between them
 abbrev pub infix_tree : Tree → Infix → Tree → Tree
-infix_tree left (infixes.Operator op) right = tree.binary left op right
+infix_tree left (infixes.Link link) right = linked left link right
 infix_tree left (infixes.Comparison op) right = tree.compare left op right
 
 -- the operator or comparison that is this word
 abbrev pub infix_of_word : Keyword → Option Infix
 infix_of_word w =
     either (option_map infixes.Comparison (comparison_of_word w))
-    (λ op. Some (infixes.Operator op)) (operator_of_word w)
+    (λ link. Some (infixes.Link link)) (link_of_word w)
 
 -- the operator or comparison that is this sign
 abbrev pub infix_of_sign : Sign → Option Infix
 infix_of_sign s =
     either (option_map infixes.Comparison (comparison_of_sign s))
-    (λ op. Some (infixes.Operator op)) (operator_of_sign s)
+    (λ link. Some (infixes.Link link)) (link_of_sign s)
 
 -- what begins with this word: NOT begins NOT MATCHING alone
 abbrev pub infix_after_word : Keyword → List Lexeme → ReadOf Infix
 infix_after_word k.Not ts =
     expect (keyword k.Matching) ts
-    >>= λ after. Some (infixes.Operator operators.NotMatching, after)
+    >>= λ after. Some (infixes.Link (links.Operator operators.NotMatching), after)
 infix_after_word w ts = with_rest ts (infix_of_word w)
 
 -- the operator or comparison at the front

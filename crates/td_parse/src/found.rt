@@ -9,7 +9,7 @@ ghost use Rattle.td_parse.specs.Walking.{infix_tree};
 ghost use Rattle.td_tree.specs.TreeViews.{attributes_view, heading_tree_view, literal_view};
 ghost use Rattle.td_tree.specs.TreeViews.{postfix_view, summaries_view, tree_view, trees_view};
 
-use crate::operators::Infix;
+use crate::operators::{Infix, Link};
 use crate::parts::{Elements, NamedParts, Summaries};
 use std::alloc::{AllocError, Global};
 use std::marker::Model;
@@ -173,6 +173,17 @@ impl Found {
         Ok(Found { tree, height })
     }
 
+    /// `r WHERE p`
+    fn restriction(alloc: Global, operand: Found, condition: Found) -> Result<Found, AllocError>
+        ensures { IfOk result (λ e. tree_view e
+            ≡ trees.restriction (tree_view operand) (tree_view condition)) }
+    {
+        let height = operand.height.max(condition.height).saturating_add(1);
+        let (operand, condition) = boxed_both(alloc, operand.tree, condition.tree)?;
+        let tree = Expr::Restriction(operand, condition);
+        Ok(Found { tree, height })
+    }
+
     /// A comparison of two operands.
     fn compare(
         alloc: Global,
@@ -200,7 +211,8 @@ impl Found {
             ≡ infix_tree (tree_view left) op (tree_view right)) }
     {
         match op {
-            Infix::Operator(op) => Found::binary(alloc, left, op, right),
+            Infix::Link(Link::Where) => Found::restriction(alloc, left, right),
+            Infix::Link(Link::Operator(op)) => Found::binary(alloc, left, op, right),
             Infix::Comparison(op) => Found::compare(alloc, left, op, right),
         }
     }

@@ -15,40 +15,47 @@ use td_tree::token::{Kind, Sign};
 
 // ---- between operands
 
-/// What stands between two operands: an operator or a comparison.
+/// What stands between two operands and groups to the left.
+#[derive(Clone, Copy)]
+pub enum Link {
+    Where,
+    Operator(Operator),
+}
+
+/// What stands between two operands. Comparisons do not group.
 #[derive(Clone, Copy)]
 pub enum Infix {
-    Operator(Operator),
+    Link(Link),
     Comparison(Comparison),
 }
 
-fn operator_of_word(word: Keyword) -> Option<Operator>
-    ensures { result ≡ reading.operator_of_word word }
+fn link_of_word(word: Keyword) -> Option<Link>
+    ensures { result ≡ reading.link_of_word word }
 {
     match word {
-        Keyword::Where => Some(Operator::Where),
-        Keyword::Or => Some(Operator::Or),
-        Keyword::And => Some(Operator::And),
-        Keyword::Union => Some(Operator::Union),
-        Keyword::Intersect => Some(Operator::Intersect),
-        Keyword::Minus => Some(Operator::Minus),
-        Keyword::Join => Some(Operator::Join),
-        Keyword::Times => Some(Operator::Times),
-        Keyword::Compose => Some(Operator::Compose),
-        Keyword::Matching => Some(Operator::Matching),
+        Keyword::Where => Some(Link::Where),
+        Keyword::Or => Some(Link::Operator(Operator::Or)),
+        Keyword::And => Some(Link::Operator(Operator::And)),
+        Keyword::Union => Some(Link::Operator(Operator::Union)),
+        Keyword::Intersect => Some(Link::Operator(Operator::Intersect)),
+        Keyword::Minus => Some(Link::Operator(Operator::Minus)),
+        Keyword::Join => Some(Link::Operator(Operator::Join)),
+        Keyword::Times => Some(Link::Operator(Operator::Times)),
+        Keyword::Compose => Some(Link::Operator(Operator::Compose)),
+        Keyword::Matching => Some(Link::Operator(Operator::Matching)),
         _ => None,
     }
 }
 
-fn operator_of_sign(sign: Sign) -> Option<Operator>
-    ensures { result ≡ reading.operator_of_sign sign }
+fn link_of_sign(sign: Sign) -> Option<Link>
+    ensures { result ≡ reading.link_of_sign sign }
 {
     match sign {
-        Sign::Plus => Some(Operator::Add),
-        Sign::Minus => Some(Operator::Subtract),
-        Sign::Concatenate => Some(Operator::Concatenate),
-        Sign::Times => Some(Operator::Multiply),
-        Sign::Divide => Some(Operator::Divide),
+        Sign::Plus => Some(Link::Operator(Operator::Add)),
+        Sign::Minus => Some(Link::Operator(Operator::Subtract)),
+        Sign::Concatenate => Some(Link::Operator(Operator::Concatenate)),
+        Sign::Times => Some(Link::Operator(Operator::Multiply)),
+        Sign::Divide => Some(Link::Operator(Operator::Divide)),
         _ => None,
     }
 }
@@ -79,8 +86,8 @@ fn comparison_of_sign(sign: Sign) -> Option<Comparison>
 fn infix_of_word(word: Keyword) -> Option<Infix>
     ensures { result ≡ walking.infix_of_word word }
 {
-    match operator_of_word(word) {
-        Some(op) => Some(Infix::Operator(op)),
+    match link_of_word(word) {
+        Some(link) => Some(Infix::Link(link)),
         None => comparison_of_word(word).map(Infix::Comparison),
     }
 }
@@ -88,8 +95,8 @@ fn infix_of_word(word: Keyword) -> Option<Infix>
 fn infix_of_sign(sign: Sign) -> Option<Infix>
     ensures { result ≡ walking.infix_of_sign sign }
 {
-    match operator_of_sign(sign) {
-        Some(op) => Some(Infix::Operator(op)),
+    match link_of_sign(sign) {
+        Some(link) => Some(Infix::Link(link)),
         None => comparison_of_sign(sign).map(Infix::Comparison),
     }
 }
@@ -99,7 +106,6 @@ fn level_of(op: Operator) -> Level
     ensures { result ≡ grammar.level_of op }
 {
     match op {
-        Operator::Where => Level::Restriction,
         Operator::Or => Level::Disjunction,
         Operator::And => Level::Conjunction,
         Operator::Union
@@ -152,13 +158,25 @@ fn tightness(level: Level) -> u8
     }
 }
 
+impl Link {
+    /// The level at which it stands.
+    fn level(self) -> Level
+        ensures { result ≡ reading.link_level self }
+    {
+        match self {
+            Link::Where => Level::Restriction,
+            Link::Operator(op) => level_of(op),
+        }
+    }
+}
+
 impl Infix {
     /// The level at which it stands.
     pub fn level(self) -> Level
         ensures { result ≡ walking.infix_level self }
     {
         match self {
-            Infix::Operator(op) => level_of(op),
+            Infix::Link(link) => link.level(),
             Infix::Comparison(_) => Level::Comparison,
         }
     }
@@ -168,7 +186,7 @@ impl Infix {
         ensures { result ≡ walking.tightest_after self }
     {
         match self {
-            Infix::Operator(op) => level_of(op),
+            Infix::Link(link) => link.level(),
             Infix::Comparison(_) => Level::Negation,
         }
     }
@@ -191,7 +209,7 @@ fn any_infix(tokens: &mut Ahead<'_, '_>) -> Option<Infix>
     match tokens.take()? {
         (Kind::Reserved(Keyword::Not), _) => {
             if tokens.keyword(Keyword::Matching) {
-                Some(Infix::Operator(Operator::NotMatching))
+                Some(Infix::Link(Link::Operator(Operator::NotMatching)))
             } else {
                 None
             }

@@ -1,5 +1,5 @@
 -- A text with its quotes doubled, by its pieces between quotes.
-use Rattle.std.proofs.Common.{◌≡◌, ℕ, ◌<◌, ◌+◌, Bool, true, false, cond, eqb, List, [], ◌∷◌, ◌++◌, length, get_or, drop, refl, sym, ap, ◌∙◌, append_assoc}
+use Rattle.std.proofs.Common.{◌≡◌, ℕ, ◌<◌, ◌+◌, Bool, true, false, cond, eqb, List, [], ◌∷◌, ◌++◌, length, get_or, drop, refl, sym, ap, ◌∙◌}
 use Rattle.std.specs.List.{slice_split, onto_first}
 use Rattle.std.proofs.lemmas.List.{at_drop_more}
 use Rattle.td_tree.specs.TextTokens.{doubled}
@@ -41,7 +41,3 @@ pub joined-drop : (later : Bool) (ps : List (List ℕ)) (k : ℕ) (p : List ℕ)
     → joined later (drop k ps) ≡ quotes_if later ++ p ++ joined true (drop (k + 1) ps)
 joined-drop later ps k p h =
     at_drop_more (joined later) ps k p h.0 ∙ ap (λ q. quotes_if later ++ q ++ joined true (drop (k + 1) ps)) (sym h.1)
-
--- one more piece at the end of what is written
-pub written_more : (old quotes piece left all new rest : List ℕ) → new ≡ (old ++ quotes) ++ piece → left ≡ (quotes ++ piece) ++ rest → old ++ left ≡ all → new ++ rest ≡ all
-written_more old quotes piece left all new rest e f h = rw e (simp append_assoc (simp append_assoc at (rw f at h)))

@@ -11,6 +11,7 @@ pub mod Doubling
 pub mod EndLaws
 pub mod EndOfStatement
 pub mod FrontLaws
+pub mod Fronts
 pub mod Gatherings
 pub mod HeldLaws
 pub mod Initials
@@ -38,6 +39,7 @@ pub mod TextTests
 pub mod TextTokenLaws
 pub mod TheWords
 pub mod TokenLaws
+pub mod Unrefused
 pub mod WordStarts
 pub mod WordTexts
 pub mod Writing

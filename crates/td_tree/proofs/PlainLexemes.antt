@@ -107,6 +107,7 @@ plain_comparison _ = tt
 mutual
   pub plain : {level : Level} {xs : List Lexeme} {t : Tree} → Spelling level xs t → AllPlain xs
   plain (g.looser p) = plain p
+  plain (g.restriction p q) = join (plain p) (also tt (plain q))
   plain (g.between {op} p q) = join (plain p) (join (plain_operator op) (plain q))
   plain (g.negation p) = (also tt (plain p))
   plain (g.comparison {op} p q) = join (plain p) (also (plain_comparison op) (plain q))

@@ -135,7 +135,6 @@ loosest = levels.Restriction
 
 -- the level at which an operator stands
 abbrev pub level_of : Operator → Level
-level_of operators.Where = levels.Restriction
 level_of operators.Or = levels.Disjunction
 level_of operators.And = levels.Conjunction
 level_of operators.Union = levels.Relational
@@ -154,7 +153,6 @@ level_of operators.Divide = levels.Multiplicative
 
 -- how an operator is written
 abbrev pub operator_words : Operator → List Lexeme
-operator_words operators.Where = keyword k.Where ∷ []
 operator_words operators.Or = keyword k.Or ∷ []
 operator_words operators.And = keyword k.And ∷ []
 operator_words operators.Union = keyword k.Union ∷ []
@@ -201,7 +199,11 @@ mutual
     -- a level includes the next: e := e1, e1 := e2 and so on
     looser : {level : Level} {xs : List Lexeme} {a : Tree} → Spelling (tighter level) xs a
         → Spelling level xs a
-    -- e := e WHERE e1, e1 := e1 OR e2, e2 := e2 AND e3, e5 := e5 rop e6,
+    -- e := e WHERE e1
+    restriction : {xs ys : List Lexeme} {a p : Tree} → Spelling levels.Restriction xs a
+        → Spelling levels.Disjunction ys p
+        → Spelling levels.Restriction (xs ++ (keyword k.Where ∷ ys)) (tree.restriction a p)
+    -- e1 := e1 OR e2, e2 := e2 AND e3, e5 := e5 rop e6,
     -- e6 := e6 ('+' | '-' | '||') e7, e7 := e7 ('*' | '/') e8
     between : {op : Operator} {xs ys : List Lexeme} {a b : Tree} → Spelling (level_of op) xs a
         → Spelling (tighter (level_of op)) ys b

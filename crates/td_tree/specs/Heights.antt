@@ -1,7 +1,7 @@
 -- The height of a tree (this project's own): 1 for a node without parts, else one more than its
 -- highest part.
 use Rattle.std.specs.Prelude.{ℕ, zero, ◌+◌, max}
-use Rattle.td_tree.specs.Trees.{TypeTree, integer, char, boolean, user, tuple_type, relation_type, AttributeTrees, no_attributes, attribute, Tree, literal, name, parentheses, prefix, extract, binary, compare, postfix, select, component, measure, aggregate, relation, headed_relation, tuple, extend, summarize_per, summarize_by, choice, Trees, none, more, NamedTrees, none_named, more_named, Summaries, no_summaries, counted, summed}
+use Rattle.td_tree.specs.Trees.{TypeTree, integer, char, boolean, user, tuple_type, relation_type, AttributeTrees, no_attributes, attribute, Tree, literal, name, parentheses, prefix, extract, restriction, binary, compare, postfix, select, component, measure, aggregate, relation, headed_relation, tuple, extend, summarize_per, summarize_by, choice, Trees, none, more, NamedTrees, none_named, more_named, Summaries, no_summaries, counted, summed}
 
 abbrev mutual
   pub type_height : TypeTree → ℕ
@@ -25,6 +25,7 @@ abbrev mutual
   height (parentheses inner) = height inner + 1
   height (prefix op operand) = height operand + 1
   height (extract a operand) = height operand + 1
+  height (restriction operand condition) = max (height operand) (height condition) + 1
   height (binary left op right) = max (height left) (height right) + 1
   height (compare left op right) = max (height left) (height right) + 1
   height (postfix operand op) = height operand + 1

@@ -3,6 +3,7 @@ pub mod CauseCode
 pub mod Causes
 pub mod Copies
 pub mod Division
+pub mod Fronts
 pub mod Gatherings
 pub mod Grammar
 pub mod Hashes

@@ -205,44 +205,41 @@ comparison_back comparisons.GreaterOrEqual = refl
 comparison_back comparisons.In = refl
 
 abbrev pub operator_number : Operator → ℕ
-operator_number o.Where = 0
-operator_number o.Or = 1
-operator_number o.And = 2
-operator_number o.Union = 3
-operator_number o.Intersect = 4
-operator_number o.Minus = 5
-operator_number o.Join = 6
-operator_number o.Times = 7
-operator_number o.Compose = 8
-operator_number o.Matching = 9
-operator_number o.NotMatching = 10
-operator_number o.Add = 11
-operator_number o.Subtract = 12
-operator_number o.Concatenate = 13
-operator_number o.Multiply = 14
-operator_number o.Divide = 15
+operator_number o.Or = 0
+operator_number o.And = 1
+operator_number o.Union = 2
+operator_number o.Intersect = 3
+operator_number o.Minus = 4
+operator_number o.Join = 5
+operator_number o.Times = 6
+operator_number o.Compose = 7
+operator_number o.Matching = 8
+operator_number o.NotMatching = 9
+operator_number o.Add = 10
+operator_number o.Subtract = 11
+operator_number o.Concatenate = 12
+operator_number o.Multiply = 13
+operator_number o.Divide = 14
 
 abbrev pub operator_numbered : ℕ → Operator
 operator_numbered n =
-    if n == 0 then o.Where
-    else if n == 1 then o.Or
-    else if n == 2 then o.And
-    else if n == 3 then o.Union
-    else if n == 4 then o.Intersect
-    else if n == 5 then o.Minus
-    else if n == 6 then o.Join
-    else if n == 7 then o.Times
-    else if n == 8 then o.Compose
-    else if n == 9 then o.Matching
-    else if n == 10 then o.NotMatching
-    else if n == 11 then o.Add
-    else if n == 12 then o.Subtract
-    else if n == 13 then o.Concatenate
-    else if n == 14 then o.Multiply
+    if n == 0 then o.Or
+    else if n == 1 then o.And
+    else if n == 2 then o.Union
+    else if n == 3 then o.Intersect
+    else if n == 4 then o.Minus
+    else if n == 5 then o.Join
+    else if n == 6 then o.Times
+    else if n == 7 then o.Compose
+    else if n == 8 then o.Matching
+    else if n == 9 then o.NotMatching
+    else if n == 10 then o.Add
+    else if n == 11 then o.Subtract
+    else if n == 12 then o.Concatenate
+    else if n == 13 then o.Multiply
     else o.Divide
 
 pub operator_back : (op : Operator) → operator_numbered (operator_number op) ≡ op
-operator_back o.Where = refl
 operator_back o.Or = refl
 operator_back o.And = refl
 operator_back o.Union = refl

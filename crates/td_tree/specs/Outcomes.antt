@@ -64,6 +64,12 @@ Answers view (Ok x) o = o ≡ Valued (view x)
 Answers view (Err (faults.Refused cause)) o = named_cause o ≡ Some cause
 Answers view (Err faults.Memory) o = ⊤
 
+-- a call that is not refused: it has a value, or wants memory
+abbrev pub IsUnrefused : {X : Type 0} → Result X Fault → Type 0
+IsUnrefused (Ok x) = ⊤
+IsUnrefused (Err (faults.Refused cause)) = ⊥
+IsUnrefused (Err faults.Memory) = ⊤
+
 -- ---- laws
 
 -- the cause that is named is one of the set, and none of the set has a lesser number

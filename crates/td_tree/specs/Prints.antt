@@ -8,7 +8,7 @@ use Rattle.td_tree.specs.Grammar.{operator_words, comparison_word, measure_word,
 use Rattle.td_tree.specs.Lexemes.{Lexeme, keyword, sign, spaced}
 use Rattle.td_tree.specs.Lexemes as lexeme
 use Rattle.td_tree.specs.Lists.{braced, parenthesized}
-use Rattle.td_tree.specs.Trees.{Text, TypeTree, integer, char, boolean, user, tuple_type, relation_type, AttributeTrees, no_attributes, attribute, Literal, number, text, truth, table_dee, table_dum, Attributes, only, all_but, Renaming, Postfix, project, rename, group, ungroup, wrap, unwrap, Tree, literal, name, parentheses, prefix, extract, binary, compare, postfix, select, component, measure, aggregate, relation, headed_relation, tuple, extend, summarize_per, summarize_by, choice, Trees, none, more, NamedTrees, none_named, more_named, Summaries, no_summaries, counted, summed}
+use Rattle.td_tree.specs.Trees.{Text, TypeTree, integer, char, boolean, user, tuple_type, relation_type, AttributeTrees, no_attributes, attribute, Literal, number, text, truth, table_dee, table_dum, Attributes, only, all_but, Renaming, Postfix, project, rename, group, ungroup, wrap, unwrap, Tree, literal, name, parentheses, prefix, extract, restriction, binary, compare, postfix, select, component, measure, aggregate, relation, headed_relation, tuple, extend, summarize_per, summarize_by, choice, Trees, none, more, NamedTrees, none_named, more_named, Summaries, no_summaries, counted, summed}
 
 -- a comma before each item
 abbrev pub following : List (List Lexeme) → List Lexeme
@@ -87,6 +87,8 @@ abbrev mutual
   lexemes_of (parentheses inner) = parenthesized (lexemes_of inner)
   lexemes_of (prefix op operand) = prefix_words op ++ lexemes_of operand
   lexemes_of (extract a operand) = lexeme.name a ∷ (keyword k.From ∷ lexemes_of operand)
+  lexemes_of (restriction operand condition) =
+      lexemes_of operand ++ (keyword k.Where ∷ lexemes_of condition)
   lexemes_of (binary left op right) = lexemes_of left ++ (operator_words op ++ lexemes_of right)
   lexemes_of (compare left op right) = lexemes_of left ++ (comparison_word op ∷ lexemes_of right)
   lexemes_of (postfix operand op) = lexemes_of operand ++ postfix_lexemes op

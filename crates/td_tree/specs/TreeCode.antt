@@ -5,7 +5,7 @@ use Rattle.std.specs.Coded.{Coded, code_by}
 use base.Stored.{Gv, gnil, gnum, gcons}
 use denote.Struct.Codes.{itself}
 use Rattle.td_tree.specs.NodeCode.{aggregate_number, aggregate_numbered, aggregate_back, attributes_to, attributes_from, attributes_back, bytes_to, bytes_from, bytes_back, comparison_number, comparison_numbered, comparison_back, literal_to, literal_from, literal_back, measure_number, measure_numbered, measure_back, number_in, operator_number, operator_numbered, operator_back, postfix_to, postfix_from, postfix_back, prefix_number, prefix_numbered, prefix_back}
-use Rattle.td_tree.specs.Trees.{TypeTree, AttributeTrees, no_attributes, Tree, literal, name, parentheses, prefix, extract, binary, compare, postfix, select, component, measure, aggregate, relation, headed_relation, tuple, extend, summarize_per, summarize_by, choice, Trees, none, more, NamedTrees, none_named, more_named, Summaries, no_summaries, counted, summed}
+use Rattle.td_tree.specs.Trees.{TypeTree, AttributeTrees, no_attributes, Tree, literal, name, parentheses, prefix, extract, restriction, binary, compare, postfix, select, component, measure, aggregate, relation, headed_relation, tuple, extend, summarize_per, summarize_by, choice, Trees, none, more, NamedTrees, none_named, more_named, Summaries, no_summaries, counted, summed}
 use Rattle.td_tree.specs.Trees as t
 
 -- a node: its number and its three parts
@@ -62,6 +62,7 @@ abbrev mutual
   tree_to (parentheses inner) = node 2 (tree_to inner) gnil gnil
   tree_to (prefix op operand) = node 3 (gnum (prefix_number op)) (tree_to operand) gnil
   tree_to (extract a operand) = node 4 (bytes_to a) (tree_to operand) gnil
+  tree_to (restriction operand condition) = node 18 (tree_to operand) (tree_to condition) gnil
   tree_to (binary left op right) = node 5 (tree_to left) (gnum (operator_number op)) (tree_to right)
   tree_to (compare left op right) = node 6 (tree_to left) (gnum (comparison_number op)) (tree_to right)
   tree_to (postfix operand op) = node 7 (tree_to operand) (postfix_to op) gnil
@@ -79,7 +80,7 @@ abbrev mutual
   tree_to (summarize_by operand by summaries) =
       node 17 (tree_to operand) (attributes_to by) (summaries_to summaries)
   tree_to (choice condition consequent alternative) =
-      node 18 (tree_to condition) (tree_to consequent) (tree_to alternative)
+      node 19 (tree_to condition) (tree_to consequent) (tree_to alternative)
 
   trees_to : Trees → Gv
   trees_to none = gnil
@@ -116,6 +117,7 @@ abbrev mutual
       else if n == 15 then extend (tree_from a) (named_from b)
       else if n == 16 then summarize_per (tree_from a) (tree_from b) (summaries_from c)
       else if n == 17 then summarize_by (tree_from a) (attributes_from b) (summaries_from c)
+      else if n == 18 then restriction (tree_from a) (tree_from b)
       else choice (tree_from a) (tree_from b) (tree_from c)
   tree_from _ = literal t.table_dee
 
@@ -140,6 +142,7 @@ mutual
   tree_back (parentheses inner) = ap parentheses (tree_back inner)
   tree_back (prefix op operand) = λ i. prefix (prefix_back op i) (tree_back operand i)
   tree_back (extract a operand) = λ i. extract (bytes_back a i) (tree_back operand i)
+  tree_back (restriction operand condition) = λ i. restriction (tree_back operand i) (tree_back condition i)
   tree_back (binary left op right) = λ i. binary (tree_back left i) (operator_back op i) (tree_back right i)
   tree_back (compare left op right) =
       λ i. compare (tree_back left i) (comparison_back op i) (tree_back right i)

@@ -72,6 +72,8 @@ abbrev mutual
   tree_view (e.Parentheses' _ inner) = trees.parentheses (tree_view inner)
   tree_view (e.Prefix' op _ operand) = trees.prefix op (tree_view operand)
   tree_view (e.Extract' attribute _ operand) = trees.extract attribute (tree_view operand)
+  tree_view (e.Restriction' _ operand _ condition) =
+      trees.restriction (tree_view operand) (tree_view condition)
   tree_view (e.Binary' _ left op _ right) = trees.binary (tree_view left) op (tree_view right)
   tree_view (e.Compare' _ left op _ right) = trees.compare (tree_view left) op (tree_view right)
   tree_view (e.Postfix' _ operand op) = trees.postfix (tree_view operand) (postfix_view op)

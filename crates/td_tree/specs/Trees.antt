@@ -61,6 +61,7 @@ mutual
     parentheses : (inner : Tree) → Tree
     prefix : (op : Prefix) (operand : Tree) → Tree
     extract : (attribute : Text) (operand : Tree) → Tree
+    restriction : (operand condition : Tree) → Tree
     binary : (left : Tree) (op : Operator) (right : Tree) → Tree
     compare : (left : Tree) (op : Comparison) (right : Tree) → Tree
     postfix : (operand : Tree) (op : Postfix) → Tree

@@ -131,6 +131,9 @@ impl Expr {
             Expr::Parentheses(inner) => remade::parentheses(boxed(inner)),
             Expr::Prefix(op, operand) => remade::prefix(*op, boxed(operand)),
             Expr::Extract(name, operand) => remade::extract(name.try_clone(), boxed(operand)),
+            Expr::Restriction(operand, condition) => {
+                remade::restriction(boxed(operand), boxed(condition))
+            }
             Expr::Binary(left, op, right) => remade::binary(boxed(left), *op, boxed(right)),
             Expr::Compare(left, op, right) => remade::compare(boxed(left), *op, boxed(right)),
             Expr::Postfix(operand, op) => remade::postfix(boxed(operand), op.try_clone()),

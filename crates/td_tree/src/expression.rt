@@ -56,6 +56,8 @@ pub enum Expr {
     Prefix(Prefix, Box<Expr>),
     /// `A FROM t`
     Extract(Name, Box<Expr>),
+    /// `r WHERE p`: the condition has a value for each tuple of the relation.
+    Restriction(Box<Expr>, Box<Expr>),
     Binary(Box<Expr>, Operator, Box<Expr>),
     Compare(Box<Expr>, Comparison, Box<Expr>),
     Postfix(Box<Expr>, Postfix),

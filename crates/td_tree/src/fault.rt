@@ -1,4 +1,7 @@
 //! Why a call gives no value.
+ghost use Rattle.std.specs.Prelude.{◌≡◌, IfOk, Ok};
+ghost use Rattle.td_tree.specs.Outcomes.{IsUnrefused};
+
 use crate::cause::Cause;
 use std::alloc::{AllocError, AllocFailed};
 use thiserror::Error;
@@ -33,5 +36,17 @@ impl<T: Drop> From<AllocFailed<T>> for Fault {
 
     fn from(_error: AllocFailed<T>) -> Fault {
         Fault::Memory
+    }
+}
+
+/// The answer of a call that asks what holds, so that it can want memory alone.
+pub fn unrefused<T: Drop>(answer: Result<T, Fault>) -> Result<T, AllocError>
+    requires { IsUnrefused answer }
+    ensures { IfOk result (λ value. answer ≡ Ok value) }
+{
+    match answer {
+        Ok(value) => Ok(value),
+        Err(Fault::Memory) => Err(AllocError),
+        Err(Fault::Refused(_)) => unreachable!(),
     }
 }

@@ -56,7 +56,8 @@ impl Expr {
             | Expr::Postfix(operand, _)
             | Expr::Component(_, operand)
             | Expr::Measure(_, operand) => operand.height(),
-            Expr::Binary(left, _, right)
+            Expr::Restriction(left, right)
+            | Expr::Binary(left, _, right)
             | Expr::Compare(left, _, right)
             | Expr::Aggregate(_, left, right) => left.height().max(right.height()),
             Expr::Select(_, elements) | Expr::Relation(elements) => highest(elements),

@@ -34,7 +34,6 @@ pub enum Level {
 /// An operator between two operands, which groups to the left.
 #[derive(Clone, Copy, Debug, PartialEq, Eq)]
 pub enum Operator {
-    Where,
     Or,
     And,
     Union,

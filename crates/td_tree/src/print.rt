@@ -82,6 +82,9 @@ impl Printer {
             Expr::Parentheses(inner) => self.parenthesized(inner),
             Expr::Prefix(op, operand) => self.prefix(*op)?.expr(operand),
             Expr::Extract(name, operand) => self.name(name)?.after(Keyword::From, operand),
+            Expr::Restriction(operand, condition) => {
+                self.expr(operand)?.after(Keyword::Where, condition)
+            }
             Expr::Binary(left, op, right) => self.expr(left)?.operator(*op)?.expr(right),
             Expr::Compare(left, op, right) => self.expr(left)?.comparison(*op)?.expr(right),
             Expr::Postfix(operand, op) => self.expr(operand)?.postfix(op),

@@ -1,6 +1,7 @@
 //! Texts in quotes.
-ghost use Rattle.std.specs.Prelude.{◌≡◌, ◌++◌, OnOk};
+ghost use Rattle.std.specs.Prelude.{◌≡◌, ◌++◌, OnErr, OnOk};
 ghost use Rattle.std.specs.String.{string_bytes};
+ghost use Rattle.td_tree.specs.Fronts.{PutsFront};
 ghost use Rattle.td_tree.specs.TextTokens.{doubled, quoted};
 ghost use Rattle.td_tree.specs.Written.{quotes_if};
 
@@ -8,7 +9,8 @@ use std::alloc::AllocError;
 
 /// Puts what stands before a piece: two quotes, where another piece stands before it.
 fn put_quotes(out: &mut String, later: bool) -> Result<(), AllocError>
-    ensures { OnOk result (string_bytes out.new ≡ string_bytes out.old ++ quotes_if later) }
+    ensures ok { OnOk result (string_bytes out.new ≡ string_bytes out.old ++ quotes_if later) }
+    ensures err { OnErr result (string_bytes out.new ≡ string_bytes out.old) }
 {
     if later {
         out.push_str("''")?;
@@ -18,7 +20,9 @@ fn put_quotes(out: &mut String, later: bool) -> Result<(), AllocError>
 
 /// Puts the text with each quote doubled: its pieces between quotes, with two quotes between.
 fn put_doubled(out: &mut String, said: &str) -> Result<(), AllocError>
-    ensures { OnOk result (string_bytes out.new ≡ string_bytes out.old ++ doubled said.now) }
+    ensures ok { OnOk result (string_bytes out.new ≡ string_bytes out.old ++ doubled said.now) }
+    ensures err { OnErr result
+        (PutsFront (string_bytes out.old) (string_bytes out.new) (doubled said.now)) }
 {
     let mut later = false;
     for piece in said.split('\'') {
@@ -31,7 +35,9 @@ fn put_doubled(out: &mut String, said: &str) -> Result<(), AllocError>
 
 /// Puts the text in quotes behind what stands there, each quote in it doubled.
 pub fn put_quoted(out: &mut String, said: &str) -> Result<(), AllocError>
-    ensures { OnOk result (string_bytes out.new ≡ string_bytes out.old ++ quoted said.now) }
+    ensures ok { OnOk result (string_bytes out.new ≡ string_bytes out.old ++ quoted said.now) }
+    ensures err { OnErr result
+        (PutsFront (string_bytes out.old) (string_bytes out.new) (quoted said.now)) }
 {
     out.push_str("'")?;
     put_doubled(out, said)?;

@@ -58,6 +58,20 @@ pub fn extract(
     }
 }
 
+/// `r WHERE p`
+pub fn restriction(
+    operand: Result<Box<Expr>, AllocError>,
+    condition: Result<Box<Expr>, AllocError>,
+) -> Result<Expr, AllocError>
+    ensures { (r : trees.Tree) → (p : trees.Tree) → Boxed operand r → Boxed condition p
+        → Copied result (trees.restriction r p) }
+{
+    match both(operand, condition) {
+        Ok((operand, condition)) => Ok(Expr::Restriction(operand, condition)),
+        Err(error) => Err(error),
+    }
+}
+
 /// An operator between its operands.
 pub fn binary(
     left: Result<Box<Expr>, AllocError>,

@@ -1,17 +1,17 @@
 -- What the operations on headings make: each is ascending, and gives each name the type that it should.
 -- A heading is one of std's sorted lists of entries, whose lemmas show most of it.
-use Rattle.std.proofs.Common.{◌≡◌, ℕ, ◌+◌, suc, Bool, true, false, List, [], ◌∷◌, refl, sym, subst, ap, ◌∙◌, arith, Option, None, Some}
+use Rattle.std.proofs.Common.{◌≡◌, ℕ, ◌+◌, suc, Bool, true, false, cond, List, [], ◌∷◌, refl, sym, subst, ap, ◌∙◌, arith, Option, None, Some}
 use Rattle.std.specs.Prelude.{if◌then◌else◌, is_some, map, T, not, ◌&&◌, ◌||◌}
 use Rattle.std.specs.declared.cmp.Ordering.{Ordering}
 use Rattle.std.specs.declared.cmp.Ordering.TheVariants.{Less, Equal, Greater}
 use Rattle.std.specs.Ordering.{nat_cmp, eq_by_cmp, is_lt, ordering_reverse}
 use Rattle.std.specs.Cmp.Lexicographic.{same_text, slice_cmp, texts_ties}
-use Rattle.std.specs.List.{AllByRecursion, filter, insert, prefix_len}
+use Rattle.std.specs.List.{AllByRecursion, filter, insert, list_all, prefix_len}
 use Rattle.std.specs.List.Sorted.{IsStrictlySortedBy}
 use Rattle.std.specs.FinMap.Entries.{by_order, find, is_sorted, below_all, is_sorted-put, is_sorted-where_key, find-put, find-where_key, same_entries}
 use Rattle.std.proofs.lemmas.Cmp.{nat_list_cmp_total, eq_by_cmp_equiv}
 use Rattle.std.proofs.lemmas.Map.Lookups.{exact_bytes}
-use Rattle.td_types.specs.Headings.{AgreementIsOneType, RenamingKeepsTypes, TypesDetermineHeading, are_distinct, new_name, add_missing, agree, common_part, has_attribute, has_attributes, has_name, heading_union, is_type_or_none, outside, projection, renamed, with_attribute, without_attribute}
+use Rattle.td_types.specs.Headings.{AgreementIsOneType, RenamingKeepsTypes, TypesDetermineHeading, are_distinct, new_name, add_missing, agree, common_part, has_attribute, has_attributes, has_name, have_no_common, heading_union, is_type_or_none, outside, projection, renamed, with_attribute, without_attribute}
 use Rattle.td_tree.specs.Names.{IsName}
 use Rattle.td_types.specs.TypeOrder.{type_eq-Decides}
 use Rattle.td_types.specs.Types.{Type', Attribute, Heading, IsAscending, IsBefore, IsHeading, IsType, pack, attribute_names, same_name, type_at}
@@ -378,3 +378,15 @@ has_attribute-with m n t xs = ap is_some (type_at-with m n t xs) ∙ by_name (sa
     by_name : (same : Bool) → is_some (if same then Some t else type_at m xs) ≡ (same || has_attribute m xs)
     by_name true = refl
     by_name false = refl
+
+-- no attribute but that of the name is common: no attribute of the rest is
+pub apart_but_for : (name : List ℕ) (g h : Heading) → list_all (λ a. same_name a.0 name || not (has_attribute a.0 g)) h
+    ≡ have_no_common (without_attribute name h) g
+apart_but_for name g [] = refl
+apart_but_for name g (a ∷ h) = by_test (apart_but_for name g h) (same_name a.0 name)
+  where
+    by_test : list_all (λ b. same_name b.0 name || not (has_attribute b.0 g)) h ≡ have_no_common (without_attribute name h) g → (b : Bool)
+        → ((b || not (has_attribute a.0 g)) && list_all (λ b. same_name b.0 name || not (has_attribute b.0 g)) h)
+        ≡ have_no_common (cond (not b) (a ∷ without_attribute name h) (without_attribute name h)) g
+    by_test rest true = rest
+    by_test rest false = ap (λ t. not (has_attribute a.0 g) && t) rest

@@ -18,6 +18,7 @@ pub mod RemovedTypes
 pub mod Resolutions
 pub mod Search
 pub mod Tables
+pub mod TextFronts
 pub mod TypeSpellings
 pub mod TypeTexts
 pub mod Valued

@@ -75,11 +75,10 @@ abbrev mutual
   greatest_rank ranks (attr name ty rest) =
       with_both (rank_over ranks ty) (greatest_rank ranks rest) (λ first others. Valued (max first others))
 
--- the ranks where one more type is declared: its own is one more than the greatest among its components
+-- the ranks where one more type is declared: its own is that of a tuple of its components
 abbrev pub with_rank : (List ℕ → Outcome ℕ) → DeclaredType → List ℕ → Outcome ℕ
 with_rank ranks d name =
-    if same_name d.name name then with_value (greatest_rank ranks (pack d.components)) (λ greatest. Valued (greatest + 1))
-    else ranks name
+    if same_name d.name name then rank_over ranks (tuple (pack d.components)) else ranks name
 
 -- the ranks of the declared types; a name that is not declared has none
 abbrev pub user_ranks : List DeclaredType → List ℕ → Outcome ℕ

@@ -1,5 +1,5 @@
 //! Headings as finite maps from names to types.
-ghost use Rattle.std.specs.Prelude.{◌≡◌, ◌↔◌, IfErr, IfOk, IsTrue, [], length, option_map};
+ghost use Rattle.std.specs.Prelude.{◌≡◌, ◌↔◌, ◌<◌, ◌^◌, IfErr, IfOk, IsTrue, [], length, option_map};
 ghost use Rattle.std.specs.Prelude.{slice_get};
 ghost use Rattle.td_tree.specs.Outcomes.{Answers};
 ghost use Rattle.td_types.specs.Headings.{IsFound, IsMap, IsMissing, add_missing, extended_heading};
@@ -91,11 +91,18 @@ impl Heading {
         }
     }
 
-    /// How many attributes there are.
-    pub fn len(&self) -> usize
-        ensures length { result ≡ length self.now }
+    /// What holds of every heading. It takes no time.
+    pub fn reveal(&self)
         ensures heading { IsHeading (pack self.now) }
         ensures ascending { IsAscending self.now }
+        ensures small { length self.now < 2 ^ 63 }
+    {
+        let _ = self.attributes.len();
+    }
+
+    /// How many attributes there are.
+    pub fn len(&self) -> usize
+        ensures { result ≡ length self.now }
     {
         self.attributes.len()
     }
@@ -109,8 +116,10 @@ impl Heading {
 
     /// The attribute at a place in name order.
     pub fn at(&self, place: usize) -> Option<(&Name, &Ty)>
-        ensures { option_map (λ a. (a.0.now, type_view a.1.now)) result ≡ slice_get self.now place }
+        ensures attribute { option_map (λ a. (a.0.now, type_view a.1.now)) result ≡ slice_get self.now place }
+        ensures ascending { IsAscending self.now }
     {
+        self.reveal();
         let attribute = self.attributes.get(place)?;
         Some((&attribute.name, &attribute.ty))
     }
@@ -143,7 +152,7 @@ impl Heading {
     }
 
     /// The heading with the attribute, unless it has one of that name.
-    pub(crate) fn add(self, name: Name, ty: Ty) -> Result<Heading, AllocError>
+    pub fn add(self, name: Name, ty: Ty) -> Result<Heading, AllocError>
         ensures { IfOk result (λ h. h ≡ add_missing self (name, type_view ty)) }
     {
         if self.get(&name).is_some() {

@@ -5,7 +5,7 @@ ghost use Rattle.td_types.specs.Headings.{IsMap, agree, common_heading, has_attr
 ghost use Rattle.td_types.specs.Headings.{has_projection, have_no_common, is_part, outside};
 ghost use Rattle.td_types.specs.Headings.{projected_heading, reduced_heading, types_among};
 ghost use Rattle.td_types.specs.Headings.{types_in_both, types_in_either, types_outside};
-ghost use Rattle.td_types.specs.Headings.{types_without, united_heading};
+ghost use Rattle.td_types.specs.Headings.{types_without, united_heading, without_attribute};
 
 use crate::heading::{Attribute, Heading};
 use crate::names::{are_distinct, is_among};
@@ -43,6 +43,15 @@ impl Heading {
         self.attributes
             .iter()
             .all(|attribute| other.get(&attribute.name).is_none())
+    }
+
+    /// Whether there is no attribute, but for that of the name, that the other has too.
+    pub fn is_apart_but_for(&self, name: &Name, other: &Heading) -> bool
+        ensures { result ≡ have_no_common (without_attribute name.now self.now) other.now }
+    {
+        self.attributes.iter().all(|attribute| {
+            attribute.name == *name || other.get(&attribute.name).is_none()
+        })
     }
 
     /// Whether each attribute is one of the other, with its type.

@@ -1,6 +1,7 @@
-//! The text of a type. A call that wants memory leaves a front of the text at the end of `out`.
-ghost use Rattle.std.specs.Prelude.{◌≡◌, ◌++◌, IfOk, OnOk};
+//! The text of a type.
+ghost use Rattle.std.specs.Prelude.{◌≡◌, ◌++◌, IfOk, OnErr, OnOk};
 ghost use Rattle.std.specs.String.{string_bytes};
+ghost use Rattle.td_tree.specs.Fronts.{PutsFront};
 ghost use Rattle.td_types.specs.Texts.{comma_if, heading_text, type_text};
 ghost use Rattle.td_types.specs.Types.{pack, relation};
 ghost use Rattle.td_types.specs.Views.{type_view};
@@ -11,7 +12,8 @@ use std::alloc::{AllocError, Global};
 
 /// Puts what stands before a part: a comma and a space, where it is a later one.
 pub fn put_comma(out: &mut String, later: bool) -> Result<(), AllocError>
-    ensures { OnOk result (string_bytes out.new ≡ string_bytes out.old ++ comma_if later) }
+    ensures ok { OnOk result (string_bytes out.new ≡ string_bytes out.old ++ comma_if later) }
+    ensures err { OnErr result (string_bytes out.new ≡ string_bytes out.old) }
 {
     if later {
         out.push_str(", ")?;
@@ -22,8 +24,10 @@ pub fn put_comma(out: &mut String, later: bool) -> Result<(), AllocError>
 /// Puts the type's text at the end of `out`.
 #[cycle(put)]
 pub fn put_type(out: &mut String, ty: &Ty) -> Result<(), AllocError>
-    ensures { OnOk result (string_bytes out.new
+    ensures ok { OnOk result (string_bytes out.new
         ≡ string_bytes out.old ++ type_text (type_view ty.now)) }
+    ensures err { OnErr result
+        (PutsFront (string_bytes out.old) (string_bytes out.new) (type_text (type_view ty.now))) }
 {
     match ty {
         Ty::Bool => out.push_str("BOOLEAN"),
@@ -41,8 +45,10 @@ pub fn put_type(out: &mut String, ty: &Ty) -> Result<(), AllocError>
 /// Puts the text of the heading's relation type at the end of `out`.
 #[cycle(put)]
 pub fn put_relation_type(out: &mut String, heading: &Heading) -> Result<(), AllocError>
-    ensures { OnOk result (string_bytes out.new
+    ensures ok { OnOk result (string_bytes out.new
         ≡ string_bytes out.old ++ type_text (relation (pack heading.now))) }
+    ensures err { OnErr result
+        (PutsFront (string_bytes out.old) (string_bytes out.new) (type_text (relation (pack heading.now)))) }
 {
     out.push_str("RELATION ")?;
     put_heading(out, heading)
@@ -51,8 +57,10 @@ pub fn put_relation_type(out: &mut String, heading: &Heading) -> Result<(), Allo
 /// Puts the attributes between braces.
 #[cycle(put)]
 fn put_heading(out: &mut String, heading: &Heading) -> Result<(), AllocError>
-    ensures { OnOk result (string_bytes out.new
+    ensures ok { OnOk result (string_bytes out.new
         ≡ string_bytes out.old ++ heading_text (pack heading.now)) }
+    ensures err { OnErr result
+        (PutsFront (string_bytes out.old) (string_bytes out.new) (heading_text (pack heading.now))) }
 {
     out.push_str("{")?;
     let mut later = false;

@@ -153,7 +153,7 @@ impl Rel {
         ensures value { IfOk result (λ r. r ≡ relation_view heading (set_of tuple_cmp rows.items)) }
         ensures members { IfOk result (λ r. HaveSameMembers r.body rows.items) }
     {
-        let _ = heading.len();
+        heading.reveal();
         rows.sort_unstable_by(|a, b| compare_by_values(a, b));
         rows.dedup();
         rows.shrink_to_fit();
@@ -167,7 +167,7 @@ impl Rel {
         requires ascending { IsAscendingBody rows.items }
         ensures { IfOk result (λ r. r ≡ relation_view heading rows.items) }
     {
-        let _ = heading.len();
+        heading.reveal();
         let alloc = *rows.allocator();
         let heading = Rc::new(alloc, heading)?;
         let rows = Rc::new(alloc, rows)?;

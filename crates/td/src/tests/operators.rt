@@ -1,5 +1,5 @@
 //! The operators of one relation.
-ghost use Rattle.std.specs.Prelude.{IsTrue, OnOk, not};
+ghost use Rattle.std.specs.Prelude.{IsTrue, not};
 ghost use Rattle.td_algebra.specs.Columns.{IsColumn};
 ghost use Rattle.td_types.specs.Headings.{has_attribute};
 ghost use Rattle.td_types.specs.Views.{type_view};
@@ -14,6 +14,7 @@ use td_algebra::restriction::restrict;
 use td_algebra::setting::set_all;
 use td_group::closure::{is_closable, tclose};
 use td_group::grouping::group;
+use td_group::nesting::{can_nest, can_unnest};
 use td_group::unnesting::{ungroup, unwrap};
 use td_group::wrapping::wrap;
 use td_tree::cause::Cause;
@@ -93,54 +94,27 @@ fn with_fives(alloc: Global, call: Call, rel: &Rel, name: &Name) -> Result<Rel, 
     }
 }
 
-/// Refused where what is asked does not fit.
-fn fit(fits: bool) -> Result<(), Fault>
-    ensures { OnOk result (IsTrue fits) }
-{
-    if fits { Ok(()) } else { Err(MISFIT) }
-}
-
 /// The relation with the attributes of a part put into a new one.
 fn nested(alloc: Global, call: Call, rel: &Rel, part: &[Name], new: &Name) -> Result<Rel, Fault> {
-    let inner = rel.heading().project(part)?;
-    let rest = rel.heading().lacking(&inner)?;
-    fit(rest.get(new).is_none())?;
     let name = new.try_clone()?;
+    if !can_nest(rel.heading(), part, &name) {
+        return Err(MISFIT);
+    }
     match call {
-        Call::Group => Ok(group(alloc, rel, part, name)?),
-        _ => Ok(wrap(alloc, rel, part, name)?),
-    }
-}
-
-/// The relation with the tuples of a relation-valued attribute in its place.
-fn ungrouped(alloc: Global, rel: &Rel, name: &Name) -> Result<Rel, Fault> {
-    let rest = rel.heading().without(name)?;
-    match rel.heading().get(name) {
-        Some(Ty::Rel(inner)) => {
-            fit(rest.is_apart_from(inner))?;
-            Ok(ungroup(alloc, rel, name)?)
-        }
-        _ => Err(MISFIT),
-    }
-}
-
-/// The relation with the attributes of a tuple-valued attribute in its place.
-fn unwrapped(alloc: Global, rel: &Rel, name: &Name) -> Result<Rel, Fault> {
-    let rest = rel.heading().without(name)?;
-    match rel.heading().get(name) {
-        Some(Ty::Tup(inner)) => {
-            fit(rest.is_apart_from(inner))?;
-            Ok(unwrap(alloc, rel, name)?)
-        }
-        _ => Err(MISFIT),
+        Call::Group => made(group(alloc, rel, part, name)),
+        _ => made(wrap(alloc, rel, part, name)),
     }
 }
 
 /// The relation with what is inside an attribute in its place.
 fn unnested(alloc: Global, rel: &Rel, name: &Name) -> Result<Rel, Fault> {
+    if !can_unnest(rel.heading(), name) {
+        return Err(MISFIT);
+    }
     match rel.heading().get(name) {
-        Some(Ty::Rel(_)) => ungrouped(alloc, rel, name),
-        _ => unwrapped(alloc, rel, name),
+        Some(Ty::Rel(_)) => made(ungroup(alloc, rel, name)),
+        Some(Ty::Tup(_)) => made(unwrap(alloc, rel, name)),
+        _ => Err(MISFIT),
     }
 }
 
@@ -240,12 +214,18 @@ const GROUPED: &str = "RELATION {A INTEGER, X RELATION {B INTEGER}} \
 const WRAPPED: &str = "RELATION {A INTEGER, X TUPLE {B INTEGER}} \
     {TUPLE {A 1, X TUPLE {B 2}}, TUPLE {A 1, X TUPLE {B 3}}}";
 
+/// A name stands in an attribute's tuples and beside it.
+const CLASHING: &str = "RELATION {B INTEGER, X TUPLE {B INTEGER}} {TUPLE {B 1, X TUPLE {B 2}}}";
+
 /// Of GROUP and WRAP the new name comes first.
 const NESTINGS: &[Row] = &[
     (Call::Group, TWO, &["X", "B"], Ok(GROUPED)),
     (Call::Wrap, TWO, &["X", "B"], Ok(WRAPPED)),
     (Call::Unnest, GROUPED, &["X"], Ok(TWO)),
     (Call::Unnest, WRAPPED, &["X"], Ok(TWO)),
+    (Call::Group, TWO, &["A", "B"], Err(Cause::Heading)),
+    (Call::Wrap, TWO, &["A", "B"], Err(Cause::Heading)),
+    (Call::Unnest, CLASHING, &["X"], Err(Cause::Heading)),
     (Call::Close, TWO, &[], Ok(TWO)),
 ];
 

@@ -52,6 +52,7 @@ pub fn heading(alloc: Global, text: &str) -> Result<Heading, Fault> {
 /// A call that makes one heading of another, with some names or with another heading.
 #[derive(Clone, Copy)]
 enum Call {
+    Add,
     With,
     Without,
     Project,
@@ -66,6 +67,12 @@ fn with_integer(own: &Heading, name: &Name) -> Result<Heading, Fault> {
     own.with(name, Ty::Int)
 }
 
+/// The heading with an attribute that is a text, unless it has one of the name.
+fn added_text(own: &Heading, name: &Name) -> Result<Heading, Fault> {
+    let (own, name) = both(own.try_clone(), name.try_clone())?;
+    made(own.add(name, Ty::Text))
+}
+
 /// The heading with an attribute under another name.
 fn renamed(own: &Heading, old: &Name, new: &Name) -> Result<Heading, Fault> {
     let renaming = both(old.try_clone(), new.try_clone())?;
@@ -74,6 +81,7 @@ fn renamed(own: &Heading, old: &Name, new: &Name) -> Result<Heading, Fault> {
 
 fn called(call: Call, own: &Heading, names: &[Name], other: &Heading) -> Result<Heading, Fault> {
     match (call, names) {
+        (Call::Add, [name]) => added_text(own, name),
         (Call::With, [name]) => with_integer(own, name),
         (Call::Without, [name]) => own.without(name),
         (Call::Project, _) => own.project(names),
@@ -121,6 +129,12 @@ const TEXT_A: &str = "RELATION {A CHAR}";
 const NO_HEADING: Want = Err(Cause::Heading);
 
 const BY_NAMES: &[(Call, &[&str], Want)] = &[
+    (Call::Add, &["A"], Ok(TWO)),
+    (
+        Call::Add,
+        &["AB"],
+        Ok("RELATION {A INTEGER, AB CHAR, B INTEGER}"),
+    ),
     (Call::With, &["A"], NO_HEADING),
     (
         Call::With,

@@ -1,13 +1,13 @@
 //! The rules of operators between two operands.
 ghost use Rattle.td_check.specs.OperatorTypes.{both_of, choice_type, comparison_type};
 ghost use Rattle.td_check.specs.OperatorTypes.{composed_heading, equality_type};
-ghost use Rattle.td_check.specs.OperatorTypes.{first_where_agreed, if_type, joined_apart};
+ghost use Rattle.td_check.specs.OperatorTypes.{first_where_agreed, joined_apart, restriction_type};
 ghost use Rattle.td_check.specs.OperatorTypes.{membership_type, of_one_heading, operator_type};
 ghost use Rattle.td_check.specs.OperatorTypes.{order_type, over_relation, over_relations};
 ghost use Rattle.td_check.specs.OperatorTypes.{relation_if};
 ghost use Rattle.td_tree.specs.Outcomes.{Answers, Valued};
 ghost use Rattle.td_types.specs.Headings.{united_heading};
-ghost use Rattle.td_types.specs.Types.{Heading, boolean};
+ghost use Rattle.td_types.specs.Types.{Heading};
 ghost use Rattle.td_types.specs.Views.{type_view};
 
 use crate::rules::asked::relation_heading;
@@ -23,7 +23,6 @@ pub(crate) fn operator_type(op: Operator, first: Ty, second: Ty) -> Result<Ty, F
     ensures { Answers type_view result (operator_type op (type_view first) (type_view second)) }
 {
     match op {
-        Operator::Where => restriction_type(first, &second),
         Operator::Or | Operator::And => both_of(Ty::Bool, &first, &second),
         Operator::Union | Operator::Intersect | Operator::Minus => of_one_heading(first, &second),
         Operator::Join => join_type(&first, &second),
@@ -59,23 +58,12 @@ fn relation_headings<'a>(first: &'a Ty, second: &'a Ty) -> Result<(&'a Heading, 
 }
 
 /// The type of a restriction: that of the relation, where the condition is BOOLEAN.
-fn restriction_type(relation: Ty, condition: &Ty) -> Result<Ty, Fault>
-    ensures { Answers type_view result (over_relation (type_view relation)
-        (λ h. if_type boolean (type_view condition.now) (type_view relation))) }
-{
-    match relation {
-        Ty::Rel(_) => type_where(condition, relation),
-        _ => Err(Fault::Refused(Cause::TypeMismatch)),
-    }
-}
-
-/// The type, where the condition is BOOLEAN.
-fn type_where(condition: &Ty, ty: Ty) -> Result<Ty, Fault>
+pub(crate) fn restriction_type(relation: Ty, condition: &Ty) -> Result<Ty, Fault>
     ensures { Answers type_view result
-        (if_type boolean (type_view condition.now) (type_view ty)) }
+        (restriction_type (type_view relation) (type_view condition.now)) }
 {
     if *condition == Ty::Bool {
-        Ok(ty)
+        Ok(relation)
     } else {
         Err(Fault::Refused(Cause::TypeMismatch))
     }

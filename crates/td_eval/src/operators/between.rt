@@ -10,12 +10,11 @@ use crate::operators::relational::{
 use crate::operators::simple::{concatenation, conjunction, disjunction};
 use std::alloc::Global;
 use td_check::both::both;
-use td_tree::cause::Cause;
 use td_tree::fault::Fault;
 use td_tree::operator::Operator;
 use td_value::value::Value;
 
-/// The value of an operator between two values. The right side of WHERE has none of its own.
+/// The value of an operator between two values.
 fn operator_value(
     alloc: Global,
     op: Operator,
@@ -25,7 +24,6 @@ fn operator_value(
     ensures { Answers (λ v. v) result (operator_value op first.now second.now) }
 {
     match op {
-        Operator::Where => Err(Fault::Refused(Cause::TypeMismatch)),
         Operator::Or => disjunction(first, second),
         Operator::And => conjunction(first, second),
         Operator::Union => united(alloc, first, second),

@@ -9,6 +9,7 @@ use crate::operators::postfix::names_in;
 use crate::operators::relational::{as_value, fit};
 use std::alloc::Global;
 use td_group::grouping::group;
+use td_group::nesting::can_nest;
 use td_group::wrapping::wrap;
 use td_tree::expression::Attributes;
 use td_tree::fault::Fault;
@@ -40,11 +41,10 @@ fn nested_names(
     ensures { Answers (λ ns. ns.items) result
         (nested_names (attributes_view attributes.now) name.now heading.now) }
 {
-    let _ = heading.len();
     let part = part_of(heading, attributes)?;
-    let rest = heading.lacking(&part)?;
-    fit(rest.get(name).is_none())?;
-    Ok(names_in(alloc, &part)?)
+    let names = names_in(alloc, &part)?;
+    fit(can_nest(heading, &names, name))?;
+    Ok(names)
 }
 
 /// The relation with attributes put into one of a relation type.

@@ -54,7 +54,7 @@ fn projected_off(alloc: Global, rel: &Rel, names: &[Name]) -> Result<Value, Faul
 {
     let named = rel.heading().project(names)?;
     let rest = rel.heading().lacking(&named)?;
-    let _ = rest.len();
+    rest.reveal();
     let kept = names_in(alloc, &rest)?;
     as_value(alloc, project(alloc, rel, &kept))
 }

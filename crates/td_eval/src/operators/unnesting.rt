@@ -8,6 +8,7 @@ ghost use Rattle.td_tree.specs.Outcomes.{Answers, Valued, with_value};
 use crate::operators::relational::{as_value, fit};
 use std::alloc::Global;
 use td_group::closure::{is_closable, tclose};
+use td_group::nesting::can_unnest;
 use td_group::unnesting::{ungroup, unwrap};
 use td_tree::cause::Cause;
 use td_tree::fault::Fault;
@@ -48,9 +49,8 @@ pub(crate) fn ungrouped(alloc: Global, rel: &Rel, name: &Name) -> Result<Value, 
         relation_where (can_unnest name.now rel.now.heading)
         (unnested_relation name.now rel.now)))) }
 {
-    let part = relation_part(rel.heading(), name)?;
-    let rest = rel.heading().without(name)?;
-    fit(rest.is_apart_from(part))?;
+    relation_part(rel.heading(), name)?;
+    fit(can_unnest(rel.heading(), name))?;
     as_value(alloc, ungroup(alloc, rel, name))
 }
 
@@ -61,9 +61,8 @@ pub(crate) fn unwrapped(alloc: Global, rel: &Rel, name: &Name) -> Result<Value, 
         relation_where (can_unnest name.now rel.now.heading)
         (unnested_relation name.now rel.now)))) }
 {
-    let part = tuple_part(rel.heading(), name)?;
-    let rest = rel.heading().without(name)?;
-    fit(rest.is_apart_from(part))?;
+    tuple_part(rel.heading(), name)?;
+    fit(can_unnest(rel.heading(), name))?;
     as_value(alloc, unwrap(alloc, rel, name))
 }
 

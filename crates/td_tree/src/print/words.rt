@@ -242,7 +242,6 @@ impl Printer {
         ensures { Writes self result (operator_words op) }
     {
         match op {
-            Operator::Where => self.keyword(Keyword::Where),
             Operator::Or => self.keyword(Keyword::Or),
             Operator::And => self.keyword(Keyword::And),
             Operator::Union => self.keyword(Keyword::Union),

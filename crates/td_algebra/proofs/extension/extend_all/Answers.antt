@@ -12,7 +12,7 @@ extended_layout-requires c =
     let h = c.heading-old.result.now in
     ap (λ g. are_distinct (attribute_names (outside g h) ++ c.deref-3.result.now)) c.empty-nothing.ensures ∙ ap (λ ns. are_distinct (ns ++ c.deref-3.result.now)) (names_of_all h)
     ∙ all_distinct c.heading-old.result.now c.args.rel.now.heading c.args.columns.items c.deref-3.result.now c.heading-old.ensures
-    (c.deref-3.ensures.value ∙ c.in_ok-names.ensures ∙ ap (λ cs. map (λ e. e.0) cs) c.deref-2.ensures.value) c.len.ensures.heading c.requires.distinct c.requires.new
+    (c.deref-3.ensures.value ∙ c.in_ok-names.ensures ∙ ap (λ cs. map (λ e. e.0) cs) c.deref-2.ensures.value) c.reveal.ensures.heading c.requires.distinct c.requires.new
 
 pub extended_rows-requires : goal.extended_rows-requires
 extended_rows-requires c = record {
@@ -30,7 +30,7 @@ relation_of-requires c =
     record {
       headed =
           extension_headed c.args.columns.items c.args.rel.now.heading c.in_ok-heading.heading c.args.rel.now.body c.in_ok-rows.rows.items
-          c.rows.ensures.ascending c.requires.fit c.requires.distinct c.requires.new c.len-2.ensures.heading c.rows.ensures.headed c.in_ok-rows.ensures.valid
+          c.rows.ensures.ascending c.requires.fit c.requires.distinct c.requires.new c.reveal-2.ensures.heading c.rows.ensures.headed c.in_ok-rows.ensures.valid
           (λ bs e. (
             extension_heading c.args.columns.items bs h c.args.rel.now.heading c.in_ok-heading.heading c.args.rel.now.body e c.heading-old.ensures heading,
             extension_rows _ c.deref-4.result.now c.args.columns.items bs h c.args.rel.now.body c.rows.result.now c.in_ok-rows.rows.items c.deref-3.result.now c.in_ok-layout.layout c.empty-nothing.ensures

@@ -14,10 +14,10 @@ all_put part h names none old all start p r e f =
 
 pub new-requires : goal.new-requires
 new-requires c =
-    let all = all_put c.args.part.now c.args.heading.now c.args.names.now _ _ _ _ c.new-sources.ensures.items c.len.ensures.length c.in_ok-put_sources.ensures c.in_ok-put_names.ensures in
+    let all = all_put c.args.part.now c.args.heading.now c.args.names.now _ _ _ _ c.new-sources.ensures.items c.len.ensures c.in_ok-put_sources.ensures c.in_ok-put_names.ensures in
     ap (λ ss. are_distinct (map (λ s. s.0) ss)) all ∙ ap are_distinct (names_with c.args.part.now c.args.heading.now c.args.names.now) ∙ c.requires
 
 pub returns : goal.returns
 returns c =
-    let all = all_put c.args.part.now c.args.heading.now c.args.names.now _ _ _ _ c.new-sources.ensures.items c.len.ensures.length c.in_ok-put_sources.ensures c.in_ok-put_names.ensures in
+    let all = all_put c.args.part.now c.args.heading.now c.args.names.now _ _ _ _ c.new-sources.ensures.items c.len.ensures c.in_ok-put_sources.ensures c.in_ok-put_names.ensures in
     subst (λ ss. IfOk c.new.result (IsPermutation ss)) all c.new.ensures

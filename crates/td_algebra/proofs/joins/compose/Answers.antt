@@ -1,16 +1,25 @@
 use Rattle.std.proofs.Common.{◌≡◌, ◌∙◌, subst, sym}
 use Rattle.std.specs.List.{All}
-use Rattle.td_types.specs.Headings.{heading_union, outside, projection}
+use Rattle.td_tree.specs.declared.cause.Cause.TheVariants as causes
+use Rattle.td_tree.proofs.Unrefused.{unrefused_if}
+use Rattle.td_types.specs.Headings.{agree, heading_union, outside, projection}
 use Rattle.td_types.specs.Types.{IsAscending}
 use Rattle.td_value.specs.Sets.{set_of}
 use Rattle.td_value.specs.Values.{HaveSameMembers, IsTupleOf, tuple_cmp}
 use Rattle.td_value.specs.Views.{relation_view}
 use Rattle.td_algebra.specs.Operators.{composition}
 use Rattle.td_algebra.specs.Pairs.{partners_paired}
-use Rattle.td_algebra.proofs.Composed.{all_composed, composed_heading_is, composed_set, either_names}
+use Rattle.td_algebra.proofs.Composed.{all_composed, composed_heading_is, composed_set, either_names, rests_agree}
 use Rattle.td_algebra.proofs.Joined.{united_answer}
 use Rattle.td_algebra.proofs.Keys.{if_ok}
 use Rattle.td_algebra.proofs.joins.compose.Goals as goal
+
+pub unrefused-requires : goal.unrefused-requires
+unrefused-requires c =
+    let own = c.in_ok-own.ensures.heading ∙ (λ i. outside (c.heading-3.ensures i) (c.heading-2.ensures i)) in
+    let others = c.in_ok-others.ensures.heading ∙ (λ i. outside (c.heading-5.ensures i) (c.heading-4.ensures i)) in
+    unrefused_if (λ h. h) c.union.result (agree c.in_ok-own.own c.in_ok-others.others) (heading_union c.in_ok-own.own c.in_ok-others.others) causes.Heading
+    ((λ i. agree (own i) (others i)) ∙ rests_agree c.args.rel.now.heading c.args.other.now.heading) c.union.ensures.answer
 
 pub new-requires : goal.new-requires
 new-requires c =
@@ -19,7 +28,7 @@ new-requires c =
     let heading : c.in_ok-heading.heading ≡ projection (either_names c.args.rel.now c.args.other.now) (heading_union c.args.rel.now.heading c.args.other.now.heading) =
     united_answer c.in_ok-own.own c.in_ok-others.others (outside c.args.other.now.heading c.args.rel.now.heading) (outside c.args.rel.now.heading c.args.other.now.heading) c.union.result
     c.in_ok-heading.heading own others c.in_ok-heading.ensures c.union.ensures.answer
-    ∙ composed_heading_is c.args.rel.now c.args.other.now (subst IsAscending c.heading.ensures c.len.ensures.ascending) in
+    ∙ composed_heading_is c.args.rel.now c.args.other.now (subst IsAscending c.heading.ensures c.reveal.ensures.ascending) in
     let same : HaveSameMembers c.in_ok-pairs.pairs.items (partners_paired c.args.other.now.heading c.args.rel.now c.args.other.now) =
     subst (λ h. HaveSameMembers c.in_ok-pairs.pairs.items (partners_paired h c.args.rel.now c.args.other.now)) c.heading-6.ensures c.in_ok-pairs.ensures in
     subst (λ h. All (IsTupleOf h) c.in_ok-pairs.pairs.items) (sym heading)
@@ -32,7 +41,7 @@ returns c =
     let heading : c.in_ok-heading.heading ≡ projection (either_names c.args.rel.now c.args.other.now) (heading_union c.args.rel.now.heading c.args.other.now.heading) =
     united_answer c.in_ok-own.own c.in_ok-others.others (outside c.args.other.now.heading c.args.rel.now.heading) (outside c.args.rel.now.heading c.args.other.now.heading) c.union.result
     c.in_ok-heading.heading own others c.in_ok-heading.ensures c.union.ensures.answer
-    ∙ composed_heading_is c.args.rel.now c.args.other.now (subst IsAscending c.heading.ensures c.len.ensures.ascending) in
+    ∙ composed_heading_is c.args.rel.now c.args.other.now (subst IsAscending c.heading.ensures c.reveal.ensures.ascending) in
     let same : HaveSameMembers c.in_ok-pairs.pairs.items (partners_paired c.args.other.now.heading c.args.rel.now c.args.other.now) =
     subst (λ h. HaveSameMembers c.in_ok-pairs.pairs.items (partners_paired h c.args.rel.now c.args.other.now)) c.heading-6.ensures c.in_ok-pairs.ensures in
     let rows : set_of tuple_cmp c.in_ok-pairs.pairs.items ≡ (composition c.args.rel.now c.args.other.now).body =

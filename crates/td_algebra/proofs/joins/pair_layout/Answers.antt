@@ -14,4 +14,4 @@ new-requires c =
     ∙ ap (λ (ss : Sources). ss ++ sources_outside c.args.heading.now c.args.other_start c.args.other.now)
     (c.in_ok-put_sources.ensures ∙ ap (λ (ss : Sources). ss ++ sources_outside c.args.left_out.now c.args.start c.args.heading.now) c.new-sources.ensures.items) in
     subst (λ ss. IsTrue (are_distinct (source_names ss))) (sym are)
-    (pair_distinct c.args.left_out.now c.args.start c.args.heading.now c.args.other_start c.args.other.now c.len.ensures.heading c.len-2.ensures.heading)
+    (pair_distinct c.args.left_out.now c.args.start c.args.heading.now c.args.other_start c.args.other.now c.reveal.ensures.heading c.reveal-2.ensures.heading)

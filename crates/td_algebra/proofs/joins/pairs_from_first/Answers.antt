@@ -7,7 +7,7 @@ use Rattle.td_algebra.proofs.joins.pairs_from_first.Goals as goal
 
 pub partner_pairs-requires : goal.partner_pairs-requires
 partner_pairs-requires c =
-    first_paired c.args.left_out.now c.args.rel.now c.args.other.now c.heading-heading.result.now c.heading-others.result.now c.heading-heading.ensures c.heading-others.ensures c.len.result (length c.heading-others.result.now) c.len.ensures.length refl
+    first_paired c.args.left_out.now c.args.rel.now c.args.other.now c.heading-heading.result.now c.heading-others.result.now c.heading-heading.ensures c.heading-others.ensures c.len.result (length c.heading-others.result.now) c.len.ensures refl
     c.rows.ensures.headed c.rows-2.ensures.headed c.in_ok-layout.layout c.in_ok-layout.ensures
 
 pub returns : goal.returns
@@ -15,6 +15,6 @@ returns c =
     if_ok (λ pairs. pairs.items ≡ pairs_with (λ t. filter (are_partners c.args.rel.now c.args.other.now t) c.args.other.now.body) (pair_tuple c.in_ok-layout.layout) c.args.rel.now.body)
     (λ pairs. pairs.items ≡ partners_paired c.args.left_out.now c.args.rel.now c.args.other.now) c.partner_pairs.result
     (λ pairs e. e
-    ∙ from_first c.args.left_out.now c.args.rel.now c.args.other.now c.heading-heading.result.now c.heading-others.result.now c.heading-heading.ensures c.heading-others.ensures c.len.result (length c.heading-others.result.now) c.len.ensures.length refl
+    ∙ from_first c.args.left_out.now c.args.rel.now c.args.other.now c.heading-heading.result.now c.heading-others.result.now c.heading-heading.ensures c.heading-others.ensures c.len.result (length c.heading-others.result.now) c.len.ensures refl
     c.rows.ensures.headed c.rows-2.ensures.headed c.in_ok-layout.layout c.in_ok-layout.ensures)
     c.partner_pairs.ensures

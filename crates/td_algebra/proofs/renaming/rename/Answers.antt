@@ -37,7 +37,7 @@ new-requires c =
     (headed_by _ _ _ _ c.heading-3.ensures c.rows.ensures.rows c.rows.ensures.headed) c.in_ok-layout.ensures c.in_ok-rows.ensures in
     headed_by _ _ _ _ heading (rows ∙ ap (map (renamed_tuple rs)) c.rows.ensures.rows)
     (All-map (IsTupleOf (heading_union [] (renamed rs r.heading))) (renamed_tuple rs) r.body
-    (λ k d l. IsTupleOf-renamed rs r.heading _ (c.rows.ensures.headed k d l) c.requires (subst (λ h. IsHeading (pack h)) heading c.len.ensures.heading)))
+    (λ k d l. IsTupleOf-renamed rs r.heading _ (c.rows.ensures.headed k d l) c.requires (subst (λ h. IsHeading (pack h)) heading c.reveal.ensures.heading)))
 
 pub returns : goal.returns
 returns c =

@@ -20,7 +20,7 @@ pub extended_layout-requires : goal.extended_layout-requires
 extended_layout-requires c =
     setting_distinct c.in_ok-set.set c.heading-old.result.now c.args.columns.items c.deref-4.result.now
     (with_columns _ _ _ _ _ c.in_ok-set.ensures c.empty-nothing.ensures c.deref.ensures.value)
-    (named _ _ _ _ c.deref-4.ensures.value c.in_ok-names.ensures c.deref-3.ensures.value) c.len.ensures.heading c.requires.distinct
+    (named _ _ _ _ c.deref-4.ensures.value c.in_ok-names.ensures c.deref-3.ensures.value) c.reveal.ensures.heading c.requires.distinct
 
 pub extended_rows-requires : goal.extended_rows-requires
 extended_rows-requires c = record {
@@ -36,7 +36,7 @@ new-requires c =
     let set = with_columns _ _ _ _ _ c.in_ok-set.ensures c.empty-nothing.ensures c.deref.ensures.value in
     let names = named _ _ _ _ c.deref-4.ensures.value c.in_ok-names.ensures c.deref-3.ensures.value in
     setting_headed c.args.columns.items c.args.rel.now.heading c.in_ok-heading.heading c.args.rel.now.body c.in_ok-rows.rows.items
-    c.rows.ensures.ascending c.requires.fit c.requires.distinct c.len-2.ensures.heading c.rows.ensures.headed c.in_ok-rows.ensures.valid
+    c.rows.ensures.ascending c.requires.fit c.requires.distinct c.reveal-2.ensures.heading c.rows.ensures.headed c.in_ok-rows.ensures.valid
     (λ bs e. (
       setting_heading c.in_ok-set.set c.in_ok-others.others h c.args.rel.now.heading c.in_ok-heading.heading c.args.columns.items bs c.args.rel.now.body e set
           c.in_ok-others.ensures.heading c.heading-old.ensures (with_columns _ c.in_ok-others.others _ _ _ c.in_ok-heading.ensures (λ i. c.in_ok-others.others) c.deref-2.ensures.value),

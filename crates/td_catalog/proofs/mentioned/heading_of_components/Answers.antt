@@ -1,7 +1,9 @@
-use Rattle.std.proofs.Common.{◌≡◌, ◌∙◌, true, ap, sym}
+use Rattle.std.proofs.Common.{◌≡◌, ◌∙◌, true, Result, Ok, Err, IfOk, ap, subst, sym}
 use Rattle.std.proofs.lemmas.List.{take_all}
 use Rattle.td_catalog.proofs.mentioned.heading_of_components.Goals as goal
-use Rattle.td_tree.specs.Outcomes.{Valued, value_if}
+use Rattle.td_tree.specs.Outcomes.{Answers, Valued, value_if}
+use Rattle.td_tree.specs.declared.fault.Fault.{Fault}
+use Rattle.td_tree.proofs.Unrefused.{unrefused_if}
 use Rattle.td_tree.specs.declared.cause.Cause.TheVariants as causes
 use Rattle.td_types.specs.Headings.{are_distinct, heading_from, made_heading}
 use Rattle.td_types.specs.Types.{Heading, attribute_names}
@@ -13,7 +15,19 @@ is_made xs ys h same distinct is =
     let made : Valued (heading_from ys) ≡ Valued h = sym (ap (λ b. value_if b (heading_from ys) causes.Heading) distinct) ∙ sym (ap made_heading same) ∙ is in
     cc
 
-pub returns-in-Ok : goal.returns-in-Ok
-returns-in-Ok c =
-    is_made (pairs_view c.loop-name.attributes.items) (pairs_view c.args.components.now) c.in-Ok.heading
-    (c.loop-name.invariant ∙ ap pairs_view (take_all c.loop-name.name-index c.args.components.now c.loop-name-test.false)) c.requires c.in-Ok.ensures.answer
+if_made : {E : Type 0} (r : Result Heading E) (answer : Result Heading Fault) (xs ys : Heading) → xs ≡ ys → are_distinct (attribute_names ys) ≡ true
+    → Answers (λ h. h) answer (made_heading xs) → IfOk r (λ h. answer ≡ Ok h) → IfOk r (λ h. h ≡ heading_from ys)
+if_made (Ok h) answer xs ys same distinct told is =
+    is_made xs ys h same distinct (subst (λ (a : Result Heading Fault). Answers (λ k. k) a (made_heading xs)) is told)
+if_made (Err e) answer xs ys same distinct told is = tt
+
+pub unrefused-requires : goal.unrefused-requires
+unrefused-requires c =
+    let same = c.loop-name.invariant ∙ ap pairs_view (take_all c.loop-name.name-index c.args.components.now c.loop-name-test.false) in
+    unrefused_if (λ h. h) c.new.result (are_distinct (attribute_names (pairs_view c.loop-name.attributes.items))) _ causes.Heading
+    (ap (λ xs. are_distinct (attribute_names xs)) same ∙ c.requires) c.new.ensures.answer
+
+pub returns : goal.returns
+returns c =
+    if_made c.unrefused.result c.new.result (pairs_view c.loop-name.attributes.items) (pairs_view c.args.components.now)
+    (c.loop-name.invariant ∙ ap pairs_view (take_all c.loop-name.name-index c.args.components.now c.loop-name-test.false)) c.requires c.new.ensures.answer c.unrefused.ensures

@@ -13,13 +13,12 @@ use Rattle.td_check.specs.Scopes.{entered_with}
 use Rattle.td_check.specs.StaticTypes.{items_of, named_types, type_of, types_of, with_items}
 use Rattle.td_check.proofs.CheckedItems.{held_of_added, held_of_per, in_tuples_of, items_given, items_left, items_refused, nothing_added, operand_and_items, per_after}
 use Rattle.td_check.proofs.CheckedLists.{AreChecked, all_answered, all_named, checked_none, checked_some, none_checked, step_taken}
-use Rattle.td_check.proofs.CheckedNames.{binary_mentions, known_names, names_after, names_are, names_held, names_of_both, names_of_second}
+use Rattle.td_check.proofs.CheckedNames.{known_names, names_after, names_are, names_held, names_of_both, names_of_second}
 use Rattle.td_check.proofs.CheckedRows.{items_are, mentioned_types, parts_are, relvars_are, relvars_of, relvars_of_item, relvars_of_items, relvars_of_part, relvars_of_parts, type_found, types_are, types_of_item, types_of_items, types_of_one, types_of_part, types_of_parts}
-use Rattle.td_check.proofs.CheckedTypes.{binary_type, choice_typed, headed_typed, inside_extended, inside_typed, per_typed, summary_by_typed, two_typed}
+use Rattle.td_check.proofs.CheckedTypes.{choice_typed, headed_typed, inside_extended, inside_typed, per_typed, summary_by_typed, two_typed}
 use Rattle.td_check.proofs.Gives.{Gives, answered_then}
 use Rattle.td_check.proofs.expression.+check.Goals as goal
 use Rattle.td_check.proofs.expression.+check.Goals.{check_all-in-Some+in_ok-push, check_all-in_default, check_items-in-Some+in_ok-push, check_items-in_default, check_items_inside-in-Rel+in_ok-inside-in-Rel+in_ok-items-in-Rel, check_items_inside-in_default, check_named-in-Some+in_ok-push, check_named-in_default}
-use Rattle.td_tree.specs.declared.operator.Operator.TheVariants as operators
 use Rattle.td_tree.specs.Outcomes.{Answers, Valued, with_value}
 use Rattle.td_tree.specs.TreeViews.{attributes_view, heading_tree_view, named_view, summaries_view, tree_view, trees_view}
 use Rattle.td_tree.specs.Trees as trees
@@ -155,46 +154,46 @@ check_named-loop-part-init t c =
 
 -- ---- operators
 
-pub check-returns-in_ok-operand-in-Where-clause-ty : goal.check-returns-in_ok-operand-in-Where-clause-ty
-check-returns-in_ok-operand-in-Where-clause-ty t c =
-    let is = ap tree_view c.in-Binary.is ∙ (λ i. trees.binary (tree_view (sym c.deref-in-Where.ensures i)) (c.in-Where.is i) (tree_view (sym c.deref-in-Where-2.ensures i))) in
+pub check-returns-in_ok-operand-in-Restriction-clause-ty : goal.check-returns-in_ok-operand-in-Restriction-clause-ty
+check-returns-in_ok-operand-in-Restriction-clause-ty t c =
+    let is = ap tree_view c.in-Restriction.is ∙ (λ i. trees.restriction (tree_view (sym c.deref-in-Restriction.ensures i)) (tree_view (sym c.deref-in-Restriction-2.ensures i))) in
     rw is
     (subst (Answers type_view c.restricted.result)
-    (inside_typed (type_of (scope_at c.args.place.now) (tree_view c.deref-in-Where.result.now)) (type_view c.in_ok-operand-in-Where.operand) c.in_ok-operand-in-Where.ensures.ty
-    (λ h. type_of (entered_with h (scope_at c.args.place.now)) (tree_view c.deref-in-Where-2.result.now)) (λ s t. own.operator_type operators.Where s t))
-    (c.restricted.ensures (own.over_relation (type_view c.in_ok-operand-in-Where.operand) (λ h. type_of (entered_with h (scope_at c.args.place.now)) (tree_view c.deref-in-Where-2.result.now))) c.check_inside-condition.ensures.ty))
+    (inside_typed (type_of (scope_at c.args.place.now) (tree_view c.deref-in-Restriction.result.now)) (type_view c.in_ok-operand-in-Restriction.operand) c.in_ok-operand-in-Restriction.ensures.ty
+    (λ h. type_of (entered_with h (scope_at c.args.place.now)) (tree_view c.deref-in-Restriction-2.result.now)) own.restriction_type)
+    (c.restricted.ensures (own.over_relation (type_view c.in_ok-operand-in-Restriction.operand) (λ h. type_of (entered_with h (scope_at c.args.place.now)) (tree_view c.deref-in-Restriction-2.result.now))) c.check_inside-condition.ensures.ty))
 
-pub check-returns-in_ok-operand-in-Where-clause-names : goal.check-returns-in_ok-operand-in-Where-clause-names
-check-returns-in_ok-operand-in-Where-clause-names t c =
-    let is = ap tree_view c.in-Binary.is ∙ (λ i. trees.binary (tree_view (sym c.deref-in-Where.ensures i)) (c.in-Where.is i) (tree_view (sym c.deref-in-Where-2.ensures i))) in
-    let inside = ap (λ o. relvars_in (in_tuples (scope_at c.args.place.now) o) (tree_view c.deref-in-Where-2.result.now)) c.in_ok-operand-in-Where.ensures.ty in
+pub check-returns-in_ok-operand-in-Restriction-clause-names : goal.check-returns-in_ok-operand-in-Restriction-clause-names
+check-returns-in_ok-operand-in-Restriction-clause-names t c =
+    let is = ap tree_view c.in-Restriction.is ∙ (λ i. trees.restriction (tree_view (sym c.deref-in-Restriction.ensures i)) (tree_view (sym c.deref-in-Restriction-2.ensures i))) in
+    let inside = ap (λ o. relvars_in (in_tuples (scope_at c.args.place.now) o) (tree_view c.deref-in-Restriction-2.result.now)) c.in_ok-operand-in-Restriction.ensures.ty in
     names_are c.restricted.result (scope_at c.args.place.now) (tree_view c.args.expr.now) (names_view c.args.seen.now) (names_view c.check_inside-condition.new.seen)
-    (relvars_in (scope_at c.args.place.now) (tree_view c.deref-in-Where.result.now) ++ relvars_in (in_tuples (scope_at c.args.place.now) (Valued (type_view c.in_ok-operand-in-Where.operand))) (tree_view c.deref-in-Where-2.result.now)) (types_in (tree_view c.deref-in-Where.result.now) ++ types_in (tree_view c.deref-in-Where-2.result.now))
-    (ap (relvars_in (scope_at c.args.place.now)) is ∙ ap (λ ns. relvars_in (scope_at c.args.place.now) (tree_view c.deref-in-Where.result.now) ++ ns) inside) (ap types_in is)
-    (names_held type_view c.check_inside-condition.result (λ t. own.operator_type operators.Where (type_view c.in_ok-operand-in-Where.operand) t) type_view c.restricted.result
+    (relvars_in (scope_at c.args.place.now) (tree_view c.deref-in-Restriction.result.now) ++ relvars_in (in_tuples (scope_at c.args.place.now) (Valued (type_view c.in_ok-operand-in-Restriction.operand))) (tree_view c.deref-in-Restriction-2.result.now)) (types_in (tree_view c.deref-in-Restriction.result.now) ++ types_in (tree_view c.deref-in-Restriction-2.result.now))
+    (ap (relvars_in (scope_at c.args.place.now)) is ∙ ap (λ ns. relvars_in (scope_at c.args.place.now) (tree_view c.deref-in-Restriction.result.now) ++ ns) inside) (ap types_in is)
+    (names_held type_view c.check_inside-condition.result (own.restriction_type (type_view c.in_ok-operand-in-Restriction.operand)) type_view c.restricted.result
     (names_view c.args.seen.now) (names_view c.check_inside-condition.new.seen)
-    (relvars_in (scope_at c.args.place.now) (tree_view c.deref-in-Where.result.now) ++ relvars_in (in_tuples (scope_at c.args.place.now) (Valued (type_view c.in_ok-operand-in-Where.operand))) (tree_view c.deref-in-Where-2.result.now)) (types_in (tree_view c.deref-in-Where.result.now) ++ types_in (tree_view c.deref-in-Where-2.result.now)) c.restricted.ensures
-    (names_of_second c.check_inside-condition.result (names_view c.args.seen.now) (names_view c.check-in-Where.new.seen) (names_view c.check_inside-condition.new.seen)
-    (relvars_in (scope_at c.args.place.now) (tree_view c.deref-in-Where.result.now)) (types_in (tree_view c.deref-in-Where.result.now)) (relvars_in (in_tuples (scope_at c.args.place.now) (Valued (type_view c.in_ok-operand-in-Where.operand))) (tree_view c.deref-in-Where-2.result.now)) (types_in (tree_view c.deref-in-Where-2.result.now))
-    c.in_ok-operand-in-Where.ensures.names c.check_inside-condition.ensures.names))
+    (relvars_in (scope_at c.args.place.now) (tree_view c.deref-in-Restriction.result.now) ++ relvars_in (in_tuples (scope_at c.args.place.now) (Valued (type_view c.in_ok-operand-in-Restriction.operand))) (tree_view c.deref-in-Restriction-2.result.now)) (types_in (tree_view c.deref-in-Restriction.result.now) ++ types_in (tree_view c.deref-in-Restriction-2.result.now)) c.restricted.ensures
+    (names_of_second c.check_inside-condition.result (names_view c.args.seen.now) (names_view c.check-in-Restriction.new.seen) (names_view c.check_inside-condition.new.seen)
+    (relvars_in (scope_at c.args.place.now) (tree_view c.deref-in-Restriction.result.now)) (types_in (tree_view c.deref-in-Restriction.result.now)) (relvars_in (in_tuples (scope_at c.args.place.now) (Valued (type_view c.in_ok-operand-in-Restriction.operand))) (tree_view c.deref-in-Restriction-2.result.now)) (types_in (tree_view c.deref-in-Restriction-2.result.now))
+    c.in_ok-operand-in-Restriction.ensures.names c.check_inside-condition.ensures.names))
 
-pub check-returns-in_default : goal.check-returns-in_default
-check-returns-in_default t c =
-    let is = ap tree_view c.in-Binary.is ∙ (λ i. trees.binary (tree_view (sym c.deref-in_default.ensures i)) c.in-Binary.op (tree_view (sym c.deref-in_default-2.ensures i))) in
+pub check-returns-in-Binary : goal.check-returns-in-Binary
+check-returns-in-Binary t c =
+    let is = ap tree_view c.in-Binary.is ∙ (λ i. trees.binary (tree_view (sym c.deref-in-Binary.ensures i)) c.in-Binary.op (tree_view (sym c.deref-in-Binary-2.ensures i))) in
     let gives = subst (λ r. Gives types_view r (λ both. own.operator_type c.in-Binary.op both.0 both.1) type_view c.operated.result) c.both.ensures c.operated.ensures in
     record {
       ty =
-          rw (is, binary_type (scope_at c.args.place.now) c.in-Binary.op (tree_view c.deref-in_default.result.now) (tree_view c.deref-in_default-2.result.now) c.in_default.not-Where)
-          (two_typed (own.operator_type c.in-Binary.op) (type_of (scope_at c.args.place.now) (tree_view c.deref-in_default.result.now)) (type_of (scope_at c.args.place.now) (tree_view c.deref-in_default-2.result.now))
+          rw is
+          (two_typed (own.operator_type c.in-Binary.op) (type_of (scope_at c.args.place.now) (tree_view c.deref-in-Binary.result.now)) (type_of (scope_at c.args.place.now) (tree_view c.deref-in-Binary-2.result.now))
           c.check-first.result c.check-second.result c.operated.result c.check-first.ensures.ty c.check-second.ensures.ty gives);
       names =
           names_are c.operated.result (scope_at c.args.place.now) (tree_view c.args.expr.now) (names_view c.args.seen.now) (names_view c.check-second.new.seen)
-          (relvars_in (scope_at c.args.place.now) (tree_view c.deref-in_default.result.now) ++ relvars_in (scope_at c.args.place.now) (tree_view c.deref-in_default-2.result.now)) (types_in (tree_view c.deref-in_default.result.now) ++ types_in (tree_view c.deref-in_default-2.result.now))
-          (ap (relvars_in (scope_at c.args.place.now)) is ∙ binary_mentions (scope_at c.args.place.now) c.in-Binary.op (tree_view c.deref-in_default.result.now) (tree_view c.deref-in_default-2.result.now) c.in_default.not-Where) (ap types_in is)
+          (relvars_in (scope_at c.args.place.now) (tree_view c.deref-in-Binary.result.now) ++ relvars_in (scope_at c.args.place.now) (tree_view c.deref-in-Binary-2.result.now)) (types_in (tree_view c.deref-in-Binary.result.now) ++ types_in (tree_view c.deref-in-Binary-2.result.now))
+          (ap (relvars_in (scope_at c.args.place.now)) is) (ap types_in is)
           (names_held types_view (both_answers c.check-first.result c.check-second.result) (λ both. own.operator_type c.in-Binary.op both.0 both.1)
-          type_view c.operated.result (names_view c.args.seen.now) (names_view c.check-second.new.seen) (relvars_in (scope_at c.args.place.now) (tree_view c.deref-in_default.result.now) ++ relvars_in (scope_at c.args.place.now) (tree_view c.deref-in_default-2.result.now)) (types_in (tree_view c.deref-in_default.result.now) ++ types_in (tree_view c.deref-in_default-2.result.now)) gives
+          type_view c.operated.result (names_view c.args.seen.now) (names_view c.check-second.new.seen) (relvars_in (scope_at c.args.place.now) (tree_view c.deref-in-Binary.result.now) ++ relvars_in (scope_at c.args.place.now) (tree_view c.deref-in-Binary-2.result.now)) (types_in (tree_view c.deref-in-Binary.result.now) ++ types_in (tree_view c.deref-in-Binary-2.result.now)) gives
           (names_of_both c.check-first.result c.check-second.result (names_view c.args.seen.now) (names_view c.check-first.new.seen)
-          (names_view c.check-second.new.seen) (relvars_in (scope_at c.args.place.now) (tree_view c.deref-in_default.result.now)) (types_in (tree_view c.deref-in_default.result.now)) (relvars_in (scope_at c.args.place.now) (tree_view c.deref-in_default-2.result.now)) (types_in (tree_view c.deref-in_default-2.result.now)) c.check-first.ensures.names c.check-second.ensures.names));
+          (names_view c.check-second.new.seen) (relvars_in (scope_at c.args.place.now) (tree_view c.deref-in-Binary.result.now)) (types_in (tree_view c.deref-in-Binary.result.now)) (relvars_in (scope_at c.args.place.now) (tree_view c.deref-in-Binary-2.result.now)) (types_in (tree_view c.deref-in-Binary-2.result.now)) c.check-first.ensures.names c.check-second.ensures.names));
     }
 
 -- ---- RELATION with a heading

@@ -9,7 +9,7 @@ pub with_relvar-requires-clause-keys : goal.with_relvar-requires-clause-keys
 with_relvar-requires-clause-keys g c =
     let h = c.args.relation.heading in
     let written = map (λ key. key.items) c.args.keys.items in
-    let headed : IsHeading (pack h) = subst (λ (k : Heading). IsHeading (pack k)) c.heading.ensures c.len.ensures.heading in
+    let headed : IsHeading (pack h) = subst (λ (k : Heading). IsHeading (pack k)) c.heading.ensures c.reveal.ensures.heading in
     let same : map (λ key. key.items) c.in_ok-ordered.ordered.items ≡ map (ordered_names h) written =
     c.in_ok-ordered.ensures ∙ ap (λ ks. map (ordered_names c.heading-2.result.now) (map (λ key. key.items) ks)) c.deref.ensures.value
     ∙ ap (λ (k : Heading). map (ordered_names k) written) c.heading-2.ensures in

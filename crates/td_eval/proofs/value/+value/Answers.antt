@@ -28,7 +28,7 @@ use Rattle.td_check.proofs.BothAnswers.{both_given, both_refused}
 use Rattle.td_eval.specs.AggregateValues.{aggregated_value, asked_of, summarized_value, summary_attributes, summary_value}
 use Rattle.td_eval.specs.DatabaseWorlds.{constraint_value, world_of_types}
 use Rattle.td_eval.specs.NewColumns.{column_view, named_columns}
-use Rattle.td_eval.specs.OperatorValues.{additions_of, column_values, component_value, extended_value, listed_value, on_relation, postfix_value, truth_value, tuple_from, value_of_type}
+use Rattle.td_eval.specs.OperatorValues.{additions_of, column_values, component_value, extended_value, listed_value, on_relation, postfix_value, restricted_value, truth_value, tuple_from, value_of_type}
 use Rattle.td_eval.specs.Sights.{seen_by, virtuals_of}
 use Rattle.td_eval.specs.Totals.{term_in, total_of, total_view}
 use Rattle.td_eval.specs.TreeValues.{argument_values, entry_values, items_in_tuples, value_of, values_in_tuples}
@@ -331,6 +331,14 @@ value_of-returns-in-HeadedRelation g t c =
     c.values_of-elements.ensures)
 
 -- ---- over tuples
+
+pub value_of-returns-in_ok-value_of-in-Restriction : goal.value_of-returns-in_ok-value_of-in-Restriction
+value_of-returns-in_ok-value_of-in-Restriction g t c =
+    let is = ap tree_view c.in-Restriction.is ∙ (λ i. trees.restriction (tree_view (sym c.deref-in-Restriction.ensures i)) (tree_view (sym c.deref-in-Restriction-2.ensures i))) in
+    rw is
+    (answered_then (λ v. v) c.in_ok-value_of-in-Restriction.field-0 (value_of (seen_by c.args.sight.now) (reverse c.args.tuples.now) (tree_view c.deref-in-Restriction.result.now))
+    (λ v. on_relation v (restricted_value (λ u. value_of (seen_by c.args.sight.now) (u ∷ reverse c.args.tuples.now) (tree_view c.deref-in-Restriction-2.result.now)))) (λ v. v) c.restriction-in-Restriction.result
+    c.in_ok-value_of-in-Restriction.ensures c.restriction-in-Restriction.ensures)
 
 pub value_of-returns-in_ok-value_of-in-Extend : goal.value_of-returns-in_ok-value_of-in-Extend
 value_of-returns-in_ok-value_of-in-Extend g t c =

@@ -101,9 +101,6 @@ decreases-columns g l = weight l.sight.now + (8 * highest_named (named_view l.pa
 abbrev pub decreases-extension : goal.decreases-extension
 decreases-extension g l = weight l.sight.now + (8 * highest_named (named_view l.parts.now) + 4)
 
-abbrev pub decreases-binary : goal.decreases-binary
-decreases-binary g l = weight l.sight.now + (8 * max (height (tree_view l.left.now)) (height (tree_view l.right.now)) + 4)
-
 abbrev pub decreases-choice : goal.decreases-choice
 decreases-choice g l =
     weight l.sight.now

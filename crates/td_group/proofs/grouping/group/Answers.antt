@@ -24,7 +24,7 @@ project-requires-2 c =
     let part = value_of_answer c.project.result c.in_ok-part.part _ _ causes.Heading c.project.ensures.answer c.in_ok-part.ensures ∙ ap (projection names) c.heading-heading.ensures in
     let rest : c.in_ok-rest.rest ≡ rest_heading names r.heading = c.in_ok-rest.ensures.heading ∙ (λ i. outside (part i) (c.heading-heading.ensures i)) in
     subst (λ ns. IsTrue (has_projection ns r.heading)) (sym (c.deref.ensures.value ∙ c.in_ok-attribute_names.ensures ∙ ap attribute_names rest))
-    (rest_projects (projection names r.heading) r.heading (subst (λ h. IsHeading (pack h)) c.heading-heading.ensures c.len.ensures.heading))
+    (rest_projects (projection names r.heading) r.heading (subst (λ h. IsHeading (pack h)) c.heading-heading.ensures c.reveal.ensures.heading))
 
 pub groups_on-requires-clause-rel : goal.groups_on-requires-clause-rel
 groups_on-requires-clause-rel c =
@@ -33,7 +33,7 @@ groups_on-requires-clause-rel c =
     let part = value_of_answer c.project.result c.in_ok-part.part _ _ causes.Heading c.project.ensures.answer c.in_ok-part.ensures ∙ ap (projection names) c.heading-heading.ensures in
     let rest : c.in_ok-rest.rest ≡ rest_heading names r.heading = c.in_ok-rest.ensures.heading ∙ (λ i. outside (part i) (c.heading-heading.ensures i)) in
     subst (λ h. IsTrue (has_attributes (attribute_names h) r.heading)) (sym rest)
-    (first_true _ _ (rest_projects (projection names r.heading) r.heading (subst (λ h. IsHeading (pack h)) c.heading-heading.ensures c.len.ensures.heading)))
+    (first_true _ _ (rest_projects (projection names r.heading) r.heading (subst (λ h. IsHeading (pack h)) c.heading-heading.ensures c.reveal.ensures.heading)))
 
 pub groups_on-requires-clause-per : goal.groups_on-requires-clause-per
 groups_on-requires-clause-per c =
@@ -45,7 +45,7 @@ groups_on-requires-clause-per c =
     subst (λ k. IsTrue (has_attributes (attribute_names c.in_ok-rest.rest) k.heading)) (sym keys)
     (projection_there (attribute_names c.in_ok-rest.rest) r.heading
     (subst (λ h. IsTrue (has_attributes (attribute_names h) r.heading)) (sym rest)
-    (first_true _ _ (rest_projects (projection names r.heading) r.heading (subst (λ h. IsHeading (pack h)) c.heading-heading.ensures c.len.ensures.heading)))))
+    (first_true _ _ (rest_projects (projection names r.heading) r.heading (subst (λ h. IsHeading (pack h)) c.heading-heading.ensures c.reveal.ensures.heading)))))
 
 pub group_values-requires : goal.group_values-requires
 group_values-requires c =

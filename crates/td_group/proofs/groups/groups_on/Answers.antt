@@ -33,7 +33,7 @@ loop-tuple-preserved c =
     c.rows-tuple-items.ensures.rows c.tuple-item.is c.loop-tuple-test.true c.rows-tuple-items.ensures.headed in
     let found = ap (λ vs. tuples_at vs c.in_ok-table.table) c.deref-in-loop-tuple.ensures.value
     ∙ rows_found names c.args.per.now.heading c.args.rel.now.heading w c.args.rel.now.body c.in_ok-places.places.items c.deref.result.now
-    c.put_values.new.key.items c.in_ok-table.table c.len.ensures.ascending c.requires.per c.requires.rel headed c.rows.ensures.headed
+    c.put_values.new.key.items c.in_ok-table.table c.reveal.ensures.ascending c.requires.per c.requires.rel headed c.rows.ensures.headed
     (subst (λ h. ArePlacesOf names h c.in_ok-places.places.items) c.heading.ensures c.in_ok-places.ensures) c.deref.ensures.value
     c.in_ok-put_values.ensures c.in_ok-table.ensures in
     let group = c.in_ok-group.ensures ∙ ap (relation_view c.args.rel.now.heading) found in

@@ -1,8 +1,6 @@
-use Rattle.std.proofs.Common.{◌≡◌, Some, map, take}
-use Rattle.std.specs.List.{slice_get}
+use Rattle.std.proofs.Common.{take}
 use Rattle.td_types.specs.Types.{attribute_names}
 use Rattle.td_value.specs.Values.{IsTupleOf, Tuple}
-use Rattle.td_value.specs.Views.{values_of}
 use Rattle.td_group.specs.Groups.{StandAt, values_on}
 use Rattle.td_group.proofs.groups.places_of.Given as goal
 

@@ -1,8 +1,9 @@
-use Rattle.std.proofs.Common.{◌≡◌, ◌++◌, length, drop, false, string_bytes}
+use Rattle.std.proofs.Common.{length, drop, false, string_bytes}
 use Rattle.std.specs.List.{slice_split}
+use Rattle.td_tree.specs.Fronts.{IsBegun}
 use Rattle.td_tree.proofs.Doubling.{joined, is_quote}
 use Rattle.td_tree.proofs.quoted.put_doubled.Given as goal
 
 abbrev pub invariant-loop-piece : goal.invariant-loop-piece
 invariant-loop-piece l =
-    string_bytes l.out ++ joined l.later (drop (length l.yielded) (slice_split is_quote l.said)) ≡ string_bytes l.initial.out ++ joined false (slice_split is_quote l.said)
+    IsBegun (string_bytes l.initial.out) (string_bytes l.out) (joined l.later (drop (length l.yielded) (slice_split is_quote l.said))) (joined false (slice_split is_quote l.said))

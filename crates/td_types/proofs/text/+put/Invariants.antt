@@ -1,5 +1,6 @@
-use Rattle.std.proofs.Common.{◌≡◌, ◌++◌, drop, false}
+use Rattle.std.proofs.Common.{drop, false}
 use Rattle.std.specs.String.{string_bytes}
+use Rattle.td_tree.specs.Fronts.{IsBegun}
 use Rattle.td_types.specs.Texts.{attributes_text}
 use Rattle.td_types.specs.Types.{pack}
 use Rattle.td_types.specs.Views.{heading_view}
@@ -7,5 +8,5 @@ use Rattle.td_types.proofs.text.+put.Given as goal
 
 abbrev pub invariant-put_heading-loop-attribute : goal.invariant-put_heading-loop-attribute
 invariant-put_heading-loop-attribute l =
-    string_bytes l.out ++ attributes_text l.later (pack (heading_view (drop l.attribute-index l.attribute-items)))
-    ≡ string_bytes l.initial.out ++ attributes_text false (pack (heading_view l.attribute-items))
+    IsBegun (string_bytes l.initial.out) (string_bytes l.out) (attributes_text l.later (pack (heading_view (drop l.attribute-index l.attribute-items))))
+    (attributes_text false (pack (heading_view l.attribute-items)))

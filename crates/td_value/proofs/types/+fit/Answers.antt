@@ -39,30 +39,30 @@ has_type-returns-in-User-User t c =
 pub entries_have_heading-returns-in_default : goal.entries_have_heading-returns-in_default
 entries_have_heading-returns-in_default t c =
     sym (fits_short c.args.names.now c.args.values.now c.args.heading.now c.loop-v.place c.v-item.result c.requires (omega (arith, c.loop-v.invariant.0, c.loop-v-test.true))
-    (subst (λ k. c.v-item.result ≡ get_or c.args.values.now k c.v-item.result) (sym c.loop-v.invariant.0) c.v-item.is) (sym c.in_default.ensures)) ∙ c.loop-v.invariant.1
+    (subst (λ k. c.v-item.result ≡ get_or c.args.values.now k c.v-item.result) (sym c.loop-v.invariant.0) c.v-item.is) (sym c.in_default.ensures.attribute)) ∙ c.loop-v.invariant.1
 
 pub entries_have_heading-returns-then-ne : goal.entries_have_heading-returns-then-ne
 entries_have_heading-returns-then-ne t c =
     let more = fits_more c.args.names.now c.args.values.now c.args.heading.now c.loop-v.place c.index-names-place.result c.v-item.result _ c.requires
-    (omega (arith, c.loop-v.invariant.0, c.loop-v-test.true)) c.index-names-place.is (subst (λ k. c.v-item.result ≡ get_or c.args.values.now k c.v-item.result) (sym c.loop-v.invariant.0) c.v-item.is) (sym c.in-Some.ensures) in
+    (omega (arith, c.loop-v.invariant.0, c.loop-v-test.true)) c.index-names-place.is (subst (λ k. c.v-item.result ≡ get_or c.args.values.now k c.v-item.result) (sym c.loop-v.invariant.0) c.v-item.is) (sym c.in-Some.ensures.attribute) in
     sym (first_wrong _ _ _ more (differs _ (sym c.ne.ensures ∙ c.if-ne.true))) ∙ c.loop-v.invariant.1
 
 pub entries_have_heading-returns-then-not-has_type : goal.entries_have_heading-returns-then-not-has_type
 entries_have_heading-returns-then-not-has_type t c =
     let more = fits_more c.args.names.now c.args.values.now c.args.heading.now c.loop-v.place c.index-names-place.result c.v-item.result _ c.requires
-    (omega (arith, c.loop-v.invariant.0, c.loop-v-test.true)) c.index-names-place.is (subst (λ k. c.v-item.result ≡ get_or c.args.values.now k c.v-item.result) (sym c.loop-v.invariant.0) c.v-item.is) (sym c.in-Some.ensures) in
+    (omega (arith, c.loop-v.invariant.0, c.loop-v-test.true)) c.index-names-place.is (subst (λ k. c.v-item.result ≡ get_or c.args.values.now k c.v-item.result) (sym c.loop-v.invariant.0) c.v-item.is) (sym c.in-Some.ensures.attribute) in
     sym (second_wrong _ _ _ _ more (agrees _ (sym c.ne.ensures ∙ c.if-ne.false)) (sym c.has_type.ensures ∙ c.if-not-has_type.true)) ∙ c.loop-v.invariant.1
 
 pub entries_have_heading-loop-v-preserved : goal.entries_have_heading-loop-v-preserved
 entries_have_heading-loop-v-preserved t c =
     let more = fits_more c.args.names.now c.args.values.now c.args.heading.now c.loop-v.place c.index-names-place.result c.v-item.result _ c.requires
-    (omega (arith, c.loop-v.invariant.0, c.loop-v-test.true)) c.index-names-place.is (subst (λ k. c.v-item.result ≡ get_or c.args.values.now k c.v-item.result) (sym c.loop-v.invariant.0) c.v-item.is) (sym c.in-Some.ensures) in (
+    (omega (arith, c.loop-v.invariant.0, c.loop-v-test.true)) c.index-names-place.is (subst (λ k. c.v-item.result ≡ get_or c.args.values.now k c.v-item.result) (sym c.loop-v.invariant.0) c.v-item.is) (sym c.in-Some.ensures.attribute) in (
       omega (arith, c.loop-v.invariant.0),
       sym (both_right _ _ _ _ more (agrees _ (sym c.ne.ensures ∙ c.if-ne.false)) (sym c.has_type.ensures ∙ c.if-not-has_type.false)) ∙ c.loop-v.invariant.1,
     )
 
 pub entries_have_heading-returns : goal.entries_have_heading-returns
 entries_have_heading-returns t c =
-    none_mapped _ c.at-2.result c.is_none.result c.is_none.ensures ∙ ap is_none c.at-2.ensures
+    none_mapped _ c.at-2.result c.is_none.result c.is_none.ensures ∙ ap is_none c.at-2.ensures.attribute
     ∙ sym (fits_end c.args.names.now c.args.values.now c.args.heading.now c.loop-v.place c.requires (omega (arith, c.loop-v.invariant.0, c.loop-v-test.false)))
     ∙ c.loop-v.invariant.1

@@ -6,4 +6,4 @@ use Rattle.td_body.proofs.sorted.SortedBodyBody.len.Goals as goal
 pub returns-clause-valid : goal.returns-clause-valid
 returns-clause-valid c =
     let r = c.args.self.now.relation in
-    relation_from r.heading r.body c.rows.ensures.headed c.rows.ensures.ascending (subst (λ h. IsHeading (pack h)) c.heading.ensures c.len.ensures.heading)
+    relation_from r.heading r.body c.rows.ensures.headed c.rows.ensures.ascending (subst (λ h. IsHeading (pack h)) c.heading.ensures c.reveal.ensures.heading)

@@ -15,7 +15,7 @@ project-requires-2 c =
     let kept : c.deref.result.now ≡ attribute_names (outside c.in_ok-named.named c.args.rel.now.heading) =
     c.deref.ensures.value ∙ c.in_ok-kept.ensures ∙ ap attribute_names rest in
     subst (λ ns. has_projection ns c.args.rel.now.heading ≡ true) (sym kept)
-    (outside_projected c.in_ok-named.named c.args.rel.now.heading (subst (λ h. IsHeading (pack h)) rest c.len.ensures.heading))
+    (outside_projected c.in_ok-named.named c.args.rel.now.heading (subst (λ h. IsHeading (pack h)) rest c.reveal.ensures.heading))
 
 pub returns : goal.returns
 returns c =

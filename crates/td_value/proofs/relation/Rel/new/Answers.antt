@@ -50,26 +50,26 @@ pub share_names-requires : goal.share_names-requires
 share_names-requires c =
     let up = c.sort_unstable_by.ensures.sorted (λ s t. is_lt (by_values s t)) (ranks_by by_values_total (λ s. s)) (answers_always _ _ _ (λ f a r q k. ap is_lt (search rules))) in
     let is = c.shrink_to_fit.ensures.items ∙ dedup_is (eq_by_cmp tuple_cmp) _ _ c.dedup.ensures.filtered in
-    subst HaveSameNames (sym c.deref_mut.ensures.value) (HaveSameNames-from c.args.heading c.shrink_to_fit.new.self.items (kept_all c.args.heading c.args.rows.items c.sort_unstable_by.new.self.items c.shrink_to_fit.new.self.items c.requires c.sort_unstable_by.ensures.permutation up is c.len.ensures.heading))
+    subst HaveSameNames (sym c.deref_mut.ensures.value) (HaveSameNames-from c.args.heading c.shrink_to_fit.new.self.items (kept_all c.args.heading c.args.rows.items c.sort_unstable_by.new.self.items c.shrink_to_fit.new.self.items c.requires c.sort_unstable_by.ensures.permutation up is c.reveal.ensures.heading))
 
 pub of_ascending-requires-clause-headed : goal.of_ascending-requires-clause-headed
 of_ascending-requires-clause-headed c =
     let up = c.sort_unstable_by.ensures.sorted (λ s t. is_lt (by_values s t)) (ranks_by by_values_total (λ s. s)) (answers_always _ _ _ (λ f a r q k. ap is_lt (search rules))) in
     let is = c.shrink_to_fit.ensures.items ∙ dedup_is (eq_by_cmp tuple_cmp) _ _ c.dedup.ensures.filtered in
     let whole = restored _ _ _ c.shrink_to_fit.new.self.items (ap length c.in_ok-share_names.ensures ∙ c.deref_mut.ensures.len) (c.in_ok-share_names.ensures ∙ c.deref_mut.ensures.value) in
-    subst (All (IsTupleOf c.args.heading)) (sym whole) (kept_all c.args.heading c.args.rows.items c.sort_unstable_by.new.self.items c.shrink_to_fit.new.self.items c.requires c.sort_unstable_by.ensures.permutation up is c.len.ensures.heading)
+    subst (All (IsTupleOf c.args.heading)) (sym whole) (kept_all c.args.heading c.args.rows.items c.sort_unstable_by.new.self.items c.shrink_to_fit.new.self.items c.requires c.sort_unstable_by.ensures.permutation up is c.reveal.ensures.heading)
 
 pub of_ascending-requires-clause-ascending : goal.of_ascending-requires-clause-ascending
 of_ascending-requires-clause-ascending c =
     let up = c.sort_unstable_by.ensures.sorted (λ s t. is_lt (by_values s t)) (ranks_by by_values_total (λ s. s)) (answers_always _ _ _ (λ f a r q k. ap is_lt (search rules))) in
     let is = c.shrink_to_fit.ensures.items ∙ dedup_is (eq_by_cmp tuple_cmp) _ _ c.dedup.ensures.filtered in
     let whole = restored _ _ _ c.shrink_to_fit.new.self.items (ap length c.in_ok-share_names.ensures ∙ c.deref_mut.ensures.len) (c.in_ok-share_names.ensures ∙ c.deref_mut.ensures.value) in
-    subst IsAscendingBody (sym whole) (ascends c.args.heading c.args.rows.items c.sort_unstable_by.new.self.items c.shrink_to_fit.new.self.items c.requires c.sort_unstable_by.ensures.permutation up is c.len.ensures.heading)
+    subst IsAscendingBody (sym whole) (ascends c.args.heading c.args.rows.items c.sort_unstable_by.new.self.items c.shrink_to_fit.new.self.items c.requires c.sort_unstable_by.ensures.permutation up is c.reveal.ensures.heading)
 
 pub returns : goal.returns
 returns c =
     let up = c.sort_unstable_by.ensures.sorted (λ s t. is_lt (by_values s t)) (ranks_by by_values_total (λ s. s)) (answers_always _ _ _ (λ f a r q k. ap is_lt (search rules))) in
     let is = c.shrink_to_fit.ensures.items ∙ dedup_is (eq_by_cmp tuple_cmp) _ _ c.dedup.ensures.filtered in
     let whole = restored _ _ _ c.shrink_to_fit.new.self.items (ap length c.in_ok-share_names.ensures ∙ c.deref_mut.ensures.len) (c.in_ok-share_names.ensures ∙ c.deref_mut.ensures.value) in
-    let made = whole ∙ is_set c.args.heading c.args.rows.items c.sort_unstable_by.new.self.items c.shrink_to_fit.new.self.items c.requires c.sort_unstable_by.ensures.permutation up is c.len.ensures.heading in
+    let made = whole ∙ is_set c.args.heading c.args.rows.items c.sort_unstable_by.new.self.items c.shrink_to_fit.new.self.items c.requires c.sort_unstable_by.ensures.permutation up is c.reveal.ensures.heading in
     of_set c.args.heading c.args.rows.items _ c.of_ascending.result made c.of_ascending.ensures

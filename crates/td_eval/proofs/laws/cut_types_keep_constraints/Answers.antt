@@ -1,0 +1,5 @@
+use Rattle.td_eval.proofs.LaterTypes.{cut_types_keep_constraints}
+use Rattle.td_eval.proofs.laws.cut_types_keep_constraints.Goals as goal
+
+pub returns : goal.returns
+returns c = cut_types_keep_constraints
