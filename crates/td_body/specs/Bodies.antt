@@ -1,9 +1,14 @@
--- Bodies of relvars: which tuples agree on a key, and when a key holds (Tutorial D's).
+-- Bodies of relvars: what a change makes of one, which tuples agree on a key, and when a key holds (Tutorial D's).
 use Rattle.std.specs.Prelude.{◌≡◌, ℕ, Bool, true, not, ◌&&◌, List, [], ◌∷◌, filter, IsTrue, ◌↔◌}
 use Rattle.std.specs.List.{Contains, list_any}
 use Rattle.td_value.specs.Agreement.{agree_on, AgreeOn}
 use Rattle.td_value.specs.Values.{Tuple, Relation, IsRelation}
 use Rattle.td_value.specs.Views.{relation_view}
+use Rattle.td_algebra.specs.Operators.{difference, union}
+
+-- a relation without the tuples of one, and then with those of another
+abbrev pub after_change : Relation → Relation → Relation → Relation
+after_change out add r = union (difference r out) add
 
 -- the tuples of a relation that agree with a part on the names
 abbrev pub agreeing : List (List ℕ) → Tuple → Relation → Relation

@@ -1,13 +1,13 @@
 //! Bodies of relvars.
-ghost use Rattle.std.specs.Prelude.{◌≡◌, ℕ, ◌<◌, List, [], IfErr, IfOk, IfSome, IsTrue, OnErr};
-ghost use Rattle.std.specs.Prelude.{OnOk, length, map, not};
+ghost use Rattle.std.specs.Prelude.{◌≡◌, ◌∷◌, ◌++◌, ℕ, ◌<◌, List, [], IfErr, IfOk, IfSome};
+ghost use Rattle.std.specs.Prelude.{IsTrue, OnErr, OnOk, false, length, map, not};
 ghost use Rattle.std.specs.List.{All, slice_get};
 ghost use Rattle.td_types.specs.Headings.{has_attributes, projection};
 ghost use Rattle.td_value.specs.Sets.{has};
 ghost use Rattle.td_value.specs.Values.{IsRelation, IsTupleOf, Relation, heading_of, tuple_cmp};
 ghost use Rattle.td_value.specs.Values.{with_tuple, without_tuple};
 ghost use Rattle.td_value.specs.Views.{relation_view};
-ghost use Rattle.td_body.specs.Bodies.{agreeing, key_holds};
+ghost use Rattle.td_body.specs.Bodies.{after_change, agreeing, key_holds};
 
 use std::alloc::{AllocError, Global};
 use td_tree::name::Name;
@@ -15,8 +15,9 @@ use td_types::heading::Heading;
 use td_value::relation::Rel;
 use td_value::tuple::Tuple;
 
-/// The body of a relvar: a set of tuples of one heading, with the keys that are declared for it.
-/// It keeps no key: it answers whether one holds. A refused call leaves it as it was.
+/// The body of a relvar: a set of tuples of one heading, with the keys that are declared for it, and
+/// the earlier sets to which it can go back. It keeps no key: it answers whether one holds. A
+/// refused call leaves it as it was.
 pub trait Body: Drop {
     /// Its heading with the set of its tuples.
     ghost relation: { Self → Relation };
@@ -24,33 +25,70 @@ pub trait Body: Drop {
     /// The names of each of its keys, in the order in which they are declared.
     ghost keys: { Self → List (List (List ℕ)) };
 
+    /// What it was before each change to which it can go back, the latest last.
+    ghost kept: { Self → List Relation };
+
     /// The body of that heading without tuples, with the keys of those names.
     fn empty(alloc: Global, heading: Heading, names: Vec<Vec<Name>>) -> Result<Self, AllocError>
         requires { All (λ key. IsTrue (has_attributes key heading))
             (map (λ key. key.items) names.items) }
         ensures relation { IfOk result (λ b. relation b ≡ relation_view heading []) }
-        ensures keys { IfOk result (λ b. keys b ≡ map (λ key. key.items) names.items) };
+        ensures keys { IfOk result (λ b. keys b ≡ map (λ key. key.items) names.items) }
+        ensures kept { IfOk result (λ b. kept b ≡ []) };
 
     /// Makes the tuple a member, and answers whether it was none. Where memory is refused the
     /// tuple comes back.
     fn insert(&mut self, tuple: Tuple) -> Result<bool, Tuple>
-        requires { IsTupleOf (relation self.old).heading tuple }
+        requires headed { IsTupleOf (relation self.old).heading tuple }
+        requires none_kept { kept self.old ≡ [] }
         ensures new { IfOk result (λ new.
             new ≡ not (has tuple_cmp tuple (relation self.old).body)) }
         ensures with { OnOk result (relation self.new ≡ with_tuple tuple (relation self.old)) }
         ensures back { IfErr result (λ back. back ≡ tuple) }
         ensures same { OnErr result (relation self.new ≡ relation self.old) }
-        ensures keys { keys self.new ≡ keys self.old };
+        ensures keys { (keys self.new ≡ keys self.old) × (kept self.new ≡ []) };
 
     /// Takes the tuple out, and answers whether it was a member.
     fn remove(&mut self, tuple: &Tuple) -> Result<bool, AllocError>
-        requires { IsTupleOf (relation self.old).heading tuple.now }
+        requires headed { IsTupleOf (relation self.old).heading tuple.now }
+        requires none_kept { kept self.old ≡ [] }
         ensures there { IfOk result (λ there.
             there ≡ has tuple_cmp tuple.now (relation self.old).body) }
         ensures without { OnOk result
             (relation self.new ≡ without_tuple tuple.now (relation self.old)) }
         ensures same { OnErr result (relation self.new ≡ relation self.old) }
+        ensures keys { (keys self.new ≡ keys self.old) × (kept self.new ≡ []) };
+
+    /// Takes the tuples of the one relation out, then puts those of the other in, and keeps what
+    /// it was.
+    fn change(&mut self, out: &Rel, add: &Rel) -> Result<(), AllocError>
+        requires out { out.now.heading ≡ (relation self.old).heading }
+        requires add { add.now.heading ≡ (relation self.old).heading }
+        ensures changed { OnOk result
+            (relation self.new ≡ after_change out.now add.now (relation self.old)) }
+        ensures kept { OnOk result (kept self.new ≡ kept self.old ++ relation self.old ∷ []) }
+        ensures same { OnErr result
+            ((relation self.new ≡ relation self.old) × (kept self.new ≡ kept self.old)) }
         ensures keys { keys self.new ≡ keys self.old };
+
+    /// Goes back to what it was before the latest change of which that is kept, and answers
+    /// whether there was one. It takes no memory.
+    fn revert(&mut self) -> bool
+        ensures back { IsTrue result → kept self.old ≡ kept self.new ++ relation self.new ∷ [] }
+        ensures none { result ≡ false → (kept self.old ≡ []) × (kept self.new ≡ []) }
+        ensures same { result ≡ false → relation self.new ≡ relation self.old }
+        ensures heading { (relation self.new).heading ≡ (relation self.old).heading }
+        ensures keys { keys self.new ≡ keys self.old };
+
+    /// Keeps no earlier relation any longer. It takes no memory.
+    fn settle(&mut self)
+        ensures relation { relation self.new ≡ relation self.old }
+        ensures keys { keys self.new ≡ keys self.old }
+        ensures kept { kept self.new ≡ [] };
+
+    /// How many earlier relations are kept. It takes no memory.
+    fn kept(&self) -> usize
+        ensures { result ≡ length (kept self.now) };
 
     /// Whether the tuple is a member.
     fn contains(&self, tuple: &Tuple) -> bool
@@ -66,16 +104,11 @@ pub trait Body: Drop {
     fn to_rel(&self) -> Result<Rel, AllocError>
         ensures { IfOk result (λ r. r ≡ relation self.now) };
 
-    /// The same body again.
+    /// A body of the same keys and members, which keeps no earlier relation.
     fn try_clone(&self) -> Result<Self, AllocError>
         ensures relation { IfOk result (λ b. relation b ≡ relation self.now) }
-        ensures keys { IfOk result (λ b. keys b ≡ keys self.now) };
-
-    /// The body of the same keys whose members are the tuples of the relation, which has its heading.
-    fn holding(&self, held: Rel) -> Result<Self, AllocError>
-        requires { held.heading ≡ (relation self.now).heading }
-        ensures relation { IfOk result (λ b. relation b ≡ held) }
-        ensures keys { IfOk result (λ b. keys b ≡ keys self.now) };
+        ensures keys { IfOk result (λ b. keys b ≡ keys self.now) }
+        ensures kept { IfOk result (λ b. kept b ≡ []) };
 
     /// The members that agree with the part on the key of that place, whose names and types the
     /// part has.

@@ -2,6 +2,7 @@
 #![tactic(auto)]
 
 pub mod body;
+mod changes;
 pub mod keys;
 pub mod laws;
 pub mod sorted;

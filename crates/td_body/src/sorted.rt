@@ -1,18 +1,21 @@
 //! Bodies whose members stand in order.
 use crate::body::Body;
+use crate::changes::changed;
 use crate::keys::{agreeing, key_holds};
 use std::alloc::{AllocError, Global};
+use std::mem;
 use std::rc::Rc;
 use td_tree::name::Name;
 use td_types::heading::Heading;
 use td_value::relation::Rel;
 use td_value::tuple::Tuple;
 
-/// A body whose members stand in their order. Copies share the members and the keys, and take no
-/// memory: the first change of a copy copies the members.
+/// A body whose members stand in their order, beside those of each earlier relation that it keeps.
+/// Copies share the members and the keys: the first change of a copy copies the members.
 #[derive(Drop)]
 pub struct SortedBody {
     relation: Rel,
+    kept: Vec<Rel>,
     keys: Rc<Vec<Vec<Name>>>,
 }
 
@@ -23,10 +26,17 @@ impl Body for SortedBody {
 
     ghost keys = { λ b. map (λ key. key.items) b.keys.value.items };
 
+    ghost kept = { λ b. b.kept.items };
+
     fn empty(alloc: Global, heading: Heading, names: Vec<Vec<Name>>) -> Result<Self, AllocError> {
         let relation = Rel::of_ascending(heading, Vec::new(alloc))?;
+        let kept = Vec::new(alloc);
         let keys = Rc::new(alloc, names)?;
-        Ok(SortedBody { relation, keys })
+        Ok(SortedBody {
+            relation,
+            kept,
+            keys,
+        })
     }
 
     fn insert(&mut self, tuple: Tuple) -> Result<bool, Tuple> {
@@ -35,6 +45,31 @@ impl Body for SortedBody {
 
     fn remove(&mut self, tuple: &Tuple) -> Result<bool, AllocError> {
         self.relation.remove(tuple)
+    }
+
+    fn change(&mut self, out: &Rel, add: &Rel) -> Result<(), AllocError> {
+        let next = changed(*self.keys.allocator(), &self.relation, out, add)?;
+        self.kept.push(self.relation.try_clone()?)?;
+        self.relation = next;
+        Ok(())
+    }
+
+    fn revert(&mut self) -> bool {
+        match self.kept.pop() {
+            Some(earlier) => {
+                self.relation = earlier;
+                true
+            }
+            None => false,
+        }
+    }
+
+    fn settle(&mut self) {
+        self.kept.clear();
+    }
+
+    fn kept(&self) -> usize {
+        self.kept.len()
     }
 
     fn contains(&self, tuple: &Tuple) -> bool {
@@ -51,14 +86,10 @@ impl Body for SortedBody {
     }
 
     fn try_clone(&self) -> Result<Self, AllocError> {
-        self.holding(self.relation.try_clone()?)
-    }
-
-    fn holding(&self, held: Rel) -> Result<Self, AllocError> {
-        let keys = self.keys.clone()?;
         Ok(SortedBody {
-            relation: held,
-            keys,
+            relation: self.relation.try_clone()?,
+            kept: Vec::new(*self.keys.allocator()),
+            keys: self.keys.clone()?,
         })
     }
 
