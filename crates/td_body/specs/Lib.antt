@@ -1,2 +1,3 @@
 pub mod Bodies
+pub mod KeyIndexes
 pub mod KeyParts

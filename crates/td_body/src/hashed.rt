@@ -1,0 +1,4 @@
+//! Bodies whose members are hashed.
+mod hashes;
+pub(crate) mod index;
+mod tables;
