@@ -1,3 +1,4 @@
 pub mod Bodies
+pub mod BodyCode
 pub mod KeyIndexes
 pub mod KeyParts
