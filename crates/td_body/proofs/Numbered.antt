@@ -85,6 +85,18 @@ module _ {K : Type 0} (eq : K → K → Bool) (decides : (x y : K) → Decides (
             (λ e _. let m : n ≡ i → ⊥ = ne e in omega (arith, m, is, c1, ap count e, ap count' e, h))
             (λ _ t. omega (arith, c2 k t, h)))))
 
+    -- the same, with the hash under another name
+    pub numbered_more_at : (r : K) (k n : ℕ) → hash r ≡ k → n ≡ count k → place r ≡ None
+        → place' r ≡ Some n → ((q : K) → eq r q ≡ false → place' q ≡ place q)
+        → row' k n ≡ Some r → ((l i : ℕ) → (nat_eq k l && nat_eq n i) ≡ false → row' l i ≡ row l i)
+        → count' k ≡ n + 1 → ((l : ℕ) → nat_eq k l ≡ false → count' l ≡ count l)
+        → IsNumbered hash place' row' count'
+    numbered_more_at r k n e = subst (λ k. n ≡ count k → place r ≡ None
+        → place' r ≡ Some n → ((q : K) → eq r q ≡ false → place' q ≡ place q)
+        → row' k n ≡ Some r → ((l i : ℕ) → (nat_eq k l && nat_eq n i) ≡ false → row' l i ≡ row l i)
+        → count' k ≡ n + 1 → ((l : ℕ) → nat_eq k l ≡ false → count' l ≡ count l)
+        → IsNumbered hash place' row' count') e (numbered_more r n)
+
     -- an item goes, and the last of its hash takes its number
     pub numbered_less : (r m : K) (j n : ℕ) → place r ≡ Some j → count (hash r) ≡ n + 1 → row (hash r) n ≡ Some m
         → ((q : K) → place' q ≡ cond (eq r q) None (cond (eq m q) (Some j) (place q)))
@@ -175,28 +187,30 @@ module _ {K : Type 0} (eq : K → K → Bool) (decides : (x y : K) → Decides (
             subst IsSome (sym (slot_same k i no1 no2)) (x.filled k i (omega (arith, low, cn, ap count a)))))
             (λ na _. subst IsSome (sym (slot_same k i (λ z _. na z) (λ z _. na z))) (x.filled k i (omega (arith, count_other k na, h))))
 
+    pub numbered_less_at : (r m : K) (k j n : ℕ) → hash r ≡ k → place r ≡ Some j → count k ≡ n + 1 → row k n ≡ Some m
+        → ((q : K) → place' q ≡ cond (eq r q) None (cond (eq m q) (Some j) (place q)))
+        → ((l i : ℕ) → row' l i ≡ cond (nat_eq k l && nat_eq n i) None (cond (nat_eq k l && nat_eq j i) (Some m) (row l i)))
+        → ((l : ℕ) → count' l ≡ cond (nat_eq k l) n (count l))
+        → IsNumbered hash place' row' count'
+    numbered_less_at r m k j n e = subst (λ k. place r ≡ Some j → count k ≡ n + 1 → row k n ≡ Some m
+        → ((q : K) → place' q ≡ cond (eq r q) None (cond (eq m q) (Some j) (place q)))
+        → ((l i : ℕ) → row' l i ≡ cond (nat_eq k l && nat_eq n i) None (cond (nat_eq k l && nat_eq j i) (Some m) (row l i)))
+        → ((l : ℕ) → count' l ≡ cond (nat_eq k l) n (count l))
+        → IsNumbered hash place' row' count') e (numbered_less r m j n)
+
 -- ---- how many there are
 
 -- what is known of a number, and whether there is a first, give the number
 pub count_is : {A : Type 0} (known : Option ℕ) (first : Option A) (n : ℕ) → known ≡ several n → is_some first ≡ nat_lt 0 n → count_by known first ≡ n
 count_is known first n h f = ap (λ o. count_by o first) h ∙ by (nat_lt 1 n) refl
   where
-    here : (b : Bool) → is_some first ≡ b → (b ≡ true → 0 < n) → (b ≡ false → n ≡ 0) → n ≤ 1 → cond (is_some first) 1 0 ≡ n
-    here true e yes no few = rw e (omega (arith, yes refl, few))
-    here false e yes no few = rw e (omega (arith, no refl))
-
-    some_first : nat_lt 0 n ≡ true → 0 < n
-    some_first e = grind (arith, nat_tests)
-
-    no_first : nat_lt 0 n ≡ false → n ≡ 0
-    no_first e = grind (arith, nat_tests)
-
-    few : nat_lt 1 n ≡ false → n ≤ 1
-    few e = grind (arith, nat_tests)
+    one_or_none : (b : Bool) → b ≡ nat_lt 0 n → nat_lt 1 n ≡ false → cond b 1 0 ≡ n
+    one_or_none true e few = grind (arith, nat_tests)
+    one_or_none false e few = grind (arith, nat_tests)
 
     by : (b : Bool) → nat_lt 1 n ≡ b → count_by (several n) first ≡ n
     by true e = rw e refl
-    by false e = rw e (here (nat_lt 0 n) f some_first no_first (few e))
+    by false e = rw e (one_or_none (is_some first) f e)
 
 -- what is not known is no number above 1
 pub few_unknown : {A : Type 0} (known : Option ℕ) (first : Option A) → ((n : ℕ) → known ≡ Some n → 1 < n) → count_by known first ≤ 1 → known ≡ None
@@ -225,3 +239,20 @@ several_still old new hash count h all k n e = split_nat hash k
     written : (b : Bool) → nat_lt 1 count ≡ b → cond b (Some count) None ≡ Some n → 1 < n
     written true t g = omega (arith, above t, some_same count n g)
     written false t g = cc
+
+-- ---- a gap among the numbers of a hash, closed by the last of them
+
+module _ {K : Type 0} (s s1 : ℕ → ℕ → Option K) (hash ordinal last : ℕ) (h1 : (k i : ℕ) → s1 k i ≡ cond (nat_eq hash k && nat_eq last i) None (s k i)) where
+  pub gap_last : ordinal ≡ last → (k i : ℕ) → s1 k i ≡ cond (nat_eq hash k && nat_eq last i) None (cond (nat_eq hash k && nat_eq ordinal i) (s hash last) (s k i))
+  gap_last e k i = h1 k i ∙ split_slot hash last k i
+      (λ _ _ t. rw t refl)
+      (λ no t. split_slot hash ordinal k i (λ a b _. absurd (no a (sym e ∙ b))) (λ _ u. rw (t, u) refl))
+
+  pub gap_here : (ordinal ≡ last → ⊥) → s1 hash ordinal ≡ s hash ordinal
+  gap_here ne = h1 hash ordinal ∙ split_slot hash last hash ordinal (λ _ b _. absurd (ne (sym b))) (λ _ t. rw t refl)
+
+  pub gap_both : (ordinal ≡ last → ⊥) → (m : K) → s hash last ≡ Some m → (s2 : ℕ → ℕ → Option K) → ((k i : ℕ) → s2 k i ≡ cond (nat_eq hash k && nat_eq ordinal i) (Some m) (s1 k i))
+      → (k i : ℕ) → s2 k i ≡ cond (nat_eq hash k && nat_eq last i) None (cond (nat_eq hash k && nat_eq ordinal i) (s hash last) (s k i))
+  gap_both ne m is s2 h2 k i = h2 k i ∙ ap (λ z. cond (nat_eq hash k && nat_eq ordinal i) (Some m) z) (h1 k i) ∙ split_slot hash last k i
+      (λ _ b t. split_slot hash ordinal k i (λ _ d _. absurd (ne (d ∙ sym b))) (λ _ u. rw (t, u) refl))
+      (λ _ t. rw (t, is) refl)

@@ -32,13 +32,17 @@ with_part places part = filter (λ t. is_eq (values_cmp places t part))
 
 -- ---- hashes
 
--- what the hash of values is fed, of which some may be missing
+-- what a hash is fed for a value, which may be missing
+abbrev pub fed_if_found : Option Val → List (List ℕ)
+fed_if_found None = []
+fed_if_found (Some v) = fed_value v
+
+-- what it is fed for values, each of which may be missing
 abbrev pub fed_found : List (Option Val) → List (List ℕ)
 fed_found [] = []
-fed_found (None ∷ vs) = fed_found vs
-fed_found (Some v ∷ vs) = fed_value v ++ fed_found vs
+fed_found (v ∷ vs) = fed_if_found v ++ fed_found vs
 
--- the hash of values, of which some may be missing
+-- the hash of values, each of which may be missing
 unfoldable pub found_hash : List (Option Val) → ℕ
 found_hash vs = folding.finish (fold folding.write folding.initial (fed_found vs))
 

@@ -35,7 +35,7 @@ fn places_of(alloc: Global, names: &[Name], key: &[Name]) -> Result<Vec<usize>, 
 }
 
 /// The tuple's value at a place.
-fn value_at(tuple: &Tuple, place: usize) -> Option<&Value>
+pub(crate) fn value_at(tuple: &Tuple, place: usize) -> Option<&Value>
     ensures { option_map (λ v. v.now) result ≡ slice_get (values_of tuple.now) place }
 {
     tuple.values().get(place)

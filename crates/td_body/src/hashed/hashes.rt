@@ -1,21 +1,29 @@
 //! Hashes of the parts of tuples that a key names.
-ghost use Rattle.std.specs.Prelude.{◌≡◌, Some, map};
-ghost use Rattle.td_body.specs.KeyIndexes.{found_hash, part_hash};
+ghost use Rattle.std.specs.Prelude.{◌≡◌, Some, fold, map, option_map};
+ghost use Rattle.td_body.specs.KeyIndexes.{fed_if_found, found_hash, part_hash};
 
+use crate::keys::value_at;
 use std::hash::{FoldHasher, Hash, Hasher};
 use td_value::tuple::Tuple;
 use td_value::value::Value;
+
+/// Feeds a value to a hash, where there is one.
+fn feed_if_found<H: Hasher>(value: Option<&Value>, state: &mut H)
+    ensures { state.new
+        ≡ fold H.write state.old (fed_if_found (option_map (λ v. v.now) value.entry)) }
+{
+    if let Some(value) = value {
+        value.hash(state);
+    }
+}
 
 /// The hash of the tuple's values at the places.
 pub(crate) fn hash_at(places: &[usize], tuple: &Tuple) -> u64
     ensures { result ≡ part_hash places.now tuple.now }
 {
-    let values = tuple.values();
     let mut state = FoldHasher::default();
     for place in places {
-        if let Some(value) = values.get(*place) {
-            value.hash(&mut state);
-        }
+        feed_if_found(value_at(tuple, *place), &mut state);
     }
     state.finish()
 }

@@ -1,13 +1,14 @@
 //! A set of tuples with an index for one key.
-ghost use Rattle.std.specs.Prelude.{◌≡◌, ◌+◌, ◌<◌, ◌≤◌, [], IfOk, IfSome, IsSome, OnOk, is_some};
-ghost use Rattle.std.specs.Prelude.{length, not};
+ghost use Rattle.std.specs.Prelude.{◌≡◌, ◌+◌, ◌<◌, ◌≤◌, ◌++◌, ◌∷◌, [], IfOk, IfSome, OnOk};
+ghost use Rattle.std.specs.Prelude.{if◌then◌else◌, is_some, length, not};
+ghost use Rattle.std.specs.Ordering.{is_eq};
 ghost use Rattle.td_value.specs.Sets.{has, put_in};
 ghost use Rattle.td_value.specs.Values.{HaveSameMembers, IsAscendingBody, tuple_cmp};
 ghost use Rattle.td_body.specs.KeyIndexes.{with_part, without};
-ghost use Rattle.td_body.specs.KeyParts.{apart_at};
+ghost use Rattle.td_body.specs.KeyParts.{apart_at, values_cmp};
 
 use super::hashes::{hash_at, hash_of};
-use super::tables::{Slot, close_gap, count_of, lower_count, put, raise_count, tuple_in};
+use super::tables::{Slot, close_gap, count_of, lower_count, put, raise_count, shared_hash, tuple_in};
 use crate::keys::{compare_at, compare_with};
 use indexmap::IndexMap;
 use std::alloc::{AllocError, Global};
@@ -176,10 +177,7 @@ impl KeyIndex {
         let count = count_of(&self.counts, &self.slots, hash);
         let mut found = Vec::new(alloc);
         'ordinals: for ordinal in 0..count {
-            let tuple = tuple_in(&self.slots, hash, ordinal);
-            if compare_with(&self.places, tuple, part).is_eq() {
-                found.push(tuple.try_clone()?)?;
-            }
+            keep_at(&self.places, part, tuple_in(&self.slots, hash, ordinal), &mut found)?;
         }
         Ok(found)
     }
@@ -188,14 +186,33 @@ impl KeyIndex {
     pub(crate) fn is_apart(&self) -> Option<bool>
         ensures { IfSome result (λ b. b ≡ apart_at self.now.places self.now.tuples) }
     {
-        let Some((hash, _)) = self.counts.first() else {
+        let Some(hash) = shared_hash(&self.counts) else {
             return Some(true);
         };
-        let first = tuple_in(&self.slots, *hash, 0);
-        let second = tuple_in(&self.slots, *hash, 1);
+        let first = tuple_in(&self.slots, hash, 0);
+        let second = tuple_in(&self.slots, hash, 1);
         if compare_at(&self.places, first, second).is_eq() {
             return Some(false);
         }
         None
     }
+}
+
+/// Puts a copy of the tuple after the others, where its values at the places are those of the
+/// part.
+fn keep_at(
+    places: &[usize],
+    part: &[Value],
+    tuple: &Tuple,
+    found: &mut Vec<Tuple>,
+) -> Result<(), AllocError>
+    requires { length places.now ≡ length part.now }
+    ensures { OnOk result (found.new.items
+        ≡ (if is_eq (values_cmp places.now tuple.now part.now)
+        then found.old.items ++ tuple.now ∷ [] else found.old.items)) }
+{
+    if compare_with(places, tuple, part).is_eq() {
+        found.push(tuple.try_clone()?)?;
+    }
+    Ok(())
 }

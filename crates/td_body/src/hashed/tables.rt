@@ -1,6 +1,6 @@
 //! The tables of an index, one by one.
-ghost use Rattle.std.specs.Prelude.{◌≡◌, ◌+◌, ◌<◌, ◌≤◌, ◌&&◌, ℕ, IfOk, IsSome, None, Some, cond};
-ghost use Rattle.std.specs.Prelude.{nat_eq};
+ghost use Rattle.std.specs.Prelude.{◌≡◌, ◌+◌, ◌<◌, ◌≤◌, ◌&&◌, [], ℕ, IfSome, IsSome, None, Some};
+ghost use Rattle.std.specs.Prelude.{cond, nat_eq};
 ghost use Rattle.std.specs.Ordering.{eq_by_cmp};
 ghost use Rattle.indexmap.specs.IndexMap.{Updates, get, keys, spare};
 ghost use Rattle.td_value.specs.Values.{Tuple, tuple_cmp};
@@ -49,6 +49,15 @@ pub(crate) fn count_of(
         None if slots.contains_key(&Slot { hash, ordinal: 0 }) => 1,
         None => 0,
     }
+}
+
+/// A hash that several tuples have, where there is one.
+pub(crate) fn shared_hash(counts: &IndexMap<u64, usize>) -> Option<u64>
+    ensures some { IfSome result (λ hash. IsSome (get nat_eq counts.now hash)) }
+    ensures none { result ≡ None → counts.now.entries ≡ [] }
+{
+    let (hash, _) = counts.get_index(0)?;
+    Some(*hash)
 }
 
 /// Writes how many tuples have the hash, where it is one more.
