@@ -118,6 +118,7 @@ impl KeyHistory {
         ensures places { self.new.index.places ≡ self.old.index.places }
         ensures kept { kept_sets self.new.log.items self.new.index.tuples
             ≡ kept_sets self.old.log.items self.old.index.tuples }
+        ensures pending { self.new.pending.items ≡ self.old.pending.items }
         ensures room { self.old.index.room ≤ self.new.index.room + 1 }
         ensures dropped { self.new.dropped ≡ self.old.dropped }
         ensures len { vec_len self.new.log ≤ vec_len self.old.log + 1 }
@@ -147,6 +148,7 @@ impl KeyHistory {
         'outs: for tuple in out {
             self.take_out(tuple);
         }
+        let _ = self.index.len();
         self.put_pending();
     }
 
@@ -165,6 +167,7 @@ impl KeyHistory {
         'adds: while let Some(entry) = self.pending.pop() {
             self.put_in(entry);
         }
+        let _ = self.index.len();
     }
 
     /// Goes back to the set that was kept last. It takes no memory.
