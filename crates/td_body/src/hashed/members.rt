@@ -25,8 +25,11 @@ impl Model for Members {
     ghost use Rattle.std.specs.Prelude.{map};
     ghost use Rattle.td_value.specs.Views.{relation_view};
     ghost use Rattle.td_body.specs.Members.{AreMembers, Members, kept_in, places_in, set_in};
+    ghost use Rattle.td_body.specs.MembersCode.{members_code};
 
     ghost Value = { Members };
+
+    ghost coded = { members_code };
 
     ghost view = { λ m. record {
       relation = relation_view m.sorted.heading (set_in m.sorted.body m.histories.items);
