@@ -4,6 +4,7 @@ pub mod Found
 pub mod Held
 pub mod KeyParts
 pub mod Lasts
+pub mod MembersLaws
 pub mod Numbered
 pub mod Ordinals
 pub mod Parts

@@ -52,9 +52,10 @@ versions_in sorted hs = kept_in hs ++ set_in sorted hs ∷ []
 
 -- all histories hold one set and keep the same ones; each of these is a set of tuples of the heading, and differs from the
 -- sorted tuples in touched ones alone
-pub record AreMembers (heading : Heading) (sorted touched : List Tuple) (hs : List KeyHistory) : Type 0 where
+pub record AreMembers (heading : Heading) (sorted touched : List Tuple) (hs : List KeyHistory) (count : ℕ) : Type 0 where
   pub alike : All (IsAt (set_in sorted hs) (kept_in hs)) hs
   pub relations : All (λ ts. IsRelation (relation_view heading ts)) (versions_in sorted hs)
   pub covered : All (Covers sorted touched) (versions_in sorted hs)
   pub headed : All (IsTupleOf heading) touched
   pub untouched : hs ≡ [] → touched ≡ []
+  pub counted : count ≡ length (kept_in hs)
