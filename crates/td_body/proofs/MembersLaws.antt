@@ -1,8 +1,8 @@
 -- Members of a body after a change, and after a way back.
-use Rattle.std.proofs.Common.{◌≡◌, ◌∙◌, ◌∷◌, ◌++◌, ◌+◌, ◌<◌, [], ℕ, suc, zero, Bool, true, false, List, ap, arith, filter, get_or, length, length-append, length-map, map, refl, sym, subst, true≢false}
+use Rattle.std.proofs.Common.{◌≡◌, ◌∙◌, ◌∷◌, ◌++◌, ◌+◌, ◌<◌, [], ℕ, suc, zero, Bool, true, false, List, ap, arith, filter, get_or, length, length-append, map, refl, sym, subst, true≢false}
 use Rattle.std.specs.Prelude.{not, ◌&&◌, ◌||◌}
 use Rattle.std.specs.List.{All, Contains}
-use Rattle.std.proofs.lemmas.List.{get_or_append_left}
+use Rattle.std.proofs.lemmas.List.{get_or_append_left, length-map}
 use Rattle.std.proofs.lemmas.List.Elements.{All-append, All-contains, All-filter, Contains-push}
 use Rattle.td_types.specs.Types.{Heading, IsHeading, pack}
 use Rattle.td_value.specs.Sets.{has}
@@ -13,6 +13,11 @@ use Rattle.td_body.specs.Histories.{changed_set, kept_sets}
 use Rattle.td_body.specs.Members.{AreMembers, Covers, IsAt, kept_in, places_in, set_in, versions_in}
 use Rattle.td_body.specs.declared.hashed.history.KeyHistory.{KeyHistory}
 use Rattle.td_body.proofs.TupleSets.{has-changed}
+
+-- histories that keep something are there
+pub some_kept : (hs : List KeyHistory) → 0 < length (kept_in hs) → 0 < length hs
+some_kept [] some = absurd (omega arith)
+some_kept (h ∷ hs) some = omega arith
 
 -- what all histories hold is what the first does
 pub first_at : (sorted set : List Tuple) (kept : List (List Tuple)) (hs : List KeyHistory) → 0 < length hs → All (IsAt set kept) hs
@@ -54,7 +59,7 @@ relation_changed h out add set headed r =
 
 -- ---- what holds of all sets
 
-one : {X : Type 0} (P : X → Type 0) (x : X) → P x → All P (x ∷ [])
+pub one : {X : Type 0} (P : X → Type 0) (x : X) → P x → All P (x ∷ [])
 one P x p zero d low = p
 one P x p (suc k) d low = absurd (omega arith)
 
@@ -71,6 +76,10 @@ with_last (x ∷ []) some = ([], x, refl)
 with_last (x ∷ z ∷ zs) some =
     let rest = with_last (z ∷ zs) (omega arith) in
     (x ∷ rest.0, rest.1, ap (λ l. x ∷ l) rest.2)
+
+emptied : (hs : List KeyHistory) → length hs ≡ 0 → hs ≡ []
+emptied [] e = refl
+emptied (h ∷ hs) e = absurd (omega arith)
 
 module _ (h : Heading) (sorted touched : List Tuple) (hs : List KeyHistory) (n : ℕ) (m : AreMembers h sorted touched hs n) where
   abbrev set : List Tuple
@@ -133,3 +142,24 @@ module _ (h : Heading) (sorted touched : List Tuple) (hs : List KeyHistory) (n :
   pub members_settled : (gs : List KeyHistory) → 0 < length gs → All (IsAt set []) gs → AreMembers h sorted touched gs 0
   members_settled gs some at =
       standing touched set [] gs 0 some at (one (λ ts. IsRelation (relation_view h ts)) set set_relation) (one (Covers sorted touched) set set_covered) m.headed refl
+
+  -- the same where there may be no history
+  pub settled_at : (gs : List KeyHistory) → places_in gs ≡ places_in hs → All (IsAt set []) gs → (set_in sorted gs ≡ set) × (kept_in gs ≡ [])
+  settled_at [] places at =
+      let none : hs ≡ [] = emptied hs (sym (as_many [] hs places)) in
+      (ap (set_in sorted) (sym none), refl)
+  settled_at (g ∷ gs) places at = first_at sorted set [] (g ∷ gs) (omega arith) at
+
+  pub all_settled : (gs : List KeyHistory) → places_in gs ≡ places_in hs → All (IsAt set []) gs → AreMembers h sorted touched gs 0
+  all_settled [] places at =
+      let none : hs ≡ [] = emptied hs (sym (as_many [] hs places)) in
+      let same : set ≡ sorted = ap (set_in sorted) none in
+      record {
+        alike = λ k d low. absurd (omega arith);
+        relations = one (λ ts. IsRelation (relation_view h ts)) sorted (subst (λ ts. IsRelation (relation_view h ts)) same set_relation);
+        covered = one (Covers sorted touched) sorted (subst (Covers sorted touched) same set_covered);
+        headed = m.headed;
+        untouched = λ _. m.untouched none;
+        counted = refl;
+      }
+  all_settled (g ∷ gs) places at = members_settled (g ∷ gs) (omega arith) at

@@ -126,18 +126,37 @@ fn touch(touched: &mut Vec<Tuple>, tuples: &[Tuple]) -> Result<(), AllocError>
     Ok(())
 }
 
+/// Does so with those that go out and with those that come in.
+fn touch_both(
+    touched: &mut Vec<Tuple>,
+    out: &[Tuple],
+    add: &[Tuple],
+) -> Result<(), AllocError>
+    ensures more { (t : Tuple) → has tuple_cmp t touched.new.items ≡ false
+        → has tuple_cmp t touched.old.items ≡ false }
+    ensures out { OnOk result ((t : Tuple) → has tuple_cmp t touched.new.items ≡ false
+        → has tuple_cmp t out.now ≡ false) }
+    ensures add { OnOk result ((t : Tuple) → has tuple_cmp t touched.new.items ≡ false
+        → has tuple_cmp t add.now ≡ false) }
+    ensures headed { (h : Heading) → All (IsTupleOf h) touched.old.items
+        → All (IsTupleOf h) out.now → All (IsTupleOf h) add.now
+        → All (IsTupleOf h) touched.new.items }
+{
+    touch(touched, out)?;
+    touch(touched, add)
+}
+
 /// Carries a change out in each history, where there is memory for it.
 fn change_all(
     histories: &mut [KeyHistory],
     out: &[Tuple],
     add: &[Tuple],
 ) -> Result<(), AllocError>
-    ensures same { (set : List Tuple) (kept : List (List Tuple))
+    ensures same { OnErr result ((set : List Tuple) (kept : List (List Tuple))
+        → All (IsAt set kept) histories.old → All (IsAt set kept) histories.new) }
+    ensures changed { OnOk result ((set : List Tuple) (kept : List (List Tuple))
         → All (IsAt set kept) histories.old
-        → OnErr result (All (IsAt set kept) histories.new) }
-    ensures changed { (set : List Tuple) (kept : List (List Tuple))
-        → All (IsAt set kept) histories.old → OnOk result
-        (All (IsAt (changed_set out.now add.now set) (kept ++ set ∷ [])) histories.new) }
+        → All (IsAt (changed_set out.now add.now set) (kept ++ set ∷ [])) histories.new) }
     ensures places { places_in histories.new ≡ places_in histories.old }
 {
     prepare_all(histories, out.len(), add)?;
@@ -163,8 +182,7 @@ impl Members {
         let Some(kept_count) = self.kept_count.checked_add(1) else {
             return Err(AllocError);
         };
-        touch(&mut self.touched, out)?;
-        touch(&mut self.touched, add)?;
+        touch_both(&mut self.touched, out, add)?;
         change_all(&mut self.histories, out, add)?;
         self.kept_count = kept_count;
         Ok(())
