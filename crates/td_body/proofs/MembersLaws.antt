@@ -77,6 +77,23 @@ with_last (x ∷ z ∷ zs) some =
     let rest = with_last (z ∷ zs) (omega arith) in
     (x ∷ rest.0, rest.1, ap (λ l. x ∷ l) rest.2)
 
+-- histories that hold a set and keep sets, where each is a set of the heading's tuples and is covered
+pub standing : (h : Heading) (sorted more now : List Tuple) (earlier : List (List Tuple)) (gs : List KeyHistory) (count : ℕ) → 0 < length gs → All (IsAt now earlier) gs
+    → All (λ ts. IsRelation (relation_view h ts)) (earlier ++ now ∷ []) → All (Covers sorted more) (earlier ++ now ∷ []) → All (IsTupleOf h) more
+    → count ≡ length earlier → AreMembers h sorted more gs count
+standing h sorted more now earlier gs count some at relations covered headed counted =
+    let first = first_at sorted now earlier gs some at in
+    let versions : earlier ++ now ∷ [] ≡ versions_in sorted gs = λ i. sym first.1 i ++ sym first.0 i ∷ [] in
+    record {
+      alike = λ k d low. ((at k d low).0 ∙ sym first.0, (at k d low).1 ∙ sym first.1);
+      relations = subst (All (λ ts. IsRelation (relation_view h ts))) versions relations;
+      covered = subst (All (Covers sorted more)) versions covered;
+      headed = headed;
+      untouched = λ none. absurd (none_few gs some none);
+      counted = counted ∙ ap length (sym first.1);
+    }
+
+
 emptied : (hs : List KeyHistory) → length hs ≡ 0 → hs ≡ []
 emptied [] e = refl
 emptied (h ∷ hs) e = absurd (omega arith)
@@ -95,27 +112,11 @@ module _ (h : Heading) (sorted touched : List Tuple) (hs : List KeyHistory) (n :
   pub set_covered : Covers sorted touched set
   set_covered = last_holds (Covers sorted touched) kept set m.covered
 
-  -- other histories that hold a set and keep sets, where each is a set of the heading's tuples and is covered
-  standing : (more now : List Tuple) (earlier : List (List Tuple)) (gs : List KeyHistory) (count : ℕ) → 0 < length gs → All (IsAt now earlier) gs
-      → All (λ ts. IsRelation (relation_view h ts)) (earlier ++ now ∷ []) → All (Covers sorted more) (earlier ++ now ∷ []) → All (IsTupleOf h) more
-      → count ≡ length earlier → AreMembers h sorted more gs count
-  standing more now earlier gs count some at relations covered headed counted =
-      let first = first_at sorted now earlier gs some at in
-      let versions : earlier ++ now ∷ [] ≡ versions_in sorted gs = λ i. sym first.1 i ++ sym first.0 i ∷ [] in
-      record {
-        alike = λ k d low. ((at k d low).0 ∙ sym first.0, (at k d low).1 ∙ sym first.1);
-        relations = subst (All (λ ts. IsRelation (relation_view h ts))) versions relations;
-        covered = subst (All (Covers sorted more)) versions covered;
-        headed = headed;
-        untouched = λ none. absurd (none_few gs some none);
-        counted = counted ∙ ap length (sym first.1);
-      }
-
   module _ (gs : List KeyHistory) (some : 0 < length gs) (more : List Tuple) (wider : (t : Tuple) → has tuple_cmp t more ≡ false → has tuple_cmp t touched ≡ false)
       (headed : All (IsTupleOf h) more) where
     -- nothing was changed
     pub members_same : All (IsAt set kept) gs → AreMembers h sorted more gs n
-    members_same at = standing more set kept gs n some at m.relations (all_cover_more sorted touched more (versions_in sorted hs) wider m.covered) headed m.counted
+    members_same at = standing h sorted more set kept gs n some at m.relations (all_cover_more sorted touched more (versions_in sorted hs) wider m.covered) headed m.counted
 
     -- touched tuples were changed
     pub members_changed : (out add : List Tuple) → ((t : Tuple) → has tuple_cmp t more ≡ false → has tuple_cmp t out ≡ false)
@@ -123,7 +124,7 @@ module _ (h : Heading) (sorted touched : List Tuple) (hs : List KeyHistory) (n :
         → All (IsAt (changed_set out add set) (kept ++ set ∷ [])) gs → AreMembers h sorted more gs (n + 1)
     members_changed out add outs adds typed at =
         let wide = all_cover_more sorted touched more (versions_in sorted hs) wider m.covered in
-        standing more (changed_set out add set) (kept ++ set ∷ []) gs (n + 1) some at
+        standing h sorted more (changed_set out add set) (kept ++ set ∷ []) gs (n + 1) some at
         (All-append (λ ts. IsRelation (relation_view h ts)) (versions_in sorted hs) (changed_set out add set ∷ []) m.relations
           (one (λ ts. IsRelation (relation_view h ts)) (changed_set out add set) (relation_changed h out add set typed set_relation)))
         (All-append (Covers sorted more) (versions_in sorted hs) (changed_set out add set ∷ []) wide
@@ -134,14 +135,14 @@ module _ (h : Heading) (sorted touched : List Tuple) (hs : List KeyHistory) (n :
   pub members_back : (now : List Tuple) (earlier : List (List Tuple)) (gs : List KeyHistory) → 0 < length gs → kept ≡ earlier ++ now ∷ [] → All (IsAt now earlier) gs
       → AreMembers h sorted touched gs (length earlier)
   members_back now earlier gs some e at =
-      standing touched now earlier gs (length earlier) some at
+      standing h sorted touched now earlier gs (length earlier) some at
       (subst (All (λ ts. IsRelation (relation_view h ts))) e (front_holds (λ ts. IsRelation (relation_view h ts)) kept set m.relations))
       (subst (All (Covers sorted touched)) e (front_holds (Covers sorted touched) kept set m.covered)) m.headed refl
 
   -- nothing is kept any longer
   pub members_settled : (gs : List KeyHistory) → 0 < length gs → All (IsAt set []) gs → AreMembers h sorted touched gs 0
   members_settled gs some at =
-      standing touched set [] gs 0 some at (one (λ ts. IsRelation (relation_view h ts)) set set_relation) (one (Covers sorted touched) set set_covered) m.headed refl
+      standing h sorted touched set [] gs 0 some at (one (λ ts. IsRelation (relation_view h ts)) set set_relation) (one (Covers sorted touched) set set_covered) m.headed refl
 
   -- the same where there may be no history
   pub settled_at : (gs : List KeyHistory) → places_in gs ≡ places_in hs → All (IsAt set []) gs → (set_in sorted gs ≡ set) × (kept_in gs ≡ [])

@@ -1,19 +1,25 @@
 //! The members of a body, in order and hashed.
-ghost use Rattle.std.specs.Prelude.{◌≡◌, ◌∷◌, ◌++◌, [], ◌<◌, List, OnErr, OnOk, false, length};
-ghost use Rattle.std.specs.List.{All};
-ghost use Rattle.td_types.specs.Types.{Heading};
+ghost use Rattle.std.specs.Prelude.{◌≡◌, ◌∷◌, ◌++◌, [], ◌<◌, IfOk, IfSome, IsTrue, List};
+ghost use Rattle.std.specs.Prelude.{OnErr, OnOk, false, length, map};
+ghost use Rattle.std.specs.List.{All, slice_get};
+ghost use Rattle.td_types.specs.Types.{Heading, attribute_names};
 ghost use Rattle.td_value.specs.Sets.{has};
-ghost use Rattle.td_value.specs.Values.{Tuple, IsTupleOf, tuple_cmp};
+ghost use Rattle.td_value.specs.Values.{Tuple, HaveSameMembers, IsRelation, IsTupleOf, tuple_cmp};
 ghost use Rattle.td_value.specs.Views.{relation_view};
 ghost use Rattle.td_body.specs.Histories.{changed_set, kept_sets};
-ghost use Rattle.td_body.specs.Members.{HasReady, HasRoom, IsAt, places_in};
+ghost use Rattle.td_body.specs.KeyIndexes.{with_part};
+ghost use Rattle.td_body.specs.KeyParts.{apart_at};
+ghost use Rattle.td_body.specs.Members.{ArePlaced, HasReady, HasRoom, IsAt, places_in};
 
+use super::filled::histories_of;
 use super::history::KeyHistory;
-use crate::changes::changed;
 use std::alloc::{AllocError, Global};
 use std::marker::Model;
+use td_tree::name::Name;
+use td_types::heading::Heading;
 use td_value::relation::Rel;
 use td_value::tuple::Tuple;
+use td_value::value::Value;
 
 /// The members of a body: in order as they were when they were put in order, with each tuple that
 /// was touched since; and hashed by each key. With no history they are those in order.
@@ -48,6 +54,113 @@ impl Model for Members {
 /// Of how many tuples a change is carried out step by step: of a quarter of those that are there,
 /// or of few. A larger one makes the members anew, in order and hashed.
 const FEW: usize = 16;
+
+impl Members {
+    /// The members that the relation has, in order alone.
+    pub(crate) fn plain(alloc: Global, sorted: Rel) -> Members
+        ensures relation { result.relation ≡ sorted }
+        ensures kept { result.kept ≡ [] }
+        ensures places { result.places ≡ [] }
+    {
+        sorted.heading().reveal();
+        let _ = sorted.rows();
+        Members {
+            sorted,
+            touched: Vec::new(alloc),
+            histories: Vec::new(alloc),
+            kept_count: 0,
+        }
+    }
+
+    /// The members that the relation has, in order and hashed by each of the keys.
+    pub(crate) fn hashed(
+        alloc: Global,
+        sorted: Rel,
+        keys: &[Vec<Name>],
+    ) -> Result<Members, AllocError>
+        ensures relation { IfOk result (λ m. m.relation ≡ sorted) }
+        ensures kept { IfOk result (λ m. m.kept ≡ []) }
+        ensures some { IfOk result (λ m. 0 < length m.places) }
+        ensures placed { IfOk result (λ m. ArePlaced (map (λ key. key.items) keys.now)
+            (attribute_names sorted.heading) m.places) }
+    {
+        sorted.heading().reveal();
+        let _ = sorted.rows();
+        let histories = histories_of(alloc, keys, &sorted)?;
+        Ok(Members {
+            sorted,
+            touched: Vec::new(alloc),
+            histories,
+            kept_count: 0,
+        })
+    }
+
+    /// Their heading.
+    pub(crate) fn heading(&self) -> &Heading
+        ensures { result.now ≡ self.now.relation.heading }
+    {
+        self.sorted.heading()
+    }
+
+    /// Whether a change of so many tuples is to be carried out step by step: they are hashed, and
+    /// those that were touched are few beside those in order.
+    pub(crate) fn can_step(&self, tuples: usize) -> bool
+        ensures { IsTrue result → 0 < length self.now.places }
+    {
+        let touched = self.touched.len().saturating_add(tuples);
+        !self.histories.is_empty() && touched <= self.sorted.rows().len() / 4 + FEW
+    }
+
+    /// Whether the tuple is a member.
+    pub(crate) fn contains(&self, tuple: &Tuple) -> bool
+        ensures { result ≡ has tuple_cmp tuple.now self.now.relation.body }
+    {
+        match self.histories.first() {
+            Some(history) => history.index.contains(tuple),
+            None => self.sorted.contains(tuple),
+        }
+    }
+
+    /// How many members there are.
+    pub(crate) fn len(&self) -> usize
+        ensures length { result ≡ length self.now.relation.body }
+        ensures valid { IsRelation self.now.relation }
+    {
+        match self.histories.first() {
+            Some(history) => history.index.len(),
+            None => self.sorted.rows().len(),
+        }
+    }
+
+    /// The members whose values at the places of that number are those of the part; where they
+    /// are not hashed so, none is told.
+    pub(crate) fn found(
+        &self,
+        alloc: Global,
+        number: usize,
+        part: &[Value],
+    ) -> Result<Option<Vec<Tuple>>, AllocError>
+        requires { IfSome (slice_get self.now.places number) (λ places.
+            length places ≡ length part.now) }
+        ensures { IfOk result (λ found. IfSome found (λ found.
+            IfSome (slice_get self.now.places number) (λ places.
+            HaveSameMembers found.items (with_part places part.now self.now.relation.body)))) }
+    {
+        match self.histories.get(number) {
+            Some(history) => Ok(Some(history.index.tuples_at(alloc, part)?)),
+            None => Ok(None),
+        }
+    }
+
+    /// Whether no two members have the same values at the places of that number, where that is
+    /// seen at once.
+    pub(crate) fn are_apart(&self, number: usize) -> Option<bool>
+        ensures { IfSome result (λ b. IfSome (slice_get self.now.places number) (λ places.
+            b ≡ apart_at places self.now.relation.body)) }
+    {
+        self.histories.get(number)?.index.is_apart()
+    }
+}
 
 // ---- histories side by side
 
