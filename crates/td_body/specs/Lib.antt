@@ -1,4 +1,7 @@
 pub mod Bodies
 pub mod BodyCode
+pub mod Histories
 pub mod KeyIndexes
 pub mod KeyParts
+pub mod Members
+pub mod MembersCode

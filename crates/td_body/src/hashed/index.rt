@@ -111,6 +111,16 @@ impl KeyIndex {
         Ok(())
     }
 
+    /// Grows the tables once, where so many tuples are to come. Room is asked for all the same.
+    pub(crate) fn grow(&mut self, more: usize) -> Result<(), AllocError>
+        ensures tuples { self.new.tuples ≡ self.old.tuples }
+        ensures places { self.new.places ≡ self.old.places }
+    {
+        self.ordinals.reserve(more)?;
+        self.slots.reserve(more)?;
+        Ok(())
+    }
+
     /// How many tuples there are.
     pub(crate) fn len(&self) -> usize
         ensures length { result ≡ length self.now.tuples }
@@ -133,6 +143,7 @@ impl KeyIndex {
         ensures piece { IfSome result (λ p. p ≡ tuple.now) }
         ensures places { self.new.places ≡ self.old.places }
         ensures room { self.old.room ≤ self.new.room }
+        ensures ascending { IsAscendingBody self.old.tuples }
     {
         let Some(ordinal) = self.ordinals.get(tuple).copied() else {
             return None;
@@ -152,6 +163,7 @@ impl KeyIndex {
         ensures new { result ≡ not (has tuple_cmp piece self.old.tuples) }
         ensures places { self.new.places ≡ self.old.places }
         ensures room { self.old.room ≤ self.new.room + 1 }
+        ensures ascending { IsAscendingBody self.old.tuples }
     {
         let Piece { place, slot } = piece;
         if self.ordinals.contains_key(&place) {
