@@ -1,5 +1,5 @@
 //! The members of a body, in order and hashed.
-ghost use Rattle.std.specs.Prelude.{◌≡◌, ◌∷◌, ◌++◌, [], ◌<◌, IfOk, IfSome, IsTrue, List};
+ghost use Rattle.std.specs.Prelude.{◌≡◌, ◌∷◌, ◌++◌, [], ℕ, ◌<◌, IfOk, IfSome, IsTrue, List, Some};
 ghost use Rattle.std.specs.Prelude.{OnErr, OnOk, false, length, map};
 ghost use Rattle.std.specs.List.{All, slice_get};
 ghost use Rattle.td_types.specs.Types.{Heading, attribute_names};
@@ -146,9 +146,9 @@ impl Members {
     ) -> Result<Option<Vec<Tuple>>, AllocError>
         requires { IfSome (slice_get self.now.places number) (λ places.
             length places ≡ length part.now) }
-        ensures { IfOk result (λ found. IfSome found (λ found.
-            IfSome (slice_get self.now.places number) (λ places.
-            HaveSameMembers found.items (with_part places part.now self.now.relation.body)))) }
+        ensures { IfOk result (λ found. IfSome found (λ found. (places : List ℕ)
+            × (slice_get self.now.places number ≡ Some places) × HaveSameMembers found.items
+            (with_part places part.now self.now.relation.body))) }
     {
         match self.histories.get(number) {
             Some(history) => Ok(Some(history.index.tuples_at(alloc, part)?)),
@@ -159,10 +159,14 @@ impl Members {
     /// Whether no two members have the same values at the places of that number, where that is
     /// seen at once.
     pub(crate) fn are_apart(&self, number: usize) -> Option<bool>
-        ensures { IfSome result (λ b. IfSome (slice_get self.now.places number) (λ places.
-            b ≡ apart_at places self.now.relation.body)) }
+        ensures { IfSome result (λ b. (places : List ℕ)
+            × (slice_get self.now.places number ≡ Some places)
+            × (b ≡ apart_at places self.now.relation.body)) }
     {
-        self.histories.get(number)?.index.is_apart()
+        match self.histories.get(number) {
+            Some(history) => history.index.is_apart(),
+            None => None,
+        }
     }
 }
 
