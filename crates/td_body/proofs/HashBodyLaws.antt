@@ -52,6 +52,17 @@ module _ (keys : List (List (List ℕ))) where
     placed_aside = placed_aside;
   }
 
+  -- members that keep nothing, with nothing aside
+  pub body_empty : (m : Members) (aside : List Members) → aside ≡ [] → m.kept ≡ [] → IsPlacedFor keys m → IsHashBody keys m aside 0
+  body_empty m aside none kept placed =
+      let all : kept_by aside m ≡ [] = (λ i. flat_map held_by (none i) ++ kept i) in
+      record {
+        counted = sym (ap length all);
+        headings = subst (HaveOneHeading m.relation) (sym all) (λ k d low. absurd (omega arith));
+        placed = placed;
+        placed_aside = subst (All (IsPlacedFor keys)) (sym none) (λ k d low. absurd (omega arith));
+      }
+
   -- a way back to the relation that was kept last
   pub body_back : (m n : Members) (aside next : List Members) (count : ℕ) → IsHashBody keys m aside count
       → kept_by aside m ≡ kept_by next n ++ n.relation ∷ [] → IsPlacedFor keys n → All (IsPlacedFor keys) next → IsHashBody keys n next (count - 1)

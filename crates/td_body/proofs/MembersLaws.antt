@@ -78,10 +78,10 @@ pub one : {X : Type 0} (P : X → Type 0) (x : X) → P x → All P (x ∷ [])
 one P x p zero d low = p
 one P x p (suc k) d low = absurd (omega arith)
 
-last_holds : {X : Type 0} (P : X → Type 0) (xs : List X) (x : X) → All P (xs ++ x ∷ []) → P x
+pub last_holds : {X : Type 0} (P : X → Type 0) (xs : List X) (x : X) → All P (xs ++ x ∷ []) → P x
 last_holds P xs x all = All-contains P (xs ++ x ∷ []) x all (Contains-push xs x)
 
-front_holds : {X : Type 0} (P : X → Type 0) (xs : List X) (x : X) → All P (xs ++ x ∷ []) → All P xs
+pub front_holds : {X : Type 0} (P : X → Type 0) (xs : List X) (x : X) → All P (xs ++ x ∷ []) → All P xs
 front_holds P xs x all k d low = subst P (get_or_append_left xs (x ∷ []) d k low) (all k d (omega (arith, length-append xs (x ∷ []))))
 
 -- a list that is not empty has a last item
@@ -109,9 +109,10 @@ standing h sorted more now earlier gs count some at relations covered headed cou
     }
 
 
-emptied : (hs : List KeyHistory) → length hs ≡ 0 → hs ≡ []
-emptied [] e = refl
-emptied (h ∷ hs) e = absurd (omega arith)
+-- a list of no items
+pub none_there : {X : Type 0} (xs : List X) → length xs ≡ 0 → xs ≡ []
+none_there [] e = refl
+none_there (x ∷ xs) e = absurd (omega arith)
 
 module _ (h : Heading) (sorted touched : List Tuple) (hs : List KeyHistory) (n : ℕ) (m : AreMembers h sorted touched hs n) where
   abbrev set : List Tuple
@@ -162,13 +163,13 @@ module _ (h : Heading) (sorted touched : List Tuple) (hs : List KeyHistory) (n :
   -- the same where there may be no history
   pub settled_at : (gs : List KeyHistory) → places_in gs ≡ places_in hs → All (IsAt set []) gs → (set_in sorted gs ≡ set) × (kept_in gs ≡ [])
   settled_at [] places at =
-      let none : hs ≡ [] = emptied hs (sym (as_many [] hs places)) in
+      let none : hs ≡ [] = none_there hs (sym (as_many [] hs places)) in
       (ap (set_in sorted) (sym none), refl)
   settled_at (g ∷ gs) places at = first_at sorted set [] (g ∷ gs) (omega arith) at
 
   pub all_settled : (gs : List KeyHistory) → places_in gs ≡ places_in hs → All (IsAt set []) gs → AreMembers h sorted touched gs 0
   all_settled [] places at =
-      let none : hs ≡ [] = emptied hs (sym (as_many [] hs places)) in
+      let none : hs ≡ [] = none_there hs (sym (as_many [] hs places)) in
       let same : set ≡ sorted = ap (set_in sorted) none in
       record {
         alike = λ k d low. absurd (omega arith);

@@ -196,9 +196,9 @@ impl Body for HashBody {
         }
         let alloc = *self.keys.allocator();
         let one = slice::from_ref(&tuple);
-        if step(alloc, &self.keys, &mut self.members, &[], one).is_err() {
+        let Ok(()) = step(alloc, &self.keys, &mut self.members, &[], one) else {
             return Err(tuple);
-        }
+        };
         Ok(true)
     }
 

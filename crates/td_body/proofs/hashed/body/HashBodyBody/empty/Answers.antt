@@ -1,9 +1,12 @@
-use Rattle.std.proofs.Common.{◌≡◌, [], List, ap, length, map, refl, subst, sym}
+use Rattle.std.proofs.Common.{◌≡◌, ◌∙◌, ◌++◌, [], List, ap, arith, length, map, refl, subst, sym}
+use Rattle.std.specs.List.{All}
 use Rattle.std.specs.List.Sorted.{IsStrictlySortedBy}
 use Rattle.td_types.specs.Types.{attribute_names}
-use Rattle.td_value.specs.Values.{IsAscendingBody, tuple_cmp}
-use Rattle.td_body.specs.HashBodies.{IsHashBody}
-use Rattle.td_body.specs.Members.{ArePlaced}
+use Rattle.td_value.specs.Values.{IsAscendingBody, Relation, tuple_cmp}
+use Rattle.td_body.specs.Bodies.{HaveOneHeading}
+use Rattle.td_body.specs.HashBodies.{IsHashBody, IsPlacedFor, held_by, kept_by}
+use Rattle.td_body.specs.Members.{ArePlaced, Members}
+use Rattle.td_body.proofs.HashBodyLaws.{body_empty}
 use Rattle.td_body.proofs.hashed.body.HashBodyBody.empty.Goals as goal
 
 none_ascend : IsStrictlySortedBy tuple_cmp []
@@ -14,4 +17,9 @@ pub of_ascending-requires-clause-ascending : goal.of_ascending-requires-clause-a
 of_ascending-requires-clause-ascending c = subst IsAscendingBody (sym c.new.ensures.items) none_ascend
 
 pub invariant_of-result : goal.invariant_of-result
-invariant_of-result c = ?
+invariant_of-result c =
+    let m = c.in_ok-members.members in
+    let placed : ArePlaced (map (λ key. key.items) c.deref.result.now) (attribute_names m.relation.heading) m.places =
+    subst (λ (r : Relation). ArePlaced (map (λ key. key.items) c.deref.result.now) (attribute_names r.heading) m.places) (sym c.in_ok-members.ensures.relation) c.in_ok-members.ensures.placed in
+    body_empty (map (λ key. key.items) c.in_ok-keys.keys.value.items) m c.new-3.result.items c.new-3.ensures.items c.in_ok-members.ensures.kept
+    (subst (λ keys. IsPlacedFor (map (λ key. key.items) keys) m) (c.deref.ensures.value ∙ ap (λ v. v.items) (sym c.in_ok-keys.ensures.ok)) placed)
