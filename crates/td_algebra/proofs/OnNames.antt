@@ -3,7 +3,6 @@ use Rattle.std.proofs.Common.{◌≡◌, ◌∙◌, ap, sym, refl, subst, arith,
 use Rattle.std.specs.Prelude.{◌||◌, is_some, if◌then◌else◌, option_map}
 use Rattle.std.specs.Bool.{Decides}
 use Rattle.std.specs.List.{All, AllByRecursion, list_all, list_any, slice_get}
-use Rattle.std.specs.List.Sorted.{IsStrictlySortedBy}
 use Rattle.std.proofs.lemmas.Cmp.{nat_list_cmp_total}
 use Rattle.std.proofs.lemmas.List.{length-map, map-append, take_more}
 use Rattle.std.proofs.lemmas.List.Elements.{All-from_recursion, All-get_or, All-head, All-tail, filter-append}
@@ -16,7 +15,7 @@ use Rattle.td_types.proofs.HeadingLaws.{has_attribute-names, name_cmp, same_name
 use Rattle.td_value.specs.Agreement.{agree_on}
 use Rattle.td_value.specs.Sets.{has}
 use Rattle.td_value.specs.ValueOrder.{tuple_Decides, value_Decides}
-use Rattle.td_value.specs.Values.{Val, IsTupleOf, Tuple, projected_tuple, tuple_names, type_of, value_at}
+use Rattle.td_value.specs.Values.{Val, boolean, IsTupleOf, Tuple, projected_tuple, tuple_names, type_of, value_at}
 use Rattle.td_value.specs.Views.{tuple_view, values_of}
 use Rattle.td_value.proofs.Agreement.{names_ascend, value_of_projection}
 use Rattle.td_value.proofs.Kept.{IsTuple-filter}
@@ -24,22 +23,9 @@ use Rattle.td_value.proofs.SetLaws.{same_members}
 use Rattle.td_value.proofs.Zips.{unzipped}
 use Rattle.td_algebra.proofs.Entries.{as_many, has_name-heading, has_value}
 use Rattle.td_algebra.proofs.Members.{both_true, first_true, second_true}
-use Rattle.td_group.specs.Groups.{ArePlacesOf, StandAt, are_same, values_on}
+use Rattle.td_algebra.specs.Lookups.{ArePlacesOf, AreWithin, StandAt, are_same, part_of, values_at, values_on}
 
 -- ---- values at places
-
-some_same : {X : Type 0} (xs ys : List X) → map Some xs ≡ map Some ys → xs ≡ ys
-some_same [] [] e = refl
-some_same [] (y ∷ ys) e = absurd (cc)
-some_same (x ∷ xs) [] e = absurd (cc)
-some_same (x ∷ xs) (y ∷ ys) e =
-    let here : x ≡ y = cc in
-    let rest : map Some xs ≡ map Some ys = cc in
-    rw here (ap (λ zs. y ∷ zs) (some_same xs ys rest))
-
--- one list of values stands at places
-pub stand_same : (places : List ℕ) (vs ws : List Val) (t : Tuple) → StandAt places vs t → StandAt places ws t → vs ≡ ws
-stand_same places vs ws t p q = some_same vs ws (sym p ∙ q)
 
 within : (all : List Val) (places : List ℕ) (vs : List Val) → map (slice_get all) places ≡ map Some vs
     → AllByRecursion (λ p. p < length all) places
@@ -55,6 +41,20 @@ pub stand_within : (places : List ℕ) (vs : List Val) (t : Tuple) → StandAt p
     → All (λ p. p < length (values_of t)) places
 stand_within places vs t e = All-from_recursion (λ p. p < length (values_of t)) places (within (values_of t) places vs e)
 
+taken_at : (all : List Val) (places : List ℕ) (vs : List Val) → map (slice_get all) places ≡ map Some vs
+    → values_at places all ≡ vs
+taken_at all [] [] e = refl
+taken_at all [] (v ∷ vs) e = absurd (cc)
+taken_at all (p ∷ places) [] e = absurd (cc)
+taken_at all (p ∷ places) (v ∷ vs) e =
+    let here : slice_get all p ≡ Some v = cc in
+    let rest : map (slice_get all) places ≡ map Some vs = cc in
+    λ i. get_or_from_slice_get all p v (boolean false) here i ∷ taken_at all places vs rest i
+
+-- the values at places are those that stand there
+pub stand_part : (places : List ℕ) (vs : List Val) (t : Tuple) → StandAt places vs t → part_of places t ≡ vs
+stand_part places vs t e = taken_at (values_of t) places vs e
+
 -- one place more
 pub stand_more : (places : List ℕ) (vs : List Val) (t : Tuple) (p : ℕ) (v : Val) → StandAt places vs t
     → slice_get (values_of t) p ≡ Some v
@@ -63,11 +63,20 @@ stand_more places vs t p v e is =
     map-append (slice_get (values_of t)) places (p ∷ []) ∙ (λ i. e i ++ is i ∷ []) ∙ sym (map-append Some vs (v ∷ []))
 
 -- places of a heading are places of each of its tuples
-pub places_within : (names : List (List ℕ)) (h : Heading) (places passed : List ℕ) (t : Tuple) → ArePlacesOf names h places
-    → passed ≡ places → IsTupleOf h t
-    → All (λ p. p < length (values_of t)) passed
-places_within names h places passed t are is p =
-    subst (All (λ i. i < length (values_of t))) (sym is) (stand_within places (values_on names t) t (are t p))
+pub places_within : (names : List (List ℕ)) (h : Heading) (places : List ℕ) (t : Tuple) → ArePlacesOf names h places
+    → IsTupleOf h t → AreWithin places (values_of t)
+places_within names h places t are p = stand_within places (values_on names t) t (are t p)
+
+-- the same places of the same heading's names
+pub same_places : (g k h i : Heading) (places passed : List ℕ) → g ≡ k → h ≡ i → passed ≡ places
+    → ArePlacesOf (attribute_names g) h places → ArePlacesOf (attribute_names k) i passed
+same_places g k h i places passed e d is are =
+    subst (ArePlacesOf (attribute_names k) i) (sym is)
+    (subst (λ j. ArePlacesOf (attribute_names k) j places) d (subst (λ j. ArePlacesOf (attribute_names j) h places) e are))
+
+pub rows_within : (names : List (List ℕ)) (h : Heading) (places : List ℕ) (ts : List Tuple) → ArePlacesOf names h places
+    → All (IsTupleOf h) ts → All (λ t. AreWithin places (values_of t)) ts
+rows_within names h places ts are all = λ k d l. places_within names h places (get_or ts k d) are (all k d l)
 
 -- a row of a relation has its heading
 pub row_headed : (h : Heading) (ts us : List Tuple) (i : ℕ) (t : Tuple) → us ≡ ts → t ≡ get_or us i t → i < length us
@@ -170,19 +179,26 @@ has_is : (n : List ℕ) (names : List (List ℕ)) → has name_cmp n names ≡ h
 has_is n names = λ i. list_any (λ m. sym (same_name-ties m n) i) names
 
 -- a tuple of a heading that has the names has these
-pub names_kept : (names : List (List ℕ)) (h : Heading) (t : Tuple) → IsStrictlySortedBy name_cmp names
-    → has_attributes names h ≡ true → IsTupleOf h t
-    → tuple_names (projected_tuple names t) ≡ names
-names_kept names h t up all p =
-    same_members name_cmp nat_list_cmp_total exact_bytes (tuple_names (projected_tuple names t)) names
-    (names_ascend (projected_tuple names t) (IsTuple-filter (λ e. has_name e.0 names) t p.0)) up
-    (λ n. has_is n (tuple_names (projected_tuple names t)) ∙ sym (has_value n (projected_tuple names t))
+names_there : (names : List (List ℕ)) (h : Heading) (t : Tuple) → has_attributes names h ≡ true → IsTupleOf h t
+    → (n : List ℕ) → has name_cmp n (tuple_names (projected_tuple names t)) ≡ has_name n names
+names_there names h t all p n =
+    has_is n (tuple_names (projected_tuple names t)) ∙ sym (has_value n (projected_tuple names t))
     ∙ ap is_some (value_of_projection names t n)
-    ∙ by_name n (has_name n names) refl ∙ sym (has_is n names))
+    ∙ by_name (has_name n names) refl
   where
-    by_name : (n : List ℕ) (b : Bool) → has_name n names ≡ b → is_some (if b then value_at n t else None) ≡ b
-    by_name n true e = has_value n t ∙ has_name-heading h t p n ∙ passes (λ m. has_attribute m h) names n all e
-    by_name n false e = refl
+    by_name : (b : Bool) → has_name n names ≡ b → is_some (if b then value_at n t else None) ≡ b
+    by_name true e = has_value n t ∙ has_name-heading h t p n ∙ passes (λ m. has_attribute m h) names n all e
+    by_name false e = refl
+
+-- so tuples of two headings that have the names have the same of them
+pub same_names : (names : List (List ℕ)) (g h : Heading) (s t : Tuple) → has_attributes names g ≡ true
+    → has_attributes names h ≡ true → IsTupleOf g s → IsTupleOf h t
+    → tuple_names (projected_tuple names s) ≡ tuple_names (projected_tuple names t)
+same_names names g h s t own theirs p q =
+    same_members name_cmp nat_list_cmp_total exact_bytes (tuple_names (projected_tuple names s)) (tuple_names (projected_tuple names t))
+    (names_ascend (projected_tuple names s) (IsTuple-filter (λ e. has_name e.0 names) s p.0))
+    (names_ascend (projected_tuple names t) (IsTuple-filter (λ e. has_name e.0 names) t q.0))
+    (λ n. names_there names g s own p n ∙ sym (names_there names h t theirs q n))
 
 -- tests that agree on all items keep the same
 pub kept_same : {X : Type 0} (P : X → Type 0) (p q : X → Bool) (xs : List X) → ((x : X) → P x → p x ≡ q x) → All P xs
@@ -194,13 +210,12 @@ kept_same P p q (x ∷ xs) e all =
     rw (here, rest) refl
 
 -- the tuples of a heading with the values of a tuple of another are those that agree with it
-pub kept_by_values : (names : List (List ℕ)) (g h : Heading) (w : Tuple) (ts : List Tuple) → IsStrictlySortedBy name_cmp names
-    → has_attributes names g ≡ true
+pub kept_by_values : (names : List (List ℕ)) (g h : Heading) (w : Tuple) (ts : List Tuple) → has_attributes names g ≡ true
     → has_attributes names h ≡ true → IsTupleOf g w → All (IsTupleOf h) ts
     → filter (λ t. are_same (values_on names w) (values_on names t)) ts ≡ filter (agree_on names w) ts
-kept_by_values names g h w ts up own all p =
+kept_by_values names g h w ts own all p =
     kept_same (IsTupleOf h) (λ t. are_same (values_on names w) (values_on names t)) (agree_on names w) ts
-    (λ t q. agree_by_values names w t (names_kept names g w up own p ∙ sym (names_kept names h t up all q)))
+    (λ t q. agree_by_values names w t (same_names names g h w t own all p q))
 
 -- ---- the names of an operator
 

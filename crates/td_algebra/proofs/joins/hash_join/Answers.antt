@@ -8,7 +8,7 @@ use Rattle.td_algebra.specs.Operators.{join}
 use Rattle.td_algebra.specs.Pairs.{partners_paired}
 use Rattle.td_algebra.proofs.Joined.{joined_headed, joined_set, united_answer}
 use Rattle.td_algebra.proofs.Keys.{if_ok}
-use Rattle.td_algebra.proofs.joins.join.Goals as goal
+use Rattle.td_algebra.proofs.joins.hash_join.Goals as goal
 
 pub new-requires : goal.new-requires
 new-requires c =
