@@ -120,18 +120,6 @@ next_pushed places rows place row part old was made more l is e firsts there so_
     push ∙ ap (λ os. os ++ was ∷ []) so_far ∙ sym (reverse_onto rest was [])
     ∙ ap reverse (sym (next_more places rows place row part old was l is e firsts there))
 
--- none at the end
-pub firsts_none : {S : Type 0} (places : List ℕ) (rows : List Tuple) (place : ℕ) (table : HashMap (List Val) ℕ S) → length rows ≤ place → table.entries ≡ []
-    → HasFirsts places place (drop place rows) table
-firsts_none places rows place table l empty vs =
-    (λ i. get_entries (empty i)) ∙ ap (first_place (has_part places vs) place) (sym (drop_of_length-le rows l))
-  where
-    get_entries : List (List Val × ℕ) → Option ℕ
-    get_entries es = lookup (are_same vs) es
-
-pub next_none : (places : List ℕ) (rows : List Tuple) (place : ℕ) → length rows ≤ place → next_places places place (drop place rows) ≡ []
-next_none places rows place l = ap (next_places places place) (drop_of_length-le rows l)
-
 -- ---- rows to come
 
 -- at a place the row there comes first, and then those from its next place on

@@ -23,7 +23,7 @@ use Rattle.td_value.proofs.SetLaws.{same_members}
 use Rattle.td_value.proofs.Zips.{unzipped}
 use Rattle.td_algebra.proofs.Entries.{as_many, has_name-heading, has_value}
 use Rattle.td_algebra.proofs.Members.{both_true, first_true, second_true}
-use Rattle.td_algebra.specs.Lookups.{ArePlacesOf, AreWithin, StandAt, are_same, part_of, values_at, values_on}
+use Rattle.td_algebra.specs.Lookups.{ArePlacesOf, AreWithin, StandAt, are_same, has_part, part_of, partners_in, values_at, values_on}
 
 -- ---- values at places
 
@@ -209,13 +209,15 @@ kept_same P p q (x ∷ xs) e all =
     let rest : filter p xs ≡ filter q xs = kept_same P p q xs e (All-tail P x xs all) in
     rw (here, rest) refl
 
--- the tuples of a heading with the values of a tuple of another are those that agree with it
-pub kept_by_values : (names : List (List ℕ)) (g h : Heading) (w : Tuple) (ts : List Tuple) → has_attributes names g ≡ true
-    → has_attributes names h ≡ true → IsTupleOf g w → All (IsTupleOf h) ts
-    → filter (λ t. are_same (values_on names w) (values_on names t)) ts ≡ filter (agree_on names w) ts
-kept_by_values names g h w ts own all p =
-    kept_same (IsTupleOf h) (λ t. are_same (values_on names w) (values_on names t)) (agree_on names w) ts
-    (λ t q. agree_by_values names w t (same_names names g h w t own all p q))
+-- the tuples of a heading that have the values of a tuple of another are those that agree with it
+pub found_on : (names : List (List ℕ)) (g h : Heading) (w : Tuple) (ts : List Tuple) (places own : List ℕ)
+    → has_attributes names g ≡ true → has_attributes names h ≡ true → IsTupleOf g w → All (IsTupleOf h) ts
+    → ArePlacesOf names g places → ArePlacesOf names h own
+    → partners_in (own, ts) places w ≡ filter (agree_on names w) ts
+found_on names g h w ts places own there all p headed are_places are_own =
+    kept_same (IsTupleOf h) (has_part own (part_of places w)) (agree_on names w) ts
+    (λ t q. (λ i. are_same (stand_part places (values_on names w) w (are_places w p) i) (stand_part own (values_on names t) t (are_own t q) i))
+    ∙ agree_by_values names w t (same_names names g h w t there all p q)) headed
 
 -- ---- the names of an operator
 

@@ -90,7 +90,12 @@ impl<'a> Lookup<'a> {
             next.push(firsts.insert(part, place)?)?;
         }
         next.reverse();
-        Ok(Lookup { places, rows, firsts, next })
+        Ok(Lookup {
+            places,
+            rows,
+            firsts,
+            next,
+        })
     }
 
     /// The place of the first row that has the tuple's values at the places.
@@ -117,7 +122,10 @@ impl<'a> Lookup<'a> {
         requires { AreWithin places.now (values_of tuple.now) }
         ensures { result ≡ partners_in self.now places.now tuple.now }
     {
-        Partners { lookup: self, place: self.first(places, tuple) }
+        Partners {
+            lookup: self,
+            place: self.first(places, tuple),
+        }
     }
 }
 

@@ -30,12 +30,7 @@ impl<'a> Model for Part<'a> {
 }
 
 /// Whether the values at the places are the same as the others at theirs.
-fn are_same_at(
-    values: &[Value],
-    places: &[usize],
-    others: &[Value],
-    other_places: &[usize],
-) -> bool
+fn are_same_at(values: &[Value], places: &[usize], others: &[Value], other_places: &[usize]) -> bool
     requires own { AreWithin places.now values.now }
     requires others { AreWithin other_places.now others.now }
     ensures { result ≡ are_same (values_at places.now values.now)

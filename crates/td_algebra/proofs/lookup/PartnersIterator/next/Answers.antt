@@ -11,8 +11,13 @@ within c =
 
 pub index-requires : goal.index-requires
 index-requires c =
-    omega (arith, within c, c.lookup.inside.next.ok.0, ap length c.lookup.invariant.1,
-    length-next_places c.lookup.inside.places.now 0 c.lookup.inside.rows.now)
+    omega (
+      arith,
+      within c,
+      c.lookup.inside.next.ok.0,
+      ap length c.lookup.invariant.1,
+      length-next_places c.lookup.inside.places.now 0 c.lookup.inside.rows.now,
+    )
 
 pub invariant_of-self : goal.invariant_of-self
 invariant_of-self c =
