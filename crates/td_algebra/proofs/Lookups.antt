@@ -163,3 +163,12 @@ module _ (l : RowsByParts) (places : List ℕ) (rows : List Tuple) (next : List 
       ∙ subst (λ m. like_row_at m (Some place) ≡ row ∷ like_row_at m got) parts
       (row_then (places, rows) place row within is
       ∙ ap (λ o. row ∷ like_row_at (places, rows) o) (sym (got_is row is)))
+
+-- rows that are kept are not more than all
+pub kept_fewer : (p : Tuple → Bool) (ts : List Tuple) → length (filter p ts) ≤ length ts
+kept_fewer p [] = omega arith
+kept_fewer p (t ∷ ts) = by_test (p t) (kept_fewer p ts)
+  where
+    by_test : (b : Bool) → length (filter p ts) ≤ length ts → length (if b then t ∷ filter p ts else filter p ts) ≤ length (t ∷ ts)
+    by_test true later = omega (arith, later)
+    by_test false later = omega (arith, later)

@@ -1,5 +1,5 @@
 //! Rows found by their values on the attributes that two headings have in common.
-ghost use Rattle.std.specs.Prelude.{◌≡◌, IfOk, Some};
+ghost use Rattle.std.specs.Prelude.{◌≡◌, ◌<◌, ◌^◌, IfOk, Some, length};
 ghost use Rattle.std.specs.List.{All, list_any, slice_get};
 ghost use Rattle.td_algebra.specs.Lookups.{ArePlacesOf, AreWithin, first_place, has_part};
 ghost use Rattle.td_algebra.specs.Lookups.{part_of, partners_in};
@@ -120,8 +120,10 @@ impl<'a> Lookup<'a> {
     /// The rows that have the tuple's values at the places, in their order.
     pub fn partners(&'a self, places: &[usize], tuple: &Tuple) -> Partners<'a>
         requires { AreWithin places.now (values_of tuple.now) }
-        ensures { result ≡ partners_in self.now places.now tuple.now }
+        ensures rows { result ≡ partners_in self.now places.now tuple.now }
+        ensures fits { length result < 2 ^ 64 }
     {
+        let _ = self.rows.len();
         Partners {
             lookup: self,
             place: self.first(places, tuple),
