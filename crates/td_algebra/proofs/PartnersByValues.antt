@@ -4,7 +4,7 @@ use Rattle.std.specs.Prelude.{◌&&◌, ◌||◌, is_some, if◌then◌else◌, 
 use Rattle.std.specs.List.{All, list_any}
 use Rattle.std.proofs.lemmas.List.Elements.{All-filter, All-head, All-tail}
 use Rattle.td_types.specs.Headings.{has_attribute, has_name}
-use Rattle.td_types.specs.Types.{attribute_names, type_at}
+use Rattle.td_types.specs.Types.{type_at}
 use Rattle.td_types.proofs.HeadingLaws.{has_attribute-names, type_at-common}
 use Rattle.td_value.specs.Values.{IsTupleOf, Relation, Tuple, projected_tuple}
 use Rattle.td_value.specs.Views.{values_of}

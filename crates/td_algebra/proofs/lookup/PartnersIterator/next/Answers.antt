@@ -1,4 +1,4 @@
-use Rattle.std.proofs.Common.{rules, ◌≡◌, ◌<◌, ap, arith, get_or, length, subst, sym, Some}
+use Rattle.std.proofs.Common.{rules, ◌<◌, ap, arith, get_or, length, subst, sym}
 use Rattle.std.specs.Prelude.{IfSome}
 use Rattle.td_algebra.proofs.Lookups.{length-next_places, step_gives, step_within}
 use Rattle.td_algebra.proofs.lookup.PartnersIterator.next.Goals as goal
