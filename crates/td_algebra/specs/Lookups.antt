@@ -2,7 +2,7 @@
 use Rattle.std.specs.Prelude.{◌≡◌, ℕ, ◌+◌, ◌<◌, Bool, true, false, not, List, [], ◌∷◌, Option, None, Some, drop, filter, get_or, if◌then◌else◌, length, map}
 use Rattle.std.specs.Cmp.Lexicographic.{pointwise}
 use Rattle.std.specs.HashMap.{HashMap, get}
-use Rattle.std.specs.List.{All, slice_get}
+use Rattle.std.specs.List.{All, list_any, slice_get}
 use Rattle.std.specs.Ordering.{eq_by_cmp}
 use Rattle.td_types.specs.Types.{Heading}
 use Rattle.td_value.specs.Values.{Val, boolean, IsTupleOf, Tuple, projected_tuple, value_cmp}
@@ -53,6 +53,10 @@ RowsByParts = List ℕ × List Tuple
 -- the rows whose values at the look-up's places are those of the tuple at the other places
 abbrev pub partners_in : RowsByParts → List ℕ → Tuple → List Tuple
 partners_in l places t = filter (has_part l.0 (part_of places t)) l.1
+
+-- whether there is such a row
+abbrev pub has_partner_in : RowsByParts → List ℕ → Tuple → Bool
+has_partner_in l places t = list_any (has_part l.0 (part_of places t)) l.1
 
 -- the place of the first of the rows that passes the test, counted from a start
 abbrev pub first_place : (Tuple → Bool) → ℕ → List Tuple → Option ℕ

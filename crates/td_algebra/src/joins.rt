@@ -29,7 +29,8 @@ fn put_pairs(
     pairs: &mut Vec<Tuple>,
 ) -> Result<(), AllocError>
     requires within { AreWithin places.now (values_of row.now) }
-    requires paired { All (IsPaired layout.now row.now) (partners_in lookup.now places.now row.now) }
+    requires paired { All (IsPaired layout.now row.now)
+        (partners_in lookup.now places.now row.now) }
     ensures { OnOk result (pairs.new.items ≡ pairs.old.items
         ++ map (pair_tuple layout.now row.now) (partners_in lookup.now places.now row.now)) }
 {

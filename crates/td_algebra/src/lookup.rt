@@ -1,8 +1,8 @@
 //! Rows found by their values on the attributes that two headings have in common.
 ghost use Rattle.std.specs.Prelude.{◌≡◌, ◌<◌, ◌^◌, IfOk, Some, length};
-ghost use Rattle.std.specs.List.{All, list_any, slice_get};
+ghost use Rattle.std.specs.List.{All, slice_get};
 ghost use Rattle.td_algebra.specs.Lookups.{ArePlacesOf, AreWithin, first_place, has_part};
-ghost use Rattle.td_algebra.specs.Lookups.{part_of, partners_in};
+ghost use Rattle.td_algebra.specs.Lookups.{has_partner_in, part_of, partners_in};
 ghost use Rattle.td_types.specs.Headings.{has_attribute};
 ghost use Rattle.td_types.specs.Types.{Attribute, attribute_names};
 ghost use Rattle.td_value.specs.Views.{values_of};
@@ -111,8 +111,7 @@ impl<'a> Lookup<'a> {
     /// Whether a row has the tuple's values at the places.
     pub fn has_partner(&self, places: &[usize], tuple: &Tuple) -> bool
         requires { AreWithin places.now (values_of tuple.now) }
-        ensures { result ≡ list_any (has_part self.now.0 (part_of places.now tuple.now))
-            self.now.1 }
+        ensures { result ≡ has_partner_in self.now places.now tuple.now }
     {
         self.first(places, tuple).is_some()
     }

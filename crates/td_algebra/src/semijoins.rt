@@ -1,7 +1,7 @@
 //! MATCHING and NOT MATCHING.
 ghost use Rattle.std.specs.Prelude.{◌≡◌, IfOk, filter};
 ghost use Rattle.std.specs.List.{All, list_any};
-ghost use Rattle.td_algebra.specs.Lookups.{AreWithin, has_part, part_of, wanted};
+ghost use Rattle.td_algebra.specs.Lookups.{AreWithin, has_partner_in, wanted};
 ghost use Rattle.td_algebra.specs.Operators.{are_partners, restriction, semidifference, semijoin};
 ghost use Rattle.td_value.specs.Views.{values_of};
 
@@ -19,8 +19,8 @@ fn rows_by_partners(
     there: bool,
 ) -> Result<Vec<Tuple>, AllocError>
     requires { All (λ t. AreWithin places.now (values_of t)) rows.now }
-    ensures { IfOk result (λ kept. kept.items ≡ filter (λ t. wanted there
-        (list_any (has_part lookup.now.0 (part_of places.now t)) lookup.now.1)) rows.now) }
+    ensures { IfOk result (λ kept. kept.items
+        ≡ filter (λ t. wanted there (has_partner_in lookup.now places.now t)) rows.now) }
 {
     let mut kept = Vec::new(alloc);
     for row in rows {

@@ -4,7 +4,7 @@ use Rattle.std.proofs.lemmas.List.Elements.{All-filter}
 use Rattle.std.proofs.lemmas.List.Kept.{IsStrictlySortedBy-filter}
 use Rattle.td_value.specs.Values.{IsAscendingBody, IsTupleOf, Tuple, tuple_cmp}
 use Rattle.td_value.specs.Views.{relation_view}
-use Rattle.td_algebra.specs.Lookups.{has_part, part_of, wanted}
+use Rattle.td_algebra.specs.Lookups.{has_partner_in, wanted}
 use Rattle.td_algebra.specs.Operators.{are_partners, relation_names, restriction}
 use Rattle.td_algebra.proofs.Keys.{if_ok}
 use Rattle.td_algebra.proofs.OnNames.{rows_within, same_places}
@@ -41,7 +41,7 @@ kept c =
     kept_by_values r s c.deref-2.result.now c.deref.result.now own theirs c.rows.result.now c.rows-2.result.now c.in_ok-kept.kept.items c.args.there
     c.rows.ensures.rows c.rows-2.ensures.rows c.rows-2.ensures.headed c.rows.ensures.headed
     (c.in_ok-kept.ensures
-    ∙ ap (λ l. filter (λ t. wanted c.args.there (list_any (has_part l.0 (part_of c.deref-2.result.now t)) l.1)) c.rows-2.result.now) c.in_ok-lookup.ensures)
+    ∙ ap (λ l. filter (λ t. wanted c.args.there (has_partner_in l c.deref-2.result.now t)) c.rows-2.result.now) c.in_ok-lookup.ensures)
 
 pub of_ascending-requires-clause-headed : goal.of_ascending-requires-clause-headed
 of_ascending-requires-clause-headed c =
@@ -69,6 +69,6 @@ returns c =
     kept_by_values r s c.deref-2.result.now c.deref.result.now own theirs c.rows.result.now c.rows-2.result.now c.in_ok-kept.kept.items c.args.there
     c.rows.ensures.rows c.rows-2.ensures.rows c.rows-2.ensures.headed c.rows.ensures.headed
     (c.in_ok-kept.ensures
-    ∙ ap (λ l. filter (λ t. wanted c.args.there (list_any (has_part l.0 (part_of c.deref-2.result.now t)) l.1)) c.rows-2.result.now) c.in_ok-lookup.ensures) in
+    ∙ ap (λ l. filter (λ t. wanted c.args.there (has_partner_in l c.deref-2.result.now t)) c.rows-2.result.now) c.in_ok-lookup.ensures) in
     if_ok (λ r. r ≡ relation_view c.in_ok-try_clone.field-0 c.in_ok-kept.kept.items) (λ made. made ≡ restriction p r) c.of_ascending.result
     (λ r e. e ∙ (λ i. relation_view (heading i) (rows i))) c.of_ascending.ensures
