@@ -1,4 +1,5 @@
 pub mod Apart
+pub mod Changes
 pub mod FirstNames
 pub mod Held
 pub mod KeyParts

@@ -170,8 +170,9 @@ fn empty(catalog: &mut Catalog<SortedBody>, alloc: Global, relvar: &Name) -> Res
     let Some(entry) = catalog.get_base(relvar) else {
         return Err(Fault::Refused(Cause::NameUnknown));
     };
-    let none = Rel::of_ascending(entry.heading.try_clone()?, Vec::new(alloc))?;
-    let body = entry.body.holding(none)?;
+    let (none, mut body) = both(none_of(alloc, &entry.heading), entry.body.try_clone())?;
+    let all = body.to_rel()?;
+    body.change(&all, &none)?;
     catalog.set_body(relvar, body);
     Ok(())
 }
