@@ -1,5 +1,5 @@
 pub mod Apart
-pub mod Changes
+pub mod Differences
 pub mod FirstNames
 pub mod Held
 pub mod KeyParts

@@ -1,4 +1,4 @@
-use Rattle.td_body.proofs.Changes.{led_over}
+use Rattle.td_body.proofs.Differences.{led_over}
 use Rattle.td_body.proofs.laws.differences_lead_over.Goals as goal
 
 pub returns : goal.returns

@@ -1,4 +1,4 @@
-use Rattle.td_body.proofs.Changes.{replaced}
+use Rattle.td_body.proofs.Differences.{replaced}
 use Rattle.td_body.proofs.laws.whole_is_replaced.Goals as goal
 
 pub returns : goal.returns
