@@ -15,7 +15,7 @@ use Rattle.td_value.specs.Views.{values_of}
 use Rattle.td_value.proofs.Rows.{parts_order-lists, tuple_order-by_values}
 use Rattle.td_value.specs.Agreement.{agree_on}
 use Rattle.td_body.specs.Bodies.{key_holds}
-use Rattle.td_body.specs.KeyParts.{by_places, places_from, values_at}
+use Rattle.td_body.specs.KeyParts.{apart_at, by_places, places_from, values_at}
 use Rattle.td_body.proofs.Apart.{apart, ties}
 
 abbrev pub found_order : List (Option Val) → List (Option Val) → Ordering
@@ -24,9 +24,10 @@ found_order = slice_cmp (option_cmp value_cmp)
 pub found_order_total : IsTotalOrder found_order
 found_order_total = lists_total (options_total order_total)
 
--- whether no two of the tuples tie at the places
-abbrev pub apart_at : List ℕ → List Tuple → Bool
-apart_at places = apart found_order found_order_total (values_at places)
+-- no two of the tuples tie by their values at the places exactly where none do at the places
+pub apart-at : (places : List ℕ) (ts : List Tuple) → apart found_order found_order_total (values_at places) ts ≡ apart_at places ts
+apart-at places [] = refl
+apart-at places (t ∷ ts) = ap (λ b. not (list_any (λ u. is_eq (by_places places t u)) ts) && b) (apart-at places ts)
 
 next_places : (i : ℕ) (key ns : List (List ℕ)) → places_from (suc i) key ns ≡ map suc (places_from i key ns)
 next_places i key [] = refl

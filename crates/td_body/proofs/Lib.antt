@@ -1,6 +1,11 @@
 pub mod Apart
 pub mod Differences
 pub mod FirstNames
+pub mod Found
 pub mod Held
 pub mod KeyParts
+pub mod Numbered
+pub mod Ordinals
 pub mod Parts
+pub mod Steps
+pub mod TupleSets

@@ -1,6 +1,6 @@
 -- Bodies of relvars: what a change makes of one, which tuples agree on a key, and when a key holds (Tutorial D's).
 use Rattle.std.specs.Prelude.{◌≡◌, ℕ, Bool, true, not, ◌&&◌, List, [], ◌∷◌, filter, IsTrue, ◌↔◌}
-use Rattle.std.specs.List.{Contains, list_any}
+use Rattle.std.specs.List.{All, Contains, list_any}
 use Rattle.td_value.specs.Agreement.{agree_on, AgreeOn}
 use Rattle.td_value.specs.Values.{Tuple, Relation, IsRelation}
 use Rattle.td_value.specs.Views.{relation_view}
@@ -23,6 +23,17 @@ key_holds key (t ∷ ts) = not (list_any (agree_on key t) ts) && key_holds key t
 -- the key holds: two members that agree on it are one
 abbrev pub KeyHolds : List (List ℕ) → List Tuple → Type 0
 KeyHolds key tuples = (s t : Tuple) → Contains tuples s → Contains tuples t → AgreeOn key s t → s ≡ t
+
+-- a body as it is seen: its relation, the names of its keys, and each relation that it was before a change and keeps, the
+-- latest last
+pub record BodyView : Type 0 where
+  pub relation : Relation
+  pub keys : List (List (List ℕ))
+  pub kept : List Relation
+
+-- what is kept has the heading of what is there
+abbrev pub HaveOneHeading : Relation → List Relation → Type 0
+HaveOneHeading r kept = All (λ (s : Relation). s.heading ≡ r.heading) kept
 
 -- ---- laws
 

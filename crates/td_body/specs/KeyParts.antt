@@ -1,7 +1,8 @@
 -- A tuple's part on a key, as the values at the places of the key's names (the code's way to it).
-use Rattle.std.specs.Prelude.{ℕ, ◌+◌, List, [], ◌∷◌, Option, Some, map, if◌then◌else◌}
-use Rattle.std.specs.List.{slice_get}
+use Rattle.std.specs.Prelude.{ℕ, ◌+◌, Bool, true, not, ◌&&◌, List, [], ◌∷◌, Option, Some, map, if◌then◌else◌}
+use Rattle.std.specs.List.{list_any, slice_get}
 use Rattle.std.specs.Option.{option_cmp}
+use Rattle.std.specs.Ordering.{is_eq}
 use Rattle.std.specs.declared.cmp.Ordering.{Ordering}
 use Rattle.std.specs.Cmp.Lexicographic.{slice_cmp}
 use Rattle.td_types.specs.Headings.{has_name}
@@ -24,3 +25,8 @@ by_places places s t = slice_cmp (option_cmp value_cmp) (values_at places s) (va
 -- how a tuple's values at places stand to other values
 abbrev pub values_cmp : List ℕ → Tuple → List Val → Ordering
 values_cmp places t vs = slice_cmp (option_cmp value_cmp) (values_at places t) (map Some vs)
+
+-- whether no two of the tuples tie at the places
+abbrev pub apart_at : List ℕ → List Tuple → Bool
+apart_at places [] = true
+apart_at places (t ∷ ts) = not (list_any (λ u. is_eq (by_places places t u)) ts) && apart_at places ts

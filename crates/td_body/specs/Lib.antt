@@ -1,2 +1,6 @@
 pub mod Bodies
+pub mod BodyCode
+pub mod Histories
+pub mod KeyIndexes
 pub mod KeyParts
+pub mod Members

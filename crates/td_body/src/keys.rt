@@ -35,7 +35,7 @@ fn places_of(alloc: Global, names: &[Name], key: &[Name]) -> Result<Vec<usize>, 
 }
 
 /// The tuple's value at a place.
-fn value_at(tuple: &Tuple, place: usize) -> Option<&Value>
+pub(crate) fn value_at(tuple: &Tuple, place: usize) -> Option<&Value>
     ensures { option_map (λ v. v.now) result ≡ slice_get (values_of tuple.now) place }
 {
     tuple.values().get(place)
@@ -55,7 +55,7 @@ fn compare_found(value: Option<&Value>, other: Option<&Value>) -> Ordering
 }
 
 /// How two tuples stand by their values at the places.
-fn compare_at(places: &[usize], tuple: &Tuple, other: &Tuple) -> Ordering
+pub(crate) fn compare_at(places: &[usize], tuple: &Tuple, other: &Tuple) -> Ordering
     ensures { result ≡ by_places places.now tuple.now other.now }
 {
     for place in places {
@@ -103,7 +103,7 @@ pub fn key_holds(alloc: Global, key: &[Name], relation: &Rel) -> Result<bool, Al
 }
 
 /// How the tuple's values at the places stand to as many values.
-fn compare_with(places: &[usize], tuple: &Tuple, values: &[Value]) -> Ordering
+pub(crate) fn compare_with(places: &[usize], tuple: &Tuple, values: &[Value]) -> Ordering
     requires { length places.now ≡ length values.now }
     ensures { result ≡ values_cmp places.now tuple.now values.now }
 {

@@ -3,7 +3,7 @@ use crate::body::Body;
 use crate::changes::changed;
 use crate::keys::{agreeing, key_holds};
 use std::alloc::{AllocError, Global};
-use std::mem;
+use std::marker::Model;
 use std::rc::Rc;
 use td_tree::name::Name;
 use td_types::heading::Heading;
@@ -19,14 +19,30 @@ pub struct SortedBody {
     keys: Rc<Vec<Vec<Name>>>,
 }
 
-impl Body for SortedBody {
+impl Model for SortedBody {
     ghost use Rattle.std.specs.Prelude.{map};
+    ghost use Rattle.td_body.specs.Bodies.{BodyView, HaveOneHeading};
+    ghost use Rattle.td_body.specs.BodyCode.{body_code};
 
+    ghost Value = { BodyView };
+
+    ghost coded = { body_code };
+
+    ghost view = { λ b. record {
+      relation = b.relation;
+      keys = map (λ key. key.items) b.keys.value.items;
+      kept = b.kept.items;
+    } };
+
+    ghost invariant = { λ b. HaveOneHeading b.relation b.kept.items };
+}
+
+impl Body for SortedBody {
     ghost relation = { λ b. b.relation };
 
-    ghost keys = { λ b. map (λ key. key.items) b.keys.value.items };
+    ghost keys = { λ b. b.keys };
 
-    ghost kept = { λ b. b.kept.items };
+    ghost kept = { λ b. b.kept };
 
     fn empty(alloc: Global, heading: Heading, names: Vec<Vec<Name>>) -> Result<Self, AllocError> {
         let relation = Rel::of_ascending(heading, Vec::new(alloc))?;

@@ -1,9 +1,12 @@
-use Rattle.std.proofs.Common.{subst}
+use Rattle.std.proofs.Common.{ap, subst, sym}
 use Rattle.td_types.specs.Types.{IsHeading, pack}
+use Rattle.td_body.specs.Bodies.{BodyView}
+use Rattle.td_value.specs.Values.{IsRelation}
 use Rattle.td_value.proofs.Changes.{relation_from}
 use Rattle.td_body.proofs.sorted.SortedBodyBody.len.Goals as goal
 
 pub returns-clause-valid : goal.returns-clause-valid
 returns-clause-valid c =
-    let r = c.args.self.now.relation in
-    relation_from r.heading r.body c.rows.ensures.headed c.rows.ensures.ascending (subst (λ h. IsHeading (pack h)) c.heading.ensures c.reveal.ensures.heading)
+    let r = c.self.inside.relation in
+    subst IsRelation (ap (λ (b : BodyView). b.relation) c.self.view_is)
+    (relation_from r.heading r.body c.rows.ensures.headed c.rows.ensures.ascending (subst (λ h. IsHeading (pack h)) c.heading.ensures c.reveal.ensures.heading))

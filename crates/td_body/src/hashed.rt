@@ -1,0 +1,7 @@
+//! Bodies whose members are hashed.
+mod hashes;
+pub(crate) mod history;
+pub(crate) mod index;
+pub(crate) mod members;
+pub(crate) mod step;
+mod tables;
