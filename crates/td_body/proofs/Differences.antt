@@ -1,5 +1,5 @@
 -- What changes lead to, by the members.
-use Rattle.std.proofs.Common.{◌≡◌, ◌↔◌, ◌⊎◌, inl, inr, refl, sym, true≢false, Bool, true, false, not}
+use Rattle.std.proofs.Common.{◌≡◌, ◌∙◌, ◌↔◌, ◌⊎◌, inl, inr, refl, sym, true≢false, Bool, true, false, not}
 use Rattle.td_value.specs.Sets.{has}
 use Rattle.td_value.specs.Values.{Relation, Tuple, tuple_cmp}
 use Rattle.td_value.proofs.Members.{by_members, contained, found, joined_members}
@@ -40,11 +40,11 @@ led_over r s alike =
       where
         by_other : IsIn t r × (IsIn t (difference r s) → ⊥) → IsIn t s ⊎ (IsIn t s → ⊥) → IsIn t s
         by_other h (inl is) = is
-        by_other h (inr no) = absurd (h.1 ((in_first_alone r s t).1 (h.0, no)))
+        by_other h (inr lacks) = absurd (h.1 ((in_first_alone r s t).1 (h.0, lacks)))
 
     either : (t : Tuple) → IsIn t s → IsIn t r ⊎ (IsIn t r → ⊥) → IsIn t (difference r (difference r s)) ⊎ IsIn t (difference s r)
     either t c (inl is) = inl ((in_first_alone r (difference r s) t).1 (is, λ d. ((in_first_alone r s t).0 d).1 c))
-    either t c (inr no) = inr ((in_first_alone s r t).1 (c, no))
+    either t c (inr lacks) = inr ((in_first_alone s r t).1 (c, lacks))
 
 pub replaced : WholeIsReplaced
 replaced r s alike =
