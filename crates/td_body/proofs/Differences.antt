@@ -5,7 +5,7 @@ use Rattle.td_value.specs.Values.{Relation, Tuple, tuple_cmp}
 use Rattle.td_value.proofs.Members.{by_members, contained, found, joined_members}
 use Rattle.td_algebra.specs.Equalities.{AreAlike}
 use Rattle.td_algebra.specs.Membership.{IsIn}
-use Rattle.td_algebra.specs.Operators.{difference, union}
+use Rattle.td_algebra.specs.Operators.{difference}
 use Rattle.td_algebra.proofs.Lists.{contains_filter}
 use Rattle.td_algebra.proofs.Members.{absent, lacked}
 use Rattle.td_algebra.proofs.Relations.{IsRelation-restriction}

@@ -38,6 +38,8 @@ pub(crate) fn body_with<B: Body>(alloc: Global, body: &B, relation: &Rel) -> Res
     ensures relation { IfOk result (λ b. B.relation b ≡ relation.now) }
     ensures keys { IfOk result (λ b. B.keys b ≡ B.keys body.now) }
 {
+    let _ = body.len();
+    let _ = relation.rows();
     let earlier = body.to_rel()?;
     let (out, add) = differences(alloc, &earlier, relation)?;
     drop(earlier);
