@@ -254,14 +254,12 @@ fn steps_met<B: Body>(alloc: Global, body: &mut B, part: &Tuple) -> usize
     requires part { IfSome (slice_get (B.keys body.old) 0) (λ names.
         heading_of part.now ≡ projection names (B.relation body.old).heading) }
 {
-    let mut met = 0;
-    for (step, want) in STEPS {
+    for (place, (step, want)) in STEPS.iter().enumerate() {
         if !is_answer(told_step(alloc, body, part, *step), *want) {
-            return met;
+            return place;
         }
-        met += 1;
     }
-    met
+    STEPS.len()
 }
 
 /// The same on a body of the relation's heading without tuples, with that key.
