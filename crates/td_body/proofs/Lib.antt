@@ -4,8 +4,11 @@ pub mod FirstNames
 pub mod Found
 pub mod Held
 pub mod KeyParts
+pub mod Lasts
+pub mod MembersLaws
 pub mod Numbered
 pub mod Ordinals
 pub mod Parts
 pub mod Steps
 pub mod TupleSets
+pub mod Turns

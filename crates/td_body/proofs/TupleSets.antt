@@ -168,3 +168,25 @@ changed_both out add ts =
     joined : (a b : Bool) → ((true && (a || false)) || b) ≡ (a || b)
     joined true b = refl
     joined false b = refl
+
+-- what is put in first, then the others that stand behind it
+pub changed_first : (r : Tuple) (add ts : List Tuple) → changed_set [] add (put_tuple r ts) ≡ changed_set [] (r ∷ add) ts
+changed_first r add ts =
+    same_tuples (changed_set [] add (put_tuple r ts)) (changed_set [] (r ∷ add) ts) (ascends-changed [] add (put_tuple r ts)) (ascends-changed [] (r ∷ add) ts)
+    (λ t. has-changed t [] add (put_tuple r ts) ∙ ap (λ b. (true && b) || has_tuple t add) (has-put t r ts)
+      ∙ joined (eq_by_cmp tuple_cmp t r) (has_tuple t add) (has_tuple t ts) ∙ sym (has-changed t [] (r ∷ add) ts))
+  where
+    joined : (a b c : Bool) → ((true && (a || c)) || b) ≡ ((true && c) || (a || b))
+    joined true true true = refl
+    joined true true false = refl
+    joined true false true = refl
+    joined true false false = refl
+    joined false b c = refl
+
+-- an ascending list is the set of its tuples
+pub changed_from_none : (ts : List Tuple) → IsAscendingBody ts → changed_set [] ts [] ≡ ts
+changed_from_none ts up =
+    same_tuples (changed_set [] ts []) ts (ascends-changed [] ts []) up (λ t. has-changed t [] ts [] ∙ none (has_tuple t ts))
+  where
+    none : (b : Bool) → ((true && false) || b) ≡ b
+    none b = refl

@@ -4,3 +4,4 @@ pub mod Histories
 pub mod KeyIndexes
 pub mod KeyParts
 pub mod Members
+pub mod MembersCode

@@ -1,7 +1,9 @@
 -- The members of a body in two forms: in order as they once were, with each tuple that was touched since, and hashed by each
 -- key (this project's own).
 use Rattle.std.specs.Prelude.{◌≡◌, ℕ, ◌+◌, ◌<◌, ◌≤◌, Bool, false, List, [], ◌∷◌, ◌++◌, length, map, vec_capacity, vec_len}
-use Rattle.std.specs.List.{All}
+use Rattle.std.specs.List.{All, slice_get}
+use Rattle.std.specs.Prelude.{Some}
+use Rattle.td_body.specs.KeyParts.{places_from}
 use Rattle.td_types.specs.Types.{Heading}
 use Rattle.td_value.specs.Sets.{has}
 use Rattle.td_value.specs.Values.{Tuple, IsRelation, IsTupleOf, Relation, tuple_cmp}
@@ -52,9 +54,15 @@ versions_in sorted hs = kept_in hs ++ set_in sorted hs ∷ []
 
 -- all histories hold one set and keep the same ones; each of these is a set of tuples of the heading, and differs from the
 -- sorted tuples in touched ones alone
-pub record AreMembers (heading : Heading) (sorted touched : List Tuple) (hs : List KeyHistory) : Type 0 where
+pub record AreMembers (heading : Heading) (sorted touched : List Tuple) (hs : List KeyHistory) (count : ℕ) : Type 0 where
   pub alike : All (IsAt (set_in sorted hs) (kept_in hs)) hs
   pub relations : All (λ ts. IsRelation (relation_view heading ts)) (versions_in sorted hs)
   pub covered : All (Covers sorted touched) (versions_in sorted hs)
   pub headed : All (IsTupleOf heading) touched
   pub untouched : hs ≡ [] → touched ≡ []
+  pub counted : count ≡ length (kept_in hs)
+
+-- the places are, wherever they are those of a key, the ones at which its names stand among the others
+abbrev pub ArePlaced : List (List (List ℕ)) → List (List ℕ) → List (List ℕ) → Type 0
+ArePlaced keys names places =
+    (k : ℕ) (key : List (List ℕ)) (ps : List ℕ) → slice_get keys k ≡ Some key → slice_get places k ≡ Some ps → ps ≡ places_from 0 key names

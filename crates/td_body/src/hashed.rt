@@ -1,4 +1,5 @@
 //! Bodies whose members are hashed.
+pub(crate) mod filled;
 mod hashes;
 pub(crate) mod history;
 pub(crate) mod index;

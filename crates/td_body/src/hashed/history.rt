@@ -1,6 +1,7 @@
 //! A key's index of tuples with the steps that led to it, by which it goes back.
-ghost use Rattle.std.specs.Prelude.{◌≡◌, ◌∷◌, ◌++◌, [], ℕ, ◌+◌, ◌<◌, ◌≤◌, OnErr, OnOk, length};
+ghost use Rattle.std.specs.Prelude.{◌≡◌, ◌∷◌, ◌++◌, [], ◌+◌, ◌<◌, ◌≤◌, IfOk, OnOk, length};
 ghost use Rattle.std.specs.Prelude.{vec_capacity, vec_len};
+ghost use Rattle.td_value.specs.Values.{IsAscendingBody};
 ghost use Rattle.td_body.specs.Histories.{changed_set, dropped_in, kept_sets, put_tuple};
 ghost use Rattle.td_body.specs.KeyIndexes.{without};
 
@@ -47,19 +48,42 @@ fn put_entries(entries: &mut Vec<Entry>, tuples: &[Tuple]) -> Result<(), AllocEr
     Ok(())
 }
 
+/// Puts the tuples into the index.
+fn put_all(index: &mut KeyIndex, tuples: &[Tuple]) -> Result<(), AllocError>
+    ensures tuples { OnOk result
+        (index.new.tuples ≡ changed_set [] tuples.now index.old.tuples) }
+    ensures places { index.new.places ≡ index.old.places }
+{
+    'rows: for tuple in tuples {
+        let piece = Piece::of(tuple)?;
+        index.reserve(1)?;
+        index.put_in(piece);
+    }
+    let _ = index.len();
+    Ok(())
+}
+
 impl KeyHistory {
-    /// No tuples, to be found by the values at the places.
-    pub(crate) fn new(alloc: Global, places: Vec<usize>) -> KeyHistory
-        ensures tuples { result.index.tuples ≡ [] }
-        ensures places { result.index.places ≡ places.items }
-        ensures log { result.log.items ≡ [] }
+    /// The tuples, which ascend, to be found by the values at the places. Nothing is kept.
+    pub(crate) fn filled(
+        alloc: Global,
+        places: Vec<usize>,
+        tuples: &[Tuple],
+    ) -> Result<KeyHistory, AllocError>
+        requires { IsAscendingBody tuples.now }
+        ensures tuples { IfOk result (λ h. h.index.tuples ≡ tuples.now) }
+        ensures places { IfOk result (λ h. h.index.places ≡ places.items) }
+        ensures log { IfOk result (λ h. h.log.items ≡ []) }
     {
-        KeyHistory {
-            index: KeyIndex::new(alloc, places),
+        let mut index = KeyIndex::new(alloc, places);
+        index.grow(tuples.len())?;
+        put_all(&mut index, tuples)?;
+        Ok(KeyHistory {
+            index,
             log: Vec::new(alloc),
             dropped: 0,
             pending: Vec::new(alloc),
-        }
+        })
     }
 
     /// Makes all the room that a change takes, which is to take so many tuples out, and has the
@@ -118,6 +142,7 @@ impl KeyHistory {
         ensures places { self.new.index.places ≡ self.old.index.places }
         ensures kept { kept_sets self.new.log.items self.new.index.tuples
             ≡ kept_sets self.old.log.items self.old.index.tuples }
+        ensures pending { self.new.pending.items ≡ self.old.pending.items }
         ensures room { self.old.index.room ≤ self.new.index.room + 1 }
         ensures dropped { self.new.dropped ≡ self.old.dropped }
         ensures len { vec_len self.new.log ≤ vec_len self.old.log + 1 }
@@ -147,6 +172,7 @@ impl KeyHistory {
         'outs: for tuple in out {
             self.take_out(tuple);
         }
+        let _ = self.index.len();
         self.put_pending();
     }
 
@@ -165,6 +191,7 @@ impl KeyHistory {
         'adds: while let Some(entry) = self.pending.pop() {
             self.put_in(entry);
         }
+        let _ = self.index.len();
     }
 
     /// Goes back to the set that was kept last. It takes no memory.

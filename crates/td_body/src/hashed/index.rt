@@ -106,6 +106,16 @@ impl KeyIndex {
         Ok(())
     }
 
+    /// Grows the tables once, where so many tuples are to come. Room is asked for all the same.
+    pub(crate) fn grow(&mut self, more: usize) -> Result<(), AllocError>
+        ensures tuples { self.new.tuples ≡ self.old.tuples }
+        ensures places { self.new.places ≡ self.old.places }
+    {
+        self.ordinals.reserve(more)?;
+        self.slots.reserve(more)?;
+        Ok(())
+    }
+
     /// How many tuples there are.
     pub(crate) fn len(&self) -> usize
         ensures length { result ≡ length self.now.tuples }

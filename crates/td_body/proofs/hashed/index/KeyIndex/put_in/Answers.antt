@@ -2,7 +2,7 @@ use Rattle.std.proofs.Common.{◌≡◌, ℕ, ◌+◌, ◌≤◌, sym, ap, ◌�
 use Rattle.indexmap.specs.IndexMap.{get, keys}
 use Rattle.td_value.specs.Sets.{has, put_in, set_of}
 use Rattle.td_value.specs.ValueOrder.{tuple_Decides}
-use Rattle.td_value.specs.Values.{tuple_cmp}
+use Rattle.td_value.specs.Values.{IsAscendingBody, tuple_cmp}
 use Rattle.td_body.specs.KeyIndexes.{count_in, ordinal_of, part_hash, tuple_at}
 use Rattle.td_body.proofs.Numbered.{none_of, numbered_more_at, several_still}
 use Rattle.td_body.proofs.Ordinals.{ascending, count_few, counted_more, counted_other, has_table, put_in-member, same, table_with}
@@ -53,3 +53,9 @@ pub returns-clause-new : goal.returns-clause-new
 returns-clause-new c =
     subst (λ p. true ≡ not (has tuple_cmp p c.args.self.now.tuples)) c.piece.view_is (subst (λ s. true ≡ not (has tuple_cmp c.piece.inside.place s.tuples)) c.self.view_is
     (ap not (sym (has_table c.self.inside.ordinals c.piece.inside.place ∙ sym c.contains_key.ensures ∙ c.if-contains_key.false))))
+
+pub returns-then-contains_key-clause-ascending : goal.returns-then-contains_key-clause-ascending
+returns-then-contains_key-clause-ascending c = subst (λ s. IsAscendingBody s.tuples) c.self.view_is (ascending (keys c.self.inside.ordinals))
+
+pub returns-clause-ascending : goal.returns-clause-ascending
+returns-clause-ascending c = subst (λ s. IsAscendingBody s.tuples) c.self.view_is (ascending (keys c.self.inside.ordinals))

@@ -3,7 +3,7 @@ use Rattle.std.specs.Option.{option_map}
 use Rattle.indexmap.specs.IndexMap.{get, keys}
 use Rattle.td_value.specs.Sets.{has, set_of}
 use Rattle.td_value.specs.ValueOrder.{tuple_Decides}
-use Rattle.td_value.specs.Values.{tuple_cmp}
+use Rattle.td_value.specs.Values.{IsAscendingBody, tuple_cmp}
 use Rattle.td_body.specs.KeyIndexes.{count_in, ordinal_of, part_hash, tuple_at, without}
 use Rattle.td_body.proofs.Numbered.{numbered_less_at, several_still, some_of, some_same}
 use Rattle.td_body.proofs.Ordinals.{ascending, counted_less, has_table, same, stored, table_without, without-other}
@@ -93,3 +93,9 @@ pub returns-clause-there : goal.returns-clause-there
 returns-clause-there c =
     subst (λ s. true ≡ has tuple_cmp c.args.tuple.now s.tuples) c.self.view_is
     (sym (has_table c.self.inside.ordinals c.args.tuple.now ∙ ap is_some (sym c.get.ensures.value ∙ sym c.copied.ensures ∙ c.in-Some.is)))
+
+pub returns-in_default-clause-ascending : goal.returns-in_default-clause-ascending
+returns-in_default-clause-ascending c = subst (λ s. IsAscendingBody s.tuples) c.self.view_is (ascending (keys c.self.inside.ordinals))
+
+pub returns-clause-ascending : goal.returns-clause-ascending
+returns-clause-ascending c = subst (λ s. IsAscendingBody s.tuples) c.self.view_is (ascending (keys c.self.inside.ordinals))

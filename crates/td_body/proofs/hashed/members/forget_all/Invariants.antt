@@ -1,0 +1,14 @@
+use Rattle.std.proofs.Common.{◌≡◌, ◌<◌, ◌≤◌, [], ℕ, List, get_or}
+use Rattle.std.specs.List.{All}
+use Rattle.td_value.specs.Values.{Tuple}
+use Rattle.td_body.specs.Members.{IsAt, places_in}
+use Rattle.td_body.specs.declared.hashed.history.KeyHistory.{KeyHistory}
+use Rattle.td_body.proofs.hashed.members.forget_all.Given as goal
+
+abbrev pub invariant-loop-place : goal.invariant-loop-place
+invariant-loop-place l = record {
+  set : (set : List Tuple) (kept : List (List Tuple)) → All (IsAt set kept) l.initial.histories
+      → (k : ℕ) (d : KeyHistory) → k < l.place → IsAt set [] (get_or l.histories k d);
+  rest : (k : ℕ) (d : KeyHistory) → l.place ≤ k → get_or l.histories k d ≡ get_or l.initial.histories k d;
+  places : places_in l.histories ≡ places_in l.initial.histories;
+}
