@@ -1,5 +1,5 @@
 -- What a hashed body keeps, after a change and after a way back.
-use Rattle.std.proofs.Common.{◌≡◌, ◌∙◌, ◌+◌, ◌-◌, ◌<◌, ◌∷◌, ◌++◌, ℕ, List, [], ap, arith, get_or, length, length-append, refl, subst, sym}
+use Rattle.std.proofs.Common.{◌≡◌, ◌∙◌, ◌+◌, ◌-◌, ◌∷◌, ◌++◌, ℕ, List, [], ap, arith, length, length-append, refl, subst, sym}
 use Rattle.std.specs.List.{All, flat_map}
 use Rattle.std.proofs.lemmas.List.{append-nil, append_assoc, get_or_append_left}
 use Rattle.std.proofs.lemmas.List.Elements.{All-append, All-contains, Contains-push}
@@ -46,7 +46,7 @@ module _ (keys : List (List (List ℕ))) where
   body_changed m n aside next count b h kept placed placed_aside = record {
     counted = omega (arith, b.counted, ap length kept, length-append (kept_by aside m) (m.relation ∷ []));
     headings = subst (HaveOneHeading n.relation) (sym kept)
-      (other_heading m.relation n.relation (kept_by aside m ++ m.relation ∷ []) (sym h)
+        (other_heading m.relation n.relation (kept_by aside m ++ m.relation ∷ []) (sym h)
         (All-append (λ (s : Relation). s.heading ≡ m.relation.heading) (kept_by aside m) (m.relation ∷ []) b.headings (one (λ (s : Relation). s.heading ≡ m.relation.heading) m.relation refl)));
     placed = placed;
     placed_aside = placed_aside;

@@ -1,22 +1,22 @@
 -- Members of a body after a change, and after a way back.
-use Rattle.std.proofs.Common.{◌≡◌, ◌∙◌, ◌∷◌, ◌++◌, ◌+◌, ◌<◌, [], ℕ, suc, zero, Bool, true, false, List, ap, arith, filter, get_or, length, length-append, map, refl, sym, subst, true≢false}
+use Rattle.std.proofs.Common.{◌≡◌, ◌∙◌, ◌∷◌, ◌++◌, ◌+◌, ◌<◌, [], ℕ, suc, zero, Bool, true, false, List, ap, arith, filter, get_or, length, length-append, map, refl, sym, subst}
 use Rattle.std.specs.Prelude.{not, ◌&&◌, ◌||◌, ◌==◌}
 use Rattle.std.proofs.lemmas.Bool.Decides.{nat_tests}
-use Rattle.std.specs.List.{All, Contains, slice_get}
+use Rattle.std.specs.List.{All, slice_get}
 use Rattle.std.specs.Option.{option_map}
 use Rattle.std.specs.Prelude.{None, Option, Some}
 use Rattle.std.proofs.lemmas.Option.{get_or_from_slice_get, slice_get-map, slice_get_within}
 use Rattle.td_types.specs.Headings.{new_names}
 use Rattle.std.proofs.lemmas.List.{get_or_append_left, length-map}
 use Rattle.std.proofs.lemmas.List.Elements.{All-append, All-contains, All-filter, Contains-push}
-use Rattle.td_types.specs.Types.{Heading, IsHeading, attribute_names, pack}
+use Rattle.td_types.specs.Types.{Heading, attribute_names}
 use Rattle.td_value.specs.Sets.{has, set_of}
 use Rattle.td_value.specs.Values.{IsAscendingBody, IsRelation, IsTupleOf, Tuple, relation_of, tuple_cmp}
 use Rattle.td_value.specs.Views.{relation_view}
 use Rattle.td_algebra.specs.Operators.{restriction}
-use Rattle.td_algebra.proofs.Relations.{IsRelation-relation_of, rows_ascend, rows_headed}
+use Rattle.td_algebra.proofs.Relations.{IsRelation-relation_of, rows_headed}
 use Rattle.td_body.specs.Bodies.{after_change}
-use Rattle.td_body.specs.Histories.{changed_set, kept_sets}
+use Rattle.td_body.specs.Histories.{changed_set}
 use Rattle.td_body.specs.KeyParts.{places_from}
 use Rattle.td_body.specs.Members.{AreMembers, ArePlaced, Covers, IsAt, kept_in, places_in, set_in, versions_in}
 use Rattle.td_body.specs.declared.hashed.history.KeyHistory.{KeyHistory}
@@ -108,7 +108,6 @@ standing h sorted more now earlier gs count some at relations covered headed cou
       counted = counted ∙ ap length (sym first.1);
     }
 
-
 -- a list of no items
 pub none_there : {X : Type 0} (xs : List X) → length xs ≡ 0 → xs ≡ []
 none_there [] e = refl
@@ -142,9 +141,9 @@ module _ (h : Heading) (sorted touched : List Tuple) (hs : List KeyHistory) (n :
         let wide = all_cover_more sorted touched more (versions_in sorted hs) wider m.covered in
         standing h sorted more (changed_set out add set) (kept ++ set ∷ []) gs (n + 1) some at
         (All-append (λ ts. IsRelation (relation_view h ts)) (versions_in sorted hs) (changed_set out add set ∷ []) m.relations
-          (one (λ ts. IsRelation (relation_view h ts)) (changed_set out add set) (relation_changed h out add set typed set_relation)))
+        (one (λ ts. IsRelation (relation_view h ts)) (changed_set out add set) (relation_changed h out add set typed set_relation)))
         (All-append (Covers sorted more) (versions_in sorted hs) (changed_set out add set ∷ []) wide
-          (one (Covers sorted more) (changed_set out add set) (covers_changed sorted more out add set outs adds (covers_more sorted touched more set wider set_covered))))
+        (one (Covers sorted more) (changed_set out add set) (covers_changed sorted more out add set outs adds (covers_more sorted touched more set wider set_covered))))
         headed (omega (arith, m.counted, length-append kept (set ∷ [])))
 
   -- the latest change was undone

@@ -13,9 +13,8 @@ use crate::body::Body;
 use crate::changes::changed;
 use std::alloc::{AllocError, Global};
 use std::marker::Model;
-use std::mem;
 use std::rc::Rc;
-use std::slice;
+use std::{mem, slice};
 use td_tree::name::Name;
 use td_types::heading::Heading;
 use td_value::relation::Rel;
@@ -49,7 +48,7 @@ impl Model for HashBody {
     } };
 
     ghost invariant = { λ b.
-      IsHashBody (map (λ key. key.items) b.keys.value.items) b.members b.aside.items b.count };
+        IsHashBody (map (λ key. key.items) b.keys.value.items) b.members b.aside.items b.count };
 }
 
 /// The members after a change, in order and hashed anew.

@@ -52,7 +52,7 @@ impl Model for Members {
     } };
 
     ghost invariant = { λ m.
-      AreMembers m.sorted.heading m.sorted.body m.touched.items m.histories.items m.kept_count };
+        AreMembers m.sorted.heading m.sorted.body m.touched.items m.histories.items m.kept_count };
 }
 
 /// Of how many tuples a change is carried out step by step: of a quarter of those that are there,
@@ -173,11 +173,7 @@ impl Members {
 // ---- histories side by side
 
 /// Makes all the room that a change takes in each history, and has the tuples ready there.
-fn prepare_all(
-    histories: &mut [KeyHistory],
-    out: usize,
-    add: &[Tuple],
-) -> Result<(), AllocError>
+fn prepare_all(histories: &mut [KeyHistory], out: usize, add: &[Tuple]) -> Result<(), AllocError>
     ensures same { (set : List Tuple) (kept : List (List Tuple))
         → All (IsAt set kept) histories.old → All (IsAt set kept) histories.new }
     ensures places { places_in histories.new ≡ places_in histories.old }
@@ -248,11 +244,7 @@ fn touch(touched: &mut Vec<Tuple>, tuples: &[Tuple]) -> Result<(), AllocError>
 }
 
 /// Does so with those that go out and with those that come in.
-fn touch_both(
-    touched: &mut Vec<Tuple>,
-    out: &[Tuple],
-    add: &[Tuple],
-) -> Result<(), AllocError>
+fn touch_both(touched: &mut Vec<Tuple>, out: &[Tuple], add: &[Tuple]) -> Result<(), AllocError>
     ensures more { (t : Tuple) → has tuple_cmp t touched.new.items ≡ false
         → has tuple_cmp t touched.old.items ≡ false }
     ensures out { OnOk result ((t : Tuple) → has tuple_cmp t touched.new.items ≡ false
@@ -268,11 +260,7 @@ fn touch_both(
 }
 
 /// Carries a change out in each history, where there is memory for it.
-fn change_all(
-    histories: &mut [KeyHistory],
-    out: &[Tuple],
-    add: &[Tuple],
-) -> Result<(), AllocError>
+fn change_all(histories: &mut [KeyHistory], out: &[Tuple], add: &[Tuple]) -> Result<(), AllocError>
     ensures same { OnErr result ((set : List Tuple) (kept : List (List Tuple))
         → All (IsAt set kept) histories.old → All (IsAt set kept) histories.new) }
     ensures changed { OnOk result ((set : List Tuple) (kept : List (List Tuple))

@@ -6,7 +6,7 @@ use Rattle.td_types.specs.Types.{attribute_names}
 use Rattle.td_value.specs.Agreement.{agree_on}
 use Rattle.td_value.specs.Sets.{set_of}
 use Rattle.td_value.specs.Values.{HaveSameMembers, IsTupleOf, Relation, Tuple, Val, tuple_cmp}
-use Rattle.td_value.specs.Views.{relation_view, values_of}
+use Rattle.td_value.specs.Views.{relation_view}
 use Rattle.td_body.specs.Bodies.{agreeing}
 use Rattle.td_body.specs.KeyIndexes.{with_part}
 use Rattle.td_body.specs.KeyParts.{places_from}

@@ -1,7 +1,6 @@
-use Rattle.std.proofs.Common.{◌≡◌, ◌∙◌, List, ap, length, map, subst, sym}
+use Rattle.std.proofs.Common.{◌∙◌, ap, map, subst, sym}
 use Rattle.std.specs.List.{All}
 use Rattle.td_body.specs.HashBodies.{IsHashBody, IsPlacedFor}
-use Rattle.td_body.specs.Members.{Members}
 use Rattle.td_body.proofs.HashBodyLaws.{body_changed}
 use Rattle.td_body.proofs.hashed.body.HashBodyBody.change.Goals as goal
 

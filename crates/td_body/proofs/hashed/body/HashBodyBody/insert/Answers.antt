@@ -1,7 +1,6 @@
-use Rattle.std.proofs.Common.{◌≡◌, ◌∙◌, ◌∷◌, [], List, ap, refl, subst, sym}
-use Rattle.std.specs.Prelude.{IsTrue, OnOk, Ok, Err}
+use Rattle.std.proofs.Common.{◌≡◌, ◌∙◌, [], ap, subst, sym}
 use Rattle.td_algebra.proofs.Relations.{rows_ascend}
-use Rattle.td_value.specs.Values.{Relation, with_tuple}
+use Rattle.td_value.specs.Values.{with_tuple}
 use Rattle.td_value.specs.Views.{relation_view}
 use Rattle.td_body.specs.Histories.{changed_set, put_tuple}
 use Rattle.td_body.proofs.TupleSets.{ascends-put, changed_first, changed_none, put_again}

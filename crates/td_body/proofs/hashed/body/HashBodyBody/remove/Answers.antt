@@ -1,6 +1,6 @@
-use Rattle.std.proofs.Common.{◌≡◌, ◌∙◌, ◌∷◌, [], List, ap, refl, subst, sym}
+use Rattle.std.proofs.Common.{◌≡◌, ◌∙◌, [], ap, subst, sym}
 use Rattle.td_algebra.proofs.Relations.{rows_ascend}
-use Rattle.td_value.specs.Values.{Relation, without_tuple}
+use Rattle.td_value.specs.Values.{without_tuple}
 use Rattle.td_value.specs.Views.{relation_view}
 use Rattle.td_body.specs.Histories.{changed_set}
 use Rattle.td_body.specs.KeyIndexes.{without}

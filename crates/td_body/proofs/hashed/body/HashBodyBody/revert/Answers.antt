@@ -1,4 +1,4 @@
-use Rattle.std.proofs.Common.{◌≡◌, ◌∙◌, ◌++◌, ◌-◌, ◌∷◌, [], ℕ, List, ap, arith, length, map, refl, subst, sym}
+use Rattle.std.proofs.Common.{◌≡◌, ◌∙◌, ◌++◌, ◌-◌, ◌∷◌, [], ℕ, List, ap, arith, length, map, subst}
 use Rattle.std.specs.List.{All}
 use Rattle.td_body.specs.Bodies.{HaveOneHeading}
 use Rattle.td_body.specs.HashBodies.{IsHashBody, IsPlacedFor, kept_by}

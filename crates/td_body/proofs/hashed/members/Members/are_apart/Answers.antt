@@ -1,6 +1,6 @@
 use Rattle.std.proofs.Common.{◌≡◌, ◌∙◌, ap, length, refl, subst, sym}
 use Rattle.std.specs.List.{slice_get}
-use Rattle.std.specs.Option.{IfSome, option_map}
+use Rattle.std.specs.Option.{option_map}
 use Rattle.std.specs.Prelude.{Some, List, ℕ}
 use Rattle.std.proofs.lemmas.Option.{slice_get-map, slice_get_read}
 use Rattle.td_body.specs.KeyParts.{apart_at}

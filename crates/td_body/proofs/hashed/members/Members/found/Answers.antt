@@ -16,7 +16,7 @@ returns-in_ok-tuples_at-in-Some c =
     let h = c.in-Some.history.now in
     let k = c.args.number in
     let found = c.in_ok-tuples_at-in-Some.field-0.items in
-    let is : slice_get hs k ≡ Some h = 
+    let is : slice_get hs k ≡ Some h =
     subst (λ xs. slice_get xs k ≡ Some h) c.deref.ensures.value (slice_get_read c.deref.result.now (length c.deref.result.now) k h refl c.in-Some.ensures.lookup.3.0 c.in-Some.ensures.lookup.1) in
     let tuples : h.index.tuples ≡ c.args.self.now.relation.body = (at_place (IsAt (set_in c.self.inside.sorted.body hs) (kept_in hs)) hs k h c.self.invariant.alike is).0 ∙ ap (λ (n : Members). n.relation.body) c.self.view_is in
     let places : slice_get c.args.self.now.places k ≡ Some h.index.places =
