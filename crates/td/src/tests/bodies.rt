@@ -13,6 +13,7 @@ use super::texts::{Want, is_answer, literal, names, relation};
 use super::values::numbers;
 use std::alloc::Global;
 use td_body::body::Body;
+use td_body::hashed::HashBody;
 use td_body::sorted::SortedBody;
 use td_tree::cause::Cause;
 use td_tree::fault::Fault;
@@ -210,6 +211,8 @@ fn members(rt: HostRuntime) {
     for (call, rel, want) in CALLS {
         let found = told_of_text::<SortedBody>(rt.alloc(), *call, rel);
         assert!(rt; is_answer(found, *want), "{rel}");
+        let found = told_of_text::<HashBody>(rt.alloc(), *call, rel);
+        assert!(rt; is_answer(found, *want), "{rel}");
     }
 }
 
@@ -328,6 +331,8 @@ const KEYS: &[ByKey] = &[
 fn members_by_keys(rt: HostRuntime) {
     for (key, part, rel, want) in KEYS {
         let found = told_by_texts::<SortedBody>(rt.alloc(), key, part, rel);
+        assert!(rt; is_answer(found, *want), "{rel}");
+        let found = told_by_texts::<HashBody>(rt.alloc(), key, part, rel);
         assert!(rt; is_answer(found, *want), "{rel}");
     }
 }
