@@ -104,6 +104,9 @@ taken_again r ts up h =
 pub has-set : (t : Tuple) (ts : List Tuple) → has_tuple t (set_of tuple_cmp ts) ≡ has_tuple t ts
 has-set = sets.has-set_of tuple_cmp tuple_order_total tuple_order_same
 
+pub ascends-set : (ts : List Tuple) → IsAscendingBody (set_of tuple_cmp ts)
+ascends-set = sets.set_of-ascends tuple_cmp tuple_order_total tuple_order_same
+
 pub has-append : (t : Tuple) (ss ts : List Tuple) → has_tuple t (ss ++ ts) ≡ (has_tuple t ss || has_tuple t ts)
 has-append t [] ts = refl
 has-append t (s ∷ ss) ts = ap (λ b. eq_by_cmp tuple_cmp t s || b) (has-append t ss ts) ∙ joined (eq_by_cmp tuple_cmp t s) (has_tuple t ss) (has_tuple t ts)

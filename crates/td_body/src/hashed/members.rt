@@ -4,17 +4,21 @@ ghost use Rattle.std.specs.Prelude.{OnErr, OnOk, false, length, map};
 ghost use Rattle.std.specs.List.{All, slice_get};
 ghost use Rattle.td_types.specs.Types.{Heading, attribute_names};
 ghost use Rattle.td_value.specs.Sets.{has};
-ghost use Rattle.td_value.specs.Values.{Tuple, HaveSameMembers, IsRelation, IsTupleOf, tuple_cmp};
+ghost use Rattle.td_value.specs.Values.{Tuple, HaveSameMembers, IsAscendingBody, IsRelation};
+ghost use Rattle.td_value.specs.Values.{IsTupleOf, tuple_cmp};
 ghost use Rattle.td_value.specs.Views.{relation_view};
 ghost use Rattle.td_body.specs.Histories.{changed_set, kept_sets};
 ghost use Rattle.td_body.specs.KeyIndexes.{with_part};
 ghost use Rattle.td_body.specs.KeyParts.{apart_at};
-ghost use Rattle.td_body.specs.Members.{ArePlaced, HasReady, HasRoom, IsAt, places_in};
+ghost use Rattle.td_body.specs.Members.{ArePlaced, Covers, HasReady, HasRoom, IsAt, places_in};
 
 use super::filled::histories_of;
 use super::history::KeyHistory;
+use super::index::KeyIndex;
+use crate::changes::changed;
 use std::alloc::{AllocError, Global};
 use std::marker::Model;
+use td_algebra::restriction::restrict;
 use td_tree::name::Name;
 use td_types::heading::Heading;
 use td_value::relation::Rel;
@@ -328,5 +332,64 @@ impl Members {
         ensures { result ≡ length self.now.kept }
     {
         self.kept_count
+    }
+}
+
+// ---- in order again
+
+/// Whether each of the tuples is in the index.
+fn mask_of(alloc: Global, index: &KeyIndex, tuples: &[Tuple]) -> Result<Vec<bool>, AllocError>
+    ensures { IfOk result (λ mask.
+        mask.items ≡ map (λ t. has tuple_cmp t index.now.tuples) tuples.now) }
+{
+    let mut mask = Vec::with_capacity(alloc, tuples.len())?;
+    for tuple in tuples {
+        mask.push(index.contains(tuple))?;
+    }
+    Ok(mask)
+}
+
+/// Copies of the tuples.
+fn copied(alloc: Global, tuples: &[Tuple]) -> Result<Vec<Tuple>, AllocError>
+    ensures { IfOk result (λ copies. copies.items ≡ tuples.now) }
+{
+    let mut copies = Vec::with_capacity(alloc, tuples.len())?;
+    for tuple in tuples {
+        copies.push(tuple.try_clone()?)?;
+    }
+    Ok(copies)
+}
+
+/// The sorted relation, in which each touched tuple is a member where the index has it.
+fn brought_up_to_date(
+    alloc: Global,
+    sorted: &Rel,
+    touched: &[Tuple],
+    index: &KeyIndex,
+) -> Result<Rel, AllocError>
+    requires { All (IsTupleOf sorted.now.heading) touched.now }
+    ensures { IfOk result (λ r. (set : List Tuple) → set ≡ index.now.tuples
+        → Covers sorted.now.body touched.now set → IsAscendingBody set
+        → r ≡ relation_view sorted.now.heading set) }
+{
+    let touched = Rel::new(sorted.heading().try_clone()?, copied(alloc, touched)?)?;
+    let mask = mask_of(alloc, index, touched.rows())?;
+    let there = restrict(alloc, &touched, &mask)?;
+    changed(alloc, sorted, &touched, &there)
+}
+
+impl Members {
+    /// The heading with the members as a relation.
+    pub(crate) fn to_rel(&self, alloc: Global) -> Result<Rel, AllocError>
+        ensures { IfOk result (λ r. r ≡ self.now.relation) }
+    {
+        let Some(history) = self.histories.first() else {
+            return self.sorted.try_clone();
+        };
+        let _ = self.sorted.rows();
+        if self.touched.as_slice().is_empty() {
+            return self.sorted.try_clone();
+        }
+        brought_up_to_date(alloc, &self.sorted, &self.touched, &history.index)
     }
 }
