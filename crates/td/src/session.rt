@@ -14,7 +14,7 @@ use crate::dump::dump;
 use crate::line::Mode;
 use std::alloc::Global;
 use td_body::body::Body;
-use td_body::sorted::SortedBody;
+use td_body::hashed::HashBody;
 use td_engine::engine::Engine;
 use td_engine::laws::runs_keep_legality;
 use td_engine::run::{Report, RunFault, run};
@@ -160,5 +160,5 @@ pub fn session<R: Source, W: Sink>(
         (W.taken writer.new)))) }
     ensures between { IsLegalThroughout stop empty_state }
 {
-    session_on::<SortedBody, R, W>(alloc, mode, stop, reader, writer)
+    session_on::<HashBody, R, W>(alloc, mode, stop, reader, writer)
 }

@@ -13,6 +13,7 @@ use super::texts::{Want, is_answer, literal, names, relation};
 use super::values::numbers;
 use std::alloc::Global;
 use td_body::body::Body;
+use td_body::hashed::HashBody;
 use td_body::sorted::SortedBody;
 use td_tree::cause::Cause;
 use td_tree::fault::Fault;
@@ -208,8 +209,10 @@ const CALLS: &[(Call, &str, Want)] = &[
 #[test]
 fn members(rt: HostRuntime) {
     for (call, rel, want) in CALLS {
-        let found = told_of_text::<SortedBody>(rt.alloc(), *call, rel);
-        assert!(rt; is_answer(found, *want), "{rel}");
+        let sorted = told_of_text::<SortedBody>(rt.alloc(), *call, rel);
+        assert!(rt; is_answer(sorted, *want), "{rel}");
+        let hashed = told_of_text::<HashBody>(rt.alloc(), *call, rel);
+        assert!(rt; is_answer(hashed, *want), "{rel} hashed");
     }
 }
 
@@ -327,7 +330,9 @@ const KEYS: &[ByKey] = &[
 #[test]
 fn members_by_keys(rt: HostRuntime) {
     for (key, part, rel, want) in KEYS {
-        let found = told_by_texts::<SortedBody>(rt.alloc(), key, part, rel);
-        assert!(rt; is_answer(found, *want), "{rel}");
+        let sorted = told_by_texts::<SortedBody>(rt.alloc(), key, part, rel);
+        assert!(rt; is_answer(sorted, *want), "{rel}");
+        let hashed = told_by_texts::<HashBody>(rt.alloc(), key, part, rel);
+        assert!(rt; is_answer(hashed, *want), "{rel} hashed");
     }
 }

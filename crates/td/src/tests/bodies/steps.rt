@@ -11,6 +11,7 @@ use crate::tests::texts::{Want, is_answer, names, relation};
 use crate::tests::values::numbers;
 use std::alloc::Global;
 use td_body::body::Body;
+use td_body::hashed::HashBody;
 use td_body::sorted::SortedBody;
 use td_tree::cause::Cause;
 use td_tree::fault::Fault;
@@ -290,5 +291,6 @@ fn met<B: Body>(alloc: Global) -> Result<usize, Fault> {
 fn steps_of_bodies(rt: HostRuntime) {
     let all = Ok(STEPS.len());
     assert!(rt; met::<SortedBody>(rt.alloc()) == all);
+    assert!(rt; met::<HashBody>(rt.alloc()) == all);
     assert!(rt; met::<Outer>(rt.alloc()) == all);
 }
