@@ -307,6 +307,10 @@ fn is_session(alloc: Global, is_sorted: bool, session: Session) -> bool {
 fn sessions(rt: HostRuntime) {
     for session in SESSIONS {
         assert!(rt; is_session(rt.alloc(), false, *session), "{}", session.3);
-        assert!(rt; is_session(rt.alloc(), true, *session), "{} sorted", session.3);
+        assert!(rt;
+            is_session(rt.alloc(), true, *session),
+            "{} sorted",
+            session.3
+        );
     }
 }
