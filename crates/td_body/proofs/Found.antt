@@ -1,23 +1,23 @@
 -- The tuples of a hash, found one number after another, and whether any two tuples tie.
 use Rattle.std.specs.declared.cmp.Ordering.{Ordering}
 use Rattle.std.specs.declared.cmp.Ordering.TheVariants.{Less, Equal, Greater}
-use Rattle.std.proofs.Common.{◌≡◌, ℕ, ◌+◌, ◌<◌, ◌≤◌, Bool, true, false, not, cond, ◌||◌, ◌&&◌, List, [], ◌∷◌, ◌++◌, filter, map, refl, sym, ap, ◌∙◌, nat_eq, nat_lt, Option, Some, None, IsSome, is_some, arith, subst, true≢false}
-use Rattle.std.specs.List.{AllByRecursion, Contains, list_any}
+use Rattle.std.proofs.Common.{◌≡◌, ℕ, ◌+◌, ◌<◌, ◌≤◌, Bool, true, false, not, cond, ◌||◌, ◌&&◌, List, [], ◌∷◌, ◌++◌, map, refl, sym, ap, ◌∙◌, nat_eq, nat_lt, Option, Some, None, is_some, arith, subst, true≢false}
+use Rattle.std.specs.List.{AllByRecursion, list_any}
 use Rattle.std.specs.Map.{lookup}
 use Rattle.std.specs.List.Sorted.{IsStrictlySortedBy}
 use Rattle.std.specs.Option.{option_cmp}
-use Rattle.std.specs.Ordering.{eq_by_cmp, is_eq, ordering_reverse}
+use Rattle.std.specs.Ordering.{is_eq, ordering_reverse}
 use Rattle.std.proofs.lemmas.Bool.{eq-eqb}
 use Rattle.std.proofs.lemmas.Bool.Decides.{nat_tests}
 use Rattle.std.proofs.lemmas.List.Folds.{list_any-append}
-use Rattle.indexmap.specs.IndexMap.{IndexMap, get, keys}
+use Rattle.indexmap.specs.IndexMap.{IndexMap, keys}
 use Rattle.td_types.specs.Keys.{list_same}
 use Rattle.td_value.specs.Sets.{has, set_of}
 use Rattle.td_value.specs.Values.{HaveSameMembers, IsAscendingBody, Tuple, Val, tuple_cmp, value_cmp}
 use Rattle.td_value.specs.ValueOrder.{equal_from, order_same}
 use Rattle.td_value.proofs.Members.{contained, found}
 use Rattle.td_body.specs.declared.hashed.tables.Slot.{Slot}
-use Rattle.td_body.specs.KeyIndexes.{AreSeveral, IsIndexed, IsNumbered, count_by, count_in, found_hash, ordinal_of, part_hash, tuple_at, with_part}
+use Rattle.td_body.specs.KeyIndexes.{IsIndexed, IsNumbered, count_by, count_in, found_hash, ordinal_of, part_hash, tuple_at, with_part}
 use Rattle.td_body.specs.KeyParts.{apart_at, by_places, values_at, values_cmp}
 use Rattle.td_body.proofs.KeyParts.{found_order, found_order_total}
 use Rattle.td_body.proofs.Numbered.{some_of, some_same, split_nat}
@@ -63,7 +63,6 @@ pub found_none : (p : Tuple → Bool) (hash : Tuple → ℕ) (place : Tuple → 
 found_none p hash place k q = sym (rw (none_below (place q), and_false (nat_eq k (hash q))) (and_false (p q)))
 
 module _ (p : Tuple → Bool) (hash : Tuple → ℕ) (place : Tuple → Option ℕ) (item : ℕ → ℕ → Option Tuple) (count : ℕ → ℕ) (x : IsNumbered hash place item count) where
-
   -- one number more
   pub found_more : (k i : ℕ) (r : Tuple) → item k i ≡ Some r → (xs ys : List Tuple) → AreFound p hash place k i xs → ys ≡ cond (p r) (xs ++ r ∷ []) xs → AreFound p hash place k (i + 1) ys
   found_more k i r at xs ys h is q = ap (has tuple_cmp q) is ∙ by (p r) refl

@@ -1,18 +1,26 @@
 -- Members of a body after a change, and after a way back.
-use Rattle.std.proofs.Common.{◌≡◌, ◌∙◌, ◌∷◌, ◌++◌, ◌+◌, ◌<◌, [], ℕ, suc, zero, Bool, true, false, List, ap, arith, filter, get_or, length, length-append, map, refl, sym, subst, true≢false}
-use Rattle.std.specs.Prelude.{not, ◌&&◌, ◌||◌}
-use Rattle.std.specs.List.{All, Contains}
+use Rattle.std.proofs.Common.{◌≡◌, ◌∙◌, ◌∷◌, ◌++◌, ◌+◌, ◌<◌, [], ℕ, suc, zero, Bool, true, false, List, ap, arith, filter, get_or, length, length-append, map, refl, sym, subst}
+use Rattle.std.specs.Prelude.{not, ◌&&◌, ◌||◌, ◌==◌}
+use Rattle.std.proofs.lemmas.Bool.Decides.{nat_tests}
+use Rattle.std.specs.List.{All, slice_get}
+use Rattle.std.specs.Option.{option_map}
+use Rattle.std.specs.Prelude.{None, Option, Some}
+use Rattle.std.proofs.lemmas.Option.{get_or_from_slice_get, slice_get-map, slice_get_within}
+use Rattle.td_types.specs.Headings.{new_names}
 use Rattle.std.proofs.lemmas.List.{get_or_append_left, length-map}
 use Rattle.std.proofs.lemmas.List.Elements.{All-append, All-contains, All-filter, Contains-push}
-use Rattle.td_types.specs.Types.{Heading, IsHeading, pack}
-use Rattle.td_value.specs.Sets.{has}
-use Rattle.td_value.specs.Values.{IsAscendingBody, IsRelation, IsTupleOf, Tuple, tuple_cmp}
+use Rattle.td_types.specs.Types.{Heading, attribute_names}
+use Rattle.td_value.specs.Sets.{has, set_of}
+use Rattle.td_value.specs.Values.{IsAscendingBody, IsRelation, IsTupleOf, Tuple, relation_of, tuple_cmp}
 use Rattle.td_value.specs.Views.{relation_view}
-use Rattle.td_algebra.proofs.Relations.{IsRelation-relation_of, rows_ascend, rows_headed}
-use Rattle.td_body.specs.Histories.{changed_set, kept_sets}
-use Rattle.td_body.specs.Members.{AreMembers, Covers, IsAt, kept_in, places_in, set_in, versions_in}
+use Rattle.td_algebra.specs.Operators.{restriction}
+use Rattle.td_algebra.proofs.Relations.{IsRelation-relation_of, rows_headed}
+use Rattle.td_body.specs.Bodies.{after_change}
+use Rattle.td_body.specs.Histories.{changed_set}
+use Rattle.td_body.specs.KeyParts.{places_from}
+use Rattle.td_body.specs.Members.{AreMembers, ArePlaced, Covers, IsAt, kept_in, places_in, set_in, versions_in}
 use Rattle.td_body.specs.declared.hashed.history.KeyHistory.{KeyHistory}
-use Rattle.td_body.proofs.TupleSets.{has-changed}
+use Rattle.td_body.proofs.TupleSets.{ascends-set, has-append, has-changed, has-filter, has-set, same_tuples}
 
 -- histories that keep something are there
 pub some_kept : (hs : List KeyHistory) → 0 < length (kept_in hs) → 0 < length hs
@@ -24,6 +32,13 @@ pub first_at : (sorted set : List Tuple) (kept : List (List Tuple)) (hs : List K
     → (set_in sorted hs ≡ set) × (kept_in hs ≡ kept)
 first_at sorted set kept [] some all = absurd (omega arith)
 first_at sorted set kept (h ∷ hs) some all = all 0 h (omega arith)
+
+-- the set is that of the first
+pub first_set : (sorted : List Tuple) (hs : List KeyHistory) (h : KeyHistory) → slice_get hs 0 ≡ Some h → set_in sorted hs ≡ h.index.tuples
+first_set sorted [] h is = cc
+first_set sorted (g ∷ hs) h is =
+    let same : g ≡ h = cc in
+    ap (λ (k : KeyHistory). k.index.tuples) same
 
 -- as many histories as places
 pub as_many : (hs gs : List KeyHistory) → places_in hs ≡ places_in gs → length hs ≡ length gs
@@ -63,10 +78,10 @@ pub one : {X : Type 0} (P : X → Type 0) (x : X) → P x → All P (x ∷ [])
 one P x p zero d low = p
 one P x p (suc k) d low = absurd (omega arith)
 
-last_holds : {X : Type 0} (P : X → Type 0) (xs : List X) (x : X) → All P (xs ++ x ∷ []) → P x
+pub last_holds : {X : Type 0} (P : X → Type 0) (xs : List X) (x : X) → All P (xs ++ x ∷ []) → P x
 last_holds P xs x all = All-contains P (xs ++ x ∷ []) x all (Contains-push xs x)
 
-front_holds : {X : Type 0} (P : X → Type 0) (xs : List X) (x : X) → All P (xs ++ x ∷ []) → All P xs
+pub front_holds : {X : Type 0} (P : X → Type 0) (xs : List X) (x : X) → All P (xs ++ x ∷ []) → All P xs
 front_holds P xs x all k d low = subst P (get_or_append_left xs (x ∷ []) d k low) (all k d (omega (arith, length-append xs (x ∷ []))))
 
 -- a list that is not empty has a last item
@@ -93,10 +108,10 @@ standing h sorted more now earlier gs count some at relations covered headed cou
       counted = counted ∙ ap length (sym first.1);
     }
 
-
-emptied : (hs : List KeyHistory) → length hs ≡ 0 → hs ≡ []
-emptied [] e = refl
-emptied (h ∷ hs) e = absurd (omega arith)
+-- a list of no items
+pub none_there : {X : Type 0} (xs : List X) → length xs ≡ 0 → xs ≡ []
+none_there [] e = refl
+none_there (x ∷ xs) e = absurd (omega arith)
 
 module _ (h : Heading) (sorted touched : List Tuple) (hs : List KeyHistory) (n : ℕ) (m : AreMembers h sorted touched hs n) where
   abbrev set : List Tuple
@@ -126,9 +141,9 @@ module _ (h : Heading) (sorted touched : List Tuple) (hs : List KeyHistory) (n :
         let wide = all_cover_more sorted touched more (versions_in sorted hs) wider m.covered in
         standing h sorted more (changed_set out add set) (kept ++ set ∷ []) gs (n + 1) some at
         (All-append (λ ts. IsRelation (relation_view h ts)) (versions_in sorted hs) (changed_set out add set ∷ []) m.relations
-          (one (λ ts. IsRelation (relation_view h ts)) (changed_set out add set) (relation_changed h out add set typed set_relation)))
+        (one (λ ts. IsRelation (relation_view h ts)) (changed_set out add set) (relation_changed h out add set typed set_relation)))
         (All-append (Covers sorted more) (versions_in sorted hs) (changed_set out add set ∷ []) wide
-          (one (Covers sorted more) (changed_set out add set) (covers_changed sorted more out add set outs adds (covers_more sorted touched more set wider set_covered))))
+        (one (Covers sorted more) (changed_set out add set) (covers_changed sorted more out add set outs adds (covers_more sorted touched more set wider set_covered))))
         headed (omega (arith, m.counted, length-append kept (set ∷ [])))
 
   -- the latest change was undone
@@ -147,13 +162,13 @@ module _ (h : Heading) (sorted touched : List Tuple) (hs : List KeyHistory) (n :
   -- the same where there may be no history
   pub settled_at : (gs : List KeyHistory) → places_in gs ≡ places_in hs → All (IsAt set []) gs → (set_in sorted gs ≡ set) × (kept_in gs ≡ [])
   settled_at [] places at =
-      let none : hs ≡ [] = emptied hs (sym (as_many [] hs places)) in
+      let none : hs ≡ [] = none_there hs (sym (as_many [] hs places)) in
       (ap (set_in sorted) (sym none), refl)
   settled_at (g ∷ gs) places at = first_at sorted set [] (g ∷ gs) (omega arith) at
 
   pub all_settled : (gs : List KeyHistory) → places_in gs ≡ places_in hs → All (IsAt set []) gs → AreMembers h sorted touched gs 0
   all_settled [] places at =
-      let none : hs ≡ [] = emptied hs (sym (as_many [] hs places)) in
+      let none : hs ≡ [] = none_there hs (sym (as_many [] hs places)) in
       let same : set ≡ sorted = ap (set_in sorted) none in
       record {
         alike = λ k d low. absurd (omega arith);
@@ -164,3 +179,73 @@ module _ (h : Heading) (sorted touched : List Tuple) (hs : List KeyHistory) (n :
         counted = refl;
       }
   all_settled (g ∷ gs) places at = members_settled (g ∷ gs) (omega arith) at
+
+-- ---- one of the histories
+
+-- what holds of all items holds of the one at a place
+pub at_place : {X : Type 0} (P : X → Type 0) (xs : List X) (k : ℕ) (x : X) → All P xs → slice_get xs k ≡ Some x → P x
+at_place P xs k x all is = subst P (get_or_from_slice_get xs k x x is) (all k x (slice_get_within xs k x is))
+
+-- the names that no renaming changes
+pub names_unchanged : (h : Heading) → new_names [] h ≡ attribute_names h
+names_unchanged [] = refl
+names_unchanged (a ∷ h) = ap (λ ns. a.0 ∷ ns) (names_unchanged h)
+
+-- places that are found for each key are placed
+pub placed_by : {V : Type 0} (items : V → List (List ℕ)) (names : List (List ℕ)) (vs : List V)
+    → ArePlaced (map items vs) names (map (λ v. places_from 0 (items v) names) vs)
+placed_by items names vs k key ps is at =
+    by_found (slice_get vs k) (sym (slice_get-map items vs k) ∙ is) (sym (slice_get-map (λ v. places_from 0 (items v) names) vs k) ∙ at)
+  where
+    by_found : (o : Option _) → option_map items o ≡ Some key → option_map (λ v. places_from 0 (items v) names) o ≡ Some ps → ps ≡ places_from 0 key names
+    by_found None e f = cc
+    by_found (Some v) e f =
+        let same_key : items v ≡ key = cc in
+        let same_places : places_from 0 (items v) names ≡ ps = cc in
+        sym same_places ∙ ap (λ n. places_from 0 n names) same_key
+
+-- ---- in order again
+
+module _ (sorted touched set : List Tuple) where
+  abbrev kept_rest : List Tuple
+  kept_rest = filter (λ t. not (has tuple_cmp t (set_of tuple_cmp touched))) sorted
+
+  abbrev there : List Tuple
+  there = filter (λ t. has tuple_cmp t set) (set_of tuple_cmp touched)
+
+  by_touched : Covers sorted touched set → (t : Tuple) (b : Bool) → has tuple_cmp t touched ≡ b
+      → ((not b && has tuple_cmp t sorted) || (has tuple_cmp t set && b)) ≡ has tuple_cmp t set
+  by_touched covers t true e = and_true (has tuple_cmp t set)
+    where
+      and_true : (c : Bool) → (c && true) ≡ c
+      and_true true = refl
+      and_true false = refl
+  by_touched covers t false e = none (has tuple_cmp t sorted) (has tuple_cmp t set) ∙ sym (covers t e)
+    where
+      none : (c d : Bool) → ((true && c) || (d && false)) ≡ c
+      none true d = refl
+      none false true = refl
+      none false false = refl
+
+  members : Covers sorted touched set → (t : Tuple) → (has tuple_cmp t kept_rest || has tuple_cmp t there) ≡ has tuple_cmp t set
+  members covers t =
+      (λ i. has-filter (λ u. not (has tuple_cmp u (set_of tuple_cmp touched))) t sorted i || has-filter (λ u. has tuple_cmp u set) t (set_of tuple_cmp touched) i)
+      ∙ (λ i. (not (has-set t touched i) && has tuple_cmp t sorted) || (has tuple_cmp t set && has-set t touched i))
+      ∙ by_touched covers t (has tuple_cmp t touched) refl
+
+  -- the sorted tuples, with each touched one where the set has it
+  pub up_to_date : (h : Heading) → Covers sorted touched set → IsAscendingBody set
+      → after_change (relation_of h touched) (restriction (λ t. has tuple_cmp t set) (relation_of h touched)) (relation_view h sorted) ≡ relation_view h set
+  up_to_date h covers up =
+      let body : set_of tuple_cmp (kept_rest ++ there) ≡ set =
+      same_tuples (set_of tuple_cmp (kept_rest ++ there)) set (ascends-set (kept_rest ++ there)) up (λ t. has-set t (kept_rest ++ there) ∙ has-append t kept_rest there ∙ members covers t) in
+      λ i. relation_view h (body i)
+
+-- where no tuple was touched the sets are one
+pub untouched_same : (sorted set : List Tuple) → Covers sorted [] set → IsAscendingBody sorted → IsAscendingBody set → set ≡ sorted
+untouched_same sorted set covers up up' = same_tuples set sorted up' up (λ t. covers t refl)
+
+-- a list whose length is 0 has no item
+pub no_items : {X : Type 0} (xs : List X) → true ≡ (length xs == 0) → xs ≡ []
+no_items [] e = refl
+no_items (x ∷ xs) e = absurd (grind (arith, nat_tests))

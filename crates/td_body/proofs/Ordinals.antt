@@ -2,7 +2,7 @@
 use Rattle.std.specs.declared.cmp.Ordering.{Ordering}
 use Rattle.std.specs.declared.cmp.Ordering.TheVariants.{Less, Equal, Greater}
 use Rattle.std.specs.Ordering.{eq_by_cmp, is_eq}
-use Rattle.std.proofs.Common.{◌≡◌, ℕ, ◌+◌, ◌<◌, ◌≤◌, Bool, true, false, not, cond, ◌||◌, ◌&&◌, List, [], ◌∷◌, length, map, filter, refl, sym, ap, ◌∙◌, nat_eq, nat_lt, Option, Some, None, is_some, IsSome, arith, subst, true≢false, suc}
+use Rattle.std.proofs.Common.{◌≡◌, ℕ, ◌+◌, ◌<◌, ◌≤◌, Bool, true, false, not, cond, ◌||◌, ◌&&◌, List, [], ◌∷◌, length, map, filter, refl, sym, ap, ◌∙◌, nat_eq, nat_lt, Option, Some, None, is_some, IsSome, arith, subst, true≢false}
 use Rattle.std.specs.List.{list_any, AllByRecursion, IsDistinct}
 use Rattle.std.specs.Map.{lookup, lookup_key, keys_of}
 use Rattle.std.proofs.lemmas.Bool.{eq-eqb}
@@ -16,8 +16,8 @@ use Rattle.td_value.specs.Values.{Tuple, IsAscendingBody, tuple_cmp}
 use Rattle.td_value.specs.ValueOrder.{tuple_Decides, tuple_order_same, tuple_order_total}
 use Rattle.td_value.proofs.SetLaws.{has-put_in, has-set_of, put_in-ascends, same_members, set_of-ascends}
 use Rattle.td_body.specs.declared.hashed.tables.Slot.{Slot}
-use Rattle.td_body.specs.KeyIndexes.{AreSeveral, IsIndexed, IsNumbered, count_by, count_in, ordinal_of, part_hash, several, slot_eq, tuple_at, without}
-use Rattle.td_body.proofs.Numbered.{count_is, some_same, split, split_nat, split_slot}
+use Rattle.td_body.specs.KeyIndexes.{IsIndexed, IsNumbered, count_by, count_in, ordinal_of, part_hash, several, slot_eq, tuple_at, without}
+use Rattle.td_body.proofs.Numbered.{count_is, some_same, split, split_nat}
 
 -- a table has a key where a look-up finds it
 pub any_get : {K X : Type 0} (t : K → Bool) (es : List (K × X)) → list_any t (keys_of es) ≡ is_some (lookup t es)
@@ -180,9 +180,10 @@ module _ {H : Type 0} where
       → IsIndexed places m s c → IsIndexed places m' s' c'
   indexed_same places m m' s s' c c' p q r x =
       let a = subst (λ es. IsNumbered (part_hash places) (λ t. lookup (same t) es) (tuple_at s) (count_in c s)) (sym p) x.0 in
-      let b = subst (λ es. IsNumbered (part_hash places) (ordinal_of m') (λ k i. lookup (slot_eq (record { hash = k; ordinal = i })) es) (λ k. count_by (get nat_eq c k) (lookup (slot_eq (record { hash = k; ordinal = 0 })) es))) (sym q) a in
-      (subst (λ es. IsNumbered (part_hash places) (ordinal_of m') (tuple_at s') (λ k. count_by (lookup (nat_eq k) es) (tuple_at s' k 0))) (sym r) b,
-        subst (λ es. (k n : ℕ) → lookup (nat_eq k) es ≡ Some n → 1 < n) (sym r) x.1)
+      let b = subst (λ es. IsNumbered (part_hash places) (ordinal_of m') (λ k i. lookup (slot_eq (record { hash = k; ordinal = i })) es) (λ k. count_by (get nat_eq c k) (lookup (slot_eq (record { hash = k; ordinal = 0 })) es))) (sym q) a in (
+        subst (λ es. IsNumbered (part_hash places) (ordinal_of m') (tuple_at s') (λ k. count_by (lookup (nat_eq k) es) (tuple_at s' k 0))) (sym r) b,
+        subst (λ es. (k n : ℕ) → lookup (nat_eq k) es ≡ Some n → 1 < n) (sym r) x.1,
+      )
 
 -- ---- how many have a hash, with one more and with one less
 

@@ -1,7 +1,6 @@
 -- Sets of tuples with an index for one key: the tuples of one hash are numbered from 0, without a gap (this project's own).
 use Rattle.std.specs.Coded.{Coded, code_by, coded×, coded_list, coded_ℕ}
 use Rattle.std.specs.Prelude.{◌≡◌, ℕ, ◌<◌, Bool, cond, ◌&&◌, ◌++◌, List, [], ◌∷◌, Option, Some, None, IsSome, filter, fold, is_some, nat_eq, nat_lt, not, refl}
-use Rattle.std.specs.HashMap.{HashMap}
 use Rattle.std.specs.Option.{unwrap_or}
 use Rattle.std.specs.Ordering.{eq_by_cmp, is_eq}
 use Rattle.std.specs.Hash.FoldHasher as folding

@@ -1,5 +1,6 @@
 pub mod Bodies
 pub mod BodyCode
+pub mod HashBodies
 pub mod Histories
 pub mod KeyIndexes
 pub mod KeyParts

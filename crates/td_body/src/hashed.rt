@@ -1,8 +1,12 @@
 //! Bodies whose members are hashed.
-pub(crate) mod filled;
+mod body;
+mod filled;
 mod hashes;
-pub(crate) mod history;
-pub(crate) mod index;
-pub(crate) mod members;
-pub(crate) mod step;
+mod history;
+mod index;
+mod look_ups;
+mod members;
+mod step;
 mod tables;
+
+pub use body::HashBody;

@@ -3,7 +3,7 @@
 
 pub mod body;
 mod changes;
-mod hashed;
+pub mod hashed;
 pub mod keys;
 pub mod laws;
 pub mod sorted;

@@ -8,7 +8,9 @@ ghost use Rattle.td_body.specs.KeyIndexes.{with_part, without};
 ghost use Rattle.td_body.specs.KeyParts.{apart_at, values_cmp};
 
 use super::hashes::{hash_at, hash_of};
-use super::tables::{Slot, close_gap, count_of, lower_count, put, raise_count, shared_hash, tuple_in};
+use super::tables::{
+    Slot, close_gap, count_of, lower_count, put, raise_count, shared_hash, tuple_in,
+};
 use crate::keys::{compare_at, compare_with};
 use indexmap::IndexMap;
 use std::alloc::{AllocError, Global};
@@ -42,7 +44,10 @@ impl Piece {
     pub(crate) fn of(tuple: &Tuple) -> Result<Piece, AllocError>
         ensures { IfOk result (λ p. p ≡ tuple.now) }
     {
-        Ok(Piece { place: tuple.try_clone()?, slot: tuple.try_clone()? })
+        Ok(Piece {
+            place: tuple.try_clone()?,
+            slot: tuple.try_clone()?,
+        })
     }
 }
 
@@ -71,9 +76,9 @@ impl Model for KeyIndex {
     ghost coded = { key_index_code };
 
     ghost view = { λ a. record {
-        tuples = set_of tuple_cmp (keys a.ordinals);
-        places = a.places.items;
-        room = min (spare a.ordinals) (min (spare a.slots) (spare a.counts));
+      tuples = set_of tuple_cmp (keys a.ordinals);
+      places = a.places.items;
+      room = min (spare a.ordinals) (min (spare a.slots) (spare a.counts));
     } };
 
     ghost invariant = { λ a. IsIndexed a.places.items a.ordinals a.slots a.counts };
@@ -174,11 +179,7 @@ impl KeyIndex {
     }
 
     /// The tuples whose values at the places are those of the part.
-    pub(crate) fn tuples_at(
-        &self,
-        alloc: Global,
-        part: &[Value],
-    ) -> Result<Vec<Tuple>, AllocError>
+    pub(crate) fn tuples_at(&self, alloc: Global, part: &[Value]) -> Result<Vec<Tuple>, AllocError>
         requires { length self.now.places ≡ length part.now }
         ensures { IfOk result (λ found. HaveSameMembers found.items
             (with_part self.now.places part.now self.now.tuples)) }
@@ -187,7 +188,12 @@ impl KeyIndex {
         let count = count_of(&self.counts, &self.slots, hash);
         let mut found = Vec::new(alloc);
         'ordinals: for ordinal in 0..count {
-            keep_at(&self.places, part, tuple_in(&self.slots, hash, ordinal), &mut found)?;
+            keep_at(
+                &self.places,
+                part,
+                tuple_in(&self.slots, hash, ordinal),
+                &mut found,
+            )?;
         }
         Ok(found)
     }

@@ -1,20 +1,24 @@
 //! The members of a body, in order and hashed.
-ghost use Rattle.std.specs.Prelude.{◌≡◌, ◌∷◌, ◌++◌, [], ◌<◌, IfOk, IfSome, IsTrue, List};
+ghost use Rattle.std.specs.Prelude.{◌≡◌, ◌∷◌, ◌++◌, [], ℕ, ◌<◌, IfOk, IfSome, IsTrue, List, Some};
 ghost use Rattle.std.specs.Prelude.{OnErr, OnOk, false, length, map};
 ghost use Rattle.std.specs.List.{All, slice_get};
 ghost use Rattle.td_types.specs.Types.{Heading, attribute_names};
 ghost use Rattle.td_value.specs.Sets.{has};
-ghost use Rattle.td_value.specs.Values.{Tuple, HaveSameMembers, IsRelation, IsTupleOf, tuple_cmp};
+ghost use Rattle.td_value.specs.Values.{Tuple, HaveSameMembers, IsAscendingBody, IsRelation};
+ghost use Rattle.td_value.specs.Values.{IsTupleOf, tuple_cmp};
 ghost use Rattle.td_value.specs.Views.{relation_view};
 ghost use Rattle.td_body.specs.Histories.{changed_set, kept_sets};
 ghost use Rattle.td_body.specs.KeyIndexes.{with_part};
 ghost use Rattle.td_body.specs.KeyParts.{apart_at};
-ghost use Rattle.td_body.specs.Members.{ArePlaced, HasReady, HasRoom, IsAt, places_in};
+ghost use Rattle.td_body.specs.Members.{ArePlaced, Covers, HasReady, HasRoom, IsAt, places_in};
 
 use super::filled::histories_of;
 use super::history::KeyHistory;
+use super::index::KeyIndex;
+use crate::changes::changed;
 use std::alloc::{AllocError, Global};
 use std::marker::Model;
+use td_algebra::restriction::restrict;
 use td_tree::name::Name;
 use td_types::heading::Heading;
 use td_value::relation::Rel;
@@ -48,7 +52,7 @@ impl Model for Members {
     } };
 
     ghost invariant = { λ m.
-      AreMembers m.sorted.heading m.sorted.body m.touched.items m.histories.items m.kept_count };
+        AreMembers m.sorted.heading m.sorted.body m.touched.items m.histories.items m.kept_count };
 }
 
 /// Of how many tuples a change is carried out step by step: of a quarter of those that are there,
@@ -142,9 +146,9 @@ impl Members {
     ) -> Result<Option<Vec<Tuple>>, AllocError>
         requires { IfSome (slice_get self.now.places number) (λ places.
             length places ≡ length part.now) }
-        ensures { IfOk result (λ found. IfSome found (λ found.
-            IfSome (slice_get self.now.places number) (λ places.
-            HaveSameMembers found.items (with_part places part.now self.now.relation.body)))) }
+        ensures { IfOk result (λ found. IfSome found (λ found. (places : List ℕ)
+            × (slice_get self.now.places number ≡ Some places) × HaveSameMembers found.items
+            (with_part places part.now self.now.relation.body))) }
     {
         match self.histories.get(number) {
             Some(history) => Ok(Some(history.index.tuples_at(alloc, part)?)),
@@ -155,21 +159,21 @@ impl Members {
     /// Whether no two members have the same values at the places of that number, where that is
     /// seen at once.
     pub(crate) fn are_apart(&self, number: usize) -> Option<bool>
-        ensures { IfSome result (λ b. IfSome (slice_get self.now.places number) (λ places.
-            b ≡ apart_at places self.now.relation.body)) }
+        ensures { IfSome result (λ b. (places : List ℕ)
+            × (slice_get self.now.places number ≡ Some places)
+            × (b ≡ apart_at places self.now.relation.body)) }
     {
-        self.histories.get(number)?.index.is_apart()
+        match self.histories.get(number) {
+            Some(history) => history.index.is_apart(),
+            None => None,
+        }
     }
 }
 
 // ---- histories side by side
 
 /// Makes all the room that a change takes in each history, and has the tuples ready there.
-fn prepare_all(
-    histories: &mut [KeyHistory],
-    out: usize,
-    add: &[Tuple],
-) -> Result<(), AllocError>
+fn prepare_all(histories: &mut [KeyHistory], out: usize, add: &[Tuple]) -> Result<(), AllocError>
     ensures same { (set : List Tuple) (kept : List (List Tuple))
         → All (IsAt set kept) histories.old → All (IsAt set kept) histories.new }
     ensures places { places_in histories.new ≡ places_in histories.old }
@@ -240,11 +244,7 @@ fn touch(touched: &mut Vec<Tuple>, tuples: &[Tuple]) -> Result<(), AllocError>
 }
 
 /// Does so with those that go out and with those that come in.
-fn touch_both(
-    touched: &mut Vec<Tuple>,
-    out: &[Tuple],
-    add: &[Tuple],
-) -> Result<(), AllocError>
+fn touch_both(touched: &mut Vec<Tuple>, out: &[Tuple], add: &[Tuple]) -> Result<(), AllocError>
     ensures more { (t : Tuple) → has tuple_cmp t touched.new.items ≡ false
         → has tuple_cmp t touched.old.items ≡ false }
     ensures out { OnOk result ((t : Tuple) → has tuple_cmp t touched.new.items ≡ false
@@ -260,11 +260,7 @@ fn touch_both(
 }
 
 /// Carries a change out in each history, where there is memory for it.
-fn change_all(
-    histories: &mut [KeyHistory],
-    out: &[Tuple],
-    add: &[Tuple],
-) -> Result<(), AllocError>
+fn change_all(histories: &mut [KeyHistory], out: &[Tuple], add: &[Tuple]) -> Result<(), AllocError>
     ensures same { OnErr result ((set : List Tuple) (kept : List (List Tuple))
         → All (IsAt set kept) histories.old → All (IsAt set kept) histories.new) }
     ensures changed { OnOk result ((set : List Tuple) (kept : List (List Tuple))
@@ -328,5 +324,64 @@ impl Members {
         ensures { result ≡ length self.now.kept }
     {
         self.kept_count
+    }
+}
+
+// ---- in order again
+
+/// Whether each of the tuples is in the index.
+fn mask_of(alloc: Global, index: &KeyIndex, tuples: &[Tuple]) -> Result<Vec<bool>, AllocError>
+    ensures { IfOk result (λ mask.
+        mask.items ≡ map (λ t. has tuple_cmp t index.now.tuples) tuples.now) }
+{
+    let mut mask = Vec::with_capacity(alloc, tuples.len())?;
+    for tuple in tuples {
+        mask.push(index.contains(tuple))?;
+    }
+    Ok(mask)
+}
+
+/// Copies of the tuples.
+fn copied(alloc: Global, tuples: &[Tuple]) -> Result<Vec<Tuple>, AllocError>
+    ensures { IfOk result (λ copies. copies.items ≡ tuples.now) }
+{
+    let mut copies = Vec::with_capacity(alloc, tuples.len())?;
+    for tuple in tuples {
+        copies.push(tuple.try_clone()?)?;
+    }
+    Ok(copies)
+}
+
+/// The sorted relation, in which each touched tuple is a member where the index has it.
+fn brought_up_to_date(
+    alloc: Global,
+    sorted: &Rel,
+    touched: &[Tuple],
+    index: &KeyIndex,
+) -> Result<Rel, AllocError>
+    requires { All (IsTupleOf sorted.now.heading) touched.now }
+    ensures { IfOk result (λ r. (set : List Tuple) → set ≡ index.now.tuples
+        → Covers sorted.now.body touched.now set → IsAscendingBody set
+        → r ≡ relation_view sorted.now.heading set) }
+{
+    let touched = Rel::new(sorted.heading().try_clone()?, copied(alloc, touched)?)?;
+    let mask = mask_of(alloc, index, touched.rows())?;
+    let there = restrict(alloc, &touched, &mask)?;
+    changed(alloc, sorted, &touched, &there)
+}
+
+impl Members {
+    /// The heading with the members as a relation.
+    pub(crate) fn to_rel(&self, alloc: Global) -> Result<Rel, AllocError>
+        ensures { IfOk result (λ r. r ≡ self.now.relation) }
+    {
+        let Some(history) = self.histories.first() else {
+            return self.sorted.try_clone();
+        };
+        let _ = self.sorted.rows();
+        if self.touched.as_slice().is_empty() {
+            return self.sorted.try_clone();
+        }
+        brought_up_to_date(alloc, &self.sorted, &self.touched, &history.index)
     }
 }

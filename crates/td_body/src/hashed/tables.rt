@@ -138,7 +138,12 @@ pub(crate) fn close_gap(
     ensures slots_room { spare slots.old ≤ spare slots.new }
     ensures ordinals_room { spare ordinals.new ≡ spare ordinals.old }
 {
-    let moved = slots.swap_remove(&Slot { hash, ordinal: last }).unwrap();
+    let moved = slots
+        .swap_remove(&Slot {
+            hash,
+            ordinal: last,
+        })
+        .unwrap();
     if ordinal == last {
         return moved;
     }

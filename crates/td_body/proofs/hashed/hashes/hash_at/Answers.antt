@@ -1,4 +1,4 @@
-use Rattle.std.proofs.Common.{◌≡◌, ◌∙◌, FoldHasher, ap, drop, fold, sym}
+use Rattle.std.proofs.Common.{◌∙◌, FoldHasher, ap, fold, sym}
 use Rattle.std.proofs.lemmas.List.{at_drop_all}
 use Rattle.std.specs.Hash.FoldHasher.{write}
 use Rattle.td_body.specs.KeyIndexes.{fed_found, found_hash}

@@ -1,4 +1,4 @@
-use Rattle.std.proofs.Common.{◌≡◌, ◌∙◌, FoldHasher, List, Some, ap, drop, fold, length, map, sym}
+use Rattle.std.proofs.Common.{◌∙◌, FoldHasher, Some, ap, fold, map, sym}
 use Rattle.std.proofs.lemmas.List.{at_drop_all}
 use Rattle.std.specs.Hash.FoldHasher.{write}
 use Rattle.td_body.specs.KeyIndexes.{fed_found, found_hash}

@@ -1,4 +1,4 @@
-use Rattle.std.proofs.Common.{◌≡◌, ℕ, Option, Some, sym, ap, ◌∙◌, refl, subst, IsSome, Bool, true, false, cond}
+use Rattle.std.proofs.Common.{Some, sym, ap, ◌∙◌, refl, subst, IsSome}
 use Rattle.std.specs.Ordering.{eq_by_cmp}
 use Rattle.td_value.specs.Values.{tuple_cmp}
 use Rattle.td_value.specs.ValueOrder.{tuple_Decides}

@@ -1,4 +1,4 @@
-use Rattle.std.proofs.Common.{◌≡◌, ℕ, ◌+◌, ◌≤◌, sym, ap, ◌∙◌, refl, subst, arith, not, is_some, Bool, true, false, Option, Some, None, nat_eq, ◌&&◌}
+use Rattle.std.proofs.Common.{◌≡◌, ℕ, ◌+◌, sym, ap, ◌∙◌, subst, arith, not, is_some, true, false, Some, nat_eq, ◌&&◌}
 use Rattle.indexmap.specs.IndexMap.{get, keys}
 use Rattle.td_value.specs.Sets.{has, put_in, set_of}
 use Rattle.td_value.specs.ValueOrder.{tuple_Decides}
@@ -38,11 +38,12 @@ invariant_of-self c =
     let others : (l i : ℕ) → (nat_eq k l && nat_eq n i) ≡ false → item' l i ≡ item l i = λ l i b. c.put.ensures.updates.2 (record { hash = l; ordinal = i }) b in
     let more = counted_more known known' item item' k n
     (λ i low. c.self.invariant.0.filled k i (omega (arith, low, c.count_of-ordinal.ensures))) (ap is_some there) others c.raise_count.ensures.counts in
-    let rest = counted_other known known' item item' k n others c.raise_count.ensures.counts in
-    (numbered_more_at same tuple_Decides (part_hash places) (ordinal_of c.self.inside.ordinals) item (count_in c.self.inside.counts c.self.inside.slots) c.self.invariant.0
-    (ordinal_of c.put-2.new.map) item' (count_in c.raise_count.new.counts c.put.new.map) t k n (sym is) c.count_of-ordinal.ensures
-    (none_of _ (sym c.contains_key.ensures ∙ c.if-contains_key.false)) c.put-2.ensures.updates.1 c.put-2.ensures.updates.2 there others more rest,
-      several_still known known' k (n + 1) c.raise_count.ensures.counts c.self.invariant.1)
+    let rest = counted_other known known' item item' k n others c.raise_count.ensures.counts in (
+      numbered_more_at same tuple_Decides (part_hash places) (ordinal_of c.self.inside.ordinals) item (count_in c.self.inside.counts c.self.inside.slots) c.self.invariant.0
+          (ordinal_of c.put-2.new.map) item' (count_in c.raise_count.new.counts c.put.new.map) t k n (sym is) c.count_of-ordinal.ensures
+          (none_of _ (sym c.contains_key.ensures ∙ c.if-contains_key.false)) c.put-2.ensures.updates.1 c.put-2.ensures.updates.2 there others more rest,
+      several_still known known' k (n + 1) c.raise_count.ensures.counts c.self.invariant.1,
+    )
 
 pub returns-clause-tuples : goal.returns-clause-tuples
 returns-clause-tuples c =

@@ -1,4 +1,4 @@
-use Rattle.std.proofs.Common.{◌≡◌, ℕ, ◌+◌, ◌-◌, ◌≤◌, ◌<◌, sym, ap, ◌∙◌, refl, subst, arith, not, is_some, Bool, true, false, Option, Some, None, IsSome, cond, ◌&&◌, nat_eq}
+use Rattle.std.proofs.Common.{◌≡◌, ℕ, ◌+◌, ◌-◌, sym, ap, ◌∙◌, refl, subst, arith, is_some, Bool, true, false, Option, Some, None, IsSome, cond, ◌&&◌, nat_eq}
 use Rattle.std.specs.Option.{option_map}
 use Rattle.indexmap.specs.IndexMap.{get, keys}
 use Rattle.td_value.specs.Sets.{has, set_of}
@@ -75,13 +75,14 @@ invariant_of-self c =
     let last = some_of (item k n) (c.self.invariant.0.filled k n (omega (arith, some))) in
     let slots : (l i : ℕ) → item' l i ≡ cond (nat_eq k l && nat_eq n i) None (cond (nat_eq k l && nat_eq j i) (Some last.0) (item l i)) = λ l i.
     c.close_gap-slot.ensures.slots l i ∙ ap (λ z. cond (nat_eq k l && nat_eq n i) None (cond (nat_eq k l && nat_eq j i) z (item l i))) last.1 in
-    let counts = counted_less known known' item item' k n j last.0 (λ i low. c.self.invariant.0.filled k i (omega (arith, low, some))) slots c.lower_count.ensures.counts in
-    (numbered_less_at same tuple_Decides (part_hash places) (ordinal_of c.self.inside.ordinals) item count c.self.invariant.0
-    (ordinal_of c.swap_remove_entry.new.self) item' (count_in c.lower_count.new.counts c.close_gap-slot.new.slots)
-    t last.0 k j n (sym alike) is some last.1
-    (λ q. c.swap_remove_entry.ensures.updates.0 q ∙ ap (λ z. cond (same t q) None z) (c.close_gap-slot.ensures.ordinals last.0 q last.1))
-    slots counts,
-      several_still known known' k n c.lower_count.ensures.counts c.self.invariant.1)
+    let counts = counted_less known known' item item' k n j last.0 (λ i low. c.self.invariant.0.filled k i (omega (arith, low, some))) slots c.lower_count.ensures.counts in (
+      numbered_less_at same tuple_Decides (part_hash places) (ordinal_of c.self.inside.ordinals) item count c.self.invariant.0
+          (ordinal_of c.swap_remove_entry.new.self) item' (count_in c.lower_count.new.counts c.close_gap-slot.new.slots)
+          t last.0 k j n (sym alike) is some last.1
+          (λ q. c.swap_remove_entry.ensures.updates.0 q ∙ ap (λ z. cond (same t q) None z) (c.close_gap-slot.ensures.ordinals last.0 q last.1))
+          slots counts,
+      several_still known known' k n c.lower_count.ensures.counts c.self.invariant.1,
+    )
 
 pub returns-clause-tuples : goal.returns-clause-tuples
 returns-clause-tuples c =
