@@ -209,10 +209,10 @@ const CALLS: &[(Call, &str, Want)] = &[
 #[test]
 fn members(rt: HostRuntime) {
     for (call, rel, want) in CALLS {
-        let found = told_of_text::<SortedBody>(rt.alloc(), *call, rel);
-        assert!(rt; is_answer(found, *want), "{rel}");
-        let found = told_of_text::<HashBody>(rt.alloc(), *call, rel);
-        assert!(rt; is_answer(found, *want), "{rel}");
+        let sorted = told_of_text::<SortedBody>(rt.alloc(), *call, rel);
+        assert!(rt; is_answer(sorted, *want), "{rel}");
+        let hashed = told_of_text::<HashBody>(rt.alloc(), *call, rel);
+        assert!(rt; is_answer(hashed, *want), "{rel} hashed");
     }
 }
 
@@ -330,9 +330,9 @@ const KEYS: &[ByKey] = &[
 #[test]
 fn members_by_keys(rt: HostRuntime) {
     for (key, part, rel, want) in KEYS {
-        let found = told_by_texts::<SortedBody>(rt.alloc(), key, part, rel);
-        assert!(rt; is_answer(found, *want), "{rel}");
-        let found = told_by_texts::<HashBody>(rt.alloc(), key, part, rel);
-        assert!(rt; is_answer(found, *want), "{rel}");
+        let sorted = told_by_texts::<SortedBody>(rt.alloc(), key, part, rel);
+        assert!(rt; is_answer(sorted, *want), "{rel}");
+        let hashed = told_by_texts::<HashBody>(rt.alloc(), key, part, rel);
+        assert!(rt; is_answer(hashed, *want), "{rel} hashed");
     }
 }
