@@ -208,8 +208,8 @@ fn go_back_all(histories: &mut [KeyHistory])
         → All (IsAt now (kept ++ set ∷ [])) histories.old → All (IsAt set kept) histories.new }
     ensures places { places_in histories.new ≡ places_in histories.old }
 {
-    for place in 0..histories.len() {
-        let history = &mut histories[place];
+    for key in 0..histories.len() {
+        let history = &mut histories[key];
         history.go_back();
     }
 }
