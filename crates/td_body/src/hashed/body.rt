@@ -109,6 +109,9 @@ fn make_ready(
     if members.can_step(tuples) {
         return Ok(());
     }
+    if members.is_hashed() {
+        return members.put_in_order(alloc);
+    }
     let next = Members::hashed(alloc, members.to_rel(alloc)?, keys)?;
     *members = next;
     Ok(())
