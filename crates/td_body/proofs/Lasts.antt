@@ -1,5 +1,5 @@
 -- Lists that end in one item more.
-use Rattle.std.proofs.Common.{◌≡◌, ◌∙◌, ◌∷◌, ◌++◌, [], List, ap, sym}
+use Rattle.std.proofs.Common.{◌≡◌, ◌∷◌, ◌++◌, [], List, sym}
 
 module _ {X : Type 0} where
   alone : (bs : List X) (x b y : X) → x ∷ [] ≡ b ∷ (bs ++ y ∷ []) → ⊥

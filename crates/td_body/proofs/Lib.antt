@@ -4,7 +4,9 @@ pub mod Found
 pub mod Held
 pub mod KeyParts
 pub mod Lasts
+pub mod LookUps
 pub mod MembersLaws
+pub mod HashBodyLaws
 pub mod Numbered
 pub mod Ordinals
 pub mod Parts

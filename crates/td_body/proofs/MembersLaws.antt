@@ -1,22 +1,22 @@
 -- Members of a body after a change, and after a way back.
-use Rattle.std.proofs.Common.{◌≡◌, ◌∙◌, ◌∷◌, ◌++◌, ◌+◌, ◌<◌, [], ℕ, suc, zero, Bool, true, false, List, ap, arith, filter, get_or, length, length-append, map, refl, sym, subst, true≢false}
+use Rattle.std.proofs.Common.{◌≡◌, ◌∙◌, ◌∷◌, ◌++◌, ◌+◌, ◌<◌, [], ℕ, suc, zero, Bool, true, false, List, ap, arith, filter, get_or, length, length-append, map, refl, sym, subst}
 use Rattle.std.specs.Prelude.{not, ◌&&◌, ◌||◌, ◌==◌}
 use Rattle.std.proofs.lemmas.Bool.Decides.{nat_tests}
-use Rattle.std.specs.List.{All, Contains, slice_get}
+use Rattle.std.specs.List.{All, slice_get}
 use Rattle.std.specs.Option.{option_map}
 use Rattle.std.specs.Prelude.{None, Option, Some}
 use Rattle.std.proofs.lemmas.Option.{get_or_from_slice_get, slice_get-map, slice_get_within}
 use Rattle.td_types.specs.Headings.{new_names}
 use Rattle.std.proofs.lemmas.List.{get_or_append_left, length-map}
 use Rattle.std.proofs.lemmas.List.Elements.{All-append, All-contains, All-filter, Contains-push}
-use Rattle.td_types.specs.Types.{Heading, IsHeading, attribute_names, pack}
+use Rattle.td_types.specs.Types.{Heading, attribute_names}
 use Rattle.td_value.specs.Sets.{has, set_of}
 use Rattle.td_value.specs.Values.{IsAscendingBody, IsRelation, IsTupleOf, Tuple, relation_of, tuple_cmp}
 use Rattle.td_value.specs.Views.{relation_view}
 use Rattle.td_algebra.specs.Operators.{restriction}
-use Rattle.td_algebra.proofs.Relations.{IsRelation-relation_of, rows_ascend, rows_headed}
+use Rattle.td_algebra.proofs.Relations.{IsRelation-relation_of, rows_headed}
 use Rattle.td_body.specs.Bodies.{after_change}
-use Rattle.td_body.specs.Histories.{changed_set, kept_sets}
+use Rattle.td_body.specs.Histories.{changed_set}
 use Rattle.td_body.specs.KeyParts.{places_from}
 use Rattle.td_body.specs.Members.{AreMembers, ArePlaced, Covers, IsAt, kept_in, places_in, set_in, versions_in}
 use Rattle.td_body.specs.declared.hashed.history.KeyHistory.{KeyHistory}
@@ -78,10 +78,10 @@ pub one : {X : Type 0} (P : X → Type 0) (x : X) → P x → All P (x ∷ [])
 one P x p zero d low = p
 one P x p (suc k) d low = absurd (omega arith)
 
-last_holds : {X : Type 0} (P : X → Type 0) (xs : List X) (x : X) → All P (xs ++ x ∷ []) → P x
+pub last_holds : {X : Type 0} (P : X → Type 0) (xs : List X) (x : X) → All P (xs ++ x ∷ []) → P x
 last_holds P xs x all = All-contains P (xs ++ x ∷ []) x all (Contains-push xs x)
 
-front_holds : {X : Type 0} (P : X → Type 0) (xs : List X) (x : X) → All P (xs ++ x ∷ []) → All P xs
+pub front_holds : {X : Type 0} (P : X → Type 0) (xs : List X) (x : X) → All P (xs ++ x ∷ []) → All P xs
 front_holds P xs x all k d low = subst P (get_or_append_left xs (x ∷ []) d k low) (all k d (omega (arith, length-append xs (x ∷ []))))
 
 -- a list that is not empty has a last item
@@ -108,10 +108,10 @@ standing h sorted more now earlier gs count some at relations covered headed cou
       counted = counted ∙ ap length (sym first.1);
     }
 
-
-emptied : (hs : List KeyHistory) → length hs ≡ 0 → hs ≡ []
-emptied [] e = refl
-emptied (h ∷ hs) e = absurd (omega arith)
+-- a list of no items
+pub none_there : {X : Type 0} (xs : List X) → length xs ≡ 0 → xs ≡ []
+none_there [] e = refl
+none_there (x ∷ xs) e = absurd (omega arith)
 
 module _ (h : Heading) (sorted touched : List Tuple) (hs : List KeyHistory) (n : ℕ) (m : AreMembers h sorted touched hs n) where
   abbrev set : List Tuple
@@ -141,9 +141,9 @@ module _ (h : Heading) (sorted touched : List Tuple) (hs : List KeyHistory) (n :
         let wide = all_cover_more sorted touched more (versions_in sorted hs) wider m.covered in
         standing h sorted more (changed_set out add set) (kept ++ set ∷ []) gs (n + 1) some at
         (All-append (λ ts. IsRelation (relation_view h ts)) (versions_in sorted hs) (changed_set out add set ∷ []) m.relations
-          (one (λ ts. IsRelation (relation_view h ts)) (changed_set out add set) (relation_changed h out add set typed set_relation)))
+        (one (λ ts. IsRelation (relation_view h ts)) (changed_set out add set) (relation_changed h out add set typed set_relation)))
         (All-append (Covers sorted more) (versions_in sorted hs) (changed_set out add set ∷ []) wide
-          (one (Covers sorted more) (changed_set out add set) (covers_changed sorted more out add set outs adds (covers_more sorted touched more set wider set_covered))))
+        (one (Covers sorted more) (changed_set out add set) (covers_changed sorted more out add set outs adds (covers_more sorted touched more set wider set_covered))))
         headed (omega (arith, m.counted, length-append kept (set ∷ [])))
 
   -- the latest change was undone
@@ -162,13 +162,13 @@ module _ (h : Heading) (sorted touched : List Tuple) (hs : List KeyHistory) (n :
   -- the same where there may be no history
   pub settled_at : (gs : List KeyHistory) → places_in gs ≡ places_in hs → All (IsAt set []) gs → (set_in sorted gs ≡ set) × (kept_in gs ≡ [])
   settled_at [] places at =
-      let none : hs ≡ [] = emptied hs (sym (as_many [] hs places)) in
+      let none : hs ≡ [] = none_there hs (sym (as_many [] hs places)) in
       (ap (set_in sorted) (sym none), refl)
   settled_at (g ∷ gs) places at = first_at sorted set [] (g ∷ gs) (omega arith) at
 
   pub all_settled : (gs : List KeyHistory) → places_in gs ≡ places_in hs → All (IsAt set []) gs → AreMembers h sorted touched gs 0
   all_settled [] places at =
-      let none : hs ≡ [] = emptied hs (sym (as_many [] hs places)) in
+      let none : hs ≡ [] = none_there hs (sym (as_many [] hs places)) in
       let same : set ≡ sorted = ap (set_in sorted) none in
       record {
         alike = λ k d low. absurd (omega arith);

@@ -16,7 +16,7 @@ use Rattle.td_value.proofs.Rows.{parts_order-lists, tuple_order-by_values}
 use Rattle.td_body.specs.KeyParts.{places_from, values_at, values_cmp}
 use Rattle.td_body.proofs.KeyParts.{all_found, found_order, values_at-part}
 
-names-heading : (t : Tuple) → attribute_names (heading_of t) ≡ tuple_names t
+pub names-heading : (t : Tuple) → attribute_names (heading_of t) ≡ tuple_names t
 names-heading [] = refl
 names-heading (e ∷ t) = ap (λ ns. e.0 ∷ ns) (names-heading t)
 

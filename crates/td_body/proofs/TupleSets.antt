@@ -1,11 +1,9 @@
 -- Sets of tuples as strictly ascending lists: with one more tuple, without one, and with those that pass a test.
-use Rattle.std.specs.declared.cmp.Ordering.{Ordering}
 use Rattle.std.specs.Ordering.{eq_by_cmp}
-use Rattle.std.specs.List.Sorted.{IsStrictlySortedBy}
 use Rattle.std.proofs.Common.{◌≡◌, Bool, true, false, List, [], ◌∷◌, ◌++◌, filter, refl, sym, ap, ◌∙◌, subst, true≢false}
 use Rattle.std.specs.Prelude.{not, ◌||◌, ◌&&◌}
 use Rattle.std.proofs.lemmas.List.Kept.{IsStrictlySortedBy-filter}
-use Rattle.td_value.specs.Sets.{has, put_in, set_of}
+use Rattle.td_value.specs.Sets.{has, set_of}
 use Rattle.td_value.specs.Values.{Tuple, IsAscendingBody, tuple_cmp}
 use Rattle.td_value.specs.ValueOrder.{tuple_Decides, tuple_order_same, tuple_order_total}
 use Rattle.td_value.proofs.SetLaws as sets
@@ -75,29 +73,29 @@ pub put_back : (r : Tuple) (ts : List Tuple) → IsAscendingBody ts → has_tupl
 put_back r ts up h =
     same_tuples (put_tuple r (without r ts)) ts (ascends-put r (without r ts) (ascends-without r ts up)) up
     (λ t. has-put t r (without r ts) ∙ ap (λ b. eq_by_cmp tuple_cmp t r || b) (has-without t r ts) ∙ split t r
-      (λ e is. rw e (sym (subst (λ z. has_tuple z ts ≡ true) (sym is) h)))
-      (λ e. rw e refl))
+    (λ e is. rw e (sym (subst (λ z. has_tuple z ts ≡ true) (sym is) h)))
+    (λ e. rw e refl))
 
 pub taken_back : (r : Tuple) (ts : List Tuple) → IsAscendingBody ts → has_tuple r ts ≡ false → without r (put_tuple r ts) ≡ ts
 taken_back r ts up h =
     same_tuples (without r (put_tuple r ts)) ts (ascends-without r (put_tuple r ts) (ascends-put r ts up)) up
     (λ t. has-without t r (put_tuple r ts) ∙ ap (λ b. not (eq_by_cmp tuple_cmp t r) && b) (has-put t r ts) ∙ split t r
-      (λ e is. rw e (sym (subst (λ z. has_tuple z ts ≡ false) (sym is) h)))
-      (λ e. rw e refl))
+    (λ e is. rw e (sym (subst (λ z. has_tuple z ts ≡ false) (sym is) h)))
+    (λ e. rw e refl))
 
 pub put_again : (r : Tuple) (ts : List Tuple) → IsAscendingBody ts → has_tuple r ts ≡ true → put_tuple r ts ≡ ts
 put_again r ts up h =
     same_tuples (put_tuple r ts) ts (ascends-put r ts up) up
     (λ t. has-put t r ts ∙ split t r
-      (λ e is. rw e (sym (subst (λ z. has_tuple z ts ≡ true) (sym is) h)))
-      (λ e. rw e refl))
+    (λ e is. rw e (sym (subst (λ z. has_tuple z ts ≡ true) (sym is) h)))
+    (λ e. rw e refl))
 
 pub taken_again : (r : Tuple) (ts : List Tuple) → IsAscendingBody ts → has_tuple r ts ≡ false → without r ts ≡ ts
 taken_again r ts up h =
     same_tuples (without r ts) ts (ascends-without r ts up) up
     (λ t. has-without t r ts ∙ split t r
-      (λ e is. rw e (sym (subst (λ z. has_tuple z ts ≡ false) (sym is) h)))
-      (λ e. rw e refl))
+    (λ e is. rw e (sym (subst (λ z. has_tuple z ts ≡ false) (sym is) h)))
+    (λ e. rw e refl))
 
 -- ---- a change of a set
 
@@ -137,7 +135,7 @@ pub changed_out : (r : Tuple) (out ts : List Tuple) → changed_set out [] (with
 changed_out r out ts =
     same_tuples (changed_set out [] (without r ts)) (changed_set (r ∷ out) [] ts) (ascends-changed out [] (without r ts)) (ascends-changed (r ∷ out) [] ts)
     (λ t. has-changed t out [] (without r ts) ∙ ap (λ b. (not (has_tuple t out) && b) || false) (has-without t r ts)
-      ∙ joined (eq_by_cmp tuple_cmp t r) (has_tuple t out) (has_tuple t ts) ∙ sym (has-changed t (r ∷ out) [] ts))
+    ∙ joined (eq_by_cmp tuple_cmp t r) (has_tuple t out) (has_tuple t ts) ∙ sym (has-changed t (r ∷ out) [] ts))
   where
     joined : (a b c : Bool) → ((not b && (not a && c)) || false) ≡ ((not (a || b) && c) || false)
     joined true true c = refl
@@ -149,7 +147,7 @@ pub changed_in : (r : Tuple) (add ts : List Tuple) → changed_set [] add (put_t
 changed_in r add ts =
     same_tuples (changed_set [] add (put_tuple r ts)) (changed_set [] (add ++ r ∷ []) ts) (ascends-changed [] add (put_tuple r ts)) (ascends-changed [] (add ++ r ∷ []) ts)
     (λ t. has-changed t [] add (put_tuple r ts) ∙ ap (λ b. (true && b) || has_tuple t add) (has-put t r ts)
-      ∙ joined (eq_by_cmp tuple_cmp t r) (has_tuple t add) (has_tuple t ts) ∙ sym (has-changed t [] (add ++ r ∷ []) ts ∙ ap (λ b. (true && has_tuple t ts) || b) (has-append t add (r ∷ []))))
+    ∙ joined (eq_by_cmp tuple_cmp t r) (has_tuple t add) (has_tuple t ts) ∙ sym (has-changed t [] (add ++ r ∷ []) ts ∙ ap (λ b. (true && has_tuple t ts) || b) (has-append t add (r ∷ []))))
   where
     joined : (a b c : Bool) → ((true && (a || c)) || b) ≡ ((true && c) || (b || (a || false)))
     joined true true true = refl
@@ -166,7 +164,7 @@ pub changed_both : (out add ts : List Tuple) → changed_set [] add (changed_set
 changed_both out add ts =
     same_tuples (changed_set [] add (changed_set out [] ts)) (changed_set out add ts) (ascends-changed [] add (changed_set out [] ts)) (ascends-changed out add ts)
     (λ t. has-changed t [] add (changed_set out [] ts) ∙ ap (λ b. (true && b) || has_tuple t add) (has-changed t out [] ts)
-      ∙ joined (not (has_tuple t out) && has_tuple t ts) (has_tuple t add) ∙ sym (has-changed t out add ts))
+    ∙ joined (not (has_tuple t out) && has_tuple t ts) (has_tuple t add) ∙ sym (has-changed t out add ts))
   where
     joined : (a b : Bool) → ((true && (a || false)) || b) ≡ (a || b)
     joined true b = refl
@@ -177,7 +175,7 @@ pub changed_first : (r : Tuple) (add ts : List Tuple) → changed_set [] add (pu
 changed_first r add ts =
     same_tuples (changed_set [] add (put_tuple r ts)) (changed_set [] (r ∷ add) ts) (ascends-changed [] add (put_tuple r ts)) (ascends-changed [] (r ∷ add) ts)
     (λ t. has-changed t [] add (put_tuple r ts) ∙ ap (λ b. (true && b) || has_tuple t add) (has-put t r ts)
-      ∙ joined (eq_by_cmp tuple_cmp t r) (has_tuple t add) (has_tuple t ts) ∙ sym (has-changed t [] (r ∷ add) ts))
+    ∙ joined (eq_by_cmp tuple_cmp t r) (has_tuple t add) (has_tuple t ts) ∙ sym (has-changed t [] (r ∷ add) ts))
   where
     joined : (a b c : Bool) → ((true && (a || c)) || b) ≡ ((true && c) || (a || b))
     joined true true true = refl

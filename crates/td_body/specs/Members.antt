@@ -1,6 +1,6 @@
 -- The members of a body in two forms: in order as they once were, with each tuple that was touched since, and hashed by each
 -- key (this project's own).
-use Rattle.std.specs.Prelude.{◌≡◌, ℕ, ◌+◌, ◌<◌, ◌≤◌, Bool, false, List, [], ◌∷◌, ◌++◌, length, map, vec_capacity, vec_len}
+use Rattle.std.specs.Prelude.{◌≡◌, ℕ, ◌+◌, ◌<◌, ◌≤◌, false, List, [], ◌∷◌, ◌++◌, length, map, vec_capacity, vec_len}
 use Rattle.std.specs.List.{All, slice_get}
 use Rattle.std.specs.Prelude.{Some}
 use Rattle.td_body.specs.KeyParts.{places_from}

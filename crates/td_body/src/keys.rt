@@ -20,7 +20,11 @@ use td_value::tuple::Tuple;
 use td_value::value::Value;
 
 /// The places of those of the names that are in the key.
-pub(crate) fn places_of(alloc: Global, names: &[Name], key: &[Name]) -> Result<Vec<usize>, AllocError>
+pub(crate) fn places_of(
+    alloc: Global,
+    names: &[Name],
+    key: &[Name],
+) -> Result<Vec<usize>, AllocError>
     ensures { IfOk result (λ places. places.items ≡ places_from 0 key.now names.now) }
 {
     let mut places = Vec::with_capacity(alloc, key.len())?;

@@ -1,10 +1,10 @@
 //! Bodies whose members are hashed.
-ghost use Rattle.std.specs.Prelude.{◌≡◌, ◌∷◌, ◌++◌, [], IfOk, OnErr, OnOk, map};
+ghost use Rattle.std.specs.Prelude.{◌≡◌, ◌∷◌, ◌++◌, [], ◌<◌, IfOk, OnErr, OnOk, length, map};
 ghost use Rattle.std.specs.List.{All};
 ghost use Rattle.td_value.specs.Values.{IsTupleOf};
 ghost use Rattle.td_value.specs.Views.{relation_view};
 ghost use Rattle.td_body.specs.Bodies.{after_change};
-ghost use Rattle.td_body.specs.HashBodies.{IsPlacedFor};
+ghost use Rattle.td_body.specs.HashBodies.{IsPlacedFor, kept_by};
 ghost use Rattle.td_body.specs.Histories.{changed_set};
 
 use super::look_ups::{found_by_key, holds_of};
@@ -13,9 +13,8 @@ use crate::body::Body;
 use crate::changes::changed;
 use std::alloc::{AllocError, Global};
 use std::marker::Model;
-use std::mem;
 use std::rc::Rc;
-use std::slice;
+use std::{mem, slice};
 use td_tree::name::Name;
 use td_types::heading::Heading;
 use td_value::relation::Rel;
@@ -49,7 +48,7 @@ impl Model for HashBody {
     } };
 
     ghost invariant = { λ b.
-      IsHashBody (map (λ key. key.items) b.keys.value.items) b.members b.aside.items b.count };
+        IsHashBody (map (λ key. key.items) b.keys.value.items) b.members b.aside.items b.count };
 }
 
 /// The members after a change, in order and hashed anew.
@@ -92,6 +91,29 @@ fn put_aside(
     }
 }
 
+/// Lets members that keep nothing be such that a change of so many tuples can be carried out step
+/// by step.
+fn make_ready(
+    alloc: Global,
+    keys: &[Vec<Name>],
+    members: &mut Members,
+    tuples: usize,
+) -> Result<(), AllocError>
+    requires kept { members.old.kept ≡ [] }
+    requires placed { IsPlacedFor (map (λ key. key.items) keys.now) members.old }
+    ensures relation { members.new.relation ≡ members.old.relation }
+    ensures kept { members.new.kept ≡ [] }
+    ensures hashed { OnOk result (0 < length members.new.places) }
+    ensures placed { IsPlacedFor (map (λ key. key.items) keys.now) members.new }
+{
+    if members.can_step(tuples) {
+        return Ok(());
+    }
+    let next = Members::hashed(alloc, members.to_rel(alloc)?, keys)?;
+    *members = next;
+    Ok(())
+}
+
 /// Takes tuples out of members that keep nothing, puts others in, and keeps nothing.
 fn step(
     alloc: Global,
@@ -110,12 +132,41 @@ fn step(
     ensures kept { members.new.kept ≡ [] }
     ensures placed { IsPlacedFor (map (λ key. key.items) keys.now) members.new }
 {
-    if !members.can_step(out.len().saturating_add(add.len())) {
-        *members = Members::hashed(alloc, members.to_rel(alloc)?, keys)?;
-    }
+    make_ready(alloc, keys, members, out.len().saturating_add(add.len()))?;
     members.change(out, add)?;
     members.settle();
     Ok(())
+}
+
+/// Carries a change out, step by step where it is small; else the members are put aside, and made
+/// anew.
+fn change_members(
+    alloc: Global,
+    keys: &[Vec<Name>],
+    members: &mut Members,
+    aside: &mut Vec<Members>,
+    out: &Rel,
+    add: &Rel,
+) -> Result<(), AllocError>
+    requires out { out.now.heading ≡ members.old.relation.heading }
+    requires add { add.now.heading ≡ members.old.relation.heading }
+    requires placed { IsPlacedFor (map (λ key. key.items) keys.now) members.old }
+    requires placed_aside { All (IsPlacedFor (map (λ key. key.items) keys.now)) aside.old.items }
+    ensures relation { OnOk result
+        (members.new.relation ≡ after_change out.now add.now members.old.relation) }
+    ensures kept { OnOk result (kept_by aside.new.items members.new
+        ≡ kept_by aside.old.items members.old ++ members.old.relation ∷ []) }
+    ensures same { OnErr result ((members.new.relation ≡ members.old.relation)
+        × (kept_by aside.new.items members.new ≡ kept_by aside.old.items members.old)) }
+    ensures placed { IsPlacedFor (map (λ key. key.items) keys.now) members.new }
+    ensures placed_aside { All (IsPlacedFor (map (λ key. key.items) keys.now)) aside.new.items }
+{
+    let tuples = out.rows().len().saturating_add(add.rows().len());
+    if members.can_step(tuples) {
+        return members.change(out.rows(), add.rows());
+    }
+    let next = renewed(alloc, keys, members, out, add)?;
+    put_aside(aside, members, next)
 }
 
 impl Body for HashBody {
@@ -138,18 +189,20 @@ impl Body for HashBody {
     }
 
     fn insert(&mut self, tuple: Tuple) -> Result<bool, Tuple> {
+        let _ = self.members.len();
         if self.members.contains(&tuple) {
             return Ok(false);
         }
         let alloc = *self.keys.allocator();
         let one = slice::from_ref(&tuple);
-        match step(alloc, &self.keys, &mut self.members, &[], one) {
-            Ok(()) => Ok(true),
-            Err(_) => Err(tuple),
-        }
+        let Ok(()) = step(alloc, &self.keys, &mut self.members, &[], one) else {
+            return Err(tuple);
+        };
+        Ok(true)
     }
 
     fn remove(&mut self, tuple: &Tuple) -> Result<bool, AllocError> {
+        let _ = self.members.len();
         if !self.members.contains(tuple) {
             return Ok(false);
         }
@@ -163,14 +216,14 @@ impl Body for HashBody {
         let Some(count) = self.count.checked_add(1) else {
             return Err(AllocError);
         };
-        let alloc = *self.keys.allocator();
-        let tuples = out.rows().len().saturating_add(add.rows().len());
-        if self.members.can_step(tuples) {
-            self.members.change(out.rows(), add.rows())?;
-        } else {
-            let next = renewed(alloc, &self.keys, &self.members, out, add)?;
-            put_aside(&mut self.aside, &mut self.members, next)?;
-        }
+        change_members(
+            *self.keys.allocator(),
+            &self.keys,
+            &mut self.members,
+            &mut self.aside,
+            out,
+            add,
+        )?;
         self.count = count;
         Ok(())
     }

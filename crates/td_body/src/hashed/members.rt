@@ -1,5 +1,5 @@
 //! The members of a body, in order and hashed.
-ghost use Rattle.std.specs.Prelude.{◌≡◌, ◌∷◌, ◌++◌, [], ◌<◌, IfOk, IfSome, IsTrue, List};
+ghost use Rattle.std.specs.Prelude.{◌≡◌, ◌∷◌, ◌++◌, [], ℕ, ◌<◌, IfOk, IfSome, IsTrue, List, Some};
 ghost use Rattle.std.specs.Prelude.{OnErr, OnOk, false, length, map};
 ghost use Rattle.std.specs.List.{All, slice_get};
 ghost use Rattle.td_types.specs.Types.{Heading, attribute_names};
@@ -52,7 +52,7 @@ impl Model for Members {
     } };
 
     ghost invariant = { λ m.
-      AreMembers m.sorted.heading m.sorted.body m.touched.items m.histories.items m.kept_count };
+        AreMembers m.sorted.heading m.sorted.body m.touched.items m.histories.items m.kept_count };
 }
 
 /// Of how many tuples a change is carried out step by step: of a quarter of those that are there,
@@ -146,9 +146,9 @@ impl Members {
     ) -> Result<Option<Vec<Tuple>>, AllocError>
         requires { IfSome (slice_get self.now.places number) (λ places.
             length places ≡ length part.now) }
-        ensures { IfOk result (λ found. IfSome found (λ found.
-            IfSome (slice_get self.now.places number) (λ places.
-            HaveSameMembers found.items (with_part places part.now self.now.relation.body)))) }
+        ensures { IfOk result (λ found. IfSome found (λ found. (places : List ℕ)
+            × (slice_get self.now.places number ≡ Some places) × HaveSameMembers found.items
+            (with_part places part.now self.now.relation.body))) }
     {
         match self.histories.get(number) {
             Some(history) => Ok(Some(history.index.tuples_at(alloc, part)?)),
@@ -159,21 +159,21 @@ impl Members {
     /// Whether no two members have the same values at the places of that number, where that is
     /// seen at once.
     pub(crate) fn are_apart(&self, number: usize) -> Option<bool>
-        ensures { IfSome result (λ b. IfSome (slice_get self.now.places number) (λ places.
-            b ≡ apart_at places self.now.relation.body)) }
+        ensures { IfSome result (λ b. (places : List ℕ)
+            × (slice_get self.now.places number ≡ Some places)
+            × (b ≡ apart_at places self.now.relation.body)) }
     {
-        self.histories.get(number)?.index.is_apart()
+        match self.histories.get(number) {
+            Some(history) => history.index.is_apart(),
+            None => None,
+        }
     }
 }
 
 // ---- histories side by side
 
 /// Makes all the room that a change takes in each history, and has the tuples ready there.
-fn prepare_all(
-    histories: &mut [KeyHistory],
-    out: usize,
-    add: &[Tuple],
-) -> Result<(), AllocError>
+fn prepare_all(histories: &mut [KeyHistory], out: usize, add: &[Tuple]) -> Result<(), AllocError>
     ensures same { (set : List Tuple) (kept : List (List Tuple))
         → All (IsAt set kept) histories.old → All (IsAt set kept) histories.new }
     ensures places { places_in histories.new ≡ places_in histories.old }
@@ -244,11 +244,7 @@ fn touch(touched: &mut Vec<Tuple>, tuples: &[Tuple]) -> Result<(), AllocError>
 }
 
 /// Does so with those that go out and with those that come in.
-fn touch_both(
-    touched: &mut Vec<Tuple>,
-    out: &[Tuple],
-    add: &[Tuple],
-) -> Result<(), AllocError>
+fn touch_both(touched: &mut Vec<Tuple>, out: &[Tuple], add: &[Tuple]) -> Result<(), AllocError>
     ensures more { (t : Tuple) → has tuple_cmp t touched.new.items ≡ false
         → has tuple_cmp t touched.old.items ≡ false }
     ensures out { OnOk result ((t : Tuple) → has tuple_cmp t touched.new.items ≡ false
@@ -264,11 +260,7 @@ fn touch_both(
 }
 
 /// Carries a change out in each history, where there is memory for it.
-fn change_all(
-    histories: &mut [KeyHistory],
-    out: &[Tuple],
-    add: &[Tuple],
-) -> Result<(), AllocError>
+fn change_all(histories: &mut [KeyHistory], out: &[Tuple], add: &[Tuple]) -> Result<(), AllocError>
     ensures same { OnErr result ((set : List Tuple) (kept : List (List Tuple))
         → All (IsAt set kept) histories.old → All (IsAt set kept) histories.new) }
     ensures changed { OnOk result ((set : List Tuple) (kept : List (List Tuple))

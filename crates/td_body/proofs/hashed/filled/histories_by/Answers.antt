@@ -1,4 +1,4 @@
-use Rattle.std.proofs.Common.{◌≡◌, ◌∙◌, ◌+◌, ◌++◌, ◌∷◌, [], List, Vec, Global, ap, get_or, map, subst, sym, take}
+use Rattle.std.proofs.Common.{◌≡◌, ◌∙◌, ◌++◌, ◌∷◌, [], List, Vec, Global, ap, get_or, map, subst, sym, take}
 use Rattle.std.specs.List.{All}
 use Rattle.std.proofs.lemmas.List.{map-append, take_more}
 use Rattle.std.proofs.lemmas.List.Elements.{All-append}
@@ -22,5 +22,5 @@ loop-key-preserved c =
     record {
       at = subst (All (IsAt c.args.tuples.now [])) (sym more) (All-append (IsAt c.args.tuples.now []) old (h ∷ []) c.loop-key.invariant.at (one (IsAt c.args.tuples.now []) h c.in_ok-history_of.ensures.at));
       places = ap places_in more ∙ map-append (λ (g : KeyHistory). g.index.places) old (h ∷ []) ∙ (λ j. c.loop-key.invariant.places j ++ place j ∷ [])
-        ∙ sym (map-append f (take i keys) (get_or keys i c.key-item.result ∷ [])) ∙ ap (map f) (sym (take_more keys i c.key-item.result c.loop-key-test.true));
+          ∙ sym (map-append f (take i keys) (get_or keys i c.key-item.result ∷ [])) ∙ ap (map f) (sym (take_more keys i c.key-item.result c.loop-key-test.true));
     }

@@ -1,5 +1,4 @@
-use Rattle.std.proofs.Common.{◌≡◌, ◌∙◌, List, Vec, Global, ap, map, subst, sym}
-use Rattle.td_tree.specs.declared.name.Name.{Name}
+use Rattle.std.proofs.Common.{◌≡◌, map, subst, sym}
 use Rattle.td_algebra.proofs.Keys.{if_ok}
 use Rattle.td_body.specs.KeyParts.{places_from}
 use Rattle.td_body.specs.Members.{ArePlaced, places_in}

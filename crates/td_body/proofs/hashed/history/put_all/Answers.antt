@@ -1,4 +1,4 @@
-use Rattle.std.proofs.Common.{◌≡◌, ◌+◌, ◌∷◌, [], drop, sym, ap, ◌∙◌}
+use Rattle.std.proofs.Common.{◌+◌, ◌∷◌, [], drop, sym, ap, ◌∙◌}
 use Rattle.std.proofs.lemmas.List.{at_drop_all, at_drop_more}
 use Rattle.td_body.specs.Histories.{changed_set, put_tuple}
 use Rattle.td_body.proofs.TupleSets.{changed_first, changed_none}
@@ -12,8 +12,8 @@ rows-preserved c =
     let t = c.tuple-item.result in
     record {
       tuples = ap (changed_set [] (drop (i + 1) all)) (c.put_in.ensures.tuples ∙ (λ j. put_tuple (c.in_ok-piece.ensures j) (c.reserve.ensures.tuples j)))
-        ∙ changed_first t (drop (i + 1) all) ts ∙ ap (λ u. changed_set [] (u ∷ drop (i + 1) all) ts) c.tuple-item.is
-        ∙ sym (at_drop_more (λ l. changed_set [] l ts) all i t c.rows-test.true) ∙ c.rows.invariant.tuples;
+          ∙ changed_first t (drop (i + 1) all) ts ∙ ap (λ u. changed_set [] (u ∷ drop (i + 1) all) ts) c.tuple-item.is
+          ∙ sym (at_drop_more (λ l. changed_set [] l ts) all i t c.rows-test.true) ∙ c.rows.invariant.tuples;
       places = c.put_in.ensures.places ∙ c.reserve.ensures.places ∙ c.rows.invariant.places;
     }
 

@@ -2,7 +2,7 @@ use Rattle.std.proofs.Common.{◌≡◌, ◌∙◌, List, ap, map, subst, sym}
 use Rattle.td_algebra.proofs.Keys.{if_ok}
 use Rattle.td_algebra.specs.Operators.{restriction}
 use Rattle.td_value.specs.Sets.{has}
-use Rattle.td_value.specs.Values.{IsAscendingBody, Relation, Tuple, relation_of, tuple_cmp}
+use Rattle.td_value.specs.Values.{IsAscendingBody, Tuple, relation_of, tuple_cmp}
 use Rattle.td_value.specs.Views.{relation_view}
 use Rattle.td_body.specs.Bodies.{after_change}
 use Rattle.td_body.specs.Members.{Covers}
@@ -20,5 +20,5 @@ returns c =
     if_ok (λ r. r ≡ after_change c.in_ok-touched.touched c.in_ok-there.there sorted)
     (λ r. (set : List Tuple) → set ≡ now → Covers sorted.body c.args.touched.now set → IsAscendingBody set → r ≡ relation_view sorted.heading set) c.changed.result
     (λ r e set same covers up. e ∙ (λ i. after_change (touched i) (there i) sorted)
-      ∙ up_to_date sorted.body c.args.touched.now now sorted.heading (subst (Covers sorted.body c.args.touched.now) same covers) (subst IsAscendingBody same up)
-      ∙ ap (relation_view sorted.heading) (sym same)) c.changed.ensures
+    ∙ up_to_date sorted.body c.args.touched.now now sorted.heading (subst (Covers sorted.body c.args.touched.now) same covers) (subst IsAscendingBody same up)
+    ∙ ap (relation_view sorted.heading) (sym same)) c.changed.ensures

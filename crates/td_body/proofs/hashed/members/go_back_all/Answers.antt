@@ -1,5 +1,4 @@
-use Rattle.std.proofs.Common.{◌≡◌, ◌∙◌, ◌<◌, ◌++◌, ◌∷◌, [], List, ap, arith, get_or, length, sym}
-use Rattle.td_value.specs.Values.{Tuple}
+use Rattle.std.proofs.Common.{◌≡◌, ◌∙◌, ◌<◌, ◌++◌, ◌∷◌, [], ap, arith, get_or, length, sym}
 use Rattle.td_body.specs.Histories.{kept_sets}
 use Rattle.td_body.specs.Members.{IsAt}
 use Rattle.td_body.specs.declared.hashed.history.KeyHistory.{KeyHistory}

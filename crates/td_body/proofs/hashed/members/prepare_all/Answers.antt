@@ -1,6 +1,5 @@
-use Rattle.std.proofs.Common.{◌≡◌, ◌∙◌, ◌<◌, ◌++◌, ◌∷◌, [], List, ap, arith, get_or, length}
+use Rattle.std.proofs.Common.{◌∙◌, ◌<◌, arith, length}
 use Rattle.std.specs.List.{All}
-use Rattle.td_value.specs.Values.{Tuple}
 use Rattle.td_body.specs.Histories.{kept_sets}
 use Rattle.td_body.specs.Members.{HasReady, HasRoom, IsAt}
 use Rattle.td_body.specs.declared.hashed.history.KeyHistory.{KeyHistory}

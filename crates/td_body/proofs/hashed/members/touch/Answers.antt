@@ -1,7 +1,6 @@
-use Rattle.std.proofs.Common.{◌≡◌, ◌∙◌, ◌+◌, ◌∷◌, ◌++◌, [], Bool, true, false, List, ap, arith, get_or, length, refl, subst, sym, take, true≢false}
+use Rattle.std.proofs.Common.{◌≡◌, ◌∙◌, ◌∷◌, [], Bool, true, false, ap, get_or, refl, subst, sym, take, true≢false}
 use Rattle.std.specs.Prelude.{◌||◌}
 use Rattle.std.specs.List.{All}
-use Rattle.std.specs.Ordering.{eq_by_cmp}
 use Rattle.std.proofs.lemmas.List.{take_more}
 use Rattle.std.proofs.lemmas.List.Elements.{All-append}
 use Rattle.td_value.specs.Sets.{has}
@@ -36,9 +35,9 @@ loop-tuple-preserved c =
     record {
       more = λ t e. c.loop-tuple.invariant.more t (first_none (has tuple_cmp t old) (has tuple_cmp t (x ∷ [])) (sym (split t) ∙ e));
       all = λ t e. ap (has tuple_cmp t) (take_more tuples i c.tuple-item.result c.loop-tuple-test.true) ∙ has-append t (take i tuples) (get_or tuples i c.tuple-item.result ∷ [])
-        ∙ neither (has tuple_cmp t (take i tuples)) (has tuple_cmp t (get_or tuples i c.tuple-item.result ∷ []))
+          ∙ neither (has tuple_cmp t (take i tuples)) (has tuple_cmp t (get_or tuples i c.tuple-item.result ∷ []))
           (c.loop-tuple.invariant.all t (first_none (has tuple_cmp t old) (has tuple_cmp t (x ∷ [])) (sym (split t) ∙ e)))
           (subst (λ u. has tuple_cmp t (u ∷ []) ≡ false) same (second_none (has tuple_cmp t old) (has tuple_cmp t (x ∷ [])) (sym (split t) ∙ e)));
       headed = λ h a b. subst (All (IsTupleOf h)) (sym c.in_ok-push.ensures.items)
-        (All-append (IsTupleOf h) old (x ∷ []) (c.loop-tuple.invariant.headed h a b) (one (IsTupleOf h) x (subst (IsTupleOf h) (sym same) (b i c.tuple-item.result c.loop-tuple-test.true))));
+          (All-append (IsTupleOf h) old (x ∷ []) (c.loop-tuple.invariant.headed h a b) (one (IsTupleOf h) x (subst (IsTupleOf h) (sym same) (b i c.tuple-item.result c.loop-tuple-test.true))));
     }

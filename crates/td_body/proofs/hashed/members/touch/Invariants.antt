@@ -1,4 +1,4 @@
-use Rattle.std.proofs.Common.{◌≡◌, false, List, take}
+use Rattle.std.proofs.Common.{◌≡◌, false, take}
 use Rattle.std.specs.List.{All}
 use Rattle.td_types.specs.Types.{Heading}
 use Rattle.td_value.specs.Sets.{has}

@@ -1,4 +1,4 @@
-use Rattle.std.proofs.Common.{ap, subst, sym}
+use Rattle.std.proofs.Common.{ap, subst}
 use Rattle.td_types.specs.Types.{IsHeading, pack}
 use Rattle.td_body.specs.Bodies.{BodyView}
 use Rattle.td_value.specs.Values.{IsRelation}

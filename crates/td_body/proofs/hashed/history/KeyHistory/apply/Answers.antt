@@ -13,8 +13,8 @@ outs-preserved c =
     let same : length c.take_out.new.self.pending.items ≡ length c.outs.self.pending.items = ap length c.take_out.ensures.pending in
     record {
       tuples = ap (changed_set (drop (i + 1) out) []) c.take_out.ensures.tuples ∙ changed_out t (drop (i + 1) out) ts
-        ∙ ap (λ u. changed_set (u ∷ drop (i + 1) out) [] ts) c.tuple-item.is ∙ sym (at_drop_more (λ l. changed_set l [] ts) out i t c.outs-test.true)
-        ∙ c.outs.invariant.tuples;
+          ∙ ap (λ u. changed_set (u ∷ drop (i + 1) out) [] ts) c.tuple-item.is ∙ sym (at_drop_more (λ l. changed_set l [] ts) out i t c.outs-test.true)
+          ∙ c.outs.invariant.tuples;
       places = c.take_out.ensures.places ∙ c.outs.invariant.places;
       kept = c.take_out.ensures.kept ∙ c.outs.invariant.kept;
       pending = c.take_out.ensures.pending ∙ c.outs.invariant.pending;

@@ -1,4 +1,4 @@
-use Rattle.std.proofs.Common.{◌≡◌, [], ap, ◌∙◌}
+use Rattle.std.proofs.Common.{[], ap, ◌∙◌}
 use Rattle.td_body.specs.Histories.{changed_set}
 use Rattle.td_body.proofs.TupleSets.{changed_from_none}
 use Rattle.td_body.proofs.hashed.history.KeyHistory.filled.Goals as goal

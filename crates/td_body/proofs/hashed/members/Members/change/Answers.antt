@@ -1,14 +1,13 @@
-use Rattle.std.proofs.Common.{◌≡◌, ◌∙◌, ◌<◌, ◌+◌, ◌++◌, ◌∷◌, [], List, arith, ap, false, length, map, subst, sym}
+use Rattle.std.proofs.Common.{◌∙◌, ◌<◌, ◌++◌, ◌∷◌, [], arith, ap, length, map, subst, sym}
 use Rattle.std.specs.List.{All}
 use Rattle.std.specs.Result.{OnErr}
 use Rattle.std.specs.declared.result.Result.{Result}
 use Rattle.std.specs.declared.result.Result.TheVariants.{Err, Ok}
 use Rattle.std.proofs.lemmas.List.{length-map, map-append, with_items_is}
-use Rattle.td_value.specs.Sets.{has}
-use Rattle.td_value.specs.Values.{IsTupleOf, Tuple, tuple_cmp}
+use Rattle.td_value.specs.Values.{IsTupleOf}
 use Rattle.td_value.specs.Views.{relation_view}
 use Rattle.td_body.specs.Histories.{changed_set}
-use Rattle.td_body.specs.Members.{AreMembers, IsAt, Members, kept_in, places_in, set_in}
+use Rattle.td_body.specs.Members.{AreMembers, IsAt, Members, kept_in, set_in}
 use Rattle.td_body.specs.declared.hashed.history.KeyHistory.{KeyHistory}
 use Rattle.td_body.proofs.MembersLaws.{as_many, first_at, members_changed, members_same}
 use Rattle.td_body.proofs.hashed.members.Members.change.Goals as goal
@@ -55,9 +54,10 @@ returns-in_err-change_all-clause-same c =
     let alike : All (IsAt (set_in sorted hs) (kept_in hs)) c.deref_mut.result.now = subst (All (IsAt (set_in sorted hs) (kept_in hs))) (sym c.deref_mut.ensures.value) c.self.invariant.alike in
     let first = first_at sorted (set_in sorted hs) (kept_in hs) gs some (c.in_err-change_all.ensures.same (set_in sorted hs) (kept_in hs) alike) in
     let is = with_items_is c.self.inside.histories gs (many ∙ c.deref_mut.ensures.len) in
-    in_any c.from_residual-in_err-change_all.result
-    (ap (λ l. relation_view h (set_in sorted l)) is ∙ ap (relation_view h) first.0 ∙ ap (λ (n : Members). n.relation) c.self.view_is,
-    ap (λ l. map (relation_view h) (kept_in l)) is ∙ ap (map (relation_view h)) first.1 ∙ ap (λ (n : Members). n.kept) c.self.view_is)
+    in_any c.from_residual-in_err-change_all.result (
+      ap (λ l. relation_view h (set_in sorted l)) is ∙ ap (relation_view h) first.0 ∙ ap (λ (n : Members). n.relation) c.self.view_is,
+      ap (λ l. map (relation_view h) (kept_in l)) is ∙ ap (map (relation_view h)) first.1 ∙ ap (λ (n : Members). n.kept) c.self.view_is,
+    )
 
 pub invariant_of-self-2 : goal.invariant_of-self-2
 invariant_of-self-2 c =

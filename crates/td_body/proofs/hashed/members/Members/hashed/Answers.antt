@@ -1,5 +1,5 @@
-use Rattle.std.proofs.Common.{◌≡◌, ◌∙◌, [], List, ap, arith, map, refl, subst, sym}
-use Rattle.td_value.specs.Values.{IsRelation, IsTupleOf, Tuple}
+use Rattle.std.proofs.Common.{[], ap, arith, map, refl, subst, sym}
+use Rattle.td_value.specs.Values.{IsRelation}
 use Rattle.td_value.specs.Views.{relation_view}
 use Rattle.td_body.specs.Members.{AreMembers, Covers}
 use Rattle.td_body.proofs.MembersLaws.{first_at, one, standing}

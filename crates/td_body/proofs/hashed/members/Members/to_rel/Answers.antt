@@ -1,8 +1,8 @@
-use Rattle.std.proofs.Common.{◌≡◌, ◌∙◌, ◌<◌, [], List, ap, get_or, length, subst, sym}
+use Rattle.std.proofs.Common.{◌≡◌, ◌∙◌, [], List, ap, subst, sym}
 use Rattle.std.specs.List.{slice_get}
 use Rattle.td_algebra.proofs.Keys.{if_ok}
 use Rattle.td_algebra.proofs.Relations.{rows_ascend}
-use Rattle.td_value.specs.Values.{IsAscendingBody, Relation, Tuple}
+use Rattle.td_value.specs.Values.{IsAscendingBody, Tuple}
 use Rattle.td_value.specs.Views.{relation_view}
 use Rattle.td_body.specs.Members.{Covers, Members, set_in}
 use Rattle.td_body.proofs.MembersLaws.{first_set, no_items, set_covered, set_relation, untouched_same}
