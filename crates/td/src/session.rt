@@ -14,7 +14,7 @@ use crate::dump::dump;
 use crate::line::Mode;
 use std::alloc::Global;
 use td_body::body::Body;
-use td_body::sorted::SortedBody;
+use td_body::hashed::HashBody;
 use td_engine::engine::Engine;
 use td_engine::laws::runs_keep_legality;
 use td_engine::run::{Report, RunFault, run};
@@ -75,6 +75,56 @@ fn written<B: Body, R: Source, W: Sink>(
     }
 }
 
+/// A session whose relvars have bodies of the type.
+pub(crate) fn session_on<B: Body, R: Source, W: Sink>(
+    alloc: Global,
+    mode: Mode,
+    stop: bool,
+    reader: &mut R,
+    writer: &mut W,
+) -> Outcome
+    ensures headline { UnlessMemory result.fault (
+        IsFalse (R.is_broken reader.new) → IsFalse (W.is_broken writer.new)
+        → GaveAtMost script_limit (R.left reader.old) (R.left reader.new) → result.fault ≡ None) }
+    ensures status { IsStatus result.status result.fault }
+    ensures answers { IfNone result.fault (
+        OfScript (R.left reader.old) (R.left reader.new) (λ script. HasAnswered mode
+        (run_of stop (standing empty_state (W.taken writer.old)) script)
+        result.status (W.taken writer.new))) }
+    ensures whole { IfNone result.fault (IsFalse (R.is_broken reader.new)
+        × StaysWhole (W.is_broken writer.old) (W.is_broken writer.new)) }
+    ensures memory { IfSome result.fault (IfMemory (λ done.
+        OfFront done (R.left reader.old) (R.left reader.new) (λ script. HasBegun mode
+        (run_of stop (standing empty_state (W.taken writer.old)) script) done
+        (W.taken writer.new)))) }
+    ensures read { IfSome result.fault (IfRead (λ done. IsTrue (R.is_broken reader.new)
+        × (done ≡ 0) × Appends (W.taken writer.old) (W.taken writer.new) [])) }
+    ensures too_long { IfSome result.fault (IfReadLimit (λ done.
+        GaveTooMuch (R.left reader.old) (R.left reader.new)
+        × (done ≡ 0) × Appends (W.taken writer.old) (W.taken writer.new) [])) }
+    ensures write { IfSome result.fault (IfWrite (λ done. IsTrue (W.is_broken writer.new)
+        × OfScript (R.left reader.old) (R.left reader.new) (λ script. HasBegunCut mode
+        (run_of stop (standing empty_state (W.taken writer.old)) script) done
+        (W.taken writer.new)))) }
+    ensures between { IsLegalThroughout stop empty_state }
+{
+    let mut engine: Engine<B> = Engine::new(alloc);
+    engine.reveal();
+    runs_keep_legality();
+    let answered = written(alloc, mode, stop, &mut engine, reader, writer);
+    drop(engine);
+    match answered {
+        Ok(report) => Outcome {
+            status: status_of(report),
+            fault: None,
+        },
+        Err(fault) => Outcome {
+            status: 3,
+            fault: Some(fault),
+        },
+    }
+}
+
 /// Runs a script on an empty database, and writes its answers or the dump of the database that it
 /// leaves. The status is 0 where nothing was refused, 1 where something was, and 3 where there is a
 /// fault.
@@ -110,19 +160,5 @@ pub fn session<R: Source, W: Sink>(
         (W.taken writer.new)))) }
     ensures between { IsLegalThroughout stop empty_state }
 {
-    let mut engine: Engine<SortedBody> = Engine::new(alloc);
-    engine.reveal();
-    runs_keep_legality();
-    let answered = written(alloc, mode, stop, &mut engine, reader, writer);
-    drop(engine);
-    match answered {
-        Ok(report) => Outcome {
-            status: status_of(report),
-            fault: None,
-        },
-        Err(fault) => Outcome {
-            status: 3,
-            fault: Some(fault),
-        },
-    }
+    session_on::<HashBody, R, W>(alloc, mode, stop, reader, writer)
 }

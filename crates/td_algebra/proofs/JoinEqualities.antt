@@ -23,7 +23,7 @@ use Rattle.td_algebra.proofs.Entries.{no_value_outside, same_on_heading}
 use Rattle.td_algebra.proofs.Joined.{product_join}
 use Rattle.td_algebra.proofs.JoinMembers.{IsRelation-join, agree_from_partners, join_members, join_of_pairs, partners_from_agree, semijoin_members, value_in_united}
 use Rattle.td_algebra.proofs.Lists.{contains_filter, contains_first, contains_later, contains_map}
-use Rattle.td_algebra.proofs.PartnersByKey.{has_common}
+use Rattle.td_algebra.proofs.PartnersByValues.{has_common}
 use Rattle.td_algebra.proofs.Projections.{IsTupleOf-projected, projection_members}
 use Rattle.td_algebra.proofs.Relations.{All-from_members, IsRelation-relation_of, IsRelation-restriction, member_headed}
 

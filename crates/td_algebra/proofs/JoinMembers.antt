@@ -17,7 +17,7 @@ use Rattle.td_algebra.specs.Pairs.{pairs_with, partners_paired}
 use Rattle.td_algebra.proofs.Entries.{has_name-heading, no_value_outside}
 use Rattle.td_algebra.proofs.Joined.{IsOfPair, apart_agree, join_pairs, joined_headed, pair_members, product_join}
 use Rattle.td_algebra.proofs.Lists.{contains_any, contains_filter}
-use Rattle.td_algebra.proofs.PartnersByKey.{has_common}
+use Rattle.td_algebra.proofs.PartnersByValues.{has_common}
 use Rattle.td_algebra.proofs.Projections.{projection_members}
 use Rattle.td_algebra.proofs.Relations.{IsRelation-relation_of, member_headed, rows_headed}
 use Rattle.td_algebra.proofs.Sources.{has_attribute-outside}

@@ -23,7 +23,7 @@ use Rattle.td_algebra.proofs.Lists.{all_kept, contains_filter, contains_flat_map
 use Rattle.td_algebra.proofs.Members.{second_true}
 use Rattle.td_algebra.proofs.Taken.{value_of_answer}
 use Rattle.td_algebra.proofs.Pairs.{is_paired, is_turned, pair_is, turned_is, united_is}
-use Rattle.td_algebra.proofs.PartnersByKey.{has_common}
+use Rattle.td_algebra.proofs.PartnersByValues.{has_common}
 use Rattle.td_algebra.proofs.Relations.{All-from_members}
 use Rattle.td_algebra.proofs.United.{IsTupleOf-united}
 

@@ -1,5 +1,6 @@
 -- Two ascending lists of tuples side by side.
 use Rattle.std.proofs.Common.{◌≡◌, ◌∙◌, ap, sym, refl, subst, true≢false, append_assoc, Bool, true, false, ◌||◌, ℕ, zero, suc, ◌+◌, ◌<◌, List, [], ◌∷◌, ◌++◌, drop, filter, get_or, length}
+use Rattle.std.specs.Prelude.{◌&&◌, if◌then◌else◌}
 use Rattle.std.specs.declared.cmp.Ordering.{Ordering}
 use Rattle.std.specs.declared.cmp.Ordering.TheVariants.{Less, Equal, Greater}
 use Rattle.std.specs.Ordering.{eq_by_cmp, is_eq, is_lt, ordering_reverse}
@@ -7,10 +8,11 @@ use Rattle.std.specs.List.{AllByRecursion, list_all}
 use Rattle.std.specs.List.Sorted.{IsStrictlySortedBy}
 use Rattle.std.proofs.lemmas.List.{at_drop_more}
 use Rattle.std.proofs.lemmas.List.Folds.{list_any-append}
+use Rattle.std.proofs.lemmas.List.Kept.{IsStrictlySortedBy-filter}
 use Rattle.td_value.specs.Sets.{has, set_of}
 use Rattle.td_value.specs.Values.{Tuple, IsAscendingBody, tuple_cmp}
 use Rattle.td_value.specs.ValueOrder.{tuple_Decides, tuple_order_same, tuple_order_total}
-use Rattle.td_value.proofs.SetLaws.{is_set_of}
+use Rattle.td_value.proofs.SetLaws.{is_set_of, same_members}
 use Rattle.td_algebra.specs.Merges.{IsAbreast, without_first, begins_with, below, merged, not_below}
 
 -- ---- the order of two tuples
@@ -279,3 +281,38 @@ pub step_dropped : (p : Tuple → Bool) (ts kept all : List Tuple) (i : ℕ) (t 
     → kept ++ filter p (drop i ts) ≡ all → kept ++ filter p (drop (i + 1) ts) ≡ all
 step_dropped p ts kept all i t h e is inv =
     ap (λ l. kept ++ l) (sym (ap (filter p) (first_left ts i t h e) ∙ rw is refl)) ∙ inv
+
+-- ---- what two ascending lists have in common
+
+has-filter : (p : Tuple → Bool) (t : Tuple) (ts : List Tuple) → has tuple_cmp t (filter p ts) ≡ (has tuple_cmp t ts && p t)
+has-filter p t [] = refl
+has-filter p t (u ∷ us) = by_test (eq_by_cmp tuple_cmp t u) refl (p u) refl (has-filter p t us)
+  where
+    and_false : (b : Bool) → (b && false) ≡ false
+    and_false true = refl
+    and_false false = refl
+
+    by_test : (same : Bool) → eq_by_cmp tuple_cmp t u ≡ same → (kept : Bool) → p u ≡ kept → has tuple_cmp t (filter p us) ≡ (has tuple_cmp t us && p t)
+        → has tuple_cmp t (if kept then u ∷ filter p us else filter p us) ≡ ((same || has tuple_cmp t us) && p t)
+    by_test true is true e later =
+        let there : p t ≡ true = ap p ((tuple_Decides t u).0 is) ∙ e in
+        ap (λ b. b || has tuple_cmp t (filter p us)) is ∙ sym there
+    by_test true is false e later =
+        let none : p t ≡ false = ap p ((tuple_Decides t u).0 is) ∙ e in
+        later ∙ ap (λ b. has tuple_cmp t us && b) none ∙ and_false (has tuple_cmp t us) ∙ sym none
+    by_test false is true e later = ap (λ b. b || has tuple_cmp t (filter p us)) is ∙ later
+    by_test false is false e later = later
+
+-- those of the one that the other has are those of the other that it has
+pub common_turned : (ts us : List Tuple) → IsAscendingBody ts → IsAscendingBody us
+    → filter (λ t. has tuple_cmp t us) ts ≡ filter (λ t. has tuple_cmp t ts) us
+common_turned ts us a b =
+    same_members tuple_cmp tuple_order_total tuple_order_same (filter (λ t. has tuple_cmp t us) ts) (filter (λ t. has tuple_cmp t ts) us)
+    (IsStrictlySortedBy-filter tuple_cmp (λ t. has tuple_cmp t us) ts a) (IsStrictlySortedBy-filter tuple_cmp (λ t. has tuple_cmp t ts) us b)
+    (λ t. has-filter (λ u. has tuple_cmp u us) t ts ∙ both (has tuple_cmp t ts) (has tuple_cmp t us) ∙ sym (has-filter (λ u. has tuple_cmp u ts) t us))
+  where
+    both : (b c : Bool) → (b && c) ≡ (c && b)
+    both true true = refl
+    both true false = refl
+    both false true = refl
+    both false false = refl

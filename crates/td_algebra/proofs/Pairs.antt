@@ -1,11 +1,9 @@
 -- The tuples of pairs: what a layout takes of the values of both.
-use Rattle.std.proofs.Common.{◌≡◌, ◌∙◌, ap, sym, refl, arith, ℕ, zero, suc, ◌+◌, ◌<◌, Bool, true, false, List, [], ◌∷◌, ◌++◌, append-nil, append_assoc, drop, filter, length, map, take, get_or}
+use Rattle.std.proofs.Common.{◌≡◌, ◌∙◌, ap, sym, refl, arith, ℕ, ◌+◌, ◌<◌, Bool, true, false, List, [], ◌∷◌, ◌++◌, append-nil, append_assoc, drop, filter, length, map}
 use Rattle.std.specs.Prelude.{◌&&◌, not}
-use Rattle.std.specs.List.{flat_map}
 use Rattle.std.specs.List.Sorted.{IsPermutation}
 use Rattle.std.specs.Ordering.{eq_by_cmp}
-use Rattle.std.proofs.lemmas.Grind.{flat_map-append}
-use Rattle.std.proofs.lemmas.List.{length-append, map-append, take_more}
+use Rattle.std.proofs.lemmas.List.{length-append, map-append}
 use Rattle.std.proofs.lemmas.List.Elements.{All-append}
 use Rattle.std.proofs.lemmas.List.Sorted.{All-permutation, IsPermutation-map, list_any-IsPermutation}
 use Rattle.std.proofs.Math.Seq.{drop-append_seam}
@@ -17,8 +15,7 @@ use Rattle.td_value.specs.ValueOrder.{entry_order_same, entry_order_total}
 use Rattle.td_value.specs.Values.{Val, IsTupleOf, Tuple, entry_cmp, tuple_names, tuple_of}
 use Rattle.td_value.specs.Views.{values_of}
 use Rattle.td_value.proofs.SetLaws.{has-set_of, is_set_of, set_of-ascends}
-use Rattle.td_algebra.specs.Groups.{source_names}
-use Rattle.td_algebra.specs.Layouts.{AreInRange, Sources, sources_outside, taken}
+use Rattle.td_algebra.specs.Layouts.{AreInRange, Sources, source_names, sources_outside, taken}
 use Rattle.td_algebra.specs.Operators.{united_tuple}
 use Rattle.td_algebra.specs.Pairs.{IsPaired, paired_tuple, pair_sources, pair_tuple}
 use Rattle.td_algebra.proofs.Entries.{as_many, has_name-heading, heading_distinct, names_apart, names_of_heading}
@@ -115,19 +112,9 @@ united_is t u = ap (λ es. tuple_of (es ++ filter (λ e. not (has_name e.0 (tupl
 
 -- ---- loops over pairs
 
-pub mapped_more : {X Y : Type 0} (f : X → Y) (xs : List X) (i : ℕ) (x : X) (before old new : List Y) → i < length xs → x ≡ get_or xs i x
-    → old ≡ before ++ map f (take i xs) → new ≡ old ++ f x ∷ [] → new ≡ before ++ map f (take (i + 1) xs)
-mapped_more f xs i x before old new h is inv e =
-    e ∙ ap (λ ys. ys ++ f x ∷ []) inv ∙ append_assoc before (map f (take i xs)) (f x ∷ [])
-    ∙ ap (λ ys. before ++ ys) (sym (ap (map f) (take_more xs i x h ∙ ap (λ y. take i xs ++ y ∷ []) (sym is)) ∙ map-append f (take i xs) (x ∷ [])))
-
-pub flat_more : {X Y : Type 0} (f : X → List Y) (xs : List X) (i : ℕ) (x : X) (old new : List Y) → i < length xs → x ≡ get_or xs i x
-    → old ≡ flat_map f (take i xs) → new ≡ old ++ f x → new ≡ flat_map f (take (i + 1) xs)
-flat_more f xs i x old new h is inv e =
-    e ∙ ap (λ ys. ys ++ f x) inv ∙ ap (λ ys. flat_map f (take i xs) ++ ys) (sym (append-nil (f x)))
-    ∙ sym (ap (flat_map f) (take_more xs i x h ∙ ap (λ y. take i xs ++ y ∷ []) (sym is)) ∙ flat_map-append f (take i xs) (x ∷ []))
-
-pub mapped_at : {X Y : Type 0} (f : X → Y) (xs : List X) (i : ℕ) (d : X) → get_or (map f xs) i (f d) ≡ f (get_or xs i d)
-mapped_at f [] i d = refl
-mapped_at f (x ∷ xs) zero d = refl
-mapped_at f (x ∷ xs) (suc i) d = mapped_at f xs i d
+-- the first of the items left is put after the others
+pub put_first : {X Y : Type 0} (f : X → Y) (items rest : List X) (x : X) (y : Y) (old new all : List Y) → items ≡ x ∷ rest → y ≡ f x
+    → new ≡ old ++ y ∷ [] → old ++ map f items ≡ all → new ++ map f rest ≡ all
+put_first f items rest x y old new all first is push so_far =
+    ap (λ ys. ys ++ map f rest) push ∙ append_assoc old (y ∷ []) (map f rest)
+    ∙ ap (λ z. old ++ z ∷ map f rest) is ∙ ap (λ xs. old ++ map f xs) (sym first) ∙ so_far

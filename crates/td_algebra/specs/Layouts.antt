@@ -1,6 +1,6 @@
 -- Where the values of a result's tuples come from: each name with a place in the values of one operand's tuple followed by
 -- those of the other's (this project's own).
-use Rattle.std.specs.Prelude.{◌≡◌, ℕ, ◌+◌, ◌<◌, List, [], ◌∷◌, ◌++◌, length, Option, None, Some, if◌then◌else◌}
+use Rattle.std.specs.Prelude.{◌≡◌, ℕ, ◌+◌, ◌<◌, List, [], ◌∷◌, ◌++◌, length, Option, None, Some, if◌then◌else◌, map}
 use Rattle.std.specs.List.{All, slice_get}
 use Rattle.td_types.specs.Headings.{has_attribute}
 use Rattle.td_types.specs.Types.{Heading}
@@ -9,6 +9,10 @@ use Rattle.td_value.specs.Values.{Val, Tuple, tuple_of}
 -- names, each with the place of its value
 abbrev pub Sources : Type 0
 Sources = List (List ℕ × ℕ)
+
+-- the names
+abbrev pub source_names : Sources → List (List ℕ)
+source_names = map (λ s. s.0)
 
 -- the entry of a name with its value, where it has one, before the others
 abbrev pub with_entry : List ℕ → Option Val → Tuple → Tuple

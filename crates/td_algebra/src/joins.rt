@@ -5,15 +5,15 @@ ghost use Rattle.std.specs.List.Sorted.{IsPermutation};
 ghost use Rattle.td_types.specs.Headings.{agree, have_no_common};
 ghost use Rattle.td_types.specs.Types.{IsHeading, pack};
 ghost use Rattle.td_value.specs.Values.{Tuple, HaveSameMembers, IsTupleOf};
-ghost use Rattle.td_algebra.specs.Groups.{IsKeyed, group, key_of};
+ghost use Rattle.td_value.specs.Views.{values_of};
+ghost use Rattle.td_algebra.specs.Lookups.{AreWithin, partners_in};
 ghost use Rattle.td_algebra.specs.Operators.{are_partners, composition, join, product};
 ghost use Rattle.td_algebra.specs.Pairs.{IsPaired, pair_sources, pair_tuple, pairs_with};
 ghost use Rattle.td_algebra.specs.Pairs.{partners_paired};
 
 use crate::layout::{Layout, put_sources};
-use crate::partners::{grouped, key_layout, key_of};
+use crate::lookup::{Lookup, common_places};
 use std::alloc::{AllocError, Global};
-use std::collections::HashMap;
 use td_tree::fault::unrefused;
 use td_types::heading::Heading;
 use td_value::relation::Rel;
@@ -23,64 +23,45 @@ use td_value::tuple::Tuple;
 fn put_pairs(
     alloc: Global,
     layout: &Layout,
+    places: &[usize],
     row: &Tuple,
-    partners: &[&Tuple],
+    lookup: &Lookup,
     pairs: &mut Vec<Tuple>,
 ) -> Result<(), AllocError>
-    requires { All (IsPaired layout.now row.now) (map (λ u. u.now) partners.now) }
+    requires within { AreWithin places.now (values_of row.now) }
+    requires paired { All (IsPaired layout.now row.now)
+        (partners_in lookup.now places.now row.now) }
     ensures { OnOk result (pairs.new.items ≡ pairs.old.items
-        ++ map (pair_tuple layout.now row.now) (map (λ u. u.now) partners.now)) }
+        ++ map (pair_tuple layout.now row.now) (partners_in lookup.now places.now row.now)) }
 {
-    for partner in partners {
+    for partner in lookup.partners(places, row) {
         pairs.push(layout.tuple(alloc, row.values(), partner.values())?)?;
     }
     Ok(())
-}
-
-/// Finds the row's partners by its key, and does so with them.
-fn put_partners(
-    alloc: Global,
-    layout: &Layout,
-    keys: &Layout,
-    row: &Tuple,
-    groups: &HashMap<Tuple, Vec<&Tuple>>,
-    pairs: &mut Vec<Tuple>,
-) -> Result<(), AllocError>
-    requires keyed { IsKeyed keys.now row.now }
-    requires paired { All (IsPaired layout.now row.now)
-        (group (key_of keys.now row.now) groups.now) }
-    ensures { OnOk result (pairs.new.items ≡ pairs.old.items
-        ++ map (pair_tuple layout.now row.now) (group (key_of keys.now row.now) groups.now)) }
-{
-    let key = key_of(alloc, keys, row)?;
-    match groups.get(&key) {
-        Some(partners) => put_pairs(alloc, layout, row, partners, pairs),
-        None => Ok(()),
-    }
 }
 
 /// The tuples of each row with each of its partners.
 fn pairs_of(
     alloc: Global,
     layout: &Layout,
-    keys: &Layout,
+    places: &[usize],
     rows: &[Tuple],
-    groups: &HashMap<Tuple, Vec<&Tuple>>,
+    lookup: &Lookup,
 ) -> Result<Vec<Tuple>, AllocError>
-    requires keyed { All (IsKeyed keys.now) rows.now }
+    requires within { All (λ t. AreWithin places.now (values_of t)) rows.now }
     requires paired { All (λ t. All (IsPaired layout.now t)
-        (group (key_of keys.now t) groups.now)) rows.now }
+        (partners_in lookup.now places.now t)) rows.now }
     ensures { IfOk result (λ pairs. pairs.items
-        ≡ pairs_with (λ t. group (key_of keys.now t) groups.now) (pair_tuple layout.now) rows.now) }
+        ≡ pairs_with (partners_in lookup.now places.now) (pair_tuple layout.now) rows.now) }
 {
     let mut pairs = Vec::with_capacity(alloc, rows.len())?;
     for row in rows {
-        put_partners(alloc, layout, keys, row, groups, &mut pairs)?;
+        put_pairs(alloc, layout, places, row, lookup, &mut pairs)?;
     }
     Ok(pairs)
 }
 
-/// The tuples of the pairs of partners, found by the keys of the other's tuples.
+/// The tuples of the pairs of partners, found by the values of the other's tuples.
 fn partner_pairs(
     alloc: Global,
     rel: &Rel,
@@ -93,10 +74,10 @@ fn partner_pairs(
         (λ t. filter (are_partners rel.now other.now t) other.now.body)
         (pair_tuple layout.now) rel.now.body) }
 {
-    let partner_keys = key_layout(alloc, other.heading(), rel.heading())?;
-    let groups = grouped(alloc, &partner_keys, other.rows())?;
-    let keys = key_layout(alloc, rel.heading(), other.heading())?;
-    pairs_of(alloc, layout, &keys, rel.rows(), &groups)
+    let partner_places = common_places(alloc, other.heading(), rel.heading())?;
+    let lookup = Lookup::new(alloc, &partner_places, other.rows())?;
+    let places = common_places(alloc, rel.heading(), other.heading())?;
+    pairs_of(alloc, layout, &places, rel.rows(), &lookup)
 }
 
 /// The layout of the tuples of pairs: the names of the one heading but for those that are left out,
@@ -179,8 +160,9 @@ fn partners_of_either(
     }
 }
 
-/// Each tuple united with each of its partners in the other relation.
-pub fn join(alloc: Global, rel: &Rel, other: &Rel) -> Result<Rel, AllocError>
+/// Each tuple united with each of its partners in the other relation, which are found by a hash of
+/// the values of the common attributes.
+pub fn hash_join(alloc: Global, rel: &Rel, other: &Rel) -> Result<Rel, AllocError>
     requires { IsTrue (agree rel.now.heading other.now.heading) }
     ensures { IfOk result (λ r. r ≡ join rel.now other.now) }
 {
@@ -190,6 +172,14 @@ pub fn join(alloc: Global, rel: &Rel, other: &Rel) -> Result<Rel, AllocError>
     let none = Heading::empty(alloc);
     let pairs = partners_of_either(alloc, &none, rel, other)?;
     Rel::new(heading, pairs)
+}
+
+/// Each tuple united with each of its partners in the other relation.
+pub fn join(alloc: Global, rel: &Rel, other: &Rel) -> Result<Rel, AllocError>
+    requires { IsTrue (agree rel.now.heading other.now.heading) }
+    ensures { IfOk result (λ r. r ≡ join rel.now other.now) }
+{
+    hash_join(alloc, rel, other)
 }
 
 /// Each tuple united with each of the other relation.

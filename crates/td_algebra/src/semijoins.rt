@@ -1,35 +1,30 @@
 //! MATCHING and NOT MATCHING.
 ghost use Rattle.std.specs.Prelude.{◌≡◌, IfOk, filter};
-ghost use Rattle.std.specs.HashSet.{contains};
 ghost use Rattle.std.specs.List.{All, list_any};
-ghost use Rattle.std.specs.Ordering.{eq_by_cmp};
-ghost use Rattle.td_value.specs.Values.{tuple_cmp};
-ghost use Rattle.td_algebra.specs.Groups.{IsKeyed, key_of, wanted};
+ghost use Rattle.td_algebra.specs.Lookups.{AreWithin, has_partner_in, wanted};
 ghost use Rattle.td_algebra.specs.Operators.{are_partners, restriction, semidifference, semijoin};
+ghost use Rattle.td_value.specs.Views.{values_of};
 
-use crate::layout::Layout;
-use crate::partners::{key_layout, key_of, keys_of};
+use crate::lookup::{Lookup, common_places};
 use std::alloc::{AllocError, Global};
-use std::collections::HashSet;
 use td_value::relation::Rel;
 use td_value::tuple::Tuple;
 
-/// The rows whose keys are there, or else those whose keys are not.
-fn rows_by_keys(
+/// The rows that have a partner in the look-up, or else those that have none.
+fn rows_by_partners(
     alloc: Global,
-    layout: &Layout,
+    places: &[usize],
     rows: &[Tuple],
-    keys: &HashSet<Tuple>,
+    lookup: &Lookup,
     there: bool,
 ) -> Result<Vec<Tuple>, AllocError>
-    requires { All (IsKeyed layout.now) rows.now }
-    ensures { IfOk result (λ kept. kept.items ≡ filter (λ t. wanted there
-        (contains (eq_by_cmp tuple_cmp) keys.now (key_of layout.now t))) rows.now) }
+    requires { All (λ t. AreWithin places.now (values_of t)) rows.now }
+    ensures { IfOk result (λ kept. kept.items
+        ≡ filter (λ t. wanted there (has_partner_in lookup.now places.now t)) rows.now) }
 {
     let mut kept = Vec::new(alloc);
     for row in rows {
-        let key = key_of(alloc, layout, row)?;
-        if keys.contains(&key) == there {
+        if lookup.has_partner(places, row) == there {
             kept.push(row.try_clone()?)?;
         }
     }
@@ -37,14 +32,14 @@ fn rows_by_keys(
 }
 
 /// The tuples that have a partner in the other, or else those that have none.
-fn rows_by_partners(alloc: Global, rel: &Rel, other: &Rel, there: bool) -> Result<Rel, AllocError>
+fn by_partners(alloc: Global, rel: &Rel, other: &Rel, there: bool) -> Result<Rel, AllocError>
     ensures { IfOk result (λ r. r ≡ restriction (λ t. wanted there
         (list_any (are_partners rel.now other.now t) other.now.body)) rel.now) }
 {
-    let partner_layout = key_layout(alloc, other.heading(), rel.heading())?;
-    let keys = keys_of(alloc, &partner_layout, other.rows())?;
-    let layout = key_layout(alloc, rel.heading(), other.heading())?;
-    let kept = rows_by_keys(alloc, &layout, rel.rows(), &keys, there)?;
+    let partner_places = common_places(alloc, other.heading(), rel.heading())?;
+    let lookup = Lookup::new(alloc, &partner_places, other.rows())?;
+    let places = common_places(alloc, rel.heading(), other.heading())?;
+    let kept = rows_by_partners(alloc, &places, rel.rows(), &lookup, there)?;
     Rel::of_ascending(rel.heading().try_clone()?, kept)
 }
 
@@ -52,12 +47,12 @@ fn rows_by_partners(alloc: Global, rel: &Rel, other: &Rel, there: bool) -> Resul
 pub fn matching(alloc: Global, rel: &Rel, other: &Rel) -> Result<Rel, AllocError>
     ensures { IfOk result (λ r. r ≡ semijoin rel.now other.now) }
 {
-    rows_by_partners(alloc, rel, other, true)
+    by_partners(alloc, rel, other, true)
 }
 
 /// The tuples that have none.
 pub fn not_matching(alloc: Global, rel: &Rel, other: &Rel) -> Result<Rel, AllocError>
     ensures { IfOk result (λ r. r ≡ semidifference rel.now other.now) }
 {
-    rows_by_partners(alloc, rel, other, false)
+    by_partners(alloc, rel, other, false)
 }

@@ -1,5 +1,5 @@
 //! UNION, INTERSECT, MINUS and inclusion, by a pass over the ascending tuples of both operands side
-//! by side. Both have one heading.
+//! by side, or by a search for each tuple of one that is far shorter. Both have one heading.
 ghost use Rattle.std.specs.Prelude.{◌≡◌, ◌++◌, IfOk, OnOk, filter};
 ghost use Rattle.std.specs.List.{All, list_all};
 ghost use Rattle.td_algebra.specs.Merges.{begins_with, below, is_wanted, merged, not_below};
@@ -116,6 +116,45 @@ fn kept_rows(
     Ok(kept)
 }
 
+/// The rows that the relation has, or those that it has not, as is wanted. Each is searched for.
+fn searched_rows(
+    alloc: Global,
+    rows: &[Tuple],
+    other: &Rel,
+    wanted: bool,
+) -> Result<Vec<Tuple>, AllocError>
+    ensures { IfOk result (λ kept. kept.items ≡ filter (is_wanted wanted other.now.body) rows.now) }
+{
+    let mut kept = Vec::new(alloc);
+    for row in rows {
+        if other.contains(row) == wanted {
+            kept.push(row.try_clone()?)?;
+        }
+    }
+    Ok(kept)
+}
+
+/// From so many times as many rows on, a search for each of the fewer is faster than a pass over
+/// both.
+const FAR_MORE: usize = 16;
+
+/// The rows of the first that the second has, or those that it has not, as is wanted.
+fn chosen_rows(
+    alloc: Global,
+    rel: &Rel,
+    other: &Rel,
+    wanted: bool,
+) -> Result<Vec<Tuple>, AllocError>
+    ensures { IfOk result (λ kept.
+        kept.items ≡ filter (is_wanted wanted other.now.body) rel.now.body) }
+{
+    if rel.rows().len() < other.rows().len() / FAR_MORE {
+        searched_rows(alloc, rel.rows(), other, wanted)
+    } else {
+        kept_rows(alloc, rel.rows(), other.rows(), wanted)
+    }
+}
+
 /// The relation with the heading of another, of rows of that heading that ascend.
 pub(crate) fn with_rows(rel: &Rel, rows: Vec<Tuple>) -> Result<Rel, AllocError>
     requires headed { All (IsTupleOf rel.now.heading) rows.items }
@@ -130,7 +169,8 @@ fn kept(alloc: Global, rel: &Rel, other: &Rel, wanted: bool) -> Result<Rel, Allo
     ensures { IfOk result (λ r.
         r ≡ restriction (is_wanted wanted other.now.body) rel.now) }
 {
-    let rows = kept_rows(alloc, rel.rows(), other.rows(), wanted)?;
+    let _ = rel.rows();
+    let rows = chosen_rows(alloc, rel, other, wanted)?;
     with_rows(rel, rows)
 }
 
@@ -143,12 +183,16 @@ pub fn union(alloc: Global, rel: &Rel, other: &Rel) -> Result<Rel, AllocError>
     with_rows(rel, rows)
 }
 
-/// The tuples that are in both.
+/// The tuples that are in both: those of the shorter that the other has.
 pub fn intersect(alloc: Global, rel: &Rel, other: &Rel) -> Result<Rel, AllocError>
     requires { rel.now.heading ≡ other.now.heading }
     ensures { IfOk result (λ r. r ≡ intersection rel.now other.now) }
 {
-    kept(alloc, rel, other, true)
+    if other.rows().len() < rel.rows().len() {
+        kept(alloc, other, rel, true)
+    } else {
+        kept(alloc, rel, other, true)
+    }
 }
 
 /// The tuples that are in the first and not in the second.

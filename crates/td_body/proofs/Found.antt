@@ -21,7 +21,8 @@ use Rattle.td_body.specs.KeyIndexes.{IsIndexed, IsNumbered, count_by, count_in, 
 use Rattle.td_body.specs.KeyParts.{apart_at, by_places, values_at, values_cmp}
 use Rattle.td_body.proofs.KeyParts.{found_order, found_order_total}
 use Rattle.td_body.proofs.Numbered.{some_of, some_same, split_nat}
-use Rattle.td_body.proofs.Ordinals.{ascending, has-filter, has_table, same, split_tuple}
+use Rattle.td_body.proofs.Ordinals.{has_table, same}
+use Rattle.td_body.proofs.TupleSets.{ascends-set, has-filter, split_tuple}
 
 -- whether there is a number below n
 abbrev pub is_below : ℕ → Option ℕ → Bool
@@ -196,7 +197,7 @@ module _ (places : List ℕ) where
   module _ {H : Type 0} (m : IndexMap Tuple ℕ H) (slots : IndexMap Slot Tuple H) (counts : IndexMap ℕ ℕ H) (x : IsIndexed places m slots counts) where
     -- where no hash has several tuples no two tie
     pub none_tie : counts.entries ≡ [] → apart_at places (set_of tuple_cmp (keys m)) ≡ true
-    none_tie none = apart_from (set_of tuple_cmp (keys m)) (ascending (keys m)) (λ s t j k e.
+    none_tie none = apart_from (set_of tuple_cmp (keys m)) (ascends-set (keys m)) (λ s t j k e.
         let a = some_of (ordinal_of m s) (sym (has_table m s) ∙ j) in
         let b = some_of (ordinal_of m t) (sym (has_table m t) ∙ k) in
         let p = x.0.numbered s a.0 a.1 in

@@ -1,4 +1,5 @@
 pub mod Apart
+pub mod Differences
 pub mod FirstNames
 pub mod Found
 pub mod Held

@@ -2,22 +2,21 @@
 use Rattle.std.specs.declared.cmp.Ordering.{Ordering}
 use Rattle.std.specs.declared.cmp.Ordering.TheVariants.{Less, Equal, Greater}
 use Rattle.std.specs.Ordering.{eq_by_cmp, is_eq}
-use Rattle.std.proofs.Common.{◌≡◌, ℕ, ◌+◌, ◌<◌, ◌≤◌, Bool, true, false, not, cond, ◌||◌, ◌&&◌, List, [], ◌∷◌, length, map, filter, refl, sym, ap, ◌∙◌, nat_eq, nat_lt, Option, Some, None, is_some, IsSome, arith, subst, true≢false}
+use Rattle.std.proofs.Common.{◌≡◌, ℕ, ◌+◌, ◌<◌, ◌≤◌, Bool, true, false, not, cond, ◌||◌, ◌&&◌, List, [], ◌∷◌, length, map, refl, sym, ap, ◌∙◌, nat_eq, nat_lt, Option, Some, None, is_some, IsSome, arith, subst, true≢false}
 use Rattle.std.specs.List.{list_any, AllByRecursion, IsDistinct}
 use Rattle.std.specs.Map.{lookup, lookup_key, keys_of}
 use Rattle.std.proofs.lemmas.Bool.{eq-eqb}
 use Rattle.std.proofs.lemmas.Bool.Decides.{nat_tests}
 use Rattle.std.proofs.lemmas.Map.Steps.{le-length_from_below}
 use Rattle.std.proofs.lemmas.List.{length-map}
-use Rattle.std.proofs.lemmas.List.Kept.{IsStrictlySortedBy-filter}
 use Rattle.indexmap.specs.IndexMap.{IndexMap, get, keys, get_key_by, IsUnique}
 use Rattle.td_value.specs.Sets.{has, put_in, set_of}
-use Rattle.td_value.specs.Values.{Tuple, IsAscendingBody, tuple_cmp}
-use Rattle.td_value.specs.ValueOrder.{tuple_Decides, tuple_order_same, tuple_order_total}
-use Rattle.td_value.proofs.SetLaws.{has-put_in, has-set_of, put_in-ascends, same_members, set_of-ascends}
+use Rattle.td_value.specs.Values.{Tuple, tuple_cmp}
+use Rattle.td_value.specs.ValueOrder.{tuple_Decides}
 use Rattle.td_body.specs.declared.hashed.tables.Slot.{Slot}
 use Rattle.td_body.specs.KeyIndexes.{IsIndexed, IsNumbered, count_by, count_in, ordinal_of, part_hash, several, slot_eq, tuple_at, without}
-use Rattle.td_body.proofs.Numbered.{count_is, some_same, split, split_nat}
+use Rattle.td_body.proofs.Numbered.{count_is, some_same, split_nat}
+use Rattle.td_body.proofs.TupleSets.{ascends-put, ascends-set, ascends-without, has-filter, has-put, has-set, same_tuples, split_tuple}
 
 -- a table has a key where a look-up finds it
 pub any_get : {K X : Type 0} (t : K → Bool) (es : List (K × X)) → list_any t (keys_of es) ≡ is_some (lookup t es)
@@ -41,62 +40,6 @@ is_other s t ne = by (same s t) refl
     by true e = absurd (ne ((tuple_Decides s t).0 e))
     by false e = refl
 
-pub split_tuple : (s t : Tuple) {G : Type 0} → (s ≡ t → same s t ≡ true → G) → ((s ≡ t → ⊥) → same s t ≡ false → G) → G
-split_tuple = split same tuple_Decides
-
--- ---- sets of tuples
-
-pub ascending : (ts : List Tuple) → IsAscendingBody (set_of tuple_cmp ts)
-ascending = set_of-ascends tuple_cmp tuple_order_total tuple_order_same
-
--- what passes the test is what remains
-pub has-filter : (p : Tuple → Bool) (t : Tuple) (ts : List Tuple) → has tuple_cmp t (filter p ts) ≡ (p t && has tuple_cmp t ts)
-has-filter p t [] = nothing (p t)
-  where
-    nothing : (b : Bool) → false ≡ (b && false)
-    nothing true = refl
-    nothing false = refl
-has-filter p t (u ∷ ts) = split_tuple t u (at_same (has-filter p t ts)) (λ _ e. at_other (has-filter p t ts) e)
-  where
-    at_same : has tuple_cmp t (filter p ts) ≡ (p t && has tuple_cmp t ts) → t ≡ u → same t u ≡ true → has tuple_cmp t (filter p (u ∷ ts)) ≡ (p t && has tuple_cmp t (u ∷ ts))
-    at_same ih is e = by (p u) refl
-      where
-        by : (b : Bool) → p u ≡ b → has tuple_cmp t (filter p (u ∷ ts)) ≡ (p t && has tuple_cmp t (u ∷ ts))
-        by true h = rw (filter, h, e, ap p is, h) refl
-        by false h = rw (filter, h, ih, ap p is, h) refl
-
-    at_other : has tuple_cmp t (filter p ts) ≡ (p t && has tuple_cmp t ts) → same t u ≡ false → has tuple_cmp t (filter p (u ∷ ts)) ≡ (p t && has tuple_cmp t (u ∷ ts))
-    at_other ih e = by (p u) refl
-      where
-        by : (b : Bool) → p u ≡ b → has tuple_cmp t (filter p (u ∷ ts)) ≡ (p t && has tuple_cmp t (u ∷ ts))
-        by true h = rw (filter, h, e, ih) refl
-        by false h = rw (filter, h, e, ih) refl
-
--- two sets with the same members are one
-pub one_set : (ss ts : List Tuple) → IsAscendingBody ss → IsAscendingBody ts → ((t : Tuple) → has tuple_cmp t ss ≡ has tuple_cmp t ts) → ss ≡ ts
-one_set = same_members tuple_cmp tuple_order_total tuple_order_same
-
-pub ascending-put_in : (t : Tuple) (ts : List Tuple) → IsAscendingBody ts → IsAscendingBody (put_in tuple_cmp t ts)
-ascending-put_in = put_in-ascends tuple_cmp tuple_order_total tuple_order_same
-
-pub ascending-without : (t : Tuple) (ts : List Tuple) → IsAscendingBody ts → IsAscendingBody (without t ts)
-ascending-without t ts up = IsStrictlySortedBy-filter tuple_cmp (λ u. not (same t u)) ts up
-
-pub has_more : (q t : Tuple) (ts : List Tuple) → has tuple_cmp q (put_in tuple_cmp t ts) ≡ (same q t || has tuple_cmp q ts)
-has_more = has-put_in tuple_cmp tuple_order_total tuple_order_same
-
--- a member put in changes nothing
-pub put_in-member : (t : Tuple) (ts : List Tuple) → IsAscendingBody ts → has tuple_cmp t ts ≡ true → put_in tuple_cmp t ts ≡ ts
-put_in-member t ts up h = one_set (put_in tuple_cmp t ts) ts (ascending-put_in t ts up) up (λ q. has_more q t ts ∙ split_tuple q t
-    (λ is e. rw e (sym (subst (λ z. has tuple_cmp z ts ≡ true) (sym is) h)))
-    (λ _ e. rw e refl))
-
--- what is no member taken out changes nothing
-pub without-other : (t : Tuple) (ts : List Tuple) → IsAscendingBody ts → has tuple_cmp t ts ≡ false → without t ts ≡ ts
-without-other t ts up h = one_set (without t ts) ts (ascending-without t ts up) up (λ q. has-filter (λ u. not (same t u)) q ts ∙ split_tuple t q
-    (λ is e. rw e (sym (subst (λ z. has tuple_cmp z ts ≡ false) is h)))
-    (λ _ e. rw e refl))
-
 len-put_in : (t : Tuple) (ts : List Tuple) → has tuple_cmp t ts ≡ false → length (put_in tuple_cmp t ts) ≡ length ts + 1
 len-put_in t [] h = refl
 len-put_in t (u ∷ ts) h = by (tuple_cmp t u) refl h (len-put_in t ts)
@@ -113,7 +56,7 @@ no_member t (u ∷ ts) h = rw h.0 (no_member t ts h.1)
 len-set_of : (ts : List Tuple) → IsDistinct same ts → length (set_of tuple_cmp ts) ≡ length ts
 unfolding IsDistinct
 len-set_of [] h = refl
-len-set_of (t ∷ ts) h = len-put_in t (set_of tuple_cmp ts) (has-set_of tuple_cmp tuple_order_total tuple_order_same t ts ∙ no_member t ts h.0) ∙ omega (arith, len-set_of ts h.1)
+len-set_of (t ∷ ts) h = len-put_in t (set_of tuple_cmp ts) (has-set t ts ∙ no_member t ts h.0) ∙ omega (arith, len-set_of ts h.1)
 
 -- ---- the table of numbers as a set
 
@@ -136,16 +79,16 @@ module _ {H : Type 0} where
 
   -- the set has those that a look-up finds
   pub has_table : (m : IndexMap Tuple ℕ H) (q : Tuple) → has tuple_cmp q (set_of tuple_cmp (keys m)) ≡ is_some (ordinal_of m q)
-  has_table m q = has-set_of tuple_cmp tuple_order_total tuple_order_same q (keys m) ∙ found_in m q
+  has_table m q = has-set q (keys m) ∙ found_in m q
 
   pub table_with : (m n : IndexMap Tuple ℕ H) (t : Tuple) (w : ℕ) → ((q : Tuple) → ordinal_of n q ≡ cond (same t q) (Some w) (ordinal_of m q)) → set_of tuple_cmp (keys n) ≡ put_in tuple_cmp t (set_of tuple_cmp (keys m))
-  table_with m n t w h = one_set (set_of tuple_cmp (keys n)) _ (ascending (keys n)) (ascending-put_in t _ (ascending (keys m)))
+  table_with m n t w h = same_tuples (set_of tuple_cmp (keys n)) _ (ascends-set (keys n)) (ascends-put t _ (ascends-set (keys m)))
       (λ q. has_table n q ∙ ap is_some (h q) ∙ split_tuple t q
-      (λ e b. rw b (sym (has_more q t (set_of tuple_cmp (keys m)) ∙ rw (is_same q t (sym e)) refl)))
-      (λ ne b. rw b (sym (has_more q t (set_of tuple_cmp (keys m)) ∙ rw (is_other q t (λ e. ne (sym e))) (has_table m q)))))
+      (λ e b. rw b (sym (has-put q t (set_of tuple_cmp (keys m)) ∙ rw (is_same q t (sym e)) refl)))
+      (λ ne b. rw b (sym (has-put q t (set_of tuple_cmp (keys m)) ∙ rw (is_other q t (λ e. ne (sym e))) (has_table m q)))))
 
   pub table_without : (m n : IndexMap Tuple ℕ H) (t : Tuple) → ((q : Tuple) → ordinal_of n q ≡ cond (same t q) None (ordinal_of m q)) → set_of tuple_cmp (keys n) ≡ without t (set_of tuple_cmp (keys m))
-  table_without m n t h = one_set (set_of tuple_cmp (keys n)) _ (ascending (keys n)) (ascending-without t _ (ascending (keys m)))
+  table_without m n t h = same_tuples (set_of tuple_cmp (keys n)) _ (ascends-set (keys n)) (ascends-without t _ (ascends-set (keys m)))
       (λ q. has_table n q ∙ ap is_some (h q) ∙ split_tuple t q
       (λ e b. rw b (sym (has-filter (λ u. not (same t u)) q (set_of tuple_cmp (keys m)) ∙ rw b refl)))
       (λ ne b. rw b (sym (has-filter (λ u. not (same t u)) q (set_of tuple_cmp (keys m)) ∙ rw b (has_table m q)))))

@@ -9,17 +9,14 @@ use Rattle.td_value.specs.ValueOrder.{tuple_Decides, tuple_order_same, tuple_ord
 use Rattle.td_value.proofs.SetLaws as sets
 use Rattle.td_body.specs.Histories.{changed_set, put_tuple}
 use Rattle.td_body.specs.KeyIndexes.{without}
+use Rattle.td_body.proofs.Numbered.{split}
 
 abbrev pub has_tuple : Tuple → List Tuple → Bool
 has_tuple = has tuple_cmp
 
 -- whether one tuple is the other
-pub split : (t r : Tuple) {G : Type 0} → (eq_by_cmp tuple_cmp t r ≡ true → t ≡ r → G) → (eq_by_cmp tuple_cmp t r ≡ false → G) → G
-split t r {G} if_same if_other = by_test (eq_by_cmp tuple_cmp t r) refl
-  where
-    by_test : (b : Bool) → eq_by_cmp tuple_cmp t r ≡ b → G
-    by_test true e = if_same e ((tuple_Decides t r).0 e)
-    by_test false e = if_other e
+pub split_tuple : (s t : Tuple) {G : Type 0} → (s ≡ t → eq_by_cmp tuple_cmp s t ≡ true → G) → ((s ≡ t → ⊥) → eq_by_cmp tuple_cmp s t ≡ false → G) → G
+split_tuple = split (eq_by_cmp tuple_cmp) tuple_Decides
 
 pub has-filter : (p : Tuple → Bool) (t : Tuple) (ts : List Tuple) → has_tuple t (filter p ts) ≡ (p t && has_tuple t ts)
 has-filter p t [] = nothing (p t)
@@ -27,10 +24,10 @@ has-filter p t [] = nothing (p t)
     nothing : (b : Bool) → false ≡ (b && false)
     nothing true = refl
     nothing false = refl
-has-filter p t (u ∷ us) = split t u (at_same (has-filter p t us)) (at_other (has-filter p t us))
+has-filter p t (u ∷ us) = split_tuple t u (at_same (has-filter p t us)) (λ _ e. at_other (has-filter p t us) e)
   where
-    at_same : has_tuple t (filter p us) ≡ (p t && has_tuple t us) → eq_by_cmp tuple_cmp t u ≡ true → t ≡ u → has_tuple t (filter p (u ∷ us)) ≡ (p t && has_tuple t (u ∷ us))
-    at_same ih e is = by_test (p u) refl
+    at_same : has_tuple t (filter p us) ≡ (p t && has_tuple t us) → t ≡ u → eq_by_cmp tuple_cmp t u ≡ true → has_tuple t (filter p (u ∷ us)) ≡ (p t && has_tuple t (u ∷ us))
+    at_same ih is e = by_test (p u) refl
       where
         by_test : (b : Bool) → p u ≡ b → has_tuple t (filter p (u ∷ us)) ≡ (p t && has_tuple t (u ∷ us))
         by_test true h = rw (filter, h, e, ap p is, h) refl
@@ -72,30 +69,30 @@ same_tuples = sets.same_members tuple_cmp tuple_order_total tuple_order_same
 pub put_back : (r : Tuple) (ts : List Tuple) → IsAscendingBody ts → has_tuple r ts ≡ true → put_tuple r (without r ts) ≡ ts
 put_back r ts up h =
     same_tuples (put_tuple r (without r ts)) ts (ascends-put r (without r ts) (ascends-without r ts up)) up
-    (λ t. has-put t r (without r ts) ∙ ap (λ b. eq_by_cmp tuple_cmp t r || b) (has-without t r ts) ∙ split t r
-    (λ e is. rw e (sym (subst (λ z. has_tuple z ts ≡ true) (sym is) h)))
-    (λ e. rw e refl))
+    (λ t. has-put t r (without r ts) ∙ ap (λ b. eq_by_cmp tuple_cmp t r || b) (has-without t r ts) ∙ split_tuple t r
+    (λ is e. rw e (sym (subst (λ z. has_tuple z ts ≡ true) (sym is) h)))
+    (λ _ e. rw e refl))
 
 pub taken_back : (r : Tuple) (ts : List Tuple) → IsAscendingBody ts → has_tuple r ts ≡ false → without r (put_tuple r ts) ≡ ts
 taken_back r ts up h =
     same_tuples (without r (put_tuple r ts)) ts (ascends-without r (put_tuple r ts) (ascends-put r ts up)) up
-    (λ t. has-without t r (put_tuple r ts) ∙ ap (λ b. not (eq_by_cmp tuple_cmp t r) && b) (has-put t r ts) ∙ split t r
-    (λ e is. rw e (sym (subst (λ z. has_tuple z ts ≡ false) (sym is) h)))
-    (λ e. rw e refl))
+    (λ t. has-without t r (put_tuple r ts) ∙ ap (λ b. not (eq_by_cmp tuple_cmp t r) && b) (has-put t r ts) ∙ split_tuple t r
+    (λ is e. rw e (sym (subst (λ z. has_tuple z ts ≡ false) (sym is) h)))
+    (λ _ e. rw e refl))
 
 pub put_again : (r : Tuple) (ts : List Tuple) → IsAscendingBody ts → has_tuple r ts ≡ true → put_tuple r ts ≡ ts
 put_again r ts up h =
     same_tuples (put_tuple r ts) ts (ascends-put r ts up) up
-    (λ t. has-put t r ts ∙ split t r
-    (λ e is. rw e (sym (subst (λ z. has_tuple z ts ≡ true) (sym is) h)))
-    (λ e. rw e refl))
+    (λ t. has-put t r ts ∙ split_tuple t r
+    (λ is e. rw e (sym (subst (λ z. has_tuple z ts ≡ true) (sym is) h)))
+    (λ _ e. rw e refl))
 
 pub taken_again : (r : Tuple) (ts : List Tuple) → IsAscendingBody ts → has_tuple r ts ≡ false → without r ts ≡ ts
 taken_again r ts up h =
     same_tuples (without r ts) ts (ascends-without r ts up) up
-    (λ t. has-without t r ts ∙ split t r
-    (λ e is. rw e (sym (subst (λ z. has_tuple z ts ≡ false) (sym is) h)))
-    (λ e. rw e refl))
+    (λ t. has-without t r ts ∙ split_tuple t r
+    (λ is e. rw e (sym (subst (λ z. has_tuple z ts ≡ false) (sym is) h)))
+    (λ _ e. rw e refl))
 
 -- ---- a change of a set
 

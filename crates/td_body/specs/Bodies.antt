@@ -4,6 +4,7 @@ use Rattle.std.specs.List.{All, Contains, list_any}
 use Rattle.td_value.specs.Agreement.{agree_on, AgreeOn}
 use Rattle.td_value.specs.Values.{Tuple, Relation, IsRelation}
 use Rattle.td_value.specs.Views.{relation_view}
+use Rattle.td_algebra.specs.Equalities.{AreAlike}
 use Rattle.td_algebra.specs.Operators.{difference, union}
 
 -- a relation without the tuples of one, and then with those of another
@@ -40,3 +41,11 @@ HaveOneHeading r kept = All (λ (s : Relation). s.heading ≡ r.heading) kept
 abbrev pub KeysHoldByMembership : Type 0
 KeysHoldByMembership =
     (key : List (List ℕ)) (r : Relation) → IsRelation r → IsTrue (key_holds key r.body) ↔ KeyHolds key r.body
+
+-- taking out what another relation lacks, and putting in what it has beside, leads to that relation
+abbrev pub DifferencesLeadOver : Type 0
+DifferencesLeadOver = (r s : Relation) → AreAlike r s → after_change (difference r s) (difference s r) r ≡ s
+
+-- taking out all, and putting in another relation, leads to that relation
+abbrev pub WholeIsReplaced : Type 0
+WholeIsReplaced = (r s : Relation) → AreAlike r s → after_change r s r ≡ s

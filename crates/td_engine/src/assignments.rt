@@ -14,6 +14,7 @@ ghost use Rattle.td_engine.specs.Legality.{IsLegal};
 ghost use Rattle.td_tree.specs.Outcomes.{Answers};
 ghost use Rattle.td_tree.specs.TreeViews.{assignment_view, statement_view, tree_view};
 
+use crate::bodies::body_with;
 use crate::checks::{keys_hold, settled};
 use crate::definitions::failed;
 use crate::refusal::{Failure, Refusal};
@@ -114,7 +115,7 @@ fn body_holding<B: Body>(
     if !keys_hold(alloc, &entry.keys, relation)? {
         return Err(Failure::Refused(Refusal::Key(name.try_clone()?)));
     }
-    Ok(entry.body.holding(relation.try_clone()?)?)
+    Ok(body_with(alloc, &entry.body, relation)?)
 }
 
 /// Lets a base relvar of the catalogue hold a relation: refused where a key does not hold.

@@ -19,6 +19,7 @@ ghost use Rattle.td_value.specs.Values.{Val};
 ghost use Rattle.td_value.specs.Views.{relation_view};
 
 use crate::beside::beside;
+use crate::bodies::body_after;
 use crate::checks::{keys_hold, settled, value};
 use crate::definitions::failed;
 use crate::refusal::{Failure, Refusal};
@@ -75,8 +76,11 @@ fn body_of<B: Body>(alloc: Global, keys: &Vec<Vec<Name>>, relation: Rel) -> Resu
     ensures relation { IfOk result (λ b. B.relation b ≡ relation) }
     ensures keys { IfOk result (λ b. B.keys b ≡ map (λ key. key.items) keys.now.items) }
 {
+    let none = Rel::of_ascending(relation.heading().try_clone()?, Vec::new(alloc))?;
     let empty: B = B::empty(alloc, relation.heading().try_clone()?, copied_keys(keys)?)?;
-    empty.holding(relation)
+    let _ = empty.len();
+    let _ = relation.rows();
+    body_after(empty, &none, &relation)
 }
 
 /// What a new base relvar is made of.

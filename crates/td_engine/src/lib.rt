@@ -5,6 +5,7 @@ pub mod answer;
 mod assignments;
 mod bases;
 mod beside;
+mod bodies;
 mod checks;
 mod definitions;
 pub mod engine;

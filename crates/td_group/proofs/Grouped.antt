@@ -16,7 +16,7 @@ use Rattle.td_algebra.proofs.Entries.{heading_distinct}
 use Rattle.td_algebra.proofs.Sources.{has_attribute-outside}
 use Rattle.td_group.specs.Groups.{groups_on}
 use Rattle.td_group.specs.Nesting.{relation_value}
-use Rattle.td_group.proofs.OnNames.{all_named}
+use Rattle.td_algebra.proofs.OnNames.{all_named}
 
 -- ---- the rest of a heading
 

@@ -1,5 +1,4 @@
 mod Apart
-mod AtValues
 mod Chains
 pub mod ClosureLaws
 pub mod Extremes
@@ -10,7 +9,6 @@ mod Keyed
 pub mod Nested
 mod NestTests
 mod NestedMembers
-mod OnNames
 mod Rests
 mod RoundTrips
 mod Sums

@@ -1,161 +1,52 @@
-//! Tuples, each with the relation of the tuples that agree with it. They are found by one table, by
+//! Tuples, each with the relation of the tuples that agree with it. They are found by a look-up of
 //! their values on the names.
-ghost use Rattle.std.specs.Prelude.{◌≡◌, ◌<◌, ◌∷◌, ◌++◌, [], IfOk, IsTrue, List, Some, length};
-ghost use Rattle.std.specs.Prelude.{OnOk, if◌then◌else◌, map};
-ghost use Rattle.std.specs.List.{All, slice_get};
-ghost use Rattle.td_group.specs.Groups.{ArePlacesOf, AreByValues, IsKept, StandAt, are_same};
-ghost use Rattle.td_group.specs.Groups.{groups, groups_on, tuples_at};
-ghost use Rattle.td_types.specs.Headings.{agree, has_attribute, has_attributes};
-ghost use Rattle.td_types.specs.Types.{Attribute, attribute_names};
-ghost use Rattle.td_value.specs.Values.{Val};
+ghost use Rattle.std.specs.Prelude.{◌≡◌, IfOk, IsTrue};
+ghost use Rattle.td_algebra.specs.Lookups.{AreWithin, partners_in};
+ghost use Rattle.td_group.specs.Groups.{groups, groups_on};
+ghost use Rattle.td_types.specs.Headings.{agree, has_attributes};
+ghost use Rattle.td_types.specs.Types.{attribute_names};
 ghost use Rattle.td_value.specs.Views.{relation_view, values_of};
 
 use std::alloc::{AllocError, Global};
-use std::collections::HashMap;
+use td_algebra::lookup::{Lookup, common_places};
 use td_tree::fault::unrefused;
 use td_tree::name::Name;
 use td_types::heading::Heading;
 use td_value::relation::Rel;
 use td_value::tuple::Tuple;
-use td_value::value::Value;
 
-/// Whether the other heading has an attribute of the name that stands at the place.
-fn is_common(heading: &Heading, place: usize, other: &Heading) -> bool
-    ensures { (a : Attribute) → slice_get heading.now place ≡ Some a
-        → result ≡ has_attribute a.0 other.now }
-{
-    match heading.at(place) {
-        Some((name, _)) => other.get(name).is_some(),
-        None => false,
-    }
-}
-
-/// The places of the common attributes in the heading.
-fn places_of(alloc: Global, common: &Heading, heading: &Heading) -> Result<Vec<usize>, AllocError>
-    ensures { IfOk result (λ places.
-        ArePlacesOf (attribute_names common.now) heading.now places.items) }
-{
-    let mut places = Vec::with_capacity(alloc, common.len())?;
-    for place in 0..heading.len() {
-        if is_common(heading, place, common) {
-            places.push(place)?;
-        }
-    }
-    Ok(places)
-}
-
-/// Puts the row's values at the places in place of those that are there.
-fn put_values(key: &mut Vec<Value>, places: &[usize], row: &Tuple) -> Result<(), AllocError>
-    requires { All (λ place. place < length (values_of row.now)) places.now }
-    ensures { OnOk result (StandAt places.now key.new.items row.now) }
-{
-    let values = row.values();
-    key.clear();
-    for place in places {
-        key.push(values[*place].try_clone()?)?;
-    }
-    Ok(())
-}
-
-/// Copies of the values.
-fn copied_values(alloc: Global, values: &[Value]) -> Result<Vec<Value>, AllocError>
-    ensures { IfOk result (λ copies. copies.items ≡ values.now) }
-{
-    let mut copies = Vec::with_capacity(alloc, values.len())?;
-    for value in values {
-        copies.push(value.try_clone()?)?;
-    }
-    Ok(copies)
-}
-
-/// Puts the row as the first at its values.
-fn put_first<'a>(
+/// Copies of the rows that have the tuple's values at the places.
+fn partners_of(
     alloc: Global,
-    table: &mut HashMap<Vec<Value>, Vec<&'a Tuple>>,
-    key: &[Value],
-    row: &'a Tuple,
-) -> Result<(), AllocError>
-    requires { tuples_at key.now table.old ≡ [] }
-    ensures { (vs : List Val) → OnOk result (tuples_at vs table.new
-        ≡ tuples_at vs table.old ++ (if are_same vs key.now then row.now ∷ [] else [])) }
-{
-    let mut rows = Vec::new(alloc);
-    rows.push(row)?;
-    table.insert(copied_values(alloc, key)?, rows)?;
-    Ok(())
-}
-
-/// Puts the row after the others at its values.
-fn put_row<'a>(
-    alloc: Global,
-    table: &mut HashMap<Vec<Value>, Vec<&'a Tuple>>,
-    key: &[Value],
-    row: &'a Tuple,
-) -> Result<(), AllocError>
-    ensures { (vs : List Val) → OnOk result (tuples_at vs table.new
-        ≡ tuples_at vs table.old ++ (if are_same vs key.now then row.now ∷ [] else [])) }
-{
-    match table.get_mut(key) {
-        Some(rows) => Ok(rows.push(row)?),
-        None => put_first(alloc, table, key, row),
-    }
-}
-
-/// The tuples by their values on the common attributes.
-fn by_values<'a>(
-    alloc: Global,
-    common: &Heading,
-    rel: &'a Rel,
-) -> Result<HashMap<Vec<Value>, Vec<&'a Tuple>>, AllocError>
-    ensures { IfOk result (AreByValues (attribute_names common.now) rel.now.body) }
-{
-    let places = places_of(alloc, common, rel.heading())?;
-    let mut table = HashMap::with_capacity(alloc, rel.rows().len())?;
-    let mut key = Vec::with_capacity(alloc, places.len())?;
-    for row in rel.rows() {
-        put_values(&mut key, &places, row)?;
-        put_row(alloc, &mut table, &key, row)?;
-    }
-    Ok(table)
-}
-
-/// Copies of the rows.
-fn copied(alloc: Global, rows: &[&Tuple]) -> Result<Vec<Tuple>, AllocError>
-    ensures { IfOk result (λ copies. copies.items ≡ map (λ t. t.now) rows.now) }
-{
-    let mut copies = Vec::with_capacity(alloc, rows.len())?;
-    for row in rows {
-        copies.push(row.try_clone()?)?;
-    }
-    Ok(copies)
-}
-
-/// The rows at the values.
-fn rows_at(
-    alloc: Global,
-    table: &HashMap<Vec<Value>, Vec<&Tuple>>,
-    key: &[Value],
+    lookup: &Lookup,
+    places: &[usize],
+    tuple: &Tuple,
 ) -> Result<Vec<Tuple>, AllocError>
-    ensures { IfOk result (λ rows. rows.items ≡ tuples_at key.now table.now) }
+    requires { AreWithin places.now (values_of tuple.now) }
+    ensures { IfOk result (λ rows. rows.items ≡ partners_in lookup.now places.now tuple.now) }
 {
-    match table.get(key) {
-        Some(rows) => copied(alloc, rows),
-        None => Ok(Vec::new(alloc)),
+    let mut rows = Vec::with_capacity(alloc, lookup.partners(places, tuple).count())?;
+    for row in lookup.partners(places, tuple) {
+        rows.push(row.try_clone()?)?;
     }
+    Ok(rows)
 }
 
-/// The relation of those of its rows that stand at the values.
-fn group_at(
+/// The relation of those of its rows that have the tuple's values at the places.
+fn group_of(
     alloc: Global,
     rel: &Rel,
-    table: &HashMap<Vec<Value>, Vec<&Tuple>>,
-    key: &[Value],
+    lookup: &Lookup,
+    places: &[usize],
+    tuple: &Tuple,
 ) -> Result<Rel, AllocError>
-    requires { IsKept rel.now.body (tuples_at key.now table.now) }
-    ensures { IfOk result (λ r. r ≡ relation_view rel.now.heading (tuples_at key.now table.now)) }
+    requires within { AreWithin places.now (values_of tuple.now) }
+    requires rows { lookup.now.1 ≡ rel.now.body }
+    ensures { IfOk result (λ r. r ≡ relation_view rel.now.heading
+        (partners_in lookup.now places.now tuple.now)) }
 {
     let _ = rel.rows();
-    let rows = rows_at(alloc, table, key)?;
+    let rows = partners_of(alloc, lookup, places, tuple)?;
     Rel::of_ascending(rel.heading().try_clone()?, rows)
 }
 
@@ -171,15 +62,12 @@ pub(crate) fn groups_on(
     ensures { IfOk result (λ found.
         found.items ≡ groups_on (attribute_names common.now) rel.now per.now.body) }
 {
-    common.reveal();
-    let _ = rel.rows();
-    let table = by_values(alloc, common, rel)?;
-    let places = places_of(alloc, common, per.heading())?;
-    let mut key = Vec::with_capacity(alloc, places.len())?;
+    let own_places = common_places(alloc, rel.heading(), common)?;
+    let lookup = Lookup::new(alloc, &own_places, rel.rows())?;
+    let places = common_places(alloc, per.heading(), common)?;
     let mut found = Vec::with_capacity(alloc, per.rows().len())?;
     for tuple in per.rows() {
-        put_values(&mut key, &places, tuple)?;
-        let group = group_at(alloc, rel, &table, &key)?;
+        let group = group_of(alloc, rel, &lookup, &places, tuple)?;
         found.push((tuple.try_clone()?, group))?;
     }
     Ok(found)

@@ -5,11 +5,15 @@ ghost use Rattle.td_types.specs.Headings.{projection};
 ghost use Rattle.td_value.specs.Values.{IsTupleOf, heading_of};
 ghost use Rattle.td_value.specs.Views.{relation_view};
 
+mod outer;
+mod steps;
+
 use super::given::{both, kept, list_of, made};
 use super::texts::{Want, is_answer, literal, names, relation};
 use super::values::numbers;
 use std::alloc::Global;
 use td_body::body::Body;
+use td_body::hashed::HashBody;
 use td_body::sorted::SortedBody;
 use td_tree::cause::Cause;
 use td_tree::fault::Fault;
@@ -19,51 +23,50 @@ use td_value::relation::Rel;
 use td_value::tuple::Tuple;
 
 /// The body of the heading without tuples, with one key.
-fn keyed(alloc: Global, heading: Heading, key: Vec<Name>) -> Result<SortedBody, Fault>
-    ensures keys { IfOk result (λ b. ⟦<SortedBody as Body>⟧.keys b ≡ key.items ∷ []) }
-    ensures relation { IfOk result (λ b.
-        ⟦<SortedBody as Body>⟧.relation b ≡ relation_view heading []) }
+fn keyed<B: Body>(alloc: Global, heading: Heading, key: Vec<Name>) -> Result<B, Fault>
+    ensures keys { IfOk result (λ b. B.keys b ≡ key.items ∷ []) }
+    ensures relation { IfOk result (λ b. B.relation b ≡ relation_view heading []) }
 {
     if !heading.has_all(&key) {
         return Err(Fault::Refused(Cause::Heading));
     }
     let (heading, keys) = both(Ok(heading), list_of(alloc, key))?;
-    made(SortedBody::empty(alloc, heading, keys))
+    made(B::empty(alloc, heading, keys))
 }
 
 /// The body of the relation's heading without tuples, with one key.
-fn keyed_like(alloc: Global, rel: &Rel, key: Vec<Name>) -> Result<SortedBody, Fault>
-    ensures keys { IfOk result (λ b. ⟦<SortedBody as Body>⟧.keys b ≡ key.items ∷ []) }
-    ensures relation { IfOk result (λ b.
-        ⟦<SortedBody as Body>⟧.relation b ≡ relation_view rel.now.heading []) }
+fn keyed_like<B: Body>(alloc: Global, rel: &Rel, key: Vec<Name>) -> Result<B, Fault>
+    ensures keys { IfOk result (λ b. B.keys b ≡ key.items ∷ []) }
+    ensures relation { IfOk result (λ b. B.relation b ≡ relation_view rel.now.heading []) }
 {
     let (heading, key) = both(made(rel.heading().try_clone()), Ok(key))?;
     keyed(alloc, heading, key)
 }
 
-/// The body with the keys of another that holds the relation.
-fn holding(empty: &SortedBody, rel: &Rel) -> Result<SortedBody, Fault>
-    requires { rel.now.heading ≡ (⟦<SortedBody as Body>⟧.relation empty.now).heading }
-    ensures keys { IfOk result (λ b.
-        ⟦<SortedBody as Body>⟧.keys b ≡ ⟦<SortedBody as Body>⟧.keys empty.now) }
-    ensures relation { IfOk result (λ b. ⟦<SortedBody as Body>⟧.relation b ≡ rel.now) }
+/// Puts the tuples of a relation of its heading into the body.
+fn fill<B: Body>(body: &mut B, rel: &Rel) -> Result<(), Fault>
+    requires { rel.now.heading ≡ (B.relation body.old).heading }
+    ensures keys { B.keys body.new ≡ B.keys body.old }
+    ensures heading { (B.relation body.new).heading ≡ (B.relation body.old).heading }
 {
-    let rel = rel.try_clone()?;
-    made(empty.holding(rel))
+    let none = body.to_rel()?;
+    let done = body.change(&none, rel);
+    drop(none);
+    made(done)
 }
 
 /// The body with one key that holds the relation.
-fn filled(alloc: Global, rel: &Rel, key: Vec<Name>) -> Result<SortedBody, Fault>
-    ensures keys { IfOk result (λ b. ⟦<SortedBody as Body>⟧.keys b ≡ key.items ∷ []) }
-    ensures relation { IfOk result (λ b. ⟦<SortedBody as Body>⟧.relation b ≡ rel.now) }
+fn filled<B: Body>(alloc: Global, rel: &Rel, key: Vec<Name>) -> Result<B, Fault>
+    ensures keys { IfOk result (λ b. B.keys b ≡ key.items ∷ []) }
+    ensures heading { IfOk result (λ b. (B.relation b).heading ≡ rel.now.heading) }
 {
-    let empty = keyed_like(alloc, rel, key)?;
-    let body = holding(&empty, rel);
-    drop(empty);
-    body
+    let mut body: B = keyed_like(alloc, rel, key)?;
+    fill(&mut body, rel)?;
+    body.settle();
+    Ok(body)
 }
 
-fn body_literal(body: &SortedBody) -> Result<String, Fault> {
+fn body_literal<B: Body>(body: &B) -> Result<String, Fault> {
     literal(made(body.to_rel()))
 }
 
@@ -78,9 +81,9 @@ enum Call {
 }
 
 /// Whether the tuple is of the body's heading.
-fn is_of(body: &SortedBody, tuple: &Tuple) -> Result<bool, Fault>
+fn is_of<B: Body>(body: &B, tuple: &Tuple) -> Result<bool, Fault>
     ensures { IfOk result (λ is. IsTrue is
-        → IsTupleOf (⟦<SortedBody as Body>⟧.relation body.now).heading tuple.now) }
+        → IsTupleOf (B.relation body.now).heading tuple.now) }
 {
     let rel = body.to_rel()?;
     let is_of = tuple.has_heading(rel.heading());
@@ -89,14 +92,22 @@ fn is_of(body: &SortedBody, tuple: &Tuple) -> Result<bool, Fault>
 }
 
 /// Makes a copy of the tuple a member.
-fn inserted(body: &mut SortedBody, tuple: &Tuple) -> Result<bool, Fault>
-    requires { IsTupleOf (⟦<SortedBody as Body>⟧.relation body.old).heading tuple.now }
+fn inserted<B: Body>(body: &mut B, tuple: &Tuple) -> Result<bool, Fault>
+    requires headed { IsTupleOf (B.relation body.old).heading tuple.now }
+    requires none_kept { B.kept body.old ≡ [] }
+    ensures keys { B.keys body.new ≡ B.keys body.old }
+    ensures heading { (B.relation body.new).heading ≡ (B.relation body.old).heading }
 {
     let tuple = tuple.try_clone()?;
     body.insert(tuple).map_err(|_| Fault::Memory)
 }
 
-fn called(call: Call, body: &mut SortedBody, tuple: &Tuple) -> Result<bool, Fault> {
+/// What a call of the body, which keeps nothing, answers.
+fn called<B: Body>(call: Call, body: &mut B, tuple: &Tuple) -> Result<bool, Fault>
+    requires { B.kept body.old ≡ [] }
+    ensures keys { B.keys body.new ≡ B.keys body.old }
+    ensures heading { (B.relation body.new).heading ≡ (B.relation body.old).heading }
+{
     if !is_of(body, tuple)? {
         return Err(Fault::Refused(Cause::Heading));
     }
@@ -108,11 +119,11 @@ fn called(call: Call, body: &mut SortedBody, tuple: &Tuple) -> Result<bool, Faul
 }
 
 /// The answer, how many members the two bodies have, and which the second has.
-fn described(
+fn described<B: Body>(
     alloc: Global,
     answer: Result<bool, Fault>,
-    body: &SortedBody,
-    copy: &SortedBody,
+    body: &B,
+    copy: &B,
 ) -> Result<String, Fault> {
     let (answer, literal) = both(answer, body_literal(copy))?;
     Ok(format!(in alloc; "{answer} {} {} {literal}", body.len(), copy.len())?)
@@ -120,10 +131,10 @@ fn described(
 
 /// What a call of the copy of the body answers; how many members the body has then and how many
 /// the copy, and which the copy has.
-fn told_by_copy(
+fn told_by_copy<B: Body>(
     alloc: Global,
     call: Call,
-    body: &SortedBody,
+    body: &B,
     tuple: &Tuple,
 ) -> Result<String, Fault> {
     let mut copy = body.try_clone()?;
@@ -134,24 +145,24 @@ fn told_by_copy(
 }
 
 /// The body that holds the relation, with a key of all its names.
-fn body_of(alloc: Global, rel: &Rel) -> Result<SortedBody, Fault> {
+fn body_of<B: Body>(alloc: Global, rel: &Rel) -> Result<B, Fault> {
     let key = names(alloc, &["A", "B"])?;
     filled(alloc, rel, key)
 }
 
 /// What a call of the copy of a body answers, with the tuple of A 1 and B 2.
-fn told(alloc: Global, call: Call, rel: &Rel) -> Result<String, Fault> {
+fn told<B: Body>(alloc: Global, call: Call, rel: &Rel) -> Result<String, Fault> {
     let tuple = numbers(alloc, &[("A", 1), ("B", 2)]);
-    let pair = both(body_of(alloc, rel), tuple)?;
+    let pair: (B, Tuple) = both(body_of(alloc, rel), tuple)?;
     let text = told_by_copy(alloc, call, &pair.0, &pair.1);
     drop(pair);
     text
 }
 
 /// What a call of the copy of a body that holds the relation of that text answers.
-fn told_of_text(alloc: Global, call: Call, rel: &str) -> Result<String, Fault> {
+fn told_of_text<B: Body>(alloc: Global, call: Call, rel: &str) -> Result<String, Fault> {
     let rel = relation(alloc, rel)?;
-    let text = told(alloc, call, &rel);
+    let text = told::<B>(alloc, call, &rel);
     drop(rel);
     text
 }
@@ -198,19 +209,20 @@ const CALLS: &[(Call, &str, Want)] = &[
 #[test]
 fn members(rt: HostRuntime) {
     for (call, rel, want) in CALLS {
-        let found = told_of_text(rt.alloc(), *call, rel);
-        assert!(rt; is_answer(found, *want), "{rel}");
+        let sorted = told_of_text::<SortedBody>(rt.alloc(), *call, rel);
+        assert!(rt; is_answer(sorted, *want), "{rel}");
+        let hashed = told_of_text::<HashBody>(rt.alloc(), *call, rel);
+        assert!(rt; is_answer(hashed, *want), "{rel} hashed");
     }
 }
 
 // ---- keys
 
 /// Whether the body's first key holds, and which members agree with the part on it.
-fn told_found(alloc: Global, body: &SortedBody, part: &Tuple) -> Result<String, Fault>
-    requires declared { 0 < length (⟦<SortedBody as Body>⟧.keys body.now) }
-    requires part { IfSome (slice_get (⟦<SortedBody as Body>⟧.keys body.now) 0) (λ names.
-        heading_of part.now
-        ≡ projection names (⟦<SortedBody as Body>⟧.relation body.now).heading) }
+fn told_found<B: Body>(alloc: Global, body: &B, part: &Tuple) -> Result<String, Fault>
+    requires declared { 0 < length (B.keys body.now) }
+    requires part { IfSome (slice_get (B.keys body.now) 0) (λ names.
+        heading_of part.now ≡ projection names (B.relation body.now).heading) }
 {
     let holds = made(body.key_holds(0));
     let (holds, literal) = both(holds, literal(made(body.find_by_key(0, part))))?;
@@ -229,17 +241,22 @@ fn is_part(part: &Tuple, rel: &Rel, key: &[Name]) -> Result<bool, Fault>
 }
 
 /// Whether the key holds in a body of the relation, and which members agree with the part on it.
-fn told_by_key(alloc: Global, key: Vec<Name>, part: &Tuple, rel: &Rel) -> Result<String, Fault> {
+fn told_by_key<B: Body>(
+    alloc: Global,
+    key: Vec<Name>,
+    part: &Tuple,
+    rel: &Rel,
+) -> Result<String, Fault> {
     let is_part = is_part(part, rel, &key);
     let key = kept(key, is_part)?;
-    let body = filled(alloc, rel, key)?;
+    let body: B = filled(alloc, rel, key)?;
     let text = told_found(alloc, &body, part);
     drop(body);
     text
 }
 
 /// Whether a key holds in a body of a relation, and which members agree with a part on it.
-fn told_by_texts(
+fn told_by_texts<B: Body>(
     alloc: Global,
     key: &[&str],
     part: &[(&str, i64)],
@@ -247,7 +264,7 @@ fn told_by_texts(
 ) -> Result<String, Fault> {
     let given = both(numbers(alloc, part), relation(alloc, rel));
     let (key, given) = both(names(alloc, key), given)?;
-    let text = told_by_key(alloc, key, &given.0, &given.1);
+    let text = told_by_key::<B>(alloc, key, &given.0, &given.1);
     drop(given);
     text
 }
@@ -313,7 +330,9 @@ const KEYS: &[ByKey] = &[
 #[test]
 fn members_by_keys(rt: HostRuntime) {
     for (key, part, rel, want) in KEYS {
-        let found = told_by_texts(rt.alloc(), key, part, rel);
-        assert!(rt; is_answer(found, *want), "{rel}");
+        let sorted = told_by_texts::<SortedBody>(rt.alloc(), key, part, rel);
+        assert!(rt; is_answer(sorted, *want), "{rel}");
+        let hashed = told_by_texts::<HashBody>(rt.alloc(), key, part, rel);
+        assert!(rt; is_answer(hashed, *want), "{rel} hashed");
     }
 }

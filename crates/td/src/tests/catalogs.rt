@@ -1,4 +1,7 @@
 //! Catalogues: what is added, found, changed and dropped.
+ghost use Rattle.std.specs.Prelude.{◌≡◌, [], IfOk};
+ghost use Rattle.td_value.specs.Views.{relation_view};
+
 mod definitions;
 
 use self::definitions::{Kind, add};
@@ -12,6 +15,7 @@ use td_catalog::catalog::Catalog;
 use td_tree::cause::Cause;
 use td_tree::fault::Fault;
 use td_tree::name::Name;
+use td_types::heading::Heading;
 use td_value::relation::Rel;
 
 const KINDS: &[Kind] = &[Kind::Type, Kind::Base, Kind::Virtual, Kind::Constraint];
@@ -165,13 +169,26 @@ fn entries_are_found(rt: HostRuntime) {
 
 // ---- what is changed
 
+/// A copy of the body without its tuples. The heading is its own.
+fn emptied<B: Body>(alloc: Global, body: &B, heading: &Heading) -> Result<B, Fault>
+    requires { heading.now ≡ (B.relation body.now).heading }
+    ensures relation { IfOk result (λ b. B.relation b ≡ relation_view heading.now []) }
+    ensures keys { IfOk result (λ b. B.keys b ≡ B.keys body.now) }
+{
+    let none = Rel::of_ascending(heading.try_clone()?, Vec::new(alloc))?;
+    let all = body.to_rel()?;
+    let mut copy = body.try_clone()?;
+    let _ = copy.len();
+    copy.change(&all, &none)?;
+    Ok(copy)
+}
+
 /// Gives the base relvar a body of its keys without tuples.
 fn empty(catalog: &mut Catalog<SortedBody>, alloc: Global, relvar: &Name) -> Result<(), Fault> {
     let Some(entry) = catalog.get_base(relvar) else {
         return Err(Fault::Refused(Cause::NameUnknown));
     };
-    let none = Rel::of_ascending(entry.heading.try_clone()?, Vec::new(alloc))?;
-    let body = entry.body.holding(none)?;
+    let body = emptied(alloc, &entry.body, &entry.heading)?;
     catalog.set_body(relvar, body);
     Ok(())
 }

@@ -4,7 +4,7 @@ ghost use Rattle.std.specs.Prelude.{◌≡◌};
 use super::given::{both, made};
 use super::texts::{Want, is_answer, literal, relation};
 use std::alloc::Global;
-use td_algebra::joins::{compose, join, times};
+use td_algebra::joins::{compose, hash_join, join, times};
 use td_algebra::semijoins::{matching, not_matching};
 use td_algebra::sets::{intersect, minus, subset, union};
 use td_tree::cause::Cause;
@@ -19,6 +19,7 @@ enum Call {
     /// The first where it is a subset of the second, which is answered else.
     Subset,
     Join,
+    HashJoin,
     Times,
     Compose,
     Matching,
@@ -65,6 +66,7 @@ fn of_two(alloc: Global, call: Call, rel: &Rel, other: &Rel) -> Result<Rel, Faul
     }
     match call {
         Call::Join => made(join(alloc, rel, other)),
+        Call::HashJoin => made(hash_join(alloc, rel, other)),
         Call::Compose => made(compose(alloc, rel, other)),
         Call::Matching => made(matching(alloc, rel, other)),
         Call::NotMatching => made(not_matching(alloc, rel, other)),
@@ -118,6 +120,7 @@ fn operators_of_sets(rt: HostRuntime) {
 
 const JOINS: &[Row] = &[
     (Call::Join, TWO, TWO, Ok(TWO)),
+    (Call::HashJoin, TWO, TWO, Ok(TWO)),
     (
         Call::Join,
         TWO,

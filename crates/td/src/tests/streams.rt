@@ -1,7 +1,7 @@
 //! Whole scripts: words of the command line, scripts in pieces, and readers and writers that fail
 //! in mid-stream.
 use crate::line::{Mode, read_line};
-use crate::session::{Outcome, session};
+use crate::session::{Outcome, session, session_on};
 use std::alloc::Global;
 use std::io::{self, ErrorKind, Read, Write};
 use td_body::sorted::SortedBody;
@@ -193,6 +193,40 @@ fn runs_in_pieces_and_failures_in_mid_stream(rt: HostRuntime) {
 
 // ---- sessions
 
+/// A relvar with two keys: assigned to, rolled back and refused.
+const KEYED: &[u8] = b"VAR S BASE RELATION {K INTEGER, V INTEGER}
+INIT (RELATION {TUPLE {K 3, V 1}, TUPLE {K 1, V 2}}) KEY {K} KEY {V};
+INSERT S RELATION {TUPLE {K 2, V 3}};
+INSERT S RELATION {TUPLE {K 2, V 4}};
+UPDATE S (V := V + 1);
+BEGIN TRANSACTION;
+DELETE S WHERE K = 1;
+WRITE S;
+ROLLBACK;
+WRITE S;
+S := S WHERE V > 2, INSERT S RELATION {TUPLE {K 0, V 0}};
+UPDATE S WHERE K = 0 (V := 4);
+WRITE COUNT(S);";
+
+const KEYED_ANSWERS: &[u8] = b"OK
+OK
+REFUSED 30 KEY S
+OK
+OK
+OK
+RELATION {K INTEGER, V INTEGER} {TUPLE {K 2, V 4}, TUPLE {K 3, V 2}}
+OK
+RELATION {K INTEGER, V INTEGER} {TUPLE {K 1, V 3}, TUPLE {K 2, V 4}, TUPLE {K 3, V 2}}
+OK
+REFUSED 30 KEY S
+3
+";
+
+const KEYED_DUMP: &[u8] = b"VAR S BASE RELATION {K INTEGER, V INTEGER} \
+    INIT (RELATION {K INTEGER, V INTEGER} \
+    {TUPLE {K 0, V 0}, TUPLE {K 1, V 3}, TUPLE {K 2, V 4}}) KEY {K} KEY {V};
+";
+
 /// A mode and a script; after how many calls the writer fails; and what comes of that: the status,
 /// the fault and what is written.
 type Session = (Mode, &'static [u8], u8, u8, Option<RunFault>, &'static [u8]);
@@ -208,6 +242,8 @@ const SESSIONS: &[Session] = &[
         None,
         b"REFUSED 21 ZERO_DIVISOR\n2\n",
     ),
+    (Mode::Run, KEYED, 255, 1, None, KEYED_ANSWERS),
+    (Mode::Dump, KEYED, 255, 1, None, KEYED_DUMP),
     (
         Mode::Run,
         b"WRITE 1; WRITE 22;",
@@ -226,20 +262,26 @@ const SESSIONS: &[Session] = &[
     ),
 ];
 
-/// What comes of a session.
+/// What comes of a session: the program's, or one over bodies whose members stand in order.
 fn outcome_of<R: Source, W: Sink>(
     alloc: Global,
     mode: Mode,
+    is_sorted: bool,
     reader: &mut R,
     writer: &mut W,
 ) -> Outcome {
-    session(alloc, mode, false, reader, writer)
+    if is_sorted {
+        session_on::<SortedBody, R, W>(alloc, mode, false, reader, writer)
+    } else {
+        session(alloc, mode, false, reader, writer)
+    }
 }
 
 /// What comes of a session on the script. What is written goes to the bytes.
 fn session_on_script(
     alloc: Global,
     mode: Mode,
+    is_sorted: bool,
     script: &[u8],
     calls: u8,
     bytes: &mut Vec<u8>,
@@ -250,16 +292,25 @@ fn session_on_script(
         has_failed: false,
     });
     let mut reader = source_of(script, 255);
-    outcome_of(alloc, mode, &mut reader, &mut writer)
+    outcome_of(alloc, mode, is_sorted, &mut reader, &mut writer)
+}
+
+/// Whether that comes of the session, and is written in it.
+fn is_session(alloc: Global, is_sorted: bool, session: Session) -> bool {
+    let (mode, script, calls, status, fault, want) = session;
+    let mut bytes = Vec::new(alloc);
+    let outcome = session_on_script(alloc, mode, is_sorted, script, calls, &mut bytes);
+    outcome.status == status && outcome.fault == fault && bytes.as_slice() == want
 }
 
 #[test]
 fn sessions(rt: HostRuntime) {
-    for (mode, script, calls, status, fault, want) in SESSIONS {
-        let mut bytes = Vec::new(rt.alloc());
-        let outcome = session_on_script(rt.alloc(), *mode, script, *calls, &mut bytes);
-        let is_so = outcome.status == *status && outcome.fault == *fault;
-        assert!(rt; is_so, "{mode:?} {calls}");
-        assert!(rt; bytes.as_slice() == *want, "{mode:?} {calls}");
+    for session in SESSIONS {
+        assert!(rt; is_session(rt.alloc(), false, *session), "{}", session.3);
+        assert!(rt;
+            is_session(rt.alloc(), true, *session),
+            "{} sorted",
+            session.3
+        );
     }
 }

@@ -36,7 +36,7 @@ fn history_of(
     KeyHistory::filled(alloc, places, tuples)
 }
 
-/// The same for each of the keys.
+/// The tuples, which have the names, to be found by each of the keys.
 fn histories_by(
     alloc: Global,
     names: &[Name],
@@ -55,7 +55,8 @@ fn histories_by(
     Ok(histories)
 }
 
-/// The same; where there is no key, by none of the names.
+/// The tuples, which have the names, to be found by each of the keys; by none of the names where
+/// there is no key.
 fn histories_of_some(
     alloc: Global,
     names: &[Name],

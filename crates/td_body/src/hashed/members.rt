@@ -55,8 +55,8 @@ impl Model for Members {
         AreMembers m.sorted.heading m.sorted.body m.touched.items m.histories.items m.kept_count };
 }
 
-/// Of how many tuples a change is carried out step by step: of a quarter of those that are there,
-/// or of few. A larger one makes the members anew, in order and hashed.
+/// How many tuples may be touched, beside a quarter of those in order, before the members are made
+/// anew, in order and hashed.
 const FEW: usize = 16;
 
 impl Members {
@@ -208,8 +208,8 @@ fn go_back_all(histories: &mut [KeyHistory])
         → All (IsAt now (kept ++ set ∷ [])) histories.old → All (IsAt set kept) histories.new }
     ensures places { places_in histories.new ≡ places_in histories.old }
 {
-    for place in 0..histories.len() {
-        let history = &mut histories[place];
+    for key in 0..histories.len() {
+        let history = &mut histories[key];
         history.go_back();
     }
 }
@@ -243,7 +243,7 @@ fn touch(touched: &mut Vec<Tuple>, tuples: &[Tuple]) -> Result<(), AllocError>
     Ok(())
 }
 
-/// Does so with those that go out and with those that come in.
+/// Puts copies of the tuples that go out, and of those that come in, among those that were touched.
 fn touch_both(touched: &mut Vec<Tuple>, out: &[Tuple], add: &[Tuple]) -> Result<(), AllocError>
     ensures more { (t : Tuple) → has tuple_cmp t touched.new.items ≡ false
         → has tuple_cmp t touched.old.items ≡ false }

@@ -1,34 +1,56 @@
-use Rattle.std.proofs.Common.{◌≡◌, ◌∙◌, filter}
-use Rattle.td_algebra.specs.Groups.{group, key_of}
-use Rattle.td_algebra.specs.Operators.{are_partners}
-use Rattle.td_algebra.specs.Pairs.{pair_tuple, pairs_with}
+use Rattle.std.proofs.Common.{◌≡◌, ◌∙◌, ap, filter, subst, sym}
+use Rattle.std.specs.List.{All}
+use Rattle.td_value.specs.Values.{IsTupleOf}
+use Rattle.td_algebra.specs.Lookups.{partners_in}
+use Rattle.td_algebra.specs.Operators.{are_partners, relation_names}
+use Rattle.td_algebra.specs.Pairs.{IsPaired, pair_tuple, pairs_with}
 use Rattle.td_algebra.proofs.Keys.{if_ok}
-use Rattle.td_algebra.proofs.PartnersByKey.{all_keyed, all_paired, common_are, pairs_by_keys}
+use Rattle.td_algebra.proofs.OnNames.{rows_within, same_places}
+use Rattle.td_algebra.proofs.PartnersByValues.{all_paired, pairs_by_values}
 use Rattle.td_algebra.proofs.joins.partner_pairs.Goals as goal
 
-pub grouped-requires : goal.grouped-requires
-grouped-requires c =
-    all_keyed c.heading.result.now c.args.other.now.heading c.in_ok-partner_keys.partner_keys c.rows.result.now c.args.other.now.body
-    c.in_ok-partner_keys.ensures.keyed c.heading.ensures c.rows.ensures.rows c.rows.ensures.headed
+pub new-requires : goal.new-requires
+new-requires c =
+    let r = c.args.rel.now in
+    let s = c.args.other.now in
+    let theirs = same_places c.heading-2.result.now r.heading c.heading.result.now s.heading c.in_ok-partner_places.partner_places.items c.deref.result.now
+    c.heading-2.ensures c.heading.ensures c.deref.ensures.value c.in_ok-partner_places.ensures in
+    rows_within (relation_names r) s.heading c.deref.result.now c.rows.result.now theirs
+    (subst (All (IsTupleOf s.heading)) (sym c.rows.ensures.rows) c.rows.ensures.headed)
 
-pub pairs_of-requires-clause-keyed : goal.pairs_of-requires-clause-keyed
-pairs_of-requires-clause-keyed c =
-    all_keyed c.heading-3.result.now c.args.rel.now.heading c.in_ok-keys.keys c.rows-2.result.now c.args.rel.now.body
-    c.in_ok-keys.ensures.keyed c.heading-3.ensures c.rows-2.ensures.rows c.rows-2.ensures.headed
+pub pairs_of-requires-clause-within : goal.pairs_of-requires-clause-within
+pairs_of-requires-clause-within c =
+    let r = c.args.rel.now in
+    let s = c.args.other.now in
+    let own = same_places c.heading-4.result.now s.heading c.heading-3.result.now r.heading c.in_ok-places.places.items c.deref-2.result.now
+    c.heading-4.ensures c.heading-3.ensures c.deref-2.ensures.value c.in_ok-places.ensures in
+    rows_within (relation_names s) r.heading c.deref-2.result.now c.rows-2.result.now own
+    (subst (All (IsTupleOf r.heading)) (sym c.rows-2.ensures.rows) c.rows-2.ensures.headed)
 
 pub pairs_of-requires-clause-paired : goal.pairs_of-requires-clause-paired
 pairs_of-requires-clause-paired c =
-    all_paired c.args.rel.now c.args.other.now c.args.layout.now c.in_ok-partner_keys.partner_keys c.in_ok-keys.keys c.in_ok-groups.groups c.rows.result.now c.rows-2.result.now
-    c.requires c.in_ok-groups.ensures c.rows.ensures.rows c.rows-2.ensures.rows c.rows-2.ensures.headed c.rows.ensures.headed
+    let r = c.args.rel.now in
+    let s = c.args.other.now in
+    let theirs = same_places c.heading-2.result.now r.heading c.heading.result.now s.heading c.in_ok-partner_places.partner_places.items c.deref.result.now
+    c.heading-2.ensures c.heading.ensures c.deref.ensures.value c.in_ok-partner_places.ensures in
+    let own = same_places c.heading-4.result.now s.heading c.heading-3.result.now r.heading c.in_ok-places.places.items c.deref-2.result.now
+    c.heading-4.ensures c.heading-3.ensures c.deref-2.ensures.value c.in_ok-places.ensures in
+    subst (λ l. All (λ t. All (IsPaired c.args.layout.now t) (partners_in l c.deref-2.result.now t)) c.rows-2.result.now) (sym c.in_ok-lookup.ensures)
+    (all_paired r s c.deref-2.result.now c.deref.result.now own theirs c.args.layout.now c.rows.result.now c.rows-2.result.now c.requires
+    c.rows.ensures.rows c.rows-2.ensures.rows c.rows-2.ensures.headed c.rows.ensures.headed)
 
 pub returns : goal.returns
 returns c =
-    if_ok (λ pairs. pairs.items ≡ pairs_with (λ t. group (key_of c.in_ok-keys.keys t) c.in_ok-groups.groups) (pair_tuple c.args.layout.now) c.rows-2.result.now)
-    (λ pairs. pairs.items ≡ pairs_with (λ t. filter (are_partners c.args.rel.now c.args.other.now t) c.args.other.now.body) (pair_tuple c.args.layout.now) c.args.rel.now.body)
+    let r = c.args.rel.now in
+    let s = c.args.other.now in
+    let theirs = same_places c.heading-2.result.now r.heading c.heading.result.now s.heading c.in_ok-partner_places.partner_places.items c.deref.result.now
+    c.heading-2.ensures c.heading.ensures c.deref.ensures.value c.in_ok-partner_places.ensures in
+    let own = same_places c.heading-4.result.now s.heading c.heading-3.result.now r.heading c.in_ok-places.places.items c.deref-2.result.now
+    c.heading-4.ensures c.heading-3.ensures c.deref-2.ensures.value c.in_ok-places.ensures in
+    if_ok (λ pairs. pairs.items ≡ pairs_with (partners_in c.in_ok-lookup.lookup c.deref-2.result.now) (pair_tuple c.args.layout.now) c.rows-2.result.now)
+    (λ pairs. pairs.items ≡ pairs_with (λ t. filter (are_partners r s t) s.body) (pair_tuple c.args.layout.now) r.body)
     c.pairs_of.result
-    (λ pairs e. e
-    ∙ pairs_by_keys c.args.rel.now c.args.other.now c.in_ok-partner_keys.partner_keys c.in_ok-keys.keys
-    (common_are c.heading.result.now c.args.other.now.heading c.heading-2.result.now c.args.rel.now.heading c.in_ok-partner_keys.partner_keys c.heading.ensures c.heading-2.ensures c.in_ok-partner_keys.ensures.names)
-    (common_are c.heading-3.result.now c.args.rel.now.heading c.heading-4.result.now c.args.other.now.heading c.in_ok-keys.keys c.heading-3.ensures c.heading-4.ensures c.in_ok-keys.ensures.names)
-    c.in_ok-groups.groups c.rows.result.now c.rows-2.result.now (pair_tuple c.args.layout.now) c.in_ok-groups.ensures c.rows.ensures.rows c.rows-2.ensures.rows)
+    (λ pairs e. e ∙ ap (λ l. pairs_with (partners_in l c.deref-2.result.now) (pair_tuple c.args.layout.now) c.rows-2.result.now) c.in_ok-lookup.ensures
+    ∙ pairs_by_values r s c.deref-2.result.now c.deref.result.now own theirs c.rows.result.now c.rows-2.result.now (pair_tuple c.args.layout.now)
+    c.rows.ensures.rows c.rows-2.ensures.rows c.rows-2.ensures.headed c.rows.ensures.headed)
     c.pairs_of.ensures

@@ -14,7 +14,7 @@ use Rattle.td_algebra.proofs.Taken.{value_of_answer}
 use Rattle.td_group.specs.Groups.{groups_on}
 use Rattle.td_group.specs.Nesting.{group_of, grouped_relation, relation_value, rest_heading, rest_names}
 use Rattle.td_group.proofs.Grouped.{column_fits, group_column, groups_fit, rest_lacks, rest_projects}
-use Rattle.td_group.proofs.OnNames.{projection_there}
+use Rattle.td_algebra.proofs.OnNames.{projection_there}
 use Rattle.td_group.proofs.grouping.group.Goals as goal
 
 pub project-requires-2 : goal.project-requires-2

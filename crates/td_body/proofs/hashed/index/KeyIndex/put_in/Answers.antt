@@ -5,13 +5,14 @@ use Rattle.td_value.specs.ValueOrder.{tuple_Decides}
 use Rattle.td_value.specs.Values.{IsAscendingBody, tuple_cmp}
 use Rattle.td_body.specs.KeyIndexes.{count_in, ordinal_of, part_hash, tuple_at}
 use Rattle.td_body.proofs.Numbered.{none_of, numbered_more_at, several_still}
-use Rattle.td_body.proofs.Ordinals.{ascending, count_few, counted_more, counted_other, has_table, put_in-member, same, table_with}
+use Rattle.td_body.proofs.Ordinals.{count_few, counted_more, counted_other, has_table, same, table_with}
+use Rattle.td_body.proofs.TupleSets.{ascends-set, put_again}
 use Rattle.td_body.proofs.hashed.index.KeyIndex.put_in.Goals as goal
 
 pub returns-then-contains_key-clause-tuples : goal.returns-then-contains_key-clause-tuples
 returns-then-contains_key-clause-tuples c =
     subst (λ p. c.args.self.now.tuples ≡ put_in tuple_cmp p c.args.self.now.tuples) c.piece.view_is (subst (λ s. s.tuples ≡ put_in tuple_cmp c.piece.inside.place s.tuples) c.self.view_is
-    (sym (put_in-member c.piece.inside.place _ (ascending (keys c.self.inside.ordinals)) (has_table c.self.inside.ordinals c.piece.inside.place ∙ sym c.contains_key.ensures ∙ c.if-contains_key.true))))
+    (sym (put_again c.piece.inside.place _ (ascends-set (keys c.self.inside.ordinals)) (has_table c.self.inside.ordinals c.piece.inside.place ∙ sym c.contains_key.ensures ∙ c.if-contains_key.true))))
 
 pub returns-then-contains_key-clause-new : goal.returns-then-contains_key-clause-new
 returns-then-contains_key-clause-new c =
@@ -56,7 +57,7 @@ returns-clause-new c =
     (ap not (sym (has_table c.self.inside.ordinals c.piece.inside.place ∙ sym c.contains_key.ensures ∙ c.if-contains_key.false))))
 
 pub returns-then-contains_key-clause-ascending : goal.returns-then-contains_key-clause-ascending
-returns-then-contains_key-clause-ascending c = subst (λ s. IsAscendingBody s.tuples) c.self.view_is (ascending (keys c.self.inside.ordinals))
+returns-then-contains_key-clause-ascending c = subst (λ s. IsAscendingBody s.tuples) c.self.view_is (ascends-set (keys c.self.inside.ordinals))
 
 pub returns-clause-ascending : goal.returns-clause-ascending
-returns-clause-ascending c = subst (λ s. IsAscendingBody s.tuples) c.self.view_is (ascending (keys c.self.inside.ordinals))
+returns-clause-ascending c = subst (λ s. IsAscendingBody s.tuples) c.self.view_is (ascends-set (keys c.self.inside.ordinals))

@@ -6,13 +6,14 @@ use Rattle.td_value.specs.ValueOrder.{tuple_Decides}
 use Rattle.td_value.specs.Values.{IsAscendingBody, tuple_cmp}
 use Rattle.td_body.specs.KeyIndexes.{count_in, ordinal_of, part_hash, tuple_at, without}
 use Rattle.td_body.proofs.Numbered.{numbered_less_at, several_still, some_of, some_same}
-use Rattle.td_body.proofs.Ordinals.{ascending, counted_less, has_table, same, stored, table_without, without-other}
+use Rattle.td_body.proofs.Ordinals.{counted_less, has_table, same, stored, table_without}
+use Rattle.td_body.proofs.TupleSets.{ascends-set, taken_again}
 use Rattle.td_body.proofs.hashed.index.KeyIndex.take_out.Goals as goal
 
 pub returns-in_default-clause-tuples : goal.returns-in_default-clause-tuples
 returns-in_default-clause-tuples c =
     subst (λ s. s.tuples ≡ without c.args.tuple.now s.tuples) c.self.view_is
-    (sym (without-other c.args.tuple.now _ (ascending (keys c.self.inside.ordinals)) (has_table c.self.inside.ordinals c.args.tuple.now ∙ ap is_some (sym c.get.ensures.value ∙ sym c.copied.ensures ∙ c.in_default.is))))
+    (sym (taken_again c.args.tuple.now _ (ascends-set (keys c.self.inside.ordinals)) (has_table c.self.inside.ordinals c.args.tuple.now ∙ ap is_some (sym c.get.ensures.value ∙ sym c.copied.ensures ∙ c.in_default.is))))
 
 pub returns-in_default-clause-there : goal.returns-in_default-clause-there
 returns-in_default-clause-there c =
@@ -96,7 +97,7 @@ returns-clause-there c =
     (sym (has_table c.self.inside.ordinals c.args.tuple.now ∙ ap is_some (sym c.get.ensures.value ∙ sym c.copied.ensures ∙ c.in-Some.is)))
 
 pub returns-in_default-clause-ascending : goal.returns-in_default-clause-ascending
-returns-in_default-clause-ascending c = subst (λ s. IsAscendingBody s.tuples) c.self.view_is (ascending (keys c.self.inside.ordinals))
+returns-in_default-clause-ascending c = subst (λ s. IsAscendingBody s.tuples) c.self.view_is (ascends-set (keys c.self.inside.ordinals))
 
 pub returns-clause-ascending : goal.returns-clause-ascending
-returns-clause-ascending c = subst (λ s. IsAscendingBody s.tuples) c.self.view_is (ascending (keys c.self.inside.ordinals))
+returns-clause-ascending c = subst (λ s. IsAscendingBody s.tuples) c.self.view_is (ascends-set (keys c.self.inside.ordinals))

@@ -1,7 +1,0 @@
-use Rattle.td_algebra.proofs.Groups.{grown_by_row}
-use Rattle.td_algebra.proofs.partners.put_row.Goals as goal
-
-pub returns : goal.returns
-returns c =
-    grown_by_row c.args.groups.now c.remove.new.self c.insert.new.self c.args.key c.args.row c.remove.result c.new.result c.unwrap_or-rows.result c.push.new.self
-    c.remove.ensures.value c.new.ensures.items c.unwrap_or-rows.ensures c.in_ok-push.ensures.items c.remove.ensures.updates.0 c.in_ok-insert.ensures.updates.0

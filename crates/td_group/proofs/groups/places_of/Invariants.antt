@@ -1,8 +1,0 @@
-use Rattle.std.proofs.Common.{take}
-use Rattle.td_types.specs.Types.{attribute_names}
-use Rattle.td_value.specs.Values.{IsTupleOf, Tuple}
-use Rattle.td_group.specs.Groups.{StandAt, values_on}
-use Rattle.td_group.proofs.groups.places_of.Given as goal
-
-abbrev pub invariant-loop-place : goal.invariant-loop-place
-invariant-loop-place l = (t : Tuple) → IsTupleOf l.heading t → StandAt l.places.items (values_on (attribute_names l.common) (take l.place t)) t
