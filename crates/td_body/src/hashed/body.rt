@@ -109,6 +109,9 @@ fn make_ready(
     if members.can_step(tuples) {
         return Ok(());
     }
+    if members.is_hashed() {
+        return members.put_in_order(alloc);
+    }
     let next = Members::hashed(alloc, members.to_rel(alloc)?, keys)?;
     *members = next;
     Ok(())
@@ -138,6 +141,19 @@ fn step(
     Ok(())
 }
 
+/// Puts members that keep nothing in order anew, where a change of so many tuples, which are few,
+/// can then be carried out step by step.
+fn put_in_order_for(alloc: Global, members: &mut Members, tuples: usize) -> Result<(), AllocError>
+    ensures relation { members.new.relation ≡ members.old.relation }
+    ensures kept { members.new.kept ≡ members.old.kept }
+    ensures places { members.new.places ≡ members.old.places }
+{
+    if members.kept_count() > 0 || members.can_step(tuples) || tuples > members.len() {
+        return Ok(());
+    }
+    members.put_in_order(alloc)
+}
+
 /// Carries a change out, step by step where it is small; else the members are put aside, and made
 /// anew.
 fn change_members(
@@ -162,6 +178,7 @@ fn change_members(
     ensures placed_aside { All (IsPlacedFor (map (λ key. key.items) keys.now)) aside.new.items }
 {
     let tuples = out.rows().len().saturating_add(add.rows().len());
+    put_in_order_for(alloc, members, tuples)?;
     if members.can_step(tuples) {
         return members.change(out.rows(), add.rows());
     }

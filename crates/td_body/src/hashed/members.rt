@@ -55,8 +55,8 @@ impl Model for Members {
         AreMembers m.sorted.heading m.sorted.body m.touched.items m.histories.items m.kept_count };
 }
 
-/// How many tuples may be touched, beside a quarter of those in order, before the members are made
-/// anew, in order and hashed.
+/// How many more tuples may be touched than stand in order, before the members are put in order
+/// anew.
 const FEW: usize = 16;
 
 impl Members {
@@ -107,12 +107,19 @@ impl Members {
     }
 
     /// Whether a change of so many tuples is to be carried out step by step: they are hashed, and
-    /// those that were touched are few beside those in order.
+    /// those that were touched are not many more than those in order.
     pub(crate) fn can_step(&self, tuples: usize) -> bool
         ensures { IsTrue result → 0 < length self.now.places }
     {
         let touched = self.touched.len().saturating_add(tuples);
-        !self.histories.is_empty() && touched <= self.sorted.rows().len() / 4 + FEW
+        self.is_hashed() && touched <= self.sorted.rows().len() + FEW
+    }
+
+    /// Whether they are hashed.
+    pub(crate) fn is_hashed(&self) -> bool
+        ensures { IsTrue result → 0 < length self.now.places }
+    {
+        !self.histories.is_empty()
     }
 
     /// Whether the tuple is a member.
@@ -383,5 +390,19 @@ impl Members {
             return self.sorted.try_clone();
         }
         brought_up_to_date(alloc, &self.sorted, &self.touched, &history.index)
+    }
+    /// Puts the members in order anew. They keep nothing.
+    pub(crate) fn put_in_order(&mut self, alloc: Global) -> Result<(), AllocError>
+        requires { self.old.kept ≡ [] }
+        ensures relation { self.new.relation ≡ self.old.relation }
+        ensures kept { self.new.kept ≡ [] }
+        ensures places { self.new.places ≡ self.old.places }
+    {
+        let _ = self.len();
+        let sorted = self.to_rel(alloc)?;
+        sorted.heading().reveal();
+        self.sorted = sorted;
+        self.touched.clear();
+        Ok(())
     }
 }

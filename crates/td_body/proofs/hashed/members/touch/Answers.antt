@@ -33,11 +33,11 @@ loop-tuple-preserved c =
     let split : (t : Tuple) → has tuple_cmp t c.push.new.self.items ≡ (has tuple_cmp t old || has tuple_cmp t (x ∷ [])) =
     λ t. ap (has tuple_cmp t) c.in_ok-push.ensures.items ∙ has-append t old (x ∷ []) in
     record {
-      more = λ t e. c.loop-tuple.invariant.more t (first_none (has tuple_cmp t old) (has tuple_cmp t (x ∷ [])) (sym (split t) ∙ e));
+      more = λ t e. c.loop-tuple.invariant.more t (first_none (has tuple_cmp t old) (has tuple_cmp t (x ∷ [])) (sym {A = Bool} (split t) ∙ e));
       all = λ t e. ap (has tuple_cmp t) (take_more tuples i c.tuple-item.result c.loop-tuple-test.true) ∙ has-append t (take i tuples) (get_or tuples i c.tuple-item.result ∷ [])
           ∙ neither (has tuple_cmp t (take i tuples)) (has tuple_cmp t (get_or tuples i c.tuple-item.result ∷ []))
-          (c.loop-tuple.invariant.all t (first_none (has tuple_cmp t old) (has tuple_cmp t (x ∷ [])) (sym (split t) ∙ e)))
-          (subst (λ u. has tuple_cmp t (u ∷ []) ≡ false) same (second_none (has tuple_cmp t old) (has tuple_cmp t (x ∷ [])) (sym (split t) ∙ e)));
+          (c.loop-tuple.invariant.all t (first_none (has tuple_cmp t old) (has tuple_cmp t (x ∷ [])) (sym {A = Bool} (split t) ∙ e)))
+          (subst (λ u. has tuple_cmp t (u ∷ []) ≡ false) same (second_none (has tuple_cmp t old) (has tuple_cmp t (x ∷ [])) (sym {A = Bool} (split t) ∙ e)));
       headed = λ h a b. subst (All (IsTupleOf h)) (sym c.in_ok-push.ensures.items)
           (All-append (IsTupleOf h) old (x ∷ []) (c.loop-tuple.invariant.headed h a b) (one (IsTupleOf h) x (subst (IsTupleOf h) (sym same) (b i c.tuple-item.result c.loop-tuple-test.true))));
     }
