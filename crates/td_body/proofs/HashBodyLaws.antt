@@ -75,16 +75,6 @@ module _ (keys : List (List (List ℕ))) where
         placed_aside = placed_aside;
       }
 
-  -- the same members but for what they keep
-  pub body_same : (m n : Members) (aside next : List Members) (count : ℕ) → IsHashBody keys m aside count → n.relation.heading ≡ m.relation.heading
-      → kept_by next n ≡ kept_by aside m → IsPlacedFor keys n → All (IsPlacedFor keys) next → IsHashBody keys n next count
-  body_same m n aside next count b h kept placed placed_aside = record {
-    counted = b.counted ∙ ap length (sym kept);
-    headings = subst (HaveOneHeading n.relation) (sym kept) (other_heading m.relation n.relation (kept_by aside m) (sym h) b.headings);
-    placed = placed;
-    placed_aside = placed_aside;
-  }
-
 -- what keeps nothing has put nothing aside, and keeps nothing
 pub nothing_aside : (aside : List Members) (m : Members) → kept_by aside m ≡ [] → aside ≡ []
 nothing_aside [] m e = refl

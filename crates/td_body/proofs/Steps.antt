@@ -1,11 +1,11 @@
 -- What one more step means for the sets that are kept.
-use Rattle.std.proofs.Common.{◌≡◌, ℕ, ◌+◌, ◌≤◌, Bool, true, false, List, [], ◌∷◌, ◌++◌, length, refl, sym, ap, ◌∙◌, arith, fold, length-append}
+use Rattle.std.proofs.Common.{◌≡◌, Bool, true, false, List, [], ◌∷◌, ◌++◌, refl, sym, ap, ◌∙◌}
 use Rattle.std.specs.Prelude.{not}
 use Rattle.std.proofs.lemmas.List.Sums.{fold_push}
 use Rattle.td_value.specs.Sets.{has}
 use Rattle.td_value.specs.Values.{Tuple, IsAscendingBody, tuple_cmp}
 use Rattle.td_body.specs.declared.hashed.step.Step.{Step}
-use Rattle.td_body.specs.declared.hashed.step.Step.TheVariants.{Kept, Added, Dropped}
+use Rattle.td_body.specs.declared.hashed.step.Step.TheVariants.{Added, Dropped}
 use Rattle.td_body.specs.Histories.{kept_sets, put_tuple, step_back}
 use Rattle.td_body.specs.KeyIndexes.{without}
 use Rattle.td_body.proofs.TupleSets.{put_back, taken_back}
@@ -25,21 +25,3 @@ kept-added log t ts up h = kept_push log (Added t) (put_tuple t ts) ∙ ap (kept
     is_false : (b : Bool) → not b ≡ true → b ≡ false
     is_false true h = sym h
     is_false false h = refl
-
-few_from : (log : List Step) (k : List Tuple → List (List Tuple)) (n : ℕ) → ((ts : List Tuple) → length (k ts) ≤ n) → (ts : List Tuple)
-    → length (fold step_back k log ts) ≤ n + length log
-few_from [] k n h ts = omega (arith, h ts)
-few_from (x ∷ log) k n h ts =
-    let rest : length (fold step_back (step_back k x) log ts) ≤ n + 1 + length log = few_from log (step_back k x) (n + 1) (more x) ts in
-    omega (arith, rest)
-  where
-    more : (x : Step) (ts : List Tuple) → length (step_back k x ts) ≤ n + 1
-    more Kept ts = omega (arith, h ts, length-append (k ts) (ts ∷ []))
-    more (Added t) ts = omega (arith, h (without t ts))
-    more (Dropped t) ts = omega (arith, h (put_tuple t ts))
-
--- no more sets are kept than there are steps
-pub kept_few : (log : List Step) (ts : List Tuple) → length (kept_sets log ts) ≤ length log
-kept_few log ts =
-    let few : length (kept_sets log ts) ≤ 0 + length log = few_from log (λ _. []) 0 (λ _. omega arith) ts in
-    omega (arith, few)
