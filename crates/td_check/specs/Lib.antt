@@ -2,6 +2,7 @@ pub mod Both
 pub mod CheckViews
 pub mod Closures
 pub mod ItemViews
+pub mod LentScopes
 pub mod Mentions
 pub mod OperatorTypes
 pub mod PlaceViews
