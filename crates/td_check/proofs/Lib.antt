@@ -31,3 +31,4 @@ pub mod StaticLaws
 pub mod SummaryLaws
 pub mod UserTypeLaws
 pub mod WorkedTypes
+pub mod WrittenNames

@@ -12,3 +12,4 @@ pub mod StatementTypes
 pub mod StaticCauses
 pub mod StaticLaws
 pub mod StaticTypes
+pub mod WrittenNames

@@ -7,6 +7,7 @@ pub mod expression;
 pub mod laws;
 pub mod mentioned;
 pub mod mentions;
+pub mod names;
 mod place;
 pub mod rules;
 pub mod scope;

@@ -1,4 +1,4 @@
-use Rattle.std.proofs.Common.{◌∙◌, None, ap, option_map, take}
+use Rattle.std.proofs.Common.{◌∙◌, ap, option_map, take}
 use Rattle.std.specs.Map.{lookup}
 use Rattle.td_check.specs.ScopeCode.{seen_view}
 use Rattle.td_check.specs.declared.scope.Kind.TheVariants.{Base, Virtual}

@@ -1,6 +1,4 @@
-use Rattle.std.proofs.Common.{◌≡◌, ◌∙◌, ℕ, Option, Some, None, ap, option_map, sym}
-use Rattle.std.specs.List.{position}
-use Rattle.std.specs.Map.{keys_of, lookup}
+use Rattle.std.proofs.Common.{◌∙◌, ap, option_map, sym}
 use Rattle.td_check.proofs.LentScopes.{taken_beyond, taken_nowhere, taken_within}
 use Rattle.td_types.specs.Types.{same_name}
 use Rattle.td_check.proofs.declared.Declared.virtual_heading.Goals as goal
