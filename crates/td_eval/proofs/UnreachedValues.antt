@@ -1,13 +1,14 @@
 -- An expression that names nothing which a change of base relvars reaches has the value that it had.
-use Rattle.std.proofs.Common.{◌≡◌, ◌∙◌, ◌∷◌, ◌++◌, ℕ, Bool, true, false, Contains, List, [], Some, ap, append_assoc, map, not, refl, subst, sym, true≢false}
+use Rattle.std.proofs.Common.{◌≡◌, ◌∙◌, ◌∷◌, ◌++◌, ℕ, Bool, true, false, Contains, List, [], ap, append_assoc, map, not, refl, subst, sym, true≢false}
 use Rattle.std.proofs.lemmas.List.{map-append}
 use Rattle.std.specs.Prelude.{◌||◌, if◌then◌else◌, is_some}
 use Rattle.std.specs.List.{find, list_any}
-use Rattle.td_catalog.specs.Database.{BaseRelvar, Database, VirtualRelvar, base_named, database_scope, relvar_names, virtual_named}
+use Rattle.td_catalog.specs.Database.{BaseRelvar, Database, VirtualRelvar, database_scope, relvar_names}
 use Rattle.td_catalog.specs.TypedDatabases.{IsTyped}
 use Rattle.td_check.proofs.WrittenNames.{relvars_are_named}
 use Rattle.td_check.proofs.StaticLaws.{mentions_are_known, more_changes_nothing}
 use Rattle.td_check.specs.Mentions.{relvars_in}
+use Rattle.td_check.specs.Scopes.{known_relvar}
 use Rattle.td_check.specs.WrittenNames.{names_in}
 use Rattle.td_eval.proofs.DistinctNames.{are_apart, has_first, has_name-append, has_rest, not_true}
 use Rattle.td_eval.proofs.KnownRelvars.{front_has_more, fronted, known_name, named_at}
@@ -16,7 +17,6 @@ use Rattle.td_eval.proofs.MoreWorlds.{any, any_users_all}
 use Rattle.td_eval.proofs.WorldParts.{virtual_name}
 use Rattle.td_eval.specs.ReachedRelvars.{DiffersIn, UnreachedValuesStay, names_any, reached_from, with_dependent}
 use Rattle.td_eval.specs.ValueLaws.{AgreeOnRelvars, AgreeOnTypes}
-use Rattle.td_tree.specs.Trees.{Tree}
 use Rattle.td_types.proofs.HeadingLaws.{same_name-itself}
 use Rattle.td_types.proofs.NameTests.{name_tests_tell}
 use Rattle.td_types.specs.Headings.{are_distinct, has_name}
@@ -26,26 +26,30 @@ use Rattle.std.specs.Cmp.Lexicographic.{same_text}
 
 -- ---- names
 
+-- a name of a list that is among the relvars is one of those that are
+named_there : (relvars : List (List ℕ)) (n : List ℕ) → has_name n relvars ≡ true → (ns : List (List ℕ)) → has_name n ns ≡ true
+    → list_any (λ k. has_name k relvars) ns ≡ true
+named_there relvars n is [] e = e
+named_there relvars n is (k ∷ ns) e = by_name (same_name k n) refl e (named_there relvars n is ns)
+  where
+    rest : Bool
+    rest = list_any (λ m. has_name m relvars) ns
+
+    behind : (b : Bool) → rest ≡ true → (b || rest) ≡ true
+    behind true f = refl
+    behind false f = f
+
+    by_name : (b : Bool) → same_name k n ≡ b → (b || has_name n ns) ≡ true → (has_name n ns ≡ true → rest ≡ true) → (has_name k relvars || rest) ≡ true
+    by_name true one f later = ap (λ m. has_name m relvars || rest) (same_text k n (sym one)) ∙ ap (λ b. b || rest) is
+    by_name false other f later = behind (has_name k relvars) (later f)
+
 -- where no name of an expression is among the relvars, a name of it is not
 unnamed : (relvars ns : List (List ℕ)) (n : List ℕ) → list_any (λ k. has_name k relvars) ns ≡ false → Contains ns n → has_name n relvars ≡ false
 unnamed relvars ns n none c = by_test (has_name n relvars) refl
   where
-    behind : (b c : Bool) → c ≡ true → (b || c) ≡ true
-    behind true c e = refl
-    behind false c e = e
-
-    there : (ns : List (List ℕ)) → has_name n ns ≡ true → has_name n relvars ≡ true → list_any (λ k. has_name k relvars) ns ≡ true
-    there [] e is = e
-    there (k ∷ ns) e is = by_name (same_name k n) refl e
-      where
-        by_name : (b : Bool) → same_name k n ≡ b → (b || has_name n ns) ≡ true → (has_name k relvars || list_any (λ k. has_name k relvars) ns) ≡ true
-        by_name true one e =
-            ap (λ m. has_name m relvars || list_any (λ k. has_name k relvars) ns) (same_text k n (sym one)) ∙ ap (λ b. b || list_any (λ k. has_name k relvars) ns) is
-        by_name false other e = behind (has_name k relvars) (list_any (λ k. has_name k relvars) ns) (there ns e is)
-
     by_test : (b : Bool) → has_name n relvars ≡ b → has_name n relvars ≡ false
     by_test false is = is
-    by_test true is = absurd (true≢false (sym (there ns ((name_tests_tell.0 n ns).1 c) is) ∙ none))
+    by_test true is = absurd (true≢false (sym (named_there relvars n is ns ((name_tests_tell.0 n ns).1 c)) ∙ none))
 
 module _ (n : List ℕ) where
   -- what is reached stays so
@@ -61,16 +65,17 @@ module _ (n : List ℕ) where
   reached_others : (relvars : List (List ℕ)) (vs : List VirtualRelvar) → has_name n relvars ≡ false → has_name n (map virtual_name vs) ≡ false
       → has_name n (reached_from relvars vs) ≡ false
   reached_others relvars [] not_there apart = not_there
-  reached_others relvars (v ∷ vs) not_there apart = by_test (same_name v.name n) refl apart
+  reached_others relvars (v ∷ vs) not_there apart = by_test (same_name v.name n) refl apart (reached_others (with_dependent relvars v) vs)
     where
       either : same_name v.name n ≡ false → (b : Bool) → has_name n (if b then relvars ++ (v.name ∷ []) else relvars) ≡ false
       either other true = has_name-append n relvars (v.name ∷ []) ∙ rw (not_there, other) refl
       either other false = not_there
 
       by_test : (b : Bool) → same_name v.name n ≡ b → (b || has_name n (map virtual_name vs)) ≡ false
+          → (has_name n (with_dependent relvars v) ≡ false → has_name n (map virtual_name vs) ≡ false → has_name n (reached_from (with_dependent relvars v) vs) ≡ false)
           → has_name n (reached_from (with_dependent relvars v) vs) ≡ false
-      by_test true is e = absurd (true≢false e)
-      by_test false is e = reached_others (with_dependent relvars v) vs (either is (names_any relvars v.tree)) e
+      by_test true is e later = absurd (true≢false e)
+      by_test false is e later = later (either is (names_any relvars v.tree)) e
 
 reached_in_turn : (relvars : List (List ℕ)) (vs us : List VirtualRelvar) → reached_from relvars (vs ++ us) ≡ reached_from (reached_from relvars vs) us
 reached_in_turn relvars [] us = refl
