@@ -1,5 +1,6 @@
 -- The names that stand in the parts of an expression.
 use Rattle.std.proofs.Common.{◌≡◌, ◌∙◌, ◌∷◌, ◌++◌, ◌+◌, ◌<◌, ◌≤◌, ◌⊎◌, inl, inr, ℕ, Bool, true, false, List, [], ap, arith, get_or, length, refl, sym, take}
+use Rattle.std.specs.Global.{Vec}
 use Rattle.std.specs.Prelude.{if◌then◌else◌, is_some}
 use Rattle.std.specs.List.{Contains}
 use Rattle.std.proofs.lemmas.List.{append-nil, append_assoc, take_all}
@@ -10,16 +11,15 @@ use Rattle.td_check.specs.StaticLaws.{RelvarsAreNamed}
 use Rattle.td_check.specs.StaticTypes.{type_of}
 use Rattle.td_check.specs.WrittenNames.{names_in, names_in_all, names_in_items, names_in_named}
 use Rattle.td_check.proofs.CheckedLists.{of_each, of_each_last, step_taken}
-use Rattle.std.specs.Global.{Vec}
 use Rattle.td_tree.specs.declared.expression.Expr.{Expr}
 use Rattle.td_tree.specs.declared.expression.Expr.TheVariants as x
 use Rattle.td_tree.specs.declared.expression.NamedExpr.{NamedExpr}
 use Rattle.td_tree.specs.declared.expression.Summary.{Summary}
 use Rattle.td_tree.specs.declared.expression.Summary.TheVariants as s
 use Rattle.td_tree.specs.declared.type_tree.AttributeTree.{AttributeTree}
-use Rattle.td_tree.proofs.Rows.{headed_relation_is, relation_is, select_is}
 use Rattle.td_tree.specs.TreeViews.{named_view, summaries_view, tree_view, trees_view}
 use Rattle.td_tree.specs.Trees.{Tree, literal, name, parentheses, prefix, extract, restriction, binary, compare, postfix, select, component, measure, aggregate, relation, headed_relation, tuple, extend, summarize_per, summarize_by, choice, Trees, none, more, NamedTrees, none_named, more_named, Summaries, no_summaries, counted, summed}
+use Rattle.td_tree.proofs.Rows.{headed_relation_is, relation_is, select_is}
 
 -- ---- one part after another
 

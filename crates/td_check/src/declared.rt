@@ -50,8 +50,8 @@ impl Declared {
 
     /// What is known of the relvar of the name where so many of the virtual relvars are known.
     pub(crate) fn relvar(&self, name: &Name, virtuals: usize) -> Option<(Kind, &Heading)>
-        ensures { option_map seen_view result
-            ≡ option_map kind_and_heading (relvar_in name.now (declared_relvars self.now virtuals)) }
+        ensures { option_map seen_view result ≡ option_map kind_and_heading
+            (relvar_in name.now (declared_relvars self.now virtuals)) }
     {
         match self.bases.get(name) {
             Some(heading) => Some((Kind::Base, heading)),
