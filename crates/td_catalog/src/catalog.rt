@@ -13,6 +13,7 @@ ghost use Rattle.td_tree.specs.TreeViews.{tree_view};
 ghost use Rattle.td_types.specs.TypeLists.{declared_at};
 ghost use Rattle.td_types.specs.Types.{same_name};
 
+use crate::defining::DefiningExpression;
 use crate::entry::{BaseEntry, VirtualEntry};
 use crate::tables::Tables;
 use std::alloc::{AllocError, Global};
@@ -192,8 +193,8 @@ impl<B: Body> Catalog<B> {
     }
 
     /// The expression of the constraint at a place in order of definition, with its name.
-    pub fn nth_constraint(&self, place: usize) -> Option<(&Name, &Expr)>
-        ensures { option_map (λ p. named_constraint p.0.now (tree_view p.1.now)) result
+    pub fn nth_constraint(&self, place: usize) -> Option<(&Name, &DefiningExpression)>
+        ensures { option_map (λ p. named_constraint p.0.now p.1.now) result
             ≡ slice_get self.now.database.constraints place }
     {
         self.tables.nth_constraint(place)

@@ -15,9 +15,9 @@ ghost use Rattle.td_types.specs.TypeLists.{AreKnown, declared_type, is_declared}
 ghost use Rattle.td_types.specs.Types.{pack};
 ghost use Rattle.td_types.specs.Views.{pairs_view};
 
+use crate::defining::DefiningExpression;
 use crate::entry::{BaseEntry, ConstraintEntry, VirtualEntry};
 use crate::tables::Tables;
-use std::rc::Rc;
 use td_body::body::Body;
 use td_tree::cause::Cause;
 use td_tree::expression::Expr;
@@ -114,7 +114,7 @@ impl<B: Body> Tables<B> {
             return Err(Fault::Refused(Cause::NameTaken));
         }
         let _ = name.as_str();
-        let tree = Rc::new(*self.virtuals.allocator(), tree)?;
+        let tree = DefiningExpression::new(*self.virtuals.allocator(), tree)?;
         let entry = VirtualEntry {
             heading,
             tree,
@@ -139,7 +139,7 @@ impl<B: Body> Tables<B> {
             return Err(Fault::Refused(Cause::NameTaken));
         }
         let _ = name.as_str();
-        let tree = Rc::new(*self.constraints.allocator(), tree)?;
+        let tree = DefiningExpression::new(*self.constraints.allocator(), tree)?;
         self.constraints.insert(name, ConstraintEntry { tree })?;
         Ok(())
     }

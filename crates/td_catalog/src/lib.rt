@@ -5,6 +5,7 @@ mod bodies;
 mod by_place;
 pub mod catalog;
 pub mod copy;
+pub mod defining;
 mod definitions;
 mod drops;
 mod dump;

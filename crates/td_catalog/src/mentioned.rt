@@ -133,7 +133,7 @@ impl<B: Body> Tables<B> {
             ≡ list_any (λ v. tree_mentions space scope.now name.now v.tree) self.now.virtuals) }
     {
         for entry in self.virtuals.values() {
-            if tree_mentions(scope, space, name, &entry.tree)? {
+            if tree_mentions(scope, space, name, entry.tree.tree())? {
                 return Ok(true);
             }
         }
@@ -152,7 +152,7 @@ impl<B: Body> Tables<B> {
             ≡ list_any (λ c. tree_mentions space scope.now name.now c.tree) self.now.constraints) }
     {
         for entry in self.constraints.values() {
-            if tree_mentions(scope, space, name, &entry.tree)? {
+            if tree_mentions(scope, space, name, entry.tree.tree())? {
                 return Ok(true);
             }
         }

@@ -82,6 +82,6 @@ impl<B: Body> Tables<B> {
             ≡ option_map (λ v. v.tree) (slice_get self.now.virtuals place) }
     {
         let (_, entry) = self.virtuals.get_index(place)?;
-        Some(&entry.tree)
+        Some(entry.tree.tree())
     }
 }

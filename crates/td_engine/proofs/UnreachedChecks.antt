@@ -19,7 +19,8 @@ use Rattle.td_engine.specs.Legality.{HasKeysThatHold, IsLegal, IsTrueOf}
 use Rattle.td_engine.specs.Refusals.{by_constraint, by_key}
 use Rattle.td_eval.proofs.UnreachedValues.{unreached_values_stay}
 use Rattle.td_eval.specs.DatabaseWorlds.{world_of}
-use Rattle.td_eval.specs.ReachedRelvars.{DiffersIn, names_any, reached_from}
+use Rattle.td_catalog.specs.NamedRelvars.{names_any}
+use Rattle.td_eval.specs.ReachedRelvars.{DiffersIn, reached_from}
 use Rattle.td_tree.specs.Trees.{name}
 use Rattle.td_types.proofs.HeadingLaws.{same_name-itself}
 use Rattle.td_types.specs.Headings.{has_name}

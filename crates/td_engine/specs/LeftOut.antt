@@ -5,7 +5,7 @@ use Rattle.td_catalog.specs.Database.{Database, NamedConstraint, VirtualRelvar, 
 use Rattle.td_engine.specs.Checks.{constraint_check, derived_check, virtual_check}
 use Rattle.td_engine.specs.Legality.{IsLegal}
 use Rattle.td_eval.specs.DatabaseWorlds.{world_of}
-use Rattle.td_eval.specs.ReachedRelvars.{names_any}
+use Rattle.td_catalog.specs.NamedRelvars.{names_any}
 use Rattle.td_eval.specs.Worlds.{World}
 use Rattle.td_types.specs.Headings.{has_name}
 

@@ -4,6 +4,7 @@ use Rattle.std.proofs.lemmas.List.{map-append}
 use Rattle.std.specs.Prelude.{◌||◌, if◌then◌else◌, is_some}
 use Rattle.std.specs.List.{find, list_any}
 use Rattle.td_catalog.specs.Database.{BaseRelvar, Database, VirtualRelvar, database_scope, relvar_names}
+use Rattle.td_catalog.specs.NamedRelvars.{names_any}
 use Rattle.td_catalog.specs.TypedDatabases.{IsTyped}
 use Rattle.td_check.proofs.WrittenNames.{relvars_are_named}
 use Rattle.td_check.proofs.StaticLaws.{mentions_are_known, more_changes_nothing}
@@ -15,7 +16,7 @@ use Rattle.td_eval.proofs.KnownRelvars.{front_has_more, fronted, known_name, nam
 use Rattle.td_eval.proofs.MentionedEntries.{values_depend_on_entries}
 use Rattle.td_eval.proofs.MoreWorlds.{any, any_users_all}
 use Rattle.td_eval.proofs.WorldParts.{virtual_name}
-use Rattle.td_eval.specs.ReachedRelvars.{DiffersIn, UnreachedValuesStay, names_any, reached_from, with_dependent}
+use Rattle.td_eval.specs.ReachedRelvars.{DiffersIn, UnreachedValuesStay, reached_from, with_dependent}
 use Rattle.td_eval.specs.ValueLaws.{AgreeOnRelvars, AgreeOnTypes}
 use Rattle.td_types.proofs.HeadingLaws.{same_name-itself}
 use Rattle.td_types.proofs.NameTests.{name_tests_tell}

@@ -1,19 +1,14 @@
 -- What a change of base relvars reaches, and what it leaves as it was (this project's own).
-use Rattle.std.specs.Prelude.{◌≡◌, ℕ, Bool, false, List, [], ◌∷◌, ◌++◌, fold, Some, if◌then◌else◌}
-use Rattle.std.specs.List.{list_any}
+use Rattle.std.specs.Prelude.{◌≡◌, ℕ, false, List, [], ◌∷◌, ◌++◌, fold, Some, if◌then◌else◌}
 use Rattle.td_catalog.specs.Database.{BaseRelvar, Database, VirtualRelvar, base_named, database_scope}
+use Rattle.td_catalog.specs.NamedRelvars.{names_any}
 use Rattle.td_catalog.specs.TypedDatabases.{IsTyped}
-use Rattle.td_check.specs.WrittenNames.{names_in}
 use Rattle.td_eval.specs.DatabaseWorlds.{world_of}
 use Rattle.td_eval.specs.TreeValues.{value_of}
 use Rattle.td_eval.specs.ValueLaws.{IsChecked}
 use Rattle.td_eval.specs.ValueTypes.{DefinitionsAreWritten}
 use Rattle.td_tree.specs.Trees.{Tree}
 use Rattle.td_types.specs.Headings.{has_name}
-
--- whether one of these relvars is named in the expression
-abbrev pub names_any : List (List ℕ) → Tree → Bool
-names_any relvars e = list_any (λ n. has_name n relvars) (names_in e)
 
 -- with the virtual relvar, where its expression names one of them
 abbrev pub with_dependent : List (List ℕ) → VirtualRelvar → List (List ℕ)

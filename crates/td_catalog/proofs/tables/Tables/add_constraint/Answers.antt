@@ -24,7 +24,7 @@ invariant_of-self-2 g c =
     (catalog_with_constraint g.B.Body.relation g.B.Body.keys rows c.self.inside.constraints c.args.name _ refl
     (sym (knows_constraint_by g.B.Body.relation g.B.Body.keys c.args.name rows) ∙ sym c.contains_key.ensures ∙ c.if-contains_key.false) c.self.invariant
     c.as_str.ensures.is_name
-    (subst (λ e. IsTypedConstraint (database_scope (database_view g.B.Body.relation rows)) (named_constraint c.args.name (tree_view e))) (sym c.in_ok-tree.ensures.ok)
+    (subst (λ e. IsTypedConstraint (database_scope (database_view g.B.Body.relation rows)) (named_constraint c.args.name e)) (sym c.in_ok-tree.ensures)
     (subst (λ (db : Database). IsTypedConstraint (database_scope db) (named_constraint c.args.name (tree_view c.args.tree))) (sym c.self.view_is) c.requires)))
 
 pub returns-clause-answer : goal.returns-clause-answer
@@ -42,5 +42,5 @@ returns-clause-added g c =
     ap (λ cs. database_view g.B.Body.relation (with_constraint_rows cs rows)) c.in_ok-insert.ensures.entries
     ∙ view_with_constraint g.B.Body.relation g.B.Body.keys rows c.self.inside.constraints c.args.name _ refl
     (sym (knows_constraint_by g.B.Body.relation g.B.Body.keys c.args.name rows) ∙ sym c.contains_key.ensures ∙ c.if-contains_key.false)
-    ∙ ap (λ e. with_constraint (named_constraint c.args.name (tree_view e)) (database_view g.B.Body.relation rows)) c.in_ok-tree.ensures.ok
+    ∙ ap (λ e. with_constraint (named_constraint c.args.name e) (database_view g.B.Body.relation rows)) c.in_ok-tree.ensures
     ∙ ap (with_constraint (named_constraint c.args.name (tree_view c.args.tree))) c.self.view_is

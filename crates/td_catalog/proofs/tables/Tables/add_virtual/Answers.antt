@@ -19,8 +19,8 @@ invariant_of-self-2 g c =
     subst (λ vs. IsCatalog g.B.Body.relation g.B.Body.keys (with_virtual_rows vs rows)) (sym c.in_ok-insert.ensures.entries)
     (catalog_with_virtual g.B.Body.relation g.B.Body.keys rows c.self.inside.virtuals c.args.name _ refl
     (ap (knows_relvar c.args.name) c.self.view_is ∙ sym c.has_relvar.ensures ∙ c.if-has_relvar.false) c.self.invariant c.as_str.ensures.is_name
-    (subst (λ e. IsTypedVirtual (database_scope (database_view g.B.Body.relation rows)) (virtual_relvar c.args.name c.args.heading (tree_view e) (map (λ key. key.items) c.args.keys.items)))
-    (sym c.in_ok-tree.ensures.ok)
+    (subst (λ e. IsTypedVirtual (database_scope (database_view g.B.Body.relation rows)) (virtual_relvar c.args.name c.args.heading e (map (λ key. key.items) c.args.keys.items)))
+    (sym c.in_ok-tree.ensures)
     (subst (λ (db : Database). IsTypedVirtual (database_scope db) (virtual_relvar c.args.name c.args.heading (tree_view c.args.tree) (map (λ key. key.items) c.args.keys.items)))
     (sym c.self.view_is) c.requires)))
 
@@ -34,5 +34,5 @@ returns-clause-added g c =
     ap (λ vs. database_view g.B.Body.relation (with_virtual_rows vs rows)) c.in_ok-insert.ensures.entries
     ∙ view_with_virtual g.B.Body.relation g.B.Body.keys rows c.self.inside.virtuals c.args.name _ refl
     (ap (knows_relvar c.args.name) c.self.view_is ∙ sym c.has_relvar.ensures ∙ c.if-has_relvar.false)
-    ∙ ap (λ e. with_virtual (virtual_relvar c.args.name c.args.heading (tree_view e) (map (λ key. key.items) c.args.keys.items)) (database_view g.B.Body.relation rows)) c.in_ok-tree.ensures.ok
+    ∙ ap (λ e. with_virtual (virtual_relvar c.args.name c.args.heading e (map (λ key. key.items) c.args.keys.items)) (database_view g.B.Body.relation rows)) c.in_ok-tree.ensures
     ∙ ap (with_virtual (virtual_relvar c.args.name c.args.heading (tree_view c.args.tree) (map (λ key. key.items) c.args.keys.items))) c.self.view_is
