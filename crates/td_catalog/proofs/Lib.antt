@@ -1,3 +1,5 @@
+mod ChangedBodies
+mod ChangedRelations
 mod Changes
 mod Copies
 pub mod EntriesLess

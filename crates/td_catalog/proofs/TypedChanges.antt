@@ -282,7 +282,7 @@ typed_with_body db name relation h g =
 -- ---- what is asked of the relation that a relvar is to hold
 
 -- the relvar that is found is one
-found_base : (P : BaseRelvar → Type 0) (name : List ℕ) (rs : List BaseRelvar) (r : BaseRelvar) → AllByRecursion P rs → base_among name rs ≡ Some r → P r
+pub found_base : (P : BaseRelvar → Type 0) (name : List ℕ) (rs : List BaseRelvar) (r : BaseRelvar) → AllByRecursion P rs → base_among name rs ≡ Some r → P r
 found_base P name [] r h e = absurd (cc)
 found_base P name (s ∷ rs) r h e = by_test (same_name s.name name) refl (found_base P name rs r h.1)
   where

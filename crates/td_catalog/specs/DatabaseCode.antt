@@ -1,7 +1,8 @@
--- How the logic stores a database: the code that a Model asks for.
+-- How the logic stores databases and catalogues: the codes that a Model asks for.
 use Rattle.std.specs.Prelude.{ℕ, List, refl}
 use Rattle.std.specs.Coded.{Coded, code_by, coded×, coded_list, coded_ℕ}
 use Rattle.td_catalog.specs.Database.{BaseRelvar, Database, NamedConstraint, VirtualRelvar, base_relvar, named_constraint, virtual_relvar}
+use Rattle.td_catalog.specs.KeptDatabases.{CatalogView}
 use Rattle.td_tree.specs.TreeCode.{tree_code}
 use Rattle.td_tree.specs.Trees.{Tree}
 use Rattle.td_types.specs.TypeCode.{heading_code}
@@ -35,3 +36,8 @@ database_code =
     (coded× declared_list_code (coded× (coded_list base_code) (coded× (coded_list virtual_code) (coded_list constraint_code))))
     (λ db. (db.types, (db.bases, (db.virtuals, db.constraints))))
     (λ p. record { types = p.0; bases = p.1.0; virtuals = p.1.1.0; constraints = p.1.1.1 }) (λ _. refl)
+
+abbrev pub catalog_code : Coded CatalogView
+catalog_code =
+    code_by (Database × List Database) (coded× database_code (coded_list database_code))
+    (λ v. (v.database, v.kept)) (λ p. record { database = p.0; kept = p.1 }) (λ _. refl)

@@ -4,8 +4,8 @@ ghost use Rattle.std.specs.Prelude.{◌≡◌, ℕ, IfOk, List, map};
 ghost use Rattle.td_catalog.specs.CatalogViews.{AreEntries, base_view, constraint_view};
 ghost use Rattle.td_catalog.specs.CatalogViews.{entry_keys, virtual_view};
 
-use crate::catalog::Catalog;
 use crate::entry::{BaseEntry, ConstraintEntry, VirtualEntry};
+use crate::tables::Tables;
 use indexmap::IndexMap;
 use std::alloc::AllocError;
 use td_body::body::Body;
@@ -82,7 +82,7 @@ impl ConstraintEntry {
     }
 }
 
-impl<B: Body> Catalog<B> {
+impl<B: Body> Tables<B> {
     /// The base relvars again.
     fn copied_bases(&self) -> Result<IndexMap<Name, BaseEntry<B>>, AllocError>
         ensures bases { IfOk result
@@ -121,10 +121,10 @@ impl<B: Body> Catalog<B> {
 
     /// The same catalogue again. It takes time and memory in the order of the entries, not of the
     /// tuples, where the bodies' copies do.
-    pub fn try_clone(&self) -> Result<Catalog<B>, AllocError>
+    pub(crate) fn try_clone(&self) -> Result<Tables<B>, AllocError>
         ensures { IfOk result (λ copy. copy ≡ self.now) }
     {
-        Ok(Catalog {
+        Ok(Tables {
             types: self.types.try_clone()?,
             bases: self.copied_bases()?,
             virtuals: self.copied_virtuals()?,

@@ -1,9 +1,9 @@
 //! Entries that are added: each last in its list.
-ghost use Rattle.std.specs.Prelude.{◌≡◌, IfSome, IsSome, OnErr, OnOk, map, not, option_map};
+ghost use Rattle.std.specs.Prelude.{◌≡◌, OnErr, OnOk, map, not, option_map};
 ghost use Rattle.td_catalog.specs.CatalogViews.{IsBodyOf};
-ghost use Rattle.td_catalog.specs.Database.{base_named, base_relvar, database_scope};
+ghost use Rattle.td_catalog.specs.Database.{base_relvar, database_scope};
 ghost use Rattle.td_catalog.specs.Database.{knows_constraint, knows_relvar, named_constraint};
-ghost use Rattle.td_catalog.specs.Database.{virtual_relvar, with_base, with_body};
+ghost use Rattle.td_catalog.specs.Database.{virtual_relvar, with_base};
 ghost use Rattle.td_catalog.specs.Database.{with_constraint, with_declared, with_virtual};
 ghost use Rattle.td_catalog.specs.TypedDatabases.{AreComponents, AreTyped, IsConstrained};
 ghost use Rattle.td_catalog.specs.TypedDatabases.{IsTypedConstraint, IsTypedVirtual};
@@ -15,8 +15,8 @@ ghost use Rattle.td_types.specs.TypeLists.{AreKnown, declared_type, is_declared}
 ghost use Rattle.td_types.specs.Types.{pack};
 ghost use Rattle.td_types.specs.Views.{pairs_view};
 
-use crate::catalog::Catalog;
 use crate::entry::{BaseEntry, ConstraintEntry, VirtualEntry};
+use crate::tables::Tables;
 use std::rc::Rc;
 use td_body::body::Body;
 use td_tree::cause::Cause;
@@ -26,10 +26,10 @@ use td_tree::name::Name;
 use td_types::heading::Heading;
 use td_types::ty::Ty;
 
-impl<B: Body> Catalog<B> {
+impl<B: Body> Tables<B> {
     /// Adds a type, last: refused where a type of the name is declared. `check_statement` tells
     /// whether its components and its constraint are as is asked.
-    pub fn add_type(
+    pub(crate) fn add_type(
         &mut self,
         name: Name,
         components: Vec<(Name, Ty)>,
@@ -62,7 +62,7 @@ impl<B: Body> Catalog<B> {
 
     /// Adds a base relvar, last: refused where a relvar of the name is there. Whether its keys are
     /// allowed and hold is not asked: that is a statement's to check, after its changes.
-    pub fn add_base(
+    pub(crate) fn add_base(
         &mut self,
         name: Name,
         heading: Heading,
@@ -95,7 +95,7 @@ impl<B: Body> Catalog<B> {
 
     /// Adds a virtual relvar, last: refused where a relvar of the name is there. The heading is
     /// that of the expression.
-    pub fn add_virtual(
+    pub(crate) fn add_virtual(
         &mut self,
         name: Name,
         heading: Heading,
@@ -126,7 +126,7 @@ impl<B: Body> Catalog<B> {
 
     /// Adds a constraint, last: refused where a constraint of the name is there. `check_statement`
     /// tells whether the expression is as is asked.
-    pub fn add_constraint(&mut self, name: Name, tree: Expr) -> Result<(), Fault>
+    pub(crate) fn add_constraint(&mut self, name: Name, tree: Expr) -> Result<(), Fault>
         requires { IsTypedConstraint (database_scope self.old)
             (named_constraint name (tree_view tree)) }
         ensures answer { Answers (λ u. u) result
@@ -142,20 +142,5 @@ impl<B: Body> Catalog<B> {
         let tree = Rc::new(*self.constraints.allocator(), tree)?;
         self.constraints.insert(name, ConstraintEntry { tree })?;
         Ok(())
-    }
-
-    /// Gives the base relvar of the name another body, whose keys need not hold. It takes no memory.
-    pub fn set_body(&mut self, name: &Name, body: B)
-        requires known { IsSome (base_named name.now self.old) }
-        requires body { IfSome (base_named name.now self.old) (λ r. IsBodyOf
-            r.relation.heading r.keys (B.relation body) (B.keys body)) }
-        requires typed { AreTyped self.old.types (B.relation body) }
-        ensures { self.new ≡ with_body name.now (B.relation body) self.old }
-    {
-        let _ = body.len();
-        if let Some(place) = self.bases.get_index_of(name) {
-            let (_, entry) = self.bases.pair_mut(place);
-            entry.body = body;
-        }
     }
 }

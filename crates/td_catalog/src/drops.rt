@@ -5,15 +5,15 @@ ghost use Rattle.td_catalog.specs.Mentioned.{constraint_droppable, relvar_droppa
 ghost use Rattle.td_catalog.specs.Mentioned.{type_droppable};
 ghost use Rattle.td_tree.specs.Outcomes.{Answers};
 
-use crate::catalog::Catalog;
+use crate::tables::Tables;
 use td_body::body::Body;
 use td_tree::cause::Cause;
 use td_tree::fault::Fault;
 use td_tree::name::Name;
 
-impl<B: Body> Catalog<B> {
+impl<B: Body> Tables<B> {
     /// Drops a type: refused where none has the name, else where an entry mentions it.
-    pub fn drop_type(&mut self, name: &Name) -> Result<(), Fault>
+    pub(crate) fn drop_type(&mut self, name: &Name) -> Result<(), Fault>
         ensures answer { Answers (λ u. u) result (type_droppable name.now self.old) }
         ensures dropped { OnOk result (self.new ≡ without_type name.now self.old) }
         ensures unchanged { OnErr result (self.new ≡ self.old) }
@@ -30,7 +30,7 @@ impl<B: Body> Catalog<B> {
 
     /// Drops a relvar, base or virtual: refused where none has the name, else where an entry
     /// mentions it.
-    pub fn drop_var(&mut self, name: &Name) -> Result<(), Fault>
+    pub(crate) fn drop_var(&mut self, name: &Name) -> Result<(), Fault>
         ensures answer { Answers (λ u. u) result (relvar_droppable name.now self.old) }
         ensures dropped { OnOk result (self.new ≡ without_relvar name.now self.old) }
         ensures unchanged { OnErr result (self.new ≡ self.old) }
@@ -47,7 +47,7 @@ impl<B: Body> Catalog<B> {
     }
 
     /// Drops a constraint: refused where none has the name. No entry mentions one.
-    pub fn drop_constraint(&mut self, name: &Name) -> Result<(), Fault>
+    pub(crate) fn drop_constraint(&mut self, name: &Name) -> Result<(), Fault>
         ensures answer { Answers (λ u. u) result (constraint_droppable name.now self.old) }
         ensures dropped { OnOk result (self.new ≡ without_constraint name.now self.old) }
         ensures unchanged { OnErr result (self.new ≡ self.old) }

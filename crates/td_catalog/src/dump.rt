@@ -16,9 +16,9 @@ ghost use Rattle.td_types.specs.Types.{pack, relation};
 ghost use Rattle.td_types.specs.Views.{pairs_view};
 ghost use Rattle.td_value.specs.Literal.{relation_literal};
 
-use crate::catalog::Catalog;
 use crate::entry::VirtualEntry;
 use crate::keys::ordered_key;
+use crate::tables::Tables;
 use std::alloc::AllocError;
 use td_body::body::Body;
 use td_tree::expression::Expr;
@@ -177,7 +177,7 @@ fn put_constraint(out: &mut String, name: &Name, condition: &Expr) -> Result<(),
     put_line_end(out)
 }
 
-impl<B: Body> Catalog<B> {
+impl<B: Body> Tables<B> {
     fn put_types(&self, out: &mut String) -> Result<(), AllocError>
         ensures { OnOk result (string_bytes out.new
             ≡ string_bytes out.old ++ flat_map type_line self.now.types) }
@@ -233,7 +233,7 @@ impl<B: Body> Catalog<B> {
 
     /// The script that makes the database anew, a statement on each line: the types, the base
     /// relvars, the virtual relvars and the constraints, each in order of definition.
-    pub fn dump_text(&self) -> Result<String, AllocError>
+    pub(crate) fn dump_text(&self) -> Result<String, AllocError>
         ensures { IfOk result (λ text. string_bytes text ≡ dump_text self.now) }
     {
         let mut out = String::new(*self.bases.allocator());

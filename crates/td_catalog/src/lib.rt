@@ -1,14 +1,17 @@
 //! The catalogue: what is defined in a database.
 #![tactic(auto)]
 
-pub mod by_place;
+mod bodies;
+mod by_place;
 pub mod catalog;
 pub mod copy;
-pub mod definitions;
-pub mod drops;
-pub mod dump;
+mod definitions;
+mod drops;
+mod dump;
 pub mod entry;
 pub mod keys;
 pub mod laws;
 mod mentioned;
-pub mod scope;
+mod scope;
+mod stages;
+mod tables;

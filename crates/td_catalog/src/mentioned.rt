@@ -15,7 +15,7 @@ ghost use Rattle.td_types.specs.Headings.{are_distinct, heading_from};
 ghost use Rattle.td_types.specs.Types.{Type', attribute_names};
 ghost use Rattle.td_types.specs.Views.{pairs_view};
 
-use crate::catalog::Catalog;
+use crate::tables::Tables;
 use std::alloc::{AllocError, Global};
 use td_body::body::Body;
 use td_check::mentions::mentions;
@@ -90,7 +90,7 @@ fn constraint_mentions(
     tree_mentions(&scope, Space::Type, name, constraint)
 }
 
-impl<B: Body> Catalog<B> {
+impl<B: Body> Tables<B> {
     /// Whether a declared type mentions the type of the name.
     fn types_mention(&self, name: &Name) -> Result<bool, AllocError>
         ensures { IfOk result (λ found. found

@@ -4,14 +4,14 @@ ghost use Rattle.td_catalog.specs.Database.{database_scope, with_constraints, wi
 ghost use Rattle.td_tree.specs.TreeViews.{tree_view};
 ghost use Rattle.td_types.specs.Types.{same_name};
 
-use crate::catalog::Catalog;
+use crate::tables::Tables;
 use std::alloc::AllocError;
 use td_body::body::Body;
 use td_check::scope::{Kind, Scope};
 use td_tree::expression::Expr;
 use td_tree::name::Name;
 
-impl<B: Body> Catalog<B> {
+impl<B: Body> Tables<B> {
     /// The types and the base relvars.
     fn known_bases(&self) -> Result<Scope<'_>, AllocError>
         ensures { IfOk result (λ s.
@@ -44,7 +44,7 @@ impl<B: Body> Catalog<B> {
     /// What is known to expressions where so many of the virtual relvars are known, in order of
     /// definition: the types, the relvars' names with their headings, and the constraints' names;
     /// no tuple is in hand.
-    pub fn scope_before(&self, count: usize) -> Result<Scope<'_>, AllocError>
+    pub(crate) fn scope_before(&self, count: usize) -> Result<Scope<'_>, AllocError>
         ensures { IfOk result (λ s. s ≡ database_scope
             (with_virtuals (take count self.now.virtuals) self.now)) }
     {
@@ -56,28 +56,28 @@ impl<B: Body> Catalog<B> {
     }
 
     /// What is known to expressions, with all of the virtual relvars.
-    pub fn scope(&self) -> Result<Scope<'_>, AllocError>
+    pub(crate) fn scope(&self) -> Result<Scope<'_>, AllocError>
         ensures { IfOk result (λ s. s ≡ database_scope self.now) }
     {
         self.scope_before(self.virtuals.len())
     }
 
     /// How many virtual relvars there are.
-    pub fn virtual_count(&self) -> usize
+    pub(crate) fn virtual_count(&self) -> usize
         ensures { result ≡ length self.now.virtuals }
     {
         self.virtuals.len()
     }
 
     /// The place in order of definition of the virtual relvar of that name.
-    pub fn virtual_place(&self, name: &Name) -> Option<usize>
+    pub(crate) fn virtual_place(&self, name: &Name) -> Option<usize>
         ensures { result ≡ position (λ v. same_name v.name name.now) self.now.virtuals }
     {
         self.virtuals.get_index_of(name)
     }
 
     /// The expression of the virtual relvar at a place in order of definition.
-    pub fn virtual_tree_at(&self, place: usize) -> Option<&Expr>
+    pub(crate) fn virtual_tree_at(&self, place: usize) -> Option<&Expr>
         ensures { option_map (λ e. tree_view e.now) result
             ≡ option_map (λ v. v.tree) (slice_get self.now.virtuals place) }
     {

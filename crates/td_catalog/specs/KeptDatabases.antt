@@ -1,0 +1,20 @@
+-- Catalogues that keep what they were: a database with each earlier one to which it can go back (this project's own).
+use Rattle.std.specs.Prelude.{List, [], ◌∷◌, ◌++◌}
+use Rattle.td_catalog.specs.Database.{Database}
+
+-- a catalogue as it is seen: its database, and what that was before each change to which it can go back, the latest last
+pub record CatalogView : Type 0 where
+  pub database : Database
+  pub kept : List Database
+
+-- the database with nothing kept
+abbrev pub settled : Database → CatalogView
+settled db = record { database = db; kept = [] }
+
+-- each database that is kept, and the present one last
+abbrev pub stages : CatalogView → List Database
+stages v = v.kept ++ (v.database ∷ [])
+
+-- another database, before which this one is kept
+abbrev pub advanced : Database → CatalogView → CatalogView
+advanced next v = record { database = next; kept = stages v }
