@@ -43,3 +43,8 @@ held_there (Err e) v w next made held = tt
 pub made_there : {E : Type 0} (done : Result ⊤ E) (v w : CatalogView) (next : Database) → OnOk done (w ≡ advanced next v) → OnOk done (w.database ≡ next)
 made_there (Ok u) v w next made = ap (λ (x : CatalogView). x.database) made
 made_there (Err e) v w next made = tt
+
+pub made_of : {E A : Type 0} (done : Result ⊤ E) (v w : CatalogView) (o : Option A) (x : A) (next : A → Database) → o ≡ Some x
+    → OnOk done (IfSome o (λ x. w ≡ advanced (next x) v)) → OnOk done (w.database ≡ next x)
+made_of (Ok u) v w o x next is made = ap (λ (y : CatalogView). y.database) (subst (λ p. IfSome p (λ x. w ≡ advanced (next x) v)) is made)
+made_of (Err e) v w o x next is made = tt

@@ -111,6 +111,7 @@ fn put<B: Body>(
         ≡ with_body name.now relation.now catalog.old.database) }
     ensures on { GoesOn catalog.old catalog.new }
 {
+    catalog.reveal();
     let Some(entry) = catalog.get_base(name) else {
         unreachable!()
     };

@@ -23,7 +23,11 @@ pub(crate) fn body_after<B: Body>(mut body: B, out: &Rel, add: &Rel) -> Result<B
 }
 
 /// What the one relation has and the other lacks, and the other way round.
-pub(crate) fn differences(alloc: Global, relation: &Rel, other: &Rel) -> Result<(Rel, Rel), AllocError>
+pub(crate) fn differences(
+    alloc: Global,
+    relation: &Rel,
+    other: &Rel,
+) -> Result<(Rel, Rel), AllocError>
     requires { relation.now.heading ≡ other.now.heading }
     ensures first { IfOk result (λ both. both.0 ≡ difference relation.now other.now) }
     ensures second { IfOk result (λ both. both.1 ≡ difference other.now relation.now) }

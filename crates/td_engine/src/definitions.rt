@@ -160,10 +160,7 @@ pub(crate) fn define_virtual<B: Body>(
 {
     let derived = parts_of(alloc, catalog, &definition);
     drop(definition.keys);
-    let (derived, (name, expression)) = beside(
-        derived,
-        (definition.name, definition.expression),
-    )?;
+    let (derived, (name, expression)) = beside(derived, (definition.name, definition.expression))?;
     catalog.add_virtual(name, derived.heading, expression, derived.keys)
 }
 

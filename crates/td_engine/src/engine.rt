@@ -208,7 +208,9 @@ impl<B: Body> Engine<B> {
             return Answer::refused(self.alloc, Cause::Transaction);
         }
         let answer = Answer::ok(self.alloc)?;
-        let _ = self.opens.pop();
+        let Some(_) = self.opens.pop() else {
+            unreachable!()
+        };
         self.settle();
         Ok(answer)
     }

@@ -1,4 +1,4 @@
-use Rattle.std.proofs.Common.{subst, sym}
+use Rattle.std.proofs.Common.{refl, subst, sym}
 use Rattle.td_catalog.specs.Database.{Database}
 use Rattle.td_engine.proofs.GiftsInTurn.{bases_refused}
 use Rattle.td_engine.specs.Assignments.{with_gifts}
@@ -6,6 +6,9 @@ use Rattle.td_engine.specs.Carried.{Changes}
 use Rattle.td_engine.specs.Checks.{BasesHold}
 use Rattle.td_engine.specs.Machine.{changed}
 use Rattle.td_engine.proofs.assignments.give_all.Goals as goal
+
+pub put_gifts-requires : goal.put_gifts-requires
+put_gifts-requires g c = λ κs within. (within, ((refl, c.reveal.ensures, c.requires.held), c.requires.gifts))
 
 pub settled-requires : goal.settled-requires
 settled-requires g c = subst BasesHold (sym c.in-Ok.ensures.next) c.in-Ok.ensures.check

@@ -17,18 +17,18 @@ returns-in_default-get-clause-check g c =
     let given = c.args.given.now.entries in
     let r = base_view g.B.Body.relation (c.in-Some.name.now, c.in-Some.field-0-1.now) in
     let at : slice_get g.db.bases c.args.place ≡ Some r =
-    sym (gifted_at given g.db.bases c.args.place) ∙ ap (λ (d : Database). slice_get d.bases c.args.place) (sym c.requires.so_far) ∙ sym c.in-Some.ensures in
+    sym (gifted_at given g.db.bases c.args.place) ∙ ap (λ (d : Database). slice_get d.bases c.args.place) (sym c.requires.1.1.1.0) ∙ sym c.in-Some.ensures in
     let none = ap (λ n. given_to n given) (sym c.in_ok-name.ensures) ∙ sym c.in_default-get.ensures.value in
-    rw at (skipped_passes g.db given c.requires.db.0 c.args.place r at c.requires.db.1 none)
+    rw at (skipped_passes g.db given c.requires.1.0.0 c.args.place r at c.requires.1.0.1 none)
 
 pub returns-in_default-get-clause-next : goal.returns-in_default-get-clause-next
 returns-in_default-get-clause-next g c =
     let given = c.args.given.now.entries in
     let r = base_view g.B.Body.relation (c.in-Some.name.now, c.in-Some.field-0-1.now) in
     let at : slice_get g.db.bases c.args.place ≡ Some r =
-    sym (gifted_at given g.db.bases c.args.place) ∙ ap (λ (d : Database). slice_get d.bases c.args.place) (sym c.requires.so_far) ∙ sym c.in-Some.ensures in
+    sym (gifted_at given g.db.bases c.args.place) ∙ ap (λ (d : Database). slice_get d.bases c.args.place) (sym c.requires.1.1.1.0) ∙ sym c.in-Some.ensures in
     let none = ap (λ n. given_to n given) (sym c.in_ok-name.ensures) ∙ sym c.in_default-get.ensures.value in
-    c.requires.so_far ∙ skipped g.db given c.requires.db.0 c.args.place r at none
+    c.requires.1.1.1.0 ∙ skipped g.db given c.requires.1.0.0 c.args.place r at none
 
 pub hold-requires : goal.hold-requires
 hold-requires g c =
@@ -36,13 +36,13 @@ hold-requires g c =
     let r = base_view g.B.Body.relation (c.in-Some.name.now, c.in-Some.field-0-1.now) in
     let q = c.in-Some-get.relation.now in
     let at : slice_get g.db.bases c.args.place ≡ Some r =
-    sym (gifted_at given g.db.bases c.args.place) ∙ ap (λ (d : Database). slice_get d.bases c.args.place) (sym c.requires.so_far) ∙ sym c.in-Some.ensures in
+    sym (gifted_at given g.db.bases c.args.place) ∙ ap (λ (d : Database). slice_get d.bases c.args.place) (sym c.requires.1.1.1.0) ∙ sym c.in-Some.ensures in
     let some = ap (λ n. given_to n given) (sym c.in_ok-name.ensures) ∙ sym c.in-Some-get.ensures.value in
-    let gift = gift_to g.db given c.in-Some.name.now q c.requires.gifts some in
-    let here = found g.db given c.requires.db.0 c.args.place r at in
-    let there = still_found g.db given c.requires.db.0 c.args.place r at in
+    let gift = gift_to g.db given c.in-Some.name.now q c.requires.1.1.0 some in
+    let here = found g.db given c.requires.1.0.0 c.args.place r at in
+    let there = still_found g.db given c.requires.1.0.0 c.args.place r at in
     subst (λ n. IsGift c.args.catalog.now.database (n, q)) (sym c.in_ok-name.ensures)
-    (subst (λ d. IsGift d (c.in-Some.name.now, q)) (sym c.requires.so_far)
+    (subst (λ d. IsGift d (c.in-Some.name.now, q)) (sym c.requires.1.1.1.0)
     (still_gift g.db (with_bases (gifted given c.args.place g.db.bases) g.db) c.in-Some.name.now q r refl here there gift))
 
 pub returns-clause-check : goal.returns-clause-check
@@ -51,11 +51,11 @@ returns-clause-check g c =
     let r = base_view g.B.Body.relation (c.in-Some.name.now, c.in-Some.field-0-1.now) in
     let q = c.in-Some-get.relation.now in
     let at : slice_get g.db.bases c.args.place ≡ Some r =
-    sym (gifted_at given g.db.bases c.args.place) ∙ ap (λ (d : Database). slice_get d.bases c.args.place) (sym c.requires.so_far) ∙ sym c.in-Some.ensures in
+    sym (gifted_at given g.db.bases c.args.place) ∙ ap (λ (d : Database). slice_get d.bases c.args.place) (sym c.requires.1.1.1.0) ∙ sym c.in-Some.ensures in
     let some = ap (λ n. given_to n given) (sym c.in_ok-name.ensures) ∙ sym c.in-Some-get.ensures.value in
-    let there = ap (λ n. base_named n c.args.catalog.now.database) c.in_ok-name.ensures ∙ ap (base_named c.in-Some.name.now) c.requires.so_far ∙ still_found g.db given c.requires.db.0 c.args.place r at in
+    let there = ap (λ n. base_named n c.args.catalog.now.database) c.in_ok-name.ensures ∙ ap (base_named c.in-Some.name.now) c.requires.1.1.1.0 ∙ still_found g.db given c.requires.1.0.0 c.args.place r at in
     let told = subst (λ o. IfSome o (λ b. Passes c.hold.result (base_check (base_relvar b.name b.keys q)))) there c.hold.ensures.check in
-    rw (at, put_check g.db given c.requires.db.0 c.args.place r at q some) told
+    rw (at, put_check g.db given c.requires.1.0.0 c.args.place r at q some) told
 
 pub returns-clause-next : goal.returns-clause-next
 returns-clause-next g c =
@@ -63,8 +63,8 @@ returns-clause-next g c =
     let r = base_view g.B.Body.relation (c.in-Some.name.now, c.in-Some.field-0-1.now) in
     let q = c.in-Some-get.relation.now in
     let at : slice_get g.db.bases c.args.place ≡ Some r =
-    sym (gifted_at given g.db.bases c.args.place) ∙ ap (λ (d : Database). slice_get d.bases c.args.place) (sym c.requires.so_far) ∙ sym c.in-Some.ensures in
+    sym (gifted_at given g.db.bases c.args.place) ∙ ap (λ (d : Database). slice_get d.bases c.args.place) (sym c.requires.1.1.1.0) ∙ sym c.in-Some.ensures in
     let some = ap (λ n. given_to n given) (sym c.in_ok-name.ensures) ∙ sym c.in-Some-get.ensures.value in
     subst (λ (new : Database). OnOk c.hold.result (c.hold.new.catalog.database ≡ new))
-    (ap (λ n. with_body n q c.args.catalog.now.database) c.in_ok-name.ensures ∙ ap (with_body c.in-Some.name.now q) c.requires.so_far ∙ put g.db given c.requires.db.0 c.args.place r at q some)
+    (ap (λ n. with_body n q c.args.catalog.now.database) c.in_ok-name.ensures ∙ ap (with_body c.in-Some.name.now q) c.requires.1.1.1.0 ∙ put g.db given c.requires.1.0.0 c.args.place r at q some)
     c.hold.ensures.put
