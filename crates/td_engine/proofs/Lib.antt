@@ -1,6 +1,7 @@
 mod Admitted
 mod Answered
 mod BaseAdmitted
+mod Done
 pub mod DumpFacts
 pub mod DumpInner
 mod DumpLaws
@@ -17,10 +18,13 @@ mod GiftsInTurn
 mod GivenRelations
 mod InOrder
 pub mod Kept
+mod KeysInTurn
 pub mod KeptLegal
+mod Opens
 mod OrderedGifts
 mod OrderedKeys
 mod PassedChecks
+mod PutGifts
 mod RankChanges
 mod Rebuilds
 mod RebuiltChecks
@@ -38,6 +42,7 @@ mod LegalChanges
 pub mod LegalRuns
 mod Sources
 mod SpelledParts
+mod StageLaws
 mod TestsAfterDrops
 pub mod ToldLaws
 mod Transactions

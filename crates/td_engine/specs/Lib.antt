@@ -7,6 +7,7 @@ pub mod Machine
 pub mod Rebuilding
 pub mod Refusals
 pub mod Scripts
+pub mod Stages
 pub mod Legality
 pub mod LegalityLaws
 pub mod Standing

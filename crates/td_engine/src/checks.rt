@@ -1,7 +1,7 @@
 //! The keys of virtual relvars and the constraints of a catalogue, after a definition or an
 //! assignment.
-ghost use Rattle.std.specs.Prelude.{◌≡◌, [], IfOk, None, map};
-ghost use Rattle.td_catalog.specs.CatalogViews.{virtual_view};
+ghost use Rattle.std.specs.Prelude.{◌≡◌, [], IfOk, None, OnOk, map};
+ghost use Rattle.td_catalog.specs.CatalogViews.{IsEntry, entry_keys, virtual_view};
 ghost use Rattle.td_catalog.specs.Database.{named_constraint};
 ghost use Rattle.td_engine.specs.Carried.{Changes, Passes};
 ghost use Rattle.td_engine.specs.Checks.{BasesHold, constraint_check, derived_check};
@@ -22,7 +22,7 @@ use std::alloc::{AllocError, Global};
 use td_body::body::Body;
 use td_body::keys::key_holds;
 use td_catalog::catalog::Catalog;
-use td_catalog::entry::VirtualEntry;
+use td_catalog::entry::{BaseEntry, VirtualEntry};
 use td_eval::env::Env;
 use td_eval::value::eval;
 use td_tree::cause::Cause;
@@ -39,7 +39,7 @@ pub(crate) fn value<'a, B: Body>(
     expr: &Expr,
 ) -> Result<Value, Fault>
     ensures { Answers (λ v. v) result
-        (value_of (world_of catalog.now) [] (tree_view expr.now)) }
+        (value_of (world_of catalog.now.database) [] (tree_view expr.now)) }
 {
     let other: Option<(&'a Name, &'a Rel)> = None;
     let env = Env {
@@ -61,6 +61,20 @@ pub(crate) fn keys_hold(
 {
     for key in keys {
         if !key_holds(alloc, key, relation)? {
+            return Ok(false);
+        }
+    }
+    Ok(true)
+}
+
+/// Whether each of the keys of a base relvar holds.
+pub(crate) fn entry_keys_hold<B: Body>(entry: &BaseEntry<B>) -> Result<bool, AllocError>
+    requires { IsEntry B.relation B.keys entry.now }
+    ensures { IfOk result (λ b.
+        b ≡ keys_hold (entry_keys entry.now) (B.relation entry.now.body).body) }
+{
+    for place in 0..entry.keys.len() {
+        if !entry.body.key_holds(place)? {
             return Ok(false);
         }
     }
@@ -93,7 +107,8 @@ fn keys_hold_of(
 
 /// The value of the relvar of a name.
 fn relvar_value<B: Body>(alloc: Global, catalog: &Catalog<B>, name: &Name) -> Result<Value, Fault>
-    ensures { Answers (λ v. v) result (name_value (world_of catalog.now) [] name.now) }
+    ensures { Answers (λ v. v) result
+        (name_value (world_of catalog.now.database) [] name.now) }
 {
     let relvar = Expr::Name(name.try_clone()?);
     value(alloc, catalog, &relvar)
@@ -107,7 +122,7 @@ fn test_virtual<B: Body>(
     entry: &VirtualEntry,
 ) -> Result<bool, Fault>
     ensures { Answers (λ b. b) result
-        (virtual_test (world_of catalog.now) (virtual_view (name.now, entry.now))) }
+        (virtual_test (world_of catalog.now.database) (virtual_view (name.now, entry.now))) }
 {
     if entry.keys.is_empty() {
         return Ok(true);
@@ -142,7 +157,8 @@ fn constraint_passed(name: &Name, test: Result<Value, Fault>) -> Result<(), Fail
 /// The virtual relvars have keys that hold.
 fn check_virtuals<B: Body>(alloc: Global, catalog: &Catalog<B>) -> Result<(), Failure>
     ensures { Passes result
-        (first_refusal (virtual_check (world_of catalog.now)) catalog.now.virtuals) }
+        (first_refusal (virtual_check (world_of catalog.now.database))
+        catalog.now.database.virtuals) }
 {
     for place in 0..catalog.virtual_count() {
         let Some((name, entry)) = catalog.nth_virtual(place) else {
@@ -159,7 +175,8 @@ fn check_virtuals<B: Body>(alloc: Global, catalog: &Catalog<B>) -> Result<(), Fa
 /// The constraints are TRUE.
 fn check_constraints<B: Body>(alloc: Global, catalog: &Catalog<B>) -> Result<(), Failure>
     ensures { Passes result
-        (first_refusal (constraint_check (world_of catalog.now)) catalog.now.constraints) }
+        (first_refusal (constraint_check (world_of catalog.now.database))
+        catalog.now.database.constraints) }
 {
     for place in 0..catalog.constraint_count() {
         let Some((name, tree)) = catalog.nth_constraint(place) else {
@@ -175,7 +192,7 @@ fn check_constraints<B: Body>(alloc: Global, catalog: &Catalog<B>) -> Result<(),
 
 /// The virtual relvars have keys that hold, and then the constraints are TRUE.
 fn check_derived<B: Body>(alloc: Global, catalog: &Catalog<B>) -> Result<(), Failure>
-    ensures { Passes result (derived_check catalog.now) }
+    ensures { Passes result (derived_check catalog.now.database) }
 {
     match check_virtuals(alloc, catalog) {
         Ok(()) => check_constraints(alloc, catalog),
@@ -183,16 +200,12 @@ fn check_derived<B: Body>(alloc: Global, catalog: &Catalog<B>) -> Result<(), Fai
     }
 }
 
-/// The catalogue after a change, where the keys of its virtual relvars hold and its constraints
-/// are TRUE. Those of its base relvars were found to hold before.
-pub(crate) fn settled<B: Body>(alloc: Global, next: Catalog<B>) -> Result<Catalog<B>, Failure>
-    requires { BasesHold next }
-    ensures change { Changes result (changed next) }
-    ensures same { IfOk result (λ db. db ≡ next) }
-    ensures holds { IfOk result (λ db. derived_check db ≡ None) }
+/// After a change the keys of the virtual relvars hold, and the constraints are TRUE. Those of the
+/// base relvars were found to hold before.
+pub(crate) fn settled<B: Body>(alloc: Global, catalog: &Catalog<B>) -> Result<(), Failure>
+    requires { BasesHold catalog.now.database }
+    ensures change { Changes catalog.now.database result (changed catalog.now.database) }
+    ensures holds { OnOk result (derived_check catalog.now.database ≡ None) }
 {
-    match check_derived(alloc, &next) {
-        Ok(()) => Ok(next),
-        Err(failure) => Err(failure),
-    }
+    check_derived(alloc, catalog)
 }

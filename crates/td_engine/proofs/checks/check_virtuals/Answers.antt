@@ -7,14 +7,14 @@ use Rattle.td_engine.proofs.checks.check_virtuals.Goals as goal
 
 pub returns-in-Err : goal.returns-in-Err
 returns-in-Err g c =
-    let w = world_of c.args.catalog.now in
+    let w = world_of c.args.catalog.now.database in
     let v = virtual_view (c.in-Some.name.now, c.in-Some.entry.now) in
-    refusal_at (virtual_check w) c.args.catalog.now.virtuals c.loop-place.place v c.in-Err.failure c.loop-place.invariant (sym c.in-Some.ensures)
+    refusal_at (virtual_check w) c.args.catalog.now.database.virtuals c.loop-place.place v c.in-Err.failure c.loop-place.invariant (sym c.in-Some.ensures)
     (c.in-Err.ensures (virtual_test w v) c.test_virtual.ensures)
 
 pub loop-place-preserved : goal.loop-place-preserved
 loop-place-preserved g c =
-    let w = world_of c.args.catalog.now in
+    let w = world_of c.args.catalog.now.database in
     let v = virtual_view (c.in-Some.name.now, c.in-Some.entry.now) in
-    passed_next (virtual_check w) c.args.catalog.now.virtuals c.loop-place.place v c.loop-place.invariant (sym c.in-Some.ensures)
+    passed_next (virtual_check w) c.args.catalog.now.database.virtuals c.loop-place.place v c.loop-place.invariant (sym c.in-Some.ensures)
     (c.in-Ok.ensures (virtual_test w v) c.test_virtual.ensures)
