@@ -1,13 +1,15 @@
 -- What a call that changes the catalogue in place has done, where it answers so.
-use Rattle.std.proofs.Common.{◌≡◌, ◌∙◌, None, Some, Option, Result, Ok, Err, ap, subst, sym}
-use Rattle.std.specs.Prelude.{IfSome, OnErr, OnOk, ⊤}
+use Rattle.std.proofs.Common.{◌≡◌, ◌∙◌, Bool, None, Some, Option, Result, Ok, Err, ap, not, subst, sym}
+use Rattle.std.specs.Prelude.{IfSome, IsTrue, OnErr, OnOk, ⊤}
 use Rattle.td_catalog.specs.Database.{Database}
 use Rattle.td_catalog.specs.KeptDatabases.{CatalogView, advanced}
-use Rattle.td_engine.proofs.Admitted.{only_memory, refused_on}
+use Rattle.td_check.specs.StatementTypes.{holds_or}
+use Rattle.td_engine.proofs.Admitted.{is_held, only_memory, refused_on}
 use Rattle.td_engine.proofs.StageLaws.{goes_on, stays}
 use Rattle.td_engine.specs.Checks.{BasesHold}
 use Rattle.td_engine.specs.Stages.{GoesOn}
 use Rattle.td_tree.specs.Outcomes.{Answers, Outcome, Valued, with_value}
+use Rattle.td_tree.specs.declared.cause.Cause.TheVariants as causes
 use Rattle.td_tree.specs.declared.fault.Fault.{Fault}
 
 -- another database stands, before which the old one is kept, or nothing is changed
@@ -48,3 +50,8 @@ pub made_of : {E A : Type 0} (done : Result ⊤ E) (v w : CatalogView) (o : Opti
     → OnOk done (IfSome o (λ x. w ≡ advanced (next x) v)) → OnOk done (w.database ≡ next x)
 made_of (Ok u) v w o x next is made = ap (λ (y : CatalogView). y.database) (subst (λ p. IfSome p (λ x. w ≡ advanced (next x) v)) is made)
 made_of (Err e) v w o x next is made = tt
+
+-- what was added had a new name
+pub new_there : (done : Result ⊤ Fault) (known here : Bool) → known ≡ here → Answers (λ u. u) done (holds_or causes.NameTaken (not known)) → OnOk done (IsTrue (not here))
+new_there (Ok u) known here same told = ap not (sym same) ∙ is_held causes.NameTaken (not known) told
+new_there (Err f) known here same told = tt

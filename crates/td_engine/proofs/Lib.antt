@@ -21,6 +21,7 @@ pub mod Kept
 mod KeysInTurn
 pub mod KeptLegal
 mod Opens
+mod NewChecks
 mod OrderedGifts
 mod OrderedKeys
 mod PassedChecks
@@ -38,6 +39,7 @@ pub mod Runs
 mod SameTests
 mod SettingNames
 mod Settled
+mod LaterChecks
 mod LegalChanges
 pub mod LegalRuns
 mod Sources
@@ -52,5 +54,6 @@ mod TypedGifts
 mod TypedRelations
 mod TypedSettings
 mod VirtualTests
+mod UnreachedChecks
 pub mod WrittenSpellings
 mod WrittenStatements

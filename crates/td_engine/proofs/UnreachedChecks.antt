@@ -1,6 +1,6 @@
 -- Where base relvars of a legal database hold other relations, the virtual relvars and constraints that this does not reach pass
 -- their checks.
-use Rattle.std.proofs.Common.{◌≡◌, ◌∙◌, ◌∷◌, ℕ, Bool, true, false, List, [], Option, Some, None, ap, map, refl, sym, true≢false}
+use Rattle.std.proofs.Common.{◌≡◌, ◌∙◌, ◌∷◌, ℕ, Bool, true, false, List, [], Option, Some, None, ap, map, refl, subst, sym, true≢false}
 use Rattle.std.specs.Cmp.Lexicographic.{same_text}
 use Rattle.std.specs.Prelude.{◌||◌, cond, if◌then◌else◌}
 use Rattle.std.specs.List.{AllByRecursion, find}
@@ -92,8 +92,15 @@ module _ (changed : List (List ℕ)) (db next : Database) (legal : IsLegal db) (
   passes_elsewhere =
       record {
         virtuals =
-            (λ i. AllByRecursion (PassesUnlessReached reached (world_of next)) (differs.virtuals i))
+            subst (AllByRecursion (PassesUnlessReached reached (world_of next))) (sym differs.virtuals)
             (all_given (IsKnown db) (HasKeysThatHold (world_of db)) (PassesUnlessReached reached (world_of next)) virtual_passes db.virtuals (all_known db) legal.virtuals);
         constraints =
+            subst (AllByRecursion (PassesUnlessNamed reached (world_of next))) (sym same)
             (all_given (IsAsked db legal) (IsTrueOf (world_of db)) (PassesUnlessNamed reached (world_of next)) constraint_passes db.constraints (all_asked db legal) legal.constraints);
       }
+
+-- ---- what assignments gave
+
+pub gifts_pass_elsewhere : (db : Database) (given : Given) → IsLegal db → IsTyped (with_gifts given db)
+    → PassesElsewhere (reached_from (keys_of given) db.virtuals) (with_gifts given db)
+gifts_pass_elsewhere db given legal is_typed = passes_elsewhere (keys_of given) db (with_gifts given db) legal is_typed (gifts_differ db given) refl

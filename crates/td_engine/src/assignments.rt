@@ -1,6 +1,7 @@
 //! Assignments, all at once: what their targets are given, and the catalogue with it.
 ghost use Rattle.std.specs.Prelude.{◌≡◌, ◌+◌, ◌<◌, [], IfOk, IfSome, OnOk};
 ghost use Rattle.std.specs.Prelude.{length, map, slice_get};
+ghost use Rattle.std.specs.Map.{keys_of};
 ghost use Rattle.td_catalog.specs.Database.{Database, base_named, base_relvar, with_bases, with_body};
 ghost use Rattle.td_catalog.specs.TypedDatabases.{IsTyped};
 ghost use Rattle.td_engine.specs.Assignments.{assigned_database, current, given_by};
@@ -15,7 +16,7 @@ ghost use Rattle.td_tree.specs.Outcomes.{Answers};
 ghost use Rattle.td_tree.specs.TreeViews.{assignment_view, statement_view};
 
 use crate::bodies::differences;
-use crate::checks::{entry_keys_hold, settled};
+use crate::checks::{entry_keys_hold, reached_from, settled};
 use crate::definitions::failed;
 use crate::refusal::{Failure, Refusal};
 use crate::updates::{assignment_value, target_of};
@@ -205,13 +206,45 @@ fn put_gifts<B: Body>(
     Ok(())
 }
 
+/// The names of an index, in its order.
+fn names_of_all<V>(alloc: Global, given: &IndexMap<Name, V>) -> Result<Vec<Name>, AllocError>
+    ensures { IfOk result (λ names. names.items ≡ keys_of given.now.entries) }
+{
+    let mut names = Vec::with_capacity(alloc, given.len())?;
+    for place in 0..given.len() {
+        let Some((name, _)) = given.get_index(place) else {
+            return Ok(names);
+        };
+        names.push(name.try_clone()?)?;
+    }
+    Ok(names)
+}
+
+/// After the base relvars of a legal database were given this, what it reaches passes its checks;
+/// nothing else can have changed.
+fn settle_gifts<B: Body>(
+    alloc: Global,
+    catalog: &Catalog<B>,
+    given: &IndexMap<Name, Rel>,
+) -> Result<(), Failure>
+    ghost db: { Database }
+    requires legal { IsLegal db }
+    requires given { catalog.now.database ≡ with_gifts given.now.entries db }
+    requires held { BasesHold catalog.now.database }
+    ensures { Changes catalog.now.database result (changed catalog.now.database) }
+{
+    catalog.reveal();
+    let reached = reached_from(catalog, names_of_all(alloc, given)?)?;
+    settled(alloc, catalog, &reached)
+}
+
 /// Lets the base relvars hold what they were given, where what is checked is passed.
 fn give_all<B: Body>(
     alloc: Global,
     catalog: &mut Catalog<B>,
     given: &IndexMap<Name, Rel>,
 ) -> Result<(), Failure>
-    requires held { BasesHold catalog.old.database }
+    requires legal { IsLegal catalog.old.database }
     requires gifts { AreGifts catalog.old.database given.now.entries }
     ensures change { Changes catalog.new.database result
         (changed (with_gifts given.now.entries catalog.old.database)) }
@@ -219,7 +252,7 @@ fn give_all<B: Body>(
 {
     catalog.reveal();
     match put_gifts(alloc, catalog, given) {
-        Ok(()) => settled(alloc, catalog),
+        Ok(()) => settle_gifts(alloc, catalog, given),
         Err(failure) => Err(failure),
     }
 }

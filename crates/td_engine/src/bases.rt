@@ -1,11 +1,10 @@
 //! Definitions of base relvars.
-ghost use Rattle.std.specs.Prelude.{◌≡◌, IfOk, OnOk, [], map, option_map};
-ghost use Rattle.td_catalog.specs.Database.{base_relvar, with_base};
+ghost use Rattle.std.specs.Prelude.{◌≡◌, IfOk, IsTrue, OnOk, [], map, not, option_map};
+ghost use Rattle.td_catalog.specs.Database.{base_relvar, knows_relvar, with_base};
 ghost use Rattle.td_catalog.specs.Dumps.{ordered_names};
 ghost use Rattle.td_catalog.specs.TypedDatabases.{AreTyped};
 ghost use Rattle.td_engine.specs.Assignments.{of_heading, relation_for};
 ghost use Rattle.td_engine.specs.Carried.{Changes, IsAdmitted};
-ghost use Rattle.td_engine.specs.Checks.{BasesHold};
 ghost use Rattle.td_engine.specs.Machine.{base_defined, by_outcome, changed, init_relation};
 ghost use Rattle.td_engine.specs.Legality.{AreBaseKeys, IsLegal};
 ghost use Rattle.td_engine.specs.Stages.{GoesOn};
@@ -21,7 +20,7 @@ ghost use Rattle.td_value.specs.Views.{relation_view};
 
 use crate::beside::beside;
 use crate::bodies::body_after;
-use crate::checks::{keys_hold, settled, value};
+use crate::checks::{keys_hold, value};
 use crate::definitions::failed;
 use crate::refusal::{Failure, Refusal};
 use crate::updates::relation_of;
@@ -132,6 +131,7 @@ fn add_base<B: Body>(
     requires typed { AreTyped catalog.old.database.types relation }
     ensures added { OnOk result (catalog.new.database ≡ with_base
         (base_relvar name (map (λ key. key.items) keys.items) relation) catalog.old.database) }
+    ensures new { OnOk result (IsTrue (not (knows_relvar name catalog.old.database))) }
     ensures on { GoesOn catalog.old catalog.new }
 {
     let parts: Parts<B> = parts_of(alloc, name, keys, relation)?;
@@ -139,8 +139,8 @@ fn add_base<B: Body>(
     catalog.add_base(parts.name, parts.heading, parts.keys, parts.body)
 }
 
-/// Adds a base relvar that holds the relation, where its keys hold and what else is checked is
-/// passed.
+/// Adds a base relvar that holds the relation, where its keys hold. No virtual relvar and no
+/// constraint can have changed.
 fn add_checked<B: Body>(
     alloc: Global,
     catalog: &mut Catalog<B>,
@@ -148,7 +148,7 @@ fn add_checked<B: Body>(
     keys: Vec<Vec<Name>>,
     relation: Rel,
 ) -> Result<(), Failure>
-    requires held { BasesHold catalog.old.database }
+    requires legal { IsLegal catalog.old.database }
     requires heading { AreKnown catalog.old.database.types (pack relation.heading) }
     requires keys { AreBaseKeys relation.heading (map (λ key. key.items) keys.items) }
     requires typed { AreTyped catalog.old.database.types relation }
@@ -162,7 +162,7 @@ fn add_checked<B: Body>(
         Err(_) => return Err(Failure::Memory),
     }
     match add_base(alloc, catalog, name, keys, relation) {
-        Ok(()) => settled(alloc, catalog),
+        Ok(()) => Ok(()),
         Err(_) => Err(Failure::Memory),
     }
 }
@@ -175,7 +175,7 @@ fn add_ordered<B: Body>(
     keys: Vec<Vec<Name>>,
     relation: Rel,
 ) -> Result<(), Failure>
-    requires held { BasesHold catalog.old.database }
+    requires legal { IsLegal catalog.old.database }
     requires heading { AreKnown catalog.old.database.types (pack relation.heading) }
     requires keys { AreBaseKeys relation.heading (map (λ key. key.items) keys.items) }
     requires typed { AreTyped catalog.old.database.types relation }

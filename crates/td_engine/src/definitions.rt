@@ -18,7 +18,7 @@ ghost use Rattle.td_types.specs.Types.{IsHeading, Type', pack};
 ghost use Rattle.td_types.specs.Views.{type_view};
 
 use crate::beside::beside;
-use crate::checks::settled;
+use crate::checks::{check_last_constraint, check_last_virtual};
 use crate::refusal::{Failure, Refusal};
 use std::alloc::Global;
 use td_body::body::Body;
@@ -44,22 +44,6 @@ pub(crate) fn failed(fault: Fault) -> Failure
     }
 }
 
-/// A definition, where the checks that follow are passed.
-pub(crate) fn checked<B: Body>(
-    alloc: Global,
-    catalog: &Catalog<B>,
-    done: Result<(), Fault>,
-) -> Result<(), Failure>
-    requires { OnOk done (BasesHold catalog.now.database) }
-    ensures { (o : Outcome Database) → Answers (λ u. catalog.now.database) done o
-        → Changes catalog.now.database result (by_outcome o changed) }
-{
-    match done {
-        Ok(()) => settled(alloc, catalog),
-        Err(fault) => Err(failed(fault)),
-    }
-}
-
 /// A drop: no check follows.
 pub(crate) fn unchecked(done: Result<(), Fault>) -> Result<(), Failure>
     ensures { (db : Database) (o : Outcome Database) → Answers (λ u. db) done o
@@ -72,10 +56,7 @@ pub(crate) fn unchecked(done: Result<(), Fault>) -> Result<(), Failure>
 }
 
 /// Adds a type of the definition.
-pub(crate) fn define_type<B: Body>(
-    catalog: &mut Catalog<B>,
-    definition: TypeDefinition,
-) -> Result<(), Fault>
+fn add_type<B: Body>(catalog: &mut Catalog<B>, definition: TypeDefinition) -> Result<(), Fault>
     requires legal { IsLegal catalog.old.database }
     requires admitted { IsAdmitted catalog.old.database
         (statement_view (Statement.DefineType definition)) }
@@ -93,6 +74,26 @@ pub(crate) fn define_type<B: Body>(
         (definition.name, definition.constraint),
     )?;
     catalog.add_type(name, components, constraint)
+}
+
+/// Adds a type of the definition. No virtual relvar and no constraint can have changed.
+pub(crate) fn define_type<B: Body>(
+    catalog: &mut Catalog<B>,
+    definition: TypeDefinition,
+) -> Result<(), Failure>
+    requires legal { IsLegal catalog.old.database }
+    requires admitted { IsAdmitted catalog.old.database
+        (statement_view (Statement.DefineType definition)) }
+    ensures change { Changes catalog.new.database result (by_outcome
+        (type_defined catalog.old.database definition.name
+        (heading_tree_view definition.components.items)
+        (option_map tree_view definition.constraint)) changed) }
+    ensures on { GoesOn catalog.old catalog.new }
+{
+    match add_type(catalog, definition) {
+        Ok(()) => Ok(()),
+        Err(fault) => Err(failed(fault)),
+    }
 }
 
 /// The heading of a relation's type that was answered: another type is refused.
@@ -144,7 +145,7 @@ fn parts_of<B: Body>(
 }
 
 /// Adds a virtual relvar of the definition.
-pub(crate) fn define_virtual<B: Body>(
+fn add_virtual<B: Body>(
     alloc: Global,
     catalog: &mut Catalog<B>,
     definition: VirtualDefinition,
@@ -164,8 +165,29 @@ pub(crate) fn define_virtual<B: Body>(
     catalog.add_virtual(name, derived.heading, expression, derived.keys)
 }
 
+/// Adds a virtual relvar of the definition, where its keys hold. No other virtual relvar and no
+/// constraint can have changed.
+pub(crate) fn define_virtual<B: Body>(
+    alloc: Global,
+    catalog: &mut Catalog<B>,
+    definition: VirtualDefinition,
+) -> Result<(), Failure>
+    requires legal { IsLegal catalog.old.database }
+    requires admitted { IsAdmitted catalog.old.database
+        (statement_view (Statement.DefineVirtual definition)) }
+    ensures change { Changes catalog.new.database result (by_outcome
+        (virtual_defined catalog.old.database definition.name (tree_view definition.expression)
+        (map (λ key. key.items) definition.keys.items)) changed) }
+    ensures on { GoesOn catalog.old catalog.new }
+{
+    match add_virtual(alloc, catalog, definition) {
+        Ok(()) => check_last_virtual(alloc, catalog),
+        Err(fault) => Err(failed(fault)),
+    }
+}
+
 /// Adds a constraint.
-pub(crate) fn define_constraint<B: Body>(
+fn add_constraint<B: Body>(
     catalog: &mut Catalog<B>,
     name: Name,
     condition: Expr,
@@ -179,6 +201,26 @@ pub(crate) fn define_constraint<B: Body>(
     ensures on { GoesOn catalog.old catalog.new }
 {
     catalog.add_constraint(name, condition)
+}
+
+/// Adds a constraint, where it is TRUE. No virtual relvar and no other constraint can have changed.
+pub(crate) fn define_constraint<B: Body>(
+    alloc: Global,
+    catalog: &mut Catalog<B>,
+    name: Name,
+    condition: Expr,
+) -> Result<(), Failure>
+    requires legal { IsLegal catalog.old.database }
+    requires admitted { IsAdmitted catalog.old.database
+        (statement_view (Statement.DefineConstraint name condition)) }
+    ensures change { Changes catalog.new.database result (changed
+        (with_constraint (named_constraint name (tree_view condition)) catalog.old.database)) }
+    ensures on { GoesOn catalog.old catalog.new }
+{
+    match add_constraint(catalog, name, condition) {
+        Ok(()) => check_last_constraint(alloc, catalog),
+        Err(fault) => Err(failed(fault)),
+    }
 }
 
 /// Takes out a type that no entry mentions.

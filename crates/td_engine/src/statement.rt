@@ -11,8 +11,8 @@ ghost use Rattle.td_tree.specs.TreeViews.{statement_view};
 use crate::assignments::assign;
 use crate::bases::define_base;
 use crate::definitions::{
-    checked, define_constraint, define_type, define_virtual, drop_constraint, drop_relvar,
-    drop_type, unchecked,
+    define_constraint, define_type, define_virtual, drop_constraint, drop_relvar, drop_type,
+    unchecked,
 };
 use crate::refusal::Failure;
 use std::alloc::Global;
@@ -46,20 +46,13 @@ pub(crate) fn change<B: Body>(
     ensures on { GoesOn catalog.old catalog.new }
 {
     match statement {
-        Statement::DefineType(definition) => {
-            let done = define_type(catalog, definition);
-            checked(alloc, catalog, done)
-        }
+        Statement::DefineType(definition) => { define_type(catalog, definition) }
         Statement::DropType(name) => unchecked(drop_type(catalog, &name)),
         Statement::DefineBase(definition) => define_base(alloc, catalog, definition),
-        Statement::DefineVirtual(definition) => {
-            let done = define_virtual(alloc, catalog, definition);
-            checked(alloc, catalog, done)
-        }
+        Statement::DefineVirtual(definition) => { define_virtual(alloc, catalog, definition) }
         Statement::DropVar(name) => unchecked(drop_relvar(catalog, &name)),
         Statement::DefineConstraint(name, condition) => {
-            let done = define_constraint(catalog, name, condition);
-            checked(alloc, catalog, done)
+            define_constraint(alloc, catalog, name, condition)
         }
         Statement::DropConstraint(name) => unchecked(drop_constraint(catalog, &name)),
         Statement::Assign(assignments) => assign(alloc, catalog, assignments),

@@ -1,5 +1,4 @@
 use Rattle.std.proofs.Common.{[], ◌≡◌, map, subst}
-use Rattle.td_engine.proofs.Settled.{bases_hold}
 use Rattle.td_engine.proofs.TypedGifts.{given_typed}
 use Rattle.td_engine.proofs.WrittenStatements.{definitions_written, statement_written}
 use Rattle.td_engine.specs.Assignments.{given_by}
@@ -7,9 +6,6 @@ use Rattle.td_tree.specs.Outcomes.{Valued}
 use Rattle.td_tree.specs.TreeViews.{assignment_view}
 use Rattle.td_tree.specs.Trees.{assign_all}
 use Rattle.td_engine.proofs.assignments.assign.Goals as goal
-
-pub give_all-requires-clause-held : goal.give_all-requires-clause-held
-give_all-requires-clause-held g c = bases_hold c.args.catalog.now.database c.requires.legal
 
 pub give_all-requires-clause-gifts : goal.give_all-requires-clause-gifts
 give_all-requires-clause-gifts g c =

@@ -1,9 +1,9 @@
 use Rattle.std.proofs.Common.{◌≡◌, ◌∙◌, ap, map, subst, sym}
 use Rattle.std.specs.Prelude.{OnOk}
-use Rattle.td_catalog.specs.Database.{base_relvar, with_base}
+use Rattle.td_catalog.specs.Database.{base_relvar, knows_relvar, with_base}
 use Rattle.td_catalog.specs.KeptDatabases.{CatalogView}
 use Rattle.td_catalog.specs.TypedDatabases.{AreTyped}
-use Rattle.td_engine.proofs.Done.{goes, made_there}
+use Rattle.td_engine.proofs.Done.{goes, made_there, new_there}
 use Rattle.td_types.specs.TypeLists.{AreKnown}
 use Rattle.td_types.specs.Types.{pack}
 use Rattle.td_value.specs.Values.{Relation}
@@ -42,3 +42,7 @@ returns-clause-on g c =
     goes c.add_base.result c.args.catalog.now c.add_base.new.self
     (with_base (base_relvar parts.name (g.B.Body.keys parts.body) (g.B.Body.relation parts.body)) c.args.catalog.now.database)
     c.add_base.ensures.added c.add_base.ensures.unchanged
+
+pub returns-clause-new : goal.returns-clause-new
+returns-clause-new g c = new_there c.add_base.result (knows_relvar c.in_ok-parts.parts.name c.args.catalog.now.database) (knows_relvar c.args.name c.args.catalog.now.database)
+    (ap (λ n. knows_relvar n c.args.catalog.now.database) c.in_ok-parts.ensures.name) c.add_base.ensures.answer

@@ -1,7 +1,6 @@
 use Rattle.std.proofs.Common.{Err, ap, map, option_map, subst, sym}
 use Rattle.td_catalog.specs.Database.{Database, base_relvar, with_base}
 use Rattle.td_catalog.specs.Dumps.{ordered_names}
-use Rattle.td_engine.proofs.Settled.{bases_hold}
 use Rattle.td_engine.specs.Legality.{AreBaseKeys}
 use Rattle.td_engine.proofs.Admitted.{failed_follows, refused_on}
 use Rattle.td_engine.proofs.BaseAdmitted.{base_admitted}
@@ -14,9 +13,6 @@ use Rattle.td_tree.specs.Trees.{define_base}
 use Rattle.td_types.specs.TypeLists.{heading_meant}
 use Rattle.td_value.specs.Values.{Relation}
 use Rattle.td_engine.proofs.bases.define_base.Goals as goal
-
-pub add_ordered-requires-clause-held : goal.add_ordered-requires-clause-held
-add_ordered-requires-clause-held g c = bases_hold c.args.catalog.now.database c.requires.legal
 
 pub add_ordered-requires-clause-heading : goal.add_ordered-requires-clause-heading
 add_ordered-requires-clause-heading g c =
