@@ -1,3 +1,4 @@
+mod Backwards
 mod ChangedBodies
 mod ChangedRelations
 mod Changes
@@ -16,3 +17,7 @@ mod Rows
 mod Searches
 mod ValuesLeft
 mod Visits
+mod LastTypes
+mod LedSteps
+mod PutBack
+mod Steps

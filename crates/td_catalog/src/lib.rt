@@ -2,16 +2,17 @@
 #![tactic(auto)]
 
 mod bodies;
-mod by_place;
+pub mod by_place;
 pub mod catalog;
 pub mod copy;
-mod definitions;
-mod drops;
-mod dump;
+pub mod definitions;
+pub mod drops;
+pub mod dump;
 pub mod entry;
+mod history;
 pub mod keys;
 pub mod laws;
 mod mentioned;
-mod scope;
+pub mod scope;
 mod stages;
 mod tables;
