@@ -1,7 +1,6 @@
 -- Catalogues that go back, one database after another.
-use Rattle.std.proofs.Common.{◌≡◌, ◌+◌, ◌<◌, ◌≤◌, ◌∷◌, ◌++◌, ◌∙◌, ℕ, Bool, true, false, List, [], ap, arith, length, refl, subst, sym, take}
+use Rattle.std.proofs.Common.{◌≡◌, ◌+◌, ◌<◌, ◌≤◌, ◌∷◌, ◌∙◌, ℕ, Bool, true, false, [], ap, arith, length, refl, sym, take}
 use Rattle.std.proofs.lemmas.List.{length-append, take-append-le, take-take, take_all}
-use Rattle.td_catalog.specs.Database.{Database}
 use Rattle.td_catalog.specs.KeptDatabases.{CatalogView, stages}
 
 pub all_stages : (v : CatalogView) → stages v ≡ take (length v.kept + 1) (stages v)

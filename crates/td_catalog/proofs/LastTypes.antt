@@ -1,9 +1,9 @@
 -- A type without which the others can be declared: none is made of it.
-use Rattle.std.proofs.Common.{◌≡◌, ◌∷◌, ◌++◌, ◌∙◌, ℕ, suc, Bool, true, false, Contains, List, [], ap, arith, cond, refl, subst, sym}
-use Rattle.std.specs.Prelude.{◌||◌, is_some, if◌then◌else◌}
+use Rattle.std.proofs.Common.{◌≡◌, ◌∷◌, ◌++◌, ℕ, suc, Bool, true, false, Contains, List, [], ap, arith, cond, refl, subst, sym}
+use Rattle.std.specs.Prelude.{◌||◌}
 use Rattle.std.proofs.lemmas.List.{append_assoc}
-use Rattle.td_types.specs.NamedTypes.{any_names_user, is_component, is_made_of, names_user, without_declared}
-use Rattle.td_types.specs.TypeLists.{AreDeclared, DeclaredType, IsDeclarable, IsKnown, is_declared}
+use Rattle.td_types.specs.NamedTypes.{any_names_user, is_component, is_made_of, without_declared}
+use Rattle.td_types.specs.TypeLists.{AreDeclared, DeclaredType, IsKnown, is_declared}
 use Rattle.td_types.specs.Types.{Attribute, pack, same_name}
 use Rattle.td_types.proofs.DeclaredTypes.{AreDeclared-front}
 use Rattle.td_types.proofs.RemovedTypes.{names_user-known, removed_is_gone}

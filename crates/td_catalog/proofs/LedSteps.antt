@@ -1,11 +1,11 @@
 -- Steps that lead from tables to others: each taken back gives what was there.
-use Rattle.std.proofs.Common.{◌≡◌, ◌+◌, ◌-◌, ◌≤◌, ◌∷◌, ◌++◌, ◌∙◌, ℕ, zero, suc, Bool, true, false, List, [], Option, Some, None, ap, arith, cond, drop, length, map, option_map, refl, subst, sym, take, true≢false}
-use Rattle.std.specs.Prelude.{insert, is_some, nat_lt, not, position, slice_get, if◌then◌else◌}
+use Rattle.std.proofs.Common.{◌≡◌, ◌+◌, ◌-◌, ◌∷◌, ◌++◌, ◌∙◌, ℕ, zero, suc, Bool, true, false, List, [], Option, Some, None, ap, arith, cond, length, map, option_map, refl, subst, sym, take, true≢false}
+use Rattle.std.specs.Prelude.{insert, is_some, nat_lt, not, position, slice_get}
 use Rattle.std.specs.List.{position_or_len, prefix_len}
 use Rattle.std.specs.Map.{keys_of, lookup, lookup_key, remove_entry}
 use Rattle.std.proofs.lemmas.List.{length-append, map-append, take-append-le, take_all}
 use Rattle.indexmap.specs.Layout.{set_value_at}
-use Rattle.td_catalog.specs.CatalogViews.{Rows, base_view, constraint_view, virtual_view}
+use Rattle.td_catalog.specs.CatalogViews.{Rows, constraint_view, virtual_view}
 use Rattle.td_catalog.specs.Histories.{Held, HeldBase, held_base, held_view, latest, went_back, with_body_back, with_held_bases, with_held_constraints, with_held_types, with_held_virtuals, without_last}
 use Rattle.td_catalog.specs.declared.entry.BaseEntry.{BaseEntry}
 use Rattle.td_catalog.specs.declared.entry.ConstraintEntry.{ConstraintEntry}

@@ -1,16 +1,16 @@
 -- Entries that are put in again: where they stand then, and that their names are free before.
-use Rattle.std.proofs.Common.{◌≡◌, ◌+◌, ◌≤◌, ◌∷◌, ◌++◌, ◌∙◌, ℕ, zero, suc, Bool, true, false, List, [], ap, arith, drop, length, map, refl, subst, sym, take, true≢false}
-use Rattle.std.specs.Prelude.{◌&&◌, ◌||◌, Ok, Err, IfOk, IsOk, Result, if◌then◌else◌, insert, is_some, nat_lt, not}
+use Rattle.std.proofs.Common.{◌≡◌, ◌≤◌, ◌∷◌, ◌++◌, ◌∙◌, ℕ, zero, suc, Bool, true, false, List, [], ap, arith, length, map, refl, sym, true≢false}
+use Rattle.std.specs.Prelude.{◌||◌, Ok, Err, IfOk, IsOk, Result, if◌then◌else◌, insert, is_some, nat_lt, not}
 use Rattle.std.specs.Cmp.Lexicographic.{same_text}
-use Rattle.std.specs.List.{position_or_len, prefix_len}
+use Rattle.std.specs.List.{position_or_len}
 use Rattle.std.specs.Map.{keys_of, lookup}
 use Rattle.std.proofs.lemmas.Bool.{ltb-false, ltb-true}
 use Rattle.std.proofs.lemmas.List.{drop_all, take_all}
 use Rattle.indexmap.specs.IndexMap.{IndexMap, insert_entry, insert_index, move_index}
 use Rattle.indexmap.proofs.MoveLemmas.{push_moved}
-use Rattle.td_catalog.specs.CatalogViews.{Rows, base_view, constraint_view, virtual_view}
+use Rattle.td_catalog.specs.CatalogViews.{Rows, constraint_view, virtual_view}
 use Rattle.td_catalog.specs.Database.{BaseRelvar, NamedConstraint, VirtualRelvar}
-use Rattle.td_catalog.specs.Histories.{HeldBase, IsStage, database_of, held_base, held_view, with_held_bases, with_held_constraints, with_held_virtuals}
+use Rattle.td_catalog.specs.Histories.{HeldBase, IsStage, held_base, held_view, with_held_bases, with_held_constraints, with_held_virtuals}
 use Rattle.td_catalog.specs.declared.entry.BaseEntry.{BaseEntry}
 use Rattle.td_catalog.specs.declared.entry.ConstraintEntry.{ConstraintEntry}
 use Rattle.td_catalog.specs.declared.entry.VirtualEntry.{VirtualEntry}

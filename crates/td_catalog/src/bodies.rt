@@ -44,8 +44,10 @@ impl<B: Body> Tables<B> {
     /// the other in. What it was is kept by the body.
     fn change(&mut self, name: &Name, out: &Rel, add: &Rel) -> Result<(), AllocError>
         requires catalog { IsCatalog B.relation B.keys (rows_of self.old) }
-        requires known { IsSome (base_named name.now (database_view B.relation (rows_of self.old))) }
-        requires headings { IfSome (base_named name.now (database_view B.relation (rows_of self.old))) (λ r.
+        requires known { IsSome
+            (base_named name.now (database_view B.relation (rows_of self.old))) }
+        requires headings { IfSome
+            (base_named name.now (database_view B.relation (rows_of self.old))) (λ r.
             (out.now.heading ≡ r.relation.heading) × (add.now.heading ≡ r.relation.heading)) }
         requires typed { AreTyped self.old.types add.now }
         ensures catalog { IsCatalog B.relation B.keys (rows_of self.new) }
@@ -89,7 +91,8 @@ impl<B: Body> Catalog<B> {
         Ok(())
     }
 
-    /// Gives the base relvar of the name another body, whose keys need not hold. It takes no memory.
+    /// Gives the base relvar of the name another body, whose keys need not hold. It takes no
+    /// memory.
     pub fn set_body(&mut self, name: &Name, body: B)
         requires none_kept { self.old.kept ≡ [] }
         requires known { IsSome (base_named name.now self.old.database) }

@@ -118,7 +118,8 @@ impl<B: Body> Catalog<B> {
 
     /// The constraints again.
     fn copied_constraints(&self) -> Result<IndexMap<Name, ConstraintEntry>, AllocError>
-        ensures { IfOk result (λ copy. map constraint_view copy.entries ≡ self.now.database.constraints) }
+        ensures { IfOk result (λ copy.
+            map constraint_view copy.entries ≡ self.now.database.constraints) }
     {
         let alloc = *self.tables.constraints.allocator();
         let mut copy = IndexMap::with_capacity(alloc, self.tables.constraints.len())?;

@@ -135,7 +135,8 @@ impl<B: Body> Catalog<B> {
     ) -> Result<bool, AllocError>
         requires { scope.now ≡ database_scope self.now.database }
         ensures { IfOk result (λ found. found
-            ≡ list_any (λ v. tree_mentions space scope.now name.now v.tree) self.now.database.virtuals) }
+            ≡ list_any (λ v. tree_mentions space scope.now name.now v.tree)
+            self.now.database.virtuals) }
     {
         for entry in self.tables.virtuals.values() {
             if tree_mentions(scope, space, name, &entry.tree)? {
@@ -154,7 +155,8 @@ impl<B: Body> Catalog<B> {
     ) -> Result<bool, AllocError>
         requires { scope.now ≡ database_scope self.now.database }
         ensures { IfOk result (λ found. found
-            ≡ list_any (λ c. tree_mentions space scope.now name.now c.tree) self.now.database.constraints) }
+            ≡ list_any (λ c. tree_mentions space scope.now name.now c.tree)
+            self.now.database.constraints) }
     {
         for entry in self.tables.constraints.values() {
             if tree_mentions(scope, space, name, &entry.tree)? {

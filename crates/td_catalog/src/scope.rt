@@ -28,7 +28,8 @@ impl<B: Body> Catalog<B> {
     /// These, and so many of the virtual relvars, in order of definition.
     fn known_relvars(&self, count: usize) -> Result<Scope<'_>, AllocError>
         ensures { IfOk result (λ s. s ≡ database_scope
-            (with_virtuals (take count self.now.database.virtuals) (with_constraints [] self.now.database))) }
+            (with_virtuals (take count self.now.database.virtuals)
+            (with_constraints [] self.now.database))) }
     {
         let mut scope = self.known_bases()?;
         for place in 0..count {

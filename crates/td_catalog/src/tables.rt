@@ -1,6 +1,6 @@
 //! The tables of a catalogue, and steps back.
-ghost use Rattle.std.specs.Prelude.{◌≡◌, ◌+◌, ◌<◌, ◌≤◌, ◌∷◌, [], OnOk, false, if◌then◌else◌, insert, is_some};
-ghost use Rattle.std.specs.Prelude.{nat_lt};
+ghost use Rattle.std.specs.Prelude.{◌≡◌, ◌+◌, ◌<◌, ◌≤◌, ◌∷◌, [], OnOk, false};
+ghost use Rattle.std.specs.Prelude.{if◌then◌else◌, insert, is_some, nat_lt};
 ghost use Rattle.std.specs.Map.{lookup};
 ghost use Rattle.indexmap.specs.IndexMap.{spare};
 ghost use Rattle.td_catalog.specs.CatalogViews.{AreEntries, database_view, rows_of};

@@ -1,4 +1,4 @@
-use Rattle.std.proofs.Common.{◌≡◌, ◌∙◌, ap}
+use Rattle.std.proofs.Common.{◌∙◌, ap}
 use Rattle.std.specs.Prelude.{if◌then◌else◌, nat_lt}
 use Rattle.td_catalog.proofs.PutBack.{stands_again, what_is_ok}
 use Rattle.td_catalog.proofs.tables.put_back.Goals as goal

@@ -1,6 +1,6 @@
 use Rattle.std.proofs.Common.{◌≡◌, ◌∙◌, ℕ, false, ap, arith, option_map, refl, subst, sym}
 use Rattle.std.specs.Prelude.{is_some}
-use Rattle.td_catalog.specs.CatalogViews.{IsCatalog, database_view, rows_of}
+use Rattle.td_catalog.specs.CatalogViews.{database_view, rows_of}
 use Rattle.td_catalog.specs.Database.{Database, with_declared}
 use Rattle.td_catalog.specs.Histories.{HasRoom, IsHistory, dropped_in, history_view}
 use Rattle.td_catalog.specs.KeptDatabases.{CatalogView}

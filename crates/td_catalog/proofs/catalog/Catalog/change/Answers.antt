@@ -1,7 +1,7 @@
-use Rattle.std.proofs.Common.{◌≡◌, ◌∙◌, ℕ, ap, arith, refl, subst, sym}
+use Rattle.std.proofs.Common.{◌≡◌, ◌∙◌, ℕ, ap, refl, subst, sym}
 use Rattle.td_body.specs.Bodies.{after_change}
 use Rattle.td_catalog.specs.CatalogViews.{database_view, rows_of}
-use Rattle.td_catalog.specs.Database.{BaseRelvar, base_named, with_body}
+use Rattle.td_catalog.specs.Database.{base_named, with_body}
 use Rattle.td_catalog.specs.Histories.{HasRoom, IsHistory, before, dropped_in, held_view, history_view}
 use Rattle.td_catalog.specs.KeptDatabases.{CatalogView, advanced}
 use Rattle.td_catalog.specs.declared.history.Step.TheVariants.{BodyChanged}

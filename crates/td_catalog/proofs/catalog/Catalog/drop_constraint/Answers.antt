@@ -1,8 +1,8 @@
-use Rattle.std.proofs.Common.{◌≡◌, ◌∙◌, false, true, ap, arith, map, refl, subst, sym, true≢false}
+use Rattle.std.proofs.Common.{◌≡◌, ◌∙◌, ap, arith, refl, subst, sym, true≢false}
 use Rattle.std.specs.Prelude.{is_some}
 use Rattle.std.specs.Map.{lookup}
-use Rattle.td_catalog.specs.CatalogViews.{IsCatalog, Rows, constraint_view, database_view, rows_of}
-use Rattle.td_catalog.specs.Database.{Database, knows_constraint, without_constraint}
+use Rattle.td_catalog.specs.CatalogViews.{IsCatalog, Rows, database_view, rows_of}
+use Rattle.td_catalog.specs.Database.{knows_constraint, without_constraint}
 use Rattle.td_catalog.specs.Histories.{IsHistory, history_view}
 use Rattle.td_catalog.specs.KeptDatabases.{CatalogView}
 use Rattle.td_catalog.specs.declared.history.Step.TheVariants.{ConstraintDropped}

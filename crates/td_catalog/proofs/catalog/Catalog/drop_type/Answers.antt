@@ -1,6 +1,6 @@
-use Rattle.std.proofs.Common.{◌≡◌, ◌∙◌, ℕ, false, ap, arith, refl, subst, sym}
+use Rattle.std.proofs.Common.{◌∙◌, ℕ, ap, arith, refl, subst, sym}
 use Rattle.std.specs.Prelude.{not}
-use Rattle.td_catalog.specs.CatalogViews.{IsCatalog, database_view, rows_of}
+use Rattle.td_catalog.specs.CatalogViews.{database_view, rows_of}
 use Rattle.td_catalog.specs.Database.{without_type}
 use Rattle.td_catalog.specs.Histories.{HasRoom, IsHistory, dropped_in, held_view, history_view, with_held_types}
 use Rattle.td_catalog.specs.KeptDatabases.{CatalogView}

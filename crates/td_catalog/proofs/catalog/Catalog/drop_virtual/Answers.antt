@@ -1,6 +1,6 @@
-use Rattle.std.proofs.Common.{◌≡◌, ◌∙◌, false, true, ap, arith, map, refl, subst, sym, true≢false}
+use Rattle.std.proofs.Common.{◌≡◌, ◌∙◌, ap, arith, map, refl, subst, sym, true≢false}
 use Rattle.std.specs.Prelude.{is_some}
-use Rattle.td_catalog.specs.CatalogViews.{IsCatalog, Rows, virtual_view, database_view, rows_of}
+use Rattle.td_catalog.specs.CatalogViews.{IsCatalog, virtual_view, database_view, rows_of}
 use Rattle.td_catalog.specs.Database.{Database, VirtualRelvar, without_relvar}
 use Rattle.td_catalog.specs.Histories.{IsHistory, history_view}
 use Rattle.td_catalog.specs.KeptDatabases.{CatalogView}

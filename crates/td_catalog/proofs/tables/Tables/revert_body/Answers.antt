@@ -2,7 +2,7 @@ use Rattle.std.proofs.Common.{◌∙◌, ap, refl, sym}
 use Rattle.std.specs.Prelude.{is_some}
 use Rattle.td_catalog.specs.CatalogViews.{rows_of}
 use Rattle.td_catalog.specs.Histories.{held_view, with_held_bases}
-use Rattle.td_catalog.proofs.LedSteps.{IsBack, WentBack, body_reverted, first_place, gone_back, none_reverted}
+use Rattle.td_catalog.proofs.LedSteps.{body_reverted, first_place, gone_back, none_reverted}
 use Rattle.td_catalog.proofs.tables.Tables.revert_body.Goals as goal
 
 pub returns-in-Some-clause-held : goal.returns-in-Some-clause-held

@@ -1,5 +1,5 @@
 use Rattle.std.proofs.Common.{ap, map}
-use Rattle.td_catalog.specs.CatalogViews.{base_view, constraint_view, database_view, rows_of, virtual_view}
+use Rattle.td_catalog.specs.CatalogViews.{base_view, database_view, rows_of}
 use Rattle.td_catalog.specs.Database.{with_bases}
 use Rattle.td_catalog.proofs.Copies.{base_parts, entries_alike}
 use Rattle.td_catalog.proofs.LedSteps.{set_same}
