@@ -1,11 +1,11 @@
 -- Catalogues in which a body changed, or could not.
 use Rattle.std.proofs.Common.{◌≡◌, ◌∷◌, ◌∙◌, ℕ, Bool, true, false, List, [], Some, IfSome, ap, refl, subst, sym}
-use Rattle.std.specs.Prelude.{Result, Ok, Err, OnErr, OnOk, ⊤, if◌then◌else◌}
+use Rattle.std.specs.Prelude.{None, Option, Result, Ok, Err, OnErr, OnOk, ⊤, if◌then◌else◌}
 use Rattle.std.specs.List.{prefix_len, slice_get}
 use Rattle.std.specs.Map.{keys_of}
 use Rattle.indexmap.specs.Layout.{set_value_at}
 use Rattle.td_body.specs.Bodies.{after_change}
-use Rattle.td_catalog.specs.CatalogViews.{AreEntries, IsBodyOf, IsCatalog, IsEntry, Rows, base_view, database_view, entry_keys}
+use Rattle.td_catalog.specs.CatalogViews.{IsBodyOf, IsCatalog, IsEntry, Rows, base_view, database_view, entry_keys}
 use Rattle.td_catalog.specs.Database.{BaseRelvar, Database, base_among, base_named, base_relvar, with_bases, with_body, with_relation}
 use Rattle.td_catalog.specs.TypedDatabases.{AreTyped, IsTypedBase}
 use Rattle.td_catalog.specs.declared.entry.BaseEntry.{BaseEntry}
@@ -30,15 +30,24 @@ own_relation name (s ∷ rs) r e = by_test (same_name s.name name) refl (own_rel
     by_test false is rest = ap (λ qs. s ∷ qs) (rest (rw is at e))
 
 -- an answer that holds either way
-either : {E : Type 0} (P : Type 0) (answer : Result ⊤ E) → OnOk answer P → OnErr answer P → P
+pub either : {E : Type 0} (P : Type 0) (answer : Result ⊤ E) → OnOk answer P → OnErr answer P → P
 either P (Ok u) h k = h
 either P (Err e) h k = k
 
-on_ok : {E : Type 0} (P Q : Type 0) (answer : Result ⊤ E) → (P → Q) → OnOk answer P → OnOk answer Q
+-- what holds, also on an error
+pub on_any_error : {E : Type 0} (P : Type 0) (answer : Result ⊤ E) → P → OnErr answer P
+on_any_error P (Ok u) h = tt
+on_any_error P (Err e) h = h
+
+pub if_some : {A : Type 0} (P Q : A → Type 0) (o other : Option A) → o ≡ other → ((a : A) → P a → Q a) → IfSome o P → IfSome other Q
+if_some P Q None other is f h = subst (λ q. IfSome q Q) is tt
+if_some P Q (Some a) other is f h = subst (λ q. IfSome q Q) is (f a h)
+
+pub on_ok : {E : Type 0} (P Q : Type 0) (answer : Result ⊤ E) → (P → Q) → OnOk answer P → OnOk answer Q
 on_ok P Q (Ok u) f h = f h
 on_ok P Q (Err e) f h = tt
 
-on_err : {E : Type 0} (P Q : Type 0) (answer : Result ⊤ E) → (P → Q) → OnErr answer P → OnErr answer Q
+pub on_err : {E : Type 0} (P Q : Type 0) (answer : Result ⊤ E) → (P → Q) → OnErr answer P → OnErr answer Q
 on_err P Q (Ok u) f h = tt
 on_err P Q (Err e) f h = f h
 

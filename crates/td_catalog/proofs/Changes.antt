@@ -84,10 +84,10 @@ module _ {B : Type 0} (relation : B → Relation) (keys : B → List (List (List
   pub knows_constraint_by : (name : List ℕ) (rows : Rows B) → is_some (lookup (same_name name) rows.constraints) ≡ knows_constraint name (database_view relation rows)
   knows_constraint_by name rows = known constraint_view (λ (c : NamedConstraint). c.name) (λ row. refl) name rows.constraints
 
-  no_base : (name : List ℕ) (rows : Rows B) → knows_relvar name (database_view relation rows) ≡ false → is_some (lookup (same_name name) rows.bases) ≡ false
+  pub no_base : (name : List ℕ) (rows : Rows B) → knows_relvar name (database_view relation rows) ≡ false → is_some (lookup (same_name name) rows.bases) ≡ false
   no_base name rows e = (neither (is_some (lookup (same_name name) rows.bases)) (is_some (lookup (same_name name) rows.virtuals)) (knows_by name rows ∙ e)).0
 
-  no_virtual : (name : List ℕ) (rows : Rows B) → knows_relvar name (database_view relation rows) ≡ false → is_some (lookup (same_name name) rows.virtuals) ≡ false
+  pub no_virtual : (name : List ℕ) (rows : Rows B) → knows_relvar name (database_view relation rows) ≡ false → is_some (lookup (same_name name) rows.virtuals) ≡ false
   no_virtual name rows e = (neither (is_some (lookup (same_name name) rows.bases)) (is_some (lookup (same_name name) rows.virtuals)) (knows_by name rows ∙ e)).1
 
   -- ---- one more base relvar

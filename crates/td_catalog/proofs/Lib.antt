@@ -1,3 +1,4 @@
+mod Backwards
 mod ChangedBodies
 mod ChangedRelations
 mod Changes
@@ -17,3 +18,7 @@ mod SameAny
 mod Searches
 mod ValuesLeft
 mod Visits
+mod LastTypes
+mod LedSteps
+mod PutBack
+mod Steps

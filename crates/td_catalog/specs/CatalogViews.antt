@@ -6,6 +6,7 @@ use Rattle.td_catalog.specs.TypedDatabases.{IsTyped}
 use Rattle.td_catalog.specs.declared.entry.BaseEntry.{BaseEntry}
 use Rattle.td_catalog.specs.declared.entry.ConstraintEntry.{ConstraintEntry}
 use Rattle.td_catalog.specs.declared.entry.VirtualEntry.{VirtualEntry}
+use Rattle.td_catalog.specs.declared.tables.Tables.{Tables}
 use Rattle.td_tree.specs.TreeViews.{tree_view}
 use Rattle.td_types.specs.TypeLists.{DeclaredType}
 use Rattle.td_types.specs.Types.{Heading}
@@ -34,6 +35,16 @@ pub record Rows (B : Type 0) : Type 0 where
   pub bases : List (List ℕ × BaseEntry B)
   pub virtuals : List (List ℕ × VirtualEntry)
   pub constraints : List (List ℕ × ConstraintEntry)
+
+-- those of tables
+abbrev pub rows_of : {B : Type 0} → Tables B → Rows B
+rows_of tables =
+    record {
+      types = tables.types;
+      bases = tables.bases.entries;
+      virtuals = tables.virtuals.entries;
+      constraints = tables.constraints.entries;
+    }
 
 -- the database of them
 abbrev pub database_view : {B : Type 0} → (B → Relation) → Rows B → Database

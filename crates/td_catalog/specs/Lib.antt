@@ -2,6 +2,7 @@ pub mod CatalogViews
 pub mod Database
 pub mod DatabaseCode
 pub mod Dumps
+pub mod Histories
 pub mod KeptDatabases
 pub mod TypedDatabases
 pub mod TypedDatabaseLaws

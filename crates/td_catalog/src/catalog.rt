@@ -1,25 +1,20 @@
 //! Declared types, relvars and constraints, looked up by name, with what they were before changes.
-ghost use Rattle.std.specs.Prelude.{◌≡◌, IfOk, IfSome, length, option_map, position, slice_get};
-ghost use Rattle.std.specs.Prelude.{take};
-ghost use Rattle.std.specs.String.{string_bytes};
+ghost use Rattle.std.specs.Prelude.{◌≡◌, IfSome, option_map, slice_get};
 ghost use Rattle.td_catalog.specs.CatalogViews.{IsEntry, base_view, virtual_view};
-ghost use Rattle.td_catalog.specs.Database.{base_named, constraint_named, database_scope};
-ghost use Rattle.td_catalog.specs.Database.{empty_database, named_constraint, virtual_named};
-ghost use Rattle.td_catalog.specs.Database.{with_virtuals};
-ghost use Rattle.td_catalog.specs.Dumps.{dump_text};
+ghost use Rattle.td_catalog.specs.Database.{base_named, constraint_named, empty_database};
+ghost use Rattle.td_catalog.specs.Database.{virtual_named};
 ghost use Rattle.td_catalog.specs.KeptDatabases.{settled};
 ghost use Rattle.td_catalog.specs.TypedDatabases.{IsTyped};
 ghost use Rattle.td_tree.specs.TreeViews.{tree_view};
 ghost use Rattle.td_types.specs.TypeLists.{declared_at};
-ghost use Rattle.td_types.specs.Types.{same_name};
 
-use crate::defining::DefiningExpression;
 use crate::entry::{BaseEntry, VirtualEntry};
+use crate::history::History;
 use crate::tables::Tables;
-use std::alloc::{AllocError, Global};
+use indexmap::IndexMap;
+use std::alloc::Global;
 use std::marker::Model;
 use td_body::body::Body;
-use td_check::scope::Scope;
 use td_tree::expression::Expr;
 use td_tree::name::Name;
 use td_types::table::{TypeEntry, TypeTable};
@@ -29,7 +24,8 @@ use td_types::table::{TypeEntry, TypeTable};
 #[derive(Drop)]
 pub struct Catalog<B: Body> {
     pub(crate) tables: Tables<B>,
-    pub(crate) kept: Vec<Tables<B>>,
+    /// What led to them, since the first database that is kept.
+    pub(crate) log: History<B>,
 }
 
 impl<B: Body> Model for Catalog<B> {
@@ -40,7 +36,13 @@ impl<B: Body> Model for Catalog<B> {
 
     ghost coded = { catalog_code };
 
-    ghost view = { λ a. record { database = a.tables; kept = a.kept.items } };
+    ghost use Rattle.td_catalog.specs.CatalogViews.{rows_of};
+    ghost use Rattle.td_catalog.specs.Histories.{AreKept, history_view};
+
+    ghost view = { λ a.
+        history_view B.relation B.keys B.kept (rows_of a.tables) a.log.steps.items };
+
+    ghost invariant = { λ a. AreKept B.relation B.keys B.kept a.tables a.log.steps.items };
 }
 
 impl<B: Body> Catalog<B> {
@@ -49,8 +51,13 @@ impl<B: Body> Catalog<B> {
         ensures { result ≡ settled empty_database }
     {
         Catalog {
-            tables: Tables::new(alloc),
-            kept: Vec::new(alloc),
+            tables: Tables {
+                types: TypeTable::new(alloc),
+                bases: IndexMap::new(alloc),
+                virtuals: IndexMap::new(alloc),
+                constraints: IndexMap::new(alloc),
+            },
+            log: History::new(alloc),
         }
     }
 
@@ -58,50 +65,21 @@ impl<B: Body> Catalog<B> {
     pub fn reveal(&self)
         ensures { IsTyped self.now.database }
     {
-        self.tables.reveal();
+        let _ = &self.tables.types;
     }
-
-    /// How many earlier databases are kept. It takes no memory.
-    pub fn kept(&self) -> usize
-        ensures { result ≡ length self.now.kept }
-    {
-        self.kept.as_slice().len()
-    }
-
-    /// The same database again, with nothing kept. It takes time and memory in the order of the
-    /// entries, not of the tuples, where the bodies' copies do.
-    pub fn try_clone(&self) -> Result<Catalog<B>, AllocError>
-        ensures { IfOk result (λ copy. copy ≡ settled self.now.database) }
-    {
-        Ok(Catalog {
-            tables: self.tables.try_clone()?,
-            kept: Vec::new(*self.kept.allocator()),
-        })
-    }
-
-    /// The script that makes the database anew, a statement on each line: the types, the base
-    /// relvars, the virtual relvars and the constraints, each in order of definition.
-    pub fn dump_text(&self) -> Result<String, AllocError>
-        ensures { IfOk result (λ text. string_bytes text ≡ dump_text self.now.database) }
-    {
-        self.tables.dump_text()
-    }
-
-    // ---- by name
 
     /// The declared types.
     pub fn types(&self) -> &TypeTable
         ensures { result.now ≡ self.now.database.types }
     {
-        self.tables.types()
+        &self.tables.types
     }
 
     /// The declared type of that name.
     pub fn get_type(&self, name: &Name) -> Option<&TypeEntry>
-        ensures { option_map (λ e. e.now) result
-            ≡ declared_at name.now self.now.database.types }
+        ensures { option_map (λ e. e.now) result ≡ declared_at name.now self.now.database.types }
     {
-        self.tables.get_type(name)
+        self.tables.types.get(name)
     }
 
     /// The base relvar of that name.
@@ -110,7 +88,7 @@ impl<B: Body> Catalog<B> {
             ≡ base_named name.now self.now.database }
         ensures entry { IfSome result (λ e. IsEntry B.relation B.keys e.now) }
     {
-        self.tables.get_base(name)
+        self.tables.bases.get(name)
     }
 
     /// The virtual relvar of that name.
@@ -118,7 +96,7 @@ impl<B: Body> Catalog<B> {
         ensures { option_map (λ e. virtual_view (name.now, e.now)) result
             ≡ virtual_named name.now self.now.database }
     {
-        self.tables.get_virtual(name)
+        self.tables.virtuals.get(name)
     }
 
     /// The expression of the constraint of that name.
@@ -126,30 +104,8 @@ impl<B: Body> Catalog<B> {
         ensures { option_map (λ e. tree_view e.now) result
             ≡ option_map (λ c. c.tree) (constraint_named name.now self.now.database) }
     {
-        self.tables.get_constraint(name)
-    }
-
-    // ---- by place
-
-    /// How many base relvars there are.
-    pub fn base_count(&self) -> usize
-        ensures { result ≡ length self.now.database.bases }
-    {
-        self.tables.base_count()
-    }
-
-    /// How many virtual relvars there are.
-    pub fn virtual_count(&self) -> usize
-        ensures { result ≡ length self.now.database.virtuals }
-    {
-        self.tables.virtual_count()
-    }
-
-    /// How many constraints there are.
-    pub fn constraint_count(&self) -> usize
-        ensures { result ≡ length self.now.database.constraints }
-    {
-        self.tables.constraint_count()
+        let entry = self.tables.constraints.get(name)?;
+        Some(entry.tree.tree())
     }
 
     /// The name of the base relvar at a place in order of definition.
@@ -157,7 +113,8 @@ impl<B: Body> Catalog<B> {
         ensures { option_map (λ n. n.now) result
             ≡ option_map (λ r. r.name) (slice_get self.now.database.bases place) }
     {
-        self.tables.base_at(place)
+        let (name, _) = self.tables.bases.get_index(place)?;
+        Some(name)
     }
 
     /// The name of the virtual relvar at a place in order of definition.
@@ -165,7 +122,8 @@ impl<B: Body> Catalog<B> {
         ensures { option_map (λ n. n.now) result
             ≡ option_map (λ v. v.name) (slice_get self.now.database.virtuals place) }
     {
-        self.tables.virtual_at(place)
+        let (name, _) = self.tables.virtuals.get_index(place)?;
+        Some(name)
     }
 
     /// The name of the constraint at a place in order of definition.
@@ -173,65 +131,7 @@ impl<B: Body> Catalog<B> {
         ensures { option_map (λ n. n.now) result
             ≡ option_map (λ c. c.name) (slice_get self.now.database.constraints place) }
     {
-        self.tables.constraint_at(place)
-    }
-
-    /// The base relvar at a place in order of definition, with its name.
-    pub fn nth_base(&self, place: usize) -> Option<(&Name, &BaseEntry<B>)>
-        ensures { option_map (λ p. base_view B.relation (p.0.now, p.1.now)) result
-            ≡ slice_get self.now.database.bases place }
-    {
-        self.tables.nth_base(place)
-    }
-
-    /// The virtual relvar at a place in order of definition, with its name.
-    pub fn nth_virtual(&self, place: usize) -> Option<(&Name, &VirtualEntry)>
-        ensures { option_map (λ p. virtual_view (p.0.now, p.1.now)) result
-            ≡ slice_get self.now.database.virtuals place }
-    {
-        self.tables.nth_virtual(place)
-    }
-
-    /// The expression of the constraint at a place in order of definition, with its name.
-    pub fn nth_constraint(&self, place: usize) -> Option<(&Name, &DefiningExpression)>
-        ensures { option_map (λ p. named_constraint p.0.now p.1.now) result
-            ≡ slice_get self.now.database.constraints place }
-    {
-        self.tables.nth_constraint(place)
-    }
-
-    /// The place in order of definition of the virtual relvar of that name.
-    pub fn virtual_place(&self, name: &Name) -> Option<usize>
-        ensures { result
-            ≡ position (λ v. same_name v.name name.now) self.now.database.virtuals }
-    {
-        self.tables.virtual_place(name)
-    }
-
-    /// The expression of the virtual relvar at a place in order of definition.
-    pub fn virtual_tree_at(&self, place: usize) -> Option<&Expr>
-        ensures { option_map (λ e. tree_view e.now) result
-            ≡ option_map (λ v. v.tree) (slice_get self.now.database.virtuals place) }
-    {
-        self.tables.virtual_tree_at(place)
-    }
-
-    // ---- what is known to expressions
-
-    /// What is known to expressions where so many of the virtual relvars are known, in order of
-    /// definition: the types, the relvars' names with their headings, and the constraints' names;
-    /// no tuple is in hand.
-    pub fn scope_before(&self, count: usize) -> Result<Scope<'_>, AllocError>
-        ensures { IfOk result (λ s. s ≡ database_scope
-            (with_virtuals (take count self.now.database.virtuals) self.now.database)) }
-    {
-        self.tables.scope_before(count)
-    }
-
-    /// What is known to expressions, with all of the virtual relvars.
-    pub fn scope(&self) -> Result<Scope<'_>, AllocError>
-        ensures { IfOk result (λ s. s ≡ database_scope self.now.database) }
-    {
-        self.tables.scope()
+        let (name, _) = self.tables.constraints.get_index(place)?;
+        Some(name)
     }
 }

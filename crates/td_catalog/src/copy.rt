@@ -3,8 +3,11 @@
 ghost use Rattle.std.specs.Prelude.{◌≡◌, ℕ, IfOk, List, map};
 ghost use Rattle.td_catalog.specs.CatalogViews.{AreEntries, base_view, constraint_view};
 ghost use Rattle.td_catalog.specs.CatalogViews.{entry_keys, virtual_view};
+ghost use Rattle.td_catalog.specs.KeptDatabases.{settled};
 
+use crate::catalog::Catalog;
 use crate::entry::{BaseEntry, ConstraintEntry, VirtualEntry};
+use crate::history::History;
 use crate::tables::Tables;
 use indexmap::IndexMap;
 use std::alloc::AllocError;
@@ -82,15 +85,18 @@ impl ConstraintEntry {
     }
 }
 
-impl<B: Body> Tables<B> {
+impl<B: Body> Catalog<B> {
     /// The base relvars again.
     fn copied_bases(&self) -> Result<IndexMap<Name, BaseEntry<B>>, AllocError>
         ensures bases { IfOk result
-            (λ copy. map (base_view B.relation) copy.entries ≡ self.now.bases) }
+            (λ copy. map (base_view B.relation) copy.entries ≡ self.now.database.bases) }
         ensures entries { IfOk result (λ copy. AreEntries B.relation B.keys copy.entries) }
     {
-        let mut copy = IndexMap::with_capacity(*self.bases.allocator(), self.bases.len())?;
-        for (name, entry) in self.bases.iter() {
+        let mut copy = IndexMap::with_capacity(
+            *self.tables.bases.allocator(),
+            self.tables.bases.len(),
+        )?;
+        for (name, entry) in self.tables.bases.iter() {
             copy.insert(name.try_clone()?, entry.try_clone()?)?;
         }
         Ok(copy)
@@ -98,10 +104,13 @@ impl<B: Body> Tables<B> {
 
     /// The virtual relvars again.
     fn copied_virtuals(&self) -> Result<IndexMap<Name, VirtualEntry>, AllocError>
-        ensures { IfOk result (λ copy. map virtual_view copy.entries ≡ self.now.virtuals) }
+        ensures { IfOk result (λ copy. map virtual_view copy.entries ≡ self.now.database.virtuals) }
     {
-        let mut copy = IndexMap::with_capacity(*self.virtuals.allocator(), self.virtuals.len())?;
-        for (name, entry) in self.virtuals.iter() {
+        let mut copy = IndexMap::with_capacity(
+            *self.tables.virtuals.allocator(),
+            self.tables.virtuals.len(),
+        )?;
+        for (name, entry) in self.tables.virtuals.iter() {
             copy.insert(name.try_clone()?, entry.try_clone()?)?;
         }
         Ok(copy)
@@ -109,26 +118,30 @@ impl<B: Body> Tables<B> {
 
     /// The constraints again.
     fn copied_constraints(&self) -> Result<IndexMap<Name, ConstraintEntry>, AllocError>
-        ensures { IfOk result (λ copy. map constraint_view copy.entries ≡ self.now.constraints) }
+        ensures { IfOk result (λ copy.
+            map constraint_view copy.entries ≡ self.now.database.constraints) }
     {
-        let alloc = *self.constraints.allocator();
-        let mut copy = IndexMap::with_capacity(alloc, self.constraints.len())?;
-        for (name, entry) in self.constraints.iter() {
+        let alloc = *self.tables.constraints.allocator();
+        let mut copy = IndexMap::with_capacity(alloc, self.tables.constraints.len())?;
+        for (name, entry) in self.tables.constraints.iter() {
             copy.insert(name.try_clone()?, entry.try_clone()?)?;
         }
         Ok(copy)
     }
 
-    /// The same catalogue again. It takes time and memory in the order of the entries, not of the
-    /// tuples, where the bodies' copies do.
-    pub(crate) fn try_clone(&self) -> Result<Tables<B>, AllocError>
-        ensures { IfOk result (λ copy. copy ≡ self.now) }
+    /// The same database again, with nothing kept. It takes time and memory in the order of the
+    /// entries, not of the tuples, where the bodies' copies do.
+    pub fn try_clone(&self) -> Result<Catalog<B>, AllocError>
+        ensures { IfOk result (λ copy. copy ≡ settled self.now.database) }
     {
-        Ok(Tables {
-            types: self.types.try_clone()?,
-            bases: self.copied_bases()?,
-            virtuals: self.copied_virtuals()?,
-            constraints: self.copied_constraints()?,
+        Ok(Catalog {
+            tables: Tables {
+                types: self.tables.types.try_clone()?,
+                bases: self.copied_bases()?,
+                virtuals: self.copied_virtuals()?,
+                constraints: self.copied_constraints()?,
+            },
+            log: History::new(*self.tables.bases.allocator()),
         })
     }
 }

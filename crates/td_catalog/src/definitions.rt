@@ -1,10 +1,13 @@
 //! Entries that are added: each last in its list.
-ghost use Rattle.std.specs.Prelude.{◌≡◌, OnErr, OnOk, map, not, option_map};
-ghost use Rattle.td_catalog.specs.CatalogViews.{IsBodyOf};
+ghost use Rattle.std.specs.Prelude.{◌≡◌, ◌+◌, ◌<◌, [], OnErr, OnOk, map, not, option_map};
+ghost use Rattle.std.specs.Prelude.{vec_capacity, vec_len};
+ghost use Rattle.td_catalog.specs.CatalogViews.{IsBodyOf, rows_of};
 ghost use Rattle.td_catalog.specs.Database.{base_relvar, database_scope};
 ghost use Rattle.td_catalog.specs.Database.{knows_constraint, knows_relvar, named_constraint};
 ghost use Rattle.td_catalog.specs.Database.{virtual_relvar, with_base};
 ghost use Rattle.td_catalog.specs.Database.{with_constraint, with_declared, with_virtual};
+ghost use Rattle.td_catalog.specs.Histories.{HasRoom, UsesRoomOf, dropped_in};
+ghost use Rattle.td_catalog.specs.KeptDatabases.{advanced};
 ghost use Rattle.td_catalog.specs.TypedDatabases.{AreComponents, AreTyped, IsConstrained};
 ghost use Rattle.td_catalog.specs.TypedDatabases.{IsTypedConstraint, IsTypedVirtual};
 ghost use Rattle.td_check.specs.StatementTypes.{holds_or};
@@ -15,9 +18,12 @@ ghost use Rattle.td_types.specs.TypeLists.{AreKnown, declared_type, is_declared}
 ghost use Rattle.td_types.specs.Types.{pack};
 ghost use Rattle.td_types.specs.Views.{pairs_view};
 
+use crate::catalog::Catalog;
 use crate::defining::DefiningExpression;
 use crate::entry::{BaseEntry, ConstraintEntry, VirtualEntry};
+use crate::history::{History, Step};
 use crate::tables::Tables;
+use std::alloc::AllocError;
 use td_body::body::Body;
 use td_tree::cause::Cause;
 use td_tree::expression::Expr;
@@ -26,57 +32,78 @@ use td_tree::name::Name;
 use td_types::heading::Heading;
 use td_types::ty::Ty;
 
-impl<B: Body> Tables<B> {
+/// Makes room for one more entry in each table, beside those that steps moved out, and for one
+/// more step.
+pub(crate) fn prepare<B: Body>(
+    tables: &mut Tables<B>,
+    log: &mut History<B>,
+) -> Result<(), AllocError>
+    ensures rows { rows_of tables.new ≡ rows_of tables.old }
+    ensures steps { log.new.steps.items ≡ log.old.steps.items }
+    ensures kept { UsesRoomOf 0 tables.old tables.new }
+    ensures room { OnOk result
+        (HasRoom (dropped_in log.new.steps.items + 1) tables.new) }
+    ensures space { OnOk result (vec_len log.new.steps < vec_capacity log.new.steps) }
+{
+    tables.make_room(log.dropped)?;
+    log.reserve()
+}
+
+impl<B: Body> Catalog<B> {
     /// Adds a type, last: refused where a type of the name is declared. `check_statement` tells
     /// whether its components and its constraint are as is asked.
-    pub(crate) fn add_type(
+    pub fn add_type(
         &mut self,
         name: Name,
         components: Vec<(Name, Ty)>,
         constraint: Option<Expr>,
     ) -> Result<(), Fault>
-        requires components { AreComponents self.old.types (pairs_view components.items) }
-        requires constrained { IsConstrained self.old.types
+        requires components { AreComponents self.old.database.types (pairs_view components.items) }
+        requires constrained { IsConstrained self.old.database.types
             (declared_type name (pairs_view components.items) (option_map tree_view constraint)) }
         ensures answer { Answers (λ u. u) result
-            (holds_or causes.NameTaken (not (is_declared name self.old.types))) }
-        ensures added { OnOk result (self.new ≡ with_declared
+            (holds_or causes.NameTaken (not (is_declared name self.old.database.types))) }
+        ensures added { OnOk result (self.new ≡ advanced (with_declared
             (declared_type name (pairs_view components.items) (option_map tree_view constraint))
-            self.old) }
+            self.old.database) self.old) }
         ensures unchanged { OnErr result (self.new ≡ self.old) }
     {
-        if self.types.get(&name).is_some() {
+        if self.tables.types.get(&name).is_some() {
             return Err(Fault::Refused(Cause::NameTaken));
         }
-        self.types.add(name, components, constraint)?;
-        self.types.reveal();
+        let added = name.try_clone()?;
+        self.log.reserve()?;
+        self.tables.types.add(name, components, constraint)?;
+        self.tables.types.reveal();
+        self.log.note(Step::TypeAdded(added));
         Ok(())
     }
 
     /// Whether a relvar has the name, base or virtual.
     pub(crate) fn has_relvar(&self, name: &Name) -> bool
-        ensures { result ≡ knows_relvar name.now self.now }
+        ensures { result ≡ knows_relvar name.now self.now.database }
     {
-        self.bases.contains_key(name) || self.virtuals.contains_key(name)
+        self.tables.bases.contains_key(name) || self.tables.virtuals.contains_key(name)
     }
 
     /// Adds a base relvar, last: refused where a relvar of the name is there. Whether its keys are
     /// allowed and hold is not asked: that is a statement's to check, after its changes.
-    pub(crate) fn add_base(
+    pub fn add_base(
         &mut self,
         name: Name,
         heading: Heading,
         keys: Vec<Vec<Name>>,
         body: B,
     ) -> Result<(), Fault>
-        requires heading { AreKnown self.old.types (pack heading) }
+        requires heading { AreKnown self.old.database.types (pack heading) }
         requires body { IsBodyOf heading (map (λ key. key.items) keys.items)
             (B.relation body) (B.keys body) }
-        requires typed { AreTyped self.old.types (B.relation body) }
+        requires typed { AreTyped self.old.database.types (B.relation body) }
+        requires kept { B.kept body ≡ [] }
         ensures answer { Answers (λ u. u) result
-            (holds_or causes.NameTaken (not (knows_relvar name self.old))) }
-        ensures added { OnOk result
-            (self.new ≡ with_base (base_relvar name (B.keys body) (B.relation body)) self.old) }
+            (holds_or causes.NameTaken (not (knows_relvar name self.old.database))) }
+        ensures added { OnOk result (self.new ≡ advanced (with_base
+            (base_relvar name (B.keys body) (B.relation body)) self.old.database) self.old) }
         ensures unchanged { OnErr result (self.new ≡ self.old) }
     {
         if self.has_relvar(&name) {
@@ -89,58 +116,67 @@ impl<B: Body> Tables<B> {
             keys,
             body,
         };
-        self.bases.insert(name, entry)?;
+        prepare(&mut self.tables, &mut self.log)?;
+        self.tables.bases.insert(name, entry)?;
+        self.log.note(Step::BaseAdded);
         Ok(())
     }
 
     /// Adds a virtual relvar, last: refused where a relvar of the name is there. The heading is
     /// that of the expression.
-    pub(crate) fn add_virtual(
+    pub fn add_virtual(
         &mut self,
         name: Name,
         heading: Heading,
         tree: Expr,
         keys: Vec<Vec<Name>>,
     ) -> Result<(), Fault>
-        requires { IsTypedVirtual (database_scope self.old) (virtual_relvar name heading
+        requires { IsTypedVirtual (database_scope self.old.database) (virtual_relvar name heading
             (tree_view tree) (map (λ key. key.items) keys.items)) }
         ensures answer { Answers (λ u. u) result
-            (holds_or causes.NameTaken (not (knows_relvar name self.old))) }
-        ensures added { OnOk result (self.new ≡ with_virtual (virtual_relvar name heading
-            (tree_view tree) (map (λ key. key.items) keys.items)) self.old) }
+            (holds_or causes.NameTaken (not (knows_relvar name self.old.database))) }
+        ensures added { OnOk result (self.new ≡ advanced (with_virtual (virtual_relvar name heading
+            (tree_view tree) (map (λ key. key.items) keys.items)) self.old.database) self.old) }
         ensures unchanged { OnErr result (self.new ≡ self.old) }
     {
         if self.has_relvar(&name) {
             return Err(Fault::Refused(Cause::NameTaken));
         }
         let _ = name.as_str();
-        let tree = DefiningExpression::new(*self.virtuals.allocator(), tree)?;
+        let tree = DefiningExpression::new(*self.tables.virtuals.allocator(), tree)?;
         let entry = VirtualEntry {
             heading,
             tree,
             keys,
         };
-        self.virtuals.insert(name, entry)?;
+        prepare(&mut self.tables, &mut self.log)?;
+        self.tables.virtuals.insert(name, entry)?;
+        self.log.note(Step::VirtualAdded);
         Ok(())
     }
 
     /// Adds a constraint, last: refused where a constraint of the name is there. `check_statement`
     /// tells whether the expression is as is asked.
-    pub(crate) fn add_constraint(&mut self, name: Name, tree: Expr) -> Result<(), Fault>
-        requires { IsTypedConstraint (database_scope self.old)
+    pub fn add_constraint(&mut self, name: Name, tree: Expr) -> Result<(), Fault>
+        requires { IsTypedConstraint (database_scope self.old.database)
             (named_constraint name (tree_view tree)) }
         ensures answer { Answers (λ u. u) result
-            (holds_or causes.NameTaken (not (knows_constraint name self.old))) }
-        ensures added { OnOk result
-            (self.new ≡ with_constraint (named_constraint name (tree_view tree)) self.old) }
+            (holds_or causes.NameTaken (not (knows_constraint name self.old.database))) }
+        ensures added { OnOk result (self.new ≡ advanced
+            (with_constraint (named_constraint name (tree_view tree)) self.old.database)
+            self.old) }
         ensures unchanged { OnErr result (self.new ≡ self.old) }
     {
-        if self.constraints.contains_key(&name) {
+        if self.tables.constraints.contains_key(&name) {
             return Err(Fault::Refused(Cause::NameTaken));
         }
         let _ = name.as_str();
-        let tree = DefiningExpression::new(*self.constraints.allocator(), tree)?;
-        self.constraints.insert(name, ConstraintEntry { tree })?;
+        let tree = DefiningExpression::new(*self.tables.constraints.allocator(), tree)?;
+        prepare(&mut self.tables, &mut self.log)?;
+        self.tables
+            .constraints
+            .insert(name, ConstraintEntry { tree })?;
+        self.log.note(Step::ConstraintAdded);
         Ok(())
     }
 }

@@ -1,38 +1,78 @@
 //! Entries that are taken out. What is defined anew after that stands last.
-ghost use Rattle.std.specs.Prelude.{◌≡◌, OnErr, OnOk};
+ghost use Rattle.std.specs.Prelude.{◌≡◌, OnErr, OnOk, false, map, true};
 ghost use Rattle.td_catalog.specs.Database.{without_constraint, without_relvar, without_type};
-ghost use Rattle.td_catalog.specs.Mentioned.{constraint_droppable, relvar_droppable};
-ghost use Rattle.td_catalog.specs.Mentioned.{type_droppable};
+ghost use Rattle.td_catalog.specs.KeptDatabases.{advanced};
+ghost use Rattle.td_catalog.specs.Mentioned.{constraint_droppable, is_relvar_in_use};
+ghost use Rattle.td_catalog.specs.Mentioned.{relvar_droppable, type_droppable};
 ghost use Rattle.td_tree.specs.Outcomes.{Answers};
+ghost use Rattle.td_types.specs.Headings.{has_name};
 
-use crate::tables::Tables;
+use crate::catalog::Catalog;
+use crate::definitions::prepare;
+use crate::history::Step;
+use std::alloc::AllocError;
 use td_body::body::Body;
 use td_tree::cause::Cause;
 use td_tree::fault::Fault;
 use td_tree::name::Name;
 
-impl<B: Body> Tables<B> {
+impl<B: Body> Catalog<B> {
     /// Drops a type: refused where none has the name, else where an entry mentions it.
-    pub(crate) fn drop_type(&mut self, name: &Name) -> Result<(), Fault>
-        ensures answer { Answers (λ u. u) result (type_droppable name.now self.old) }
-        ensures dropped { OnOk result (self.new ≡ without_type name.now self.old) }
+    pub fn drop_type(&mut self, name: &Name) -> Result<(), Fault>
+        ensures answer { Answers (λ u. u) result (type_droppable name.now self.old.database) }
+        ensures dropped { OnOk result
+            (self.new ≡ advanced (without_type name.now self.old.database) self.old) }
         ensures unchanged { OnErr result (self.new ≡ self.old) }
     {
-        if self.types.get(name).is_none() {
+        if self.tables.types.get(name).is_none() {
             return Err(Fault::Refused(Cause::NameUnknown));
         }
         if self.is_type_in_use(name)? {
             return Err(Fault::Refused(Cause::InUse));
         }
-        self.types.remove(name);
+        let types = self.tables.types.try_clone()?;
+        self.log.reserve()?;
+        self.tables.types.remove(name);
+        self.log.note(Step::TypeDropped(types));
+        Ok(())
+    }
+
+    /// Drops the base relvar of the name, that no entry mentions.
+    fn drop_base(&mut self, name: &Name) -> Result<(), AllocError>
+        requires known { has_name name.now (map (λ r. r.name) self.old.database.bases) ≡ true }
+        requires unused { is_relvar_in_use name.now self.old.database ≡ false }
+        ensures dropped { OnOk result
+            (self.new ≡ advanced (without_relvar name.now self.old.database) self.old) }
+        ensures unchanged { OnErr result (self.new ≡ self.old) }
+    {
+        prepare(&mut self.tables, &mut self.log)?;
+        if let Some((place, name, entry)) = self.tables.bases.shift_remove_full(name) {
+            self.log.note(Step::BaseDropped(place, name, entry));
+        }
+        Ok(())
+    }
+
+    /// Drops the virtual relvar of the name, that no entry mentions.
+    fn drop_virtual(&mut self, name: &Name) -> Result<(), AllocError>
+        requires known { has_name name.now (map (λ r. r.name) self.old.database.virtuals) ≡ true }
+        requires unused { is_relvar_in_use name.now self.old.database ≡ false }
+        ensures dropped { OnOk result
+            (self.new ≡ advanced (without_relvar name.now self.old.database) self.old) }
+        ensures unchanged { OnErr result (self.new ≡ self.old) }
+    {
+        prepare(&mut self.tables, &mut self.log)?;
+        if let Some((place, name, entry)) = self.tables.virtuals.shift_remove_full(name) {
+            self.log.note(Step::VirtualDropped(place, name, entry));
+        }
         Ok(())
     }
 
     /// Drops a relvar, base or virtual: refused where none has the name, else where an entry
     /// mentions it.
-    pub(crate) fn drop_var(&mut self, name: &Name) -> Result<(), Fault>
-        ensures answer { Answers (λ u. u) result (relvar_droppable name.now self.old) }
-        ensures dropped { OnOk result (self.new ≡ without_relvar name.now self.old) }
+    pub fn drop_var(&mut self, name: &Name) -> Result<(), Fault>
+        ensures answer { Answers (λ u. u) result (relvar_droppable name.now self.old.database) }
+        ensures dropped { OnOk result
+            (self.new ≡ advanced (without_relvar name.now self.old.database) self.old) }
         ensures unchanged { OnErr result (self.new ≡ self.old) }
     {
         if !self.has_relvar(name) {
@@ -41,21 +81,29 @@ impl<B: Body> Tables<B> {
         if self.is_relvar_in_use(name)? {
             return Err(Fault::Refused(Cause::InUse));
         }
-        self.bases.shift_remove(name);
-        self.virtuals.shift_remove(name);
+        if self.tables.bases.contains_key(name) {
+            self.drop_base(name)?;
+            return Ok(());
+        }
+        self.drop_virtual(name)?;
         Ok(())
     }
 
     /// Drops a constraint: refused where none has the name. No entry mentions one.
-    pub(crate) fn drop_constraint(&mut self, name: &Name) -> Result<(), Fault>
-        ensures answer { Answers (λ u. u) result (constraint_droppable name.now self.old) }
-        ensures dropped { OnOk result (self.new ≡ without_constraint name.now self.old) }
+    pub fn drop_constraint(&mut self, name: &Name) -> Result<(), Fault>
+        ensures answer { Answers (λ u. u) result
+            (constraint_droppable name.now self.old.database) }
+        ensures dropped { OnOk result
+            (self.new ≡ advanced (without_constraint name.now self.old.database) self.old) }
         ensures unchanged { OnErr result (self.new ≡ self.old) }
     {
-        if !self.constraints.contains_key(name) {
+        if !self.tables.constraints.contains_key(name) {
             return Err(Fault::Refused(Cause::NameUnknown));
         }
-        self.constraints.shift_remove(name);
+        prepare(&mut self.tables, &mut self.log)?;
+        if let Some((place, name, entry)) = self.tables.constraints.shift_remove_full(name) {
+            self.log.note(Step::ConstraintDropped(place, name, entry));
+        }
         Ok(())
     }
 }

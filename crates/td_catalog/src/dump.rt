@@ -17,9 +17,9 @@ ghost use Rattle.td_types.specs.Views.{pairs_view};
 ghost use Rattle.td_value.specs.Literal.{relation_literal};
 
 use crate::defining::DefiningExpression;
+use crate::catalog::Catalog;
 use crate::entry::VirtualEntry;
 use crate::keys::ordered_key;
-use crate::tables::Tables;
 use std::alloc::AllocError;
 use td_body::body::Body;
 use td_tree::expression::Expr;
@@ -182,14 +182,16 @@ fn put_constraint(
     put_line_end(out)
 }
 
-impl<B: Body> Tables<B> {
+impl<B: Body> Catalog<B> {
     fn put_types(&self, out: &mut String) -> Result<(), AllocError>
         ensures { OnOk result (string_bytes out.new
-            ≡ string_bytes out.old ++ flat_map type_line self.now.types) }
+            ≡ string_bytes out.old ++ flat_map type_line self.now.database.types) }
     {
-        for place in 0..self.types.len() {
-            let (Some(name), Some(entry)) = (self.types.at(place), self.types.entry_at(place))
-            else {
+        for place in 0..self.tables.types.len() {
+            let (Some(name), Some(entry)) = (
+                self.tables.types.at(place),
+                self.tables.types.entry_at(place),
+            ) else {
                 return Ok(());
             };
             put_declared(out, name, entry)?;
@@ -199,7 +201,7 @@ impl<B: Body> Tables<B> {
 
     fn put_bases(&self, out: &mut String) -> Result<(), AllocError>
         ensures { OnOk result (string_bytes out.new
-            ≡ string_bytes out.old ++ flat_map base_line self.now.bases) }
+            ≡ string_bytes out.old ++ flat_map base_line self.now.database.bases) }
     {
         for place in 0..self.base_count() {
             let Some((name, entry)) = self.nth_base(place) else {
@@ -212,7 +214,7 @@ impl<B: Body> Tables<B> {
 
     fn put_virtuals(&self, out: &mut String) -> Result<(), AllocError>
         ensures { OnOk result (string_bytes out.new
-            ≡ string_bytes out.old ++ flat_map virtual_line self.now.virtuals) }
+            ≡ string_bytes out.old ++ flat_map virtual_line self.now.database.virtuals) }
     {
         for place in 0..self.virtual_count() {
             let Some((name, entry)) = self.nth_virtual(place) else {
@@ -225,7 +227,7 @@ impl<B: Body> Tables<B> {
 
     fn put_constraints(&self, out: &mut String) -> Result<(), AllocError>
         ensures { OnOk result (string_bytes out.new
-            ≡ string_bytes out.old ++ flat_map constraint_line self.now.constraints) }
+            ≡ string_bytes out.old ++ flat_map constraint_line self.now.database.constraints) }
     {
         for place in 0..self.constraint_count() {
             let Some((name, condition)) = self.nth_constraint(place) else {
@@ -238,10 +240,10 @@ impl<B: Body> Tables<B> {
 
     /// The script that makes the database anew, a statement on each line: the types, the base
     /// relvars, the virtual relvars and the constraints, each in order of definition.
-    pub(crate) fn dump_text(&self) -> Result<String, AllocError>
-        ensures { IfOk result (λ text. string_bytes text ≡ dump_text self.now) }
+    pub fn dump_text(&self) -> Result<String, AllocError>
+        ensures { IfOk result (λ text. string_bytes text ≡ dump_text self.now.database) }
     {
-        let mut out = String::new(*self.bases.allocator());
+        let mut out = String::new(*self.tables.bases.allocator());
         self.put_types(&mut out)?;
         self.put_bases(&mut out)?;
         self.put_virtuals(&mut out)?;

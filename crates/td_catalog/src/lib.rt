@@ -2,17 +2,18 @@
 #![tactic(auto)]
 
 mod bodies;
-mod by_place;
+pub mod by_place;
 pub mod catalog;
 pub mod copy;
 pub mod defining;
-mod definitions;
-mod drops;
-mod dump;
+pub mod definitions;
+pub mod drops;
+pub mod dump;
 pub mod entry;
+mod history;
 pub mod keys;
 pub mod laws;
 mod mentioned;
-mod scope;
+pub mod scope;
 mod stages;
 mod tables;

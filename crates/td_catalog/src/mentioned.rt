@@ -15,7 +15,7 @@ ghost use Rattle.td_types.specs.Headings.{are_distinct, heading_from};
 ghost use Rattle.td_types.specs.Types.{Type', attribute_names};
 ghost use Rattle.td_types.specs.Views.{pairs_view};
 
-use crate::tables::Tables;
+use crate::catalog::Catalog;
 use std::alloc::{AllocError, Global};
 use td_body::body::Body;
 use td_check::mentions::mentions;
@@ -90,18 +90,23 @@ fn constraint_mentions(
     tree_mentions(&scope, Space::Type, name, constraint)
 }
 
-impl<B: Body> Tables<B> {
+impl<B: Body> Catalog<B> {
     /// Whether a declared type mentions the type of the name.
     fn types_mention(&self, name: &Name) -> Result<bool, AllocError>
         ensures { IfOk result (λ found. found
-            ≡ list_any (type_mentions_type name.now) self.now.types) }
+            ≡ list_any (type_mentions_type name.now) self.now.database.types) }
     {
-        for place in 0..self.types.len() {
-            let Some(entry) = self.types.entry_at(place) else {
+        for place in 0..self.tables.types.len() {
+            let Some(entry) = self.tables.types.entry_at(place) else {
                 return Ok(false);
             };
             if components_name_user(entry.components(), name)
-                || constraint_mentions(*self.bases.allocator(), &self.types, entry, name)?
+                || constraint_mentions(
+                    *self.tables.bases.allocator(),
+                    &self.tables.types,
+                    entry,
+                    name,
+                )?
             {
                 return Ok(true);
             }
@@ -111,9 +116,9 @@ impl<B: Body> Tables<B> {
 
     /// Whether a base relvar mentions it.
     fn bases_mention(&self, name: &Name) -> bool
-        ensures { result ≡ list_any (base_mentions_type name.now) self.now.bases }
+        ensures { result ≡ list_any (base_mentions_type name.now) self.now.database.bases }
     {
-        for entry in self.bases.values() {
+        for entry in self.tables.bases.values() {
             if heading_names_user(&entry.heading, name) {
                 return true;
             }
@@ -128,11 +133,12 @@ impl<B: Body> Tables<B> {
         space: Space,
         name: &Name,
     ) -> Result<bool, AllocError>
-        requires { scope.now ≡ database_scope self.now }
+        requires { scope.now ≡ database_scope self.now.database }
         ensures { IfOk result (λ found. found
-            ≡ list_any (λ v. tree_mentions space scope.now name.now v.tree) self.now.virtuals) }
+            ≡ list_any (λ v. tree_mentions space scope.now name.now v.tree)
+            self.now.database.virtuals) }
     {
-        for entry in self.virtuals.values() {
+        for entry in self.tables.virtuals.values() {
             if tree_mentions(scope, space, name, entry.tree.tree())? {
                 return Ok(true);
             }
@@ -147,11 +153,12 @@ impl<B: Body> Tables<B> {
         space: Space,
         name: &Name,
     ) -> Result<bool, AllocError>
-        requires { scope.now ≡ database_scope self.now }
+        requires { scope.now ≡ database_scope self.now.database }
         ensures { IfOk result (λ found. found
-            ≡ list_any (λ c. tree_mentions space scope.now name.now c.tree) self.now.constraints) }
+            ≡ list_any (λ c. tree_mentions space scope.now name.now c.tree)
+            self.now.database.constraints) }
     {
-        for entry in self.constraints.values() {
+        for entry in self.tables.constraints.values() {
             if tree_mentions(scope, space, name, entry.tree.tree())? {
                 return Ok(true);
             }
@@ -161,7 +168,7 @@ impl<B: Body> Tables<B> {
 
     /// Whether an entry mentions the type of the name.
     pub(crate) fn is_type_in_use(&self, name: &Name) -> Result<bool, AllocError>
-        ensures { IfOk result (λ found. found ≡ is_type_in_use name.now self.now) }
+        ensures { IfOk result (λ found. found ≡ is_type_in_use name.now self.now.database) }
     {
         if self.types_mention(name)? || self.bases_mention(name) {
             return Ok(true);
@@ -175,7 +182,7 @@ impl<B: Body> Tables<B> {
 
     /// Whether an entry mentions the relvar of the name.
     pub(crate) fn is_relvar_in_use(&self, name: &Name) -> Result<bool, AllocError>
-        ensures { IfOk result (λ found. found ≡ is_relvar_in_use name.now self.now) }
+        ensures { IfOk result (λ found. found ≡ is_relvar_in_use name.now self.now.database) }
     {
         let scope = self.scope()?;
         Ok(

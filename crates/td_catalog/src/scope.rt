@@ -4,21 +4,21 @@ ghost use Rattle.td_catalog.specs.Database.{database_scope, with_constraints, wi
 ghost use Rattle.td_tree.specs.TreeViews.{tree_view};
 ghost use Rattle.td_types.specs.Types.{same_name};
 
-use crate::tables::Tables;
+use crate::catalog::Catalog;
 use std::alloc::AllocError;
 use td_body::body::Body;
 use td_check::scope::{Kind, Scope};
 use td_tree::expression::Expr;
 use td_tree::name::Name;
 
-impl<B: Body> Tables<B> {
+impl<B: Body> Catalog<B> {
     /// The types and the base relvars.
     fn known_bases(&self) -> Result<Scope<'_>, AllocError>
         ensures { IfOk result (λ s.
-            s ≡ database_scope (with_virtuals [] (with_constraints [] self.now))) }
+            s ≡ database_scope (with_virtuals [] (with_constraints [] self.now.database))) }
     {
-        let mut scope = Scope::new(*self.bases.allocator(), &self.types);
-        for (name, entry) in self.bases.iter() {
+        let mut scope = Scope::new(*self.tables.bases.allocator(), &self.tables.types);
+        for (name, entry) in self.tables.bases.iter() {
             let heading = entry.heading.try_clone()?;
             scope = scope.with_relvar(name.try_clone()?, Kind::Base, heading)?;
         }
@@ -28,11 +28,12 @@ impl<B: Body> Tables<B> {
     /// These, and so many of the virtual relvars, in order of definition.
     fn known_relvars(&self, count: usize) -> Result<Scope<'_>, AllocError>
         ensures { IfOk result (λ s. s ≡ database_scope
-            (with_virtuals (take count self.now.virtuals) (with_constraints [] self.now))) }
+            (with_virtuals (take count self.now.database.virtuals)
+            (with_constraints [] self.now.database))) }
     {
         let mut scope = self.known_bases()?;
         for place in 0..count {
-            let Some((name, entry)) = self.virtuals.get_index(place) else {
+            let Some((name, entry)) = self.tables.virtuals.get_index(place) else {
                 return Ok(scope);
             };
             let heading = entry.heading.try_clone()?;
@@ -44,44 +45,44 @@ impl<B: Body> Tables<B> {
     /// What is known to expressions where so many of the virtual relvars are known, in order of
     /// definition: the types, the relvars' names with their headings, and the constraints' names;
     /// no tuple is in hand.
-    pub(crate) fn scope_before(&self, count: usize) -> Result<Scope<'_>, AllocError>
+    pub fn scope_before(&self, count: usize) -> Result<Scope<'_>, AllocError>
         ensures { IfOk result (λ s. s ≡ database_scope
-            (with_virtuals (take count self.now.virtuals) self.now)) }
+            (with_virtuals (take count self.now.database.virtuals) self.now.database)) }
     {
         let mut scope = self.known_relvars(count)?;
-        for name in self.constraints.keys() {
+        for name in self.tables.constraints.keys() {
             scope = scope.with_constraint(name.try_clone()?)?;
         }
         Ok(scope)
     }
 
     /// What is known to expressions, with all of the virtual relvars.
-    pub(crate) fn scope(&self) -> Result<Scope<'_>, AllocError>
-        ensures { IfOk result (λ s. s ≡ database_scope self.now) }
+    pub fn scope(&self) -> Result<Scope<'_>, AllocError>
+        ensures { IfOk result (λ s. s ≡ database_scope self.now.database) }
     {
-        self.scope_before(self.virtuals.len())
+        self.scope_before(self.tables.virtuals.len())
     }
 
     /// How many virtual relvars there are.
-    pub(crate) fn virtual_count(&self) -> usize
-        ensures { result ≡ length self.now.virtuals }
+    pub fn virtual_count(&self) -> usize
+        ensures { result ≡ length self.now.database.virtuals }
     {
-        self.virtuals.len()
+        self.tables.virtuals.len()
     }
 
     /// The place in order of definition of the virtual relvar of that name.
-    pub(crate) fn virtual_place(&self, name: &Name) -> Option<usize>
-        ensures { result ≡ position (λ v. same_name v.name name.now) self.now.virtuals }
+    pub fn virtual_place(&self, name: &Name) -> Option<usize>
+        ensures { result ≡ position (λ v. same_name v.name name.now) self.now.database.virtuals }
     {
-        self.virtuals.get_index_of(name)
+        self.tables.virtuals.get_index_of(name)
     }
 
     /// The expression of the virtual relvar at a place in order of definition.
-    pub(crate) fn virtual_tree_at(&self, place: usize) -> Option<&Expr>
+    pub fn virtual_tree_at(&self, place: usize) -> Option<&Expr>
         ensures { option_map (λ e. tree_view e.now) result
-            ≡ option_map (λ v. v.tree) (slice_get self.now.virtuals place) }
+            ≡ option_map (λ v. v.tree) (slice_get self.now.database.virtuals place) }
     {
-        let (_, entry) = self.virtuals.get_index(place)?;
+        let (_, entry) = self.tables.virtuals.get_index(place)?;
         Some(entry.tree.tree())
     }
 }

@@ -1,22 +1,23 @@
-//! The tables of a catalogue: declared types, relvars and constraints, looked up by name.
-ghost use Rattle.std.specs.Prelude.{◌≡◌, IfSome, option_map, slice_get};
-ghost use Rattle.td_catalog.specs.CatalogViews.{IsEntry, base_view, virtual_view};
-ghost use Rattle.td_catalog.specs.Database.{base_named, constraint_named, empty_database};
-ghost use Rattle.td_catalog.specs.Database.{virtual_named};
-ghost use Rattle.td_catalog.specs.TypedDatabases.{IsTyped};
-ghost use Rattle.td_tree.specs.TreeViews.{tree_view};
-ghost use Rattle.td_types.specs.TypeLists.{declared_at};
+//! The tables of a catalogue, and steps back.
+ghost use Rattle.std.specs.Prelude.{◌≡◌, ◌+◌, ◌<◌, ◌≤◌, ◌∷◌, [], OnOk, false};
+ghost use Rattle.std.specs.Prelude.{if◌then◌else◌, insert, is_some, nat_lt};
+ghost use Rattle.std.specs.Map.{lookup};
+ghost use Rattle.indexmap.specs.IndexMap.{spare};
+ghost use Rattle.td_catalog.specs.CatalogViews.{AreEntries, database_view, rows_of};
+ghost use Rattle.td_catalog.specs.Histories.{HasRoom, IsStage, UsesRoomOf, before};
+ghost use Rattle.td_catalog.specs.Histories.{dropped_in, held_view};
+ghost use Rattle.td_catalog.specs.declared.history.Step.TheVariants as steps;
+ghost use Rattle.td_types.specs.Types.{same_name};
 
 use crate::entry::{BaseEntry, ConstraintEntry, VirtualEntry};
+use crate::history::Step;
 use indexmap::IndexMap;
-use std::alloc::Global;
-use std::marker::Model;
+use std::alloc::AllocError;
 use td_body::body::Body;
-use td_tree::expression::Expr;
 use td_tree::name::Name;
-use td_types::table::{TypeEntry, TypeTable};
+use td_types::table::TypeTable;
 
-/// What is defined, seen as the database whose base relvars hold the relations of their bodies.
+/// What is defined: types, relvars and constraints, each list in order of definition.
 #[derive(Drop)]
 pub(crate) struct Tables<B: Body> {
     pub(crate) types: TypeTable,
@@ -25,115 +26,114 @@ pub(crate) struct Tables<B: Body> {
     pub(crate) constraints: IndexMap<Name, ConstraintEntry>,
 }
 
-impl<B: Body> Model for Tables<B> {
-    ghost use Rattle.td_catalog.specs.Database.{Database};
-    ghost use Rattle.td_catalog.specs.DatabaseCode.{database_code};
+/// The place, or the length where it is past that.
+fn within(place: usize, len: usize) -> usize
+    ensures { result ≡ (if nat_lt place len then place else len) }
+{
+    if place < len { place } else { len }
+}
 
-    ghost Value = { Database };
-
-    ghost coded = { database_code };
-
-    ghost use Rattle.td_catalog.specs.CatalogViews.{IsCatalog, database_view};
-
-    ghost view = { λ a. database_view B.relation (record {
-      types = a.types;
-      bases = a.bases.entries;
-      virtuals = a.virtuals.entries;
-      constraints = a.constraints.entries;
-    }) };
-
-    ghost invariant = { λ a. IsCatalog B.relation B.keys (record {
-      types = a.types;
-      bases = a.bases.entries;
-      virtuals = a.virtuals.entries;
-      constraints = a.constraints.entries;
-    }) };
+/// Puts an entry in again at its place, or last where there are fewer. It takes no memory.
+fn put_back<V: Drop>(map: &mut IndexMap<Name, V>, place: usize, name: Name, value: V)
+    requires new { is_some (lookup (same_name name) map.old.entries) ≡ false }
+    requires room { 0 < spare map.old }
+    ensures entries { map.new.entries ≡ insert map.old.entries place (name, value) }
+    ensures room { spare map.old ≤ spare map.new + 1 }
+{
+    let at = within(place, map.len());
+    let _ = map.shift_insert(at, name, value).unwrap();
 }
 
 impl<B: Body> Tables<B> {
-    /// Nothing is defined. It takes no memory.
-    pub(crate) fn new(alloc: Global) -> Tables<B>
-        ensures { result ≡ empty_database }
+    /// Makes room for one entry more than so many, in each table.
+    pub(crate) fn make_room(&mut self, dropped: usize) -> Result<(), AllocError>
+        ensures rows { rows_of self.new ≡ rows_of self.old }
+        ensures room { UsesRoomOf 0 self.old self.new }
+        ensures ok { OnOk result (HasRoom (dropped + 1) self.new) }
     {
-        Tables {
-            types: TypeTable::new(alloc),
-            bases: IndexMap::new(alloc),
-            virtuals: IndexMap::new(alloc),
-            constraints: IndexMap::new(alloc),
+        let Some(room) = dropped.checked_add(1) else {
+            return Err(AllocError);
+        };
+        self.bases.reserve(room)?;
+        self.virtuals.reserve(room)?;
+        self.constraints.reserve(room)
+    }
+
+    /// The body of the base relvar of the name goes back.
+    fn revert_body(&mut self, name: &Name)
+        ensures held { held_view B.relation B.keys B.kept (rows_of self.new)
+            ≡ before B.relation B.keys B.kept (steps.BodyChanged name.now)
+            (held_view B.relation B.keys B.kept (rows_of self.old)) }
+        ensures room { UsesRoomOf 0 self.old self.new }
+    {
+        if let Some(place) = self.bases.get_index_of(name) {
+            let (_, entry) = self.bases.pair_mut(place);
+            entry.body.revert();
         }
     }
 
-    /// What holds of every catalogue. It takes no time.
-    pub(crate) fn reveal(&self)
-        ensures { IsTyped self.now }
+    /// Takes a step back. It takes no memory.
+    pub(crate) fn undo(&mut self, step: Step<B>)
+        requires stage { IsStage (before B.relation B.keys B.kept step
+            (held_view B.relation B.keys B.kept (rows_of self.old))) }
+        requires room { HasRoom (dropped_in (step ∷ [])) self.old }
+        ensures held { held_view B.relation B.keys B.kept (rows_of self.new)
+            ≡ before B.relation B.keys B.kept step
+            (held_view B.relation B.keys B.kept (rows_of self.old)) }
+        ensures room { UsesRoomOf (dropped_in (step ∷ [])) self.old self.new }
     {
-        let _ = &self.types;
+        self.types.reveal();
+        match step {
+            Step::TypeAdded(name) => self.types.remove(&name),
+            Step::BaseAdded => {
+                let _ = self.bases.pop();
+            }
+            Step::VirtualAdded => {
+                let _ = self.virtuals.pop();
+            }
+            Step::ConstraintAdded => {
+                let _ = self.constraints.pop();
+            }
+            Step::TypeDropped(types) => self.types = types,
+            Step::BaseDropped(place, name, entry) => {
+                put_back(&mut self.bases, place, name, entry);
+            }
+            Step::VirtualDropped(place, name, entry) => {
+                put_back(&mut self.virtuals, place, name, entry);
+            }
+            Step::ConstraintDropped(place, name, entry) => {
+                put_back(&mut self.constraints, place, name, entry);
+            }
+            Step::BodyChanged(name) => self.revert_body(&name),
+        }
     }
 
-    /// The declared types.
-    pub(crate) fn types(&self) -> &TypeTable
-        ensures { result.now ≡ self.now.types }
+    /// The body of the base relvar of the name keeps nothing any longer.
+    fn settle_body(&mut self, name: &Name)
+        requires { AreEntries B.relation B.keys self.old.bases.entries }
+        ensures entries { AreEntries B.relation B.keys self.new.bases.entries }
+        ensures database { database_view B.relation (rows_of self.new)
+            ≡ database_view B.relation (rows_of self.old) }
+        ensures room { UsesRoomOf 0 self.old self.new }
     {
-        &self.types
+        if let Some(place) = self.bases.get_index_of(name) {
+            let (_, entry) = self.bases.pair_mut(place);
+            entry.body.settle();
+        }
     }
 
-    /// The declared type of that name.
-    pub(crate) fn get_type(&self, name: &Name) -> Option<&TypeEntry>
-        ensures { option_map (λ e. e.now) result ≡ declared_at name.now self.now.types }
+    /// The bodies that the steps changed keep nothing any longer.
+    pub(crate) fn settle_bodies(&mut self, steps: &[Step<B>])
+        requires { AreEntries B.relation B.keys self.old.bases.entries }
+        ensures entries { AreEntries B.relation B.keys self.new.bases.entries }
+        ensures database { database_view B.relation (rows_of self.new)
+            ≡ database_view B.relation (rows_of self.old) }
+        ensures room { UsesRoomOf 0 self.old self.new }
     {
-        self.types.get(name)
-    }
-
-    /// The base relvar of that name.
-    pub(crate) fn get_base(&self, name: &Name) -> Option<&BaseEntry<B>>
-        ensures found { option_map (λ e. base_view B.relation (name.now, e.now)) result
-            ≡ base_named name.now self.now }
-        ensures entry { IfSome result (λ e. IsEntry B.relation B.keys e.now) }
-    {
-        self.bases.get(name)
-    }
-
-    /// The virtual relvar of that name.
-    pub(crate) fn get_virtual(&self, name: &Name) -> Option<&VirtualEntry>
-        ensures { option_map (λ e. virtual_view (name.now, e.now)) result
-            ≡ virtual_named name.now self.now }
-    {
-        self.virtuals.get(name)
-    }
-
-    /// The expression of the constraint of that name.
-    pub(crate) fn get_constraint(&self, name: &Name) -> Option<&Expr>
-        ensures { option_map (λ e. tree_view e.now) result
-            ≡ option_map (λ c. c.tree) (constraint_named name.now self.now) }
-    {
-        let entry = self.constraints.get(name)?;
-        Some(entry.tree.tree())
-    }
-
-    /// The name of the base relvar at a place in order of definition.
-    pub(crate) fn base_at(&self, place: usize) -> Option<&Name>
-        ensures { option_map (λ n. n.now) result
-            ≡ option_map (λ r. r.name) (slice_get self.now.bases place) }
-    {
-        let (name, _) = self.bases.get_index(place)?;
-        Some(name)
-    }
-
-    /// The name of the virtual relvar at a place in order of definition.
-    pub(crate) fn virtual_at(&self, place: usize) -> Option<&Name>
-        ensures { option_map (λ n. n.now) result
-            ≡ option_map (λ v. v.name) (slice_get self.now.virtuals place) }
-    {
-        let (name, _) = self.virtuals.get_index(place)?;
-        Some(name)
-    }
-
-    /// The name of the constraint at a place in order of definition.
-    pub(crate) fn constraint_at(&self, place: usize) -> Option<&Name>
-        ensures { option_map (λ n. n.now) result
-            ≡ option_map (λ c. c.name) (slice_get self.now.constraints place) }
-    {
-        let (name, _) = self.constraints.get_index(place)?;
-        Some(name)
+        'steps: for step in steps {
+            if let Step::BodyChanged(name) = step {
+                self.settle_body(name);
+            }
+        }
     }
 }

@@ -1,14 +1,64 @@
-use Rattle.std.proofs.Common.{subst}
-use Rattle.std.proofs.lemmas.Result.{err_from_is_err_and}
-use Rattle.std.specs.Prelude.{not}
-use Rattle.td_catalog.specs.Database.{Database, knows_relvar}
-use Rattle.td_check.specs.StatementTypes.{holds_or}
-use Rattle.td_tree.specs.Outcomes.{Answers}
-use Rattle.td_tree.specs.declared.cause.Cause.TheVariants as causes
+use Rattle.std.proofs.Common.{◌≡◌, ◌∙◌, ap, arith, false, map, refl, subst, sym}
+use Rattle.td_catalog.specs.CatalogViews.{IsCatalog, virtual_view, database_view, rows_of}
+use Rattle.td_catalog.specs.Histories.{IsHistory, history_view}
+use Rattle.td_catalog.specs.KeptDatabases.{CatalogView}
+use Rattle.td_catalog.specs.declared.history.Step.TheVariants.{VirtualAdded}
+use Rattle.td_catalog.proofs.LedSteps.{virtual_added}
+use Rattle.td_catalog.proofs.Steps.{history_next, room_next, view_next}
+use Rattle.td_catalog.specs.Database.{Database, VirtualRelvar, database_scope, knows_relvar, virtual_relvar, with_virtual}
+use Rattle.td_catalog.specs.TypedDatabases.{IsTypedVirtual}
+use Rattle.td_catalog.specs.declared.entry.VirtualEntry.{VirtualEntry}
+use Rattle.td_catalog.proofs.Changes.{catalog_with_virtual, no_virtual, view_with_virtual, with_virtual_rows}
+use Rattle.td_tree.specs.TreeViews.{tree_view}
+use Rattle.td_catalog.proofs.Rows.{rows_with}
 use Rattle.td_catalog.proofs.catalog.Catalog.add_virtual.Goals as goal
 
-pub returns-in_err-add_virtual-clause-answer : goal.returns-in_err-add_virtual-clause-answer
-returns-in_err-add_virtual-clause-answer g c =
-    let p = err_from_is_err_and c.from_residual-in_err-add_virtual.result c.from_residual-in_err-add_virtual.ensures.1 in
-    let answered : Answers (λ u. u) c.from_residual-in_err-add_virtual.result (holds_or causes.NameTaken (not (knows_relvar c.args.name c.in_ok-next.next))) = rw (p.1, p.2) c.in_err-add_virtual.ensures.answer in
-    subst (λ (db : Database). Answers (λ u. u) c.from_residual-in_err-add_virtual.result (holds_or causes.NameTaken (not (knows_relvar c.args.name db)))) c.in_ok-next.ensures answered
+pub invariant_of-self-2 : goal.invariant_of-self-2
+invariant_of-self-2 g c =
+    let relation = g.B.Body.relation in
+    let keys = g.B.Body.keys in
+    let kept = g.B.Body.kept in
+    let rows = rows_of c.prepare.new.tables in
+    let steps = c.prepare.new.log.steps.items in
+    let same : rows ≡ rows_of c.self.inside.tables = c.prepare.ensures.rows in
+    let seen : database_view relation rows ≡ c.args.self.now.database = ap (database_view relation) same ∙ ap (λ (v : CatalogView). v.database) c.self.view_is in
+    let history : IsHistory relation keys kept rows steps =
+    subst (λ r. IsHistory relation keys kept r steps) (sym same) (subst (IsHistory relation keys kept (rows_of c.self.inside.tables)) (sym c.prepare.ensures.steps) c.self.invariant.history) in
+    let free : knows_relvar c.args.name (database_view relation rows) ≡ false = ap (knows_relvar c.args.name) seen ∙ sym c.has_relvar.ensures ∙ c.if-has_relvar.false in
+    let entry : VirtualEntry = record { heading = c.args.heading; tree = c.in_ok-tree.tree; keys = c.args.keys } in
+    let catalog : IsCatalog relation keys (with_virtual_rows c.insert.new.self.entries rows) =
+    subst (λ es. IsCatalog relation keys (with_virtual_rows es rows)) (sym c.in_ok-insert.ensures.entries)
+    (catalog_with_virtual relation keys rows c.prepare.new.tables.virtuals c.args.name entry refl free history.catalog c.as_str.ensures.is_name
+    (subst (λ e. IsTypedVirtual (database_scope (database_view relation rows)) (virtual_relvar c.args.name c.args.heading e (map (λ key. key.items) c.args.keys.items)))
+    (sym c.in_ok-tree.ensures)
+    (subst (λ (db : Database). IsTypedVirtual (database_scope db) (virtual_relvar c.args.name c.args.heading (tree_view c.args.tree) (map (λ key. key.items) c.args.keys.items)))
+    (sym seen) c.requires))) in
+    let led = virtual_added relation keys kept rows c.insert.new.self.entries (c.args.name, entry)
+    (c.in_ok-insert.ensures.entries ∙ rows_with virtual_view (λ (v : VirtualRelvar). v.name) (λ row. refl) c.prepare.new.tables.virtuals c.args.name entry (no_virtual relation keys c.args.name rows free)) in
+    record {
+      history = history_next relation keys kept rows (with_virtual_rows c.insert.new.self.entries rows) steps c.note.new.self.steps.items VirtualAdded c.note.ensures led history catalog;
+      room = room_next c.prepare.new.tables _ steps c.note.new.self.steps.items VirtualAdded 1 c.note.ensures refl c.in_ok-prepare.ensures.room
+          (record { bases = omega arith; virtuals = c.insert.ensures.spare; constraints = omega arith });
+    }
+
+pub returns-clause-added : goal.returns-clause-added
+returns-clause-added g c =
+    let relation = g.B.Body.relation in
+    let keys = g.B.Body.keys in
+    let kept = g.B.Body.kept in
+    let rows = rows_of c.prepare.new.tables in
+    let steps = c.prepare.new.log.steps.items in
+    let same : rows ≡ rows_of c.self.inside.tables = c.prepare.ensures.rows in
+    let seen : database_view relation rows ≡ c.args.self.now.database = ap (database_view relation) same ∙ ap (λ (v : CatalogView). v.database) c.self.view_is in
+    let history : IsHistory relation keys kept rows steps =
+    subst (λ r. IsHistory relation keys kept r steps) (sym same) (subst (IsHistory relation keys kept (rows_of c.self.inside.tables)) (sym c.prepare.ensures.steps) c.self.invariant.history) in
+    let free : knows_relvar c.args.name (database_view relation rows) ≡ false = ap (knows_relvar c.args.name) seen ∙ sym c.has_relvar.ensures ∙ c.if-has_relvar.false in
+    let entry : VirtualEntry = record { heading = c.args.heading; tree = c.in_ok-tree.tree; keys = c.args.keys } in
+    let led = virtual_added relation keys kept rows c.insert.new.self.entries (c.args.name, entry)
+    (c.in_ok-insert.ensures.entries ∙ rows_with virtual_view (λ (v : VirtualRelvar). v.name) (λ row. refl) c.prepare.new.tables.virtuals c.args.name entry (no_virtual relation keys c.args.name rows free)) in
+    view_next relation keys kept rows (with_virtual_rows c.insert.new.self.entries rows) steps c.note.new.self.steps.items VirtualAdded c.note.ensures led c.args.self.now _
+    ((λ i. history_view relation keys kept (same i) (c.prepare.ensures.steps i)) ∙ c.self.view_is)
+    (ap (λ es. database_view relation (with_virtual_rows es rows)) c.in_ok-insert.ensures.entries
+    ∙ view_with_virtual relation keys rows c.prepare.new.tables.virtuals c.args.name entry refl free
+    ∙ ap (λ e. with_virtual (virtual_relvar c.args.name c.args.heading e (map (λ key. key.items) c.args.keys.items)) (database_view relation rows)) c.in_ok-tree.ensures
+    ∙ ap (with_virtual (virtual_relvar c.args.name c.args.heading (tree_view c.args.tree) (map (λ key. key.items) c.args.keys.items))) seen)

@@ -1,0 +1,12 @@
+use Rattle.std.specs.List.{list_any}
+use Rattle.td_catalog.specs.Database.{NamedConstraint}
+use Rattle.td_catalog.specs.Sought.{tree_mentions}
+use Rattle.td_catalog.proofs.Visits.{AreLeft, ConstraintTyped, constraint_passes}
+use Rattle.td_catalog.proofs.catalog.Catalog.constraints_mention.Given as goal
+
+abbrev pub invariant-loop-entry : goal.invariant-loop-entry
+invariant-loop-entry g l =
+    (goal.iterator-loop-entry g).can_next l.entry-iterator
+    × (goal.iterator-loop-entry g).is_finite l.entry-iterator
+    × AreLeft (ConstraintTyped l.scope) (constraint_passes (tree_mentions l.space l.scope l.name))
+    (list_any (λ (x : NamedConstraint). tree_mentions l.space l.scope l.name x.tree) l.self.database.constraints) l.entry-iterator

@@ -1,0 +1,11 @@
+use Rattle.std.proofs.Common.{refl}
+use Rattle.td_catalog.specs.CatalogViews.{constraint_view}
+use Rattle.td_catalog.specs.Database.{NamedConstraint}
+use Rattle.td_catalog.proofs.Copies.{IsCopied}
+use Rattle.td_catalog.proofs.catalog.Catalog.copied_constraints.Given as goal
+
+abbrev pub invariant-loop-name : goal.invariant-loop-name
+invariant-loop-name g l =
+    (goal.iterator-loop-name g).can_next l.name-iterator
+    × (goal.iterator-loop-name g).is_finite l.name-iterator
+    × IsCopied constraint_view (λ (c : NamedConstraint). c.name) (λ row. refl) l.self.database.constraints l.copy.entries l.name-iterator

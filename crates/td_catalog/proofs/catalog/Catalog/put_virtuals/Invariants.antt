@@ -1,0 +1,8 @@
+use Rattle.std.proofs.Common.{◌≡◌, ◌++◌, string_bytes, take}
+use Rattle.std.specs.List.{flat_map}
+use Rattle.td_catalog.specs.Dumps.{virtual_line}
+use Rattle.td_catalog.proofs.catalog.Catalog.put_virtuals.Given as goal
+
+abbrev pub invariant-loop-place : goal.invariant-loop-place
+invariant-loop-place g l =
+    string_bytes l.out ≡ string_bytes l.initial.out ++ flat_map virtual_line (take l.place l.self.database.virtuals)

@@ -1,0 +1,55 @@
+use Rattle.std.proofs.Common.{◌∙◌, ap, map, subst, sym}
+use Rattle.td_catalog.specs.KeptDatabases.{CatalogView}
+use Rattle.std.specs.List.{AllByRecursion, list_any}
+use Rattle.td_catalog.specs.Database.{Database, VirtualRelvar}
+use Rattle.td_catalog.specs.TypedDatabases.{IsTyped}
+use Rattle.td_catalog.specs.Sought.{tree_mentions}
+use Rattle.td_catalog.proofs.Visits.{AreLeft, VirtualTyped, virtual_passes, virtual_rows_typed, virtuals_as, left_all, left_next, left_none, left_passed}
+use Rattle.td_catalog.proofs.catalog.Catalog.virtuals_mention.Goals as goal
+use Rattle.td_check.specs.StaticTypes.{type_of}
+use Rattle.td_tree.specs.TreeViews.{tree_view}
+
+pub loop-entry-init : goal.loop-entry-init
+loop-entry-init g c =
+    let scope = c.args.scope.now in
+    let test = tree_mentions c.args.space scope c.args.name.now in
+    let total = list_any (λ (x : VirtualRelvar). test x.tree) c.args.self.now.database.virtuals in
+    let rows = c.self.inside.tables.virtuals.entries in
+    let db = c.args.self.now.database in
+    let seen = ap (λ (d : Database). d.virtuals) (ap (λ (v : CatalogView). v.database) c.self.view_is) in (
+      tt,
+      tt,
+      left_all (VirtualTyped scope) (virtual_passes test) total (map (λ row. row.1) rows) c.into_iter-entry-iterator.result
+          (subst (λ s. AllByRecursion (VirtualTyped s) (map (λ row. row.1) rows)) (sym c.requires) (virtual_rows_typed db rows (subst IsTyped (ap (λ (v : CatalogView). v.database) c.self.view_is) c.self.invariant.history.catalog.is_typed) seen))
+          (ap (list_any (λ (x : VirtualRelvar). test x.tree)) (sym seen) ∙ virtuals_as test rows)
+          (c.into_iter-entry-iterator.ensures.into_iter_gives ∙ c.values-entry-items.ensures.rest),
+    )
+
+pub loop-entry-preserved : goal.loop-entry-preserved
+loop-entry-preserved g c =
+    let scope = c.args.scope.now in
+    let test = tree_mentions c.args.space scope c.args.name.now in
+    let total = list_any (λ (x : VirtualRelvar). test x.tree) c.args.self.now.database.virtuals in
+    let left = subst (AreLeft (VirtualTyped scope) (virtual_passes test) total) c.in-Some.ensures.steps c.loop-entry.invariant.2 in
+    let typed = left.each.0 in
+    let answered =
+    c.in_ok-tree_mentions.ensures typed.0 (ap (type_of scope) c.tree.ensures ∙ typed.1) ∙ ap test c.tree.ensures in
+    (tt, tt, left_next (VirtualTyped scope) (virtual_passes test) total _ _ left (sym answered ∙ c.if-branch.false))
+
+pub returns-then-branch : goal.returns-then-branch
+returns-then-branch g c =
+    let scope = c.args.scope.now in
+    let test = tree_mentions c.args.space scope c.args.name.now in
+    let total = list_any (λ (x : VirtualRelvar). test x.tree) c.args.self.now.database.virtuals in
+    let left = subst (AreLeft (VirtualTyped scope) (virtual_passes test) total) c.in-Some.ensures.steps c.loop-entry.invariant.2 in
+    let typed = left.each.0 in
+    let answered =
+    c.in_ok-tree_mentions.ensures typed.0 (ap (type_of scope) c.tree.ensures ∙ typed.1) ∙ ap test c.tree.ensures in
+    left_passed (VirtualTyped scope) (virtual_passes test) total _ _ left (sym answered ∙ c.if-branch.true)
+
+pub returns : goal.returns
+returns g c =
+    let scope = c.args.scope.now in
+    let test = tree_mentions c.args.space scope c.args.name.now in
+    let total = list_any (λ (x : VirtualRelvar). test x.tree) c.args.self.now.database.virtuals in
+    left_none (VirtualTyped scope) (virtual_passes test) total c.loop-entry.entry-iterator c.loop-entry.invariant.2 c.in-None.ensures.steps.0

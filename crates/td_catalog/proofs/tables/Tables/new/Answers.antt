@@ -1,8 +1,0 @@
-use Rattle.td_catalog.proofs.Changes.{catalog_empty}
-use Rattle.td_catalog.proofs.tables.Tables.new.Goals as goal
-
-pub invariant_of-result : goal.invariant_of-result
-invariant_of-result g c =
-    catalog_empty g.B.Body.relation g.B.Body.keys
-    (record { types = c.new.result; bases = c.new-2.result.entries; virtuals = c.new-3.result.entries; constraints = c.new-4.result.entries }) c.new.ensures
-    c.new-2.ensures.empty c.new-3.ensures.empty c.new-4.ensures.empty

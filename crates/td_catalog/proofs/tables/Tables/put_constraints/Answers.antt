@@ -1,7 +1,0 @@
-use Rattle.td_catalog.specs.Dumps.{constraint_line}
-use Rattle.td_catalog.proofs.Lines.{line_put}
-use Rattle.td_catalog.proofs.tables.Tables.put_constraints.Goals as goal
-
-pub loop-place-preserved : goal.loop-place-preserved
-loop-place-preserved g c =
-    line_put constraint_line c.args.self.now.constraints c.loop-place.place _ _ c.loop-place.invariant _ _ c.in-Some.ensures c.in_ok-put_constraint.ensures
