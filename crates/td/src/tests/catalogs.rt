@@ -174,17 +174,21 @@ fn emptied<B: Body>(alloc: Global, body: &B, heading: &Heading) -> Result<B, Fau
     requires { heading.now ≡ (B.relation body.now).heading }
     ensures relation { IfOk result (λ b. B.relation b ≡ relation_view heading.now []) }
     ensures keys { IfOk result (λ b. B.keys b ≡ B.keys body.now) }
+    ensures kept { IfOk result (λ b. B.kept b ≡ []) }
 {
     let none = Rel::of_ascending(heading.try_clone()?, Vec::new(alloc))?;
     let all = body.to_rel()?;
     let mut copy = body.try_clone()?;
     let _ = copy.len();
     copy.change(&all, &none)?;
+    copy.settle();
     Ok(copy)
 }
 
 /// Gives the base relvar a body of its keys without tuples.
-fn empty(catalog: &mut Catalog<SortedBody>, alloc: Global, relvar: &Name) -> Result<(), Fault> {
+fn empty(catalog: &mut Catalog<SortedBody>, alloc: Global, relvar: &Name) -> Result<(), Fault>
+    requires { catalog.old.kept ≡ [] }
+{
     let Some(entry) = catalog.get_base(relvar) else {
         return Err(Fault::Refused(Cause::NameUnknown));
     };
@@ -194,7 +198,9 @@ fn empty(catalog: &mut Catalog<SortedBody>, alloc: Global, relvar: &Name) -> Res
 }
 
 /// Gives P a body of its keys without tuples.
-fn empty_p(catalog: &mut Catalog<SortedBody>, alloc: Global) -> Result<(), Fault> {
+fn empty_p(catalog: &mut Catalog<SortedBody>, alloc: Global) -> Result<(), Fault>
+    requires { catalog.old.kept ≡ [] }
+{
     let relvar = name(alloc, "P")?;
     empty(catalog, alloc, &relvar)
 }
@@ -242,6 +248,34 @@ fn another_body_and_drops(rt: HostRuntime) {
             "{text}"
         );
     }
+    assert!(rt; is_dump(&catalog, "") == Ok(true));
+    drop(catalog);
+}
+
+// ---- what is gone back to
+
+/// Drops all that may be dropped, in turn.
+fn drop_all(catalog: &mut Catalog<SortedBody>, alloc: Global) {
+    for (kind, text, _) in DROPS {
+        let _ = dropped(catalog, alloc, *kind, text);
+    }
+}
+
+#[test]
+fn catalogues_go_back(rt: HostRuntime) {
+    let alloc = rt.alloc();
+    let mut catalog = database(alloc, STATEMENTS).expect(&rt, "memory");
+    assert!(rt; catalog.kept() == 0);
+    drop_all(&mut catalog, alloc);
+    assert!(rt; catalog.kept() == 4);
+    assert!(rt; is_dump(&catalog, "") == Ok(true));
+    assert!(rt; are_all_answered(&mut catalog, alloc, Ok(())));
+    catalog.revert(0);
+    assert!(rt; catalog.kept() == 0);
+    assert!(rt; is_dump(&catalog, DUMP) == Ok(true));
+    drop_all(&mut catalog, alloc);
+    catalog.settle();
+    assert!(rt; catalog.kept() == 0);
     assert!(rt; is_dump(&catalog, "") == Ok(true));
     drop(catalog);
 }

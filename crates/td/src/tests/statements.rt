@@ -1,4 +1,6 @@
 //! Statements, one after another, and the database that they leave.
+ghost use Rattle.std.specs.Prelude.{◌≡◌, [], IfOk};
+
 use std::alloc::{AllocError, Global};
 use td_body::sorted::SortedBody;
 use td_catalog::catalog::Catalog;
@@ -40,13 +42,17 @@ fn database_of(
     alloc: Global,
     engine: &mut Engine<SortedBody>,
     statements: &[&str],
-) -> Result<Catalog<SortedBody>, AllocError> {
+) -> Result<Catalog<SortedBody>, AllocError>
+    ensures { IfOk result (λ c. c.kept ≡ []) }
+{
     steps(alloc, engine, statements)?;
     engine.catalog().try_clone()
 }
 
 /// The database that the statements define.
-pub fn database(alloc: Global, statements: &[&str]) -> Result<Catalog<SortedBody>, AllocError> {
+pub fn database(alloc: Global, statements: &[&str]) -> Result<Catalog<SortedBody>, AllocError>
+    ensures { IfOk result (λ c. c.kept ≡ []) }
+{
     let mut engine = Engine::new(alloc);
     let database = database_of(alloc, &mut engine, statements);
     drop(engine);
