@@ -1,5 +1,5 @@
 -- Checks that are made one after another until one refuses.
-use Rattle.std.proofs.Common.{◌≡◌, ◌∙◌, ◌∷◌, ◌+◌, ◌≤◌, ℕ, zero, suc, List, [], Option, Some, None, Err, ap, drop, length, arith}
+use Rattle.std.proofs.Common.{◌≡◌, ◌∙◌, ◌∷◌, ◌+◌, ◌≤◌, ℕ, zero, suc, List, [], Option, Some, None, Err, ap, drop, length, arith, refl}
 use Rattle.std.specs.List.{slice_get}
 use Rattle.std.specs.Option.{option_or}
 use Rattle.std.proofs.lemmas.List.{drop_all}
@@ -21,6 +21,13 @@ module _ {A : Type 0} where
       by_place [] j f = absurd (cc)
       by_place (y ∷ ys) zero f = let same : y ≡ x = cc in ap (λ z. z ∷ ys) same
       by_place (y ∷ ys) (suc j) f = by_place ys j f
+
+  -- where nothing stands at a place, nothing is left from it on
+  pub none_left : (xs : List A) (i : ℕ) → slice_get xs i ≡ None → drop i xs ≡ []
+  none_left [] zero e = refl
+  none_left [] (suc i) e = refl
+  none_left (x ∷ xs) zero e = absurd (cc)
+  none_left (x ∷ xs) (suc i) e = none_left xs i e
 
   module _ (check : A → Option Refusal) (xs : List A) where
     -- the first that refuses is among those from a place on

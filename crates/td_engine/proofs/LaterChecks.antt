@@ -28,12 +28,13 @@ last_decides check [] x none = alone (check x)
     alone : (o : Option Refusal) → option_or o None ≡ o
     alone None = refl
     alone (Some r) = refl
-last_decides check (y ∷ ys) x none = by_check (check y) refl none
+last_decides check (y ∷ ys) x none = by_check (check y) refl none (last_decides check ys x)
   where
     by_check : (o : Option Refusal) → check y ≡ o → option_or o (first_refusal check ys) ≡ None
+        → (first_refusal check ys ≡ None → first_refusal check (ys ++ (x ∷ [])) ≡ check x)
         → option_or (check y) (first_refusal check (ys ++ (x ∷ []))) ≡ check x
-    by_check None is rest = ap (λ o. option_or o (first_refusal check (ys ++ (x ∷ [])))) is ∙ last_decides check ys x rest
-    by_check (Some r) is rest = absurd (cc)
+    by_check None is rest behind = ap (λ o. option_or o (first_refusal check (ys ++ (x ∷ [])))) is ∙ behind rest
+    by_check (Some r) is rest behind = absurd (cc)
 
 module _ (db next : Database) (legal : IsLegal db) (later : HasLater db next) where
   same_value : (e : Tree) → IsChecked (database_scope db) [] e → value_of (world_of next) [] e ≡ value_of (world_of db) [] e

@@ -1,5 +1,6 @@
 -- What is checked after a definition in a legal database: what is new, and nothing else.
 use Rattle.std.proofs.Common.{◌≡◌, ◌∙◌, ◌∷◌, ◌++◌, ◌-◌, ◌+◌, ℕ, zero, suc, List, [], None, Option, Some, Result, arith, ap, length, map, not, refl, subst, sym, true}
+use Rattle.std.proofs.lemmas.List.{length-append}
 use Rattle.std.specs.List.{slice_get}
 use Rattle.std.specs.Prelude.{is_some, ⊤}
 use Rattle.td_catalog.specs.Database.{BaseRelvar, Database, NamedConstraint, VirtualRelvar, database_scope, knows_relvar, virtual_relvar, with_base, with_constraint, with_declared, with_virtual}
@@ -24,17 +25,17 @@ use Rattle.td_types.proofs.OutcomeLaws.{valued_is, value_of_with}
 use Rattle.td_types.specs.TypeLists.{declared_type}
 use Rattle.td_types.specs.Types.{Type', boolean, char, integer, relation, tuple, unpack, user}
 
+-- the one behind a list
+behind_all : {A : Type 0} (xs : List A) (x : A) → slice_get (xs ++ (x ∷ [])) (length xs) ≡ Some x
+behind_all [] x = refl
+behind_all (y ∷ ys) x = behind_all ys x
+
 -- the last of a list
 pub last_of : {A : Type 0} (xs : List A) (x : A) → slice_get (xs ++ (x ∷ [])) (length (xs ++ (x ∷ [])) - 1) ≡ Some x
-last_of xs x = ap (slice_get (xs ++ (x ∷ []))) (one_less xs) ∙ behind xs
+last_of xs x = ap (λ n. slice_get (xs ++ (x ∷ [])) (n - 1)) (length-append xs (x ∷ [])) ∙ ap (slice_get (xs ++ (x ∷ []))) (one_less (length xs)) ∙ behind_all xs x
   where
-    one_less : (ys : List _) → length (ys ++ (x ∷ [])) - 1 ≡ length ys
-    one_less [] = refl
-    one_less (y ∷ ys) = omega (arith, one_less ys)
-
-    behind : (ys : List _) → slice_get (ys ++ (x ∷ [])) (length ys) ≡ Some x
-    behind [] = refl
-    behind (y ∷ ys) = behind ys
+    one_less : (n : ℕ) → n + 1 - 1 ≡ n
+    one_less n = omega arith
 
 module _ (db : Database) (legal : IsLegal db) where
   new_relvar : (n : Text) → holds_or causes.NameTaken (not (is_some (known_relvar (database_scope db) n))) ≡ Valued tt → not (knows_relvar n db) ≡ true

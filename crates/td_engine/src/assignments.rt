@@ -9,9 +9,11 @@ ghost use Rattle.td_engine.specs.Assignments.{with_assignment, with_gift, with_g
 ghost use Rattle.td_engine.specs.Carried.{Changes, IsAdmitted, Passes};
 ghost use Rattle.td_engine.specs.Checks.{BasesHold, base_check, first_refusal};
 ghost use Rattle.td_engine.specs.Gifts.{AreGifts, IsGift, gift_of, gifted};
+ghost use Rattle.td_engine.specs.LeftOut.{PassesElsewhere};
 ghost use Rattle.td_engine.specs.Machine.{by_outcome, changed};
 ghost use Rattle.td_engine.specs.Legality.{IsLegal};
 ghost use Rattle.td_engine.specs.Stages.{GoesOn};
+ghost use Rattle.td_eval.specs.ReachedRelvars.{reached_from};
 ghost use Rattle.td_tree.specs.Outcomes.{Answers};
 ghost use Rattle.td_tree.specs.TreeViews.{assignment_view, statement_view};
 
@@ -206,8 +208,8 @@ fn put_gifts<B: Body>(
     Ok(())
 }
 
-/// The names of an index, in its order.
-fn names_of_all<V>(alloc: Global, given: &IndexMap<Name, V>) -> Result<Vec<Name>, AllocError>
+/// The names of what was given something, in its order.
+fn names_of_all(alloc: Global, given: &IndexMap<Name, Rel>) -> Result<Vec<Name>, AllocError>
     ensures { IfOk result (λ names. names.items ≡ keys_of given.now.entries) }
 {
     let mut names = Vec::with_capacity(alloc, given.len())?;
@@ -220,20 +222,19 @@ fn names_of_all<V>(alloc: Global, given: &IndexMap<Name, V>) -> Result<Vec<Name>
     Ok(names)
 }
 
-/// After the base relvars of a legal database were given this, what it reaches passes its checks;
-/// nothing else can have changed.
+/// After the base relvars were given this, what it reaches passes its checks; nothing else can
+/// have changed.
 fn settle_gifts<B: Body>(
     alloc: Global,
     catalog: &Catalog<B>,
     given: &IndexMap<Name, Rel>,
 ) -> Result<(), Failure>
-    ghost db: { Database }
-    requires legal { IsLegal db }
-    requires given { catalog.now.database ≡ with_gifts given.now.entries db }
     requires held { BasesHold catalog.now.database }
+    requires elsewhere { PassesElsewhere
+        (reached_from (keys_of given.now.entries) catalog.now.database.virtuals)
+        catalog.now.database }
     ensures { Changes catalog.now.database result (changed catalog.now.database) }
 {
-    catalog.reveal();
     let reached = reached_from(catalog, names_of_all(alloc, given)?)?;
     settled(alloc, catalog, &reached)
 }

@@ -1,6 +1,6 @@
 //! The keys of virtual relvars and the constraints of a catalogue, after a definition or an
 //! assignment.
-ghost use Rattle.std.specs.Prelude.{◌≡◌, [], IfOk, map};
+ghost use Rattle.std.specs.Prelude.{◌≡◌, [], IfOk, OnOk, map};
 ghost use Rattle.std.specs.List.{AllByRecursion};
 ghost use Rattle.td_catalog.specs.CatalogViews.{IsEntry, entry_keys, virtual_view};
 ghost use Rattle.td_catalog.specs.Database.{Database, NamedConstraint, VirtualRelvar};
@@ -15,7 +15,7 @@ ghost use Rattle.td_engine.specs.Machine.{changed};
 ghost use Rattle.td_engine.specs.Refusals.{by_constraint, by_key};
 ghost use Rattle.td_eval.specs.DatabaseWorlds.{world_of};
 ghost use Rattle.td_eval.specs.OperatorValues.{on_relation, truth_value};
-ghost use Rattle.td_eval.specs.ReachedRelvars.{reached_from};
+ghost use Rattle.td_eval.specs.ReachedRelvars.{reached_from, with_dependent};
 ghost use Rattle.td_eval.specs.TreeValues.{value_of};
 ghost use Rattle.td_eval.specs.Worlds.{name_value};
 ghost use Rattle.td_tree.specs.Outcomes.{Answers, Outcome, Valued, with_value};
@@ -291,6 +291,22 @@ pub(crate) fn settled<B: Body>(
 
 // ---- what is reached
 
+/// Adds a virtual relvar in which one of those reached is named.
+fn reach(
+    reached: &mut Vec<Name>,
+    name: &Name,
+    entry: &VirtualEntry,
+) -> Result<(), AllocError>
+    ensures { OnOk result (reached.new.items
+        ≡ with_dependent reached.old.items (virtual_view (name.now, entry.now))) }
+{
+    if !entry.tree.names_any(reached) {
+        return Ok(());
+    }
+    reached.push(name.try_clone()?)?;
+    Ok(())
+}
+
 /// What a change of these base relvars reaches: with them each virtual relvar in which one that is
 /// reached is named.
 pub(crate) fn reached_from<B: Body>(
@@ -305,9 +321,7 @@ pub(crate) fn reached_from<B: Body>(
         let Some((name, entry)) = catalog.nth_virtual(place) else {
             return Ok(reached);
         };
-        if entry.tree.names_any(&reached) {
-            reached.push(name.try_clone()?)?;
-        }
+        reach(&mut reached, name, entry)?;
     }
     Ok(reached)
 }

@@ -5,15 +5,26 @@ use Rattle.td_engine.proofs.Settled.{bases_hold}
 use Rattle.td_engine.specs.Assignments.{with_gifts}
 use Rattle.td_engine.specs.Carried.{Changes}
 use Rattle.td_engine.specs.Checks.{BasesHold}
+use Rattle.std.specs.Map.{keys_of}
+use Rattle.td_engine.proofs.TypedAfter.{gifts_typed}
+use Rattle.td_engine.proofs.UnreachedChecks.{gifts_pass_elsewhere}
+use Rattle.td_engine.specs.LeftOut.{PassesElsewhere}
+use Rattle.td_eval.specs.ReachedRelvars.{reached_from}
 use Rattle.td_engine.specs.Machine.{changed}
 use Rattle.td_engine.proofs.assignments.give_all.Goals as goal
 
 pub put_gifts-requires : goal.put_gifts-requires
 put_gifts-requires g c = λ κs within. (within, ((refl, c.reveal.ensures, bases_hold c.args.catalog.now.database c.requires.legal), c.requires.gifts))
 
-pub settle_gifts-requires : goal.settle_gifts-requires
-settle_gifts-requires g c =
-    λ κs within. (within, (c.requires.legal, (c.in-Ok.ensures.next, subst BasesHold (sym c.in-Ok.ensures.next) c.in-Ok.ensures.check)))
+pub settle_gifts-requires-clause-held : goal.settle_gifts-requires-clause-held
+settle_gifts-requires-clause-held g c = subst BasesHold (sym c.in-Ok.ensures.next) c.in-Ok.ensures.check
+
+pub settle_gifts-requires-clause-elsewhere : goal.settle_gifts-requires-clause-elsewhere
+settle_gifts-requires-clause-elsewhere g c =
+    let db = c.args.catalog.now.database in
+    let given = c.args.given.now.entries in
+    subst (λ (m : Database). PassesElsewhere (reached_from (keys_of given) m.virtuals) m) (sym c.in-Ok.ensures.next)
+    (gifts_pass_elsewhere db given c.requires.legal (gifts_typed db given c.requires.legal c.requires.gifts))
 
 pub returns-in-Ok-clause-change : goal.returns-in-Ok-clause-change
 returns-in-Ok-clause-change g c =
