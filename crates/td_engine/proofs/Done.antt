@@ -48,3 +48,13 @@ pub made_of : {E A : Type 0} (done : Result ⊤ E) (v w : CatalogView) (o : Opti
     → OnOk done (IfSome o (λ x. w ≡ advanced (next x) v)) → OnOk done (w.database ≡ next x)
 made_of (Ok u) v w o x next is made = ap (λ (y : CatalogView). y.database) (subst (λ p. IfSome p (λ x. w ≡ advanced (next x) v)) is made)
 made_of (Err e) v w o x next is made = tt
+
+pub always_ok : {E : Type 0} (done : Result ⊤ E) (P : Type 0) → P → OnOk done P
+always_ok (Ok u) P p = p
+always_ok (Err e) P p = tt
+
+-- what is made of a value that was answered
+pub answers_then : {A B : Type 0} (result : Result A Fault) (o : Outcome A) (f : A → B) → Answers (λ x. x) result o
+    → Answers f result (with_value o (λ x. Valued (f x)))
+answers_then (Ok x) o f h = ap (λ p. with_value p (λ x. Valued (f x))) h
+answers_then (Err e) o f h = refused_on (λ x. x) f e o (λ x. Valued (f x)) h
