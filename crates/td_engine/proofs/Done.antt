@@ -55,3 +55,13 @@ made_of (Err e) v w o x next is made = tt
 pub new_there : (done : Result ⊤ Fault) (known here : Bool) → known ≡ here → Answers (λ u. u) done (holds_or causes.NameTaken (not known)) → OnOk done (IsTrue (not here))
 new_there (Ok u) known here same told = ap not (sym same) ∙ is_held causes.NameTaken (not known) told
 new_there (Err f) known here same told = tt
+
+pub always_ok : {E : Type 0} (done : Result ⊤ E) (P : Type 0) → P → OnOk done P
+always_ok (Ok u) P p = p
+always_ok (Err e) P p = tt
+
+-- what is made of a value that was answered
+pub answers_then : {A B : Type 0} (result : Result A Fault) (o : Outcome A) (f : A → B) → Answers (λ x. x) result o
+    → Answers f result (with_value o (λ x. Valued (f x)))
+answers_then (Ok x) o f h = ap (λ p. with_value p (λ x. Valued (f x))) h
+answers_then (Err e) o f h = refused_on (λ x. x) f e o (λ x. Valued (f x)) h

@@ -25,10 +25,10 @@ use Rattle.td_value.specs.Values.{Relation, IsRelation}
 pub some_is : {A : Type 0} (x y : A) → Some x ≡ Some y → x ≡ y
 some_is x y e = cc
 
-abbrev names_of : List BaseRelvar → List (List ℕ)
+abbrev pub names_of : List BaseRelvar → List (List ℕ)
 names_of = map (λ r. r.name)
 
-abbrev AreApart : List BaseRelvar → Type 0
+abbrev pub AreApart : List BaseRelvar → Type 0
 AreApart bs = are_distinct (names_of bs) ≡ true
 
 member_at : {A : Type 0} (P : A → Type 0) (xs : List A) (i : ℕ) (x : A) → slice_get xs i ≡ Some x → AllByRecursion P xs → P x

@@ -1,6 +1,7 @@
 mod Admitted
 mod Answered
 mod BaseAdmitted
+mod DeletedTuples
 mod Done
 pub mod DumpFacts
 pub mod DumpInner
@@ -13,13 +14,17 @@ pub mod DumpScript
 pub mod DumpSplit
 mod EachOf
 mod Effects
+mod FirstGifts
 mod Gifted
 mod GiftsInTurn
+mod GivenChanges
 mod GivenRelations
 mod InOrder
 pub mod Kept
 mod KeysInTurn
+mod LeftTuples
 pub mod KeptLegal
+mod OneTarget
 mod Opens
 mod NewChecks
 mod OrderedGifts

@@ -13,7 +13,9 @@ use Rattle.td_engine.proofs.SameTests.{IsKnown, all_known, name_checked, same_te
 use Rattle.td_engine.proofs.TestsAfterDrops.{IsAsked, all_asked, tree_checked}
 use Rattle.td_engine.proofs.WrittenStatements.{definitions_written}
 use Rattle.td_engine.specs.Assignments.{Given, given_to, with_gift, with_gifts}
+use Rattle.td_engine.specs.Changes.{given_in}
 use Rattle.td_engine.specs.Checks.{constraint_check, unpassed, virtual_check}
+use Rattle.td_engine.specs.declared.change.Change.{Change}
 use Rattle.td_engine.specs.LeftOut.{PassesElsewhere, PassesUnlessNamed, PassesUnlessReached}
 use Rattle.td_engine.specs.Legality.{HasKeysThatHold, IsLegal, IsTrueOf}
 use Rattle.td_engine.specs.Refusals.{by_constraint, by_key}
@@ -104,3 +106,8 @@ module _ (changed : List (List ℕ)) (db next : Database) (legal : IsLegal db) (
 pub gifts_pass_elsewhere : (db : Database) (given : Given) → IsLegal db → IsTyped (with_gifts given db)
     → PassesElsewhere (reached_from (keys_of given) db.virtuals) (with_gifts given db)
 gifts_pass_elsewhere db given legal is_typed = passes_elsewhere (keys_of given) db (with_gifts given db) legal is_typed (gifts_differ db given) refl
+
+-- what is given by changes has the targets of these
+pub same_targets : (db : Database) (es : List (List ℕ × Change)) → keys_of (given_in db es) ≡ keys_of es
+same_targets db [] = refl
+same_targets db (e ∷ es) = ap (λ ns. e.0 ∷ ns) (same_targets db es)

@@ -1,5 +1,6 @@
 pub mod Assignments
 pub mod Carried
+pub mod Changes
 pub mod Checks
 pub mod Faults
 pub mod Gifts

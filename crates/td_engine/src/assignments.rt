@@ -1,14 +1,17 @@
-//! Assignments, all at once: what their targets are given, and the catalogue with it.
-ghost use Rattle.std.specs.Prelude.{◌≡◌, ◌+◌, ◌<◌, [], IfOk, IfSome, OnOk};
+//! Assignments, all at once: what they change of their targets, and the catalogue with it.
+ghost use Rattle.std.specs.Prelude.{◌≡◌, ◌+◌, ◌<◌, ◌∷◌, [], IfOk, IfSome, OnOk};
 ghost use Rattle.std.specs.Prelude.{length, map, slice_get};
 ghost use Rattle.std.specs.Map.{keys_of};
 ghost use Rattle.td_catalog.specs.Database.{Database, base_named, base_relvar, with_bases, with_body};
 ghost use Rattle.td_catalog.specs.TypedDatabases.{IsTyped};
-ghost use Rattle.td_engine.specs.Assignments.{assigned_database, current, given_by};
+ghost use Rattle.td_engine.specs.Assignments.{assigned_database, given_by, target_of};
 ghost use Rattle.td_engine.specs.Assignments.{with_assignment, with_gift, with_gifts};
 ghost use Rattle.td_engine.specs.Carried.{Changes, IsAdmitted, Passes};
+ghost use Rattle.td_engine.specs.Changes.{AreChanges, AreTypedChanges, IsChangeOf, IsTypedChange};
+ghost use Rattle.td_engine.specs.Changes.{IsOfHeading, after, given_as};
+ghost use Rattle.td_engine.specs.Changes.{given_in, gift_over};
 ghost use Rattle.td_engine.specs.Checks.{BasesHold, base_check, first_refusal};
-ghost use Rattle.td_engine.specs.Gifts.{AreGifts, IsGift, gift_of, gifted};
+ghost use Rattle.td_engine.specs.Gifts.{AreGifts, gift_of, gifted};
 ghost use Rattle.td_engine.specs.LeftOut.{PassesElsewhere};
 ghost use Rattle.td_engine.specs.Machine.{by_outcome, changed};
 ghost use Rattle.td_engine.specs.Legality.{IsLegal};
@@ -17,67 +20,122 @@ ghost use Rattle.td_eval.specs.ReachedRelvars.{reached_from};
 ghost use Rattle.td_tree.specs.Outcomes.{Answers};
 ghost use Rattle.td_tree.specs.TreeViews.{assignment_view, statement_view};
 
-use crate::bodies::differences;
+use crate::change::Change;
 use crate::checks::{entry_keys_hold, reached_from, settled};
 use crate::definitions::failed;
 use crate::refusal::{Failure, Refusal};
-use crate::updates::{assignment_value, target_of};
+use crate::updates::{change_of, put_in, target_of};
 use indexmap::IndexMap;
-use std::alloc::{AllocError, Global};
+use std::alloc::Global;
 use td_body::body::Body;
 use td_catalog::catalog::Catalog;
+use td_catalog::entry::BaseEntry;
 use td_tree::cause::Cause;
 use td_tree::fault::Fault;
 use td_tree::name::Name;
 use td_tree::statement::{Assignment, Statement};
-use td_value::relation::Rel;
 
 // ---- what targets are given
 
-/// The relation of a relvar so far: what it was given, else what it held before the statement.
-fn current<B: Body>(
+/// What an assignment changes of what a base relvar holds.
+fn change_over<B: Body>(
+    alloc: Global,
     catalog: &Catalog<B>,
-    given: &IndexMap<Name, Rel>,
-    target: &Name,
-) -> Result<Rel, Fault>
-    ensures { Answers (λ r. r) result (current catalog.now.database
-        given.now.entries target.now) }
+    entry: &BaseEntry<B>,
+    assignment: &Assignment,
+) -> Result<Change, Fault>
+    ensures answer { Answers (λ c. after c (B.relation entry.now.body)) result
+        (gift_over catalog.now.database (B.relation entry.now.body)
+        (assignment_view assignment.now)) }
+    ensures headings { IfOk result (IsOfHeading (B.relation entry.now.body).heading) }
 {
-    if let Some(relation) = given.get(target) {
-        return Ok(relation.try_clone()?);
-    }
-    match catalog.get_base(target) {
-        Some(entry) => Ok(entry.body.to_rel()?),
-        None => Err(Fault::Refused(Cause::NameUnknown)),
+    let so_far = entry.body.to_rel()?;
+    change_of(alloc, catalog, &so_far, assignment)
+}
+
+/// What the first assignment to a target changes.
+fn first_change<B: Body>(
+    alloc: Global,
+    catalog: &Catalog<B>,
+    assignment: &Assignment,
+) -> Result<Change, Fault>
+    ensures answer { Answers
+        (given_as catalog.now.database (target_of (assignment_view assignment.now))) result
+        (gift_of catalog.now.database [] (assignment_view assignment.now)) }
+    ensures change { IfOk result (λ c.
+        IsChangeOf catalog.now.database (target_of (assignment_view assignment.now), c)) }
+{
+    let Some(entry) = catalog.get_base(target_of(assignment)) else {
+        return Err(Fault::Refused(Cause::NameUnknown));
+    };
+    match assignment {
+        Assignment::Insert(_, source) => put_in(alloc, catalog, &entry.heading, source),
+        _ => change_over(alloc, catalog, entry, assignment),
     }
 }
 
-/// What an assignment gives to its target.
+/// What a later one changes, with what was changed before.
+fn next_change<B: Body>(
+    alloc: Global,
+    catalog: &Catalog<B>,
+    change: &Change,
+    assignment: &Assignment,
+) -> Result<Change, Fault>
+    requires { IsChangeOf catalog.now.database
+        (target_of (assignment_view assignment.now), change.now) }
+    ensures answer { Answers
+        (given_as catalog.now.database (target_of (assignment_view assignment.now))) result
+        (gift_over catalog.now.database (given_as catalog.now.database
+        (target_of (assignment_view assignment.now)) change.now)
+        (assignment_view assignment.now)) }
+    ensures change { IfOk result (λ c.
+        IsChangeOf catalog.now.database (target_of (assignment_view assignment.now), c)) }
+{
+    let Some(entry) = catalog.get_base(target_of(assignment)) else {
+        return Err(Fault::Refused(Cause::NameUnknown));
+    };
+    let earlier = entry.body.to_rel()?;
+    let so_far = change.after(alloc, &earlier)?;
+    let next = change_of(alloc, catalog, &so_far, assignment)?;
+    Ok(Change::between(alloc, &earlier, &next.after(alloc, &so_far)?)?)
+}
+
+/// What an assignment changes of its target.
 fn gift<B: Body>(
     alloc: Global,
     catalog: &Catalog<B>,
-    given: &IndexMap<Name, Rel>,
+    given: &IndexMap<Name, Change>,
     assignment: &Assignment,
-) -> Result<Rel, Fault>
-    ensures { Answers (λ r. r) result (gift_of catalog.now.database
-        given.now.entries (assignment_view assignment.now)) }
+) -> Result<Change, Fault>
+    requires { AreChanges catalog.now.database given.now.entries }
+    ensures answer { Answers
+        (given_as catalog.now.database (target_of (assignment_view assignment.now))) result
+        (gift_of catalog.now.database (given_in catalog.now.database given.now.entries)
+        (assignment_view assignment.now)) }
+    ensures change { IfOk result (λ c.
+        IsChangeOf catalog.now.database (target_of (assignment_view assignment.now), c)) }
 {
-    let so_far = current(catalog, given, target_of(assignment))?;
-    assignment_value(alloc, catalog, &so_far, assignment)
+    match given.get(target_of(assignment)) {
+        None => first_change(alloc, catalog, assignment),
+        Some(change) => next_change(alloc, catalog, change, assignment),
+    }
 }
 
 /// Gives its target what an assignment gives.
 fn give<B: Body>(
     alloc: Global,
     catalog: &Catalog<B>,
-    given: &mut IndexMap<Name, Rel>,
+    given: &mut IndexMap<Name, Change>,
     assignment: &Assignment,
 ) -> Result<(), Fault>
-    ensures { Answers (λ u. given.new.entries) result (with_assignment catalog.now.database
-        given.old.entries (assignment_view assignment.now)) }
+    requires { AreChanges catalog.now.database given.old.entries }
+    ensures answer { Answers (λ u. given_in catalog.now.database given.new.entries) result
+        (with_assignment catalog.now.database (given_in catalog.now.database given.old.entries)
+        (assignment_view assignment.now)) }
+    ensures changes { OnOk result (AreChanges catalog.now.database given.new.entries) }
 {
-    let relation = gift(alloc, catalog, given, assignment)?;
-    given.insert(target_of(assignment).try_clone()?, relation)?;
+    let change = gift(alloc, catalog, given, assignment)?;
+    given.insert(target_of(assignment).try_clone()?, change)?;
     Ok(())
 }
 
@@ -86,9 +144,10 @@ fn given_by<B: Body>(
     alloc: Global,
     catalog: &Catalog<B>,
     assignments: &[Assignment],
-) -> Result<IndexMap<Name, Rel>, Fault>
-    ensures { Answers (λ g. g.entries) result
+) -> Result<IndexMap<Name, Change>, Fault>
+    ensures answer { Answers (λ g. given_in catalog.now.database g.entries) result
         (given_by catalog.now.database [] (map assignment_view assignments.now)) }
+    ensures changes { IfOk result (λ g. AreChanges catalog.now.database g.entries) }
 {
     let mut given = IndexMap::new(alloc);
     for assignment in assignments {
@@ -101,27 +160,6 @@ fn given_by<B: Body>(
 }
 
 // ---- the catalogue with it
-
-/// Lets a base relvar hold the relation.
-fn put<B: Body>(
-    alloc: Global,
-    catalog: &mut Catalog<B>,
-    name: &Name,
-    relation: &Rel,
-) -> Result<(), AllocError>
-    requires { IsGift catalog.old.database (name.now, relation.now) }
-    ensures put { OnOk result (catalog.new.database
-        ≡ with_body name.now relation.now catalog.old.database) }
-    ensures on { GoesOn catalog.old catalog.new }
-{
-    catalog.reveal();
-    let Some(entry) = catalog.get_base(name) else {
-        unreachable!()
-    };
-    let earlier = entry.body.to_rel()?;
-    let (out, add) = differences(alloc, &earlier, relation)?;
-    catalog.change(name, &out, &add)
-}
 
 /// The keys of a base relvar hold.
 fn check_keys<B: Body>(catalog: &Catalog<B>, name: &Name) -> Result<(), Failure>
@@ -137,70 +175,75 @@ fn check_keys<B: Body>(catalog: &Catalog<B>, name: &Name) -> Result<(), Failure>
     }
 }
 
-/// Lets a base relvar hold the relation: refused where a key does not hold of it.
-fn hold<B: Body>(
-    alloc: Global,
-    catalog: &mut Catalog<B>,
-    name: &Name,
-    relation: &Rel,
-) -> Result<(), Failure>
-    requires { IsGift catalog.old.database (name.now, relation.now) }
+/// The target, if it is the only one, and its change.
+fn only_one(given: &IndexMap<Name, Change>) -> Option<(&Name, &Change)>
+    ensures { IfSome result (λ e. given.now.entries ≡ (e.0.now, e.1.now) ∷ []) }
+{
+    if given.len() == 1 {
+        given.get_index(0)
+    } else {
+        None
+    }
+}
+
+/// Changes a base relvar: refused where a key does not hold of it then.
+fn put<B: Body>(catalog: &mut Catalog<B>, name: &Name, change: &Change) -> Result<(), Failure>
+    requires { IsTypedChange catalog.old.database (name.now, change.now) }
     ensures check { IfSome (base_named name.now catalog.old.database) (λ r.
-        Passes result (base_check (base_relvar r.name r.keys relation.now))) }
-    ensures put { OnOk result (catalog.new.database
-        ≡ with_body name.now relation.now catalog.old.database) }
+        Passes result (base_check (base_relvar r.name r.keys (after change.now r.relation)))) }
+    ensures put { OnOk result (catalog.new.database ≡ with_body name.now
+        (given_as catalog.old.database name.now change.now) catalog.old.database) }
     ensures on { GoesOn catalog.old catalog.new }
 {
-    put(alloc, catalog, name, relation)?;
+    catalog.change(name, &change.out, &change.add)?;
     check_keys(catalog, name)
 }
 
-/// Lets the base relvar at a place hold what it was given, where those before it do: refused where
-/// a key does not hold of it.
+/// Lets the base relvar at a place take what it was given, where those before it did: refused where
+/// a key does not hold of it then.
 fn put_gift<B: Body>(
-    alloc: Global,
     catalog: &mut Catalog<B>,
-    given: &IndexMap<Name, Rel>,
+    given: &IndexMap<Name, Change>,
     place: usize,
 ) -> Result<(), Failure>
     ghost db: { Database }
     requires db { IsTyped db × BasesHold db }
-    requires gifts { AreGifts db given.now.entries }
+    requires gifts { AreTypedChanges db given.now.entries }
     requires so_far { catalog.old.database ≡ with_bases
-        (gifted given.now.entries place db.bases) db }
+        (gifted (given_in db given.now.entries) place db.bases) db }
     requires place { place < length db.bases }
     ensures check { IfSome (slice_get db.bases place) (λ r.
-        Passes result (base_check (with_gift given.now.entries r))) }
+        Passes result (base_check (with_gift (given_in db given.now.entries) r))) }
     ensures next { OnOk result (catalog.new.database ≡ with_bases
-        (gifted given.now.entries (place + 1) db.bases) db) }
+        (gifted (given_in db given.now.entries) (place + 1) db.bases) db) }
     ensures on { GoesOn catalog.old catalog.new }
 {
     let Some((name, _)) = catalog.nth_base(place) else {
         return Ok(());
     };
     let name = name.try_clone()?;
-    let Some(relation) = given.get(&name) else {
+    let Some(change) = given.get(&name) else {
         return Ok(());
     };
-    hold(alloc, catalog, &name, relation)
+    put(catalog, &name, change)
 }
 
-/// Lets the base relvars hold what they were given: refused where a key does not hold.
+/// Lets the base relvars take what they were given: refused where a key does not hold then.
 fn put_gifts<B: Body>(
-    alloc: Global,
     catalog: &mut Catalog<B>,
-    given: &IndexMap<Name, Rel>,
+    given: &IndexMap<Name, Change>,
 ) -> Result<(), Failure>
     ghost db: { Database }
     requires db { (db ≡ catalog.old.database) × IsTyped db × BasesHold db }
-    requires gifts { AreGifts db given.now.entries }
+    requires gifts { AreTypedChanges db given.now.entries }
     ensures check { Passes result (first_refusal base_check
-        (with_gifts given.now.entries db).bases) }
-    ensures next { OnOk result (catalog.new.database ≡ with_gifts given.now.entries db) }
+        (with_gifts (given_in db given.now.entries) db).bases) }
+    ensures next { OnOk result (catalog.new.database
+        ≡ with_gifts (given_in db given.now.entries) db) }
     ensures on { GoesOn catalog.old catalog.new }
 {
     for place in 0..catalog.base_count() {
-        match put_gift(alloc, catalog, given, place) {
+        match put_gift(catalog, given, place) {
             Ok(()) => {}
             Err(failure) => return Err(failure),
         }
@@ -209,7 +252,7 @@ fn put_gifts<B: Body>(
 }
 
 /// The names of what was given something, in its order.
-fn names_of_all(alloc: Global, given: &IndexMap<Name, Rel>) -> Result<Vec<Name>, AllocError>
+fn names_of_all(alloc: Global, given: &IndexMap<Name, Change>) -> Result<Vec<Name>, AllocError>
     ensures { IfOk result (λ names. names.items ≡ keys_of given.now.entries) }
 {
     let mut names = Vec::with_capacity(alloc, given.len())?;
@@ -227,7 +270,7 @@ fn names_of_all(alloc: Global, given: &IndexMap<Name, Rel>) -> Result<Vec<Name>,
 fn settle_gifts<B: Body>(
     alloc: Global,
     catalog: &Catalog<B>,
-    given: &IndexMap<Name, Rel>,
+    given: &IndexMap<Name, Change>,
 ) -> Result<(), Failure>
     requires held { BasesHold catalog.now.database }
     requires elsewhere { PassesElsewhere
@@ -239,20 +282,40 @@ fn settle_gifts<B: Body>(
     settled(alloc, catalog, &reached)
 }
 
-/// Lets the base relvars hold what they were given, where what is checked is passed.
+/// Lets the targets take what they were given: refused where a key does not hold then. One target
+/// alone is looked up by its name.
+fn put_all<B: Body>(catalog: &mut Catalog<B>, given: &IndexMap<Name, Change>) -> Result<(), Failure>
+    ghost db: { Database }
+    requires db { (db ≡ catalog.old.database) × IsTyped db × BasesHold db }
+    requires gifts { AreTypedChanges db given.now.entries }
+    ensures check { Passes result (first_refusal base_check
+        (with_gifts (given_in db given.now.entries) db).bases) }
+    ensures next { OnOk result (catalog.new.database
+        ≡ with_gifts (given_in db given.now.entries) db) }
+    ensures on { GoesOn catalog.old catalog.new }
+{
+    match only_one(given) {
+        Some((name, change)) => put(catalog, name, change),
+        None => put_gifts(catalog, given),
+    }
+}
+
+/// Lets the base relvars take what they were given, where what is checked is passed.
 fn give_all<B: Body>(
     alloc: Global,
     catalog: &mut Catalog<B>,
-    given: &IndexMap<Name, Rel>,
+    given: &IndexMap<Name, Change>,
 ) -> Result<(), Failure>
     requires legal { IsLegal catalog.old.database }
-    requires gifts { AreGifts catalog.old.database given.now.entries }
-    ensures change { Changes catalog.new.database result
-        (changed (with_gifts given.now.entries catalog.old.database)) }
+    requires gifts { AreTypedChanges catalog.old.database given.now.entries }
+    requires typed { AreGifts catalog.old.database
+        (given_in catalog.old.database given.now.entries) }
+    ensures change { Changes catalog.new.database result (changed
+        (with_gifts (given_in catalog.old.database given.now.entries) catalog.old.database)) }
     ensures on { GoesOn catalog.old catalog.new }
 {
     catalog.reveal();
-    match put_gifts(alloc, catalog, given) {
+    match put_all(catalog, given) {
         Ok(()) => settle_gifts(alloc, catalog, given),
         Err(failure) => Err(failure),
     }

@@ -1,5 +1,6 @@
 //! Definitions of base relvars.
 ghost use Rattle.std.specs.Prelude.{◌≡◌, IfOk, IsTrue, OnOk, [], map, not, option_map};
+ghost use Rattle.td_body.specs.Bodies.{after_change};
 ghost use Rattle.td_catalog.specs.Database.{base_relvar, knows_relvar, with_base};
 ghost use Rattle.td_catalog.specs.Dumps.{ordered_names};
 ghost use Rattle.td_catalog.specs.TypedDatabases.{AreTyped};
@@ -19,7 +20,6 @@ ghost use Rattle.td_value.specs.Values.{Val};
 ghost use Rattle.td_value.specs.Views.{relation_view};
 
 use crate::beside::beside;
-use crate::bodies::body_after;
 use crate::checks::{keys_hold, value};
 use crate::definitions::failed;
 use crate::refusal::{Failure, Refusal};
@@ -69,6 +69,20 @@ fn new_relation<B: Body>(
 {
     let heading = resolve_heading(catalog.types(), &definition.heading)?;
     init_relation(alloc, catalog, heading, definition.init.as_ref())
+}
+
+/// The body after a change, which keeps nothing earlier.
+fn body_after<B: Body>(mut body: B, out: &Rel, add: &Rel) -> Result<B, AllocError>
+    requires out { out.now.heading ≡ (B.relation body).heading }
+    requires add { add.now.heading ≡ (B.relation body).heading }
+    ensures relation { IfOk result (λ b.
+        B.relation b ≡ after_change out.now add.now (B.relation body)) }
+    ensures keys { IfOk result (λ b. B.keys b ≡ B.keys body) }
+    ensures kept { IfOk result (λ b. B.kept b ≡ []) }
+{
+    body.change(out, add)?;
+    body.settle();
+    Ok(body)
 }
 
 /// The body of the keys that holds the relation.

@@ -5,7 +5,7 @@ pub mod answer;
 mod assignments;
 mod bases;
 mod beside;
-mod bodies;
+mod change;
 mod checks;
 mod definitions;
 pub mod engine;

@@ -1,13 +1,16 @@
-//! What an assignment gives to its target.
-ghost use Rattle.std.specs.Prelude.{◌≡◌, ◌∷◌, ℕ, List, [], IfOk, IsTrue, length, map, not};
-ghost use Rattle.std.specs.Prelude.{Bool, option_map};
-ghost use Rattle.td_algebra.specs.Operators.{difference, union};
+//! What an assignment changes of its target.
+ghost use Rattle.std.specs.Prelude.{◌≡◌, ◌∷◌, ℕ, List, [], IfOk, IsTrue, length, map};
+ghost use Rattle.std.specs.Prelude.{option_map};
+ghost use Rattle.td_algebra.specs.Operators.{union};
+ghost use Rattle.td_body.specs.Bodies.{after_change};
 ghost use Rattle.td_check.specs.OperatorTypes.{attribute_type};
 ghost use Rattle.td_engine.specs.Assignments.{assignment_value, chosen_for, of_heading};
 ghost use Rattle.td_engine.specs.Assignments.{relation_for, setting_attributes, setting_names};
 ghost use Rattle.td_engine.specs.Assignments.{source_world, target_of, updated_relation};
-ghost use Rattle.td_engine.specs.Assignments.{with_inserted, without_deleted};
+ghost use Rattle.td_engine.specs.Assignments.{with_inserted};
+ghost use Rattle.td_engine.specs.Changes.{IsOfHeading, after};
 ghost use Rattle.td_engine.specs.Gifts.{restricted_relation, setting_attribute};
+ghost use Rattle.td_eval.specs.DatabaseWorlds.{world_of};
 ghost use Rattle.td_eval.specs.OperatorValues.{on_relation, truth_value};
 ghost use Rattle.td_eval.specs.Sights.{tuples_in_hand, world_in};
 ghost use Rattle.td_eval.specs.TreeValues.{value_of, values_in_tuples};
@@ -17,12 +20,12 @@ ghost use Rattle.td_tree.specs.Trees.{delete};
 ghost use Rattle.td_types.specs.Headings.{are_distinct};
 ghost use Rattle.td_types.specs.Types.{Type', attribute_names};
 ghost use Rattle.td_types.specs.Views.{pairs_view, type_view};
-ghost use Rattle.td_value.specs.Values.{Tuple, Val};
-ghost use Rattle.td_value.specs.Views.{relation_view};
+ghost use Rattle.td_value.specs.Values.{Relation, Tuple, Val};
 
-use std::alloc::{AllocError, Global};
+use crate::change::Change;
+use crate::checks::value;
+use std::alloc::Global;
 use td_algebra::restriction::restrict;
-use td_algebra::sets::{minus, union};
 use td_body::body::Body;
 use td_catalog::catalog::Catalog;
 use td_eval::env::Env;
@@ -111,20 +114,54 @@ fn assigned<B: Body>(
     )
 }
 
-/// What INSERT gives.
+/// What an assignment of the value of an expression changes.
+fn replaced<B: Body>(
+    alloc: Global,
+    catalog: &Catalog<B>,
+    target: &Name,
+    so_far: &Rel,
+    source: &Expr,
+) -> Result<Change, Fault>
+    ensures answer { Answers (λ c. after c so_far.now) result (relation_for so_far.now
+        (source_world catalog.now.database target.now so_far.now) (tree_view source.now)) }
+    ensures headings { IfOk result (IsOfHeading so_far.now.heading) }
+{
+    let relation = assigned(alloc, catalog, target, so_far, source)?;
+    Ok(Change::between(alloc, so_far, &relation)?)
+}
+
+/// What INSERT changes.
 fn inserted<B: Body>(
     alloc: Global,
     catalog: &Catalog<B>,
     target: &Name,
     so_far: &Rel,
     source: &Expr,
-) -> Result<Rel, Fault>
-    ensures { Answers (λ r. r) result (relation_for so_far.now
+) -> Result<Change, Fault>
+    ensures answer { Answers (λ c. after c so_far.now) result (relation_for so_far.now
         (source_world catalog.now.database target.now so_far.now)
         (with_inserted target.now (tree_view source.now))) }
+    ensures headings { IfOk result (IsOfHeading so_far.now.heading) }
 {
-    let source = assigned(alloc, catalog, target, so_far, source)?;
-    Ok(union(alloc, so_far, &source)?)
+    let add = assigned(alloc, catalog, target, so_far, source)?;
+    Ok(Change::adding(alloc, add)?)
+}
+
+/// What INSERT changes of a relvar of the heading to which nothing was given before.
+pub(crate) fn put_in<B: Body>(
+    alloc: Global,
+    catalog: &Catalog<B>,
+    heading: &Heading,
+    source: &Expr,
+) -> Result<Change, Fault>
+    ensures answer { (r : Relation) → r.heading ≡ heading.now → Answers (λ c. after c r) result
+        (with_value (relation_for r (world_of catalog.now.database) (tree_view source.now))
+        (λ s. Valued (union r s))) }
+    ensures headings { IfOk result (IsOfHeading heading.now) }
+{
+    let none = Rel::new(heading.try_clone()?, Vec::new(alloc))?;
+    let add = relation_of(&none, value(alloc, catalog, source))?;
+    Ok(Change { out: none, add })
 }
 
 // ---- conditions
@@ -138,25 +175,6 @@ fn restricted(alloc: Global, so_far: &Rel, truths: Result<Vec<bool>, Fault>) -> 
 {
     let truths = truths?;
     Ok(restrict(alloc, so_far, &truths)?)
-}
-
-/// The truth values the other way round.
-fn negated(alloc: Global, truths: &[bool]) -> Result<Vec<bool>, AllocError>
-    ensures { IfOk result (λ m. m.items ≡ map not truths.now) }
-{
-    let mut others = Vec::with_capacity(alloc, truths.len())?;
-    for truth in truths {
-        others.push(!*truth)?;
-    }
-    Ok(others)
-}
-
-/// The truth values that were answered the other way round.
-fn negated_of(alloc: Global, truths: Result<Vec<bool>, Fault>) -> Result<Vec<bool>, Fault>
-    ensures { (o : Outcome (List Bool)) → Answers (λ m. m.items) truths o
-        → Answers (λ m. m.items) result (with_value o (λ m. Valued (map not m))) }
-{
-    Ok(negated(alloc, &truths?)?)
 }
 
 /// The truth values of a condition in the target's tuples so far, in their order.
@@ -177,30 +195,6 @@ fn truths_so_far<'a, B: Body>(
         tuples: &[],
     };
     truths_in(alloc, &env, so_far, condition)
-}
-
-/// What DELETE with a condition leaves.
-fn deleted<B: Body>(
-    alloc: Global,
-    catalog: &Catalog<B>,
-    target: &Name,
-    so_far: &Rel,
-    condition: &Expr,
-) -> Result<Rel, Fault>
-    ensures { Answers (λ r. r) result (relation_for so_far.now
-        (source_world catalog.now.database target.now so_far.now)
-        (without_deleted target.now (tree_view condition.now))) }
-{
-    let truths = truths_so_far(alloc, catalog, target, so_far, condition);
-    restricted(alloc, so_far, negated_of(alloc, truths))
-}
-
-/// The relation of the same heading without tuples.
-fn emptied(alloc: Global, so_far: &Rel) -> Result<Rel, AllocError>
-    ensures { IfOk result (λ r. r ≡ relation_view so_far.now.heading []) }
-{
-    let _ = so_far.rows();
-    Rel::of_ascending(so_far.heading().try_clone()?, Vec::new(alloc))
 }
 
 // ---- UPDATE
@@ -279,17 +273,7 @@ fn setting_attributes(
     }
 }
 
-/// The relation with other tuples in place of some.
-fn replaced(alloc: Global, so_far: &Rel, chosen: &Rel, changed: &Rel) -> Result<Rel, AllocError>
-    requires chosen { chosen.now.heading ≡ so_far.now.heading }
-    requires changed { changed.now.heading ≡ so_far.now.heading }
-    ensures { IfOk result (λ r. r ≡ union (difference so_far.now chosen.now) changed.now) }
-{
-    let others = minus(alloc, so_far, chosen)?;
-    union(alloc, &others, changed)
-}
-
-/// What UPDATE makes of the chosen tuples, in place of them.
+/// What UPDATE makes of the chosen tuples.
 fn changed<'a, B: Body>(
     alloc: Global,
     env: &Env<'a, B>,
@@ -298,18 +282,18 @@ fn changed<'a, B: Body>(
     settings: &[NamedExpr],
 ) -> Result<Rel, Fault>
     requires { chosen.now.heading ≡ so_far.now.heading }
-    ensures { Answers (λ r. r) result (updated_relation so_far.now
-        (setting_names (named_view settings.now))
+    ensures answer { Answers (λ r. after_change chosen.now r so_far.now) result
+        (updated_relation so_far.now (setting_names (named_view settings.now))
         (values_in_tuples (world_in env.now) (tuples_in_hand env.now) (named_view settings.now))
         chosen.now) }
+    ensures heading { IfOk result (λ r. r.heading ≡ so_far.now.heading) }
 {
     let attributes = setting_attributes(alloc, so_far.heading(), settings)?;
     let changed = set_in_tuples(alloc, env, chosen, &attributes, settings)?;
-    let changed = of_heading(so_far, &changed)?;
-    Ok(replaced(alloc, so_far, chosen, &changed)?)
+    of_heading(so_far, &changed)
 }
 
-/// What UPDATE makes of the target's tuples so far.
+/// What UPDATE makes of the chosen ones of the target's tuples so far.
 fn updated<'a, B: Body>(
     alloc: Global,
     catalog: &'a Catalog<B>,
@@ -319,10 +303,11 @@ fn updated<'a, B: Body>(
     settings: &[NamedExpr],
 ) -> Result<Rel, Fault>
     requires { chosen.now.heading ≡ so_far.now.heading }
-    ensures { Answers (λ r. r) result (updated_relation so_far.now
-        (setting_names (named_view settings.now))
+    ensures answer { Answers (λ r. after_change chosen.now r so_far.now) result
+        (updated_relation so_far.now (setting_names (named_view settings.now))
         (values_in_tuples (source_world catalog.now.database target.now so_far.now) []
         (named_view settings.now)) chosen.now) }
+    ensures heading { IfOk result (λ r. r.heading ≡ so_far.now.heading) }
 {
     let env = Env {
         catalog,
@@ -332,7 +317,7 @@ fn updated<'a, B: Body>(
     changed(alloc, &env, so_far, chosen, settings)
 }
 
-/// What UPDATE gives.
+/// What UPDATE changes.
 fn update<B: Body>(
     alloc: Global,
     catalog: &Catalog<B>,
@@ -340,16 +325,18 @@ fn update<B: Body>(
     so_far: &Rel,
     condition: Option<&Expr>,
     settings: &[NamedExpr],
-) -> Result<Rel, Fault>
-    ensures { Answers (λ r. r) result (with_value
+) -> Result<Change, Fault>
+    ensures answer { Answers (λ c. after c so_far.now) result (with_value
         (chosen_for so_far.now (source_world catalog.now.database target.now so_far.now) target.now
         (option_map (λ e. tree_view e.now) condition.entry))
         (updated_relation so_far.now (setting_names (named_view settings.now))
         (values_in_tuples (source_world catalog.now.database target.now so_far.now) []
         (named_view settings.now)))) }
+    ensures headings { IfOk result (IsOfHeading so_far.now.heading) }
 {
-    let chosen = chosen(alloc, catalog, target, so_far, condition)?;
-    updated(alloc, catalog, target, so_far, &chosen, settings)
+    let out = chosen(alloc, catalog, target, so_far, condition)?;
+    let add = updated(alloc, catalog, target, so_far, &out, settings)?;
+    Ok(Change { out, add })
 }
 
 // ---- assignments
@@ -366,40 +353,42 @@ pub(crate) fn target_of(assignment: &Assignment) -> &Name
     }
 }
 
-/// What DELETE gives.
+/// What DELETE changes.
 fn delete<B: Body>(
     alloc: Global,
     catalog: &Catalog<B>,
     target: &Name,
     so_far: &Rel,
-    condition: &Option<Expr>,
-) -> Result<Rel, Fault>
-    ensures { Answers (λ r. r) result (assignment_value
+    condition: Option<&Expr>,
+) -> Result<Change, Fault>
+    ensures answer { Answers (λ c. after c so_far.now) result (assignment_value
         (source_world catalog.now.database target.now so_far.now) so_far.now
-        (delete target.now (option_map tree_view condition.now))) }
+        (delete target.now (option_map (λ e. tree_view e.now) condition.entry))) }
+    ensures headings { IfOk result (IsOfHeading so_far.now.heading) }
 {
-    match condition {
-        None => Ok(emptied(alloc, so_far)?),
-        Some(condition) => deleted(alloc, catalog, target, so_far, condition),
-    }
+    so_far.heading().reveal();
+    let _ = so_far.rows();
+    let out = chosen(alloc, catalog, target, so_far, condition)?;
+    Ok(Change::taking(alloc, out)?)
 }
 
-/// What an assignment gives to its target, whose relation so far is this.
-pub(crate) fn assignment_value<B: Body>(
+/// What an assignment changes of its target, whose relation so far is this.
+pub(crate) fn change_of<B: Body>(
     alloc: Global,
     catalog: &Catalog<B>,
     so_far: &Rel,
     assignment: &Assignment,
-) -> Result<Rel, Fault>
-    ensures { Answers (λ r. r) result (assignment_value
+) -> Result<Change, Fault>
+    ensures answer { Answers (λ c. after c so_far.now) result (assignment_value
         (source_world catalog.now.database (target_of (assignment_view assignment.now)) so_far.now)
         so_far.now (assignment_view assignment.now)) }
+    ensures headings { IfOk result (IsOfHeading so_far.now.heading) }
 {
     match assignment {
-        Assignment::Assign(target, source) => assigned(alloc, catalog, target, so_far, source),
+        Assignment::Assign(target, source) => replaced(alloc, catalog, target, so_far, source),
         Assignment::Insert(target, source) => inserted(alloc, catalog, target, so_far, source),
         Assignment::Delete(target, condition) => {
-            delete(alloc, catalog, target, so_far, condition)
+            delete(alloc, catalog, target, so_far, condition.as_ref())
         }
         Assignment::Update(target, condition, settings) => {
             let condition = condition.as_ref();

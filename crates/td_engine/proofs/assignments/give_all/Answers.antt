@@ -4,17 +4,18 @@ use Rattle.td_engine.proofs.GiftsInTurn.{bases_refused}
 use Rattle.td_engine.proofs.Settled.{bases_hold}
 use Rattle.td_engine.specs.Assignments.{with_gifts}
 use Rattle.td_engine.specs.Carried.{Changes}
+use Rattle.td_engine.specs.Changes.{given_in}
 use Rattle.td_engine.specs.Checks.{BasesHold}
 use Rattle.std.specs.Map.{keys_of}
 use Rattle.td_engine.proofs.TypedAfter.{gifts_typed}
-use Rattle.td_engine.proofs.UnreachedChecks.{gifts_pass_elsewhere}
+use Rattle.td_engine.proofs.UnreachedChecks.{gifts_pass_elsewhere, same_targets}
 use Rattle.td_engine.specs.LeftOut.{PassesElsewhere}
 use Rattle.td_eval.specs.ReachedRelvars.{reached_from}
 use Rattle.td_engine.specs.Machine.{changed}
 use Rattle.td_engine.proofs.assignments.give_all.Goals as goal
 
-pub put_gifts-requires : goal.put_gifts-requires
-put_gifts-requires g c = λ κs within. (within, ((refl, c.reveal.ensures, bases_hold c.args.catalog.now.database c.requires.legal), c.requires.gifts))
+pub put_all-requires : goal.put_all-requires
+put_all-requires g c = λ κs within. (within, ((refl, c.reveal.ensures, bases_hold c.args.catalog.now.database c.requires.legal), c.requires.gifts))
 
 pub settle_gifts-requires-clause-held : goal.settle_gifts-requires-clause-held
 settle_gifts-requires-clause-held g c = subst BasesHold (sym c.in-Ok.ensures.next) c.in-Ok.ensures.check
@@ -22,14 +23,16 @@ settle_gifts-requires-clause-held g c = subst BasesHold (sym c.in-Ok.ensures.nex
 pub settle_gifts-requires-clause-elsewhere : goal.settle_gifts-requires-clause-elsewhere
 settle_gifts-requires-clause-elsewhere g c =
     let db = c.args.catalog.now.database in
-    let given = c.args.given.now.entries in
-    subst (λ (m : Database). PassesElsewhere (reached_from (keys_of given) m.virtuals) m) (sym c.in-Ok.ensures.next)
-    (gifts_pass_elsewhere db given c.requires.legal (gifts_typed db given c.requires.legal c.requires.gifts))
+    let es = c.args.given.now.entries in
+    let given = given_in db es in
+    subst (λ (m : Database). PassesElsewhere (reached_from (keys_of es) m.virtuals) m) (sym c.in-Ok.ensures.next)
+    (subst (λ names. PassesElsewhere (reached_from names db.virtuals) (with_gifts given db)) (same_targets db es)
+    (gifts_pass_elsewhere db given c.requires.legal (gifts_typed db given c.requires.legal c.requires.typed)))
 
 pub returns-in-Ok-clause-change : goal.returns-in-Ok-clause-change
 returns-in-Ok-clause-change g c =
-    subst (λ (db : Database). Changes c.put_gifts.new.catalog.database c.settle_gifts.result (changed db)) c.in-Ok.ensures.next c.settle_gifts.ensures
+    subst (λ (db : Database). Changes c.put_all.new.catalog.database c.settle_gifts.result (changed db)) c.in-Ok.ensures.next c.settle_gifts.ensures
 
 pub returns-in-Err-clause-change : goal.returns-in-Err-clause-change
 returns-in-Err-clause-change g c =
-    bases_refused c.put_gifts.new.catalog.database (with_gifts c.args.given.now.entries c.args.catalog.now.database) c.in-Err.failure c.in-Err.ensures.check
+    bases_refused c.put_all.new.catalog.database (with_gifts (given_in c.args.catalog.now.database c.args.given.now.entries) c.args.catalog.now.database) c.in-Err.failure c.in-Err.ensures.check

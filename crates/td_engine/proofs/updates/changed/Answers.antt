@@ -2,6 +2,7 @@ use Rattle.std.proofs.Common.{◌≡◌, ◌∙◌, Err, List, ap, subst, sym}
 use Rattle.std.proofs.lemmas.Result.{err_from_is_err_and}
 use Rattle.td_algebra.specs.Operators.{difference, union}
 use Rattle.td_engine.proofs.Admitted.{refused_on}
+use Rattle.td_engine.proofs.Done.{answers_then}
 use Rattle.td_engine.specs.Assignments.{of_heading, setting_attributes, setting_names}
 use Rattle.td_eval.specs.OperatorValues.{set_value}
 use Rattle.td_eval.specs.Sights.{tuples_in_hand, world_in}
@@ -13,8 +14,8 @@ use Rattle.td_types.specs.Views.{pairs_view}
 use Rattle.td_value.specs.Values.{Relation}
 use Rattle.td_engine.proofs.updates.changed.Goals as goal
 
-pub returns-in_err-changed : goal.returns-in_err-changed
-returns-in_err-changed g c =
+pub returns-in_err-changed-clause-answer : goal.returns-in_err-changed-clause-answer
+returns-in_err-changed-clause-answer g c =
     let so_far = c.args.so_far.now in
     let chosen = c.args.chosen.now in
     let parts = named_view c.args.settings.now in
@@ -25,23 +26,20 @@ returns-in_err-changed g c =
     ap (λ h. with_value (setting_attributes h (setting_names parts)) rest) (sym c.heading.ensures) ∙ ap (λ o. with_value o rest) c.in_ok-attributes.ensures.answer in
     let e = err_from_is_err_and c.from_residual-in_err-changed.result c.from_residual-in_err-changed.ensures.1 in
     rw (e.1, e.2)
-    (subst (Answers (λ (r : Relation). r) (Err c.in_err-changed.field-0.0)) (sym valued)
-    (refused_on (λ (r : Relation). r) (λ (r : Relation). r) c.in_err-changed.field-0.0 (set_value (pairs_view c.in_ok-attributes.attributes.items) fs chosen) made
+    (subst (Answers (λ (r : Relation). union (difference so_far chosen) r) (Err c.in_err-changed.field-0.0)) (sym valued)
+    (refused_on (λ (r : Relation). r) (λ (r : Relation). union (difference so_far chosen) r) c.in_err-changed.field-0.0 (set_value (pairs_view c.in_ok-attributes.attributes.items) fs chosen) made
     (subst (λ xs. Answers (λ (r : Relation). r) (Err c.in_err-changed.field-0.0) (set_value (pairs_view xs) fs chosen)) c.deref.ensures.value c.in_err-changed.ensures)))
 
-pub returns-in_err-changed-2 : goal.returns-in_err-changed-2
-returns-in_err-changed-2 g c =
+pub returns-clause-answer : goal.returns-clause-answer
+returns-clause-answer g c =
     let so_far = c.args.so_far.now in
     let chosen = c.args.chosen.now in
     let parts = named_view c.args.settings.now in
     let fs = values_in_tuples (world_in c.args.env.now) (tuples_in_hand c.args.env.now) parts in
-    let last = λ (r : Relation). Valued (union (difference so_far chosen) r) in
-    let made = λ (changed : Relation). with_value (of_heading so_far changed) last in
+    let made = λ (changed : Relation). with_value (of_heading so_far changed) (λ r. Valued (union (difference so_far chosen) r)) in
     let rest = λ (attributes : List Attribute). with_value (set_value attributes fs chosen) made in
     let valued : with_value (setting_attributes so_far.heading (setting_names parts)) rest ≡ made c.in_ok-changed.changed =
     ap (λ h. with_value (setting_attributes h (setting_names parts)) rest) (sym c.heading.ensures) ∙ ap (λ o. with_value o rest) c.in_ok-attributes.ensures.answer
     ∙ ap (λ xs. rest (pairs_view xs)) (sym c.deref.ensures.value) ∙ ap (λ o. with_value o made) c.in_ok-changed.ensures in
-    let e = err_from_is_err_and c.from_residual-in_err-changed-2.result c.from_residual-in_err-changed-2.ensures.1 in
-    rw (e.1, e.2)
-    (subst (Answers (λ (r : Relation). r) (Err c.in_err-changed-2.field-0.0)) (sym valued)
-    (refused_on (λ (r : Relation). r) (λ (r : Relation). r) c.in_err-changed-2.field-0.0 (of_heading so_far c.in_ok-changed.changed) last c.in_err-changed-2.ensures.answer))
+    subst (Answers (λ (r : Relation). union (difference so_far chosen) r) c.of_heading.result) (sym valued)
+    (answers_then c.of_heading.result (of_heading so_far c.in_ok-changed.changed) (λ (r : Relation). union (difference so_far chosen) r) c.of_heading.ensures.answer)

@@ -1,0 +1,31 @@
+use Rattle.std.proofs.Common.{◌≡◌, ◌∙◌, ap, subst, sym}
+use Rattle.indexmap.specs.IndexMap.{insert_entry}
+use Rattle.td_engine.proofs.FirstGifts.{given_next}
+use Rattle.td_engine.proofs.GivenChanges.{all_with, given_with}
+use Rattle.td_engine.specs.Assignments.{target_of}
+use Rattle.td_engine.specs.Changes.{AreChanges, IsChangeOf, given_as, given_in}
+use Rattle.td_tree.specs.Outcomes.{Valued}
+use Rattle.td_tree.specs.TreeViews.{assignment_view}
+use Rattle.td_types.specs.Types.{same_name}
+use Rattle.td_engine.proofs.assignments.give.Goals as goal
+
+pub returns-clause-answer : goal.returns-clause-answer
+returns-clause-answer g c =
+    let db = c.args.catalog.now.database in
+    let es = c.args.given.now.entries in
+    let a = assignment_view c.args.assignment.now in
+    let d = c.in_ok-change.change in
+    let there : c.insert.new.self.entries ≡ insert_entry same_name es (target_of a) d =
+    c.in_ok-insert.ensures.entries ∙ ap (λ n. insert_entry same_name es n d) (c.in_ok-try_clone.ensures ∙ c.target_of.ensures) in
+    given_next db (given_in db es) a (given_as db (target_of a) d) c.in_ok-change.ensures.answer
+    ∙ ap Valued (sym (ap (given_in db) there ∙ given_with db es (target_of a) d))
+
+pub returns-clause-changes : goal.returns-clause-changes
+returns-clause-changes g c =
+    let db = c.args.catalog.now.database in
+    let es = c.args.given.now.entries in
+    let a = assignment_view c.args.assignment.now in
+    let d = c.in_ok-change.change in
+    let there : c.insert.new.self.entries ≡ insert_entry same_name es (target_of a) d =
+    c.in_ok-insert.ensures.entries ∙ ap (λ n. insert_entry same_name es n d) (c.in_ok-try_clone.ensures ∙ c.target_of.ensures) in
+    subst (AreChanges db) (sym there) (all_with (IsChangeOf db) es (target_of a) d c.requires c.in_ok-change.ensures.change)
