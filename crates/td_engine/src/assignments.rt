@@ -26,7 +26,7 @@ use crate::definitions::failed;
 use crate::refusal::{Failure, Refusal};
 use crate::updates::{change_of, put_in, target_of};
 use indexmap::IndexMap;
-use std::alloc::Global;
+use std::alloc::{AllocError, Global};
 use td_body::body::Body;
 use td_catalog::catalog::Catalog;
 use td_catalog::entry::BaseEntry;
