@@ -292,11 +292,7 @@ pub(crate) fn settled<B: Body>(
 // ---- what is reached
 
 /// Adds a virtual relvar in which one of those reached is named.
-fn reach(
-    reached: &mut Vec<Name>,
-    name: &Name,
-    entry: &VirtualEntry,
-) -> Result<(), AllocError>
+fn reach(reached: &mut Vec<Name>, name: &Name, entry: &VirtualEntry) -> Result<(), AllocError>
     ensures { OnOk result (reached.new.items
         ≡ with_dependent reached.old.items (virtual_view (name.now, entry.now))) }
 {
