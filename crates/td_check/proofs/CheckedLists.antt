@@ -17,7 +17,7 @@ abbrev pub of_each : {X : Type 0} → (X → List (List ℕ)) → List X → Lis
 of_each f [] = []
 of_each f (x ∷ xs) = f x ++ of_each f xs
 
-of_each_last : {X : Type 0} (f : X → List (List ℕ)) (xs : List X) (x : X) → of_each f (xs ++ (x ∷ [])) ≡ of_each f xs ++ f x
+pub of_each_last : {X : Type 0} (f : X → List (List ℕ)) (xs : List X) (x : X) → of_each f (xs ++ (x ∷ [])) ≡ of_each f xs ++ f x
 of_each_last f [] x = append-nil (f x)
 of_each_last f (y ∷ xs) x = ap (λ ns. f y ++ ns) (of_each_last f xs x) ∙ sym (append_assoc (f y) (of_each f xs) (f x))
 

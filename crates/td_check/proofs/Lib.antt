@@ -15,6 +15,7 @@ pub mod GivenLaws
 pub mod Gives
 pub mod HeadingRules
 pub mod KnownLaws
+pub mod LentScopes
 pub mod MentionLaws
 pub mod MentionedRelvarLaws
 pub mod MentionedTypeLaws
@@ -30,3 +31,4 @@ pub mod StaticLaws
 pub mod SummaryLaws
 pub mod UserTypeLaws
 pub mod WorkedTypes
+pub mod WrittenNames

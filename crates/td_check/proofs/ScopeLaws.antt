@@ -1,9 +1,13 @@
 -- Scopes as they are made are scopes.
-use Rattle.std.proofs.Common.{◌≡◌, ◌∷◌, ◌++◌, ℕ, Bool, true, false, List, [], ◌⊎◌, inl, inr, Some, None, arith, drop, refl, subst}
+use Rattle.std.proofs.Common.{◌≡◌, ◌∷◌, ◌++◌, ℕ, Bool, true, false, List, [], ◌⊎◌, inl, inr, Some, None, arith, drop, map, refl, subst, take}
+use Rattle.std.proofs.lemmas.List.{append-nil}
 use Rattle.std.specs.Prelude.{if◌then◌else◌}
-use Rattle.std.specs.List.{Contains}
+use Rattle.std.specs.List.{AllByRecursion, Contains}
 use Rattle.std.proofs.lemmas.List.Elements.{Contains-append_cases, Contains-append_right}
+use Rattle.td_check.specs.LentScopes.{known_as, lent_scope}
+use Rattle.td_check.specs.declared.declared.Declared.{Declared}
 use Rattle.td_check.specs.declared.scope.Kind.{Kind}
+use Rattle.td_check.specs.declared.scope.Kind.TheVariants.{Base, Virtual}
 use Rattle.td_check.specs.Scopes.{KnownRelvar, Scope, alone_with, entered_with, left, relvar_in, scope_of, with_known_constraint, with_known_relvar}
 use Rattle.td_check.specs.StaticLaws.{IsKnownHeading, IsScope, ScopesAreKept}
 use Rattle.td_types.specs.TypeLists.{AreDeclared, DeclaredType}
@@ -19,6 +23,31 @@ contained_later (g ∷ hs) h c = Contains-append_right (g ∷ []) hs h c
 
 scope_of_types : (ds : List DeclaredType) → AreDeclared ds → IsScope (scope_of ds)
 scope_of_types ds a = record { declared = a; relvars = λ n r e. absurd (cc); entered = λ h c. absurd (nothing_there h c) }
+
+-- a relvar that a name finds among rows, and what stands behind them, has a known heading where all have
+rows_known : (ds : List DeclaredType) (kind : Kind) (n : List ℕ) (rows : List (List ℕ × Heading)) (more : List KnownRelvar)
+    → AllByRecursion (λ row. IsKnownHeading ds row.1) rows → ((r : KnownRelvar) → relvar_in n more ≡ Some r → IsKnownHeading ds r.heading)
+    → (r : KnownRelvar) → relvar_in n (map (known_as kind) rows ++ more) ≡ Some r → IsKnownHeading ds r.heading
+rows_known ds kind n [] more k behind r e = behind r e
+rows_known ds kind n (row ∷ rows) more k behind r e = by_name (same_name row.0 n) (rows_known ds kind n rows more k.1 behind r) e
+  where
+    by_name : (same : Bool) → (relvar_in n (map (known_as kind) rows ++ more) ≡ Some r → IsKnownHeading ds r.heading)
+        → (if same then Some (known_as kind row) else relvar_in n (map (known_as kind) rows ++ more)) ≡ Some r → IsKnownHeading ds r.heading
+    by_name true later is =
+        let same : known_as kind row ≡ r = cc in
+        subst (λ q. IsKnownHeading ds q.heading) same k.0
+    by_name false later is = later is
+
+scope_of_declared : (ds : List DeclaredType) (declared : Declared) (virtuals : ℕ) → AreDeclared ds
+    → AllByRecursion (λ row. IsKnownHeading ds row.1) declared.bases.entries
+    → AllByRecursion (λ row. IsKnownHeading ds row.1) (take virtuals declared.virtuals.entries) → IsScope (lent_scope ds declared virtuals)
+scope_of_declared ds declared virtuals a bases fronts =
+    record { declared = a; relvars = λ n. rows_known ds Base n declared.bases.entries _ bases (among_virtuals n); entered = λ h c. absurd (nothing_there h c) }
+  where
+    among_virtuals : (n : List ℕ) (r : KnownRelvar) → relvar_in n (map (known_as Virtual) (take virtuals declared.virtuals.entries)) ≡ Some r → IsKnownHeading ds r.heading
+    among_virtuals n r e =
+        rows_known ds Virtual n (take virtuals declared.virtuals.entries) [] fronts (λ q f. absurd (cc)) r
+        (rw append-nil e)
 
 scope_entered : (h : Heading) (scope : Scope) → IsScope scope → IsKnownHeading scope.types h → IsScope (entered_with h scope)
 scope_entered h scope s k =
@@ -74,6 +103,7 @@ pub scopes_are_kept : ScopesAreKept
 scopes_are_kept =
     record {
       of_types = scope_of_types;
+      of_declared = scope_of_declared;
       one_entered = scope_entered;
       one_left = scope_left;
       one_alone = scope_alone;

@@ -2,6 +2,7 @@ pub mod Both
 pub mod CheckViews
 pub mod Closures
 pub mod ItemViews
+pub mod LentScopes
 pub mod Mentions
 pub mod OperatorTypes
 pub mod PlaceViews
@@ -11,3 +12,4 @@ pub mod StatementTypes
 pub mod StaticCauses
 pub mod StaticLaws
 pub mod StaticTypes
+pub mod WrittenNames

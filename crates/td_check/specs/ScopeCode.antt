@@ -1,7 +1,10 @@
 -- What the code's scopes stand for, and how the logic stores a scope.
-use Rattle.std.specs.Prelude.{◌≡◌, ℕ, Bool, true, false, List, map, refl}
+use Rattle.std.specs.Prelude.{◌≡◌, ℕ, Bool, true, false, List, [], Option, Some, None, map, refl}
+use Rattle.std.specs.Borrow.{Bor}
 use Rattle.std.specs.Coded.{Coded, code_by, coded×, coded_bool, coded_list, coded_ℕ}
+use Rattle.td_check.specs.LentScopes.{declared_relvars}
 use Rattle.td_check.specs.Scopes.{KnownRelvar, Scope}
+use Rattle.td_check.specs.declared.declared.Declared.{Declared}
 use Rattle.td_check.specs.declared.scope.Kind.{Kind}
 use Rattle.td_check.specs.declared.scope.Kind.TheVariants.{Base, Virtual}
 use Rattle.td_check.specs.declared.scope.Known.{Known}
@@ -17,6 +20,19 @@ known_relvar_view row = record { name = row.0; kind = row.1.kind; heading = row.
 -- what the code keeps beside the name
 abbrev pub known_view : Known → Kind × Heading
 known_view known = (known.kind, known.heading)
+
+-- what a look-up answers
+abbrev pub seen_view : Kind × Bor Heading → Kind × Heading
+seen_view seen = (seen.0, seen.1.now)
+
+-- the relvars that are lent to a scope, and the constraints
+abbrev pub lent_relvars : Option (Bor Declared × ℕ) → List KnownRelvar
+lent_relvars None = []
+lent_relvars (Some lent) = declared_relvars lent.0.now lent.1
+
+abbrev pub lent_constraints : Option (Bor Declared × ℕ) → List (List ℕ)
+lent_constraints None = []
+lent_constraints (Some lent) = lent.0.now.constraints.keys
 
 abbrev pub relvars_view : List (List ℕ × Known) → List KnownRelvar
 relvars_view = map known_relvar_view

@@ -1,10 +1,13 @@
 -- What holds of the type of an expression: laws.
-use Rattle.std.specs.Prelude.{◌≡◌, ◌++◌, ℕ, Bool, not, List, Some, is_some, IsTrue, ⊤}
+use Rattle.std.specs.Prelude.{◌≡◌, ◌++◌, ℕ, Bool, not, List, Some, is_some, take, IsTrue, ⊤}
 use Rattle.std.specs.List.{AllByRecursion, Contains}
+use Rattle.td_check.specs.LentScopes.{lent_scope}
 use Rattle.td_check.specs.Mentions.{name_set, relvars_in, relvars_in_all, relvars_in_items, relvars_in_named, types_in, types_in_all, types_in_items, types_in_named}
+use Rattle.td_check.specs.declared.declared.Declared.{Declared}
 use Rattle.td_check.specs.declared.scope.Kind.{Kind}
 use Rattle.td_check.specs.Scopes.{KnownRelvar, Scope, alone_with, entered_with, known_relvar, left, scope_of, with_known_constraint, with_known_relvar}
 use Rattle.td_check.specs.StaticTypes.{items_of, named_types, type_of, types_of}
+use Rattle.td_check.specs.WrittenNames.{names_in}
 use Rattle.td_tree.specs.Names.{IsName}
 use Rattle.td_tree.specs.Outcomes.{Outcome, Valued}
 use Rattle.td_tree.specs.Trees.{Postfix, project, rename, group, ungroup, wrap, unwrap, Tree, literal, name, parentheses, prefix, extract, restriction, binary, compare, postfix, select, component, measure, aggregate, headed_relation, extend, summarize_per, summarize_by, choice, Trees, none, more, NamedTrees, none_named, more_named, Summaries, no_summaries, counted, summed}
@@ -29,6 +32,11 @@ pub record IsScope (scope : Scope) : Type 0 where
 -- scopes as they are made are such scopes
 pub record ScopesAreKept : Type 0 where
   pub of_types : (ds : List DeclaredType) → AreDeclared ds → IsScope (scope_of ds)
+  pub of_declared :
+      (ds : List DeclaredType) (declared : Declared) (virtuals : ℕ) → AreDeclared ds
+      → AllByRecursion (λ row. IsKnownHeading ds row.1) declared.bases.entries
+      → AllByRecursion (λ row. IsKnownHeading ds row.1) (take virtuals declared.virtuals.entries)
+      → IsScope (lent_scope ds declared virtuals)
   pub one_entered : (h : Heading) (scope : Scope) → IsScope scope → IsKnownHeading scope.types h → IsScope (entered_with h scope)
   pub one_left : (scope : Scope) → IsScope scope → IsScope (left scope)
   pub one_alone : (h : Heading) (scope : Scope) → IsScope scope → IsKnownHeading scope.types h → IsScope (alone_with h scope)
@@ -200,8 +208,12 @@ pub record DropsChangeNothing : Type 0 where
       (dropped : List ℕ) (first second : Scope) (e : Tree) (t : Type') → LacksType dropped first second
       → (Contains (types_in e) dropped → ⊥) → type_of first e ≡ Valued t → type_of second e ≡ Valued t
 
--- ---- the names that are answered
+-- ---- the names that are answered, and those that stand in an expression
 
 -- the set of a list's names has exactly these
 abbrev pub NamesAreASet : Type 0
 NamesAreASet = (ns : List (List ℕ)) (n : List ℕ) → has_name n (name_set ns) ≡ has_name n ns
+
+-- whatever is known, the relvars that an expression mentions are among the names that stand in it
+abbrev pub RelvarsAreNamed : Type 0
+RelvarsAreNamed = (scope : Scope) (e : Tree) (n : List ℕ) → Contains (relvars_in scope e) n → Contains (names_in e) n

@@ -49,9 +49,9 @@ fn name_type(name: &Name, place: &Place<'_, '_, '_>, seen: &mut Mentions) -> Res
         return Ok(ty.try_clone()?);
     }
     match place.relvar(name) {
-        Some(known) => {
+        Some((_, heading)) => {
             seen.relvars.push(name.try_clone()?)?;
-            Ok(Ty::Rel(known.heading.try_clone()?))
+            Ok(Ty::Rel(heading.try_clone()?))
         }
         None => Err(Fault::Refused(Cause::NameUnknown)),
     }

@@ -1,7 +1,8 @@
 //! What the types of expressions are to their callers: each function has its contract alone.
 ghost use Rattle.td_check.specs.StaticCauses.{CausesAreStatic};
 ghost use Rattle.td_check.specs.StaticLaws.{DropsChangeNothing, MentionsAreKnown};
-ghost use Rattle.td_check.specs.StaticLaws.{MoreChangesNothing, NamesAreASet, ScopesAreKept};
+ghost use Rattle.td_check.specs.StaticLaws.{MoreChangesNothing, NamesAreASet, RelvarsAreNamed};
+ghost use Rattle.td_check.specs.StaticLaws.{ScopesAreKept};
 ghost use Rattle.td_check.specs.StaticLaws.{TypesAreKnown, TypesAreMadeOfMentions};
 ghost use Rattle.td_check.specs.StaticLaws.{TypesDependOnMentions};
 
@@ -37,6 +38,11 @@ pub fn drops_change_nothing()
 /// The names that `mentions` answers are exactly those that stand in the expression.
 pub fn names_are_a_set()
     ensures { NamesAreASet }
+{}
+
+/// Whatever is known, the relvars that an expression mentions are among the names that stand in it.
+pub fn relvars_are_named()
+    ensures { RelvarsAreNamed }
 {}
 
 /// `resolve`, `check_expr` and `check_statement` refuse by the causes of types, of expressions and

@@ -2,10 +2,12 @@
 #![tactic(auto)]
 
 pub mod both;
+pub mod declared;
 pub mod expression;
 pub mod laws;
 pub mod mentioned;
 pub mod mentions;
+pub mod names;
 mod place;
 pub mod rules;
 pub mod scope;

@@ -31,7 +31,7 @@ fn sorted(names: Vec<Name>) -> Result<BTreeSet<Name>, AllocError>
 }
 
 /// The same in a list.
-fn name_set(names: Vec<Name>) -> Result<Vec<Name>, AllocError>
+pub(crate) fn name_set(names: Vec<Name>) -> Result<Vec<Name>, AllocError>
     ensures names { IfOk result (λ set. set.items ≡ name_set names.items) }
     ensures ascending { IfOk result (λ set. IsStrictlySortedBy (slice_cmp nat_cmp) set.items) }
 {

@@ -1,11 +1,11 @@
 //! Where an expression stands.
 ghost use Rattle.std.specs.Prelude.{◌≡◌, IfOk, option_map};
 ghost use Rattle.td_check.specs.PlaceViews.{scope_at};
-ghost use Rattle.td_check.specs.ScopeCode.{known_view};
+ghost use Rattle.td_check.specs.ScopeCode.{seen_view};
 ghost use Rattle.td_check.specs.Scopes.{entered_with, innermost, kind_and_heading, known_relvar};
 ghost use Rattle.td_types.specs.Views.{type_view};
 
-use crate::scope::{Known, Scope};
+use crate::scope::{Kind, Scope};
 use std::alloc::{AllocError, Global};
 use td_tree::name::Name;
 use td_types::heading::Heading;
@@ -74,8 +74,8 @@ impl<'s, 't, 'h> Place<'s, 't, 'h> {
     }
 
     /// What is known of the relvar of the name.
-    pub(crate) fn relvar(&self, name: &Name) -> Option<&Known>
-        ensures { option_map (λ k. known_view k.now) result
+    pub(crate) fn relvar(&self, name: &Name) -> Option<(Kind, &Heading)>
+        ensures { option_map seen_view result
             ≡ option_map kind_and_heading (known_relvar (scope_at self.now) name.now) }
     {
         self.scope.relvar(name)

@@ -1,12 +1,15 @@
 //! What is known where an expression stands.
 ghost use Rattle.std.specs.Prelude.{◌≡◌, ◌↔◌, [], IfOk, IsTrue, OnErr, OnOk, is_some, not};
 ghost use Rattle.std.specs.Prelude.{option_map};
-ghost use Rattle.td_check.specs.ScopeCode.{known_view};
+ghost use Rattle.td_check.specs.LentScopes.{lent_scope};
+ghost use Rattle.td_check.specs.ScopeCode.{lent_constraints, lent_relvars, seen_view};
 ghost use Rattle.td_check.specs.Scopes.{entered_with, innermost, kind_and_heading, known_relvar};
-ghost use Rattle.td_check.specs.Scopes.{knows_constraint, left, scope_of, with_known_constraint};
-ghost use Rattle.td_check.specs.Scopes.{with_known_relvar};
+ghost use Rattle.td_check.specs.Scopes.{knows_constraint, left, relvar_in, scope_of};
+ghost use Rattle.td_check.specs.Scopes.{with_known_constraint, with_known_relvar};
+ghost use Rattle.td_types.specs.Headings.{has_name};
 ghost use Rattle.td_types.specs.Views.{type_view};
 
+use crate::declared::Declared;
 use indexmap::{IndexMap, IndexSet};
 use std::alloc::{AllocError, Global};
 use std::marker::Model;
@@ -26,15 +29,18 @@ pub enum Kind {
 
 /// What is known of a relvar beside its name.
 #[derive(Drop)]
-pub(crate) struct Known {
-    pub(crate) kind: Kind,
-    pub(crate) heading: Heading,
+struct Known {
+    kind: Kind,
+    heading: Heading,
 }
 
 /// The declared types, the relvars, the constraints' names, and the headings of the tuples in hand.
 #[derive(Drop)]
 pub struct Scope<'a> {
     types: &'a TypeTable,
+    /// What is declared, and how many of its virtual relvars are known.
+    lent: Option<(&'a Declared, usize)>,
+    /// Those that are known beside what is lent, and behind it.
     relvars: IndexMap<Name, Known>,
     constraints: IndexSet<Name>,
     /// The innermost is the last.
@@ -42,7 +48,8 @@ pub struct Scope<'a> {
 }
 
 impl<'a> Model for Scope<'a> {
-    ghost use Rattle.std.specs.Prelude.{reverse};
+    ghost use Rattle.std.specs.Prelude.{◌++◌, reverse};
+    ghost use Rattle.td_check.specs.ScopeCode.{lent_constraints, lent_relvars};
     ghost use Rattle.td_check.specs.ScopeCode.{relvars_view, scope_code};
     ghost use Rattle.td_check.specs.Scopes.{Scope};
 
@@ -52,10 +59,29 @@ impl<'a> Model for Scope<'a> {
 
     ghost view = { λ a. record {
       types = a.types.now;
-      relvars = relvars_view a.relvars.entries;
-      constraints = a.constraints.keys;
+      relvars = lent_relvars a.lent ++ relvars_view a.relvars.entries;
+      constraints = lent_constraints a.lent ++ a.constraints.keys;
       entered = reverse a.entered.items;
     } };
+}
+
+/// What is known of the relvar of the name by what is lent.
+fn lent_relvar<'a>(lent: Option<(&'a Declared, usize)>, name: &Name) -> Option<(Kind, &'a Heading)>
+    ensures { option_map seen_view result
+        ≡ option_map kind_and_heading (relvar_in name.now (lent_relvars lent.entry)) }
+{
+    let (declared, virtuals) = lent?;
+    declared.relvar(name, virtuals)
+}
+
+/// Whether there is a constraint of the name in what is lent.
+fn knows_lent_constraint(lent: Option<(&Declared, usize)>, name: &Name) -> bool
+    ensures { result ≡ has_name name.now (lent_constraints lent.entry) }
+{
+    match lent {
+        Some((declared, _)) => declared.constraints.contains(name),
+        None => false,
+    }
 }
 
 impl<'a> Scope<'a> {
@@ -65,6 +91,26 @@ impl<'a> Scope<'a> {
     {
         Scope {
             types,
+            lent: None,
+            relvars: IndexMap::new(alloc),
+            constraints: IndexSet::new(alloc),
+            entered: Vec::new(alloc),
+        }
+    }
+
+    /// Where the types, the base relvars, the constraints and so many of the virtual relvars are
+    /// known. It takes no memory.
+    pub fn lent(
+        alloc: Global,
+        types: &'a TypeTable,
+        declared: &'a Declared,
+        virtuals: usize,
+    ) -> Scope<'a>
+        ensures { result ≡ lent_scope types.now declared.now virtuals }
+    {
+        Scope {
+            types,
+            lent: Some((declared, virtuals)),
             relvars: IndexMap::new(alloc),
             constraints: IndexSet::new(alloc),
             entered: Vec::new(alloc),
@@ -75,14 +121,14 @@ impl<'a> Scope<'a> {
     pub fn knows_relvar(&self, name: &Name) -> bool
         ensures { result ≡ is_some (known_relvar self.now name.now) }
     {
-        self.relvars.contains_key(name)
+        self.relvar(name).is_some()
     }
 
     /// Whether there is a constraint of the name.
     pub fn knows_constraint(&self, name: &Name) -> bool
         ensures { result ≡ knows_constraint self.now name.now }
     {
-        self.constraints.contains(name)
+        knows_lent_constraint(self.lent, name) || self.constraints.contains(name)
     }
 
     /// The scope with one more relvar, of a name that no relvar has.
@@ -152,10 +198,14 @@ impl<'a> Scope<'a> {
     }
 
     /// What is known of the relvar of the name.
-    pub(crate) fn relvar(&self, name: &Name) -> Option<&Known>
-        ensures { option_map (λ k. known_view k.now) result
+    pub(crate) fn relvar(&self, name: &Name) -> Option<(Kind, &Heading)>
+        ensures { option_map seen_view result
             ≡ option_map kind_and_heading (known_relvar self.now name.now) }
     {
-        self.relvars.get(name)
+        if let Some(relvar) = lent_relvar(self.lent, name) {
+            return Some(relvar);
+        }
+        let known = self.relvars.get(name)?;
+        Some((known.kind, &known.heading))
     }
 }

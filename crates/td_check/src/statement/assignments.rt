@@ -1,7 +1,7 @@
 //! What is asked of assignments.
 ghost use Rattle.std.specs.Prelude.{◌≡◌, List, Option, map, option_map};
 ghost use Rattle.td_check.specs.PlaceViews.{scope_at};
-ghost use Rattle.td_check.specs.ScopeCode.{known_view};
+ghost use Rattle.td_check.specs.ScopeCode.{seen_view};
 ghost use Rattle.td_check.specs.Scopes.{KnownRelvar, kind_and_heading, known_relvar};
 ghost use Rattle.td_check.specs.StaticTypes.{named_types, type_of};
 ghost use Rattle.td_check.specs.StatementTypes.{assignment_checked, both_hold, condition_fits};
@@ -18,7 +18,7 @@ use crate::expression::{check_at, check_named_at};
 use crate::place::Place;
 use crate::rules::asked::{ask, relation_heading};
 use crate::rules::headings::attribute_type;
-use crate::scope::{Kind, Known, Scope};
+use crate::scope::{Kind, Scope};
 use td_tree::cause::Cause;
 use td_tree::expression::{Expr, NamedExpr};
 use td_tree::fault::Fault;
@@ -32,22 +32,22 @@ use td_types::ty::Ty;
 // ---- targets and sources
 
 /// What is asked of a target: it is known, and it is a base relvar.
-fn is_target(known: Option<&Known>) -> Result<(), Fault>
+fn is_target(known: Option<(Kind, &Heading)>) -> Result<(), Fault>
     ensures { (target : Option KnownRelvar)
-        → option_map (λ k. known_view k.now) known.entry ≡ option_map kind_and_heading target
+        → option_map seen_view known.entry ≡ option_map kind_and_heading target
         → Answers (λ u. u) result (is_target target) }
 {
     match known {
         None => Err(Fault::Refused(Cause::NameUnknown)),
-        Some(relvar) => ask(relvar.kind == Kind::Base, Cause::NotAssignable),
+        Some((kind, _)) => ask(kind == Kind::Base, Cause::NotAssignable),
     }
 }
 
 /// What is asked of the type of what is assigned or inserted: it is a relation, of the target's
 /// heading where that is known.
-fn source_fits(known: Option<&Known>, ty: &Ty) -> Result<(), Fault>
+fn source_fits(known: Option<(Kind, &Heading)>, ty: &Ty) -> Result<(), Fault>
     ensures { (target : Option KnownRelvar)
-        → option_map (λ k. known_view k.now) known.entry ≡ option_map kind_and_heading target
+        → option_map seen_view known.entry ≡ option_map kind_and_heading target
         → Answers (λ u. u) result (source_fits target (type_view ty.now)) }
 {
     match known {
@@ -55,14 +55,18 @@ fn source_fits(known: Option<&Known>, ty: &Ty) -> Result<(), Fault>
             relation_heading(ty)?;
             Ok(())
         }
-        Some(relvar) => relation_fits(&relvar.heading, ty),
+        Some((_, heading)) => relation_fits(heading, ty),
     }
 }
 
 /// What is asked of what is assigned or inserted.
-fn check_source(scope: &Scope<'_>, known: Option<&Known>, source: &Expr) -> Result<(), Fault>
+fn check_source(
+    scope: &Scope<'_>,
+    known: Option<(Kind, &Heading)>,
+    source: &Expr,
+) -> Result<(), Fault>
     ensures { (target : Option KnownRelvar)
-        → option_map (λ k. known_view k.now) known.entry ≡ option_map kind_and_heading target
+        → option_map seen_view known.entry ≡ option_map kind_and_heading target
         → Answers (λ u. u) result
         (with_value (type_of scope.now (tree_view source.now)) (source_fits target)) }
 {
@@ -84,19 +88,19 @@ fn check_assigned(scope: &Scope<'_>, target: &Name, source: &Expr) -> Result<(),
 /// What is asked of `DELETE`'s condition.
 fn check_deletion(
     scope: &Scope<'_>,
-    known: Option<&Known>,
+    known: Option<(Kind, &Heading)>,
     condition: Option<&Expr>,
 ) -> Result<(), Fault>
     ensures { (target : Option KnownRelvar)
-        → option_map (λ k. known_view k.now) known.entry ≡ option_map kind_and_heading target
+        → option_map seen_view known.entry ≡ option_map kind_and_heading target
         → Answers (λ u. u) result (in_target scope.now target (λ inside h. with_value
         (condition_type inside (option_map (λ e. tree_view e.now) condition.entry))
         condition_fits)) }
 {
     match known {
         None => Ok(()),
-        Some(relvar) => {
-            let place = Place::outside(scope).inside(&relvar.heading)?;
+        Some((_, heading)) => {
+            let place = Place::outside(scope).inside(heading)?;
             let ty = type_if_given(condition, &place)?;
             condition_fits(ty.as_ref())
         }
@@ -167,12 +171,12 @@ fn update_fits(
 /// What is asked of `UPDATE`'s condition and settings.
 fn check_settings(
     scope: &Scope<'_>,
-    known: Option<&Known>,
+    known: Option<(Kind, &Heading)>,
     condition: Option<&Expr>,
     settings: &[NamedExpr],
 ) -> Result<(), Fault>
     ensures { (target : Option KnownRelvar)
-        → option_map (λ k. known_view k.now) known.entry ≡ option_map kind_and_heading target
+        → option_map seen_view known.entry ≡ option_map kind_and_heading target
         → Answers (λ u. u) result (in_target scope.now target (λ inside h. with_both
         (condition_type inside (option_map (λ e. tree_view e.now) condition.entry))
         (named_types inside (named_view settings.now))
@@ -180,9 +184,9 @@ fn check_settings(
 {
     match known {
         None => Ok(()),
-        Some(relvar) => {
-            let place = Place::outside(scope).inside(&relvar.heading)?;
-            update_fits(&place, &relvar.heading, condition, settings)
+        Some((_, heading)) => {
+            let place = Place::outside(scope).inside(heading)?;
+            update_fits(&place, heading, condition, settings)
         }
     }
 }
