@@ -46,8 +46,11 @@ impl<B: Body> Catalog<B> {
         ensures unchanged { OnErr result (self.new ≡ self.old) }
     {
         prepare(&mut self.tables, &mut self.log)?;
-        if let Some((place, name, entry)) = self.tables.bases.shift_remove_full(name) {
-            self.log.note(Step::BaseDropped(place, name, entry));
+        let known = self.tables.declared.bases.shift_remove_full(name);
+        let dropped = self.tables.bases.shift_remove_full(name);
+        if let (Some((place, name, entry)), Some((_, known, heading))) = (dropped, known) {
+            self.log
+                .note(Step::BaseDropped(place, name, entry, (known, heading)));
         }
         Ok(())
     }
@@ -61,8 +64,11 @@ impl<B: Body> Catalog<B> {
         ensures unchanged { OnErr result (self.new ≡ self.old) }
     {
         prepare(&mut self.tables, &mut self.log)?;
-        if let Some((place, name, entry)) = self.tables.virtuals.shift_remove_full(name) {
-            self.log.note(Step::VirtualDropped(place, name, entry));
+        let known = self.tables.declared.virtuals.shift_remove_full(name);
+        let dropped = self.tables.virtuals.shift_remove_full(name);
+        if let (Some((place, name, entry)), Some((_, known, heading))) = (dropped, known) {
+            self.log
+                .note(Step::VirtualDropped(place, name, entry, (known, heading)));
         }
         Ok(())
     }
@@ -101,8 +107,11 @@ impl<B: Body> Catalog<B> {
             return Err(Fault::Refused(Cause::NameUnknown));
         }
         prepare(&mut self.tables, &mut self.log)?;
-        if let Some((place, name, entry)) = self.tables.constraints.shift_remove_full(name) {
-            self.log.note(Step::ConstraintDropped(place, name, entry));
+        let known = self.tables.declared.constraints.shift_remove_full(name);
+        let dropped = self.tables.constraints.shift_remove_full(name);
+        if let (Some((place, name, entry)), Some((_, known))) = (dropped, known) {
+            self.log
+                .note(Step::ConstraintDropped(place, name, entry, known));
         }
         Ok(())
     }
