@@ -14,6 +14,7 @@ pub mod TypedChanges
 mod Places
 mod Reached
 mod Rows
+mod SameAny
 mod Searches
 mod ValuesLeft
 mod Visits

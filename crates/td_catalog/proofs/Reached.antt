@@ -230,11 +230,11 @@ place_found name rows = λ i. cond (nat_lt (before rows i) (same_length rows i))
 
 -- the expression of a row at a place
 pub tree_at : (rows : List (List ℕ × VirtualEntry)) (place : ℕ)
-    → option_map (λ (row : List ℕ × VirtualEntry). tree_view row.1.tree.value) (slice_get rows place)
+    → option_map (λ (row : List ℕ × VirtualEntry). row.1.tree) (slice_get rows place)
     ≡ option_map (λ (v : VirtualRelvar). v.tree) (slice_get (map virtual_view rows) place)
 tree_at rows place = by_option (slice_get rows place) ∙ ap (option_map (λ (v : VirtualRelvar). v.tree)) (sym (slice_get-map virtual_view rows place))
   where
     by_option : (o : Option (List ℕ × VirtualEntry))
-        → option_map (λ (row : List ℕ × VirtualEntry). tree_view row.1.tree.value) o ≡ option_map (λ (v : VirtualRelvar). v.tree) (option_map virtual_view o)
+        → option_map (λ (row : List ℕ × VirtualEntry). row.1.tree) o ≡ option_map (λ (v : VirtualRelvar). v.tree) (option_map virtual_view o)
     by_option None = refl
     by_option (Some row) = refl

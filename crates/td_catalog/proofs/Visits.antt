@@ -121,24 +121,24 @@ bases_mention_as relation keys name (row ∷ rows) h =
 
 module _ (test : Tree → Bool) where
   abbrev pub virtual_passes : VirtualEntry → Bool
-  virtual_passes entry = test (tree_view entry.tree.value)
+  virtual_passes entry = test (entry.tree)
 
   abbrev pub constraint_passes : ConstraintEntry → Bool
-  constraint_passes entry = test (tree_view entry.tree.value)
+  constraint_passes entry = test (entry.tree)
 
   pub virtuals_as : (rows : List (List ℕ × VirtualEntry)) → list_any (λ (v : VirtualRelvar). test v.tree) (map virtual_view rows) ≡ list_any virtual_passes (map (λ row. row.1) rows)
   virtuals_as [] = refl
-  virtuals_as (row ∷ rows) = ap (λ b. test (tree_view row.1.tree.value) || b) (virtuals_as rows)
+  virtuals_as (row ∷ rows) = ap (λ b. test (row.1.tree) || b) (virtuals_as rows)
 
   pub constraints_as : (rows : List (List ℕ × ConstraintEntry)) → list_any (λ (c : NamedConstraint). test c.tree) (map constraint_view rows) ≡ list_any constraint_passes (map (λ row. row.1) rows)
   constraints_as [] = refl
-  constraints_as (row ∷ rows) = ap (λ b. test (tree_view row.1.tree.value) || b) (constraints_as rows)
+  constraints_as (row ∷ rows) = ap (λ b. test (row.1.tree) || b) (constraints_as rows)
 
 abbrev pub VirtualTyped : Scope → VirtualEntry → Type 0
-VirtualTyped scope entry = HasTypeIn scope (tree_view entry.tree.value)
+VirtualTyped scope entry = HasTypeIn scope (entry.tree)
 
 abbrev pub ConstraintTyped : Scope → ConstraintEntry → Type 0
-ConstraintTyped scope entry = HasTypeIn scope (tree_view entry.tree.value)
+ConstraintTyped scope entry = HasTypeIn scope (entry.tree)
 
 -- their expressions have types
 pub virtual_rows_typed : (db : Database) (rows : List (List ℕ × VirtualEntry)) → IsTyped db → map virtual_view rows ≡ db.virtuals

@@ -23,11 +23,11 @@ base_view relation row = base_relvar row.0 (entry_keys row.1) (relation row.1.bo
 -- the virtual relvar of a name and its entry
 abbrev pub virtual_view : List ℕ × VirtualEntry → VirtualRelvar
 virtual_view row =
-    virtual_relvar row.0 row.1.heading (tree_view row.1.tree.value) (map (λ key. key.items) row.1.keys.items)
+    virtual_relvar row.0 row.1.heading row.1.tree (map (λ key. key.items) row.1.keys.items)
 
 -- the constraint of a name and its entry
 abbrev pub constraint_view : List ℕ × ConstraintEntry → NamedConstraint
-constraint_view row = named_constraint row.0 (tree_view row.1.tree.value)
+constraint_view row = named_constraint row.0 row.1.tree
 
 -- the rows of a catalogue, each list by name
 pub record Rows (B : Type 0) : Type 0 where

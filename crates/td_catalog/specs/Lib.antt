@@ -7,4 +7,5 @@ pub mod KeptDatabases
 pub mod TypedDatabases
 pub mod TypedDatabaseLaws
 pub mod Mentioned
+pub mod NamedRelvars
 pub mod Sought

@@ -2,12 +2,11 @@
 ghost use Rattle.std.specs.Prelude.{◌≡◌, length, option_map, slice_get};
 ghost use Rattle.td_catalog.specs.CatalogViews.{base_view, virtual_view};
 ghost use Rattle.td_catalog.specs.Database.{named_constraint};
-ghost use Rattle.td_tree.specs.TreeViews.{tree_view};
 
 use crate::catalog::Catalog;
+use crate::defining::DefiningExpression;
 use crate::entry::{BaseEntry, VirtualEntry};
 use td_body::body::Body;
-use td_tree::expression::Expr;
 use td_tree::name::Name;
 
 impl<B: Body> Catalog<B> {
@@ -42,8 +41,8 @@ impl<B: Body> Catalog<B> {
     }
 
     /// The expression of the constraint at a place in order of definition, with its name.
-    pub fn nth_constraint(&self, place: usize) -> Option<(&Name, &Expr)>
-        ensures { option_map (λ p. named_constraint p.0.now (tree_view p.1.now)) result
+    pub fn nth_constraint(&self, place: usize) -> Option<(&Name, &DefiningExpression)>
+        ensures { option_map (λ p. named_constraint p.0.now p.1.now) result
             ≡ slice_get self.now.database.constraints place }
     {
         let (name, entry) = self.tables.constraints.get_index(place)?;

@@ -107,7 +107,7 @@ impl<B: Body> Catalog<B> {
             ≡ option_map (λ c. c.tree) (constraint_named name.now self.now.database) }
     {
         let entry = self.tables.constraints.get(name)?;
-        Some(&entry.tree)
+        Some(entry.tree.tree())
     }
 
     /// The name of the base relvar at a place in order of definition.

@@ -109,7 +109,7 @@ impl VirtualEntry {
             (λ copy. (name : List ℕ) → virtual_view (name, copy) ≡ virtual_view (name, self.now)) }
     {
         let heading = self.heading.try_clone()?;
-        let tree = self.tree.clone()?;
+        let tree = self.tree.try_clone()?;
         let keys = copied_keys(&self.keys)?;
         Ok(VirtualEntry {
             heading,
@@ -125,7 +125,7 @@ impl ConstraintEntry {
         ensures { IfOk result (λ copy. (name : List ℕ) →
             constraint_view (name, copy) ≡ constraint_view (name, self.now)) }
     {
-        let tree = self.tree.clone()?;
+        let tree = self.tree.try_clone()?;
         Ok(ConstraintEntry { tree })
     }
 }

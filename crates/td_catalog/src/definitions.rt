@@ -19,11 +19,11 @@ ghost use Rattle.td_types.specs.Types.{pack};
 ghost use Rattle.td_types.specs.Views.{pairs_view};
 
 use crate::catalog::Catalog;
+use crate::defining::DefiningExpression;
 use crate::entry::{BaseEntry, ConstraintEntry, VirtualEntry};
 use crate::history::{History, Step};
 use crate::tables::{Tables, put_last, put_name_last};
 use std::alloc::AllocError;
-use std::rc::Rc;
 use td_body::body::Body;
 use td_tree::cause::Cause;
 use td_tree::expression::Expr;
@@ -149,7 +149,7 @@ impl<B: Body> Catalog<B> {
         let _ = name.as_str();
         let known = name.try_clone()?;
         let known_heading = heading.try_clone()?;
-        let tree = Rc::new(*self.tables.virtuals.allocator(), tree)?;
+        let tree = DefiningExpression::new(*self.tables.virtuals.allocator(), tree)?;
         let entry = VirtualEntry {
             heading,
             tree,
@@ -179,7 +179,7 @@ impl<B: Body> Catalog<B> {
         }
         let _ = name.as_str();
         let known = name.try_clone()?;
-        let tree = Rc::new(*self.tables.constraints.allocator(), tree)?;
+        let tree = DefiningExpression::new(*self.tables.constraints.allocator(), tree)?;
         prepare(&mut self.tables, &mut self.log)?;
         self.tables
             .constraints

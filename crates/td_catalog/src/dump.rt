@@ -16,6 +16,7 @@ ghost use Rattle.td_types.specs.Types.{pack, relation};
 ghost use Rattle.td_types.specs.Views.{pairs_view};
 ghost use Rattle.td_value.specs.Literal.{relation_literal};
 
+use crate::defining::DefiningExpression;
 use crate::catalog::Catalog;
 use crate::entry::VirtualEntry;
 use crate::keys::ordered_key;
@@ -160,20 +161,24 @@ fn put_virtual(out: &mut String, name: &Name, entry: &VirtualEntry) -> Result<()
 {
     put_named(out, "VAR ", name)?;
     out.push_str(" VIRTUAL (")?;
-    put_expr(out, &entry.tree)?;
+    put_expr(out, entry.tree.tree())?;
     out.push_str(")")?;
     put_keys(out, &entry.heading, &entry.keys)?;
     put_line_end(out)
 }
 
 /// Puts the line of a constraint of that name.
-fn put_constraint(out: &mut String, name: &Name, condition: &Expr) -> Result<(), AllocError>
+fn put_constraint(
+    out: &mut String,
+    name: &Name,
+    condition: &DefiningExpression,
+) -> Result<(), AllocError>
     ensures { OnOk result (string_bytes out.new ≡ string_bytes out.old
-        ++ constraint_line (named_constraint name.now (tree_view condition.now))) }
+        ++ constraint_line (named_constraint name.now condition.now)) }
 {
     put_named(out, "CONSTRAINT ", name)?;
     out.push_str(" ")?;
-    put_expr(out, condition)?;
+    put_expr(out, condition.tree())?;
     put_line_end(out)
 }
 

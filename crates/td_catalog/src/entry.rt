@@ -1,7 +1,6 @@
 //! Entries of the catalogue.
-use std::rc::Rc;
+use crate::defining::DefiningExpression;
 use td_body::body::Body;
-use td_tree::expression::Expr;
 use td_tree::name::Name;
 use td_types::heading::Heading;
 
@@ -19,7 +18,7 @@ pub struct BaseEntry<B: Body> {
 pub struct VirtualEntry {
     /// The heading of the expression's value.
     pub heading: Heading,
-    pub tree: Rc<Expr>,
+    pub tree: DefiningExpression,
     /// The names of each candidate key, in the order in which they are declared.
     pub keys: Vec<Vec<Name>>,
 }
@@ -27,5 +26,5 @@ pub struct VirtualEntry {
 /// What a catalogue keeps of a constraint beside its name.
 #[derive(Drop)]
 pub(crate) struct ConstraintEntry {
-    pub(crate) tree: Rc<Expr>,
+    pub(crate) tree: DefiningExpression,
 }

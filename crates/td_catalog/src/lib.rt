@@ -5,6 +5,7 @@ mod bodies;
 pub mod by_place;
 pub mod catalog;
 pub mod copy;
+pub mod defining;
 pub mod definitions;
 pub mod drops;
 pub mod dump;

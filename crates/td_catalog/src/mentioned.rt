@@ -139,7 +139,7 @@ impl<B: Body> Catalog<B> {
             self.now.database.virtuals) }
     {
         for entry in self.tables.virtuals.values() {
-            if tree_mentions(scope, space, name, &entry.tree)? {
+            if tree_mentions(scope, space, name, entry.tree.tree())? {
                 return Ok(true);
             }
         }
@@ -159,7 +159,7 @@ impl<B: Body> Catalog<B> {
             self.now.database.constraints) }
     {
         for entry in self.tables.constraints.values() {
-            if tree_mentions(scope, space, name, &entry.tree)? {
+            if tree_mentions(scope, space, name, entry.tree.tree())? {
                 return Ok(true);
             }
         }

@@ -50,6 +50,6 @@ impl<B: Body> Catalog<B> {
             ≡ option_map (λ v. v.tree) (slice_get self.now.database.virtuals place) }
     {
         let (_, entry) = self.tables.virtuals.get_index(place)?;
-        Some(&entry.tree)
+        Some(entry.tree.tree())
     }
 }

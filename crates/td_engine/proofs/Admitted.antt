@@ -2,7 +2,6 @@
 use Rattle.std.proofs.Common.{◌≡◌, ◌∙◌, ◌∷◌, Bool, true, false, List, [], Option, Some, None, Result, Ok, Err, ap, map, refl, subst, sym}
 use Rattle.std.specs.Prelude.{IfOk, IsTrue, is_some, not, ⊤}
 use Rattle.std.specs.List.{AllByRecursion}
-use Rattle.std.specs.Result.{result_and}
 use Rattle.td_catalog.specs.Database.{Database, NamedConstraint, VirtualRelvar, database_scope, knows_constraint, knows_relvar, named_constraint, virtual_relvar}
 use Rattle.td_catalog.specs.Dumps.{ordered_names}
 use Rattle.td_catalog.specs.TypedDatabases.{AreComponents, IsConstrained, IsTypedConstraint, IsTypedVirtual}
@@ -52,25 +51,15 @@ pub only_memory : {X Y A B : Type 0} (u : X → A) (v : Y → B) (f : Fault) (o 
 only_memory u v (faults.Refused c) o x p e h = let no : None ≡ Some c = sym (ap named_cause e) ∙ h in absurd (cc)
 only_memory u v faults.Memory o x p e h = tt
 
--- a value that stands where something was done, and else the fault
-pub and_answers : {X A : Type 0} (v : X → A) (done : Result ⊤ Fault) (x : X) (o : Outcome A) → ((u : ⊤) → done ≡ Ok u → o ≡ Valued (v x))
-    → ((f : Fault) → done ≡ Err f → Answers v (Err f) o) → Answers v (result_and done (Ok x)) o
-and_answers v (Ok u) x o value fault = value u refl
-and_answers v (Err f) x o value fault = fault f refl
-
--- what a value meets that stands where something was done
-pub and_if_ok : {X : Type 0} (done : Result ⊤ Fault) (x : X) (P : X → Type 0) → ((u : ⊤) → done ≡ Ok u → P x) → IfOk (result_and done (Ok x)) P
-and_if_ok (Ok u) x P met = met u refl
-and_if_ok (Err f) x P met = tt
-
 pub some_cause : (a b : Cause) → Some a ≡ Some b → a ≡ b
 some_cause a b e = cc
 
 -- what is refused, or finds no memory, is denied so
-pub failed_follows : {X A : Type 0} (u : X → A) (f : Fault) (o : Outcome A) (k : A → Effect Database) → Answers u (Err f) o → Changes (Err (failure_of f)) (by_outcome o k)
-failed_follows u (faults.Refused c) (Valued x) k h = absurd (cc)
-failed_follows u (faults.Refused c) (Refused cs) k h = ap (λ d. Denied (by_cause d)) (some_cause (least cs) c h)
-failed_follows u faults.Memory o k h = tt
+pub failed_follows : {X A : Type 0} (new : Database) (u : X → A) (f : Fault) (o : Outcome A) (k : A → Effect Database) → Answers u (Err f) o
+    → Changes new (Err (failure_of f)) (by_outcome o k)
+failed_follows new u (faults.Refused c) (Valued x) k h = absurd (cc)
+failed_follows new u (faults.Refused c) (Refused cs) k h = ap (λ d. Denied (by_cause d)) (some_cause (least cs) c h)
+failed_follows new u faults.Memory o k h = tt
 
 -- both are asked
 pub both_asked : (p q : Outcome ⊤) → both_hold p q ≡ Valued tt → (p ≡ Valued tt) × (q ≡ Valued tt)

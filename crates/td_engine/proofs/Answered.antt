@@ -32,10 +32,10 @@ refused_does u (faults.Refused c) answer old (Refused cs) k h does =
 refused_does u faults.Memory answer old o k h does = absurd does
 
 -- what is refused by a check
-pub denied_does : (failure : Failure) (answer : code.Answer) (db : Database) (e : Effect Database) → Changes (Err failure) e → IsDenied db failure answer
+pub denied_does : (failure : Failure) (answer : code.Answer) (db new : Database) (e : Effect Database) → Changes new (Err failure) e → IsDenied db failure answer
     → Does (step_of db e) answer db
-denied_does (failures.Refused refusal) answer db e h does = subst (λ f. Does (step_of db f) answer db) (sym h) does
-denied_does failures.Memory answer db e h does = absurd does
+denied_does (failures.Refused refusal) answer db new e h does = subst (λ f. Does (step_of db f) answer db) (sym h) does
+denied_does failures.Memory answer db new e h does = absurd does
 
 -- no text is printed where there are causes
 pub text_refused : {X : Type 0} (view : X → List ℕ) (text : Result X Fault) (fault : Fault) {E : Type 0} (result : Result code.Answer E) → text ≡ Err fault

@@ -1,7 +1,7 @@
 -- What holds of each of a list, where one is added, one is left out, or each is changed.
-use Rattle.std.proofs.Common.{◌≡◌, ◌∙◌, ◌∷◌, ◌++◌, Bool, true, false, List, [], Some, append_assoc, map, refl, subst, sym}
+use Rattle.std.proofs.Common.{◌≡◌, ◌∙◌, ◌∷◌, ◌++◌, ℕ, zero, suc, Bool, true, false, List, [], Some, append_assoc, map, refl, subst, sym}
 use Rattle.std.specs.Prelude.{◌||◌, if◌then◌else◌}
-use Rattle.std.specs.List.{AllByRecursion, find, list_any}
+use Rattle.std.specs.List.{AllByRecursion, find, list_any, slice_get}
 use Rattle.std.specs.Set.{remove_key}
 use Rattle.td_catalog.specs.TypedDatabases.{EachAfter}
 
@@ -69,3 +69,9 @@ neither true b e = absurd (cc)
 pub none_passes : {A : Type 0} (test : A → Bool) (xs : List A) → list_any test xs ≡ false → AllByRecursion (λ x. test x ≡ false) xs
 none_passes test [] h = tt
 none_passes test (x ∷ xs) h = let p = neither (test x) (list_any test xs) h in (p.0, none_passes test xs p.1)
+
+-- of the one at a place
+pub of_place : {A : Type 0} (P : A → Type 0) (xs : List A) (place : ℕ) (x : A) → AllByRecursion P xs → slice_get xs place ≡ Some x → P x
+of_place P [] place x h e = absurd (cc)
+of_place P (y ∷ ys) zero x h e = let same : y ≡ x = cc in subst P same h.0
+of_place P (y ∷ ys) (suc place) x h e = of_place P ys place x h.1 e

@@ -70,7 +70,7 @@ module _ (given : Given) where
   pub given_some : (r : BaseRelvar) (q : Relation) → given_to r.name given ≡ Some q → with_gift given r ≡ base_relvar r.name r.keys q
   given_some r q e = rw (with_gift, e) refl
 
-  same_named : (r : BaseRelvar) → (with_gift given r).name ≡ r.name
+  pub same_named : (r : BaseRelvar) → (with_gift given r).name ≡ r.name
   same_named r = by_gift (given_to r.name given) refl
     where
       by_gift : (o : Option Relation) → given_to r.name given ≡ o → (with_gift given r).name ≡ r.name

@@ -8,9 +8,8 @@ use Rattle.td_catalog.specs.Database.{BaseRelvar, Database, base_relvar}
 use Rattle.td_engine.proofs.Admitted.{refused_on}
 use Rattle.td_engine.proofs.InOrder.{IsLeft, drop_next, passed_next, refused_at}
 use Rattle.td_engine.specs.Assignments.{Given, given_by, with_assignment, with_gift}
-use Rattle.td_engine.specs.Carried.{Changes, refusal_view}
+use Rattle.td_engine.specs.Carried.{Changes, Passes, refusal_view}
 use Rattle.td_engine.specs.Checks.{base_check, derived_check, first_refusal}
-use Rattle.td_engine.specs.Gifts.{PassesWith}
 use Rattle.td_engine.specs.Machine.{changed, unless_refused}
 use Rattle.td_engine.specs.declared.refusal.Failure.{Failure}
 use Rattle.td_engine.specs.declared.refusal.Failure.TheVariants as failures
@@ -51,22 +50,22 @@ module _ (given : Given) where
   one_at bs i inside = let none = base_relvar [] [] (relation_view [] []) in (get_or bs i none, slice_get-get_or bs i none inside)
 
   pub gift_refused : (bs : List BaseRelvar) (i : ℕ) (f : Failure) → i < length bs → IsLeft base_check (gifts bs) i
-      → IfSome (slice_get bs i) (λ r. PassesWith {X = ⊤} (Err f) (base_check (with_gift given r))) → PassesWith {X = ⊤} (Err f) (first_refusal base_check (gifts bs))
+      → IfSome (slice_get bs i) (λ r. Passes (Err f) (base_check (with_gift given r))) → Passes (Err f) (first_refusal base_check (gifts bs))
   gift_refused bs i (failures.Refused refusal) inside left h =
       let one = one_at bs i inside in
       let refuses : base_check (with_gift given one.0) ≡ Some (refusal_view refusal) =
-      subst (λ o. IfSome o (λ r. PassesWith {X = ⊤} (Err (failures.Refused refusal)) (base_check (with_gift given r)))) one.1 h in
+      subst (λ o. IfSome o (λ r. Passes (Err (failures.Refused refusal)) (base_check (with_gift given r)))) one.1 h in
       refused_at base_check (gifts bs) i (with_gift given one.0) (refusal_view refusal) left (gift_at bs i one.0 one.1) refuses
   gift_refused bs i failures.Memory inside left h = tt
 
   pub gift_passed : (bs : List BaseRelvar) (i : ℕ) → i < length bs → IsLeft base_check (gifts bs) i
-      → IfSome (slice_get bs i) (λ r. PassesWith {X = ⊤} (Ok tt) (base_check (with_gift given r))) → IsLeft base_check (gifts bs) (i + 1)
+      → IfSome (slice_get bs i) (λ r. Passes (Ok tt) (base_check (with_gift given r))) → IsLeft base_check (gifts bs) (i + 1)
   gift_passed bs i inside left h =
       let one = one_at bs i inside in
-      let passes : base_check (with_gift given one.0) ≡ None = subst (λ o. IfSome o (λ r. PassesWith {X = ⊤} (Ok tt) (base_check (with_gift given r)))) one.1 h in
+      let passes : base_check (with_gift given one.0) ≡ None = subst (λ o. IfSome o (λ r. Passes (Ok tt) (base_check (with_gift given r)))) one.1 h in
       passed_next base_check (gifts bs) i (with_gift given one.0) left (gift_at bs i one.0 one.1) passes
 
 -- a change that the check of a base relvar refuses
-pub bases_refused : (db : Database) (f : Failure) → PassesWith {X = ⊤} (Err f) (first_refusal base_check db.bases) → Changes (Err f) (changed db)
-bases_refused db (failures.Refused refusal) h = ap (λ o. unless_refused (option_or o (derived_check db)) db) h
-bases_refused db failures.Memory h = tt
+pub bases_refused : (new db : Database) (f : Failure) → Passes (Err f) (first_refusal base_check db.bases) → Changes new (Err f) (changed db)
+bases_refused new db (failures.Refused refusal) h = ap (λ o. unless_refused (option_or o (derived_check db)) db) h
+bases_refused new db failures.Memory h = tt

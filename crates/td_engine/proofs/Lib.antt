@@ -1,6 +1,7 @@
 mod Admitted
 mod Answered
 mod BaseAdmitted
+mod Done
 pub mod DumpFacts
 pub mod DumpInner
 mod DumpLaws
@@ -17,10 +18,14 @@ mod GiftsInTurn
 mod GivenRelations
 mod InOrder
 pub mod Kept
+mod KeysInTurn
 pub mod KeptLegal
+mod Opens
+mod NewChecks
 mod OrderedGifts
 mod OrderedKeys
 mod PassedChecks
+mod PutGifts
 mod RankChanges
 mod Rebuilds
 mod RebuiltChecks
@@ -34,10 +39,12 @@ pub mod Runs
 mod SameTests
 mod SettingNames
 mod Settled
+mod LaterChecks
 mod LegalChanges
 pub mod LegalRuns
 mod Sources
 mod SpelledParts
+mod StageLaws
 mod TestsAfterDrops
 pub mod ToldLaws
 mod Transactions
@@ -47,5 +54,6 @@ mod TypedGifts
 mod TypedRelations
 mod TypedSettings
 mod VirtualTests
+mod UnreachedChecks
 pub mod WrittenSpellings
 mod WrittenStatements

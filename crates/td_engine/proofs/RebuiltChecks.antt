@@ -26,7 +26,7 @@ use Rattle.td_types.specs.TypeLists.{DeclaredType}
 use Rattle.td_types.specs.Types.{boolean}
 
 -- where each is passed, no check refuses
-none_refuses : {A : Type 0} (check : A → Option Refusal) (P : A → Type 0) → ((x : A) → P x → check x ≡ None) → (xs : List A) → AllByRecursion P xs
+pub none_refuses : {A : Type 0} (check : A → Option Refusal) (P : A → Type 0) → ((x : A) → P x → check x ≡ None) → (xs : List A) → AllByRecursion P xs
     → first_refusal check xs ≡ None
 none_refuses check P says [] h = refl
 none_refuses check P says (x ∷ xs) h =

@@ -1,6 +1,6 @@
 -- The checks of a legal database: the keys of its base relvars hold.
-use Rattle.std.proofs.Common.{◌≡◌, ◌∙◌, ◌∷◌, ◌++◌, ℕ, Bool, true, false, List, [], Option, Some, None, Err, ap, refl, sym}
-use Rattle.std.specs.Prelude.{◌&&◌}
+use Rattle.std.proofs.Common.{◌≡◌, ◌∙◌, ◌∷◌, ◌++◌, ℕ, Bool, true, false, List, [], Option, Some, None, Result, Ok, Err, ap, refl, sym}
+use Rattle.std.specs.Prelude.{◌&&◌, OnOk, ⊤}
 use Rattle.std.specs.List.{AllByRecursion}
 use Rattle.std.specs.Option.{option_or}
 use Rattle.td_body.specs.Bodies.{key_holds}
@@ -52,9 +52,18 @@ held_check db held = ap (λ o. option_or o (derived_check db)) held
 pub settled : (db : Database) → first_refusal base_check db.bases ≡ None → derived_check db ≡ None → changed db ≡ Accepted db ok_text
 settled db held none = ap (λ o. unless_refused o db) (held_check db held ∙ none)
 
-pub unsettled : (db : Database) (f : Failure) → first_refusal base_check db.bases ≡ None → Passes (Err f) (derived_check db) → Changes (Err f) (changed db)
+pub unsettled : (db : Database) (f : Failure) → first_refusal base_check db.bases ≡ None → Passes (Err f) (derived_check db) → Changes db (Err f) (changed db)
 unsettled db (failures.Refused r) held is = ap (λ o. unless_refused o db) (held_check db held ∙ is)
 unsettled db failures.Memory held is = tt
+
+pub settled_or : (db : Database) (done : Result ⊤ Failure) → first_refusal base_check db.bases ≡ None → Passes done (derived_check db) → Changes db done (changed db)
+settled_or db (Ok u) held is = settled db held is
+settled_or db (Err f) held is = unsettled db f held is
+
+-- what passes a check is not refused by it
+pub passed_ok : (done : Result ⊤ Failure) (o : Option Refusal) → Passes done o → OnOk done (o ≡ None)
+passed_ok (Ok u) o is = is
+passed_ok (Err f) o is = tt
 
 -- a new base relvar of which a key does not hold
 refused_behind : {A : Type 0} (check : A → Option Refusal) (xs : List A) (x : A) (o : Option Refusal) (r : Refusal) → first_refusal check xs ≡ None → check x ≡ Some r

@@ -66,16 +66,16 @@ all_other dropped (v ∷ vs) d = by_test (same_name v.name dropped) refl (all_ot
 
 module _ (db : Database) (legal : IsLegal db) where
   -- a constraint is one that has a type
-  abbrev IsAsked : NamedConstraint → Type 0
+  abbrev pub IsAsked : NamedConstraint → Type 0
   IsAsked c = IsTypedConstraint (database_scope db) c × IsWritten c.tree
 
   -- all are such
-  all_asked : AllByRecursion IsAsked db.constraints
+  pub all_asked : AllByRecursion IsAsked db.constraints
   all_asked =
       all_both (IsTypedConstraint (database_scope db)) (λ (c : NamedConstraint). IsWritten c.tree) db.constraints legal.typed.constraints (conditions_written db legal.spelled)
 
   -- its expression has a type, and is written
-  tree_checked : (c : NamedConstraint) → IsAsked c → IsChecked (database_scope db) [] c.tree
+  pub tree_checked : (c : NamedConstraint) → IsAsked c → IsChecked (database_scope db) [] c.tree
   tree_checked c asked = record { tuples = tt; written = asked.1; typed = (boolean, asked.0) }
 
   -- ---- one constraint less

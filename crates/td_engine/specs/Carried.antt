@@ -34,11 +34,11 @@ Passes (Ok u) o = o ≡ None
 Passes (Err (failures.Refused refusal)) o = o ≡ Some (refusal_view refusal)
 Passes (Err failures.Memory) o = ⊤
 
--- a change was made that answers OK, or it is refused
-abbrev pub Changes : Result Database Failure → Effect Database → Type 0
-Changes (Ok db) e = e ≡ Accepted db ok_text
-Changes (Err (failures.Refused refusal)) e = e ≡ Denied (refusal_view refusal)
-Changes (Err failures.Memory) e = ⊤
+-- a change was made after which this database stands, and which answers OK, or it is refused
+abbrev pub Changes : Database → Result ⊤ Failure → Effect Database → Type 0
+Changes new (Ok u) e = e ≡ Accepted new ok_text
+Changes new (Err (failures.Refused refusal)) e = e ≡ Denied (refusal_view refusal)
+Changes new (Err failures.Memory) e = ⊤
 
 -- a statement that prints neither a value nor the dump
 abbrev pub IsChange : Statement → Type 0

@@ -1,15 +1,11 @@
 -- What assignments gave, on the way to a database with it (this project's own).
-use Rattle.std.specs.Prelude.{◌≡◌, ℕ, List, ◌++◌, drop, map, take, Option, Some, None, Result, Ok, Err, ⊤}
+use Rattle.std.specs.Prelude.{◌≡◌, ℕ, List, ◌++◌, drop, map, take, Some}
 use Rattle.std.specs.List.{AllByRecursion}
 use Rattle.td_algebra.specs.Operators.{restriction}
 use Rattle.td_catalog.specs.Database.{BaseRelvar, Database, base_named}
 use Rattle.td_catalog.specs.TypedDatabases.{AreTyped}
 use Rattle.td_check.specs.OperatorTypes.{attribute_type}
 use Rattle.td_engine.specs.Assignments.{Given, assignment_value, current, source_world, target_of, with_gift}
-use Rattle.td_engine.specs.Carried.{refusal_view}
-use Rattle.td_engine.specs.Refusals.{Refusal}
-use Rattle.td_engine.specs.declared.refusal.Failure.{Failure}
-use Rattle.td_engine.specs.declared.refusal.Failure.TheVariants as failures
 use Rattle.td_eval.specs.OperatorValues.{is_true, truth_value}
 use Rattle.td_tree.specs.Outcomes.{Outcome, Valued, gathered, with_value}
 use Rattle.td_tree.specs.Trees.{Assignment}
@@ -48,9 +44,3 @@ AreGifts db = AllByRecursion (IsGift db)
 -- the base relvars, of which the first hold what they were given
 abbrev pub gifted : Given → ℕ → List BaseRelvar → List BaseRelvar
 gifted given count bases = map (with_gift given) (take count bases) ++ drop count bases
-
--- a check was passed by what was made, or it refuses
-abbrev pub PassesWith : {X : Type 0} → Result X Failure → Option Refusal → Type 0
-PassesWith (Ok x) o = o ≡ None
-PassesWith (Err (failures.Refused refusal)) o = o ≡ Some (refusal_view refusal)
-PassesWith (Err failures.Memory) o = ⊤

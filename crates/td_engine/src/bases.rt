@@ -1,13 +1,13 @@
 //! Definitions of base relvars.
-ghost use Rattle.std.specs.Prelude.{◌≡◌, IfOk, [], map, option_map};
-ghost use Rattle.td_catalog.specs.Database.{base_relvar, with_base};
+ghost use Rattle.std.specs.Prelude.{◌≡◌, IfOk, IsTrue, OnOk, [], map, not, option_map};
+ghost use Rattle.td_catalog.specs.Database.{base_relvar, knows_relvar, with_base};
 ghost use Rattle.td_catalog.specs.Dumps.{ordered_names};
 ghost use Rattle.td_catalog.specs.TypedDatabases.{AreTyped};
 ghost use Rattle.td_engine.specs.Assignments.{of_heading, relation_for};
 ghost use Rattle.td_engine.specs.Carried.{Changes, IsAdmitted};
-ghost use Rattle.td_engine.specs.Checks.{BasesHold};
 ghost use Rattle.td_engine.specs.Machine.{base_defined, by_outcome, changed, init_relation};
 ghost use Rattle.td_engine.specs.Legality.{AreBaseKeys, IsLegal};
+ghost use Rattle.td_engine.specs.Stages.{GoesOn};
 ghost use Rattle.td_eval.specs.DatabaseWorlds.{world_of};
 ghost use Rattle.td_eval.specs.OperatorValues.{on_relation};
 ghost use Rattle.td_tree.specs.Outcomes.{Answers, Outcome, Valued, with_value};
@@ -20,7 +20,7 @@ ghost use Rattle.td_value.specs.Views.{relation_view};
 
 use crate::beside::beside;
 use crate::bodies::body_after;
-use crate::checks::{keys_hold, settled, value};
+use crate::checks::{keys_hold, value};
 use crate::definitions::failed;
 use crate::refusal::{Failure, Refusal};
 use crate::updates::relation_of;
@@ -46,7 +46,7 @@ fn init_relation<B: Body>(
     heading: Heading,
     init: Option<&Expr>,
 ) -> Result<Rel, Fault>
-    ensures { Answers (λ r. r) result (init_relation catalog.now
+    ensures { Answers (λ r. r) result (init_relation catalog.now.database
         (option_map (λ e. tree_view e.now) init.entry) heading) }
 {
     let empty = Rel::new(heading, Vec::new(alloc))?;
@@ -63,8 +63,9 @@ fn new_relation<B: Body>(
     definition: &BaseDefinition,
 ) -> Result<Rel, Fault>
     ensures { Answers (λ r. r) result (with_value
-        (heading_meant catalog.now.types (heading_tree_view definition.now.heading.items))
-        (init_relation catalog.now (option_map tree_view definition.now.init))) }
+        (heading_meant catalog.now.database.types
+        (heading_tree_view definition.now.heading.items))
+        (init_relation catalog.now.database (option_map tree_view definition.now.init))) }
 {
     let heading = resolve_heading(catalog.types(), &definition.heading)?;
     init_relation(alloc, catalog, heading, definition.init.as_ref())
@@ -75,6 +76,7 @@ fn body_of<B: Body>(alloc: Global, keys: &Vec<Vec<Name>>, relation: Rel) -> Resu
     requires { AreBaseKeys relation.heading (map (λ key. key.items) keys.now.items) }
     ensures relation { IfOk result (λ b. B.relation b ≡ relation) }
     ensures keys { IfOk result (λ b. B.keys b ≡ map (λ key. key.items) keys.now.items) }
+    ensures kept { IfOk result (λ b. B.kept b ≡ []) }
 {
     let none = Rel::of_ascending(relation.heading().try_clone()?, Vec::new(alloc))?;
     let empty: B = B::empty(alloc, relation.heading().try_clone()?, copied_keys(keys)?)?;
@@ -104,6 +106,7 @@ fn parts_of<B: Body>(
     ensures keys { IfOk result (λ parts. parts.keys ≡ keys) }
     ensures relation { IfOk result (λ parts. B.relation parts.body ≡ relation) }
     ensures body { IfOk result (λ parts. B.keys parts.body ≡ map (λ key. key.items) keys.items) }
+    ensures kept { IfOk result (λ parts. B.kept parts.body ≡ []) }
 {
     let heading = relation.heading().try_clone()?;
     let body = body_of(alloc, &keys, relation)?;
@@ -115,85 +118,91 @@ fn parts_of<B: Body>(
     })
 }
 
-/// The catalogue with a base relvar that holds the relation.
-fn with_body<B: Body>(
+/// Adds a base relvar that holds the relation.
+fn add_base<B: Body>(
     alloc: Global,
-    catalog: &Catalog<B>,
+    catalog: &mut Catalog<B>,
     name: Name,
     keys: Vec<Vec<Name>>,
     relation: Rel,
-) -> Result<Catalog<B>, Fault>
-    requires heading { AreKnown catalog.now.types (pack relation.heading) }
+) -> Result<(), Fault>
+    requires heading { AreKnown catalog.old.database.types (pack relation.heading) }
     requires keys { AreBaseKeys relation.heading (map (λ key. key.items) keys.items) }
-    requires typed { AreTyped catalog.now.types relation }
-    ensures { IfOk result (λ db. db ≡ with_base
-        (base_relvar name (map (λ key. key.items) keys.items) relation) catalog.now) }
+    requires typed { AreTyped catalog.old.database.types relation }
+    ensures added { OnOk result (catalog.new.database ≡ with_base
+        (base_relvar name (map (λ key. key.items) keys.items) relation) catalog.old.database) }
+    ensures new { OnOk result (IsTrue (not (knows_relvar name catalog.old.database))) }
+    ensures on { GoesOn catalog.old catalog.new }
 {
-    let parts = parts_of(alloc, name, keys, relation)?;
-    let (mut next, parts): (Catalog<B>, Parts<B>) = beside(catalog.try_clone(), parts)?;
+    let parts: Parts<B> = parts_of(alloc, name, keys, relation)?;
     let _ = parts.body.len();
-    let done = next.add_base(parts.name, parts.heading, parts.keys, parts.body);
-    done.and(Ok(next))
+    catalog.add_base(parts.name, parts.heading, parts.keys, parts.body)
 }
 
-/// The catalogue with a base relvar that holds the relation, where its keys hold and what else is
-/// checked is passed.
-fn with_relvar<B: Body>(
+/// Adds a base relvar that holds the relation, where its keys hold. No virtual relvar and no
+/// constraint can have changed.
+fn add_checked<B: Body>(
     alloc: Global,
-    catalog: &Catalog<B>,
+    catalog: &mut Catalog<B>,
     name: Name,
     keys: Vec<Vec<Name>>,
     relation: Rel,
-) -> Result<Catalog<B>, Failure>
-    requires held { BasesHold catalog.now }
-    requires heading { AreKnown catalog.now.types (pack relation.heading) }
+) -> Result<(), Failure>
+    requires legal { IsLegal catalog.old.database }
+    requires heading { AreKnown catalog.old.database.types (pack relation.heading) }
     requires keys { AreBaseKeys relation.heading (map (λ key. key.items) keys.items) }
-    requires typed { AreTyped catalog.now.types relation }
-    ensures { Changes result (changed (with_base
-        (base_relvar name (map (λ key. key.items) keys.items) relation) catalog.now)) }
+    requires typed { AreTyped catalog.old.database.types relation }
+    ensures change { Changes catalog.new.database result (changed (with_base
+        (base_relvar name (map (λ key. key.items) keys.items) relation) catalog.old.database)) }
+    ensures on { GoesOn catalog.old catalog.new }
 {
     match keys_hold(alloc, &keys, &relation) {
         Ok(true) => {}
         Ok(false) => return Err(Failure::Refused(Refusal::Key(name))),
         Err(_) => return Err(Failure::Memory),
     }
-    match with_body(alloc, catalog, name, keys, relation) {
-        Ok(next) => settled(alloc, next),
+    match add_base(alloc, catalog, name, keys, relation) {
+        Ok(()) => Ok(()),
         Err(_) => Err(Failure::Memory),
     }
 }
 
-/// The catalogue with a base relvar that holds the relation, of these keys, each in name order.
-fn with_keys<B: Body>(
+/// Adds a base relvar that holds the relation, of these keys, each in name order.
+fn add_ordered<B: Body>(
     alloc: Global,
-    catalog: &Catalog<B>,
+    catalog: &mut Catalog<B>,
     name: Name,
     keys: Vec<Vec<Name>>,
     relation: Rel,
-) -> Result<Catalog<B>, Failure>
-    requires held { BasesHold catalog.now }
-    requires heading { AreKnown catalog.now.types (pack relation.heading) }
+) -> Result<(), Failure>
+    requires legal { IsLegal catalog.old.database }
+    requires heading { AreKnown catalog.old.database.types (pack relation.heading) }
     requires keys { AreBaseKeys relation.heading (map (λ key. key.items) keys.items) }
-    requires typed { AreTyped catalog.now.types relation }
-    ensures { Changes result (changed (with_base (base_relvar name
-        (map (ordered_names relation.heading) (map (λ key. key.items) keys.items)) relation) catalog.now)) }
+    requires typed { AreTyped catalog.old.database.types relation }
+    ensures change { Changes catalog.new.database result (changed (with_base (base_relvar name
+        (map (ordered_names relation.heading) (map (λ key. key.items) keys.items)) relation)
+        catalog.old.database)) }
+    ensures on { GoesOn catalog.old catalog.new }
 {
     relation.heading().reveal();
     let ordered = ordered_keys(alloc, relation.heading(), &keys)?;
-    with_relvar(alloc, catalog, name, ordered, relation)
+    add_checked(alloc, catalog, name, ordered, relation)
 }
 
-/// The catalogue with a base relvar of the definition.
-pub(crate) fn with_base<B: Body>(
+/// Adds a base relvar of the definition.
+pub(crate) fn define_base<B: Body>(
     alloc: Global,
-    catalog: &Catalog<B>,
+    catalog: &mut Catalog<B>,
     definition: BaseDefinition,
-) -> Result<Catalog<B>, Failure>
-    requires legal { IsLegal catalog.now }
-    requires admitted { IsAdmitted catalog.now (statement_view (Statement.DefineBase definition)) }
-    ensures { Changes result (by_outcome (base_defined catalog.now definition.name
+) -> Result<(), Failure>
+    requires legal { IsLegal catalog.old.database }
+    requires admitted { IsAdmitted catalog.old.database
+        (statement_view (Statement.DefineBase definition)) }
+    ensures change { Changes catalog.new.database result (by_outcome
+        (base_defined catalog.old.database definition.name
         (heading_tree_view definition.heading.items) (option_map tree_view definition.init)
         (map (λ key. key.items) definition.keys.items)) changed) }
+    ensures on { GoesOn catalog.old catalog.new }
 {
     let relation = new_relation(alloc, catalog, &definition);
     drop(definition.heading);
@@ -201,7 +210,7 @@ pub(crate) fn with_base<B: Body>(
     match beside(relation, (definition.name, definition.keys)) {
         Ok(parts) => {
             let (relation, (name, keys)) = parts;
-            with_keys(alloc, catalog, name, keys, relation)
+            add_ordered(alloc, catalog, name, keys, relation)
         }
         Err(fault) => Err(failed(fault)),
     }

@@ -23,25 +23,15 @@ pub(crate) fn body_after<B: Body>(mut body: B, out: &Rel, add: &Rel) -> Result<B
 }
 
 /// What the one relation has and the other lacks, and the other way round.
-fn differences(alloc: Global, relation: &Rel, other: &Rel) -> Result<(Rel, Rel), AllocError>
+pub(crate) fn differences(
+    alloc: Global,
+    relation: &Rel,
+    other: &Rel,
+) -> Result<(Rel, Rel), AllocError>
     requires { relation.now.heading ≡ other.now.heading }
     ensures first { IfOk result (λ both. both.0 ≡ difference relation.now other.now) }
     ensures second { IfOk result (λ both. both.1 ≡ difference other.now relation.now) }
 {
     let first = minus(alloc, relation, other)?;
     Ok((first, minus(alloc, other, relation)?))
-}
-
-/// A copy of the body that holds the relation in place of its own.
-pub(crate) fn body_with<B: Body>(alloc: Global, body: &B, relation: &Rel) -> Result<B, AllocError>
-    requires { relation.now.heading ≡ (B.relation body.now).heading }
-    ensures relation { IfOk result (λ b. B.relation b ≡ relation.now) }
-    ensures keys { IfOk result (λ b. B.keys b ≡ B.keys body.now) }
-{
-    let _ = body.len();
-    let _ = relation.rows();
-    let earlier = body.to_rel()?;
-    let (out, add) = differences(alloc, &earlier, relation)?;
-    drop(earlier);
-    body_after(body.try_clone()?, &out, &add)
 }

@@ -1,16 +1,21 @@
 //! The keys of virtual relvars and the constraints of a catalogue, after a definition or an
 //! assignment.
-ghost use Rattle.std.specs.Prelude.{◌≡◌, [], IfOk, None, map};
-ghost use Rattle.td_catalog.specs.CatalogViews.{virtual_view};
-ghost use Rattle.td_catalog.specs.Database.{named_constraint};
+ghost use Rattle.std.specs.Prelude.{◌≡◌, [], IfOk, map};
+ghost use Rattle.std.specs.List.{AllByRecursion};
+ghost use Rattle.td_catalog.specs.CatalogViews.{IsEntry, entry_keys, virtual_view};
+ghost use Rattle.td_catalog.specs.Database.{Database, NamedConstraint, VirtualRelvar};
+ghost use Rattle.td_catalog.specs.Database.{named_constraint, with_constraint, with_virtual};
 ghost use Rattle.td_engine.specs.Carried.{Changes, Passes};
 ghost use Rattle.td_engine.specs.Checks.{BasesHold, constraint_check, derived_check};
 ghost use Rattle.td_engine.specs.Checks.{first_refusal};
 ghost use Rattle.td_engine.specs.Checks.{keys_hold, unpassed, virtual_check, virtual_test};
+ghost use Rattle.td_engine.specs.LeftOut.{PassesElsewhere, PassesUnlessNamed};
+ghost use Rattle.td_engine.specs.LeftOut.{PassesUnlessReached};
 ghost use Rattle.td_engine.specs.Machine.{changed};
 ghost use Rattle.td_engine.specs.Refusals.{by_constraint, by_key};
 ghost use Rattle.td_eval.specs.DatabaseWorlds.{world_of};
 ghost use Rattle.td_eval.specs.OperatorValues.{on_relation, truth_value};
+ghost use Rattle.td_eval.specs.ReachedRelvars.{reached_from};
 ghost use Rattle.td_eval.specs.TreeValues.{value_of};
 ghost use Rattle.td_eval.specs.Worlds.{name_value};
 ghost use Rattle.td_tree.specs.Outcomes.{Answers, Outcome, Valued, with_value};
@@ -22,13 +27,15 @@ use std::alloc::{AllocError, Global};
 use td_body::body::Body;
 use td_body::keys::key_holds;
 use td_catalog::catalog::Catalog;
-use td_catalog::entry::VirtualEntry;
+use td_catalog::defining::DefiningExpression;
+use td_catalog::entry::{BaseEntry, VirtualEntry};
 use td_eval::env::Env;
 use td_eval::value::eval;
 use td_tree::cause::Cause;
 use td_tree::expression::Expr;
 use td_tree::fault::Fault;
 use td_tree::name::Name;
+use td_types::names::is_among;
 use td_value::relation::Rel;
 use td_value::value::{Node, Value};
 
@@ -39,7 +46,7 @@ pub(crate) fn value<'a, B: Body>(
     expr: &Expr,
 ) -> Result<Value, Fault>
     ensures { Answers (λ v. v) result
-        (value_of (world_of catalog.now) [] (tree_view expr.now)) }
+        (value_of (world_of catalog.now.database) [] (tree_view expr.now)) }
 {
     let other: Option<(&'a Name, &'a Rel)> = None;
     let env = Env {
@@ -61,6 +68,20 @@ pub(crate) fn keys_hold(
 {
     for key in keys {
         if !key_holds(alloc, key, relation)? {
+            return Ok(false);
+        }
+    }
+    Ok(true)
+}
+
+/// Whether each of the keys of a base relvar holds.
+pub(crate) fn entry_keys_hold<B: Body>(entry: &BaseEntry<B>) -> Result<bool, AllocError>
+    requires { IsEntry B.relation B.keys entry.now }
+    ensures { IfOk result (λ b.
+        b ≡ keys_hold (entry_keys entry.now) (B.relation entry.now.body).body) }
+{
+    for place in 0..entry.keys.len() {
+        if !entry.body.key_holds(place)? {
             return Ok(false);
         }
     }
@@ -93,7 +114,8 @@ fn keys_hold_of(
 
 /// The value of the relvar of a name.
 fn relvar_value<B: Body>(alloc: Global, catalog: &Catalog<B>, name: &Name) -> Result<Value, Fault>
-    ensures { Answers (λ v. v) result (name_value (world_of catalog.now) [] name.now) }
+    ensures { Answers (λ v. v) result
+        (name_value (world_of catalog.now.database) [] name.now) }
 {
     let relvar = Expr::Name(name.try_clone()?);
     value(alloc, catalog, &relvar)
@@ -107,7 +129,7 @@ fn test_virtual<B: Body>(
     entry: &VirtualEntry,
 ) -> Result<bool, Fault>
     ensures { Answers (λ b. b) result
-        (virtual_test (world_of catalog.now) (virtual_view (name.now, entry.now))) }
+        (virtual_test (world_of catalog.now.database) (virtual_view (name.now, entry.now))) }
 {
     if entry.keys.is_empty() {
         return Ok(true);
@@ -139,16 +161,42 @@ fn constraint_passed(name: &Name, test: Result<Value, Fault>) -> Result<(), Fail
     }
 }
 
-/// The virtual relvars have keys that hold.
-fn check_virtuals<B: Body>(alloc: Global, catalog: &Catalog<B>) -> Result<(), Failure>
+/// The keys of a virtual relvar hold, which is asked where it is among those reached.
+fn check_virtual<B: Body>(
+    alloc: Global,
+    catalog: &Catalog<B>,
+    reached: &[Name],
+    name: &Name,
+    entry: &VirtualEntry,
+) -> Result<(), Failure>
+    requires { PassesUnlessReached reached.now (world_of catalog.now.database)
+        (virtual_view (name.now, entry.now)) }
+    ensures { Passes result (virtual_check (world_of catalog.now.database)
+        (virtual_view (name.now, entry.now))) }
+{
+    if !is_among(name, reached) {
+        return Ok(());
+    }
+    key_passed(name, test_virtual(alloc, catalog, name, entry))
+}
+
+/// The virtual relvars among those reached have keys that hold.
+fn check_virtuals<B: Body>(
+    alloc: Global,
+    catalog: &Catalog<B>,
+    reached: &[Name],
+) -> Result<(), Failure>
+    requires { AllByRecursion (PassesUnlessReached reached.now (world_of catalog.now.database))
+        catalog.now.database.virtuals }
     ensures { Passes result
-        (first_refusal (virtual_check (world_of catalog.now)) catalog.now.virtuals) }
+        (first_refusal (virtual_check (world_of catalog.now.database))
+        catalog.now.database.virtuals) }
 {
     for place in 0..catalog.virtual_count() {
         let Some((name, entry)) = catalog.nth_virtual(place) else {
             return Ok(());
         };
-        match key_passed(name, test_virtual(alloc, catalog, name, entry)) {
+        match check_virtual(alloc, catalog, reached, name, entry) {
             Ok(()) => {}
             Err(failure) => return Err(failure),
         }
@@ -156,16 +204,55 @@ fn check_virtuals<B: Body>(alloc: Global, catalog: &Catalog<B>) -> Result<(), Fa
     Ok(())
 }
 
-/// The constraints are TRUE.
-fn check_constraints<B: Body>(alloc: Global, catalog: &Catalog<B>) -> Result<(), Failure>
+/// A constraint is TRUE.
+fn test_constraint<B: Body>(
+    alloc: Global,
+    catalog: &Catalog<B>,
+    name: &Name,
+    condition: &DefiningExpression,
+) -> Result<(), Failure>
+    ensures { Passes result (constraint_check (world_of catalog.now.database)
+        (named_constraint name.now condition.now)) }
+{
+    constraint_passed(name, value(alloc, catalog, condition.tree()))
+}
+
+/// A constraint is TRUE, which is asked where one of those reached is named in it.
+fn check_constraint<B: Body>(
+    alloc: Global,
+    catalog: &Catalog<B>,
+    reached: &[Name],
+    name: &Name,
+    condition: &DefiningExpression,
+) -> Result<(), Failure>
+    requires { PassesUnlessNamed reached.now (world_of catalog.now.database)
+        (named_constraint name.now condition.now) }
+    ensures { Passes result (constraint_check (world_of catalog.now.database)
+        (named_constraint name.now condition.now)) }
+{
+    if !condition.names_any(reached) {
+        return Ok(());
+    }
+    test_constraint(alloc, catalog, name, condition)
+}
+
+/// The constraints in which one of those reached is named are TRUE.
+fn check_constraints<B: Body>(
+    alloc: Global,
+    catalog: &Catalog<B>,
+    reached: &[Name],
+) -> Result<(), Failure>
+    requires { AllByRecursion (PassesUnlessNamed reached.now (world_of catalog.now.database))
+        catalog.now.database.constraints }
     ensures { Passes result
-        (first_refusal (constraint_check (world_of catalog.now)) catalog.now.constraints) }
+        (first_refusal (constraint_check (world_of catalog.now.database))
+        catalog.now.database.constraints) }
 {
     for place in 0..catalog.constraint_count() {
-        let Some((name, tree)) = catalog.nth_constraint(place) else {
+        let Some((name, condition)) = catalog.nth_constraint(place) else {
             return Ok(());
         };
-        match constraint_passed(name, value(alloc, catalog, tree)) {
+        match check_constraint(alloc, catalog, reached, name, condition) {
             Ok(()) => {}
             Err(failure) => return Err(failure),
         }
@@ -174,25 +261,86 @@ fn check_constraints<B: Body>(alloc: Global, catalog: &Catalog<B>) -> Result<(),
 }
 
 /// The virtual relvars have keys that hold, and then the constraints are TRUE.
-fn check_derived<B: Body>(alloc: Global, catalog: &Catalog<B>) -> Result<(), Failure>
-    ensures { Passes result (derived_check catalog.now) }
+fn check_derived<B: Body>(
+    alloc: Global,
+    catalog: &Catalog<B>,
+    reached: &[Name],
+) -> Result<(), Failure>
+    requires { PassesElsewhere reached.now catalog.now.database }
+    ensures { Passes result (derived_check catalog.now.database) }
 {
-    match check_virtuals(alloc, catalog) {
-        Ok(()) => check_constraints(alloc, catalog),
+    match check_virtuals(alloc, catalog, reached) {
+        Ok(()) => check_constraints(alloc, catalog, reached),
         Err(failure) => Err(failure),
     }
 }
 
-/// The catalogue after a change, where the keys of its virtual relvars hold and its constraints
-/// are TRUE. Those of its base relvars were found to hold before.
-pub(crate) fn settled<B: Body>(alloc: Global, next: Catalog<B>) -> Result<Catalog<B>, Failure>
-    requires { BasesHold next }
-    ensures change { Changes result (changed next) }
-    ensures same { IfOk result (λ db. db ≡ next) }
-    ensures holds { IfOk result (λ db. derived_check db ≡ None) }
+/// After a change that reaches these relvars the keys of the virtual relvars hold, and the
+/// constraints are TRUE. Those of the base relvars were found to hold before.
+pub(crate) fn settled<B: Body>(
+    alloc: Global,
+    catalog: &Catalog<B>,
+    reached: &[Name],
+) -> Result<(), Failure>
+    requires held { BasesHold catalog.now.database }
+    requires elsewhere { PassesElsewhere reached.now catalog.now.database }
+    ensures { Changes catalog.now.database result (changed catalog.now.database) }
 {
-    match check_derived(alloc, &next) {
-        Ok(()) => Ok(next),
-        Err(failure) => Err(failure),
+    check_derived(alloc, catalog, reached)
+}
+
+// ---- what is reached
+
+/// What a change of these base relvars reaches: with them each virtual relvar in which one that is
+/// reached is named.
+pub(crate) fn reached_from<B: Body>(
+    catalog: &Catalog<B>,
+    changed: Vec<Name>,
+) -> Result<Vec<Name>, AllocError>
+    ensures { IfOk result (λ reached.
+        reached.items ≡ reached_from changed.items catalog.now.database.virtuals) }
+{
+    let mut reached = changed;
+    for place in 0..catalog.virtual_count() {
+        let Some((name, entry)) = catalog.nth_virtual(place) else {
+            return Ok(reached);
+        };
+        if entry.tree.names_any(&reached) {
+            reached.push(name.try_clone()?)?;
+        }
+    }
+    Ok(reached)
+}
+
+// ---- what was defined last
+
+/// The keys of the virtual relvar that was defined last hold.
+pub(crate) fn check_last_virtual<B: Body>(
+    alloc: Global,
+    catalog: &Catalog<B>,
+) -> Result<(), Failure>
+    ensures { (db : Database) (v : VirtualRelvar) → catalog.now.database ≡ with_virtual v db
+        → Passes result (virtual_check (world_of catalog.now.database) v) }
+{
+    let place = catalog.virtual_count().saturating_sub(1);
+    match catalog.nth_virtual(place) {
+        Some((name, entry)) => key_passed(name, test_virtual(alloc, catalog, name, entry)),
+        None => Ok(()),
+    }
+}
+
+/// The constraint that was defined last is TRUE.
+pub(crate) fn check_last_constraint<B: Body>(
+    alloc: Global,
+    catalog: &Catalog<B>,
+) -> Result<(), Failure>
+    ensures { (db : Database) (k : NamedConstraint)
+        → catalog.now.database ≡ with_constraint k db
+        → Passes result (constraint_check (world_of catalog.now.database) k) }
+{
+    let place = catalog.constraint_count().saturating_sub(1);
+    match catalog.nth_constraint(place) {
+        Some((name, condition)) => test_constraint(alloc, catalog, name, condition),
+        None => Ok(()),
     }
 }

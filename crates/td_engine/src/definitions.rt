@@ -1,5 +1,5 @@
 //! Definitions of types, virtual relvars and constraints, and drops.
-ghost use Rattle.std.specs.Prelude.{◌≡◌, IfOk, map, option_map};
+ghost use Rattle.std.specs.Prelude.{◌≡◌, IfOk, OnOk, map, option_map};
 ghost use Rattle.td_catalog.specs.Database.{Database, named_constraint, with_constraint};
 ghost use Rattle.td_catalog.specs.Database.{database_scope};
 ghost use Rattle.td_catalog.specs.Dumps.{ordered_names};
@@ -11,13 +11,14 @@ ghost use Rattle.td_engine.specs.Machine.{by_outcome, changed, constraint_droppe
 ghost use Rattle.td_engine.specs.Machine.{relvar_dropped, type_defined, type_dropped, unchecked};
 ghost use Rattle.td_engine.specs.Machine.{virtual_defined};
 ghost use Rattle.td_engine.specs.Legality.{IsLegal};
+ghost use Rattle.td_engine.specs.Stages.{GoesOn};
 ghost use Rattle.td_tree.specs.Outcomes.{Answers, Outcome, Valued, with_value};
 ghost use Rattle.td_tree.specs.TreeViews.{heading_tree_view, statement_view, tree_view};
 ghost use Rattle.td_types.specs.Types.{IsHeading, Type', pack};
 ghost use Rattle.td_types.specs.Views.{type_view};
 
 use crate::beside::beside;
-use crate::checks::settled;
+use crate::checks::{check_last_constraint, check_last_virtual};
 use crate::refusal::{Failure, Refusal};
 use std::alloc::Global;
 use td_body::body::Body;
@@ -43,53 +44,56 @@ pub(crate) fn failed(fault: Fault) -> Failure
     }
 }
 
-/// The catalogue that a definition makes, where the checks that follow are passed.
-pub(crate) fn checked<B: Body>(
-    alloc: Global,
-    next: Result<Catalog<B>, Fault>,
-) -> Result<Catalog<B>, Failure>
-    requires { IfOk next BasesHold }
-    ensures { (o : Outcome Database) → Answers (λ db. db) next o
-        → Changes result (by_outcome o changed) }
+/// A drop: no check follows.
+pub(crate) fn unchecked(done: Result<(), Fault>) -> Result<(), Failure>
+    ensures { (db : Database) (o : Outcome Database) → Answers (λ u. db) done o
+        → Changes db result (by_outcome o unchecked) }
 {
-    match next {
-        Ok(next) => settled(alloc, next),
+    match done {
+        Ok(()) => Ok(()),
         Err(fault) => Err(failed(fault)),
     }
 }
 
-/// The catalogue that a drop makes: no check follows.
-pub(crate) fn unchecked<B: Body>(next: Result<Catalog<B>, Fault>) -> Result<Catalog<B>, Failure>
-    ensures { (o : Outcome Database) → Answers (λ db. db) next o
-        → Changes result (by_outcome o unchecked) }
-{
-    match next {
-        Ok(next) => Ok(next),
-        Err(fault) => Err(failed(fault)),
-    }
-}
-
-/// The catalogue with a type of the definition.
-pub(crate) fn with_type<B: Body>(
-    catalog: &Catalog<B>,
-    definition: TypeDefinition,
-) -> Result<Catalog<B>, Fault>
-    requires legal { IsLegal catalog.now }
-    requires admitted { IsAdmitted catalog.now (statement_view (Statement.DefineType definition)) }
-    ensures answer { Answers (λ db. db) result (type_defined catalog.now definition.name
+/// Adds a type of the definition.
+fn add_type<B: Body>(catalog: &mut Catalog<B>, definition: TypeDefinition) -> Result<(), Fault>
+    requires legal { IsLegal catalog.old.database }
+    requires admitted { IsAdmitted catalog.old.database
+        (statement_view (Statement.DefineType definition)) }
+    ensures answer { Answers (λ u. catalog.new.database) result
+        (type_defined catalog.old.database definition.name
         (heading_tree_view definition.components.items)
         (option_map tree_view definition.constraint)) }
-    ensures held { IfOk result BasesHold }
+    ensures held { OnOk result (BasesHold catalog.new.database) }
+    ensures on { GoesOn catalog.old catalog.new }
 {
     let components = resolve_attributes(catalog.types(), &definition.components);
     drop(definition.components);
-    let (components, entry) = beside(components, (definition.name, definition.constraint))?;
-    let (mut next, (components, (name, constraint))) = beside(
-        catalog.try_clone(),
-        (components, entry),
+    let (components, (name, constraint)) = beside(
+        components,
+        (definition.name, definition.constraint),
     )?;
-    let done = next.add_type(name, components, constraint);
-    done.and(Ok(next))
+    catalog.add_type(name, components, constraint)
+}
+
+/// Adds a type of the definition. No virtual relvar and no constraint can have changed.
+pub(crate) fn define_type<B: Body>(
+    catalog: &mut Catalog<B>,
+    definition: TypeDefinition,
+) -> Result<(), Failure>
+    requires legal { IsLegal catalog.old.database }
+    requires admitted { IsAdmitted catalog.old.database
+        (statement_view (Statement.DefineType definition)) }
+    ensures change { Changes catalog.new.database result (by_outcome
+        (type_defined catalog.old.database definition.name
+        (heading_tree_view definition.components.items)
+        (option_map tree_view definition.constraint)) changed) }
+    ensures on { GoesOn catalog.old catalog.new }
+{
+    match add_type(catalog, definition) {
+        Ok(()) => Ok(()),
+        Err(fault) => Err(failed(fault)),
+    }
 }
 
 /// The heading of a relation's type that was answered: another type is refused.
@@ -107,7 +111,7 @@ fn over_relation(answer: Result<Ty, Fault>) -> Result<Heading, Fault>
 /// The heading of an expression's value, which is a relation.
 fn heading_of<B: Body>(catalog: &Catalog<B>, expression: &Expr) -> Result<Heading, Fault>
     ensures { Answers (λ h. h) result (with_value
-        (type_of (database_scope catalog.now) (tree_view expression.now))
+        (type_of (database_scope catalog.now.database) (tree_view expression.now))
         (λ t. over_relation t Valued)) }
 {
     let scope = catalog.scope()?;
@@ -128,7 +132,7 @@ fn parts_of<B: Body>(
     definition: &VirtualDefinition,
 ) -> Result<Derived, Fault>
     ensures answer { Answers (λ d. d.heading) result (with_value
-        (type_of (database_scope catalog.now) (tree_view definition.now.expression))
+        (type_of (database_scope catalog.now.database) (tree_view definition.now.expression))
         (λ t. over_relation t Valued)) }
     ensures headed { IfOk result (λ d. IsHeading (pack d.heading)) }
     ensures keys { IfOk result (λ d. map (λ key. key.items) d.keys.items
@@ -140,79 +144,108 @@ fn parts_of<B: Body>(
     Ok(Derived { heading, keys })
 }
 
-/// The catalogue with a virtual relvar of the definition.
-pub(crate) fn with_virtual<B: Body>(
+/// Adds a virtual relvar of the definition.
+fn add_virtual<B: Body>(
     alloc: Global,
-    catalog: &Catalog<B>,
+    catalog: &mut Catalog<B>,
     definition: VirtualDefinition,
-) -> Result<Catalog<B>, Fault>
-    requires legal { IsLegal catalog.now }
-    requires admitted { IsAdmitted catalog.now (statement_view (Statement.DefineVirtual definition)) }
-    ensures answer { Answers (λ db. db) result (virtual_defined catalog.now definition.name
-        (tree_view definition.expression)
+) -> Result<(), Fault>
+    requires legal { IsLegal catalog.old.database }
+    requires admitted { IsAdmitted catalog.old.database
+        (statement_view (Statement.DefineVirtual definition)) }
+    ensures answer { Answers (λ u. catalog.new.database) result
+        (virtual_defined catalog.old.database definition.name (tree_view definition.expression)
         (map (λ key. key.items) definition.keys.items)) }
-    ensures held { IfOk result BasesHold }
+    ensures held { OnOk result (BasesHold catalog.new.database) }
+    ensures on { GoesOn catalog.old catalog.new }
 {
     let derived = parts_of(alloc, catalog, &definition);
     drop(definition.keys);
-    let (derived, entry) = beside(derived, (definition.name, definition.expression))?;
-    let (mut next, (derived, (name, expression))) = beside(catalog.try_clone(), (derived, entry))?;
-    let done = next.add_virtual(name, derived.heading, expression, derived.keys);
-    done.and(Ok(next))
+    let (derived, (name, expression)) = beside(derived, (definition.name, definition.expression))?;
+    catalog.add_virtual(name, derived.heading, expression, derived.keys)
 }
 
-/// The catalogue with a constraint.
-pub(crate) fn with_constraint<B: Body>(
-    catalog: &Catalog<B>,
+/// Adds a virtual relvar of the definition, where its keys hold. No other virtual relvar and no
+/// constraint can have changed.
+pub(crate) fn define_virtual<B: Body>(
+    alloc: Global,
+    catalog: &mut Catalog<B>,
+    definition: VirtualDefinition,
+) -> Result<(), Failure>
+    requires legal { IsLegal catalog.old.database }
+    requires admitted { IsAdmitted catalog.old.database
+        (statement_view (Statement.DefineVirtual definition)) }
+    ensures change { Changes catalog.new.database result (by_outcome
+        (virtual_defined catalog.old.database definition.name (tree_view definition.expression)
+        (map (λ key. key.items) definition.keys.items)) changed) }
+    ensures on { GoesOn catalog.old catalog.new }
+{
+    match add_virtual(alloc, catalog, definition) {
+        Ok(()) => check_last_virtual(alloc, catalog),
+        Err(fault) => Err(failed(fault)),
+    }
+}
+
+/// Adds a constraint.
+fn add_constraint<B: Body>(
+    catalog: &mut Catalog<B>,
     name: Name,
     condition: Expr,
-) -> Result<Catalog<B>, Fault>
-    requires legal { IsLegal catalog.now }
-    requires admitted { IsAdmitted catalog.now (statement_view (Statement.DefineConstraint name condition)) }
-    ensures answer { Answers (λ db. db) result (Valued
-        (with_constraint (named_constraint name (tree_view condition)) catalog.now)) }
-    ensures held { IfOk result BasesHold }
+) -> Result<(), Fault>
+    requires legal { IsLegal catalog.old.database }
+    requires admitted { IsAdmitted catalog.old.database
+        (statement_view (Statement.DefineConstraint name condition)) }
+    ensures answer { Answers (λ u. catalog.new.database) result (Valued
+        (with_constraint (named_constraint name (tree_view condition)) catalog.old.database)) }
+    ensures held { OnOk result (BasesHold catalog.new.database) }
+    ensures on { GoesOn catalog.old catalog.new }
 {
-    let (mut next, (name, condition)) = beside(catalog.try_clone(), (name, condition))?;
-    let done = next.add_constraint(name, condition);
-    done.and(Ok(next))
+    catalog.add_constraint(name, condition)
 }
 
-/// The catalogue without a type that no entry mentions.
-pub(crate) fn without_type<B: Body>(catalog: &Catalog<B>, name: &Name) -> Result<Catalog<B>, Fault>
-    ensures { Answers (λ db. db) result (type_dropped catalog.now name.now) }
+/// Adds a constraint, where it is TRUE. No virtual relvar and no other constraint can have changed.
+pub(crate) fn define_constraint<B: Body>(
+    alloc: Global,
+    catalog: &mut Catalog<B>,
+    name: Name,
+    condition: Expr,
+) -> Result<(), Failure>
+    requires legal { IsLegal catalog.old.database }
+    requires admitted { IsAdmitted catalog.old.database
+        (statement_view (Statement.DefineConstraint name condition)) }
+    ensures change { Changes catalog.new.database result (changed
+        (with_constraint (named_constraint name (tree_view condition)) catalog.old.database)) }
+    ensures on { GoesOn catalog.old catalog.new }
 {
-    let mut next = catalog.try_clone()?;
-    match next.drop_type(name) {
-        Ok(()) => Ok(next),
-        Err(fault) => Err(fault),
+    match add_constraint(catalog, name, condition) {
+        Ok(()) => check_last_constraint(alloc, catalog),
+        Err(fault) => Err(failed(fault)),
     }
 }
 
-/// The catalogue without a relvar that no entry mentions.
-pub(crate) fn without_relvar<B: Body>(
-    catalog: &Catalog<B>,
-    name: &Name,
-) -> Result<Catalog<B>, Fault>
-    ensures { Answers (λ db. db) result (relvar_dropped catalog.now name.now) }
+/// Takes out a type that no entry mentions.
+pub(crate) fn drop_type<B: Body>(catalog: &mut Catalog<B>, name: &Name) -> Result<(), Fault>
+    ensures answer { Answers (λ u. catalog.new.database) result
+        (type_dropped catalog.old.database name.now) }
+    ensures on { GoesOn catalog.old catalog.new }
 {
-    let mut next = catalog.try_clone()?;
-    match next.drop_var(name) {
-        Ok(()) => Ok(next),
-        Err(fault) => Err(fault),
-    }
+    catalog.drop_type(name)
 }
 
-/// The catalogue without a constraint.
-pub(crate) fn without_constraint<B: Body>(
-    catalog: &Catalog<B>,
-    name: &Name,
-) -> Result<Catalog<B>, Fault>
-    ensures { Answers (λ db. db) result (constraint_dropped catalog.now name.now) }
+/// Takes out a relvar that no entry mentions.
+pub(crate) fn drop_relvar<B: Body>(catalog: &mut Catalog<B>, name: &Name) -> Result<(), Fault>
+    ensures answer { Answers (λ u. catalog.new.database) result
+        (relvar_dropped catalog.old.database name.now) }
+    ensures on { GoesOn catalog.old catalog.new }
 {
-    let mut next = catalog.try_clone()?;
-    match next.drop_constraint(name) {
-        Ok(()) => Ok(next),
-        Err(fault) => Err(fault),
-    }
+    catalog.drop_var(name)
+}
+
+/// Takes out a constraint.
+pub(crate) fn drop_constraint<B: Body>(catalog: &mut Catalog<B>, name: &Name) -> Result<(), Fault>
+    ensures answer { Answers (λ u. catalog.new.database) result
+        (constraint_dropped catalog.old.database name.now) }
+    ensures on { GoesOn catalog.old catalog.new }
+{
+    catalog.drop_constraint(name)
 }

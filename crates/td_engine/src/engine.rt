@@ -1,8 +1,8 @@
-//! An engine: a database, and those that its open transactions keep.
+//! An engine: a database, and those to which its open transactions can go back.
 ghost use Rattle.std.specs.Prelude.{◌≡◌, Bool, IfOk, List, OnErr, length};
 ghost use Rattle.std.specs.String.{string_bytes};
 ghost use Rattle.td_catalog.specs.Dumps.{dump_text};
-ghost use Rattle.td_engine.specs.Carried.{IsSpelled};
+ghost use Rattle.td_engine.specs.Carried.{IsOfDatabase, IsSpelled};
 ghost use Rattle.td_engine.specs.Machine.{begun_transaction, committed, effect_in, empty_state};
 ghost use Rattle.td_engine.specs.Machine.{rolled_back, step_of};
 ghost use Rattle.td_engine.specs.Rebuilding.{Rebuilds};
@@ -34,23 +34,23 @@ const TRANSACTION_LIMIT: usize = 16;
 pub struct Engine<B: Body> {
     alloc: Global,
     present: Present<B>,
-    /// What the open transactions keep, the last begun last.
-    kept: Vec<Catalog<B>>,
+    /// How many databases were kept when each open transaction began, the last begun last.
+    opens: Vec<usize>,
 }
 
 impl<B: Body> Model for Engine<B> {
     ghost use Rattle.std.specs.Prelude.{reverse};
-    ghost use Rattle.td_engine.specs.Machine.{State, state_of};
-    ghost use Rattle.td_engine.specs.Legality.{IsLegalState};
+    ghost use Rattle.td_engine.specs.Machine.{State};
+    ghost use Rattle.td_engine.specs.Stages.{IsEngine, state_at};
     ghost use Rattle.td_engine.specs.Transactions.{state_code};
 
     ghost Value = { State };
 
     ghost coded = { state_code };
 
-    ghost view = { λ e. state_of e.present (reverse e.kept.items) };
+    ghost view = { λ e. state_at e.present (reverse e.opens.items) };
 
-    ghost invariant = { λ e. IsLegalState (state_of e.present (reverse e.kept.items)) };
+    ghost invariant = { λ e. IsEngine e.present (reverse e.opens.items) };
 }
 
 impl<B: Body> Engine<B> {
@@ -63,13 +63,13 @@ impl<B: Body> Engine<B> {
         Engine {
             alloc,
             present,
-            kept: Vec::new(alloc),
+            opens: Vec::new(alloc),
         }
     }
 
     /// The database.
     pub fn catalog(&self) -> &Catalog<B>
-        ensures { result.now ≡ self.now.database }
+        ensures { result.now.database ≡ self.now.database }
     {
         self.present.catalog()
     }
@@ -78,7 +78,7 @@ impl<B: Body> Engine<B> {
     pub fn depth(&self) -> u32
         ensures { result ≡ length self.now.kept }
     {
-        self.kept.len() as u32
+        self.opens.len() as u32
     }
 
     /// Tells what every engine's databases are, where no part of it is seen.
@@ -136,11 +136,34 @@ impl<B: Body> Engine<B> {
         ensures legal { IsLegalState self.new }
     {
         match transaction_of(&statement) {
-            None => self.present.execute(statement),
+            None => self.change(statement),
             Some(transaction) => {
                 drop(statement);
                 self.transact(transaction)
             }
+        }
+    }
+
+    /// Does what a statement means that is not of transactions.
+    fn change(&mut self, statement: Statement) -> Result<Answer, AllocError>
+        requires spelled { IsSpelled (statement_view statement) }
+        requires change { IsOfDatabase (statement_view statement) }
+        ensures done { IfOk result (λ answer.
+            Does (step_of self.old (effect_in self.old (statement_view statement))) answer self.new) }
+        ensures err { OnErr result (self.new ≡ self.old) }
+        ensures legal { IsLegalState self.new }
+    {
+        let answer = self.present.execute(statement);
+        self.settle();
+        answer
+    }
+
+    /// Lets go of what the catalogue keeps, where no open transaction may go back to it.
+    fn settle(&mut self)
+        ensures { self.new ≡ self.old }
+    {
+        if self.opens.is_empty() {
+            self.present.settle();
         }
     }
 
@@ -159,52 +182,55 @@ impl<B: Body> Engine<B> {
         }
     }
 
-    /// Keeps the database.
+    /// Keeps the number of databases that are kept.
     fn begin(&mut self) -> Result<Answer, AllocError>
         ensures done { IfOk result (λ answer.
             Does (step_of self.old (begun_transaction self.old)) answer self.new) }
         ensures err { OnErr result (self.new ≡ self.old) }
         ensures legal { IsLegalState self.new }
     {
-        if self.kept.len() >= TRANSACTION_LIMIT {
+        if self.opens.len() >= TRANSACTION_LIMIT {
             return Answer::refused(self.alloc, Cause::Transaction);
         }
-        let catalog = self.present.catalog().try_clone()?;
         let answer = Answer::ok(self.alloc)?;
-        self.kept.push(catalog)?;
+        self.opens.push(self.present.kept())?;
         Ok(answer)
     }
 
-    /// Lets go of the database kept last.
+    /// Lets go of the number kept last.
     fn commit(&mut self) -> Result<Answer, AllocError>
         ensures done { IfOk result (λ answer.
             Does (step_of self.old (committed self.old.database self.old.kept)) answer self.new) }
         ensures err { OnErr result (self.new ≡ self.old) }
         ensures legal { IsLegalState self.new }
     {
-        if self.kept.is_empty() {
+        if self.opens.is_empty() {
             return Answer::refused(self.alloc, Cause::Transaction);
         }
         let answer = Answer::ok(self.alloc)?;
-        let _ = self.kept.pop();
+        let Some(_) = self.opens.pop() else {
+            unreachable!()
+        };
+        self.settle();
         Ok(answer)
     }
 
-    /// Goes back to the database kept last.
+    /// Goes back to where the transaction begun last began.
     fn roll_back(&mut self) -> Result<Answer, AllocError>
         ensures done { IfOk result (λ answer.
             Does (step_of self.old (rolled_back self.old.kept)) answer self.new) }
         ensures err { OnErr result (self.new ≡ self.old) }
         ensures legal { IsLegalState self.new }
     {
-        if self.kept.is_empty() {
+        if self.opens.is_empty() {
             return Answer::refused(self.alloc, Cause::Transaction);
         }
         let answer = Answer::ok(self.alloc)?;
-        let Some(catalog) = self.kept.pop() else {
+        let Some(place) = self.opens.pop() else {
             unreachable!()
         };
-        self.present = Present::of(self.alloc, catalog);
+        self.present.revert(place);
+        self.settle();
         Ok(answer)
     }
 }

@@ -1,13 +1,15 @@
-//! The present database of an engine, and what a statement does that is not of transactions.
-ghost use Rattle.std.specs.Prelude.{◌≡◌, IfNone, IfOk, IfSome, OnErr};
+//! The catalogue of an engine, and what a statement does that is not of transactions.
+ghost use Rattle.std.specs.Prelude.{◌≡◌, ◌+◌, ◌≤◌, IfNone, IfOk, IfSome, OnErr, length, take};
 ghost use Rattle.std.specs.String.{string_bytes};
 ghost use Rattle.td_catalog.specs.Database.{Database, empty_database};
 ghost use Rattle.td_catalog.specs.Dumps.{dump_text};
+ghost use Rattle.td_catalog.specs.KeptDatabases.{settled, stages};
 ghost use Rattle.td_engine.specs.Carried.{IsAdmitted, IsChange, IsDenied, IsRefusedBy, IsSpelled};
 ghost use Rattle.td_engine.specs.Carried.{AnswersText, Prints};
 ghost use Rattle.td_engine.specs.Machine.{State, effect, step_of};
 ghost use Rattle.td_engine.specs.Refusals.{line};
 ghost use Rattle.td_engine.specs.Legality.{IsLegal};
+ghost use Rattle.td_engine.specs.Stages.{GoesOn, stage};
 ghost use Rattle.td_engine.specs.Steps.{Does};
 ghost use Rattle.td_tree.specs.Outcomes.{Answers, Outcome, Valued, with_value};
 ghost use Rattle.td_tree.specs.TreeViews.{statement_view};
@@ -17,7 +19,7 @@ ghost use Rattle.td_value.specs.Values.{Val};
 use crate::answer::{Answer, line};
 use crate::checks::value;
 use crate::refusal::{Failure, Refusal};
-use crate::statement::{admitted, changed};
+use crate::statement::{admitted, change};
 use std::alloc::{AllocError, Global};
 use std::marker::Model;
 use td_body::body::Body;
@@ -27,7 +29,7 @@ use td_tree::fault::Fault;
 use td_tree::statement::Statement;
 use td_value::value::Value;
 
-/// The present database of an engine, seen as that.
+/// The catalogue of an engine, whose present database is legal.
 #[derive(Drop)]
 pub(crate) struct Present<B: Body> {
     alloc: Global,
@@ -35,18 +37,18 @@ pub(crate) struct Present<B: Body> {
 }
 
 impl<B: Body> Model for Present<B> {
-    ghost use Rattle.td_catalog.specs.Database.{Database};
-    ghost use Rattle.td_catalog.specs.DatabaseCode.{database_code};
+    ghost use Rattle.td_catalog.specs.DatabaseCode.{catalog_code};
+    ghost use Rattle.td_catalog.specs.KeptDatabases.{CatalogView};
 
-    ghost Value = { Database };
+    ghost Value = { CatalogView };
 
-    ghost coded = { database_code };
+    ghost coded = { catalog_code };
 
     ghost view = { λ p. p.catalog };
 
     ghost use Rattle.td_engine.specs.Legality.{IsLegal};
 
-    ghost invariant = { λ p. IsLegal p.catalog };
+    ghost invariant = { λ p. IsLegal p.catalog.database };
 }
 
 /// The answer to what is refused by a cause.
@@ -87,7 +89,7 @@ fn literal_line(alloc: Global, value: Result<Value, Fault>) -> Result<String, Fa
 
 /// The lines of the dump.
 fn dumped<B: Body>(catalog: &Catalog<B>) -> Result<String, Fault>
-    ensures { Answers string_bytes result (Valued (dump_text catalog.now)) }
+    ensures { Answers string_bytes result (Valued (dump_text catalog.now.database)) }
 {
     Ok(catalog.dump_text()?)
 }
@@ -98,7 +100,8 @@ fn printed<B: Body>(
     catalog: &Catalog<B>,
     statement: &Statement,
 ) -> Option<Result<String, Fault>>
-    ensures some { IfSome result (Prints string_bytes catalog.now (statement_view statement.now)) }
+    ensures some { IfSome result (Prints string_bytes catalog.now.database
+        (statement_view statement.now)) }
     ensures none { IfNone result (IsChange (statement_view statement.now)) }
 {
     match statement {
@@ -123,7 +126,7 @@ fn write(alloc: Global, text: Result<String, Fault>) -> Result<Answer, AllocErro
 impl<B: Body> Present<B> {
     /// An empty database. It takes no memory.
     pub(crate) fn new(alloc: Global) -> Present<B>
-        ensures { result ≡ empty_database }
+        ensures { result ≡ settled empty_database }
     {
         Present {
             alloc,
@@ -131,30 +134,46 @@ impl<B: Body> Present<B> {
         }
     }
 
-    /// The database of a catalogue.
-    pub(crate) fn of(alloc: Global, catalog: Catalog<B>) -> Present<B>
-        requires { IsLegal catalog }
-        ensures { result ≡ catalog }
-    {
-        Present { alloc, catalog }
-    }
-
-    /// The catalogue of the database.
+    /// The catalogue.
     pub(crate) fn catalog(&self) -> &Catalog<B>
         ensures same { result.now ≡ self.now }
-        ensures legal { IsLegal self.now }
+        ensures legal { IsLegal self.now.database }
     {
         &self.catalog
     }
 
+    /// How many databases are kept.
+    pub(crate) fn kept(&self) -> usize
+        ensures { result ≡ length self.now.kept }
+    {
+        self.catalog.kept()
+    }
+
+    /// Goes back to the database at a place among those kept. It takes no memory.
+    pub(crate) fn revert(&mut self, place: usize)
+        requires place { place ≤ length self.old.kept }
+        requires legal { IsLegal (stage self.old place) }
+        ensures { stages self.new ≡ take (place + 1) (stages self.old) }
+    {
+        self.catalog.revert(place);
+    }
+
+    /// Keeps no earlier database any longer. It takes no memory.
+    pub(crate) fn settle(&mut self)
+        ensures { self.new ≡ settled self.old.database }
+    {
+        self.catalog.settle();
+    }
+
     /// Does what a statement means. A statement that is refused or finds no memory leaves the
-    /// database as it was.
+    /// catalogue as it was.
     pub(crate) fn execute(&mut self, statement: Statement) -> Result<Answer, AllocError>
         requires { IsSpelled (statement_view statement) }
-        ensures done { IfOk result (λ answer.
-            Does (step_of self.old (effect self.old (statement_view statement))) answer self.new) }
+        ensures done { IfOk result (λ answer. Does (step_of self.old.database
+            (effect self.old.database (statement_view statement))) answer self.new.database) }
         ensures err { OnErr result (self.new ≡ self.old) }
-        ensures legal { IsLegal self.new }
+        ensures on { GoesOn self.old self.new }
+        ensures legal { IsLegal self.new.database }
     {
         match admitted(&self.catalog, &statement) {
             Ok(()) => self.do_admitted(statement),
@@ -167,11 +186,12 @@ impl<B: Body> Present<B> {
 
     /// Does what a statement means that meets the static rules.
     fn do_admitted(&mut self, statement: Statement) -> Result<Answer, AllocError>
-        requires { IsAdmitted self.old (statement_view statement) }
-        ensures done { IfOk result (λ answer.
-            Does (step_of self.old (effect self.old (statement_view statement))) answer self.new) }
+        requires { IsAdmitted self.old.database (statement_view statement) }
+        ensures done { IfOk result (λ answer. Does (step_of self.old.database
+            (effect self.old.database (statement_view statement))) answer self.new.database) }
         ensures err { OnErr result (self.new ≡ self.old) }
-        ensures legal { IsLegal self.new }
+        ensures on { GoesOn self.old self.new }
+        ensures legal { IsLegal self.new.database }
     {
         match printed(self.alloc, &self.catalog, &statement) {
             None => self.change(statement),
@@ -182,23 +202,30 @@ impl<B: Body> Present<B> {
         }
     }
 
-    /// Puts the catalogue that a statement makes in place of the present one, after the answer is
-    /// made.
+    /// Does in the catalogue what a statement means, makes the answer, and goes back where that is
+    /// not to be or finds no memory.
     fn change(&mut self, statement: Statement) -> Result<Answer, AllocError>
-        requires admitted { IsAdmitted self.old (statement_view statement) }
+        requires admitted { IsAdmitted self.old.database (statement_view statement) }
         requires change { IsChange (statement_view statement) }
-        ensures done { IfOk result (λ answer.
-            Does (step_of self.old (effect self.old (statement_view statement))) answer self.new) }
+        ensures done { IfOk result (λ answer. Does (step_of self.old.database
+            (effect self.old.database (statement_view statement))) answer self.new.database) }
         ensures err { OnErr result (self.new ≡ self.old) }
-        ensures legal { IsLegal self.new }
+        ensures on { GoesOn self.old self.new }
+        ensures legal { IsLegal self.new.database }
     {
-        match changed(self.alloc, &self.catalog, statement) {
-            Ok(next) => {
-                let answer = Answer::ok(self.alloc)?;
-                self.catalog = next;
-                Ok(answer)
+        let place = self.catalog.kept();
+        match change(self.alloc, &mut self.catalog, statement) {
+            Ok(()) => match Answer::ok(self.alloc) {
+                Ok(answer) => Ok(answer),
+                Err(error) => {
+                    self.catalog.revert(place);
+                    Err(error)
+                }
+            },
+            Err(failure) => {
+                self.catalog.revert(place);
+                failed(self.alloc, failure)
             }
-            Err(failure) => failed(self.alloc, failure),
         }
     }
 }

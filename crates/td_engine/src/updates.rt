@@ -83,7 +83,7 @@ fn assigned_value<'a, B: Body>(
     source: &Expr,
 ) -> Result<Value, Fault>
     ensures { Answers (λ v. v) result (value_of
-        (source_world catalog.now target.now so_far.now) [] (tree_view source.now)) }
+        (source_world catalog.now.database target.now so_far.now) [] (tree_view source.now)) }
 {
     let env = Env {
         catalog,
@@ -102,7 +102,7 @@ fn assigned<B: Body>(
     source: &Expr,
 ) -> Result<Rel, Fault>
     ensures answer { Answers (λ r. r) result (relation_for so_far.now
-        (source_world catalog.now target.now so_far.now) (tree_view source.now)) }
+        (source_world catalog.now.database target.now so_far.now) (tree_view source.now)) }
     ensures heading { IfOk result (λ r. r.heading ≡ so_far.now.heading) }
 {
     relation_of(
@@ -120,7 +120,7 @@ fn inserted<B: Body>(
     source: &Expr,
 ) -> Result<Rel, Fault>
     ensures { Answers (λ r. r) result (relation_for so_far.now
-        (source_world catalog.now target.now so_far.now)
+        (source_world catalog.now.database target.now so_far.now)
         (with_inserted target.now (tree_view source.now))) }
 {
     let source = assigned(alloc, catalog, target, so_far, source)?;
@@ -168,7 +168,7 @@ fn truths_so_far<'a, B: Body>(
     condition: &Expr,
 ) -> Result<Vec<bool>, Fault>
     ensures { Answers (λ m. m.items) result (gathered (map (λ t. truth_value (value_of
-        (source_world catalog.now target.now so_far.now) (t ∷ []) (tree_view condition.now)))
+        (source_world catalog.now.database target.now so_far.now) (t ∷ []) (tree_view condition.now)))
         so_far.now.body)) }
 {
     let env = Env {
@@ -188,7 +188,7 @@ fn deleted<B: Body>(
     condition: &Expr,
 ) -> Result<Rel, Fault>
     ensures { Answers (λ r. r) result (relation_for so_far.now
-        (source_world catalog.now target.now so_far.now)
+        (source_world catalog.now.database target.now so_far.now)
         (without_deleted target.now (tree_view condition.now))) }
 {
     let truths = truths_so_far(alloc, catalog, target, so_far, condition);
@@ -214,7 +214,7 @@ fn chosen<B: Body>(
     condition: Option<&Expr>,
 ) -> Result<Rel, Fault>
     ensures answer { Answers (λ r. r) result (chosen_for so_far.now
-        (source_world catalog.now target.now so_far.now) target.now
+        (source_world catalog.now.database target.now so_far.now) target.now
         (option_map (λ e. tree_view e.now) condition.entry)) }
     ensures heading { IfOk result (λ r. r.heading ≡ so_far.now.heading) }
 {
@@ -321,7 +321,7 @@ fn updated<'a, B: Body>(
     requires { chosen.now.heading ≡ so_far.now.heading }
     ensures { Answers (λ r. r) result (updated_relation so_far.now
         (setting_names (named_view settings.now))
-        (values_in_tuples (source_world catalog.now target.now so_far.now) []
+        (values_in_tuples (source_world catalog.now.database target.now so_far.now) []
         (named_view settings.now)) chosen.now) }
 {
     let env = Env {
@@ -342,10 +342,10 @@ fn update<B: Body>(
     settings: &[NamedExpr],
 ) -> Result<Rel, Fault>
     ensures { Answers (λ r. r) result (with_value
-        (chosen_for so_far.now (source_world catalog.now target.now so_far.now) target.now
+        (chosen_for so_far.now (source_world catalog.now.database target.now so_far.now) target.now
         (option_map (λ e. tree_view e.now) condition.entry))
         (updated_relation so_far.now (setting_names (named_view settings.now))
-        (values_in_tuples (source_world catalog.now target.now so_far.now) []
+        (values_in_tuples (source_world catalog.now.database target.now so_far.now) []
         (named_view settings.now)))) }
 {
     let chosen = chosen(alloc, catalog, target, so_far, condition)?;
@@ -375,7 +375,7 @@ fn delete<B: Body>(
     condition: &Option<Expr>,
 ) -> Result<Rel, Fault>
     ensures { Answers (λ r. r) result (assignment_value
-        (source_world catalog.now target.now so_far.now) so_far.now
+        (source_world catalog.now.database target.now so_far.now) so_far.now
         (delete target.now (option_map tree_view condition.now))) }
 {
     match condition {
@@ -392,7 +392,7 @@ pub(crate) fn assignment_value<B: Body>(
     assignment: &Assignment,
 ) -> Result<Rel, Fault>
     ensures { Answers (λ r. r) result (assignment_value
-        (source_world catalog.now (target_of (assignment_view assignment.now)) so_far.now)
+        (source_world catalog.now.database (target_of (assignment_view assignment.now)) so_far.now)
         so_far.now (assignment_view assignment.now)) }
 {
     match assignment {

@@ -54,6 +54,7 @@ pub mod TypedRows
 pub mod TypedTrees
 pub mod TypedValues
 pub mod UnnestedParts
+pub mod UnreachedValues
 pub mod VirtualValues
 pub mod WalkedColumns
 pub mod WalkedExtension

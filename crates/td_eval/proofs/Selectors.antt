@@ -55,7 +55,7 @@ selectors_seen sight is = by_catalog sight.catalog refl
         let whole = rw some at is.catalog in
         let all : take sight.selectors sight.types.now ≡ sight.types.now = take_all sight.selectors sight.types.now (omega (arith, whole.1)) in
         rw (some, all, whole.0)
-        (other_selectors (other_seen sight) (world_of (with_first_virtuals sight.virtuals catalog.now)) ∙ world_selectors (with_first_virtuals sight.virtuals catalog.now))
+        (other_selectors (other_seen sight) (world_of (with_first_virtuals sight.virtuals catalog.now.database)) ∙ world_selectors (with_first_virtuals sight.virtuals catalog.now.database))
 
 -- so are the types
 pub types_seen : {B : Type 0} (sight : Sight B) → IsSight sight → (seen_by sight).scope.types ≡ sight.types.now
@@ -66,7 +66,7 @@ types_seen sight is = by_catalog sight.catalog refl
     by_catalog (Some catalog) some =
         let whole = rw some at is.catalog in
         rw some
-        (ap (λ s. s.types) (other_scope (other_seen sight) (world_of (with_first_virtuals sight.virtuals catalog.now)) ∙ world_scope (with_first_virtuals sight.virtuals catalog.now))
+        (ap (λ s. s.types) (other_scope (other_seen sight) (world_of (with_first_virtuals sight.virtuals catalog.now.database)) ∙ world_scope (with_first_virtuals sight.virtuals catalog.now.database))
         ∙ sym whole.0)
 
 -- ---- what is answered of a sight

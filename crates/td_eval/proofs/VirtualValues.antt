@@ -123,18 +123,18 @@ never_missing n vs p place none =
 module _ {B : Type 0} (sight : Sight B) (n : List ℕ) where
   -- what is held
   pub held_other : (c : _) → sight.catalog ≡ Some c → (r : Relation) → Some r ≡ other_named n (other_seen sight) → Some r ≡ held_by sight n
-  held_other c some r is = rw some (ap (λ o. option_or o (option_map (λ (b : BaseRelvar). b.relation) (base_named n c.now))) is)
+  held_other c some r is = rw some (ap (λ o. option_or o (option_map (λ (b : BaseRelvar). b.relation) (base_named n c.now.database))) is)
 
-  pub held_base : (c : _) → sight.catalog ≡ Some c → None ≡ other_named n (other_seen sight) → (b : BaseRelvar) → Some b ≡ base_named n c.now
+  pub held_base : (c : _) → sight.catalog ≡ Some c → None ≡ other_named n (other_seen sight) → (b : BaseRelvar) → Some b ≡ base_named n c.now.database
       → Some b.relation ≡ held_by sight n
   held_base c some none b is =
       rw some
-      (ap (option_map (λ (b : BaseRelvar). b.relation)) is ∙ ap (λ o. option_or o (option_map (λ (b : BaseRelvar). b.relation) (base_named n c.now))) none)
+      (ap (option_map (λ (b : BaseRelvar). b.relation)) is ∙ ap (λ o. option_or o (option_map (λ (b : BaseRelvar). b.relation) (base_named n c.now.database))) none)
 
-  pub held_none : (c : _) → sight.catalog ≡ Some c → None ≡ other_named n (other_seen sight) → None ≡ base_named n c.now → None ≡ held_by sight n
+  pub held_none : (c : _) → sight.catalog ≡ Some c → None ≡ other_named n (other_seen sight) → None ≡ base_named n c.now.database → None ≡ held_by sight n
   held_none c some none is =
       rw some
-      (ap (option_map (λ (b : BaseRelvar). b.relation)) is ∙ ap (λ o. option_or o (option_map (λ (b : BaseRelvar). b.relation) (base_named n c.now))) none)
+      (ap (option_map (λ (b : BaseRelvar). b.relation)) is ∙ ap (λ o. option_or o (option_map (λ (b : BaseRelvar). b.relation) (base_named n c.now.database))) none)
 
   -- is what the relvar has
   pub held_seen : (r : Relation) → held_by sight n ≡ Some r → (seen_by sight).relvar n ≡ Some (as_outcome r)
@@ -142,23 +142,23 @@ module _ {B : Type 0} (sight : Sight B) (n : List ℕ) where
     where
       by_catalog : (c : _) → sight.catalog ≡ c → (seen_by sight).relvar n ≡ Some (as_outcome r)
       by_catalog None none = let clash : None ≡ Some r = sym (rw none refl) ∙ held in absurd (cc)
-      by_catalog (Some catalog) some = rw some (seen_held (other_seen sight) catalog.now sight.virtuals n r (sym (rw some refl) ∙ held))
+      by_catalog (Some catalog) some = rw some (seen_held (other_seen sight) catalog.now.database sight.virtuals n r (sym (rw some refl) ∙ held))
 
-  pub is_virtual : (c : _) (p : ℕ) (tree : Tree) → sight.catalog ≡ Some c → position (λ (v : VirtualRelvar). same_name v.name n) c.now.virtuals ≡ Some p
-      → p < sight.virtuals → option_map (λ (v : VirtualRelvar). v.tree) (slice_get c.now.virtuals p) ≡ Some tree → IsVirtualRelvar sight n p tree
+  pub is_virtual : (c : _) (p : ℕ) (tree : Tree) → sight.catalog ≡ Some c → position (λ (v : VirtualRelvar). same_name v.name n) c.now.database.virtuals ≡ Some p
+      → p < sight.virtuals → option_map (λ (v : VirtualRelvar). v.tree) (slice_get c.now.database.virtuals p) ≡ Some tree → IsVirtualRelvar sight n p tree
   is_virtual c p tree some place early entry =
       record {
         known = early;
         entry = rw some entry;
-        value = λ held. rw some (seen_virtual (other_seen sight) c.now sight.virtuals n p tree (rw some at held) place early entry);
+        value = λ held. rw some (seen_virtual (other_seen sight) c.now.database sight.virtuals n p tree (rw some at held) place early entry);
       }
 
-  pub is_none : (c : _) → sight.catalog ≡ Some c → position (λ (v : VirtualRelvar). same_name v.name n) c.now.virtuals ≡ None → IsNoVirtualRelvar sight n
-  is_none c some none held = rw some (seen_none (other_seen sight) c.now sight.virtuals n (rw some at held) none)
+  pub is_none : (c : _) → sight.catalog ≡ Some c → position (λ (v : VirtualRelvar). same_name v.name n) c.now.database.virtuals ≡ None → IsNoVirtualRelvar sight n
+  is_none c some none held = rw some (seen_none (other_seen sight) c.now.database sight.virtuals n (rw some at held) none)
 
-  pub is_late : (c : _) (p : ℕ) → sight.catalog ≡ Some c → position (λ (v : VirtualRelvar). same_name v.name n) c.now.virtuals ≡ Some p → sight.virtuals ≤ p
+  pub is_late : (c : _) (p : ℕ) → sight.catalog ≡ Some c → position (λ (v : VirtualRelvar). same_name v.name n) c.now.database.virtuals ≡ Some p → sight.virtuals ≤ p
       → IsNoVirtualRelvar sight n
-  is_late c p some place late held = rw some (seen_late (other_seen sight) c.now sight.virtuals n p (rw some at held) place late)
+  is_late c p some place late held = rw some (seen_late (other_seen sight) c.now.database sight.virtuals n p (rw some at held) place late)
 
   pub is_outside : sight.catalog ≡ None → IsNoVirtualRelvar sight n
   is_outside none held = rw none refl

@@ -4,6 +4,7 @@ pub mod LiteralValues
 pub mod MetConstraints
 pub mod NewColumns
 pub mod OperatorValues
+pub mod ReachedRelvars
 pub mod Sights
 pub mod Totals
 pub mod TreeTexts

@@ -18,7 +18,7 @@ other_in env = option_map (λ o. (o.0.now, o.1.now)) env.other
 
 -- the world of what is evaluated in
 abbrev pub world_in : {B : Type 0} → Env B → World
-world_in env = with_other (other_in env) (world_of env.catalog.now)
+world_in env = with_other (other_in env) (world_of env.catalog.now.database)
 
 -- the tuples in hand there, the innermost first
 abbrev pub tuples_in_hand : {B : Type 0} → Env B → List Tuple
@@ -39,7 +39,7 @@ with_first_virtuals count db = with_virtuals (take count db.virtuals) db
 abbrev pub seen_by : {B : Type 0} → Sight B → World
 seen_by sight =
     elim sight.catalog as (λ _. World) [
-      | Some catalog ↦ with_other (other_seen sight) (world_of (with_first_virtuals sight.virtuals catalog.now))
+      | Some catalog ↦ with_other (other_seen sight) (world_of (with_first_virtuals sight.virtuals catalog.now.database))
       | None ↦ world_of_types sight.types.now (take sight.selectors sight.types.now)
     ]
 
@@ -50,7 +50,7 @@ IsOfCatalog sight (Some db) = (sight.types.now ≡ db.types) × (sight.selectors
 
 pub record IsSight {B : Type 0} (sight : Sight B) : Type 0 where
   pub within : sight.selectors ≤ length sight.types.now
-  pub catalog : IsOfCatalog sight (option_map (λ c. c.now) sight.catalog)
+  pub catalog : IsOfCatalog sight (option_map (λ c. c.now.database) sight.catalog)
 
 -- ---- types
 
@@ -81,13 +81,13 @@ other_named name (Some o) = if same_name o.0 name then Some o.1 else None
 abbrev pub held_by : {B : Type 0} → Sight B → List ℕ → Option Relation
 held_by sight name =
     elim sight.catalog as (λ _. Option Relation) [
-      | Some catalog ↦ option_or (other_named name (other_seen sight)) (option_map (λ b. b.relation) (base_named name catalog.now))
+      | Some catalog ↦ option_or (other_named name (other_seen sight)) (option_map (λ b. b.relation) (base_named name catalog.now.database))
       | None ↦ None
     ]
 
 -- the virtual relvars of the catalogue
 abbrev pub virtuals_of : {B : Type 0} → Sight B → List VirtualRelvar
-virtuals_of sight = elim sight.catalog as (λ _. List VirtualRelvar) [ Some catalog ↦ catalog.now.virtuals | None ↦ [] ]
+virtuals_of sight = elim sight.catalog as (λ _. List VirtualRelvar) [ Some catalog ↦ catalog.now.database.virtuals | None ↦ [] ]
 
 -- what the expression of the virtual relvar at a place may look at: the virtual relvars before it, and no other relation
 abbrev pub virtual_sight : {B : Type 0} → ℕ → Sight B → Sight B

@@ -7,6 +7,7 @@ ghost use Rattle.td_eval.specs.LiteralValues.{StoredLiteralsHaveTheirValues};
 ghost use Rattle.td_eval.specs.LiteralValues.{WhatSelectorsGiveMeets};
 ghost use Rattle.td_eval.specs.MetConstraints.{AssignedRelationsMeetConstraints};
 ghost use Rattle.td_eval.specs.MetConstraints.{ValuesMeetConstraints};
+ghost use Rattle.td_eval.specs.ReachedRelvars.{UnreachedValuesStay};
 ghost use Rattle.td_eval.specs.ValueLaws.{DropsChangeNoValue, LaterEntriesChangeNothing};
 ghost use Rattle.td_eval.specs.ValueLaws.{SummarizeByIsPerOfTheProjection, TupleOrderDoesNotCount};
 ghost use Rattle.td_eval.specs.ValueLaws.{ValuesDependOnEntries, ValuesDependOnMentions};
@@ -34,6 +35,12 @@ pub fn values_depend_on_mentions()
 /// In typed databases that agree on the entries that it mentions, it has the same value.
 pub fn values_depend_on_entries()
     ensures { ValuesDependOnEntries }
+{}
+
+/// Where base relvars hold other relations, an expression that names nothing which that reaches has
+/// the value that it had.
+pub fn unreached_values_stay()
+    ensures { UnreachedValuesStay }
 {}
 
 /// Types, relvars and constraints that are added to a database change no value of an expression

@@ -5,5 +5,5 @@ use Rattle.td_engine.proofs.assignments.given_by.Given as goal
 
 abbrev pub invariant-loop-assignment : goal.invariant-loop-assignment
 invariant-loop-assignment g l =
-    given_by l.catalog [] (map assignment_view l.assignments)
-    ≡ given_by l.catalog l.given.entries (map assignment_view (drop l.assignment-index l.assignments))
+    given_by l.catalog.database [] (map assignment_view l.assignments)
+    ≡ given_by l.catalog.database l.given.entries (map assignment_view (drop l.assignment-index l.assignments))

@@ -11,7 +11,7 @@ use Rattle.td_engine.proofs.bases.init_relation.Goals as goal
 
 pub returns-in-Some : goal.returns-in-Some
 returns-in-Some g c =
-    let w = world_of c.args.catalog.now in
+    let w = world_of c.args.catalog.now.database in
     let tree = tree_view c.in-Some.init.now in
     rw c.in-Some.is
     (subst (λ (target : Relation). Answers (λ r. r) c.relation_of.result (relation_for target w tree)) (c.in_ok-empty.ensures.value ∙ ap (λ ts. relation_view c.args.heading (set_of tuple_cmp ts)) c.new.ensures.items)

@@ -1,22 +1,26 @@
-use Rattle.std.proofs.Common.{[], sym}
+use Rattle.std.proofs.Common.{sym}
 use Rattle.td_catalog.specs.Database.{named_constraint}
 use Rattle.td_engine.specs.Checks.{constraint_check}
+use Rattle.td_engine.specs.LeftOut.{PassesUnlessNamed}
+use Rattle.td_engine.proofs.EachOf.{of_place}
 use Rattle.td_engine.proofs.InOrder.{passed_next, refusal_at}
 use Rattle.td_eval.specs.DatabaseWorlds.{world_of}
-use Rattle.td_eval.specs.TreeValues.{value_of}
-use Rattle.td_tree.specs.TreeViews.{tree_view}
 use Rattle.td_engine.proofs.checks.check_constraints.Goals as goal
+
+pub check_constraint-requires : goal.check_constraint-requires
+check_constraint-requires g c =
+    let db = c.args.catalog.now.database in
+    of_place (PassesUnlessNamed c.args.reached.now (world_of db)) db.constraints c.loop-place.place (named_constraint c.in-Some.name.now c.in-Some.condition.now) c.requires
+    (sym c.in-Some.ensures)
 
 pub returns-in-Err : goal.returns-in-Err
 returns-in-Err g c =
-    let w = world_of c.args.catalog.now in
-    let tree = tree_view c.in-Some.tree.now in
-    refusal_at (constraint_check w) c.args.catalog.now.constraints c.loop-place.place (named_constraint c.in-Some.name.now tree) c.in-Err.failure
-    c.loop-place.invariant (sym c.in-Some.ensures) (c.in-Err.ensures (value_of w [] tree) c.value.ensures)
+    let db = c.args.catalog.now.database in
+    let k = named_constraint c.in-Some.name.now c.in-Some.condition.now in
+    refusal_at (constraint_check (world_of db)) db.constraints c.loop-place.place k c.in-Err.failure c.loop-place.invariant (sym c.in-Some.ensures) c.in-Err.ensures
 
 pub loop-place-preserved : goal.loop-place-preserved
 loop-place-preserved g c =
-    let w = world_of c.args.catalog.now in
-    let tree = tree_view c.in-Some.tree.now in
-    passed_next (constraint_check w) c.args.catalog.now.constraints c.loop-place.place (named_constraint c.in-Some.name.now tree) c.loop-place.invariant
-    (sym c.in-Some.ensures) (c.in-Ok.ensures (value_of w [] tree) c.value.ensures)
+    let db = c.args.catalog.now.database in
+    let k = named_constraint c.in-Some.name.now c.in-Some.condition.now in
+    passed_next (constraint_check (world_of db)) db.constraints c.loop-place.place k c.loop-place.invariant (sym c.in-Some.ensures) c.in-Ok.ensures

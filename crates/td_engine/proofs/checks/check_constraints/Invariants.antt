@@ -4,4 +4,4 @@ use Rattle.td_eval.specs.DatabaseWorlds.{world_of}
 use Rattle.td_engine.proofs.checks.check_constraints.Given as goal
 
 abbrev pub invariant-loop-place : goal.invariant-loop-place
-invariant-loop-place g l = IsLeft (constraint_check (world_of l.catalog)) l.catalog.constraints l.place
+invariant-loop-place g l = IsLeft (constraint_check (world_of l.catalog.database)) l.catalog.database.constraints l.place

@@ -1,20 +1,26 @@
 use Rattle.std.proofs.Common.{sym}
 use Rattle.td_catalog.specs.CatalogViews.{virtual_view}
-use Rattle.td_engine.specs.Checks.{virtual_check, virtual_test}
+use Rattle.td_engine.specs.Checks.{virtual_check}
+use Rattle.td_engine.specs.LeftOut.{PassesUnlessReached}
+use Rattle.td_engine.proofs.EachOf.{of_place}
 use Rattle.td_engine.proofs.InOrder.{passed_next, refusal_at}
 use Rattle.td_eval.specs.DatabaseWorlds.{world_of}
 use Rattle.td_engine.proofs.checks.check_virtuals.Goals as goal
 
+pub check_virtual-requires : goal.check_virtual-requires
+check_virtual-requires g c =
+    let db = c.args.catalog.now.database in
+    of_place (PassesUnlessReached c.args.reached.now (world_of db)) db.virtuals c.loop-place.place (virtual_view (c.in-Some.name.now, c.in-Some.entry.now)) c.requires
+    (sym c.in-Some.ensures)
+
 pub returns-in-Err : goal.returns-in-Err
 returns-in-Err g c =
-    let w = world_of c.args.catalog.now in
+    let db = c.args.catalog.now.database in
     let v = virtual_view (c.in-Some.name.now, c.in-Some.entry.now) in
-    refusal_at (virtual_check w) c.args.catalog.now.virtuals c.loop-place.place v c.in-Err.failure c.loop-place.invariant (sym c.in-Some.ensures)
-    (c.in-Err.ensures (virtual_test w v) c.test_virtual.ensures)
+    refusal_at (virtual_check (world_of db)) db.virtuals c.loop-place.place v c.in-Err.failure c.loop-place.invariant (sym c.in-Some.ensures) c.in-Err.ensures
 
 pub loop-place-preserved : goal.loop-place-preserved
 loop-place-preserved g c =
-    let w = world_of c.args.catalog.now in
+    let db = c.args.catalog.now.database in
     let v = virtual_view (c.in-Some.name.now, c.in-Some.entry.now) in
-    passed_next (virtual_check w) c.args.catalog.now.virtuals c.loop-place.place v c.loop-place.invariant (sym c.in-Some.ensures)
-    (c.in-Ok.ensures (virtual_test w v) c.test_virtual.ensures)
+    passed_next (virtual_check (world_of db)) db.virtuals c.loop-place.place v c.loop-place.invariant (sym c.in-Some.ensures) c.in-Ok.ensures

@@ -4,4 +4,4 @@ use Rattle.td_eval.specs.DatabaseWorlds.{world_of}
 use Rattle.td_engine.proofs.checks.check_virtuals.Given as goal
 
 abbrev pub invariant-loop-place : goal.invariant-loop-place
-invariant-loop-place g l = IsLeft (virtual_check (world_of l.catalog)) l.catalog.virtuals l.place
+invariant-loop-place g l = IsLeft (virtual_check (world_of l.catalog.database)) l.catalog.database.virtuals l.place

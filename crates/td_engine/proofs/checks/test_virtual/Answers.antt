@@ -8,7 +8,7 @@ use Rattle.td_engine.proofs.checks.test_virtual.Goals as goal
 
 pub returns : goal.returns
 returns g c =
-    let w = world_of c.args.catalog.now in
+    let w = world_of c.args.catalog.now.database in
     let v = virtual_view (c.args.name.now, c.args.entry.now) in
     subst (Answers (λ b. b) c.keys_hold_of.result)
     (ap (λ items. keys_test w c.args.name.now (map (λ key. key.items) items)) c.deref.ensures.value

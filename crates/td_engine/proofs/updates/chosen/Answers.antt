@@ -12,19 +12,19 @@ use Rattle.td_engine.proofs.updates.chosen.Goals as goal
 pub restricted-requires : goal.restricted-requires
 restricted-requires g c =
     let so_far = c.args.so_far.now in
-    let w = source_world c.args.catalog.now c.args.target.now so_far in
+    let w = source_world c.args.catalog.now.database c.args.target.now so_far in
     of_as_many c.truths_so_far-truths.result (λ t. truth_value (value_of w (t ∷ []) (tree_view c.in-Some.condition.now))) so_far.body c.truths_so_far-truths.ensures
 
 pub returns-in-Some-clause-answer : goal.returns-in-Some-clause-answer
 returns-in-Some-clause-answer g c =
     let so_far = c.args.so_far.now in
-    let w = source_world c.args.catalog.now c.args.target.now so_far in
-    rw (c.in-Some.is, restricted_is c.args.catalog.now c.args.target.now so_far (parentheses (tree_view c.in-Some.condition.now)))
+    let w = source_world c.args.catalog.now.database c.args.target.now so_far in
+    rw (c.in-Some.is, restricted_is c.args.catalog.now.database c.args.target.now so_far (parentheses (tree_view c.in-Some.condition.now)))
     (c.restricted.ensures (λ t. value_of w (t ∷ []) (tree_view c.in-Some.condition.now)) c.truths_so_far-truths.ensures)
 
 pub returns-in-Some-clause-heading : goal.returns-in-Some-clause-heading
 returns-in-Some-clause-heading g c =
     let so_far = c.args.so_far.now in
-    let w = source_world c.args.catalog.now c.args.target.now so_far in
+    let w = source_world c.args.catalog.now.database c.args.target.now so_far in
     let p = λ (t : Tuple). value_of w (t ∷ []) (tree_view c.in-Some.condition.now) in
     restricted_headed p so_far c.restricted.result (c.restricted.ensures p c.truths_so_far-truths.ensures)

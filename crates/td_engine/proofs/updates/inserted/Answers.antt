@@ -13,14 +13,14 @@ pub returns-in_err-source : goal.returns-in_err-source
 returns-in_err-source g c =
     let so_far = c.args.so_far.now in
     let made = λ (r : Relation). Valued (union so_far r) in
-    let source = relation_for so_far (source_world c.args.catalog.now c.args.target.now so_far) (tree_view c.args.source.now) in
+    let source = relation_for so_far (source_world c.args.catalog.now.database c.args.target.now so_far) (tree_view c.args.source.now) in
     let e = err_from_is_err_and c.from_residual.result c.from_residual.ensures.1 in
-    rw (e.1, e.2, inserted_is c.args.catalog.now c.args.target.now so_far (tree_view c.args.source.now))
+    rw (e.1, e.2, inserted_is c.args.catalog.now.database c.args.target.now so_far (tree_view c.args.source.now))
     (refused_on (λ (r : Relation). r) (λ (r : Relation). r) c.in_err-source.field-0.0 source made c.in_err-source.ensures.answer)
 
 pub returns : goal.returns
 returns g c =
     let so_far = c.args.so_far.now in
-    inserted_is c.args.catalog.now c.args.target.now so_far (tree_view c.args.source.now)
+    inserted_is c.args.catalog.now.database c.args.target.now so_far (tree_view c.args.source.now)
     ∙ ap (λ o. with_value o (λ r. Valued (union so_far r))) c.in_ok-source.ensures.answer
     ∙ ap Valued (sym c.in_ok-union.ensures)

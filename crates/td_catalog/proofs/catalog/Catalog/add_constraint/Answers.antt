@@ -33,7 +33,7 @@ invariant_of-self-2 g c =
     let catalog : IsCatalog relation keys (with_constraint_rows c.insert.new.self.entries rows) =
     subst (λ es. IsCatalog relation keys (with_constraint_rows es rows)) (sym c.in_ok-insert.ensures.entries)
     (catalog_with_constraint relation keys rows c.prepare.new.tables.constraints c.args.name entry refl free history.catalog c.as_str.ensures.is_name
-    (subst (λ e. IsTypedConstraint (database_scope (database_view relation rows)) (named_constraint c.args.name (tree_view e))) (sym c.in_ok-tree.ensures.ok)
+    (subst (λ e. IsTypedConstraint (database_scope (database_view relation rows)) (named_constraint c.args.name e)) (sym c.in_ok-tree.ensures)
     (subst (λ (db : Database). IsTypedConstraint (database_scope db) (named_constraint c.args.name (tree_view c.args.tree))) (sym seen) c.requires))) in
     let led = constraint_added relation keys kept rows c.insert.new.self.entries (c.args.name, entry)
     (c.in_ok-insert.ensures.entries ∙ rows_with constraint_view (λ (k : NamedConstraint). k.name) (λ row. refl) c.prepare.new.tables.constraints c.args.name entry (knows_constraint_by relation keys c.args.name rows ∙ free)) in
@@ -62,7 +62,7 @@ returns-clause-added g c =
     ((λ i. history_view relation keys kept (same i) (c.prepare.ensures.steps i)) ∙ c.self.view_is)
     (ap (λ es. database_view relation (with_constraint_rows es rows)) c.in_ok-insert.ensures.entries
     ∙ view_with_constraint relation keys rows c.prepare.new.tables.constraints c.args.name entry refl free
-    ∙ ap (λ e. with_constraint (named_constraint c.args.name (tree_view e)) (database_view relation rows)) c.in_ok-tree.ensures.ok
+    ∙ ap (λ e. with_constraint (named_constraint c.args.name e) (database_view relation rows)) c.in_ok-tree.ensures
     ∙ ap (with_constraint (named_constraint c.args.name (tree_view c.args.tree))) seen)
 
 pub returns-then-contains_key-clause-answer : goal.returns-then-contains_key-clause-answer

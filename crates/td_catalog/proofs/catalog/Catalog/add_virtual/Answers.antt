@@ -29,8 +29,8 @@ invariant_of-self-2 g c =
     let catalog : IsCatalog relation keys (with_virtual_rows c.insert.new.self.entries rows) =
     subst (λ es. IsCatalog relation keys (with_virtual_rows es rows)) (sym c.in_ok-insert.ensures.entries)
     (catalog_with_virtual relation keys rows c.prepare.new.tables.virtuals c.args.name entry refl free history.catalog c.as_str.ensures.is_name
-    (subst (λ e. IsTypedVirtual (database_scope (database_view relation rows)) (virtual_relvar c.args.name c.args.heading (tree_view e) (map (λ key. key.items) c.args.keys.items)))
-    (sym c.in_ok-tree.ensures.ok)
+    (subst (λ e. IsTypedVirtual (database_scope (database_view relation rows)) (virtual_relvar c.args.name c.args.heading e (map (λ key. key.items) c.args.keys.items)))
+    (sym c.in_ok-tree.ensures)
     (subst (λ (db : Database). IsTypedVirtual (database_scope db) (virtual_relvar c.args.name c.args.heading (tree_view c.args.tree) (map (λ key. key.items) c.args.keys.items)))
     (sym seen) c.requires))) in
     let led = virtual_added relation keys kept rows c.insert.new.self.entries (c.args.name, entry)
@@ -60,5 +60,5 @@ returns-clause-added g c =
     ((λ i. history_view relation keys kept (same i) (c.prepare.ensures.steps i)) ∙ c.self.view_is)
     (ap (λ es. database_view relation (with_virtual_rows es rows)) c.in_ok-insert.ensures.entries
     ∙ view_with_virtual relation keys rows c.prepare.new.tables.virtuals c.args.name entry refl free
-    ∙ ap (λ e. with_virtual (virtual_relvar c.args.name c.args.heading (tree_view e) (map (λ key. key.items) c.args.keys.items)) (database_view relation rows)) c.in_ok-tree.ensures.ok
+    ∙ ap (λ e. with_virtual (virtual_relvar c.args.name c.args.heading e (map (λ key. key.items) c.args.keys.items)) (database_view relation rows)) c.in_ok-tree.ensures
     ∙ ap (with_virtual (virtual_relvar c.args.name c.args.heading (tree_view c.args.tree) (map (λ key. key.items) c.args.keys.items))) seen)

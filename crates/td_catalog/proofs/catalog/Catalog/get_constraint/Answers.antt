@@ -17,7 +17,7 @@ returns-in_err-entry g c =
 
 pub returns : goal.returns
 returns g c =
-    ap (λ e. Some (tree_view e)) c.deref.ensures
+    ap Some c.tree.ensures
     ∙ ap (option_map (λ (k : NamedConstraint). k.tree))
     (ap (option_map (λ (e : ConstraintEntry). constraint_view (c.args.name.now, e))) c.in_ok-entry.ensures.value
     ∙ found constraint_view (λ (k : NamedConstraint). k.name) (λ row. refl) c.args.name.now c.self.inside.tables.constraints.entries

@@ -8,14 +8,14 @@ use Rattle.td_tree.specs.TreeViews.{tree_view}
 
 pub returns : goal.returns
 returns g c =
-    ap (λ e. Some (tree_view e)) c.deref.ensures
-    ∙ ap (option_map (λ row. tree_view row.1.tree.value)) c.in_ok-entry.ensures.entry
+    ap Some c.tree.ensures
+    ∙ ap (option_map (λ row. row.1.tree)) c.in_ok-entry.ensures.entry
     ∙ tree_at c.self.inside.tables.virtuals.entries c.args.place
     ∙ ap (λ (db : Database). option_map (λ (v : VirtualRelvar). v.tree) (slice_get db.virtuals c.args.place)) (ap (λ (v : CatalogView). v.database) c.self.view_is)
 
 pub returns-in_err-entry : goal.returns-in_err-entry
 returns-in_err-entry g c =
     ap (option_map (λ e. tree_view e.now)) c.from_residual.ensures
-    ∙ ap (option_map (λ row. tree_view row.1.tree.value)) c.in_err-entry.ensures.entry
+    ∙ ap (option_map (λ row. row.1.tree)) c.in_err-entry.ensures.entry
     ∙ tree_at c.self.inside.tables.virtuals.entries c.args.place
     ∙ ap (λ (db : Database). option_map (λ (v : VirtualRelvar). v.tree) (slice_get db.virtuals c.args.place)) (ap (λ (v : CatalogView). v.database) c.self.view_is)

@@ -33,7 +33,7 @@ loop-entry-preserved g c =
     let left = subst (AreLeft (VirtualTyped scope) (virtual_passes test) total) c.in-Some.ensures.steps c.loop-entry.invariant.2 in
     let typed = left.each.0 in
     let answered =
-    c.in_ok-tree_mentions.ensures typed.0 (ap (λ e. type_of scope (tree_view e)) c.deref.ensures ∙ typed.1) ∙ ap (λ e. test (tree_view e)) c.deref.ensures in
+    c.in_ok-tree_mentions.ensures typed.0 (ap (type_of scope) c.tree.ensures ∙ typed.1) ∙ ap test c.tree.ensures in
     (tt, tt, left_next (VirtualTyped scope) (virtual_passes test) total _ _ left (sym answered ∙ c.if-branch.false))
 
 pub returns-then-branch : goal.returns-then-branch
@@ -44,7 +44,7 @@ returns-then-branch g c =
     let left = subst (AreLeft (VirtualTyped scope) (virtual_passes test) total) c.in-Some.ensures.steps c.loop-entry.invariant.2 in
     let typed = left.each.0 in
     let answered =
-    c.in_ok-tree_mentions.ensures typed.0 (ap (λ e. type_of scope (tree_view e)) c.deref.ensures ∙ typed.1) ∙ ap (λ e. test (tree_view e)) c.deref.ensures in
+    c.in_ok-tree_mentions.ensures typed.0 (ap (type_of scope) c.tree.ensures ∙ typed.1) ∙ ap test c.tree.ensures in
     left_passed (VirtualTyped scope) (virtual_passes test) total _ _ left (sym answered ∙ c.if-branch.true)
 
 pub returns : goal.returns

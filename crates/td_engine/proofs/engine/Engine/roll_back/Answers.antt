@@ -1,20 +1,34 @@
-use Rattle.std.proofs.Common.{◌≡◌, ◌∙◌, ◌∷◌, ap, reverse, subst, sym}
-use Rattle.td_catalog.specs.Database.{Database}
-use Rattle.td_engine.proofs.Transactions.{kept_more, rollback_legal}
-use Rattle.td_engine.specs.Machine.{state_of}
+use Rattle.std.proofs.Common.{◌≡◌, ◌∙◌, ◌∷◌, [], ap, map, reverse, subst, sym}
+use Rattle.std.proofs.lemmas.List.{reverse-append}
+use Rattle.td_engine.proofs.Opens.{engine_back, state_back}
+use Rattle.td_engine.proofs.Transactions.{rollback_does}
 use Rattle.td_engine.specs.Legality.{IsLegalState}
+use Rattle.td_engine.specs.Machine.{State, rolled_back, step_of}
+use Rattle.td_engine.specs.Stages.{IsEngine, stage, state_at}
+use Rattle.td_engine.specs.Steps.{Does}
 use Rattle.td_engine.proofs.engine.Engine.roll_back.Goals as goal
 
 pub invariant_of-self : goal.invariant_of-self
 invariant_of-self g c =
+    let v = c.self.inside.present in
     let others = reverse c.pop.new.self.items in
-    let is : reverse c.self.inside.kept.items ≡ c.in-Some.catalog ∷ others = ap reverse c.in-Some.ensures.items ∙ kept_more c.pop.new.self.items c.in-Some.catalog in
-    subst (λ (db : Database). IsLegalState (state_of db others)) (sym c.of.ensures)
-    (rollback_legal (state_of c.self.inside.present (reverse c.self.inside.kept.items)) c.in-Some.catalog others c.self.invariant is)
+    let is : reverse c.self.inside.opens.items ≡ c.in-Some.place ∷ others = ap reverse c.in-Some.ensures.items ∙ reverse-append c.pop.new.self.items (c.in-Some.place ∷ []) in
+    engine_back v c.revert.new.self c.in-Some.place others (subst (IsEngine v) is c.self.invariant) c.revert.ensures
+
+pub returns-clause-done : goal.returns-clause-done
+returns-clause-done g c =
+    let v = c.self.inside.present in
+    let old = c.args.self.now in
+    let others = reverse c.pop.new.self.items in
+    let is : reverse c.self.inside.opens.items ≡ c.in-Some.place ∷ others = ap reverse c.in-Some.ensures.items ∙ reverse-append c.pop.new.self.items (c.in-Some.place ∷ []) in
+    let kept : old.kept ≡ stage v c.in-Some.place ∷ map (stage v) others = ap (λ (s : State). s.kept) (sym c.self.view_is) ∙ ap (map (stage v)) is in
+    subst (Does (step_of old (rolled_back old.kept)) c.in_ok-answer.answer)
+    (state_back v c.revert.new.self c.in-Some.place others (subst (IsEngine v) is c.self.invariant) c.revert.ensures ∙ sym c.settle.ensures)
+    (rollback_does c.in_ok-answer.answer old (stage v c.in-Some.place) (map (stage v) others) (c.in_ok-answer.ensures.flag, c.in_ok-answer.ensures.text) kept)
 
 pub returns-clause-legal : goal.returns-clause-legal
 returns-clause-legal g c =
+    let v = c.self.inside.present in
     let others = reverse c.pop.new.self.items in
-    let is : reverse c.self.inside.kept.items ≡ c.in-Some.catalog ∷ others = ap reverse c.in-Some.ensures.items ∙ kept_more c.pop.new.self.items c.in-Some.catalog in
-    subst (λ (db : Database). IsLegalState (state_of db others)) (sym c.of.ensures)
-    (rollback_legal (state_of c.self.inside.present (reverse c.self.inside.kept.items)) c.in-Some.catalog others c.self.invariant is)
+    let is : reverse c.self.inside.opens.items ≡ c.in-Some.place ∷ others = ap reverse c.in-Some.ensures.items ∙ reverse-append c.pop.new.self.items (c.in-Some.place ∷ []) in
+    subst IsLegalState (sym c.settle.ensures) (engine_back v c.revert.new.self c.in-Some.place others (subst (IsEngine v) is c.self.invariant) c.revert.ensures).legal

@@ -1,4 +1,7 @@
+use Rattle.std.proofs.Common.{ap, refl}
+use Rattle.td_catalog.specs.KeptDatabases.{CatalogView}
 use Rattle.td_engine.proofs.Answered.{text_does}
+use Rattle.td_engine.proofs.StageLaws.{stays}
 use Rattle.td_tree.specs.TreeViews.{statement_view}
 use Rattle.td_engine.proofs.present.Present.do_admitted.Goals as goal
 
@@ -7,5 +10,8 @@ returns-in-None-clause-done g c = c.change.ensures.done
 
 pub returns-in-Some-clause-done : goal.returns-in-Some-clause-done
 returns-in-Some-clause-done g c =
-    text_does _ c.self.inside.catalog c.args.self.now (statement_view c.args.statement) c.in-Some.text c.write.result c.self.view_is c.requires c.in-Some.ensures.some
-    c.write.ensures
+    text_does _ c.self.inside.catalog.database c.args.self.now.database (statement_view c.args.statement) c.in-Some.text c.write.result
+    (ap (λ (v : CatalogView). v.database) c.self.view_is) c.requires c.in-Some.ensures.some c.write.ensures
+
+pub returns-in-Some-clause-on : goal.returns-in-Some-clause-on
+returns-in-Some-clause-on g c = stays _ _ refl

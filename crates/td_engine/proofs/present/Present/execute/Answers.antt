@@ -1,7 +1,9 @@
-use Rattle.std.proofs.Common.{Err, subst}
+use Rattle.std.proofs.Common.{Err, refl, subst}
 use Rattle.td_catalog.specs.Database.{Database, database_scope}
+use Rattle.td_catalog.specs.KeptDatabases.{CatalogView}
 use Rattle.td_check.specs.StatementTypes.{statement_checked}
 use Rattle.td_engine.proofs.Answered.{refused_does}
+use Rattle.td_engine.proofs.StageLaws.{stays}
 use Rattle.td_engine.proofs.Turning.{ok_map}
 use Rattle.td_engine.specs.Carried.{IsRefusedBy}
 use Rattle.td_engine.specs.Machine.{carried_out, effect, step_of}
@@ -15,9 +17,12 @@ returns-in-Ok-clause-done g c = c.do_admitted.ensures.done
 
 pub returns-in-Err-clause-done : goal.returns-in-Err-clause-done
 returns-in-Err-clause-done g c =
-    let db = c.args.self.now in
+    let db = c.args.self.now.database in
     let s = statement_view c.args.statement in
     let told =
-    subst (λ (d : Database). Answers (λ u. u) (Err c.in-Err.fault) (statement_checked (database_scope d) s)) c.self.view_is c.in-Err.ensures in
+    subst (λ (v : CatalogView). Answers (λ u. u) (Err c.in-Err.fault) (statement_checked (database_scope v.database) s)) c.self.view_is c.in-Err.ensures in
     ok_map (λ a. (d : Database) → IsRefusedBy d c.in-Err.fault a) (λ a. Does (step_of db (effect db s)) a db)
     (λ a d. refused_does (λ u. u) c.in-Err.fault a db (statement_checked (database_scope db) s) (λ _. carried_out db s) told (d db)) c.refused.result c.refused.ensures.databases
+
+pub returns-in-Err-clause-on : goal.returns-in-Err-clause-on
+returns-in-Err-clause-on g c = stays _ _ refl

@@ -1,7 +1,8 @@
 use Rattle.std.proofs.Common.{subst, sym}
+use Rattle.td_catalog.specs.KeptDatabases.{CatalogView}
 use Rattle.td_engine.proofs.LegalChanges.{legal_empty}
 use Rattle.td_engine.specs.Legality.{IsLegal}
 use Rattle.td_engine.proofs.present.Present.new.Goals as goal
 
 pub invariant_of-result : goal.invariant_of-result
-invariant_of-result g c = subst IsLegal (sym c.new.ensures) legal_empty
+invariant_of-result g c = subst (λ (v : CatalogView). IsLegal v.database) (sym c.new.ensures) legal_empty

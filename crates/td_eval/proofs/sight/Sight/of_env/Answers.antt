@@ -5,4 +5,4 @@ use Rattle.td_eval.proofs.sight.Sight.of_env.Goals as goal
 pub returns-clause-exact : goal.returns-clause-exact
 returns-clause-exact g c =
     let env = c.args.env.now in
-    all_known (other_in env) env.catalog.now c.virtual_count.result c.virtual_count.ensures
+    all_known (other_in env) env.catalog.now.database c.virtual_count.result c.virtual_count.ensures

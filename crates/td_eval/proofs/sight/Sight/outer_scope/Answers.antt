@@ -21,8 +21,8 @@ pub returns-in-Some : goal.returns-in-Some
 returns-in-Some g c =
     let sight = c.args.self.now in
     let catalog = c.in-Some.catalog in
-    let seen : database_scope (with_first_virtuals sight.virtuals catalog.now) ≡ scope_among (seen_by sight) [] =
-    rw c.in-Some.is (same_scope (other_seen sight) (with_first_virtuals sight.virtuals catalog.now)) in
+    let seen : database_scope (with_first_virtuals sight.virtuals catalog.now.database) ≡ scope_among (seen_by sight) [] =
+    rw c.in-Some.is (same_scope (other_seen sight) (with_first_virtuals sight.virtuals catalog.now.database)) in
     subst (λ x. IfOk c.scope_before.result (λ s. s ≡ x)) seen c.scope_before.ensures
 
 pub returns-in-None : goal.returns-in-None

@@ -11,7 +11,7 @@ returns-in_err-place-clause-none g c =
 
 pub returns-in_err-virtual_tree_at-clause-none : goal.returns-in_err-virtual_tree_at-clause-none
 returns-in_err-virtual_tree_at-clause-none g c =
-    absurd (never_missing c.args.name.now c.in_ok-catalog.catalog.now.virtuals c.in_ok-place.place (sym c.in_ok-place.ensures) (sym c.in_err-virtual_tree_at.ensures))
+    absurd (never_missing c.args.name.now c.in_ok-catalog.catalog.now.database.virtuals c.in_ok-place.place (sym c.in_ok-place.ensures) (sym c.in_err-virtual_tree_at.ensures))
 
 pub returns-in_ok-virtual_tree_at-clause-found : goal.returns-in_ok-virtual_tree_at-clause-found
 returns-in_ok-virtual_tree_at-clause-found g c =

@@ -1,0 +1,25 @@
+use Rattle.std.proofs.Common.{◌≡◌, ◌∙◌, ◌<◌, ap, length, subst, sym}
+use Rattle.td_catalog.specs.Database.{Database}
+use Rattle.td_engine.proofs.GiftsInTurn.{gift_passed, gift_refused}
+use Rattle.td_engine.proofs.StageLaws.{on_and_on}
+use Rattle.td_engine.proofs.assignments.put_gifts.Goals as goal
+
+pub put_gift-requires : goal.put_gift-requires
+put_gift-requires g c = λ κs within.
+    let counted = c.base_count-place-end.ensures ∙ ap (λ (d : Database). length d.bases) (sym c.requires.1.0.0) in
+    (within, ((c.requires.1.0.1, c.requires.1.0.2), (c.requires.1.1, (c.loop-place.invariant.0, subst (λ n. c.loop-place.place < n) counted c.loop-place-test.true))))
+
+pub returns-in-Err-clause-check : goal.returns-in-Err-clause-check
+returns-in-Err-clause-check g c =
+    let counted = c.base_count-place-end.ensures ∙ ap (λ (d : Database). length d.bases) (sym c.requires.1.0.0) in
+    gift_refused c.args.given.now.entries g.db.bases c.loop-place.place c.in-Err.failure
+    (subst (λ n. c.loop-place.place < n) counted c.loop-place-test.true) c.loop-place.invariant.1 c.in-Err.ensures.check
+
+pub loop-place-preserved : goal.loop-place-preserved
+loop-place-preserved g c =
+    let counted = c.base_count-place-end.ensures ∙ ap (λ (d : Database). length d.bases) (sym c.requires.1.0.0) in (
+      c.in-Ok.ensures.next,
+      gift_passed c.args.given.now.entries g.db.bases c.loop-place.place
+          (subst (λ n. c.loop-place.place < n) counted c.loop-place-test.true) c.loop-place.invariant.1 c.in-Ok.ensures.check,
+      on_and_on _ _ _ c.loop-place.invariant.2 c.put_gift.ensures.on,
+    )

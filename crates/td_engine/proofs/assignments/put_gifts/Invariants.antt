@@ -1,0 +1,17 @@
+use Rattle.std.proofs.Common.{◌≡◌, map}
+use Rattle.td_catalog.specs.Database.{with_bases}
+use Rattle.td_engine.proofs.InOrder.{IsLeft}
+use Rattle.td_engine.specs.Assignments.{with_gift}
+use Rattle.td_engine.specs.Checks.{base_check}
+use Rattle.td_engine.specs.Gifts.{gifted}
+use Rattle.td_engine.specs.Stages.{GoesOn}
+use Rattle.td_engine.proofs.assignments.put_gifts.Given as goal
+
+abbrev pub ghost-put_gift : goal.ghost-put_gift
+ghost-put_gift g a = g.db
+
+abbrev pub invariant-loop-place : goal.invariant-loop-place
+invariant-loop-place g l =
+    (l.catalog.database ≡ with_bases (gifted l.given.entries l.place g.db.bases) g.db)
+    × IsLeft base_check (map (with_gift l.given.entries) g.db.bases) l.place
+    × GoesOn l.fn.catalog l.catalog

@@ -1,0 +1,7 @@
+use Rattle.std.proofs.Common.{subst, sym}
+use Rattle.td_catalog.specs.KeptDatabases.{CatalogView}
+use Rattle.td_engine.specs.Legality.{IsLegal}
+use Rattle.td_engine.proofs.present.Present.settle.Goals as goal
+
+pub invariant_of-self : goal.invariant_of-self
+invariant_of-self g c = subst (λ (v : CatalogView). IsLegal v.database) (sym c.settle.ensures) c.self.invariant

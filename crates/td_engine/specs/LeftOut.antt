@@ -1,0 +1,23 @@
+-- Which checks a statement may leave out: those whose tests it cannot have changed (this project's own).
+use Rattle.std.specs.Prelude.{◌≡◌, ℕ, false, List, [], ◌∷◌, Option, None}
+use Rattle.std.specs.List.{AllByRecursion}
+use Rattle.td_catalog.specs.Database.{Database, NamedConstraint, VirtualRelvar, knows_relvar, with_base, with_constraint, with_declared, with_virtual}
+use Rattle.td_engine.specs.Checks.{constraint_check, derived_check, virtual_check}
+use Rattle.td_engine.specs.Legality.{IsLegal}
+use Rattle.td_eval.specs.DatabaseWorlds.{world_of}
+use Rattle.td_catalog.specs.NamedRelvars.{names_any}
+use Rattle.td_eval.specs.Worlds.{World}
+use Rattle.td_types.specs.Headings.{has_name}
+
+-- a virtual relvar that is not among these passes
+abbrev pub PassesUnlessReached : List (List ℕ) → World → VirtualRelvar → Type 0
+PassesUnlessReached reached w v = has_name v.name reached ≡ false → virtual_check w v ≡ None
+
+-- a constraint that names none of them passes
+abbrev pub PassesUnlessNamed : List (List ℕ) → World → NamedConstraint → Type 0
+PassesUnlessNamed reached w c = names_any reached c.tree ≡ false → constraint_check w c ≡ None
+
+-- what a change that reaches these relvars alone need not check
+pub record PassesElsewhere (reached : List (List ℕ)) (db : Database) : Type 0 where
+  pub virtuals : AllByRecursion (PassesUnlessReached reached (world_of db)) db.virtuals
+  pub constraints : AllByRecursion (PassesUnlessNamed reached (world_of db)) db.constraints
