@@ -60,7 +60,10 @@ fn copied_set(names: &IndexSet<Name>) -> Result<IndexSet<Name>, AllocError>
     ensures { IfOk result (λ copy. copy.keys ≡ names.now.keys) }
 {
     let mut copy = IndexSet::with_capacity(*names.allocator(), names.len())?;
-    for name in names.iter() {
+    for place in 0..names.len() {
+        let Some(name) = names.get_index(place) else {
+            return Ok(copy);
+        };
         copy.insert(name.try_clone()?)?;
     }
     Ok(copy)

@@ -143,11 +143,13 @@ impl<B: Body> Tables<B> {
                 let _ = self.declared.constraints.pop();
             }
             Step::TypeDropped(types) => self.types = types,
-            Step::BaseDropped(place, name, entry, (known, heading)) => {
+            Step::BaseDropped(place, name, entry, known) => {
+                let (known, heading) = known;
                 put_back(&mut self.bases, place, name, entry);
                 put_back(&mut self.declared.bases, place, known, heading);
             }
-            Step::VirtualDropped(place, name, entry, (known, heading)) => {
+            Step::VirtualDropped(place, name, entry, known) => {
+                let (known, heading) = known;
                 put_back(&mut self.virtuals, place, name, entry);
                 put_back(&mut self.declared.virtuals, place, known, heading);
             }

@@ -1,0 +1,12 @@
+use Rattle.std.proofs.Common.{◌∙◌, ap, take}
+use Rattle.td_catalog.specs.CatalogViews.{known_of, rows_of}
+use Rattle.td_catalog.specs.Database.{Database, database_scope, with_virtuals}
+use Rattle.td_catalog.specs.KeptDatabases.{CatalogView}
+use Rattle.td_catalog.proofs.Named.{lent_is}
+use Rattle.td_catalog.proofs.catalog.Catalog.scope_before.Goals as goal
+
+pub returns : goal.returns
+returns g c =
+    c.lent.ensures
+    ∙ lent_is g.B.Body.relation g.B.Body.keys (rows_of c.self.inside.tables) (known_of c.self.inside.tables) c.self.invariant.named c.self.invariant.history.catalog.entries c.args.count
+    ∙ ap (λ (db : Database). database_scope (with_virtuals (take c.args.count db.virtuals) db)) (ap (λ (v : CatalogView). v.database) c.self.view_is)
