@@ -26,6 +26,12 @@ invariant_of-result g c =
       virtuals = c.in_ok-copied_virtuals.ensures i;
       constraints = c.in_ok-copied_constraints.ensures i;
     } in
+    let rows = rows_of c.self.inside.tables in
+    let copied : known_of tables ≡ known_of c.self.inside.tables = λ i. record {
+      bases = c.in_ok-copied_declared.ensures.0 i;
+      virtuals = c.in_ok-copied_declared.ensures.1.0 i;
+      constraints = c.in_ok-copied_declared.ensures.1.1 i;
+    } in
     kept_none relation g.B.Body.keys g.B.Body.kept tables c.new.result.steps.items c.new.ensures
     (record { entries = c.in_ok-copied_bases.ensures.entries; is_typed = subst IsTyped (sym seen) (subst IsTyped now c.self.invariant.history.catalog.is_typed) })
     (copied ∙ c.self.invariant.named ∙ sym (same_known relation g.B.Body.keys rows (known_of c.self.inside.tables) c.self.invariant.named c.self.invariant.history.catalog.entries (rows_of tables) c.in_ok-copied_bases.ensures.entries (seen ∙ sym now)))
