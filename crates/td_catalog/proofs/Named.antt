@@ -1,11 +1,11 @@
 -- What tables hold as known keeps in step with their rows.
-use Rattle.std.proofs.Common.{◌≡◌, ◌+◌, ◌-◌, ◌<◌, ◌∷◌, ◌++◌, ◌∙◌, ℕ, zero, suc, Bool, true, false, List, [], Option, Some, None, ap, arith, cond, length, map, option_map, refl, subst, sym, take, true≢false}
+use Rattle.std.proofs.Common.{◌≡◌, ◌+◌, ◌<◌, ◌∷◌, ◌++◌, ◌∙◌, ℕ, zero, suc, Bool, true, false, List, [], Option, Some, None, ap, arith, cond, length, map, refl, subst, sym, take, true≢false}
 use Rattle.std.specs.Prelude.{◌↔◌, ◌||◌, IsSome, if◌then◌else◌, insert, is_some, not, slice_get}
 use Rattle.std.specs.List.{AllByRecursion, find, list_any}
-use Rattle.std.specs.Map.{keys_of, lookup, lookup_key, remove_entry}
+use Rattle.std.specs.Map.{lookup, lookup_key, remove_entry}
 use Rattle.std.specs.Option.{option_to_list}
 use Rattle.std.specs.Set.{remove_key}
-use Rattle.std.proofs.lemmas.List.{append-nil, map-append}
+use Rattle.std.proofs.lemmas.List.{map-append}
 use Rattle.td_catalog.specs.CatalogViews.{AreEntries, Known, Rows, base_heading, base_view, constraint_view, database_view, known_rows, virtual_heading, virtual_view}
 use Rattle.td_catalog.specs.Database.{BaseRelvar, Database, NamedConstraint, VirtualRelvar, database_scope, known_base, known_virtual, with_virtuals}
 use Rattle.td_check.specs.LentScopes.{known_as}
@@ -17,7 +17,6 @@ use Rattle.td_catalog.specs.declared.entry.BaseEntry.{BaseEntry}
 use Rattle.td_catalog.specs.declared.entry.ConstraintEntry.{ConstraintEntry}
 use Rattle.td_catalog.specs.declared.entry.VirtualEntry.{VirtualEntry}
 use Rattle.td_catalog.specs.declared.history.Step.{Step}
-use Rattle.td_catalog.proofs.Changes.{with_base_rows, with_constraint_rows, with_virtual_rows}
 use Rattle.td_catalog.proofs.LedSteps.{view_added, without_last_push}
 use Rattle.td_catalog.proofs.Lists.{all_push, both, neither, not_true}
 use Rattle.td_catalog.proofs.PutBack.{view_inserted}

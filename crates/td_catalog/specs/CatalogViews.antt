@@ -7,7 +7,6 @@ use Rattle.td_catalog.specs.declared.entry.BaseEntry.{BaseEntry}
 use Rattle.td_catalog.specs.declared.entry.ConstraintEntry.{ConstraintEntry}
 use Rattle.td_catalog.specs.declared.entry.VirtualEntry.{VirtualEntry}
 use Rattle.td_catalog.specs.declared.tables.Tables.{Tables}
-use Rattle.td_tree.specs.TreeViews.{tree_view}
 use Rattle.td_types.specs.TypeLists.{DeclaredType}
 use Rattle.td_types.specs.Types.{Heading}
 use Rattle.td_value.specs.Values.{Relation}

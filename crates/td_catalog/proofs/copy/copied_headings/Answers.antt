@@ -1,4 +1,4 @@
-use Rattle.std.proofs.Common.{◌≡◌, ◌∙◌, ℕ, List, ap, map, refl, subst, sym}
+use Rattle.std.proofs.Common.{◌∙◌, ℕ, List, refl, subst, sym}
 use Rattle.td_catalog.proofs.Copies.{IsCopied, copied_all, copied_next, copied_none}
 use Rattle.td_catalog.proofs.Named.{same_rows}
 use Rattle.td_catalog.proofs.copy.copied_headings.Goals as goal

@@ -1,5 +1,4 @@
-use Rattle.std.proofs.Common.{◌∙◌, ap, arith, sym}
-use Rattle.std.proofs.lemmas.List.{take_all}
+use Rattle.std.proofs.Common.{◌∙◌, sym}
 use Rattle.td_catalog.proofs.Named.{next_name}
 use Rattle.td_catalog.proofs.copy.copied_set.Goals as goal
 

@@ -1,9 +1,8 @@
-use Rattle.std.proofs.Common.{◌≡◌, ◌∙◌, false, true, ap, arith, map, refl, subst, sym, true≢false}
+use Rattle.std.proofs.Common.{◌≡◌, ◌∙◌, true, ap, arith, map, refl, subst, sym, true≢false}
 use Rattle.std.specs.Prelude.{is_some}
-use Rattle.std.specs.List.{AllByRecursion, find, list_any}
+use Rattle.std.specs.List.{AllByRecursion}
 use Rattle.std.specs.Map.{lookup, lookup_key, remove_entry}
-use Rattle.std.specs.Set.{remove_key}
-use Rattle.td_catalog.specs.CatalogViews.{IsCatalog, Known, Rows, base_heading, base_view, database_view, known_of, known_rows, rows_of}
+use Rattle.td_catalog.specs.CatalogViews.{IsCatalog, Known, base_heading, base_view, database_view, known_of, known_rows, rows_of}
 use Rattle.td_catalog.specs.Database.{Database, BaseRelvar, without_relvar}
 use Rattle.td_catalog.specs.Histories.{IsHistory, IsOwnStep, history_view}
 use Rattle.td_catalog.specs.KeptDatabases.{CatalogView}
@@ -13,10 +12,9 @@ use Rattle.td_catalog.proofs.Changes.{with_base_rows}
 use Rattle.td_catalog.proofs.EntriesLess.{catalog_without_base, view_without_base}
 use Rattle.td_catalog.proofs.LedSteps.{base_dropped}
 use Rattle.td_catalog.proofs.Named.{found_as, own_as, own_more, removed_as}
-use Rattle.td_catalog.proofs.Rows.{known, missing, present}
+use Rattle.td_catalog.proofs.Rows.{known}
 use Rattle.td_catalog.proofs.Steps.{history_next, room_next, view_next}
 use Rattle.td_catalog.proofs.catalog.Catalog.drop_base.Goals as goal
-use Rattle.td_tree.specs.declared.cause.Cause.TheVariants as causes
 use Rattle.td_types.specs.Headings.{has_name}
 use Rattle.td_types.specs.Types.{same_name}
 

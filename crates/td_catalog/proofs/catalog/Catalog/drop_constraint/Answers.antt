@@ -1,23 +1,21 @@
-use Rattle.std.proofs.Common.{◌≡◌, ◌∙◌, false, true, ap, arith, map, refl, subst, sym, true≢false}
+use Rattle.std.proofs.Common.{◌≡◌, ◌∙◌, true, ap, arith, map, refl, subst, sym, true≢false}
 use Rattle.std.specs.Prelude.{is_some}
 use Rattle.std.specs.List.{AllByRecursion, find, list_any}
-use Rattle.std.specs.Map.{lookup, lookup_key, remove_entry}
+use Rattle.std.specs.Map.{lookup}
 use Rattle.std.specs.Set.{remove_key}
-use Rattle.td_catalog.specs.CatalogViews.{IsCatalog, Known, Rows, constraint_view, database_view, known_of, known_rows, rows_of}
-use Rattle.td_catalog.specs.Database.{Database, NamedConstraint, knows_constraint, without_constraint}
+use Rattle.td_catalog.specs.CatalogViews.{IsCatalog, Known, Rows, database_view, known_of, known_rows, rows_of}
+use Rattle.td_catalog.specs.Database.{knows_constraint, without_constraint}
 use Rattle.td_catalog.specs.Histories.{IsHistory, IsOwnStep, history_view}
 use Rattle.td_catalog.specs.KeptDatabases.{CatalogView}
-use Rattle.td_catalog.specs.Mentioned.{is_relvar_in_use}
 use Rattle.td_catalog.specs.declared.history.Step.TheVariants.{ConstraintDropped}
 use Rattle.td_catalog.proofs.Changes.{knows_constraint_by, with_constraint_rows}
 use Rattle.td_catalog.proofs.EntriesLess.{catalog_without_constraint, view_without_constraint}
 use Rattle.td_catalog.proofs.LedSteps.{constraint_dropped}
 use Rattle.td_catalog.proofs.Named.{any_as, keys_less, own_more, own_name}
-use Rattle.td_catalog.proofs.Rows.{known, missing, present}
+use Rattle.td_catalog.proofs.Rows.{missing, present}
 use Rattle.td_catalog.proofs.Steps.{history_next, room_next, view_next}
 use Rattle.td_catalog.proofs.catalog.Catalog.drop_constraint.Goals as goal
 use Rattle.td_tree.specs.declared.cause.Cause.TheVariants as causes
-use Rattle.td_types.specs.Headings.{has_name}
 use Rattle.td_types.specs.Types.{same_name}
 
 pub invariant_of-self-2 : goal.invariant_of-self-2
