@@ -139,6 +139,7 @@ fn empty_body(alloc: Global, heading: &Heading, keys: &Vec<Vec<Name>>) -> Result
         ⟦<SortedBody as Body>⟧.relation b ≡ relation_view heading.now []) }
     ensures keys { IfOk result (λ b.
         ⟦<SortedBody as Body>⟧.keys b ≡ map (λ key. key.items) keys.now.items) }
+    ensures kept { IfOk result (λ b. ⟦<SortedBody as Body>⟧.kept b ≡ []) }
 {
     let (heading, keys) = both(heading.try_clone(), copied_keys(keys))?;
     made(SortedBody::empty(alloc, heading, keys))
@@ -179,7 +180,7 @@ fn add_p(catalog: &mut Catalog<SortedBody>, alloc: Global) -> Result<(), Fault> 
 
 /// The type of the expression in the catalogue's scope.
 fn type_in(catalog: &Catalog<SortedBody>, tree: &Expr) -> Result<Ty, Fault>
-    ensures { IfOk result (λ ty. type_of (database_scope catalog.now) (tree_view tree.now)
+    ensures { IfOk result (λ ty. type_of (database_scope catalog.now.database) (tree_view tree.now)
         ≡ Valued (type_view ty)) }
 {
     let scope = catalog.scope()?;
@@ -200,7 +201,7 @@ fn heading_of(ty: &Ty) -> Result<Heading, Fault>
 
 /// The heading of the expression, which is to be a relation.
 fn heading_in(catalog: &Catalog<SortedBody>, tree: &Expr) -> Result<Heading, Fault>
-    ensures { IfOk result (λ h. type_of (database_scope catalog.now) (tree_view tree.now)
+    ensures { IfOk result (λ h. type_of (database_scope catalog.now.database) (tree_view tree.now)
         ≡ Valued (relation (pack h))) }
 {
     let ty = type_in(catalog, tree)?;
@@ -232,7 +233,7 @@ fn add_v(catalog: &mut Catalog<SortedBody>, alloc: Global) -> Result<(), Fault> 
 /// Whether the expression is BOOLEAN in the catalogue's scope.
 fn is_boolean_in(catalog: &Catalog<SortedBody>, tree: &Expr) -> Result<bool, Fault>
     ensures { IfOk result (λ b. IsTrue b
-        → type_of (database_scope catalog.now) (tree_view tree.now) ≡ Valued boolean) }
+        → type_of (database_scope catalog.now.database) (tree_view tree.now) ≡ Valued boolean) }
 {
     let scope = catalog.scope()?;
     let is_boolean = is_boolean(&scope, tree);

@@ -24,7 +24,8 @@ returns-clause-relation g c =
     let headed : IsHeading (pack h) = subst (λ k. IsHeading (pack k)) (sym c.requires) valid.2 in
     let none-is : c.in_ok-none.none ≡ relation_view h [] =
     c.in_ok-none.ensures ∙ ap (λ ts. relation_view c.in_ok-try_clone.field-0 ts) c.new.ensures.items ∙ ap (λ k. relation_view k []) c.in_ok-try_clone.ensures in
-    c.in_ok-change.ensures.changed
+    c.settle.ensures.relation
+    ∙ c.in_ok-change.ensures.changed
     ∙ ap (after_change c.in_ok-all.all c.in_ok-none.none) copy-is
     ∙ ap (λ o. after_change o c.in_ok-none.none r) c.in_ok-all.ensures
     ∙ ap (λ a. after_change r a r) none-is
