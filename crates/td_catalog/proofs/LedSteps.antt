@@ -15,7 +15,7 @@ use Rattle.td_catalog.proofs.Changes.{with_base_rows, with_constraint_rows, with
 use Rattle.td_catalog.proofs.Steps.{Leads}
 use Rattle.td_types.specs.NamedTypes.{without_declared}
 use Rattle.td_types.specs.TypeLists.{DeclaredType, is_declared}
-use Rattle.td_types.specs.Types.{same_name}
+use Rattle.td_types.specs.Types.{Heading, same_name}
 use Rattle.td_types.proofs.HeadingLaws.{same_name-flips, same_name-itself}
 use Rattle.td_value.specs.Values.{Relation}
 
@@ -248,29 +248,29 @@ module _ {B : Type 0} (relation : B → Relation) (keys : B → List (List (List
   constraint_added entries row is =
       ap (λ cs. with_held_constraints cs held) (ap (λ es. without_last (map constraint_view es)) is ∙ view_added constraint_view rows.constraints row)
 
-  pub base_dropped : (name : List ℕ) (place : ℕ) (key : List ℕ) (entry : BaseEntry B) (entries : List (List ℕ × BaseEntry B))
+  pub base_dropped : (out : List ℕ × Heading) (name : List ℕ) (place : ℕ) (key : List ℕ) (entry : BaseEntry B) (entries : List (List ℕ × BaseEntry B))
       → entries ≡ remove_entry (same_name name) rows.bases → Some place ≡ position (same_name name) (keys_of rows.bases)
       → Some key ≡ lookup_key (same_name name) rows.bases → Some entry ≡ lookup (same_name name) rows.bases
-      → Leads relation keys kept rows (BaseDropped place key entry) (with_base_rows entries rows)
-  base_dropped name place key entry entries is p k v =
+      → Leads relation keys kept rows (BaseDropped place key entry out) (with_base_rows entries rows)
+  base_dropped out name place key entry entries is p k v =
       ap (λ bs. with_held_bases bs held)
       (ap (λ es. insert (map (held_base relation keys kept) es) place (held_base relation keys kept (key, entry))) is
       ∙ put_again (held_base relation keys kept) name rows.bases place key entry (first_place name (keys_of rows.bases) place (sym p)) k v)
 
-  pub virtual_dropped : (name : List ℕ) (place : ℕ) (key : List ℕ) (entry : VirtualEntry) (entries : List (List ℕ × VirtualEntry))
+  pub virtual_dropped : (out : List ℕ × Heading) (name : List ℕ) (place : ℕ) (key : List ℕ) (entry : VirtualEntry) (entries : List (List ℕ × VirtualEntry))
       → entries ≡ remove_entry (same_name name) rows.virtuals → Some place ≡ position (same_name name) (keys_of rows.virtuals)
       → Some key ≡ lookup_key (same_name name) rows.virtuals → Some entry ≡ lookup (same_name name) rows.virtuals
-      → Leads relation keys kept rows (VirtualDropped place key entry) (with_virtual_rows entries rows)
-  virtual_dropped name place key entry entries is p k v =
+      → Leads relation keys kept rows (VirtualDropped place key entry out) (with_virtual_rows entries rows)
+  virtual_dropped out name place key entry entries is p k v =
       ap (λ vs. with_held_virtuals vs held)
       (ap (λ es. insert (map virtual_view es) place (virtual_view (key, entry))) is
       ∙ put_again virtual_view name rows.virtuals place key entry (first_place name (keys_of rows.virtuals) place (sym p)) k v)
 
-  pub constraint_dropped : (name : List ℕ) (place : ℕ) (key : List ℕ) (entry : ConstraintEntry) (entries : List (List ℕ × ConstraintEntry))
+  pub constraint_dropped : (out : List ℕ) (name : List ℕ) (place : ℕ) (key : List ℕ) (entry : ConstraintEntry) (entries : List (List ℕ × ConstraintEntry))
       → entries ≡ remove_entry (same_name name) rows.constraints → Some place ≡ position (same_name name) (keys_of rows.constraints)
       → Some key ≡ lookup_key (same_name name) rows.constraints → Some entry ≡ lookup (same_name name) rows.constraints
-      → Leads relation keys kept rows (ConstraintDropped place key entry) (with_constraint_rows entries rows)
-  constraint_dropped name place key entry entries is p k v =
+      → Leads relation keys kept rows (ConstraintDropped place key entry out) (with_constraint_rows entries rows)
+  constraint_dropped out name place key entry entries is p k v =
       ap (λ cs. with_held_constraints cs held)
       (ap (λ es. insert (map constraint_view es) place (constraint_view (key, entry))) is
       ∙ put_again constraint_view name rows.constraints place key entry (first_place name (keys_of rows.constraints) place (sym p)) k v)

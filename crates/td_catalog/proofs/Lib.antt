@@ -22,3 +22,4 @@ mod LastTypes
 mod LedSteps
 mod PutBack
 mod Steps
+mod Named

@@ -1,6 +1,7 @@
 -- Entries that are put in again: where they stand then, and that their names are free before.
 use Rattle.std.proofs.Common.{◌≡◌, ◌≤◌, ◌∷◌, ◌++◌, ◌∙◌, ℕ, zero, suc, Bool, true, false, List, [], ap, arith, length, map, refl, sym, true≢false}
-use Rattle.std.specs.Prelude.{◌||◌, Ok, Err, IfOk, IsOk, Result, if◌then◌else◌, insert, is_some, nat_lt, not}
+use Rattle.std.specs.List.{list_any}
+use Rattle.std.specs.Prelude.{◌||◌, Ok, Err, IfOk, IsOk, OnOk, Result, if◌then◌else◌, insert, is_some, nat_lt, not}
 use Rattle.std.specs.Cmp.Lexicographic.{same_text}
 use Rattle.std.specs.List.{position_or_len}
 use Rattle.std.specs.Map.{keys_of, lookup}
@@ -14,7 +15,7 @@ use Rattle.td_catalog.specs.Histories.{HeldBase, IsStage, held_base, held_view, 
 use Rattle.td_catalog.specs.declared.entry.BaseEntry.{BaseEntry}
 use Rattle.td_catalog.specs.declared.entry.ConstraintEntry.{ConstraintEntry}
 use Rattle.td_catalog.specs.declared.entry.VirtualEntry.{VirtualEntry}
-use Rattle.td_catalog.proofs.Lists.{both, distinct_behind, distinct_front, not_true}
+use Rattle.td_catalog.proofs.Lists.{both, distinct_behind, distinct_front, neither, not_true}
 use Rattle.td_catalog.proofs.Rows.{known, rows_with}
 use Rattle.td_types.specs.Headings.{are_distinct, has_name}
 use Rattle.td_types.specs.Types.{same_name}
@@ -26,6 +27,10 @@ use Rattle.td_value.specs.Values.{Relation}
 pub what_is_ok : {X E : Type 0} (P : Type 0) (r : Result X E) → IsOk r → IfOk r (λ _. P) → P
 what_is_ok P (Ok x) is h = h
 what_is_ok P (Err e) is h = absurd (cc)
+
+pub what_ok_is : {X E : Type 0} (P : Type 0) (r : Result X E) → IsOk r → OnOk r P → P
+what_ok_is P (Ok x) is h = h
+what_ok_is P (Err e) is h = absurd (cc)
 
 past_end : {X : Type 0} (xs : List X) (n : ℕ) (x : X) → length xs ≤ n → insert xs n x ≡ xs ++ (x ∷ [])
 past_end xs n x le = λ i. take_all n xs le i ++ (x ∷ drop_all n xs le i)
@@ -64,6 +69,24 @@ module _ {V S : Type 0} (m : IndexMap (List ℕ) V S) (name : List ℕ) (value :
       is ∙ (λ i. move_index (rows_with (λ (row : List ℕ × V). row) (λ (row : List ℕ × V). row.0) (λ row. refl) m name value free i) (no_place name m.entries free i) (clamp i))
       ∙ push_moved m.entries (name, value) (if nat_lt place (length m.entries) then place else length m.entries) (clamped_within (length m.entries) place)
       ∙ clamped m.entries place (name, value)
+
+-- ---- names alone
+
+no_name_place : (name : List ℕ) (names : List (List ℕ)) → list_any (same_name name) names ≡ false → position_or_len (same_name name) names ≡ length names
+no_name_place name [] e = refl
+no_name_place name (n ∷ names) e =
+    let apart = neither (same_name name n) (list_any (same_name name) names) e in
+    let more : position_or_len (same_name name) names ≡ length names = no_name_place name names apart.1 in
+    rw apart.0 (omega (arith, more))
+
+-- a new name that was moved to a place stands there
+pub name_stands_again : (names : List (List ℕ)) (name : List ℕ) (place at : ℕ) → list_any (same_name name) names ≡ false
+    → at ≡ (if nat_lt place (length names) then place else length names) → (after : List (List ℕ))
+    → after ≡ move_index (if list_any (same_name name) names then names else names ++ (name ∷ [])) (position_or_len (same_name name) names) at → after ≡ insert names place name
+name_stands_again names name place at free clamp after is =
+    is ∙ (λ i. move_index (if free i then names else names ++ (name ∷ [])) (no_name_place name names free i) (clamp i))
+    ∙ push_moved names name (if nat_lt place (length names) then place else length names) (clamped_within (length names) place)
+    ∙ clamped names place name
 
 -- ---- free names
 

@@ -17,7 +17,6 @@ use Rattle.td_catalog.proofs.Lists.{both, distinct_front, not_true}
 use Rattle.td_check.specs.Scopes.{KnownRelvar, Scope, known_relvar, knows_constraint, with_known_constraint, with_known_relvar}
 use Rattle.td_check.specs.declared.scope.Kind.{Kind}
 use Rattle.td_check.specs.declared.scope.Kind.TheVariants as kinds
-use Rattle.td_tree.specs.TreeViews.{tree_view}
 use Rattle.td_types.specs.Headings.{are_distinct, has_name}
 use Rattle.td_types.specs.TypeLists.{DeclaredType}
 use Rattle.td_types.specs.Types.{Heading, same_name}

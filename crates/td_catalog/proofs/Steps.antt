@@ -4,7 +4,7 @@ use Rattle.std.specs.Prelude.{fold}
 use Rattle.std.specs.List.{AllByRecursion}
 use Rattle.std.proofs.lemmas.List.{length-append, length-map, map-append, nil_from_length}
 use Rattle.std.proofs.lemmas.List.Sums.{fold_push, sum_by-append}
-use Rattle.td_catalog.specs.CatalogViews.{AreEntries, IsBodyOf, IsCatalog, Rows, base_view, database_view, rows_of}
+use Rattle.td_catalog.specs.CatalogViews.{AreEntries, IsBodyOf, IsCatalog, Rows, base_view, database_view, known_of, known_rows, rows_of}
 use Rattle.td_catalog.specs.Database.{Database}
 use Rattle.td_catalog.specs.Histories.{AreKept, HasRoom, Held, HeldBase, IsHistory, IsStage, UsesRoomOf, before, database_of, dropped_in, held_base, held_view, history_view, is_dropped, kept_before, kept_with}
 use Rattle.td_catalog.specs.KeptDatabases.{CatalogView, advanced, settled, stages}
@@ -16,11 +16,11 @@ use Rattle.td_catalog.proofs.Lists.{all_push}
 use Rattle.td_value.specs.Values.{Relation}
 
 -- what holds of a list with one more at its end
-all_but_last : {A : Type 0} (P : A → Type 0) (xs : List A) (x : A) → AllByRecursion P (xs ++ (x ∷ [])) → AllByRecursion P xs
+pub all_but_last : {A : Type 0} (P : A → Type 0) (xs : List A) (x : A) → AllByRecursion P (xs ++ (x ∷ [])) → AllByRecursion P xs
 all_but_last P [] x h = tt
 all_but_last P (y ∷ xs) x h = (h.0, all_but_last P xs x h.1)
 
-all_last : {A : Type 0} (P : A → Type 0) (xs : List A) (x : A) → AllByRecursion P (xs ++ (x ∷ [])) → P x
+pub all_last : {A : Type 0} (P : A → Type 0) (xs : List A) (x : A) → AllByRecursion P (xs ++ (x ∷ [])) → P x
 all_last P [] x h = h.0
 all_last P (y ∷ xs) x h = all_last P xs x h.1
 
@@ -169,12 +169,22 @@ module _ {B : Type 0} (relation : B → Relation) (keys : B → List (List (List
   pub no_history : (rows : Rows B) (steps : List (Step B)) → steps ≡ [] → IsCatalog relation keys rows → IsHistory relation keys kept rows steps
   no_history rows steps none h = subst (IsHistory relation keys kept rows) (sym none) (record { catalog = h; stages = tt })
 
-  pub kept_none : (tables : Tables B) (steps : List (Step B)) → steps ≡ [] → IsCatalog relation keys (rows_of tables) → AreKept relation keys kept tables steps
-  kept_none tables steps none h =
+  pub kept_none : (tables : Tables B) (steps : List (Step B)) → steps ≡ [] → IsCatalog relation keys (rows_of tables) → known_of tables ≡ known_rows (rows_of tables)
+      → AreKept relation keys kept tables steps
+  kept_none tables steps none h named =
       subst (AreKept relation keys kept tables) (sym none)
       (record {
         history = record { catalog = h; stages = tt };
-        room = record { bases = omega arith; virtuals = omega arith; constraints = omega arith };
+        room = record {
+          bases = omega arith;
+          virtuals = omega arith;
+          constraints = omega arith;
+          known_bases = omega arith;
+          known_virtuals = omega arith;
+          known_constraints = omega arith;
+        };
+        named = named;
+        own = tt;
       })
 
   pub view_none : (rows : Rows B) (steps : List (Step B)) → steps ≡ [] → history_view relation keys kept rows steps ≡ settled (database_view relation rows)
@@ -193,6 +203,9 @@ room_next tables after steps next step spent is one room used =
       bases = omega (arith, counted, one, room.bases, used.bases);
       virtuals = omega (arith, counted, one, room.virtuals, used.virtuals);
       constraints = omega (arith, counted, one, room.constraints, used.constraints);
+      known_bases = omega (arith, counted, one, room.known_bases, used.known_bases);
+      known_virtuals = omega (arith, counted, one, room.known_virtuals, used.known_virtuals);
+      known_constraints = omega (arith, counted, one, room.known_constraints, used.known_constraints);
     }
 
 -- where a step moves nothing out, the room stays enough
@@ -204,6 +217,9 @@ room_stays tables after steps next step is none room used =
       bases = omega (arith, counted, none, room.bases, used.bases);
       virtuals = omega (arith, counted, none, room.virtuals, used.virtuals);
       constraints = omega (arith, counted, none, room.constraints, used.constraints);
+      known_bases = omega (arith, counted, none, room.known_bases, used.known_bases);
+      known_virtuals = omega (arith, counted, none, room.known_virtuals, used.known_virtuals);
+      known_constraints = omega (arith, counted, none, room.known_constraints, used.known_constraints);
     }
 
 -- what is moved back has its room
@@ -215,4 +231,7 @@ room_back tables after steps next step is room used =
       bases = omega (arith, counted, room.bases, used.bases);
       virtuals = omega (arith, counted, room.virtuals, used.virtuals);
       constraints = omega (arith, counted, room.constraints, used.constraints);
+      known_bases = omega (arith, counted, room.known_bases, used.known_bases);
+      known_virtuals = omega (arith, counted, room.known_virtuals, used.known_virtuals);
+      known_constraints = omega (arith, counted, room.known_constraints, used.known_constraints);
     }

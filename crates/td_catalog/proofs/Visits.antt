@@ -20,7 +20,6 @@ use Rattle.td_check.specs.StaticTypes.{type_of}
 use Rattle.td_check.proofs.StaticLaws.{more_changes_nothing}
 use Rattle.td_tree.specs.Outcomes.{Valued}
 use Rattle.td_tree.specs.Trees.{Tree}
-use Rattle.td_tree.specs.TreeViews.{tree_view}
 use Rattle.td_types.specs.Headings.{are_distinct, heading_from}
 use Rattle.td_types.specs.NamedTypes.{any_names_user}
 use Rattle.td_types.specs.TypeLists.{DeclaredType}

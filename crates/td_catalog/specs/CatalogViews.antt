@@ -7,7 +7,6 @@ use Rattle.td_catalog.specs.declared.entry.BaseEntry.{BaseEntry}
 use Rattle.td_catalog.specs.declared.entry.ConstraintEntry.{ConstraintEntry}
 use Rattle.td_catalog.specs.declared.entry.VirtualEntry.{VirtualEntry}
 use Rattle.td_catalog.specs.declared.tables.Tables.{Tables}
-use Rattle.td_tree.specs.TreeViews.{tree_view}
 use Rattle.td_types.specs.TypeLists.{DeclaredType}
 use Rattle.td_types.specs.Types.{Heading}
 use Rattle.td_value.specs.Values.{Relation}
@@ -45,6 +44,28 @@ rows_of tables =
       virtuals = tables.virtuals.entries;
       constraints = tables.constraints.entries;
     }
+
+-- a base relvar's and a virtual relvar's name with the heading that its entry has
+abbrev pub base_heading : {B : Type 0} → List ℕ × BaseEntry B → List ℕ × Heading
+base_heading row = (row.0, row.1.heading)
+
+abbrev pub virtual_heading : List ℕ × VirtualEntry → List ℕ × Heading
+virtual_heading row = (row.0, row.1.heading)
+
+-- what is known to expressions beside types: relvars with their headings, and constraints' names
+pub record Known : Type 0 where
+  pub bases : List (List ℕ × Heading)
+  pub virtuals : List (List ℕ × Heading)
+  pub constraints : List (List ℕ)
+
+-- that which the rows make known, and that which tables hold of it
+abbrev pub known_rows : {B : Type 0} → Rows B → Known
+known_rows rows =
+    record { bases = map base_heading rows.bases; virtuals = map virtual_heading rows.virtuals; constraints = map (λ row. row.0) rows.constraints }
+
+abbrev pub known_of : {B : Type 0} → Tables B → Known
+known_of tables =
+    record { bases = tables.declared.bases.entries; virtuals = tables.declared.virtuals.entries; constraints = tables.declared.constraints.keys }
 
 -- the database of them
 abbrev pub database_view : {B : Type 0} → (B → Relation) → Rows B → Database

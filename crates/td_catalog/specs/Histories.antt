@@ -1,8 +1,9 @@
 -- What the tables of a catalogue were: computed from what they are and the steps that led there (this project's own).
-use Rattle.std.specs.Prelude.{ℕ, ◌+◌, ◌-◌, ◌≤◌, Bool, true, false, List, [], ◌∷◌, ◌++◌, count_by, fold, if◌then◌else◌, insert, length, map, take}
+use Rattle.std.specs.Prelude.{◌≡◌, ⊤, ℕ, ◌+◌, ◌-◌, ◌≤◌, Bool, true, false, List, [], ◌∷◌, ◌++◌, count_by, fold, if◌then◌else◌, insert, length, map, take}
 use Rattle.std.specs.List.{AllByRecursion}
 use Rattle.indexmap.specs.IndexMap.{spare}
-use Rattle.td_catalog.specs.CatalogViews.{IsBodyOf, IsCatalog, Rows, base_view, constraint_view, database_view, rows_of, virtual_view}
+use Rattle.indexmap.specs.IndexSet.{spare as names_spare}
+use Rattle.td_catalog.specs.CatalogViews.{IsBodyOf, IsCatalog, Rows, base_heading, base_view, constraint_view, database_view, known_of, known_rows, rows_of, virtual_heading, virtual_view}
 use Rattle.td_catalog.specs.Database.{BaseRelvar, Database, NamedConstraint, VirtualRelvar, base_relvar}
 use Rattle.td_catalog.specs.KeptDatabases.{CatalogView}
 use Rattle.td_catalog.specs.TypedDatabases.{IsTyped}
@@ -106,9 +107,9 @@ module _ {B : Type 0} (relation : B → Relation) (keys : B → List (List (List
   before VirtualAdded held = with_held_virtuals (without_last held.virtuals) held
   before ConstraintAdded held = with_held_constraints (without_last held.constraints) held
   before (TypeDropped types) held = with_held_types types held
-  before (BaseDropped place name entry) held = with_held_bases (insert held.bases place (held_base (name, entry))) held
-  before (VirtualDropped place name entry) held = with_held_virtuals (insert held.virtuals place (virtual_view (name, entry))) held
-  before (ConstraintDropped place name entry) held =
+  before (BaseDropped place name entry known) held = with_held_bases (insert held.bases place (held_base (name, entry))) held
+  before (VirtualDropped place name entry known) held = with_held_virtuals (insert held.virtuals place (virtual_view (name, entry))) held
+  before (ConstraintDropped place name entry known) held =
       with_held_constraints (insert held.constraints place (constraint_view (name, entry))) held
   before (BodyChanged name) held = with_held_bases (with_body_back name held.bases) held
 
@@ -138,9 +139,9 @@ is_dropped BaseAdded = false
 is_dropped VirtualAdded = false
 is_dropped ConstraintAdded = false
 is_dropped (TypeDropped types) = false
-is_dropped (BaseDropped place name entry) = true
-is_dropped (VirtualDropped place name entry) = true
-is_dropped (ConstraintDropped place name entry) = true
+is_dropped (BaseDropped place name entry known) = true
+is_dropped (VirtualDropped place name entry known) = true
+is_dropped (ConstraintDropped place name entry known) = true
 is_dropped (BodyChanged name) = false
 
 -- how many of the steps moved an entry out
@@ -152,15 +153,36 @@ pub record HasRoom {B : Type 0} (entries : ℕ) (tables : Tables B) : Type 0 whe
   pub bases : entries ≤ spare tables.bases
   pub virtuals : entries ≤ spare tables.virtuals
   pub constraints : entries ≤ spare tables.constraints
+  pub known_bases : entries ≤ spare tables.declared.bases
+  pub known_virtuals : entries ≤ spare tables.declared.virtuals
+  pub known_constraints : entries ≤ names_spare tables.declared.constraints
 
 -- at most so many places of each table's room are used
 pub record UsesRoomOf {B : Type 0} (entries : ℕ) (old new : Tables B) : Type 0 where
   pub bases : spare old.bases ≤ spare new.bases + entries
   pub virtuals : spare old.virtuals ≤ spare new.virtuals + entries
   pub constraints : spare old.constraints ≤ spare new.constraints + entries
+  pub known_bases : spare old.declared.bases ≤ spare new.declared.bases + entries
+  pub known_virtuals : spare old.declared.virtuals ≤ spare new.declared.virtuals + entries
+  pub known_constraints : names_spare old.declared.constraints ≤ names_spare new.declared.constraints + entries
 
--- what tables are with these steps: they have room for all that these moved out
+-- what a step moved out makes known what its entry did
+abbrev pub IsOwnStep : {B : Type 0} → Step B → Type 0
+IsOwnStep (TypeAdded name) = ⊤
+IsOwnStep BaseAdded = ⊤
+IsOwnStep VirtualAdded = ⊤
+IsOwnStep ConstraintAdded = ⊤
+IsOwnStep (TypeDropped types) = ⊤
+IsOwnStep (BaseDropped place name entry known) = known ≡ base_heading (name, entry)
+IsOwnStep (VirtualDropped place name entry known) = known ≡ virtual_heading (name, entry)
+IsOwnStep (ConstraintDropped place name entry known) = known ≡ name
+IsOwnStep (BodyChanged name) = ⊤
+
+-- what tables are with these steps: what they hold as known is what their rows make known, and they have room for all that the
+-- steps moved out
 pub record AreKept {B : Type 0} (relation : B → Relation) (keys : B → List (List (List ℕ))) (kept : B → List Relation)
     (tables : Tables B) (steps : List (Step B)) : Type 0 where
   pub history : IsHistory relation keys kept (rows_of tables) steps
   pub room : HasRoom (dropped_in steps) tables
+  pub named : known_of tables ≡ known_rows (rows_of tables)
+  pub own : AllByRecursion IsOwnStep steps

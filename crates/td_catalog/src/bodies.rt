@@ -1,7 +1,8 @@
 //! Bodies that change.
 ghost use Rattle.std.specs.Prelude.{◌≡◌, ◌∷◌, ◌++◌, [], IfSome, IsSome, OnErr, OnOk};
 ghost use Rattle.td_body.specs.Bodies.{after_change};
-ghost use Rattle.td_catalog.specs.CatalogViews.{IsBodyOf, IsCatalog, database_view, rows_of};
+ghost use Rattle.td_catalog.specs.CatalogViews.{IsBodyOf, IsCatalog, database_view, known_of};
+ghost use Rattle.td_catalog.specs.CatalogViews.{known_rows, rows_of};
 ghost use Rattle.td_catalog.specs.Database.{base_named, with_body};
 ghost use Rattle.td_catalog.specs.Histories.{UsesRoomOf, before, held_view};
 ghost use Rattle.td_catalog.specs.KeptDatabases.{advanced, settled};
@@ -61,6 +62,8 @@ impl<B: Body> Tables<B> {
             (database_view B.relation (rows_of self.old)))) }
         ensures same { OnErr result (held_view B.relation B.keys B.kept (rows_of self.new)
             ≡ held_view B.relation B.keys B.kept (rows_of self.old)) }
+        ensures known { (known_of self.new ≡ known_of self.old)
+            × (known_rows (rows_of self.new) ≡ known_rows (rows_of self.old)) }
         ensures room { UsesRoomOf 0 self.old self.new }
     {
         let Some(place) = self.bases.get_index_of(name) else {

@@ -15,6 +15,7 @@ use indexmap::IndexMap;
 use std::alloc::Global;
 use std::marker::Model;
 use td_body::body::Body;
+use td_check::declared::Declared;
 use td_tree::expression::Expr;
 use td_tree::name::Name;
 use td_types::table::{TypeEntry, TypeTable};
@@ -56,6 +57,7 @@ impl<B: Body> Catalog<B> {
                 bases: IndexMap::new(alloc),
                 virtuals: IndexMap::new(alloc),
                 constraints: IndexMap::new(alloc),
+                declared: Declared::new(alloc),
             },
             log: History::new(alloc),
         }

@@ -1,6 +1,7 @@
 //! Copies of catalogues. They share the bodies as far as these share with their copies, and the
 //! expressions.
-ghost use Rattle.std.specs.Prelude.{◌≡◌, ℕ, IfOk, List, map};
+ghost use Rattle.std.specs.Prelude.{◌≡◌, ℕ, IfOk, IsTrue, List, map};
+ghost use Rattle.td_types.specs.Headings.{are_distinct};
 ghost use Rattle.td_catalog.specs.CatalogViews.{AreEntries, base_view, constraint_view};
 ghost use Rattle.td_catalog.specs.CatalogViews.{entry_keys, virtual_view};
 ghost use Rattle.td_catalog.specs.KeptDatabases.{settled};
@@ -9,10 +10,12 @@ use crate::catalog::Catalog;
 use crate::entry::{BaseEntry, ConstraintEntry, VirtualEntry};
 use crate::history::History;
 use crate::tables::Tables;
-use indexmap::IndexMap;
+use indexmap::{IndexMap, IndexSet};
 use std::alloc::AllocError;
 use td_body::body::Body;
+use td_check::declared::Declared;
 use td_tree::name::Name;
+use td_types::heading::Heading;
 
 /// The same names again.
 fn copied_names(names: &Vec<Name>) -> Result<Vec<Name>, AllocError>
@@ -35,6 +38,51 @@ pub fn copied_keys(keys: &Vec<Vec<Name>>) -> Result<Vec<Vec<Name>>, AllocError>
         copy.push(copied_names(key)?)?;
     }
     Ok(copy)
+}
+
+/// The same names with their headings again.
+fn copied_headings(
+    headings: &IndexMap<Name, Heading>,
+) -> Result<IndexMap<Name, Heading>, AllocError>
+    requires { IsTrue (are_distinct (map (λ row. row.0) headings.now.entries)) }
+    ensures { IfOk result (λ copy. copy.entries ≡ headings.now.entries) }
+{
+    let mut copy = IndexMap::with_capacity(*headings.allocator(), headings.len())?;
+    for (name, heading) in headings.iter() {
+        copy.insert(name.try_clone()?, heading.try_clone()?)?;
+    }
+    Ok(copy)
+}
+
+/// The same set of names again.
+fn copied_set(names: &IndexSet<Name>) -> Result<IndexSet<Name>, AllocError>
+    requires { IsTrue (are_distinct names.now.keys) }
+    ensures { IfOk result (λ copy. copy.keys ≡ names.now.keys) }
+{
+    let mut copy = IndexSet::with_capacity(*names.allocator(), names.len())?;
+    for place in 0..names.len() {
+        let Some(name) = names.get_index(place) else {
+            return Ok(copy);
+        };
+        copy.insert(name.try_clone()?)?;
+    }
+    Ok(copy)
+}
+
+/// The same declarations again.
+fn copied_declared(declared: &Declared) -> Result<Declared, AllocError>
+    requires bases { IsTrue (are_distinct (map (λ row. row.0) declared.now.bases.entries)) }
+    requires virtuals { IsTrue (are_distinct (map (λ row. row.0) declared.now.virtuals.entries)) }
+    requires constraints { IsTrue (are_distinct declared.now.constraints.keys) }
+    ensures { IfOk result (λ copy. (copy.bases.entries ≡ declared.now.bases.entries)
+        × ((copy.virtuals.entries ≡ declared.now.virtuals.entries)
+        × (copy.constraints.keys ≡ declared.now.constraints.keys))) }
+{
+    Ok(Declared {
+        bases: copied_headings(&declared.bases)?,
+        virtuals: copied_headings(&declared.virtuals)?,
+        constraints: copied_set(&declared.constraints)?,
+    })
 }
 
 impl<B: Body> BaseEntry<B> {
@@ -140,6 +188,7 @@ impl<B: Body> Catalog<B> {
                 bases: self.copied_bases()?,
                 virtuals: self.copied_virtuals()?,
                 constraints: self.copied_constraints()?,
+                declared: copied_declared(&self.tables.declared)?,
             },
             log: History::new(*self.tables.bases.allocator()),
         })

@@ -1,7 +1,7 @@
 //! Entries that are added: each last in its list.
 ghost use Rattle.std.specs.Prelude.{◌≡◌, ◌+◌, ◌<◌, [], OnErr, OnOk, map, not, option_map};
 ghost use Rattle.std.specs.Prelude.{vec_capacity, vec_len};
-ghost use Rattle.td_catalog.specs.CatalogViews.{IsBodyOf, rows_of};
+ghost use Rattle.td_catalog.specs.CatalogViews.{IsBodyOf, known_of, rows_of};
 ghost use Rattle.td_catalog.specs.Database.{base_relvar, database_scope};
 ghost use Rattle.td_catalog.specs.Database.{knows_constraint, knows_relvar, named_constraint};
 ghost use Rattle.td_catalog.specs.Database.{virtual_relvar, with_base};
@@ -22,7 +22,7 @@ use crate::catalog::Catalog;
 use crate::defining::DefiningExpression;
 use crate::entry::{BaseEntry, ConstraintEntry, VirtualEntry};
 use crate::history::{History, Step};
-use crate::tables::Tables;
+use crate::tables::{Tables, put_last, put_name_last};
 use std::alloc::AllocError;
 use td_body::body::Body;
 use td_tree::cause::Cause;
@@ -39,6 +39,7 @@ pub(crate) fn prepare<B: Body>(
     log: &mut History<B>,
 ) -> Result<(), AllocError>
     ensures rows { rows_of tables.new ≡ rows_of tables.old }
+    ensures known { known_of tables.new ≡ known_of tables.old }
     ensures steps { log.new.steps.items ≡ log.old.steps.items }
     ensures kept { UsesRoomOf 0 tables.old tables.new }
     ensures room { OnOk result
@@ -111,6 +112,8 @@ impl<B: Body> Catalog<B> {
         }
         let _ = body.len();
         let _ = name.as_str();
+        let known = name.try_clone()?;
+        let known_heading = heading.try_clone()?;
         let entry = BaseEntry {
             heading,
             keys,
@@ -118,6 +121,7 @@ impl<B: Body> Catalog<B> {
         };
         prepare(&mut self.tables, &mut self.log)?;
         self.tables.bases.insert(name, entry)?;
+        put_last(&mut self.tables.declared.bases, known, known_heading);
         self.log.note(Step::BaseAdded);
         Ok(())
     }
@@ -143,6 +147,8 @@ impl<B: Body> Catalog<B> {
             return Err(Fault::Refused(Cause::NameTaken));
         }
         let _ = name.as_str();
+        let known = name.try_clone()?;
+        let known_heading = heading.try_clone()?;
         let tree = DefiningExpression::new(*self.tables.virtuals.allocator(), tree)?;
         let entry = VirtualEntry {
             heading,
@@ -151,6 +157,7 @@ impl<B: Body> Catalog<B> {
         };
         prepare(&mut self.tables, &mut self.log)?;
         self.tables.virtuals.insert(name, entry)?;
+        put_last(&mut self.tables.declared.virtuals, known, known_heading);
         self.log.note(Step::VirtualAdded);
         Ok(())
     }
@@ -171,11 +178,13 @@ impl<B: Body> Catalog<B> {
             return Err(Fault::Refused(Cause::NameTaken));
         }
         let _ = name.as_str();
+        let known = name.try_clone()?;
         let tree = DefiningExpression::new(*self.tables.constraints.allocator(), tree)?;
         prepare(&mut self.tables, &mut self.log)?;
         self.tables
             .constraints
             .insert(name, ConstraintEntry { tree })?;
+        put_name_last(&mut self.tables.declared.constraints, known);
         self.log.note(Step::ConstraintAdded);
         Ok(())
     }

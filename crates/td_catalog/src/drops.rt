@@ -46,9 +46,14 @@ impl<B: Body> Catalog<B> {
         ensures unchanged { OnErr result (self.new ≡ self.old) }
     {
         prepare(&mut self.tables, &mut self.log)?;
-        if let Some((place, name, entry)) = self.tables.bases.shift_remove_full(name) {
-            self.log.note(Step::BaseDropped(place, name, entry));
-        }
+        let Some((_, known, heading)) = self.tables.declared.bases.shift_remove_full(name) else {
+            return Ok(());
+        };
+        let Some((place, name, entry)) = self.tables.bases.shift_remove_full(name) else {
+            return Ok(());
+        };
+        self.log
+            .note(Step::BaseDropped(place, name, entry, (known, heading)));
         Ok(())
     }
 
@@ -61,9 +66,14 @@ impl<B: Body> Catalog<B> {
         ensures unchanged { OnErr result (self.new ≡ self.old) }
     {
         prepare(&mut self.tables, &mut self.log)?;
-        if let Some((place, name, entry)) = self.tables.virtuals.shift_remove_full(name) {
-            self.log.note(Step::VirtualDropped(place, name, entry));
-        }
+        let Some((_, known, heading)) = self.tables.declared.virtuals.shift_remove_full(name) else {
+            return Ok(());
+        };
+        let Some((place, name, entry)) = self.tables.virtuals.shift_remove_full(name) else {
+            return Ok(());
+        };
+        self.log
+            .note(Step::VirtualDropped(place, name, entry, (known, heading)));
         Ok(())
     }
 
@@ -101,9 +111,14 @@ impl<B: Body> Catalog<B> {
             return Err(Fault::Refused(Cause::NameUnknown));
         }
         prepare(&mut self.tables, &mut self.log)?;
-        if let Some((place, name, entry)) = self.tables.constraints.shift_remove_full(name) {
-            self.log.note(Step::ConstraintDropped(place, name, entry));
-        }
+        let Some((_, known)) = self.tables.declared.constraints.shift_remove_full(name) else {
+            return Ok(());
+        };
+        let Some((place, name, entry)) = self.tables.constraints.shift_remove_full(name) else {
+            return Ok(());
+        };
+        self.log
+            .note(Step::ConstraintDropped(place, name, entry, known));
         Ok(())
     }
 }

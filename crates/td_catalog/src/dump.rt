@@ -16,8 +16,8 @@ ghost use Rattle.td_types.specs.Types.{pack, relation};
 ghost use Rattle.td_types.specs.Views.{pairs_view};
 ghost use Rattle.td_value.specs.Literal.{relation_literal};
 
-use crate::defining::DefiningExpression;
 use crate::catalog::Catalog;
+use crate::defining::DefiningExpression;
 use crate::entry::VirtualEntry;
 use crate::keys::ordered_key;
 use std::alloc::AllocError;

@@ -7,9 +7,11 @@ use crate::entry::{BaseEntry, ConstraintEntry, VirtualEntry};
 use std::alloc::{AllocError, Global};
 use td_body::body::Body;
 use td_tree::name::Name;
+use td_types::heading::Heading;
 use td_types::table::TypeTable;
 
-/// A step from one database to the next. What was dropped is moved here, with its place.
+/// A step from one database to the next. What was dropped is moved here, with its place, and last
+/// what was known of it.
 #[derive(Drop)]
 pub(crate) enum Step<B: Body> {
     TypeAdded(Name),
@@ -18,9 +20,9 @@ pub(crate) enum Step<B: Body> {
     ConstraintAdded,
     /// A type was dropped: the types were these.
     TypeDropped(TypeTable),
-    BaseDropped(usize, Name, BaseEntry<B>),
-    VirtualDropped(usize, Name, VirtualEntry),
-    ConstraintDropped(usize, Name, ConstraintEntry),
+    BaseDropped(usize, Name, BaseEntry<B>, (Name, Heading)),
+    VirtualDropped(usize, Name, VirtualEntry, (Name, Heading)),
+    ConstraintDropped(usize, Name, ConstraintEntry, Name),
     /// The body of the base relvar of the name changed, and keeps what it was.
     BodyChanged(Name),
 }
@@ -35,9 +37,9 @@ fn moved_out<B: Body>(step: &Step<B>) -> usize
         Step::VirtualAdded => 0,
         Step::ConstraintAdded => 0,
         Step::TypeDropped(_) => 0,
-        Step::BaseDropped(_, _, _) => 1,
-        Step::VirtualDropped(_, _, _) => 1,
-        Step::ConstraintDropped(_, _, _) => 1,
+        Step::BaseDropped(_, _, _, _) => 1,
+        Step::VirtualDropped(_, _, _, _) => 1,
+        Step::ConstraintDropped(_, _, _, _) => 1,
         Step::BodyChanged(_) => 0,
     }
 }

@@ -7,53 +7,20 @@ ghost use Rattle.td_types.specs.Types.{same_name};
 use crate::catalog::Catalog;
 use std::alloc::AllocError;
 use td_body::body::Body;
-use td_check::scope::{Kind, Scope};
+use td_check::scope::Scope;
 use td_tree::expression::Expr;
 use td_tree::name::Name;
 
 impl<B: Body> Catalog<B> {
-    /// The types and the base relvars.
-    fn known_bases(&self) -> Result<Scope<'_>, AllocError>
-        ensures { IfOk result (λ s.
-            s ≡ database_scope (with_virtuals [] (with_constraints [] self.now.database))) }
-    {
-        let mut scope = Scope::new(*self.tables.bases.allocator(), &self.tables.types);
-        for (name, entry) in self.tables.bases.iter() {
-            let heading = entry.heading.try_clone()?;
-            scope = scope.with_relvar(name.try_clone()?, Kind::Base, heading)?;
-        }
-        Ok(scope)
-    }
-
-    /// These, and so many of the virtual relvars, in order of definition.
-    fn known_relvars(&self, count: usize) -> Result<Scope<'_>, AllocError>
-        ensures { IfOk result (λ s. s ≡ database_scope
-            (with_virtuals (take count self.now.database.virtuals)
-            (with_constraints [] self.now.database))) }
-    {
-        let mut scope = self.known_bases()?;
-        for place in 0..count {
-            let Some((name, entry)) = self.tables.virtuals.get_index(place) else {
-                return Ok(scope);
-            };
-            let heading = entry.heading.try_clone()?;
-            scope = scope.with_relvar(name.try_clone()?, Kind::Virtual, heading)?;
-        }
-        Ok(scope)
-    }
-
     /// What is known to expressions where so many of the virtual relvars are known, in order of
     /// definition: the types, the relvars' names with their headings, and the constraints' names;
-    /// no tuple is in hand.
+    /// no tuple is in hand. It takes no time by what is defined.
     pub fn scope_before(&self, count: usize) -> Result<Scope<'_>, AllocError>
         ensures { IfOk result (λ s. s ≡ database_scope
             (with_virtuals (take count self.now.database.virtuals) self.now.database)) }
     {
-        let mut scope = self.known_relvars(count)?;
-        for name in self.tables.constraints.keys() {
-            scope = scope.with_constraint(name.try_clone()?)?;
-        }
-        Ok(scope)
+        let alloc = *self.tables.bases.allocator();
+        Ok(Scope::lent(alloc, &self.tables.types, &self.tables.declared, count))
     }
 
     /// What is known to expressions, with all of the virtual relvars.

@@ -1,19 +1,23 @@
 //! The tables of a catalogue, and steps back.
-ghost use Rattle.std.specs.Prelude.{◌≡◌, ◌+◌, ◌<◌, ◌≤◌, ◌∷◌, [], OnOk, false};
+ghost use Rattle.std.specs.Prelude.{◌≡◌, ◌+◌, ◌<◌, ◌≤◌, ◌∷◌, ◌++◌, [], OnOk, false};
 ghost use Rattle.std.specs.Prelude.{if◌then◌else◌, insert, is_some, nat_lt};
 ghost use Rattle.std.specs.Map.{lookup};
+ghost use Rattle.std.specs.List.{list_any};
 ghost use Rattle.indexmap.specs.IndexMap.{spare};
-ghost use Rattle.td_catalog.specs.CatalogViews.{AreEntries, database_view, rows_of};
-ghost use Rattle.td_catalog.specs.Histories.{HasRoom, IsStage, UsesRoomOf, before};
+ghost use Rattle.indexmap.specs.IndexSet.{spare as names_spare};
+ghost use Rattle.td_catalog.specs.CatalogViews.{AreEntries, database_view, known_of, known_rows};
+ghost use Rattle.td_catalog.specs.CatalogViews.{rows_of};
+ghost use Rattle.td_catalog.specs.Histories.{HasRoom, IsOwnStep, IsStage, UsesRoomOf, before};
 ghost use Rattle.td_catalog.specs.Histories.{dropped_in, held_view};
 ghost use Rattle.td_catalog.specs.declared.history.Step.TheVariants as steps;
 ghost use Rattle.td_types.specs.Types.{same_name};
 
 use crate::entry::{BaseEntry, ConstraintEntry, VirtualEntry};
 use crate::history::Step;
-use indexmap::IndexMap;
+use indexmap::{IndexMap, IndexSet};
 use std::alloc::AllocError;
 use td_body::body::Body;
+use td_check::declared::Declared;
 use td_tree::name::Name;
 use td_types::table::TypeTable;
 
@@ -24,6 +28,8 @@ pub(crate) struct Tables<B: Body> {
     pub(crate) bases: IndexMap<Name, BaseEntry<B>>,
     pub(crate) virtuals: IndexMap<Name, VirtualEntry>,
     pub(crate) constraints: IndexMap<Name, ConstraintEntry>,
+    /// What of them is known to expressions, in step with them.
+    pub(crate) declared: Declared,
 }
 
 /// The place, or the length where it is past that.
@@ -44,10 +50,42 @@ fn put_back<V: Drop>(map: &mut IndexMap<Name, V>, place: usize, name: Name, valu
     let _ = map.shift_insert(at, name, value).unwrap();
 }
 
+/// Puts an entry of a new name last. It takes no memory.
+pub(crate) fn put_last<V: Drop>(map: &mut IndexMap<Name, V>, name: Name, value: V)
+    requires new { is_some (lookup (same_name name) map.old.entries) ≡ false }
+    requires room { 0 < spare map.old }
+    ensures entries { map.new.entries ≡ map.old.entries ++ (name, value) ∷ [] }
+    ensures room { spare map.old ≤ spare map.new + 1 }
+{
+    let _ = map.insert(name, value).unwrap();
+}
+
+/// Puts a new name last. It takes no memory.
+pub(crate) fn put_name_last(names: &mut IndexSet<Name>, name: Name)
+    requires new { list_any (same_name name) names.old.keys ≡ false }
+    requires room { 0 < names_spare names.old }
+    ensures keys { names.new.keys ≡ names.old.keys ++ name ∷ [] }
+    ensures room { names_spare names.old ≤ names_spare names.new + 1 }
+{
+    let _ = names.insert(name).unwrap();
+}
+
+/// Puts a name in again at its place, or last where there are fewer. It takes no memory.
+fn put_name_back(names: &mut IndexSet<Name>, place: usize, name: Name)
+    requires new { list_any (same_name name) names.old.keys ≡ false }
+    requires room { 0 < names_spare names.old }
+    ensures keys { names.new.keys ≡ insert names.old.keys place name }
+    ensures room { names_spare names.old ≤ names_spare names.new + 1 }
+{
+    let at = within(place, names.len());
+    let _ = names.shift_insert(at, name).unwrap();
+}
+
 impl<B: Body> Tables<B> {
     /// Makes room for one entry more than so many, in each table.
     pub(crate) fn make_room(&mut self, dropped: usize) -> Result<(), AllocError>
         ensures rows { rows_of self.new ≡ rows_of self.old }
+        ensures known { known_of self.new ≡ known_of self.old }
         ensures room { UsesRoomOf 0 self.old self.new }
         ensures ok { OnOk result (HasRoom (dropped + 1) self.new) }
     {
@@ -56,7 +94,10 @@ impl<B: Body> Tables<B> {
         };
         self.bases.reserve(room)?;
         self.virtuals.reserve(room)?;
-        self.constraints.reserve(room)
+        self.constraints.reserve(room)?;
+        self.declared.bases.reserve(room)?;
+        self.declared.virtuals.reserve(room)?;
+        self.declared.constraints.reserve(room)
     }
 
     /// The body of the base relvar of the name goes back.
@@ -64,6 +105,8 @@ impl<B: Body> Tables<B> {
         ensures held { held_view B.relation B.keys B.kept (rows_of self.new)
             ≡ before B.relation B.keys B.kept (steps.BodyChanged name.now)
             (held_view B.relation B.keys B.kept (rows_of self.old)) }
+        ensures known { (known_of self.new ≡ known_of self.old)
+            × (known_rows (rows_of self.new) ≡ known_rows (rows_of self.old)) }
         ensures room { UsesRoomOf 0 self.old self.new }
     {
         if let Some(place) = self.bases.get_index_of(name) {
@@ -77,9 +120,12 @@ impl<B: Body> Tables<B> {
         requires stage { IsStage (before B.relation B.keys B.kept step
             (held_view B.relation B.keys B.kept (rows_of self.old))) }
         requires room { HasRoom (dropped_in (step ∷ [])) self.old }
+        requires named { known_of self.old ≡ known_rows (rows_of self.old) }
+        requires own { IsOwnStep step }
         ensures held { held_view B.relation B.keys B.kept (rows_of self.new)
             ≡ before B.relation B.keys B.kept step
             (held_view B.relation B.keys B.kept (rows_of self.old)) }
+        ensures named { known_of self.new ≡ known_rows (rows_of self.new) }
         ensures room { UsesRoomOf (dropped_in (step ∷ [])) self.old self.new }
     {
         self.types.reveal();
@@ -87,22 +133,30 @@ impl<B: Body> Tables<B> {
             Step::TypeAdded(name) => self.types.remove(&name),
             Step::BaseAdded => {
                 let _ = self.bases.pop();
+                let _ = self.declared.bases.pop();
             }
             Step::VirtualAdded => {
                 let _ = self.virtuals.pop();
+                let _ = self.declared.virtuals.pop();
             }
             Step::ConstraintAdded => {
                 let _ = self.constraints.pop();
+                let _ = self.declared.constraints.pop();
             }
             Step::TypeDropped(types) => self.types = types,
-            Step::BaseDropped(place, name, entry) => {
+            Step::BaseDropped(place, name, entry, known) => {
+                let (known, heading) = known;
                 put_back(&mut self.bases, place, name, entry);
+                put_back(&mut self.declared.bases, place, known, heading);
             }
-            Step::VirtualDropped(place, name, entry) => {
+            Step::VirtualDropped(place, name, entry, known) => {
+                let (known, heading) = known;
                 put_back(&mut self.virtuals, place, name, entry);
+                put_back(&mut self.declared.virtuals, place, known, heading);
             }
-            Step::ConstraintDropped(place, name, entry) => {
+            Step::ConstraintDropped(place, name, entry, known) => {
                 put_back(&mut self.constraints, place, name, entry);
+                put_name_back(&mut self.declared.constraints, place, known);
             }
             Step::BodyChanged(name) => self.revert_body(&name),
         }
@@ -114,6 +168,8 @@ impl<B: Body> Tables<B> {
         ensures entries { AreEntries B.relation B.keys self.new.bases.entries }
         ensures database { database_view B.relation (rows_of self.new)
             ≡ database_view B.relation (rows_of self.old) }
+        ensures known { (known_of self.new ≡ known_of self.old)
+            × (known_rows (rows_of self.new) ≡ known_rows (rows_of self.old)) }
         ensures room { UsesRoomOf 0 self.old self.new }
     {
         if let Some(place) = self.bases.get_index_of(name) {
@@ -128,6 +184,8 @@ impl<B: Body> Tables<B> {
         ensures entries { AreEntries B.relation B.keys self.new.bases.entries }
         ensures database { database_view B.relation (rows_of self.new)
             ≡ database_view B.relation (rows_of self.old) }
+        ensures known { (known_of self.new ≡ known_of self.old)
+            × (known_rows (rows_of self.new) ≡ known_rows (rows_of self.old)) }
         ensures room { UsesRoomOf 0 self.old self.new }
     {
         'steps: for step in steps {

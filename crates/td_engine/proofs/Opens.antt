@@ -41,6 +41,10 @@ engine_settled v opens e is =
     subst (IsEngine (settled v.database)) (sym e)
     (record { legal = record { database = is.legal.database; kept = tt; few = omega arith }; places = tt })
 
+pub engine_new : (v : CatalogView) (opens : List ℕ) → opens ≡ [] → IsLegal v.database → IsEngine v opens
+engine_new v opens e legal =
+    subst (IsEngine v) (sym e) (record { legal = record { database = legal; kept = tt; few = omega arith }; places = tt })
+
 -- ---- BEGIN TRANSACTION
 
 pub begun_kept : (v : CatalogView) (opens : List ℕ) → map (stage v) (length v.kept ∷ opens) ≡ v.database ∷ map (stage v) opens

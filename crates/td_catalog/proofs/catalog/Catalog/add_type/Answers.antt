@@ -1,13 +1,15 @@
 use Rattle.std.proofs.Common.{◌≡◌, ◌∙◌, ℕ, false, ap, arith, option_map, refl, subst, sym}
+use Rattle.std.specs.List.{AllByRecursion}
 use Rattle.std.specs.Prelude.{is_some}
 use Rattle.td_catalog.specs.CatalogViews.{database_view, rows_of}
 use Rattle.td_catalog.specs.Database.{Database, with_declared}
-use Rattle.td_catalog.specs.Histories.{HasRoom, IsHistory, dropped_in, history_view}
+use Rattle.td_catalog.specs.Histories.{HasRoom, IsHistory, IsOwnStep, dropped_in, history_view}
 use Rattle.td_catalog.specs.KeptDatabases.{CatalogView}
 use Rattle.td_catalog.specs.TypedDatabases.{IsConstrained}
 use Rattle.td_catalog.specs.declared.history.Step.TheVariants.{TypeAdded}
 use Rattle.td_catalog.proofs.Changes.{catalog_with_type, with_types}
 use Rattle.td_catalog.proofs.LedSteps.{some_map, type_added}
+use Rattle.td_catalog.proofs.Named.{own_more}
 use Rattle.td_catalog.proofs.Steps.{history_next, room_stays, view_next}
 use Rattle.td_catalog.proofs.catalog.Catalog.add_type.Goals as goal
 use Rattle.td_tree.specs.TreeViews.{tree_view}
@@ -34,7 +36,9 @@ invariant_of-self-2 g c =
     (subst (λ (db : Database). IsConstrained db.types d) (ap (λ (v : CatalogView). v.database) (sym c.self.view_is)) c.requires.constrained) in
     record {
       history = history_next relation keys kept rows (with_types c.add.new.self rows) steps c.note.new.self.steps.items (TypeAdded c.in_ok-added.added) c.note.ensures led history catalog;
-      room = room_stays c.self.inside.tables _ steps c.note.new.self.steps.items (TypeAdded c.in_ok-added.added) c.note.ensures refl (subst (λ (n : ℕ). HasRoom n c.self.inside.tables) (ap dropped_in (sym c.reserve.ensures.steps)) c.self.invariant.room) (record { bases = omega arith; virtuals = omega arith; constraints = omega arith });
+      room = room_stays c.self.inside.tables _ steps c.note.new.self.steps.items (TypeAdded c.in_ok-added.added) c.note.ensures refl (subst (λ (n : ℕ). HasRoom n c.self.inside.tables) (ap dropped_in (sym c.reserve.ensures.steps)) c.self.invariant.room) (record { bases = omega arith; virtuals = omega arith; constraints = omega arith; known_bases = omega arith; known_virtuals = omega arith; known_constraints = omega arith });
+      named = c.self.invariant.named;
+      own = own_more steps c.note.new.self.steps.items (TypeAdded c.in_ok-added.added) c.note.ensures (subst (AllByRecursion IsOwnStep) (sym c.reserve.ensures.steps) c.self.invariant.own) tt;
     }
 
 pub returns-clause-added : goal.returns-clause-added

@@ -1,11 +1,13 @@
 use Rattle.std.proofs.Common.{◌≡◌, ◌∙◌, ℕ, ap, refl, subst, sym}
+use Rattle.std.specs.List.{AllByRecursion}
 use Rattle.td_body.specs.Bodies.{after_change}
 use Rattle.td_catalog.specs.CatalogViews.{database_view, rows_of}
 use Rattle.td_catalog.specs.Database.{base_named, with_body}
-use Rattle.td_catalog.specs.Histories.{HasRoom, IsHistory, before, dropped_in, held_view, history_view}
+use Rattle.td_catalog.specs.Histories.{HasRoom, IsHistory, IsOwnStep, before, dropped_in, held_view, history_view}
 use Rattle.td_catalog.specs.KeptDatabases.{CatalogView, advanced}
 use Rattle.td_catalog.specs.declared.history.Step.TheVariants.{BodyChanged}
 use Rattle.td_catalog.proofs.ChangedBodies.{if_some, on_any_error}
+use Rattle.td_catalog.proofs.Named.{own_more}
 use Rattle.td_catalog.proofs.Steps.{history_next, room_stays, view_next, view_same}
 use Rattle.td_catalog.proofs.catalog.Catalog.change.Goals as goal
 
@@ -36,6 +38,8 @@ invariant_of-self-2 g c =
       history = history_next relation keys kept rows others steps c.note.new.self.steps.items (BodyChanged c.in_ok-changed.changed) c.note.ensures led history c.change.ensures.catalog;
       room = room_stays c.self.inside.tables c.change.new.self steps c.note.new.self.steps.items (BodyChanged c.in_ok-changed.changed) c.note.ensures refl
           (subst (λ (n : ℕ). HasRoom n c.self.inside.tables) (ap dropped_in (sym c.reserve.ensures.steps)) c.self.invariant.room) c.change.ensures.room;
+      named = c.change.ensures.known.0 ∙ c.self.invariant.named ∙ sym c.change.ensures.known.1;
+      own = own_more steps c.note.new.self.steps.items (BodyChanged c.in_ok-changed.changed) c.note.ensures (subst (AllByRecursion IsOwnStep) (sym c.reserve.ensures.steps) c.self.invariant.own) tt;
     }
 
 pub returns-clause-changed : goal.returns-clause-changed

@@ -1,13 +1,15 @@
 use Rattle.std.proofs.Common.{◌∙◌, ℕ, ap, arith, refl, subst, sym}
+use Rattle.std.specs.List.{AllByRecursion}
 use Rattle.std.specs.Prelude.{not}
 use Rattle.td_catalog.specs.CatalogViews.{database_view, rows_of}
 use Rattle.td_catalog.specs.Database.{without_type}
-use Rattle.td_catalog.specs.Histories.{HasRoom, IsHistory, dropped_in, held_view, history_view, with_held_types}
+use Rattle.td_catalog.specs.Histories.{HasRoom, IsHistory, IsOwnStep, dropped_in, held_view, history_view, with_held_types}
 use Rattle.td_catalog.specs.KeptDatabases.{CatalogView}
 use Rattle.td_catalog.specs.Mentioned.{is_type_in_use}
 use Rattle.td_catalog.specs.declared.history.Step.TheVariants.{TypeDropped}
 use Rattle.td_catalog.proofs.Changes.{with_types}
 use Rattle.td_catalog.proofs.EntriesLess.{catalog_without_type}
+use Rattle.td_catalog.proofs.Named.{own_more}
 use Rattle.td_catalog.proofs.Steps.{history_next, room_stays, view_next}
 use Rattle.td_catalog.proofs.TypedTypeDrops.{made_of_none}
 use Rattle.td_catalog.proofs.catalog.Catalog.drop_type.Goals as goal
@@ -32,7 +34,9 @@ invariant_of-self-2 g c =
     let catalog = catalog_without_type relation keys rows c.args.name.now c.remove.new.self c.remove.ensures history.catalog free in
     record {
       history = history_next relation keys kept rows (with_types c.remove.new.self rows) steps c.note.new.self.steps.items (TypeDropped c.in_ok-types.types) c.note.ensures led history catalog;
-      room = room_stays c.self.inside.tables _ steps c.note.new.self.steps.items (TypeDropped c.in_ok-types.types) c.note.ensures refl (subst (λ (n : ℕ). HasRoom n c.self.inside.tables) (ap dropped_in (sym c.reserve.ensures.steps)) c.self.invariant.room) (record { bases = omega arith; virtuals = omega arith; constraints = omega arith });
+      room = room_stays c.self.inside.tables _ steps c.note.new.self.steps.items (TypeDropped c.in_ok-types.types) c.note.ensures refl (subst (λ (n : ℕ). HasRoom n c.self.inside.tables) (ap dropped_in (sym c.reserve.ensures.steps)) c.self.invariant.room) (record { bases = omega arith; virtuals = omega arith; constraints = omega arith; known_bases = omega arith; known_virtuals = omega arith; known_constraints = omega arith });
+      named = c.self.invariant.named;
+      own = own_more steps c.note.new.self.steps.items (TypeDropped c.in_ok-types.types) c.note.ensures (subst (AllByRecursion IsOwnStep) (sym c.reserve.ensures.steps) c.self.invariant.own) tt;
     }
 
 pub returns-clause-dropped : goal.returns-clause-dropped

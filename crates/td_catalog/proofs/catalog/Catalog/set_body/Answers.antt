@@ -1,10 +1,12 @@
 use Rattle.std.proofs.Common.{◌∙◌, IfSome, ap, refl, subst, sym, true≢false}
 use Rattle.std.specs.Prelude.{is_some}
-use Rattle.td_catalog.specs.CatalogViews.{IsBodyOf, base_view, rows_of}
+use Rattle.td_catalog.specs.CatalogViews.{IsBodyOf, base_heading, base_view, known_rows, rows_of}
 use Rattle.td_catalog.specs.Database.{BaseRelvar, Database, base_named, with_body}
 use Rattle.td_catalog.specs.KeptDatabases.{CatalogView, settled}
 use Rattle.td_catalog.specs.TypedDatabases.{AreTyped}
 use Rattle.td_catalog.proofs.Changes.{catalog_with_body, view_with_body}
+use Rattle.td_catalog.proofs.LedSteps.{set_same}
+use Rattle.td_catalog.proofs.Named.{with_known_bases}
 use Rattle.td_catalog.proofs.Places.{place_is}
 use Rattle.td_catalog.proofs.Rows.{unnamed}
 use Rattle.td_catalog.proofs.Steps.{kept_none, no_step, view_none}
@@ -23,6 +25,8 @@ invariant_of-self g c =
     (catalog_with_body relation keys rows c.args.name.now c.args.body c.in-Some.place _ (place_is relation keys c.args.name.now rows.bases c.in-Some.place (sym c.get_index_of.ensures.index ∙ c.in-Some.is)) c.pair_mut-entry.ensures.value c.self.invariant.history.catalog
     (subst (λ (db : Database). IfSome (base_named c.args.name.now db) (λ r. IsBodyOf r.relation.heading r.keys (relation c.args.body) (keys c.args.body))) (sym now) c.requires.body)
     c.len.ensures.valid (subst (λ (db : Database). AreTyped db.types (relation c.args.body)) (sym now) c.requires.typed))
+    (c.self.invariant.named ∙ ap (λ bs. with_known_bases bs (known_rows rows))
+    (sym (set_same base_heading rows.bases c.in-Some.place _ (record { heading = c.pair_mut-entry.result.1.now.heading; keys = c.pair_mut-entry.result.1.now.keys; body = c.args.body }) c.pair_mut-entry.ensures.value refl)))
 
 pub returns-in-Some : goal.returns-in-Some
 returns-in-Some g c =

@@ -1,12 +1,13 @@
 use Rattle.std.proofs.Common.{◌∙◌, ap, map, refl, sym, true≢false}
 use Rattle.std.specs.Prelude.{is_some}
-use Rattle.td_catalog.specs.CatalogViews.{base_view, database_view, rows_of}
+use Rattle.td_catalog.specs.CatalogViews.{base_heading, base_view, database_view, known_rows, rows_of}
 use Rattle.td_catalog.specs.Database.{BaseRelvar}
 use Rattle.td_catalog.specs.Histories.{held_base, held_view, with_held_bases}
 use Rattle.td_catalog.proofs.ChangedBodies.{IsChangedEntry, catalog_changed, headings_at, on_err, on_ok, view_changed}
 use Rattle.td_catalog.proofs.LedSteps.{changed_body, first_place, set_same}
 use Rattle.td_catalog.proofs.Places.{place_is}
 use Rattle.td_catalog.proofs.Rows.{unnamed}
+use Rattle.td_catalog.proofs.Named.{with_known_bases}
 use Rattle.td_catalog.proofs.tables.Tables.change.Goals as goal
 
 pub change-requires-clause-out : goal.change-requires-clause-out
@@ -100,3 +101,11 @@ returns-in_default-clause-changed g c =
     let none = unnamed (base_view g.B.Body.relation) (λ (r : BaseRelvar). r.name) (λ row. refl) c.args.name.now c.args.self.now.bases.entries
     (sym c.get_index_of.ensures.found ∙ ap is_some c.in_default.is) in
     absurd (true≢false (sym c.requires.known ∙ ap is_some none))
+
+pub returns-clause-known : goal.returns-clause-known
+returns-clause-known g c =
+    let rows = rows_of c.args.self.now in (
+      refl,
+      ap (λ bs. with_known_bases bs (known_rows rows))
+          (set_same base_heading rows.bases c.in-Some.place _ c.change.new.self c.pair_mut-entry.ensures.value (λ i. (c.pair_mut-entry.result.0.now, c.change.ensures.parts.0 i))),
+    )

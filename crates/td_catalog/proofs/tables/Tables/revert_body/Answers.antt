@@ -1,8 +1,9 @@
 use Rattle.std.proofs.Common.{◌∙◌, ap, refl, sym}
 use Rattle.std.specs.Prelude.{is_some}
-use Rattle.td_catalog.specs.CatalogViews.{rows_of}
+use Rattle.td_catalog.specs.CatalogViews.{base_heading, known_rows, rows_of}
 use Rattle.td_catalog.specs.Histories.{held_view, with_held_bases}
-use Rattle.td_catalog.proofs.LedSteps.{body_reverted, first_place, gone_back, none_reverted}
+use Rattle.td_catalog.proofs.LedSteps.{body_reverted, first_place, gone_back, none_reverted, set_same}
+use Rattle.td_catalog.proofs.Named.{with_known_bases}
 use Rattle.td_catalog.proofs.tables.Tables.revert_body.Goals as goal
 
 pub returns-in-Some-clause-held : goal.returns-in-Some-clause-held
@@ -25,3 +26,12 @@ returns-in_default-clause-held g c =
     let kept = g.B.Body.kept in
     ap (λ bs. with_held_bases bs (held_view relation keys kept (rows_of c.args.self.now)))
     (sym (none_reverted relation keys kept c.args.name.now c.args.self.now.bases.entries (sym c.get_index_of.ensures.found ∙ ap is_some c.in_default.is)))
+
+pub returns-in-Some-clause-known : goal.returns-in-Some-clause-known
+returns-in-Some-clause-known g c =
+    let rows = rows_of c.args.self.now in
+    let was = c.pair_mut-entry.result.1.now in (
+      refl,
+      ap (λ bs. with_known_bases bs (known_rows rows))
+          (set_same base_heading rows.bases c.in-Some.place _ (record { heading = was.heading; keys = was.keys; body = c.revert.new.self }) c.pair_mut-entry.ensures.value refl),
+    )
