@@ -8,7 +8,7 @@ use Rattle.indexmap.specs.IndexMap.{IndexMap, insert_entry}
 use Rattle.td_catalog.specs.CatalogViews.{AreEntries, IsBodyOf, base_view, entry_keys}
 use Rattle.td_catalog.specs.Database.{BaseRelvar}
 use Rattle.td_catalog.specs.declared.entry.BaseEntry.{BaseEntry}
-use Rattle.td_catalog.proofs.Reached.{apart}
+use Rattle.td_catalog.proofs.ByPlace.{apart}
 use Rattle.td_catalog.proofs.Rows.{known, view_with}
 use Rattle.td_types.specs.Headings.{are_distinct}
 use Rattle.td_types.specs.Types.{Heading, same_name}

@@ -5,7 +5,7 @@ use Rattle.std.specs.List.{filter, slice_get}
 use Rattle.std.proofs.lemmas.List.{append-nil, map-append}
 use Rattle.std.proofs.lemmas.List.Elements.{filter-append}
 use Rattle.td_catalog.specs.Dumps.{ordered_names}
-use Rattle.td_catalog.proofs.Reached.{one_more_taken}
+use Rattle.td_catalog.proofs.ByPlace.{one_more_taken}
 use Rattle.td_types.specs.Headings.{has_name}
 use Rattle.td_types.specs.Types.{Attribute, Heading, attribute_names}
 

@@ -23,14 +23,6 @@ found_named n (r ∷ rs) q e = by_test (same_name r.name n) refl (found_named n 
     by_test true is rest = rw is refl
     by_test false is rest = rw is (rest (rw is at e))
 
--- and a name that is not among them finds none
-pub unfound : (n : List ℕ) (rs : List KnownRelvar) → has_name n (map (λ (r : KnownRelvar). r.name) rs) ≡ false → is_some (relvar_in n rs) ≡ false
-unfound n rs h = by_option (relvar_in n rs) refl
-  where
-    by_option : (o : Option KnownRelvar) → relvar_in n rs ≡ o → is_some o ≡ false
-    by_option None e = refl
-    by_option (Some q) e = absurd (true≢false (sym (found_named n rs q e) ∙ h))
-
 -- one more relvar between others, of another name
 found_apart : (n : List ℕ) (x : KnownRelvar) (xs ys : List KnownRelvar) → same_name x.name n ≡ false → relvar_in n ((xs ++ (x ∷ [])) ++ ys) ≡ relvar_in n (xs ++ ys)
 found_apart n x [] ys h = rw h refl

@@ -106,11 +106,6 @@ module _ {B : Type 0} (relation : B → Relation) (keys : B → List (List (List
   view = held_base relation keys kept
 
   module _ (name : List ℕ) where
-    -- the row of the name at that place, with another entry
-    pub record IsRowAt (rows : List (List ℕ × BaseEntry B)) (i : ℕ) (row : List ℕ × BaseEntry B) : Type 0 where
-      pub first : prefix_len (other name) (keys_of rows) ≡ i
-      pub at : slice_get rows i ≡ Some row
-
     some_row : (r row : List ℕ × BaseEntry B) → Some r ≡ Some row → r ≡ row
     some_row r row e = cc
 

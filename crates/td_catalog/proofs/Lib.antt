@@ -12,7 +12,7 @@ mod Lines
 pub mod Lists
 pub mod TypedChanges
 mod Places
-mod Reached
+mod ByPlace
 mod Rows
 mod SameAny
 mod Searches
@@ -23,3 +23,4 @@ mod LedSteps
 mod PutBack
 mod Steps
 mod Named
+mod SharedMarks

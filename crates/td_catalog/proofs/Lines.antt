@@ -3,7 +3,7 @@ use Rattle.std.proofs.Common.{◌≡◌, ◌∙◌, ◌∷◌, ◌++◌, ◌+◌
 use Rattle.std.specs.List.{flat_map, slice_get}
 use Rattle.std.proofs.lemmas.List.{append-nil, append_assoc}
 use Rattle.std.proofs.lemmas.List.Concat.{flat_map-append}
-use Rattle.td_catalog.proofs.Reached.{one_more_taken}
+use Rattle.td_catalog.proofs.ByPlace.{one_more_taken}
 
 -- with one more piece
 pub line_put : {X : Type 0} (line : X → List ℕ) (xs : List X) (i : ℕ) (start out : List ℕ) → out ≡ start ++ flat_map line (take i xs)

@@ -63,13 +63,6 @@ module _ {A : Type 0} where
   each_all P [] h = tt
   each_all P (x ∷ xs) h = (h [] xs x refl, each_all P xs (λ earlier later y is. h (x ∷ earlier) later y (ap (λ ys. x ∷ ys) is)))
 
-  pub all_each : (P : A → Type 0) (xs : List A) → AllByRecursion P xs → EachAfter (λ _. P) xs
-  all_each P xs h earlier later x is = at earlier (subst (AllByRecursion P) is h)
-    where
-      at : (ys : List A) → AllByRecursion P (ys ++ (x ∷ later)) → P x
-      at [] g = g.0
-      at (y ∷ ys) g = at ys g.1
-
   -- ---- one less
 
   module _ (test : A → Bool) where

@@ -94,19 +94,6 @@ module _ {E X : Type 0} (f : E → X) where
   again_as rows entries place row ks more k is ms named own =
       ms ∙ (λ i. insert (named i) place (own i)) ∙ sym (view_inserted f rows place row) ∙ ap (map f) (sym is)
 
-  pub popped_as : (xs left : List E) (ks rest : List X) (o : Option E) (p : Option X) → ks ≡ map f xs → xs ≡ left ++ option_to_list o → ks ≡ rest ++ option_to_list p
-      → IsSome o ↔ (0 < length xs) → IsSome p ↔ (0 < length ks) → rest ≡ map f left
-  popped_as [] left ks rest (Some x) p named is ms some found = absurd (let none = some.0 refl in omega (arith, none))
-  popped_as [] [] ks [] None p named is ms some found = refl
-  popped_as [] [] ks (r ∷ rest) None p named is ms some found = absurd (cc)
-  popped_as [] (l ∷ left) ks rest None p named is ms some found = absurd (cc)
-  popped_as (x ∷ xs) left ks rest None p named is ms some found = absurd (true≢false (sym (some.1 (omega arith))))
-  popped_as (x ∷ xs) left ks rest (Some y) None named is ms some found =
-      let counted : length ks ≡ length (map f (x ∷ xs)) = ap length named in
-      absurd (true≢false (sym (found.1 (omega (arith, counted)))))
-  popped_as (x ∷ xs) left ks rest (Some y) (Some q) named is ms some found =
-      sym (without_last_push rest q) ∙ ap without_last (sym ms ∙ named ∙ ap (map f) is) ∙ view_added f left y
-
 -- ---- names alone
 
 pub any_as : {E : Type 0} (name : List ℕ) (rows : List (List ℕ × E)) → list_any (same_name name) (map (λ row. row.0) rows) ≡ is_some (lookup (same_name name) rows)

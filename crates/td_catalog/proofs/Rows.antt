@@ -107,13 +107,3 @@ missing cause b e = rw e refl
 
 pub present : (cause : Cause) (b : Bool) → b ≡ true → holds_or cause b ≡ Valued tt
 present cause b e = rw e refl
-
--- what is answered where there is nothing of the name, where it is in use, and else
-pub unknown_refused : (there in_use : Bool) → there ≡ false → named_cause (unused there in_use) ≡ Some causes.NameUnknown
-unknown_refused there in_use e = rw e refl
-
-pub used_refused : (there in_use : Bool) → there ≡ true → in_use ≡ true → named_cause (unused there in_use) ≡ Some causes.InUse
-used_refused there in_use e f = rw (e, f) refl
-
-pub unused_accepted : (there in_use : Bool) → there ≡ true → in_use ≡ false → unused there in_use ≡ Valued tt
-unused_accepted there in_use e f = rw (e, f) refl

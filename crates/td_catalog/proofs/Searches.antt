@@ -1,5 +1,5 @@
 -- What is answered of an expression in which a name is looked for.
-use Rattle.std.proofs.Common.{◌≡◌, ◌∙◌, ℕ, Bool, List, None, Some, Result, ap, subst, sym}
+use Rattle.std.proofs.Common.{◌≡◌, ◌∙◌, ℕ, Bool, true, false, List, None, Some, Result, ap, subst, sym, true≢false}
 use Rattle.std.specs.Result.{IfOk}
 use Rattle.td_catalog.specs.Mentioned.{condition_mentions_type, tree_mentions_relvar, tree_mentions_type}
 use Rattle.td_check.specs.CheckViews.{Names}
@@ -7,12 +7,15 @@ use Rattle.td_check.specs.Mentions.{mentions_of, name_set, relvars_in, types_in}
 use Rattle.td_check.specs.Scopes.{Scope, alone_with, entered_with, scope_of}
 use Rattle.td_check.specs.StaticTypes.{type_of}
 use Rattle.td_check.proofs.NameSets.{names_are_a_set}
+use Rattle.td_check.proofs.WrittenNames.{relvars_are_named}
+use Rattle.td_check.specs.WrittenNames.{names_in}
 use Rattle.td_tree.specs.declared.cause.Cause.{Cause}
 use Rattle.td_tree.specs.Outcomes.{Valued, named_cause, with_value}
 use Rattle.td_tree.specs.Trees.{Tree}
 use Rattle.td_types.specs.Headings.{has_name, heading_from}
 use Rattle.td_types.specs.TypeLists.{DeclaredType}
 use Rattle.td_types.specs.Types.{Type'}
+use Rattle.td_types.proofs.NameTests.{name_tests_tell}
 use Rattle.td_types.proofs.OutcomeLaws.{valued_is}
 
 module _ (scope : Scope) (name : List ℕ) (e : Tree) (t : Type') where
@@ -27,6 +30,17 @@ module _ (scope : Scope) (name : List ℕ) (e : Tree) (t : Type') where
 
   pub relvars_answered : (seen : Names) → type_of scope e ≡ Valued t → mentions_of scope e ≡ Valued seen → has_name name seen.0 ≡ tree_mentions_relvar scope name e
   relvars_answered seen typed is = ap (λ (s : Names). has_name name s.0) (sym (seen_is seen typed is)) ∙ names_are_a_set (relvars_in scope e) name
+
+-- a relvar whose name does not stand in an expression is not mentioned there
+pub unwritten : (scope : Scope) (name : List ℕ) (e : Tree) → has_name name (names_in e) ≡ false → tree_mentions_relvar scope name e ≡ false
+unwritten scope name e none = by_test (has_name name (relvars_in scope e)) refl
+  where
+    by_test : (b : Bool) → has_name name (relvars_in scope e) ≡ b → has_name name (relvars_in scope e) ≡ false
+    by_test false is = is
+    by_test true is =
+        let there : has_name name (names_in e) ≡ true =
+            (name_tests_tell.0 name (names_in e)).1 (relvars_are_named scope e name ((name_tests_tell.0 name (relvars_in scope e)).0 is)) in
+        absurd (true≢false (sym there ∙ none))
 
 -- an expression that has a type is not refused
 pub not_refused : (scope : Scope) (e : Tree) (t : Type') (cause : Cause) → type_of scope e ≡ Valued t → named_cause (mentions_of scope e) ≡ Some cause → ⊥

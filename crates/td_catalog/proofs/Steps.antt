@@ -139,13 +139,6 @@ module _ {B : Type 0} (relation : B → Relation) (keys : B → List (List (List
   -- ---- rows that are held as others are
 
   module _ (rows others : Rows B) (steps : List (Step B)) (same : held_view relation keys kept others ≡ held_view relation keys kept rows) where
-    pub history_same : IsHistory relation keys kept rows steps → IsHistory relation keys kept others steps
-    history_same h =
-        record {
-          catalog = catalog_of others (subst IsStage (sym same) (stage_of rows h.catalog));
-          stages = subst (λ hs. AllByRecursion IsStage (kept_before relation keys kept steps hs)) (sym same) h.stages;
-        }
-
     pub view_same : history_view relation keys kept others steps ≡ history_view relation keys kept rows steps
     view_same =
         λ i. record {
@@ -165,9 +158,6 @@ module _ {B : Type 0} (relation : B → Relation) (keys : B → List (List (List
       let counted = view_counted rows steps in
       let empty : length (history_view relation keys kept rows steps).kept ≡ 0 = ap length none in
       nil_from_length steps (omega (arith, counted, empty))
-
-  pub no_history : (rows : Rows B) (steps : List (Step B)) → steps ≡ [] → IsCatalog relation keys rows → IsHistory relation keys kept rows steps
-  no_history rows steps none h = subst (IsHistory relation keys kept rows) (sym none) (record { catalog = h; stages = tt })
 
   pub kept_none : (tables : Tables B) (steps : List (Step B)) → steps ≡ [] → IsCatalog relation keys (rows_of tables) → known_of tables ≡ known_rows (rows_of tables)
       → AreKept relation keys kept tables steps

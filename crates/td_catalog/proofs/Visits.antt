@@ -12,7 +12,7 @@ use Rattle.td_catalog.specs.declared.entry.ConstraintEntry.{ConstraintEntry}
 use Rattle.td_catalog.specs.declared.entry.VirtualEntry.{VirtualEntry}
 use Rattle.td_catalog.proofs.TypedDrops.{earlier_virtuals}
 use Rattle.td_catalog.proofs.Lists.{each_all}
-use Rattle.td_catalog.proofs.Reached.{one_more_taken, stands_at}
+use Rattle.td_catalog.proofs.ByPlace.{one_more_taken, stands_at}
 use Rattle.td_check.specs.OperatorTypes.{if_type}
 use Rattle.td_check.specs.Scopes.{Scope, alone_with, scope_of}
 use Rattle.td_check.specs.StatementTypes.{constraint_fits}

@@ -8,4 +8,5 @@ pub mod TypedDatabases
 pub mod TypedDatabaseLaws
 pub mod Mentioned
 pub mod NamedRelvars
+pub mod NameMarks
 pub mod Sought

@@ -1,22 +1,24 @@
 //! The expressions by which virtual relvars and constraints are defined.
 ghost use Rattle.std.specs.Prelude.{◌≡◌, IfOk};
 ghost use Rattle.td_catalog.specs.NamedRelvars.{names_any};
+ghost use Rattle.td_check.specs.WrittenNames.{names_in};
 ghost use Rattle.td_tree.specs.TreeViews.{tree_view};
+ghost use Rattle.td_types.specs.Headings.{has_name};
 
+use crate::marked_names::MarkedNames;
 use std::alloc::{AllocError, Global};
 use std::marker::Model;
 use std::rc::Rc;
 use td_check::names::names_in;
 use td_tree::expression::Expr;
 use td_tree::name::Name;
-use td_types::names::is_among;
 
 /// An expression that defines a virtual relvar or a constraint, seen as its tree, with the names
 /// that stand in it, found when it is defined. Copies share both.
 #[derive(Drop)]
 pub struct DefiningExpression {
     tree: Rc<Expr>,
-    names: Rc<Vec<Name>>,
+    names: Rc<MarkedNames>,
 }
 
 impl Model for DefiningExpression {
@@ -33,7 +35,7 @@ impl Model for DefiningExpression {
 
     ghost view = { λ d. tree_view d.tree.value };
 
-    ghost invariant = { λ d. d.names.value.items ≡ name_set (names_in (tree_view d.tree.value)) };
+    ghost invariant = { λ d. d.names.value ≡ name_set (names_in (tree_view d.tree.value)) };
 }
 
 impl DefiningExpression {
@@ -42,7 +44,7 @@ impl DefiningExpression {
         ensures { IfOk result (λ d. d ≡ tree_view tree) }
     {
         let names = names_in(alloc, &tree)?;
-        let names = Rc::new(alloc, names)?;
+        let names = Rc::new(alloc, MarkedNames::new(names))?;
         let tree = Rc::new(alloc, tree)?;
         Ok(DefiningExpression { tree, names })
     }
@@ -54,16 +56,19 @@ impl DefiningExpression {
         &self.tree
     }
 
-    /// Whether one of the relvars is named in it. It takes time by the names in it, and no memory.
-    pub fn names_any(&self, relvars: &[Name]) -> bool
+    /// Whether one of the relvars is named in it. It takes time by the names in it, and mostly
+    /// none where none is named; it takes no memory.
+    pub fn names_any(&self, relvars: &MarkedNames) -> bool
         ensures { result ≡ names_any relvars.now self.now }
     {
-        for name in self.names.as_slice() {
-            if is_among(name, relvars) {
-                return true;
-            }
-        }
-        false
+        self.names.have_common(relvars)
+    }
+
+    /// Whether the name stands in it. It takes time by the names in it, and no memory.
+    pub(crate) fn has_name(&self, name: &Name) -> bool
+        ensures { result ≡ has_name name.now (names_in self.now) }
+    {
+        self.names.includes(name)
     }
 
     /// The same expression again.

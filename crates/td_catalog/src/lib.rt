@@ -13,6 +13,7 @@ pub mod entry;
 mod history;
 pub mod keys;
 pub mod laws;
+pub mod marked_names;
 mod mentioned;
 pub mod scope;
 mod stages;

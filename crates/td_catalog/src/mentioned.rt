@@ -16,6 +16,7 @@ ghost use Rattle.td_types.specs.Types.{Type', attribute_names};
 ghost use Rattle.td_types.specs.Views.{pairs_view};
 
 use crate::catalog::Catalog;
+use crate::defining::DefiningExpression;
 use std::alloc::{AllocError, Global};
 use td_body::body::Body;
 use td_check::mentions::mentions;
@@ -54,6 +55,23 @@ fn tree_mentions(
         },
         Err(Fault::Refused(_)) => Ok(false),
         Err(Fault::Memory) => Err(AllocError),
+    }
+}
+
+/// Whether a defining expression, that has a type where these are known, mentions the name. Where
+/// a relvar's name does not stand in it, nothing of it is gone over.
+fn definition_mentions(
+    scope: &Scope<'_>,
+    space: Space,
+    name: &Name,
+    definition: &DefiningExpression,
+) -> Result<bool, AllocError>
+    ensures { (t : Type') → type_of scope.now definition.now ≡ Valued t
+        → IfOk result (λ found. found ≡ tree_mentions space scope.now name.now definition.now) }
+{
+    match space {
+        Space::Relvar if !definition.has_name(name) => Ok(false),
+        _ => tree_mentions(scope, space, name, definition.tree()),
     }
 }
 
@@ -139,7 +157,7 @@ impl<B: Body> Catalog<B> {
             self.now.database.virtuals) }
     {
         for entry in self.tables.virtuals.values() {
-            if tree_mentions(scope, space, name, entry.tree.tree())? {
+            if definition_mentions(scope, space, name, &entry.tree)? {
                 return Ok(true);
             }
         }
@@ -159,7 +177,7 @@ impl<B: Body> Catalog<B> {
             self.now.database.constraints) }
     {
         for entry in self.tables.constraints.values() {
-            if tree_mentions(scope, space, name, entry.tree.tree())? {
+            if definition_mentions(scope, space, name, &entry.tree)? {
                 return Ok(true);
             }
         }
@@ -173,7 +191,7 @@ impl<B: Body> Catalog<B> {
         if self.types_mention(name)? || self.bases_mention(name) {
             return Ok(true);
         }
-        let scope = self.scope()?;
+        let scope = self.scope();
         Ok(
             self.virtuals_mention(&scope, Space::Type, name)?
                 || self.constraints_mention(&scope, Space::Type, name)?,
@@ -184,7 +202,7 @@ impl<B: Body> Catalog<B> {
     pub(crate) fn is_relvar_in_use(&self, name: &Name) -> Result<bool, AllocError>
         ensures { IfOk result (λ found. found ≡ is_relvar_in_use name.now self.now.database) }
     {
-        let scope = self.scope()?;
+        let scope = self.scope();
         Ok(
             self.virtuals_mention(&scope, Space::Relvar, name)?
                 || self.constraints_mention(&scope, Space::Relvar, name)?,

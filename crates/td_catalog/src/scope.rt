@@ -1,11 +1,10 @@
 //! What a catalogue makes known to expressions.
-ghost use Rattle.std.specs.Prelude.{◌≡◌, [], IfOk, length, option_map, position, slice_get, take};
+ghost use Rattle.std.specs.Prelude.{◌≡◌, [], length, option_map, position, slice_get, take};
 ghost use Rattle.td_catalog.specs.Database.{database_scope, with_constraints, with_virtuals};
 ghost use Rattle.td_tree.specs.TreeViews.{tree_view};
 ghost use Rattle.td_types.specs.Types.{same_name};
 
 use crate::catalog::Catalog;
-use std::alloc::AllocError;
 use td_body::body::Body;
 use td_check::scope::Scope;
 use td_tree::expression::Expr;
@@ -14,18 +13,18 @@ use td_tree::name::Name;
 impl<B: Body> Catalog<B> {
     /// What is known to expressions where so many of the virtual relvars are known, in order of
     /// definition: the types, the relvars' names with their headings, and the constraints' names;
-    /// no tuple is in hand. It takes no time by what is defined.
-    pub fn scope_before(&self, count: usize) -> Result<Scope<'_>, AllocError>
-        ensures { IfOk result (λ s. s ≡ database_scope
-            (with_virtuals (take count self.now.database.virtuals) self.now.database)) }
+    /// no tuple is in hand. It takes no memory, and no time by what is defined.
+    pub fn scope_before(&self, count: usize) -> Scope<'_>
+        ensures { result ≡ database_scope
+            (with_virtuals (take count self.now.database.virtuals) self.now.database) }
     {
         let alloc = *self.tables.bases.allocator();
-        Ok(Scope::lent(alloc, &self.tables.types, &self.tables.declared, count))
+        Scope::lent(alloc, &self.tables.types, &self.tables.declared, count)
     }
 
     /// What is known to expressions, with all of the virtual relvars.
-    pub fn scope(&self) -> Result<Scope<'_>, AllocError>
-        ensures { IfOk result (λ s. s ≡ database_scope self.now.database) }
+    pub fn scope(&self) -> Scope<'_>
+        ensures { result ≡ database_scope self.now.database }
     {
         self.scope_before(self.tables.virtuals.len())
     }

@@ -17,12 +17,6 @@ pub goes : {E : Type 0} (done : Result ⊤ E) (v w : CatalogView) (next : Databa
 goes (Ok u) v w next made same = goes_on v w next made
 goes (Err e) v w next made same = stays v w same
 
--- so it is where what stands is told of some entry
-pub goes_of : {E A : Type 0} (done : Result ⊤ E) (v w : CatalogView) (o : Option A) (x : A) (next : A → Database) → o ≡ Some x
-    → OnOk done (IfSome o (λ x. w ≡ advanced (next x) v)) → OnErr done (w ≡ v) → GoesOn v w
-goes_of (Ok u) v w o x next is made same = goes_on v w (next x) (subst (λ p. IfSome p (λ x. w ≡ advanced (next x) v)) is made)
-goes_of (Err e) v w o x next is made same = stays v w same
-
 -- what was free to be added is there
 pub defined : (done : Result ⊤ Fault) (v w : CatalogView) (next : Database) (free : Outcome ⊤) (o : Outcome Database) → free ≡ Valued tt
     → Answers (λ u. u) done free → OnOk done (w ≡ advanced next v) → o ≡ Valued next → Answers (λ (u : ⊤). w.database) done o

@@ -40,9 +40,6 @@ module _ {A : Type 0} where
     pub refused_at : (i : ℕ) (x : A) (r : Refusal) → IsLeft i → slice_get xs i ≡ Some x → check x ≡ Some r → first_refusal check xs ≡ Some r
     refused_at i x r h at is = h ∙ ap (first_refusal check) (drop_next xs i x at) ∙ ap (λ o. option_or o (first_refusal check (drop (i + 1) xs))) is
 
-    pub all_passed : (i : ℕ) → IsLeft i → length xs ≤ i → first_refusal check xs ≡ None
-    all_passed i h past = h ∙ ap (first_refusal check) (drop_all i xs past)
-
     -- a check that refuses at a place, or finds no memory
     pub refusal_at : (i : ℕ) (x : A) (f : Failure) → IsLeft i → slice_get xs i ≡ Some x → Passes (Err f) (check x) → Passes (Err f) (first_refusal check xs)
     refusal_at i x (failures.Refused r) h at is = refused_at i x (refusal_view r) h at is

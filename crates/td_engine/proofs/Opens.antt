@@ -33,14 +33,6 @@ module _ (v w : CatalogView) (opens : List ℕ) (is : IsEngine v opens) (on : Go
 
 -- ---- where no transaction is open
 
-pub state_settled : (v : CatalogView) (opens : List ℕ) → opens ≡ [] → state_at (settled v.database) opens ≡ state_at v opens
-state_settled v opens e = ap (λ ns. state_of v.database (map (stage (settled v.database)) ns)) e ∙ ap (λ ns. state_of v.database (map (stage v) ns)) (sym e)
-
-pub engine_settled : (v : CatalogView) (opens : List ℕ) → opens ≡ [] → IsEngine v opens → IsEngine (settled v.database) opens
-engine_settled v opens e is =
-    subst (IsEngine (settled v.database)) (sym e)
-    (record { legal = record { database = is.legal.database; kept = tt; few = omega arith }; places = tt })
-
 pub engine_new : (v : CatalogView) (opens : List ℕ) → opens ≡ [] → IsLegal v.database → IsEngine v opens
 engine_new v opens e legal =
     subst (IsEngine v) (sym e) (record { legal = record { database = legal; kept = tt; few = omega arith }; places = tt })

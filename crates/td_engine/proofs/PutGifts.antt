@@ -43,25 +43,6 @@ gift_typed db n q typed gift =
 pub part_typed : (db : Database) (n : List ℕ) (q : Relation) (p : Tuple → Bool) → IsTyped db → IsGift db (n, q) → AreTyped db.types (restriction p q)
 part_typed db n q p typed gift = (value_from_typed db.types (restriction p q) (typed_restriction db.types p q (gift_typed db n q typed gift))).1.2
 
--- it may be given to the relvar of another database of the same types that is the same there
-pub still_gift : (db other : Database) (n : List ℕ) (q : Relation) (r : BaseRelvar) → other.types ≡ db.types → base_named n db ≡ Some r → base_named n other ≡ Some r
-    → IsGift db (n, q) → IsGift other (n, q)
-still_gift db other n q r types here there gift =
-    record {
-      target = gift.target;
-      named = there ∙ sym here ∙ gift.named;
-      heading = gift.heading;
-      relation = gift.relation;
-      typed = subst (λ ds. AreTyped ds q) (sym types) gift.typed;
-    }
-
--- what it is given leads over to it
-pub led_there : (db : Database) (n : List ℕ) (q : Relation) (r : BaseRelvar) → IsTyped db → base_named n db ≡ Some r → IsGift db (n, q)
-    → after_change (difference r.relation q) (difference q r.relation) r.relation ≡ q
-led_there db n q r typed is gift =
-    let same = some_is r gift.target (sym is ∙ gift.named) in
-    led_over r.relation q ((is_typed_base db n r typed is).relation, gift.relation, ap (λ (b : BaseRelvar). b.relation.heading) same ∙ sym gift.heading)
-
 -- ---- the relvar that holds it
 
 pub found_body : (n : List ℕ) (q : Relation) (bs : List BaseRelvar) (r : BaseRelvar) → base_among n bs ≡ Some r

@@ -60,11 +60,6 @@ pub settled_or : (db : Database) (done : Result ⊤ Failure) → first_refusal b
 settled_or db (Ok u) held is = settled db held is
 settled_or db (Err f) held is = unsettled db f held is
 
--- what passes a check is not refused by it
-pub passed_ok : (done : Result ⊤ Failure) (o : Option Refusal) → Passes done o → OnOk done (o ≡ None)
-passed_ok (Ok u) o is = is
-passed_ok (Err f) o is = tt
-
 -- a new base relvar of which a key does not hold
 refused_behind : {A : Type 0} (check : A → Option Refusal) (xs : List A) (x : A) (o : Option Refusal) (r : Refusal) → first_refusal check xs ≡ None → check x ≡ Some r
     → option_or (first_refusal check (xs ++ (x ∷ []))) o ≡ Some r

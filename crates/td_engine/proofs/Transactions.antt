@@ -32,28 +32,7 @@ refused_does answer s e says is =
       accepted = says.0.0 ∙ ap is_none (sym says.0.1);
     })
 
--- ---- BEGIN TRANSACTION
-
-pub begin_refused : (answer : code.Answer) (s : State) → Refuses answer → nat_lt (length s.kept) transaction_limit ≡ false
-    → Does (step_of s (begun_transaction s)) answer s
-begin_refused answer s says full =
-    refused_does answer s (begun_transaction s) says
-    (ap (λ b. if b then Accepted (state_of s.database (s.database ∷ s.kept)) ok_text else denied_transaction) full)
-
-pub begin_does : (answer : code.Answer) (s : State) (kept : List Database) → SaysOk answer → nat_lt (length s.kept) transaction_limit ≡ true
-    → kept ≡ s.database ∷ s.kept → Does (step_of s (begun_transaction s)) answer (state_of s.database kept)
-begin_does answer s kept says room is =
-    subst (λ k. Does (step_of s (begun_transaction s)) answer (state_of s.database k)) (sym is)
-    (ok_does answer s (state_of s.database (s.database ∷ s.kept)) (begun_transaction s)
-    (ap (λ b. if b then Accepted (state_of s.database (s.database ∷ s.kept)) ok_text else denied_transaction) room) says.0 says.1)
-
 -- ---- COMMIT and ROLLBACK
-
-pub commit_refused : (answer : code.Answer) (s : State) → Refuses answer → s.kept ≡ [] → Does (step_of s (committed s.database s.kept)) answer s
-commit_refused answer s says none = refused_does answer s (committed s.database s.kept) says (ap (committed s.database) none)
-
-pub rollback_refused : (answer : code.Answer) (s : State) → Refuses answer → s.kept ≡ [] → Does (step_of s (rolled_back s.kept)) answer s
-rollback_refused answer s says none = refused_does answer s (rolled_back s.kept) says (ap rolled_back none)
 
 pub commit_does : (answer : code.Answer) (s : State) (last : Database) (others : List Database) → SaysOk answer → s.kept ≡ last ∷ others
     → Does (step_of s (committed s.database s.kept)) answer (state_of s.database others)

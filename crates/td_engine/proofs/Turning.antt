@@ -237,10 +237,6 @@ write_map P Q f (Write done) h = f done h
 
 -- ---- a run of a script
 
--- the run of the script that was read
-pub of_script : (before after : Option (List ℕ)) (P : List ℕ → Type 0) (script : List ℕ) → GaveScript before after script → P script → OfScript before after P
-of_script before after P script gave h = (script, gave, h)
-
 pub of_front : (before after : Option (List ℕ)) (P : List ℕ → Type 0) (done : ℕ) (script : List ℕ) → GaveScript before after script → P script → OfFront done before after P
 of_front before after P done script gave h = (script, record { given = gave.given; whole = λ some. gave }, h)
 

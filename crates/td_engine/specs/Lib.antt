@@ -4,14 +4,14 @@ pub mod Changes
 pub mod Checks
 pub mod Faults
 pub mod Gifts
+pub mod LeftOut
+pub mod Legality
+pub mod LegalityLaws
 pub mod Machine
 pub mod Rebuilding
 pub mod Refusals
 pub mod Scripts
 pub mod Stages
-pub mod LeftOut
-pub mod Legality
-pub mod LegalityLaws
 pub mod Standing
 pub mod Steps
 pub mod Told

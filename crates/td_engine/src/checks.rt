@@ -29,13 +29,13 @@ use td_body::keys::key_holds;
 use td_catalog::catalog::Catalog;
 use td_catalog::defining::DefiningExpression;
 use td_catalog::entry::{BaseEntry, VirtualEntry};
+use td_catalog::marked_names::MarkedNames;
 use td_eval::env::Env;
 use td_eval::value::eval;
 use td_tree::cause::Cause;
 use td_tree::expression::Expr;
 use td_tree::fault::Fault;
 use td_tree::name::Name;
-use td_types::names::is_among;
 use td_value::relation::Rel;
 use td_value::value::{Node, Value};
 
@@ -165,7 +165,7 @@ fn constraint_passed(name: &Name, test: Result<Value, Fault>) -> Result<(), Fail
 fn check_virtual<B: Body>(
     alloc: Global,
     catalog: &Catalog<B>,
-    reached: &[Name],
+    reached: &MarkedNames,
     name: &Name,
     entry: &VirtualEntry,
 ) -> Result<(), Failure>
@@ -174,7 +174,7 @@ fn check_virtual<B: Body>(
     ensures { Passes result (virtual_check (world_of catalog.now.database)
         (virtual_view (name.now, entry.now))) }
 {
-    if !is_among(name, reached) {
+    if !reached.includes(name) {
         return Ok(());
     }
     key_passed(name, test_virtual(alloc, catalog, name, entry))
@@ -184,7 +184,7 @@ fn check_virtual<B: Body>(
 fn check_virtuals<B: Body>(
     alloc: Global,
     catalog: &Catalog<B>,
-    reached: &[Name],
+    reached: &MarkedNames,
 ) -> Result<(), Failure>
     requires { AllByRecursion (PassesUnlessReached reached.now (world_of catalog.now.database))
         catalog.now.database.virtuals }
@@ -221,7 +221,7 @@ fn test_constraint<B: Body>(
 fn check_constraint<B: Body>(
     alloc: Global,
     catalog: &Catalog<B>,
-    reached: &[Name],
+    reached: &MarkedNames,
     name: &Name,
     condition: &DefiningExpression,
 ) -> Result<(), Failure>
@@ -240,7 +240,7 @@ fn check_constraint<B: Body>(
 fn check_constraints<B: Body>(
     alloc: Global,
     catalog: &Catalog<B>,
-    reached: &[Name],
+    reached: &MarkedNames,
 ) -> Result<(), Failure>
     requires { AllByRecursion (PassesUnlessNamed reached.now (world_of catalog.now.database))
         catalog.now.database.constraints }
@@ -264,7 +264,7 @@ fn check_constraints<B: Body>(
 fn check_derived<B: Body>(
     alloc: Global,
     catalog: &Catalog<B>,
-    reached: &[Name],
+    reached: &MarkedNames,
 ) -> Result<(), Failure>
     requires { PassesElsewhere reached.now catalog.now.database }
     ensures { Passes result (derived_check catalog.now.database) }
@@ -280,7 +280,7 @@ fn check_derived<B: Body>(
 pub(crate) fn settled<B: Body>(
     alloc: Global,
     catalog: &Catalog<B>,
-    reached: &[Name],
+    reached: &MarkedNames,
 ) -> Result<(), Failure>
     requires held { BasesHold catalog.now.database }
     requires elsewhere { PassesElsewhere reached.now catalog.now.database }
@@ -292,15 +292,14 @@ pub(crate) fn settled<B: Body>(
 // ---- what is reached
 
 /// Adds a virtual relvar in which one of those reached is named.
-fn reach(reached: &mut Vec<Name>, name: &Name, entry: &VirtualEntry) -> Result<(), AllocError>
-    ensures { OnOk result (reached.new.items
-        ≡ with_dependent reached.old.items (virtual_view (name.now, entry.now))) }
+fn reach(reached: &mut MarkedNames, name: &Name, entry: &VirtualEntry) -> Result<(), AllocError>
+    ensures { OnOk result (reached.new
+        ≡ with_dependent reached.old (virtual_view (name.now, entry.now))) }
 {
     if !entry.tree.names_any(reached) {
         return Ok(());
     }
-    reached.push(name.try_clone()?)?;
-    Ok(())
+    reached.push(name.try_clone()?)
 }
 
 /// What a change of these base relvars reaches: with them each virtual relvar in which one that is
@@ -308,11 +307,11 @@ fn reach(reached: &mut Vec<Name>, name: &Name, entry: &VirtualEntry) -> Result<(
 pub(crate) fn reached_from<B: Body>(
     catalog: &Catalog<B>,
     changed: Vec<Name>,
-) -> Result<Vec<Name>, AllocError>
+) -> Result<MarkedNames, AllocError>
     ensures { IfOk result (λ reached.
-        reached.items ≡ reached_from changed.items catalog.now.database.virtuals) }
+        reached ≡ reached_from changed.items catalog.now.database.virtuals) }
 {
-    let mut reached = changed;
+    let mut reached = MarkedNames::new(changed);
     for place in 0..catalog.virtual_count() {
         let Some((name, entry)) = catalog.nth_virtual(place) else {
             return Ok(reached);

@@ -114,7 +114,7 @@ fn heading_of<B: Body>(catalog: &Catalog<B>, expression: &Expr) -> Result<Headin
         (type_of (database_scope catalog.now.database) (tree_view expression.now))
         (λ t. over_relation t Valued)) }
 {
-    let scope = catalog.scope()?;
+    let scope = catalog.scope();
     over_relation(check_expr(&scope, expression))
 }
 

@@ -27,7 +27,7 @@ pub(crate) fn admitted<B: Body>(catalog: &Catalog<B>, statement: &Statement) -> 
     ensures { Answers (λ u. u) result
         (statement_checked (database_scope catalog.now.database) (statement_view statement.now)) }
 {
-    let scope = catalog.scope()?;
+    let scope = catalog.scope();
     check_statement(&scope, statement)
 }
 

@@ -93,7 +93,7 @@ impl<'a, B: Body> Sight<'a, B> {
         ensures { IfOk result (λ s. s ≡ scope_among (seen_by self.now) []) }
     {
         match self.catalog {
-            Some(catalog) => catalog.scope_before(self.virtuals),
+            Some(catalog) => Ok(catalog.scope_before(self.virtuals)),
             None => Ok(Scope::new(self.alloc, self.types)),
         }
     }

@@ -2,6 +2,7 @@
 ghost use Rattle.std.specs.Prelude.{◌≡◌, [], IfOk};
 ghost use Rattle.td_value.specs.Views.{relation_view};
 
+mod changes;
 mod definitions;
 
 use self::definitions::{Kind, add};
@@ -80,7 +81,7 @@ CONSTRAINT C COUNT ( P ) < 10;
 type Found = [bool; 6];
 
 fn found_by(catalog: &Catalog<SortedBody>, name: &Name) -> Result<Found, AllocError> {
-    let scope = catalog.scope()?;
+    let scope = catalog.scope();
     let found = [
         catalog.get_type(name).is_some(),
         catalog.get_base(name).is_some(),

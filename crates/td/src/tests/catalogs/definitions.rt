@@ -183,7 +183,7 @@ fn type_in(catalog: &Catalog<SortedBody>, tree: &Expr) -> Result<Ty, Fault>
     ensures { IfOk result (λ ty. type_of (database_scope catalog.now.database) (tree_view tree.now)
         ≡ Valued (type_view ty)) }
 {
-    let scope = catalog.scope()?;
+    let scope = catalog.scope();
     let ty = check_expr(&scope, tree);
     drop(scope);
     ty
@@ -235,7 +235,7 @@ fn is_boolean_in(catalog: &Catalog<SortedBody>, tree: &Expr) -> Result<bool, Fau
     ensures { IfOk result (λ b. IsTrue b
         → type_of (database_scope catalog.now.database) (tree_view tree.now) ≡ Valued boolean) }
 {
-    let scope = catalog.scope()?;
+    let scope = catalog.scope();
     let is_boolean = is_boolean(&scope, tree);
     drop(scope);
     is_boolean

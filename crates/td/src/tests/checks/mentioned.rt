@@ -98,7 +98,7 @@ const RELVARS: &[Typed] = &[
 fn mentions_of_relvars(rt: HostRuntime) {
     let alloc = rt.alloc();
     let catalog = known(alloc).expect(&rt, "memory");
-    let scope = catalog.scope().expect(&rt, "memory");
+    let scope = catalog.scope();
     assert_eq!(rt; first_wrong(alloc, &scope, RELVARS), None);
     drop(scope);
     drop(catalog);
@@ -133,7 +133,7 @@ const NAMES: &[Typed] = &[
 fn mentions_where_names_are_shared(rt: HostRuntime) {
     let alloc = rt.alloc();
     let catalog = known(alloc).expect(&rt, "memory");
-    let scope = catalog.scope().expect(&rt, "memory");
+    let scope = catalog.scope();
     assert_eq!(rt; first_wrong(alloc, &scope, NAMES), None);
     drop(scope);
     drop(catalog);
@@ -163,7 +163,7 @@ const TYPES: &[Typed] = &[
 fn mentions_of_types(rt: HostRuntime) {
     let alloc = rt.alloc();
     let catalog = known(alloc).expect(&rt, "memory");
-    let scope = catalog.scope().expect(&rt, "memory");
+    let scope = catalog.scope();
     assert_eq!(rt; first_wrong(alloc, &scope, TYPES), None);
     drop(scope);
     drop(catalog);

@@ -4,4 +4,4 @@ use Rattle.td_engine.proofs.checks.reached_from.Given as goal
 
 abbrev pub invariant-loop-place : goal.invariant-loop-place
 invariant-loop-place g l =
-    reached_from l.reached.items (drop l.place l.catalog.database.virtuals) ≡ reached_from l.fn.changed.items l.catalog.database.virtuals
+    reached_from l.reached (drop l.place l.catalog.database.virtuals) ≡ reached_from l.fn.changed.items l.catalog.database.virtuals

@@ -32,7 +32,7 @@ loop-entry-preserved g c =
     let left = subst (AreLeft (ConstraintTyped scope) (constraint_passes test) total) c.in-Some.ensures.steps c.loop-entry.invariant.2 in
     let typed = left.each.0 in
     let answered =
-    c.in_ok-tree_mentions.ensures typed.0 (ap (type_of scope) c.tree.ensures ∙ typed.1) ∙ ap test c.tree.ensures in
+    c.in_ok-definition_mentions.ensures typed.0 typed.1 in
     (tt, tt, left_next (ConstraintTyped scope) (constraint_passes test) total _ _ left (sym answered ∙ c.if-branch.false))
 
 pub returns-then-branch : goal.returns-then-branch
@@ -43,7 +43,7 @@ returns-then-branch g c =
     let left = subst (AreLeft (ConstraintTyped scope) (constraint_passes test) total) c.in-Some.ensures.steps c.loop-entry.invariant.2 in
     let typed = left.each.0 in
     let answered =
-    c.in_ok-tree_mentions.ensures typed.0 (ap (type_of scope) c.tree.ensures ∙ typed.1) ∙ ap test c.tree.ensures in
+    c.in_ok-definition_mentions.ensures typed.0 typed.1 in
     left_passed (ConstraintTyped scope) (constraint_passes test) total _ _ left (sym answered ∙ c.if-branch.true)
 
 pub returns : goal.returns

@@ -1,5 +1,4 @@
-use Rattle.std.proofs.Common.{◌≡◌, ◌∙◌, ℕ, [], List, Option, ap, refl, subst, sym}
-use Rattle.std.specs.Result.{IfOk}
+use Rattle.std.proofs.Common.{◌≡◌, ◌∙◌, ℕ, [], List, Option, ap, refl, sym}
 use Rattle.td_catalog.specs.Database.{Database, database_scope}
 use Rattle.td_check.specs.Scopes.{Scope, scope_of}
 use Rattle.td_eval.specs.DatabaseWorlds.{with_other, world_of}
@@ -23,7 +22,7 @@ returns-in-Some g c =
     let catalog = c.in-Some.catalog in
     let seen : database_scope (with_first_virtuals sight.virtuals catalog.now.database) ≡ scope_among (seen_by sight) [] =
     rw c.in-Some.is (same_scope (other_seen sight) (with_first_virtuals sight.virtuals catalog.now.database)) in
-    subst (λ x. IfOk c.scope_before.result (λ s. s ≡ x)) seen c.scope_before.ensures
+    c.scope_before.ensures ∙ seen
 
 pub returns-in-None : goal.returns-in-None
 returns-in-None g c =
