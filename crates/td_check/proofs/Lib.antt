@@ -1,6 +1,7 @@
 pub mod Added
 pub mod AgreementLaws
 pub mod BothAnswers
+pub mod CannotFail
 pub mod CarriedLaws
 pub mod CheckedItems
 pub mod CheckedLists
@@ -30,5 +31,6 @@ pub mod StaticCauses
 pub mod StaticLaws
 pub mod SummaryLaws
 pub mod UserTypeLaws
+pub mod WorkedFailures
 pub mod WorkedTypes
 pub mod WrittenNames

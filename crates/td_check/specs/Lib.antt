@@ -1,4 +1,5 @@
 pub mod Both
+pub mod CannotFail
 pub mod CheckViews
 pub mod Closures
 pub mod ItemViews

@@ -2,6 +2,7 @@
 #![tactic(auto)]
 
 pub mod both;
+pub mod cannot_fail;
 pub mod declared;
 pub mod expression;
 pub mod laws;

@@ -185,8 +185,8 @@ impl<'a> Scope<'a> {
         self.types
     }
 
-    /// The type of the innermost attribute of the name.
-    pub(crate) fn attribute(&self, name: &Name) -> Option<&Ty>
+    /// The type of the innermost attribute of the name. It takes no memory.
+    pub fn attribute(&self, name: &Name) -> Option<&Ty>
         ensures { option_map (λ t. type_view t.now) result ≡ innermost name.now self.now.entered }
     {
         for heading in self.entered.iter().rev() {
@@ -197,8 +197,9 @@ impl<'a> Scope<'a> {
         None
     }
 
-    /// What is known of the relvar of the name.
-    pub(crate) fn relvar(&self, name: &Name) -> Option<(Kind, &Heading)>
+    /// The kind and the heading of the relvar of the name, whatever attributes are in hand. It takes
+    /// no memory.
+    pub fn relvar(&self, name: &Name) -> Option<(Kind, &Heading)>
         ensures { option_map seen_view result
             ≡ option_map kind_and_heading (known_relvar self.now name.now) }
     {

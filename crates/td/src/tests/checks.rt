@@ -1,5 +1,6 @@
 //! What a scope knows, and the static rules in it.
 mod mentioned;
+mod unfailing;
 
 use super::given::{both, made};
 use super::texts::{Want, expression, is_answer, name, statement};

@@ -1,0 +1,66 @@
+-- Whether some expressions cannot fail, worked from the definition alone: in a scope with the type QTY, which has a constraint, a
+-- base relvar R and a virtual one V, both of the heading {A INTEGER}.
+use Rattle.std.proofs.Common.{◌≡◌, [], ◌∷◌, Some, false, true, refl}
+use Rattle.std.specs.Prelude.{codes}
+use Rattle.td_check.specs.CannotFail.{cannot_fail}
+use Rattle.td_check.specs.Scopes.{Scope}
+use Rattle.td_check.specs.declared.scope.Kind.TheVariants.{Base, Virtual}
+use Rattle.td_tree.specs.Trees.{Tree, literal, number, truth, name, compare, binary, postfix, headed_relation, attribute, no_attributes, measure, more, none, select, prefix, rename, restriction}
+use Rattle.td_tree.specs.Trees as trees
+use Rattle.td_tree.specs.declared.operator.Comparison.TheVariants.{Equal}
+use Rattle.td_tree.specs.declared.operator.Measure.TheVariants.{Count, IsEmpty}
+use Rattle.td_tree.specs.declared.operator.Operator.TheVariants.{Divide}
+use Rattle.td_tree.specs.declared.operator.Prefix.TheVariants.{Negate}
+use Rattle.td_types.specs.TypeLists.{declared_type}
+use Rattle.td_types.specs.Types.{integer}
+
+abbrev scope : Scope
+scope =
+    record {
+      types = declared_type (codes "QTY") ((codes "C", integer) ∷ []) (Some (literal (truth true))) ∷ [];
+      relvars = record { name = codes "R"; kind = Base; heading = (codes "A", integer) ∷ [] }
+          ∷ record { name = codes "V"; kind = Virtual; heading = (codes "A", integer) ∷ [] } ∷ [];
+      constraints = [];
+      entered = [];
+    }
+
+abbrev one : Tree
+one = literal (number false 1)
+
+abbrev r : Tree
+r = name (codes "R")
+
+-- 1 and -1 cannot fail; - -1 may, and so may 1 / 0
+literal_cannot : cannot_fail scope one ≡ true
+literal_cannot = refl
+
+minus_cannot : cannot_fail scope (literal (number true 1)) ≡ true
+minus_cannot = refl
+
+negation_may : cannot_fail scope (prefix Negate (literal (number true 1))) ≡ false
+negation_may = refl
+
+quotient_may : cannot_fail scope (binary one Divide (literal (number false 0))) ≡ false
+quotient_may = refl
+
+-- R WHERE A = 1 cannot fail; R WHERE COUNT(R) = 1 may
+test_cannot : cannot_fail scope (restriction r (compare (name (codes "A")) Equal one)) ≡ true
+test_cannot = refl
+
+count_may : cannot_fail scope (restriction r (compare (measure Count r) Equal one)) ≡ false
+count_may = refl
+
+-- V may; R RENAME (A AS V) WHERE V = 1 cannot, since V is an attribute there
+virtual_may : cannot_fail scope (name (codes "V")) ≡ false
+virtual_may = refl
+
+hidden_cannot : cannot_fail scope (restriction (postfix r (rename (record { old = codes "A"; new = codes "V" } ∷ [])))
+    (compare (name (codes "V")) Equal one)) ≡ true
+hidden_cannot = refl
+
+-- QTY(1) may; IS_EMPTY(RELATION {Q QTY} {}) cannot
+selector_may : cannot_fail scope (select (codes "QTY") (more one none)) ≡ false
+selector_may = refl
+
+heading_cannot : cannot_fail scope (measure IsEmpty (headed_relation (attribute (codes "Q") (trees.user (codes "QTY")) no_attributes) none)) ≡ true
+heading_cannot = refl

@@ -1,0 +1,66 @@
+use Rattle.std.proofs.Common.{◌≡◌, ◌∙◌, ◌&&◌, ap, sym}
+use Rattle.std.proofs.Math.Bool.{and_assoc}
+use Rattle.td_check.proofs.CannotFail.{elements_unfailing, when_false, when_true}
+use Rattle.td_check.proofs.cannot_fail.+unfailing.Goals as goal
+use Rattle.td_check.proofs.cannot_fail.+unfailing.Goals.{unfailing-else-items_cannot_fail, unfailing-then-items_cannot_fail}
+use Rattle.td_check.specs.CannotFail.{items_cannot_fail, unfailing}
+use Rattle.td_tree.proofs.Rows.{extend_is, select_is, summarize_by_is, summarize_per_is, tuple_is}
+use Rattle.td_tree.specs.TreeViews.{attributes_view, named_view, summaries_view, tree_view, trees_view}
+use Rattle.td_tree.specs.Trees as trees
+
+pub unfailing-returns-then-selector_cannot_fail : goal.unfailing-returns-then-selector_cannot_fail
+unfailing-returns-then-selector_cannot_fail t c =
+    let is = ap tree_view c.in-Select.is ∙ select_is c.in-Select.ty c.in-Select.exprs ∙ ap (λ xs. trees.select c.in-Select.ty (trees_view xs)) (sym c.deref-then-selector_cannot_fail.ensures.value) in
+    c.all_unfailing.ensures ∙ when_true _ _ _ c.if-selector_cannot_fail.true c.selector_cannot_fail.ensures ∙ ap (unfailing c.args.types.now) (sym is)
+
+pub unfailing-returns-in-Tuple : goal.unfailing-returns-in-Tuple
+unfailing-returns-in-Tuple t c =
+    let is = ap tree_view c.in-Tuple.is ∙ tuple_is c.in-Tuple.parts ∙ ap (λ xs. trees.tuple (named_view xs)) (sym c.deref-in-Tuple.ensures.value) in
+    c.parts_unfailing.ensures ∙ ap (unfailing c.args.types.now) (sym is)
+
+pub unfailing-returns-then-unfailing-2 : goal.unfailing-returns-then-unfailing-2
+unfailing-returns-then-unfailing-2 t c =
+    let is = ap tree_view c.in-Extend.is ∙ extend_is c.in-Extend.operand c.in-Extend.parts ∙ (λ i. trees.extend (tree_view (sym c.deref-in-Extend.ensures i)) (named_view (sym c.deref-then-unfailing-2.ensures.value i))) in
+    c.parts_unfailing-then-unfailing-2.ensures ∙ when_true _ _ _ c.if-unfailing-2.true c.unfailing-in-Extend.ensures ∙ ap (unfailing c.args.types.now) (sym is)
+
+pub unfailing-returns-then-unfailing-3 : goal.unfailing-returns-then-unfailing-3
+unfailing-returns-then-unfailing-3 t c =
+    let is = ap tree_view c.in-SummarizePer.is ∙ summarize_per_is c.in-SummarizePer.operand c.in-SummarizePer.per c.in-SummarizePer.items ∙ ap (λ xs. trees.summarize_per (tree_view c.in-SummarizePer.operand.value) (tree_view c.in-SummarizePer.per.value) (summaries_view xs)) (sym c.deref-in-SummarizePer.ensures.value) in
+    let two : c.if-items_cannot_fail.value ≡ (items_cannot_fail (summaries_view c.deref-in-SummarizePer.result.now) && unfailing c.args.types.now (tree_view c.in-SummarizePer.operand.value)) =
+    elim c.if-items_cannot_fail.branch [
+      | unfailing-then-items_cannot_fail w ↦
+          w.value-is ∙ w.unfailing-then-items_cannot_fail.ensures ∙ ap (λ e. unfailing c.args.types.now (tree_view e)) w.deref-then-items_cannot_fail.ensures
+          ∙ when_true _ _ _ w.if-items_cannot_fail.true c.items_cannot_fail.ensures
+      | unfailing-else-items_cannot_fail w ↦ w.value-is ∙ when_false _ _ _ w.if-items_cannot_fail.false c.items_cannot_fail.ensures
+    ] in
+    c.unfailing-then-unfailing-3.ensures ∙ ap (λ e. unfailing c.args.types.now (tree_view e)) c.deref-then-unfailing-3.ensures
+    ∙ when_true _ _ _ c.if-unfailing-3.true two ∙ and_assoc (items_cannot_fail (summaries_view c.deref-in-SummarizePer.result.now)) (unfailing c.args.types.now (tree_view c.in-SummarizePer.operand.value)) (unfailing c.args.types.now (tree_view c.in-SummarizePer.per.value))
+    ∙ ap (unfailing c.args.types.now) (sym is)
+
+pub unfailing-returns-else-unfailing-3 : goal.unfailing-returns-else-unfailing-3
+unfailing-returns-else-unfailing-3 t c =
+    let is = ap tree_view c.in-SummarizePer.is ∙ summarize_per_is c.in-SummarizePer.operand c.in-SummarizePer.per c.in-SummarizePer.items ∙ ap (λ xs. trees.summarize_per (tree_view c.in-SummarizePer.operand.value) (tree_view c.in-SummarizePer.per.value) (summaries_view xs)) (sym c.deref-in-SummarizePer.ensures.value) in
+    let two : c.if-items_cannot_fail.value ≡ (items_cannot_fail (summaries_view c.deref-in-SummarizePer.result.now) && unfailing c.args.types.now (tree_view c.in-SummarizePer.operand.value)) =
+    elim c.if-items_cannot_fail.branch [
+      | unfailing-then-items_cannot_fail w ↦
+          w.value-is ∙ w.unfailing-then-items_cannot_fail.ensures ∙ ap (λ e. unfailing c.args.types.now (tree_view e)) w.deref-then-items_cannot_fail.ensures
+          ∙ when_true _ _ _ w.if-items_cannot_fail.true c.items_cannot_fail.ensures
+      | unfailing-else-items_cannot_fail w ↦ w.value-is ∙ when_false _ _ _ w.if-items_cannot_fail.false c.items_cannot_fail.ensures
+    ] in
+    when_false _ _ (unfailing c.args.types.now (tree_view c.in-SummarizePer.per.value)) c.if-unfailing-3.false two ∙ and_assoc (items_cannot_fail (summaries_view c.deref-in-SummarizePer.result.now)) (unfailing c.args.types.now (tree_view c.in-SummarizePer.operand.value)) (unfailing c.args.types.now (tree_view c.in-SummarizePer.per.value))
+    ∙ ap (unfailing c.args.types.now) (sym is)
+
+pub unfailing-returns-then-items_cannot_fail-2 : goal.unfailing-returns-then-items_cannot_fail-2
+unfailing-returns-then-items_cannot_fail-2 t c =
+    let is = ap tree_view c.in-SummarizeBy.is ∙ summarize_by_is c.in-SummarizeBy.operand c.in-SummarizeBy.field-1 c.in-SummarizeBy.items ∙ (λ i. trees.summarize_by (tree_view (sym c.deref-then-items_cannot_fail-2.ensures i)) (attributes_view c.in-SummarizeBy.field-1) (summaries_view (sym c.deref-in-SummarizeBy.ensures.value i))) in
+    c.unfailing-then-items_cannot_fail-2.ensures ∙ when_true _ _ _ c.if-items_cannot_fail-2.true c.items_cannot_fail-in-SummarizeBy.ensures ∙ ap (unfailing c.args.types.now) (sym is)
+
+pub unfailing-returns-else-items_cannot_fail-2 : goal.unfailing-returns-else-items_cannot_fail-2
+unfailing-returns-else-items_cannot_fail-2 t c =
+    let is = ap tree_view c.in-SummarizeBy.is ∙ summarize_by_is c.in-SummarizeBy.operand c.in-SummarizeBy.field-1 c.in-SummarizeBy.items ∙ ap (λ xs. trees.summarize_by (tree_view c.in-SummarizeBy.operand.value) (attributes_view c.in-SummarizeBy.field-1) (summaries_view xs)) (sym c.deref-in-SummarizeBy.ensures.value) in
+    when_false _ _ _ c.if-items_cannot_fail-2.false c.items_cannot_fail-in-SummarizeBy.ensures ∙ ap (unfailing c.args.types.now) (sym is)
+
+pub unfailing-returns-in-Relation : goal.unfailing-returns-in-Relation
+unfailing-returns-in-Relation t c =
+    c.all_unfailing-in-Relation.ensures
+    ∙ elements_unfailing c.args.types.now c.args.expr.now c.in-Relation.exprs c.deref-in-Relation.result.now c.in-Relation.is c.deref-in-Relation.ensures.value
