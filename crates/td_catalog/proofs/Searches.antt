@@ -1,5 +1,5 @@
 -- What is answered of an expression in which a name is looked for.
-use Rattle.std.proofs.Common.{◌≡◌, ◌∙◌, ℕ, Bool, true, false, List, None, Some, Result, ap, subst, sym, true≢false}
+use Rattle.std.proofs.Common.{◌≡◌, ◌∙◌, ℕ, Bool, true, false, List, None, Some, Result, ap, refl, subst, sym, true≢false}
 use Rattle.std.specs.Result.{IfOk}
 use Rattle.td_catalog.specs.Mentioned.{condition_mentions_type, tree_mentions_relvar, tree_mentions_type}
 use Rattle.td_check.specs.CheckViews.{Names}
@@ -39,7 +39,7 @@ unwritten scope name e none = by_test (has_name name (relvars_in scope e)) refl
     by_test false is = is
     by_test true is =
         let there : has_name name (names_in e) ≡ true =
-            (name_tests_tell.0 name (names_in e)).1 (relvars_are_named scope e name ((name_tests_tell.0 name (relvars_in scope e)).0 is)) in
+        (name_tests_tell.0 name (names_in e)).1 (relvars_are_named scope e name ((name_tests_tell.0 name (relvars_in scope e)).0 is)) in
         absurd (true≢false (sym there ∙ none))
 
 -- an expression that has a type is not refused

@@ -2,7 +2,6 @@
 ghost use Rattle.std.specs.Prelude.{◌≡◌, [], IfOk};
 ghost use Rattle.td_value.specs.Views.{relation_view};
 
-mod changes;
 mod definitions;
 
 use self::definitions::{Kind, add};

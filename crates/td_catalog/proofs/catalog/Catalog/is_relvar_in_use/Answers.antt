@@ -11,12 +11,12 @@ returns g c =
     let name = c.args.name.now in
     let db = c.args.self.now.database in
     let virtuals =
-    c.in_ok-virtuals_mention.ensures ∙ ap (λ s. list_any (λ (v : VirtualRelvar). tree_mentions_relvar s name v.tree) db.virtuals) c.scope.ensures in
+    c.in_ok-virtuals_mention.ensures ∙ ap (λ s. list_any (λ (v : VirtualRelvar). tree_mentions_relvar s name v.tree) db.virtuals) c.scope-scope.ensures in
     let others = list_any (λ (k : NamedConstraint). tree_mentions_relvar (database_scope db) name k.tree) db.constraints in
     elim c.if-branch.branch [
       | then-branch w ↦ w.result-is ∙ w.if-branch.true ∙ sym (ap (λ b. b || others) (sym virtuals ∙ w.if-branch.true))
       | else-branch+in_ok-constraints_mention w ↦
           w.result-is ∙ w.in_ok-constraints_mention.ensures
-          ∙ ap (λ s. list_any (λ (k : NamedConstraint). tree_mentions_relvar s name k.tree) db.constraints) c.scope.ensures
+          ∙ ap (λ s. list_any (λ (k : NamedConstraint). tree_mentions_relvar s name k.tree) db.constraints) c.scope-scope.ensures
           ∙ sym (ap (λ b. b || others) (sym virtuals ∙ w.if-branch.false))
     ]
