@@ -1,0 +1,2 @@
+pub mod TreeNumbers
+pub mod UnfailingValues
