@@ -1,2 +1,4 @@
-//! Plans that mean what an expression means are to come: the crate has no code yet.
+//! Plans that mean what an expression means are to come: the crate has laws alone.
 #![tactic(auto)]
+
+pub mod equalities;

@@ -1,0 +1,2 @@
+pub mod EqualRestrictions
+pub mod EqualLookUps
