@@ -16,7 +16,9 @@ use Rattle.td_algebra.proofs.Entries.{has_value, no_value_outside, tuple_distinc
 use Rattle.td_algebra.proofs.Lists.{contains_first, contains_later}
 use Rattle.td_algebra.proofs.Relations.{member_headed}
 use Rattle.td_body.specs.Bodies.{key_holds}
-use Rattle.td_plan.specs.Equalities.{LookUpFindsOne, RestrictionIsLookUp, has_values, is_at}
+use Rattle.td_algebra.specs.Operators.{restriction}
+use Rattle.td_plan.proofs.EqualRestrictions.{filter_both}
+use Rattle.td_plan.specs.Equalities.{LookUpFindsOne, RestrictionAfterLookUp, RestrictionIsLookUp, has_values, is_at}
 
 both : (b c : Bool) → (not b && c) ≡ true → (b ≡ false) × (c ≡ true)
 both true c e = absurd (true≢false (sym e))
@@ -146,3 +148,14 @@ pub restriction_looks_up : RestrictionIsLookUp
 restriction_looks_up key part r p is =
     ap (λ ts. record { heading = r.heading; body = ts })
     (kept_same (has_values part) (agree_on key part) r.body (λ t c. values_agree key part r.heading is.0 is.1 t (member_headed r t p c)))
+
+pub restricted_after_look_up : RestrictionAfterLookUp
+restricted_after_look_up key part p r valid is within =
+    ap (λ ts. record { heading = r.heading; body = ts })
+    (kept_same p (λ t. has_values part t && p t) r.body (λ t c. by_test (has_values part t) (p t) (within t c)) ∙ filter_both (has_values part) p r.body)
+    ∙ ap (restriction p) (restriction_looks_up key part r valid is)
+  where
+    by_test : (b c : Bool) → (c ≡ true → b ≡ true) → c ≡ (b && c)
+    by_test true c h = refl
+    by_test false true h = sym (h refl)
+    by_test false false h = refl

@@ -1,8 +1,9 @@
--- Restrictions of joins, and one restriction after another.
+-- Restrictions of intersections and joins, and one restriction after another.
 use Rattle.std.proofs.Common.{◌≡◌, ◌∙◌, ap, sym, refl, subst, Bool, true, false, List, [], ◌∷◌, filter}
 use Rattle.std.specs.Prelude.{◌&&◌, not}
 use Rattle.std.specs.List.{list_all, list_any}
-use Rattle.td_value.specs.Values.{Tuple, projected_tuple}
+use Rattle.td_value.specs.Sets.{has}
+use Rattle.td_value.specs.Values.{Tuple, projected_tuple, tuple_cmp}
 use Rattle.td_value.proofs.Members.{by_members}
 use Rattle.td_algebra.specs.Operators.{are_partners, join, relation_names, restriction}
 use Rattle.td_algebra.proofs.Joined.{apart_agree, product_join}
@@ -10,7 +11,26 @@ use Rattle.td_algebra.proofs.JoinMembers.{IsRelation-join, join_members}
 use Rattle.td_algebra.proofs.Lists.{contains_filter}
 use Rattle.td_algebra.proofs.Relations.{IsRelation-restriction, member_headed}
 use Rattle.td_algebra.proofs.SetEqualities.{restrictions_turned}
-use Rattle.td_plan.specs.Equalities.{AsksOnlyOf, RestrictionByAll, RestrictionByBoth, RestrictionOfJoinOnLeft, RestrictionOfJoinOnRight, RestrictionOfProductOnLeft, RestrictionOfProductOnRight, RestrictionOfSemidifference, RestrictionOfSemijoin, RestrictionsCommute}
+use Rattle.td_body.proofs.TupleSets.{has-filter}
+use Rattle.td_plan.specs.Equalities.{AsksOnlyOf, RestrictionByAll, RestrictionByBoth, RestrictionOfIntersectionOnRight, RestrictionOfJoinOnLeft, RestrictionOfJoinOnRight, RestrictionOfProductOnLeft, RestrictionOfProductOnRight, RestrictionOfSemidifference, RestrictionOfSemijoin, RestrictionsCommute}
+
+-- ---- intersections
+
+-- what passes both tests is what passes one and then the other
+pub filter_both : (p q : Tuple → Bool) (ts : List Tuple) → filter (λ t. p t && q t) ts ≡ filter q (filter p ts)
+filter_both p q [] = refl
+filter_both p q (t ∷ ts) = by_tests (filter_both p q ts) (p t) (q t) refl refl
+  where
+    by_tests : filter (λ u. p u && q u) ts ≡ filter q (filter p ts) → (a b : Bool) → p t ≡ a → q t ≡ b
+        → filter (λ u. p u && q u) (t ∷ ts) ≡ filter q (filter p (t ∷ ts))
+    by_tests rest true true d e = rw (d, e) (ap (λ us. t ∷ us) rest)
+    by_tests rest true false d e = rw (d, e) rest
+    by_tests rest false b d e = rw d rest
+
+pub intersection_restricted_right : RestrictionOfIntersectionOnRight
+intersection_restricted_right p r s =
+    restrictions_turned p (λ t. has tuple_cmp t s.body) r
+    ∙ ap (λ ts. record { heading = r.heading; body = ts }) (sym (filter_both p (λ t. has tuple_cmp t s.body) r.body) ∙ (λ i. filter (λ t. sym (has-filter p t s.body) i) r.body))
 
 -- ---- joins
 
@@ -71,17 +91,6 @@ pub semidifference_restricted : RestrictionOfSemidifference
 semidifference_restricted p r s = restrictions_turned p (λ t. not (list_any (are_partners r s t) s.body)) r
 
 -- ---- one after another
-
--- what passes both tests is what passes one and then the other
-filter_both : (p q : Tuple → Bool) (ts : List Tuple) → filter (λ t. p t && q t) ts ≡ filter q (filter p ts)
-filter_both p q [] = refl
-filter_both p q (t ∷ ts) = by_tests (filter_both p q ts) (p t) (q t) refl refl
-  where
-    by_tests : filter (λ u. p u && q u) ts ≡ filter q (filter p ts) → (a b : Bool) → p t ≡ a → q t ≡ b
-        → filter (λ u. p u && q u) (t ∷ ts) ≡ filter q (filter p (t ∷ ts))
-    by_tests rest true true d e = rw (d, e) (ap (λ us. t ∷ us) rest)
-    by_tests rest true false d e = rw (d, e) rest
-    by_tests rest false b d e = rw d rest
 
 pub restricted_by_both : RestrictionByBoth
 restricted_by_both p q r = ap (λ ts. record { heading = r.heading; body = ts }) (filter_both p q r.body)

@@ -6,8 +6,14 @@ use Rattle.std.specs.Ordering.{eq_by_cmp}
 use Rattle.td_types.specs.Headings.{have_no_common, projection}
 use Rattle.td_value.specs.Values.{Val, Tuple, Relation, IsRelation, IsTuple, heading_of, projected_tuple, value_at, value_cmp}
 use Rattle.td_algebra.specs.Membership.{AreJoinable, IsIn}
-use Rattle.td_algebra.specs.Operators.{join, product, relation_names, restriction, semidifference, semijoin}
+use Rattle.td_algebra.specs.Operators.{intersection, join, product, relation_names, restriction, semidifference, semijoin}
 use Rattle.td_body.specs.Bodies.{agreeing, key_holds}
+
+-- ---- a restriction of an intersection restricts either operand
+
+abbrev pub RestrictionOfIntersectionOnRight : Type 0
+RestrictionOfIntersectionOnRight =
+    (p : Tuple → Bool) (r s : Relation) → restriction p (intersection r s) ≡ intersection r (restriction p s)
 
 -- ---- a restriction of a join restricts an operand
 
@@ -87,6 +93,13 @@ abbrev pub RestrictionIsLookUp : Type 0
 RestrictionIsLookUp =
     (key : List (List ℕ)) (part : Tuple) (r : Relation) → IsRelation r → IsPartOn key r part
     → restriction (has_values part) r ≡ agreeing key part r
+
+-- a restriction that passes no tuple without these values may be applied to what the look-up finds
+abbrev pub RestrictionAfterLookUp : Type 0
+RestrictionAfterLookUp =
+    (key : List (List ℕ)) (part : Tuple) (p : Tuple → Bool) (r : Relation) → IsRelation r → IsPartOn key r part
+    → ((t : Tuple) → IsIn t r → IsTrue (p t) → IsTrue (has_values part t))
+    → restriction p r ≡ restriction p (agreeing key part r)
 
 -- where the key holds, a look-up finds at most one tuple
 abbrev pub LookUpFindsOne : Type 0
