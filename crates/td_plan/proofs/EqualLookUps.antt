@@ -1,5 +1,5 @@
 -- Restrictions that fix the attributes of a key.
-use Rattle.std.proofs.Common.{◌≡◌, ◌∙◌, ◌≤◌, ap, arith, sym, refl, subst, ℕ, Bool, true, false, List, [], ◌∷◌, Option, None, Some, filter, length, true≢false}
+use Rattle.std.proofs.Common.{◌≡◌, ◌∙◌, ◌≤◌, ap, arith, sym, refl, subst, ℕ, zero, suc, Bool, true, false, List, [], ◌∷◌, Option, None, Some, filter, length, true≢false}
 use Rattle.std.specs.Prelude.{◌&&◌, ◌||◌, not, is_some, option_map, if◌then◌else◌}
 use Rattle.std.specs.List.{Contains, list_any}
 use Rattle.std.specs.Option.{option_cmp}
@@ -18,7 +18,7 @@ use Rattle.td_algebra.proofs.Relations.{member_headed}
 use Rattle.td_body.specs.Bodies.{key_holds}
 use Rattle.td_algebra.specs.Operators.{restriction}
 use Rattle.td_plan.proofs.EqualRestrictions.{filter_both}
-use Rattle.td_plan.specs.Equalities.{LookUpFindsOne, RestrictionAfterLookUp, RestrictionIsLookUp, has_values, is_at}
+use Rattle.td_plan.specs.Equalities.{LookUpFindsOne, RestrictionAfterLookUp, RestrictionIsLookUp, HasValues, ValuesAreTold, has_values, is_at}
 
 both : (b c : Bool) → (not b && c) ≡ true → (b ≡ false) × (c ≡ true)
 both true c e = absurd (true≢false (sym e))
@@ -104,6 +104,19 @@ hold_values (f ∷ es) t d h =
         absurd (true≢false (sym there ∙ has_value n es ∙ ap (λ m. has_name m (tuple_names es)) (sym (same_text f.0 n (sym is))) ∙ none))
     later none n v e false is = rw is e
 
+-- the test tells the fact
+pub values_told : ValuesAreTold
+values_told part t = (told part, tells part)
+  where
+    told : (es : Tuple) → has_values es t ≡ true → HasValues es t
+    told [] h k d l = absurd (omega (arith, l))
+    told (e ∷ es) h zero d l = value_there e.0 e.1 t (both_true (is_at e.0 e.1 t) (has_values es t) h).0
+    told (e ∷ es) h (suc k) d l = told es (both_true (is_at e.0 e.1 t) (has_values es t) h).1 k d (omega (arith, l))
+
+    tells : (es : Tuple) → HasValues es t → has_values es t ≡ true
+    tells [] h = refl
+    tells (e ∷ es) h = rw (there_value e.0 e.1 t (h 0 e (omega arith))) (tells es (λ k d l. h (suc k) d (omega (arith, l))))
+
 -- ---- the look-up
 
 module _ (key : List (List ℕ)) (part : Tuple) (h : Heading) (valid : IsTuple part) (is : heading_of part ≡ projection key h) (t : Tuple) (p : IsTupleOf h t) where
@@ -152,7 +165,7 @@ restriction_looks_up key part r p is =
 pub restricted_after_look_up : RestrictionAfterLookUp
 restricted_after_look_up key part p r valid is within =
     ap (λ ts. record { heading = r.heading; body = ts })
-    (kept_same p (λ t. has_values part t && p t) r.body (λ t c. by_test (has_values part t) (p t) (within t c)) ∙ filter_both (has_values part) p r.body)
+    (kept_same p (λ t. has_values part t && p t) r.body (λ t c. by_test (has_values part t) (p t) (λ e. (values_told part t).1 (within t c e))) ∙ filter_both (has_values part) p r.body)
     ∙ ap (restriction p) (restriction_looks_up key part r valid is)
   where
     by_test : (b c : Bool) → (c ≡ true → b ≡ true) → c ≡ (b && c)

@@ -1,2 +1,4 @@
-pub mod EqualRestrictions
 pub mod EqualLookUps
+pub mod EqualNames
+pub mod EqualRestrictions
+pub mod EqualValues

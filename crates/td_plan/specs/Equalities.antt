@@ -1,6 +1,6 @@
 -- Equalities of restrictions: each side may be computed in place of the other.
-use Rattle.std.specs.Prelude.{◌≡◌, ℕ, ◌≤◌, Bool, ◌&&◌, List, Some, fold, length, IsTrue}
-use Rattle.std.specs.List.{list_all}
+use Rattle.std.specs.Prelude.{◌≡◌, ℕ, ◌≤◌, Bool, ◌&&◌, List, Some, fold, length, IsTrue, ◌↔◌}
+use Rattle.std.specs.List.{All, list_all}
 use Rattle.std.specs.Option.{option_cmp}
 use Rattle.std.specs.Ordering.{eq_by_cmp}
 use Rattle.td_types.specs.Headings.{have_no_common, projection}
@@ -84,6 +84,14 @@ is_at name v t = eq_by_cmp (option_cmp value_cmp) (value_at name t) (Some v)
 abbrev pub has_values : Tuple → Tuple → Bool
 has_values part t = list_all (λ e. is_at e.0 e.1 t) part
 
+-- it has each of them there
+abbrev pub HasValues : Tuple → Tuple → Type 0
+HasValues part t = All (λ (e : List ℕ × Val). value_at e.0 t ≡ Some e.1) part
+
+-- the test tells the fact
+abbrev pub ValuesAreTold : Type 0
+ValuesAreTold = (part t : Tuple) → IsTrue (has_values part t) ↔ HasValues part t
+
 -- a part that gives each attribute of the key a value of its type
 abbrev pub IsPartOn : List (List ℕ) → Relation → Tuple → Type 0
 IsPartOn key r part = IsTuple part × (heading_of part ≡ projection key r.heading)
@@ -94,11 +102,11 @@ RestrictionIsLookUp =
     (key : List (List ℕ)) (part : Tuple) (r : Relation) → IsRelation r → IsPartOn key r part
     → restriction (has_values part) r ≡ agreeing key part r
 
--- a restriction that passes no tuple without these values may be applied to what the look-up finds
+-- a restriction that passes no tuple without these values is one of what the look-up finds
 abbrev pub RestrictionAfterLookUp : Type 0
 RestrictionAfterLookUp =
     (key : List (List ℕ)) (part : Tuple) (p : Tuple → Bool) (r : Relation) → IsRelation r → IsPartOn key r part
-    → ((t : Tuple) → IsIn t r → IsTrue (p t) → IsTrue (has_values part t))
+    → ((t : Tuple) → IsIn t r → IsTrue (p t) → HasValues part t)
     → restriction p r ≡ restriction p (agreeing key part r)
 
 -- where the key holds, a look-up finds at most one tuple
