@@ -1,0 +1,4 @@
+pub mod EqualLookUps
+pub mod EqualNames
+pub mod EqualRestrictions
+pub mod EqualValues
