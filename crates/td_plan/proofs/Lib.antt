@@ -1,3 +1,7 @@
+pub mod EqualLookUps
+pub mod EqualNames
+pub mod EqualRestrictions
+pub mod EqualValues
 pub mod SpelledNumbers
 pub mod StaticOperators
 pub mod StaticOutcomes

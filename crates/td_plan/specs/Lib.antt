@@ -1,2 +1,5 @@
+pub mod Equalities
+pub mod EqualitiesOfNames
+pub mod EqualitiesOfValues
 pub mod TreeNumbers
 pub mod UnfailingValues

@@ -1,0 +1,180 @@
+-- Equalities of the values of restrictions by conditions that have a truth value in every tuple that they are asked of: each
+-- side may be computed in place of the other.
+use Rattle.std.specs.Prelude.{◌≡◌, ℕ, Bool, true, List, Some, fold, ⊤}
+use Rattle.std.specs.List.{AllByRecursion}
+use Rattle.td_tree.specs.declared.operator.Comparison.TheVariants as comparisons
+use Rattle.td_tree.specs.declared.operator.Operator.{Operator}
+use Rattle.td_tree.specs.declared.operator.Operator.TheVariants as operators
+use Rattle.td_tree.specs.Outcomes.{Outcome, Valued, Refused, with_both, with_value}
+use Rattle.td_types.specs.Types.{Heading, attribute_names}
+use Rattle.td_value.specs.Values.{Val, Tuple, Relation, IsRelation, type_of, value_at}
+use Rattle.td_algebra.specs.Membership.{IsIn}
+use Rattle.td_algebra.specs.Operators.{restriction}
+use Rattle.td_body.specs.Bodies.{agreeing}
+use Rattle.td_eval.specs.OperatorValues.{comparison_value, is_true, of_relation, of_truth, on_relation, operator_value, relation_as_value, restricted_value}
+use Rattle.td_plan.specs.Equalities.{AsksOnlyOf, HasValues, IsPartOn, has_values, is_at}
+
+-- ---- conditions and operands
+
+-- the condition has a truth value in each tuple of the relation
+abbrev pub IsTotalIn : (Tuple → Outcome Val) → Relation → Type 0
+IsTotalIn p r = (t : Tuple) → IsIn t r → (b : Bool) × (p t ≡ of_truth b)
+
+-- an operand gives causes, or a relation of which that holds
+abbrev pub Gives : (Relation → Type 0) → Outcome Val → Type 0
+Gives P (Valued v) = (r : Relation) × (v ≡ relation_as_value r) × P r
+Gives P (Refused cs) = ⊤
+
+-- a relation in whose tuples the condition has a truth value
+abbrev pub IsAnsweredBy : (Tuple → Outcome Val) → Relation → Type 0
+IsAnsweredBy p r = IsRelation r × IsTotalIn p r
+
+-- what WHERE gives of what its operand gives
+abbrev pub where_value : (Tuple → Outcome Val) → Outcome Val → Outcome Val
+where_value p o = with_value o (λ v. on_relation v (restricted_value p))
+
+-- what an operator gives of what its operands give
+abbrev pub operated : Operator → Outcome Val → Outcome Val → Outcome Val
+operated op a b = with_both a b (operator_value op)
+
+-- a condition that has a truth value in each tuple restricts by these truth values
+abbrev pub TotalConditionsRestrict : Type 0
+TotalConditionsRestrict =
+    (p : Tuple → Outcome Val) (r : Relation) → IsTotalIn p r
+    → restricted_value p r ≡ of_relation (restriction (λ t. is_true (p t)) r)
+
+-- ---- operands of one heading
+
+-- WHERE of a union restricts both operands
+abbrev pub WhereOfUnion : Type 0
+WhereOfUnion =
+    (p : Tuple → Outcome Val) (a b : Outcome Val) → Gives (IsAnsweredBy p) a → Gives (IsAnsweredBy p) b
+    → where_value p (operated operators.Union a b) ≡ operated operators.Union (where_value p a) (where_value p b)
+
+-- of an intersection, either
+abbrev pub WhereOfIntersectOnLeft : Type 0
+WhereOfIntersectOnLeft =
+    (p : Tuple → Outcome Val) (a b : Outcome Val) → Gives (IsTotalIn p) a → Gives IsRelation b
+    → where_value p (operated operators.Intersect a b) ≡ operated operators.Intersect (where_value p a) b
+
+abbrev pub WhereOfIntersectOnRight : Type 0
+WhereOfIntersectOnRight =
+    (p : Tuple → Outcome Val) (a b : Outcome Val) → Gives IsRelation a → Gives (IsTotalIn p) b
+    → where_value p (operated operators.Intersect a b) ≡ operated operators.Intersect a (where_value p b)
+
+-- of a difference, the first
+abbrev pub WhereOfMinus : Type 0
+WhereOfMinus =
+    (p : Tuple → Outcome Val) (a b : Outcome Val) → Gives (IsTotalIn p) a → Gives IsRelation b
+    → where_value p (operated operators.Minus a b) ≡ operated operators.Minus (where_value p a) b
+
+-- ---- joins
+
+-- a relation of the heading
+abbrev pub HasHeading : Heading → Relation → Type 0
+HasHeading h r = IsRelation r × (r.heading ≡ h)
+
+-- one in whose tuples the condition has a truth value
+abbrev pub IsHeadedAndAnswered : Heading → (Tuple → Outcome Val) → Relation → Type 0
+IsHeadedAndAnswered h p r = HasHeading h r × IsTotalIn p r
+
+-- in each tuple of the relation that is given, what is asked depends on the tuple's part on the heading's names alone
+abbrev pub AsksOnlyIn : Heading → Outcome Val → (Tuple → Outcome Val) → Type 0
+AsksOnlyIn h o p = (q : Relation) → o ≡ of_relation q → AsksOnlyOf (attribute_names h) q p
+
+-- WHERE of a join restricts the operand that has what the condition asks
+abbrev pub WhereOfJoinOnLeft : Type 0
+WhereOfJoinOnLeft =
+    (p : Tuple → Outcome Val) (h : Heading) (a b : Outcome Val) → Gives (IsHeadedAndAnswered h p) a → Gives IsRelation b
+    → AsksOnlyIn h (operated operators.Join a b) p
+    → where_value p (operated operators.Join a b) ≡ operated operators.Join (where_value p a) b
+
+abbrev pub WhereOfJoinOnRight : Type 0
+WhereOfJoinOnRight =
+    (p : Tuple → Outcome Val) (h : Heading) (a b : Outcome Val) → Gives IsRelation a → Gives (IsHeadedAndAnswered h p) b
+    → AsksOnlyIn h (operated operators.Join a b) p
+    → where_value p (operated operators.Join a b) ≡ operated operators.Join a (where_value p b)
+
+abbrev pub WhereOfTimesOnLeft : Type 0
+WhereOfTimesOnLeft =
+    (p : Tuple → Outcome Val) (h : Heading) (a b : Outcome Val) → Gives (IsHeadedAndAnswered h p) a → Gives IsRelation b
+    → AsksOnlyIn h (operated operators.Times a b) p
+    → where_value p (operated operators.Times a b) ≡ operated operators.Times (where_value p a) b
+
+abbrev pub WhereOfTimesOnRight : Type 0
+WhereOfTimesOnRight =
+    (p : Tuple → Outcome Val) (h : Heading) (a b : Outcome Val) → Gives IsRelation a → Gives (IsHeadedAndAnswered h p) b
+    → AsksOnlyIn h (operated operators.Times a b) p
+    → where_value p (operated operators.Times a b) ≡ operated operators.Times a (where_value p b)
+
+-- MATCHING and NOT MATCHING keep tuples of their first operand
+abbrev pub WhereOfMatching : Type 0
+WhereOfMatching =
+    (p : Tuple → Outcome Val) (a b : Outcome Val) → Gives (IsTotalIn p) a → Gives IsRelation b
+    → where_value p (operated operators.Matching a b) ≡ operated operators.Matching (where_value p a) b
+
+abbrev pub WhereOfNotMatching : Type 0
+WhereOfNotMatching =
+    (p : Tuple → Outcome Val) (a b : Outcome Val) → Gives (IsTotalIn p) a → Gives IsRelation b
+    → where_value p (operated operators.NotMatching a b) ≡ operated operators.NotMatching (where_value p a) b
+
+-- ---- one WHERE after another
+
+-- both conditions
+abbrev pub conjoined : (Tuple → Outcome Val) → (Tuple → Outcome Val) → Tuple → Outcome Val
+conjoined p q t = operated operators.And (p t) (q t)
+
+-- WHERE by two conjuncts is one WHERE after the other, where the second has a truth value in each tuple: AND counts its causes
+-- in tuples that the first drops
+abbrev pub WhereByAnd : Type 0
+WhereByAnd =
+    (p q : Tuple → Outcome Val) (a : Outcome Val) → Gives (IsTotalIn q) a
+    → where_value (conjoined p q) a ≡ where_value q (where_value p a)
+
+-- each of the conditions has a truth value in each tuple of the relation
+abbrev pub AreTotalIn : List (Tuple → Outcome Val) → Relation → Type 0
+AreTotalIn qs r = AllByRecursion (λ q. IsTotalIn q r) qs
+
+-- so of any number of conjuncts
+abbrev pub WhereByAnds : Type 0
+WhereByAnds =
+    (p : Tuple → Outcome Val) (qs : List (Tuple → Outcome Val)) (a : Outcome Val) → Gives (AreTotalIn qs) a
+    → where_value (fold conjoined p qs) a ≡ fold (λ o q. where_value q o) (where_value p a) qs
+
+-- two WHEREs may change places
+abbrev pub WheresCommute : Type 0
+WheresCommute =
+    (p q : Tuple → Outcome Val) (a : Outcome Val) → Gives (λ r. IsTotalIn p r × IsTotalIn q r) a
+    → where_value p (where_value q a) ≡ where_value q (where_value p a)
+
+-- ---- look-up by key
+
+-- an attribute that is compared with a value of its type is TRUE where the tuple has that value there
+abbrev pub EqualityIsOfValue : Type 0
+EqualityIsOfValue =
+    (name : List ℕ) (x v : Val) (t : Tuple) → value_at name t ≡ Some x → type_of x ≡ type_of v
+    → (comparison_value comparisons.Equal x v ≡ of_truth (is_at name v t))
+    × (comparison_value comparisons.Equal v x ≡ of_truth (is_at name v t))
+
+-- two values whose comparison is TRUE are one
+abbrev pub EqualityIsOfOneValue : Type 0
+EqualityIsOfOneValue = (v u : Val) → comparison_value comparisons.Equal v u ≡ of_truth true → v ≡ u
+
+-- where AND is TRUE, both its operands are
+abbrev pub AndIsOfBoth : Type 0
+AndIsOfBoth =
+    (a b : Outcome Val) → operated operators.And a b ≡ of_truth true → (a ≡ of_truth true) × (b ≡ of_truth true)
+
+-- WHERE by a condition that fixes each attribute of a key to a value is the look-up by these values
+abbrev pub WhereIsLookUp : Type 0
+WhereIsLookUp =
+    (key : List (List ℕ)) (part : Tuple) (p : Tuple → Outcome Val) (r : Relation) → IsRelation r → IsPartOn key r part
+    → ((t : Tuple) → IsIn t r → p t ≡ of_truth (has_values part t))
+    → where_value p (of_relation r) ≡ of_relation (agreeing key part r)
+
+-- by a condition that is TRUE in no tuple without these values, it is WHERE of what the look-up finds
+abbrev pub WhereAfterLookUp : Type 0
+WhereAfterLookUp =
+    (key : List (List ℕ)) (part : Tuple) (p : Tuple → Outcome Val) (r : Relation) → IsAnsweredBy p r → IsPartOn key r part
+    → ((t : Tuple) → IsIn t r → p t ≡ of_truth true → HasValues part t)
+    → where_value p (of_relation r) ≡ where_value p (of_relation (agreeing key part r))
