@@ -1,2 +1,3 @@
 pub mod Faultless
 pub mod Written
+mod TypedBases

@@ -2,6 +2,7 @@
 ghost use Rattle.std.specs.Prelude.{◌≡◌, [], IfOk};
 ghost use Rattle.td_value.specs.Views.{relation_view};
 
+mod changes;
 mod definitions;
 
 use self::definitions::{Kind, add};

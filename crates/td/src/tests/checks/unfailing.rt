@@ -138,7 +138,7 @@ fn wrong(alloc: Global, scope: &Scope<'_>) -> Option<&'static str> {
 fn what_cannot_fail(rt: HostRuntime) {
     let alloc = rt.alloc();
     let catalog = known(alloc).expect(&rt, "memory");
-    let scope = catalog.scope().expect(&rt, "memory");
+    let scope = catalog.scope();
     assert_eq!(rt; wrong(alloc, &scope), None);
     drop(scope);
     drop(catalog);
