@@ -64,3 +64,9 @@ pub mod WalkedSettings
 pub mod WalkedTotals
 mod WorkedValues
 pub mod WorldParts
+pub mod SpelledNumbers
+pub mod StaticOperators
+pub mod StaticOutcomes
+pub mod StaticRows
+pub mod UnfailingTrees
+pub mod ValuedWorlds

@@ -7,8 +7,10 @@ pub mod OperatorValues
 pub mod ReachedRelvars
 pub mod Sights
 pub mod Totals
+pub mod TreeNumbers
 pub mod TreeTexts
 pub mod TreeValues
+pub mod UnfailingValues
 pub mod ValueLaws
 pub mod ValueTypes
 pub mod Worlds

@@ -8,6 +8,9 @@ ghost use Rattle.td_eval.specs.LiteralValues.{WhatSelectorsGiveMeets};
 ghost use Rattle.td_eval.specs.MetConstraints.{AssignedRelationsMeetConstraints};
 ghost use Rattle.td_eval.specs.MetConstraints.{ValuesMeetConstraints};
 ghost use Rattle.td_eval.specs.ReachedRelvars.{UnreachedValuesStay};
+ghost use Rattle.td_eval.specs.TreeNumbers.{SpelledNumbersAreInRange};
+ghost use Rattle.td_eval.specs.UnfailingValues.{OtherRelationsGiveValues, TypedDatabasesGiveValues};
+ghost use Rattle.td_eval.specs.UnfailingValues.{UnfailingExpressionsHaveValues};
 ghost use Rattle.td_eval.specs.ValueLaws.{DropsChangeNoValue, LaterEntriesChangeNothing};
 ghost use Rattle.td_eval.specs.ValueLaws.{SummarizeByIsPerOfTheProjection, TupleOrderDoesNotCount};
 ghost use Rattle.td_eval.specs.ValueLaws.{ValuesDependOnEntries, ValuesDependOnMentions};
@@ -25,6 +28,24 @@ pub fn values_keep_types()
 pub fn typed_databases_keep_scopes()
     ensures typed { TypedDatabasesKeepScopes }
     ensures other { OtherRelationsKeepScopes }
+{}
+
+/// An expression that has a type and cannot fail has a value, of that type, whatever relations of
+/// their headings the base relvars hold.
+pub fn unfailing_expressions_have_values()
+    ensures { UnfailingExpressionsHaveValues }
+{}
+
+/// Typed databases are worlds in which that holds, also with another relation in place of what a
+/// base relvar holds.
+pub fn typed_databases_give_values()
+    ensures typed { TypedDatabasesGiveValues }
+    ensures other { OtherRelationsGiveValues }
+{}
+
+/// The numbers in what tokens spell are in INTEGER's range.
+pub fn spelled_numbers_are_in_range()
+    ensures { SpelledNumbersAreInRange }
 {}
 
 /// The value of an expression that has a type depends only on what it mentions.

@@ -38,7 +38,7 @@ pub(crate) fn shared(alloc: Global, tuples: &[&Tuple]) -> Result<Vec<Tuple>, All
 }
 
 /// The truth value that was answered.
-pub(crate) fn truth_of(answer: Result<Value, Fault>) -> Result<bool, Fault>
+pub fn truth_of(answer: Result<Value, Fault>) -> Result<bool, Fault>
     ensures { (o : Outcome Val) → Answers (λ v. v) answer o
         → Answers (λ b. b) result (truth_value o) }
 {
@@ -46,7 +46,7 @@ pub(crate) fn truth_of(answer: Result<Value, Fault>) -> Result<bool, Fault>
 }
 
 /// The value that was answered, which is of the type.
-pub(crate) fn typed(ty: &Ty, answer: Result<Value, Fault>) -> Result<Value, Fault>
+pub fn typed(ty: &Ty, answer: Result<Value, Fault>) -> Result<Value, Fault>
     ensures { (o : Outcome Val) → Answers (λ v. v) answer o
         → Answers (λ v. v) result (with_value o (value_of_type (type_view ty.now))) }
 {
@@ -54,7 +54,7 @@ pub(crate) fn typed(ty: &Ty, answer: Result<Value, Fault>) -> Result<Value, Faul
 }
 
 /// The name with the value that was answered.
-pub(crate) fn named(name: &Name, answer: Result<Value, Fault>) -> Result<(Name, Value), Fault>
+pub fn named(name: &Name, answer: Result<Value, Fault>) -> Result<(Name, Value), Fault>
     ensures { (o : Outcome Val) → Answers (λ v. v) answer o
         → Answers {A = List ℕ × Val} (λ e. e) result
         (with_value o (λ v. Valued (name.now, v))) }

@@ -2,9 +2,4 @@ pub mod EqualLookUps
 pub mod EqualNames
 pub mod EqualRestrictions
 pub mod EqualValues
-pub mod SpelledNumbers
-pub mod StaticOperators
-pub mod StaticOutcomes
-pub mod StaticRows
-pub mod UnfailingTrees
-pub mod ValuedWorlds
+pub mod TotalConditions

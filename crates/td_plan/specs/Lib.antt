@@ -1,5 +1,4 @@
 pub mod Equalities
 pub mod EqualitiesOfNames
 pub mod EqualitiesOfValues
-pub mod TreeNumbers
-pub mod UnfailingValues
+pub mod TotalConditions

@@ -13,7 +13,7 @@ use td_value::relation::Rel;
 use td_value::value::{Node, Value};
 
 /// What the aggregate of an expression asks of its values.
-pub(crate) fn asked_of(op: Aggregate) -> Agg
+pub fn asked_of(op: Aggregate) -> Agg
     ensures { result ≡ asked_of op }
 {
     match op {
@@ -35,7 +35,7 @@ fn takes(asked: Agg, value: &Value) -> bool
 }
 
 /// The aggregate of the values: one that it is not of is refused.
-pub(crate) fn aggregate_of(asked: Agg, values: &[Value]) -> Result<Value, Fault>
+pub fn aggregate_of(asked: Agg, values: &[Value]) -> Result<Value, Fault>
     ensures { Answers (λ v. v) result (aggregate_of asked values.now) }
 {
     if values.iter().all(|value| takes(asked, value)) {
@@ -46,7 +46,7 @@ pub(crate) fn aggregate_of(asked: Agg, values: &[Value]) -> Result<Value, Fault>
 }
 
 /// The aggregate of the values that were answered.
-pub(crate) fn aggregated(op: Aggregate, values: Result<Vec<Value>, Fault>) -> Result<Value, Fault>
+pub fn aggregated(op: Aggregate, values: Result<Vec<Value>, Fault>) -> Result<Value, Fault>
     ensures { (o : Outcome (List Val)) → Answers (λ vs. vs.items) values o
         → Answers (λ v. v) result (with_value o (aggregate_of (asked_of op))) }
 {
@@ -54,7 +54,7 @@ pub(crate) fn aggregated(op: Aggregate, values: Result<Vec<Value>, Fault>) -> Re
 }
 
 /// TRUE for each tuple, which COUNT counts.
-pub(crate) fn terms(alloc: Global, rel: &Rel) -> Result<Vec<Value>, AllocError>
+pub fn terms(alloc: Global, rel: &Rel) -> Result<Vec<Value>, AllocError>
     ensures { IfOk result (λ vs. vs.items ≡ map (λ t. boolean true) rel.now.body) }
 {
     let rows = rel.rows();

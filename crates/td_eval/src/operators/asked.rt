@@ -17,7 +17,7 @@ use td_value::tuple::Tuple;
 use td_value::value::{Node, Value};
 
 /// The truth value: another value is refused.
-pub(crate) fn truth(v: &Value) -> Result<bool, Fault>
+pub fn truth(v: &Value) -> Result<bool, Fault>
     ensures { Answers (λ b. b) result (on_truth v.now Valued) }
 {
     match &v.node {
@@ -27,7 +27,7 @@ pub(crate) fn truth(v: &Value) -> Result<bool, Fault>
 }
 
 /// The relation: another value is refused.
-pub(crate) fn relation_in(v: &Value) -> Result<&Rel, Fault>
+pub fn relation_in(v: &Value) -> Result<&Rel, Fault>
     ensures { Answers (λ r. r.now) result (on_relation v.now Valued) }
 {
     match &v.node {
@@ -37,7 +37,7 @@ pub(crate) fn relation_in(v: &Value) -> Result<&Rel, Fault>
 }
 
 /// The tuple: another value is refused.
-pub(crate) fn tuple_in(v: &Value) -> Result<&Tuple, Fault>
+pub fn tuple_in(v: &Value) -> Result<&Tuple, Fault>
     ensures { Answers (λ t. t.now) result (on_tuple v.now Valued) }
 {
     match &v.node {
@@ -47,7 +47,7 @@ pub(crate) fn tuple_in(v: &Value) -> Result<&Tuple, Fault>
 }
 
 /// The value that must be found, else that cause.
-pub(crate) fn known(found: Option<&Value>, cause: Cause) -> Result<Value, Fault>
+pub fn known(found: Option<&Value>, cause: Cause) -> Result<Value, Fault>
     ensures { Answers (λ v. v) result
         (known_or {A = Val} cause (option_map (λ v. v.now) found.entry)) }
 {
@@ -58,7 +58,7 @@ pub(crate) fn known(found: Option<&Value>, cause: Cause) -> Result<Value, Fault>
 }
 
 /// The value of the innermost attribute of the name. The innermost tuple is the last.
-pub(crate) fn attribute<'a>(tuples: &'a [Tuple], name: &Name) -> Option<&'a Value>
+pub fn attribute<'a>(tuples: &'a [Tuple], name: &Name) -> Option<&'a Value>
     ensures { option_map (λ v. v.now) result ≡ innermost_value name.now (reverse tuples.now) }
 {
     for tuple in tuples.iter().rev() {
@@ -77,7 +77,7 @@ fn is_of(value: &Value, ty: &Ty) -> bool
 }
 
 /// The value, where it is of the type.
-pub(crate) fn of_type(ty: &Ty, value: Value) -> Result<Value, Fault>
+pub fn of_type(ty: &Ty, value: Value) -> Result<Value, Fault>
     ensures { Answers (λ v. v) result (value_of_type (type_view ty.now) value) }
 {
     if is_of(&value, ty) {
@@ -88,7 +88,7 @@ pub(crate) fn of_type(ty: &Ty, value: Value) -> Result<Value, Fault>
 }
 
 /// Whether these have, in number and order, the types of the components.
-pub(crate) fn have_types(values: &[Value], components: &[(Name, Ty)]) -> bool
+pub fn have_types(values: &[Value], components: &[(Name, Ty)]) -> bool
     ensures { result ≡ are_types_of (map type_of values.now) (pairs_view components.now) }
 {
     let mut rest = components;

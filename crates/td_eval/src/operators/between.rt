@@ -43,7 +43,7 @@ fn operator_value(
 }
 
 /// The value of an operator between operands of these values.
-pub(crate) fn operated(
+pub fn operated(
     alloc: Global,
     op: Operator,
     first: Result<Value, Fault>,

@@ -152,7 +152,7 @@ fn comparison_value(
 }
 
 /// The value of a comparison of operands of these values.
-pub(crate) fn compared(
+pub fn compared(
     alloc: Global,
     op: Comparison,
     first: Result<Value, Fault>,

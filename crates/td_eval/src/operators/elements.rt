@@ -21,7 +21,7 @@ use td_value::tuple::Tuple;
 use td_value::value::Value;
 
 /// The tuple that gives each name its value: refused where a name comes twice.
-pub(crate) fn tuple_from(alloc: Global, entries: Vec<(Name, Value)>) -> Result<Value, Fault>
+pub fn tuple_from(alloc: Global, entries: Vec<(Name, Value)>) -> Result<Value, Fault>
     ensures { Answers (λ v. v) result (tuple_from entries.items) }
 {
     Ok(Value::tuple(alloc, Tuple::new(alloc, entries)?)?)
@@ -63,7 +63,7 @@ fn headed_value(alloc: Global, heading: Heading, elements: &[Value]) -> Result<V
 }
 
 /// The relation of the elements, which are tuples of one heading, the first one's.
-pub(crate) fn listed_value(alloc: Global, elements: Vec<Value>) -> Result<Value, Fault>
+pub fn listed_value(alloc: Global, elements: Vec<Value>) -> Result<Value, Fault>
     ensures { Answers (λ v. v) result (listed_value elements.items) }
 {
     match elements.first() {
@@ -73,7 +73,7 @@ pub(crate) fn listed_value(alloc: Global, elements: Vec<Value>) -> Result<Value,
 }
 
 /// The relation of the heading with the elements, by what is answered of both.
-pub(crate) fn headed(
+pub fn headed(
     alloc: Global,
     heading: Result<Heading, Fault>,
     elements: Result<Vec<Value>, Fault>,

@@ -48,7 +48,7 @@ fn table_dum(alloc: Global) -> Result<Value, Fault>
 }
 
 /// The value of a literal: a number out of range is refused.
-pub(crate) fn literal_value(alloc: Global, literal: &Literal) -> Result<Value, Fault>
+pub fn literal_value(alloc: Global, literal: &Literal) -> Result<Value, Fault>
     ensures { Answers (λ v. v) result (literal_value (literal_view literal.now)) }
 {
     match literal {

@@ -46,7 +46,7 @@ fn only_tuple(alloc: Global, rel: &Rel) -> Result<Value, Fault>
 }
 
 /// The value of an operator before its operand.
-pub(crate) fn prefix_value(alloc: Global, op: Prefix, operand: &Value) -> Result<Value, Fault>
+pub fn prefix_value(alloc: Global, op: Prefix, operand: &Value) -> Result<Value, Fault>
     ensures { Answers (λ v. v) result (prefix_value op operand.now) }
 {
     match op {
@@ -58,7 +58,7 @@ pub(crate) fn prefix_value(alloc: Global, op: Prefix, operand: &Value) -> Result
 }
 
 /// The value of `A FROM t`.
-pub(crate) fn extracted_value(name: &Name, operand: &Value) -> Result<Value, Fault>
+pub fn extracted_value(name: &Name, operand: &Value) -> Result<Value, Fault>
     ensures { Answers (λ v. v) result (extracted_value name.now operand.now) }
 {
     known(tuple_in(operand)?.get(name), Cause::Heading)
@@ -99,11 +99,7 @@ fn user_component(types: &TypeTable, name: &RcStr, user: &User) -> Result<Value,
 }
 
 /// The value of `THE_C(e)`, by what follows `THE_`.
-pub(crate) fn component_value(
-    types: &TypeTable,
-    name: &RcStr,
-    operand: &Value,
-) -> Result<Value, Fault>
+pub fn component_value(types: &TypeTable, name: &RcStr, operand: &Value) -> Result<Value, Fault>
     ensures { Answers (λ v. v) result
         (component_value types.now (rc_str_bytes name.now) operand.now) }
 {
@@ -114,7 +110,7 @@ pub(crate) fn component_value(
 }
 
 /// The value of what is asked of a relation alone.
-pub(crate) fn measure_value(op: Measure, operand: &Value) -> Result<Value, Fault>
+pub fn measure_value(op: Measure, operand: &Value) -> Result<Value, Fault>
     ensures { Answers (λ v. v) result (measure_value op operand.now) }
 {
     let count = relation_in(operand)?.rows().len();

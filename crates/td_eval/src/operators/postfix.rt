@@ -25,7 +25,7 @@ use td_value::relation::Rel;
 use td_value::value::Value;
 
 /// The names of a heading's attributes.
-pub(crate) fn names_in(alloc: Global, heading: &Heading) -> Result<Vec<Name>, AllocError>
+pub fn names_in(alloc: Global, heading: &Heading) -> Result<Vec<Name>, AllocError>
     ensures { IfOk result (λ names. names.items ≡ attribute_names heading.now) }
 {
     let mut names = Vec::with_capacity(alloc, heading.len())?;
@@ -73,11 +73,7 @@ fn projected(alloc: Global, rel: &Rel, attributes: &Attributes) -> Result<Value,
 }
 
 /// The same of a value, which must be a relation.
-pub(crate) fn projected_by(
-    alloc: Global,
-    operand: &Value,
-    attributes: &Attributes,
-) -> Result<Value, Fault>
+pub fn projected_by(alloc: Global, operand: &Value, attributes: &Attributes) -> Result<Value, Fault>
     ensures { Answers (λ v. v) result
         (postfix_value (project (attributes_view attributes.now)) operand.now) }
 {
@@ -110,7 +106,7 @@ fn renamed(alloc: Global, rel: &Rel, renamings: &[Renaming]) -> Result<Value, Fa
 }
 
 /// The value that the operator gives: each asks a relation.
-pub(crate) fn postfix_value(alloc: Global, op: &Postfix, operand: &Value) -> Result<Value, Fault>
+pub fn postfix_value(alloc: Global, op: &Postfix, operand: &Value) -> Result<Value, Fault>
     ensures { Answers (λ v. v) result (postfix_value (postfix_view op.now) operand.now) }
 {
     match op {

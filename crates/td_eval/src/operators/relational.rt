@@ -17,10 +17,7 @@ use td_value::relation::Rel;
 use td_value::value::Value;
 
 /// The relations of two values: others are refused.
-pub(crate) fn relations<'a>(
-    first: &'a Value,
-    second: &'a Value,
-) -> Result<(&'a Rel, &'a Rel), Fault>
+pub fn relations<'a>(first: &'a Value, second: &'a Value) -> Result<(&'a Rel, &'a Rel), Fault>
     ensures { Answers {A = Relation × Relation} (λ both. (both.0.now, both.1.now)) result
         (on_relation first.now (λ r. on_relation second.now (λ s. Valued (r, s)))) }
 {
@@ -29,7 +26,7 @@ pub(crate) fn relations<'a>(
 }
 
 /// What is asked of headings.
-pub(crate) fn fit(headings_fit: bool) -> Result<(), Fault>
+pub fn fit(headings_fit: bool) -> Result<(), Fault>
     ensures answer { Answers (λ u. u) result (value_if headings_fit tt causes.Heading) }
     ensures fits { OnOk result (IsTrue headings_fit) }
 {
@@ -41,7 +38,7 @@ pub(crate) fn fit(headings_fit: bool) -> Result<(), Fault>
 }
 
 /// The relation as a value.
-pub(crate) fn as_value(alloc: Global, found: Result<Rel, AllocError>) -> Result<Value, Fault>
+pub fn as_value(alloc: Global, found: Result<Rel, AllocError>) -> Result<Value, Fault>
     ensures { (r : Relation) → IfOk found (λ s. s ≡ r)
         → Answers (λ v. v) result (of_relation r) }
 {
@@ -49,7 +46,7 @@ pub(crate) fn as_value(alloc: Global, found: Result<Rel, AllocError>) -> Result<
 }
 
 /// The tuples of either of two relations.
-pub(crate) fn united(alloc: Global, first: &Value, second: &Value) -> Result<Value, Fault>
+pub fn united(alloc: Global, first: &Value, second: &Value) -> Result<Value, Fault>
     ensures { Answers (λ v. v) result (operator_value operators.Union first.now second.now) }
 {
     let (rel, other) = relations(first, second)?;
@@ -58,7 +55,7 @@ pub(crate) fn united(alloc: Global, first: &Value, second: &Value) -> Result<Val
 }
 
 /// The tuples of both of two relations.
-pub(crate) fn intersected(alloc: Global, first: &Value, second: &Value) -> Result<Value, Fault>
+pub fn intersected(alloc: Global, first: &Value, second: &Value) -> Result<Value, Fault>
     ensures { Answers (λ v. v) result (operator_value operators.Intersect first.now second.now) }
 {
     let (rel, other) = relations(first, second)?;
@@ -67,7 +64,7 @@ pub(crate) fn intersected(alloc: Global, first: &Value, second: &Value) -> Resul
 }
 
 /// The tuples of the first of two relations that are not in the second.
-pub(crate) fn subtracted(alloc: Global, first: &Value, second: &Value) -> Result<Value, Fault>
+pub fn subtracted(alloc: Global, first: &Value, second: &Value) -> Result<Value, Fault>
     ensures { Answers (λ v. v) result (operator_value operators.Minus first.now second.now) }
 {
     let (rel, other) = relations(first, second)?;
@@ -76,7 +73,7 @@ pub(crate) fn subtracted(alloc: Global, first: &Value, second: &Value) -> Result
 }
 
 /// The join of two relations.
-pub(crate) fn joined(alloc: Global, first: &Value, second: &Value) -> Result<Value, Fault>
+pub fn joined(alloc: Global, first: &Value, second: &Value) -> Result<Value, Fault>
     ensures { Answers (λ v. v) result (operator_value operators.Join first.now second.now) }
 {
     let (rel, other) = relations(first, second)?;
@@ -85,7 +82,7 @@ pub(crate) fn joined(alloc: Global, first: &Value, second: &Value) -> Result<Val
 }
 
 /// The product of two relations.
-pub(crate) fn multiplied(alloc: Global, first: &Value, second: &Value) -> Result<Value, Fault>
+pub fn multiplied(alloc: Global, first: &Value, second: &Value) -> Result<Value, Fault>
     ensures { Answers (λ v. v) result (operator_value operators.Times first.now second.now) }
 {
     let (rel, other) = relations(first, second)?;
@@ -94,7 +91,7 @@ pub(crate) fn multiplied(alloc: Global, first: &Value, second: &Value) -> Result
 }
 
 /// The composition of two relations.
-pub(crate) fn composed(alloc: Global, first: &Value, second: &Value) -> Result<Value, Fault>
+pub fn composed(alloc: Global, first: &Value, second: &Value) -> Result<Value, Fault>
     ensures { Answers (λ v. v) result (operator_value operators.Compose first.now second.now) }
 {
     let (rel, other) = relations(first, second)?;
@@ -103,7 +100,7 @@ pub(crate) fn composed(alloc: Global, first: &Value, second: &Value) -> Result<V
 }
 
 /// The tuples of the first of two relations that have a partner in the second.
-pub(crate) fn matched(alloc: Global, first: &Value, second: &Value) -> Result<Value, Fault>
+pub fn matched(alloc: Global, first: &Value, second: &Value) -> Result<Value, Fault>
     ensures { Answers (λ v. v) result (operator_value operators.Matching first.now second.now) }
 {
     let (rel, other) = relations(first, second)?;
@@ -112,7 +109,7 @@ pub(crate) fn matched(alloc: Global, first: &Value, second: &Value) -> Result<Va
 }
 
 /// The tuples of the first of two relations that have none.
-pub(crate) fn unmatched(alloc: Global, first: &Value, second: &Value) -> Result<Value, Fault>
+pub fn unmatched(alloc: Global, first: &Value, second: &Value) -> Result<Value, Fault>
     ensures { Answers (λ v. v) result
         (operator_value operators.NotMatching first.now second.now) }
 {

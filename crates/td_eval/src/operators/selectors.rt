@@ -39,7 +39,7 @@ fn named(
 }
 
 /// The tuple that gives the name of each component its value.
-pub(crate) fn component_tuple(
+pub fn component_tuple(
     alloc: Global,
     components: &[(Name, Ty)],
     values: &[Value],
@@ -51,7 +51,7 @@ pub(crate) fn component_tuple(
 }
 
 /// The user value of the components, where the type's constraint holds.
-pub(crate) fn constructed(
+pub fn constructed(
     alloc: Global,
     name: &Name,
     values: Vec<Value>,

@@ -44,7 +44,7 @@ use td_value::tuple::Tuple;
 use td_value::value::Value;
 
 /// Each tuple of PER with its group: refused where PER's heading is no part of the operand's.
-pub(crate) fn grouped(alloc: Global, rel: &Rel, per: &Rel) -> Result<Vec<(Tuple, Rel)>, Fault>
+pub fn grouped(alloc: Global, rel: &Rel, per: &Rel) -> Result<Vec<(Tuple, Rel)>, Fault>
     ensures { Answers (λ gs. gs.items) result
         (value_if (is_part per.now.heading rel.now.heading) (groups rel.now per.now)
         causes.Heading) }
@@ -132,7 +132,7 @@ fn asked_by(item: &Summary) -> Agg
 }
 
 /// What an item is of in the groups, with its aggregate.
-pub(crate) fn with_aggregate(
+pub fn with_aggregate(
     item: &Summary,
     groups: Result<Vec<Vec<Value>>, Fault>,
 ) -> Result<(Agg, Vec<Vec<Value>>), Fault>

@@ -19,7 +19,7 @@ use td_value::relation::Rel;
 use td_value::value::Value;
 
 /// The tuples whose truth values are TRUE.
-pub(crate) fn restricted(
+pub fn restricted(
     alloc: Global,
     operand: &Rel,
     truths: Result<Vec<bool>, Fault>,
@@ -34,11 +34,7 @@ pub(crate) fn restricted(
 }
 
 /// The tuples with new attributes, whose values are given as columns.
-pub(crate) fn extended(
-    alloc: Global,
-    operand: &Rel,
-    columns: Vec<(Name, Column)>,
-) -> Result<Value, Fault>
+pub fn extended(alloc: Global, operand: &Rel, columns: Vec<(Name, Column)>) -> Result<Value, Fault>
     requires distinct { IsTrue (are_distinct
         (attribute_names (column_attributes (columns_view columns.items)))) }
     requires new { IsTrue (have_no_common

@@ -13,8 +13,8 @@ use Rattle.td_eval.proofs.KnownRelvars.{known_as_virtual, never_none, some_one}
 use Rattle.td_eval.proofs.OtherRelations.{other_relations_keep_scopes}
 use Rattle.td_eval.proofs.TypedDatabases.{typed_databases_keep_scopes}
 use Rattle.td_eval.proofs.WorldParts.{base_value, world_scope, world_selectors}
-use Rattle.td_plan.specs.UnfailingValues.{GivesValues, OtherRelationsGiveValues, TypedDatabasesGiveValues}
-use Rattle.td_plan.proofs.StaticOutcomes.{IsStatic, has_value, test_static, with_static}
+use Rattle.td_eval.specs.UnfailingValues.{GivesValues, OtherRelationsGiveValues, TypedDatabasesGiveValues}
+use Rattle.td_eval.proofs.StaticOutcomes.{IsStatic, has_value, test_static, with_static}
 use Rattle.td_tree.specs.declared.cause.Cause.TheVariants as causes
 use Rattle.td_tree.specs.Outcomes.{Outcome, Valued, value_if, with_value}
 use Rattle.td_types.specs.TypeLists.{DeclaredType, declared_at}

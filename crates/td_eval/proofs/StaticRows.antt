@@ -11,7 +11,7 @@ use Rattle.td_eval.specs.OperatorValues.{additions_of, columns_values, extended_
 use Rattle.td_eval.specs.ValueTypes.{IsOfType, KeepsType}
 use Rattle.td_eval.proofs.TypedRows.{parts_typed}
 use Rattle.td_group.specs.Groups.{groups}
-use Rattle.td_plan.proofs.StaticOutcomes.{IsStatic, gathered_static, list_static, relations_static, test_static, truth_static, with_static}
+use Rattle.td_eval.proofs.StaticOutcomes.{IsStatic, gathered_static, list_static, relations_static, test_static, truth_static, with_static}
 use Rattle.td_tree.specs.declared.cause.Cause.TheVariants as causes
 use Rattle.td_tree.specs.Outcomes.{Outcome, Valued, Refused, gathered, value_if, with_value}
 use Rattle.td_types.specs.Headings.{are_distinct, has_attribute, is_part, with_attribute}

@@ -1,24 +1,21 @@
 -- An expression that cannot fail has a value: laws (this project's own).
-use Rattle.std.specs.Prelude.{◌≡◌, ℕ, List, ◌∷◌, None, Some, IsTrue}
+use Rattle.std.specs.Prelude.{◌≡◌, ℕ, List, None, Some, IsTrue}
 use Rattle.std.specs.List.{AllByRecursion}
 use Rattle.td_catalog.specs.Database.{BaseRelvar, Database, base_named}
 use Rattle.td_catalog.specs.TypedDatabases.{AreTyped, IsTyped}
 use Rattle.td_check.specs.CannotFail.{cannot_fail}
 use Rattle.td_check.specs.declared.scope.Kind.TheVariants as kinds
-use Rattle.td_check.specs.Scopes.{KnownRelvar, Scope, entered_with, known_relvar}
+use Rattle.td_check.specs.Scopes.{KnownRelvar, Scope, known_relvar}
 use Rattle.td_check.specs.StaticTypes.{type_of}
 use Rattle.td_eval.specs.DatabaseWorlds.{with_other, world_of}
-use Rattle.td_eval.specs.OperatorValues.{relation_as_value}
 use Rattle.td_eval.specs.TreeValues.{value_of}
 use Rattle.td_eval.specs.ValueTypes.{AreComponentsOf, DefinitionsAreWritten, IsOfType, IsTypedTuple, IsWritten, KeepsScope, with_tuples}
 use Rattle.td_eval.specs.Worlds.{World, selected}
-use Rattle.td_plan.specs.EqualitiesOfValues.{IsTotalIn}
-use Rattle.td_plan.specs.TreeNumbers.{HasNumbers}
+use Rattle.td_eval.specs.TreeNumbers.{HasNumbers}
 use Rattle.td_tree.specs.Outcomes.{Valued}
 use Rattle.td_tree.specs.Trees.{Tree}
 use Rattle.td_types.specs.TypeLists.{DeclaredType, declared_at}
-use Rattle.td_types.specs.Types.{Type', pack}
-use Rattle.td_types.specs.Types as types
+use Rattle.td_types.specs.Types.{Type'}
 use Rattle.td_value.specs.Values.{Val, IsRelation, Relation, Tuple}
 
 -- the world keeps the scope; a base relvar has a value there, and the selector of a type that has no constraint gives one of
@@ -39,16 +36,6 @@ UnfailingExpressionsHaveValues =
     → AllByRecursion (IsTypedTuple scope.types) s → IsWritten e → HasNumbers e
     → type_of (with_tuples scope s) e ≡ Valued t → IsTrue (cannot_fail (with_tuples scope s) e)
     → (v : Val) × (value_of w s e ≡ Valued v) × IsOfType scope.types v t
-
--- so a condition that cannot fail in the tuples of a relation has a truth value in each of them
-abbrev pub UnfailingConditionsAreTotal : Type 0
-UnfailingConditionsAreTotal =
-    (w : World) (scope : Scope) (s : List Tuple) (r : Relation) (condition : Tree) → GivesValues w scope
-    → AllByRecursion (IsTypedTuple scope.types) s → IsOfType scope.types (relation_as_value r) (types.relation (pack r.heading))
-    → IsWritten condition → HasNumbers condition
-    → type_of (entered_with r.heading (with_tuples scope s)) condition ≡ Valued types.boolean
-    → IsTrue (cannot_fail (entered_with r.heading (with_tuples scope s)) condition)
-    → IsTotalIn (λ t. value_of w (t ∷ s) condition) r
 
 -- the world of a typed database is such a world, whatever keys and constraints it has
 abbrev pub TypedDatabasesGiveValues : Type 0

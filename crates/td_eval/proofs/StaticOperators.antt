@@ -8,7 +8,7 @@ use Rattle.td_check.specs.OperatorTypes.{attribute_type, equality_type, known_or
 use Rattle.td_eval.specs.OperatorValues.{at_most, comparison_value, component_value, components_of, element_of, equality_value, extracted_value, headed_value, less_or_equal, less_than, listed_names, listed_value, measure_value, membership_value, nested_names, of_relation, of_truth, on_relations, on_text, operator_value, postfix_value, prefix_value, projected_names, relation_as_value, relation_where, tuple_as_value, tuple_from}
 use Rattle.td_group.specs.Closure.{closure, is_closable}
 use Rattle.td_group.specs.Nesting.{can_nest, can_unnest, grouped_relation, unnested_relation, wrapped_relation}
-use Rattle.td_plan.proofs.StaticOutcomes.{IsStatic, gathered_static, known_static, over_relation_static, over_tuple_static, relation_static, relations_static, test_static, text_static, truth_static, truths_static, tuple_static, with_static}
+use Rattle.td_eval.proofs.StaticOutcomes.{IsStatic, gathered_static, known_static, over_relation_static, over_tuple_static, relation_static, relations_static, test_static, text_static, truth_static, truths_static, tuple_static, with_static}
 use Rattle.td_tree.specs.declared.cause.Cause.TheVariants as causes
 use Rattle.td_tree.specs.declared.operator.Comparison.{Comparison}
 use Rattle.td_tree.specs.declared.operator.Comparison.TheVariants as comparisons

@@ -1,6 +1,6 @@
 -- The numbers in what tokens spell are in range: a number that is not is no literal.
 use Rattle.std.proofs.Common.{List}
-use Rattle.td_plan.specs.TreeNumbers.{HasNumbers, HaveNumbers, IsInRangeLiteral, ItemsHaveNumbers, PartsHaveNumbers, SpelledNumbersAreInRange}
+use Rattle.td_eval.specs.TreeNumbers.{HasNumbers, HaveNumbers, IsInRangeLiteral, ItemsHaveNumbers, PartsHaveNumbers, SpelledNumbersAreInRange}
 use Rattle.td_tree.specs.declared.operator.Level.{Level}
 use Rattle.td_tree.specs.Grammar as g
 use Rattle.td_tree.specs.Grammar.{AdditionsSpelling, ExpressionsSpelling, ListSpelling, LiteralSpelling, PartsSpelling, Spelling, SummariesSpelling}

@@ -1,5 +1,5 @@
-use Rattle.td_plan.proofs.ValuedWorlds.{other_relations_give_values, typed_databases_give_values}
-use Rattle.td_plan.proofs.laws.typed_databases_give_values.Goals as goal
+use Rattle.td_eval.proofs.ValuedWorlds.{other_relations_give_values, typed_databases_give_values}
+use Rattle.td_eval.proofs.laws.typed_databases_give_values.Goals as goal
 
 pub returns-clause-typed : goal.returns-clause-typed
 returns-clause-typed c = typed_databases_give_values

@@ -21,12 +21,11 @@ use Rattle.td_eval.specs.Worlds.{World, innermost_value, known_outcome, name_val
 use Rattle.td_eval.proofs.TypedArguments.{arguments_typed, known_is}
 use Rattle.td_eval.proofs.TypedRows.{rows_typed}
 use Rattle.td_eval.proofs.TypedTrees.{innermost_typed, keeps}
-use Rattle.td_eval.proofs.TypedValues.{truth_of}
-use Rattle.td_plan.specs.TreeNumbers.{HasNumbers, HaveNumbers, IsInRangeLiteral, PartsHaveNumbers}
-use Rattle.td_plan.specs.UnfailingValues.{GivesValues, UnfailingConditionsAreTotal, UnfailingExpressionsHaveValues}
-use Rattle.td_plan.proofs.StaticOperators.{comparison_static, component_static, extracted_static, headed_static, listed_static, measure_static, operator_static, postfix_static, prefix_static, tuple_from_static}
-use Rattle.td_plan.proofs.StaticOutcomes.{IsStatic, both_static, has_value, truth_static, with_static}
-use Rattle.td_plan.proofs.StaticRows.{AreStaticIn, extension_static, in_its_tuples, kept_static, over_its_heading, restricted_static, rows_static, summary_static}
+use Rattle.td_eval.specs.TreeNumbers.{HasNumbers, HaveNumbers, IsInRangeLiteral, PartsHaveNumbers}
+use Rattle.td_eval.specs.UnfailingValues.{GivesValues, UnfailingExpressionsHaveValues}
+use Rattle.td_eval.proofs.StaticOperators.{comparison_static, component_static, extracted_static, headed_static, listed_static, measure_static, operator_static, postfix_static, prefix_static, tuple_from_static}
+use Rattle.td_eval.proofs.StaticOutcomes.{IsStatic, both_static, has_value, truth_static, with_static}
+use Rattle.td_eval.proofs.StaticRows.{AreStaticIn, extension_static, in_its_tuples, kept_static, over_its_heading, restricted_static, rows_static, summary_static}
 use Rattle.td_tree.specs.declared.cause.Cause.TheVariants as causes
 use Rattle.td_tree.specs.Outcomes.{Outcome, Valued, Refused, value_if, with_value}
 use Rattle.td_tree.specs.Trees.{AttributeTrees, Literal, number, text, truth, table_dee, table_dum, Tree, literal, name, parentheses, prefix, extract, restriction, binary, compare, postfix, select, component, measure, aggregate, relation, headed_relation, tuple, extend, summarize_per, summarize_by, choice, Trees, none, more, NamedTrees, none_named, more_named, Summaries, no_summaries, counted, summed, project}
@@ -314,13 +313,3 @@ unfailing_expressions_have_values w scope s e t k h p m is never =
     has_value scope.types t (value_of w s e)
     (subst (λ o. KeepsType scope.types o (value_of w s e)) is (keeps w scope k.keeps e s h p.0 p.1))
     (tree_static w scope k e s t h p.0 p.1 m is never)
-
-pub unfailing_conditions_are_total : UnfailingConditionsAreTotal
-unfailing_conditions_are_total w scope s r condition k h p written m is never u c =
-    let sc = with_tuples scope s in
-    let at = rows_typed scope.types r p u c in
-    let v = unfailing_expressions_have_values w scope (u ∷ s) condition types.boolean k (at.0, h) written m
-    (subst (λ g. type_of (entered_with g sc) condition ≡ Valued types.boolean) (sym at.1) is)
-    (subst (λ g. cannot_fail (entered_with g sc) condition ≡ true) (sym at.1) never) in
-    let b = truth_of scope.types v.0 v.2.1 in
-    (b.0, v.1 ∙ ap Valued b.1)

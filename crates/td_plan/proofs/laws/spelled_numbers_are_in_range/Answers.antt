@@ -1,5 +1,0 @@
-use Rattle.td_plan.proofs.SpelledNumbers.{spelled_numbers_are_in_range}
-use Rattle.td_plan.proofs.laws.spelled_numbers_are_in_range.Goals as goal
-
-pub returns : goal.returns
-returns c = spelled_numbers_are_in_range
