@@ -34,17 +34,17 @@ RestrictionOfJoinOnRight =
     → restriction p (join r s) ≡ join r (restriction p s)
 
 -- two relations that have no common attribute
-abbrev pub AreApart : Relation → Relation → Type 0
-AreApart r s = IsRelation r × IsRelation s × IsTrue (have_no_common r.heading s.heading)
+abbrev pub HaveNoCommon : Relation → Relation → Type 0
+HaveNoCommon r s = IsRelation r × IsRelation s × IsTrue (have_no_common r.heading s.heading)
 
 abbrev pub RestrictionOfProductOnLeft : Type 0
 RestrictionOfProductOnLeft =
-    (p : Tuple → Bool) (r s : Relation) → AreApart r s → AsksOnlyOf (relation_names r) (product r s) p
+    (p : Tuple → Bool) (r s : Relation) → HaveNoCommon r s → AsksOnlyOf (relation_names r) (product r s) p
     → restriction p (product r s) ≡ product (restriction p r) s
 
 abbrev pub RestrictionOfProductOnRight : Type 0
 RestrictionOfProductOnRight =
-    (p : Tuple → Bool) (r s : Relation) → AreApart r s → AsksOnlyOf (relation_names s) (product r s) p
+    (p : Tuple → Bool) (r s : Relation) → HaveNoCommon r s → AsksOnlyOf (relation_names s) (product r s) p
     → restriction p (product r s) ≡ product r (restriction p s)
 
 -- MATCHING and NOT MATCHING keep tuples of their first operand: whatever is asked of them restricts it
