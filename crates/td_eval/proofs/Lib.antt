@@ -56,6 +56,7 @@ pub mod TypedValues
 pub mod UnnestedParts
 pub mod UnreachedValues
 pub mod VirtualValues
+pub mod WalkedAttributes
 pub mod WalkedColumns
 pub mod WalkedExtension
 pub mod WalkedLists

@@ -40,22 +40,21 @@ refused_still (Refused cs) f c e = e
 abbrev pub checked_new : Heading → Outcome (List Attribute) → Outcome (List Attribute)
 checked_new h types = with_value types (λ attributes. with_value (extended_by h attributes) (λ heading. Valued attributes))
 
-module _ (types : Outcome (List Attribute)) (fs : List (Tuple → Outcome Val)) (r : Relation) where
-  -- attributes that have no types or are not new
-  pub attributes_refused : {X : Type 0} (view : X → List Attribute) (f : Fault) → Answers view (Err f) (checked_new r.heading types)
-      → Answers {X = Val} (λ v. v) (Err f) (extended_value types fs r)
-  attributes_refused view faults.Memory a = tt
-  attributes_refused view (faults.Refused c) a = by_types types a
-    where
-      by_heading : (attributes : List Attribute) (o : Outcome Heading) → named_cause (with_value {B = List Attribute} o (λ heading. Valued attributes)) ≡ Some c
-          → named_cause (with_value o (λ heading. with_value (gathered (columns_values attributes fs r.body))
-          (λ columns. of_relation (extended_relation (additions_of attributes fs) r)))) ≡ Some c
-      by_heading attributes (Valued h) e = absurd (cc)
-      by_heading attributes (Refused cs) e = e
+-- so of attributes whose types are known, where a heading is another by which they were asked
+pub checked_of : (h : Heading) (attributes : List Attribute) (g : Heading) → h ≡ g
+    → with_value {B = List Attribute} (extended_by g attributes) (λ heading. Valued attributes) ≡ Valued attributes
+    → checked_new h (Valued attributes) ≡ Valued attributes
+checked_of h attributes g same e = ap (λ k. checked_new k (Valued attributes)) same ∙ e
 
-      by_types : (o : Outcome (List Attribute)) → named_cause (checked_new r.heading o) ≡ Some c → named_cause (extended_value o fs r) ≡ Some c
-      by_types (Valued attributes) e = by_heading attributes (extended_by r.heading attributes) e
-      by_types (Refused cs) e = e
+module _ (types : Outcome (List Attribute)) (fs : List (Tuple → Outcome Val)) (r : Relation) where
+  -- attributes that have no types
+  pub types_refused : {X : Type 0} (view : X → List Attribute) (f : Fault) → Answers view (Err f) types
+      → Answers {X = Val} (λ v. v) (Err f) (extended_value types fs r)
+  types_refused view faults.Memory a = tt
+  types_refused view (faults.Refused c) a =
+      refused_still types (λ attributes. with_value (extended_by r.heading attributes)
+      (λ heading. with_value (gathered (columns_values attributes fs r.body))
+      (λ columns. of_relation (extended_relation (additions_of attributes fs) r)))) c a
 
   module _ (attributes : List Attribute) (new : checked_new r.heading types ≡ Valued attributes) where
     found : (types ≡ Valued attributes) × (h : Heading) × (extended_by r.heading attributes ≡ Valued h)

@@ -1,9 +1,9 @@
 -- New attributes with their values, which may be refused, as columns (this project's own).
-use Rattle.std.specs.Prelude.{List, [], ◌∷◌}
+use Rattle.std.specs.Prelude.{◌≡◌, List, [], ◌∷◌, length}
 use Rattle.td_algebra.specs.Columns.{NamedColumn}
 use Rattle.td_algebra.specs.declared.extension.Column.{Column}
 use Rattle.td_eval.specs.OperatorValues.{column_values}
-use Rattle.td_tree.specs.Outcomes.{Outcome, Valued, with_value}
+use Rattle.td_tree.specs.Outcomes.{Outcome, Valued, gathered, with_value}
 use Rattle.td_types.specs.Types.{Attribute}
 use Rattle.td_types.specs.Views.{type_view}
 use Rattle.td_value.specs.Values.{Val, Tuple}
@@ -18,6 +18,11 @@ abbrev pub named_columns : List Attribute → List (Tuple → Outcome Val) → L
 named_columns [] fs tuples = []
 named_columns (a ∷ attributes) [] tuples = []
 named_columns (a ∷ attributes) (f ∷ fs) tuples = with_values a (column_values a.1 f tuples) ∷ named_columns attributes fs tuples
+
+-- these are the columns of the attributes by some such values, one for each attribute
+abbrev pub AreColumnsFor : List Attribute → List Tuple → List NamedColumn → Type 0
+AreColumnsFor attributes tuples columns =
+    (fs : List (Tuple → Outcome Val)) × (length attributes ≡ length fs) × (gathered (named_columns attributes fs tuples) ≡ Valued columns)
 
 -- a column of the code with its name
 abbrev pub column_view : List ℕ × Column → NamedColumn

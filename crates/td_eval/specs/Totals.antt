@@ -1,5 +1,5 @@
 -- What the items of SUMMARIZE are of in the groups, as the code has it (this project's own).
-use Rattle.std.specs.Prelude.{true, List, [], ◌∷◌, map}
+use Rattle.std.specs.Prelude.{◌≡◌, true, List, [], ◌∷◌, map}
 use Rattle.std.specs.Global.{Vec}
 use Rattle.td_algebra.specs.Columns.{NamedColumn}
 use Rattle.td_check.specs.OperatorTypes.{aggregate_type}
@@ -10,6 +10,7 @@ use Rattle.td_eval.specs.NewColumns.{with_values}
 use Rattle.td_eval.specs.OperatorValues.{of_truth, value_of_type}
 use Rattle.td_eval.specs.TreeValues.{value_of}
 use Rattle.td_eval.specs.Worlds.{World}
+use Rattle.td_group.specs.Groups.{groups}
 use Rattle.td_group.specs.declared.aggregates.Agg.{Agg}
 use Rattle.td_group.specs.declared.aggregates.Agg.TheVariants as asked
 use Rattle.td_tree.specs.declared.expression.Summary.{Summary}
@@ -49,6 +50,10 @@ total_view t = (t.0, map (λ vs. vs.items) t.1.items)
 
 abbrev pub total_of : List (Tuple × Relation) → Summand → Outcome Total
 total_of gs item = with_value (group_values gs item) (λ vss. Valued (item.0, vss))
+
+-- these are what some items are of in the groups of the tuples of a relation
+abbrev pub AreTotalsFor : Relation → List Total → Type 0
+AreTotalsFor per totals = (r : Relation) × (items : List Summand) × (gathered (map (total_of (groups r per)) items) ≡ Valued totals)
 
 -- the values of a new attribute, which are of its type
 abbrev pub total_values : Type' → Total → Outcome (List Val)

@@ -1,18 +1,24 @@
 //! The new attributes of EXTEND.
-ghost use Rattle.std.specs.Prelude.{◌≡◌, not, reverse};
+ghost use Rattle.std.specs.Prelude.{◌≡◌, IfOk, List, length, not, reverse};
 ghost use Rattle.std.specs.List.{list_all};
+ghost use Rattle.td_algebra.specs.Columns.{columns_view};
 ghost use Rattle.td_check.specs.OperatorTypes.{extended_by};
 ghost use Rattle.td_check.specs.Scopes.{entered_with};
 ghost use Rattle.td_check.specs.StaticTypes.{named_types};
+ghost use Rattle.td_eval.specs.NewColumns.{AreColumnsFor, named_columns};
+ghost use Rattle.td_eval.specs.OperatorValues.{extended_value};
 ghost use Rattle.td_eval.specs.Sights.{IsSight, seen_by};
 ghost use Rattle.td_eval.specs.Worlds.{scope_among};
-ghost use Rattle.td_tree.specs.Outcomes.{Answers, Valued, with_value};
+ghost use Rattle.td_tree.specs.Outcomes.{Answers, Outcome, Valued, gathered, with_value};
 ghost use Rattle.td_tree.specs.TreeViews.{named_view};
 ghost use Rattle.td_types.specs.Headings.{has_attribute};
 ghost use Rattle.td_types.specs.Views.{pairs_view};
+ghost use Rattle.td_value.specs.Values.{Tuple, Val};
 
+use crate::operators::tuplewise::extended;
 use crate::sight::Sight;
 use std::alloc::Global;
+use td_algebra::extension::Column;
 use td_body::body::Body;
 use td_check::expression::check_parts;
 use td_tree::cause::Cause;
@@ -24,6 +30,7 @@ use td_types::names::{are_distinct, names_of};
 use td_types::ty::Ty;
 use td_value::relation::Rel;
 use td_value::tuple::Tuple;
+use td_value::value::Value;
 
 /// Whether none of the names is one of the heading's.
 fn are_apart(attributes: &[(Name, Ty)], heading: &Heading) -> bool
@@ -35,26 +42,21 @@ fn are_apart(attributes: &[(Name, Ty)], heading: &Heading) -> bool
         .all(|attribute| heading.get(&attribute.0).is_none())
 }
 
-/// The attributes: refused where a name comes twice or is one of the heading's.
-pub(crate) fn ask_new(
-    alloc: Global,
-    attributes: Vec<(Name, Ty)>,
-    heading: &Heading,
-) -> Result<Vec<(Name, Ty)>, Fault>
-    ensures { Answers (λ ts. pairs_view ts.items) result (with_value
-        (extended_by heading.now (pairs_view attributes.items))
-        (λ h. Valued (pairs_view attributes.items))) }
+/// New attributes: refused where a name comes twice or is one of the heading's.
+pub fn ask_new(alloc: Global, attributes: &[(Name, Ty)], heading: &Heading) -> Result<(), Fault>
+    ensures { Answers (λ u. pairs_view attributes.now) result (with_value
+        (extended_by heading.now (pairs_view attributes.now))
+        (λ h. Valued (pairs_view attributes.now))) }
 {
-    let names = names_of(alloc, &attributes)?;
-    if are_distinct(&names) && are_apart(&attributes, heading) {
-        Ok(attributes)
+    let names = names_of(alloc, attributes)?;
+    if are_distinct(&names) && are_apart(attributes, heading) {
+        Ok(())
     } else {
         Err(Fault::Refused(Cause::Heading))
     }
 }
 
-/// The new attributes with the types of their expressions: refused where a name is there or comes
-/// twice.
+/// The new attributes with the types of their expressions.
 pub(crate) fn new_attributes<B: Body>(
     sight: &Sight<'_, B>,
     tuples: &[Tuple],
@@ -62,14 +64,31 @@ pub(crate) fn new_attributes<B: Body>(
     parts: &[NamedExpr],
 ) -> Result<Vec<(Name, Ty)>, Fault>
     requires { IsSight sight.now }
-    ensures { Answers (λ ts. pairs_view ts.items) result (with_value
+    ensures { Answers (λ ts. pairs_view ts.items) result
         (named_types (entered_with operand.now.heading
-        (scope_among (seen_by sight.now) (reverse tuples.now))) (named_view parts.now))
-        (λ attributes. with_value (extended_by operand.now.heading attributes)
-        (λ heading. Valued attributes))) }
+        (scope_among (seen_by sight.now) (reverse tuples.now))) (named_view parts.now)) }
 {
     let mut scope = sight.scope(tuples)?;
     scope.enter(operand.heading().try_clone()?)?;
-    let attributes = check_parts(&scope, parts)?;
-    ask_new(sight.alloc, attributes, operand.heading())
+    check_parts(&scope, parts)
+}
+
+/// The tuples of a relation with new attributes, by what is answered of their values: refused where
+/// a name is there or comes twice.
+pub fn extension_by(
+    alloc: Global,
+    rel: &Rel,
+    attributes: &[(Name, Ty)],
+    columns: Result<Vec<(Name, Column)>, Fault>,
+) -> Result<Value, Fault>
+    requires { IfOk columns (λ cs. AreColumnsFor (pairs_view attributes.now) rel.now.body
+        (columns_view cs.items)) }
+    ensures { (fs : List (Tuple → Outcome Val)) → length attributes.now ≡ length fs
+        → Answers (λ cs. columns_view cs.items) columns
+        (gathered (named_columns (pairs_view attributes.now) fs rel.now.body))
+        → Answers (λ v. v) result
+        (extended_value (Valued (pairs_view attributes.now)) fs rel.now) }
+{
+    ask_new(alloc, attributes, rel.heading())?;
+    extended(alloc, rel, columns?)
 }

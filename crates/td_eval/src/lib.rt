@@ -2,8 +2,9 @@
 #![tactic(auto)]
 
 pub mod env;
-mod extension;
+pub mod extension;
 pub mod in_tuples;
+pub mod known;
 pub mod laws;
 pub mod operators;
 pub mod rows;

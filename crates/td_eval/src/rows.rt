@@ -64,7 +64,7 @@ pub fn named(name: &Name, answer: Result<Value, Fault>) -> Result<(Name, Value),
 }
 
 /// The new attribute with the values that were answered.
-pub(crate) fn named_column(
+pub fn named_column(
     name: &Name,
     ty: &Ty,
     answer: Result<Vec<Value>, Fault>,

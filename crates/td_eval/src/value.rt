@@ -23,7 +23,7 @@ ghost use Rattle.td_tree.specs.Trees.{choice};
 ghost use Rattle.td_types.specs.Views.{pairs_view, type_view};
 
 use crate::env::Env;
-use crate::extension::new_attributes;
+use crate::extension::{extension_by, new_attributes};
 use crate::operators::aggregates::{aggregated, terms};
 use crate::operators::asked::{attribute, have_types, relation_in, truth};
 use crate::operators::between::operated;
@@ -35,7 +35,7 @@ use crate::operators::postfix::{postfix_value, projected_by};
 use crate::operators::relational::relations;
 use crate::operators::selectors::{component_tuple, constructed};
 use crate::operators::summaries::{grouped, summarized, with_aggregate};
-use crate::operators::tuplewise::{extended, restricted};
+use crate::operators::tuplewise::restricted;
 use crate::rows::{copied, named, named_column, shared, truth_of, typed};
 use crate::sight::Sight;
 use std::alloc::Global;
@@ -59,7 +59,7 @@ use td_value::value::Value;
 /// The value of the relvar of a name. A virtual relvar's is that of its expression where the
 /// virtual relvars before it alone are known and no tuple is in hand.
 #[cycle(value)]
-fn relvar_value<B: Body>(sight: &Sight<'_, B>, name: &Name) -> Result<Value, Fault>
+pub(crate) fn relvar_value<B: Body>(sight: &Sight<'_, B>, name: &Name) -> Result<Value, Fault>
     requires { IsSight sight.now }
     ensures { Answers (λ v. v) result (known_outcome ((seen_by sight.now).relvar name.now)) }
 {
@@ -222,7 +222,11 @@ fn entries<B: Body>(
 
 /// What the selector of the name gives of components.
 #[cycle(value)]
-fn selected<B: Body>(sight: &Sight<'_, B>, name: &Name, values: Vec<Value>) -> Result<Value, Fault>
+pub(crate) fn selected<B: Body>(
+    sight: &Sight<'_, B>,
+    name: &Name,
+    values: Vec<Value>,
+) -> Result<Value, Fault>
     requires { IsSight sight.now }
     ensures { Answers (λ v. v) result (selected (seen_by sight.now) name.now values.items) }
 {
@@ -397,8 +401,8 @@ fn extension<B: Body>(
 {
     let rel = relation_in(operand)?;
     let attributes = new_attributes(sight, tuples, rel, parts)?;
-    let columns = columns(sight, tuples, rel, &attributes, parts)?;
-    extended(sight.alloc, rel, columns)
+    let columns = columns(sight, tuples, rel, &attributes, parts);
+    extension_by(sight.alloc, rel, &attributes, columns)
 }
 
 /// The values of an expression in the tuples of a relation.

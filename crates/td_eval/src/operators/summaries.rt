@@ -1,12 +1,13 @@
 //! The values of SUMMARIZE, by what its items are of in the groups.
 ghost use Rattle.std.specs.Prelude.{◌≡◌, List, length, map, reverse};
 ghost use Rattle.td_algebra.specs.Columns.{columns_view};
-ghost use Rattle.td_check.specs.OperatorTypes.{aggregate_type, extended_by};
+ghost use Rattle.td_check.specs.OperatorTypes.{aggregate_type};
 ghost use Rattle.td_check.specs.Scopes.{entered_with};
-ghost use Rattle.td_eval.specs.AggregateValues.{summary_attributes, summary_in};
+ghost use Rattle.td_eval.specs.AggregateValues.{Summand, summary_attributes, summary_in};
 ghost use Rattle.td_eval.specs.OperatorValues.{extended_value};
 ghost use Rattle.td_eval.specs.Sights.{IsSight, seen_by};
-ghost use Rattle.td_eval.specs.Totals.{asked_by, attribute_found, total_columns, total_of};
+ghost use Rattle.td_eval.specs.Totals.{AreTotalsFor, asked_by, attribute_found, total_columns};
+ghost use Rattle.td_eval.specs.Totals.{total_of};
 ghost use Rattle.td_eval.specs.Totals.{total_values, total_view};
 ghost use Rattle.td_eval.specs.TreeValues.{items_in_tuples};
 ghost use Rattle.td_eval.specs.Worlds.{scope_among};
@@ -17,7 +18,7 @@ ghost use Rattle.td_tree.specs.declared.cause.Cause.TheVariants as causes;
 ghost use Rattle.td_types.specs.Headings.{is_part};
 ghost use Rattle.td_types.specs.Pairs.{pair_view};
 ghost use Rattle.td_types.specs.Views.{pairs_view, type_view};
-ghost use Rattle.td_value.specs.Values.{Val};
+ghost use Rattle.td_value.specs.Values.{Relation, Val};
 
 use crate::extension::ask_new;
 use crate::operators::aggregates::{aggregate_of, asked_of};
@@ -79,7 +80,7 @@ fn item_attribute(scope: &Scope<'_>, item: &Summary) -> Result<(Name, Ty), Fault
 }
 
 /// The attributes that items add, with their types.
-fn item_attributes(
+pub fn item_attributes(
     alloc: Global,
     scope: &Scope<'_>,
     items: &[Summary],
@@ -98,25 +99,21 @@ fn item_attributes(
     causes.finish(attributes)
 }
 
-/// The new attributes with the types of their items: refused where a name is there or comes twice.
+/// The attributes that items add, with their types where tuples of a relation are in hand.
 fn new_attributes<B: Body>(
     sight: &Sight<'_, B>,
     tuples: &[Tuple],
     rel: &Rel,
-    per: &Rel,
     items: &[Summary],
 ) -> Result<Vec<(Name, Ty)>, Fault>
     requires { IsSight sight.now }
-    ensures { Answers (λ xs. pairs_view xs.items) result (with_value
+    ensures { Answers (λ xs. pairs_view xs.items) result
         (summary_attributes (entered_with rel.now.heading
-        (scope_among (seen_by sight.now) (reverse tuples.now))) (summaries_view items.now))
-        (λ attributes. with_value (extended_by per.now.heading attributes)
-        (λ heading. Valued attributes))) }
+        (scope_among (seen_by sight.now) (reverse tuples.now))) (summaries_view items.now)) }
 {
     let mut scope = sight.scope(tuples)?;
     scope.enter(rel.heading().try_clone()?)?;
-    let attributes = item_attributes(sight.alloc, &scope, items)?;
-    ask_new(sight.alloc, attributes, per.heading())
+    item_attributes(sight.alloc, &scope, items)
 }
 
 // ---- their values
@@ -188,6 +185,27 @@ fn total_columns(
     causes.finish(columns)
 }
 
+/// The tuples of PER with new attributes, by what their items are of in the groups: refused where a
+/// name is there or comes twice.
+pub fn summary_by(
+    alloc: Global,
+    per: &Rel,
+    attributes: &[(Name, Ty)],
+    totals: &[(Agg, Vec<Vec<Value>>)],
+) -> Result<Value, Fault>
+    requires lengths { length attributes.now ≡ length totals.now }
+    requires totals { AreTotalsFor per.now (map total_view totals.now) }
+    ensures { (rel : Relation) → (items : List Summand)
+        → gathered (map (total_of (groups rel per.now)) items)
+        ≡ Valued (map total_view totals.now)
+        → Answers (λ v. v) result (extended_value (Valued (pairs_view attributes.now))
+        (map (summary_in rel per.now) items) per.now) }
+{
+    ask_new(alloc, attributes, per.heading())?;
+    let columns = total_columns(alloc, attributes, totals)?;
+    extended(alloc, per, columns)
+}
+
 /// The tuples of PER with what the items give of their groups.
 pub(crate) fn summarized<B: Body>(
     sight: &Sight<'_, B>,
@@ -208,7 +226,6 @@ pub(crate) fn summarized<B: Body>(
         (items_in_tuples (seen_by sight.now) (reverse tuples.now) (summaries_view items.now)))
         per.now) }
 {
-    let attributes = new_attributes(sight, tuples, rel, per, items)?;
-    let columns = total_columns(sight.alloc, &attributes, totals)?;
-    extended(sight.alloc, per, columns)
+    let attributes = new_attributes(sight, tuples, rel, items)?;
+    summary_by(sight.alloc, per, &attributes, totals)
 }

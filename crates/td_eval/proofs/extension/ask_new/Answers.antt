@@ -1,4 +1,4 @@
-use Rattle.std.proofs.Common.{◌≡◌, ◌∙◌, true, false, ap, map, sym}
+use Rattle.std.proofs.Common.{◌≡◌, ◌∙◌, true, false, ap, sym}
 use Rattle.std.specs.Prelude.{◌&&◌, not}
 use Rattle.std.specs.List.{list_all}
 use Rattle.td_types.specs.Headings.{are_distinct, has_attribute}
@@ -10,23 +10,22 @@ use Rattle.td_eval.proofs.extension.ask_new.Goals.{else-are_distinct-via-then-ar
 
 pub returns-then-are_apart : goal.returns-then-are_apart
 returns-then-are_apart c =
-    let names = c.deref-2.ensures.value ∙ c.in_ok-names.ensures ∙ ap (map (λ e. e.0)) c.deref.ensures.value ∙ sym (names_of_pairs c.args.attributes.items) in
-    let distinct : are_distinct (attribute_names (pairs_view c.args.attributes.items)) ≡ true =
+    let names = c.deref.ensures.value ∙ c.in_ok-names.ensures ∙ sym (names_of_pairs c.args.attributes.now) in
+    let distinct : are_distinct (attribute_names (pairs_view c.args.attributes.now)) ≡ true =
     ap are_distinct (sym names) ∙ sym c.are_distinct.ensures ∙ c.if-are_distinct.true in
-    let apart : list_all (λ a. not (has_attribute a.0 c.args.heading.now)) (pairs_view c.args.attributes.items) ≡ true =
-    ap (λ xs. list_all (λ a. not (has_attribute a.0 c.args.heading.now)) (pairs_view xs)) (sym c.deref-then-are_distinct.ensures.value) ∙ sym c.are_apart.ensures ∙ c.if-are_apart.true in
-    new_given c.args.heading.now (pairs_view c.args.attributes.items) (λ i. distinct i && apart i)
+    let apart : list_all (λ a. not (has_attribute a.0 c.args.heading.now)) (pairs_view c.args.attributes.now) ≡ true =
+    sym c.are_apart.ensures ∙ c.if-are_apart.true in
+    new_given c.args.heading.now (pairs_view c.args.attributes.now) (λ i. distinct i && apart i)
 
-pub returns-else-are_distinct : goal.returns-else-are_distinct
-returns-else-are_distinct c =
-    let names = c.deref-2.ensures.value ∙ c.in_ok-names.ensures ∙ ap (map (λ e. e.0)) c.deref.ensures.value ∙ sym (names_of_pairs c.args.attributes.items) in
-    old_refused c.args.heading.now (pairs_view c.args.attributes.items)
-    (elim c.else-are_distinct.branch as (λ _. are_new c.args.heading.now (pairs_view c.args.attributes.items) ≡ false) [
+pub returns : goal.returns
+returns c =
+    let names = c.deref.ensures.value ∙ c.in_ok-names.ensures ∙ sym (names_of_pairs c.args.attributes.now) in
+    old_refused c.args.heading.now (pairs_view c.args.attributes.now)
+    (elim c.else-are_distinct.branch as (λ _. are_new c.args.heading.now (pairs_view c.args.attributes.now) ≡ false) [
       | else-are_distinct-via-then-are_distinct+else-are_apart w ↦
-          not_new c.args.heading.now (pairs_view c.args.attributes.items)
-          (ap (λ xs. list_all (λ a. not (has_attribute a.0 c.args.heading.now)) (pairs_view xs)) (sym w.deref-then-are_distinct.ensures.value) ∙ sym w.are_apart.ensures ∙ w.if-are_apart.false)
+          not_new c.args.heading.now (pairs_view c.args.attributes.now) (sym w.are_apart.ensures ∙ w.if-are_apart.false)
       | else-are_distinct-via-else-are_distinct w ↦
-          (let distinct : are_distinct (attribute_names (pairs_view c.args.attributes.items)) ≡ false =
+          (let distinct : are_distinct (attribute_names (pairs_view c.args.attributes.now)) ≡ false =
           ap are_distinct (sym names) ∙ sym c.are_distinct.ensures ∙ w.if-are_distinct.false in
-          ap (λ b. b && list_all (λ a. not (has_attribute a.0 c.args.heading.now)) (pairs_view c.args.attributes.items)) distinct)
+          ap (λ b. b && list_all (λ a. not (has_attribute a.0 c.args.heading.now)) (pairs_view c.args.attributes.now)) distinct)
     ])

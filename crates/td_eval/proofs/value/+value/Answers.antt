@@ -18,9 +18,10 @@ use Rattle.td_eval.proofs.Measures.{constraint_height, height_if, height_item, h
 use Rattle.td_eval.proofs.OpElements.{element_gathered, element_refused}
 use Rattle.td_eval.proofs.Selectors.{is_selector, never_missing, types_seen}
 use Rattle.td_eval.proofs.VirtualValues.{held_seen}
+use Rattle.td_eval.proofs.WalkedAttributes.{as_many_found, columns_for}
 use Rattle.td_eval.proofs.WalkedColumns.{beside_at, beside_past, beside_within, column_found, columns_are}
-use Rattle.td_eval.proofs.WalkedExtension.{answers_related, apart_given, attributes_refused, columns_fit, columns_of_additions, columns_refused, distinct_given, extended_given, same_attributes, types_given}
-use Rattle.td_eval.proofs.WalkedLists.{arguments_are, as_many_parts, as_many_types, entries_are, entry_found, of_as_many, value_found, walked, walked_values}
+use Rattle.td_eval.proofs.WalkedExtension.{answers_related, types_refused}
+use Rattle.td_eval.proofs.WalkedLists.{arguments_are, as_many_parts, entries_are, entry_found, of_as_many, value_found, walked, walked_values}
 use Rattle.td_eval.proofs.WalkedSelections.{constructed_of, mismatched}
 use Rattle.td_eval.proofs.OpValues.{related as both_related}
 use Rattle.td_eval.proofs.WalkedTotals.{group_found, terms_given, total_found, totals_are, totals_given, totals_refused}
@@ -41,10 +42,9 @@ use Rattle.td_tree.specs.TreeViews.{attributes_view, heading_tree_view, named_vi
 use Rattle.td_tree.specs.Trees as trees
 use Rattle.td_tree.proofs.Rows.{extend_is, headed_relation_is, relation_is, select_is, summarize_by_is, summarize_per_is, tuple_is}
 use Rattle.td_types.specs.declared.ty.Ty.{Ty}
-use Rattle.td_types.specs.Headings.{are_distinct, have_no_common}
 use Rattle.td_types.specs.Pairs.{pair_view}
 use Rattle.td_types.specs.TypeLists.{heading_meant}
-use Rattle.td_types.specs.Types.{Heading, attribute_names}
+use Rattle.td_types.specs.Types.{Heading}
 use Rattle.td_types.specs.Views.{pairs_view, type_view}
 use Rattle.td_types.proofs.Resolutions.{answers_still}
 use Rattle.td_value.specs.Values.{Tuple, Val, boolean, type_of}
@@ -384,41 +384,42 @@ extension-returns-in_err-attributes g t c =
     let p = err_from_is_err_and c.from_residual-in_err-attributes.result c.from_residual-in_err-attributes.ensures.1 in
     answers_related (λ (v : Val). v) c.args.operand.now c.in_ok-rel.rel.now (λ r. extended_value (named_types (entered_with r.heading (scope_among (seen_by c.args.sight.now) (reverse c.args.tuples.now))) (named_view c.args.parts.now)) (values_in_tuples (seen_by c.args.sight.now) (reverse c.args.tuples.now) (named_view c.args.parts.now)) r) c.from_residual-in_err-attributes.result c.in_ok-rel.ensures
     (rw (p.1, p.2)
-    (attributes_refused (named_types (entered_with c.in_ok-rel.rel.now.heading (scope_among (seen_by c.args.sight.now) (reverse c.args.tuples.now))) (named_view c.args.parts.now)) (values_in_tuples (seen_by c.args.sight.now) (reverse c.args.tuples.now) (named_view c.args.parts.now)) c.in_ok-rel.rel.now (λ (ts : Vec (List ℕ × Ty)). pairs_view ts.items) _ c.in_err-attributes.ensures))
+    (types_refused (named_types (entered_with c.in_ok-rel.rel.now.heading (scope_among (seen_by c.args.sight.now) (reverse c.args.tuples.now))) (named_view c.args.parts.now)) (values_in_tuples (seen_by c.args.sight.now) (reverse c.args.tuples.now) (named_view c.args.parts.now)) c.in_ok-rel.rel.now (λ (ts : Vec (List ℕ × Ty)). pairs_view ts.items) _ c.in_err-attributes.ensures))
 
-pub extension-columns-requires : goal.extension-columns-requires
-extension-columns-requires g t c =
-    let many = (as_many_types (entered_with c.in_ok-rel.rel.now.heading (scope_among (seen_by c.args.sight.now) (reverse c.args.tuples.now))) c.args.parts.now (pairs_view c.in_ok-attributes.attributes.items) (types_given (named_types (entered_with c.in_ok-rel.rel.now.heading (scope_among (seen_by c.args.sight.now) (reverse c.args.tuples.now))) (named_view c.args.parts.now)) (values_in_tuples (seen_by c.args.sight.now) (reverse c.args.tuples.now) (named_view c.args.parts.now)) c.in_ok-rel.rel.now (pairs_view c.in_ok-attributes.attributes.items) c.in_ok-attributes.ensures)) in
+pub extension-columns-columns-requires : goal.extension-columns-columns-requires
+extension-columns-columns-requires g t c =
     λ κs o. (
       omega (arith, c.decreases),
-      (o, (c.requires, (ap length c.deref.ensures.value ∙ sym (length-map c.in_ok-attributes.attributes.items pair_view) ∙ many))),
+      (
+        o,
+        (
+          c.requires,
+          as_many_found (entered_with c.in_ok-rel.rel.now.heading (scope_among (seen_by c.args.sight.now) (reverse c.args.tuples.now))) c.args.parts.now
+              c.in_ok-attributes.attributes.items c.deref.result.now c.deref.ensures.value c.in_ok-attributes.ensures,
+        ),
+      ),
     )
 
-pub extension-returns-in_err-columns : goal.extension-returns-in_err-columns
-extension-returns-in_err-columns g t c =
-    let p = err_from_is_err_and c.from_residual-in_err-columns.result c.from_residual-in_err-columns.ensures.1 in
-    answers_related (λ (v : Val). v) c.args.operand.now c.in_ok-rel.rel.now (λ r. extended_value (named_types (entered_with r.heading (scope_among (seen_by c.args.sight.now) (reverse c.args.tuples.now))) (named_view c.args.parts.now)) (values_in_tuples (seen_by c.args.sight.now) (reverse c.args.tuples.now) (named_view c.args.parts.now)) r) c.from_residual-in_err-columns.result c.in_ok-rel.ensures
-    (rw (p.1, p.2)
-    (columns_refused (named_types (entered_with c.in_ok-rel.rel.now.heading (scope_among (seen_by c.args.sight.now) (reverse c.args.tuples.now))) (named_view c.args.parts.now)) (values_in_tuples (seen_by c.args.sight.now) (reverse c.args.tuples.now) (named_view c.args.parts.now)) c.in_ok-rel.rel.now (pairs_view c.in_ok-attributes.attributes.items) c.in_ok-attributes.ensures (λ (cs : Vec (List ℕ × Column)). columns_view cs.items) _ (pairs_view c.deref.result.now)
-    (ap pairs_view c.deref.ensures.value) c.in_err-columns.ensures))
-
-pub extension-extended-requires-clause-distinct : goal.extension-extended-requires-clause-distinct
-extension-extended-requires-clause-distinct g t c =
-    ap (λ xs. are_distinct (attribute_names xs)) (same_attributes (named_types (entered_with c.in_ok-rel.rel.now.heading (scope_among (seen_by c.args.sight.now) (reverse c.args.tuples.now))) (named_view c.args.parts.now)) (values_in_tuples (seen_by c.args.sight.now) (reverse c.args.tuples.now) (named_view c.args.parts.now)) c.in_ok-rel.rel.now (pairs_view c.in_ok-attributes.attributes.items) c.in_ok-attributes.ensures (columns_view c.in_ok-columns.columns.items) (subst (λ xs. gathered (named_columns (pairs_view xs) (values_in_tuples (seen_by c.args.sight.now) (reverse c.args.tuples.now) (named_view c.args.parts.now)) c.in_ok-rel.rel.now.body) ≡ Valued (columns_view c.in_ok-columns.columns.items)) c.deref.ensures.value c.in_ok-columns.ensures) ((as_many_types (entered_with c.in_ok-rel.rel.now.heading (scope_among (seen_by c.args.sight.now) (reverse c.args.tuples.now))) c.args.parts.now (pairs_view c.in_ok-attributes.attributes.items) (types_given (named_types (entered_with c.in_ok-rel.rel.now.heading (scope_among (seen_by c.args.sight.now) (reverse c.args.tuples.now))) (named_view c.args.parts.now)) (values_in_tuples (seen_by c.args.sight.now) (reverse c.args.tuples.now) (named_view c.args.parts.now)) c.in_ok-rel.rel.now (pairs_view c.in_ok-attributes.attributes.items) c.in_ok-attributes.ensures)) ∙ sym (as_many_parts (seen_by c.args.sight.now) (reverse c.args.tuples.now) c.args.parts.now))) ∙ distinct_given (named_types (entered_with c.in_ok-rel.rel.now.heading (scope_among (seen_by c.args.sight.now) (reverse c.args.tuples.now))) (named_view c.args.parts.now)) (values_in_tuples (seen_by c.args.sight.now) (reverse c.args.tuples.now) (named_view c.args.parts.now)) c.in_ok-rel.rel.now (pairs_view c.in_ok-attributes.attributes.items) c.in_ok-attributes.ensures
-
-pub extension-extended-requires-clause-new : goal.extension-extended-requires-clause-new
-extension-extended-requires-clause-new g t c =
-    ap (λ xs. have_no_common xs c.in_ok-rel.rel.now.heading) (same_attributes (named_types (entered_with c.in_ok-rel.rel.now.heading (scope_among (seen_by c.args.sight.now) (reverse c.args.tuples.now))) (named_view c.args.parts.now)) (values_in_tuples (seen_by c.args.sight.now) (reverse c.args.tuples.now) (named_view c.args.parts.now)) c.in_ok-rel.rel.now (pairs_view c.in_ok-attributes.attributes.items) c.in_ok-attributes.ensures (columns_view c.in_ok-columns.columns.items) (subst (λ xs. gathered (named_columns (pairs_view xs) (values_in_tuples (seen_by c.args.sight.now) (reverse c.args.tuples.now) (named_view c.args.parts.now)) c.in_ok-rel.rel.now.body) ≡ Valued (columns_view c.in_ok-columns.columns.items)) c.deref.ensures.value c.in_ok-columns.ensures) ((as_many_types (entered_with c.in_ok-rel.rel.now.heading (scope_among (seen_by c.args.sight.now) (reverse c.args.tuples.now))) c.args.parts.now (pairs_view c.in_ok-attributes.attributes.items) (types_given (named_types (entered_with c.in_ok-rel.rel.now.heading (scope_among (seen_by c.args.sight.now) (reverse c.args.tuples.now))) (named_view c.args.parts.now)) (values_in_tuples (seen_by c.args.sight.now) (reverse c.args.tuples.now) (named_view c.args.parts.now)) c.in_ok-rel.rel.now (pairs_view c.in_ok-attributes.attributes.items) c.in_ok-attributes.ensures)) ∙ sym (as_many_parts (seen_by c.args.sight.now) (reverse c.args.tuples.now) c.args.parts.now))) ∙ apart_given (named_types (entered_with c.in_ok-rel.rel.now.heading (scope_among (seen_by c.args.sight.now) (reverse c.args.tuples.now))) (named_view c.args.parts.now)) (values_in_tuples (seen_by c.args.sight.now) (reverse c.args.tuples.now) (named_view c.args.parts.now)) c.in_ok-rel.rel.now (pairs_view c.in_ok-attributes.attributes.items) c.in_ok-attributes.ensures
-
-pub extension-extended-requires-clause-fit : goal.extension-extended-requires-clause-fit
-extension-extended-requires-clause-fit g t c =
-    columns_fit (named_types (entered_with c.in_ok-rel.rel.now.heading (scope_among (seen_by c.args.sight.now) (reverse c.args.tuples.now))) (named_view c.args.parts.now)) (values_in_tuples (seen_by c.args.sight.now) (reverse c.args.tuples.now) (named_view c.args.parts.now)) c.in_ok-rel.rel.now (pairs_view c.in_ok-attributes.attributes.items) c.in_ok-attributes.ensures (columns_view c.in_ok-columns.columns.items) (subst (λ xs. gathered (named_columns (pairs_view xs) (values_in_tuples (seen_by c.args.sight.now) (reverse c.args.tuples.now) (named_view c.args.parts.now)) c.in_ok-rel.rel.now.body) ≡ Valued (columns_view c.in_ok-columns.columns.items)) c.deref.ensures.value c.in_ok-columns.ensures)
+pub extension-extension_by-requires : goal.extension-extension_by-requires
+extension-extension_by-requires g t c =
+    let scope = entered_with c.in_ok-rel.rel.now.heading (scope_among (seen_by c.args.sight.now) (reverse c.args.tuples.now)) in
+    columns_for (values_in_tuples (seen_by c.args.sight.now) (reverse c.args.tuples.now) (named_view c.args.parts.now)) c.in_ok-rel.rel.now.body c.deref.result.now c.deref-2.result.now c.columns-columns.result
+    (c.deref-2.ensures.value ∙ sym c.deref.ensures.value)
+    (as_many_found scope c.args.parts.now c.in_ok-attributes.attributes.items c.deref.result.now c.deref.ensures.value c.in_ok-attributes.ensures
+    ∙ sym (as_many_parts (seen_by c.args.sight.now) (reverse c.args.tuples.now) c.args.parts.now))
+    c.columns-columns.ensures
 
 pub extension-returns : goal.extension-returns
 extension-returns g t c =
-    answers_related (λ (v : Val). v) c.args.operand.now c.in_ok-rel.rel.now (λ r. extended_value (named_types (entered_with r.heading (scope_among (seen_by c.args.sight.now) (reverse c.args.tuples.now))) (named_view c.args.parts.now)) (values_in_tuples (seen_by c.args.sight.now) (reverse c.args.tuples.now) (named_view c.args.parts.now)) r) c.extended.result c.in_ok-rel.ensures
-    (extended_given (named_types (entered_with c.in_ok-rel.rel.now.heading (scope_among (seen_by c.args.sight.now) (reverse c.args.tuples.now))) (named_view c.args.parts.now)) (values_in_tuples (seen_by c.args.sight.now) (reverse c.args.tuples.now) (named_view c.args.parts.now)) c.in_ok-rel.rel.now (pairs_view c.in_ok-attributes.attributes.items) c.in_ok-attributes.ensures (columns_view c.in_ok-columns.columns.items) (subst (λ xs. gathered (named_columns (pairs_view xs) (values_in_tuples (seen_by c.args.sight.now) (reverse c.args.tuples.now) (named_view c.args.parts.now)) c.in_ok-rel.rel.now.body) ≡ Valued (columns_view c.in_ok-columns.columns.items)) c.deref.ensures.value c.in_ok-columns.ensures) c.extended.result
-    (c.extended.ensures (additions_of (pairs_view c.in_ok-attributes.attributes.items) (values_in_tuples (seen_by c.args.sight.now) (reverse c.args.tuples.now) (named_view c.args.parts.now))) (columns_of_additions (named_types (entered_with c.in_ok-rel.rel.now.heading (scope_among (seen_by c.args.sight.now) (reverse c.args.tuples.now))) (named_view c.args.parts.now)) (values_in_tuples (seen_by c.args.sight.now) (reverse c.args.tuples.now) (named_view c.args.parts.now)) c.in_ok-rel.rel.now (pairs_view c.in_ok-attributes.attributes.items) c.in_ok-attributes.ensures (columns_view c.in_ok-columns.columns.items) (subst (λ xs. gathered (named_columns (pairs_view xs) (values_in_tuples (seen_by c.args.sight.now) (reverse c.args.tuples.now) (named_view c.args.parts.now)) c.in_ok-rel.rel.now.body) ≡ Valued (columns_view c.in_ok-columns.columns.items)) c.deref.ensures.value c.in_ok-columns.ensures))))
+    let scope = entered_with c.in_ok-rel.rel.now.heading (scope_among (seen_by c.args.sight.now) (reverse c.args.tuples.now)) in
+    answers_related (λ (v : Val). v) c.args.operand.now c.in_ok-rel.rel.now (λ r. extended_value (named_types (entered_with r.heading (scope_among (seen_by c.args.sight.now) (reverse c.args.tuples.now))) (named_view c.args.parts.now)) (values_in_tuples (seen_by c.args.sight.now) (reverse c.args.tuples.now) (named_view c.args.parts.now)) r) c.extension_by.result c.in_ok-rel.ensures
+    (subst (λ o. Answers (λ (v : Val). v) c.extension_by.result (extended_value o (values_in_tuples (seen_by c.args.sight.now) (reverse c.args.tuples.now) (named_view c.args.parts.now)) c.in_ok-rel.rel.now))
+    (ap Valued (ap pairs_view c.deref-2.ensures.value) ∙ sym c.in_ok-attributes.ensures)
+    (c.extension_by.ensures (values_in_tuples (seen_by c.args.sight.now) (reverse c.args.tuples.now) (named_view c.args.parts.now))
+    (as_many_found scope c.args.parts.now c.in_ok-attributes.attributes.items c.deref-2.result.now c.deref-2.ensures.value c.in_ok-attributes.ensures
+    ∙ sym (as_many_parts (seen_by c.args.sight.now) (reverse c.args.tuples.now) c.args.parts.now))
+    (subst (λ xs. Answers (λ (cs : Vec (List ℕ × Column)). columns_view cs.items) c.columns-columns.result (gathered (named_columns (pairs_view xs) (values_in_tuples (seen_by c.args.sight.now) (reverse c.args.tuples.now) (named_view c.args.parts.now)) c.in_ok-rel.rel.now.body)))
+    (c.deref.ensures.value ∙ sym c.deref-2.ensures.value) c.columns-columns.ensures)))
 
 -- ---- aggregates
 
