@@ -1,4 +1,15 @@
 pub mod Equalities
 pub mod EqualitiesOfNames
 pub mod EqualitiesOfValues
+pub mod Hands
+pub mod Hoisting
+pub mod PlanViews
+pub mod PlannedParts
+pub mod Planners
+pub mod Plans
+pub mod PlansOf
+pub mod Quick
+pub mod Runs
+pub mod StepViews
+pub mod SummaryItems
 pub mod TotalConditions

@@ -1,7 +1,13 @@
 //! What plans stand on: each function has its contract alone.
+ghost use Rattle.td_plan.specs.Hoisting.{PlansDependOnTuplesTheyName};
 ghost use Rattle.td_plan.specs.TotalConditions.{UnfailingConditionsAreTotal};
 
 /// A condition that cannot fail in the tuples of a relation has a truth value in each of them.
 pub fn unfailing_conditions_are_total()
     ensures { UnfailingConditionsAreTotal }
+{}
+
+/// A plan that does not name a tuple in hand has the same value, or the same causes, without it.
+pub fn plans_depend_on_the_tuples_that_they_name()
+    ensures { PlansDependOnTuplesTheyName }
 {}

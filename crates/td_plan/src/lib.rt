@@ -1,5 +1,23 @@
-//! Plans that mean what an expression means are to come: the crate has laws alone.
+//! Plans that mean what an expression means, and the equalities that they stand on.
 #![tactic(auto)]
 
+mod answered;
 pub mod equalities;
+pub mod explain;
+mod hand;
+mod hoist;
+mod in_tuples;
 pub mod laws;
+mod nodes;
+mod operand;
+pub mod plan;
+mod planner;
+mod planning;
+mod quick;
+mod run;
+pub mod run_plan;
+mod run_rows;
+mod step;
+mod summaries;
+mod surroundings;
+pub mod value;

@@ -1,0 +1,183 @@
+-- What is planned in the tuples of an operand is what is applied to them.
+use Rattle.std.proofs.Common.{◌≡◌, ◌∙◌, ◌++◌, ℕ, suc, Bool, true, List, [], ◌∷◌, ap, append-nil, length, map, refl, subst, sym}
+use Rattle.std.specs.List.{AllByRecursion, Contains}
+use Rattle.std.specs.Prelude.{nat_eq}
+use Rattle.std.proofs.lemmas.Bool.{eq-eqb}
+use Rattle.td_check.specs.OperatorTypes.{aggregate_type, extension_type, over_relation, restriction_type}
+use Rattle.td_check.specs.Scopes.{Scope, entered_with}
+use Rattle.td_check.specs.StaticLaws.{HasMore, PartsGiveNames}
+use Rattle.td_check.specs.StaticTypes.{named_types, type_of}
+use Rattle.td_check.proofs.StaticLaws.{more_changes_no_parts}
+use Rattle.td_eval.specs.AggregateValues.{aggregated_value, asked_of}
+use Rattle.td_eval.specs.OperatorValues.{extended_value, on_relation, relation_as_value, restricted_value}
+use Rattle.td_eval.specs.TreeTexts.{PartsHaveTexts}
+use Rattle.td_eval.specs.TreeValues.{value_of, values_in_tuples}
+use Rattle.td_eval.specs.ValueTypes.{IsOfType, IsTypedTuple, IsWritten, KeepsScope, KeepsType, with_tuples}
+use Rattle.td_eval.specs.Worlds.{World, scope_among}
+use Rattle.td_eval.proofs.AlikeOutcomes.{over_same}
+use Rattle.td_eval.proofs.AlikeRows.{AlikeIn, AreAlikeIn, aggregated_alike, extended_alike, restricted_alike}
+use Rattle.td_eval.proofs.TypedRows.{rows_typed}
+use Rattle.td_eval.proofs.TypedTrees.{values_keep_types}
+use Rattle.td_plan.specs.Hoisting.{BeginsWith, Pulls, PullsAll}
+use Rattle.td_plan.specs.PlannedParts.{ArePlansOfTyped, in_named}
+use Rattle.td_plan.specs.Plans as plans
+use Rattle.td_plan.specs.Plans.{Frame, PlanTree, PlanTrees, extension_of, frame_of, plan_columns, plan_value, plan_values, where_as_many}
+use Rattle.td_plan.specs.PlansOf.{AreFramesOf, AreInHand, IsPlanOfTyped, outermost}
+use Rattle.td_tree.specs.declared.operator.Aggregate.{Aggregate}
+use Rattle.td_tree.specs.Outcomes.{Outcome, Valued, with_value}
+use Rattle.td_tree.specs.Trees as trees
+use Rattle.td_tree.specs.Trees.{NamedTrees, Tree}
+use Rattle.td_types.proofs.OutcomeLaws.{value_of_with, valued_is, values_of_both}
+use Rattle.td_types.specs.TypeCode.{unpack_pack}
+use Rattle.td_types.specs.Types.{Attribute, Attrs, Heading, Type', pack, unpack}
+use Rattle.td_types.specs.Types as types
+use Rattle.td_value.specs.Values.{Relation, Tuple, Val, heading_of}
+
+-- ---- where parts were valued once
+
+begins_itself : (os : List (Outcome Val)) → BeginsWith os os
+begins_itself os = ([], sym (append-nil os))
+
+-- what a plan gives in a tuple
+abbrev in_tuple : World → List Frame → List (Outcome Val) → PlanTree → Tuple → Outcome Val
+in_tuple w fs os p t = plan_value w (frame_of os t ∷ fs) p
+
+one_pulled : (old parts : PlanTrees) (c q : PlanTree) → Pulls old parts c q → (w : World) (fs : List Frame)
+    → in_tuple w fs (plan_values w fs parts) q ≡ in_tuple w fs (plan_values w fs parts) c
+one_pulled old parts c q pulls w fs = λ i t. (pulls w fs t (plan_values w fs parts) (begins_itself (plan_values w fs parts))).1 i
+
+-- functions that give the same everywhere
+same_columns : (fs gs : List (Tuple → Outcome Val)) → ((t : Tuple) → map (λ f. f t) fs ≡ map (λ f. f t) gs) → fs ≡ gs
+same_columns [] [] h = refl
+same_columns [] (g ∷ gs) h = absurd (let e = h [] in cc)
+same_columns (f ∷ fs) [] h = absurd (let e = h [] in cc)
+same_columns (f ∷ fs) (g ∷ gs) h =
+    let first : (t : Tuple) → f t ≡ g t = λ t. (let e = h t in cc) in
+    let rest = same_columns fs gs (λ t. (let e = h t in cc)) in
+    λ i. (λ t. first t i) ∷ rest i
+
+columns_are : (w : World) (fs : List Frame) (os : List (Outcome Val)) (ps : PlanTrees) (t : Tuple)
+    → map (λ f. f t) (plan_columns w fs os ps) ≡ plan_values w (frame_of os t ∷ fs) ps
+columns_are w fs os plans.none t = refl
+columns_are w fs os (plans.more p ps) t = ap (λ vs. plan_value w (frame_of os t ∷ fs) p ∷ vs) (columns_are w fs os ps t)
+
+pub all_pulled : (old parts cs qs : PlanTrees) → PullsAll old parts cs qs → (w : World) (fs : List Frame)
+    → plan_columns w fs (plan_values w fs parts) qs ≡ plan_columns w fs (plan_values w fs parts) cs
+all_pulled old parts cs qs pulls w fs =
+    let os = plan_values w fs parts in
+    same_columns (plan_columns w fs os qs) (plan_columns w fs os cs)
+    (λ t. columns_are w fs os qs t ∙ (pulls w fs t os (begins_itself os)).1 ∙ sym (columns_are w fs os cs t))
+
+-- ---- in the tuples of a relation that an operand has as its value
+
+module _ (scope : Scope) (w : World) (s : List Tuple) (fs : List Frame) (k : KeepsScope w (outermost scope)) (hand : AreInHand scope s) (f : AreFramesOf s fs) where
+  -- a value of the operand's type
+  pub kept : (d : Tree) (t : Type') → IsWritten d → type_of scope d ≡ Valued t → KeepsType scope.types (Valued t) (value_of w s d)
+  kept d t written is =
+      let here : with_tuples (outermost scope) s ≡ scope =
+      λ i. record { types = scope.types; relvars = scope.relvars; constraints = scope.constraints; entered = hand.1 i } in
+      subst (λ o. KeepsType scope.types o (value_of w s d)) (ap (λ z. type_of z d) here ∙ is)
+      (values_keep_types w (outermost scope) s d k hand.0 written)
+
+  -- more is known in the world
+  pub more_there : (h : Heading) → HasMore (entered_with h scope) (entered_with h (scope_among w s))
+  more_there h =
+      record { types = k.types; relvars = ([], k.known ∙ sym (append-nil scope.relvars)); entered = λ i. h ∷ hand.1 i }
+
+  module _ (r : Relation) (h : Heading) (head : r.heading ≡ h) (typed : IsOfType scope.types (relation_as_value r) (types.relation (pack r.heading)))
+      (os : List (Outcome Val)) where
+    pub one_alike : (c : PlanTree) (e : Tree) (t : Type') → IsPlanOfTyped (entered_with h scope) c e → IsWritten e → type_of (entered_with h scope) e ≡ Valued t
+        → AlikeIn r (λ u. plan_value w (frame_of os u ∷ fs) c) (λ u. value_of w (u ∷ s) e)
+    one_alike c e t i written is = λ u b.
+        let at = rows_typed scope.types r typed u b in
+        i written t is w (u ∷ s) (frame_of os u ∷ fs) k ((at.0, hand.0), λ j. (at.1 ∙ head) j ∷ hand.1 j) (refl, f)
+
+    pub parts_alike : (ps : PlanTrees) (es : NamedTrees) (xs : List Attribute) → ArePlansOfTyped (entered_with h scope) ps (in_named es)
+        → PartsGiveNames es → PartsHaveTexts es → named_types (entered_with h scope) es ≡ Valued xs
+        → AreAlikeIn r (plan_columns w fs os ps) (values_in_tuples w s es)
+    parts_alike plans.none trees.none_named xs all n x is = tt
+    parts_alike plans.none (trees.more_named m e es) xs all n x is = absurd all
+    parts_alike (plans.more p ps) trees.none_named xs all n x is = absurd all
+    parts_alike (plans.more p ps) (trees.more_named m e es) xs all n x is =
+        let y = values_of_both (type_of (entered_with h scope) e) (named_types (entered_with h scope) es) (λ t attributes. Valued ((m, t) ∷ attributes)) xs is in
+        (one_alike p e y.0 all.0 (n.1, x.0) y.2, parts_alike ps es y.1 all.1 n.2 x.1 y.3)
+
+-- the heading of a relation of the operand's type
+pub heading_is : (h : Heading) (g : Attrs) (r : Relation) → types.relation (pack h) ≡ types.relation g → r.heading ≡ unpack g → r.heading ≡ h
+heading_is h g r e head = let same : pack h ≡ g = cc in head ∙ ap unpack (sym same) ∙ unpack_pack h
+
+-- ---- WHERE and aggregates
+
+module _ (scope : Scope) where
+  -- the type of what is applied
+  inner_type : (d e : Tree) (h : Heading) (t : Type') (g : Type' → Type' → Outcome Type') → type_of scope d ≡ Valued (types.relation (pack h))
+      → with_value (type_of scope d) (λ q. over_relation q (λ i. with_value (type_of (entered_with i scope) e) (g q))) ≡ Valued t
+      → (u : Type') × (type_of (entered_with h scope) e ≡ Valued u)
+  inner_type d e h t g static is =
+      let into = subst (λ o. with_value o (λ q. over_relation q (λ i. with_value (type_of (entered_with i scope) e) (g q))) ≡ Valued t) static is in
+      let z = value_of_with (type_of (entered_with (unpack (pack h)) scope) e) (g (types.relation (pack h))) t into in
+      (z.0, subst (λ i. type_of (entered_with i scope) e ≡ Valued z.0) (unpack_pack h) z.1)
+
+  pub restriction_planned : (p : PlanTree) (old parts : PlanTrees) (q c : PlanTree) (d e : Tree) (h : Heading) → IsPlanOfTyped scope p d
+      → type_of scope d ≡ Valued (types.relation (pack h)) → IsPlanOfTyped (entered_with h scope) c e → Pulls old parts c q
+      → IsPlanOfTyped scope (plans.restriction p parts q) (trees.restriction d e)
+  restriction_planned p old parts q c d e h i static j pulls = λ written t is w s fs k hand f.
+      let u = inner_type d e h t restriction_type static is in
+      let os = plan_values w fs parts in
+      ap (λ a. with_value (plan_value w fs p) (λ v. on_relation v (restricted_value a))) (one_pulled old parts c q pulls w fs)
+      ∙ ap (λ o. with_value o (λ v. on_relation v (restricted_value (λ t. plan_value w (frame_of os t ∷ fs) c))))
+      (i (written.0.0, written.1.0) (types.relation (pack h)) static w s fs k hand f)
+      ∙ over_same scope.types (types.relation (pack h)) (value_of w s d)
+      (restricted_value (λ t. plan_value w (frame_of os t ∷ fs) c)) (restricted_value (λ t. value_of w (t ∷ s) e))
+      (kept scope w s fs k hand f d (types.relation (pack h)) (written.0.0, written.1.0) static)
+      (λ g r same head typed. restricted_alike r (λ t. plan_value w (frame_of os t ∷ fs) c) (λ t. value_of w (t ∷ s) e)
+      (one_alike scope w s fs k hand f r h (heading_is h g r same head) typed os c e u.0 j (written.0.1, written.1.1) u.1))
+
+  pub aggregation_planned : (op : Aggregate) (p : PlanTree) (old parts : PlanTrees) (q c : PlanTree) (d e : Tree) (h : Heading) → IsPlanOfTyped scope p d
+      → type_of scope d ≡ Valued (types.relation (pack h)) → IsPlanOfTyped (entered_with h scope) c e → Pulls old parts c q
+      → IsPlanOfTyped scope (plans.aggregate op p parts q) (trees.aggregate op d e)
+  aggregation_planned op p old parts q c d e h i static j pulls = λ written t is w s fs k hand f.
+      let u = inner_type d e h t (λ q. aggregate_type op) static is in
+      let os = plan_values w fs parts in
+      ap (λ a. with_value (plan_value w fs p) (λ v. on_relation v (aggregated_value (asked_of op) a))) (one_pulled old parts c q pulls w fs)
+      ∙ ap (λ o. with_value o (λ v. on_relation v (aggregated_value (asked_of op) (λ t. plan_value w (frame_of os t ∷ fs) c))))
+      (i (written.0.0, written.1.0) (types.relation (pack h)) static w s fs k hand f)
+      ∙ over_same scope.types (types.relation (pack h)) (value_of w s d)
+      (aggregated_value (asked_of op) (λ t. plan_value w (frame_of os t ∷ fs) c)) (aggregated_value (asked_of op) (λ t. value_of w (t ∷ s) e))
+      (kept scope w s fs k hand f d (types.relation (pack h)) (written.0.0, written.1.0) static)
+      (λ g r same head typed. aggregated_alike r (asked_of op) (λ t. plan_value w (frame_of os t ∷ fs) c) (λ t. value_of w (t ∷ s) e)
+      (one_alike scope w s fs k hand f r h (heading_is h g r same head) typed os c e u.0 j (written.0.1, written.1.1) u.1))
+
+  -- ---- EXTEND
+
+  as_many : (w : World) (fs : List Frame) (os : List (Outcome Val)) (inner : Scope) (ps : PlanTrees) (es : NamedTrees) (xs : List Attribute)
+      → ArePlansOfTyped inner ps (in_named es) → named_types inner es ≡ Valued xs → length xs ≡ length (plan_columns w fs os ps)
+  as_many w fs os inner plans.none trees.none_named xs all is = ap length (sym (valued_is [] xs is))
+  as_many w fs os inner plans.none (trees.more_named m e es) xs all is = absurd all
+  as_many w fs os inner (plans.more p ps) trees.none_named xs all is = absurd all
+  as_many w fs os inner (plans.more p ps) (trees.more_named m e es) xs all is =
+      let y = values_of_both (type_of inner e) (named_types inner es) (λ t attributes. Valued ((m, t) ∷ attributes)) xs is in
+      ap length (sym (valued_is ((m, y.0) ∷ y.1) xs y.4)) ∙ ap suc (as_many w fs os inner ps es y.1 all.1 y.3)
+
+  pub extension_planned : (p : PlanTree) (xs : List Attribute) (old parts qs cs : PlanTrees) (d : Tree) (es : NamedTrees) (h : Heading) → IsPlanOfTyped scope p d
+      → type_of scope d ≡ Valued (types.relation (pack h)) → named_types (entered_with h scope) es ≡ Valued xs
+      → ArePlansOfTyped (entered_with h scope) cs (in_named es) → PullsAll old parts cs qs
+      → IsPlanOfTyped scope (plans.extend p xs parts qs) (trees.extend d es)
+  extension_planned p xs old parts qs cs d es h i static known all pulls = λ written t is w s fs k hand f.
+      let os = plan_values w fs parts in
+      let columns = plan_columns w fs os cs in
+      let many : nat_eq (length xs) (length columns) ≡ true = eq-eqb (length xs) (length columns) (as_many w fs os (entered_with h scope) cs es xs all known) in
+      ap (λ cols. with_value (plan_value w fs p) (λ v. on_relation v (extension_of xs cols))) (all_pulled old parts cs qs pulls w fs)
+      ∙ ap (λ o. with_value o (λ v. on_relation v (extension_of xs columns)))
+      (i (written.0.0, written.1.0) (types.relation (pack h)) static w s fs k hand f)
+      ∙ over_same scope.types (types.relation (pack h)) (value_of w s d) (extension_of xs columns)
+      (λ r. extended_value (named_types (entered_with r.heading (scope_among w s)) es) (values_in_tuples w s es) r)
+      (kept scope w s fs k hand f d (types.relation (pack h)) (written.0.0, written.1.0) static)
+      (λ g r same head typed.
+      let at = heading_is h g r same head in
+      let there = more_changes_no_parts (entered_with h scope) (entered_with h (scope_among w s)) es xs (more_there scope w s fs k hand f h) known in
+      rw many
+      (extended_alike r (Valued xs) columns (values_in_tuples w s es)
+      (parts_alike scope w s fs k hand f r h at typed os cs es xs all written.0.1 written.1.1 known)
+      ∙ (λ j. extended_value (sym there j) (values_in_tuples w s es) r)
+      ∙ (λ j. extended_value (named_types (entered_with (sym at j) (scope_among w s)) es) (values_in_tuples w s es) r)))

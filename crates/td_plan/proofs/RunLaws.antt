@@ -1,0 +1,135 @@
+-- What the run of plans goes through.
+use Rattle.std.proofs.Common.{◌≡◌, ◌∙◌, ◌≢◌, ap, sym, refl, subst, List, [], ◌∷◌, map, Result, Ok, Err, true, false, Bool, ℕ, zero, suc, ◌<◌, ◌≤◌, length, get_or, arith}
+use Rattle.std.proofs.lemmas.Bool.{eq-eqb, eqb-true, ne_eqb}
+use Rattle.std.specs.Global.{Vec}
+use Rattle.std.specs.List.{zip}
+use Rattle.std.specs.Prelude.{IfOk, nat_eq}
+use Rattle.td_algebra.specs.Columns.{NamedColumn, columns_view}
+use Rattle.td_algebra.specs.declared.extension.Column.{Column}
+use Rattle.td_eval.proofs.Selectors.{other_scope}
+use Rattle.td_eval.proofs.WorldParts.{world_scope}
+use Rattle.td_eval.specs.declared.env.Env.{Env}
+use Rattle.td_eval.specs.DatabaseWorlds.{world_of}
+use Rattle.td_eval.specs.NewColumns.{AreColumnsFor, named_columns, with_values}
+use Rattle.td_eval.specs.OperatorValues.{column_values, on_truth, truth_value}
+use Rattle.td_eval.specs.Sights.{other_in, world_in}
+use Rattle.td_eval.specs.Worlds.{World}
+use Rattle.td_plan.proofs.HandLaws.{are_told, frame_told, held_told, told}
+use Rattle.td_plan.specs.declared.hand.Entered.{Entered}
+use Rattle.td_plan.specs.declared.step.Step.{Step}
+use Rattle.td_plan.specs.declared.surroundings.ValuedRelvar.{ValuedRelvar}
+use Rattle.td_plan.specs.Hands.{AreValued, IsValued}
+use Rattle.td_plan.specs.Plans.{Frame, where_as_many}
+use Rattle.td_plan.specs.Runs.{IsEntered, IsInside, step_value, step_values, value_in, values_in}
+use Rattle.td_tree.specs.declared.cause.Cause.TheVariants as causes
+use Rattle.td_tree.specs.declared.fault.Fault.{Fault}
+use Rattle.td_tree.specs.declared.fault.Fault.TheVariants as faults
+use Rattle.td_tree.specs.Outcomes.{Answers, Outcome, Valued, Refused, Only, gathered, with_both, with_value}
+use Rattle.td_types.specs.declared.ty.Ty.{Ty}
+use Rattle.td_types.specs.Types.{Attribute}
+use Rattle.td_types.specs.Views.{pairs_view, type_view}
+use Rattle.td_value.specs.Values.{Tuple, Val, boolean, char, integer, relation, tuple, user}
+
+-- the values of steps are those of each
+pub values_found : (w : World) (fs : List Frame) (ps : List Step) → step_values w fs ps ≡ map (step_value w fs) ps
+values_found w fs [] = refl
+values_found w fs (p ∷ ps) = ap (λ os. step_value w fs p ∷ os) (values_found w fs ps)
+
+-- frames for what stands inside a loop
+abbrev pub frames_inside : Entered → List Frame
+frames_inside e = map frame_told e.outer.items
+
+abbrev pub outcomes_inside : Entered → List (Outcome Val)
+outcomes_inside e = map told e.fixed.value.items
+
+pub entered_told : (e : Entered) → IsEntered e (frames_inside e) (outcomes_inside e)
+entered_told e = (held_told e.outer.items, are_told e.fixed.value.items)
+
+-- what is found of rows, whatever stands inside, is found of them with the parts, which do not count where there is no row
+pub inside_rows : {X Y : Type 0} (w : World) (fs : List Frame) (parts : List Step) (e : Entered) (F : List Frame → List (Outcome Val) → List X → Y)
+    → ((gs hs : List Frame) (os ps : List (Outcome Val)) → F gs os [] ≡ F hs ps []) → (P : Y → Type 0) (b : Bool) (rows : List X) → (b ≡ true → rows ≡ [])
+    → IsInside w fs parts b e → ((gs : List Frame) (os : List (Outcome Val)) → IsEntered e gs os → P (F gs os rows))
+    → P (F fs (step_values w fs parts) rows)
+inside_rows w fs parts e F same P true rows none inside k =
+    subst (λ xs. P (F fs (step_values w fs parts) xs)) (sym (none refl))
+    (subst P (same [] fs [] (step_values w fs parts)) (subst (λ xs. P (F [] [] xs)) (none refl) (k [] [] inside)))
+inside_rows w fs parts e F same P false rows none inside k = k fs (step_values w fs parts) inside
+
+-- columns without rows
+pub columns_nowhere : (w : World) (attributes : List Attribute) (steps : List Step) (gs hs : List Frame) (os ps : List (Outcome Val))
+    → gathered (named_columns attributes (values_in w gs os steps) []) ≡ gathered (named_columns attributes (values_in w hs ps steps) [])
+columns_nowhere w [] steps gs hs os ps = refl
+columns_nowhere w (a ∷ attributes) [] gs hs os ps = refl
+columns_nowhere w (a ∷ attributes) (p ∷ steps) gs hs os ps =
+    ap (λ (o : Outcome (List NamedColumn)). with_both (with_values a (Valued [])) o (λ c cs. Valued (c ∷ cs))) (columns_nowhere w attributes steps gs hs os ps)
+
+-- of an attribute and the step that it is set to
+abbrev pub column_found : World → List Frame → List (Outcome Val) → List Tuple → (List ℕ × Ty) × Step → Outcome NamedColumn
+column_found w fs os tuples z = with_values (z.0.0, type_view z.0.1) (column_values (type_view z.0.1) (value_in w fs os z.1) tuples)
+
+pub columns_are : (w : World) (fs : List Frame) (os : List (Outcome Val)) (tuples : List Tuple) (xs : List (List ℕ × Ty)) (steps : List Step)
+    → map (column_found w fs os tuples) (zip xs steps) ≡ named_columns (pairs_view xs) (values_in w fs os steps) tuples
+columns_are w fs os tuples [] steps = refl
+columns_are w fs os tuples (x ∷ xs) [] = refl
+columns_are w fs os tuples (x ∷ xs) (p ∷ steps) = ap (λ ys. column_found w fs os tuples (x, p) ∷ ys) (columns_are w fs os tuples xs steps)
+
+-- the answer for a relvar of that name
+pub valued_at : (w : World) (rs : List ValuedRelvar) (i : ℕ) (r : ValuedRelvar) → i < length rs → r ≡ get_or rs i r → AreValued w rs → IsValued w r
+valued_at w [] i r inside is h = absurd (omega (arith, inside))
+valued_at w (s ∷ rs) zero r inside is h = subst (IsValued w) (sym is) h.0
+valued_at w (s ∷ rs) (suc i) r inside is h = valued_at w rs i r (omega (arith, inside)) is h.1
+
+-- the types that are known are those of the database
+pub types_known : {B : Type 0} (env : Env B) → (world_in env).scope.types ≡ env.catalog.now.database.types
+types_known env =
+    ap (λ s. s.types) (other_scope (other_in env) (world_of env.catalog.now.database) ∙ world_scope env.catalog.now.database)
+
+-- there are as many pairs as the shorter list has elements
+pub zip_shorter : {X Y : Type 0} (xs : List X) (ys : List Y) → length xs ≤ length ys → length (zip xs ys) ≡ length xs
+zip_shorter [] ys e = refl
+zip_shorter (x ∷ xs) [] e = absurd (omega (arith, e))
+zip_shorter (x ∷ xs) (y ∷ ys) e = ap suc (zip_shorter xs ys (omega (arith, e)))
+
+pub zip_longer : {X Y : Type 0} (xs : List X) (ys : List Y) → length ys ≤ length xs → length (zip xs ys) ≡ length ys
+zip_longer [] [] e = refl
+zip_longer [] (y ∷ ys) e = absurd (omega (arith, e))
+zip_longer (x ∷ xs) [] e = refl
+zip_longer (x ∷ xs) (y ∷ ys) e = ap suc (zip_longer xs ys (omega (arith, e)))
+
+-- there are as many columns as steps
+pub as_many_columns : (w : World) (fs : List Frame) (os : List (Outcome Val)) (steps : List Step) → length (values_in w fs os steps) ≡ length steps
+as_many_columns w fs os [] = refl
+as_many_columns w fs os (p ∷ steps) = ap suc (as_many_columns w fs os steps)
+
+-- where there are as many new attributes as parts, and where not
+pub where_equal : {A : Type 0} (attributes : List Attribute) (parts : List A) (o : Outcome Val) → length attributes ≡ length parts
+    → where_as_many attributes parts o ≡ o
+where_equal attributes parts o e = rw (eq-eqb (length attributes) (length parts) e) refl
+
+pub where_unequal : {A : Type 0} (attributes : List Attribute) (parts : List A) (o : Outcome Val) → length attributes ≢ length parts
+    → where_as_many attributes parts o ≡ Refused (Only causes.Heading)
+where_unequal attributes parts o e = rw (ne_eqb (length attributes) (length parts) e) refl
+
+-- columns that are answered are those of some values
+pub columns_for : (r : Result (Vec (List ℕ × Column)) Fault) (attributes : List Attribute) (fs : List (Tuple → Outcome Val)) (tuples : List Tuple)
+    → length attributes ≡ length fs → Answers (λ cs. columns_view cs.items) r (gathered (named_columns attributes fs tuples))
+    → IfOk r (λ cs. AreColumnsFor attributes tuples (columns_view cs.items))
+columns_for (Ok cs) attributes fs tuples lengths a = (fs, lengths, a)
+columns_for (Err e) attributes fs tuples lengths a = tt
+
+-- where there is no element
+pub no_rows : {X : Type 0} (xs : List X) (n : ℕ) (b : Bool) → length xs ≡ n → b ≡ nat_eq n 0 → b ≡ true → xs ≡ []
+no_rows [] n b many is e = refl
+no_rows (x ∷ xs) n b many is e = absurd (let none = eqb-true n 0 (sym is ∙ e) in omega (arith, many, none))
+
+-- a condition without a truth value leaves nothing to choose
+pub choice_refused : (o : Outcome Val) (k : Bool → Outcome Val) (f : Fault) → Answers {X = Bool} (λ b. b) (Err f) (truth_value o)
+    → Answers {X = Val} (λ v. v) (Err f) (with_value o (λ v. on_truth v k))
+choice_refused o k faults.Memory a = tt
+choice_refused (Refused cs) k (faults.Refused c) a = a
+choice_refused (Valued (boolean b)) k (faults.Refused c) a = absurd (cc)
+choice_refused (Valued (integer z)) k (faults.Refused c) a = a
+choice_refused (Valued (char t)) k (faults.Refused c) a = a
+choice_refused (Valued (user n ps)) k (faults.Refused c) a = a
+choice_refused (Valued (tuple fs)) k (faults.Refused c) a = a
+choice_refused (Valued (relation h rs)) k (faults.Refused c) a = a

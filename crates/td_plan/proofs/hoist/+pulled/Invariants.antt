@@ -1,0 +1,28 @@
+use Rattle.std.proofs.Common.{◌≡◌, ◌+◌, ◌*◌, ◌++◌}
+use Rattle.td_plan.proofs.StepWeights.{weight, weights}
+use Rattle.td_plan.specs.Hoisting.{PullsAll}
+use Rattle.td_plan.specs.StepViews.{step_view, steps_view}
+use Rattle.td_plan.proofs.hoist.+pulled.Given as goal
+
+abbrev pub decreases-pulled : goal.decreases-pulled
+decreases-pulled l = 4 * weight (step_view l.step) + 1
+
+abbrev pub decreases-with_parts_pulled : goal.decreases-with_parts_pulled
+decreases-with_parts_pulled l = 4 * weight (step_view l.step)
+
+abbrev pub decreases-operand_pulled : goal.decreases-operand_pulled
+decreases-operand_pulled l = 4 * weight (step_view l.step.value) + 2
+
+abbrev pub decreases-operands_pulled : goal.decreases-operands_pulled
+decreases-operands_pulled l = 4 * (weight (step_view l.left.value) + weight (step_view l.right.value)) + 3
+
+abbrev pub decreases-loop_pulled : goal.decreases-loop_pulled
+decreases-loop_pulled l = 4 * (weight (step_view l.operand.value) + weights (steps_view l.parts.items)) + 3
+
+abbrev pub decreases-all_pulled : goal.decreases-all_pulled
+decreases-all_pulled l = 4 * weights (steps_view l.steps.items)
+
+abbrev pub invariant-all_pulled-loop-step : goal.invariant-all_pulled-loop-step
+invariant-all_pulled-loop-step l =
+    (l.fn.steps.items ≡ l.yielded ++ l.step-iterator.rest.items)
+    × PullsAll (steps_view l.fn.pool.items) (steps_view l.pool.items) (steps_view l.yielded) (steps_view l.all.items)

@@ -1,0 +1,18 @@
+use Rattle.std.proofs.Common.{◌∙◌, ap, subst, sym}
+use Rattle.td_plan.specs.PlansOf.{IsPlanOfTyped}
+use Rattle.td_plan.specs.StepViews.{steps_view}
+use Rattle.td_plan.proofs.PlannedNodes.{headed_planned}
+use Rattle.td_plan.proofs.StepRows.{headed_relation_is}
+use Rattle.td_tree.specs.TreeViews.{heading_tree_view}
+use Rattle.td_tree.specs.Trees as trees
+use Rattle.td_types.specs.TypeLists.{heading_meant}
+use Rattle.td_plan.proofs.nodes.headed_step.Goals as goal
+
+pub returns-in-Ok : goal.returns-in-Ok
+returns-in-Ok g c = λ es all.
+    let scope = c.args.planner.now.scope in
+    let heading = heading_tree_view c.args.heading.now in
+    let known = c.types.ensures ∙ sym (ap (λ s. s.types) c.requires) in
+    subst (λ p. IsPlanOfTyped scope p (trees.headed_relation heading es)) (sym (headed_relation_is c.in-Ok.heading c.args.elements))
+    (headed_planned scope heading c.in-Ok.heading (steps_view c.args.elements.items) es
+    (ap (λ ds. heading_meant ds heading) (sym known) ∙ c.in-Ok.ensures) all)

@@ -1,0 +1,12 @@
+use Rattle.std.proofs.Common.{subst, sym}
+use Rattle.td_plan.specs.PlansOf.{IsPlanOfTyped}
+use Rattle.td_plan.specs.StepViews.{steps_view}
+use Rattle.td_plan.proofs.PlannedNodes.{relation_planned}
+use Rattle.td_plan.proofs.StepRows.{relation_is}
+use Rattle.td_tree.specs.Trees as trees
+use Rattle.td_plan.proofs.nodes.relation_step.Goals as goal
+
+pub returns : goal.returns
+returns c = λ scope es all.
+    subst (λ p. IsPlanOfTyped scope p (trees.relation es)) (sym (relation_is c.args.elements))
+    (relation_planned scope (steps_view c.args.elements.items) es all)

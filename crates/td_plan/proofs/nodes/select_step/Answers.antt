@@ -1,0 +1,15 @@
+use Rattle.std.proofs.Common.{◌∙◌, ap, subst, sym}
+use Rattle.td_plan.specs.Plans as plans
+use Rattle.td_plan.specs.PlansOf.{IsPlanOfTyped}
+use Rattle.td_plan.specs.StepViews.{steps_view}
+use Rattle.td_plan.proofs.PlannedNodes.{select_planned}
+use Rattle.td_plan.proofs.StepRows.{select_is}
+use Rattle.td_tree.specs.Trees as trees
+use Rattle.td_plan.proofs.nodes.select_step.Goals as goal
+
+pub returns : goal.returns
+returns c = λ scope es all.
+    let ps = steps_view c.args.arguments.items in
+    subst (λ p. IsPlanOfTyped scope p (trees.select c.args.ty.now es))
+    (sym (select_is c.in_ok-try_clone.field-0 c.args.arguments ∙ ap (λ n. plans.select n ps) c.in_ok-try_clone.ensures))
+    (select_planned scope c.args.ty.now ps es all)

@@ -1,0 +1,101 @@
+-- What does not depend on a tuple in hand, and is valued once for it and its like.
+use Rattle.std.specs.Prelude.{◌≡◌, ℕ, zero, suc, nat_eq, Bool, false, ◌||◌, List, ◌∷◌, ◌++◌, length}
+use Rattle.td_eval.specs.Worlds.{World}
+use Rattle.td_plan.specs.Plans.{Frame, PlanTree, PlanTrees, none, more, constant, refused, attribute, fixed, relvar, prefix, extract, restriction, binary, compare, postfix, select, component, measure, relation, headed_relation, tuple, extend, aggregate, summarize_per, summarize_by, choice, frame_of, plan_value, plan_values, plan_columns}
+use Rattle.td_tree.specs.Outcomes.{Outcome}
+use Rattle.td_value.specs.Values.{Val, Tuple}
+
+-- whether a plan names the tuple at a depth
+abbrev mutual
+  pub reaches : ℕ → PlanTree → Bool
+  reaches k (constant v) = false
+  reaches k (refused c) = false
+  reaches k (attribute d p) = nat_eq d k
+  reaches k (fixed d p) = nat_eq d k
+  reaches k (relvar n) = false
+  reaches k (prefix op operand) = reaches k operand
+  reaches k (extract a operand) = reaches k operand
+  reaches k (restriction operand parts condition) = reaches k operand || (any_reaches k parts || reaches (suc k) condition)
+  reaches k (binary left op right) = reaches k left || reaches k right
+  reaches k (compare left op right) = reaches k left || reaches k right
+  reaches k (postfix operand op) = reaches k operand
+  reaches k (select ty arguments) = any_reaches k arguments
+  reaches k (component rest operand) = reaches k operand
+  reaches k (measure op operand) = reaches k operand
+  reaches k (relation elements) = any_reaches k elements
+  reaches k (headed_relation h elements) = any_reaches k elements
+  reaches k (tuple names parts) = any_reaches k parts
+  reaches k (extend operand attributes parts values) = reaches k operand || (any_reaches k parts || any_reaches (suc k) values)
+  reaches k (aggregate op operand parts value) = reaches k operand || (any_reaches k parts || reaches (suc k) value)
+  reaches k (summarize_per operand per attributes aggregates parts values) =
+      (reaches k operand || reaches k per) || (any_reaches k parts || any_reaches (suc k) values)
+  reaches k (summarize_by operand by attributes aggregates parts values) =
+      reaches k operand || (any_reaches k parts || any_reaches (suc k) values)
+  reaches k (choice condition consequent alternative) = reaches k condition || (reaches k consequent || reaches k alternative)
+
+  pub any_reaches : ℕ → PlanTrees → Bool
+  any_reaches k none = false
+  any_reaches k (more first rest) = reaches k first || any_reaches k rest
+
+-- a depth, where the tuple at the first depth is no more in hand
+abbrev pub shifted : ℕ → ℕ → ℕ
+shifted zero zero = zero
+shifted zero (suc d) = d
+shifted (suc k) zero = zero
+shifted (suc k) (suc d) = suc (shifted k d)
+
+-- the plan, where the tuple at a depth is no more in hand
+abbrev mutual
+  pub lowered : ℕ → PlanTree → PlanTree
+  lowered k (constant v) = constant v
+  lowered k (refused c) = refused c
+  lowered k (attribute d p) = attribute (shifted k d) p
+  lowered k (fixed d p) = fixed (shifted k d) p
+  lowered k (relvar n) = relvar n
+  lowered k (prefix op operand) = prefix op (lowered k operand)
+  lowered k (extract a operand) = extract a (lowered k operand)
+  lowered k (restriction operand parts condition) = restriction (lowered k operand) (all_lowered k parts) (lowered (suc k) condition)
+  lowered k (binary left op right) = binary (lowered k left) op (lowered k right)
+  lowered k (compare left op right) = compare (lowered k left) op (lowered k right)
+  lowered k (postfix operand op) = postfix (lowered k operand) op
+  lowered k (select ty arguments) = select ty (all_lowered k arguments)
+  lowered k (component rest operand) = component rest (lowered k operand)
+  lowered k (measure op operand) = measure op (lowered k operand)
+  lowered k (relation elements) = relation (all_lowered k elements)
+  lowered k (headed_relation h elements) = headed_relation h (all_lowered k elements)
+  lowered k (tuple names parts) = tuple names (all_lowered k parts)
+  lowered k (extend operand attributes parts values) =
+      extend (lowered k operand) attributes (all_lowered k parts) (all_lowered (suc k) values)
+  lowered k (aggregate op operand parts value) = aggregate op (lowered k operand) (all_lowered k parts) (lowered (suc k) value)
+  lowered k (summarize_per operand per attributes aggregates parts values) =
+      summarize_per (lowered k operand) (lowered k per) attributes aggregates (all_lowered k parts) (all_lowered (suc k) values)
+  lowered k (summarize_by operand by attributes aggregates parts values) =
+      summarize_by (lowered k operand) by attributes aggregates (all_lowered k parts) (all_lowered (suc k) values)
+  lowered k (choice condition consequent alternative) =
+      choice (lowered k condition) (lowered k consequent) (lowered k alternative)
+
+  pub all_lowered : ℕ → PlanTrees → PlanTrees
+  all_lowered k none = none
+  all_lowered k (more first rest) = more (lowered k first) (all_lowered k rest)
+
+-- a plan that does not name a tuple in hand has the same value, or the same causes, without it
+abbrev pub PlansDependOnTuplesTheyName : Type 0
+PlansDependOnTuplesTheyName =
+    (w : World) (inner : List Frame) (f : Frame) (outer : List Frame) (p : PlanTree) → reaches (length inner) p ≡ false
+    → plan_value w (inner ++ (f ∷ outer)) p ≡ plan_value w (inner ++ outer) (lowered (length inner) p)
+
+-- the list begins with the other
+abbrev pub BeginsWith : List (Outcome Val) → List (Outcome Val) → Type 0
+BeginsWith xs os = (more : List (Outcome Val)) × (os ≡ xs ++ more)
+
+-- where these parts, which begin with those, were valued once, the second plan has the value of the first
+abbrev pub Pulls : PlanTrees → PlanTrees → PlanTree → PlanTree → Type 0
+Pulls old new p q =
+    (w : World) (fs : List Frame) (t : Tuple) (os : List (Outcome Val)) → BeginsWith (plan_values w fs new) os
+    → BeginsWith (plan_values w fs old) os × (plan_value w (frame_of os t ∷ fs) q ≡ plan_value w (frame_of os t ∷ fs) p)
+
+-- so have the second plans those of the first
+abbrev pub PullsAll : PlanTrees → PlanTrees → PlanTrees → PlanTrees → Type 0
+PullsAll old new ps qs =
+    (w : World) (fs : List Frame) (t : Tuple) (os : List (Outcome Val)) → BeginsWith (plan_values w fs new) os
+    → BeginsWith (plan_values w fs old) os × (plan_values w (frame_of os t ∷ fs) qs ≡ plan_values w (frame_of os t ∷ fs) ps)

@@ -1,0 +1,63 @@
+-- When plans stand for the parts of an expression (this project's own).
+use Rattle.std.specs.Prelude.{◌≡◌, ℕ, true, List, [], ◌∷◌, Option, Some, None, ⊤}
+use Rattle.td_check.specs.Scopes.{Scope}
+use Rattle.td_check.specs.StaticTypes.{type_of}
+use Rattle.td_plan.specs.declared.operand.Operand.{Operand}
+use Rattle.td_plan.specs.Plans.{PlanTree, PlanTrees, none, more}
+use Rattle.td_plan.specs.PlansOf.{IsPlanOfTyped}
+use Rattle.td_plan.specs.StepViews.{step_view}
+use Rattle.td_tree.specs.declared.expression.NamedExpr.{NamedExpr}
+use Rattle.td_tree.specs.declared.expression.Summary.{Summary}
+use Rattle.td_tree.specs.declared.expression.Summary.TheVariants as summaries
+use Rattle.td_tree.specs.Outcomes.{Valued}
+use Rattle.td_tree.specs.TreeViews.{tree_view}
+use Rattle.td_tree.specs.Trees.{Tree, literal, truth}
+use Rattle.td_tree.specs.Trees as trees
+use Rattle.td_types.specs.Types.{Heading, pack, relation}
+
+-- plans of these expressions, one for each
+abbrev pub ArePlansOfTyped : Scope → PlanTrees → List Tree → Type 0
+ArePlansOfTyped scope none [] = ⊤
+ArePlansOfTyped scope none (e ∷ es) = ⊥
+ArePlansOfTyped scope (more p ps) [] = ⊥
+ArePlansOfTyped scope (more p ps) (e ∷ es) = IsPlanOfTyped scope p e × ArePlansOfTyped scope ps es
+
+-- ---- the expressions in a list
+
+abbrev pub in_trees : trees.Trees → List Tree
+in_trees trees.none = []
+in_trees (trees.more e es) = e ∷ in_trees es
+
+abbrev pub in_named : trees.NamedTrees → List Tree
+in_named trees.none_named = []
+in_named (trees.more_named n e es) = e ∷ in_named es
+
+-- COUNT's item counts a term for each tuple
+abbrev pub in_summaries : trees.Summaries → List Tree
+in_summaries trees.no_summaries = []
+in_summaries (trees.counted n rest) = literal (truth true) ∷ in_summaries rest
+in_summaries (trees.summed op e n rest) = e ∷ in_summaries rest
+
+-- the expression of a part, and that of an item
+abbrev pub part_tree : NamedExpr → Tree
+part_tree part = tree_view part.value
+
+abbrev pub item_tree : Summary → Tree
+item_tree (summaries.Count name) = literal (truth true)
+item_tree (summaries.Of op value name) = tree_view value
+
+-- ---- an operand
+
+-- the heading of the relations that are the expression's values; none where they are no relations, or it has no type
+abbrev pub HasStaticHeading : Scope → Option Heading → Tree → Type 0
+HasStaticHeading scope (Some h) d = type_of scope d ≡ Valued (relation (pack h))
+HasStaticHeading scope None d = (h : Heading) → type_of scope d ≡ Valued (relation (pack h)) → ⊥
+
+-- a plan of the expression, with that heading
+abbrev pub IsOperandOf : Scope → Operand → Tree → Type 0
+IsOperandOf scope operand d = IsPlanOfTyped scope (step_view operand.step) d × HasStaticHeading scope operand.heading d
+
+-- the names that parts give
+abbrev pub names_in : trees.NamedTrees → List (List ℕ)
+names_in trees.none_named = []
+names_in (trees.more_named n e es) = n ∷ names_in es

@@ -1,0 +1,33 @@
+-- What an expression is planned in (this project's own).
+use Rattle.std.specs.Prelude.{◌≡◌, ℕ, Bool, false, suc, List, [], ◌∷◌, Option, Some, None, option_map, reverse, if◌then◌else◌}
+use Rattle.td_catalog.specs.Database.{database_scope}
+use Rattle.td_check.specs.Scopes.{Scope}
+use Rattle.td_plan.specs.declared.planner.Planner.{Planner}
+use Rattle.td_types.specs.Types.{Attribute, Heading, same_name}
+
+-- the scope where tuples of these headings are in hand, the innermost first
+abbrev pub among_headings : Scope → List Heading → Scope
+among_headings scope hs = record { types = scope.types; relvars = scope.relvars; constraints = scope.constraints; entered = hs }
+
+-- the scope is the catalogue's, and the headings are those of the tuples in hand there; the innermost is the last
+abbrev pub IsPlanner : {B : Type 0} → Planner B → Type 0
+IsPlanner planner = planner.scope ≡ among_headings (database_scope planner.catalog.now.database) (reverse planner.headings.items)
+
+-- whether there is an attribute, of that name
+abbrev pub is_named : List ℕ → Option Attribute → Bool
+is_named n (Some a) = same_name a.0 n
+is_named n None = false
+
+-- where the attribute of a name stands in a heading
+abbrev pub place_in : List ℕ → Heading → Option ℕ
+place_in n [] = None
+place_in n (a ∷ rest) = if same_name a.0 n then Some 0 else option_map suc (place_in n rest)
+
+-- the depth of the innermost attribute of a name, and its place in its heading
+abbrev pub attribute_place : List ℕ → List Heading → Option (ℕ × ℕ)
+attribute_place n [] = None
+attribute_place n (h ∷ hs) =
+    elim (place_in n h) as (λ _. Option (ℕ × ℕ)) [
+      | Some p ↦ Some (0, p)
+      | None ↦ option_map (λ q. (suc q.0, q.1)) (attribute_place n hs)
+    ]

@@ -1,0 +1,361 @@
+//! Plans as a person reads them.
+use crate::plan::Plan;
+use crate::step::Step;
+use std::alloc::{AllocError, Global};
+use td_group::aggregates::Agg;
+use td_tree::expression::{Attributes, Postfix, Renaming};
+use td_tree::name::Name;
+use td_tree::operator::{Comparison, Operator, Prefix};
+use td_types::text::put_comma;
+use td_types::ty::Ty;
+use td_value::value::Value;
+
+/// The step as a tree of lines: what stands under a step is indented by two blanks. What is valued
+/// once for the tuples of an operand stands under `ONCE`.
+pub(crate) fn explain_step(alloc: Global, step: &Step) -> Result<String, AllocError> {
+    let mut outline = Outline {
+        alloc,
+        text: String::new(alloc),
+    };
+    outline.step(0, step)?;
+    Ok(outline.text)
+}
+
+/// The plan as a tree of lines, one step a line.
+pub fn explain(alloc: Global, plan: &Plan) -> Result<String, AllocError> {
+    explain_step(alloc, &plan.value)
+}
+
+/// Lines, one below the other.
+#[derive(Drop)]
+struct Outline {
+    alloc: Global,
+    text: String,
+}
+
+impl Outline {
+    /// A step, and below it what it is made of.
+    #[cycle(explain)]
+    fn step(&mut self, indent: usize, step: &Step) -> Result<(), AllocError> {
+        let inner = indent.saturating_add(1);
+        match step {
+            Step::Constant(value) => self.constant(indent, value),
+            Step::Refused(cause) => self.line_of(indent, "REFUSED", cause.name()),
+            Step::Attribute { depth, place } => self.places(indent, "ATTRIBUTE", *depth, *place),
+            Step::Fixed { depth, place } => self.places(indent, "VALUED ONCE", *depth, *place),
+            Step::Relvar(name) => self.line_of(indent, "RELVAR", name.as_str()),
+            Step::Prefix(op, operand) => self.one(indent, prefix_word(*op), operand),
+            Step::Extract(attribute, operand) => {
+                self.line_of(indent, "FROM", attribute.as_str())?;
+                self.step(inner, operand)
+            }
+            Step::Restriction(operand, parts, condition) => {
+                self.one(indent, "RESTRICTION", operand)?;
+                self.list_if_any(inner, "ONCE", parts)?;
+                self.one(inner, "CONDITION", condition)
+            }
+            Step::Binary(left, op, right) => {
+                self.one(indent, operator_word(*op), left)?;
+                self.step(inner, right)
+            }
+            Step::Compare(left, op, right) => {
+                self.one(indent, comparison_word(*op), left)?;
+                self.step(inner, right)
+            }
+            Step::Postfix(operand, op) => {
+                self.postfix(indent, op)?;
+                self.step(inner, operand)
+            }
+            Step::Select(ty, arguments) => self.list(indent, ty.as_str(), arguments),
+            Step::Component(rest, operand) => {
+                self.line_of(indent, "COMPONENT", rest.as_str())?;
+                self.step(inner, operand)
+            }
+            Step::Measure(op, operand) => self.one(indent, op.keyword().word(), operand),
+            Step::Relation(elements) => self.list(indent, "RELATION", elements),
+            Step::HeadedRelation(_, elements) => self.list(indent, "RELATION OF HEADING", elements),
+            Step::Tuple(names, parts) => {
+                self.line_of_names(indent, "TUPLE", names)?;
+                self.steps(inner, parts)
+            }
+            Step::Extend(operand, attributes, parts, values) => {
+                self.line_of_attributes(indent, "EXTEND", attributes)?;
+                self.step(inner, operand)?;
+                self.list_if_any(inner, "ONCE", parts)?;
+                self.list(inner, "VALUES", values)
+            }
+            Step::Aggregate(op, operand, parts, value) => {
+                self.one(indent, op.keyword().word(), operand)?;
+                self.list_if_any(inner, "ONCE", parts)?;
+                self.one(inner, "VALUE", value)
+            }
+            Step::SummarizePer(operand, per, attributes, aggregates, parts, values) => {
+                self.line_of_attributes(indent, "SUMMARIZE", attributes)?;
+                self.step(inner, operand)?;
+                self.one(inner, "PER", per)?;
+                self.list_if_any(inner, "ONCE", parts)?;
+                self.aggregates(inner, aggregates)?;
+                self.list(inner, "VALUES", values)
+            }
+            Step::SummarizeBy(operand, by, attributes, aggregates, parts, values) => {
+                self.line_of_attributes(indent, "SUMMARIZE", attributes)?;
+                self.step(inner, operand)?;
+                self.line_of_listed(inner, "BY", by)?;
+                self.list_if_any(inner, "ONCE", parts)?;
+                self.aggregates(inner, aggregates)?;
+                self.list(inner, "VALUES", values)
+            }
+            Step::If(condition, consequent, alternative) => {
+                self.one(indent, "IF", condition)?;
+                self.one(inner, "THEN", consequent)?;
+                self.one(inner, "ELSE", alternative)
+            }
+        }
+    }
+
+    /// A word, and a step below it.
+    #[cycle(explain)]
+    fn one(&mut self, indent: usize, word: &str, step: &Box<Step>) -> Result<(), AllocError> {
+        self.line(indent, word)?;
+        self.step(indent.saturating_add(1), step)
+    }
+
+    /// A word, and steps below it.
+    #[cycle(explain)]
+    fn list(&mut self, indent: usize, word: &str, steps: &Vec<Step>) -> Result<(), AllocError> {
+        self.line(indent, word)?;
+        self.steps(indent.saturating_add(1), steps)
+    }
+
+    /// A word, and steps below it, where there are any.
+    #[cycle(explain)]
+    fn list_if_any(
+        &mut self,
+        indent: usize,
+        word: &str,
+        steps: &Vec<Step>,
+    ) -> Result<(), AllocError> {
+        if !steps.is_empty() {
+            self.line(indent, word)?;
+        }
+        self.steps(indent.saturating_add(1), steps)
+    }
+
+    /// Steps, one below the other.
+    #[cycle(explain)]
+    fn steps(&mut self, indent: usize, steps: &Vec<Step>) -> Result<(), AllocError> {
+        for step in steps {
+            self.step(indent, step)?;
+        }
+        Ok(())
+    }
+
+    /// The blanks before a line, and its first word.
+    fn begin(&mut self, indent: usize, word: &str) -> Result<(), AllocError> {
+        for _ in 0..indent {
+            self.text.push_str("  ")?;
+        }
+        self.text.push_str(word)
+    }
+
+    fn line(&mut self, indent: usize, word: &str) -> Result<(), AllocError> {
+        self.begin(indent, word)?;
+        self.text.push_str("\n")
+    }
+
+    /// A line of a word and what it is about.
+    fn line_of(&mut self, indent: usize, word: &str, name: &str) -> Result<(), AllocError> {
+        self.begin(indent, word)?;
+        self.text.push_str(" ")?;
+        self.text.push_str(name)?;
+        self.text.push_str("\n")
+    }
+
+    fn constant(&mut self, indent: usize, value: &Value) -> Result<(), AllocError> {
+        let literal = value.literal(self.alloc)?;
+        self.line(indent, literal.as_str())
+    }
+
+    /// A line of a word, a depth and a place.
+    fn places(
+        &mut self,
+        indent: usize,
+        word: &str,
+        depth: usize,
+        place: usize,
+    ) -> Result<(), AllocError> {
+        self.begin(indent, word)?;
+        self.number(depth)?;
+        self.number(place)?;
+        self.text.push_str("\n")
+    }
+
+    /// A blank and a number.
+    fn number(&mut self, n: usize) -> Result<(), AllocError> {
+        let mut buffer = itoa::Buffer::new();
+        self.text.push_str(" ")?;
+        self.text.push_str(buffer.format(n))
+    }
+
+    /// A blank, and names with a comma between two.
+    fn names(&mut self, names: &[Name]) -> Result<(), AllocError> {
+        self.text.push_str(" ")?;
+        let mut later = false;
+        for name in names {
+            put_comma(&mut self.text, later)?;
+            self.text.push_str(name.as_str())?;
+            later = true;
+        }
+        Ok(())
+    }
+
+    fn line_of_names(
+        &mut self,
+        indent: usize,
+        word: &str,
+        names: &[Name],
+    ) -> Result<(), AllocError> {
+        self.begin(indent, word)?;
+        self.names(names)?;
+        self.text.push_str("\n")
+    }
+
+    fn line_of_attributes(
+        &mut self,
+        indent: usize,
+        word: &str,
+        attributes: &[(Name, Ty)],
+    ) -> Result<(), AllocError> {
+        self.begin(indent, word)?;
+        self.text.push_str(" ")?;
+        let mut later = false;
+        for (name, _) in attributes {
+            put_comma(&mut self.text, later)?;
+            self.text.push_str(name.as_str())?;
+            later = true;
+        }
+        self.text.push_str("\n")
+    }
+
+    /// A blank, and the attributes as they are listed.
+    fn listed(&mut self, attributes: &Attributes) -> Result<(), AllocError> {
+        match attributes {
+            Attributes::Only(names) => self.names(names),
+            Attributes::AllBut(names) => {
+                self.text.push_str(" ALL BUT")?;
+                self.names(names)
+            }
+        }
+    }
+
+    fn line_of_listed(
+        &mut self,
+        indent: usize,
+        word: &str,
+        attributes: &Attributes,
+    ) -> Result<(), AllocError> {
+        self.begin(indent, word)?;
+        self.listed(attributes)?;
+        self.text.push_str("\n")
+    }
+
+    /// A line of a word, the attributes that it gathers, and the name that they become.
+    fn gathering(
+        &mut self,
+        indent: usize,
+        word: &str,
+        attributes: &Attributes,
+        name: &Name,
+    ) -> Result<(), AllocError> {
+        self.begin(indent, word)?;
+        self.listed(attributes)?;
+        self.text.push_str(" AS ")?;
+        self.text.push_str(name.as_str())?;
+        self.text.push_str("\n")
+    }
+
+    fn renamings(&mut self, indent: usize, renamings: &[Renaming]) -> Result<(), AllocError> {
+        self.begin(indent, "RENAME ")?;
+        let mut later = false;
+        for renaming in renamings {
+            put_comma(&mut self.text, later)?;
+            self.text.push_str(renaming.old.as_str())?;
+            self.text.push_str(" AS ")?;
+            self.text.push_str(renaming.new.as_str())?;
+            later = true;
+        }
+        self.text.push_str("\n")
+    }
+
+    fn postfix(&mut self, indent: usize, op: &Postfix) -> Result<(), AllocError> {
+        match op {
+            Postfix::Project(attributes) => self.line_of_listed(indent, "PROJECTION", attributes),
+            Postfix::Rename(renamings) => self.renamings(indent, renamings),
+            Postfix::Group(attributes, name) => self.gathering(indent, "GROUP", attributes, name),
+            Postfix::Ungroup(name) => self.line_of(indent, "UNGROUP", name.as_str()),
+            Postfix::Wrap(attributes, name) => self.gathering(indent, "WRAP", attributes, name),
+            Postfix::Unwrap(name) => self.line_of(indent, "UNWRAP", name.as_str()),
+        }
+    }
+
+    fn aggregates(&mut self, indent: usize, aggregates: &[Agg]) -> Result<(), AllocError> {
+        self.begin(indent, "AGGREGATES ")?;
+        let mut later = false;
+        for aggregate in aggregates {
+            put_comma(&mut self.text, later)?;
+            self.text.push_str(aggregate_word(*aggregate))?;
+            later = true;
+        }
+        self.text.push_str("\n")
+    }
+}
+
+fn prefix_word(op: Prefix) -> &'static str {
+    match op {
+        Prefix::Not => "NOT",
+        Prefix::Negate => "NEGATION",
+        Prefix::TransitiveClosure => "TCLOSE",
+        Prefix::TupleFrom => "TUPLE FROM",
+    }
+}
+
+fn operator_word(op: Operator) -> &'static str {
+    match op {
+        Operator::Or => "OR",
+        Operator::And => "AND",
+        Operator::Union => "UNION",
+        Operator::Intersect => "INTERSECT",
+        Operator::Minus => "MINUS",
+        Operator::Join => "JOIN",
+        Operator::Times => "TIMES",
+        Operator::Compose => "COMPOSE",
+        Operator::Matching => "MATCHING",
+        Operator::NotMatching => "NOT MATCHING",
+        Operator::Add => "+",
+        Operator::Subtract => "-",
+        Operator::Concatenate => "||",
+        Operator::Multiply => "*",
+        Operator::Divide => "/",
+    }
+}
+
+fn comparison_word(op: Comparison) -> &'static str {
+    match op {
+        Comparison::Equal => "=",
+        Comparison::NotEqual => "<>",
+        Comparison::Less => "<",
+        Comparison::LessOrEqual => "<=",
+        Comparison::Greater => ">",
+        Comparison::GreaterOrEqual => ">=",
+        Comparison::In => "IN",
+    }
+}
+
+fn aggregate_word(aggregate: Agg) -> &'static str {
+    match aggregate {
+        Agg::Count => "COUNT",
+        Agg::Sum => "SUM",
+        Agg::Max => "MAX",
+        Agg::Min => "MIN",
+    }
+}

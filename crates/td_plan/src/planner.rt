@@ -1,0 +1,156 @@
+//! What an expression is planned in.
+ghost use Rattle.std.specs.Prelude.{◌<◌, ◌≡◌, IfNone, IfOk, IfSome, List, [], length, reverse};
+ghost use Rattle.std.specs.List.{slice_get};
+ghost use Rattle.td_catalog.specs.Database.{database_scope};
+ghost use Rattle.td_check.specs.Scopes.{entered_with};
+ghost use Rattle.td_check.specs.StaticTypes.{named_types, type_of};
+ghost use Rattle.td_plan.specs.Planners.{IsPlanner, attribute_place, is_named, place_in};
+ghost use Rattle.td_tree.specs.Outcomes.{Valued};
+ghost use Rattle.td_tree.specs.TreeViews.{named_view, tree_view};
+ghost use Rattle.td_types.specs.Types as types;
+ghost use Rattle.td_types.specs.Types.{Attribute, Heading, pack};
+ghost use Rattle.td_types.specs.Views.{pairs_view};
+
+use std::alloc::{AllocError, Global};
+use td_body::body::Body;
+use td_catalog::catalog::Catalog;
+use td_check::expression::{check_expr, check_parts};
+use td_check::scope::Scope;
+use td_tree::expression::{Expr, NamedExpr};
+use td_tree::fault::Fault;
+use td_tree::name::Name;
+use td_types::heading::Heading;
+use td_types::ty::Ty;
+
+/// What is known where an expression stands, and the headings of the tuples in hand there.
+#[derive(Drop)]
+pub(crate) struct Planner<'a, B: Body> {
+    pub(crate) alloc: Global,
+    pub(crate) catalog: &'a Catalog<B>,
+    pub(crate) scope: Scope<'a>,
+    /// The innermost is the last.
+    pub(crate) headings: Vec<Heading>,
+}
+
+/// Whether the attribute at a place of a heading has the name.
+fn is_at(heading: &Heading, place: usize, name: &Name) -> bool
+    ensures { result ≡ is_named name.now (slice_get heading.now place) }
+{
+    match heading.at(place) {
+        Some((other, _)) => *other == *name,
+        None => false,
+    }
+}
+
+/// Where the attribute of a name stands in a heading.
+fn place_in(heading: &Heading, name: &Name) -> Option<usize>
+    ensures { result ≡ place_in name.now heading.now }
+{
+    for place in 0..heading.len() {
+        if is_at(heading, place, name) {
+            return Some(place);
+        }
+    }
+    None
+}
+
+/// How many tuples out the innermost attribute of a name is, and its place in its heading. The
+/// innermost heading is the last.
+fn innermost_place(headings: &[Heading], name: &Name) -> Option<(usize, usize)>
+    ensures place { result ≡ attribute_place name.now (reverse headings.now) }
+    ensures depth { IfSome result (λ q. q.0 < length headings.now) }
+{
+    match headings.split_last() {
+        None => None,
+        Some((last, outer)) => match place_in(last, name) {
+            Some(place) => Some((0, place)),
+            None => match innermost_place(outer, name) {
+                Some((depth, place)) => Some((depth + 1, place)),
+                None => None,
+            },
+        },
+    }
+}
+
+impl<'a, B: Body> Planner<'a, B> {
+    /// Where no tuple is in hand. It takes no memory.
+    pub(crate) fn outside(alloc: Global, catalog: &'a Catalog<B>) -> Planner<'a, B>
+        ensures planner { IsPlanner result }
+        ensures scope { result.scope ≡ database_scope catalog.now.database }
+        ensures headings { result.headings.items ≡ [] }
+        ensures catalog { result.catalog.now ≡ catalog.now }
+    {
+        Planner {
+            alloc,
+            catalog,
+            scope: catalog.scope(),
+            headings: Vec::new(alloc),
+        }
+    }
+
+    /// Where a further tuple, of the heading, is in hand.
+    pub(crate) fn with_heading(self, heading: Heading) -> Result<Planner<'a, B>, AllocError>
+        requires { IsPlanner self }
+        ensures planner { IfOk result (λ p. IsPlanner p) }
+        ensures scope { IfOk result (λ p. p.scope ≡ entered_with heading self.entry.scope) }
+    {
+        let mut planner = self;
+        planner.scope.enter(heading.try_clone()?)?;
+        planner.headings.push(heading)?;
+        Ok(planner)
+    }
+
+    /// Where a further tuple, of the heading, is in hand.
+    pub(crate) fn entered(&self, heading: &Heading) -> Result<Planner<'a, B>, AllocError>
+        requires { IsPlanner self.now }
+        ensures planner { IfOk result (λ p. IsPlanner p) }
+        ensures scope { IfOk result (λ p. p.scope ≡ entered_with heading.now self.now.scope) }
+    {
+        let mut inner = Planner::outside(self.alloc, self.catalog);
+        for outer in &self.headings {
+            inner = inner.with_heading(outer.try_clone()?)?;
+        }
+        inner.with_heading(heading.try_clone()?)
+    }
+
+    /// How many tuples out the innermost attribute of the name is, and its place in its heading.
+    pub(crate) fn attribute_place(&self, name: &Name) -> Option<(usize, usize)>
+        requires { IsPlanner self.now }
+        ensures { result ≡ attribute_place name.now self.now.scope.entered }
+    {
+        innermost_place(&self.headings, name)
+    }
+
+    /// The heading of the relations that are an expression's values.
+    pub(crate) fn heading_of(&self, expr: &Expr) -> Result<Option<Heading>, AllocError>
+        requires { IsPlanner self.now }
+        ensures some { IfOk result (λ found. IfSome found (λ h.
+            type_of self.now.scope (tree_view expr.now) ≡ Valued (types.relation (pack h)))) }
+        ensures none { IfOk result (λ found. IfNone found ((h : Heading)
+            → type_of self.now.scope (tree_view expr.now) ≡ Valued (types.relation (pack h)) → ⊥)) }
+    {
+        match check_expr(&self.scope, expr) {
+            Ok(Ty::Rel(heading)) => Ok(Some(heading)),
+            Ok(_) => Ok(None),
+            Err(Fault::Refused(_)) => Ok(None),
+            Err(Fault::Memory) => Err(AllocError),
+        }
+    }
+
+    /// The attributes that parts add, with their types; none where one of these has no type.
+    pub(crate) fn attributes_of(
+        &self,
+        parts: &[NamedExpr],
+    ) -> Result<Option<Vec<(Name, Ty)>>, AllocError>
+        ensures some { IfOk result (λ found. IfSome found (λ xs.
+            named_types self.now.scope (named_view parts.now) ≡ Valued (pairs_view xs.items))) }
+        ensures none { IfOk result (λ found. IfNone found ((xs : List Attribute)
+            → named_types self.now.scope (named_view parts.now) ≡ Valued xs → ⊥)) }
+    {
+        match check_parts(&self.scope, parts) {
+            Ok(attributes) => Ok(Some(attributes)),
+            Err(Fault::Refused(_)) => Ok(None),
+            Err(Fault::Memory) => Err(AllocError),
+        }
+    }
+}

@@ -1,0 +1,326 @@
+//! The values of steps that are numbers, truth values or texts, found without causes. Where one is
+//! not found so, or there is none, the step is run.
+ghost use Rattle.std.specs.Prelude.{List};
+ghost use Rattle.std.specs.List.{slice_get};
+ghost use Rattle.td_eval.specs.OperatorValues.{comparison_value, operator_value, prefix_value};
+ghost use Rattle.td_eval.specs.Worlds.{World};
+ghost use Rattle.td_plan.specs.Hands.{IsAnswer, IsHand};
+ghost use Rattle.td_plan.specs.Plans.{Frame, attribute_at, compare, fixed_at, plan_value};
+ghost use Rattle.td_plan.specs.Plans.{value_or};
+ghost use Rattle.td_plan.specs.Quick.{IsQuick};
+ghost use Rattle.td_plan.specs.StepViews.{step_view};
+ghost use Rattle.td_tree.specs.Outcomes.{Outcome};
+ghost use Rattle.td_tree.specs.declared.operator.Operator.TheVariants as operators;
+ghost use Rattle.td_tree.specs.declared.operator.Prefix.TheVariants as prefixes;
+ghost use Rattle.td_value.specs.Values.{Val, boolean, char, integer};
+ghost use Rattle.td_value.specs.Views.{values_of};
+
+use crate::hand::{Hand, held_at};
+use crate::step::Step;
+use td_tree::fault::Fault;
+use td_tree::operator::{Comparison, Operator, Prefix};
+use td_value::tuple::Tuple;
+use td_value::value::{Node, Value};
+
+// ---- values that are lent
+
+/// The value at a place of a tuple.
+#[inline]
+fn lent_value(tuple: &Tuple, place: usize) -> Option<&Value>
+    ensures { IsQuick (λ v. v.now) result (value_or (slice_get (values_of tuple.now) place)) }
+{
+    tuple.values().get(place)
+}
+
+/// The attribute at a place of the tuple at a depth.
+#[inline]
+fn lent_attribute<'h>(hand: &'h Hand<'_, '_, '_>, depth: usize, place: usize) -> Option<&'h Value>
+    ensures { (fs : List Frame) → IsHand hand.now fs
+        → IsQuick (λ v. v.now) result (attribute_at (slice_get fs depth) place) }
+{
+    if depth == 0 {
+        return lent_value(hand.tuple, place);
+    }
+    match held_at(hand.outer, depth - 1) {
+        Some(frame) => lent_value(&frame.tuple, place),
+        None => None,
+    }
+}
+
+/// The value that is fixed at a place.
+#[inline]
+fn lent_answer(fixed: &[Result<Value, Fault>], place: usize) -> Option<&Value>
+    ensures { (o : Outcome Val) → IsAnswer (slice_get fixed.now place) o
+        → IsQuick (λ v. v.now) result o }
+{
+    match fixed.get(place) {
+        Some(Ok(value)) => Some(value),
+        _ => None,
+    }
+}
+
+/// The value that is fixed at a place of the tuple at a depth.
+fn lent_part<'h>(hand: &'h Hand<'_, '_, '_>, depth: usize, place: usize) -> Option<&'h Value>
+    ensures { (fs : List Frame) → IsHand hand.now fs
+        → IsQuick (λ v. v.now) result (fixed_at (slice_get fs depth) place) }
+{
+    if depth == 0 {
+        return lent_answer(hand.fixed, place);
+    }
+    match held_at(hand.outer, depth - 1) {
+        Some(frame) => lent_answer(&frame.fixed, place),
+        None => None,
+    }
+}
+
+/// The value of a step that is a constant, an attribute or a fixed part.
+#[inline]
+fn lent<'h>(hand: &'h Hand<'_, '_, '_>, step: &'h Step) -> Option<&'h Value>
+    ensures { (w : World) (fs : List Frame) → IsHand hand.now fs
+        → IsQuick (λ v. v.now) result (plan_value w fs (step_view step.now)) }
+{
+    match step {
+        Step::Constant(value) => Some(value),
+        Step::Attribute { depth, place } => lent_attribute(hand, *depth, *place),
+        Step::Fixed { depth, place } => lent_part(hand, *depth, *place),
+        _ => None,
+    }
+}
+
+/// The number that the value is.
+#[inline]
+fn number_in(found: Option<&Value>) -> Option<i64>
+    ensures { (o : Outcome Val) → IsQuick (λ v. v.now) found.entry o → IsQuick integer result o }
+{
+    match found {
+        Some(value) => match &value.node {
+            Node::Int(z) => Some(*z),
+            _ => None,
+        },
+        None => None,
+    }
+}
+
+/// The truth value that the value is.
+#[inline]
+fn truth_in(found: Option<&Value>) -> Option<bool>
+    ensures { (o : Outcome Val) → IsQuick (λ v. v.now) found.entry o → IsQuick boolean result o }
+{
+    match found {
+        Some(value) => match &value.node {
+            Node::Bool(b) => Some(*b),
+            _ => None,
+        },
+        None => None,
+    }
+}
+
+/// The text that the value is.
+#[inline]
+fn text_in(found: Option<&Value>) -> Option<&str>
+    ensures { (o : Outcome Val) → IsQuick (λ v. v.now) found.entry o
+        → IsQuick (λ t. char t.now) result o }
+{
+    match found {
+        Some(value) => match &value.node {
+            Node::Text(t) => Some(t.as_str()),
+            _ => None,
+        },
+        None => None,
+    }
+}
+
+// ---- numbers
+
+/// The sum of two numbers.
+#[inline]
+fn sum(x: i64, y: i64) -> Option<i64>
+    ensures { IsQuick integer result (operator_value operators.Add (integer x) (integer y)) }
+{
+    x.checked_add(y)
+}
+
+/// The difference of two numbers.
+#[inline]
+fn difference(x: i64, y: i64) -> Option<i64>
+    ensures { IsQuick integer result (operator_value operators.Subtract (integer x) (integer y)) }
+{
+    x.checked_sub(y)
+}
+
+/// The product of two numbers.
+#[inline]
+fn product(x: i64, y: i64) -> Option<i64>
+    ensures { IsQuick integer result (operator_value operators.Multiply (integer x) (integer y)) }
+{
+    x.checked_mul(y)
+}
+
+/// The quotient of two numbers, truncated toward zero.
+#[inline]
+fn quotient(x: i64, y: i64) -> Option<i64>
+    ensures { IsQuick integer result (operator_value operators.Divide (integer x) (integer y)) }
+{
+    if y == 0 {
+        return None;
+    }
+    x.checked_div(y)
+}
+
+/// The number with the other sign.
+#[inline]
+fn negated(x: i64) -> Option<i64>
+    ensures { IsQuick integer result (prefix_value prefixes.Negate (integer x)) }
+{
+    x.checked_neg()
+}
+
+/// The number that an operator gives of two numbers.
+#[inline]
+fn numbers_operated(op: Operator, x: i64, y: i64) -> Option<i64>
+    ensures { IsQuick integer result (operator_value op (integer x) (integer y)) }
+{
+    match op {
+        Operator::Add => sum(x, y),
+        Operator::Subtract => difference(x, y),
+        Operator::Multiply => product(x, y),
+        Operator::Divide => quotient(x, y),
+        _ => None,
+    }
+}
+
+/// The number that is a step's value.
+pub(crate) fn quick_number(hand: &Hand<'_, '_, '_>, step: &Step) -> Option<i64>
+    ensures { (w : World) (fs : List Frame) → IsHand hand.now fs
+        → IsQuick integer result (plan_value w fs (step_view step.now)) }
+{
+    match step {
+        Step::Binary(left, op, right) => match quick_number(hand, left) {
+            None => None,
+            Some(x) => match quick_number(hand, right) {
+                None => None,
+                Some(y) => numbers_operated(*op, x, y),
+            },
+        },
+        Step::Prefix(Prefix::Negate, operand) => match quick_number(hand, operand) {
+            None => None,
+            Some(x) => negated(x),
+        },
+        _ => number_in(lent(&*hand, &*step)),
+    }
+}
+
+// ---- texts
+
+/// The text that is a step's value, lent by the step or a tuple in hand.
+#[inline]
+pub(crate) fn quick_text<'h>(hand: &'h Hand<'_, '_, '_>, step: &'h Step) -> Option<&'h str>
+    ensures { (w : World) (fs : List Frame) → IsHand hand.now fs
+        → IsQuick (λ t. char t.now) result (plan_value w fs (step_view step.now)) }
+{
+    text_in(lent(hand, step))
+}
+
+// ---- truth values
+
+/// The truth value of a comparison of two numbers.
+#[inline]
+fn numbers_compared(op: Comparison, x: i64, y: i64) -> Option<bool>
+    ensures { IsQuick boolean result (comparison_value op (integer x) (integer y)) }
+{
+    match op {
+        Comparison::Equal => Some(x == y),
+        Comparison::NotEqual => Some(x != y),
+        Comparison::Less => Some(x < y),
+        Comparison::LessOrEqual => Some(x <= y),
+        Comparison::Greater => Some(y < x),
+        Comparison::GreaterOrEqual => Some(y <= x),
+        Comparison::In => None,
+    }
+}
+
+/// The truth value of a comparison of two texts.
+#[inline]
+fn texts_compared(op: Comparison, s: &str, t: &str) -> Option<bool>
+    ensures { IsQuick boolean result (comparison_value op (char s.now) (char t.now)) }
+{
+    match op {
+        Comparison::Equal => Some(s == t),
+        Comparison::NotEqual => Some(s != t),
+        Comparison::Less => Some(s < t),
+        Comparison::LessOrEqual => Some(s <= t),
+        Comparison::Greater => Some(t < s),
+        Comparison::GreaterOrEqual => Some(t <= s),
+        Comparison::In => None,
+    }
+}
+
+/// The truth value of a comparison of steps whose values are texts.
+fn quick_texts(hand: &Hand<'_, '_, '_>, left: &Step, op: Comparison, right: &Step) -> Option<bool>
+    ensures { (w : World) (fs : List Frame) → IsHand hand.now fs
+        → IsQuick boolean result (plan_value w fs
+        (compare (step_view left.now) op (step_view right.now))) }
+{
+    match quick_text(hand, left) {
+        None => None,
+        Some(s) => match quick_text(hand, right) {
+            None => None,
+            Some(t) => texts_compared(op, s, t),
+        },
+    }
+}
+
+/// The truth value of a comparison of steps whose values are numbers or texts.
+#[inline]
+fn quick_comparison(
+    hand: &Hand<'_, '_, '_>,
+    left: &Step,
+    op: Comparison,
+    right: &Step,
+) -> Option<bool>
+    ensures { (w : World) (fs : List Frame) → IsHand hand.now fs
+        → IsQuick boolean result (plan_value w fs
+        (compare (step_view left.now) op (step_view right.now))) }
+{
+    match quick_number(hand, left) {
+        None => quick_texts(hand, left, op, right),
+        Some(x) => match quick_number(hand, right) {
+            None => None,
+            Some(y) => numbers_compared(op, x, y),
+        },
+    }
+}
+
+/// The truth value that an operator gives of two truth values.
+#[inline]
+fn truths_operated(op: Operator, a: bool, b: bool) -> Option<bool>
+    ensures { IsQuick boolean result (operator_value op (boolean a) (boolean b)) }
+{
+    match op {
+        Operator::And => Some(a && b),
+        Operator::Or => Some(a || b),
+        _ => None,
+    }
+}
+
+/// The truth value that is a step's value. Both operands of AND and OR must have one.
+pub(crate) fn quick_truth(hand: &Hand<'_, '_, '_>, step: &Step) -> Option<bool>
+    ensures { (w : World) (fs : List Frame) → IsHand hand.now fs
+        → IsQuick boolean result (plan_value w fs (step_view step.now)) }
+{
+    match step {
+        Step::Compare(left, op, right) => quick_comparison(hand, left, *op, right),
+        Step::Binary(left, op, right) => match quick_truth(hand, left) {
+            None => None,
+            Some(a) => match quick_truth(hand, right) {
+                None => None,
+                Some(b) => truths_operated(*op, a, b),
+            },
+        },
+        Step::Prefix(Prefix::Not, operand) => match quick_truth(hand, operand) {
+            None => None,
+            Some(b) => Some(!b),
+        },
+        _ => truth_in(lent(&*hand, &*step)),
+    }
+}

@@ -1,0 +1,279 @@
+//! What plans give in each tuple of a relation.
+ghost use Rattle.std.specs.Prelude.{◌≡◌, ◌<◌, ◌≤◌, List, Some, length, map};
+ghost use Rattle.std.specs.List.{slice_get, zip};
+ghost use Rattle.td_algebra.specs.Columns.{columns_view};
+ghost use Rattle.td_eval.specs.NewColumns.{named_columns};
+ghost use Rattle.td_eval.specs.OperatorValues.{column_values, truth_value};
+ghost use Rattle.td_eval.specs.Totals.{total_of, total_view};
+ghost use Rattle.td_plan.specs.Hands.{AreSurroundings, world_around};
+ghost use Rattle.td_plan.specs.Plans.{Frame};
+ghost use Rattle.td_plan.specs.Runs.{IsEntered, value_in, values_in};
+ghost use Rattle.td_tree.specs.Outcomes.{Answers, Outcome, Valued, gathered, with_value};
+ghost use Rattle.td_types.specs.Views.{pairs_view, type_view};
+ghost use Rattle.td_value.specs.Values.{Val};
+
+use crate::hand::{Entered, Hand};
+use crate::quick::{quick_number, quick_truth};
+use crate::run::run;
+use crate::step::Step;
+use crate::surroundings::Surroundings;
+use td_algebra::extension::Column;
+use td_body::body::Body;
+use td_eval::rows::{named_column, truth_of, typed};
+use td_group::aggregates::Agg;
+use td_tree::fault::Fault;
+use td_tree::gathering::Gathering;
+use td_tree::name::Name;
+use td_types::ty::Ty;
+use td_value::relation::Rel;
+use td_value::tuple::Tuple;
+use td_value::value::Value;
+
+/// The value of a step in a tuple. A number is looked for without causes first.
+#[cycle(run)]
+#[inline]
+fn value_in_row<B: Body>(
+    around: &Surroundings<'_, '_, '_, B>,
+    inside: &Entered,
+    row: &Tuple,
+    step: &Step,
+) -> Result<Value, Fault>
+    requires { AreSurroundings around.now }
+    ensures { (fs : List Frame) (os : List (Outcome Val)) → IsEntered inside.now fs os
+        → Answers (λ v. v) result (value_in (world_around around.now) fs os step.now row.now) }
+{
+    let hand = Hand {
+        tuple: row,
+        fixed: &inside.fixed,
+        outer: &inside.outer,
+    };
+    match quick_number(&hand, step) {
+        Some(z) => Ok(Value::int(z)),
+        None => run(around, &hand, step),
+    }
+}
+
+/// The truth value of a condition in a tuple. It is looked for without causes first.
+#[cycle(run)]
+#[inline]
+fn truth_in_row<B: Body>(
+    around: &Surroundings<'_, '_, '_, B>,
+    inside: &Entered,
+    row: &Tuple,
+    condition: &Step,
+) -> Result<bool, Fault>
+    requires { AreSurroundings around.now }
+    ensures { (fs : List Frame) (os : List (Outcome Val)) → IsEntered inside.now fs os
+        → Answers (λ b. b) result (truth_value
+        (value_in (world_around around.now) fs os condition.now row.now)) }
+{
+    let hand = Hand {
+        tuple: row,
+        fixed: &inside.fixed,
+        outer: &inside.outer,
+    };
+    match quick_truth(&hand, condition) {
+        Some(truth) => Ok(truth),
+        None => truth_of(run(around, &hand, condition)),
+    }
+}
+
+/// The truth values of a condition in tuples.
+#[cycle(run)]
+#[inline(never)]
+pub(crate) fn truths<B: Body>(
+    around: &Surroundings<'_, '_, '_, B>,
+    inside: &Entered,
+    rows: &[Tuple],
+    condition: &Step,
+) -> Result<Vec<bool>, Fault>
+    requires { AreSurroundings around.now }
+    ensures { (fs : List Frame) (os : List (Outcome Val)) → IsEntered inside.now fs os
+        → Answers (λ m. m.items) result (gathered (map (λ t. truth_value
+        (value_in (world_around around.now) fs os condition.now t)) rows.now)) }
+{
+    let mut causes = Gathering::new();
+    let mut truths = Vec::with_capacity(around.alloc, rows.len())?;
+    for row in rows {
+        let Some(truth) = causes.add(truth_in_row(around, inside, row, condition))? else {
+            continue;
+        };
+        truths.push(truth)?;
+    }
+    causes.finish(truths)
+}
+
+/// The values of a step in tuples.
+#[cycle(run)]
+#[inline(never)]
+pub(crate) fn values_in_rows<B: Body>(
+    around: &Surroundings<'_, '_, '_, B>,
+    inside: &Entered,
+    rows: &[Tuple],
+    step: &Step,
+) -> Result<Vec<Value>, Fault>
+    requires { AreSurroundings around.now }
+    ensures { (fs : List Frame) (os : List (Outcome Val)) → IsEntered inside.now fs os
+        → Answers (λ vs. vs.items) result (gathered
+        (map (value_in (world_around around.now) fs os step.now) rows.now)) }
+{
+    let mut causes = Gathering::new();
+    let mut values = Vec::with_capacity(around.alloc, rows.len())?;
+    for row in rows {
+        let Some(value) = causes.add(value_in_row(around, inside, row, step))? else {
+            continue;
+        };
+        values.push(value)?;
+    }
+    causes.finish(values)
+}
+
+// ---- new attributes
+
+/// The values of a step in tuples, which are of a type.
+#[cycle(run)]
+#[inline(never)]
+fn column<B: Body>(
+    around: &Surroundings<'_, '_, '_, B>,
+    inside: &Entered,
+    rows: &[Tuple],
+    ty: &Ty,
+    step: &Step,
+) -> Result<Vec<Value>, Fault>
+    requires { AreSurroundings around.now }
+    ensures { (fs : List Frame) (os : List (Outcome Val)) → IsEntered inside.now fs os
+        → Answers (λ vs. vs.items) result (column_values (type_view ty.now)
+        (value_in (world_around around.now) fs os step.now) rows.now) }
+{
+    let mut causes = Gathering::new();
+    let mut values = Vec::with_capacity(around.alloc, rows.len())?;
+    for row in rows {
+        let value = typed(ty, value_in_row(around, inside, row, step));
+        let Some(value) = causes.add(value)? else {
+            continue;
+        };
+        values.push(value)?;
+    }
+    causes.finish(values)
+}
+
+/// The new attributes with their values in tuples.
+#[cycle(run)]
+#[inline(never)]
+pub(crate) fn columns<B: Body>(
+    around: &Surroundings<'_, '_, '_, B>,
+    inside: &Entered,
+    rows: &[Tuple],
+    attributes: &[(Name, Ty)],
+    steps: &[Step],
+) -> Result<Vec<(Name, Column)>, Fault>
+    requires around { AreSurroundings around.now }
+    requires lengths { length attributes.now ≡ length steps.now }
+    ensures { (fs : List Frame) (os : List (Outcome Val)) → IsEntered inside.now fs os
+        → Answers (λ cs. columns_view cs.items) result (gathered (named_columns
+        (pairs_view attributes.now) (values_in (world_around around.now) fs os steps.now)
+        rows.now)) }
+{
+    let mut causes = Gathering::new();
+    let mut columns = Vec::with_capacity(around.alloc, steps.len())?;
+    for (place, step) in steps.iter().enumerate() {
+        let (name, ty) = &attributes[place];
+        let values = column(around, inside, rows, ty, step);
+        let Some(column) = causes.add(named_column(name, ty, values))? else {
+            continue;
+        };
+        columns.push(column)?;
+    }
+    causes.finish(columns)
+}
+
+// ---- groups
+
+/// The values of a step in the tuples of each group.
+#[cycle(run)]
+#[inline(never)]
+fn values_in_groups<B: Body>(
+    around: &Surroundings<'_, '_, '_, B>,
+    inside: &Entered,
+    groups: &[(Tuple, Rel)],
+    step: &Step,
+) -> Result<Vec<Vec<Value>>, Fault>
+    requires { AreSurroundings around.now }
+    ensures { (fs : List Frame) (os : List (Outcome Val)) → IsEntered inside.now fs os
+        → Answers (λ vss. map (λ vs. vs.items) vss.items) result (gathered (map (λ g. gathered
+        (map (value_in (world_around around.now) fs os step.now) g.1.body)) groups.now)) }
+{
+    let mut causes = Gathering::new();
+    let mut values = Vec::with_capacity(around.alloc, groups.len())?;
+    for (_, group) in groups {
+        let found = values_in_rows(around, inside, group.rows(), step);
+        let Some(found) = causes.add(found)? else {
+            continue;
+        };
+        values.push(found)?;
+    }
+    causes.finish(values)
+}
+
+/// The aggregate with the values that it is of in each group.
+fn with_aggregate(
+    asked: Agg,
+    groups: Result<Vec<Vec<Value>>, Fault>,
+) -> Result<(Agg, Vec<Vec<Value>>), Fault>
+    ensures { (o : Outcome (List (List Val)))
+        → Answers (λ vss. map (λ vs. vs.items) vss.items) groups o
+        → Answers total_view result (with_value o (λ vss. Valued (asked, vss))) }
+{
+    Ok((asked, groups?))
+}
+
+/// How many aggregates have a step beside them.
+pub(crate) fn item_count(aggregates: &[Agg], steps: &[Step]) -> usize
+    ensures count { result ≡ length (zip aggregates.now steps.now) }
+    ensures aggregates { result ≤ length aggregates.now }
+    ensures steps { result ≤ length steps.now }
+{
+    if aggregates.len() < steps.len() {
+        aggregates.len()
+    } else {
+        steps.len()
+    }
+}
+
+/// The aggregate at a place.
+fn aggregate_at(aggregates: &[Agg], place: usize) -> Agg
+    requires { place < length aggregates.now }
+    ensures { slice_get aggregates.now place ≡ Some result }
+{
+    aggregates[place]
+}
+
+/// What each aggregate is of in the groups, by the step beside it.
+#[cycle(run)]
+#[inline(never)]
+pub(crate) fn totals<B: Body>(
+    around: &Surroundings<'_, '_, '_, B>,
+    inside: &Entered,
+    groups: &[(Tuple, Rel)],
+    aggregates: &[Agg],
+    steps: &[Step],
+) -> Result<Vec<(Agg, Vec<Vec<Value>>)>, Fault>
+    requires { AreSurroundings around.now }
+    ensures { (fs : List Frame) (os : List (Outcome Val)) → IsEntered inside.now fs os
+        → Answers (λ ts. map total_view ts.items) result (gathered (map (total_of groups.now)
+        (zip aggregates.now (values_in (world_around around.now) fs os steps.now)))) }
+{
+    let mut causes = Gathering::new();
+    let count = item_count(aggregates, steps);
+    let mut totals = Vec::with_capacity(around.alloc, count)?;
+    for place in 0..count {
+        let asked = aggregate_at(aggregates, place);
+        let values = values_in_groups(around, inside, groups, &steps[place]);
+        let total = with_aggregate(asked, values);
+        let Some(total) = causes.add(total)? else {
+            continue;
+        };
+        totals.push(total)?;
+    }
+    causes.finish(totals)
+}

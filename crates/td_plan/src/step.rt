@@ -1,0 +1,44 @@
+//! The steps of plans: expressions whose attributes are found and whose types are known.
+use std::rc::RcStr;
+use td_group::aggregates::Agg;
+use td_tree::cause::Cause;
+use td_tree::expression::{Attributes, Postfix};
+use td_tree::name::Name;
+use td_tree::operator::{Aggregate, Comparison, Measure, Operator, Prefix};
+use td_types::heading::Heading;
+use td_types::ty::Ty;
+use td_value::value::Value;
+
+/// A step of a plan. A depth says how many tuples out: the innermost tuple in hand has depth 0. The list
+/// beside what is asked of an operand's tuples is what is valued once for all of them.
+#[derive(Drop)]
+pub enum Step {
+    Constant(Value),
+    /// What has no value, for that cause.
+    Refused(Cause),
+    /// The attribute at a place of a tuple in hand.
+    Attribute { depth: usize, place: usize },
+    /// What was valued once for a tuple in hand and its like.
+    Fixed { depth: usize, place: usize },
+    Relvar(Name),
+    Prefix(Prefix, Box<Step>),
+    Extract(Name, Box<Step>),
+    Restriction(Box<Step>, Vec<Step>, Box<Step>),
+    Binary(Box<Step>, Operator, Box<Step>),
+    Compare(Box<Step>, Comparison, Box<Step>),
+    Postfix(Box<Step>, Postfix),
+    Select(Name, Vec<Step>),
+    Component(RcStr, Box<Step>),
+    Measure(Measure, Box<Step>),
+    /// The relation of tuples of one heading, the first one's.
+    Relation(Vec<Step>),
+    HeadedRelation(Heading, Vec<Step>),
+    Tuple(Vec<Name>, Vec<Step>),
+    /// The new attributes, what is valued once, and their values.
+    Extend(Box<Step>, Vec<(Name, Ty)>, Vec<Step>, Vec<Step>),
+    Aggregate(Aggregate, Box<Step>, Vec<Step>, Box<Step>),
+    /// The new attributes, their aggregates, what is valued once, and what these are of.
+    SummarizePer(Box<Step>, Box<Step>, Vec<(Name, Ty)>, Vec<Agg>, Vec<Step>, Vec<Step>),
+    SummarizeBy(Box<Step>, Attributes, Vec<(Name, Ty)>, Vec<Agg>, Vec<Step>, Vec<Step>),
+    If(Box<Step>, Box<Step>, Box<Step>),
+}

@@ -1,0 +1,130 @@
+//! The steps of SUMMARIZE. What does not name the tuples of a group is valued once.
+ghost use Rattle.std.specs.Prelude.{◌≡◌, IfNone, IfOk, IfSome, List, map, true};
+ghost use Rattle.td_check.specs.Scopes.{Scope, entered_with};
+ghost use Rattle.td_check.specs.StaticTypes.{type_of};
+ghost use Rattle.td_eval.specs.AggregateValues.{summary_attributes};
+ghost use Rattle.td_eval.specs.Totals.{asked_by};
+ghost use Rattle.td_plan.specs.PlannedParts.{ArePlansOfTyped, in_summaries};
+ghost use Rattle.td_plan.specs.PlansOf.{IsPlanOfTyped};
+ghost use Rattle.td_plan.specs.StepViews.{step_view, steps_view};
+ghost use Rattle.td_plan.specs.SummaryItems.{aggregates_in};
+ghost use Rattle.td_tree.specs.Outcomes.{Valued};
+ghost use Rattle.td_tree.specs.TreeViews.{attributes_view, summaries_view};
+ghost use Rattle.td_tree.specs.Trees as trees;
+ghost use Rattle.td_tree.specs.Trees.{Tree};
+ghost use Rattle.td_types.specs.Types as types;
+ghost use Rattle.td_types.specs.Types.{Attribute, Heading, pack};
+ghost use Rattle.td_types.specs.Views.{pairs_view};
+
+use crate::hoist::all_pulled;
+use crate::step::Step;
+use std::alloc::{AllocError, Global};
+use td_check::scope::Scope;
+use td_eval::operators::aggregates::asked_of;
+use td_eval::operators::summaries::item_attributes;
+use td_group::aggregates::Agg;
+use td_tree::expression::{Attributes, Summary};
+use td_tree::fault::Fault;
+use td_tree::name::Name;
+use td_types::ty::Ty;
+use td_value::value::Value;
+
+/// The attributes that items add, with their types: none where they have no types.
+pub(crate) fn attributes_of(
+    alloc: Global,
+    scope: &Scope<'_>,
+    items: &[Summary],
+) -> Result<Option<Vec<(Name, Ty)>>, AllocError>
+    ensures some { IfOk result (λ found. IfSome found (λ xs.
+        summary_attributes scope.now (summaries_view items.now)
+        ≡ Valued (pairs_view xs.items))) }
+    ensures none { IfOk result (λ found. IfNone found ((xs : List Attribute)
+        → summary_attributes scope.now (summaries_view items.now) ≡ Valued xs → ⊥)) }
+{
+    match item_attributes(alloc, scope, items) {
+        Ok(attributes) => Ok(Some(attributes)),
+        Err(Fault::Refused(_)) => Ok(None),
+        Err(Fault::Memory) => Err(AllocError),
+    }
+}
+
+/// The aggregate that an item asks.
+fn aggregate_of(item: &Summary) -> Agg
+    ensures { result ≡ asked_by item.now }
+{
+    match item {
+        Summary::Count(_) => Agg::Count,
+        Summary::Of(op, _, _) => asked_of(*op),
+    }
+}
+
+/// The aggregates that items ask, in the order written.
+pub(crate) fn aggregates_of(alloc: Global, items: &[Summary]) -> Result<Vec<Agg>, AllocError>
+    ensures { IfOk result (λ xs. xs.items ≡ map asked_by items.now) }
+{
+    let mut aggregates = Vec::with_capacity(alloc, items.len())?;
+    for item in items {
+        aggregates.push(aggregate_of(item))?;
+    }
+    Ok(aggregates)
+}
+
+/// The step of what COUNT counts: a term for each tuple.
+pub(crate) fn count_step() -> Step
+    ensures { (scope : Scope)
+        → IsPlanOfTyped scope (step_view result) (trees.literal (trees.truth true)) }
+{
+    Step::Constant(Value::bool(true))
+}
+
+/// The step of SUMMARIZE of an operand by the tuples of another relation, with new attributes, which
+/// have these types.
+pub(crate) fn summary_step(
+    alloc: Global,
+    operand: Step,
+    per: Step,
+    attributes: Vec<(Name, Ty)>,
+    aggregates: Vec<Agg>,
+    values: Vec<Step>,
+) -> Result<Step, AllocError>
+    ensures { IfOk result (λ p. (scope : Scope) (d q : Tree) (items : trees.Summaries)
+        → (h : Heading) → IsPlanOfTyped scope (step_view operand) d
+        → IsPlanOfTyped scope (step_view per) q
+        → type_of scope d ≡ Valued (types.relation (pack h))
+        → summary_attributes (entered_with h scope) items ≡ Valued (pairs_view attributes.items)
+        → aggregates.items ≡ aggregates_in items
+        → ArePlansOfTyped (entered_with h scope) (steps_view values.items) (in_summaries items)
+        → IsPlanOfTyped scope (step_view p) (trees.summarize_per d q items)) }
+{
+    let mut parts = Vec::new(alloc);
+    let values = all_pulled(alloc, values, &mut parts)?;
+    let operand = Box::new(alloc, operand)?;
+    let per = Box::new(alloc, per)?;
+    Ok(Step::SummarizePer(operand, per, attributes, aggregates, parts, values))
+}
+
+/// The step of SUMMARIZE of an operand by some of its attributes, with new attributes, which have these
+/// types.
+pub(crate) fn summary_by_step(
+    alloc: Global,
+    operand: Step,
+    by: &Attributes,
+    attributes: Vec<(Name, Ty)>,
+    aggregates: Vec<Agg>,
+    values: Vec<Step>,
+) -> Result<Step, AllocError>
+    ensures { IfOk result (λ p. (scope : Scope) (d : Tree) (items : trees.Summaries)
+        → (h : Heading) → IsPlanOfTyped scope (step_view operand) d
+        → type_of scope d ≡ Valued (types.relation (pack h))
+        → summary_attributes (entered_with h scope) items ≡ Valued (pairs_view attributes.items)
+        → aggregates.items ≡ aggregates_in items
+        → ArePlansOfTyped (entered_with h scope) (steps_view values.items) (in_summaries items)
+        → IsPlanOfTyped scope (step_view p)
+        (trees.summarize_by d (attributes_view by.now) items)) }
+{
+    let mut parts = Vec::new(alloc);
+    let values = all_pulled(alloc, values, &mut parts)?;
+    let operand = Box::new(alloc, operand)?;
+    let by = by.try_clone()?;
+    Ok(Step::SummarizeBy(operand, by, attributes, aggregates, parts, values))
+}

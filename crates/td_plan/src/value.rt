@@ -1,0 +1,45 @@
+//! The value of an expression, by a plan that is made of it and run.
+ghost use Rattle.std.specs.Prelude.{◌∷◌, map};
+ghost use Rattle.td_eval.specs.OperatorValues.{truth_value};
+ghost use Rattle.td_eval.specs.Sights.{tuples_in_hand, world_in};
+ghost use Rattle.td_eval.specs.TreeValues.{value_of};
+ghost use Rattle.td_plan.specs.PlansOf.{MeetsRules, MeetsRulesIn, scope_in};
+ghost use Rattle.td_tree.specs.Outcomes.{Answers, gathered};
+ghost use Rattle.td_tree.specs.TreeViews.{tree_view};
+
+use crate::plan::{plan_in_tuples, plan_of};
+use crate::run_plan::{run_plan, run_truths};
+use std::alloc::Global;
+use td_body::body::Body;
+use td_eval::env::Env;
+use td_tree::expression::Expr;
+use td_tree::fault::Fault;
+use td_value::relation::Rel;
+use td_value::value::Value;
+
+/// The value of the expression, or the least of the causes for which it has none.
+pub fn value_in<B: Body>(alloc: Global, env: &Env<'_, B>, expr: &Expr) -> Result<Value, Fault>
+    ensures { MeetsRules (world_in env.now) (scope_in env.now) (tuples_in_hand env.now)
+        (tree_view expr.now) → Answers (λ v. v) result
+        (value_of (world_in env.now) (tuples_in_hand env.now) (tree_view expr.now)) }
+{
+    let plan = plan_of(alloc, env, expr)?;
+    run_plan(alloc, env, &plan)
+}
+
+/// The truth values of a condition, one for each tuple of the relation, in their order: it is
+/// planned once for all of them.
+pub fn truths_in<B: Body>(
+    alloc: Global,
+    env: &Env<'_, B>,
+    rel: &Rel,
+    condition: &Expr,
+) -> Result<Vec<bool>, Fault>
+    ensures { MeetsRulesIn (world_in env.now) (scope_in env.now) (tuples_in_hand env.now) rel.now
+        (tree_view condition.now) → Answers (λ m. m.items) result (gathered (map (λ t.
+        truth_value (value_of (world_in env.now) (t ∷ tuples_in_hand env.now)
+        (tree_view condition.now))) rel.now.body)) }
+{
+    let plan = plan_in_tuples(alloc, env, rel.heading(), condition)?;
+    run_truths(alloc, env, rel, &plan)
+}
