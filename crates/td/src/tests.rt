@@ -8,6 +8,7 @@ mod given;
 mod groups;
 mod operators;
 mod pairs;
+mod plans;
 mod statements;
 mod streams;
 mod texts;

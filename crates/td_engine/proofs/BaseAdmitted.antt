@@ -7,7 +7,8 @@ use Rattle.td_check.specs.StaticTypes.{type_of}
 use Rattle.td_engine.specs.Carried.{IsAdmitted}
 use Rattle.td_engine.specs.Machine.{init_relation}
 use Rattle.td_engine.specs.Legality.{AreBaseKeys, IsRankedHeading, IsLegal}
-use Rattle.td_engine.proofs.WrittenStatements.{IsWrittenIf, definitions_written}
+use Rattle.td_engine.proofs.WrittenStatements.{definitions_written}
+use Rattle.td_engine.specs.Plannable.{IsWrittenIf}
 use Rattle.td_engine.proofs.Admitted.{both_asked, is_held}
 use Rattle.td_engine.proofs.TypedRelations.{FitsTarget, source_fits}
 use Rattle.td_eval.proofs.TypedDatabases.{database_keeps}

@@ -30,6 +30,8 @@ mod NewChecks
 mod OrderedGifts
 mod OrderedKeys
 mod PassedChecks
+mod PlannableAssignments
+mod Plannables
 mod PutGifts
 mod RankChanges
 mod Rebuilds
@@ -48,6 +50,7 @@ mod LaterChecks
 mod LegalChanges
 pub mod LegalRuns
 mod Sources
+mod SpelledDefinitions
 mod SpelledParts
 mod StageLaws
 mod TestsAfterDrops

@@ -19,7 +19,8 @@ use Rattle.td_engine.proofs.OrderedGifts.{each_found}
 use Rattle.td_engine.proofs.OrderedKeys.{base_keys_stay}
 use Rattle.td_engine.proofs.Settled.{keys_are_held}
 use Rattle.td_engine.proofs.TypedGifts.{value_like}
-use Rattle.td_engine.proofs.WrittenStatements.{IsWrittenIf, definitions_written, statement_written}
+use Rattle.td_engine.proofs.WrittenStatements.{definitions_written, statement_written}
+use Rattle.td_engine.specs.Plannable.{IsWrittenIf}
 use Rattle.td_engine.specs.Assignments.{Given, given_to, of_heading, with_gift, with_gifts}
 use Rattle.td_engine.specs.Carried.{IsAdmitted}
 use Rattle.td_engine.specs.Checks.{base_check, keys_hold}

@@ -18,7 +18,8 @@ use Rattle.td_engine.proofs.Sources.{inserted_is, restricted_is}
 use Rattle.td_engine.proofs.TypedSettings.{AreOwnParts, additions_are, set_attributes, typed_setting}
 use Rattle.td_engine.specs.Assignments.{Given, assignment_value, chosen_for, current, given_by, given_to, of_heading, relation_for, setting_attributes, setting_names, source_world, target_of, updated_relation, with_assignment, with_given, with_inserted, without_deleted}
 use Rattle.td_engine.specs.Gifts.{AreGifts, IsGift, restricted_relation, setting_attribute}
-use Rattle.td_engine.proofs.WrittenStatements.{AreWritten, AreWrittenSettings, IsWrittenAssignment}
+use Rattle.td_engine.proofs.WrittenStatements.{AreWritten}
+use Rattle.td_engine.specs.Plannable.{AreWrittenSettings, IsWrittenAssignment}
 use Rattle.td_eval.proofs.KeepsOperators.{typed_restriction, typed_union}
 use Rattle.td_eval.proofs.KeepsRelations.{IsTypedRelation, typed_from_value, value_from_typed}
 use Rattle.td_eval.proofs.KnownRelvars.{known_as_base}
@@ -128,11 +129,11 @@ module _ (db : Database) (is_typed : IsTyped db) (written : DefinitionsAreWritte
       by_test true is rest = subst (IsTypedBase ds) (some_is c b (rw is at e)) h.0
       by_test false is rest = rest (rw is at e)
 
-  is_base : (n : List ℕ) (b : BaseRelvar) → base_named n db ≡ Some b → IsTypedBase ds b
+  pub is_base : (n : List ℕ) (b : BaseRelvar) → base_named n db ≡ Some b → IsTypedBase ds b
   is_base n b e = base_at n db.bases b is_typed.bases e
 
   -- what a target may be given is typed
-  typed_gift : (n : List ℕ) (q : Relation) → IsGift db (n, q) → IsTypedRelation ds q
+  pub typed_gift : (n : List ℕ) (q : Relation) → IsGift db (n, q) → IsTypedRelation ds q
   typed_gift n q gift =
       let known = (is_base n gift.target gift.named).known in
       typed_from_value ds q (gift.relation, (refl, subst (λ (h : Heading). AreKnown ds (pack h)) (sym gift.heading) known, gift.typed))
@@ -164,7 +165,7 @@ module _ (db : Database) (is_typed : IsTyped db) (written : DefinitionsAreWritte
     abbrev w : World
     w = source_world db n so_far
 
-    keeps : KeepsScope w scope
+    pub keeps : KeepsScope w scope
     keeps =
         subst (KeepsScope w) (world_scope db)
         (other_relations_keep_scopes db n gift.target so_far (typed_databases_keep_scopes db is_typed written) gift.named gift.relation gift.typed gift.heading)
@@ -180,7 +181,7 @@ module _ (db : Database) (is_typed : IsTyped db) (written : DefinitionsAreWritte
         value_like ds so_far value.0 t r (subst (λ o. KeepsType ds o (Valued value.0)) typed (subst (KeepsType ds (type_of scope e)) value.1 kept)) value.2
 
     -- that of an assignment and of INSERT
-    checked_source : (e : Tree) → both_hold (is_target (known_relvar scope n)) (with_value (type_of scope e) (source_fits (known_relvar scope n))) ≡ Valued tt
+    pub checked_source : (e : Tree) → both_hold (is_target (known_relvar scope n)) (with_value (type_of scope e) (source_fits (known_relvar scope n))) ≡ Valued tt
         → (t : Type') × (type_of scope e ≡ Valued t)
     checked_source e checked =
         let is = value_of_with (type_of scope e) (source_fits (known_relvar scope n)) tt (both_asked _ _ checked).1 in
@@ -207,6 +208,26 @@ module _ (db : Database) (is_typed : IsTyped db) (written : DefinitionsAreWritte
             let of_type : KeepsType ds (type_of (entered_with gift.target.relation.heading scope) e) (value_of w (u ∷ []) e) =
             subst (λ (h : Heading). KeepsType ds (type_of (entered_with h scope) e) (value_of w (u ∷ []) e)) headed kept in
             own_type ds v both.0 (subst (λ o. KeepsType ds o (Valued v)) both.2 (subst (KeepsType ds (type_of (entered_with gift.target.relation.heading scope) e)) is of_type))
+
+    -- what DELETE asks of each tuple
+    pub checked_condition : (condition : Option Tree) → assignment_checked scope (delete n condition) ≡ Valued tt
+        → (k : Option Type') × (condition_type (entered_with gift.target.relation.heading scope) condition ≡ Valued k)
+    checked_condition condition checked =
+        let asked = λ (inside : Scope) (h : Heading). with_value (condition_type inside condition) condition_fits in
+        let is : asked (entered_with gift.target.relation.heading scope) gift.target.relation.heading ≡ Valued tt =
+        ap (λ o. in_target scope o asked) (sym known) ∙ (both_asked _ _ checked).1 in
+        let one = value_of_with (condition_type (entered_with gift.target.relation.heading scope) condition) condition_fits tt is in
+        (one.0, one.1)
+
+    -- and UPDATE
+    pub checked_setting_condition : (condition : Option Tree) (settings : NamedTrees) → assignment_checked scope (update n condition settings) ≡ Valued tt
+        → (k : Option Type') × (condition_type (entered_with gift.target.relation.heading scope) condition ≡ Valued k)
+    checked_setting_condition condition settings checked =
+        let asked = λ (inside : Scope) (h : Heading). with_both (condition_type inside condition) (named_types inside settings) (λ c kinds. both_hold (condition_fits c) (settings_fit h kinds)) in
+        let is : asked (entered_with gift.target.relation.heading scope) gift.target.relation.heading ≡ Valued tt =
+        ap (λ o. in_target scope o asked) (sym known) ∙ (both_asked _ _ checked).1 in
+        let both = values_of_both (condition_type (entered_with gift.target.relation.heading scope) condition) (named_types (entered_with gift.target.relation.heading scope) settings) _ tt is in
+        (both.0, both.2)
 
     checked_settings : (condition : Option Tree) (settings : NamedTrees) → assignment_checked scope (update n condition settings) ≡ Valued tt
         → (kinds : List Attribute) × (named_types (entered_with gift.target.relation.heading scope) settings ≡ Valued kinds)
@@ -259,7 +280,7 @@ module _ (db : Database) (is_typed : IsTyped db) (written : DefinitionsAreWritte
       by_test true is rest = rw is (subst (λ m. IsGift db (m, q)) (same_text n e.0 (sym is)) gift, h.1)
       by_test false is rest = rw is (h.0, rest)
 
-  given_more : (given next : Given) (a : Assignment) → AreGifts db given → IsWrittenAssignment a → assignment_checked scope a ≡ Valued tt
+  pub given_more : (given next : Given) (a : Assignment) → AreGifts db given → IsWrittenAssignment a → assignment_checked scope a ≡ Valued tt
       → with_assignment db given a ≡ Valued next → AreGifts db next
   given_more given next a h is_written checked e =
       let n = target_of a in
@@ -269,7 +290,7 @@ module _ (db : Database) (is_typed : IsTyped db) (written : DefinitionsAreWritte
       let like = gives_like n one.0 gift a two.0 refl is_written checked two.1 in
       subst (AreGifts db) (valued_is (with_given n two.0 given) next two.2) (gift_added given n two.0 h (gift_like n one.0 two.0 gift like))
 
-  abbrev AreChecked : List Assignment → Type 0
+  abbrev pub AreChecked : List Assignment → Type 0
   AreChecked = AllByRecursion (λ a. assignment_checked scope a ≡ Valued tt)
 
   all_given : (given out : Given) (xs : List Assignment) → AreGifts db given → AreWritten xs → AreChecked xs → given_by db given xs ≡ Valued out → AreGifts db out
@@ -284,9 +305,12 @@ module _ (db : Database) (is_typed : IsTyped db) (written : DefinitionsAreWritte
       let is = values_of_both (assignment_checked scope a) (gathered (map (assignment_checked scope) rest)) (λ x xs. Valued (x ∷ xs)) us e in
       (is.2, each_checked rest is.1 is.3)
 
+  pub statement_each_checked : (xs : List Assignment) → statement_checked scope (assign_all xs) ≡ Valued tt → AreChecked xs
+  statement_each_checked xs checked =
+      let is = value_of_with (gathered (map (assignment_checked scope) xs)) (λ _. Valued tt) tt checked in
+      each_checked xs is.0 is.1
+
   -- what the assignments of a statement that meets the static rules give
   pub given_typed : (xs : List Assignment) (out : Given) → AreWritten xs → statement_checked scope (assign_all xs) ≡ Valued tt
       → given_by db [] xs ≡ Valued out → AreGifts db out
-  given_typed xs out is_written checked e =
-      let is = value_of_with (gathered (map (assignment_checked scope) xs)) (λ _. Valued tt) tt checked in
-      all_given [] out xs tt is_written (each_checked xs is.0 is.1) e
+  given_typed xs out is_written checked e = all_given [] out xs tt is_written (statement_each_checked xs checked) e

@@ -7,36 +7,20 @@ use Rattle.td_tree.specs.Lists.{Optional, Separated, absent, next_item, one_item
 use Rattle.td_tree.specs.Names.{IsName}
 use Rattle.td_tree.specs.StatementGrammar as s
 use Rattle.td_tree.specs.StatementGrammar.{AssignmentSpelling, BodySpelling, ConstraintPart, InitPart, SettingsSpelling, StatementSpelling, WherePart, constraint_part, init_part, where_part}
-use Rattle.td_tree.specs.Trees.{Assignment, NamedTrees, Statement, Tree, assign, assign_all, define_base, define_constraint, define_type, define_virtual, delete, insert, update, write}
-use Rattle.td_check.specs.StaticLaws.{PartsGiveNames}
-use Rattle.td_eval.specs.TreeTexts.{PartsHaveTexts}
+use Rattle.td_tree.specs.Trees.{Assignment, NamedTrees, Statement, Tree, assign_all, define_base, define_constraint, define_type, define_virtual, write}
 use Rattle.td_eval.specs.ValueTypes.{DefinitionsAreWritten, IsWritten}
 use Rattle.td_types.specs.TypeListLaws.{HaveNames}
 use Rattle.td_types.specs.TypeLists.{DeclaredType}
 use Rattle.td_catalog.specs.Database.{Database, NamedConstraint, VirtualRelvar}
 use Rattle.td_engine.proofs.EachOf.{all_follow}
 use Rattle.td_engine.specs.Carried.{IsSpelled}
+use Rattle.td_engine.specs.Plannable.{AreWrittenSettings, IsWrittenAssignment, IsWrittenIf}
 use Rattle.td_engine.specs.Legality.{AreSpelled, IsSpelledExpression, IsSpelledIf}
 use Rattle.td_engine.proofs.WrittenSpellings.{AreOfTokens, attributes_written, back, front, heading_written, inside, of_tokens, written}
 
 -- ---- statements as they are written
 
--- the expression, where there is one, gives names that are names, and its texts are UTF-8
-abbrev pub IsWrittenIf : Option Tree → Type 0
-IsWrittenIf None = ⊤
-IsWrittenIf (Some e) = IsWritten e
-
--- so do those of settings
-abbrev pub AreWrittenSettings : NamedTrees → Type 0
-AreWrittenSettings settings = PartsGiveNames settings × PartsHaveTexts settings
-
--- so do the expressions in an assignment
-abbrev pub IsWrittenAssignment : Assignment → Type 0
-IsWrittenAssignment (assign target source) = IsWritten source
-IsWrittenAssignment (insert target source) = IsWritten source
-IsWrittenAssignment (delete target condition) = IsWrittenIf condition
-IsWrittenAssignment (update target condition settings) = IsWrittenIf condition × AreWrittenSettings settings
-
+-- the expressions in assignments are written
 abbrev pub AreWritten : List Assignment → Type 0
 AreWritten = AllByRecursion IsWrittenAssignment
 

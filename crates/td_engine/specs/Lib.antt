@@ -8,6 +8,7 @@ pub mod LeftOut
 pub mod Legality
 pub mod LegalityLaws
 pub mod Machine
+pub mod Plannable
 pub mod Rebuilding
 pub mod Refusals
 pub mod Scripts

@@ -14,11 +14,14 @@ ghost use Rattle.td_engine.specs.Checks.{BasesHold, base_check, first_refusal};
 ghost use Rattle.td_engine.specs.Gifts.{AreGifts, gift_of, gifted};
 ghost use Rattle.td_engine.specs.LeftOut.{PassesElsewhere};
 ghost use Rattle.td_engine.specs.Machine.{by_outcome, changed};
-ghost use Rattle.td_engine.specs.Legality.{IsLegal};
+ghost use Rattle.td_engine.specs.Legality.{AreSpelled, IsLegal};
+ghost use Rattle.td_engine.specs.Plannable.{IsAdmittedAssignment, IsPlannableAssignment};
+ghost use Rattle.td_engine.specs.Plannable.{LeavesGift};
 ghost use Rattle.td_engine.specs.Stages.{GoesOn};
 ghost use Rattle.td_eval.specs.ReachedRelvars.{reached_from};
 ghost use Rattle.td_tree.specs.Outcomes.{Answers};
 ghost use Rattle.td_tree.specs.TreeViews.{assignment_view, statement_view};
+ghost use Rattle.td_tree.specs.Trees.{assign_all};
 
 use crate::change::Change;
 use crate::checks::{entry_keys_hold, reached_from, settled};
@@ -44,6 +47,8 @@ fn change_over<B: Body>(
     entry: &BaseEntry<B>,
     assignment: &Assignment,
 ) -> Result<Change, Fault>
+    requires { IsPlannableAssignment catalog.now.database (B.relation entry.now.body)
+        (assignment_view assignment.now) }
     ensures answer { Answers (λ c. after c (B.relation entry.now.body)) result
         (gift_over catalog.now.database (B.relation entry.now.body)
         (assignment_view assignment.now)) }
@@ -59,6 +64,8 @@ fn first_change<B: Body>(
     catalog: &Catalog<B>,
     assignment: &Assignment,
 ) -> Result<Change, Fault>
+    requires legal { IsLegal catalog.now.database }
+    requires admitted { IsAdmittedAssignment catalog.now.database (assignment_view assignment.now) }
     ensures answer { Answers
         (given_as catalog.now.database (target_of (assignment_view assignment.now))) result
         (gift_of catalog.now.database [] (assignment_view assignment.now)) }
@@ -81,7 +88,11 @@ fn next_change<B: Body>(
     change: &Change,
     assignment: &Assignment,
 ) -> Result<Change, Fault>
-    requires { IsChangeOf catalog.now.database
+    requires legal { IsLegal catalog.now.database }
+    requires admitted { IsAdmittedAssignment catalog.now.database (assignment_view assignment.now) }
+    requires change { IsChangeOf catalog.now.database
+        (target_of (assignment_view assignment.now), change.now) }
+    requires gift { LeavesGift catalog.now.database
         (target_of (assignment_view assignment.now), change.now) }
     ensures answer { Answers
         (given_as catalog.now.database (target_of (assignment_view assignment.now))) result
@@ -107,7 +118,11 @@ fn gift<B: Body>(
     given: &IndexMap<Name, Change>,
     assignment: &Assignment,
 ) -> Result<Change, Fault>
-    requires { AreChanges catalog.now.database given.now.entries }
+    requires legal { IsLegal catalog.now.database }
+    requires admitted { IsAdmittedAssignment catalog.now.database (assignment_view assignment.now) }
+    requires changes { AreChanges catalog.now.database given.now.entries }
+    requires gifts { AreGifts catalog.now.database
+        (given_in catalog.now.database given.now.entries) }
     ensures answer { Answers
         (given_as catalog.now.database (target_of (assignment_view assignment.now))) result
         (gift_of catalog.now.database (given_in catalog.now.database given.now.entries)
@@ -128,7 +143,11 @@ fn give<B: Body>(
     given: &mut IndexMap<Name, Change>,
     assignment: &Assignment,
 ) -> Result<(), Fault>
-    requires { AreChanges catalog.now.database given.old.entries }
+    requires legal { IsLegal catalog.now.database }
+    requires admitted { IsAdmittedAssignment catalog.now.database (assignment_view assignment.now) }
+    requires changes { AreChanges catalog.now.database given.old.entries }
+    requires gifts { AreGifts catalog.now.database
+        (given_in catalog.now.database given.old.entries) }
     ensures answer { Answers (λ u. given_in catalog.now.database given.new.entries) result
         (with_assignment catalog.now.database (given_in catalog.now.database given.old.entries)
         (assignment_view assignment.now)) }
@@ -145,6 +164,9 @@ fn given_by<B: Body>(
     catalog: &Catalog<B>,
     assignments: &[Assignment],
 ) -> Result<IndexMap<Name, Change>, Fault>
+    requires legal { IsLegal catalog.now.database }
+    requires admitted { IsAdmitted catalog.now.database
+        (assign_all (map assignment_view assignments.now)) }
     ensures answer { Answers (λ g. given_in catalog.now.database g.entries) result
         (given_by catalog.now.database [] (map assignment_view assignments.now)) }
     ensures changes { IfOk result (λ g. AreChanges catalog.now.database g.entries) }
@@ -272,6 +294,7 @@ fn settle_gifts<B: Body>(
     catalog: &Catalog<B>,
     given: &IndexMap<Name, Change>,
 ) -> Result<(), Failure>
+    requires spelled { AreSpelled catalog.now.database }
     requires held { BasesHold catalog.now.database }
     requires elsewhere { PassesElsewhere
         (reached_from (keys_of given.now.entries) catalog.now.database.virtuals)

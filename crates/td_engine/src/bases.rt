@@ -8,6 +8,7 @@ ghost use Rattle.td_engine.specs.Assignments.{of_heading, relation_for};
 ghost use Rattle.td_engine.specs.Carried.{Changes, IsAdmitted};
 ghost use Rattle.td_engine.specs.Machine.{base_defined, by_outcome, changed, init_relation};
 ghost use Rattle.td_engine.specs.Legality.{AreBaseKeys, IsLegal};
+ghost use Rattle.td_engine.specs.Plannable.{IsPlannableIf};
 ghost use Rattle.td_engine.specs.Stages.{GoesOn};
 ghost use Rattle.td_eval.specs.DatabaseWorlds.{world_of};
 ghost use Rattle.td_eval.specs.OperatorValues.{on_relation};
@@ -46,6 +47,7 @@ fn init_relation<B: Body>(
     heading: Heading,
     init: Option<&Expr>,
 ) -> Result<Rel, Fault>
+    requires { IsPlannableIf catalog.now.database (option_map (λ e. tree_view e.now) init) }
     ensures { Answers (λ r. r) result (init_relation catalog.now.database
         (option_map (λ e. tree_view e.now) init.entry) heading) }
 {
@@ -62,6 +64,7 @@ fn new_relation<B: Body>(
     catalog: &Catalog<B>,
     definition: &BaseDefinition,
 ) -> Result<Rel, Fault>
+    requires { IsPlannableIf catalog.now.database (option_map tree_view definition.now.init) }
     ensures { Answers (λ r. r) result (with_value
         (heading_meant catalog.now.database.types
         (heading_tree_view definition.now.heading.items))

@@ -11,7 +11,9 @@ ghost use Rattle.td_engine.specs.Checks.{first_refusal};
 ghost use Rattle.td_engine.specs.Checks.{keys_hold, unpassed, virtual_check, virtual_test};
 ghost use Rattle.td_engine.specs.LeftOut.{PassesElsewhere, PassesUnlessNamed};
 ghost use Rattle.td_engine.specs.LeftOut.{PassesUnlessReached};
+ghost use Rattle.td_engine.specs.Legality.{AreSpelled};
 ghost use Rattle.td_engine.specs.Machine.{changed};
+ghost use Rattle.td_engine.specs.Plannable.{IsPlannable};
 ghost use Rattle.td_engine.specs.Refusals.{by_constraint, by_key};
 ghost use Rattle.td_eval.specs.DatabaseWorlds.{world_of};
 ghost use Rattle.td_eval.specs.OperatorValues.{on_relation, truth_value};
@@ -20,6 +22,7 @@ ghost use Rattle.td_eval.specs.TreeValues.{value_of};
 ghost use Rattle.td_eval.specs.Worlds.{name_value};
 ghost use Rattle.td_tree.specs.Outcomes.{Answers, Outcome, Valued, with_value};
 ghost use Rattle.td_tree.specs.TreeViews.{tree_view};
+ghost use Rattle.td_tree.specs.Trees as trees;
 ghost use Rattle.td_value.specs.Values.{Val};
 
 use crate::refusal::{Failure, Refusal};
@@ -31,7 +34,7 @@ use td_catalog::defining::DefiningExpression;
 use td_catalog::entry::{BaseEntry, VirtualEntry};
 use td_catalog::marked_names::MarkedNames;
 use td_eval::env::Env;
-use td_eval::value::eval;
+use td_plan::value::value_in;
 use td_tree::cause::Cause;
 use td_tree::expression::Expr;
 use td_tree::fault::Fault;
@@ -39,12 +42,14 @@ use td_tree::name::Name;
 use td_value::relation::Rel;
 use td_value::value::{Node, Value};
 
-/// The value of an expression where the catalogue is known and no tuple is in hand.
+/// The value of an expression that meets the static rules where the catalogue is known and no tuple
+/// is in hand, by a plan.
 pub(crate) fn value<'a, B: Body>(
     alloc: Global,
     catalog: &'a Catalog<B>,
     expr: &Expr,
 ) -> Result<Value, Fault>
+    requires { IsPlannable catalog.now.database (tree_view expr.now) }
     ensures { Answers (λ v. v) result
         (value_of (world_of catalog.now.database) [] (tree_view expr.now)) }
 {
@@ -54,7 +59,7 @@ pub(crate) fn value<'a, B: Body>(
         other,
         tuples: &[],
     };
-    eval(alloc, &env, expr)
+    value_in(alloc, &env, expr)
 }
 
 /// Whether each of the keys holds.
@@ -114,6 +119,7 @@ fn keys_hold_of(
 
 /// The value of the relvar of a name.
 fn relvar_value<B: Body>(alloc: Global, catalog: &Catalog<B>, name: &Name) -> Result<Value, Fault>
+    requires { IsPlannable catalog.now.database (trees.name name.now) }
     ensures { Answers (λ v. v) result
         (name_value (world_of catalog.now.database) [] name.now) }
 {
@@ -128,6 +134,7 @@ fn test_virtual<B: Body>(
     name: &Name,
     entry: &VirtualEntry,
 ) -> Result<bool, Fault>
+    requires { IsPlannable catalog.now.database (trees.name name.now) }
     ensures { Answers (λ b. b) result
         (virtual_test (world_of catalog.now.database) (virtual_view (name.now, entry.now))) }
 {
@@ -169,7 +176,8 @@ fn check_virtual<B: Body>(
     name: &Name,
     entry: &VirtualEntry,
 ) -> Result<(), Failure>
-    requires { PassesUnlessReached reached.now (world_of catalog.now.database)
+    requires plannable { IsPlannable catalog.now.database (trees.name name.now) }
+    requires elsewhere { PassesUnlessReached reached.now (world_of catalog.now.database)
         (virtual_view (name.now, entry.now)) }
     ensures { Passes result (virtual_check (world_of catalog.now.database)
         (virtual_view (name.now, entry.now))) }
@@ -186,12 +194,15 @@ fn check_virtuals<B: Body>(
     catalog: &Catalog<B>,
     reached: &MarkedNames,
 ) -> Result<(), Failure>
-    requires { AllByRecursion (PassesUnlessReached reached.now (world_of catalog.now.database))
+    requires spelled { AreSpelled catalog.now.database }
+    requires elsewhere { AllByRecursion
+        (PassesUnlessReached reached.now (world_of catalog.now.database))
         catalog.now.database.virtuals }
     ensures { Passes result
         (first_refusal (virtual_check (world_of catalog.now.database))
         catalog.now.database.virtuals) }
 {
+    catalog.reveal();
     for place in 0..catalog.virtual_count() {
         let Some((name, entry)) = catalog.nth_virtual(place) else {
             return Ok(());
@@ -211,6 +222,7 @@ fn test_constraint<B: Body>(
     name: &Name,
     condition: &DefiningExpression,
 ) -> Result<(), Failure>
+    requires { IsPlannable catalog.now.database condition.now }
     ensures { Passes result (constraint_check (world_of catalog.now.database)
         (named_constraint name.now condition.now)) }
 {
@@ -225,7 +237,8 @@ fn check_constraint<B: Body>(
     name: &Name,
     condition: &DefiningExpression,
 ) -> Result<(), Failure>
-    requires { PassesUnlessNamed reached.now (world_of catalog.now.database)
+    requires plannable { IsPlannable catalog.now.database condition.now }
+    requires elsewhere { PassesUnlessNamed reached.now (world_of catalog.now.database)
         (named_constraint name.now condition.now) }
     ensures { Passes result (constraint_check (world_of catalog.now.database)
         (named_constraint name.now condition.now)) }
@@ -242,12 +255,15 @@ fn check_constraints<B: Body>(
     catalog: &Catalog<B>,
     reached: &MarkedNames,
 ) -> Result<(), Failure>
-    requires { AllByRecursion (PassesUnlessNamed reached.now (world_of catalog.now.database))
+    requires spelled { AreSpelled catalog.now.database }
+    requires elsewhere { AllByRecursion
+        (PassesUnlessNamed reached.now (world_of catalog.now.database))
         catalog.now.database.constraints }
     ensures { Passes result
         (first_refusal (constraint_check (world_of catalog.now.database))
         catalog.now.database.constraints) }
 {
+    catalog.reveal();
     for place in 0..catalog.constraint_count() {
         let Some((name, condition)) = catalog.nth_constraint(place) else {
             return Ok(());
@@ -266,7 +282,8 @@ fn check_derived<B: Body>(
     catalog: &Catalog<B>,
     reached: &MarkedNames,
 ) -> Result<(), Failure>
-    requires { PassesElsewhere reached.now catalog.now.database }
+    requires spelled { AreSpelled catalog.now.database }
+    requires elsewhere { PassesElsewhere reached.now catalog.now.database }
     ensures { Passes result (derived_check catalog.now.database) }
 {
     match check_virtuals(alloc, catalog, reached) {
@@ -282,6 +299,7 @@ pub(crate) fn settled<B: Body>(
     catalog: &Catalog<B>,
     reached: &MarkedNames,
 ) -> Result<(), Failure>
+    requires spelled { AreSpelled catalog.now.database }
     requires held { BasesHold catalog.now.database }
     requires elsewhere { PassesElsewhere reached.now catalog.now.database }
     ensures { Changes catalog.now.database result (changed catalog.now.database) }
@@ -328,9 +346,11 @@ pub(crate) fn check_last_virtual<B: Body>(
     alloc: Global,
     catalog: &Catalog<B>,
 ) -> Result<(), Failure>
+    requires { AreSpelled catalog.now.database }
     ensures { (db : Database) (v : VirtualRelvar) → catalog.now.database ≡ with_virtual v db
         → Passes result (virtual_check (world_of catalog.now.database) v) }
 {
+    catalog.reveal();
     let place = catalog.virtual_count().saturating_sub(1);
     match catalog.nth_virtual(place) {
         Some((name, entry)) => key_passed(name, test_virtual(alloc, catalog, name, entry)),
@@ -343,10 +363,12 @@ pub(crate) fn check_last_constraint<B: Body>(
     alloc: Global,
     catalog: &Catalog<B>,
 ) -> Result<(), Failure>
+    requires { AreSpelled catalog.now.database }
     ensures { (db : Database) (k : NamedConstraint)
         → catalog.now.database ≡ with_constraint k db
         → Passes result (constraint_check (world_of catalog.now.database) k) }
 {
+    catalog.reveal();
     let place = catalog.constraint_count().saturating_sub(1);
     match catalog.nth_constraint(place) {
         Some((name, condition)) => test_constraint(alloc, catalog, name, condition),

@@ -100,6 +100,8 @@ fn printed<B: Body>(
     catalog: &Catalog<B>,
     statement: &Statement,
 ) -> Option<Result<String, Fault>>
+    requires legal { IsLegal catalog.now.database }
+    requires admitted { IsAdmitted catalog.now.database (statement_view statement.now) }
     ensures some { IfSome result (Prints string_bytes catalog.now.database
         (statement_view statement.now)) }
     ensures none { IfNone result (IsChange (statement_view statement.now)) }

@@ -10,6 +10,9 @@ ghost use Rattle.td_engine.specs.Assignments.{source_world, target_of, updated_r
 ghost use Rattle.td_engine.specs.Assignments.{with_inserted};
 ghost use Rattle.td_engine.specs.Changes.{IsOfHeading, after};
 ghost use Rattle.td_engine.specs.Gifts.{restricted_relation, setting_attribute};
+ghost use Rattle.td_engine.specs.Plannable.{IsPlannable, IsPlannableAssignment};
+ghost use Rattle.td_engine.specs.Plannable.{IsPlannableCondition, IsPlannableConditionIf};
+ghost use Rattle.td_engine.specs.Plannable.{IsPlannableSource};
 ghost use Rattle.td_eval.specs.DatabaseWorlds.{world_of};
 ghost use Rattle.td_eval.specs.OperatorValues.{on_relation, truth_value};
 ghost use Rattle.td_eval.specs.Sights.{tuples_in_hand, world_in};
@@ -29,8 +32,8 @@ use td_algebra::restriction::restrict;
 use td_body::body::Body;
 use td_catalog::catalog::Catalog;
 use td_eval::env::Env;
-use td_eval::in_tuples::{set_in_tuples, truths_in};
-use td_eval::value::eval;
+use td_eval::in_tuples::set_in_tuples;
+use td_plan::value::{truths_in, value_in};
 use td_tree::cause::Cause;
 use td_tree::expression::{Expr, NamedExpr};
 use td_tree::fault::Fault;
@@ -85,6 +88,7 @@ fn assigned_value<'a, B: Body>(
     so_far: &'a Rel,
     source: &Expr,
 ) -> Result<Value, Fault>
+    requires { IsPlannableSource catalog.now.database target.now so_far.now (tree_view source.now) }
     ensures { Answers (λ v. v) result (value_of
         (source_world catalog.now.database target.now so_far.now) [] (tree_view source.now)) }
 {
@@ -93,7 +97,7 @@ fn assigned_value<'a, B: Body>(
         other: Some((target, so_far)),
         tuples: &[],
     };
-    eval(alloc, &env, source)
+    value_in(alloc, &env, source)
 }
 
 /// What an assignment of the value of an expression gives.
@@ -104,6 +108,7 @@ fn assigned<B: Body>(
     so_far: &Rel,
     source: &Expr,
 ) -> Result<Rel, Fault>
+    requires { IsPlannableSource catalog.now.database target.now so_far.now (tree_view source.now) }
     ensures answer { Answers (λ r. r) result (relation_for so_far.now
         (source_world catalog.now.database target.now so_far.now) (tree_view source.now)) }
     ensures heading { IfOk result (λ r. r.heading ≡ so_far.now.heading) }
@@ -122,6 +127,7 @@ fn replaced<B: Body>(
     so_far: &Rel,
     source: &Expr,
 ) -> Result<Change, Fault>
+    requires { IsPlannableSource catalog.now.database target.now so_far.now (tree_view source.now) }
     ensures answer { Answers (λ c. after c so_far.now) result (relation_for so_far.now
         (source_world catalog.now.database target.now so_far.now) (tree_view source.now)) }
     ensures headings { IfOk result (IsOfHeading so_far.now.heading) }
@@ -138,6 +144,7 @@ fn inserted<B: Body>(
     so_far: &Rel,
     source: &Expr,
 ) -> Result<Change, Fault>
+    requires { IsPlannableSource catalog.now.database target.now so_far.now (tree_view source.now) }
     ensures answer { Answers (λ c. after c so_far.now) result (relation_for so_far.now
         (source_world catalog.now.database target.now so_far.now)
         (with_inserted target.now (tree_view source.now))) }
@@ -154,6 +161,7 @@ pub(crate) fn put_in<B: Body>(
     heading: &Heading,
     source: &Expr,
 ) -> Result<Change, Fault>
+    requires { IsPlannable catalog.now.database (tree_view source.now) }
     ensures answer { (r : Relation) → r.heading ≡ heading.now → Answers (λ c. after c r) result
         (with_value (relation_for r (world_of catalog.now.database) (tree_view source.now))
         (λ s. Valued (union r s))) }
@@ -185,6 +193,8 @@ fn truths_so_far<'a, B: Body>(
     so_far: &'a Rel,
     condition: &Expr,
 ) -> Result<Vec<bool>, Fault>
+    requires { IsPlannableCondition catalog.now.database target.now so_far.now
+        (tree_view condition.now) }
     ensures { Answers (λ m. m.items) result (gathered (map (λ t. truth_value (value_of
         (source_world catalog.now.database target.now so_far.now) (t ∷ []) (tree_view condition.now)))
         so_far.now.body)) }
@@ -207,6 +217,8 @@ fn chosen<B: Body>(
     so_far: &Rel,
     condition: Option<&Expr>,
 ) -> Result<Rel, Fault>
+    requires { IsPlannableConditionIf catalog.now.database target.now so_far.now
+        (option_map (λ e. tree_view e.now) condition) }
     ensures answer { Answers (λ r. r) result (chosen_for so_far.now
         (source_world catalog.now.database target.now so_far.now) target.now
         (option_map (λ e. tree_view e.now) condition.entry)) }
@@ -326,6 +338,8 @@ fn update<B: Body>(
     condition: Option<&Expr>,
     settings: &[NamedExpr],
 ) -> Result<Change, Fault>
+    requires { IsPlannableConditionIf catalog.now.database target.now so_far.now
+        (option_map (λ e. tree_view e.now) condition) }
     ensures answer { Answers (λ c. after c so_far.now) result (with_value
         (chosen_for so_far.now (source_world catalog.now.database target.now so_far.now) target.now
         (option_map (λ e. tree_view e.now) condition.entry))
@@ -361,6 +375,8 @@ fn delete<B: Body>(
     so_far: &Rel,
     condition: Option<&Expr>,
 ) -> Result<Change, Fault>
+    requires { IsPlannableConditionIf catalog.now.database target.now so_far.now
+        (option_map (λ e. tree_view e.now) condition) }
     ensures answer { Answers (λ c. after c so_far.now) result (assignment_value
         (source_world catalog.now.database target.now so_far.now) so_far.now
         (delete target.now (option_map (λ e. tree_view e.now) condition.entry))) }
@@ -379,6 +395,8 @@ pub(crate) fn change_of<B: Body>(
     so_far: &Rel,
     assignment: &Assignment,
 ) -> Result<Change, Fault>
+    requires { IsPlannableAssignment catalog.now.database so_far.now
+        (assignment_view assignment.now) }
     ensures answer { Answers (λ c. after c so_far.now) result (assignment_value
         (source_world catalog.now.database (target_of (assignment_view assignment.now)) so_far.now)
         so_far.now (assignment_view assignment.now)) }

@@ -8,6 +8,7 @@ mod hand;
 mod hoist;
 mod in_tuples;
 pub mod laws;
+mod loops;
 mod nodes;
 mod operand;
 pub mod plan;

@@ -7,22 +7,28 @@ ghost use Rattle.td_plan.specs.PlansOf.{MeetsRules, MeetsRulesIn, scope_in};
 ghost use Rattle.td_tree.specs.Outcomes.{Answers, gathered};
 ghost use Rattle.td_tree.specs.TreeViews.{tree_view};
 
+use crate::loops::goes_over_tuples;
 use crate::plan::{plan_in_tuples, plan_of};
 use crate::run_plan::{run_plan, run_truths};
 use std::alloc::Global;
 use td_body::body::Body;
 use td_eval::env::Env;
+use td_eval::value::eval;
 use td_tree::expression::Expr;
 use td_tree::fault::Fault;
 use td_value::relation::Rel;
 use td_value::value::Value;
 
-/// The value of the expression, or the least of the causes for which it has none.
+/// The value of the expression, or the least of the causes for which it has none. A plan is made
+/// where something is applied to tuples.
 pub fn value_in<B: Body>(alloc: Global, env: &Env<'_, B>, expr: &Expr) -> Result<Value, Fault>
     ensures { MeetsRules (world_in env.now) (scope_in env.now) (tuples_in_hand env.now)
         (tree_view expr.now) → Answers (λ v. v) result
         (value_of (world_in env.now) (tuples_in_hand env.now) (tree_view expr.now)) }
 {
+    if !goes_over_tuples(expr) {
+        return eval(alloc, env, expr);
+    }
     let plan = plan_of(alloc, env, expr)?;
     run_plan(alloc, env, &plan)
 }

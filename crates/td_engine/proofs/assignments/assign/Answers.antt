@@ -1,13 +1,18 @@
-use Rattle.std.proofs.Common.{[], ◌≡◌, map, subst}
+use Rattle.std.proofs.Common.{[], ◌≡◌, map, subst, sym}
 use Rattle.td_engine.proofs.GivenChanges.{all_typed}
 use Rattle.td_engine.proofs.TypedGifts.{given_typed}
 use Rattle.td_engine.proofs.WrittenStatements.{definitions_written, statement_written}
 use Rattle.td_engine.specs.Assignments.{given_by}
+use Rattle.td_engine.specs.Carried.{IsAdmitted}
 use Rattle.td_engine.specs.Changes.{given_in}
 use Rattle.td_tree.specs.Outcomes.{Valued}
 use Rattle.td_tree.specs.TreeViews.{assignment_view}
 use Rattle.td_tree.specs.Trees.{assign_all}
 use Rattle.td_engine.proofs.assignments.assign.Goals as goal
+
+pub given_by-requires-clause-admitted : goal.given_by-requires-clause-admitted
+given_by-requires-clause-admitted g c =
+    subst (λ xs. IsAdmitted c.args.catalog.now.database (assign_all (map assignment_view xs))) (sym c.deref.ensures.value) c.requires.admitted
 
 pub give_all-requires-clause-typed : goal.give_all-requires-clause-typed
 give_all-requires-clause-typed g c =

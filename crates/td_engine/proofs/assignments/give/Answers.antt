@@ -28,4 +28,4 @@ returns-clause-changes g c =
     let d = c.in_ok-change.change in
     let there : c.insert.new.self.entries ≡ insert_entry same_name es (target_of a) d =
     c.in_ok-insert.ensures.entries ∙ ap (λ n. insert_entry same_name es n d) (c.in_ok-try_clone.ensures ∙ c.target_of.ensures) in
-    subst (AreChanges db) (sym there) (all_with (IsChangeOf db) es (target_of a) d c.requires c.in_ok-change.ensures.change)
+    subst (AreChanges db) (sym there) (all_with (IsChangeOf db) es (target_of a) d c.requires.changes c.in_ok-change.ensures.change)

@@ -4,6 +4,7 @@ use Rattle.td_catalog.specs.Dumps.{ordered_names}
 use Rattle.td_engine.specs.Legality.{AreBaseKeys}
 use Rattle.td_engine.proofs.Admitted.{failed_follows, refused_on}
 use Rattle.td_engine.proofs.BaseAdmitted.{base_admitted}
+use Rattle.td_engine.proofs.Plannables.{init_plannable}
 use Rattle.td_engine.specs.Carried.{Changes}
 use Rattle.td_engine.specs.Machine.{by_outcome, changed, init_relation}
 use Rattle.td_engine.proofs.WrittenStatements.{statement_written}
@@ -13,6 +14,12 @@ use Rattle.td_tree.specs.Trees.{define_base}
 use Rattle.td_types.specs.TypeLists.{heading_meant}
 use Rattle.td_value.specs.Values.{Relation}
 use Rattle.td_engine.proofs.bases.define_base.Goals as goal
+
+pub new_relation-relation-requires : goal.new_relation-relation-requires
+new_relation-relation-requires g c =
+    let d = c.args.definition in
+    init_plannable c.args.catalog.now.database d.name (heading_tree_view d.heading.items) (option_map tree_view d.init) (map (λ key. key.items) d.keys.items)
+    c.requires.legal c.requires.admitted
 
 pub add_ordered-requires-clause-heading : goal.add_ordered-requires-clause-heading
 add_ordered-requires-clause-heading g c =

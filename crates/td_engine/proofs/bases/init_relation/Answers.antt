@@ -1,5 +1,6 @@
-use Rattle.std.proofs.Common.{[], ◌∙◌, ap, subst}
+use Rattle.std.proofs.Common.{[], ◌∙◌, ap, option_map, subst}
 use Rattle.td_engine.specs.Assignments.{relation_for}
+use Rattle.td_engine.specs.Plannable.{IsPlannableIf}
 use Rattle.td_eval.specs.DatabaseWorlds.{world_of}
 use Rattle.td_eval.specs.TreeValues.{value_of}
 use Rattle.td_tree.specs.Outcomes.{Answers}
@@ -8,6 +9,9 @@ use Rattle.td_value.specs.Sets.{set_of}
 use Rattle.td_value.specs.Values.{Relation, tuple_cmp}
 use Rattle.td_value.specs.Views.{relation_view}
 use Rattle.td_engine.proofs.bases.init_relation.Goals as goal
+
+pub value-requires : goal.value-requires
+value-requires g c = subst (λ o. IsPlannableIf c.args.catalog.now.database (option_map (λ e. tree_view e.now) o)) c.in-Some.is c.requires
 
 pub returns-in-Some : goal.returns-in-Some
 returns-in-Some g c =

@@ -4,14 +4,20 @@ use Rattle.td_engine.specs.Checks.{constraint_check}
 use Rattle.td_engine.specs.LeftOut.{PassesUnlessNamed}
 use Rattle.td_engine.proofs.EachOf.{of_place}
 use Rattle.td_engine.proofs.InOrder.{passed_next, refusal_at}
+use Rattle.td_engine.proofs.Plannables.{constraint_plannable}
 use Rattle.td_eval.specs.DatabaseWorlds.{world_of}
 use Rattle.td_engine.proofs.checks.check_constraints.Goals as goal
 
-pub check_constraint-requires : goal.check_constraint-requires
-check_constraint-requires g c =
+pub check_constraint-requires-clause-plannable : goal.check_constraint-requires-clause-plannable
+check_constraint-requires-clause-plannable g c =
+    constraint_plannable c.args.catalog.now.database c.reveal.ensures c.requires.spelled c.loop-place.place
+    (named_constraint c.in-Some.name.now c.in-Some.condition.now) (sym c.in-Some.ensures)
+
+pub check_constraint-requires-clause-elsewhere : goal.check_constraint-requires-clause-elsewhere
+check_constraint-requires-clause-elsewhere g c =
     let db = c.args.catalog.now.database in
-    of_place (PassesUnlessNamed c.args.reached.now (world_of db)) db.constraints c.loop-place.place (named_constraint c.in-Some.name.now c.in-Some.condition.now) c.requires
-    (sym c.in-Some.ensures)
+    of_place (PassesUnlessNamed c.args.reached.now (world_of db)) db.constraints c.loop-place.place (named_constraint c.in-Some.name.now c.in-Some.condition.now)
+    c.requires.elsewhere (sym c.in-Some.ensures)
 
 pub returns-in-Err : goal.returns-in-Err
 returns-in-Err g c =

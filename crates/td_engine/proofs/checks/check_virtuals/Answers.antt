@@ -4,14 +4,20 @@ use Rattle.td_engine.specs.Checks.{virtual_check}
 use Rattle.td_engine.specs.LeftOut.{PassesUnlessReached}
 use Rattle.td_engine.proofs.EachOf.{of_place}
 use Rattle.td_engine.proofs.InOrder.{passed_next, refusal_at}
+use Rattle.td_engine.proofs.Plannables.{virtual_plannable}
 use Rattle.td_eval.specs.DatabaseWorlds.{world_of}
 use Rattle.td_engine.proofs.checks.check_virtuals.Goals as goal
 
-pub check_virtual-requires : goal.check_virtual-requires
-check_virtual-requires g c =
+pub check_virtual-requires-clause-plannable : goal.check_virtual-requires-clause-plannable
+check_virtual-requires-clause-plannable g c =
+    virtual_plannable c.args.catalog.now.database c.reveal.ensures c.requires.spelled c.loop-place.place
+    (virtual_view (c.in-Some.name.now, c.in-Some.entry.now)) (sym c.in-Some.ensures)
+
+pub check_virtual-requires-clause-elsewhere : goal.check_virtual-requires-clause-elsewhere
+check_virtual-requires-clause-elsewhere g c =
     let db = c.args.catalog.now.database in
-    of_place (PassesUnlessReached c.args.reached.now (world_of db)) db.virtuals c.loop-place.place (virtual_view (c.in-Some.name.now, c.in-Some.entry.now)) c.requires
-    (sym c.in-Some.ensures)
+    of_place (PassesUnlessReached c.args.reached.now (world_of db)) db.virtuals c.loop-place.place (virtual_view (c.in-Some.name.now, c.in-Some.entry.now))
+    c.requires.elsewhere (sym c.in-Some.ensures)
 
 pub returns-in-Err : goal.returns-in-Err
 returns-in-Err g c =

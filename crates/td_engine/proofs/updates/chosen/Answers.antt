@@ -1,6 +1,7 @@
-use Rattle.std.proofs.Common.{◌∷◌, []}
+use Rattle.std.proofs.Common.{◌∷◌, [], option_map, subst}
 use Rattle.td_engine.proofs.Sources.{restricted_headed, restricted_is}
 use Rattle.td_engine.specs.Assignments.{source_world}
+use Rattle.td_engine.specs.Plannable.{IsPlannableConditionIf}
 use Rattle.td_eval.proofs.WalkedLists.{of_as_many}
 use Rattle.td_eval.specs.OperatorValues.{truth_value}
 use Rattle.td_eval.specs.TreeValues.{value_of}
@@ -8,6 +9,10 @@ use Rattle.td_tree.specs.TreeViews.{tree_view}
 use Rattle.td_tree.specs.Trees.{parentheses}
 use Rattle.td_value.specs.Values.{Tuple}
 use Rattle.td_engine.proofs.updates.chosen.Goals as goal
+
+pub truths_so_far-truths-requires : goal.truths_so_far-truths-requires
+truths_so_far-truths-requires g c =
+    subst (λ o. IsPlannableConditionIf c.args.catalog.now.database c.args.target.now c.args.so_far.now (option_map (λ e. tree_view e.now) o)) c.in-Some.is c.requires
 
 pub restricted-requires : goal.restricted-requires
 restricted-requires g c =

@@ -1,0 +1,99 @@
+-- Assignments whose expressions may be valued by plans, since their targets hold typed relations so far.
+use Rattle.std.proofs.Common.{◌≡◌, ◌∷◌, ℕ, List, [], Option, Some, None, map, refl, subst, sym}
+use Rattle.std.specs.List.{AllByRecursion}
+use Rattle.td_catalog.specs.Database.{BaseRelvar, Database, base_named, database_scope}
+use Rattle.td_check.specs.Scopes.{entered_with, known_relvar}
+use Rattle.td_check.specs.StatementTypes.{both_hold, condition_type, is_target, source_fits}
+use Rattle.td_check.specs.StaticTypes.{type_of}
+use Rattle.td_engine.proofs.Admitted.{both_asked}
+use Rattle.td_engine.proofs.TypedGifts.{AreChecked, checked_condition, checked_setting_condition, checked_source, is_base, keeps, statement_each_checked, typed_gift}
+use Rattle.td_engine.proofs.WrittenStatements.{AreWritten, definitions_written, statement_written}
+use Rattle.td_engine.specs.Assignments.{target_of}
+use Rattle.td_engine.specs.Carried.{IsAdmitted}
+use Rattle.td_engine.specs.Gifts.{IsGift}
+use Rattle.td_engine.specs.Legality.{IsLegal}
+use Rattle.td_engine.specs.Plannable.{IsAdmittedAssignment, IsPlannable, IsPlannableAssignment, IsPlannableConditionIf, IsPlannableSource, IsWrittenIf}
+use Rattle.td_eval.proofs.KeepsGathered.{all_from_members}
+use Rattle.td_eval.proofs.KeepsRelations.{value_from_typed}
+use Rattle.td_eval.proofs.TypedDatabases.{database_keeps}
+use Rattle.td_eval.proofs.TypedRows.{rows_typed}
+use Rattle.td_eval.specs.ValueTypes.{DefinitionsAreWritten, IsTypedTuple, IsWritten}
+use Rattle.td_tree.specs.declared.statement.Assignment as code
+use Rattle.td_tree.specs.Outcomes.{Valued, with_value}
+use Rattle.td_tree.specs.TreeViews.{assignment_view}
+use Rattle.td_tree.specs.Trees.{Assignment, Tree, assign, assign_all, delete, insert, update}
+use Rattle.td_types.proofs.OutcomeLaws.{value_of_with}
+use Rattle.td_types.specs.Types.{Heading, Type'}
+use Rattle.td_value.specs.Values.{IsRelation, Relation}
+
+module _ (db : Database) (legal : IsLegal db) where
+  defined : DefinitionsAreWritten db
+  defined = definitions_written db legal.spelled
+
+  -- what is inserted into a relvar to which nothing was given before
+  pub insert_plannable : (n : List ℕ) (e : Tree) → IsAdmittedAssignment db (insert n e) → IsPlannable db e
+  insert_plannable n e is =
+      let source = value_of_with (type_of (database_scope db) e) (source_fits (known_relvar (database_scope db) n)) tt (both_asked _ _ is.checked).1 in
+      record { keeps = database_keeps db legal.typed defined; written = is.written; typed = (source.0, source.1) }
+
+  -- a base relvar may be given what it holds
+  pub base_gift : (n : List ℕ) (r : BaseRelvar) → base_named n db ≡ Some r → IsGift db (n, r.relation)
+  base_gift n r at =
+      let is = is_base db legal.typed defined n r at in
+      record { target = r; named = at; heading = refl; relation = is.relation; typed = is.typed }
+
+  -- ---- one assignment
+
+  module _ (n : List ℕ) (so_far : Relation) (gift : IsGift db (n, so_far)) where
+    source_plannable : (e : Tree)
+        → both_hold (is_target (known_relvar (database_scope db) n))
+        (with_value (type_of (database_scope db) e) (source_fits (known_relvar (database_scope db) n))) ≡ Valued tt
+        → IsWritten e → IsPlannableSource db n so_far e
+    source_plannable e checked is_written =
+        record {
+          keeps = keeps db legal.typed defined n so_far gift;
+          written = is_written;
+          typed = checked_source db legal.typed defined n so_far gift e checked;
+        }
+
+    tuples_typed : IsRelation so_far × AllByRecursion (IsTypedTuple db.types) so_far.body
+    tuples_typed =
+        let typed = value_from_typed db.types so_far (typed_gift db legal.typed defined n so_far gift) in
+        (gift.relation, all_from_members (IsTypedTuple db.types) so_far.body (λ u c. (rows_typed db.types so_far typed u c).0))
+
+    condition_plannable : (condition : Option Tree) (k : Option Type')
+        → condition_type (entered_with gift.target.relation.heading (database_scope db)) condition ≡ Valued k
+        → IsWrittenIf condition → IsPlannableConditionIf db n so_far condition
+    condition_plannable None k typed is_written = tt
+    condition_plannable (Some e) k typed is_written =
+        let t = value_of_with (type_of (entered_with gift.target.relation.heading (database_scope db)) e) _ k typed in
+        record {
+          keeps = keeps db legal.typed defined n so_far gift;
+          tuples = tuples_typed;
+          written = is_written;
+          typed = (t.0, subst (λ (h : Heading). type_of (entered_with h (database_scope db)) e ≡ Valued t.0) (sym gift.heading) t.1);
+        }
+
+  pub assignment_plannable : (so_far : Relation) (a : Assignment) → IsGift db (target_of a, so_far) → IsAdmittedAssignment db a
+      → IsPlannableAssignment db so_far a
+  assignment_plannable so_far (assign n e) gift is = source_plannable n so_far gift e is.checked is.written
+  assignment_plannable so_far (insert n e) gift is = source_plannable n so_far gift e is.checked is.written
+  assignment_plannable so_far (delete n condition) gift is =
+      let k = checked_condition db legal.typed defined n so_far gift condition is.checked in
+      condition_plannable n so_far gift condition k.0 k.1 is.written
+  assignment_plannable so_far (update n condition settings) gift is =
+      let k = checked_setting_condition db legal.typed defined n so_far gift condition settings is.checked in
+      condition_plannable n so_far gift condition k.0 k.1 is.written.0
+
+  -- ---- those of a statement
+
+  each_admitted : (xs : List code.Assignment) → AreWritten (map assignment_view xs) → AreChecked db legal.typed defined (map assignment_view xs)
+      → AllByRecursion (λ (x : code.Assignment). IsAdmittedAssignment db (assignment_view x)) xs
+  each_admitted [] is_written checked = tt
+  each_admitted (x ∷ xs) is_written checked = (record { written = is_written.0; checked = checked.0 }, each_admitted xs is_written.1 checked.1)
+
+  pub all_admitted : (xs : List code.Assignment) → IsAdmitted db (assign_all (map assignment_view xs))
+      → AllByRecursion (λ (x : code.Assignment). IsAdmittedAssignment db (assignment_view x)) xs
+  all_admitted xs is =
+      each_admitted xs (statement_written (assign_all (map assignment_view xs)) is.spelled)
+      (statement_each_checked db legal.typed defined (map assignment_view xs) is.checked)

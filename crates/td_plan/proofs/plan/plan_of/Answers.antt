@@ -1,0 +1,8 @@
+use Rattle.std.proofs.Common.{subst}
+use Rattle.td_plan.specs.PlansOf.{IsPlanOfTyped}
+use Rattle.td_plan.specs.StepViews.{step_view}
+use Rattle.td_tree.specs.TreeViews.{tree_view}
+use Rattle.td_plan.proofs.plan.plan_of.Goals as goal
+
+pub returns : goal.returns
+returns g c = subst (λ s. IsPlanOfTyped s (step_view c.in_ok-value.value) (tree_view c.args.expr.now)) c.in_ok-planner.ensures.scope c.in_ok-value.ensures
