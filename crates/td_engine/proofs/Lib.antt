@@ -17,6 +17,7 @@ mod Effects
 mod FirstGifts
 mod Gifted
 mod GiftsInTurn
+mod GivenValues
 mod GivenChanges
 mod GivenRelations
 mod InOrder

@@ -6,7 +6,8 @@ use Rattle.td_check.specs.Scopes.{entered_with, known_relvar}
 use Rattle.td_check.specs.StatementTypes.{both_hold, condition_type, is_target, source_fits}
 use Rattle.td_check.specs.StaticTypes.{type_of}
 use Rattle.td_engine.proofs.Admitted.{both_asked}
-use Rattle.td_engine.proofs.TypedGifts.{AreChecked, checked_condition, checked_setting_condition, checked_source, is_base, keeps, statement_each_checked, typed_gift}
+use Rattle.td_engine.proofs.GivenValues.{database_gives, source_gives}
+use Rattle.td_engine.proofs.TypedGifts.{AreChecked, checked_condition, checked_setting_condition, checked_source, is_base, statement_each_checked, typed_gift}
 use Rattle.td_engine.proofs.WrittenStatements.{AreWritten, definitions_written, statement_written}
 use Rattle.td_engine.specs.Assignments.{target_of}
 use Rattle.td_engine.specs.Carried.{IsAdmitted}
@@ -15,7 +16,6 @@ use Rattle.td_engine.specs.Legality.{IsLegal}
 use Rattle.td_engine.specs.Plannable.{IsAdmittedAssignment, IsPlannable, IsPlannableAssignment, IsPlannableConditionIf, IsPlannableSource, IsWrittenIf}
 use Rattle.td_eval.proofs.KeepsGathered.{all_from_members}
 use Rattle.td_eval.proofs.KeepsRelations.{value_from_typed}
-use Rattle.td_eval.proofs.TypedDatabases.{database_keeps}
 use Rattle.td_eval.proofs.TypedRows.{rows_typed}
 use Rattle.td_eval.specs.ValueTypes.{DefinitionsAreWritten, IsTypedTuple, IsWritten}
 use Rattle.td_tree.specs.declared.statement.Assignment as code
@@ -34,7 +34,7 @@ module _ (db : Database) (legal : IsLegal db) where
   pub insert_plannable : (n : List ℕ) (e : Tree) → IsAdmittedAssignment db (insert n e) → IsPlannable db e
   insert_plannable n e is =
       let source = value_of_with (type_of (database_scope db) e) (source_fits (known_relvar (database_scope db) n)) tt (both_asked _ _ is.checked).1 in
-      record { keeps = database_keeps db legal.typed defined; written = is.written; typed = (source.0, source.1) }
+      record { gives = database_gives db legal.typed defined; definitions = defined; written = is.written; typed = (source.0, source.1) }
 
   -- a base relvar may be given what it holds
   pub base_gift : (n : List ℕ) (r : BaseRelvar) → base_named n db ≡ Some r → IsGift db (n, r.relation)
@@ -51,7 +51,8 @@ module _ (db : Database) (legal : IsLegal db) where
         → IsWritten e → IsPlannableSource db n so_far e
     source_plannable e checked is_written =
         record {
-          keeps = keeps db legal.typed defined n so_far gift;
+          gives = source_gives db legal.typed defined n so_far gift;
+          definitions = defined;
           written = is_written;
           typed = checked_source db legal.typed defined n so_far gift e checked;
         }
@@ -68,7 +69,8 @@ module _ (db : Database) (legal : IsLegal db) where
     condition_plannable (Some e) k typed is_written =
         let t = value_of_with (type_of (entered_with gift.target.relation.heading (database_scope db)) e) _ k typed in
         record {
-          keeps = keeps db legal.typed defined n so_far gift;
+          gives = source_gives db legal.typed defined n so_far gift;
+          definitions = defined;
           tuples = tuples_typed;
           written = is_written;
           typed = (t.0, subst (λ (h : Heading). type_of (entered_with h (database_scope db)) e ≡ Valued t.0) (sym gift.heading) t.1);

@@ -9,11 +9,11 @@ use Rattle.td_check.specs.StatementTypes.{init_type}
 use Rattle.td_check.specs.StaticTypes.{type_of}
 use Rattle.td_engine.proofs.Admitted.{both_asked}
 use Rattle.td_engine.proofs.EachOf.{of_place}
+use Rattle.td_engine.proofs.GivenValues.{database_gives}
 use Rattle.td_engine.proofs.WrittenStatements.{conditions_written, definitions_written, statement_written}
 use Rattle.td_engine.specs.Carried.{IsAdmitted}
 use Rattle.td_engine.specs.Legality.{AreSpelled, IsLegal}
 use Rattle.td_engine.specs.Plannable.{IsPlannable, IsPlannableIf, IsWrittenIf}
-use Rattle.td_eval.proofs.TypedDatabases.{database_keeps}
 use Rattle.td_eval.specs.ValueTypes.{IsWritten}
 use Rattle.td_tree.specs.declared.cause.Cause.TheVariants as causes
 use Rattle.td_tree.specs.Outcomes.{Valued, with_value}
@@ -55,7 +55,8 @@ pub write_plannable : (db : Database) (e : Tree) → IsLegal db → IsAdmitted d
 write_plannable db e legal is =
     let found = value_of_with (type_of (database_scope db) e) (λ t. Valued tt) tt is.checked in
     record {
-      keeps = database_keeps db legal.typed (definitions_written db legal.spelled);
+      gives = database_gives db legal.typed (definitions_written db legal.spelled);
+      definitions = definitions_written db legal.spelled;
       written = statement_written (write e) is.spelled;
       typed = (found.0, found.1);
     }
@@ -67,7 +68,8 @@ init_typed db None t legal typed written = tt
 init_typed db (Some e) t legal typed written =
     let found = value_of_with (type_of (database_scope db) e) _ t typed in
     record {
-      keeps = database_keeps db legal.typed (definitions_written db legal.spelled);
+      gives = database_gives db legal.typed (definitions_written db legal.spelled);
+      definitions = definitions_written db legal.spelled;
       written = written;
       typed = (found.0, found.1);
     }
@@ -85,7 +87,8 @@ module _ (db : Database) (is_typed : IsTyped db) (spelled : AreSpelled db) where
   pub constraint_plannable : (place : ℕ) (c : NamedConstraint) → slice_get db.constraints place ≡ Some c → IsPlannable db c.tree
   constraint_plannable place c at =
       record {
-        keeps = database_keeps db is_typed (definitions_written db spelled);
+        gives = database_gives db is_typed (definitions_written db spelled);
+        definitions = definitions_written db spelled;
         written = of_place (λ (c : NamedConstraint). IsWritten c.tree) db.constraints place c (conditions_written db spelled) at;
         typed = (boolean, of_place (IsTypedConstraint (database_scope db)) db.constraints place c is_typed.constraints at);
       }
@@ -95,7 +98,8 @@ module _ (db : Database) (is_typed : IsTyped db) (spelled : AreSpelled db) where
   virtual_plannable place v at =
       let known = behind v.name (map known_base db.bases) (map known_virtual db.virtuals) (virtual_known db.virtuals place v at) in
       record {
-        keeps = database_keeps db is_typed (definitions_written db spelled);
+        gives = database_gives db is_typed (definitions_written db spelled);
+        definitions = definitions_written db spelled;
         written = (tt, tt);
         typed = (relation (pack known.0.heading), ap (λ o. with_value (known_or causes.NameUnknown o) (λ r. Valued (relation (pack r.heading)))) known.1);
       }

@@ -165,7 +165,7 @@ module _ (db : Database) (is_typed : IsTyped db) (written : DefinitionsAreWritte
     abbrev w : World
     w = source_world db n so_far
 
-    pub keeps : KeepsScope w scope
+    keeps : KeepsScope w scope
     keeps =
         subst (KeepsScope w) (world_scope db)
         (other_relations_keep_scopes db n gift.target so_far (typed_databases_keep_scopes db is_typed written) gift.named gift.relation gift.typed gift.heading)

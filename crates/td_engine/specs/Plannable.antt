@@ -12,15 +12,17 @@ use Rattle.td_engine.specs.Gifts.{IsGift}
 use Rattle.td_engine.specs.declared.change.Change.{Change}
 use Rattle.td_eval.specs.DatabaseWorlds.{world_of}
 use Rattle.td_eval.specs.TreeTexts.{PartsHaveTexts}
-use Rattle.td_eval.specs.ValueTypes.{IsTypedTuple, IsWritten, KeepsScope}
+use Rattle.td_eval.specs.UnfailingValues.{GivesValues}
+use Rattle.td_eval.specs.ValueTypes.{DefinitionsAreWritten, IsTypedTuple, IsWritten}
 use Rattle.td_tree.specs.Outcomes.{Valued}
 use Rattle.td_tree.specs.Trees.{Assignment, NamedTrees, Tree, assign, delete, insert, update}
 use Rattle.td_types.specs.Types.{Type'}
 use Rattle.td_value.specs.Values.{IsRelation, Relation}
 
--- an expression that has a type where the database is known, and is written as tokens spell it
+-- an expression that has a type where the database is known; it and the definitions there are written as tokens spell them
 pub record IsPlannable (db : Database) (e : Tree) : Type 0 where
-  pub keeps : KeepsScope (world_of db) (database_scope db)
+  pub gives : GivesValues (world_of db) (database_scope db)
+  pub definitions : DefinitionsAreWritten db
   pub written : IsWritten e
   pub typed : (t : Type') × (type_of (database_scope db) e ≡ Valued t)
 
@@ -58,13 +60,15 @@ pub record IsAdmittedAssignment (db : Database) (a : Assignment) : Type 0 where
 
 -- an expression that may be valued by a plan where the name of a target means its relation so far
 pub record IsPlannableSource (db : Database) (target : List ℕ) (so_far : Relation) (e : Tree) : Type 0 where
-  pub keeps : KeepsScope (source_world db target so_far) (database_scope db)
+  pub gives : GivesValues (source_world db target so_far) (database_scope db)
+  pub definitions : DefinitionsAreWritten db
   pub written : IsWritten e
   pub typed : (t : Type') × (type_of (database_scope db) e ≡ Valued t)
 
 -- a condition that may be so in each of the target's tuples so far
 pub record IsPlannableCondition (db : Database) (target : List ℕ) (so_far : Relation) (e : Tree) : Type 0 where
-  pub keeps : KeepsScope (source_world db target so_far) (database_scope db)
+  pub gives : GivesValues (source_world db target so_far) (database_scope db)
+  pub definitions : DefinitionsAreWritten db
   pub tuples : IsRelation so_far × AllByRecursion (IsTypedTuple db.types) so_far.body
   pub written : IsWritten e
   pub typed : (t : Type') × (type_of (entered_with so_far.heading (database_scope db)) e ≡ Valued t)

@@ -5,12 +5,12 @@ use Rattle.std.specs.List.{slice_get, zip}
 use Rattle.std.proofs.lemmas.Bool.{eqb-false}
 use Rattle.td_eval.specs.AggregateValues.{aggregated_value, asked_of}
 use Rattle.td_eval.specs.OperatorValues.{comparison_value, component_value, extracted_value, headed_value, listed_value, measure_value, on_relation, on_truth, operator_value, postfix_value, prefix_value, restricted_value, tuple_from}
-use Rattle.td_eval.specs.Worlds.{World, selected}
+use Rattle.td_eval.specs.Worlds.{World, known_outcome, selected}
 use Rattle.td_tree.specs.Outcomes.{Outcome, gathered, with_both, with_value}
 use Rattle.td_tree.specs.Trees.{project}
 use Rattle.td_value.specs.Values.{Val}
 use Rattle.td_plan.specs.Hoisting.{PlansDependOnTuplesTheyName, all_lowered, any_reaches, lowered, reaches, shifted}
-use Rattle.td_plan.specs.Plans.{Frame, PlanTree, PlanTrees, none, more, constant, refused, attribute, fixed, relvar, prefix, extract, restriction, binary, compare, postfix, select, component, measure, relation, headed_relation, tuple, extend, aggregate, summarize_per, summarize_by, choice, attribute_at, extension_of, fixed_at, frame_of, plan_columns, plan_value, plan_values, summary_of}
+use Rattle.td_plan.specs.Plans.{Frame, PlanTree, PlanTrees, none, more, constant, refused, attribute, fixed, relvar, look_up, prefix, extract, restriction, binary, compare, postfix, select, component, measure, relation, headed_relation, tuple, extend, aggregate, summarize_per, summarize_by, choice, attribute_at, extension_of, fixed_at, frame_of, looked_up, plan_columns, plan_value, plan_values, summary_of}
 
 pub neither : (a b : Bool) → (a || b) ≡ false → (a ≡ false) × (b ≡ false)
 neither false b e = (refl, e)
@@ -62,6 +62,7 @@ module _ (w : World) (f : Frame) (fs : List Frame) where
     independent us (attribute d p) h = ap (λ o. attribute_at o p) (got_shifted us f fs d (eqb-false d (length us) h))
     independent us (fixed d p) h = ap (λ o. fixed_at o p) (got_shifted us f fs d (eqb-false d (length us) h))
     independent us (relvar n) h = refl
+    independent us (look_up n key part) h = λ i. with_value (independent us part h i) (looked_up key (known_outcome (w.relvar n)))
     independent us (prefix op operand) h = λ i. with_value (independent us operand h i) (prefix_value op)
     independent us (extract a operand) h = λ i. with_value (independent us operand h i) (extracted_value a)
     independent us (restriction operand parts condition) h =

@@ -2,9 +2,15 @@ pub mod EqualLookUps
 pub mod EqualNames
 pub mod EqualRestrictions
 pub mod EqualValues
+pub mod FixedParts
+pub mod FixedValues
 pub mod HandLaws
 pub mod Independence
+pub mod LookUpLaws
+pub mod LookUpParts
+pub mod LookUpValues
 pub mod LoweredSteps
+pub mod NarrowedOperands
 pub mod Places
 pub mod Planned
 pub mod PlannedAnswers
@@ -21,3 +27,4 @@ pub mod StepRows
 pub mod StepWeights
 pub mod SummaryLaws
 pub mod TotalConditions
+pub mod VirtualRelvars

@@ -7,7 +7,8 @@ use Rattle.std.specs.List.{All, AllByRecursion}
 use Rattle.td_check.specs.Scopes.{Scope, entered_with}
 use Rattle.td_eval.specs.OperatorValues.{truth_value}
 use Rattle.td_eval.specs.TreeValues.{value_of}
-use Rattle.td_eval.specs.ValueTypes.{IsTypedTuple, KeepsScope}
+use Rattle.td_eval.specs.ValueTypes.{IsTypedTuple}
+use Rattle.td_eval.specs.UnfailingValues.{GivesValues}
 use Rattle.td_eval.specs.Worlds.{World}
 use Rattle.td_plan.proofs.HandLaws.{held_more}
 use Rattle.td_plan.specs.declared.hand.Held.{Held}
@@ -57,7 +58,7 @@ held_before ts i t cs c all inside is so_far tuple fixed pushed =
 
 -- ---- the values of the expression
 
-module _ (w : World) (scope : Scope) (p : PlanTree) (e : Tree) (s : List Tuple) (keeps : KeepsScope w (outermost scope)) (hand : AreInHand scope s) where
+module _ (w : World) (scope : Scope) (p : PlanTree) (e : Tree) (s : List Tuple) (keeps : GivesValues w (outermost scope)) (hand : AreInHand scope s) where
   pub planned : (r : Result Val Fault) → IsPlanOf scope p e → (ts : List Tuple) → s ≡ ts → Answers (λ v. v) r (plan_value w (frames_of ts) p)
       → Answers (λ v. v) r (value_of w s e)
   planned r is ts same a =

@@ -9,7 +9,7 @@ use Rattle.td_check.specs.StaticTypes.{named_types, paired, type_of, types_of}
 use Rattle.td_eval.specs.OperatorValues.{comparison_value, component_value, extracted_value, headed_value, listed_value, measure_value, on_truth, operator_value, postfix_value, prefix_value, tuple_from}
 use Rattle.td_eval.specs.TreeTexts.{HaveTexts, PartsHaveTexts}
 use Rattle.td_eval.specs.TreeValues.{argument_values, entry_values, value_of}
-use Rattle.td_eval.specs.ValueTypes.{KeepsScope}
+use Rattle.td_eval.specs.UnfailingValues.{GivesValues}
 use Rattle.td_eval.specs.Worlds.{World, selected}
 use Rattle.td_plan.specs.PlannedParts.{ArePlansOfTyped, in_named, in_trees, names_in}
 use Rattle.td_plan.specs.Plans as plans
@@ -103,7 +103,7 @@ module _ (scope : Scope) where
   -- ---- lists of parts
 
   arguments_planned : (ps : PlanTrees) (es : Trees) → ArePlansOfTyped scope ps (in_trees es) → GiveNames es → HaveTexts es → (ts : List Type') → types_of scope es ≡ Valued ts
-      → (w : World) (s : List Tuple) (fs : List Frame) → KeepsScope w (outermost scope) → AreInHand scope s → AreFramesOf s fs
+      → (w : World) (s : List Tuple) (fs : List Frame) → GivesValues w (outermost scope) → AreInHand scope s → AreFramesOf s fs
       → gathered (plan_values w fs ps) ≡ argument_values w s es
   arguments_planned plans.none trees.none all n x ts is w s fs k hand f = refl
   arguments_planned plans.none (trees.more e es) all n x ts is w s fs k hand f = absurd all
@@ -130,9 +130,9 @@ module _ (scope : Scope) where
   headed_planned heading h ps es means all = λ written t is w s fs k hand f.
       let y = values_of_both (heading_meant scope.types heading) (types_of scope es) headed_type t is in
       let xs = value_of_with (attributes_meant scope.types heading) made_heading h means in
-      let later : heading_meant (scope.types ++ k.types.0) heading ≡ Valued h =
-      ap (λ o. with_value o made_heading) (attributes_later scope.types k.types.0 heading xs.0 xs.1) ∙ xs.2 in
-      let there : heading_meant w.scope.types heading ≡ Valued h = ap (λ ds. heading_meant ds heading) k.types.1 ∙ later in
+      let later : heading_meant (scope.types ++ k.keeps.types.0) heading ≡ Valued h =
+      ap (λ o. with_value o made_heading) (attributes_later scope.types k.keeps.types.0 heading xs.0 xs.1) ∙ xs.2 in
+      let there : heading_meant w.scope.types heading ≡ Valued h = ap (λ ds. heading_meant ds heading) k.keeps.types.1 ∙ later in
       ap (λ o. with_value o (headed_value h)) (arguments_planned ps es all written.0.1 written.1 y.1 y.3 w s fs k hand f)
       ∙ both_of_known h (argument_values w s es) headed_value
       ∙ ap (λ o. with_both o (argument_values w s es) headed_value) (sym there)
@@ -148,7 +148,7 @@ module _ (scope : Scope) where
   one_more_entry n names (Refused cs) (Refused ds) = refl
 
   entries_planned : (ps : PlanTrees) (es : NamedTrees) → ArePlansOfTyped scope ps (in_named es) → PartsGiveNames es → PartsHaveTexts es → (xs : List Attribute) → named_types scope es ≡ Valued xs
-      → (w : World) (s : List Tuple) (fs : List Frame) → KeepsScope w (outermost scope) → AreInHand scope s → AreFramesOf s fs
+      → (w : World) (s : List Tuple) (fs : List Frame) → GivesValues w (outermost scope) → AreInHand scope s → AreFramesOf s fs
       → with_value (gathered (plan_values w fs ps)) (λ vs. Valued (zip (names_in es) vs)) ≡ entry_values w s es
   entries_planned plans.none trees.none_named all n x xs is w s fs k hand f = refl
   entries_planned plans.none (trees.more_named m e es) all n x xs is w s fs k hand f = absurd all

@@ -13,7 +13,8 @@ use Rattle.td_eval.specs.OperatorValues.{on_relation, on_relations, postfix_valu
 use Rattle.td_eval.specs.Totals.{asked_by}
 use Rattle.td_eval.specs.TreeTexts.{ItemsHaveTexts}
 use Rattle.td_eval.specs.TreeValues.{items_in_tuples, value_of}
-use Rattle.td_eval.specs.ValueTypes.{IsOfType, IsWritten, KeepsScope, KeepsType}
+use Rattle.td_eval.specs.ValueTypes.{IsOfType, IsWritten, KeepsType}
+use Rattle.td_eval.specs.UnfailingValues.{GivesValues}
 use Rattle.td_eval.specs.Worlds.{World, scope_among}
 use Rattle.td_eval.proofs.AlikeOutcomes.{both_alike, over_same, with_alike}
 use Rattle.td_eval.proofs.AlikeSummaries.{SummandsAlikeIn, summarized_alike}
@@ -137,7 +138,7 @@ module _ (scope : Scope) (d : Tree) (items : Summaries) where
 
 -- ---- in a world
 
-module _ (scope : Scope) (w : World) (s : List Tuple) (fs : List Frame) (k : KeepsScope w (outermost scope)) (hand : AreInHand scope s) (f : AreFramesOf s fs) where
+module _ (scope : Scope) (w : World) (s : List Tuple) (fs : List Frame) (k : GivesValues w (outermost scope)) (hand : AreInHand scope s) (f : AreFramesOf s fs) where
   module _ (os : List (Outcome Val)) where
     -- there are as many new attributes as items
     as_many_items : (inner : Scope) (ps : PlanTrees) (items : Summaries) (xs : List Attribute) → ArePlansOfTyped inner ps (in_summaries items)

@@ -12,13 +12,15 @@ use Rattle.td_eval.specs.AggregateValues.{aggregated_value, asked_of}
 use Rattle.td_eval.specs.OperatorValues.{extended_value, on_relation, relation_as_value, restricted_value}
 use Rattle.td_eval.specs.TreeTexts.{PartsHaveTexts}
 use Rattle.td_eval.specs.TreeValues.{value_of, values_in_tuples}
-use Rattle.td_eval.specs.ValueTypes.{IsOfType, IsTypedTuple, IsWritten, KeepsScope, KeepsType, with_tuples}
+use Rattle.td_eval.specs.ValueTypes.{IsOfType, IsTypedTuple, IsWritten, KeepsType, with_tuples}
+use Rattle.td_eval.specs.UnfailingValues.{GivesValues}
 use Rattle.td_eval.specs.Worlds.{World, scope_among}
 use Rattle.td_eval.proofs.AlikeOutcomes.{over_same}
 use Rattle.td_eval.proofs.AlikeRows.{AlikeIn, AreAlikeIn, aggregated_alike, extended_alike, restricted_alike}
 use Rattle.td_eval.proofs.TypedRows.{rows_typed}
 use Rattle.td_eval.proofs.TypedTrees.{values_keep_types}
 use Rattle.td_plan.specs.Hoisting.{BeginsWith, Pulls, PullsAll}
+use Rattle.td_plan.specs.Narrowing.{Narrows}
 use Rattle.td_plan.specs.PlannedParts.{ArePlansOfTyped, in_named}
 use Rattle.td_plan.specs.Plans as plans
 use Rattle.td_plan.specs.Plans.{Frame, PlanTree, PlanTrees, extension_of, frame_of, plan_columns, plan_value, plan_values, where_as_many}
@@ -70,19 +72,19 @@ all_pulled old parts cs qs pulls w fs =
 
 -- ---- in the tuples of a relation that an operand has as its value
 
-module _ (scope : Scope) (w : World) (s : List Tuple) (fs : List Frame) (k : KeepsScope w (outermost scope)) (hand : AreInHand scope s) (f : AreFramesOf s fs) where
+module _ (scope : Scope) (w : World) (s : List Tuple) (fs : List Frame) (k : GivesValues w (outermost scope)) (hand : AreInHand scope s) (f : AreFramesOf s fs) where
   -- a value of the operand's type
   pub kept : (d : Tree) (t : Type') → IsWritten d → type_of scope d ≡ Valued t → KeepsType scope.types (Valued t) (value_of w s d)
   kept d t written is =
       let here : with_tuples (outermost scope) s ≡ scope =
       λ i. record { types = scope.types; relvars = scope.relvars; constraints = scope.constraints; entered = hand.1 i } in
       subst (λ o. KeepsType scope.types o (value_of w s d)) (ap (λ z. type_of z d) here ∙ is)
-      (values_keep_types w (outermost scope) s d k hand.0 written)
+      (values_keep_types w (outermost scope) s d k.keeps hand.0 written)
 
   -- more is known in the world
   pub more_there : (h : Heading) → HasMore (entered_with h scope) (entered_with h (scope_among w s))
   more_there h =
-      record { types = k.types; relvars = ([], k.known ∙ sym (append-nil scope.relvars)); entered = λ i. h ∷ hand.1 i }
+      record { types = k.keeps.types; relvars = ([], k.keeps.known ∙ sym (append-nil scope.relvars)); entered = λ i. h ∷ hand.1 i }
 
   module _ (r : Relation) (h : Heading) (head : r.heading ≡ h) (typed : IsOfType scope.types (relation_as_value r) (types.relation (pack r.heading)))
       (os : List (Outcome Val)) where
@@ -110,7 +112,7 @@ heading_is h g r e head = let same : pack h ≡ g = cc in head ∙ ap unpack (sy
 
 module _ (scope : Scope) where
   -- the type of what is applied
-  inner_type : (d e : Tree) (h : Heading) (t : Type') (g : Type' → Type' → Outcome Type') → type_of scope d ≡ Valued (types.relation (pack h))
+  pub inner_type : (d e : Tree) (h : Heading) (t : Type') (g : Type' → Type' → Outcome Type') → type_of scope d ≡ Valued (types.relation (pack h))
       → with_value (type_of scope d) (λ q. over_relation q (λ i. with_value (type_of (entered_with i scope) e) (g q))) ≡ Valued t
       → (u : Type') × (type_of (entered_with h scope) e ≡ Valued u)
   inner_type d e h t g static is =
@@ -118,20 +120,20 @@ module _ (scope : Scope) where
       let z = value_of_with (type_of (entered_with (unpack (pack h)) scope) e) (g (types.relation (pack h))) t into in
       (z.0, subst (λ i. type_of (entered_with i scope) e ≡ Valued z.0) (unpack_pack h) z.1)
 
-  pub restriction_planned : (p : PlanTree) (old parts : PlanTrees) (q c : PlanTree) (d e : Tree) (h : Heading) → IsPlanOfTyped scope p d
+  -- where the operand's plan narrows it
+  pub restriction_planned : (p : PlanTree) (old parts : PlanTrees) (q c : PlanTree) (d e : Tree) (h : Heading) → Narrows scope p d e h
       → type_of scope d ≡ Valued (types.relation (pack h)) → IsPlanOfTyped (entered_with h scope) c e → Pulls old parts c q
       → IsPlanOfTyped scope (plans.restriction p parts q) (trees.restriction d e)
   restriction_planned p old parts q c d e h i static j pulls = λ written t is w s fs k hand f.
       let u = inner_type d e h t restriction_type static is in
       let os = plan_values w fs parts in
+      let narrowed = i written t is w s fs k hand f in
       ap (λ a. with_value (plan_value w fs p) (λ v. on_relation v (restricted_value a))) (one_pulled old parts c q pulls w fs)
-      ∙ ap (λ o. with_value o (λ v. on_relation v (restricted_value (λ t. plan_value w (frame_of os t ∷ fs) c))))
-      (i (written.0.0, written.1.0) (types.relation (pack h)) static w s fs k hand f)
-      ∙ over_same scope.types (types.relation (pack h)) (value_of w s d)
-      (restricted_value (λ t. plan_value w (frame_of os t ∷ fs) c)) (restricted_value (λ t. value_of w (t ∷ s) e))
-      (kept scope w s fs k hand f d (types.relation (pack h)) (written.0.0, written.1.0) static)
+      ∙ over_same scope.types (types.relation (pack h)) (plan_value w fs p)
+      (restricted_value (λ t. plan_value w (frame_of os t ∷ fs) c)) (restricted_value (λ t. value_of w (t ∷ s) e)) narrowed.kept
       (λ g r same head typed. restricted_alike r (λ t. plan_value w (frame_of os t ∷ fs) c) (λ t. value_of w (t ∷ s) e)
       (one_alike scope w s fs k hand f r h (heading_is h g r same head) typed os c e u.0 j (written.0.1, written.1.1) u.1))
+      ∙ narrowed.same
 
   pub aggregation_planned : (op : Aggregate) (p : PlanTree) (old parts : PlanTrees) (q c : PlanTree) (d e : Tree) (h : Heading) → IsPlanOfTyped scope p d
       → type_of scope d ≡ Valued (types.relation (pack h)) → IsPlanOfTyped (entered_with h scope) c e → Pulls old parts c q

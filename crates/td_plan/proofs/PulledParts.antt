@@ -5,7 +5,7 @@ use Rattle.std.specs.List.{slice_get, zip}
 use Rattle.std.proofs.lemmas.List.{append_assoc}
 use Rattle.td_eval.specs.AggregateValues.{aggregated_value, asked_of}
 use Rattle.td_eval.specs.OperatorValues.{comparison_value, component_value, extracted_value, headed_value, listed_value, measure_value, on_relation, on_truth, operator_value, postfix_value, prefix_value, restricted_value, tuple_from}
-use Rattle.td_eval.specs.Worlds.{World, selected}
+use Rattle.td_eval.specs.Worlds.{World, known_outcome, selected}
 use Rattle.td_group.specs.declared.aggregates.Agg.{Agg}
 use Rattle.td_tree.specs.declared.operator.Aggregate.{Aggregate}
 use Rattle.td_tree.specs.declared.operator.Comparison.{Comparison}
@@ -18,7 +18,7 @@ use Rattle.td_types.specs.Types.{Attribute, Heading}
 use Rattle.td_plan.proofs.Independence.{independent}
 use Rattle.td_plan.specs.declared.step.Step.{Step}
 use Rattle.td_plan.specs.Hoisting.{Pulls, PullsAll, lowered, reaches}
-use Rattle.td_plan.specs.Plans.{Frame, PlanTree, PlanTrees, fixed, prefix, extract, restriction, binary, compare, postfix, select, component, measure, relation, headed_relation, tuple, extend, aggregate, summarize_per, summarize_by, choice, extension_of, frame_of, outcome_or, plan_columns, plan_value, plan_values, summary_of}
+use Rattle.td_plan.specs.Plans.{Frame, PlanTree, PlanTrees, fixed, look_up, prefix, extract, restriction, binary, compare, postfix, select, component, measure, relation, headed_relation, tuple, extend, aggregate, summarize_per, summarize_by, choice, extension_of, frame_of, looked_up, outcome_or, plan_columns, plan_value, plan_values, summary_of}
 use Rattle.td_plan.specs.StepViews.{step_view, steps_view}
 
 -- ---- one after another
@@ -54,6 +54,11 @@ module _ (a c : PlanTrees) where
 
   pub pulls_extract : (n : List ℕ) (p q : PlanTree) → Pulls a c p q → Pulls a c (extract n p) (extract n q)
   pulls_extract n p q h = λ w fs t os z. let k = h w fs t os z in (k.0, λ i. with_value (k.1 i) (extracted_value n))
+
+  pub pulls_look_up : (n : List ℕ) (key : List (List ℕ)) (p q : PlanTree) → Pulls a c p q → Pulls a c (look_up n key p) (look_up n key q)
+  pulls_look_up n key p q h = λ w fs t os z.
+      let k = h w fs t os z in
+      (k.0, λ i. with_value (k.1 i) (looked_up key (known_outcome (w.relvar n))))
 
   pub pulls_postfix : (op : Postfix) (p q : PlanTree) → Pulls a c p q → Pulls a c (postfix p op) (postfix q op)
   pulls_postfix op p q h = λ w fs t os z. let k = h w fs t os z in (k.0, λ i. with_value (k.1 i) (postfix_value op))

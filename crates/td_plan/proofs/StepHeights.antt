@@ -8,6 +8,7 @@ use Rattle.td_plan.specs.StepViews.{step_view, steps_view}
 
 abbrev mutual
   pub height : PlanTree → ℕ
+  height (plans.look_up n key part) = suc (height part)
   height (plans.prefix op operand) = suc (height operand)
   height (plans.extract a operand) = suc (height operand)
   height (plans.restriction operand parts condition) = suc (max (height operand) (max (highest parts) (height condition)))

@@ -2,10 +2,11 @@
 use Rattle.std.proofs.Common.{ap, length, get_or, zero, ◌<◌, ◌≡◌, ℕ, ◌+◌, ◌≤◌, suc, List, [], ◌∷◌, ◌++◌, arith}
 use Rattle.td_plan.specs.declared.step.Step.{Step}
 use Rattle.td_plan.specs.StepViews.{step_view, steps_view}
-use Rattle.td_plan.specs.Plans.{PlanTree, PlanTrees, none, more, prefix, extract, restriction, binary, compare, postfix, select, component, measure, relation, headed_relation, tuple, extend, aggregate, summarize_per, summarize_by, choice}
+use Rattle.td_plan.specs.Plans.{PlanTree, PlanTrees, none, more, look_up, prefix, extract, restriction, binary, compare, postfix, select, component, measure, relation, headed_relation, tuple, extend, aggregate, summarize_per, summarize_by, choice}
 
 abbrev mutual
   pub weight : PlanTree → ℕ
+  weight (look_up n key part) = suc (weight part)
   weight (prefix op operand) = suc (weight operand)
   weight (extract a operand) = suc (weight operand)
   weight (restriction operand parts condition) = suc (weight operand + (weights parts + weight condition))

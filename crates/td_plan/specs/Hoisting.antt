@@ -1,7 +1,7 @@
 -- What does not depend on a tuple in hand, and is valued once for it and its like.
 use Rattle.std.specs.Prelude.{◌≡◌, ℕ, zero, suc, nat_eq, Bool, false, ◌||◌, List, ◌∷◌, ◌++◌, length}
 use Rattle.td_eval.specs.Worlds.{World}
-use Rattle.td_plan.specs.Plans.{Frame, PlanTree, PlanTrees, none, more, constant, refused, attribute, fixed, relvar, prefix, extract, restriction, binary, compare, postfix, select, component, measure, relation, headed_relation, tuple, extend, aggregate, summarize_per, summarize_by, choice, frame_of, plan_value, plan_values, plan_columns}
+use Rattle.td_plan.specs.Plans.{Frame, PlanTree, PlanTrees, none, more, constant, refused, attribute, fixed, relvar, look_up, prefix, extract, restriction, binary, compare, postfix, select, component, measure, relation, headed_relation, tuple, extend, aggregate, summarize_per, summarize_by, choice, frame_of, plan_value, plan_values, plan_columns}
 use Rattle.td_tree.specs.Outcomes.{Outcome}
 use Rattle.td_value.specs.Values.{Val, Tuple}
 
@@ -13,6 +13,7 @@ abbrev mutual
   reaches k (attribute d p) = nat_eq d k
   reaches k (fixed d p) = nat_eq d k
   reaches k (relvar n) = false
+  reaches k (look_up n key part) = reaches k part
   reaches k (prefix op operand) = reaches k operand
   reaches k (extract a operand) = reaches k operand
   reaches k (restriction operand parts condition) = reaches k operand || (any_reaches k parts || reaches (suc k) condition)
@@ -52,6 +53,7 @@ abbrev mutual
   lowered k (attribute d p) = attribute (shifted k d) p
   lowered k (fixed d p) = fixed (shifted k d) p
   lowered k (relvar n) = relvar n
+  lowered k (look_up n key part) = look_up n key (lowered k part)
   lowered k (prefix op operand) = prefix op (lowered k operand)
   lowered k (extract a operand) = extract a (lowered k operand)
   lowered k (restriction operand parts condition) = restriction (lowered k operand) (all_lowered k parts) (lowered (suc k) condition)

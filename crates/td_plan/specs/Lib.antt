@@ -1,8 +1,11 @@
 pub mod Equalities
 pub mod EqualitiesOfNames
 pub mod EqualitiesOfValues
+pub mod Fixing
 pub mod Hands
 pub mod Hoisting
+pub mod LookUps
+pub mod Narrowing
 pub mod PlanViews
 pub mod PlannedParts
 pub mod Planners
@@ -13,3 +16,4 @@ pub mod Runs
 pub mod StepViews
 pub mod SummaryItems
 pub mod TotalConditions
+pub mod VirtualRelvars

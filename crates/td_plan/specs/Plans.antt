@@ -2,7 +2,8 @@
 use Rattle.std.specs.Prelude.{ℕ, nat_eq, List, [], ◌∷◌, length, Option, Some, None, if◌then◌else◌}
 use Rattle.std.specs.List.{slice_get, zip}
 use Rattle.td_eval.specs.AggregateValues.{Summand, aggregated_value, asked_of, summary_value}
-use Rattle.td_eval.specs.OperatorValues.{comparison_value, component_value, extended_value, extracted_value, headed_value, listed_value, measure_value, on_relation, on_truth, operator_value, postfix_value, prefix_value, restricted_value, tuple_from}
+use Rattle.td_body.specs.Bodies.{agreeing}
+use Rattle.td_eval.specs.OperatorValues.{comparison_value, component_value, extended_value, extracted_value, headed_value, listed_value, measure_value, of_relation, on_relation, on_truth, on_tuple, operator_value, postfix_value, prefix_value, restricted_value, tuple_from}
 use Rattle.td_eval.specs.Worlds.{World, known_outcome, selected}
 use Rattle.td_group.specs.declared.aggregates.Agg.{Agg}
 use Rattle.td_tree.specs.declared.cause.Cause.{Cause}
@@ -27,6 +28,7 @@ mutual
     attribute : ℕ → ℕ → PlanTree
     fixed : ℕ → ℕ → PlanTree
     relvar : List ℕ → PlanTree
+    look_up : List ℕ → List (List ℕ) → PlanTree → PlanTree
     prefix : Prefix → PlanTree → PlanTree
     extract : List ℕ → PlanTree → PlanTree
     restriction : PlanTree → PlanTrees → PlanTree → PlanTree
@@ -89,6 +91,14 @@ extension_of attributes fs r = where_as_many attributes fs (extended_value (Valu
 abbrev pub summary_of : List Attribute → List Summand → Val → Val → Outcome Val
 summary_of attributes items v p = where_as_many attributes items (summary_value (λ h. Valued attributes) items v p)
 
+-- the tuples of what a relvar gives that agree with a tuple on the names of a key
+abbrev pub agreeing_value : List (List ℕ) → Outcome Val → Tuple → Outcome Val
+agreeing_value key o t = with_value o (λ u. on_relation u (λ r. of_relation (agreeing key t r)))
+
+-- those that agree with the tuple that a value is
+abbrev pub looked_up : List (List ℕ) → Outcome Val → Val → Outcome Val
+looked_up key o v = on_tuple v (agreeing_value key o)
+
 -- the innermost frame is the first
 abbrev mutual
   pub plan_value : World → List Frame → PlanTree → Outcome Val
@@ -97,6 +107,7 @@ abbrev mutual
   plan_value w fs (attribute depth place) = attribute_at (slice_get fs depth) place
   plan_value w fs (fixed depth place) = fixed_at (slice_get fs depth) place
   plan_value w fs (relvar n) = known_outcome (w.relvar n)
+  plan_value w fs (look_up n key part) = with_value (plan_value w fs part) (looked_up key (known_outcome (w.relvar n)))
   plan_value w fs (prefix op operand) = with_value (plan_value w fs operand) (prefix_value op)
   plan_value w fs (extract a operand) = with_value (plan_value w fs operand) (extracted_value a)
   plan_value w fs (restriction operand parts condition) =

@@ -1,5 +1,5 @@
 -- When a plan stands for an expression.
-use Rattle.std.specs.Prelude.{◌≡◌, List, [], ◌∷◌, map, Some, ⊤}
+use Rattle.std.specs.Prelude.{◌≡◌, List, [], ◌∷◌, map, ⊤}
 use Rattle.std.specs.List.{AllByRecursion}
 use Rattle.td_catalog.specs.Database.{database_scope}
 use Rattle.td_check.specs.Scopes.{Scope, entered_with}
@@ -7,7 +7,8 @@ use Rattle.td_check.specs.StaticTypes.{type_of}
 use Rattle.td_eval.specs.declared.env.Env.{Env}
 use Rattle.td_eval.specs.Sights.{tuples_in_hand}
 use Rattle.td_eval.specs.TreeValues.{value_of}
-use Rattle.td_eval.specs.ValueTypes.{IsTypedTuple, IsWritten, KeepsScope, with_tuples}
+use Rattle.td_eval.specs.ValueTypes.{IsTypedTuple, IsWritten, with_tuples}
+use Rattle.td_eval.specs.UnfailingValues.{GivesValues}
 use Rattle.td_eval.specs.Worlds.{World}
 use Rattle.td_plan.specs.Plans.{Frame, PlanTree, plan_value}
 use Rattle.td_tree.specs.Outcomes.{Valued}
@@ -29,11 +30,11 @@ AreFramesOf [] fs = ⊤
 AreFramesOf (t ∷ s) [] = ⊥
 AreFramesOf (t ∷ s) (f ∷ fs) = (f.tuple ≡ t) × AreFramesOf s fs
 
--- in every world of the scope and for all tuples that may be in hand there, the plan has the value of the expression, or the
--- same causes
+-- in every world that gives values in the scope and for all tuples that may be in hand there, the plan has the value of the
+-- expression, or the same causes
 abbrev pub IsPlanOf : Scope → PlanTree → Tree → Type 0
 IsPlanOf scope p e =
-    (w : World) (s : List Tuple) (fs : List Frame) → KeepsScope w (outermost scope) → AreInHand scope s → AreFramesOf s fs
+    (w : World) (s : List Tuple) (fs : List Frame) → GivesValues w (outermost scope) → AreInHand scope s → AreFramesOf s fs
     → plan_value w fs p ≡ value_of w s e
 
 -- of an expression that has a type in the scope, and is written as tokens spell it, the plan is one of it
@@ -46,17 +47,17 @@ IsPlanOfTyped scope p e = IsWritten e → (t : Type') → type_of scope e ≡ Va
 abbrev pub scope_in : {B : Type 0} → Env B → Scope
 scope_in env = with_tuples (database_scope env.catalog.now.database) (tuples_in_hand env)
 
--- an expression that has a type in the scope, in a world of that scope with tuples of it in hand, and is written as tokens
--- spell it
+-- an expression that has a type in the scope, in a world that gives values there, with tuples of it in hand, and is written as
+-- tokens spell it
 pub record MeetsRules (w : World) (scope : Scope) (s : List Tuple) (e : Tree) : Type 0 where
-  pub keeps : KeepsScope w (outermost scope)
+  pub gives : GivesValues w (outermost scope)
   pub tuples : AreInHand scope s
   pub written : IsWritten e
   pub typed : (t : Type') × (type_of scope e ≡ Valued t)
 
 -- one that has a type where a tuple of the relation is in hand beside these; the relation's tuples are of their types
 pub record MeetsRulesIn (w : World) (scope : Scope) (s : List Tuple) (r : Relation) (e : Tree) : Type 0 where
-  pub keeps : KeepsScope w (outermost scope)
+  pub gives : GivesValues w (outermost scope)
   pub tuples : AreInHand scope s
   pub relation : IsRelation r × AllByRecursion (IsTypedTuple scope.types) r.body
   pub written : IsWritten e

@@ -14,6 +14,7 @@ abbrev mutual
   step_view (p.Attribute depth place) = plans.attribute depth place
   step_view (p.Fixed depth place) = plans.fixed depth place
   step_view (p.Relvar name) = plans.relvar name
+  step_view (p.LookUp' name key _ part) = plans.look_up name key.items (step_view part)
   step_view (p.Prefix' op _ operand) = plans.prefix op (step_view operand)
   step_view (p.Extract' attribute _ operand) = plans.extract attribute (step_view operand)
   step_view (p.Restriction' _ operand _ parts _ condition) =

@@ -44,6 +44,10 @@ impl Outline {
             Step::Attribute { depth, place } => self.places(indent, "ATTRIBUTE", *depth, *place),
             Step::Fixed { depth, place } => self.places(indent, "VALUED ONCE", *depth, *place),
             Step::Relvar(name) => self.line_of(indent, "RELVAR", name.as_str()),
+            Step::LookUp(name, _, part) => {
+                self.line_of(indent, "LOOKUP", name.as_str())?;
+                self.step(inner, part)
+            }
             Step::Prefix(op, operand) => self.one(indent, prefix_word(*op), operand),
             Step::Extract(attribute, operand) => {
                 self.line_of(indent, "FROM", attribute.as_str())?;
@@ -319,6 +323,8 @@ fn prefix_word(op: Prefix) -> &'static str {
     }
 }
 
+/// What a step between operands does. Partners in a join are found by a hash of the common
+/// attributes.
 fn operator_word(op: Operator) -> &'static str {
     match op {
         Operator::Or => "OR",
@@ -326,11 +332,11 @@ fn operator_word(op: Operator) -> &'static str {
         Operator::Union => "UNION",
         Operator::Intersect => "INTERSECT",
         Operator::Minus => "MINUS",
-        Operator::Join => "JOIN",
+        Operator::Join => "HASHJOIN",
         Operator::Times => "TIMES",
-        Operator::Compose => "COMPOSE",
-        Operator::Matching => "MATCHING",
-        Operator::NotMatching => "NOT MATCHING",
+        Operator::Compose => "COMPOSE BY HASHJOIN",
+        Operator::Matching => "MATCHING BY HASHJOIN",
+        Operator::NotMatching => "NOT MATCHING BY HASHJOIN",
         Operator::Add => "+",
         Operator::Subtract => "-",
         Operator::Concatenate => "||",

@@ -92,6 +92,9 @@ fn with_parts_pulled(alloc: Global, step: Step, pool: &mut Vec<Step>) -> Result<
         Step::Attribute { depth, place } => Ok(Step::Attribute { depth, place }),
         Step::Fixed { depth, place } => Ok(Step::Fixed { depth, place }),
         Step::Relvar(name) => Ok(Step::Relvar(name)),
+        Step::LookUp(name, key, part) => {
+            Ok(Step::LookUp(name, key, operand_pulled(alloc, part, pool)?))
+        }
         Step::Prefix(op, operand) => Ok(Step::Prefix(op, operand_pulled(alloc, operand, pool)?)),
         Step::Extract(attribute, operand) => {
             Ok(Step::Extract(attribute, operand_pulled(alloc, operand, pool)?))

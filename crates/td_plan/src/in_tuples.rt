@@ -3,6 +3,7 @@
 ghost use Rattle.std.specs.Prelude.{◌≡◌, IfOk};
 ghost use Rattle.td_check.specs.Scopes.{Scope, entered_with};
 ghost use Rattle.td_check.specs.StaticTypes.{named_types, type_of};
+ghost use Rattle.td_plan.specs.Narrowing.{Narrows};
 ghost use Rattle.td_plan.specs.PlannedParts.{ArePlansOfTyped, in_named};
 ghost use Rattle.td_plan.specs.PlansOf.{IsPlanOfTyped};
 ghost use Rattle.td_plan.specs.StepViews.{step_view, steps_view};
@@ -27,7 +28,7 @@ pub(crate) fn restriction_step(
     condition: Step,
 ) -> Result<Step, AllocError>
     ensures { IfOk result (λ p. (scope : Scope) (d e : Tree) (h : Heading)
-        → IsPlanOfTyped scope (step_view operand) d
+        → Narrows scope (step_view operand) d e h
         → type_of scope d ≡ Valued (types.relation (pack h))
         → IsPlanOfTyped (entered_with h scope) (step_view condition) e
         → IsPlanOfTyped scope (step_view p) (trees.restriction d e)) }

@@ -8,13 +8,15 @@ ghost use Rattle.td_tree.specs.TreeViews.{attributes_view, named_view, summaries
 ghost use Rattle.td_tree.specs.Trees as trees;
 ghost use Rattle.td_tree.specs.Trees.{Tree};
 
+use crate::fixed::fixed_values;
 use crate::in_tuples::{aggregation_step, extension_step, restriction_step};
+use crate::narrowed::{base_named, narrowed};
 use crate::nodes::{
     binary_step, choice_step, compare_step, component_step, extract_step, headed_step,
     literal_step, measure_step, name_step, postfix_step, prefix_step, relation_step, select_step,
     tuple_step,
 };
-use crate::operand::{Operand, RelatedOperand};
+use crate::operand::{Operand, RelatedOperand, WrittenOperand};
 use crate::planner::Planner;
 use crate::step::Step;
 use crate::summaries::{aggregates_of, attributes_of, count_step, summary_by_step, summary_step};
@@ -38,7 +40,9 @@ pub(crate) fn step_of<B: Body>(planner: &Planner<'_, B>, expr: &Expr) -> Result<
         Expr::Prefix(op, operand) => prefix_step(alloc, *op, step_of(planner, operand)?),
         Expr::Extract(name, operand) => extract_step(alloc, name, step_of(planner, operand)?),
         Expr::Restriction(operand, condition) => {
-            where_step(planner, operand_of(planner, operand)?, condition)
+            let expr: &Expr = operand;
+            let operand = operand_of(planner, expr)?;
+            where_step(planner, WrittenOperand { operand, expr }, condition)
         }
         Expr::Binary(left, op, right) => {
             let left = step_of(planner, left)?;
@@ -150,21 +154,29 @@ fn operand_of<B: Body>(planner: &Planner<'_, B>, expr: &Expr) -> Result<Operand,
 #[cycle(plan)]
 fn where_step<B: Body>(
     planner: &Planner<'_, B>,
-    operand: Operand,
+    written: WrittenOperand<'_>,
     condition: &Expr,
 ) -> Result<Step, AllocError>
     requires { IsPlanner planner.now }
-    ensures { IfOk result (λ p. (d : Tree) → IsOperandOf planner.now.scope operand d
+    ensures { IfOk result (λ p.
+        IsOperandOf planner.now.scope written.entry.operand (tree_view written.entry.expr.now)
         → IsPlanOfTyped planner.now.scope (step_view p)
-        (trees.restriction d (tree_view condition.now))) }
+        (trees.restriction (tree_view written.entry.expr.now)
+        (tree_view condition.now))) }
 {
+    let WrittenOperand { operand, expr } = written;
     let Operand { step, heading } = operand;
     let Some(heading) = heading else {
         return Ok(step);
     };
     let inner = planner.entered(&heading)?;
-    let condition = step_of(&inner, condition)?;
-    restriction_step(planner.alloc, step, condition)
+    let asked = step_of(&inner, condition)?;
+    if base_named(planner, expr).is_none() {
+        return restriction_step(planner.alloc, step, asked);
+    }
+    let fixed = fixed_values(planner, condition, &heading)?;
+    let step = narrowed(planner, expr, &heading, condition, step, fixed)?;
+    restriction_step(planner.alloc, step, asked)
 }
 
 /// The step of an aggregate of an expression in the tuples of an operand.

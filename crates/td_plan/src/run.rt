@@ -18,6 +18,7 @@ use crate::answered::{
     component, extracted, headed_by, listed, measured, postfixed, prefixed, selected_by, tuple_of,
 };
 use crate::hand::{Entered, Hand, all_held, attribute, fixed_part};
+use crate::look_up::look_up;
 use crate::run_rows::{columns, item_count, totals, truths, values_in_rows};
 use crate::step::Step;
 use crate::surroundings::{Surroundings, relvar_value};
@@ -63,6 +64,7 @@ pub(crate) fn run<B: Body>(
         Step::Attribute { depth, place } => attribute(hand, *depth, *place),
         Step::Fixed { depth, place } => fixed_part(hand, *depth, *place),
         Step::Relvar(name) => relvar_value(around, name),
+        Step::LookUp(name, key, part) => look_up(around, name, key, run(around, hand, part)),
         Step::Prefix(op, operand) => prefixed(alloc, *op, run(around, hand, operand)),
         Step::Extract(name, operand) => extracted(name, run(around, hand, operand)),
         Step::Restriction(operand, parts, condition) => {

@@ -5,8 +5,9 @@ ghost use Rattle.td_check.specs.Scopes.{Scope, entered_with};
 ghost use Rattle.td_eval.specs.OperatorValues.{truth_value};
 ghost use Rattle.td_eval.specs.Sights.{tuples_in_hand, world_in};
 ghost use Rattle.td_eval.specs.TreeValues.{value_of};
-ghost use Rattle.td_eval.specs.ValueTypes.{IsTypedTuple, KeepsScope};
-ghost use Rattle.td_plan.specs.Hands.{AreHeld};
+ghost use Rattle.td_eval.specs.UnfailingValues.{GivesValues};
+ghost use Rattle.td_eval.specs.ValueTypes.{IsTypedTuple};
+ghost use Rattle.td_plan.specs.Hands.{AreHeld, AreSurroundings, world_around};
 ghost use Rattle.td_plan.specs.PlanViews.{plan_view};
 ghost use Rattle.td_plan.specs.Plans.{frame_of, plan_value};
 ghost use Rattle.td_plan.specs.PlansOf.{AreInHand, IsPlanOf, outermost};
@@ -49,43 +50,81 @@ fn held_tuples(
 /// The value of a plan where these tuples are in hand: the first, and outside of it the others, of
 /// which the last is the innermost.
 fn run_with<B: Body>(
-    alloc: Global,
-    env: &Env<'_, B>,
+    around: &Surroundings<'_, '_, '_, B>,
     first: &Tuple,
     others: &[&Tuple],
     plan: &Plan,
 ) -> Result<Value, Fault>
-    ensures { Answers (λ v. v) result (plan_value (world_in env.now) (map (frame_of [])
+    requires { AreSurroundings around.now }
+    ensures { Answers (λ v. v) result (plan_value (world_around around.now) (map (frame_of [])
         (first.now ∷ reverse (map (λ t. t.now) others.now))) (plan_view plan.now)) }
 {
-    let fixed = Rc::new(alloc, Vec::new(alloc))?;
-    let outer = held_tuples(alloc, others, &fixed)?;
+    let fixed = Rc::new(around.alloc, Vec::new(around.alloc))?;
+    let outer = held_tuples(around.alloc, others, &fixed)?;
     let hand = Hand {
         tuple: first,
         fixed: &fixed,
         outer: &outer,
     };
-    let around = Surroundings {
-        alloc,
-        env,
-        valued: &[],
-    };
-    run(&around, &hand, &plan.value)
+    run(around, &hand, &plan.value)
+}
+
+/// The value of the expression that the plan is of, with the virtual relvars that have been valued.
+pub(crate) fn run_plan_in<B: Body>(
+    around: &Surroundings<'_, '_, '_, B>,
+    plan: &Plan,
+) -> Result<Value, Fault>
+    requires { AreSurroundings around.now }
+    ensures { (scope : Scope) (e : Tree) → IsPlanOf scope (plan_view plan.now) e
+        → GivesValues (world_around around.now) (outermost scope)
+        → AreInHand scope (tuples_in_hand around.now.env.now)
+        → Answers (λ v. v) result
+        (value_of (world_around around.now) (tuples_in_hand around.now.env.now) e) }
+{
+    match around.env.tuples.split_last() {
+        Some((tuple, others)) => run_with(around, tuple, others, plan),
+        None => {
+            let none = Tuple::new(around.alloc, Vec::new(around.alloc))?;
+            run_with(around, &none, &[], plan)
+        }
+    }
 }
 
 /// The value of the expression that the plan is of.
 pub fn run_plan<B: Body>(alloc: Global, env: &Env<'_, B>, plan: &Plan) -> Result<Value, Fault>
     ensures { (scope : Scope) (e : Tree) → IsPlanOf scope (plan_view plan.now) e
-        → KeepsScope (world_in env.now) (outermost scope) → AreInHand scope (tuples_in_hand env.now)
+        → GivesValues (world_in env.now) (outermost scope) → AreInHand scope (tuples_in_hand env.now)
         → Answers (λ v. v) result (value_of (world_in env.now) (tuples_in_hand env.now) e) }
 {
-    match env.tuples.split_last() {
-        Some((tuple, others)) => run_with(alloc, env, tuple, others, plan),
-        None => {
-            let none = Tuple::new(alloc, Vec::new(alloc))?;
-            run_with(alloc, env, &none, &[], plan)
-        }
-    }
+    let around = Surroundings {
+        alloc,
+        env,
+        valued: &[],
+    };
+    run_plan_in(&around, plan)
+}
+
+/// The truth values of the condition that the plan is of, one for each tuple of the relation, in
+/// their order, with the virtual relvars that have been valued.
+pub(crate) fn run_truths_in<B: Body>(
+    around: &Surroundings<'_, '_, '_, B>,
+    rel: &Rel,
+    plan: &Plan,
+) -> Result<Vec<bool>, Fault>
+    requires { AreSurroundings around.now }
+    ensures { (scope : Scope) (e : Tree)
+        → IsPlanOf (entered_with rel.now.heading scope) (plan_view plan.now) e
+        → GivesValues (world_around around.now) (outermost scope)
+        → AreInHand scope (tuples_in_hand around.now.env.now)
+        → AllByRecursion (IsTypedTuple scope.types) rel.now.body
+        → Answers (λ m. m.items) result (gathered (map (λ t. truth_value
+        (value_of (world_around around.now) (t ∷ tuples_in_hand around.now.env.now) e))
+        rel.now.body)) }
+{
+    let fixed = Rc::new(around.alloc, Vec::new(around.alloc))?;
+    let outer = held_tuples(around.alloc, around.env.tuples, &fixed)?;
+    let inside = Entered { outer, fixed };
+    truths(around, &inside, rel.rows(), &plan.value)
 }
 
 /// The truth values of the condition that the plan is of, one for each tuple of the relation, in
@@ -98,18 +137,15 @@ pub fn run_truths<B: Body>(
 ) -> Result<Vec<bool>, Fault>
     ensures { (scope : Scope) (e : Tree)
         → IsPlanOf (entered_with rel.now.heading scope) (plan_view plan.now) e
-        → KeepsScope (world_in env.now) (outermost scope) → AreInHand scope (tuples_in_hand env.now)
+        → GivesValues (world_in env.now) (outermost scope) → AreInHand scope (tuples_in_hand env.now)
         → AllByRecursion (IsTypedTuple scope.types) rel.now.body
         → Answers (λ m. m.items) result (gathered (map (λ t. truth_value
         (value_of (world_in env.now) (t ∷ tuples_in_hand env.now) e)) rel.now.body)) }
 {
-    let fixed = Rc::new(alloc, Vec::new(alloc))?;
-    let outer = held_tuples(alloc, env.tuples, &fixed)?;
-    let inside = Entered { outer, fixed };
     let around = Surroundings {
         alloc,
         env,
         valued: &[],
     };
-    truths(&around, &inside, rel.rows(), &plan.value)
+    run_truths_in(&around, rel, plan)
 }

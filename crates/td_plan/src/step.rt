@@ -21,6 +21,8 @@ pub enum Step {
     /// What was valued once for a tuple in hand and its like.
     Fixed { depth: usize, place: usize },
     Relvar(Name),
+    /// The tuples of a base relvar that agree on a key of these names with a tuple.
+    LookUp(Name, Vec<Name>, Box<Step>),
     Prefix(Prefix, Box<Step>),
     Extract(Name, Box<Step>),
     Restriction(Box<Step>, Vec<Step>, Box<Step>),

@@ -2,6 +2,7 @@
 ghost use Rattle.std.specs.Prelude.{◌≡◌, [], IfOk};
 
 use std::alloc::{AllocError, Global};
+use td_body::body::Body;
 use td_body::sorted::SortedBody;
 use td_catalog::catalog::Catalog;
 use td_engine::answer::Answer;
@@ -10,7 +11,7 @@ use td_scan::cutter::Cutter;
 use td_tree::cause::Cause;
 
 /// What the engine answers to the first statement of what was fed.
-fn step_by(engine: &mut Engine<SortedBody>, cutter: &Cutter) -> Result<Answer, AllocError> {
+fn step_by<B: Body>(engine: &mut Engine<B>, cutter: &Cutter) -> Result<Answer, AllocError> {
     match cutter.next_statement()? {
         Some(tokens) => engine.step(&tokens),
         None => engine.step(&[]),
@@ -18,7 +19,7 @@ fn step_by(engine: &mut Engine<SortedBody>, cutter: &Cutter) -> Result<Answer, A
 }
 
 /// What the engine answers to the statement of that text.
-fn step(alloc: Global, engine: &mut Engine<SortedBody>, text: &str) -> Result<Answer, AllocError> {
+fn step<B: Body>(alloc: Global, engine: &mut Engine<B>, text: &str) -> Result<Answer, AllocError> {
     let mut cutter = Cutter::new(alloc);
     cutter.feed(text.as_bytes())?;
     cutter.finish();
@@ -26,9 +27,9 @@ fn step(alloc: Global, engine: &mut Engine<SortedBody>, text: &str) -> Result<An
 }
 
 /// Has the engine do the statements.
-fn steps(
+pub fn steps<B: Body>(
     alloc: Global,
-    engine: &mut Engine<SortedBody>,
+    engine: &mut Engine<B>,
     statements: &[&str],
 ) -> Result<(), AllocError> {
     for statement in statements {

@@ -23,6 +23,9 @@ pub(crate) fn lowered(alloc: Global, step: Step, depth: usize) -> Result<Step, A
             place,
         }),
         Step::Relvar(name) => Ok(Step::Relvar(name)),
+        Step::LookUp(name, key, part) => {
+            Ok(Step::LookUp(name, key, operand_lowered(alloc, part, depth)?))
+        }
         Step::Prefix(op, operand) => Ok(Step::Prefix(op, operand_lowered(alloc, operand, depth)?)),
         Step::Extract(attribute, operand) => {
             Ok(Step::Extract(attribute, operand_lowered(alloc, operand, depth)?))

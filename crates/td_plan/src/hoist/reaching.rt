@@ -16,6 +16,7 @@ pub(crate) fn reaches(step: &Step, depth: usize) -> bool
         Step::Attribute { depth: d, place: _ } => *d == depth,
         Step::Fixed { depth: d, place: _ } => *d == depth,
         Step::Relvar(_) => false,
+        Step::LookUp(_, _, part) => operand_reaches(part, depth),
         Step::Prefix(_, operand) => operand_reaches(operand, depth),
         Step::Extract(_, operand) => operand_reaches(operand, depth),
         Step::Restriction(operand, parts, condition) => one_of_three(

@@ -3,11 +3,11 @@ use Rattle.std.proofs.lemmas.Iterator.Adapters.{YieldsList-from_vec}
 use Rattle.std.proofs.lemmas.Iterator.Consumers.{YieldsList-end}
 use Rattle.std.proofs.lemmas.List.{append_assoc, map-id}
 use Rattle.std.specs.Rc.{rc_str_bytes}
-use Rattle.td_plan.proofs.PulledParts.{pulls_after, pulls_aggregate, pulls_all_after, pulls_before, pulls_before_one, pulls_binary, pulls_choice, pulls_compare, pulls_component, pulls_extend, pulls_extract, pulls_headed_relation, pulls_measure, pulls_more, pulls_of, pulls_postfix, pulls_prefix, pulls_relation, pulls_restriction, pulls_select, pulls_summarize_by, pulls_summarize_per, pulls_tuple}
+use Rattle.td_plan.proofs.PulledParts.{pulls_after, pulls_aggregate, pulls_all_after, pulls_before, pulls_before_one, pulls_binary, pulls_choice, pulls_compare, pulls_component, pulls_extend, pulls_extract, pulls_headed_relation, pulls_look_up, pulls_measure, pulls_more, pulls_of, pulls_postfix, pulls_prefix, pulls_relation, pulls_restriction, pulls_select, pulls_summarize_by, pulls_summarize_per, pulls_tuple}
 use Rattle.td_plan.proofs.StepRows.{aggregate_is, extend_is, headed_relation_is, relation_is, restriction_is, select_is, summarize_by_is, summarize_per_is, tuple_is}
 use Rattle.td_plan.proofs.StepWeights.{weight, weight_within, weights}
 use Rattle.td_plan.specs.Hoisting.{PullsAll}
-use Rattle.td_plan.specs.Plans.{binary, choice, compare, component, extract, measure, postfix, prefix}
+use Rattle.td_plan.specs.Plans.{binary, choice, compare, component, extract, look_up, measure, postfix, prefix}
 use Rattle.td_plan.specs.StepViews.{step_view, steps_view}
 use Rattle.td_tree.specs.TreeViews.{attributes_view, postfix_view}
 use Rattle.td_types.specs.Views.{pairs_view}
@@ -15,10 +15,18 @@ use Rattle.td_plan.proofs.hoist.+pulled.Goals as goal
 
 -- ---- arms of one operand
 
+pub with_parts_pulled-returns-in_ok-operand_pulled-in-LookUp : goal.with_parts_pulled-returns-in_ok-operand_pulled-in-LookUp
+with_parts_pulled-returns-in_ok-operand_pulled-in-LookUp t c =
+    let a = steps_view c.args.pool.now.items in
+    let z = steps_view c.operand_pulled.new.pool.items in
+    let key = c.in-LookUp.key.items in
+    pulls_of a z _ _ _ (look_up c.in-LookUp.name key (step_view c.in_ok-operand_pulled-in-LookUp.field-0.value)) (ap step_view c.in-LookUp.is) refl
+    (pulls_look_up a z c.in-LookUp.name key (step_view c.in-LookUp.part.value) (step_view c.in_ok-operand_pulled-in-LookUp.field-0.value) c.in_ok-operand_pulled-in-LookUp.ensures)
+
 pub with_parts_pulled-returns-in_ok-operand_pulled-in-Prefix : goal.with_parts_pulled-returns-in_ok-operand_pulled-in-Prefix
 with_parts_pulled-returns-in_ok-operand_pulled-in-Prefix t c =
     let a = steps_view c.args.pool.now.items in
-    let z = steps_view c.operand_pulled.new.pool.items in
+    let z = steps_view c.operand_pulled-in-Prefix.new.pool.items in
     pulls_of a z _ _ _ (prefix c.in-Prefix.op (step_view c.in_ok-operand_pulled-in-Prefix.field-0.value)) (ap step_view c.in-Prefix.is) refl
     (pulls_prefix a z c.in-Prefix.op (step_view c.in-Prefix.operand.value) (step_view c.in_ok-operand_pulled-in-Prefix.field-0.value) c.in_ok-operand_pulled-in-Prefix.ensures)
 

@@ -12,6 +12,6 @@ returns g c is =
     let scope = scope_in c.args.env.now in
     let e = tree_view c.args.condition.now in
     let typed = subst (λ h. type_of (entered_with h scope) e ≡ Valued is.typed.0) (sym c.heading.ensures) is.typed.1 in
-    c.run_truths.ensures scope e
+    c.run_truths_in.ensures scope e
     (subst (λ h. IsPlanOf (entered_with h scope) (plan_view c.in_ok-plan.plan) e) c.heading.ensures (c.in_ok-plan.ensures is.written is.typed.0 typed))
-    is.keeps is.tuples is.relation.1
+    is.gives is.tuples is.relation.1

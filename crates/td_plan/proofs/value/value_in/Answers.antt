@@ -4,4 +4,4 @@ use Rattle.td_plan.proofs.value.value_in.Goals as goal
 
 pub returns : goal.returns
 returns g c is =
-    c.run_plan.ensures (scope_in c.args.env.now) (tree_view c.args.expr.now) (c.in_ok-plan.ensures is.written is.typed.0 is.typed.1) is.keeps is.tuples
+    c.run_plan_in.ensures (scope_in c.args.env.now) (tree_view c.args.expr.now) (c.in_ok-plan.ensures is.written is.typed.0 is.typed.1) is.gives is.tuples

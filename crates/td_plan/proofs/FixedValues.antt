@@ -1,0 +1,181 @@
+-- An equality that is TRUE fixes the attribute that one of its operands names to the other one's value.
+use Rattle.std.proofs.Common.{◌≡◌, ◌∙◌, ◌||◌, ℕ, Bool, true, false, List, [], ◌∷◌, ◌++◌, Option, Some, None, ap, not, refl, subst, sym, true≢false}
+use Rattle.std.specs.Cmp.Lexicographic.{same_text}
+use Rattle.std.specs.List.{list_any}
+use Rattle.std.specs.Prelude.{IfSome, is_some, option_map}
+use Rattle.td_algebra.proofs.Entries.{type_at-heading_of}
+use Rattle.td_check.proofs.NameSets.{names_are_a_set}
+use Rattle.td_check.specs.CannotFail.{cannot_fail}
+use Rattle.td_check.specs.Mentions.{name_set}
+use Rattle.td_check.specs.Scopes.{Scope}
+use Rattle.td_check.specs.StaticTypes.{type_of}
+use Rattle.td_check.specs.WrittenNames.{names_in}
+use Rattle.td_eval.proofs.UnfailingTrees.{unfailing_expressions_have_values}
+use Rattle.td_eval.specs.OperatorValues.{comparison_value, of_truth}
+use Rattle.td_eval.specs.TreeValues.{value_of}
+use Rattle.td_eval.specs.ValueTypes.{IsWritten, with_tuples}
+use Rattle.td_eval.specs.Worlds.{World, innermost_value, known_outcome}
+use Rattle.td_plan.proofs.EqualNames.{values_depend_on_names}
+use Rattle.td_plan.proofs.EqualValues.{and_of_both, equality_of_one}
+use Rattle.td_plan.specs.declared.fixed.FixedValue.{FixedValue}
+use Rattle.td_plan.specs.Fixing.{AreOneWhere, IsNamedApart, MayFix, in_list}
+use Rattle.td_plan.specs.Narrowing.{AreFixed, IsFixedTo}
+use Rattle.td_plan.specs.Plans.{PlanTree}
+use Rattle.td_plan.specs.PlansOf.{IsPlanOfTyped, outermost}
+use Rattle.td_plan.specs.StepViews.{step_view}
+use Rattle.td_tree.specs.declared.operator.Comparison.TheVariants as comparisons
+use Rattle.td_tree.specs.declared.operator.Operator.TheVariants as operators
+use Rattle.td_tree.specs.Outcomes.{Outcome, Valued, Refused, with_both}
+use Rattle.td_tree.specs.Trees as trees
+use Rattle.td_tree.specs.Trees.{Tree}
+use Rattle.td_types.proofs.NameTests.{name_tests_tell}
+use Rattle.td_types.proofs.OutcomeLaws.{valued_is}
+use Rattle.td_types.specs.Headings.{has_attribute, has_name}
+use Rattle.td_types.specs.Types.{Heading, Type', same_name, type_at}
+use Rattle.td_value.specs.Values.{Tuple, Val, heading_of, value_at}
+use Rattle.td_value.specs.Values as values
+
+-- ---- tests
+
+-- where no name passes, one that is there does not
+none_passes : (test : List ℕ → Bool) (ns : List (List ℕ)) → list_any test ns ≡ false → (n : List ℕ) → has_name n ns ≡ true → test n ≡ false
+none_passes test [] none n there = absurd (true≢false (sym there))
+none_passes test (m ∷ ns) none n there = by_test (none_passes test ns) (test m) refl none (same_name m n) refl there
+  where
+    by_test : (list_any test ns ≡ false → (k : List ℕ) → has_name k ns ≡ true → test k ≡ false)
+        → (b : Bool) → test m ≡ b → (b || list_any test ns) ≡ false → (c : Bool) → same_name m n ≡ c → (c || has_name n ns) ≡ true → test n ≡ false
+    by_test rest true is e c same d = absurd (true≢false e)
+    by_test rest false is e true same d = ap test (sym (same_text m n (sym same))) ∙ is
+    by_test rest false is e false same d = rest e n d
+
+-- of a set of the names of an expression
+pub named_apart : (h : Heading) (x : Tree) (ns : List (List ℕ)) → ns ≡ name_set (names_in x) → not (list_any (λ n. has_attribute n h) ns) ≡ true → IsNamedApart h x
+named_apart h x ns set none n c =
+    none_passes (λ n. has_attribute n h) (name_set (names_in x)) (subst (λ ms. list_any (λ n. has_attribute n h) ms ≡ false) set (fails (list_any (λ n. has_attribute n h) ns) none)) n
+    (names_are_a_set (names_in x) n ∙ (name_tests_tell.0 n (names_in x)).1 c)
+  where
+    fails : (b : Bool) → not b ≡ true → b ≡ false
+    fails false e = refl
+    fails true e = absurd (true≢false (sym e))
+
+-- ---- conditions that are TRUE
+
+both_one : (a b : Outcome Val) → with_both a b (comparison_value comparisons.Equal) ≡ of_truth true → a ≡ b
+both_one (Valued v) (Valued u) e = ap Valued (equality_of_one v u e)
+both_one (Valued v) (Refused ds) e = absurd (cc)
+both_one (Refused cs) (Valued u) e = absurd (cc)
+both_one (Refused cs) (Refused ds) e = absurd (cc)
+
+pub equality_fixes : (a b : Tree) → AreOneWhere (trees.compare a comparisons.Equal b) a b
+equality_fixes a b w s e = both_one (value_of w s a) (value_of w s b) e
+
+pub equality_fixes_back : (a b : Tree) → AreOneWhere (trees.compare a comparisons.Equal b) b a
+equality_fixes_back a b w s e = sym (both_one (value_of w s a) (value_of w s b) e)
+
+-- what a condition fixes, one that is TRUE only where that is TRUE fixes
+abbrev Implies : Tree → Tree → Type 0
+Implies e c = (w : World) (s : List Tuple) → value_of w s e ≡ of_truth true → value_of w s c ≡ of_truth true
+
+fixed_as_well : (scope : Scope) (h : Heading) (e c : Tree) → Implies e c → (fixed : List FixedValue) → AreFixed scope h c fixed → AreFixed scope h e fixed
+fixed_as_well scope h e c implies [] all = tt
+fixed_as_well scope h e c implies (f ∷ fixed) all = (one, fixed_as_well scope h e c implies fixed all.1)
+  where
+    one : IsFixedTo scope h e f.name (step_view f.value)
+    one w s fs k hand frames =
+        let is = all.0 w s fs k hand frames in
+        (is.0, is.1, record { typed = is.2.typed; same = λ u typed headed true_there. is.2.same u typed headed (implies w (u ∷ s) true_there) })
+
+pub parentheses_fix : (scope : Scope) (h : Heading) (c : Tree) (xs : List FixedValue) → AreFixed scope h c xs → AreFixed scope h (trees.parentheses c) xs
+parentheses_fix scope h c xs all = fixed_as_well scope h (trees.parentheses c) c (λ w s d. d) xs all
+
+joined_fixed : (scope : Scope) (h : Heading) (e : Tree) (xs ys : List FixedValue) → AreFixed scope h e xs → AreFixed scope h e ys → AreFixed scope h e (xs ++ ys)
+joined_fixed scope h e [] ys all more = more
+joined_fixed scope h e (x ∷ xs) ys all more = (all.0, joined_fixed scope h e xs ys all.1 more)
+
+-- both conjuncts
+pub and_fixes : (scope : Scope) (h : Heading) (a b : Tree) (xs ys zs : List FixedValue) → zs ≡ xs ++ ys → AreFixed scope h a xs → AreFixed scope h b ys
+    → AreFixed scope h (trees.binary a operators.And b) zs
+and_fixes scope h a b xs ys zs is first second =
+    let e = trees.binary a operators.And b in
+    subst (AreFixed scope h e) (sym is)
+    (joined_fixed scope h e xs ys
+    (fixed_as_well scope h e a (λ w s d. (and_of_both (value_of w s a) (value_of w s b) d).0) xs first)
+    (fixed_as_well scope h e b (λ w s d. (and_of_both (value_of w s a) (value_of w s b) d).1) ys second))
+
+-- either operand, where it is there
+abbrev pub OneIsFixed : Scope → Heading → Tree → Option FixedValue → Type 0
+OneIsFixed scope h e found = AreFixed scope h e (in_list found)
+
+pub both_fixed : (scope : Scope) (h : Heading) (e : Tree) (x y : Option FixedValue) (zs : List FixedValue) → zs ≡ in_list x ++ in_list y
+    → OneIsFixed scope h e x → OneIsFixed scope h e y → AreFixed scope h e zs
+both_fixed scope h e x y zs is first second =
+    subst (AreFixed scope h e) (sym is) (joined_fixed scope h e (in_list x) (in_list y) first second)
+
+-- what is found fixes an attribute wherever the operand has the value of the expression
+abbrev pub FixesWhere : Scope → Heading → Tree → Tree → FixedValue → Type 0
+FixesWhere scope h a x f = IsWritten x → (e : Tree) → AreOneWhere e a x → IsFixedTo scope h e f.name (step_view f.value)
+
+pub one_is_fixed : (scope : Scope) (h : Heading) (e a x : Tree) (found : Option FixedValue) → IfSome found (FixesWhere scope h a x) → IsWritten x
+    → AreOneWhere e a x → OneIsFixed scope h e found
+one_is_fixed scope h e a x None is written same = tt
+one_is_fixed scope h e a x (Some f) is written same = (is written e same, tt)
+
+-- ---- one attribute
+
+abbrev first_or : List ℕ → List Tuple → Option Val → Option Val
+first_or n s o = elim o as (λ _. Option Val) [ Some v ↦ Some v | None ↦ innermost_value n s ]
+
+abbrev name_or : World → List ℕ → Option Val → Outcome Val
+name_or w n o = elim o as (λ _. Outcome Val) [ Some v ↦ Valued v | None ↦ known_outcome (w.relvar n) ]
+
+module _ (h : Heading) (u : Tuple) (headed : heading_of u ≡ h) where
+  type_there : (n : List ℕ) → option_map values.type_of (value_at n u) ≡ type_at n h
+  type_there n = sym (type_at-heading_of n u) ∙ ap (type_at n) headed
+
+  -- an attribute of the heading has a value in the tuple
+  value_there : (n : List ℕ) (t : Type') → type_at n h ≡ Some t → (v : Val) × (value_at n u ≡ Some v)
+  value_there n t is = by_value (value_at n u) refl
+    where
+      by_value : (o : Option Val) → value_at n u ≡ o → (v : Val) × (value_at n u ≡ Some v)
+      by_value (Some v) e = (v, e)
+      by_value None e = absurd (let d : None ≡ Some t = sym (ap (option_map values.type_of) e) ∙ type_there n ∙ is in cc)
+
+  -- another name has none
+  no_value_there : (n : List ℕ) → has_attribute n h ≡ false → value_at n u ≡ None
+  no_value_there n is = by_value (value_at n u) refl
+    where
+      by_value : (o : Option Val) → value_at n u ≡ o → value_at n u ≡ None
+      by_value None e = e
+      by_value (Some v) e = absurd (true≢false (ap (λ o. is_some (option_map values.type_of o)) (sym e) ∙ ap is_some (type_there n) ∙ is))
+
+  -- an expression that names no attribute of the heading has the same value beside the tuple
+  value_apart : (w : World) (s : List Tuple) (x : Tree) → IsNamedApart h x → value_of w (u ∷ s) x ≡ value_of w s x
+  value_apart w s x apart =
+      values_depend_on_names w (u ∷ s) s x (λ n c. ap (first_or n s) (no_value_there n (apart n c)))
+
+  -- the attribute has the value that its name has
+  name_there : (w : World) (s : List Tuple) (n : List ℕ) (t : Type') (v : Val) → type_at n h ≡ Some t
+      → value_of w (u ∷ s) (trees.name n) ≡ Valued v → value_at n u ≡ Some v
+  name_there w s n t v is e =
+      let there = value_there n t is in
+      let same : Valued there.0 ≡ Valued v = sym (ap (λ o. name_or w n (first_or n s o)) there.1) ∙ e in
+      there.1 ∙ ap Some (valued_is there.0 v same)
+
+module _ (scope : Scope) (h : Heading) (n : List ℕ) (x : Tree) (may : MayFix scope h n x) (written : IsWritten x) where
+  pub one_fixed : (p : PlanTree) → IsPlanOfTyped scope p x → (e a : Tree) → a ≡ trees.name n → AreOneWhere e a x → IsFixedTo scope h e n p
+  one_fixed p plan e a is same w s fs k hand frames =
+      let here : with_tuples (outermost scope) s ≡ scope =
+      λ i. record { types = scope.types; relvars = scope.relvars; constraints = scope.constraints; entered = hand.1 i } in
+      let t = may.typed.0 in
+      let found = unfailing_expressions_have_values w (outermost scope) s x t k hand.0 written may.numbers
+      (ap (λ z. type_of z x) here ∙ may.typed.2) (ap (λ z. cannot_fail z x) here ∙ may.unfailing) in
+      let v = found.0 in (
+        v,
+        plan written t may.typed.2 w s fs k hand frames ∙ found.1,
+        record {
+          typed = (t, may.typed.1, found.2);
+          same = λ u typed headed there.
+              name_there h u headed w s n t v may.typed.1
+              (ap (value_of w (u ∷ s)) (sym is) ∙ same w (u ∷ s) there ∙ value_apart h u headed w s x may.apart ∙ found.1);
+        },
+      )

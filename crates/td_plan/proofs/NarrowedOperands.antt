@@ -1,0 +1,27 @@
+-- A plan of the operand of WHERE narrows it.
+use Rattle.std.proofs.Common.{◌≡◌, ◌∷◌, ap, subst, sym}
+use Rattle.td_check.specs.Scopes.{Scope}
+use Rattle.td_check.specs.StaticTypes.{type_of}
+use Rattle.td_eval.specs.TreeValues.{value_of}
+use Rattle.td_eval.specs.ValueTypes.{KeepsType}
+use Rattle.td_plan.proofs.PlannedTuples.{kept}
+use Rattle.td_plan.specs.EqualitiesOfValues.{where_value}
+use Rattle.td_plan.specs.Narrowing.{Narrows}
+use Rattle.td_plan.specs.Plans.{PlanTree}
+use Rattle.td_plan.specs.PlansOf.{IsPlanOfTyped}
+use Rattle.td_tree.specs.Outcomes.{Valued}
+use Rattle.td_tree.specs.Trees.{Tree}
+use Rattle.td_types.specs.Types.{Heading, pack}
+use Rattle.td_types.specs.Types as types
+
+pub plan_narrows : (scope : Scope) (p : PlanTree) (d e : Tree) (h : Heading) → IsPlanOfTyped scope p d
+    → type_of scope d ≡ Valued (types.relation (pack h)) → Narrows scope p d e h
+plan_narrows scope p d e h i static = λ written t is w s fs k hand f.
+    let relation = types.relation (pack h) in
+    let is_value = i (written.0.0, written.1.0) relation static w s fs k hand f in
+    record {
+      kept =
+          subst (KeepsType scope.types (Valued relation)) (sym is_value)
+          (kept scope w s fs k hand f d relation (written.0.0, written.1.0) static);
+      same = ap (where_value (λ t. value_of w (t ∷ s) e)) is_value;
+    }

@@ -1,0 +1,53 @@
+-- What stands for the operand of WHERE and gives fewer tuples: all for which the condition is TRUE are among them.
+use Rattle.std.specs.Prelude.{◌≡◌, ℕ, true, List, ◌∷◌, Some}
+use Rattle.std.specs.List.{AllByRecursion}
+use Rattle.td_check.specs.Scopes.{Scope}
+use Rattle.td_check.specs.StaticTypes.{type_of}
+use Rattle.td_eval.specs.OperatorValues.{of_truth}
+use Rattle.td_eval.specs.TreeValues.{value_of}
+use Rattle.td_eval.specs.UnfailingValues.{GivesValues}
+use Rattle.td_eval.specs.ValueTypes.{IsOfType, IsTypedTuple, IsWritten, KeepsType}
+use Rattle.td_eval.specs.Worlds.{World}
+use Rattle.td_plan.specs.declared.fixed.FixedValue.{FixedValue}
+use Rattle.td_plan.specs.EqualitiesOfValues.{where_value}
+use Rattle.td_plan.specs.Plans.{Frame, PlanTree, plan_value}
+use Rattle.td_plan.specs.PlansOf.{AreFramesOf, AreInHand, outermost}
+use Rattle.td_plan.specs.StepViews.{step_view}
+use Rattle.td_tree.specs.Outcomes.{Outcome, Valued}
+use Rattle.td_tree.specs.Trees.{Tree, restriction}
+use Rattle.td_types.specs.Types.{Type', Heading, pack, type_at}
+use Rattle.td_types.specs.Types as types
+use Rattle.td_value.specs.Values.{Val, Tuple, heading_of, value_at}
+
+-- ---- attributes that a condition fixes
+
+-- where the condition is TRUE for a tuple of the heading, its attribute of the name has that value, which is of the attribute's
+-- type
+pub record IsFixedAt (w : World) (scope : Scope) (s : List Tuple) (h : Heading) (e : Tree) (n : List ℕ) (v : Val) : Type 0 where
+  pub typed : (t : Type') × (type_at n h ≡ Some t) × IsOfType scope.types v t
+  pub same :
+      (u : Tuple) → IsTypedTuple scope.types u → heading_of u ≡ h → value_of w (u ∷ s) e ≡ of_truth true → value_at n u ≡ Some v
+
+-- the plan has a value, and the condition fixes the attribute of the name to it
+abbrev pub IsFixedTo : Scope → Heading → Tree → List ℕ → PlanTree → Type 0
+IsFixedTo scope h e n p =
+    (w : World) (s : List Tuple) (fs : List Frame) → GivesValues w (outermost scope) → AreInHand scope s → AreFramesOf s fs
+    → (v : Val) × (plan_value w fs p ≡ Valued v) × IsFixedAt w scope s h e n v
+
+-- each of these is such a one
+abbrev pub AreFixed : Scope → Heading → Tree → List FixedValue → Type 0
+AreFixed scope h e fixed = AllByRecursion (λ (f : FixedValue). IsFixedTo scope h e f.name (step_view f.value)) fixed
+
+-- ---- operands
+
+-- the plan gives a relation of the heading, or causes, and WHERE by the condition gives the same of it as of the operand
+pub record NarrowsIn (w : World) (scope : Scope) (s : List Tuple) (o : Outcome Val) (d e : Tree) (h : Heading) : Type 0 where
+  pub kept : KeepsType scope.types (Valued (types.relation (pack h))) o
+  pub same : where_value (λ t. value_of w (t ∷ s) e) o ≡ where_value (λ t. value_of w (t ∷ s) e) (value_of w s d)
+
+-- so it does in every world that gives values in the scope, where these have types and are written as tokens spell them
+abbrev pub Narrows : Scope → PlanTree → Tree → Tree → Heading → Type 0
+Narrows scope p d e h =
+    IsWritten (restriction d e) → (t : Type') → type_of scope (restriction d e) ≡ Valued t
+    → (w : World) (s : List Tuple) (fs : List Frame) → GivesValues w (outermost scope) → AreInHand scope s → AreFramesOf s fs
+    → NarrowsIn w scope s (plan_value w fs p) d e h

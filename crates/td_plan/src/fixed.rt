@@ -1,0 +1,232 @@
+//! Attributes that a condition fixes to values.
+ghost use Rattle.std.specs.List.{list_any};
+ghost use Rattle.std.specs.Prelude.{◌++◌, ◌≡◌, IfOk, IfSome, IsTrue};
+ghost use Rattle.td_check.specs.CannotFail as unfailing;
+ghost use Rattle.td_eval.specs.ValueTypes.{IsWritten};
+ghost use Rattle.td_plan.specs.Fixing.{AreOneWhere, HasTypeOf, IsNamedApart, MayFix, in_list};
+ghost use Rattle.td_plan.specs.Narrowing.{AreFixed, IsFixedTo};
+ghost use Rattle.td_plan.specs.Planners.{IsPlanner};
+ghost use Rattle.td_plan.specs.StepViews.{step_view};
+ghost use Rattle.td_tree.specs.declared.operator.Comparison.TheVariants as comparisons;
+ghost use Rattle.td_tree.specs.declared.operator.Operator.TheVariants as operators;
+ghost use Rattle.td_tree.specs.TreeViews.{tree_view};
+ghost use Rattle.td_tree.specs.Trees as trees;
+ghost use Rattle.td_tree.specs.Trees.{Tree};
+ghost use Rattle.td_types.specs.Headings.{has_attribute};
+
+use crate::loops::goes_over_tuples;
+use crate::numbers::has_numbers;
+use crate::planner::Planner;
+use crate::planning::step_of;
+use crate::step::Step;
+use std::alloc::{AllocError, Global};
+use td_body::body::Body;
+use td_check::cannot_fail::cannot_fail;
+use td_check::expression::check_expr;
+use td_check::names::names_in;
+use td_tree::expression::Expr;
+use td_tree::fault::Fault;
+use td_tree::name::Name;
+use td_tree::operator::{Comparison, Operator};
+use td_types::heading::Heading;
+
+/// An attribute, and the step of the value that it has in each tuple for which a condition is TRUE.
+#[derive(Drop)]
+pub(crate) struct FixedValue {
+    pub(crate) name: Name,
+    pub(crate) value: Step,
+}
+
+/// Whether the heading has an attribute of the name.
+fn is_attribute(heading: &Heading, name: &Name) -> bool
+    ensures { result ≡ has_attribute name.now heading.now }
+{
+    heading.get(name).is_some()
+}
+
+/// Whether it has one of one of these names.
+fn one_is_attribute(heading: &Heading, names: &[Name]) -> bool
+    ensures { result ≡ list_any (λ n. has_attribute n heading.now) names.now }
+{
+    names.iter().any(|name| is_attribute(heading, name))
+}
+
+/// Whether no attribute of the heading is named in an expression.
+fn is_named_apart(alloc: Global, heading: &Heading, value: &Expr) -> Result<bool, AllocError>
+    ensures { IfOk result (λ b. IsTrue b → IsNamedApart heading.now (tree_view value.now)) }
+{
+    let names = names_in(alloc, value)?;
+    Ok(!one_is_attribute(heading, &names))
+}
+
+/// Whether an expression has, outside of the tuples of the heading, the type of an attribute there.
+fn has_type_of<B: Body>(
+    planner: &Planner<'_, B>,
+    heading: &Heading,
+    name: &Name,
+    value: &Expr,
+) -> Result<bool, AllocError>
+    ensures { IfOk result (λ b. IsTrue b
+        → HasTypeOf planner.now.scope heading.now name.now (tree_view value.now)) }
+{
+    let Some(ty) = heading.get(name) else {
+        return Ok(false);
+    };
+    match check_expr(&planner.scope, value) {
+        Ok(other) => Ok(other == *ty),
+        Err(Fault::Refused(_)) => Ok(false),
+        Err(Fault::Memory) => Err(AllocError),
+    }
+}
+
+/// Whether an expression has a value there, whatever relations the base relvars hold.
+fn has_a_value<B: Body>(planner: &Planner<'_, B>, value: &Expr) -> Result<bool, AllocError>
+    ensures { IfOk result
+        (λ b. IsTrue b → IsTrue (unfailing.cannot_fail planner.now.scope (tree_view value.now))) }
+{
+    match cannot_fail(&planner.scope, value) {
+        Ok(answer) => Ok(answer),
+        Err(Fault::Refused(_)) => Ok(false),
+        Err(Fault::Memory) => Err(AllocError),
+    }
+}
+
+/// Whether an equality with the expression fixes the attribute of the name. What goes over tuples
+/// stays where it is, so that it is not planned once more for each WHERE around it.
+fn may_fix<B: Body>(
+    planner: &Planner<'_, B>,
+    heading: &Heading,
+    name: &Name,
+    value: &Expr,
+) -> Result<bool, AllocError>
+    ensures { IfOk result (λ b. IsTrue b
+        → MayFix planner.now.scope heading.now name.now (tree_view value.now)) }
+{
+    if goes_over_tuples(value) || !has_numbers(value) {
+        return Ok(false);
+    }
+    if !is_named_apart(planner.alloc, heading, value)? {
+        return Ok(false);
+    }
+    Ok(has_type_of(planner, heading, name, value)? && has_a_value(planner, value)?)
+}
+
+/// The name that an operand of an equality is, where the other operand fixes the attribute of it.
+fn fixed_name<B: Body>(
+    planner: &Planner<'_, B>,
+    heading: &Heading,
+    operand: &Expr,
+    value: &Expr,
+) -> Result<Option<Name>, AllocError>
+    ensures { IfOk result (λ found. IfSome found (λ n. (tree_view operand.now ≡ trees.name n)
+        × MayFix planner.now.scope heading.now n (tree_view value.now))) }
+{
+    let Expr::Name(name) = operand else {
+        return Ok(None);
+    };
+    if may_fix(planner, heading, name, value)? {
+        Ok(Some(name.try_clone()?))
+    } else {
+        Ok(None)
+    }
+}
+
+/// The attribute that an operand of an equality names, with the step of the other operand, where
+/// that fixes it.
+#[cycle(plan)]
+fn fixed_value<B: Body>(
+    planner: &Planner<'_, B>,
+    value: &Expr,
+    operand: &Expr,
+    heading: &Heading,
+) -> Result<Option<FixedValue>, AllocError>
+    requires { IsPlanner planner.now }
+    ensures { IfOk result (λ found. IfSome found (λ f. IsWritten (tree_view value.now)
+        → (e : Tree) → AreOneWhere e (tree_view operand.now) (tree_view value.now)
+        → IsFixedTo planner.now.scope heading.now e f.name (step_view f.value))) }
+{
+    let Some(name) = fixed_name(planner, heading, operand, value)? else {
+        return Ok(None);
+    };
+    let value = step_of(planner, value)?;
+    Ok(Some(FixedValue { name, value }))
+}
+
+/// Whether the operator is AND.
+fn is_and(op: Operator) -> bool
+    ensures { IsTrue result → op ≡ operators.And }
+{
+    matches!(op, Operator::And)
+}
+
+/// Whether the comparison is of equality.
+fn is_equal(op: Comparison) -> bool
+    ensures { IsTrue result → op ≡ comparisons.Equal }
+{
+    matches!(op, Comparison::Equal)
+}
+
+/// Those of the two that are there.
+fn listed(
+    alloc: Global,
+    first: Option<FixedValue>,
+    second: Option<FixedValue>,
+) -> Result<Vec<FixedValue>, AllocError>
+    ensures { IfOk result (λ fixed. fixed.items ≡ in_list first ++ in_list second) }
+{
+    let mut fixed = Vec::new(alloc);
+    if let Some(value) = first {
+        fixed.push(value)?;
+    }
+    if let Some(value) = second {
+        fixed.push(value)?;
+    }
+    Ok(fixed)
+}
+
+/// The one list and then the other.
+fn joined(first: Vec<FixedValue>, second: Vec<FixedValue>) -> Result<Vec<FixedValue>, AllocError>
+    ensures { IfOk result (λ fixed. fixed.items ≡ first.items ++ second.items) }
+{
+    let mut fixed = first;
+    for value in second {
+        fixed.push(value)?;
+    }
+    Ok(fixed)
+}
+
+/// The attributes of the heading that the condition's conjuncts fix, each with the step of its
+/// value.
+#[cycle(plan)]
+pub(crate) fn fixed_values<B: Body>(
+    planner: &Planner<'_, B>,
+    condition: &Expr,
+    heading: &Heading,
+) -> Result<Vec<FixedValue>, AllocError>
+    requires { IsPlanner planner.now }
+    ensures { IfOk result (λ fixed. IsWritten (tree_view condition.now)
+        → AreFixed planner.now.scope heading.now (tree_view condition.now) fixed.items) }
+{
+    match condition {
+        Expr::Parentheses(inner) => fixed_values(planner, inner, heading),
+        Expr::Binary(left, op, right) => {
+            if !is_and(*op) {
+                return Ok(Vec::new(planner.alloc));
+            }
+            let first = fixed_values(planner, left, heading)?;
+            joined(first, fixed_values(planner, right, heading)?)
+        }
+        Expr::Compare(left, op, right) => {
+            if !is_equal(*op) {
+                return Ok(Vec::new(planner.alloc));
+            }
+            let first = fixed_value(planner, right, left, heading)?;
+            listed(
+                planner.alloc,
+                first,
+                fixed_value(planner, left, right, heading)?,
+            )
+        }
+        _ => Ok(Vec::new(planner.alloc)),
+    }
+}

@@ -1,0 +1,259 @@
+//! Operands of WHERE that are looked up by a key.
+ghost use Rattle.std.specs.Prelude.{◌<◌, ◌≡◌, IfOk, IfSome, IsTrue, length, map};
+ghost use Rattle.std.specs.List.{Contains, HoldsAt};
+ghost use Rattle.td_check.specs.CannotFail.{cannot_fail};
+ghost use Rattle.td_check.specs.Scopes.{entered_with};
+ghost use Rattle.td_check.specs.StaticTypes.{type_of};
+ghost use Rattle.td_eval.specs.TreeNumbers.{HasNumbers};
+ghost use Rattle.td_eval.specs.ValueTypes.{IsWritten};
+ghost use Rattle.td_plan.specs.declared.fixed.FixedValue.{FixedValue};
+ghost use Rattle.td_plan.specs.LookUps.{IsBase, MeansName};
+ghost use Rattle.td_plan.specs.Narrowing.{AreFixed, Narrows};
+ghost use Rattle.td_plan.specs.Planners.{IsPlanner};
+ghost use Rattle.td_plan.specs.Plans as plans;
+ghost use Rattle.td_plan.specs.PlansOf.{IsPlanOfTyped};
+ghost use Rattle.td_plan.specs.StepViews.{step_view, steps_view};
+ghost use Rattle.td_tree.specs.Outcomes.{Valued};
+ghost use Rattle.td_tree.specs.TreeViews.{tree_view};
+ghost use Rattle.td_types.specs.Headings.{projection};
+ghost use Rattle.td_types.specs.Types as types;
+ghost use Rattle.td_types.specs.Types.{attribute_names, pack};
+
+use crate::fixed::FixedValue;
+use crate::numbers::has_numbers;
+use crate::planner::Planner;
+use crate::step::Step;
+use std::alloc::{AllocError, Global};
+use td_body::body::Body;
+use td_check::cannot_fail::cannot_fail;
+use td_check::scope::Kind;
+use td_tree::expression::Expr;
+use td_tree::fault::Fault;
+use td_tree::name::Name;
+use td_types::heading::Heading;
+
+// ---- the relvar
+
+/// The name in an expression that is a name, in parentheses or not.
+fn bare_name(expr: &Expr) -> Option<&Name>
+    ensures { IfSome result (λ n. MeansName n.now (tree_view expr.now)) }
+{
+    match expr {
+        Expr::Name(name) => Some(name),
+        Expr::Parentheses(inner) => bare_name(inner),
+        _ => None,
+    }
+}
+
+/// The name in an expression that is the name of a base relvar, which no attribute hides.
+pub(crate) fn base_named<'e, B: Body>(planner: &Planner<'_, B>, expr: &'e Expr) -> Option<&'e Name>
+    ensures means { IfSome result (λ n. MeansName n.now (tree_view expr.now)) }
+    ensures base { IfSome result (λ n. IsBase planner.now.scope n.now) }
+{
+    let name = bare_name(expr)?;
+    if planner.scope.attribute(name).is_some() {
+        return None;
+    }
+    match planner.scope.relvar(name) {
+        Some((Kind::Base, _)) => Some(name),
+        _ => None,
+    }
+}
+
+// ---- the key
+
+/// Whether one of the attributes has the name.
+fn is_fixed(fixed: &[FixedValue], name: &Name) -> bool {
+    fixed.iter().any(|attribute| attribute.name == *name)
+}
+
+/// Whether the key has attributes, and each is one of these.
+fn is_fixed_key(fixed: &[FixedValue], key: &[Name]) -> bool {
+    !key.is_empty() && key.iter().all(|name| is_fixed(fixed, name))
+}
+
+/// The names of the first key of a base relvar whose attributes are all fixed.
+fn key_of<'p, B: Body>(
+    planner: &'p Planner<'_, B>,
+    name: &Name,
+    fixed: &[FixedValue],
+) -> Option<&'p [Name]> {
+    let entry = planner.catalog.get_base(name)?;
+    for key in &entry.keys {
+        if is_fixed_key(fixed, key) {
+            return Some(key);
+        }
+    }
+    None
+}
+
+// ---- the part
+
+/// Where the attribute of the name stands.
+fn place_of(fixed: &[FixedValue], name: &Name) -> Option<usize>
+    ensures there { IfSome result (λ i. i < length fixed.now) }
+    ensures named { IfSome result (λ i. HoldsAt (λ x. x.name ≡ name.now) fixed.now i) }
+{
+    for place in 0..fixed.len() {
+        if fixed[place].name == *name {
+            return Some(place);
+        }
+    }
+    None
+}
+
+/// The attribute of the name, which is taken from the others.
+fn taken(fixed: &mut Vec<FixedValue>, name: &Name) -> Option<FixedValue>
+    ensures named { IfSome result (λ x. x.name ≡ name.now) }
+    ensures there { IfSome result (λ x. Contains fixed.old.items x) }
+    ensures others { (x : FixedValue) → Contains fixed.new.items x → Contains fixed.old.items x }
+{
+    let place = place_of(fixed, name)?;
+    Some(fixed.swap_remove(place))
+}
+
+/// The attributes of a heading, in its order; none where one of them is not fixed.
+fn in_order(
+    alloc: Global,
+    heading: &Heading,
+    fixed: Vec<FixedValue>,
+) -> Result<Option<Vec<FixedValue>>, AllocError>
+    ensures names { IfOk result (λ found. IfSome found (λ part.
+        map (λ x. x.name) part.items ≡ attribute_names heading.now)) }
+    ensures fixed { IfOk result (λ found. IfSome found (λ part.
+        (x : FixedValue) → Contains part.items x → Contains fixed.items x)) }
+{
+    let mut rest = fixed;
+    let mut part = Vec::with_capacity(alloc, heading.len())?;
+    for place in 0..heading.len() {
+        let Some((name, _)) = heading.at(place) else {
+            return Ok(None);
+        };
+        let Some(attribute) = taken(&mut rest, name) else {
+            return Ok(None);
+        };
+        part.push(attribute)?;
+    }
+    Ok(Some(part))
+}
+
+/// The attributes of a key, in the heading's order.
+fn key_part(
+    alloc: Global,
+    heading: &Heading,
+    key: &[Name],
+    fixed: Vec<FixedValue>,
+) -> Result<Option<Vec<FixedValue>>, AllocError>
+    ensures names { IfOk result (λ found. IfSome found (λ part.
+        map (λ x. x.name) part.items ≡ attribute_names (projection key.now heading.now))) }
+    ensures fixed { IfOk result (λ found. IfSome found (λ part.
+        (x : FixedValue) → Contains part.items x → Contains fixed.items x)) }
+{
+    match heading.project(key) {
+        Ok(part) => in_order(alloc, &part, fixed),
+        Err(Fault::Refused(_)) => Ok(None),
+        Err(Fault::Memory) => Err(AllocError),
+    }
+}
+
+// ---- the look-up
+
+/// The same names again.
+fn copied_names(alloc: Global, names: &[Name]) -> Result<Vec<Name>, AllocError>
+    ensures { IfOk result (λ copy. copy.items ≡ names.now) }
+{
+    let mut copy = Vec::with_capacity(alloc, names.len())?;
+    for name in names {
+        copy.push(name.try_clone()?)?;
+    }
+    Ok(copy)
+}
+
+/// The step of the tuple of these attributes.
+fn part_step(alloc: Global, part: Vec<FixedValue>) -> Result<Step, AllocError>
+    ensures { IfOk result (λ p. step_view p ≡ plans.tuple (map (λ x. x.name) part.items)
+        (steps_view (map (λ x. x.value) part.items))) }
+{
+    let mut names = Vec::with_capacity(alloc, part.len())?;
+    let mut values = Vec::with_capacity(alloc, part.len())?;
+    for attribute in part {
+        let FixedValue { name, value } = attribute;
+        names.push(name)?;
+        values.push(value)?;
+    }
+    Ok(Step::Tuple(names, values))
+}
+
+/// The step of the tuples of a base relvar that agree with these attributes on a key.
+fn look_up_step(
+    alloc: Global,
+    name: &Name,
+    key: &[Name],
+    part: Vec<FixedValue>,
+) -> Result<Step, AllocError>
+    ensures { IfOk result (λ p. step_view p ≡ plans.look_up name.now key.now
+        (plans.tuple (map (λ x. x.name) part.items)
+        (steps_view (map (λ x. x.value) part.items)))) }
+{
+    let key = copied_names(alloc, key)?;
+    let part = Box::new(alloc, part_step(alloc, part)?)?;
+    Ok(Step::LookUp(name.try_clone()?, key, part))
+}
+
+/// Whether a condition is known to have a value in each tuple of the heading.
+fn is_total<B: Body>(
+    planner: &Planner<'_, B>,
+    heading: &Heading,
+    condition: &Expr,
+) -> Result<bool, AllocError>
+    requires { IsPlanner planner.now }
+    ensures numbers { IfOk result (λ b. IsTrue b → HasNumbers (tree_view condition.now)) }
+    ensures never { IfOk result (λ b. IsTrue b →
+        IsTrue (cannot_fail (entered_with heading.now planner.now.scope)
+        (tree_view condition.now))) }
+{
+    if !has_numbers(condition) {
+        return Ok(false);
+    }
+    let inner = planner.entered(heading)?;
+    match cannot_fail(&inner.scope, condition) {
+        Ok(never) => Ok(never),
+        Err(Fault::Refused(_)) => Ok(false),
+        Err(Fault::Memory) => Err(AllocError),
+    }
+}
+
+/// The step of the operand of WHERE: a look-up by the first declared key whose attributes the
+/// condition all fixes, else the operand's own step.
+pub(crate) fn narrowed<B: Body>(
+    planner: &Planner<'_, B>,
+    operand: &Expr,
+    heading: &Heading,
+    condition: &Expr,
+    step: Step,
+    fixed: Vec<FixedValue>,
+) -> Result<Step, AllocError>
+    requires { IsPlanner planner.now }
+    ensures { IfOk result (λ p.
+        IsPlanOfTyped planner.now.scope (step_view step) (tree_view operand.now)
+        → type_of planner.now.scope (tree_view operand.now)
+        ≡ Valued (types.relation (pack heading.now))
+        → (IsWritten (tree_view condition.now)
+        → AreFixed planner.now.scope heading.now (tree_view condition.now) fixed.items)
+        → Narrows planner.now.scope (step_view p) (tree_view operand.now)
+        (tree_view condition.now) heading.now) }
+{
+    let Some(name) = base_named(planner, operand) else {
+        return Ok(step);
+    };
+    let Some(key) = key_of(planner, name, &fixed) else {
+        return Ok(step);
+    };
+    if !is_total(planner, heading, condition)? {
+        return Ok(step);
+    }
+    let Some(part) = key_part(planner.alloc, heading, key, fixed)? else {
+        return Ok(step);
+    };
+    look_up_step(planner.alloc, name, key, part)
+}

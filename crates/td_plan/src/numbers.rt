@@ -1,0 +1,113 @@
+//! Whether the numbers in an expression are in INTEGER's range, as they are in what is read.
+ghost use Rattle.std.specs.Prelude.{IsTrue};
+ghost use Rattle.td_eval.specs.TreeNumbers.{HasNumbers, HaveNumbers, IsInRangeLiteral};
+ghost use Rattle.td_eval.specs.TreeNumbers.{ItemsHaveNumbers, PartsHaveNumbers};
+ghost use Rattle.td_tree.specs.TreeViews.{literal_view, named_view, summaries_view, tree_view};
+ghost use Rattle.td_tree.specs.TreeViews.{trees_view, with_summary};
+ghost use Rattle.td_tree.specs.Trees.{Summaries};
+
+use td_tree::expression::{Expr, Literal, MAX_MAGNITUDE, NamedExpr, Summary};
+
+/// Whether a literal's number is in range.
+fn is_in_range(literal: &Literal) -> bool
+    ensures { IsTrue result → IsInRangeLiteral (literal_view literal.now) }
+{
+    match literal {
+        Literal::Number {
+            minus: true,
+            magnitude,
+        } => *magnitude <= MAX_MAGNITUDE,
+        Literal::Number {
+            minus: false,
+            magnitude,
+        } => *magnitude < MAX_MAGNITUDE,
+        Literal::Text(_) => true,
+        Literal::Truth(_) => true,
+        Literal::TableDee => true,
+        Literal::TableDum => true,
+    }
+}
+
+/// Whether the numbers in an expression are in INTEGER's range.
+#[cycle(numbers)]
+pub(crate) fn has_numbers(expr: &Expr) -> bool
+    ensures { IsTrue result → HasNumbers (tree_view expr.now) }
+{
+    match expr {
+        Expr::Literal(literal) => is_in_range(literal),
+        Expr::Name(_) => true,
+        Expr::Parentheses(operand)
+        | Expr::Prefix(_, operand)
+        | Expr::Extract(_, operand)
+        | Expr::Postfix(operand, _)
+        | Expr::Component(_, operand)
+        | Expr::Measure(_, operand) => has_numbers(operand),
+        Expr::Restriction(first, second)
+        | Expr::Binary(first, _, second)
+        | Expr::Compare(first, _, second)
+        | Expr::Aggregate(_, first, second) => has_numbers(first) && has_numbers(second),
+        Expr::Select(_, arguments) => have_numbers(arguments),
+        Expr::Relation(elements) => have_numbers(elements),
+        Expr::HeadedRelation(_, elements) => have_numbers(elements),
+        Expr::Tuple(parts) => parts_have_numbers(parts),
+        Expr::Extend(operand, parts) => has_numbers(operand) && parts_have_numbers(parts),
+        Expr::SummarizePer(operand, per, items) => {
+            has_numbers(operand) && has_numbers(per) && items_have_numbers(items)
+        }
+        Expr::SummarizeBy(operand, _, items) => has_numbers(operand) && items_have_numbers(items),
+        Expr::If(condition, consequent, alternative) => {
+            has_numbers(condition) && has_numbers(consequent) && has_numbers(alternative)
+        }
+    }
+}
+
+/// Whether those in each of the expressions are.
+#[cycle(numbers)]
+fn have_numbers(exprs: &[Expr]) -> bool
+    ensures { IsTrue result → HaveNumbers (trees_view exprs.now) }
+{
+    for expr in exprs {
+        if !has_numbers(expr) {
+            return false;
+        }
+    }
+    true
+}
+
+/// Whether those in each of the parts are.
+#[cycle(numbers)]
+fn parts_have_numbers(parts: &[NamedExpr]) -> bool
+    ensures { IsTrue result → PartsHaveNumbers (named_view parts.now) }
+{
+    for part in parts {
+        if !has_numbers(&part.value) {
+            return false;
+        }
+    }
+    true
+}
+
+/// Whether those in an item of SUMMARIZE are.
+#[cycle(numbers)]
+fn item_has_numbers(item: &Summary) -> bool
+    ensures { IsTrue result → (rest : Summaries) → ItemsHaveNumbers rest
+        → ItemsHaveNumbers (with_summary item.now rest) }
+{
+    match item {
+        Summary::Count(_) => true,
+        Summary::Of(_, value, _) => has_numbers(value),
+    }
+}
+
+/// Whether those in each of the items are.
+#[cycle(numbers)]
+fn items_have_numbers(items: &[Summary]) -> bool
+    ensures { IsTrue result → ItemsHaveNumbers (summaries_view items.now) }
+{
+    for item in items {
+        if !item_has_numbers(item) {
+            return false;
+        }
+    }
+    true
+}

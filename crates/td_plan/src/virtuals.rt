@@ -1,0 +1,239 @@
+//! The virtual relvars that an expression may ask, each of them valued once.
+ghost use Rattle.std.specs.Prelude.{◌≡◌, IfOk, IfSome};
+ghost use Rattle.td_eval.specs.DatabaseWorlds.{world_of};
+ghost use Rattle.td_eval.specs.Sights.{world_in};
+ghost use Rattle.td_eval.specs.ValueTypes.{DefinitionsAreWritten};
+ghost use Rattle.td_eval.specs.Worlds.{known_outcome};
+ghost use Rattle.td_plan.specs.Hands.{AreValued};
+ghost use Rattle.td_tree.specs.Outcomes.{Answers};
+
+use crate::plan::plan_of;
+use crate::run_plan::run_plan_in;
+use crate::surroundings::{Surroundings, ValuedRelvar};
+use std::alloc::{AllocError, Global};
+use td_body::body::Body;
+use td_catalog::catalog::Catalog;
+use td_eval::env::Env;
+use td_eval::known::relvar_in;
+use td_tree::expression::{Expr, NamedExpr, Summary};
+use td_tree::fault::Fault;
+use td_tree::name::Name;
+use td_value::relation::Rel;
+use td_value::value::Value;
+
+// ---- which are asked: their places in the catalogue are marked
+
+/// Marks the place of the virtual relvar of the name, if there is one. No memory is taken before
+/// the first mark.
+fn mark<B: Body>(
+    catalog: &Catalog<B>,
+    name: &Name,
+    marks: &mut Vec<bool>,
+) -> Result<(), AllocError> {
+    let Some(place) = catalog.virtual_place(name) else {
+        return Ok(());
+    };
+    if marks.is_empty() {
+        for _ in 0..catalog.virtual_count() {
+            marks.push(false)?;
+        }
+    }
+    if let Some(is_asked) = marks.get_mut(place) {
+        *is_asked = true;
+    }
+    Ok(())
+}
+
+/// Marks the virtual relvars that are named in an expression.
+#[cycle(marks)]
+fn mark_in<B: Body>(
+    catalog: &Catalog<B>,
+    expr: &Expr,
+    marks: &mut Vec<bool>,
+) -> Result<(), AllocError> {
+    match expr {
+        Expr::Literal(_) => Ok(()),
+        Expr::Name(name) => mark(catalog, name, marks),
+        Expr::Parentheses(operand)
+        | Expr::Prefix(_, operand)
+        | Expr::Extract(_, operand)
+        | Expr::Postfix(operand, _)
+        | Expr::Component(_, operand)
+        | Expr::Measure(_, operand) => mark_in(catalog, operand, marks),
+        Expr::Restriction(first, second)
+        | Expr::Binary(first, _, second)
+        | Expr::Compare(first, _, second)
+        | Expr::Aggregate(_, first, second) => {
+            mark_in(catalog, first, marks)?;
+            mark_in(catalog, second, marks)
+        }
+        Expr::Select(_, exprs) | Expr::Relation(exprs) | Expr::HeadedRelation(_, exprs) => {
+            mark_in_all(catalog, exprs, marks)
+        }
+        Expr::Tuple(parts) => mark_in_parts(catalog, parts, marks),
+        Expr::Extend(operand, parts) => {
+            mark_in(catalog, operand, marks)?;
+            mark_in_parts(catalog, parts, marks)
+        }
+        Expr::SummarizePer(operand, per, items) => {
+            mark_in(catalog, operand, marks)?;
+            mark_in(catalog, per, marks)?;
+            mark_in_items(catalog, items, marks)
+        }
+        Expr::SummarizeBy(operand, _, items) => {
+            mark_in(catalog, operand, marks)?;
+            mark_in_items(catalog, items, marks)
+        }
+        Expr::If(condition, first, second) => {
+            mark_in(catalog, condition, marks)?;
+            mark_in(catalog, first, marks)?;
+            mark_in(catalog, second, marks)
+        }
+    }
+}
+
+/// Marks those that are named in expressions.
+#[cycle(marks)]
+fn mark_in_all<B: Body>(
+    catalog: &Catalog<B>,
+    exprs: &[Expr],
+    marks: &mut Vec<bool>,
+) -> Result<(), AllocError> {
+    for expr in exprs {
+        mark_in(catalog, expr, marks)?;
+    }
+    Ok(())
+}
+
+/// Marks those that are named in the expressions of parts.
+#[cycle(marks)]
+fn mark_in_parts<B: Body>(
+    catalog: &Catalog<B>,
+    parts: &[NamedExpr],
+    marks: &mut Vec<bool>,
+) -> Result<(), AllocError> {
+    for part in parts {
+        mark_in(catalog, &part.value, marks)?;
+    }
+    Ok(())
+}
+
+/// Marks those that are named in what items are of.
+#[cycle(marks)]
+fn mark_in_items<B: Body>(
+    catalog: &Catalog<B>,
+    items: &[Summary],
+    marks: &mut Vec<bool>,
+) -> Result<(), AllocError> {
+    for item in items {
+        if let Summary::Of(_, value, _) = item {
+            mark_in(catalog, value, marks)?;
+        }
+    }
+    Ok(())
+}
+
+/// Whether a place is marked.
+fn is_marked(marks: &[bool], place: usize) -> bool {
+    match marks.get(place) {
+        Some(is_asked) => *is_asked,
+        None => false,
+    }
+}
+
+/// The marks of the virtual relvars that are named in an expression or, in turn, in the expression
+/// of such a one. An expression names none that is defined after its own virtual relvar.
+fn marks_of<B: Body>(
+    alloc: Global,
+    catalog: &Catalog<B>,
+    expr: &Expr,
+) -> Result<Vec<bool>, AllocError> {
+    let mut marks = Vec::new(alloc);
+    if catalog.virtual_count() == 0 {
+        return Ok(marks);
+    }
+    mark_in(catalog, expr, &mut marks)?;
+    let mut place = marks.len();
+    while place > 0 {
+        place -= 1;
+        if !is_marked(&marks, place) {
+            continue;
+        }
+        if let Some(tree) = catalog.virtual_tree_at(place) {
+            mark_in(catalog, tree, &mut marks)?;
+        }
+    }
+    Ok(marks)
+}
+
+// ---- their values
+
+/// The value of the relvar of the name where no other relation stands in: of a virtual relvar that
+/// of its expression, by a plan.
+fn relvar_by_plan<'a, B: Body>(
+    alloc: Global,
+    catalog: &'a Catalog<B>,
+    name: &Name,
+    valued: &[ValuedRelvar],
+) -> Result<Value, Fault>
+    requires written { DefinitionsAreWritten catalog.now.database }
+    requires valued { AreValued (world_of catalog.now.database) valued.now }
+    ensures { Answers (λ v. v) result
+        (known_outcome ((world_of catalog.now.database).relvar name.now)) }
+{
+    catalog.reveal();
+    let other: Option<(&'a Name, &'a Rel)> = None;
+    let env = Env {
+        catalog,
+        other,
+        tuples: &[],
+    };
+    let Some(entry) = catalog.get_virtual(name) else {
+        return relvar_in(alloc, &env, name);
+    };
+    let plan = plan_of(alloc, &env, entry.tree.tree())?;
+    let around = Surroundings {
+        alloc,
+        env: &env,
+        valued,
+    };
+    run_plan_in(&around, &plan)
+}
+
+/// The name of the virtual relvar at a place, if the place is marked and no other relation stands
+/// in for it.
+fn asked_at<'a, B: Body>(env: &Env<'a, B>, marks: &[bool], place: usize) -> Option<&'a Name>
+    ensures { IfSome result (λ name. (world_in env.now).relvar name.now
+        ≡ (world_of env.now.catalog.now.database).relvar name.now) }
+{
+    if !is_marked(marks, place) {
+        return None;
+    }
+    let name = env.catalog.virtual_at(place)?;
+    let Some((other, _)) = env.other else {
+        return Some(name);
+    };
+    if *other == *name { None } else { Some(name) }
+}
+
+/// The virtual relvars that the expression may ask, valued: each where those before it are.
+pub(crate) fn virtual_relvars<B: Body>(
+    alloc: Global,
+    env: &Env<'_, B>,
+    expr: &Expr,
+) -> Result<Vec<ValuedRelvar>, AllocError>
+    requires { DefinitionsAreWritten env.now.catalog.now.database }
+    ensures { IfOk result (λ valued. AreValued (world_in env.now) valued.items) }
+{
+    let mut valued = Vec::new(alloc);
+    let marks = marks_of(alloc, env.catalog, expr)?;
+    for place in 0..marks.len() {
+        let Some(name) = asked_at(env, &marks, place) else {
+            continue;
+        };
+        let answer = relvar_by_plan(alloc, env.catalog, name, &valued);
+        let name = name.try_clone()?;
+        valued.push(ValuedRelvar { name, answer })?;
+    }
+    Ok(valued)
+}
