@@ -344,7 +344,7 @@ where_by_and p q (Valued v) g =
     ∙ (λ i. where_value q (on_relation (sym g.1 i) (restricted_value p)))
 where_by_and p q (Refused cs) g = refl
 
-gives_more : (P Q : Relation → Type 0) (a : Outcome Val) → ((r : Relation) → P r → Q r) → Gives P a → Gives Q a
+pub gives_more : (P Q : Relation → Type 0) (a : Outcome Val) → ((r : Relation) → P r → Q r) → Gives P a → Gives Q a
 gives_more P Q (Valued v) f g = (g.0, g.1, f g.0 g.2)
 gives_more P Q (Refused cs) f g = g
 

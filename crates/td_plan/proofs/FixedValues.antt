@@ -2,7 +2,7 @@
 use Rattle.std.proofs.Common.{◌≡◌, ◌∙◌, ◌||◌, ℕ, Bool, true, false, List, [], ◌∷◌, ◌++◌, Option, Some, None, ap, not, refl, subst, sym, true≢false}
 use Rattle.std.specs.Cmp.Lexicographic.{same_text}
 use Rattle.std.specs.List.{list_any}
-use Rattle.std.specs.Prelude.{IfSome, is_some, option_map}
+use Rattle.std.specs.Prelude.{IfSome, is_some, option_map, option_to_list}
 use Rattle.td_algebra.proofs.Entries.{type_at-heading_of}
 use Rattle.td_check.proofs.NameSets.{names_are_a_set}
 use Rattle.td_check.specs.CannotFail.{cannot_fail}
@@ -18,7 +18,7 @@ use Rattle.td_eval.specs.Worlds.{World, innermost_value, known_outcome}
 use Rattle.td_plan.proofs.EqualNames.{values_depend_on_names}
 use Rattle.td_plan.proofs.EqualValues.{and_of_both, equality_of_one}
 use Rattle.td_plan.specs.declared.fixed.FixedValue.{FixedValue}
-use Rattle.td_plan.specs.Fixing.{AreOneWhere, IsNamedApart, MayFix, in_list}
+use Rattle.td_plan.specs.Fixing.{AreOneWhere, IsNamedApart, MayFix}
 use Rattle.td_plan.specs.Narrowing.{AreFixed, IsFixedTo}
 use Rattle.td_plan.specs.Plans.{PlanTree}
 use Rattle.td_plan.specs.PlansOf.{IsPlanOfTyped, outermost}
@@ -38,7 +38,7 @@ use Rattle.td_value.specs.Values as values
 -- ---- tests
 
 -- where no name passes, one that is there does not
-none_passes : (test : List ℕ → Bool) (ns : List (List ℕ)) → list_any test ns ≡ false → (n : List ℕ) → has_name n ns ≡ true → test n ≡ false
+pub none_passes : (test : List ℕ → Bool) (ns : List (List ℕ)) → list_any test ns ≡ false → (n : List ℕ) → has_name n ns ≡ true → test n ≡ false
 none_passes test [] none n there = absurd (true≢false (sym there))
 none_passes test (m ∷ ns) none n there = by_test (none_passes test ns) (test m) refl none (same_name m n) refl there
   where
@@ -104,12 +104,12 @@ and_fixes scope h a b xs ys zs is first second =
 
 -- either operand, where it is there
 abbrev pub OneIsFixed : Scope → Heading → Tree → Option FixedValue → Type 0
-OneIsFixed scope h e found = AreFixed scope h e (in_list found)
+OneIsFixed scope h e found = AreFixed scope h e (option_to_list found)
 
-pub both_fixed : (scope : Scope) (h : Heading) (e : Tree) (x y : Option FixedValue) (zs : List FixedValue) → zs ≡ in_list x ++ in_list y
+pub both_fixed : (scope : Scope) (h : Heading) (e : Tree) (x y : Option FixedValue) (zs : List FixedValue) → zs ≡ option_to_list x ++ option_to_list y
     → OneIsFixed scope h e x → OneIsFixed scope h e y → AreFixed scope h e zs
 both_fixed scope h e x y zs is first second =
-    subst (AreFixed scope h e) (sym is) (joined_fixed scope h e (in_list x) (in_list y) first second)
+    subst (AreFixed scope h e) (sym is) (joined_fixed scope h e (option_to_list x) (option_to_list y) first second)
 
 -- what is found fixes an attribute wherever the operand has the value of the expression
 abbrev pub FixesWhere : Scope → Heading → Tree → Tree → FixedValue → Type 0

@@ -1,3 +1,4 @@
+pub mod CountedTruths
 pub mod EqualLookUps
 pub mod EqualNames
 pub mod EqualRestrictions
@@ -17,14 +18,18 @@ pub mod PlannedAnswers
 pub mod PlannedLists
 pub mod PlannedNames
 pub mod PlannedNodes
+pub mod PlannedSettings
 pub mod PlannedSummaries
 pub mod PlannedTuples
+pub mod Pushed
 pub mod PulledColumns
 pub mod PulledParts
+pub mod QuickRows
 pub mod RunLaws
 pub mod StepHeights
 pub mod StepRows
 pub mod StepWeights
 pub mod SummaryLaws
 pub mod TotalConditions
+pub mod TreeWeights
 pub mod VirtualRelvars

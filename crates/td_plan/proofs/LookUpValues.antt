@@ -46,12 +46,12 @@ use Rattle.td_value.specs.Views.{relation_view}
 -- ---- the value of a base relvar
 
 -- a relation of the heading, whose tuples' values are of their types
-record IsTypedOf (ds : List DeclaredType) (h : Heading) (o : Outcome Val) (r : Relation) : Type 0 where
-  is_value : o ≡ of_relation r
-  headed : r.heading ≡ h
-  typed : IsOfType ds (relation_as_value r) (types.relation (pack r.heading))
+pub record IsTypedOf (ds : List DeclaredType) (h : Heading) (o : Outcome Val) (r : Relation) : Type 0 where
+  pub is_value : o ≡ of_relation r
+  pub headed : r.heading ≡ h
+  pub typed : IsOfType ds (relation_as_value r) (types.relation (pack r.heading))
 
-relation_of_value : (ds : List DeclaredType) (h : Heading) (v : Val) → IsOfType ds v (types.relation (pack h)) → (r : Relation) × IsTypedOf ds h (Valued v) r
+pub relation_of_value : (ds : List DeclaredType) (h : Heading) (v : Val) → IsOfType ds v (types.relation (pack h)) → (r : Relation) × IsTypedOf ds h (Valued v) r
 relation_of_value ds h v p =
     let rows = rows_of ds (pack h) v p.1 in
     let r = relation_view (unpack (pack h)) (unpack_rows rows.0) in
@@ -127,7 +127,7 @@ condition_type scope d c h t static is =
     subst (λ i. type_of (entered_with i scope) c ≡ Valued types.boolean) (unpack_pack h) (z.1 ∙ ap Valued (type_is z.0 types.boolean test.0))
 
 -- it has one in each tuple where it cannot fail
-answers : (scope : Scope) (c : Tree) (h : Heading) (w : World) (s : List Tuple) → GivesValues w (outermost scope) → AreInHand scope s
+pub answers : (scope : Scope) (c : Tree) (h : Heading) (w : World) (s : List Tuple) → GivesValues w (outermost scope) → AreInHand scope s
     → IsWritten c → HasNumbers c → IsTrue (cannot_fail (entered_with h scope) c) → type_of (entered_with h scope) c ≡ Valued types.boolean
     → (r : Relation) → r.heading ≡ h → IsOfType scope.types (relation_as_value r) (types.relation (pack r.heading))
     → IsTotalIn (λ t. value_of w (t ∷ s) c) r

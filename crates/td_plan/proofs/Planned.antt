@@ -25,7 +25,7 @@ use Rattle.td_value.specs.Values.{IsTupleOf, Tuple, Val, heading_of}
 abbrev pub frames_of : List Tuple → List Frame
 frames_of ts = map (frame_of []) ts
 
-frames_planned : (s : List Tuple) → AreFramesOf s (frames_of s)
+pub frames_planned : (s : List Tuple) → AreFramesOf s (frames_of s)
 frames_planned [] = tt
 frames_planned (t ∷ s) = (refl, frames_planned s)
 

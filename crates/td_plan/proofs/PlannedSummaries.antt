@@ -1,5 +1,5 @@
 -- What is planned for SUMMARIZE is what its items ask of the groups.
-use Rattle.std.proofs.Common.{◌≡◌, ◌∙◌, ℕ, suc, Bool, true, List, [], ◌∷◌, Option, Some, None, ap, length, map, refl, subst, sym}
+use Rattle.std.proofs.Common.{◌≡◌, ◌∙◌, suc, true, List, [], ◌∷◌, Option, Some, None, ap, length, map, refl, subst, sym}
 use Rattle.std.specs.List.{zip}
 use Rattle.std.specs.Prelude.{nat_eq}
 use Rattle.std.proofs.lemmas.Bool.{eq-eqb}
@@ -8,8 +8,8 @@ use Rattle.td_check.specs.Scopes.{Scope, entered_with}
 use Rattle.td_check.specs.StaticLaws.{ItemsGiveNames}
 use Rattle.td_check.specs.StaticTypes.{items_of, type_of, with_items}
 use Rattle.td_check.proofs.SummaryLaws.{HeadingItems, Items}
-use Rattle.td_eval.specs.AggregateValues.{Summand, summarized_value, summary_attributes, summary_value}
-use Rattle.td_eval.specs.OperatorValues.{on_relation, on_relations, postfix_value, relation_as_value}
+use Rattle.td_eval.specs.AggregateValues.{summarized_value, summary_attributes, summary_value}
+use Rattle.td_eval.specs.OperatorValues.{on_relation, postfix_value, relation_as_value}
 use Rattle.td_eval.specs.Totals.{asked_by}
 use Rattle.td_eval.specs.TreeTexts.{ItemsHaveTexts}
 use Rattle.td_eval.specs.TreeValues.{items_in_tuples, value_of}
@@ -19,7 +19,8 @@ use Rattle.td_eval.specs.Worlds.{World, scope_among}
 use Rattle.td_eval.proofs.AlikeOutcomes.{both_alike, over_same, with_alike}
 use Rattle.td_eval.proofs.AlikeSummaries.{SummandsAlikeIn, summarized_alike}
 use Rattle.td_eval.proofs.SummaryParts.{attributes_of_items, by_type, more_changes_no_items, per_type}
-use Rattle.td_plan.specs.Hoisting.{PullsAll}
+use Rattle.td_eval.proofs.TypedRows.{rows_typed}
+use Rattle.td_plan.specs.Hoisting.{HoistsAll}
 use Rattle.td_plan.specs.PlannedParts.{ArePlansOfTyped, in_summaries}
 use Rattle.td_plan.specs.Plans as plans
 use Rattle.td_plan.specs.Plans.{Frame, PlanTree, PlanTrees, plan_columns, plan_value, plan_values, summary_of}
@@ -166,7 +167,7 @@ module _ (scope : Scope) (w : World) (s : List Tuple) (fs : List Frame) (k : Giv
       items_alike (plans.more p ps) (trees.counted m rest) xs all n x is =
           let y = value_of_with (summary_attributes (entered_with h scope) rest) (λ attributes. Valued ((m, integer) ∷ attributes)) xs is in (
             refl,
-            one_alike scope w s fs k hand f r h head typed os p (trees.literal (trees.truth true)) boolean all.0 (tt, tt) refl,
+            one_alike scope w s fs k hand f r h head (rows_typed scope.types r typed) os p (trees.literal (trees.truth true)) boolean all.0 (tt, tt) refl,
             items_alike ps rest y.0 all.1 n.1 x y.1,
           )
       items_alike (plans.more p ps) (trees.summed op e m rest) xs all n x is =
@@ -174,7 +175,7 @@ module _ (scope : Scope) (w : World) (s : List Tuple) (fs : List Frame) (k : Giv
           (λ t attributes. Valued ((m, t) ∷ attributes)) xs is in
           let z = value_of_with (type_of (entered_with h scope) e) (aggregate_type op) y.0 y.2 in (
             refl,
-            one_alike scope w s fs k hand f r h head typed os p e z.0 all.0 (n.0, x.0) z.1,
+            one_alike scope w s fs k hand f r h head (rows_typed scope.types r typed) os p e z.0 all.0 (n.0, x.0) z.1,
             items_alike ps rest y.1 all.1 n.2 x.1 y.3,
           )
 
@@ -215,7 +216,7 @@ module _ (scope : Scope) (w : World) (s : List Tuple) (fs : List Frame) (k : Giv
 module _ (scope : Scope) (p : PlanTree) (xs : List Attribute) (gs : List Agg) (old parts qs cs : PlanTrees) (d : Tree) (items : Summaries) (h : Heading)
     (i : IsPlanOfTyped scope p d) (static : type_of scope d ≡ Valued (types.relation (pack h)))
     (known : summary_attributes (entered_with h scope) items ≡ Valued xs) (asked : gs ≡ aggregates_in items)
-    (all : ArePlansOfTyped (entered_with h scope) cs (in_summaries items)) (pulls : PullsAll old parts cs qs) where
+    (all : ArePlansOfTyped (entered_with h scope) cs (in_summaries items)) (pulls : HoistsAll old parts cs qs) where
   -- the summands that the code asks
   summands_are : (w : World) (fs : List Frame)
       → zip gs (plan_columns w fs (plan_values w fs parts) qs) ≡ zip (aggregates_in items) (plan_columns w fs (plan_values w fs parts) cs)

@@ -1,25 +1,25 @@
 -- What is planned in the tuples of an operand is what is applied to them.
-use Rattle.std.proofs.Common.{◌≡◌, ◌∙◌, ◌++◌, ℕ, suc, Bool, true, List, [], ◌∷◌, ap, append-nil, length, map, refl, subst, sym}
-use Rattle.std.specs.List.{AllByRecursion, Contains}
+use Rattle.std.proofs.Common.{◌≡◌, ◌∙◌, suc, true, List, [], ◌∷◌, ap, append-nil, length, map, refl, subst, sym}
+use Rattle.std.specs.List.{Contains}
 use Rattle.std.specs.Prelude.{nat_eq}
 use Rattle.std.proofs.lemmas.Bool.{eq-eqb}
-use Rattle.td_check.specs.OperatorTypes.{aggregate_type, extension_type, over_relation, restriction_type}
+use Rattle.td_check.specs.OperatorTypes.{aggregate_type, over_relation, restriction_type}
 use Rattle.td_check.specs.Scopes.{Scope, entered_with}
 use Rattle.td_check.specs.StaticLaws.{HasMore, PartsGiveNames}
 use Rattle.td_check.specs.StaticTypes.{named_types, type_of}
 use Rattle.td_check.proofs.StaticLaws.{more_changes_no_parts}
 use Rattle.td_eval.specs.AggregateValues.{aggregated_value, asked_of}
-use Rattle.td_eval.specs.OperatorValues.{extended_value, on_relation, relation_as_value, restricted_value}
+use Rattle.td_eval.specs.OperatorValues.{extended_value, on_relation, restricted_value}
 use Rattle.td_eval.specs.TreeTexts.{PartsHaveTexts}
 use Rattle.td_eval.specs.TreeValues.{value_of, values_in_tuples}
-use Rattle.td_eval.specs.ValueTypes.{IsOfType, IsTypedTuple, IsWritten, KeepsType, with_tuples}
+use Rattle.td_eval.specs.ValueTypes.{IsTypedTuple, IsWritten, KeepsType, with_tuples}
 use Rattle.td_eval.specs.UnfailingValues.{GivesValues}
 use Rattle.td_eval.specs.Worlds.{World, scope_among}
 use Rattle.td_eval.proofs.AlikeOutcomes.{over_same}
 use Rattle.td_eval.proofs.AlikeRows.{AlikeIn, AreAlikeIn, aggregated_alike, extended_alike, restricted_alike}
 use Rattle.td_eval.proofs.TypedRows.{rows_typed}
 use Rattle.td_eval.proofs.TypedTrees.{values_keep_types}
-use Rattle.td_plan.specs.Hoisting.{BeginsWith, Pulls, PullsAll}
+use Rattle.td_plan.specs.Hoisting.{BeginsWith, Hoists, HoistsAll}
 use Rattle.td_plan.specs.Narrowing.{Narrows}
 use Rattle.td_plan.specs.PlannedParts.{ArePlansOfTyped, in_named}
 use Rattle.td_plan.specs.Plans as plans
@@ -44,7 +44,7 @@ begins_itself os = ([], sym (append-nil os))
 abbrev in_tuple : World → List Frame → List (Outcome Val) → PlanTree → Tuple → Outcome Val
 in_tuple w fs os p t = plan_value w (frame_of os t ∷ fs) p
 
-one_pulled : (old parts : PlanTrees) (c q : PlanTree) → Pulls old parts c q → (w : World) (fs : List Frame)
+one_pulled : (old parts : PlanTrees) (c q : PlanTree) → Hoists old parts c q → (w : World) (fs : List Frame)
     → in_tuple w fs (plan_values w fs parts) q ≡ in_tuple w fs (plan_values w fs parts) c
 one_pulled old parts c q pulls w fs = λ i t. (pulls w fs t (plan_values w fs parts) (begins_itself (plan_values w fs parts))).1 i
 
@@ -63,7 +63,7 @@ columns_are : (w : World) (fs : List Frame) (os : List (Outcome Val)) (ps : Plan
 columns_are w fs os plans.none t = refl
 columns_are w fs os (plans.more p ps) t = ap (λ vs. plan_value w (frame_of os t ∷ fs) p ∷ vs) (columns_are w fs os ps t)
 
-pub all_pulled : (old parts cs qs : PlanTrees) → PullsAll old parts cs qs → (w : World) (fs : List Frame)
+pub all_pulled : (old parts cs qs : PlanTrees) → HoistsAll old parts cs qs → (w : World) (fs : List Frame)
     → plan_columns w fs (plan_values w fs parts) qs ≡ plan_columns w fs (plan_values w fs parts) cs
 all_pulled old parts cs qs pulls w fs =
     let os = plan_values w fs parts in
@@ -86,12 +86,12 @@ module _ (scope : Scope) (w : World) (s : List Tuple) (fs : List Frame) (k : Giv
   more_there h =
       record { types = k.keeps.types; relvars = ([], k.keeps.known ∙ sym (append-nil scope.relvars)); entered = λ i. h ∷ hand.1 i }
 
-  module _ (r : Relation) (h : Heading) (head : r.heading ≡ h) (typed : IsOfType scope.types (relation_as_value r) (types.relation (pack r.heading)))
-      (os : List (Outcome Val)) where
+  module _ (r : Relation) (h : Heading) (head : r.heading ≡ h)
+      (typed : (u : Tuple) → Contains r.body u → IsTypedTuple scope.types u × (heading_of u ≡ r.heading)) (os : List (Outcome Val)) where
     pub one_alike : (c : PlanTree) (e : Tree) (t : Type') → IsPlanOfTyped (entered_with h scope) c e → IsWritten e → type_of (entered_with h scope) e ≡ Valued t
         → AlikeIn r (λ u. plan_value w (frame_of os u ∷ fs) c) (λ u. value_of w (u ∷ s) e)
     one_alike c e t i written is = λ u b.
-        let at = rows_typed scope.types r typed u b in
+        let at = typed u b in
         i written t is w (u ∷ s) (frame_of os u ∷ fs) k ((at.0, hand.0), λ j. (at.1 ∙ head) j ∷ hand.1 j) (refl, f)
 
     pub parts_alike : (ps : PlanTrees) (es : NamedTrees) (xs : List Attribute) → ArePlansOfTyped (entered_with h scope) ps (in_named es)
@@ -122,7 +122,7 @@ module _ (scope : Scope) where
 
   -- where the operand's plan narrows it
   pub restriction_planned : (p : PlanTree) (old parts : PlanTrees) (q c : PlanTree) (d e : Tree) (h : Heading) → Narrows scope p d e h
-      → type_of scope d ≡ Valued (types.relation (pack h)) → IsPlanOfTyped (entered_with h scope) c e → Pulls old parts c q
+      → type_of scope d ≡ Valued (types.relation (pack h)) → IsPlanOfTyped (entered_with h scope) c e → Hoists old parts c q
       → IsPlanOfTyped scope (plans.restriction p parts q) (trees.restriction d e)
   restriction_planned p old parts q c d e h i static j pulls = λ written t is w s fs k hand f.
       let u = inner_type d e h t restriction_type static is in
@@ -132,11 +132,11 @@ module _ (scope : Scope) where
       ∙ over_same scope.types (types.relation (pack h)) (plan_value w fs p)
       (restricted_value (λ t. plan_value w (frame_of os t ∷ fs) c)) (restricted_value (λ t. value_of w (t ∷ s) e)) narrowed.kept
       (λ g r same head typed. restricted_alike r (λ t. plan_value w (frame_of os t ∷ fs) c) (λ t. value_of w (t ∷ s) e)
-      (one_alike scope w s fs k hand f r h (heading_is h g r same head) typed os c e u.0 j (written.0.1, written.1.1) u.1))
+      (one_alike scope w s fs k hand f r h (heading_is h g r same head) (rows_typed scope.types r typed) os c e u.0 j (written.0.1, written.1.1) u.1))
       ∙ narrowed.same
 
   pub aggregation_planned : (op : Aggregate) (p : PlanTree) (old parts : PlanTrees) (q c : PlanTree) (d e : Tree) (h : Heading) → IsPlanOfTyped scope p d
-      → type_of scope d ≡ Valued (types.relation (pack h)) → IsPlanOfTyped (entered_with h scope) c e → Pulls old parts c q
+      → type_of scope d ≡ Valued (types.relation (pack h)) → IsPlanOfTyped (entered_with h scope) c e → Hoists old parts c q
       → IsPlanOfTyped scope (plans.aggregate op p parts q) (trees.aggregate op d e)
   aggregation_planned op p old parts q c d e h i static j pulls = λ written t is w s fs k hand f.
       let u = inner_type d e h t (λ q. aggregate_type op) static is in
@@ -148,7 +148,7 @@ module _ (scope : Scope) where
       (aggregated_value (asked_of op) (λ t. plan_value w (frame_of os t ∷ fs) c)) (aggregated_value (asked_of op) (λ t. value_of w (t ∷ s) e))
       (kept scope w s fs k hand f d (types.relation (pack h)) (written.0.0, written.1.0) static)
       (λ g r same head typed. aggregated_alike r (asked_of op) (λ t. plan_value w (frame_of os t ∷ fs) c) (λ t. value_of w (t ∷ s) e)
-      (one_alike scope w s fs k hand f r h (heading_is h g r same head) typed os c e u.0 j (written.0.1, written.1.1) u.1))
+      (one_alike scope w s fs k hand f r h (heading_is h g r same head) (rows_typed scope.types r typed) os c e u.0 j (written.0.1, written.1.1) u.1))
 
   -- ---- EXTEND
 
@@ -163,7 +163,7 @@ module _ (scope : Scope) where
 
   pub extension_planned : (p : PlanTree) (xs : List Attribute) (old parts qs cs : PlanTrees) (d : Tree) (es : NamedTrees) (h : Heading) → IsPlanOfTyped scope p d
       → type_of scope d ≡ Valued (types.relation (pack h)) → named_types (entered_with h scope) es ≡ Valued xs
-      → ArePlansOfTyped (entered_with h scope) cs (in_named es) → PullsAll old parts cs qs
+      → ArePlansOfTyped (entered_with h scope) cs (in_named es) → HoistsAll old parts cs qs
       → IsPlanOfTyped scope (plans.extend p xs parts qs) (trees.extend d es)
   extension_planned p xs old parts qs cs d es h i static known all pulls = λ written t is w s fs k hand f.
       let os = plan_values w fs parts in
@@ -180,6 +180,6 @@ module _ (scope : Scope) where
       let there = more_changes_no_parts (entered_with h scope) (entered_with h (scope_among w s)) es xs (more_there scope w s fs k hand f h) known in
       rw many
       (extended_alike r (Valued xs) columns (values_in_tuples w s es)
-      (parts_alike scope w s fs k hand f r h at typed os cs es xs all written.0.1 written.1.1 known)
+      (parts_alike scope w s fs k hand f r h at (rows_typed scope.types r typed) os cs es xs all written.0.1 written.1.1 known)
       ∙ (λ j. extended_value (sym there j) (values_in_tuples w s es) r)
       ∙ (λ j. extended_value (named_types (entered_with (sym at j) (scope_among w s)) es) (values_in_tuples w s es) r)))

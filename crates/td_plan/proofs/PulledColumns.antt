@@ -7,7 +7,7 @@ use Rattle.td_group.specs.declared.aggregates.Agg.{Agg}
 use Rattle.td_tree.specs.Outcomes.{Outcome}
 use Rattle.td_types.specs.Types.{Attribute}
 use Rattle.td_value.specs.Values.{Val, Relation, Tuple}
-use Rattle.td_plan.specs.Hoisting.{BeginsWith, Pulls, PullsAll}
+use Rattle.td_plan.specs.Hoisting.{BeginsWith, Hoists, HoistsAll}
 use Rattle.td_plan.specs.Plans.{Frame, PlanTree, PlanTrees, none, more, extension_of, frame_of, plan_columns, plan_value, plan_values, summary_of}
 
 -- what is valued once for the whole pool begins with it
@@ -37,7 +37,7 @@ module _ (w : World) (fs : List Frame) (os : List (Outcome Val)) where
       λ i. (λ t. first_same (plan_value w (frame_of os t ∷ fs) q) (plan_value w (frame_of os t ∷ fs) p) _ _ (h t) i)
       ∷ columns_same ps qs (λ t. rest_same (plan_value w (frame_of os t ∷ fs) q) (plan_value w (frame_of os t ∷ fs) p) _ _ (h t)) i
 
-  module _ (old new ps qs : PlanTrees) (pulls : PullsAll old new ps qs) (begins : BeginsWith (plan_values w fs new) os) where
+  module _ (old new ps qs : PlanTrees) (pulls : HoistsAll old new ps qs) (begins : BeginsWith (plan_values w fs new) os) where
     pub columns_pulled : plan_columns w fs os qs ≡ plan_columns w fs os ps
     columns_pulled = columns_same ps qs (λ t. (pulls w fs t os begins).1)
 
@@ -53,6 +53,6 @@ module _ (w : World) (fs : List Frame) (os : List (Outcome Val)) where
 abbrev pub given_in : World → List Frame → List (Outcome Val) → PlanTree → Tuple → Outcome Val
 given_in w fs os p t = plan_value w (frame_of os t ∷ fs) p
 
-pub value_pulled : (w : World) (fs : List Frame) (os : List (Outcome Val)) (old new : PlanTrees) (p q : PlanTree) → Pulls old new p q → BeginsWith (plan_values w fs new) os
+pub value_pulled : (w : World) (fs : List Frame) (os : List (Outcome Val)) (old new : PlanTrees) (p q : PlanTree) → Hoists old new p q → BeginsWith (plan_values w fs new) os
     → given_in w fs os q ≡ given_in w fs os p
 value_pulled w fs os old new p q pulls begins = λ i. λ t. (pulls w fs t os begins).1 i

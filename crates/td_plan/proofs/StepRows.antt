@@ -4,6 +4,7 @@ use Rattle.std.specs.Global.{Box, Vec}
 use Rattle.td_group.specs.declared.aggregates.Agg.{Agg}
 use Rattle.td_plan.specs.declared.step.Step.{Step, Row_of-Step, end_of-Step, more_of-Step, items-the_row-Step, items_hidden-the_row-Step-0}
 use Rattle.td_plan.specs.declared.step.Step.TheVariants as p
+use Rattle.td_plan.specs.declared.step.Origin.{Origin}
 use Rattle.td_plan.specs.Plans.{PlanTrees, more, restriction, select, relation, headed_relation, tuple, extend, aggregate, summarize_per, summarize_by}
 use Rattle.td_plan.specs.StepViews.{step_view, steps_row, steps_view}
 use Rattle.td_tree.specs.declared.expression.Attributes.{Attributes}
@@ -29,8 +30,8 @@ steps_are v =
 pub relation_is : (v : Vec Step) → step_view (p.Relation v) ≡ relation (steps_view v.items)
 relation_is v = ap relation (steps_are v)
 
-pub restriction_is : (o : Box Step) (v : Vec Step) (c : Box Step) → step_view (p.Restriction o v c) ≡ restriction (step_view o.value) (steps_view v.items) (step_view c.value)
-restriction_is o v c = ap (λ (r : PlanTrees). restriction (step_view o.value) r (step_view c.value)) (steps_are v)
+pub restriction_is : (o : Box Step) (v : Vec Step) (c : Box Step) (origin : Origin) → step_view (p.Restriction o v c origin) ≡ restriction (step_view o.value) (steps_view v.items) (step_view c.value)
+restriction_is o v c origin = ap (λ (r : PlanTrees). restriction (step_view o.value) r (step_view c.value)) (steps_are v)
 
 pub tuple_is : (names : Vec (List ℕ)) (v : Vec Step) → step_view (p.Tuple names v) ≡ tuple names.items (steps_view v.items)
 tuple_is names v = ap (tuple names.items) (steps_are v)

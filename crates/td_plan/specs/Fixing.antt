@@ -1,5 +1,5 @@
 -- When an equality fixes an attribute (this project's own).
-use Rattle.std.specs.Prelude.{◌≡◌, ℕ, true, false, List, [], ◌∷◌, Option, Some, None, IsTrue}
+use Rattle.std.specs.Prelude.{◌≡◌, ℕ, true, false, List, Some, IsTrue}
 use Rattle.std.specs.List.{Contains}
 use Rattle.td_check.specs.CannotFail.{cannot_fail}
 use Rattle.td_check.specs.Scopes.{Scope}
@@ -33,8 +33,3 @@ pub record MayFix (scope : Scope) (h : Heading) (n : List ℕ) (x : Tree) : Type
   pub unfailing : IsTrue (cannot_fail scope x)
   pub numbers : HasNumbers x
   pub apart : IsNamedApart h x
-
--- what is there, as a list
-abbrev pub in_list : {X : Type 0} → Option X → List X
-in_list None = []
-in_list (Some x) = x ∷ []

@@ -91,13 +91,13 @@ abbrev pub BeginsWith : List (Outcome Val) → List (Outcome Val) → Type 0
 BeginsWith xs os = (more : List (Outcome Val)) × (os ≡ xs ++ more)
 
 -- where these parts, which begin with those, were valued once, the second plan has the value of the first
-abbrev pub Pulls : PlanTrees → PlanTrees → PlanTree → PlanTree → Type 0
-Pulls old new p q =
+abbrev pub Hoists : PlanTrees → PlanTrees → PlanTree → PlanTree → Type 0
+Hoists old new p q =
     (w : World) (fs : List Frame) (t : Tuple) (os : List (Outcome Val)) → BeginsWith (plan_values w fs new) os
     → BeginsWith (plan_values w fs old) os × (plan_value w (frame_of os t ∷ fs) q ≡ plan_value w (frame_of os t ∷ fs) p)
 
 -- so have the second plans those of the first
-abbrev pub PullsAll : PlanTrees → PlanTrees → PlanTrees → PlanTrees → Type 0
-PullsAll old new ps qs =
+abbrev pub HoistsAll : PlanTrees → PlanTrees → PlanTrees → PlanTrees → Type 0
+HoistsAll old new ps qs =
     (w : World) (fs : List Frame) (t : Tuple) (os : List (Outcome Val)) → BeginsWith (plan_values w fs new) os
     → BeginsWith (plan_values w fs old) os × (plan_values w (frame_of os t ∷ fs) qs ≡ plan_values w (frame_of os t ∷ fs) ps)

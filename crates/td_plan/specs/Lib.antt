@@ -1,3 +1,4 @@
+pub mod Counted
 pub mod Equalities
 pub mod EqualitiesOfNames
 pub mod EqualitiesOfValues
@@ -11,6 +12,7 @@ pub mod PlannedParts
 pub mod Planners
 pub mod Plans
 pub mod PlansOf
+pub mod Pushing
 pub mod Quick
 pub mod Runs
 pub mod StepViews

@@ -1,11 +1,13 @@
 -- When plans stand for the parts of an expression (this project's own).
 use Rattle.std.specs.Prelude.{◌≡◌, ℕ, true, List, [], ◌∷◌, Option, Some, None, ⊤}
-use Rattle.td_check.specs.Scopes.{Scope}
+use Rattle.td_check.specs.Scopes.{Scope, entered_with}
 use Rattle.td_check.specs.StaticTypes.{type_of}
 use Rattle.td_plan.specs.declared.operand.Operand.{Operand}
-use Rattle.td_plan.specs.Plans.{PlanTree, PlanTrees, none, more}
+use Rattle.td_plan.specs.declared.plan.PartPlans.{PartPlans}
+use Rattle.td_plan.specs.Hoisting.{HoistsAll}
+use Rattle.td_plan.specs.Plans.{PlanTrees, none, more}
 use Rattle.td_plan.specs.PlansOf.{IsPlanOfTyped}
-use Rattle.td_plan.specs.StepViews.{step_view}
+use Rattle.td_plan.specs.StepViews.{step_view, steps_view}
 use Rattle.td_tree.specs.declared.expression.NamedExpr.{NamedExpr}
 use Rattle.td_tree.specs.declared.expression.Summary.{Summary}
 use Rattle.td_tree.specs.declared.expression.Summary.TheVariants as summaries
@@ -61,3 +63,11 @@ IsOperandOf scope operand d = IsPlanOfTyped scope (step_view operand.step) d × 
 abbrev pub names_in : trees.NamedTrees → List (List ℕ)
 names_in trees.none_named = []
 names_in (trees.more_named n e es) = n ∷ names_in es
+
+-- ---- in the tuples of a relation
+
+-- plans of what parts have where a further tuple, of the heading, is in hand, with what is valued once for all such tuples
+abbrev pub ArePartPlans : Scope → Heading → PartPlans → trees.NamedTrees → Type 0
+ArePartPlans scope h plans parts =
+    (ps : PlanTrees) × ArePlansOfTyped (entered_with h scope) ps (in_named parts)
+    × HoistsAll none (steps_view plans.once.items) ps (steps_view plans.values.items)

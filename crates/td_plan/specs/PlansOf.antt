@@ -3,17 +3,19 @@ use Rattle.std.specs.Prelude.{◌≡◌, List, [], ◌∷◌, map, ⊤}
 use Rattle.std.specs.List.{AllByRecursion}
 use Rattle.td_catalog.specs.Database.{database_scope}
 use Rattle.td_check.specs.Scopes.{Scope, entered_with}
-use Rattle.td_check.specs.StaticTypes.{type_of}
+use Rattle.td_check.specs.StaticLaws.{PartsGiveNames}
+use Rattle.td_check.specs.StaticTypes.{named_types, type_of}
 use Rattle.td_eval.specs.declared.env.Env.{Env}
 use Rattle.td_eval.specs.Sights.{tuples_in_hand}
+use Rattle.td_eval.specs.TreeTexts.{PartsHaveTexts}
 use Rattle.td_eval.specs.TreeValues.{value_of}
 use Rattle.td_eval.specs.ValueTypes.{IsTypedTuple, IsWritten, with_tuples}
 use Rattle.td_eval.specs.UnfailingValues.{GivesValues}
 use Rattle.td_eval.specs.Worlds.{World}
 use Rattle.td_plan.specs.Plans.{Frame, PlanTree, plan_value}
 use Rattle.td_tree.specs.Outcomes.{Valued}
-use Rattle.td_tree.specs.Trees.{Tree}
-use Rattle.td_types.specs.Types.{Type'}
+use Rattle.td_tree.specs.Trees.{NamedTrees, Tree}
+use Rattle.td_types.specs.Types.{Attribute, Type'}
 use Rattle.td_value.specs.Values.{IsRelation, Relation, Tuple, heading_of}
 
 -- what is known where no tuple is in hand
@@ -62,3 +64,11 @@ pub record MeetsRulesIn (w : World) (scope : Scope) (s : List Tuple) (r : Relati
   pub relation : IsRelation r × AllByRecursion (IsTypedTuple scope.types) r.body
   pub written : IsWritten e
   pub typed : (t : Type') × (type_of (entered_with r.heading scope) e ≡ Valued t)
+
+-- parts that have types so
+pub record PartsMeetRulesIn (w : World) (scope : Scope) (s : List Tuple) (r : Relation) (parts : NamedTrees) : Type 0 where
+  pub gives : GivesValues w (outermost scope)
+  pub tuples : AreInHand scope s
+  pub relation : IsRelation r × AllByRecursion (IsTypedTuple scope.types) r.body
+  pub written : PartsGiveNames parts × PartsHaveTexts parts
+  pub typed : (xs : List Attribute) × (named_types (entered_with r.heading scope) parts ≡ Valued xs)

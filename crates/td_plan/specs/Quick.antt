@@ -1,9 +1,19 @@
 -- What is found without causes (this project's own).
-use Rattle.std.specs.Prelude.{◌≡◌, Option, Some, None, ⊤}
+use Rattle.std.specs.Global.{Vec}
+use Rattle.std.specs.Prelude.{◌≡◌, List, map, Option, Some, None, ⊤}
 use Rattle.td_tree.specs.Outcomes.{Outcome, Valued}
-use Rattle.td_value.specs.Values.{Val}
+use Rattle.td_value.specs.Values.{Tuple, Val}
 
 -- where something is found, it is the value
 abbrev pub IsQuick : {X : Type 0} → (X → Val) → Option X → Outcome Val → Type 0
 IsQuick view (Some x) o = o ≡ Valued (view x)
 IsQuick view None o = ⊤
+
+-- the values in tuples are these, one for each
+abbrev pub AreInRows : {X : Type 0} → (X → Val) → (Tuple → Outcome Val) → List Tuple → List X → Type 0
+AreInRows view f ts xs = map f ts ≡ map (λ x. Valued (view x)) xs
+
+-- where some are found, they are those
+abbrev pub AreQuick : {X : Type 0} → (X → Val) → (Tuple → Outcome Val) → List Tuple → Option (Vec X) → Type 0
+AreQuick view f ts (Some xs) = AreInRows view f ts xs.items
+AreQuick view f ts None = ⊤

@@ -2,6 +2,7 @@
 use Rattle.std.specs.Prelude.{List, [], ◌∷◌, Bool, true, false}
 use Rattle.td_eval.specs.Worlds.{World}
 use Rattle.td_plan.specs.declared.hand.Entered.{Entered}
+use Rattle.td_plan.specs.declared.plan.PartPlans.{PartPlans}
 use Rattle.td_plan.specs.declared.step.Step.{Step}
 use Rattle.td_plan.specs.Hands.{AreAnswers, AreHeld}
 use Rattle.td_plan.specs.Plans.{Frame, frame_of, plan_columns, plan_value, plan_values}
@@ -33,3 +34,7 @@ IsEntered e fs os = AreHeld e.outer.items fs × AreAnswers e.fixed.value.items o
 abbrev pub IsInside : World → List Frame → List Step → Bool → Entered → Type 0
 IsInside w fs parts true e = IsEntered e [] []
 IsInside w fs parts false e = IsEntered e fs (step_values w fs parts)
+
+-- what plans of parts give where a further tuple is in hand
+abbrev pub values_planned : World → List Frame → PartPlans → List (Tuple → Outcome Val)
+values_planned w fs plans = values_in w fs (step_values w fs plans.once.items) plans.values.items

@@ -17,7 +17,7 @@ abbrev mutual
   step_view (p.LookUp' name key _ part) = plans.look_up name key.items (step_view part)
   step_view (p.Prefix' op _ operand) = plans.prefix op (step_view operand)
   step_view (p.Extract' attribute _ operand) = plans.extract attribute (step_view operand)
-  step_view (p.Restriction' _ operand _ parts _ condition) =
+  step_view (p.Restriction' _ operand _ parts _ condition origin) =
       plans.restriction (step_view operand) (steps_row parts) (step_view condition)
   step_view (p.Binary' _ left op _ right) = plans.binary (step_view left) op (step_view right)
   step_view (p.Compare' _ left op _ right) = plans.compare (step_view left) op (step_view right)

@@ -1,6 +1,6 @@
 //! Plans as a person reads them.
 use crate::plan::Plan;
-use crate::step::Step;
+use crate::step::{Origin, Step};
 use std::alloc::{AllocError, Global};
 use td_group::aggregates::Agg;
 use td_tree::expression::{Attributes, Postfix, Renaming};
@@ -53,8 +53,8 @@ impl Outline {
                 self.line_of(indent, "FROM", attribute.as_str())?;
                 self.step(inner, operand)
             }
-            Step::Restriction(operand, parts, condition) => {
-                self.one(indent, "RESTRICTION", operand)?;
+            Step::Restriction(operand, parts, condition, origin) => {
+                self.one(indent, restriction_word(*origin), operand)?;
                 self.list_if_any(inner, "ONCE", parts)?;
                 self.one(inner, "CONDITION", condition)
             }
@@ -311,6 +311,14 @@ impl Outline {
             later = true;
         }
         self.text.push_str("\n")
+    }
+}
+
+/// What a restriction is called, by why it stands there.
+fn restriction_word(origin: Origin) -> &'static str {
+    match origin {
+        Origin::Written => "RESTRICTION",
+        Origin::Pushed => "RESTRICTION BY PUSH",
     }
 }
 

@@ -1,9 +1,9 @@
 //! Attributes that a condition fixes to values.
 ghost use Rattle.std.specs.List.{list_any};
-ghost use Rattle.std.specs.Prelude.{◌++◌, ◌≡◌, IfOk, IfSome, IsTrue};
+ghost use Rattle.std.specs.Prelude.{◌++◌, ◌≡◌, IfOk, IfSome, IsTrue, option_to_list};
 ghost use Rattle.td_check.specs.CannotFail as unfailing;
 ghost use Rattle.td_eval.specs.ValueTypes.{IsWritten};
-ghost use Rattle.td_plan.specs.Fixing.{AreOneWhere, HasTypeOf, IsNamedApart, MayFix, in_list};
+ghost use Rattle.td_plan.specs.Fixing.{AreOneWhere, HasTypeOf, IsNamedApart, MayFix};
 ghost use Rattle.td_plan.specs.Narrowing.{AreFixed, IsFixedTo};
 ghost use Rattle.td_plan.specs.Planners.{IsPlanner};
 ghost use Rattle.td_plan.specs.StepViews.{step_view};
@@ -167,12 +167,12 @@ fn is_equal(op: Comparison) -> bool
 }
 
 /// Those of the two that are there.
-fn listed(
+fn list_of_both(
     alloc: Global,
     first: Option<FixedValue>,
     second: Option<FixedValue>,
 ) -> Result<Vec<FixedValue>, AllocError>
-    ensures { IfOk result (λ fixed. fixed.items ≡ in_list first ++ in_list second) }
+    ensures { IfOk result (λ fixed. fixed.items ≡ option_to_list first ++ option_to_list second) }
 {
     let mut fixed = Vec::new(alloc);
     if let Some(value) = first {
@@ -185,7 +185,10 @@ fn listed(
 }
 
 /// The one list and then the other.
-fn joined(first: Vec<FixedValue>, second: Vec<FixedValue>) -> Result<Vec<FixedValue>, AllocError>
+fn joined_lists(
+    first: Vec<FixedValue>,
+    second: Vec<FixedValue>,
+) -> Result<Vec<FixedValue>, AllocError>
     ensures { IfOk result (λ fixed. fixed.items ≡ first.items ++ second.items) }
 {
     let mut fixed = first;
@@ -214,14 +217,14 @@ pub(crate) fn fixed_values<B: Body>(
                 return Ok(Vec::new(planner.alloc));
             }
             let first = fixed_values(planner, left, heading)?;
-            joined(first, fixed_values(planner, right, heading)?)
+            joined_lists(first, fixed_values(planner, right, heading)?)
         }
         Expr::Compare(left, op, right) => {
             if !is_equal(*op) {
                 return Ok(Vec::new(planner.alloc));
             }
             let first = fixed_value(planner, right, left, heading)?;
-            listed(
+            list_of_both(
                 planner.alloc,
                 first,
                 fixed_value(planner, left, right, heading)?,

@@ -1,6 +1,6 @@
 //! What is valued once for the tuples of an operand.
 ghost use Rattle.std.specs.Prelude.{◌≡◌, false, true, IfOk, length};
-ghost use Rattle.td_plan.specs.Hoisting.{Pulls, PullsAll, reaches};
+ghost use Rattle.td_plan.specs.Hoisting.{Hoists, HoistsAll, reaches};
 ghost use Rattle.td_plan.specs.StepViews.{step_view, steps_view};
 
 mod lowering;
@@ -15,7 +15,7 @@ use std::alloc::{AllocError, Global};
 /// and fixed. What is in the pool is valued without that tuple.
 #[cycle(pulled)]
 pub(crate) fn pulled(alloc: Global, step: Step, pool: &mut Vec<Step>) -> Result<Step, AllocError>
-    ensures { IfOk result (λ q. Pulls (steps_view pool.old.items) (steps_view pool.new.items)
+    ensures { IfOk result (λ q. Hoists (steps_view pool.old.items) (steps_view pool.new.items)
         (step_view step) (step_view q)) }
 {
     if is_worth_fixing(&step) {
@@ -32,7 +32,7 @@ pub(crate) fn all_pulled(
     steps: Vec<Step>,
     pool: &mut Vec<Step>,
 ) -> Result<Vec<Step>, AllocError>
-    ensures { IfOk result (λ qs. PullsAll (steps_view pool.old.items) (steps_view pool.new.items)
+    ensures { IfOk result (λ qs. HoistsAll (steps_view pool.old.items) (steps_view pool.new.items)
         (steps_view steps.items) (steps_view qs.items)) }
 {
     let mut all = Vec::new(alloc);
@@ -70,7 +70,7 @@ fn count_of(pool: &Vec<Step>) -> usize
 /// What stands for a step that is put into the pool.
 fn fixed(alloc: Global, step: Step, pool: &mut Vec<Step>) -> Result<Step, AllocError>
     requires { reaches 0 (step_view step) ≡ false }
-    ensures { IfOk result (λ q. Pulls (steps_view pool.old.items) (steps_view pool.new.items)
+    ensures { IfOk result (λ q. Hoists (steps_view pool.old.items) (steps_view pool.new.items)
         (step_view step) (step_view q)) }
 {
     let part = lowered(alloc, step, 0)?;
@@ -83,7 +83,7 @@ fn fixed(alloc: Global, step: Step, pool: &mut Vec<Step>) -> Result<Step, AllocE
 /// chosen is not valued.
 #[cycle(pulled)]
 fn with_parts_pulled(alloc: Global, step: Step, pool: &mut Vec<Step>) -> Result<Step, AllocError>
-    ensures { IfOk result (λ q. Pulls (steps_view pool.old.items) (steps_view pool.new.items)
+    ensures { IfOk result (λ q. Hoists (steps_view pool.old.items) (steps_view pool.new.items)
         (step_view step) (step_view q)) }
 {
     match step {
@@ -99,9 +99,9 @@ fn with_parts_pulled(alloc: Global, step: Step, pool: &mut Vec<Step>) -> Result<
         Step::Extract(attribute, operand) => {
             Ok(Step::Extract(attribute, operand_pulled(alloc, operand, pool)?))
         }
-        Step::Restriction(operand, parts, condition) => {
+        Step::Restriction(operand, parts, condition, origin) => {
             let (operand, parts) = loop_pulled(alloc, operand, parts, pool)?;
-            Ok(Step::Restriction(operand, parts, condition))
+            Ok(Step::Restriction(operand, parts, condition, origin))
         }
         Step::Binary(left, op, right) => {
             let (left, right) = operands_pulled(alloc, left, right, pool)?;
@@ -153,7 +153,7 @@ fn operand_pulled(
     step: Box<Step>,
     pool: &mut Vec<Step>,
 ) -> Result<Box<Step>, AllocError>
-    ensures { IfOk result (λ q. Pulls (steps_view pool.old.items) (steps_view pool.new.items)
+    ensures { IfOk result (λ q. Hoists (steps_view pool.old.items) (steps_view pool.new.items)
         (step_view step.value) (step_view q.value)) }
 {
     let step = pulled(alloc, Box::into_inner(step), pool)?;
@@ -168,9 +168,9 @@ fn operands_pulled(
     right: Box<Step>,
     pool: &mut Vec<Step>,
 ) -> Result<(Box<Step>, Box<Step>), AllocError>
-    ensures left { IfOk result (λ q. Pulls (steps_view pool.old.items)
+    ensures left { IfOk result (λ q. Hoists (steps_view pool.old.items)
         (steps_view pool.new.items) (step_view left.value) (step_view q.0.value)) }
-    ensures right { IfOk result (λ q. Pulls (steps_view pool.old.items)
+    ensures right { IfOk result (λ q. Hoists (steps_view pool.old.items)
         (steps_view pool.new.items) (step_view right.value) (step_view q.1.value)) }
 {
     let left = operand_pulled(alloc, left, pool)?;
@@ -186,9 +186,9 @@ fn loop_pulled(
     parts: Vec<Step>,
     pool: &mut Vec<Step>,
 ) -> Result<(Box<Step>, Vec<Step>), AllocError>
-    ensures operand { IfOk result (λ q. Pulls (steps_view pool.old.items)
+    ensures operand { IfOk result (λ q. Hoists (steps_view pool.old.items)
         (steps_view pool.new.items) (step_view operand.value) (step_view q.0.value)) }
-    ensures parts { IfOk result (λ q. PullsAll (steps_view pool.old.items)
+    ensures parts { IfOk result (λ q. HoistsAll (steps_view pool.old.items)
         (steps_view pool.new.items) (steps_view parts.items) (steps_view q.1.items)) }
 {
     let operand = operand_pulled(alloc, operand, pool)?;

@@ -15,7 +15,7 @@ ghost use Rattle.td_types.specs.Types.{Heading, pack};
 ghost use Rattle.td_types.specs.Views.{pairs_view};
 
 use crate::hoist::{all_pulled, pulled};
-use crate::step::Step;
+use crate::step::{Origin, Step};
 use std::alloc::{AllocError, Global};
 use td_tree::name::Name;
 use td_tree::operator::Aggregate;
@@ -26,6 +26,7 @@ pub(crate) fn restriction_step(
     alloc: Global,
     operand: Step,
     condition: Step,
+    origin: Origin,
 ) -> Result<Step, AllocError>
     ensures { IfOk result (λ p. (scope : Scope) (d e : Tree) (h : Heading)
         → Narrows scope (step_view operand) d e h
@@ -37,7 +38,7 @@ pub(crate) fn restriction_step(
     let condition = pulled(alloc, condition, &mut parts)?;
     let operand = Box::new(alloc, operand)?;
     let condition = Box::new(alloc, condition)?;
-    Ok(Step::Restriction(operand, parts, condition))
+    Ok(Step::Restriction(operand, parts, condition, origin))
 }
 
 /// The step of an aggregate of a value in the tuples of an operand.

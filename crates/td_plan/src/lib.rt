@@ -2,6 +2,9 @@
 #![tactic(auto)]
 
 mod answered;
+mod brief;
+pub mod chosen;
+mod counted;
 pub mod equalities;
 pub mod explain;
 mod fixed;
@@ -18,10 +21,14 @@ mod operand;
 pub mod plan;
 mod planner;
 mod planning;
+mod push;
 mod quick;
+mod quick_rows;
+mod restrictions;
 mod run;
 pub mod run_plan;
 mod run_rows;
+pub mod settings;
 mod step;
 mod summaries;
 mod surroundings;

@@ -51,7 +51,7 @@ fn place_of_key(keys: &[Vec<Name>], key: &[Name]) -> Option<usize>
 
 /// Whether the tuple has the attributes of the names, with their types in the heading, and no
 /// others.
-fn is_on(heading: &Heading, key: &[Name], part: &Tuple) -> Result<bool, AllocError>
+fn has_key_heading(heading: &Heading, key: &[Name], part: &Tuple) -> Result<bool, AllocError>
     ensures { IfOk result (λ is. IsTrue is → heading_of part.now ≡ projection key.now heading.now) }
 {
     match heading.project(key) {
@@ -75,14 +75,14 @@ fn found_by_key<B: Body>(
     let Some(place) = place_of_key(&entry.keys, key) else {
         return Ok(None);
     };
-    if !is_on(&entry.heading, key, part)? {
+    if !has_key_heading(&entry.heading, key, part)? {
         return Ok(None);
     }
     Ok(Some(entry.body.find_by_key(place, part)?))
 }
 
 /// Whether another relation stands for the relvar of the name.
-fn is_other<B: Body>(env: &Env<'_, B>, name: &Name) -> bool
+fn has_other_relation<B: Body>(env: &Env<'_, B>, name: &Name) -> bool
     ensures { result ≡ false → (world_in env.now).relvar name.now
         ≡ (world_of env.now.catalog.now.database).relvar name.now }
 {
@@ -98,7 +98,7 @@ fn base_in<'a, B: Body>(env: &Env<'a, B>, name: &Name) -> Option<&'a BaseEntry<B
     ensures value { IfSome result (λ e. known_outcome ((world_in env.now).relvar name.now)
         ≡ of_relation (B.relation e.now.body)) }
 {
-    if is_other(env, name) {
+    if has_other_relation(env, name) {
         return None;
     }
     env.catalog.get_base(name)
@@ -130,8 +130,8 @@ fn agreeing_tuples(alloc: Global, rel: &Rel, key: &[Name], part: &Tuple) -> Resu
     as_value(alloc, restrict(alloc, rel, &truths))
 }
 
-/// Those of the relation that is answered.
-fn agreeing_in(
+/// The same of the relation that is answered.
+fn agreeing_in_answer(
     alloc: Global,
     operand: Result<Value, Fault>,
     key: &[Name],
@@ -161,10 +161,10 @@ fn agreeing_value<B: Body>(
             return as_value(around.alloc, Ok(found));
         }
     }
-    agreeing_in(around.alloc, relvar_value(around, name), key, part)
+    agreeing_in_answer(around.alloc, relvar_value(around, name), key, part)
 }
 
-/// Those that agree with the tuple that is answered.
+/// The same for the tuple that is answered.
 pub(crate) fn look_up<B: Body>(
     around: &Surroundings<'_, '_, '_, B>,
     name: &Name,

@@ -103,7 +103,7 @@ fn place_of(fixed: &[FixedValue], name: &Name) -> Option<usize>
 }
 
 /// The attribute of the name, which is taken from the others.
-fn taken(fixed: &mut Vec<FixedValue>, name: &Name) -> Option<FixedValue>
+fn take_attribute(fixed: &mut Vec<FixedValue>, name: &Name) -> Option<FixedValue>
     ensures named { IfSome result (λ x. x.name ≡ name.now) }
     ensures there { IfSome result (λ x. Contains fixed.old.items x) }
     ensures others { (x : FixedValue) → Contains fixed.new.items x → Contains fixed.old.items x }
@@ -113,7 +113,7 @@ fn taken(fixed: &mut Vec<FixedValue>, name: &Name) -> Option<FixedValue>
 }
 
 /// The attributes of a heading, in its order; none where one of them is not fixed.
-fn in_order(
+fn in_heading_order(
     alloc: Global,
     heading: &Heading,
     fixed: Vec<FixedValue>,
@@ -129,7 +129,7 @@ fn in_order(
         let Some((name, _)) = heading.at(place) else {
             return Ok(None);
         };
-        let Some(attribute) = taken(&mut rest, name) else {
+        let Some(attribute) = take_attribute(&mut rest, name) else {
             return Ok(None);
         };
         part.push(attribute)?;
@@ -150,7 +150,7 @@ fn key_part(
         (x : FixedValue) → Contains part.items x → Contains fixed.items x)) }
 {
     match heading.project(key) {
-        Ok(part) => in_order(alloc, &part, fixed),
+        Ok(part) => in_heading_order(alloc, &part, fixed),
         Err(Fault::Refused(_)) => Ok(None),
         Err(Fault::Memory) => Err(AllocError),
     }
@@ -201,7 +201,7 @@ fn look_up_step(
 }
 
 /// Whether a condition is known to have a value in each tuple of the heading.
-fn is_total<B: Body>(
+pub(crate) fn is_total<B: Body>(
     planner: &Planner<'_, B>,
     heading: &Heading,
     condition: &Expr,
@@ -225,7 +225,7 @@ fn is_total<B: Body>(
 
 /// The step of the operand of WHERE: a look-up by the first declared key whose attributes the
 /// condition all fixes, else the operand's own step.
-pub(crate) fn narrowed<B: Body>(
+pub(crate) fn narrowed_operand<B: Body>(
     planner: &Planner<'_, B>,
     operand: &Expr,
     heading: &Heading,

@@ -1,24 +1,35 @@
 //! Plans, made once for all of the worlds that keep a scope.
-ghost use Rattle.std.specs.Prelude.{◌≡◌, IfOk};
+ghost use Rattle.std.specs.Prelude.{◌≡◌, IfOk, length};
 ghost use Rattle.td_check.specs.Scopes.{entered_with};
+ghost use Rattle.td_plan.specs.PlannedParts.{ArePartPlans};
 ghost use Rattle.td_plan.specs.Planners.{IsPlanner};
 ghost use Rattle.td_plan.specs.PlansOf.{IsPlanOfTyped, scope_in};
 ghost use Rattle.td_plan.specs.PlanViews.{plan_view};
-ghost use Rattle.td_tree.specs.TreeViews.{tree_view};
+ghost use Rattle.td_tree.specs.TreeViews.{named_view, tree_view};
+ghost use Rattle.td_tree.specs.Trees as trees;
 
+use crate::hoist::all_pulled;
 use crate::planner::Planner;
-use crate::planning::step_of;
-use crate::step::Step;
+use crate::planning::{part_steps, step_of};
+use crate::restrictions::where_of;
+use crate::step::{Origin, Step};
 use std::alloc::{AllocError, Global};
 use td_body::body::Body;
 use td_eval::env::Env;
-use td_tree::expression::Expr;
+use td_tree::expression::{Expr, NamedExpr};
 use td_types::heading::Heading;
 
 /// An expression whose names are found and whose types are known.
 #[derive(Drop)]
 pub struct Plan {
     pub(crate) value: Step,
+}
+
+/// Plans of what parts are in a tuple, and of what is valued once for all tuples.
+#[derive(Drop)]
+pub(crate) struct PartPlans {
+    pub(crate) once: Vec<Step>,
+    pub(crate) values: Vec<Step>,
 }
 
 /// What is known to an expression that is planned there.
@@ -31,6 +42,19 @@ fn planner_in<'a, B: Body>(alloc: Global, env: &Env<'a, B>) -> Result<Planner<'a
         planner = planner.with_heading(tuple.heading()?)?;
     }
     Ok(planner)
+}
+
+/// The same where a further tuple, of the heading, is in hand.
+fn planner_inside<'a, B: Body>(
+    alloc: Global,
+    env: &Env<'a, B>,
+    heading: &Heading,
+) -> Result<Planner<'a, B>, AllocError>
+    ensures planner { IfOk result (λ p. IsPlanner p) }
+    ensures scope { IfOk result (λ p. p.scope ≡ entered_with heading.now (scope_in env.now)) }
+{
+    let planner = planner_in(alloc, env)?;
+    planner.with_heading(heading.try_clone()?)
 }
 
 /// The plan of an expression: wherever names are known as there and tuples of the headings of those
@@ -54,8 +78,41 @@ pub fn plan_in_tuples<B: Body>(
     ensures { IfOk result (λ p. IsPlanOfTyped (entered_with heading.now (scope_in env.now))
         (plan_view p) (tree_view expr.now)) }
 {
-    let planner = planner_in(alloc, env)?;
-    let planner = planner.with_heading(heading.try_clone()?)?;
+    let planner = planner_inside(alloc, env, heading)?;
     let value = step_of(&planner, expr)?;
     Ok(Plan { value })
+}
+
+/// The plan of the tuples of an expression's relation for which a condition is TRUE.
+pub(crate) fn plan_where<B: Body>(
+    alloc: Global,
+    env: &Env<'_, B>,
+    expr: &Expr,
+    condition: &Expr,
+) -> Result<Plan, AllocError>
+    ensures { IfOk result (λ p. IsPlanOfTyped (scope_in env.now) (plan_view p)
+        (trees.restriction (tree_view expr.now) (tree_view condition.now))) }
+{
+    let planner = planner_in(alloc, env)?;
+    let value = where_of(&planner, expr, condition, Origin::Written)?;
+    Ok(Plan { value })
+}
+
+/// The plans of parts where a further tuple, of the heading, is in hand. What does not name that
+/// tuple is valued once.
+pub(crate) fn plan_parts<B: Body>(
+    alloc: Global,
+    env: &Env<'_, B>,
+    heading: &Heading,
+    parts: &[NamedExpr],
+) -> Result<PartPlans, AllocError>
+    ensures plans { IfOk result (λ p.
+        ArePartPlans (scope_in env.now) heading.now p (named_view parts.now)) }
+    ensures lengths { IfOk result (λ p. length p.values.items ≡ length parts.now) }
+{
+    let planner = planner_inside(alloc, env, heading)?;
+    let mut once = Vec::new(alloc);
+    let steps = part_steps(&planner, parts)?;
+    let values = all_pulled(alloc, steps, &mut once)?;
+    Ok(PartPlans { once, values })
 }

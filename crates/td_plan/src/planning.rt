@@ -8,17 +8,16 @@ ghost use Rattle.td_tree.specs.TreeViews.{attributes_view, named_view, summaries
 ghost use Rattle.td_tree.specs.Trees as trees;
 ghost use Rattle.td_tree.specs.Trees.{Tree};
 
-use crate::fixed::fixed_values;
-use crate::in_tuples::{aggregation_step, extension_step, restriction_step};
-use crate::narrowed::{base_named, narrowed};
+use crate::in_tuples::{aggregation_step, extension_step};
 use crate::nodes::{
     binary_step, choice_step, compare_step, component_step, extract_step, headed_step,
     literal_step, measure_step, name_step, postfix_step, prefix_step, relation_step, select_step,
     tuple_step,
 };
-use crate::operand::{Operand, RelatedOperand, WrittenOperand};
+use crate::operand::{Operand, RelatedOperand};
 use crate::planner::Planner;
-use crate::step::Step;
+use crate::restrictions::where_of;
+use crate::step::{Origin, Step};
 use crate::summaries::{aggregates_of, attributes_of, count_step, summary_by_step, summary_step};
 use std::alloc::AllocError;
 use td_body::body::Body;
@@ -40,9 +39,7 @@ pub(crate) fn step_of<B: Body>(planner: &Planner<'_, B>, expr: &Expr) -> Result<
         Expr::Prefix(op, operand) => prefix_step(alloc, *op, step_of(planner, operand)?),
         Expr::Extract(name, operand) => extract_step(alloc, name, step_of(planner, operand)?),
         Expr::Restriction(operand, condition) => {
-            let expr: &Expr = operand;
-            let operand = operand_of(planner, expr)?;
-            where_step(planner, WrittenOperand { operand, expr }, condition)
+            where_of(planner, operand, condition, Origin::Written)
         }
         Expr::Binary(left, op, right) => {
             let left = step_of(planner, left)?;
@@ -97,7 +94,7 @@ fn steps_of<B: Body>(planner: &Planner<'_, B>, exprs: &[Expr]) -> Result<Vec<Ste
 
 /// The steps of the expressions of parts, in the order written.
 #[cycle(plan)]
-fn part_steps<B: Body>(
+pub(crate) fn part_steps<B: Body>(
     planner: &Planner<'_, B>,
     parts: &[NamedExpr],
 ) -> Result<Vec<Step>, AllocError>
@@ -141,42 +138,16 @@ fn item_steps<B: Body>(planner: &Planner<'_, B>, items: &[Summary]) -> Result<Ve
 
 /// The step of an operand to whose tuples something is applied.
 #[cycle(plan)]
-fn operand_of<B: Body>(planner: &Planner<'_, B>, expr: &Expr) -> Result<Operand, AllocError>
+pub(crate) fn operand_of<B: Body>(
+    planner: &Planner<'_, B>,
+    expr: &Expr,
+) -> Result<Operand, AllocError>
     requires { IsPlanner planner.now }
     ensures { IfOk result (λ o. IsOperandOf planner.now.scope o (tree_view expr.now)) }
 {
     let heading = planner.heading_of(expr)?;
     let step = step_of(planner, expr)?;
     Ok(Operand { step, heading })
-}
-
-/// The step of the tuples of an operand for which a condition is true.
-#[cycle(plan)]
-fn where_step<B: Body>(
-    planner: &Planner<'_, B>,
-    written: WrittenOperand<'_>,
-    condition: &Expr,
-) -> Result<Step, AllocError>
-    requires { IsPlanner planner.now }
-    ensures { IfOk result (λ p.
-        IsOperandOf planner.now.scope written.entry.operand (tree_view written.entry.expr.now)
-        → IsPlanOfTyped planner.now.scope (step_view p)
-        (trees.restriction (tree_view written.entry.expr.now)
-        (tree_view condition.now))) }
-{
-    let WrittenOperand { operand, expr } = written;
-    let Operand { step, heading } = operand;
-    let Some(heading) = heading else {
-        return Ok(step);
-    };
-    let inner = planner.entered(&heading)?;
-    let asked = step_of(&inner, condition)?;
-    if base_named(planner, expr).is_none() {
-        return restriction_step(planner.alloc, step, asked);
-    }
-    let fixed = fixed_values(planner, condition, &heading)?;
-    let step = narrowed(planner, expr, &heading, condition, step, fixed)?;
-    restriction_step(planner.alloc, step, asked)
 }
 
 /// The step of an aggregate of an expression in the tuples of an operand.

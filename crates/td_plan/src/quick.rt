@@ -26,7 +26,7 @@ use td_value::value::{Node, Value};
 
 /// The value at a place of a tuple.
 #[inline]
-fn lent_value(tuple: &Tuple, place: usize) -> Option<&Value>
+pub(crate) fn lent_value(tuple: &Tuple, place: usize) -> Option<&Value>
     ensures { IsQuick (λ v. v.now) result (value_or (slice_get (values_of tuple.now) place)) }
 {
     tuple.values().get(place)
@@ -89,7 +89,7 @@ fn lent<'h>(hand: &'h Hand<'_, '_, '_>, step: &'h Step) -> Option<&'h Value>
 
 /// The number that the value is.
 #[inline]
-fn number_in(found: Option<&Value>) -> Option<i64>
+pub(crate) fn number_in(found: Option<&Value>) -> Option<i64>
     ensures { (o : Outcome Val) → IsQuick (λ v. v.now) found.entry o → IsQuick integer result o }
 {
     match found {
@@ -177,7 +177,7 @@ fn negated(x: i64) -> Option<i64>
 
 /// The number that an operator gives of two numbers.
 #[inline]
-fn numbers_operated(op: Operator, x: i64, y: i64) -> Option<i64>
+pub(crate) fn numbers_operated(op: Operator, x: i64, y: i64) -> Option<i64>
     ensures { IsQuick integer result (operator_value op (integer x) (integer y)) }
 {
     match op {
@@ -225,7 +225,7 @@ pub(crate) fn quick_text<'h>(hand: &'h Hand<'_, '_, '_>, step: &'h Step) -> Opti
 
 /// The truth value of a comparison of two numbers.
 #[inline]
-fn numbers_compared(op: Comparison, x: i64, y: i64) -> Option<bool>
+pub(crate) fn numbers_compared(op: Comparison, x: i64, y: i64) -> Option<bool>
     ensures { IsQuick boolean result (comparison_value op (integer x) (integer y)) }
 {
     match op {
@@ -293,7 +293,7 @@ fn quick_comparison(
 
 /// The truth value that an operator gives of two truth values.
 #[inline]
-fn truths_operated(op: Operator, a: bool, b: bool) -> Option<bool>
+pub(crate) fn truths_operated(op: Operator, a: bool, b: bool) -> Option<bool>
     ensures { IsQuick boolean result (operator_value op (boolean a) (boolean b)) }
 {
     match op {

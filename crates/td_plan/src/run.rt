@@ -2,10 +2,11 @@
 ghost use Rattle.std.specs.Prelude.{◌≡◌, IfOk, List};
 ghost use Rattle.std.specs.List.{zip};
 ghost use Rattle.td_eval.specs.AggregateValues.{aggregated_value, asked_of};
-ghost use Rattle.td_eval.specs.OperatorValues.{on_relation, postfix_value, restricted_value};
+ghost use Rattle.td_eval.specs.OperatorValues.{measure_value, on_relation, postfix_value};
+ghost use Rattle.td_eval.specs.OperatorValues.{restricted_value};
 ghost use Rattle.td_plan.specs.Hands.{AreAnswers, AreSurroundings, IsHand, world_around};
-ghost use Rattle.td_plan.specs.Plans.{Frame, binary, choice, compare, extension_of, plan_value};
-ghost use Rattle.td_plan.specs.Plans.{summary_of};
+ghost use Rattle.td_plan.specs.Plans.{Frame, binary, choice, compare, extension_of, measure};
+ghost use Rattle.td_plan.specs.Plans.{plan_value, summary_of};
 ghost use Rattle.td_plan.specs.Runs.{IsInside, step_values, value_in, values_in};
 ghost use Rattle.td_plan.specs.StepViews.{step_view};
 ghost use Rattle.td_tree.specs.Outcomes.{Answers, Outcome, gathered, with_both, with_value};
@@ -17,6 +18,7 @@ ghost use Rattle.td_value.specs.Values.{Val};
 use crate::answered::{
     component, extracted, headed_by, listed, measured, postfixed, prefixed, selected_by, tuple_of,
 };
+use crate::counted::truths_measured;
 use crate::hand::{Entered, Hand, all_held, attribute, fixed_part};
 use crate::look_up::look_up;
 use crate::run_rows::{columns, item_count, totals, truths, values_in_rows};
@@ -42,7 +44,7 @@ use td_tree::expression::Attributes;
 use td_tree::fault::Fault;
 use td_tree::gathering::Gathering;
 use td_tree::name::Name;
-use td_tree::operator::{Aggregate, Comparison, Operator};
+use td_tree::operator::{Aggregate, Comparison, Measure, Operator};
 use td_types::ty::Ty;
 use td_value::value::Value;
 
@@ -67,7 +69,7 @@ pub(crate) fn run<B: Body>(
         Step::LookUp(name, key, part) => look_up(around, name, key, run(around, hand, part)),
         Step::Prefix(op, operand) => prefixed(alloc, *op, run(around, hand, operand)),
         Step::Extract(name, operand) => extracted(name, run(around, hand, operand)),
-        Step::Restriction(operand, parts, condition) => {
+        Step::Restriction(operand, parts, condition, _) => {
             restriction(around, hand, run(around, hand, operand), parts, condition)
         }
         Step::Binary(left, op, right) => binary(around, hand, left, *op, right),
@@ -79,7 +81,7 @@ pub(crate) fn run<B: Body>(
         Step::Component(name, operand) => {
             component(around.env, name, run(around, hand, operand))
         }
-        Step::Measure(op, operand) => measured(*op, run(around, hand, operand)),
+        Step::Measure(op, operand) => measure(around, hand, *op, operand),
         Step::Relation(elements) => listed(alloc, values_of(around, hand, elements)),
         Step::HeadedRelation(heading, elements) => {
             headed_by(alloc, heading, values_of(around, hand, elements))
@@ -189,6 +191,28 @@ fn choice<B: Body>(
     }
 }
 
+/// The value of what is asked of a relation alone. The tuples of a restriction are only counted.
+#[cycle(run)]
+#[inline(never)]
+fn measure<B: Body>(
+    around: &Surroundings<'_, '_, '_, B>,
+    hand: &Hand<'_, '_, '_>,
+    op: Measure,
+    operand: &Step,
+) -> Result<Value, Fault>
+    requires { AreSurroundings around.now }
+    ensures { (fs : List Frame) → IsHand hand.now fs → Answers (λ v. v) result
+        (plan_value (world_around around.now) fs (measure op (step_view operand.now))) }
+{
+    match operand {
+        Step::Restriction(operand, parts, condition, _) => {
+            let operand = run(around, hand, operand);
+            restriction_measured(around, hand, op, operand, parts, condition)
+        }
+        _ => measured(op, run(around, hand, operand)),
+    }
+}
+
 /// The values of steps, in their order.
 #[cycle(run)]
 #[inline(never)]
@@ -235,7 +259,7 @@ fn answers<B: Body>(
 /// What tuples are gone through with. Where there is none, nothing is valued.
 #[cycle(run)]
 #[inline(never)]
-fn entered<B: Body>(
+pub(crate) fn entered<B: Body>(
     around: &Surroundings<'_, '_, '_, B>,
     hand: &Hand<'_, '_, '_>,
     is_empty: bool,
@@ -277,6 +301,30 @@ fn restriction<B: Body>(
     let rows = rel.rows();
     let inside = entered(around, hand, rows.is_empty(), parts)?;
     restricted(around.alloc, rel, truths(around, &inside, rows, condition))
+}
+
+/// What is asked of the tuples of an operand for which a condition is TRUE.
+#[cycle(run)]
+#[inline(never)]
+fn restriction_measured<B: Body>(
+    around: &Surroundings<'_, '_, '_, B>,
+    hand: &Hand<'_, '_, '_>,
+    op: Measure,
+    operand: Result<Value, Fault>,
+    parts: &[Step],
+    condition: &Step,
+) -> Result<Value, Fault>
+    requires { AreSurroundings around.now }
+    ensures { (fs : List Frame) (o : Outcome Val) → IsHand hand.now fs
+        → Answers (λ v. v) operand o
+        → Answers (λ v. v) result (with_value (with_value o (λ v. on_relation v (restricted_value
+        (value_in (world_around around.now) fs
+        (step_values (world_around around.now) fs parts.now) condition.now)))) (measure_value op)) }
+{
+    let operand = operand?;
+    let rows = relation_in(&operand)?.rows();
+    let inside = entered(around, hand, rows.is_empty(), parts)?;
+    truths_measured(op, truths(around, &inside, rows, condition))
 }
 
 /// An aggregate over the tuples of an operand.

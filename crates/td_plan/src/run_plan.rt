@@ -29,7 +29,7 @@ use td_value::tuple::Tuple;
 use td_value::value::Value;
 
 /// The tuples, of which the last is the innermost, with nothing fixed.
-fn held_tuples(
+pub(crate) fn held_tuples(
     alloc: Global,
     tuples: &[&Tuple],
     fixed: &Rc<Vec<Result<Value, Fault>>>,

@@ -14,6 +14,7 @@ ghost use Rattle.td_value.specs.Values.{Val};
 
 use crate::hand::{Entered, Hand};
 use crate::quick::{quick_number, quick_truth};
+use crate::quick_rows::quick_truths;
 use crate::run::run;
 use crate::step::Step;
 use crate::surroundings::Surroundings;
@@ -78,10 +79,10 @@ fn truth_in_row<B: Body>(
     }
 }
 
-/// The truth values of a condition in tuples.
+/// The truth values of a condition in tuples, one after the other.
 #[cycle(run)]
 #[inline(never)]
-pub(crate) fn truths<B: Body>(
+fn truths_by_row<B: Body>(
     around: &Surroundings<'_, '_, '_, B>,
     inside: &Entered,
     rows: &[Tuple],
@@ -101,6 +102,26 @@ pub(crate) fn truths<B: Body>(
         truths.push(truth)?;
     }
     causes.finish(truths)
+}
+
+/// The truth values of a condition in tuples. They are looked for in all tuples at once first.
+#[cycle(run)]
+#[inline(never)]
+pub(crate) fn truths<B: Body>(
+    around: &Surroundings<'_, '_, '_, B>,
+    inside: &Entered,
+    rows: &[Tuple],
+    condition: &Step,
+) -> Result<Vec<bool>, Fault>
+    requires { AreSurroundings around.now }
+    ensures { (fs : List Frame) (os : List (Outcome Val)) → IsEntered inside.now fs os
+        → Answers (λ m. m.items) result (gathered (map (λ t. truth_value
+        (value_in (world_around around.now) fs os condition.now t)) rows.now)) }
+{
+    match quick_truths(around.alloc, inside, rows, condition)? {
+        Some(truths) => Ok(truths),
+        None => truths_by_row(around, inside, rows, condition),
+    }
 }
 
 /// The values of a step in tuples.

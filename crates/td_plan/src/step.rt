@@ -9,6 +9,15 @@ use td_types::heading::Heading;
 use td_types::ty::Ty;
 use td_value::value::Value;
 
+/// Why a restriction stands where it does.
+#[derive(Clone, Copy, Drop)]
+pub enum Origin {
+    /// It was written there.
+    Written,
+    /// It was written of what an operator gives, and restricts an operand of it.
+    Pushed,
+}
+
 /// A step of a plan. A depth says how many tuples out: the innermost tuple in hand has depth 0. The list
 /// beside what is asked of an operand's tuples is what is valued once for all of them.
 #[derive(Drop)]
@@ -25,7 +34,7 @@ pub enum Step {
     LookUp(Name, Vec<Name>, Box<Step>),
     Prefix(Prefix, Box<Step>),
     Extract(Name, Box<Step>),
-    Restriction(Box<Step>, Vec<Step>, Box<Step>),
+    Restriction(Box<Step>, Vec<Step>, Box<Step>, Origin),
     Binary(Box<Step>, Operator, Box<Step>),
     Compare(Box<Step>, Comparison, Box<Step>),
     Postfix(Box<Step>, Postfix),

@@ -1,4 +1,4 @@
-//! The virtual relvars that an expression may ask, each of them valued once.
+//! The virtual relvars that expressions may ask, each of them valued once.
 ghost use Rattle.std.specs.Prelude.{◌≡◌, IfOk, IfSome};
 ghost use Rattle.td_eval.specs.DatabaseWorlds.{world_of};
 ghost use Rattle.td_eval.specs.Sights.{world_in};
@@ -13,9 +13,10 @@ use crate::surroundings::{Surroundings, ValuedRelvar};
 use std::alloc::{AllocError, Global};
 use td_body::body::Body;
 use td_catalog::catalog::Catalog;
+use td_check::names::names_in;
 use td_eval::env::Env;
 use td_eval::known::relvar_in;
-use td_tree::expression::{Expr, NamedExpr, Summary};
+use td_tree::expression::{Expr, NamedExpr};
 use td_tree::fault::Fault;
 use td_tree::name::Name;
 use td_value::relation::Rel;
@@ -45,90 +46,17 @@ fn mark<B: Body>(
 }
 
 /// Marks the virtual relvars that are named in an expression.
-#[cycle(marks)]
 fn mark_in<B: Body>(
+    alloc: Global,
     catalog: &Catalog<B>,
     expr: &Expr,
     marks: &mut Vec<bool>,
 ) -> Result<(), AllocError> {
-    match expr {
-        Expr::Literal(_) => Ok(()),
-        Expr::Name(name) => mark(catalog, name, marks),
-        Expr::Parentheses(operand)
-        | Expr::Prefix(_, operand)
-        | Expr::Extract(_, operand)
-        | Expr::Postfix(operand, _)
-        | Expr::Component(_, operand)
-        | Expr::Measure(_, operand) => mark_in(catalog, operand, marks),
-        Expr::Restriction(first, second)
-        | Expr::Binary(first, _, second)
-        | Expr::Compare(first, _, second)
-        | Expr::Aggregate(_, first, second) => {
-            mark_in(catalog, first, marks)?;
-            mark_in(catalog, second, marks)
-        }
-        Expr::Select(_, exprs) | Expr::Relation(exprs) | Expr::HeadedRelation(_, exprs) => {
-            mark_in_all(catalog, exprs, marks)
-        }
-        Expr::Tuple(parts) => mark_in_parts(catalog, parts, marks),
-        Expr::Extend(operand, parts) => {
-            mark_in(catalog, operand, marks)?;
-            mark_in_parts(catalog, parts, marks)
-        }
-        Expr::SummarizePer(operand, per, items) => {
-            mark_in(catalog, operand, marks)?;
-            mark_in(catalog, per, marks)?;
-            mark_in_items(catalog, items, marks)
-        }
-        Expr::SummarizeBy(operand, _, items) => {
-            mark_in(catalog, operand, marks)?;
-            mark_in_items(catalog, items, marks)
-        }
-        Expr::If(condition, first, second) => {
-            mark_in(catalog, condition, marks)?;
-            mark_in(catalog, first, marks)?;
-            mark_in(catalog, second, marks)
-        }
+    if catalog.virtual_count() == 0 {
+        return Ok(());
     }
-}
-
-/// Marks those that are named in expressions.
-#[cycle(marks)]
-fn mark_in_all<B: Body>(
-    catalog: &Catalog<B>,
-    exprs: &[Expr],
-    marks: &mut Vec<bool>,
-) -> Result<(), AllocError> {
-    for expr in exprs {
-        mark_in(catalog, expr, marks)?;
-    }
-    Ok(())
-}
-
-/// Marks those that are named in the expressions of parts.
-#[cycle(marks)]
-fn mark_in_parts<B: Body>(
-    catalog: &Catalog<B>,
-    parts: &[NamedExpr],
-    marks: &mut Vec<bool>,
-) -> Result<(), AllocError> {
-    for part in parts {
-        mark_in(catalog, &part.value, marks)?;
-    }
-    Ok(())
-}
-
-/// Marks those that are named in what items are of.
-#[cycle(marks)]
-fn mark_in_items<B: Body>(
-    catalog: &Catalog<B>,
-    items: &[Summary],
-    marks: &mut Vec<bool>,
-) -> Result<(), AllocError> {
-    for item in items {
-        if let Summary::Of(_, value, _) = item {
-            mark_in(catalog, value, marks)?;
-        }
+    for name in &names_in(alloc, expr)? {
+        mark(catalog, name, marks)?;
     }
     Ok(())
 }
@@ -141,29 +69,24 @@ fn is_marked(marks: &[bool], place: usize) -> bool {
     }
 }
 
-/// The marks of the virtual relvars that are named in an expression or, in turn, in the expression
-/// of such a one. An expression names none that is defined after its own virtual relvar.
-fn marks_of<B: Body>(
+/// Marks also those that are named, in turn, in the expression of one that is marked. An expression
+/// names none that is defined after its own virtual relvar.
+fn mark_reached<B: Body>(
     alloc: Global,
     catalog: &Catalog<B>,
-    expr: &Expr,
-) -> Result<Vec<bool>, AllocError> {
-    let mut marks = Vec::new(alloc);
-    if catalog.virtual_count() == 0 {
-        return Ok(marks);
-    }
-    mark_in(catalog, expr, &mut marks)?;
+    marks: &mut Vec<bool>,
+) -> Result<(), AllocError> {
     let mut place = marks.len();
     while place > 0 {
         place -= 1;
-        if !is_marked(&marks, place) {
+        if !is_marked(marks, place) {
             continue;
         }
         if let Some(tree) = catalog.virtual_tree_at(place) {
-            mark_in(catalog, tree, &mut marks)?;
+            mark_in(alloc, catalog, tree, marks)?;
         }
     }
-    Ok(marks)
+    Ok(())
 }
 
 // ---- their values
@@ -216,17 +139,18 @@ fn asked_at<'a, B: Body>(env: &Env<'a, B>, marks: &[bool], place: usize) -> Opti
     if *other == *name { None } else { Some(name) }
 }
 
-/// The virtual relvars that the expression may ask, valued: each where those before it are.
-pub(crate) fn virtual_relvars<B: Body>(
+/// The virtual relvars that are marked, and those that these may ask, valued: each where those
+/// before it are.
+fn valued_relvars<B: Body>(
     alloc: Global,
     env: &Env<'_, B>,
-    expr: &Expr,
+    mut marks: Vec<bool>,
 ) -> Result<Vec<ValuedRelvar>, AllocError>
     requires { DefinitionsAreWritten env.now.catalog.now.database }
     ensures { IfOk result (λ valued. AreValued (world_in env.now) valued.items) }
 {
+    mark_reached(alloc, env.catalog, &mut marks)?;
     let mut valued = Vec::new(alloc);
-    let marks = marks_of(alloc, env.catalog, expr)?;
     for place in 0..marks.len() {
         let Some(name) = asked_at(env, &marks, place) else {
             continue;
@@ -236,4 +160,34 @@ pub(crate) fn virtual_relvars<B: Body>(
         valued.push(ValuedRelvar { name, answer })?;
     }
     Ok(valued)
+}
+
+/// The virtual relvars that the expression may ask, valued.
+pub(crate) fn virtual_relvars<B: Body>(
+    alloc: Global,
+    env: &Env<'_, B>,
+    expr: &Expr,
+) -> Result<Vec<ValuedRelvar>, AllocError>
+    requires { DefinitionsAreWritten env.now.catalog.now.database }
+    ensures { IfOk result (λ valued. AreValued (world_in env.now) valued.items) }
+{
+    let mut marks = Vec::new(alloc);
+    mark_in(alloc, env.catalog, expr, &mut marks)?;
+    valued_relvars(alloc, env, marks)
+}
+
+/// The virtual relvars that the expressions of the parts may ask, valued.
+pub(crate) fn virtual_relvars_in_parts<B: Body>(
+    alloc: Global,
+    env: &Env<'_, B>,
+    parts: &[NamedExpr],
+) -> Result<Vec<ValuedRelvar>, AllocError>
+    requires { DefinitionsAreWritten env.now.catalog.now.database }
+    ensures { IfOk result (λ valued. AreValued (world_in env.now) valued.items) }
+{
+    let mut marks = Vec::new(alloc);
+    for part in parts {
+        mark_in(alloc, env.catalog, &part.value, &mut marks)?;
+    }
+    valued_relvars(alloc, env, marks)
 }

@@ -1,4 +1,4 @@
-use Rattle.std.proofs.Common.{◌≡◌, ◌∙◌, ◌∷◌, List, ap, map, subst, sym, take}
+use Rattle.std.proofs.Common.{◌≡◌, ◌∙◌, ◌∷◌, List, ap, arith, map, subst, sym, take}
 use Rattle.std.proofs.lemmas.List.{take_all}
 use Rattle.std.proofs.lemmas.Result.{IfOk-weaker}
 use Rattle.std.specs.Prelude.{IfNone, IfOk, IfSome}
@@ -13,10 +13,13 @@ use Rattle.td_plan.proofs.NarrowedOperands.{plan_narrows}
 use Rattle.td_plan.proofs.PlannedAnswers.{has_static, parts_typed, relation_typed}
 use Rattle.td_plan.proofs.PlannedLists.{expressions_are, items_are, one_more_planned, parts_are}
 use Rattle.td_plan.proofs.PlannedSummaries.{aggregates_are, by_of_none, by_of_refused, per_of_none, per_of_refused}
+use Rattle.td_plan.proofs.Pushed.{stands_planned}
+use Rattle.td_plan.proofs.TreeWeights.{weight, weight_item, weight_named, weight_part}
 use Rattle.td_plan.specs.Fixing.{MayFix}
 use Rattle.td_plan.specs.Narrowing.{AreFixed}
 use Rattle.td_plan.specs.PlannedParts.{ArePlansOfTyped, HasStaticHeading, in_named, in_summaries, item_tree, part_tree}
 use Rattle.td_plan.specs.PlansOf.{IsPlanOfTyped}
+use Rattle.td_plan.specs.Pushing.{MayStandFor, restricted_tree}
 use Rattle.td_plan.specs.StepViews.{step_view, steps_view}
 use Rattle.td_tree.proofs.Rows.{extend_is, headed_relation_is, relation_is, select_is, summarize_by_is, summarize_per_is, tuple_is}
 use Rattle.td_tree.specs.Outcomes.{Valued, with_value}
@@ -71,10 +74,10 @@ planning::step_of-returns-in_ok-step_of-in-Measure g t c =
     let is = ap tree_view c.in-Measure.is ∙ ap (λ x. trees.measure c.in-Measure.op (tree_view x)) (sym c.deref-in-Measure.ensures) in
     IfOk-weaker c.measure_step.result _ _ (λ p h. subst (IsPlanOfTyped c.args.planner.now.scope (step_view p)) (sym is) (h c.args.planner.now.scope (tree_view c.deref-in-Measure.result.now) c.in_ok-step_of-in-Measure.ensures)) c.measure_step.ensures
 
-pub planning::step_of-returns-in_ok-operand-in-Restriction : goal.planning::step_of-returns-in_ok-operand-in-Restriction
-planning::step_of-returns-in_ok-operand-in-Restriction g t c =
-    let is = ap tree_view c.in-Restriction.is ∙ (λ i. trees.restriction (tree_view (sym c.deref-expr.ensures i)) (tree_view (sym c.deref-in-Restriction.ensures i))) in
-    IfOk-weaker c.where_step.result _ _ (λ p h. subst (IsPlanOfTyped c.args.planner.now.scope (step_view p)) (sym is) (h c.in_ok-operand-in-Restriction.ensures)) c.where_step.ensures
+pub planning::step_of-returns-in-Restriction : goal.planning::step_of-returns-in-Restriction
+planning::step_of-returns-in-Restriction g t c =
+    let is = ap tree_view c.in-Restriction.is ∙ (λ i. trees.restriction (tree_view (sym c.deref-in-Restriction.ensures i)) (tree_view (sym c.deref-in-Restriction-2.ensures i))) in
+    IfOk-weaker c.where_of.result _ _ (λ p h. subst (IsPlanOfTyped c.args.planner.now.scope (step_view p)) (sym is) h) c.where_of.ensures
 
 pub planning::step_of-returns-in_ok-step_of-in-Binary : goal.planning::step_of-returns-in_ok-step_of-in-Binary
 planning::step_of-returns-in_ok-step_of-in-Binary g t c =
@@ -151,8 +154,68 @@ planning::part_steps-loop-part-preserved g t c =
     one_more_planned c.args.planner.now.scope part_tree c.loop-part.steps.items c.push.new.self.items c.in_ok-step_of.field-0 c.args.parts.now c.loop-part.part-index c.part-item.result
     c.loop-part-test.true c.part-item.is c.in_ok-push.ensures.items c.loop-part.invariant c.in_ok-step_of.ensures
 
-pub planning::where_step-returns : goal.planning::where_step-returns
-planning::where_step-returns g t c =
+pub restrictions::where_of-returns-in-Parentheses : goal.restrictions::where_of-returns-in-Parentheses
+restrictions::where_of-returns-in-Parentheses g t c =
+    let is = ap tree_view c.in-Parentheses.is ∙ ap (λ x. trees.parentheses (tree_view x)) (sym c.deref.ensures) in
+    IfOk-weaker c.where_of.result _ _
+    (λ p h. subst (λ d. IsPlanOfTyped c.args.planner.now.scope (step_view p) (trees.restriction d (tree_view c.args.condition.now))) (sym is) h)
+    c.where_of.ensures
+
+pub restrictions::where_of-returns-in-Some : goal.restrictions::where_of-returns-in-Some
+restrictions::where_of-returns-in-Some g t c =
+    let scope = c.args.planner.now.scope in
+    let e = tree_view c.args.condition.now in
+    let l = tree_view c.deref-left.result.now in
+    let r = tree_view c.deref-right.result.now in
+    let op = c.in-Binary.op in
+    let is = ap tree_view c.in-Binary.is ∙ (λ i. trees.binary (tree_view (sym c.deref-left.ensures i)) op (tree_view (sym c.deref-right.ensures i))) in
+    let stands =
+    subst (λ o. IfSome o (λ k. tree_view c.args.expr.now ≡ trees.binary l op r → MayStandFor scope (restricted_tree k l op r e) (trees.restriction (trees.binary l op r) e)))
+    c.in-Some.is c.in_ok-restricted-in-Binary.ensures is in
+    IfOk-weaker c.pushed.result _ _
+    (λ p h. subst (λ d. IsPlanOfTyped scope (step_view p) (trees.restriction d e)) (sym is)
+    (stands_planned scope (step_view p) (restricted_tree c.in-Some.restricted l op r e) (trees.restriction (trees.binary l op r) e) stands h))
+    c.pushed.ensures
+
+pub restrictions::pushed-returns-in_ok-step_of-in-First : goal.restrictions::pushed-returns-in_ok-step_of-in-First
+restrictions::pushed-returns-in_ok-step_of-in-First g t c =
+    let scope = c.args.planner.now.scope in
+    let l = tree_view c.args.left.now in
+    let r = tree_view c.args.right.now in
+    let e = tree_view c.args.condition.now in
+    IfOk-weaker c.binary_step.result _ _
+    (λ p h. subst (λ k. IsPlanOfTyped scope (step_view p) (restricted_tree k l c.args.op r e)) (sym c.in-First.is)
+    (h scope (trees.restriction l e) r c.in_ok-left-in-First.ensures c.in_ok-step_of-in-First.ensures))
+    c.binary_step.ensures
+
+pub restrictions::pushed-returns-in_ok-where_of-in-Second : goal.restrictions::pushed-returns-in_ok-where_of-in-Second
+restrictions::pushed-returns-in_ok-where_of-in-Second g t c =
+    let scope = c.args.planner.now.scope in
+    let l = tree_view c.args.left.now in
+    let r = tree_view c.args.right.now in
+    let e = tree_view c.args.condition.now in
+    IfOk-weaker c.binary_step-in-Second.result _ _
+    (λ p h. subst (λ k. IsPlanOfTyped scope (step_view p) (restricted_tree k l c.args.op r e)) (sym c.in-Second.is)
+    (h scope l (trees.restriction r e) c.in_ok-left-in-Second.ensures c.in_ok-where_of-in-Second.ensures))
+    c.binary_step-in-Second.ensures
+
+pub restrictions::pushed-returns-in_ok-where_of-in-Both : goal.restrictions::pushed-returns-in_ok-where_of-in-Both
+restrictions::pushed-returns-in_ok-where_of-in-Both g t c =
+    let scope = c.args.planner.now.scope in
+    let l = tree_view c.args.left.now in
+    let r = tree_view c.args.right.now in
+    let e = tree_view c.args.condition.now in
+    IfOk-weaker c.binary_step-in-Both.result _ _
+    (λ p h. subst (λ k. IsPlanOfTyped scope (step_view p) (restricted_tree k l c.args.op r e)) (sym c.in-Both.is)
+    (h scope (trees.restriction l e) (trees.restriction r e) c.in_ok-left-in-Both.ensures c.in_ok-where_of-in-Both.ensures))
+    c.binary_step-in-Both.ensures
+
+pub restrictions::where_here-returns : goal.restrictions::where_here-returns
+restrictions::where_here-returns g t c =
+    IfOk-weaker c.where_step.result _ _ (λ p h. h c.in_ok-operand.ensures) c.where_step.ensures
+
+pub restrictions::where_step-returns : goal.restrictions::where_step-returns
+restrictions::where_step-returns g t c =
     let scope = c.args.planner.now.scope in
     let d = tree_view c.args.written.expr.now in
     let e = tree_view c.args.condition.now in
@@ -163,8 +226,8 @@ planning::where_step-returns g t c =
     (subst (λ s. IsPlanOfTyped s (step_view c.in_ok-asked.asked) e) c.in_ok-inner.ensures.scope c.in_ok-asked.ensures))
     c.restriction_step-2.ensures
 
-pub planning::where_step-returns-then-is_none : goal.planning::where_step-returns-then-is_none
-planning::where_step-returns-then-is_none g t c =
+pub restrictions::where_step-returns-then-is_none : goal.restrictions::where_step-returns-then-is_none
+restrictions::where_step-returns-then-is_none g t c =
     let scope = c.args.planner.now.scope in
     let d = tree_view c.args.written.expr.now in
     let e = tree_view c.args.condition.now in
@@ -175,8 +238,8 @@ planning::where_step-returns-then-is_none g t c =
     (subst (λ s. IsPlanOfTyped s (step_view c.in_ok-asked.asked) e) c.in_ok-inner.ensures.scope c.in_ok-asked.ensures))
     c.restriction_step.ensures
 
-pub planning::where_step-returns-in_default : goal.planning::where_step-returns-in_default
-planning::where_step-returns-in_default g t c is written kind typed =
+pub restrictions::where_step-returns-in_default : goal.restrictions::where_step-returns-in_default
+restrictions::where_step-returns-in_default g t c is written kind typed =
     let d = tree_view c.args.written.expr.now in
     let found = relation_typed (type_of c.args.planner.now.scope d) (λ s h. with_value (type_of (entered_with h c.args.planner.now.scope) (tree_view c.args.condition.now)) (restriction_type s)) kind typed in
     absurd (subst (λ o. HasStaticHeading c.args.planner.now.scope o d) c.in_default.is is.1 found.0 found.1)
@@ -290,6 +353,92 @@ planning::summarize_by_step-returns-in_default-2 g t c d is written kind typed =
     absurd (by_of_refused scope d items c.in-Some.heading (subst (λ o. HasStaticHeading scope o d) c.in-Some.is is.1)
     (subst (λ s. (xs : List Attribute) → summary_attributes s items ≡ Valued xs → ⊥) c.in_ok-inner.ensures.scope none) (attributes_view c.args.by.now) kind typed)
 
+-- ---- how much there is to plan
+
+pub planning::step_of-steps_of-requires : goal.planning::step_of-steps_of-requires
+planning::step_of-steps_of-requires g t c =
+    λ κs o. (
+      (let h = ap weight (ap tree_view c.in-Select.is ∙ select_is c.in-Select.ty c.in-Select.arguments ∙ ap (λ xs. trees.select c.in-Select.ty (trees_view xs)) (sym c.deref-in-Select.ensures.value)) in omega (arith, c.decreases, h)),
+      (o, c.requires),
+    )
+
+pub planning::step_of-steps_of-requires-in-Relation : goal.planning::step_of-steps_of-requires-in-Relation
+planning::step_of-steps_of-requires-in-Relation g t c =
+    λ κs o. (
+      (let h = ap weight (ap tree_view c.in-Relation.is ∙ relation_is c.in-Relation.elements ∙ ap (λ xs. trees.relation (trees_view xs)) (sym c.deref-in-Relation.ensures.value)) in omega (arith, c.decreases, h)),
+      (o, c.requires),
+    )
+
+pub planning::step_of-steps_of-requires-in-HeadedRelation : goal.planning::step_of-steps_of-requires-in-HeadedRelation
+planning::step_of-steps_of-requires-in-HeadedRelation g t c =
+    λ κs o. (
+      (let h = ap weight (ap tree_view c.in-HeadedRelation.is ∙ headed_relation_is c.in-HeadedRelation.heading c.in-HeadedRelation.elements ∙ ap (λ xs. trees.headed_relation (heading_tree_view c.in-HeadedRelation.heading.items) (trees_view xs)) (sym c.deref-in-HeadedRelation-2.ensures.value)) in omega (arith, c.decreases, h)),
+      (o, c.requires),
+    )
+
+pub planning::step_of-part_steps-requires : goal.planning::step_of-part_steps-requires
+planning::step_of-part_steps-requires g t c =
+    λ κs o. (
+      (let h = ap weight (ap tree_view c.in-Tuple.is ∙ tuple_is c.in-Tuple.parts ∙ ap (λ xs. trees.tuple (named_view xs)) (sym c.deref-in-Tuple-2.ensures.value)) in omega (arith, c.decreases, h)),
+      (o, c.requires),
+    )
+
+pub planning::step_of-extend_step-requires : goal.planning::step_of-extend_step-requires
+planning::step_of-extend_step-requires g t c =
+    λ κs o. (
+      (let h = ap weight (ap tree_view c.in-Extend.is ∙ extend_is c.in-Extend.operand c.in-Extend.parts ∙ (λ i. trees.extend (tree_view (sym c.deref-in-Extend.ensures i)) (named_view (sym c.deref-in-Extend-2.ensures.value i)))) in omega (arith, c.decreases, h)),
+      (o, c.requires),
+    )
+
+pub planning::step_of-operand_of-requires-in-Extend : goal.planning::step_of-operand_of-requires-in-Extend
+planning::step_of-operand_of-requires-in-Extend g t c =
+    λ κs o. (
+      (let h = ap weight (ap tree_view c.in-Extend.is ∙ extend_is c.in-Extend.operand c.in-Extend.parts ∙ ap (λ x. trees.extend (tree_view x) (named_view c.in-Extend.parts.items)) (sym c.deref-in-Extend.ensures)) in omega (arith, c.decreases, h)),
+      (o, c.requires),
+    )
+
+pub planning::step_of-summarize_per_step-requires : goal.planning::step_of-summarize_per_step-requires
+planning::step_of-summarize_per_step-requires g t c =
+    λ κs o. (
+      (let h = ap weight (ap tree_view c.in-SummarizePer.is ∙ summarize_per_is c.in-SummarizePer.operand c.in-SummarizePer.per c.in-SummarizePer.items ∙ (λ i. trees.summarize_per (tree_view (sym c.deref-in-SummarizePer.ensures i)) (tree_view (sym c.deref-in-SummarizePer-2.ensures i)) (summaries_view (sym c.deref-in-SummarizePer-3.ensures.value i)))) in omega (arith, c.decreases, h)),
+      (o, c.requires),
+    )
+
+pub planning::step_of-summarize_by_step-requires : goal.planning::step_of-summarize_by_step-requires
+planning::step_of-summarize_by_step-requires g t c =
+    λ κs o. (
+      (let h = ap weight (ap tree_view c.in-SummarizeBy.is ∙ summarize_by_is c.in-SummarizeBy.operand c.in-SummarizeBy.by c.in-SummarizeBy.items ∙ (λ i. trees.summarize_by (tree_view (sym c.deref-in-SummarizeBy.ensures i)) (attributes_view c.in-SummarizeBy.by) (summaries_view (sym c.deref-in-SummarizeBy-2.ensures.value i)))) in omega (arith, c.decreases, h)),
+      (o, c.requires),
+    )
+
+pub planning::step_of-operand_of-requires-in-SummarizeBy : goal.planning::step_of-operand_of-requires-in-SummarizeBy
+planning::step_of-operand_of-requires-in-SummarizeBy g t c =
+    λ κs o. (
+      (let h = ap weight (ap tree_view c.in-SummarizeBy.is ∙ summarize_by_is c.in-SummarizeBy.operand c.in-SummarizeBy.by c.in-SummarizeBy.items ∙ ap (λ x. trees.summarize_by (tree_view x) (attributes_view c.in-SummarizeBy.by) (summaries_view c.in-SummarizeBy.items.items)) (sym c.deref-in-SummarizeBy.ensures)) in omega (arith, c.decreases, h)),
+      (o, c.requires),
+    )
+
+pub planning::steps_of-step_of-requires : goal.planning::steps_of-step_of-requires
+planning::steps_of-step_of-requires g t c =
+    λ κs o. (
+      (let h = weight_part c.args.exprs.now c.loop-expr.expr-index c.expr-item.result c.loop-expr-test.true c.expr-item.is in omega (arith, c.decreases, h)),
+      (o, c.requires),
+    )
+
+pub planning::part_steps-step_of-requires : goal.planning::part_steps-step_of-requires
+planning::part_steps-step_of-requires g t c =
+    λ κs o. (
+      (let h = weight_named c.args.parts.now c.loop-part.part-index c.part-item.result c.loop-part-test.true c.part-item.is in omega (arith, c.decreases, h)),
+      (o, c.requires),
+    )
+
+pub planning::item_steps-item_step-requires : goal.planning::item_steps-item_step-requires
+planning::item_steps-item_step-requires g t c =
+    λ κs o. (
+      (let h = weight_item c.args.items.now c.loop-item.item-index c.item-item.result c.loop-item-test.true c.item-item.is in omega (arith, c.decreases, h)),
+      (o, c.requires),
+    )
+
 -- ---- attributes that a condition fixes
 
 pub fixed::fixed_values-returns-in-Parentheses : goal.fixed::fixed_values-returns-in-Parentheses
@@ -312,11 +461,11 @@ fixed::fixed_values-returns-in_ok-fixed_values-in-Binary g t c =
     let h = c.args.heading.now in
     let first = c.in_ok-first-in-Binary in
     let second = c.in_ok-fixed_values-in-Binary in
-    IfOk-weaker c.joined.result _ _
+    IfOk-weaker c.joined_lists.result _ _
     (λ fixed both. subst (λ e. IsWritten e → AreFixed scope h e fixed.items) (sym is)
     (λ written. and_fixes scope h (tree_view left.result.now) (tree_view right.result.now) first.first.items second.field-0.items fixed.items both
     (first.ensures (written.0.0, written.1.0)) (second.ensures (written.0.1, written.1.1))))
-    c.joined.ensures
+    c.joined_lists.ensures
 
 pub fixed::fixed_values-returns-in_ok-fixed_value-in-Compare : goal.fixed::fixed_values-returns-in_ok-fixed_value-in-Compare
 fixed::fixed_values-returns-in_ok-fixed_value-in-Compare g t c =
@@ -335,12 +484,12 @@ fixed::fixed_values-returns-in_ok-fixed_value-in-Compare g t c =
     let right_fixed =
     subst (λ (p : Tree × Tree). IfSome second.field-0 (FixesWhere scope h p.0 p.1))
     (λ i. (tree_view (c.deref-in-Compare-4.ensures i), tree_view (c.deref-in-Compare-3.ensures i))) second.ensures in
-    IfOk-weaker c.listed.result _ _
+    IfOk-weaker c.list_of_both.result _ _
     (λ fixed both. subst (λ d. IsWritten d → AreFixed scope h d fixed.items) (sym is)
     (λ written. both_fixed scope h e first.first second.field-0 fixed.items both
     (one_is_fixed scope h e a b first.first left_fixed (written.0.1, written.1.1) (equality_fixes a b))
     (one_is_fixed scope h e b a second.field-0 right_fixed (written.0.0, written.1.0) (equality_fixes_back a b))))
-    c.listed.ensures
+    c.list_of_both.ensures
 
 pub fixed::fixed_value-returns : goal.fixed::fixed_value-returns
 fixed::fixed_value-returns g t c = λ written e same.

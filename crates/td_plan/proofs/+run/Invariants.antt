@@ -25,8 +25,8 @@ abbrev pub invariant-run::answers-loop-part : goal.invariant-run::answers-loop-p
 invariant-run::answers-loop-part g l =
     (fs : List Frame) → IsHand l.hand fs → AreAnswers l.answers.items (map (step_value (world_around l.around) fs) (take l.part-index l.parts))
 
-abbrev pub invariant-run_rows::truths-loop-row : goal.invariant-run_rows::truths-loop-row
-invariant-run_rows::truths-loop-row g l =
+abbrev pub invariant-run_rows::truths_by_row-loop-row : goal.invariant-run_rows::truths_by_row-loop-row
+invariant-run_rows::truths_by_row-loop-row g l =
     (fs : List Frame) → (os : List (Outcome Val)) → IsEntered l.inside fs os
     → IsGathered l.causes (map (λ b. b) l.truths.items) (map (λ t. truth_value (value_in (world_around l.around) fs os l.condition t)) (take l.row-index l.rows))
 
@@ -73,6 +73,9 @@ abbrev pub decreases-run::choice : goal.decreases-run::choice
 decreases-run::choice g l =
     8 * max (step_height l.condition.now) (max (step_height l.consequent.now) (step_height l.alternative.now)) + 1
 
+abbrev pub decreases-run::measure : goal.decreases-run::measure
+decreases-run::measure g l = 8 * step_height l.operand.now + 4
+
 abbrev pub decreases-run::values_of : goal.decreases-run::values_of
 decreases-run::values_of g l = 8 * steps_height l.steps.now + 1
 
@@ -86,7 +89,10 @@ abbrev pub decreases-run_rows::value_in_row : goal.decreases-run_rows::value_in_
 decreases-run_rows::value_in_row g l = 8 * step_height l.step.now + 1
 
 abbrev pub decreases-run_rows::truth_in_row : goal.decreases-run_rows::truth_in_row
-decreases-run_rows::truth_in_row g l = 8 * step_height l.condition.now + 2
+decreases-run_rows::truth_in_row g l = 8 * step_height l.condition.now + 1
+
+abbrev pub decreases-run_rows::truths_by_row : goal.decreases-run_rows::truths_by_row
+decreases-run_rows::truths_by_row g l = 8 * step_height l.condition.now + 2
 
 abbrev pub decreases-run_rows::truths : goal.decreases-run_rows::truths
 decreases-run_rows::truths g l = 8 * step_height l.condition.now + 3
@@ -108,6 +114,9 @@ decreases-run_rows::totals g l = 8 * steps_height l.steps.now + 4
 
 abbrev pub decreases-run::restriction : goal.decreases-run::restriction
 decreases-run::restriction g l = 8 * max (steps_height l.parts.now) (step_height l.condition.now) + 4
+
+abbrev pub decreases-run::restriction_measured : goal.decreases-run::restriction_measured
+decreases-run::restriction_measured g l = 8 * max (steps_height l.parts.now) (step_height l.condition.now) + 4
 
 abbrev pub decreases-run::aggregation : goal.decreases-run::aggregation
 decreases-run::aggregation g l = 8 * max (steps_height l.parts.now) (step_height l.value.now) + 4

@@ -30,11 +30,11 @@ pub(crate) fn lowered(alloc: Global, step: Step, depth: usize) -> Result<Step, A
         Step::Extract(attribute, operand) => {
             Ok(Step::Extract(attribute, operand_lowered(alloc, operand, depth)?))
         }
-        Step::Restriction(operand, parts, condition) => {
+        Step::Restriction(operand, parts, condition, origin) => {
             let (operand, parts, condition) = loop_lowered(
                 alloc, operand, parts, condition, depth,
             )?;
-            Ok(Step::Restriction(operand, parts, condition))
+            Ok(Step::Restriction(operand, parts, condition, origin))
         }
         Step::Binary(left, op, right) => {
             let (left, right) = operands_lowered(alloc, left, right, depth)?;

@@ -19,7 +19,7 @@ pub(crate) fn reaches(step: &Step, depth: usize) -> bool
         Step::LookUp(_, _, part) => operand_reaches(part, depth),
         Step::Prefix(_, operand) => operand_reaches(operand, depth),
         Step::Extract(_, operand) => operand_reaches(operand, depth),
-        Step::Restriction(operand, parts, condition) => one_of_three(
+        Step::Restriction(operand, parts, condition, _) => one_of_three(
             operand_reaches(operand, depth),
             list_reaches(parts, depth),
             inner_reaches(condition, depth),

@@ -6,7 +6,7 @@ use Rattle.std.specs.Rc.{rc_str_bytes}
 use Rattle.td_plan.proofs.PulledParts.{pulls_after, pulls_aggregate, pulls_all_after, pulls_before, pulls_before_one, pulls_binary, pulls_choice, pulls_compare, pulls_component, pulls_extend, pulls_extract, pulls_headed_relation, pulls_look_up, pulls_measure, pulls_more, pulls_of, pulls_postfix, pulls_prefix, pulls_relation, pulls_restriction, pulls_select, pulls_summarize_by, pulls_summarize_per, pulls_tuple}
 use Rattle.td_plan.proofs.StepRows.{aggregate_is, extend_is, headed_relation_is, relation_is, restriction_is, select_is, summarize_by_is, summarize_per_is, tuple_is}
 use Rattle.td_plan.proofs.StepWeights.{weight, weight_within, weights}
-use Rattle.td_plan.specs.Hoisting.{PullsAll}
+use Rattle.td_plan.specs.Hoisting.{HoistsAll}
 use Rattle.td_plan.specs.Plans.{binary, choice, compare, component, extract, look_up, measure, postfix, prefix}
 use Rattle.td_plan.specs.StepViews.{step_view, steps_view}
 use Rattle.td_tree.specs.TreeViews.{attributes_view, postfix_view}
@@ -121,7 +121,7 @@ pub with_parts_pulled-returns-in_ok-operand-in-Restriction : goal.with_parts_pul
 with_parts_pulled-returns-in_ok-operand-in-Restriction t c =
     let a = steps_view c.args.pool.now.items in
     let z = steps_view c.loop_pulled.new.pool.items in
-    pulls_of a z _ _ _ _ (ap step_view c.in-Restriction.is ∙ restriction_is c.in-Restriction.operand c.in-Restriction.parts c.in-Restriction.condition) (restriction_is c.in_ok-operand-in-Restriction.operand c.in_ok-operand-in-Restriction.parts c.in-Restriction.condition)
+    pulls_of a z _ _ _ _ (ap step_view c.in-Restriction.is ∙ restriction_is c.in-Restriction.operand c.in-Restriction.parts c.in-Restriction.condition c.in-Restriction.origin) (restriction_is c.in_ok-operand-in-Restriction.operand c.in_ok-operand-in-Restriction.parts c.in-Restriction.condition c.in-Restriction.origin)
     (pulls_restriction a z (step_view c.in-Restriction.operand.value) (step_view c.in_ok-operand-in-Restriction.operand.value) (steps_view c.in-Restriction.parts.items) (steps_view c.in_ok-operand-in-Restriction.parts.items)
     c.in_ok-operand-in-Restriction.ensures.operand c.in_ok-operand-in-Restriction.ensures.parts (step_view c.in-Restriction.condition.value))
 
@@ -170,7 +170,7 @@ with_parts_pulled-returns-in_ok-operand-in-SummarizePer t c =
 -- ---- measures
 
 pub with_parts_pulled-loop_pulled-requires : goal.with_parts_pulled-loop_pulled-requires
-with_parts_pulled-loop_pulled-requires t c = (let h = ap weight (ap step_view c.in-Restriction.is ∙ restriction_is c.in-Restriction.operand c.in-Restriction.parts c.in-Restriction.condition) in omega (arith, c.decreases, h), tt)
+with_parts_pulled-loop_pulled-requires t c = (let h = ap weight (ap step_view c.in-Restriction.is ∙ restriction_is c.in-Restriction.operand c.in-Restriction.parts c.in-Restriction.condition c.in-Restriction.origin) in omega (arith, c.decreases, h), tt)
 
 pub with_parts_pulled-all_pulled-requires : goal.with_parts_pulled-all_pulled-requires
 with_parts_pulled-all_pulled-requires t c = (let h = ap weight (ap step_view c.in-Select.is ∙ select_is c.in-Select.ty c.in-Select.arguments) in omega (arith, c.decreases, h), tt)
@@ -254,7 +254,7 @@ all_pulled-loop-step-preserved t c =
     let so_far = c.loop-step.yielded ++ (c.in-Some.step ∷ []) in (
       let rest : c.loop-step.step-iterator.rest.items ≡ c.in-Some.step ∷ c.next.new.self.rest.items = c.in-Some.ensures.steps.0 in
           c.loop-step.invariant.0 ∙ ap (λ xs. c.loop-step.yielded ++ xs) rest ∙ sym (append_assoc c.loop-step.yielded (c.in-Some.step ∷ []) c.next.new.self.rest.items),
-      subst (λ qs. PullsAll a z (steps_view so_far) (steps_view qs)) (sym c.in_ok-push.ensures.items)
+      subst (λ qs. HoistsAll a z (steps_view so_far) (steps_view qs)) (sym c.in_ok-push.ensures.items)
           (pulls_more a b z c.loop-step.yielded c.loop-step.all.items c.in-Some.step c.in_ok-pulled.field-0 c.loop-step.invariant.1 c.in_ok-pulled.ensures),
     )
 
@@ -265,4 +265,4 @@ all_pulled-returns t c =
     let end = YieldsList-end (YieldsList-from_vec c.args.steps.items (cc) (cc)) c.loop-step.yielded c.loop-step.step-iterator c.loop-step.yielded_by
     c.next.result c.next.new.self c.in-None.is c.next.ensures.steps in
     let all : c.loop-step.yielded ≡ c.args.steps.items = sym (map-id c.loop-step.yielded) ∙ end.0 in
-    subst (λ xs. PullsAll a z (steps_view xs) (steps_view c.loop-step.all.items)) all c.loop-step.invariant.1
+    subst (λ xs. HoistsAll a z (steps_view xs) (steps_view c.loop-step.all.items)) all c.loop-step.invariant.1

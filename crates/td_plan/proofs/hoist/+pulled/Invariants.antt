@@ -1,6 +1,6 @@
 use Rattle.std.proofs.Common.{◌≡◌, ◌+◌, ◌*◌, ◌++◌}
 use Rattle.td_plan.proofs.StepWeights.{weight, weights}
-use Rattle.td_plan.specs.Hoisting.{PullsAll}
+use Rattle.td_plan.specs.Hoisting.{HoistsAll}
 use Rattle.td_plan.specs.StepViews.{step_view, steps_view}
 use Rattle.td_plan.proofs.hoist.+pulled.Given as goal
 
@@ -25,4 +25,4 @@ decreases-all_pulled l = 4 * weights (steps_view l.steps.items)
 abbrev pub invariant-all_pulled-loop-step : goal.invariant-all_pulled-loop-step
 invariant-all_pulled-loop-step l =
     (l.fn.steps.items ≡ l.yielded ++ l.step-iterator.rest.items)
-    × PullsAll (steps_view l.fn.pool.items) (steps_view l.pool.items) (steps_view l.yielded) (steps_view l.all.items)
+    × HoistsAll (steps_view l.fn.pool.items) (steps_view l.pool.items) (steps_view l.yielded) (steps_view l.all.items)

@@ -1,5 +1,5 @@
 use Rattle.std.proofs.Common.{subst, sym}
-use Rattle.td_plan.specs.Hoisting.{Pulls}
+use Rattle.td_plan.specs.Hoisting.{Hoists}
 use Rattle.td_plan.specs.Narrowing.{Narrows}
 use Rattle.td_plan.specs.PlansOf.{IsPlanOfTyped}
 use Rattle.td_plan.specs.StepViews.{step_view, steps_view}
@@ -14,7 +14,7 @@ returns c = λ scope d e h i static j.
     let parts = c.pulled.new.pool in
     let old = steps_view c.new-parts.result.items in
     let q = c.in_ok-condition-2.condition in
-    subst (λ x. IsPlanOfTyped scope x (trees.restriction d e)) (sym (restriction_is p parts q))
+    subst (λ x. IsPlanOfTyped scope x (trees.restriction d e)) (sym (restriction_is p parts q c.args.origin))
     (restriction_planned scope (step_view p.value) old (steps_view parts.items) (step_view q.value) (step_view c.args.condition) d e h
     (subst (λ x. Narrows scope (step_view x) d e h) (sym c.in_ok-operand.ensures.ok) i) static j
-    (subst (λ x. Pulls old (steps_view parts.items) (step_view c.args.condition) (step_view x)) (sym c.in_ok-condition-2.ensures.ok) c.in_ok-condition.ensures))
+    (subst (λ x. Hoists old (steps_view parts.items) (step_view c.args.condition) (step_view x)) (sym c.in_ok-condition-2.ensures.ok) c.in_ok-condition.ensures))

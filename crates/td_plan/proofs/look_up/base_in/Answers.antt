@@ -8,4 +8,4 @@ use Rattle.td_plan.proofs.look_up.base_in.Goals as goal
 pub returns-clause-value : goal.returns-clause-value
 returns-clause-value g c =
     base_told c.get_base.result (λ (e : Bor (BaseEntry g.row.B.Denot)). base_view g.B.Body.relation (c.args.name.now, e.now)) c.args.env.now.catalog.now.database c.args.name.now
-    (world_in c.args.env.now) c.get_base.ensures.found (c.is_other.ensures c.if-is_other.false)
+    (world_in c.args.env.now) c.get_base.ensures.found (c.has_other_relation.ensures c.if-has_other_relation.false)

@@ -14,8 +14,8 @@ use Rattle.td_plan.proofs.hoist.lowering.+lowered.Goals as goal
 
 pub lowered-returns-in_ok-operand-in-Restriction : goal.lowered-returns-in_ok-operand-in-Restriction
 lowered-returns-in_ok-operand-in-Restriction t c =
-    restriction_is c.in_ok-operand-in-Restriction.operand c.in_ok-operand-in-Restriction.parts c.in_ok-operand-in-Restriction.condition ∙ (λ i. restriction (c.in_ok-operand-in-Restriction.ensures.operand i) (c.in_ok-operand-in-Restriction.ensures.parts i) (c.in_ok-operand-in-Restriction.ensures.value i))
-    ∙ sym (ap (lowered c.args.depth) (ap step_view c.in-Restriction.is ∙ restriction_is c.in-Restriction.operand c.in-Restriction.parts c.in-Restriction.condition))
+    restriction_is c.in_ok-operand-in-Restriction.operand c.in_ok-operand-in-Restriction.parts c.in_ok-operand-in-Restriction.condition c.in-Restriction.origin ∙ (λ i. restriction (c.in_ok-operand-in-Restriction.ensures.operand i) (c.in_ok-operand-in-Restriction.ensures.parts i) (c.in_ok-operand-in-Restriction.ensures.value i))
+    ∙ sym (ap (lowered c.args.depth) (ap step_view c.in-Restriction.is ∙ restriction_is c.in-Restriction.operand c.in-Restriction.parts c.in-Restriction.condition c.in-Restriction.origin))
 
 pub lowered-returns-in_ok-all_lowered-in-Select : goal.lowered-returns-in_ok-all_lowered-in-Select
 lowered-returns-in_ok-all_lowered-in-Select t c =
@@ -60,7 +60,7 @@ lowered-returns-in_ok-operand-in-SummarizeBy t c =
 -- ---- measures
 
 pub lowered-loop_lowered-requires : goal.lowered-loop_lowered-requires
-lowered-loop_lowered-requires t c = (let h = ap weight (ap step_view c.in-Restriction.is ∙ restriction_is c.in-Restriction.operand c.in-Restriction.parts c.in-Restriction.condition) in omega (arith, c.decreases, h), tt)
+lowered-loop_lowered-requires t c = (let h = ap weight (ap step_view c.in-Restriction.is ∙ restriction_is c.in-Restriction.operand c.in-Restriction.parts c.in-Restriction.condition c.in-Restriction.origin) in omega (arith, c.decreases, h), tt)
 
 pub lowered-all_lowered-requires : goal.lowered-all_lowered-requires
 lowered-all_lowered-requires t c = (let h = ap weight (ap step_view c.in-Select.is ∙ select_is c.in-Select.ty c.in-Select.arguments) in omega (arith, c.decreases, h), tt)

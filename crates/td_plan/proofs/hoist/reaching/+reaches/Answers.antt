@@ -10,10 +10,10 @@ use Rattle.td_plan.proofs.hoist.reaching.+reaches.Goals as goal
 
 pub reaches-list_reaches-requires : goal.reaches-list_reaches-requires
 reaches-list_reaches-requires t c =
-    (let h = ap weight (ap step_view c.in-Restriction.is ∙ restriction_is c.in-Restriction.operand c.in-Restriction.parts c.in-Restriction.condition) in omega (arith, c.decreases, h), tt)
+    (let h = ap weight (ap step_view c.in-Restriction.is ∙ restriction_is c.in-Restriction.operand c.in-Restriction.parts c.in-Restriction.condition c.in-Restriction.field-3) in omega (arith, c.decreases, h), tt)
 
 pub reaches-returns-in-Restriction : goal.reaches-returns-in-Restriction
-reaches-returns-in-Restriction t c = λ e. ap (reaches c.args.depth) (ap step_view c.in-Restriction.is ∙ restriction_is c.in-Restriction.operand c.in-Restriction.parts c.in-Restriction.condition) ∙ c.one_of_three.ensures _ _ _ c.operand_reaches-in-Restriction.ensures c.list_reaches.ensures c.inner_reaches.ensures e
+reaches-returns-in-Restriction t c = λ e. ap (reaches c.args.depth) (ap step_view c.in-Restriction.is ∙ restriction_is c.in-Restriction.operand c.in-Restriction.parts c.in-Restriction.condition c.in-Restriction.field-3) ∙ c.one_of_three.ensures _ _ _ c.operand_reaches-in-Restriction.ensures c.list_reaches.ensures c.inner_reaches.ensures e
 
 pub reaches-returns-in-Binary : goal.reaches-returns-in-Binary
 reaches-returns-in-Binary t c = λ e. ap (reaches c.args.depth) (ap step_view c.in-Binary.is) ∙ c.either.ensures _ _ c.operand_reaches-in-Binary.ensures c.operand_reaches-in-Binary-2.ensures e

@@ -1,0 +1,78 @@
+-- What plans of parts give in the tuples of a relation is what the parts have there.
+use Rattle.std.proofs.Common.{◌≡◌, ◌∙◌, ◌∷◌, ℕ, suc, List, [], Result, ap, length, refl, subst, sym}
+use Rattle.std.specs.Global.{Vec}
+use Rattle.td_algebra.proofs.Relations.{member_headed}
+use Rattle.td_algebra.specs.Columns.{columns_view}
+use Rattle.td_algebra.specs.declared.extension.Column.{Column}
+use Rattle.td_check.specs.Scopes.{Scope}
+use Rattle.td_eval.proofs.AlikeRows.{AreAlikeIn, map_alike}
+use Rattle.td_eval.proofs.KeepsGathered.{member_from_all}
+use Rattle.td_eval.specs.NewColumns.{named_columns, with_values}
+use Rattle.td_eval.specs.OperatorValues.{value_of_type}
+use Rattle.td_eval.specs.TreeValues.{values_in_tuples}
+use Rattle.td_eval.specs.ValueTypes.{IsTypedTuple}
+use Rattle.td_eval.specs.Worlds.{World}
+use Rattle.td_plan.proofs.PlannedTuples.{all_pulled, parts_alike}
+use Rattle.td_plan.proofs.RunLaws.{as_many_columns}
+use Rattle.td_plan.specs.declared.plan.PartPlans.{PartPlans}
+use Rattle.td_plan.specs.declared.step.Step.{Step}
+use Rattle.td_plan.specs.Hoisting.{HoistsAll}
+use Rattle.td_plan.specs.PlannedParts.{ArePartPlans, ArePlansOfTyped}
+use Rattle.td_plan.specs.Plans.{Frame, PlanTrees, none, plan_columns, plan_values}
+use Rattle.td_plan.specs.PlansOf.{AreFramesOf, PartsMeetRulesIn}
+use Rattle.td_plan.specs.Runs.{values_planned}
+use Rattle.td_plan.specs.StepViews.{steps_view}
+use Rattle.td_tree.specs.declared.fault.Fault.{Fault}
+use Rattle.td_tree.specs.Outcomes.{Answers, Outcome, gathered, with_value}
+use Rattle.td_tree.specs.Trees.{NamedTrees, Tree}
+use Rattle.td_types.specs.Types.{Attribute}
+use Rattle.td_value.specs.Values.{Relation, Tuple, Val}
+
+-- ---- how many there are
+
+pub as_many_planned : (scope : Scope) (ps : List Step) (es : List Tree) → ArePlansOfTyped scope (steps_view ps) es → length ps ≡ length es
+as_many_planned scope [] [] all = refl
+as_many_planned scope [] (e ∷ es) all = absurd all
+as_many_planned scope (p ∷ ps) [] all = absurd all
+as_many_planned scope (p ∷ ps) (e ∷ es) all = ap suc (as_many_planned scope ps es all.1)
+
+pub as_many_pulled : (w : World) (once : PlanTrees) (ps qs : List Step) → HoistsAll none once (steps_view ps) (steps_view qs) → length qs ≡ length ps
+as_many_pulled w once ps qs pulls =
+    let os = plan_values w [] once in
+    sym (as_many_columns w [] os qs) ∙ ap length (all_pulled none once (steps_view ps) (steps_view qs) pulls w []) ∙ as_many_columns w [] os ps
+
+-- ---- columns
+
+-- they depend only on what is asked of the relation's tuples
+named_alike : (r : Relation) (attributes : List Attribute) (fs gs : List (Tuple → Outcome Val)) → AreAlikeIn r fs gs
+    → named_columns attributes fs r.body ≡ named_columns attributes gs r.body
+named_alike r [] fs gs same = refl
+named_alike r (a ∷ attributes) [] [] same = refl
+named_alike r (a ∷ attributes) [] (g ∷ gs) same = absurd same
+named_alike r (a ∷ attributes) (f ∷ fs) [] same = absurd same
+named_alike r (a ∷ attributes) (f ∷ fs) (g ∷ gs) same =
+    let first = map_alike (λ u. with_value (f u) (value_of_type a.1)) (λ u. with_value (g u) (value_of_type a.1)) r.body
+    (λ u c. ap (λ o. with_value o (value_of_type a.1)) (same.0 u c)) in
+    let rest = named_alike r attributes fs gs same.1 in
+    λ i. with_values a (gathered (first i)) ∷ rest i
+
+module _ (w : World) (scope : Scope) (s : List Tuple) (fs : List Frame) (f : AreFramesOf s fs) (r : Relation) (plans : PartPlans) (parts : NamedTrees)
+    (attributes : List Attribute) where
+  -- those of the plans are those of the parts
+  parts_planned : ArePartPlans scope r.heading plans parts → PartsMeetRulesIn w scope s r parts
+      → named_columns attributes (values_planned w fs plans) r.body ≡ named_columns attributes (values_in_tuples w s parts) r.body
+  parts_planned p m =
+      let once = steps_view plans.once.items in
+      let os = plan_values w fs once in
+      ap (λ gs. named_columns attributes gs r.body) (all_pulled none once p.0 (steps_view plans.values.items) p.2 w fs)
+      ∙ named_alike r attributes (plan_columns w fs os p.0) (values_in_tuples w s parts)
+      (parts_alike scope w s fs m.gives m.tuples f r r.heading refl
+      (λ u c. (member_from_all (IsTypedTuple scope.types) r.body m.relation.1 u c, (member_headed r u m.relation.0 c).1)) os p.0 parts m.typed.0 p.1
+      m.written.0 m.written.1 m.typed.1)
+
+  pub columns_planned : (result : Result (Vec (List ℕ × Column)) Fault)
+      → Answers (λ cs. columns_view cs.items) result (gathered (named_columns attributes (values_planned w fs plans) r.body))
+      → ArePartPlans scope r.heading plans parts → PartsMeetRulesIn w scope s r parts
+      → Answers (λ cs. columns_view cs.items) result (gathered (named_columns attributes (values_in_tuples w s parts) r.body))
+  columns_planned result told p m =
+      subst (λ columns. Answers (λ (cs : Vec (List ℕ × Column)). columns_view cs.items) result (gathered columns)) (parts_planned p m) told

@@ -1,0 +1,43 @@
+-- Restrictions that are computed of operands of what they restrict.
+use Rattle.std.specs.Prelude.{◌≡◌, List, IsTrue}
+use Rattle.td_check.specs.CannotFail.{cannot_fail}
+use Rattle.td_check.specs.Scopes.{Scope, entered_with}
+use Rattle.td_check.specs.StaticTypes.{type_of}
+use Rattle.td_eval.specs.TreeNumbers.{HasNumbers}
+use Rattle.td_eval.specs.TreeValues.{value_of}
+use Rattle.td_eval.specs.UnfailingValues.{GivesValues}
+use Rattle.td_eval.specs.ValueTypes.{IsWritten}
+use Rattle.td_eval.specs.Worlds.{World}
+use Rattle.td_plan.specs.declared.push.Restricted.{Restricted}
+use Rattle.td_plan.specs.declared.push.Restricted.TheVariants as operands
+use Rattle.td_plan.specs.PlansOf.{AreInHand, outermost}
+use Rattle.td_tree.specs.declared.operator.Operator.{Operator}
+use Rattle.td_tree.specs.Outcomes.{Valued}
+use Rattle.td_tree.specs.Trees.{Tree, binary, restriction}
+use Rattle.td_types.specs.Types.{Type', Heading, pack}
+use Rattle.td_types.specs.Types as types
+use Rattle.td_value.specs.Values.{Tuple}
+
+-- the expression's relations have the heading, and the condition has a truth value in each of their tuples
+pub record IsAnsweredIn (scope : Scope) (d e : Tree) (h : Heading) : Type 0 where
+  pub operand : type_of scope d ≡ Valued (types.relation (pack h))
+  pub condition : type_of (entered_with h scope) e ≡ Valued types.boolean
+  pub numbers : HasNumbers e
+  pub unfailing : IsTrue (cannot_fail (entered_with h scope) e)
+
+-- the first expression is of the type, and has the value of the second, or its causes, in every world that gives values in the
+-- scope and for all tuples that may be in hand there
+pub record StandsFor (scope : Scope) (e d : Tree) (t : Type') : Type 0 where
+  pub written : IsWritten e
+  pub typed : type_of scope e ≡ Valued t
+  pub same : (w : World) (s : List Tuple) → GivesValues w (outermost scope) → AreInHand scope s → value_of w s e ≡ value_of w s d
+
+-- so it is where the second has a type in the scope, and is written as tokens spell it
+abbrev pub MayStandFor : Scope → Tree → Tree → Type 0
+MayStandFor scope e d = IsWritten d → (t : Type') → type_of scope d ≡ Valued t → StandsFor scope e d t
+
+-- an operator of operands of which these are restricted
+abbrev pub restricted_tree : Restricted → Tree → Operator → Tree → Tree → Tree
+restricted_tree operands.First left op right condition = binary (restriction left condition) op right
+restricted_tree operands.Second left op right condition = binary left op (restriction right condition)
+restricted_tree operands.Both left op right condition = binary (restriction left condition) op (restriction right condition)

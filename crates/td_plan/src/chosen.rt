@@ -1,0 +1,46 @@
+//! The tuples of a relvar for which a condition is TRUE.
+ghost use Rattle.td_eval.specs.Sights.{tuples_in_hand, world_in};
+ghost use Rattle.td_eval.specs.TreeValues.{value_of};
+ghost use Rattle.td_eval.specs.ValueTypes.{DefinitionsAreWritten};
+ghost use Rattle.td_plan.specs.PlansOf.{MeetsRules, scope_in};
+ghost use Rattle.td_tree.specs.Outcomes.{Answers};
+ghost use Rattle.td_tree.specs.TreeViews.{tree_view};
+ghost use Rattle.td_tree.specs.Trees.{name, restriction};
+
+use crate::plan::plan_where;
+use crate::run_plan::run_plan_in;
+use crate::surroundings::Surroundings;
+use crate::virtuals::virtual_relvars;
+use std::alloc::Global;
+use td_body::body::Body;
+use td_eval::env::Env;
+use td_tree::expression::Expr;
+use td_tree::fault::Fault;
+use td_tree::name::Name;
+use td_value::value::Value;
+
+/// The tuples of the relvar for which the condition is TRUE, or the least of the causes for which
+/// there are none. Where the condition fixes a key, they are looked up by it. Each virtual relvar
+/// that the condition may ask is valued once.
+pub fn tuples_where<B: Body>(
+    alloc: Global,
+    env: &Env<'_, B>,
+    relvar: &Name,
+    condition: &Expr,
+) -> Result<Value, Fault>
+    requires { DefinitionsAreWritten env.now.catalog.now.database }
+    ensures { MeetsRules (world_in env.now) (scope_in env.now) (tuples_in_hand env.now)
+        (restriction (name relvar.now) (tree_view condition.now)) → Answers (λ v. v) result
+        (value_of (world_in env.now) (tuples_in_hand env.now)
+        (restriction (name relvar.now) (tree_view condition.now))) }
+{
+    let valued = virtual_relvars(alloc, env, condition)?;
+    let named = Expr::Name(relvar.try_clone()?);
+    let plan = plan_where(alloc, env, &named, condition)?;
+    let around = Surroundings {
+        alloc,
+        env,
+        valued: &valued,
+    };
+    run_plan_in(&around, &plan)
+}

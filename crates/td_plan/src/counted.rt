@@ -1,0 +1,59 @@
+//! What is asked of the tuples of an operand for which a condition is TRUE. They are counted, and
+//! no relation is made of them.
+ghost use Rattle.std.specs.Prelude.{◌≡◌, ℤ, FitsSigned, count_by, map};
+ghost use Rattle.std.specs.Int.{w64};
+ghost use Rattle.std.specs.Option.{SomeIff};
+ghost use Rattle.td_eval.specs.OperatorValues.{measure_value, of_number, restricted_value};
+ghost use Rattle.td_eval.specs.OperatorValues.{truth_value};
+ghost use Rattle.td_plan.specs.Counted.{number_measured};
+ghost use Rattle.td_tree.specs.Outcomes.{Answers, Outcome, gathered, with_value};
+ghost use Rattle.td_value.specs.Values.{Relation, Tuple, Val};
+
+use td_tree::cause::Cause;
+use td_tree::fault::Fault;
+use td_tree::operator::Measure;
+use td_value::value::Value;
+
+/// How many of the truth values are TRUE.
+fn true_count(truths: &[bool]) -> usize
+    ensures { result ≡ count_by (λ b. b) truths.now }
+{
+    let mut count = 0;
+    for truth in truths {
+        if *truth {
+            count += 1;
+        }
+    }
+    count
+}
+
+/// The value of a number, if it is in range.
+fn in_range(found: Option<i64>) -> Result<Value, Fault>
+    ensures { (z : ℤ) → SomeIff found (FitsSigned w64 z) z
+        → Answers (λ v. v) result (of_number z) }
+{
+    match found {
+        Some(z) => Ok(Value::int(z)),
+        None => Err(Fault::Refused(Cause::Overflow)),
+    }
+}
+
+/// What is asked of so many tuples.
+fn number_measured(op: Measure, count: usize) -> Result<Value, Fault>
+    ensures { Answers (λ v. v) result (number_measured op count) }
+{
+    match op {
+        Measure::Count => in_range(i64::try_from(count).ok()),
+        Measure::IsEmpty => Ok(Value::bool(count == 0)),
+    }
+}
+
+/// What is asked of the tuples of a relation whose truth values are TRUE.
+pub(crate) fn truths_measured(op: Measure, truths: Result<Vec<bool>, Fault>) -> Result<Value, Fault>
+    ensures { (p : Tuple → Outcome Val) (r : Relation)
+        → Answers (λ m. m.items) truths (gathered (map (λ t. truth_value (p t)) r.body))
+        → Answers (λ v. v) result (with_value (restricted_value p r) (measure_value op)) }
+{
+    let truths = truths?;
+    number_measured(op, true_count(&truths))
+}
