@@ -1,26 +1,28 @@
 -- What the assignments of a statement give to their targets by changes, first and later.
-use Rattle.std.proofs.Common.{◌≡◌, ◌∙◌, ℕ, List, [], Option, Some, None, Result, Ok, Err, ap, map, option_map, refl, subst, sym}
+use Rattle.std.proofs.Common.{◌≡◌, ◌∙◌, ℕ, List, [], Option, Some, None, Result, Ok, Err, ap, option_map, refl, subst, sym}
 use Rattle.std.specs.Option.{option_or}
 use Rattle.std.specs.Prelude.{IfOk}
 use Rattle.td_algebra.specs.Operators.{union}
+use Rattle.td_body.specs.Bodies.{after_change}
 use Rattle.td_catalog.specs.Database.{BaseRelvar, Database, base_named}
 use Rattle.td_check.specs.OperatorTypes.{known_or, same_heading}
-use Rattle.td_engine.proofs.DeletedTuples.{same_world}
+use Rattle.td_engine.proofs.DeletedTuples.{delete_is, same_world}
 use Rattle.td_engine.proofs.Sources.{inserted_is}
-use Rattle.td_engine.specs.Assignments.{Given, assignment_value, current, given_to, relation_for, source_world, target_of, with_assignment, with_given}
+use Rattle.td_engine.specs.Assignments.{Given, chosen_for, current, given_to, relation_for, setting_names, target_of, updated_relation, with_assignment, with_given}
 use Rattle.td_engine.specs.Changes.{IsChangeOf, IsOfHeading, after, given_as, gift_over}
 use Rattle.td_engine.specs.Gifts.{gift_of}
 use Rattle.td_engine.specs.declared.change.Change.{Change}
 use Rattle.td_eval.specs.DatabaseWorlds.{world_of}
 use Rattle.td_eval.specs.OperatorValues.{on_relation}
-use Rattle.td_eval.specs.TreeValues.{value_of}
+use Rattle.td_eval.specs.TreeValues.{value_of, values_in_tuples}
 use Rattle.td_eval.specs.Worlds.{World}
 use Rattle.td_tree.specs.Outcomes.{Answers, Outcome, Valued, Refused, value_if, with_value}
-use Rattle.td_tree.specs.Trees.{Assignment, Tree, insert}
+use Rattle.td_tree.specs.Trees.{Assignment, NamedTrees, Tree, delete, insert, update}
 use Rattle.td_tree.specs.declared.cause.Cause.TheVariants as causes
 use Rattle.td_tree.specs.declared.fault.Fault.{Fault}
 use Rattle.td_types.specs.Types.{Heading}
-use Rattle.td_value.specs.Values.{Relation}
+use Rattle.td_value.specs.Values.{IsRelation, Relation}
+use Rattle.td_value.specs.Views.{relation_view}
 
 -- of the target its heading alone counts
 pub for_heading : (w : World) (e : Tree) (p q : Relation) → p.heading ≡ q.heading → relation_for p w e ≡ relation_for q w e
@@ -41,6 +43,28 @@ module _ (db : Database) where
   insert_first n source r result is told =
       subst (Answers (λ (c : Change). after c r.relation) result)
       (sym (inserted_is db n r.relation source ∙ ap (λ w. with_value (relation_for r.relation w source) (λ s. Valued (union r.relation s))) (same_world db n r is))) told
+
+  -- so DELETE and UPDATE
+  module _ (n : List ℕ) (condition : Option Tree) (r : BaseRelvar) (result : Result Change Fault) (is : base_named n db ≡ Some r) where
+    pub delete_first : IsRelation r.relation
+        → Answers (λ c. after c r.relation) result
+        (with_value (chosen_for r.relation (world_of db) n condition) (λ out. Valued (after_change out (relation_view out.heading []) r.relation)))
+        → Answers (λ c. after c r.relation) result (gift_over db r.relation (delete n condition))
+    delete_first valid told =
+        subst (Answers (λ (c : Change). after c r.relation) result)
+        (sym (delete_is db n r.relation condition valid
+        ∙ ap (λ w. with_value (chosen_for r.relation w n condition) (λ out. Valued (after_change out (relation_view out.heading []) r.relation))) (same_world db n r is)))
+        told
+
+    pub update_first : (settings : NamedTrees)
+        → Answers (λ c. after c r.relation) result
+        (with_value (chosen_for r.relation (world_of db) n condition) (updated_relation r.relation (setting_names settings) (values_in_tuples (world_of db) [] settings)))
+        → Answers (λ c. after c r.relation) result (gift_over db r.relation (update n condition settings))
+    update_first settings told =
+        subst (Answers (λ (c : Change). after c r.relation) result)
+        (sym (ap (λ w. with_value (chosen_for r.relation w n condition) (updated_relation r.relation (setting_names settings) (values_in_tuples w [] settings)))
+        (same_world db n r is)))
+        told
 
   pub change_of_base : (n : List ℕ) (r : BaseRelvar) (h : Heading) (result : Result Change Fault) → base_named n db ≡ Some r → r.relation.heading ≡ h
       → IfOk result (IsOfHeading h) → IfOk result (λ c. IsChangeOf db (n, c))

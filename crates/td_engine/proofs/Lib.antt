@@ -17,9 +17,9 @@ mod Effects
 mod FirstGifts
 mod Gifted
 mod GiftsInTurn
-mod GivenValues
 mod GivenChanges
 mod GivenRelations
+mod GivenValues
 mod InOrder
 pub mod Kept
 mod KeysInTurn

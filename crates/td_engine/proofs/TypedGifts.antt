@@ -13,6 +13,7 @@ use Rattle.td_check.specs.StatementTypes.{assignment_checked, both_hold, conditi
 use Rattle.td_check.specs.StaticTypes.{named_types, type_of}
 use Rattle.td_engine.proofs.Admitted.{both_asked}
 use Rattle.td_engine.proofs.Gifted.{gift_to, some_is}
+use Rattle.td_engine.proofs.GivenValues.{source_gives}
 use Rattle.td_engine.proofs.SettingNames.{names_are}
 use Rattle.td_engine.proofs.Sources.{inserted_is, restricted_is}
 use Rattle.td_engine.proofs.TypedSettings.{AreOwnParts, additions_are, set_attributes, typed_setting}
@@ -23,11 +24,8 @@ use Rattle.td_engine.specs.Plannable.{AreWrittenSettings, IsWrittenAssignment}
 use Rattle.td_eval.proofs.KeepsOperators.{typed_restriction, typed_union}
 use Rattle.td_eval.proofs.KeepsRelations.{IsTypedRelation, typed_from_value, value_from_typed}
 use Rattle.td_eval.proofs.KnownRelvars.{known_as_base}
-use Rattle.td_eval.proofs.OtherRelations.{other_relations_keep_scopes}
-use Rattle.td_eval.proofs.TypedDatabases.{typed_databases_keep_scopes}
 use Rattle.td_eval.proofs.TypedRows.{own_type, parts_typed, rows_typed}
 use Rattle.td_eval.proofs.TypedTrees.{values_keep_types}
-use Rattle.td_eval.proofs.WorldParts.{world_scope}
 use Rattle.td_eval.specs.OperatorValues.{is_true, on_relation, set_value, truth_value}
 use Rattle.td_eval.specs.TreeValues.{value_of, values_in_tuples}
 use Rattle.td_eval.specs.ValueTypes.{DefinitionsAreWritten, IsOfType, IsWritten, KeepsScope, KeepsType}
@@ -166,9 +164,7 @@ module _ (db : Database) (is_typed : IsTyped db) (written : DefinitionsAreWritte
     w = source_world db n so_far
 
     keeps : KeepsScope w scope
-    keeps =
-        subst (KeepsScope w) (world_scope db)
-        (other_relations_keep_scopes db n gift.target so_far (typed_databases_keep_scopes db is_typed written) gift.named gift.relation gift.typed gift.heading)
+    keeps = (source_gives db is_typed written n so_far gift).keeps
 
     known : known_relvar scope n ≡ Some (known_base gift.target)
     known = known_as_base db n gift.target gift.named
@@ -211,25 +207,25 @@ module _ (db : Database) (is_typed : IsTyped db) (written : DefinitionsAreWritte
 
     -- what DELETE asks of each tuple
     pub checked_condition : (condition : Option Tree) → assignment_checked scope (delete n condition) ≡ Valued tt
-        → (k : Option Type') × (condition_type (entered_with gift.target.relation.heading scope) condition ≡ Valued k)
+        → (k : Option Type') × (condition_type (entered_with gift.target.relation.heading scope) condition ≡ Valued k) × (condition_fits k ≡ Valued tt)
     checked_condition condition checked =
         let asked = λ (inside : Scope) (h : Heading). with_value (condition_type inside condition) condition_fits in
         let is : asked (entered_with gift.target.relation.heading scope) gift.target.relation.heading ≡ Valued tt =
         ap (λ o. in_target scope o asked) (sym known) ∙ (both_asked _ _ checked).1 in
         let one = value_of_with (condition_type (entered_with gift.target.relation.heading scope) condition) condition_fits tt is in
-        (one.0, one.1)
+        (one.0, one.1, one.2)
 
     -- and UPDATE
     pub checked_setting_condition : (condition : Option Tree) (settings : NamedTrees) → assignment_checked scope (update n condition settings) ≡ Valued tt
-        → (k : Option Type') × (condition_type (entered_with gift.target.relation.heading scope) condition ≡ Valued k)
+        → (k : Option Type') × (condition_type (entered_with gift.target.relation.heading scope) condition ≡ Valued k) × (condition_fits k ≡ Valued tt)
     checked_setting_condition condition settings checked =
         let asked = λ (inside : Scope) (h : Heading). with_both (condition_type inside condition) (named_types inside settings) (λ c kinds. both_hold (condition_fits c) (settings_fit h kinds)) in
         let is : asked (entered_with gift.target.relation.heading scope) gift.target.relation.heading ≡ Valued tt =
         ap (λ o. in_target scope o asked) (sym known) ∙ (both_asked _ _ checked).1 in
         let both = values_of_both (condition_type (entered_with gift.target.relation.heading scope) condition) (named_types (entered_with gift.target.relation.heading scope) settings) _ tt is in
-        (both.0, both.2)
+        (both.0, both.2, (both_asked _ _ both.4).0)
 
-    checked_settings : (condition : Option Tree) (settings : NamedTrees) → assignment_checked scope (update n condition settings) ≡ Valued tt
+    pub checked_settings : (condition : Option Tree) (settings : NamedTrees) → assignment_checked scope (update n condition settings) ≡ Valued tt
         → (kinds : List Attribute) × (named_types (entered_with gift.target.relation.heading scope) settings ≡ Valued kinds)
     checked_settings condition settings checked =
         let asked = λ (inside : Scope) (h : Heading). with_both (condition_type inside condition) (named_types inside settings) (λ c kinds. both_hold (condition_fits c) (settings_fit h kinds)) in
@@ -241,7 +237,7 @@ module _ (db : Database) (is_typed : IsTyped db) (written : DefinitionsAreWritte
     typed : IsTypedRelation ds so_far
     typed = typed_gift n so_far gift
 
-    chosen_like : (condition : Option Tree) (q : Relation) → chosen_for so_far w n condition ≡ Valued q → IsLike ds so_far q
+    pub chosen_like : (condition : Option Tree) (q : Relation) → chosen_for so_far w n condition ≡ Valued q → IsLike ds so_far q
     chosen_like None q e = subst (IsLike ds so_far) (valued_is so_far q e) (typed, refl)
     chosen_like (Some p) q e = restricted_like ds so_far (λ t. value_of w (t ∷ []) p) q typed (sym (restricted_is db n so_far (parentheses p)) ∙ e)
 

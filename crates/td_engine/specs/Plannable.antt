@@ -5,8 +5,8 @@ use Rattle.td_catalog.specs.Database.{Database, database_scope}
 use Rattle.td_check.specs.Scopes.{entered_with}
 use Rattle.td_check.specs.StatementTypes.{assignment_checked}
 use Rattle.td_check.specs.StaticLaws.{PartsGiveNames}
-use Rattle.td_check.specs.StaticTypes.{type_of}
-use Rattle.td_engine.specs.Assignments.{source_world}
+use Rattle.td_check.specs.StaticTypes.{named_types, type_of}
+use Rattle.td_engine.specs.Assignments.{chosen_for, source_world}
 use Rattle.td_engine.specs.Changes.{given_as}
 use Rattle.td_engine.specs.Gifts.{IsGift}
 use Rattle.td_engine.specs.declared.change.Change.{Change}
@@ -14,9 +14,10 @@ use Rattle.td_eval.specs.DatabaseWorlds.{world_of}
 use Rattle.td_eval.specs.TreeTexts.{PartsHaveTexts}
 use Rattle.td_eval.specs.UnfailingValues.{GivesValues}
 use Rattle.td_eval.specs.ValueTypes.{DefinitionsAreWritten, IsTypedTuple, IsWritten}
-use Rattle.td_tree.specs.Outcomes.{Valued}
+use Rattle.td_eval.specs.Worlds.{World}
+use Rattle.td_tree.specs.Outcomes.{Outcome, Valued}
 use Rattle.td_tree.specs.Trees.{Assignment, NamedTrees, Tree, assign, delete, insert, update}
-use Rattle.td_types.specs.Types.{Type'}
+use Rattle.td_types.specs.Types.{Attribute, Type'}
 use Rattle.td_value.specs.Values.{IsRelation, Relation}
 
 -- an expression that has a type where the database is known; it and the definitions there are written as tokens spell them
@@ -77,9 +78,21 @@ abbrev pub IsPlannableConditionIf : Database → List ℕ → Relation → Optio
 IsPlannableConditionIf db target so_far None = ⊤
 IsPlannableConditionIf db target so_far (Some e) = IsPlannableCondition db target so_far e
 
--- an assignment whose source, or whose condition, may be valued so
+-- settings that may be so in each of the tuples that are chosen
+pub record ArePlannableSettings (db : Database) (w : World) (chosen : Outcome Relation) (settings : NamedTrees) : Type 0 where
+  pub gives : GivesValues w (database_scope db)
+  pub definitions : DefinitionsAreWritten db
+  pub tuples : (r : Relation) → chosen ≡ Valued r → IsRelation r × AllByRecursion (IsTypedTuple db.types) r.body
+  pub written : AreWrittenSettings settings
+  pub typed :
+      (r : Relation) → chosen ≡ Valued r
+      → (kinds : List Attribute) × (named_types (entered_with r.heading (database_scope db)) settings ≡ Valued kinds)
+
+-- an assignment whose source, or whose condition and settings, may be valued so
 abbrev pub IsPlannableAssignment : Database → Relation → Assignment → Type 0
 IsPlannableAssignment db so_far (assign target source) = IsPlannableSource db target so_far source
 IsPlannableAssignment db so_far (insert target source) = IsPlannableSource db target so_far source
 IsPlannableAssignment db so_far (delete target condition) = IsPlannableConditionIf db target so_far condition
-IsPlannableAssignment db so_far (update target condition settings) = IsPlannableConditionIf db target so_far condition
+IsPlannableAssignment db so_far (update target condition settings) =
+    IsPlannableConditionIf db target so_far condition
+    × ArePlannableSettings db (source_world db target so_far) (chosen_for so_far (source_world db target so_far) target condition) settings

@@ -26,8 +26,9 @@ ghost use Rattle.td_tree.specs.Trees.{assign_all};
 use crate::change::Change;
 use crate::checks::{entry_keys_hold, reached_from, settled};
 use crate::definitions::failed;
+use crate::first_changes::{first_delete, first_update, put_in};
 use crate::refusal::{Failure, Refusal};
-use crate::updates::{change_of, put_in, target_of};
+use crate::updates::{change_of, target_of};
 use indexmap::IndexMap;
 use std::alloc::{AllocError, Global};
 use td_body::body::Body;
@@ -76,8 +77,15 @@ fn first_change<B: Body>(
         return Err(Fault::Refused(Cause::NameUnknown));
     };
     match assignment {
+        Assignment::Assign(..) => change_over(alloc, catalog, entry, assignment),
         Assignment::Insert(_, source) => put_in(alloc, catalog, &entry.heading, source),
-        _ => change_over(alloc, catalog, entry, assignment),
+        Assignment::Delete(target, condition) => {
+            first_delete(alloc, catalog, entry, target, condition.as_ref())
+        }
+        Assignment::Update(target, condition, settings) => {
+            let condition = condition.as_ref();
+            first_update(alloc, catalog, entry, target, condition, settings)
+        }
     }
 }
 

@@ -9,6 +9,7 @@ mod change;
 mod checks;
 mod definitions;
 pub mod engine;
+mod first_changes;
 pub mod laws;
 mod present;
 mod refusal;

@@ -1,7 +1,6 @@
 //! What an assignment changes of its target.
 ghost use Rattle.std.specs.Prelude.{◌≡◌, ◌∷◌, ℕ, List, [], IfOk, IsTrue, length, map};
 ghost use Rattle.std.specs.Prelude.{option_map};
-ghost use Rattle.td_algebra.specs.Operators.{union};
 ghost use Rattle.td_body.specs.Bodies.{after_change};
 ghost use Rattle.td_check.specs.OperatorTypes.{attribute_type};
 ghost use Rattle.td_engine.specs.Assignments.{assignment_value, chosen_for, of_heading};
@@ -10,13 +9,14 @@ ghost use Rattle.td_engine.specs.Assignments.{source_world, target_of, updated_r
 ghost use Rattle.td_engine.specs.Assignments.{with_inserted};
 ghost use Rattle.td_engine.specs.Changes.{IsOfHeading, after};
 ghost use Rattle.td_engine.specs.Gifts.{restricted_relation, setting_attribute};
-ghost use Rattle.td_engine.specs.Plannable.{IsPlannable, IsPlannableAssignment};
+ghost use Rattle.td_engine.specs.Plannable.{ArePlannableSettings, IsPlannableAssignment};
 ghost use Rattle.td_engine.specs.Plannable.{IsPlannableCondition, IsPlannableConditionIf};
 ghost use Rattle.td_engine.specs.Plannable.{IsPlannableSource};
-ghost use Rattle.td_eval.specs.DatabaseWorlds.{world_of};
 ghost use Rattle.td_eval.specs.OperatorValues.{on_relation, truth_value};
 ghost use Rattle.td_eval.specs.Sights.{tuples_in_hand, world_in};
 ghost use Rattle.td_eval.specs.TreeValues.{value_of, values_in_tuples};
+ghost use Rattle.td_eval.specs.ValueTypes.{DefinitionsAreWritten};
+ghost use Rattle.td_plan.specs.PlansOf.{PartsMeetRulesIn, scope_in};
 ghost use Rattle.td_tree.specs.Outcomes.{Answers, Outcome, Valued, gathered, with_value};
 ghost use Rattle.td_tree.specs.TreeViews.{assignment_view, named_view, tree_view};
 ghost use Rattle.td_tree.specs.Trees.{delete};
@@ -26,13 +26,12 @@ ghost use Rattle.td_types.specs.Views.{pairs_view, type_view};
 ghost use Rattle.td_value.specs.Values.{Relation, Tuple, Val};
 
 use crate::change::Change;
-use crate::checks::value;
 use std::alloc::Global;
 use td_algebra::restriction::restrict;
 use td_body::body::Body;
 use td_catalog::catalog::Catalog;
 use td_eval::env::Env;
-use td_eval::in_tuples::set_in_tuples;
+use td_plan::settings::set_in_tuples;
 use td_plan::value::{truths_in, value_in};
 use td_tree::cause::Cause;
 use td_tree::expression::{Expr, NamedExpr};
@@ -154,24 +153,6 @@ fn inserted<B: Body>(
     Ok(Change::adding(alloc, add)?)
 }
 
-/// What INSERT changes of a relvar of the heading to which nothing was given before.
-pub(crate) fn put_in<B: Body>(
-    alloc: Global,
-    catalog: &Catalog<B>,
-    heading: &Heading,
-    source: &Expr,
-) -> Result<Change, Fault>
-    requires { IsPlannable catalog.now.database (tree_view source.now) }
-    ensures answer { (r : Relation) → r.heading ≡ heading.now → Answers (λ c. after c r) result
-        (with_value (relation_for r (world_of catalog.now.database) (tree_view source.now))
-        (λ s. Valued (union r s))) }
-    ensures headings { IfOk result (IsOfHeading heading.now) }
-{
-    let none = Rel::new(heading.try_clone()?, Vec::new(alloc))?;
-    let add = relation_of(&none, value(alloc, catalog, source))?;
-    Ok(Change { out: none, add })
-}
-
 // ---- conditions
 
 /// The tuples whose truth values are TRUE.
@@ -286,23 +267,25 @@ fn setting_attributes(
 }
 
 /// What UPDATE makes of the chosen tuples.
-fn changed<'a, B: Body>(
+pub(crate) fn changed<'a, B: Body>(
     alloc: Global,
     env: &Env<'a, B>,
-    so_far: &Rel,
     chosen: &Rel,
     settings: &[NamedExpr],
 ) -> Result<Rel, Fault>
-    requires { chosen.now.heading ≡ so_far.now.heading }
-    ensures answer { Answers (λ r. after_change chosen.now r so_far.now) result
-        (updated_relation so_far.now (setting_names (named_view settings.now))
+    requires definitions { DefinitionsAreWritten env.now.catalog.now.database }
+    requires settings { PartsMeetRulesIn (world_in env.now) (scope_in env.now)
+        (tuples_in_hand env.now) chosen.now (named_view settings.now) }
+    ensures answer { (so_far : Relation) → so_far.heading ≡ chosen.now.heading
+        → Answers (λ r. after_change chosen.now r so_far) result
+        (updated_relation so_far (setting_names (named_view settings.now))
         (values_in_tuples (world_in env.now) (tuples_in_hand env.now) (named_view settings.now))
         chosen.now) }
-    ensures heading { IfOk result (λ r. r.heading ≡ so_far.now.heading) }
+    ensures heading { IfOk result (λ r. r.heading ≡ chosen.now.heading) }
 {
-    let attributes = setting_attributes(alloc, so_far.heading(), settings)?;
+    let attributes = setting_attributes(alloc, chosen.heading(), settings)?;
     let changed = set_in_tuples(alloc, env, chosen, &attributes, settings)?;
-    of_heading(so_far, &changed)
+    of_heading(chosen, &changed)
 }
 
 /// What UPDATE makes of the chosen ones of the target's tuples so far.
@@ -314,7 +297,10 @@ fn updated<'a, B: Body>(
     chosen: &Rel,
     settings: &[NamedExpr],
 ) -> Result<Rel, Fault>
-    requires { chosen.now.heading ≡ so_far.now.heading }
+    requires heading { chosen.now.heading ≡ so_far.now.heading }
+    requires settings { ArePlannableSettings catalog.now.database
+        (source_world catalog.now.database target.now so_far.now) (Valued chosen.now)
+        (named_view settings.now) }
     ensures answer { Answers (λ r. after_change chosen.now r so_far.now) result
         (updated_relation so_far.now (setting_names (named_view settings.now))
         (values_in_tuples (source_world catalog.now.database target.now so_far.now) []
@@ -326,7 +312,7 @@ fn updated<'a, B: Body>(
         other: Some((target, so_far)),
         tuples: &[],
     };
-    changed(alloc, &env, so_far, chosen, settings)
+    changed(alloc, &env, chosen, settings)
 }
 
 /// What UPDATE changes.
@@ -338,8 +324,12 @@ fn update<B: Body>(
     condition: Option<&Expr>,
     settings: &[NamedExpr],
 ) -> Result<Change, Fault>
-    requires { IsPlannableConditionIf catalog.now.database target.now so_far.now
+    requires condition { IsPlannableConditionIf catalog.now.database target.now so_far.now
         (option_map (λ e. tree_view e.now) condition) }
+    requires settings { ArePlannableSettings catalog.now.database
+        (source_world catalog.now.database target.now so_far.now) (chosen_for so_far.now
+        (source_world catalog.now.database target.now so_far.now) target.now
+        (option_map (λ e. tree_view e.now) condition)) (named_view settings.now) }
     ensures answer { Answers (λ c. after c so_far.now) result (with_value
         (chosen_for so_far.now (source_world catalog.now.database target.now so_far.now) target.now
         (option_map (λ e. tree_view e.now) condition.entry))

@@ -1,15 +1,20 @@
-use Rattle.std.proofs.Common.{◌≡◌, ◌∙◌, Some, ap, refl, subst, sym}
+use Rattle.std.proofs.Common.{◌≡◌, ◌∙◌, Some, [], ap, option_map, refl, subst, sym}
 use Rattle.td_catalog.specs.CatalogViews.{base_view}
 use Rattle.td_catalog.specs.Database.{base_named}
-use Rattle.td_engine.proofs.FirstGifts.{change_of_base, first_given, insert_first}
-use Rattle.td_engine.proofs.PlannableAssignments.{assignment_plannable, base_gift, insert_plannable}
-use Rattle.td_engine.specs.Assignments.{target_of}
+use Rattle.td_body.specs.Bodies.{after_change}
+use Rattle.td_check.proofs.StatementAnswers.{given_is}
+use Rattle.td_engine.proofs.FirstGifts.{change_of_base, delete_first, first_given, insert_first, update_first}
+use Rattle.td_engine.proofs.PlannableAssignments.{assignment_plannable, base_gift, delete_plannable, insert_plannable, update_plannable, update_settings}
+use Rattle.td_engine.specs.Assignments.{chosen_for, setting_names, target_of, updated_relation}
 use Rattle.td_engine.specs.Changes.{after, gift_over}
-use Rattle.td_engine.specs.Plannable.{IsAdmittedAssignment}
+use Rattle.td_engine.specs.Plannable.{ArePlannableSettings, IsAdmittedAssignment, IsPlannableIf}
 use Rattle.td_engine.specs.declared.change.Change.{Change}
-use Rattle.td_tree.specs.Outcomes.{Answers}
-use Rattle.td_tree.specs.TreeViews.{assignment_view, tree_view}
+use Rattle.td_eval.specs.DatabaseWorlds.{world_of}
+use Rattle.td_eval.specs.TreeValues.{values_in_tuples}
+use Rattle.td_tree.specs.Outcomes.{Answers, Valued, with_value}
+use Rattle.td_tree.specs.TreeViews.{assignment_view, named_view, tree_view}
 use Rattle.td_tree.specs.Trees as trees
+use Rattle.td_value.specs.Views.{relation_view}
 use Rattle.td_engine.proofs.assignments.first_change.Goals as goal
 
 pub put_in-requires : goal.put_in-requires
@@ -48,16 +53,125 @@ returns-in-Insert-clause-change g c =
     let is : base_named (target_of a) db ≡ Some r = ap (λ n. base_named n db) (sym c.target_of.ensures) ∙ sym c.in-Some.ensures.found in
     change_of_base db (target_of a) r c.in-Some.entry.now.heading c.put_in.result is c.in-Some.ensures.entry.heading_is c.put_in.ensures.headings
 
-pub returns-in_default-assignment-clause-answer : goal.returns-in_default-assignment-clause-answer
-returns-in_default-assignment-clause-answer g c =
+pub first_delete-requires-clause-heading : goal.first_delete-requires-clause-heading
+first_delete-requires-clause-heading g c = c.in-Some.ensures.entry.heading_is
+
+pub first_delete-requires-clause-condition : goal.first_delete-requires-clause-condition
+first_delete-requires-clause-condition g c =
+    let db = c.args.catalog.now.database in
+    let a = assignment_view c.args.assignment.now in
+    let b = base_view g.B.Body.relation (c.target_of.result.now, c.in-Some.entry.now) in
+    let is : base_named (target_of a) db ≡ Some b = ap (λ n. base_named n db) (sym c.target_of.ensures) ∙ sym c.in-Some.ensures.found in
+    let n = c.in-Delete.target in
+    let condition = option_map tree_view c.in-Delete.condition in
+    let e : a ≡ trees.delete n condition = ap assignment_view c.in-Delete.is in
+    let there : base_named n db ≡ Some b = ap (λ m. base_named m db) (sym (ap target_of e)) ∙ is in
+    let asked : option_map (λ e. tree_view e.now) c.as_ref.result ≡ condition = given_is tree_view c.as_ref.result c.in-Delete.condition c.as_ref.ensures.value in
+    subst (λ o. IsPlannableIf db (option_map (trees.restriction (trees.name n)) o)) (sym asked)
+    (delete_plannable db c.requires.legal n b there condition (subst (IsAdmittedAssignment db) e c.requires.admitted))
+
+pub first_update-requires-clause-heading : goal.first_update-requires-clause-heading
+first_update-requires-clause-heading g c = c.in-Some.ensures.entry.heading_is
+
+pub first_update-requires-clause-condition : goal.first_update-requires-clause-condition
+first_update-requires-clause-condition g c =
+    let db = c.args.catalog.now.database in
+    let a = assignment_view c.args.assignment.now in
+    let b = base_view g.B.Body.relation (c.target_of.result.now, c.in-Some.entry.now) in
+    let is : base_named (target_of a) db ≡ Some b = ap (λ n. base_named n db) (sym c.target_of.ensures) ∙ sym c.in-Some.ensures.found in
+    let n = c.in-Update.target in
+    let condition = option_map tree_view c.in-Update.condition in
+    let settings = named_view c.in-Update.settings.items in
+    let e : a ≡ trees.update n condition settings = ap assignment_view c.in-Update.is in
+    let there : base_named n db ≡ Some b = ap (λ m. base_named m db) (sym (ap target_of e)) ∙ is in
+    let asked : option_map (λ e. tree_view e.now) c.as_ref-condition.result ≡ condition =
+    given_is tree_view c.as_ref-condition.result c.in-Update.condition c.as_ref-condition.ensures.value in
+    subst (λ o. IsPlannableIf db (option_map (trees.restriction (trees.name n)) o)) (sym asked)
+    (update_plannable db c.requires.legal n b there condition settings (subst (IsAdmittedAssignment db) e c.requires.admitted))
+
+pub first_update-requires-clause-settings : goal.first_update-requires-clause-settings
+first_update-requires-clause-settings g c =
+    let db = c.args.catalog.now.database in
+    let a = assignment_view c.args.assignment.now in
+    let b = base_view g.B.Body.relation (c.target_of.result.now, c.in-Some.entry.now) in
+    let is : base_named (target_of a) db ≡ Some b = ap (λ n. base_named n db) (sym c.target_of.ensures) ∙ sym c.in-Some.ensures.found in
+    let n = c.in-Update.target in
+    let condition = option_map tree_view c.in-Update.condition in
+    let settings = named_view c.in-Update.settings.items in
+    let e : a ≡ trees.update n condition settings = ap assignment_view c.in-Update.is in
+    let there : base_named n db ≡ Some b = ap (λ m. base_named m db) (sym (ap target_of e)) ∙ is in
+    let asked : option_map (λ e. tree_view e.now) c.as_ref-condition.result ≡ condition =
+    given_is tree_view c.as_ref-condition.result c.in-Update.condition c.as_ref-condition.ensures.value in
+    subst (λ xs. ArePlannableSettings db (world_of db) (chosen_for b.relation (world_of db) n (option_map (λ e. tree_view e.now) c.as_ref-condition.result)) (named_view xs))
+    (sym c.deref.ensures.value)
+    (subst (λ o. ArePlannableSettings db (world_of db) (chosen_for b.relation (world_of db) n o) settings) (sym asked)
+    (update_settings db c.requires.legal n b there condition settings (subst (IsAdmittedAssignment db) e c.requires.admitted)))
+
+pub returns-in-Delete-clause-answer : goal.returns-in-Delete-clause-answer
+returns-in-Delete-clause-answer g c =
+    let db = c.args.catalog.now.database in
+    let a = assignment_view c.args.assignment.now in
+    let b = base_view g.B.Body.relation (c.target_of.result.now, c.in-Some.entry.now) in
+    let is : base_named (target_of a) db ≡ Some b = ap (λ n. base_named n db) (sym c.target_of.ensures) ∙ sym c.in-Some.ensures.found in
+    let n = c.in-Delete.target in
+    let condition = option_map tree_view c.in-Delete.condition in
+    let e : a ≡ trees.delete n condition = ap assignment_view c.in-Delete.is in
+    let there : base_named n db ≡ Some b = ap (λ m. base_named m db) (sym (ap target_of e)) ∙ is in
+    let asked : option_map (λ e. tree_view e.now) c.as_ref.result ≡ condition = given_is tree_view c.as_ref.result c.in-Delete.condition c.as_ref.ensures.value in
+    first_given db a b c.first_delete.result is
+    (subst (λ x. Answers (λ (d : Change). after d b.relation) c.first_delete.result (gift_over db b.relation x)) (sym e)
+    (delete_first db n condition b c.first_delete.result there (base_gift db c.requires.legal n b there).relation
+    (subst (λ o. Answers (λ (d : Change). after d b.relation) c.first_delete.result (with_value (chosen_for b.relation (world_of db) n o)
+    (λ out. Valued (after_change out (relation_view out.heading []) b.relation)))) asked c.first_delete.ensures.answer)))
+
+pub returns-in-Delete-clause-change : goal.returns-in-Delete-clause-change
+returns-in-Delete-clause-change g c =
+    let db = c.args.catalog.now.database in
+    let a = assignment_view c.args.assignment.now in
+    let b = base_view g.B.Body.relation (c.target_of.result.now, c.in-Some.entry.now) in
+    let is : base_named (target_of a) db ≡ Some b = ap (λ n. base_named n db) (sym c.target_of.ensures) ∙ sym c.in-Some.ensures.found in
+    change_of_base db (target_of a) b b.relation.heading c.first_delete.result is refl c.first_delete.ensures.headings
+
+pub returns-in-Update-clause-answer : goal.returns-in-Update-clause-answer
+returns-in-Update-clause-answer g c =
+    let db = c.args.catalog.now.database in
+    let a = assignment_view c.args.assignment.now in
+    let b = base_view g.B.Body.relation (c.target_of.result.now, c.in-Some.entry.now) in
+    let is : base_named (target_of a) db ≡ Some b = ap (λ n. base_named n db) (sym c.target_of.ensures) ∙ sym c.in-Some.ensures.found in
+    let n = c.in-Update.target in
+    let condition = option_map tree_view c.in-Update.condition in
+    let settings = named_view c.in-Update.settings.items in
+    let e : a ≡ trees.update n condition settings = ap assignment_view c.in-Update.is in
+    let there : base_named n db ≡ Some b = ap (λ m. base_named m db) (sym (ap target_of e)) ∙ is in
+    let asked : option_map (λ e. tree_view e.now) c.as_ref-condition.result ≡ condition =
+    given_is tree_view c.as_ref-condition.result c.in-Update.condition c.as_ref-condition.ensures.value in
+    first_given db a b c.first_update.result is
+    (subst (λ x. Answers (λ (d : Change). after d b.relation) c.first_update.result (gift_over db b.relation x)) (sym e)
+    (update_first db n condition b c.first_update.result there settings
+    (subst (λ xs. Answers (λ (d : Change). after d b.relation) c.first_update.result (with_value (chosen_for b.relation (world_of db) n condition)
+    (updated_relation b.relation (setting_names (named_view xs)) (values_in_tuples (world_of db) [] (named_view xs))))) c.deref.ensures.value
+    (subst (λ o. Answers (λ (d : Change). after d b.relation) c.first_update.result (with_value (chosen_for b.relation (world_of db) n o)
+    (updated_relation b.relation (setting_names (named_view c.deref.result.now)) (values_in_tuples (world_of db) [] (named_view c.deref.result.now))))) asked
+    c.first_update.ensures.answer))))
+
+pub returns-in-Update-clause-change : goal.returns-in-Update-clause-change
+returns-in-Update-clause-change g c =
+    let db = c.args.catalog.now.database in
+    let a = assignment_view c.args.assignment.now in
+    let b = base_view g.B.Body.relation (c.target_of.result.now, c.in-Some.entry.now) in
+    let is : base_named (target_of a) db ≡ Some b = ap (λ n. base_named n db) (sym c.target_of.ensures) ∙ sym c.in-Some.ensures.found in
+    change_of_base db (target_of a) b b.relation.heading c.first_update.result is refl c.first_update.ensures.headings
+
+pub returns-in-Assign-clause-answer : goal.returns-in-Assign-clause-answer
+returns-in-Assign-clause-answer g c =
     let db = c.args.catalog.now.database in
     let a = assignment_view c.args.assignment.now in
     let r = base_view g.B.Body.relation (c.target_of.result.now, c.in-Some.entry.now) in
     let is : base_named (target_of a) db ≡ Some r = ap (λ n. base_named n db) (sym c.target_of.ensures) ∙ sym c.in-Some.ensures.found in
     first_given db a r c.change_over.result is c.change_over.ensures.answer
 
-pub returns-in_default-assignment-clause-change : goal.returns-in_default-assignment-clause-change
-returns-in_default-assignment-clause-change g c =
+pub returns-in-Assign-clause-change : goal.returns-in-Assign-clause-change
+returns-in-Assign-clause-change g c =
     let db = c.args.catalog.now.database in
     let a = assignment_view c.args.assignment.now in
     let r = base_view g.B.Body.relation (c.target_of.result.now, c.in-Some.entry.now) in

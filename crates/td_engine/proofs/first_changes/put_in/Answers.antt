@@ -14,7 +14,7 @@ use Rattle.td_tree.specs.TreeViews.{tree_view}
 use Rattle.td_value.specs.Sets.{set_of}
 use Rattle.td_value.specs.Values.{Relation, tuple_cmp}
 use Rattle.td_value.specs.Views.{relation_view}
-use Rattle.td_engine.proofs.updates.put_in.Goals as goal
+use Rattle.td_engine.proofs.first_changes.put_in.Goals as goal
 
 pub returns-in_err-add-clause-answer : goal.returns-in_err-add-clause-answer
 returns-in_err-add-clause-answer g c = λ r e.

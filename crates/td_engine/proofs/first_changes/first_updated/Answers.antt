@@ -1,0 +1,16 @@
+use Rattle.std.proofs.Common.{refl}
+use Rattle.td_engine.proofs.first_changes.first_updated.Goals as goal
+
+pub changed-requires : goal.changed-requires
+changed-requires g c =
+    record {
+      definitions = c.requires.definitions;
+      settings =
+          record {
+            gives = c.requires.gives;
+            tuples = (tt, refl);
+            relation = c.requires.tuples c.args.chosen.now refl;
+            written = c.requires.written;
+            typed = c.requires.typed c.args.chosen.now refl;
+          };
+    }
