@@ -135,6 +135,19 @@ const FOUND: &[(&str, Want)] = &[
         Ok("RELATION {C INTEGER} {TUPLE {C 8}}"),
     ),
     ("COUNT(P WHERE C = 9)", Ok("1")),
+    (
+        "(S UNION (S) UNION S) WHERE SNO = 3",
+        Ok("RELATION {QTY INTEGER, SNO INTEGER} {TUPLE {QTY 5, SNO 3}}"),
+    ),
+    (
+        "(S MINUS (S WHERE SNO = 1)) WHERE SNO = 3",
+        Ok("RELATION {QTY INTEGER, SNO INTEGER} {TUPLE {QTY 5, SNO 3}}"),
+    ),
+    ("COUNT((S JOIN (P WHERE C = 7)) WHERE SNO = 3)", Ok("1")),
+    (
+        "COUNT(((P WHERE C = 7) TIMES S) WHERE QTY > 4 AND SNO = 3)",
+        Ok("1"),
+    ),
 ];
 
 /// The first of these of which a plan gives something else.
@@ -154,6 +167,9 @@ const READ_WHOLE: &[&str] = &[
     "S WHERE SNO = QTY",
     "S WHERE SNO = 1 + 2",
     "P WHERE A = 1",
+    "(S UNION S) WHERE SNO = 3 AND COUNT(V) = 1",
+    "(S MATCHING S) WHERE SNO = 3",
+    "(S JOIN P) WHERE SNO = A AND C = 7",
 ];
 
 /// The first of these for which a plan finds the memory.
@@ -195,6 +211,21 @@ const LOOK_UP: &str = "RESTRICTION
       3
 ";
 
+const PUSHED: &str = "UNION
+  RESTRICTION BY PUSH
+    RELVAR S
+    CONDITION
+      <
+        ATTRIBUTE 0 0
+        5
+  RESTRICTION BY PUSH
+    RELVAR S
+    CONDITION
+      <
+        ATTRIBUTE 0 0
+        5
+";
+
 /// What a person reads of the plan of the expression.
 fn outline(alloc: Global, text: &str) -> Result<String, Fault> {
     let mut engine: Engine<Guarded> = Engine::new(alloc);
@@ -213,6 +244,9 @@ fn look_ups_as_a_person_reads_them(rt: HostRuntime) {
     let found = outline(alloc, "S WHERE SNO = 3").expect(&rt, "a plan");
     assert_eq!(rt; found.as_str(), LOOK_UP);
     drop(found);
+    let pushed = outline(alloc, "(S UNION S) WHERE QTY < 5").expect(&rt, "a plan");
+    assert_eq!(rt; pushed.as_str(), PUSHED);
+    drop(pushed);
     let joined = outline(alloc, "S JOIN S").expect(&rt, "a plan");
     assert_eq!(rt; joined.as_str(), "HASHJOIN\n  RELVAR S\n  RELVAR S\n");
     drop(joined);
