@@ -9,6 +9,7 @@ mod groups;
 mod look_ups;
 mod operators;
 mod pairs;
+mod pieces;
 mod plans;
 mod statements;
 mod streams;

@@ -63,6 +63,13 @@ pub tokens_of_first : (bs : List ℕ) (f : ℕ × Piece) → 0 < length bs → f
 tokens_of_first bs f some is within at =
     tokens_found bs f (subst (λ g. Found (pieces bs) (symbols bs) g) (sym is) (found_of (symbols bs) (some_symbols bs some))) within at
 
+-- the first piece is no longer than the bytes
+pub first_within : (bs : List ℕ) → 0 < length bs → (first_end (symbols bs)).0 ≤ length bs
+first_within bs some =
+    let w = found_of (symbols bs) (some_symbols bs some) in
+    let off = taken_off bs (w.front ∷ []) (divide begins continues w.rest) w.again in
+    omega (arith, w.long, off.within, ap length (ap spell (append-nil w.front)))
+
 -- no bytes, no tokens
 pub no_bytes : (bs : List ℕ) (at : ℕ) → (length bs == 0) ≡ true → tokens at bs ≡ []
 unfolding tokens

@@ -1,9 +1,9 @@
 -- Where the first statement ends, and the last of its tokens.
-use Rattle.std.proofs.Common.{◌≡◌, ◌+◌, ◌-◌, ◌≤◌, ℕ, suc, List, [], ◌∷◌, length, drop, Some, refl, sym, ap, ◌∙◌, arith, length-drop}
+use Rattle.std.proofs.Common.{◌≡◌, ◌-◌, ℕ, suc, List, [], ◌∷◌, length, drop, Option, Some, None, IfSome, refl, sym, ap, ◌∙◌, arith}
 use Rattle.std.specs.Prelude.{option_map, slice_get}
 use Rattle.td_scan.specs.Fronts.{end_of_last}
 use Rattle.td_tree.specs.Statements.{PlacedToken, Held, after, behind, end_of, first_statement}
-use Rattle.td_scan.proofs.TakenLaws.{behind_first, fewer_bytes, first_within}
+use Rattle.td_scan.proofs.TakenLaws.{behind_first, fewer_bytes}
 
 -- ---- the last token
 
@@ -22,14 +22,7 @@ pub last_stop : (h : Held) (first : List PlacedToken) → first_statement h ≡ 
 last_stop h [] e = absurd (omega (arith, fewer_bytes h [] e, none_taken h e))
 last_stop h (t ∷ ts) e = end_of_some h.offset t ts ∙ ap Some (sym (behind_first h (t ∷ ts) e))
 
--- ---- what is taken off
-
-pub record Taken (items : List ℕ) (taken offset end : ℕ) : Type 0 where
-  pub from : offset ≤ end
-  pub within : taken + (end - offset) ≤ length items
-
--- with what was taken off before, the first statement is no longer than all
-pub taken_within : (items : List ℕ) (taken : ℕ) (h : Held) (end : ℕ) → taken ≤ length items → h.bytes ≡ drop taken items → end ≡ behind h → Taken items taken h.offset end
-taken_within items taken h end some held is =
-    let w = first_within h in
-    record { from = omega (arith, is, w.stop); within = omega (arith, some, is, w.within, ap length held, length-drop taken items) }
+-- a statement ends where the last of its tokens does
+pub ends_of : {X : Type 0} (items : X → List PlacedToken) (h : Held) (o : Option X) → option_map items o ≡ first_statement h → IfSome o (λ x. end_of_last (items x) ≡ Some (behind h))
+ends_of items h None e = tt
+ends_of items h (Some x) e = last_stop h (items x) (sym e)

@@ -1,5 +1,10 @@
 pub mod CourseLaws
 pub mod FirstLaws
+pub mod HeldMarks
+pub mod KnownLaws
 pub mod LastLaws
+pub mod MarkLaws
+pub mod MarkLists
+pub mod NoEnds
 pub mod ScanLaws
 pub mod TakenLaws

@@ -2,6 +2,8 @@
 use Rattle.std.proofs.Common.{◌≡◌, ℕ, List, [], ◌∷◌, ◌++◌, refl, sym, ap, ◌∙◌, Bool, true, false, Option, Some, None, if◌then◌else◌, append_assoc, append-nil}
 use Rattle.std.specs.Prelude.{option_map}
 use Rattle.td_tree.specs.Division.{up_to}
+use Rattle.td_scan.specs.Marks.{reached}
+use Rattle.td_scan.proofs.MarkLists.{past_none}
 use Rattle.td_tree.specs.Statements.{PlacedToken, Held, tokens, ends, chosen, first_statement, end_of, end_of_first, behind}
 
 -- the first statement of what was found so far and what is left
@@ -26,19 +28,14 @@ gathered_is finished found (t ∷ ts) =
       | false ↦ gathered_is finished (found ++ t ∷ []) ts ∙ one_more finished found t ts (up_to ends ts)
     ]
 
-chosen_is : (finished : Bool) (ts : List PlacedToken) (o : Option (List PlacedToken)) → before finished [] ts o ≡ chosen finished ts o
-chosen_is finished ts None = refl
-chosen_is finished ts (Some first) = refl
+before_is : (finished : Bool) (found ts : List PlacedToken) (o : Option (List PlacedToken)) → before finished found ts o ≡ chosen finished (found ++ ts) (option_map (λ qs. found ++ qs) o)
+before_is finished found ts None = refl
+before_is finished found ts (Some first) = refl
 
--- from the front nothing was found so far
-pub gathers : (h : Held) → gathered h.finished [] (tokens h.offset h.bytes) ≡ first_statement h
-unfolding first_statement
-gathers h = gathered_is h.finished [] (tokens h.offset h.bytes) ∙ chosen_is h.finished (tokens h.offset h.bytes) (up_to ends (tokens h.offset h.bytes))
-
--- where the first statement of what is left ends, the last token so far at `so_far`
-abbrev pub reached : Bool → ℕ → ℕ → List PlacedToken → ℕ
-reached finished none so_far [] = if finished then so_far else none
-reached finished none so_far (t ∷ ts) = if ends t then t.stop else reached finished none t.stop ts
+-- from where no `;` was found so far
+pub gathers : (finished : Bool) (found ts : List PlacedToken) → up_to ends found ≡ None → gathered finished found ts ≡ chosen finished (found ++ ts) (up_to ends (found ++ ts))
+gathers finished found ts none =
+    gathered_is finished found ts ∙ before_is finished found ts (up_to ends ts) ∙ ap (chosen finished (found ++ ts)) (sym (past_none ends found ts none))
 
 abbrev end_at : Bool → ℕ → ℕ → List PlacedToken → Option (List PlacedToken) → ℕ
 end_at finished none so_far ts None = if finished then end_of so_far ts else none

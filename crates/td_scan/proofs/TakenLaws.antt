@@ -122,11 +122,11 @@ first_within h =
 pub end_stays : (h : Held) → (after h).offset + length (after h).bytes ≡ h.offset + length h.bytes
 end_stays h = let w = first_within h in omega (arith, w.stop, w.within, length-drop (behind h - h.offset) h.bytes)
 
-end_past : (ts : List PlacedToken) (at to start : ℕ) → Ascends at to ts → start ≤ at → start ≤ end_of start ts
+pub end_past : (ts : List PlacedToken) (at to start : ℕ) → Ascends at to ts → start ≤ at → start ≤ end_of start ts
 end_past [] at to start up low = omega arith
 end_past (t ∷ ts) at to start up low = omega (arith, up.0, up.1, low, end_past ts t.stop to t.stop up.2 (omega arith))
 
-ascends_front : (xs ys : List PlacedToken) (at to : ℕ) → Ascends at to (xs ++ ys) → (high : ℕ) × Ascends at high xs
+pub ascends_front : (xs ys : List PlacedToken) (at to : ℕ) → Ascends at to (xs ++ ys) → (high : ℕ) × Ascends at high xs
 ascends_front [] ys at to up = (at, omega arith)
 ascends_front (t ∷ xs) ys at to up = let w = ascends_front xs ys t.stop to up.2 in (w.0, (up.0, up.1, w.1))
 

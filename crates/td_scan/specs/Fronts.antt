@@ -1,15 +1,21 @@
 -- What stands at the front of bytes, as the scanner finds it.
-use Rattle.std.specs.Prelude.{ℕ, suc, ◌+◌, ◌-◌, List, [], ◌∷◌, length, Option, Some, None, option_map, slice_get}
+use Rattle.std.specs.Prelude.{◌≡◌, ◌++◌, ⊤, ℕ, suc, ◌+◌, ◌-◌, List}
+use Rattle.std.specs.Prelude.{[], ◌∷◌, length, Option, Some, None, option_map, slice_get}
 use Rattle.std.specs.Str.{continuation_len}
 use Rattle.td_tree.specs.declared.piece.Piece.{Piece}
 use Rattle.td_tree.specs.declared.piece.Piece.TheVariants.{Bad}
 use Rattle.td_tree.specs.Pieces.{begins, continues}
 use Rattle.td_tree.specs.Statements.{PlacedToken}
-use Rattle.td_tree.specs.Symbols.{Symbol}
+use Rattle.td_tree.specs.Symbols.{Symbol, symbol_at}
 
 -- how many bytes a character takes that begins with this one
 abbrev pub char_size : ℕ → ℕ
 char_size lead = suc (continuation_len lead)
+
+-- whatever follows, the same symbol begins the bytes
+abbrev pub IsKnown : List ℕ → Type 0
+IsKnown [] = ⊤
+IsKnown (b ∷ bs) = (later : List ℕ) → symbol_at b (bs ++ later) ≡ symbol_at b bs
 
 -- how many bytes the piece takes, n so far, and what it is at its end
 abbrev pub end_from : ℕ → Piece → List Symbol → ℕ × Piece

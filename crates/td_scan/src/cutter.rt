@@ -1,10 +1,18 @@
 //! The cutter of a script into statements.
 ghost use Rattle.std.specs.Prelude.{◌≡◌, ◌+◌, ◌-◌, ◌<◌, ◌≤◌, ◌^◌, [], ◌++◌, length, IfOk, IfSome};
-ghost use Rattle.std.specs.Prelude.{OnOk, OnErr, IsFalse, Some, false, true, option_map};
+ghost use Rattle.std.specs.Prelude.{OnOk, OnErr, IsFalse, IsTrue, None, Some, drop, false, map};
+ghost use Rattle.std.specs.Prelude.{option_map, take, true};
+ghost use Rattle.std.specs.List.{All};
 ghost use Rattle.td_scan.specs.Fronts.{end_of_last};
-ghost use Rattle.td_tree.specs.Statements.{Held, after, behind, first_statement, is_end};
+ghost use Rattle.td_scan.specs.Marks.{IsMark, count_to_end, end_of_marks, ends_mark, reached};
+ghost use Rattle.td_scan.specs.Marks.{token_at};
+ghost use Rattle.td_tree.specs.Division.{up_to};
+ghost use Rattle.td_tree.specs.Statements.{Held, after, behind, chosen, ends, first_statement};
+ghost use Rattle.td_tree.specs.Statements.{is_end, tokens};
 
-use crate::token::{Token, first_token};
+use crate::queue::Queue;
+use crate::reading::{Place, may_end, read_on};
+use crate::token::{Mark, Token, first_token};
 use std::alloc::{AllocError, Global};
 use std::marker::Model;
 use td_tree::token::{Kind, Sign};
@@ -16,76 +24,131 @@ fn is_end(kind: Kind) -> bool
     matches!(kind, Kind::Sign(Sign::Semicolon))
 }
 
-/// The tokens of the first statement of the bytes, which begin at this offset of a script.
-fn first_tokens<'a>(
+/// How many marks there are up to the first `;`, of which so many at the front are none.
+fn count_to_end(marks: &[Mark], from: usize) -> Option<usize>
+    requires { up_to ends_mark (take from marks.now) ≡ None }
+    ensures { result ≡ count_to_end marks.now }
+{
+    for index in from..marks.len() {
+        if is_end(marks[index].kind) {
+            return Some(index + 1);
+        }
+    }
+    None
+}
+
+/// Where the last of the marks ends; the offset where there is none.
+fn end_of_marks(marks: &[Mark], offset: u64) -> u64
+    ensures { result ≡ end_of_marks offset marks.now }
+{
+    match marks.last() {
+        Some(mark) => mark.stop,
+        None => offset,
+    }
+}
+
+/// The bytes from a place on.
+fn bytes_from(bytes: &[u8], offset: u64, start: u64) -> &[u8]
+    requires from { offset ≤ start }
+    requires within { start - offset ≤ length bytes.now }
+    ensures { result.now ≡ drop (start - offset) bytes.now }
+{
+    bytes.split_at((start - offset) as usize).1
+}
+
+/// The tokens of the marks, in bytes that begin at this offset of a script.
+fn tokens_of<'a>(
     alloc: Global,
+    bytes: &'a [u8],
+    offset: u64,
+    marks: &[Mark],
+) -> Result<Vec<Token<'a>>, AllocError>
+    requires room { offset + length bytes.now < 2 ^ 64 }
+    requires marks { All (IsMark offset bytes.now) marks.now }
+    ensures { IfOk result (λ v. v.items ≡ map (token_at offset bytes.now) marks.now) }
+{
+    let mut tokens = Vec::with_capacity(alloc, marks.len() + 1)?;
+    for mark in marks {
+        tokens.push(mark.token(bytes, offset))?;
+    }
+    Ok(tokens)
+}
+
+/// The first statement of the tokens found so far, none of which is a `;`, and those of the bytes
+/// behind them.
+fn with_rest<'a>(
+    mut found: Vec<Token<'a>>,
     bytes: &'a [u8],
     offset: u64,
     finished: bool,
 ) -> Result<Option<Vec<Token<'a>>>, AllocError>
-    requires { offset + length bytes.now < 2 ^ 64 }
-    ensures { IfOk result (λ found. option_map (λ v. v.items) found
-        ≡ first_statement (record { bytes = bytes.now; offset = offset; finished = finished })) }
+    requires room { offset + length bytes.now < 2 ^ 64 }
+    requires open_yet { up_to ends found.items ≡ None }
+    ensures { let all = found.entry.items ++ tokens offset bytes.now
+        in IfOk result (λ first. option_map (λ v. v.items) first
+        ≡ chosen finished all (up_to ends all)) }
 {
-    let mut tokens = Vec::new(alloc);
     let mut start = offset;
     let mut rest = bytes;
-    while let Some(found) = first_token(rest, start) {
-        let ended = is_end(found.token.kind());
-        start = found.token.stop();
-        tokens.push(found.token)?;
+    while let Some(next) = first_token(rest, start) {
+        let ended = is_end(next.token.kind());
+        start = next.token.stop();
+        found.push(next.token)?;
         if ended {
-            return Ok(Some(tokens));
+            return Ok(Some(found));
         }
-        rest = found.rest;
+        rest = next.rest;
     }
-    if finished && !tokens.is_empty() {
-        return Ok(Some(tokens));
+    if finished && !found.is_empty() {
+        return Ok(Some(found));
     }
     Ok(None)
 }
 
-/// Where the first statement of the bytes ends, which begin at this offset of a script.
-fn first_end(bytes: &[u8], offset: u64, finished: bool) -> u64
+/// Where the first statement ends, whose last token so far ends at `so_far`; `none` where there is
+/// no statement.
+fn end_with_rest(bytes: &[u8], offset: u64, finished: bool, so_far: u64, none: u64) -> u64
     requires { offset + length bytes.now < 2 ^ 64 }
-    ensures { result ≡ behind (record { bytes = bytes.now; offset = offset; finished = finished }) }
+    ensures { result ≡ reached finished none so_far (tokens offset bytes.now) }
 {
+    let mut last = so_far;
     let mut start = offset;
     let mut rest = bytes;
     while let Some(found) = first_token(rest, start) {
-        start = found.token.stop();
+        last = found.token.stop();
         if is_end(found.token.kind()) {
-            return start;
+            return last;
         }
+        start = last;
         rest = found.rest;
     }
-    if finished { start } else { offset }
+    if finished { last } else { none }
 }
 
-/// Cuts a script, which is fed in pieces of any size, into statements.
+/// Cuts a script, which is fed in pieces of any size, into statements. A byte is read when it is
+/// fed, and a character when it is whole.
 #[derive(Drop)]
 pub struct Cutter {
-    bytes: Vec<u8>,
-    /// How many of the bytes were taken off.
-    taken: usize,
+    bytes: Queue<u8>,
     offset: u64,
     finished: bool,
+    /// The tokens that were read to their ends.
+    marks: Queue<Mark>,
+    /// How many of them are the first statement, where its `;` is one of them.
+    first: Option<usize>,
+    /// How far the bytes were read.
+    place: Place,
 }
 
 impl Model for Cutter {
-    ghost use Rattle.std.specs.Prelude.{◌+◌, ◌-◌, ◌<◌, ◌≤◌, ◌^◌, drop, length};
+    ghost use Rattle.td_scan.specs.Marks.{Keeps};
     ghost use Rattle.td_tree.specs.Statements.{Held};
 
     ghost Value = { Held };
 
-    ghost view = { λ c. record {
-      bytes = drop c.taken c.bytes.items;
-      offset = c.offset;
-      finished = c.finished;
-    } };
+    ghost view = { λ c. record { bytes = c.bytes; offset = c.offset; finished = c.finished } };
 
-    ghost invariant = { λ c. (c.taken ≤ length c.bytes.items)
-        × (c.offset + (length c.bytes.items - c.taken) < 2 ^ 64) };
+    ghost invariant = { λ c. Keeps c.bytes c.offset c.marks c.first c.place };
 }
 
 impl Cutter {
@@ -94,11 +157,23 @@ impl Cutter {
         ensures { result ≡ record { bytes = []; offset = 0; finished = false } }
     {
         Cutter {
-            bytes: Vec::new(alloc),
-            taken: 0,
+            bytes: Queue::new(alloc),
             offset: 0,
             finished: false,
+            marks: Queue::new(alloc),
+            first: None,
+            place: Place {
+                start: 0,
+                begun: None,
+            },
         }
+    }
+
+    /// How many bytes were fed and not taken off.
+    pub fn held(&self) -> usize
+        ensures { result ≡ length self.now.bytes }
+    {
+        self.bytes.len()
     }
 
     /// Takes the next piece of the script.
@@ -109,20 +184,25 @@ impl Cutter {
             (self.new ≡ record self.old { bytes = self.old.bytes ++ piece.now }) }
         ensures err { OnErr result (self.new ≡ self.old) }
     {
-        self.close_up();
-        self.bytes.extend_from_slice(piece)?;
-        Ok(())
-    }
-
-    /// Moves what is held to the front once as much or more was taken off, so that each byte is moved for one that was.
-    fn close_up(&mut self)
-        ensures { self.new ≡ self.old }
-    {
-        let held = self.bytes.len() - self.taken;
-        if held <= self.taken {
-            self.bytes.copy_within(self.taken.., 0);
-            self.bytes.truncate(held);
-            self.taken = 0;
+        self.bytes.close_up();
+        self.marks.close_up();
+        let held = self.bytes.len();
+        let known = self.marks.len();
+        self.bytes.extend(piece)?;
+        let rest = bytes_from(self.bytes.as_slice(), self.offset, self.place.start);
+        match read_on(&mut self.marks, rest, self.place) {
+            Ok(place) => {
+                self.place = place;
+                if self.first.is_none() {
+                    self.first = count_to_end(self.marks.as_slice(), known);
+                }
+                Ok(())
+            }
+            Err(refused) => {
+                self.bytes.truncate(held);
+                self.marks.truncate(known);
+                Err(refused)
+            }
         }
     }
 
@@ -133,6 +213,17 @@ impl Cutter {
         self.finished = true;
     }
 
+    /// Whether there is no statement yet, as far as can be told without a look at what was read.
+    fn awaits(&self) -> bool
+        ensures { IsTrue result → first_statement self.now ≡ None }
+    {
+        if self.finished || self.first.is_some() {
+            return false;
+        }
+        let rest = bytes_from(self.bytes.as_slice(), self.offset, self.place.start);
+        !may_end(self.place.begun, rest)
+    }
+
     /// The tokens of the first statement.
     #[tactic(auto, using(crate::proofs::LastLaws::last_stop))]
     pub fn next_statement(&self) -> Result<Option<Vec<Token<'_>>>, AllocError>
@@ -141,17 +232,49 @@ impl Cutter {
         ensures end { IfOk result
             (λ found. IfSome found (λ v. end_of_last v.items ≡ Some (behind self.now))) }
     {
-        let alloc = *self.bytes.allocator();
-        let (_, held) = self.bytes.split_at(self.taken);
-        first_tokens(alloc, held, self.offset, self.finished)
+        if self.awaits() {
+            return Ok(None);
+        }
+        let alloc = self.bytes.allocator();
+        let held = self.bytes.as_slice();
+        let marks = self.marks.as_slice();
+        if let Some(count) = self.first {
+            let (first, _) = marks.split_at(count);
+            return Ok(Some(tokens_of(alloc, held, self.offset, first)?));
+        }
+        let start = self.place.start;
+        let found = tokens_of(alloc, held, self.offset, marks)?;
+        with_rest(
+            found,
+            bytes_from(held, self.offset, start),
+            start,
+            self.finished,
+        )
+    }
+
+    /// Where the first statement ends.
+    fn end(&self) -> u64
+        ensures { result ≡ behind self.now }
+    {
+        let marks = self.marks.as_slice();
+        if let Some(count) = self.first {
+            let (first, _) = marks.split_at(count);
+            return end_of_marks(first, self.offset);
+        }
+        let start = self.place.start;
+        let rest = bytes_from(self.bytes.as_slice(), self.offset, start);
+        let so_far = end_of_marks(marks, self.offset);
+        end_with_rest(rest, start, self.finished, so_far, self.offset)
     }
 
     /// Takes the first statement off. Where there is none, nothing changes.
     pub fn take_statement(&mut self)
         ensures { self.new ≡ after self.old }
     {
-        let (_, held) = self.bytes.split_at(self.taken);
-        let end = first_end(held, self.offset, self.finished);
+        if self.awaits() {
+            return;
+        }
+        let end = self.end();
         self.take_to(end);
     }
 
@@ -160,8 +283,20 @@ impl Cutter {
         requires { end ≡ behind self.old }
         ensures { self.new ≡ after self.old }
     {
-        let kept = self.bytes.len() - self.taken - (end - self.offset) as usize;
-        self.taken = self.bytes.len() - kept;
+        if end == self.offset {
+            return;
+        }
+        self.bytes.take_off((end - self.offset) as usize);
         self.offset = end;
+        if let Some(count) = self.first {
+            self.marks.take_off(count);
+            self.first = count_to_end(self.marks.as_slice(), 0);
+        } else {
+            self.marks.truncate(0);
+            self.place = Place {
+                start: end,
+                begun: None,
+            };
+        }
     }
 }

@@ -4,5 +4,7 @@
 pub mod cutter;
 pub mod laws;
 mod piece;
+mod queue;
+mod reading;
 mod symbol;
 pub mod token;

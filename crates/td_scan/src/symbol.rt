@@ -1,6 +1,8 @@
 //! The symbol at the front of bytes: a character, or one byte that begins none.
-ghost use Rattle.std.specs.Prelude.{◌≡◌, ◌<◌, ◌≤◌, ◌∷◌, length, take, drop};
-ghost use Rattle.td_scan.specs.Fronts.{char_size};
+ghost use Rattle.std.specs.Prelude.{◌≡◌, ◌<◌, ◌≤◌, ◌∷◌, ◌++◌, ℕ, List, IfNone, IfSome};
+ghost use Rattle.std.specs.Prelude.{IsFalse, IsTrue, drop, length, nat_lt, take};
+ghost use Rattle.std.specs.List.{list_any};
+ghost use Rattle.td_scan.specs.Fronts.{IsKnown, char_size};
 ghost use Rattle.td_tree.specs.Symbols.{front_bytes, front_char, symbols};
 
 /// What stands at the front: its character, if it is one, and how many bytes it takes.
@@ -12,7 +14,8 @@ pub struct Front {
 
 /// How many bytes a character takes that begins with this one.
 fn char_size(lead: u8) -> usize
-    ensures { result ≡ char_size lead }
+    ensures is { result ≡ char_size lead }
+    ensures most { result ≤ 4 }
 {
     if lead < 128 {
         1
@@ -88,4 +91,36 @@ pub fn symbol_at_front(bytes: &[u8]) -> Front
         };
     }
     wide_symbol(bytes)
+}
+
+/// Whether one of the bytes is ASCII.
+fn has_ascii(bytes: &[u8]) -> bool
+    ensures { result ≡ list_any (λ b. nat_lt b 128) bytes.now }
+{
+    bytes.iter().any(|byte| *byte < 128)
+}
+
+/// Whether the symbol at the front is the same whatever follows the bytes.
+fn is_known(bytes: &[u8]) -> bool
+    requires { 0 < length bytes.now }
+    ensures known { IsTrue result → IsKnown bytes.now }
+    ensures short { IsFalse result → length bytes.now < 4 }
+{
+    bytes.len() >= char_size(bytes[0]) || has_ascii(bytes)
+}
+
+/// The symbol at the front, where it is the same whatever follows the bytes. Where there are four
+/// bytes it is.
+pub fn known_front(bytes: &[u8]) -> Option<Front>
+    ensures step { IfSome result (λ front. (later : List ℕ) → symbols (bytes.now ++ later)
+        ≡ (record { character = front.character; text = take front.size bytes.now })
+        ∷ symbols (drop front.size bytes.now ++ later)) }
+    ensures some { IfSome result (λ front. 0 < front.size) }
+    ensures within { IfSome result (λ front. front.size ≤ length bytes.now) }
+    ensures none { IfNone result (length bytes.now < 4) }
+{
+    if bytes.is_empty() || !is_known(bytes) {
+        return None;
+    }
+    Some(symbol_at_front(bytes))
 }

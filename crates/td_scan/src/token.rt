@@ -1,5 +1,6 @@
 //! Tokens.
 ghost use Rattle.std.specs.Prelude.{Some, ◌≡◌, ◌+◌, ◌<◌, ◌^◌, ◌∷◌, [], length, IfSome, IfNone};
+ghost use Rattle.td_scan.specs.Marks.{IsMark, token_at};
 ghost use Rattle.td_tree.specs.Pieces.{kind_of};
 ghost use Rattle.td_tree.specs.Statements.{tokens};
 ghost use Rattle.td_tree.specs.Symbols.{symbols};
@@ -64,6 +65,31 @@ impl<'a> Token<'a> {
         ensures { result ≡ self.now.stop }
     {
         self.start + self.text.len() as u64
+    }
+}
+
+/// A token without its bytes: what it is, and where they begin and end in the script.
+#[derive(Clone, Copy)]
+pub(crate) struct Mark {
+    pub(crate) kind: Kind,
+    pub(crate) start: u64,
+    pub(crate) stop: u64,
+}
+
+impl Mark {
+    /// The token, in bytes that begin at this offset of a script.
+    pub(crate) fn token(self, bytes: &[u8], offset: u64) -> Token<'_>
+        requires room { offset + length bytes.now < 2 ^ 64 }
+        requires is { IsMark offset bytes.now self }
+        ensures { result ≡ token_at offset bytes.now self }
+    {
+        let (_, from) = bytes.split_at((self.start - offset) as usize);
+        let (text, _) = from.split_at((self.stop - self.start) as usize);
+        Token {
+            text,
+            start: self.start,
+            kind: self.kind,
+        }
     }
 }
 

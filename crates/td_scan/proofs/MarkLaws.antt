@@ -1,0 +1,48 @@
+-- The marks of tokens that are read piece by piece, whatever follows.
+use Rattle.std.proofs.Common.{◌≡◌, ℕ, ◌+◌, List, [], ◌∷◌, ◌++◌, length, take, drop, map, refl, sym, ap, ◌∙◌, arith, Some, None, length-append}
+use Rattle.std.proofs.lemmas.List.{drop-append-le, length-take, take-append-le}
+use Rattle.td_tree.specs.declared.token.Kind.{Kind}
+use Rattle.td_tree.specs.Pieces.{kind_after}
+use Rattle.td_tree.specs.Statements.{token_of, tokens}
+use Rattle.td_scan.specs.declared.piece.First.{First}
+use Rattle.td_scan.specs.declared.token.Mark.{Mark}
+use Rattle.td_scan.specs.Marks.{IsBegun, IsFirst, end_of_marks, mark_of, marks_of}
+use Rattle.td_scan.proofs.FirstLaws.{tokens_of_first}
+
+-- of a piece nothing was read
+pub none_begun : (bytes : List ℕ) → IsBegun bytes None
+none_begun bytes = record { some = tt; within = omega arith; same = λ later. refl }
+
+-- the token of the first piece, and those of the rest, whatever follows
+pub tokens_known : (bs : List ℕ) (f : First) → IsFirst bs f → (at : ℕ) (later : List ℕ)
+    → tokens at (bs ++ later) ≡ token_of (kind_after f.piece (take f.length bs)) at (take f.length bs) ++ tokens (at + f.length) (drop f.length bs ++ later)
+tokens_known bs f first at later =
+    let n = f.length in
+    tokens_of_first (bs ++ later) (n, f.piece) (omega (arith, first.some, first.within, length-append bs later)) (sym (first.same later)) (omega (arith, first.within, length-append bs later)) at
+    ∙ ap (λ text. token_of (kind_after f.piece text) at text ++ tokens (at + n) (drop n (bs ++ later))) (take-append-le n bs later first.within)
+    ∙ ap (λ rest. token_of (kind_after f.piece (take n bs)) at (take n bs) ++ tokens (at + n) rest) (drop-append-le n bs later first.within)
+
+-- a piece that is a token
+pub mark_more : (bs : List ℕ) (f : First) (at : ℕ) (kind : Kind) → IsFirst bs f → kind_after f.piece (take f.length bs) ≡ Some kind → (later : List ℕ)
+    → marks_of at (bs ++ later) ≡ record { kind = kind; start = at; stop = at + f.length } ∷ marks_of (at + f.length) (drop f.length bs ++ later)
+mark_more bs f at kind first is later =
+    let mark : ℕ → Mark = λ n. record { kind = kind; start = at; stop = at + n } in
+    ap (map mark_of) (tokens_known bs f first at later)
+    ∙ ap (λ o. map mark_of (token_of o at (take f.length bs) ++ tokens (at + f.length) (drop f.length bs ++ later))) is
+    ∙ ap (λ n. mark n ∷ marks_of (at + f.length) (drop f.length bs ++ later)) (let long : length (take f.length bs) ≡ f.length = omega (arith, length-take f.length bs, first.within) in long)
+
+-- a piece that is none
+pub mark_none : (bs : List ℕ) (f : First) (at : ℕ) → IsFirst bs f → kind_after f.piece (take f.length bs) ≡ None → (later : List ℕ)
+    → marks_of at (bs ++ later) ≡ marks_of (at + f.length) (drop f.length bs ++ later)
+mark_none bs f at first is later =
+    ap (map mark_of) (tokens_known bs f first at later)
+    ∙ ap (λ o. map mark_of (token_of o at (take f.length bs) ++ tokens (at + f.length) (drop f.length bs ++ later))) is
+
+-- what stood at the front stays when one more is put behind
+pub kept_more : (old new : List Mark) (m : Mark) → take (length old) new ≡ old → take (length old) (new ++ m ∷ []) ≡ old
+kept_more old new m kept = take-append-le (length old) new (m ∷ []) (omega (arith, ap length kept, length-take (length old) new)) ∙ kept
+
+-- the last of the marks ends last
+pub end_more : (low : ℕ) (ms : List Mark) (m : Mark) → end_of_marks low (ms ++ m ∷ []) ≡ m.stop
+end_more low [] m = refl
+end_more low (x ∷ ms) m = end_more x.stop ms m

@@ -1,0 +1,149 @@
+//! Reading bytes behind which others may come: what is known stays.
+ghost use Rattle.std.specs.Prelude.{◌≡◌, ◌+◌, ◌-◌, ◌<◌, ◌≤◌, ◌^◌, ◌++◌, ℕ, List, IfOk};
+ghost use Rattle.std.specs.Prelude.{IfErr, IfNone, IsFalse, IsTrue, None, OnErr, drop, length, take};
+ghost use Rattle.td_scan.specs.Fronts.{end_from};
+ghost use Rattle.td_scan.specs.Marks.{IsBegun, IsFirst, IsRead, is_end_piece, read_of};
+ghost use Rattle.td_tree.specs.Division.{up_to};
+ghost use Rattle.td_tree.specs.Statements.{ends, tokens};
+ghost use Rattle.td_tree.specs.Symbols.{symbols};
+
+use crate::piece::First;
+use crate::queue::Queue;
+use crate::symbol::known_front;
+use crate::token::Mark;
+use std::alloc::AllocError;
+use td_tree::piece::Piece;
+use td_tree::token::Sign;
+
+/// How far a piece goes in some bytes.
+#[derive(Clone, Copy)]
+struct Way {
+    first: First,
+    /// Whether it ends there, whatever follows the bytes.
+    ended: bool,
+}
+
+/// Reads on in a piece.
+fn go_on(begun: First, bytes: &[u8]) -> Way
+    requires { begun.length + length bytes.now < 2 ^ 64 }
+    ensures ended { IsTrue result.ended → (later : List ℕ)
+        → end_from begun.length begun.piece (symbols (bytes.now ++ later))
+        ≡ (result.first.length, result.first.piece) }
+    ensures more { IsFalse result.ended → (later : List ℕ)
+        → end_from begun.length begun.piece (symbols (bytes.now ++ later))
+        ≡ end_from result.first.length result.first.piece
+        (symbols (drop (result.first.length - begun.length) bytes.now ++ later)) }
+    ensures waits { IsFalse result.ended
+        → begun.length + length bytes.now < result.first.length + 4 }
+    ensures longer { begun.length ≤ result.first.length }
+    ensures within { result.first.length ≤ begun.length + length bytes.now }
+{
+    let mut piece = begun.piece;
+    let mut length = begun.length;
+    let mut rest = bytes;
+    while let Some(front) = known_front(rest) {
+        let Some(longer) = piece.goes_on(front.character) else {
+            return Way {
+                first: First { length, piece },
+                ended: true,
+            };
+        };
+        let (_, after) = rest.split_at(front.size);
+        piece = longer;
+        length += front.size;
+        rest = after;
+    }
+    Way {
+        first: First { length, piece },
+        ended: false,
+    }
+}
+
+/// The piece that the first symbol begins, where it is known.
+fn begin(bytes: &[u8]) -> Option<First>
+    ensures begun { IsBegun bytes.now result }
+    ensures waits { IfNone result (length bytes.now < 4) }
+{
+    let front = known_front(bytes)?;
+    Some(First {
+        length: front.size,
+        piece: Piece::opens(front.character),
+    })
+}
+
+/// Reads on in the first piece of the bytes, of which so much was read: the piece, where it ends;
+/// else how much of it is read now.
+fn first_known(begun: Option<First>, bytes: &[u8]) -> Result<First, Option<First>>
+    requires begun { IsBegun bytes.now begun }
+    ensures ended { IfOk result (λ first. IsFirst bytes.now first) }
+    ensures more { IfErr result (λ begun. IsBegun bytes.now begun) }
+    ensures waits { IfErr result (λ begun. length bytes.now < read_of begun + 4) }
+{
+    let Some(begun) = begun.or_else(|| begin(bytes)) else {
+        return Err(None);
+    };
+    let (_, rest) = bytes.split_at(begun.length);
+    let way = go_on(begun, rest);
+    if way.ended {
+        Ok(way.first)
+    } else {
+        Err(Some(way.first))
+    }
+}
+
+/// Where the reading of a script stands: the pieces before are read, and so much of the next one.
+#[derive(Clone, Copy)]
+pub(crate) struct Place {
+    pub(crate) start: u64,
+    pub(crate) begun: Option<First>,
+}
+
+/// Reads on from a place, puts the marks of the tokens that end behind the others, and answers where
+/// the reading then stands.
+pub(crate) fn read_on(
+    marks: &mut Queue<Mark>,
+    bytes: &[u8],
+    place: Place,
+) -> Result<Place, AllocError>
+    requires room { place.start + length bytes.now < 2 ^ 64 }
+    requires begun { IsBegun bytes.now place.begun }
+    ensures read { IfOk result (λ p. IsRead marks.old marks.new place.start bytes.now p) }
+    ensures err { OnErr result (take (length marks.old) marks.new ≡ marks.old) }
+{
+    let mut start = place.start;
+    let mut rest = bytes;
+    let mut begun = place.begun;
+    loop {
+        let first = match first_known(begun, rest) {
+            Ok(first) => first,
+            Err(begun) => return Ok(Place { start, begun }),
+        };
+        let (text, after) = rest.split_at(first.length);
+        let stop = start + first.length as u64;
+        if let Some(kind) = first.piece.kind(text) {
+            marks.push(Mark { kind, start, stop })?;
+        }
+        start = stop;
+        rest = after;
+        begun = None;
+    }
+}
+
+/// Whether the piece is a `;`.
+fn is_end_piece(piece: Piece) -> bool
+    ensures { result ≡ is_end_piece piece }
+{
+    matches!(piece, Piece::Sign(Sign::Semicolon))
+}
+
+/// Whether a `;` may stand in the bytes, of whose first piece so much was read.
+pub(crate) fn may_end(begun: Option<First>, bytes: &[u8]) -> bool
+    requires { IsBegun bytes.now begun }
+    ensures { IsFalse result → (at : ℕ) → up_to ends (tokens at bytes.now) ≡ None }
+{
+    let Some(first) = begun else {
+        return bytes.contains(&b';');
+    };
+    let (_, rest) = bytes.split_at(first.length);
+    is_end_piece(first.piece) || rest.contains(&b';')
+}
