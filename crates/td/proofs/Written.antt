@@ -1,17 +1,17 @@
 -- What a run writes, as its answers or as the dump of what it leaves.
 use Rattle.std.proofs.Common.{◌≡◌, ◌∙◌, ℕ, Bool, List, [], Option, Some, None, Result, Ok, Err, ap, refl, sym, subst, append-nil, arith, true≢false}
-use Rattle.std.specs.Prelude.{IfErr, IfOk, IsFalse, IsOk, IsTrue, take}
+use Rattle.std.specs.Prelude.{IfErr, IfOk, IsFalse, IsOk, IsTrue, take, nat_lt, if◌then◌else◌, ◌&&◌, ◌++◌, true, false}
 use Rattle.std.specs.Io.KnownBytes.{Appends}
-use Rattle.td.specs.Sessions.{HasAnswered, HasBegun, HasBegunCut, HasDumpedCut, status_of}
+use Rattle.td.specs.Sessions.{HasAnswered, HasBegun, HasBegunCut, HasDumpedCut, OfSession, status_of}
 use Rattle.td.specs.declared.line.Mode.TheVariants.{Dump, Run}
 use Rattle.td_catalog.specs.Dumps.{dump_text}
 use Rattle.td_engine.proofs.Runs.{runs_front}
-use Rattle.td_engine.proofs.Turning.{memory_map, ok_map, write_map}
+use Rattle.td_engine.proofs.Turning.{limit_map, memory_map, ok_map, read_map, write_map}
 use Rattle.td_engine.specs.Faults.{IfMemory, IfNotMemory, IfRead, IfReadLimit, IfWrite}
 use Rattle.td_engine.specs.Machine.{State, begun}
-use Rattle.td_engine.specs.Scripts.{OfFront, OfScript}
+use Rattle.td_engine.specs.Scripts.{IsFront, IsRead, OfBroken, OfFront, OfScript, OfTooMuch, script_limit}
 use Rattle.td_engine.specs.Legality.{IsLegalState}
-use Rattle.td_engine.specs.Standing.{HasRun, HasRunCut, IsLeft, IsUnrun, run_of, standing}
+use Rattle.td_engine.specs.Standing.{HasRun, HasRunCut, IsLeft, IsOngoing, run_of, standing}
 use Rattle.td_engine.specs.Told.{AppendsIfTold}
 use Rattle.td_engine.specs.declared.run.Report.{Report}
 use Rattle.td_engine.specs.declared.run.RunFault.{RunFault}
@@ -28,6 +28,19 @@ appends_nothing (Some bytes) (Some more) e = some_same more bytes e ∙ sym (app
 appends_nothing (Some bytes) None e = absurd (cc)
 
 -- ---- answers
+
+-- what a run says of its script, for a session
+of_session : (stop : Bool) (report : Report) (before after : Option (List ℕ)) (P Q : List ℕ → Type 0) → ((script : List ℕ) → P script → Q script)
+    → OfScript script_limit report.statements (stop && nat_lt 0 report.refused) before after P → OfSession stop (status_of report.refused) before after Q
+of_session stop report before after P Q f h = (
+  report.statements,
+  (h.0, h.1, h.2, h.3, λ rest may. f (h.0 ++ rest) (h.4 rest may),
+  subst (λ (over : Bool). IsRead script_limit over h.1 h.0) (ap (λ b. stop && b) (sym (same (nat_lt 0 report.refused)))) h.5),
+)
+  where
+    same : (b : Bool) → nat_lt 0 (if b then 1 else 0) ≡ b
+    same true = refl
+    same false = refl
 
 module _ (stop : Bool) (old new : State) (told taken : Option (List ℕ)) (legal : IsLegalState new) where
   -- the run was run to its end
@@ -56,12 +69,12 @@ module _ (stop : Bool) (old new : State) (told taken : Option (List ℕ)) (legal
 
   module _ (before after : Option (List ℕ)) where
     pub run_answers : (r : Result Report RunFault)
-        → IfOk r (λ report. OfScript before after (λ script. IsLeft (run_of stop (standing old told) script) (standing new taken) report))
-        → IfOk r (λ report. OfScript before after (λ script. HasAnswered Run (run_of stop (standing old told) script) (status_of report.refused) taken))
+        → IfOk r (λ report. OfScript script_limit report.statements (stop && nat_lt 0 report.refused) before after (λ script. IsLeft (run_of stop (standing old told) script) (standing new taken) report))
+        → IfOk r (λ report. OfSession stop (status_of report.refused) before after (λ script. HasAnswered Run (run_of stop (standing old told) script) (status_of report.refused) taken))
     run_answers r =
-        ok_map (λ report. OfScript before after (λ script. IsLeft (run_of stop (standing old told) script) (standing new taken) report))
-        (λ report. OfScript before after (λ script. HasAnswered Run (run_of stop (standing old told) script) (status_of report.refused) taken))
-        (λ report h. (h.0, h.1, ran h.0 report h.2)) r
+        ok_map (λ report. OfScript script_limit report.statements (stop && nat_lt 0 report.refused) before after (λ script. IsLeft (run_of stop (standing old told) script) (standing new taken) report))
+        (λ report. OfSession stop (status_of report.refused) before after (λ script. HasAnswered Run (run_of stop (standing old told) script) (status_of report.refused) taken))
+        (λ report h. of_session stop report before after _ _ (λ script left. ran script report left) h) r
 
     pub run_memory : (fault : RunFault)
         → IfMemory (λ done. OfFront done before after (λ script. HasRun (run_of stop (standing old told) script) done (standing new taken))) fault
@@ -69,48 +82,37 @@ module _ (stop : Bool) (old new : State) (told taken : Option (List ℕ)) (legal
     run_memory =
         memory_map (λ done. OfFront done before after (λ script. HasRun (run_of stop (standing old told) script) done (standing new taken)))
         (λ done. OfFront done before after (λ script. HasBegun Run (run_of stop (standing old told) script) done taken))
-        (λ done h. (h.0, h.1, ran_front h.0 done h.2))
+        (λ done h. (h.0, h.1, h.2, h.3, λ rest may. ran_front (h.0 ++ rest) done (h.4 rest may)))
+
+    pub run_read : (P : Type 0) (fault : RunFault)
+        → IfRead (λ done. P × OfBroken done before after (λ script. IsOngoing (run_of stop (standing old told) script) done (standing new taken))) fault
+        → IfRead (λ done. P × OfBroken done before after (λ script. HasBegun Run (run_of stop (standing old told) script) done taken)) fault
+    run_read P =
+        read_map (λ done. P × OfBroken done before after (λ script. IsOngoing (run_of stop (standing old told) script) done (standing new taken)))
+        (λ done. P × OfBroken done before after (λ script. HasBegun Run (run_of stop (standing old told) script) done taken))
+        (λ done h. let w = h.1 in (h.0, (w.0, w.1, w.2, λ rest may. ran_front (w.0 ++ rest) done (w.3 rest may).has_run, w.4)))
+
+    pub run_limit : (fault : RunFault)
+        → IfReadLimit (λ done. OfTooMuch script_limit done before after (λ script. IsOngoing (run_of stop (standing old told) script) done (standing new taken))) fault
+        → IfReadLimit (λ done. OfTooMuch script_limit done before after (λ script. HasBegun Run (run_of stop (standing old told) script) done taken)) fault
+    run_limit =
+        limit_map (λ done. OfTooMuch script_limit done before after (λ script. IsOngoing (run_of stop (standing old told) script) done (standing new taken)))
+        (λ done. OfTooMuch script_limit done before after (λ script. HasBegun Run (run_of stop (standing old told) script) done taken))
+        (λ done h. (h.0, h.1, h.2, λ rest may. ran_front (h.0 ++ rest) done (h.3 rest may).has_run, h.4))
 
     pub run_write : (P : Type 0) (fault : RunFault)
-        → IfWrite (λ done. P × OfScript before after (λ script. HasRunCut (run_of stop (standing old told) script) done (standing new taken))) fault
-        → IfWrite (λ done. P × OfScript before after (λ script. HasBegunCut Run (run_of stop (standing old told) script) done taken)) fault
+        → IfWrite (λ done. P × OfFront done before after (λ script. HasRunCut (run_of stop (standing old told) script) done (standing new taken))) fault
+        → IfWrite (λ done. P × OfFront done before after (λ script. HasBegunCut Run (run_of stop (standing old told) script) done taken)) fault
     run_write P =
-        write_map (λ done. P × OfScript before after (λ script. HasRunCut (run_of stop (standing old told) script) done (standing new taken)))
-        (λ done. P × OfScript before after (λ script. HasBegunCut Run (run_of stop (standing old told) script) done taken))
-        (λ done h. (h.0, (h.1.0, h.1.1, (new, h.1.2, legal))))
+        write_map (λ done. P × OfFront done before after (λ script. HasRunCut (run_of stop (standing old told) script) done (standing new taken)))
+        (λ done. P × OfFront done before after (λ script. HasBegunCut Run (run_of stop (standing old told) script) done taken))
+        (λ done h. let w = h.1 in (h.0, (w.0, w.1, w.2, w.3, λ rest may. (new, w.4 rest may, legal))))
 
 -- ---- facts of faults
 
 pub err_map : {T : Type 0} (P Q : RunFault → Type 0) → ((fault : RunFault) → P fault → Q fault) → (r : Result T RunFault) → IfErr r P → IfErr r Q
 err_map P Q f (Ok x) h = tt
 err_map P Q f (Err fault) h = f fault h
-
-read_map : (P Q : ℕ → Type 0) → ((done : ℕ) → P done → Q done) → (fault : RunFault) → IfRead P fault → IfRead Q fault
-read_map P Q f (faults.Memory done) h = tt
-read_map P Q f (faults.Read done) h = f done h
-read_map P Q f (faults.ReadLimit done) h = tt
-read_map P Q f (faults.Write done) h = tt
-
-limit_map : (P Q : ℕ → Type 0) → ((done : ℕ) → P done → Q done) → (fault : RunFault) → IfReadLimit P fault → IfReadLimit Q fault
-limit_map P Q f (faults.Memory done) h = tt
-limit_map P Q f (faults.Read done) h = tt
-limit_map P Q f (faults.ReadLimit done) h = f done h
-limit_map P Q f (faults.Write done) h = tt
-
--- nothing was run or written
-pub read_unrun : (old new : State) (told taken : Option (List ℕ)) (P : Type 0) (fault : RunFault)
-    → IfRead (λ done. P × IsUnrun done (standing old told) (standing new taken)) fault
-    → IfRead (λ done. P × (done ≡ 0) × Appends told taken []) fault
-read_unrun old new told taken P =
-    read_map (λ done. P × IsUnrun done (standing old told) (standing new taken)) (λ done. P × (done ≡ 0) × Appends told taken [])
-    (λ done h. (h.0, h.1.none, h.1.unwritten))
-
-pub limit_unrun : (old new : State) (told taken : Option (List ℕ)) (P : Type 0) (fault : RunFault)
-    → IfReadLimit (λ done. P × IsUnrun done (standing old told) (standing new taken)) fault
-    → IfReadLimit (λ done. P × (done ≡ 0) × Appends told taken []) fault
-limit_unrun old new told taken P =
-    limit_map (λ done. P × IsUnrun done (standing old told) (standing new taken)) (λ done. P × (done ≡ 0) × Appends told taken [])
-    (λ done h. (h.0, h.1.none, h.1.unwritten))
 
 -- ---- dumps
 
@@ -174,21 +176,25 @@ dump_front stop old new told script done legal has =
       legal = subst IsLegalState has.stands.state_is legal;
     }
 
+-- what a run to the end says of its script, where all of it was run
+of_front : (stop : Bool) (report : Report) (before after : Option (List ℕ)) (P Q : List ℕ → Type 0) (done : ℕ) → done ≡ report.statements
+    → ((script : List ℕ) → P script → Q script)
+    → OfScript script_limit report.statements (stop && nat_lt 0 report.refused) before after P → OfFront done before after Q
+of_front stop report before after P Q done is f h =
+    (h.0, h.1, h.2, subst (λ n. IsFront n h.1 after h.0) (sym is) h.3, λ rest may. f (h.0 ++ rest) (h.4 rest may))
+
 -- ---- what a dump comes to after a run to the end
 
 module _ (stop : Bool) (old new : State) (told taken before after : Option (List ℕ)) (legal : IsLegalState new) (report : Report)
-    (ran : OfScript before after (λ script. IsLeft (run_of stop (standing old None) script) (standing new None) report)) (r : Result Report RunFault) where
+    (ran : OfScript script_limit report.statements (stop && nat_lt 0 report.refused) before after (λ script. IsLeft (run_of stop (standing old None) script) (standing new None) report))
+    (r : Result Report RunFault) where
   pub dump_answers : IfOk r (λ x. (x ≡ report) × Appends told taken (dump_text new.database))
-      → IfOk r (λ x. OfScript before after (λ script. HasAnswered Dump (run_of stop (standing old told) script) (status_of x.refused) taken))
+      → IfOk r (λ x. OfSession stop (status_of x.refused) before after (λ script. HasAnswered Dump (run_of stop (standing old told) script) (status_of x.refused) taken))
   dump_answers =
       ok_map (λ x. (x ≡ report) × Appends told taken (dump_text new.database))
-      (λ x. OfScript before after (λ script. HasAnswered Dump (run_of stop (standing old told) script) (status_of x.refused) taken))
-      (λ x h. (
-        ran.0,
-        ran.1,
-        subst (λ (y : Report). HasAnswered Dump (run_of stop (standing old told) ran.0) (status_of y.refused) taken) (sym h.0)
-            (dumped stop old new told None legal ran.0 report ran.2 taken h.1),
-      )) r
+      (λ x. OfSession stop (status_of x.refused) before after (λ script. HasAnswered Dump (run_of stop (standing old told) script) (status_of x.refused) taken))
+      (λ x h. subst (λ (y : Report). OfSession stop (status_of y.refused) before after (λ script. HasAnswered Dump (run_of stop (standing old told) script) (status_of y.refused) taken))
+          (sym h.0) (of_session stop report before after _ _ (λ script left. dumped stop old new told None legal script report left taken h.1) ran)) r
 
   pub dump_memory : IfErr r (IfMemory (λ done. (done ≡ report.statements) × (taken ≡ told)))
       → IfErr r (IfMemory (λ done. OfFront done before after (λ script. HasBegun Dump (run_of stop (standing old told) script) done taken)))
@@ -197,31 +203,27 @@ module _ (stop : Bool) (old new : State) (told taken before after : Option (List
       (IfMemory (λ done. OfFront done before after (λ script. HasBegun Dump (run_of stop (standing old told) script) done taken)))
       (memory_map (λ done. (done ≡ report.statements) × (taken ≡ told))
       (λ done. OfFront done before after (λ script. HasBegun Dump (run_of stop (standing old told) script) done taken))
-      (λ done h. (
-        ran.0,
-        record { given = ran.1.given; whole = λ some. ran.1 },
-        undumped stop old new told None legal ran.0 report ran.2 done taken h.0 h.1,
-      ))) r
+      (λ done h. of_front stop report before after _ _ done h.0 (λ script left. undumped stop old new told None legal script report left done taken h.0 h.1) ran)) r
 
   pub dump_write : (broken : Type 0)
       → IfErr r (IfWrite (λ done. (done ≡ report.statements) × ((n : ℕ) × AppendsIfTold told taken (take n (dump_text new.database)))))
       → IfErr r (IfWrite (λ done. broken))
-      → IfErr r (IfWrite (λ done. broken × OfScript before after (λ script. HasBegunCut Dump (run_of stop (standing old told) script) done taken)))
+      → IfErr r (IfWrite (λ done. broken × OfFront done before after (λ script. HasBegunCut Dump (run_of stop (standing old told) script) done taken)))
   dump_write broken = by_result r
     where
       by_fault : (fault : RunFault)
           → IfWrite (λ done. (done ≡ report.statements) × ((n : ℕ) × AppendsIfTold told taken (take n (dump_text new.database)))) fault
           → IfWrite (λ done. broken) fault
-          → IfWrite (λ done. broken × OfScript before after (λ script. HasBegunCut Dump (run_of stop (standing old told) script) done taken)) fault
+          → IfWrite (λ done. broken × OfFront done before after (λ script. HasBegunCut Dump (run_of stop (standing old told) script) done taken)) fault
       by_fault (faults.Memory done) h b = tt
       by_fault (faults.Read done) h b = tt
       by_fault (faults.ReadLimit done) h b = tt
-      by_fault (faults.Write done) h b = (b, (ran.0, ran.1, dump_cut stop old new told None legal ran.0 report ran.2 done taken h.1.0 h.0 h.1.1))
+      by_fault (faults.Write done) h b = (b, of_front stop report before after _ _ done h.0 (λ script left. dump_cut stop old new told None legal script report left done taken h.1.0 h.0 h.1.1) ran)
 
       by_result : (x : Result Report RunFault)
           → IfErr x (IfWrite (λ done. (done ≡ report.statements) × ((n : ℕ) × AppendsIfTold told taken (take n (dump_text new.database)))))
           → IfErr x (IfWrite (λ done. broken))
-          → IfErr x (IfWrite (λ done. broken × OfScript before after (λ script. HasBegunCut Dump (run_of stop (standing old told) script) done taken)))
+          → IfErr x (IfWrite (λ done. broken × OfFront done before after (λ script. HasBegunCut Dump (run_of stop (standing old told) script) done taken)))
       by_result (Ok y) h b = tt
       by_result (Err fault) h b = by_fault fault h b
 
@@ -249,18 +251,20 @@ pub fault_memory : (stop : Bool) (old new : State) (told before after : Option (
 fault_memory stop old new told before after legal =
     memory_map (λ done. OfFront done before after (λ script. HasRun (run_of stop (standing old None) script) done (standing new None)))
     (λ done. OfFront done before after (λ script. HasBegun Dump (run_of stop (standing old told) script) done told))
-    (λ done h. (h.0, h.1, dump_front stop old new told h.0 done legal h.2))
+    (λ done h. (h.0, h.1, h.2, h.3, λ rest may. dump_front stop old new told (h.0 ++ rest) done legal (h.4 rest may)))
 
-pub fault_read : (old new : State) (told : Option (List ℕ)) (P : Type 0) (fault : RunFault)
-    → IfRead (λ done. P × IsUnrun done (standing old None) (standing new None)) fault
-    → IfRead (λ done. P × (done ≡ 0) × Appends told told []) fault
-fault_read old new told P =
-    read_map (λ done. P × IsUnrun done (standing old None) (standing new None)) (λ done. P × (done ≡ 0) × Appends told told [])
-    (λ done h. (h.0, h.1.none, appends_nothing told told refl))
+pub fault_read : (stop : Bool) (old new : State) (told before after : Option (List ℕ)) → IsLegalState new → (P : Type 0) (fault : RunFault)
+    → IfRead (λ done. P × OfBroken done before after (λ script. IsOngoing (run_of stop (standing old None) script) done (standing new None))) fault
+    → IfRead (λ done. P × OfBroken done before after (λ script. HasBegun Dump (run_of stop (standing old told) script) done told)) fault
+fault_read stop old new told before after legal P =
+    read_map (λ done. P × OfBroken done before after (λ script. IsOngoing (run_of stop (standing old None) script) done (standing new None)))
+    (λ done. P × OfBroken done before after (λ script. HasBegun Dump (run_of stop (standing old told) script) done told))
+    (λ done h. let w = h.1 in (h.0, (w.0, w.1, w.2, λ rest may. dump_front stop old new told (w.0 ++ rest) done legal (w.3 rest may).has_run, w.4)))
 
-pub fault_limit : (old new : State) (told : Option (List ℕ)) (P : Type 0) (fault : RunFault)
-    → IfReadLimit (λ done. P × IsUnrun done (standing old None) (standing new None)) fault
-    → IfReadLimit (λ done. P × (done ≡ 0) × Appends told told []) fault
-fault_limit old new told P =
-    limit_map (λ done. P × IsUnrun done (standing old None) (standing new None)) (λ done. P × (done ≡ 0) × Appends told told [])
-    (λ done h. (h.0, h.1.none, appends_nothing told told refl))
+pub fault_limit : (stop : Bool) (old new : State) (told before after : Option (List ℕ)) → IsLegalState new → (fault : RunFault)
+    → IfReadLimit (λ done. OfTooMuch script_limit done before after (λ script. IsOngoing (run_of stop (standing old None) script) done (standing new None))) fault
+    → IfReadLimit (λ done. OfTooMuch script_limit done before after (λ script. HasBegun Dump (run_of stop (standing old told) script) done told)) fault
+fault_limit stop old new told before after legal =
+    limit_map (λ done. OfTooMuch script_limit done before after (λ script. IsOngoing (run_of stop (standing old None) script) done (standing new None)))
+    (λ done. OfTooMuch script_limit done before after (λ script. HasBegun Dump (run_of stop (standing old told) script) done told))
+    (λ done h. (h.0, h.1, h.2, λ rest may. dump_front stop old new told (h.0 ++ rest) done legal (h.3 rest may).has_run, h.4))

@@ -1,11 +1,12 @@
 -- What a session writes and answers (this project's own).
-use Rattle.std.specs.Prelude.{◌≡◌, ℕ, ◌≤◌, List, [], Option, None, Some, nat_lt, take, if◌then◌else◌, ⊤}
+use Rattle.std.specs.Prelude.{◌≡◌, ℕ, ◌≤◌, ◌&&◌, Bool, List, [], Option, None, Some, nat_lt, take, if◌then◌else◌, ⊤}
 use Rattle.std.specs.Io.KnownBytes.{Appends}
 use Rattle.td.specs.declared.line.Mode.{Mode}
 use Rattle.td.specs.declared.line.Mode.TheVariants.{Run, Dump}
 use Rattle.td_catalog.specs.Dumps.{dump_text}
 use Rattle.td_engine.specs.Machine.{Progress, State}
 use Rattle.td_engine.specs.Legality.{IsLegalState}
+use Rattle.td_engine.specs.Scripts.{OfScript, script_limit}
 use Rattle.td_engine.specs.Standing.{HasRun, HasRunCut, RunsTo, standing}
 use Rattle.td_engine.specs.Standing as runs
 use Rattle.td_engine.specs.Told.{AppendsIfTold}
@@ -34,7 +35,12 @@ pub record HasAnswered (mode : Mode) (run : runs.Run) (status : ℕ) (taken : Op
   pub status_is : status ≡ status_of progress.refusals
   pub legal : IsLegalState progress.state
 
--- what is written before memory is refused: the answers so far, and nothing of a dump
+-- the script that a session was given, of which the fact holds: the whole of it, unless the first refusal ended the run
+abbrev pub OfSession : Bool → ℕ → Option (List ℕ) → Option (List ℕ) → (List ℕ → Type 0) → Type 0
+OfSession stop status before after P =
+    (done : ℕ) × OfScript script_limit done (stop && nat_lt 0 status) before after P
+
+-- what is written before a fault of the run: the answers so far, and nothing of a dump
 abbrev pub output_so_far : Mode → Progress → List ℕ
 output_so_far Run progress = progress.text
 output_so_far Dump progress = []

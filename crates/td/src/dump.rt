@@ -1,12 +1,12 @@
 //! The dump of the database that a script leaves.
-ghost use Rattle.std.specs.Prelude.{◌≡◌, ℕ, ◌≤◌, [], IfErr, IfOk, IsFalse, IsOk, IsTrue, OnOk, None};
+ghost use Rattle.std.specs.Prelude.{◌≡◌, ℕ, IfErr, IfOk, IsFalse, IsOk, IsTrue, OnOk, None};
 ghost use Rattle.std.specs.Prelude.{false, take};
 ghost use Rattle.std.specs.Io.KnownBytes.{Appends};
-ghost use Rattle.td.specs.Sessions.{HasAnswered, HasBegun, HasBegunCut, status_of};
+ghost use Rattle.td.specs.Sessions.{HasAnswered, HasBegun, HasBegunCut, OfSession, status_of};
 ghost use Rattle.td.specs.declared.line.Mode.TheVariants.{Dump};
 ghost use Rattle.td_catalog.specs.Dumps.{dump_text};
 ghost use Rattle.td_engine.specs.Faults.{IfMemory, IfNotMemory, IfRead, IfReadLimit, IfWrite};
-ghost use Rattle.td_engine.specs.Scripts.{GaveTooMuch, OfFront, OfScript, script_limit};
+ghost use Rattle.td_engine.specs.Scripts.{OfBroken, OfFront, OfTooMuch, script_limit};
 ghost use Rattle.td_engine.specs.Standing.{run_of, standing};
 ghost use Rattle.td_engine.specs.Told.{AppendsIfTold, GaveAtMost, StaysWhole};
 
@@ -73,8 +73,8 @@ pub(crate) fn dump<B: Body, R: Source, W: Sink>(
     ensures headline { IfNotMemory result (
         IsFalse (R.is_broken reader.new) → IsFalse (W.is_broken writer.new)
         → GaveAtMost script_limit (R.left reader.old) (R.left reader.new) → IsOk result) }
-    ensures answers { IfOk result (λ report.
-        OfScript (R.left reader.old) (R.left reader.new) (λ script. HasAnswered Dump
+    ensures answers { IfOk result (λ report. OfSession stop (status_of report.refused)
+        (R.left reader.old) (R.left reader.new) (λ script. HasAnswered Dump
         (run_of stop (standing engine.old (W.taken writer.old)) script)
         (status_of report.refused) (W.taken writer.new))) }
     ensures whole { OnOk result (IsFalse (R.is_broken reader.new)
@@ -84,12 +84,15 @@ pub(crate) fn dump<B: Body, R: Source, W: Sink>(
         (run_of stop (standing engine.old (W.taken writer.old)) script) done
         (W.taken writer.new)))) }
     ensures read { IfErr result (IfRead (λ done. IsTrue (R.is_broken reader.new)
-        × (done ≡ 0) × Appends (W.taken writer.old) (W.taken writer.new) [])) }
+        × OfBroken done (R.left reader.old) (R.left reader.new) (λ script. HasBegun Dump
+        (run_of stop (standing engine.old (W.taken writer.old)) script) done
+        (W.taken writer.new)))) }
     ensures too_long { IfErr result (IfReadLimit (λ done.
-        GaveTooMuch (R.left reader.old) (R.left reader.new)
-        × (done ≡ 0) × Appends (W.taken writer.old) (W.taken writer.new) [])) }
+        OfTooMuch script_limit done (R.left reader.old) (R.left reader.new) (λ script. HasBegun Dump
+        (run_of stop (standing engine.old (W.taken writer.old)) script) done
+        (W.taken writer.new)))) }
     ensures write { IfErr result (IfWrite (λ done. IsTrue (W.is_broken writer.new)
-        × OfScript (R.left reader.old) (R.left reader.new) (λ script. HasBegunCut Dump
+        × OfFront done (R.left reader.old) (R.left reader.new) (λ script. HasBegunCut Dump
         (run_of stop (standing engine.old (W.taken writer.old)) script) done
         (W.taken writer.new)))) }
 {

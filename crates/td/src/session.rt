@@ -1,12 +1,11 @@
 //! Sessions: a script on an engine of its own.
-ghost use Rattle.std.specs.Prelude.{◌≡◌, ◌≤◌, [], None, IfErr, IfNone, IfOk, IfSome, IsFalse, IsOk, IsTrue, OnOk};
-ghost use Rattle.std.specs.Io.KnownBytes.{Appends};
-ghost use Rattle.td.specs.Sessions.{HasAnswered, HasBegun, HasBegunCut, IsStatus, UnlessMemory};
-ghost use Rattle.td.specs.Sessions.{status_of};
+ghost use Rattle.std.specs.Prelude.{◌≡◌, None, IfErr, IfNone, IfOk, IfSome, IsFalse, IsOk, IsTrue, OnOk};
+ghost use Rattle.td.specs.Sessions.{HasAnswered, HasBegun, HasBegunCut, IsStatus, OfSession};
+ghost use Rattle.td.specs.Sessions.{UnlessMemory, status_of};
 ghost use Rattle.td_engine.specs.Faults.{IfMemory, IfNotMemory, IfRead, IfReadLimit, IfWrite};
 ghost use Rattle.td_engine.specs.Machine.{empty_state};
 ghost use Rattle.td_engine.specs.LegalityLaws.{IsLegalThroughout};
-ghost use Rattle.td_engine.specs.Scripts.{GaveTooMuch, OfFront, OfScript, script_limit};
+ghost use Rattle.td_engine.specs.Scripts.{OfBroken, OfFront, OfTooMuch, script_limit};
 ghost use Rattle.td_engine.specs.Standing.{run_of, standing};
 ghost use Rattle.td_engine.specs.Told.{GaveAtMost, StaysWhole};
 
@@ -49,8 +48,8 @@ fn written<B: Body, R: Source, W: Sink>(
     ensures headline { IfNotMemory result (
         IsFalse (R.is_broken reader.new) → IsFalse (W.is_broken writer.new)
         → GaveAtMost script_limit (R.left reader.old) (R.left reader.new) → IsOk result) }
-    ensures answers { IfOk result (λ report.
-        OfScript (R.left reader.old) (R.left reader.new) (λ script. HasAnswered mode
+    ensures answers { IfOk result (λ report. OfSession stop (status_of report.refused)
+        (R.left reader.old) (R.left reader.new) (λ script. HasAnswered mode
         (run_of stop (standing engine.old (W.taken writer.old)) script)
         (status_of report.refused) (W.taken writer.new))) }
     ensures whole { OnOk result (IsFalse (R.is_broken reader.new)
@@ -60,12 +59,15 @@ fn written<B: Body, R: Source, W: Sink>(
         (run_of stop (standing engine.old (W.taken writer.old)) script) done
         (W.taken writer.new)))) }
     ensures read { IfErr result (IfRead (λ done. IsTrue (R.is_broken reader.new)
-        × (done ≡ 0) × Appends (W.taken writer.old) (W.taken writer.new) [])) }
+        × OfBroken done (R.left reader.old) (R.left reader.new) (λ script. HasBegun mode
+        (run_of stop (standing engine.old (W.taken writer.old)) script) done
+        (W.taken writer.new)))) }
     ensures too_long { IfErr result (IfReadLimit (λ done.
-        GaveTooMuch (R.left reader.old) (R.left reader.new)
-        × (done ≡ 0) × Appends (W.taken writer.old) (W.taken writer.new) [])) }
+        OfTooMuch script_limit done (R.left reader.old) (R.left reader.new) (λ script. HasBegun mode
+        (run_of stop (standing engine.old (W.taken writer.old)) script) done
+        (W.taken writer.new)))) }
     ensures write { IfErr result (IfWrite (λ done. IsTrue (W.is_broken writer.new)
-        × OfScript (R.left reader.old) (R.left reader.new) (λ script. HasBegunCut mode
+        × OfFront done (R.left reader.old) (R.left reader.new) (λ script. HasBegunCut mode
         (run_of stop (standing engine.old (W.taken writer.old)) script) done
         (W.taken writer.new)))) }
 {
@@ -87,8 +89,8 @@ pub(crate) fn session_on<B: Body, R: Source, W: Sink>(
         IsFalse (R.is_broken reader.new) → IsFalse (W.is_broken writer.new)
         → GaveAtMost script_limit (R.left reader.old) (R.left reader.new) → result.fault ≡ None) }
     ensures status { IsStatus result.status result.fault }
-    ensures answers { IfNone result.fault (
-        OfScript (R.left reader.old) (R.left reader.new) (λ script. HasAnswered mode
+    ensures answers { IfNone result.fault (OfSession stop result.status
+        (R.left reader.old) (R.left reader.new) (λ script. HasAnswered mode
         (run_of stop (standing empty_state (W.taken writer.old)) script)
         result.status (W.taken writer.new))) }
     ensures whole { IfNone result.fault (IsFalse (R.is_broken reader.new)
@@ -98,12 +100,15 @@ pub(crate) fn session_on<B: Body, R: Source, W: Sink>(
         (run_of stop (standing empty_state (W.taken writer.old)) script) done
         (W.taken writer.new)))) }
     ensures read { IfSome result.fault (IfRead (λ done. IsTrue (R.is_broken reader.new)
-        × (done ≡ 0) × Appends (W.taken writer.old) (W.taken writer.new) [])) }
+        × OfBroken done (R.left reader.old) (R.left reader.new) (λ script. HasBegun mode
+        (run_of stop (standing engine.old (W.taken writer.old)) script) done
+        (W.taken writer.new)))) }
     ensures too_long { IfSome result.fault (IfReadLimit (λ done.
-        GaveTooMuch (R.left reader.old) (R.left reader.new)
-        × (done ≡ 0) × Appends (W.taken writer.old) (W.taken writer.new) [])) }
+        OfTooMuch script_limit done (R.left reader.old) (R.left reader.new) (λ script. HasBegun mode
+        (run_of stop (standing engine.old (W.taken writer.old)) script) done
+        (W.taken writer.new)))) }
     ensures write { IfSome result.fault (IfWrite (λ done. IsTrue (W.is_broken writer.new)
-        × OfScript (R.left reader.old) (R.left reader.new) (λ script. HasBegunCut mode
+        × OfFront done (R.left reader.old) (R.left reader.new) (λ script. HasBegunCut mode
         (run_of stop (standing empty_state (W.taken writer.old)) script) done
         (W.taken writer.new)))) }
     ensures between { IsLegalThroughout stop empty_state }
@@ -139,8 +144,8 @@ pub fn session<R: Source, W: Sink>(
         IsFalse (R.is_broken reader.new) → IsFalse (W.is_broken writer.new)
         → GaveAtMost script_limit (R.left reader.old) (R.left reader.new) → result.fault ≡ None) }
     ensures status { IsStatus result.status result.fault }
-    ensures answers { IfNone result.fault (
-        OfScript (R.left reader.old) (R.left reader.new) (λ script. HasAnswered mode
+    ensures answers { IfNone result.fault (OfSession stop result.status
+        (R.left reader.old) (R.left reader.new) (λ script. HasAnswered mode
         (run_of stop (standing empty_state (W.taken writer.old)) script)
         result.status (W.taken writer.new))) }
     ensures whole { IfNone result.fault (IsFalse (R.is_broken reader.new)
@@ -150,12 +155,15 @@ pub fn session<R: Source, W: Sink>(
         (run_of stop (standing empty_state (W.taken writer.old)) script) done
         (W.taken writer.new)))) }
     ensures read { IfSome result.fault (IfRead (λ done. IsTrue (R.is_broken reader.new)
-        × (done ≡ 0) × Appends (W.taken writer.old) (W.taken writer.new) [])) }
+        × OfBroken done (R.left reader.old) (R.left reader.new) (λ script. HasBegun mode
+        (run_of stop (standing engine.old (W.taken writer.old)) script) done
+        (W.taken writer.new)))) }
     ensures too_long { IfSome result.fault (IfReadLimit (λ done.
-        GaveTooMuch (R.left reader.old) (R.left reader.new)
-        × (done ≡ 0) × Appends (W.taken writer.old) (W.taken writer.new) [])) }
+        OfTooMuch script_limit done (R.left reader.old) (R.left reader.new) (λ script. HasBegun mode
+        (run_of stop (standing engine.old (W.taken writer.old)) script) done
+        (W.taken writer.new)))) }
     ensures write { IfSome result.fault (IfWrite (λ done. IsTrue (W.is_broken writer.new)
-        × OfScript (R.left reader.old) (R.left reader.new) (λ script. HasBegunCut mode
+        × OfFront done (R.left reader.old) (R.left reader.new) (λ script. HasBegunCut mode
         (run_of stop (standing empty_state (W.taken writer.old)) script) done
         (W.taken writer.new)))) }
     ensures between { IsLegalThroughout stop empty_state }

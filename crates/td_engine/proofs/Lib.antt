@@ -66,3 +66,5 @@ mod VirtualTests
 mod UnreachedChecks
 pub mod WrittenSpellings
 mod WrittenStatements
+mod Advances
+mod Endings

@@ -6,13 +6,12 @@ use Rattle.std.specs.Io.KnownBytes.{Appends, Consumes}
 use Rattle.std.specs.String.{string_bytes}
 use Rattle.td_engine.proofs.Runs.{runs_append, runs_stopped}
 use Rattle.td_engine.proofs.ToldLaws.{told_after}
-use Rattle.td_engine.specs.Faults.{IfMemory, IfWrite}
+use Rattle.td_engine.specs.Faults.{IfMemory, IfRead, IfReadLimit, IfWrite}
 use Rattle.td_engine.specs.Machine.{Progress, State, Step, Steps, Runs, nothing, next, and_then, begun, has_stopped, refusals_of}
-use Rattle.td_engine.specs.Scripts.{GaveScript, OfFront, OfScript}
 use Rattle.td_engine.specs.Standing.{HasRun, HasRunCut, IsLeft, Run, RunsTo, Standing, Stands, run_of, standing}
 use Rattle.td_engine.specs.Steps.{IsParsed, IsStep, step_view}
 use Rattle.td_engine.specs.Told.{AppendsIfTold}
-use Rattle.td_engine.specs.Turns.{FirstStep, HasTurned, HasTurnedCut, IsReading, Place, Reached, Turned, place_at}
+use Rattle.td_engine.specs.Turns.{FirstStep, HasTurned, HasTurnedCut, IsReading, Place, Turned}
 use Rattle.td_engine.specs.declared.answer.Answer as code
 use Rattle.td_engine.specs.declared.run.RunFault.TheVariants.{Memory, Read, ReadLimit, Write}
 use Rattle.td_engine.specs.declared.run.RunFault.{RunFault}
@@ -87,15 +86,15 @@ turned_refused old new t h = by_cause t.first.step.cause t.refused_are
 
 -- ---- one statement more
 
-goes_on : (stop : Bool) (p : Progress) (refused : ℕ) → refused ≡ p.refusals → (stop && nat_lt 0 refused) ≡ false → has_stopped stop p ≡ false
+pub goes_on : (stop : Bool) (p : Progress) (refused : ℕ) → refused ≡ p.refusals → (stop && nat_lt 0 refused) ≡ false → has_stopped stop p ≡ false
 goes_on stop p refused is h = ap (λ n. stop && nat_lt 0 n) (sym is) ∙ h
 
-runs_more : (run : Run) (done : List (List PlacedToken)) (p : Progress) (old : State) (x : List PlacedToken) (step : Step State)
+pub runs_more : (run : Run) (done : List (List PlacedToken)) (p : Progress) (old : State) (x : List PlacedToken) (step : Step State)
     → RunsTo run done p → has_stopped run.stop p ≡ false → old ≡ p.state → Steps old x step → RunsTo run (done ++ (x ∷ [])) (and_then p step)
 runs_more run done p old x step runs goes is steps =
     runs_append run.stop (begun run.old.state) done p (x ∷ []) (and_then p step) runs (next step goes (subst (λ (d : State). Steps d x step) is steps) nothing)
 
-left_more : (run : Run) (done : List (List PlacedToken)) (old new : Place) → (run.stop && nat_lt 0 old.report.refused) ≡ false
+pub left_more : (run : Run) (done : List (List PlacedToken)) (old new : Place) → (run.stop && nat_lt 0 old.report.refused) ≡ false
     → IsLeft (record run { script = done }) old.standing old.report → (t : HasTurned old new)
     → IsLeft (record run { script = done ++ (t.first.statement ∷ []) }) new.standing new.report
 left_more run done old new goes left t =
@@ -110,111 +109,6 @@ left_more run done old new goes left t =
       };
       statements_are = t.statements_are ∙ ap (λ n. n + 1) left.statements_are;
       refused_are = t.refused_are ∙ ap (λ n. n + refusals_of step.cause) left.refused_are;
-    }
-
--- the first of those held, with the others
-next_of : (script done : List (List PlacedToken)) (held : Held) (x : List PlacedToken) → script ≡ done ++ statements held.offset held.bytes → first_statement held ≡ Some x
-    → script ≡ done ++ (x ∷ statements (after held).offset (after held).bytes)
-next_of script done held x h first = h ∙ ap (λ t. done ++ t) (first_and_after held x first)
-
-pub reached_more : (run : Run) (old new : Place) → (run.stop && nat_lt 0 old.report.refused) ≡ false → Reached run old → HasTurned old new → Reached run new
-reached_more run old new goes r t =
-    let x : List PlacedToken = t.first.statement in
-    let rest : Held → List (List PlacedToken) = λ h. statements h.offset h.bytes in
-    record {
-      done = r.done ++ (x ∷ []);
-      cut = next_of run.script r.done old.held x r.cut t.first.is ∙ sym (append_assoc r.done (x ∷ []) (rest (after old.held)))
-          ∙ ap (λ (h : Held). (r.done ++ (x ∷ [])) ++ rest h) (sym t.held_is);
-      left = left_more run r.done old new goes r.left t;
-      each = length-append r.done (x ∷ []) ∙ (ap (λ k. k + 1) r.each ∙ sym t.statements_are);
-    }
-
--- nothing was run
-pub reached_none : (run : Run) (held : Held) → run.script ≡ statements held.offset held.bytes → Reached run (place_at held run.old (record { statements = 0; refused = 0 }))
-reached_none run held same = record {
-  done = [];
-  cut = same;
-  left = record {
-    progress = begun run.old.state;
-    runs = nothing;
-    stands = record { state_is = refl; written = Appends-nil run.old.taken };
-    statements_are = refl;
-    refused_are = refl;
-  };
-  each = refl;
-}
-
--- ---- the end
-
--- nothing is left, or the run was stopped
-left_over : (run : Run) (place : Place) → Reached run place → (statements place.held.offset place.held.bytes ≡ []) ⊎ ((run.stop && nat_lt 0 place.report.refused) ≡ true)
-    → IsLeft run place.standing place.report
-left_over run place r over =
-    let p : Progress = r.left.progress in
-    let rest : List (List PlacedToken) = statements place.held.offset place.held.bytes in
-    record {
-      progress = p;
-      runs = subst (λ (ss : List (List PlacedToken)). RunsTo run ss p) (sym r.cut)
-          (runs_append run.stop (begun run.old.state) r.done p rest p r.left.runs
-          (elim over as (λ _. Runs run.stop p rest p) [
-            | inl none ↦ subst (λ (ss : List (List PlacedToken)). Runs run.stop p ss p) (sym none) nothing
-            | inr stopped ↦ runs_stopped run.stop p rest (ap (λ n. run.stop && nat_lt 0 n) (sym r.left.refused_are) ∙ stopped)
-          ]));
-      stands = r.left.stands;
-      statements_are = r.left.statements_are;
-      refused_are = r.left.refused_are;
-    }
-
-pub left_stopped : (run : Run) (place : Place) → Reached run place → (run.stop && nat_lt 0 place.report.refused) ≡ true → IsLeft run place.standing place.report
-left_stopped run place r stopped = left_over run place r (inr stopped)
-
--- there was no statement
-pub left_none : (run : Run) (old new : Place) (found : Bool) → Reached run old → old.held.finished ≡ true → Turned old new found → found ≡ false → IsLeft run new.standing new.report
-left_none run old new true r finished t e = cc
-left_none run old new false r finished t e =
-    subst (λ (place : Place). IsLeft run place.standing place.report) (sym t.1)
-    (left_over run old r (inl (no_statement old.held t.0 finished)))
-
--- ---- faults
-
--- those that were run are the first
-taken : (script done others : List (List PlacedToken)) (count : ℕ) → script ≡ done ++ others → length done ≡ count → done ≡ take count script
-taken script done others count h e = sym (rw (h, ← e) (take-append_seam done others))
-
-pub has_run : (run : Run) (place : Place) (done : ℕ) (new : Standing) → Reached run place → done ≡ place.report.statements → new ≡ place.standing → HasRun run done new
-has_run run place done new r counted same = record {
-  progress = r.left.progress;
-  runs = subst (λ (ss : List (List PlacedToken)). RunsTo run ss r.left.progress)
-      (taken run.script r.done (statements place.held.offset place.held.bytes) done r.cut (r.each ∙ sym counted)) r.left.runs;
-  each_run = sym r.left.statements_are ∙ sym counted;
-  stands = subst (λ (s : Standing). Stands run.old r.left.progress s) (sym same) r.left.stands;
-}
-
--- one statement more was run, and its text is cut
-pub has_run_cut : (run : Run) (old : Place) (done : ℕ) (new : Standing) → (run.stop && nat_lt 0 old.report.refused) ≡ false → Reached run old
-    → done ≡ old.report.statements + 1 → HasTurnedCut old new → HasRunCut run done new
-has_run_cut run old done new goes r counted t =
-    let x : List PlacedToken = t.first.statement in
-    let rest : List (List PlacedToken) = statements (after old.held).offset (after old.held).bytes in
-    let p : Progress = r.left.progress in
-    let step : Step State = t.first.step in
-    let all : run.script ≡ r.done ++ (x ∷ rest) = next_of run.script r.done old.held x r.cut t.first.is in
-    let longer : length (r.done ++ (x ∷ [])) ≡ done = length-append r.done (x ∷ []) ∙ (ap (λ k. k + 1) r.each ∙ sym counted) in
-    let fewer : length r.done ≡ done - 1 = omega (arith, r.each, counted) in
-    record {
-      progress = and_then p step;
-      runs = subst (λ (ss : List (List PlacedToken)). RunsTo run ss (and_then p step))
-          (taken run.script (r.done ++ (x ∷ [])) rest done (all ∙ sym (append_assoc r.done (x ∷ []) rest)) longer)
-          (runs_more run r.done p old.standing.state x step r.left.runs (goes_on run.stop p old.report.refused r.left.refused_are goes) r.left.stands.state_is t.first.steps);
-      some = omega (arith, counted);
-      each_run = ap (λ k. k + 1) (sym r.left.statements_are) ∙ sym counted;
-      state_is = t.first.state_is;
-      others = p;
-      runs_of_others = subst (λ (ss : List (List PlacedToken)). RunsTo run ss p) (taken run.script r.done (x ∷ rest) (done - 1) all fewer) r.left.runs;
-      count = length p.text + t.count;
-      whole = omega arith;
-      cut = subst (λ (text : List ℕ). AppendsIfTold run.old.taken new.taken text) (sym (take-append-add p.text step.text t.count))
-          (told_after run.old.taken old.standing.taken new.taken p.text (take t.count step.text) r.left.stands.written t.cut);
     }
 
 -- ---- a fact of a result from another
@@ -235,29 +129,14 @@ write_map P Q f (Read done) h = tt
 write_map P Q f (ReadLimit done) h = tt
 write_map P Q f (Write done) h = f done h
 
--- ---- a run of a script
+pub read_map : (P Q : ℕ → Type 0) → ((done : ℕ) → P done → Q done) → (fault : RunFault) → IfRead P fault → IfRead Q fault
+read_map P Q f (Memory done) h = tt
+read_map P Q f (Read done) h = f done h
+read_map P Q f (ReadLimit done) h = tt
+read_map P Q f (Write done) h = tt
 
-pub of_front : (before after : Option (List ℕ)) (P : List ℕ → Type 0) (done : ℕ) (script : List ℕ) → GaveScript before after script → P script → OfFront done before after P
-of_front before after P done script gave h = (script, record { given = gave.given; whole = λ some. gave }, h)
-
--- nothing was run before a fault of reading
-none_run : (stop : Bool) (old : Standing) (front : List ℕ) (done : ℕ) → done ≡ 0 → HasRun (run_of stop old front) done old
-none_run stop old front done none =
-    let held : Held = record { bytes = front; offset = 0; finished = true } in
-    let run : Run = run_of stop old front in
-    has_run run (place_at held old (record { statements = 0; refused = 0 })) done old (reached_none run held refl) none refl
-
-pub front_unrun : (stop : Bool) (old : Standing) (before after : Option (List ℕ)) (fault : RunFault)
-    → IfMemory (λ done. (done ≡ 0) × ((bytes : List ℕ) × Consumes before after bytes)) fault
-    → IfMemory (λ done. OfFront done before after (λ script. HasRun (run_of stop old script) done old)) fault
-front_unrun stop old before after =
-    memory_map (λ done. (done ≡ 0) × ((bytes : List ℕ) × Consumes before after bytes)) (λ done. OfFront done before after (λ script. HasRun (run_of stop old script) done old))
-    (λ done h. (h.1.0, record { given = h.1.1; whole = λ (some : 0 < done). absurd (let wrong : 0 < 0 = subst (λ n. 0 < n) h.0 some in omega (arith, wrong)) }, none_run stop old h.1.0 done h.0))
-
--- nothing more was run before a fault of memory
-pub has_run_at : (run : Run) (old : Place) (state : State) (taken : Option (List ℕ)) (fault : RunFault) → Reached run old
-    → IfMemory (λ done. (done ≡ old.report.statements) × (state ≡ old.standing.state) × (taken ≡ old.standing.taken)) fault
-    → IfMemory (λ done. HasRun run done (standing state taken)) fault
-has_run_at run old state taken fault r =
-    memory_map (λ done. (done ≡ old.report.statements) × (state ≡ old.standing.state) × (taken ≡ old.standing.taken)) (λ done. HasRun run done (standing state taken))
-    (λ done h. has_run run old done (standing state taken) r h.0 (λ i. standing (h.1 i) (h.2 i))) fault
+pub limit_map : (P Q : ℕ → Type 0) → ((done : ℕ) → P done → Q done) → (fault : RunFault) → IfReadLimit P fault → IfReadLimit Q fault
+limit_map P Q f (Memory done) h = tt
+limit_map P Q f (Read done) h = tt
+limit_map P Q f (ReadLimit done) h = f done h
+limit_map P Q f (Write done) h = tt

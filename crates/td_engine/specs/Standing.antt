@@ -1,7 +1,7 @@
 -- What a run leaves (this project's own, in the words of the set machine).
-use Rattle.std.specs.Prelude.{◌≡◌, ℕ, ◌-◌, ◌<◌, ◌≤◌, Bool, List, [], length, take, Option}
+use Rattle.std.specs.Prelude.{◌≡◌, ℕ, ◌-◌, ◌<◌, ◌≤◌, Bool, false, List, [], length, take, Option}
 use Rattle.std.specs.Io.KnownBytes.{Appends}
-use Rattle.td_engine.specs.Machine.{Progress, Runs, State, begun}
+use Rattle.td_engine.specs.Machine.{Progress, Runs, State, begun, has_stopped}
 use Rattle.td_engine.specs.Told.{AppendsIfTold}
 use Rattle.td_engine.specs.declared.run.Report.{Report}
 use Rattle.td_tree.specs.Statements.{PlacedToken, statements}
@@ -48,6 +48,11 @@ pub record HasRun (run : Run) (done : ℕ) (new : Standing) : Type 0 where
   pub each_run : progress.statements ≡ done
   pub stands : Stands run.old progress new
 
+-- the same, and no refusal ended the run there
+pub record IsOngoing (run : Run) (done : ℕ) (new : Standing) : Type 0 where
+  pub has_run : HasRun run done new
+  pub goes_on : has_stopped run.stop has_run.progress ≡ false
+
 -- the first `done` statements were run, each of them, and their texts are written but for a part of the last one's
 pub record HasRunCut (run : Run) (done : ℕ) (new : Standing) : Type 0 where
   pub progress : Progress
@@ -60,9 +65,3 @@ pub record HasRunCut (run : Run) (done : ℕ) (new : Standing) : Type 0 where
   pub count : ℕ
   pub whole : length others.text ≤ count
   pub cut : AppendsIfTold run.old.taken new.taken (take count progress.text)
-
--- nothing was run or written
-pub record IsUnrun (done : ℕ) (old new : Standing) : Type 0 where
-  pub none : done ≡ 0
-  pub same : new.state ≡ old.state
-  pub unwritten : Appends old.taken new.taken []

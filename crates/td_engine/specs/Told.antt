@@ -1,5 +1,5 @@
 -- What a call of a source or a sink does to the bytes that it tells (this project's own; in std's words).
-use Rattle.std.specs.Prelude.{◌≡◌, ℕ, ◌+◌, ◌≤◌, List, ◌++◌, length, take, Option, Some, Result, MatchResult, ⊤, Bool, IsFalse}
+use Rattle.std.specs.Prelude.{◌≡◌, ℕ, ◌+◌, ◌≤◌, List, ◌++◌, length, take, Option, Some, None, Result, MatchResult, ⊤, Bool, IsFalse}
 use Rattle.std.specs.Io.KnownBytes.{Appends, Consumes}
 
 -- bytes that are told before and after are the same
@@ -19,6 +19,12 @@ Puts old new result bytes = MatchResult result (λ n. Appends old new (take n by
 abbrev pub AppendsIfTold : Option (List ℕ) → Option (List ℕ) → List ℕ → Type 0
 AppendsIfTold (Some xs) (Some ys) bytes = ys ≡ xs ++ bytes
 AppendsIfTold _ _ bytes = ⊤
+
+-- these bytes were the first of those that were told before; where bytes are told after, they are the others
+abbrev pub ConsumesIfTold : Option (List ℕ) → Option (List ℕ) → List ℕ → Type 0
+ConsumesIfTold None after bytes = ⊤
+ConsumesIfTold (Some xs) None bytes = (ys : List ℕ) × (xs ≡ bytes ++ ys)
+ConsumesIfTold (Some xs) (Some ys) bytes = xs ≡ bytes ++ ys
 
 -- a source that tells its bytes before and after, and gave at most this many
 abbrev pub GaveAtMost : ℕ → Option (List ℕ) → Option (List ℕ) → Type 0

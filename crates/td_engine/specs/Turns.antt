@@ -1,8 +1,9 @@
 -- One statement of a run, and how far a run has come (the code's own way; it is said in the words of the set machine).
-use Rattle.std.specs.Prelude.{◌≡◌, ℕ, ◌+◌, Bool, true, false, List, ◌++◌, length, take, Some, None, Result}
-use Rattle.std.specs.Io.KnownBytes.{Appends}
+use Rattle.std.specs.Prelude.{◌≡◌, ℕ, ◌+◌, ◌<◌, ◌≤◌, ◌&&◌, Bool, true, false, nat_lt, List, [], ◌++◌, length, take, Option, Some, None, Result}
+use Rattle.std.specs.Io.KnownBytes.{Appends, Consumes, IsAtEnd}
 use Rattle.td_engine.specs.Machine.{State, Step, Steps, refusals_of}
-use Rattle.td_engine.specs.Standing.{IsLeft, Run, Standing}
+use Rattle.td_engine.specs.Scripts.{AreEnded}
+use Rattle.td_engine.specs.Standing.{IsLeft, Standing}
 use Rattle.td_engine.specs.Steps.{IsParsed}
 use Rattle.td_engine.specs.Told.{AppendsIfTold}
 use Rattle.td_engine.specs.declared.run.Report.{Report}
@@ -53,9 +54,45 @@ abbrev pub Turned : Place → Place → Bool → Type 0
 Turned old new true = HasTurned old new
 Turned old new false = (first_statement old.held ≡ None) × (new ≡ old)
 
--- of the run's statements the first were run; the others are those of the bytes that are still held
-pub record Reached (run : Run) (place : Place) : Type 0 where
+-- so many bytes that the source gave were fed; where there is none, it is at its end, and all was fed
+pub record IsFed (old new : Held) (before after : Option (List ℕ)) (count : ℕ) : Type 0 where
+  pub piece : List ℕ
+  pub given : Consumes before after piece
+  pub size : length piece ≡ count
+  pub bytes_are : new.bytes ≡ old.bytes ++ piece
+  pub offset_is : new.offset ≡ old.offset
+  pub more : 0 < count → new.finished ≡ false
+  pub none : count ≡ 0 → (new.finished ≡ true) × IsAtEnd after
+
+-- of the bytes given so far the first statements were run, in every continuation, and those that more bytes can follow end
+-- with `;`; the others are those of the bytes that are still held
+pub record Reached (stop : Bool) (old : Standing) (given : List ℕ) (place : Place) : Type 0 where
   pub done : List (List PlacedToken)
-  pub cut : run.script ≡ done ++ statements place.held.offset place.held.bytes
-  pub left : IsLeft (record run { script = done }) place.standing place.report
+  pub cut : (rest : List ℕ) → (place.held.finished ≡ true → rest ≡ [])
+      → statements 0 (given ++ rest) ≡ done ++ statements place.held.offset (place.held.bytes ++ rest)
+  pub left : IsLeft (record { stop = stop; old = old; script = done }) place.standing place.report
   pub each : length done ≡ place.report.statements
+  pub ended : place.held.finished ≡ false → AreEnded done
+
+-- from one place statements that are held were run up to another
+pub record Advanced (stop : Bool) (old new : Place) : Type 0 where
+  pub finished_is : new.held.finished ≡ old.held.finished
+  pub end_is : new.held.offset + length new.held.bytes ≡ old.held.offset + length old.held.bytes
+  pub counted : new.report.statements + length new.held.bytes ≤ old.report.statements + length old.held.bytes
+  pub refused : old.report.refused ≤ old.report.statements → new.report.refused ≤ new.report.statements
+  pub reached : (before : Standing) (given : List ℕ) → Reached stop before given old → Reached stop before given new
+
+-- a run ended at a place between two statements, of which so many were run
+pub record EndedAt (stop : Bool) (old : Place) (done : ℕ) (new : Standing) : Type 0 where
+  pub place : Place
+  pub advanced : Advanced stop old place
+  pub done_is : done ≡ place.report.statements
+  pub same : new ≡ place.standing
+
+-- a run ended within the text of one statement more
+pub record EndedIn (stop : Bool) (old : Place) (done : ℕ) (new : Standing) : Type 0 where
+  pub place : Place
+  pub advanced : Advanced stop old place
+  pub done_is : done ≡ place.report.statements + 1
+  pub goes_on : (stop && nat_lt 0 place.report.refused) ≡ false
+  pub turned : HasTurnedCut place new

@@ -3,13 +3,14 @@ ghost use Rattle.std.specs.Prelude.{◌≡◌, ℕ, ◌+◌, ◌<◌, ◌≤◌,
 ghost use Rattle.std.specs.Prelude.{length, None, IfOk, IfErr, IfNone, IfSome, IsOk, OnOk, IsTrue, IsFalse};
 ghost use Rattle.std.specs.Io.KnownBytes.{Consumes};
 ghost use Rattle.td_engine.specs.Faults.{IfMemory, IfNotMemory, IfRead, IfReadLimit, IfWrite};
-ghost use Rattle.td_engine.specs.Scripts.{GaveScript, GaveTooMuch, OfFront, OfScript, script_limit};
+ghost use Rattle.td_engine.specs.Scripts.{OfBroken, OfFront, OfScript, OfTooMuch, script_limit};
 ghost use Rattle.td_engine.specs.Legality.{IsLegalState};
 ghost use Rattle.td_engine.specs.LegalityLaws.{IsLegalThroughout};
-ghost use Rattle.td_engine.specs.Standing.{HasRun, HasRunCut, IsLeft, IsUnrun, run_of, standing};
-ghost use Rattle.td_engine.specs.Told.{GaveAtMost, StaysWhole};
-ghost use Rattle.td_engine.specs.Turns.{HasTurnedCut, IsReading, Turned, place_at};
-ghost use Rattle.td_tree.specs.Statements.{first_statement, statements};
+ghost use Rattle.td_engine.specs.Standing.{HasRun, HasRunCut, IsLeft, IsOngoing, run_of, standing};
+ghost use Rattle.td_engine.specs.Told.{GaveAtMost, KeepsIfTold, StaysWhole};
+ghost use Rattle.td_engine.specs.Turns.{Advanced, EndedAt, EndedIn, HasTurnedCut, IsFed, IsReading};
+ghost use Rattle.td_engine.specs.Turns.{Turned, place_at};
+ghost use Rattle.td_tree.specs.Statements.{first_statement};
 
 use crate::engine::Engine;
 use crate::laws::runs_keep_legality;
@@ -38,6 +39,16 @@ pub struct Report {
 }
 
 impl Report {
+    /// Before the first answer.
+    fn new() -> Report
+        ensures { result ≡ record { statements = 0; refused = 0 } }
+    {
+        Report {
+            statements: 0,
+            refused: 0,
+        }
+    }
+
     /// One answer more.
     fn count(&mut self, accepted: bool)
         requires statements { self.old.statements < 2 ^ 32 }
@@ -72,37 +83,44 @@ pub enum RunFault {
     Write { done: u64 },
 }
 
-/// Reads the source to its end.
-fn read_all<R: Source>(alloc: Global, reader: &mut R) -> Result<Cutter, RunFault>
-    ensures script { IfOk result (λ cutter.
-        GaveScript (R.left reader.old) (R.left reader.new) cutter.bytes) }
-    ensures begins { IfOk result (λ cutter. cutter.offset ≡ 0) }
-    ensures finished { IfOk result (λ cutter. IsTrue cutter.finished) }
+/// Reads a piece of the script, of which so many bytes may still come, and feeds it. It answers how
+/// many bytes it has; at the source's end that is 0, and the cutter is finished.
+fn read_piece<R: Source>(
+    reader: &mut R,
+    cutter: &mut Cutter,
+    room: u64,
+    done: u64,
+) -> Result<u64, RunFault>
+    requires unfinished { IsFalse cutter.old.finished }
+    requires size { cutter.old.offset + length cutter.old.bytes + room ≤ script_limit }
+    ensures fed { IfOk result
+        (IsFed cutter.old cutter.new (R.left reader.old) (R.left reader.new)) }
+    ensures fits { IfOk result (λ count. count ≤ room) }
     ensures whole { OnOk result (IsFalse (R.is_broken reader.new)) }
-    ensures memory { IfErr result (IfMemory (λ done. (done ≡ 0)
-        × ((bytes : List ℕ) × Consumes (R.left reader.old) (R.left reader.new) bytes))) }
-    ensures read { IfErr result (IfRead (λ done. (done ≡ 0) × IsTrue (R.is_broken reader.new))) }
-    ensures limit { IfErr result (IfReadLimit (λ done. (done ≡ 0)
-        × GaveTooMuch (R.left reader.old) (R.left reader.new))) }
-    ensures write { IfErr result (IfWrite (λ done. ⊥)) }
+    ensures memory { IfErr result (IfMemory (λ n. (n ≡ done)
+        × ((piece : List ℕ) × Consumes (R.left reader.old) (R.left reader.new) piece))) }
+    ensures read { IfErr result (IfRead (λ n. (n ≡ done) × IsTrue (R.is_broken reader.new)
+        × KeepsIfTold (R.left reader.old) (R.left reader.new))) }
+    ensures limit { IfErr result (IfReadLimit (λ n. (n ≡ done)
+        × ((piece : List ℕ) × Consumes (R.left reader.old) (R.left reader.new) piece
+        × (room < length piece)))) }
+    ensures write { IfErr result (IfWrite (λ n. ⊥)) }
 {
-    let mut cutter = Cutter::new(alloc);
     let mut buffer = [0u8; PIECE];
-    let mut read = 0;
-    'pieces: while read <= SCRIPT_LIMIT {
-        let Ok(count) = reader.pull(&mut buffer) else {
-            return Err(RunFault::Read { done: 0 });
-        };
-        if count == 0 {
-            cutter.finish();
-            return Ok(cutter);
-        }
-        match cutter.feed(&buffer[..count]) {
-            Ok(()) => read += count as u64,
-            Err(_) => return Err(RunFault::Memory { done: 0 }),
-        }
+    let Ok(count) = reader.pull(&mut buffer) else {
+        return Err(RunFault::Read { done });
+    };
+    if count == 0 {
+        cutter.finish();
+        return Ok(0);
     }
-    Err(RunFault::ReadLimit { done: 0 })
+    if count as u64 > room {
+        return Err(RunFault::ReadLimit { done });
+    }
+    match cutter.feed(&buffer[..count]) {
+        Ok(()) => Ok(count as u64),
+        Err(_) => Err(RunFault::Memory { done }),
+    }
 }
 
 /// The first statement of those held, read, and where it ends in the script.
@@ -172,49 +190,110 @@ fn run_one<B: Body, W: Sink>(
     }
 }
 
-/// Runs the statements held, and writes each answer.
+/// Runs the statements held that are whole, and writes each answer, unless the first refusal ends
+/// the run.
 fn run_held<B: Body, W: Sink>(
     alloc: Global,
     engine: &mut Engine<B>,
     cutter: &mut Cutter,
     writer: &mut W,
     stop: bool,
-) -> Result<Report, RunFault>
-    requires finished { IsTrue cutter.old.finished }
-    requires size { length cutter.old.bytes ≤ script_limit }
-    requires begins { cutter.old.offset ≡ 0 }
-    ensures answers { IfOk result (IsLeft
-        (run_of stop (standing engine.old (W.taken writer.old)) cutter.old.bytes)
-        (standing engine.new (W.taken writer.new))) }
+    report: &mut Report,
+) -> Result<(), RunFault>
+    requires statements { report.old.statements + length cutter.old.bytes ≤ script_limit }
+    requires refused { report.old.refused ≤ report.old.statements }
+    ensures advanced { OnOk result (Advanced stop
+        (place_at cutter.old (standing engine.old (W.taken writer.old)) report.old)
+        (place_at cutter.new (standing engine.new (W.taken writer.new)) report.new)) }
+    ensures all { OnOk result (IsFalse (stop && nat_lt 0 report.new.refused)
+        → first_statement cutter.new ≡ None) }
     ensures legal { IsLegalState engine.old → IsLegalState engine.new }
     ensures whole { OnOk result (StaysWhole (W.is_broken writer.old) (W.is_broken writer.new)) }
-    ensures memory { IfErr result (IfMemory (λ done. HasRun
-        (run_of stop (standing engine.old (W.taken writer.old)) cutter.old.bytes) done
+    ensures memory { IfErr result (IfMemory (λ done. EndedAt stop
+        (place_at cutter.old (standing engine.old (W.taken writer.old)) report.old) done
         (standing engine.new (W.taken writer.new)))) }
-    ensures write { IfErr result (IfWrite (λ done. HasRunCut
-        (run_of stop (standing engine.old (W.taken writer.old)) cutter.old.bytes) done
+    ensures write { IfErr result (IfWrite (λ done. EndedIn stop
+        (place_at cutter.old (standing engine.old (W.taken writer.old)) report.old) done
         (standing engine.new (W.taken writer.new)))) }
     ensures broken { IfErr result (IfWrite (λ done. IsTrue (W.is_broken writer.new))) }
     ensures read { IfErr result (IfRead (λ done. ⊥)) }
     ensures limit { IfErr result (IfReadLimit (λ done. ⊥)) }
 {
-    let mut report = Report {
-        statements: 0,
-        refused: 0,
-    };
     'statements: while !report.is_over(stop) {
-        match run_one(alloc, engine, cutter, writer, &mut report) {
+        match run_one(alloc, engine, cutter, writer, report) {
             Ok(true) => {}
-            Ok(false) => return Ok(report),
+            Ok(false) => return Ok(()),
             Err(fault) => return Err(fault),
+        }
+    }
+    Ok(())
+}
+
+/// Reads the source piece by piece, runs each statement once its end is known, and writes its answer
+/// whole before it runs the next. With `stop` the first refused statement ends the run, and no more
+/// is read. A piece with which the script has more bytes than `limit` is not run. At a fault the
+/// engine and the writer stand as after the statements that were run, and the engine can go on.
+pub fn run_within<B: Body, R: Source, W: Sink>(
+    alloc: Global,
+    engine: &mut Engine<B>,
+    reader: &mut R,
+    writer: &mut W,
+    stop: bool,
+    limit: u64,
+) -> Result<Report, RunFault>
+    requires limit { limit ≤ script_limit }
+    ensures headline { IfNotMemory result (
+        IsFalse (R.is_broken reader.new) → IsFalse (W.is_broken writer.new)
+        → GaveAtMost limit (R.left reader.old) (R.left reader.new) → IsOk result) }
+    ensures answers { IfOk result (λ report.
+        OfScript limit report.statements (stop && nat_lt 0 report.refused)
+        (R.left reader.old) (R.left reader.new) (λ script. IsLeft
+        (run_of stop (standing engine.old (W.taken writer.old)) script)
+        (standing engine.new (W.taken writer.new)) report)) }
+    ensures whole { OnOk result (IsFalse (R.is_broken reader.new)
+        × StaysWhole (W.is_broken writer.old) (W.is_broken writer.new)) }
+    ensures memory { IfErr result (IfMemory (λ done.
+        OfFront done (R.left reader.old) (R.left reader.new) (λ script. HasRun
+        (run_of stop (standing engine.old (W.taken writer.old)) script) done
+        (standing engine.new (W.taken writer.new))))) }
+    ensures read { IfErr result (IfRead (λ done. IsTrue (R.is_broken reader.new)
+        × OfBroken done (R.left reader.old) (R.left reader.new) (λ script. IsOngoing
+        (run_of stop (standing engine.old (W.taken writer.old)) script) done
+        (standing engine.new (W.taken writer.new))))) }
+    ensures too_long { IfErr result (IfReadLimit (λ done.
+        OfTooMuch limit done (R.left reader.old) (R.left reader.new) (λ script. IsOngoing
+        (run_of stop (standing engine.old (W.taken writer.old)) script) done
+        (standing engine.new (W.taken writer.new))))) }
+    ensures write { IfErr result (IfWrite (λ done. IsTrue (W.is_broken writer.new)
+        × OfFront done (R.left reader.old) (R.left reader.new) (λ script. HasRunCut
+        (run_of stop (standing engine.old (W.taken writer.old)) script) done
+        (standing engine.new (W.taken writer.new))))) }
+    ensures legal { IsLegalState engine.new }
+    ensures between { IsLegalThroughout stop engine.old }
+{
+    engine.reveal();
+    runs_keep_legality();
+    let mut cutter = Cutter::new(alloc);
+    let mut report = Report::new();
+    let mut room = limit;
+    'pieces: while !report.is_over(stop) {
+        let count = match read_piece(reader, &mut cutter, room, report.statements) {
+            Ok(count) => count,
+            Err(fault) => return Err(fault),
+        };
+        room -= count;
+        match run_held(alloc, engine, &mut cutter, writer, stop, &mut report) {
+            Ok(()) => {}
+            Err(fault) => return Err(fault),
+        }
+        if count == 0 {
+            return Ok(report);
         }
     }
     Ok(report)
 }
 
-/// Reads the source to its end, runs each statement and writes each answer in order. With `stop`
-/// the first refused statement ends the run. At a fault the engine and the writer stand as after
-/// the statements that were run, and the engine can go on.
+/// `run_within` with the most bytes that a script may have.
 pub fn run<B: Body, R: Source, W: Sink>(
     alloc: Global,
     engine: &mut Engine<B>,
@@ -226,7 +305,8 @@ pub fn run<B: Body, R: Source, W: Sink>(
         IsFalse (R.is_broken reader.new) → IsFalse (W.is_broken writer.new)
         → GaveAtMost script_limit (R.left reader.old) (R.left reader.new) → IsOk result) }
     ensures answers { IfOk result (λ report.
-        OfScript (R.left reader.old) (R.left reader.new) (λ script. IsLeft
+        OfScript script_limit report.statements (stop && nat_lt 0 report.refused)
+        (R.left reader.old) (R.left reader.new) (λ script. IsLeft
         (run_of stop (standing engine.old (W.taken writer.old)) script)
         (standing engine.new (W.taken writer.new)) report)) }
     ensures whole { OnOk result (IsFalse (R.is_broken reader.new)
@@ -236,24 +316,19 @@ pub fn run<B: Body, R: Source, W: Sink>(
         (run_of stop (standing engine.old (W.taken writer.old)) script) done
         (standing engine.new (W.taken writer.new))))) }
     ensures read { IfErr result (IfRead (λ done. IsTrue (R.is_broken reader.new)
-        × IsUnrun done (standing engine.old (W.taken writer.old))
-        (standing engine.new (W.taken writer.new)))) }
+        × OfBroken done (R.left reader.old) (R.left reader.new) (λ script. IsOngoing
+        (run_of stop (standing engine.old (W.taken writer.old)) script) done
+        (standing engine.new (W.taken writer.new))))) }
     ensures too_long { IfErr result (IfReadLimit (λ done.
-        GaveTooMuch (R.left reader.old) (R.left reader.new)
-        × IsUnrun done (standing engine.old (W.taken writer.old))
-        (standing engine.new (W.taken writer.new)))) }
+        OfTooMuch script_limit done (R.left reader.old) (R.left reader.new) (λ script. IsOngoing
+        (run_of stop (standing engine.old (W.taken writer.old)) script) done
+        (standing engine.new (W.taken writer.new))))) }
     ensures write { IfErr result (IfWrite (λ done. IsTrue (W.is_broken writer.new)
-        × OfScript (R.left reader.old) (R.left reader.new) (λ script. HasRunCut
+        × OfFront done (R.left reader.old) (R.left reader.new) (λ script. HasRunCut
         (run_of stop (standing engine.old (W.taken writer.old)) script) done
         (standing engine.new (W.taken writer.new))))) }
     ensures legal { IsLegalState engine.new }
     ensures between { IsLegalThroughout stop engine.old }
 {
-    engine.reveal();
-    runs_keep_legality();
-    let mut cutter = match read_all(alloc, reader) {
-        Ok(cutter) => cutter,
-        Err(fault) => return Err(fault),
-    };
-    run_held(alloc, engine, &mut cutter, writer, stop)
+    run_within(alloc, engine, reader, writer, stop, SCRIPT_LIMIT)
 }

@@ -6,7 +6,7 @@ use std::alloc::Global;
 use std::io::{self, ErrorKind, Read, Write};
 use td_body::sorted::SortedBody;
 use td_engine::engine::Engine;
-use td_engine::run::{Report, RunFault, run};
+use td_engine::run::{Report, RunFault, run_within};
 use td_engine::sink::{IoSink, Sink};
 use td_engine::source::{IoSource, Source};
 
@@ -109,22 +109,26 @@ impl<'a> Write for Writer<'a> {
 
 // ---- runs
 
-/// A script on an empty database, after how many calls the reader and the writer fail, and what
-/// comes of that.
+/// A script on an empty database, whether the first refusal ends the run and the most bytes that
+/// the script may have, after how many calls the reader and the writer fail, and what comes of that.
 #[derive(Drop)]
 struct Case {
     script: &'static [u8],
+    stop: bool,
+    limit: u8,
     reads: u8,
     writes: u8,
     answer: Result<Report, RunFault>,
     written: &'static [u8],
-    /// Whether the reader and the writer, which would go on, are broken then.
+    /// Whether the reader and the writer, which would go on, are broken then, or at one call more.
     broken: (bool, bool),
 }
 
 const CASES: &[Case] = &[
     Case {
         script: SCRIPT,
+        stop: false,
+        limit: 255,
         reads: 255,
         writes: 255,
         answer: Ok(Report {
@@ -136,14 +140,66 @@ const CASES: &[Case] = &[
     },
     Case {
         script: SCRIPT,
+        stop: false,
+        limit: 255,
         reads: 20,
         writes: 255,
-        answer: Err(RunFault::Read { done: 0 }),
-        written: b"",
+        answer: Err(RunFault::Read { done: 1 }),
+        written: b"OK\n",
+        broken: (true, false),
+    },
+    // The statement that is not whole is not counted.
+    Case {
+        script: b"WRITE 1; WRITE 2;",
+        stop: false,
+        limit: 255,
+        reads: 4,
+        writes: 255,
+        answer: Err(RunFault::Read { done: 1 }),
+        written: b"1\n",
+        broken: (true, false),
+    },
+    // No more is read after the refusal.
+    Case {
+        script: b"WRITE 1 / 0; WRITE 2;",
+        stop: true,
+        limit: 255,
+        reads: 4,
+        writes: 255,
+        answer: Ok(Report {
+            statements: 1,
+            refused: 1,
+        }),
+        written: b"REFUSED 21 ZERO_DIVISOR\n",
         broken: (true, false),
     },
     Case {
+        script: b"WRITE 1;            ",
+        stop: false,
+        limit: 20,
+        reads: 255,
+        writes: 255,
+        answer: Ok(Report {
+            statements: 1,
+            refused: 0,
+        }),
+        written: b"1\n",
+        broken: (false, false),
+    },
+    Case {
+        script: b"WRITE 1;             ",
+        stop: false,
+        limit: 20,
+        reads: 255,
+        writes: 255,
+        answer: Err(RunFault::ReadLimit { done: 1 }),
+        written: b"1\n",
+        broken: (false, false),
+    },
+    Case {
         script: b"WRITE 1; WRITE 22;",
+        stop: false,
+        limit: 255,
         reads: 255,
         writes: 3,
         answer: Err(RunFault::Write { done: 2 }),
@@ -152,14 +208,16 @@ const CASES: &[Case] = &[
     },
 ];
 
-/// What comes of a run on an empty database.
+/// What comes of the case's run on an empty database.
 fn run_alone<R: Source, W: Sink>(
     alloc: Global,
+    case: &Case,
     reader: &mut R,
     writer: &mut W,
 ) -> Result<Report, RunFault> {
     let mut engine: Engine<SortedBody> = Engine::new(alloc);
-    let answer = run(alloc, &mut engine, reader, writer, false);
+    let limit = u64::from(case.limit);
+    let answer = run_within(alloc, &mut engine, reader, writer, case.stop, limit);
     drop(engine);
     answer
 }
@@ -177,7 +235,7 @@ fn is_run(alloc: Global, case: &Case, bytes: &mut Vec<u8>) -> bool {
         has_failed: false,
     });
     let mut reader = source_of(case.script, case.reads);
-    let answer = run_alone(alloc, &mut reader, &mut writer);
+    let answer = run_alone(alloc, case, &mut reader, &mut writer);
     let broken = are_broken(&mut reader, &mut writer);
     answer == case.answer && broken == case.broken
 }

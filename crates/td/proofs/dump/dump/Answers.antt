@@ -33,8 +33,10 @@ returns-in-Err-clause-memory g c =
 
 pub returns-in-Err-clause-read : goal.returns-in-Err-clause-read
 returns-in-Err-clause-read g c =
-    fault_read c.args.engine.now c.run.new.engine (g.W.Sink.taken c.args.writer.now) _ c.in-Err.fault c.in-Err.ensures.read
+    fault_read c.args.stop c.args.engine.now c.run.new.engine (g.W.Sink.taken c.args.writer.now) _ _ c.run.ensures.legal _ c.in-Err.fault
+    c.in-Err.ensures.read
 
 pub returns-in-Err-clause-too_long : goal.returns-in-Err-clause-too_long
 returns-in-Err-clause-too_long g c =
-    fault_limit c.args.engine.now c.run.new.engine (g.W.Sink.taken c.args.writer.now) _ c.in-Err.fault c.in-Err.ensures.too_long
+    fault_limit c.args.stop c.args.engine.now c.run.new.engine (g.W.Sink.taken c.args.writer.now) _ _ c.run.ensures.legal c.in-Err.fault
+    c.in-Err.ensures.too_long
