@@ -336,19 +336,19 @@ too_many limit (Some xs) None front c much gave = gave
 too_many limit (Some xs) (Some ys) front c much gave = omega (arith, gave, much, ap length c, length-append front ys)
 
 -- a piece fails only for memory, where the source is whole and gave no more than the limit
-pub piece_headline : {T : Type 0} (limit room : ℕ) (stop : Bool) (before : Standing) (from mid to : Option (List ℕ)) (place : Place)
+pub piece_headline : (T : Type 0) (limit room : ℕ) (stop : Bool) (before : Standing) (from mid to : Option (List ℕ)) (place : Place)
     → Streamed limit room stop before from mid place → (done : ℕ) (reader writer : Bool) (Q : Type 0) (fault : RunFault)
     → IfRead (λ n. (n ≡ done) × IsTrue reader × KeepsIfTold mid to) fault
     → IfReadLimit (λ n. (n ≡ done) × ((piece : List ℕ) × Consumes mid to piece × (room < length piece))) fault
     → IfWrite (λ n. ⊥) fault
     → IfNotMemory {T = T} (Err fault) (IsFalse reader → IsFalse writer → GaveAtMost limit from to → Q)
-piece_headline limit room stop before from mid to place s done reader writer Q (faults.Memory n) r l w = tt
-piece_headline limit room stop before from mid to place s done reader writer Q (faults.Read n) r l w =
+piece_headline T limit room stop before from mid to place s done reader writer Q (faults.Memory n) r l w = tt
+piece_headline T limit room stop before from mid to place s done reader writer Q (faults.Read n) r l w =
     λ whole other gave. absurd (let wrong : false ≡ true = sym whole ∙ r.1 in cc)
-piece_headline limit room stop before from mid to place s done reader writer Q (faults.ReadLimit n) r l w =
+piece_headline T limit room stop before from mid to place s done reader writer Q (faults.ReadLimit n) r l w =
     λ whole other gave. absurd (too_many limit from to (s.given ++ l.1.0) (Consumes-trans from mid to s.given l.1.0 s.moved l.1.1)
     (let much : limit < length (s.given ++ l.1.0) = omega (arith, length-append s.given l.1.0, s.size, l.1.2) in much) gave)
-piece_headline limit room stop before from mid to place s done reader writer Q (faults.Write n) r l w = absurd w
+piece_headline T limit room stop before from mid to place s done reader writer Q (faults.Write n) r l w = absurd w
 
 pub write_both : (P Q R : ℕ → Type 0) → ((done : ℕ) → P done → Q done → R done) → (fault : RunFault) → IfWrite P fault → IfWrite Q fault → IfWrite R fault
 write_both P Q R f (faults.Memory n) p q = tt
