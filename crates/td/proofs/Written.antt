@@ -34,8 +34,14 @@ of_session : (stop : Bool) (report : Report) (before after : Option (List ℕ)) 
     → OfScript script_limit report.statements (stop && nat_lt 0 report.refused) before after P → OfSession stop (status_of report.refused) before after Q
 of_session stop report before after P Q f h = (
   report.statements,
-  (h.0, h.1, h.2, h.3, λ rest may. f (h.0 ++ rest) (h.4 rest may),
-  subst (λ (over : Bool). IsRead script_limit over h.1 h.0) (ap (λ b. stop && b) (sym (same (nat_lt 0 report.refused)))) h.5),
+  (
+    h.0,
+    h.1,
+    h.2,
+    h.3,
+    λ rest may. f (h.0 ++ rest) (h.4 rest may),
+    subst (λ (over : Bool). IsRead script_limit over h.1 h.0) (ap (λ b. stop && b) (sym (same (nat_lt 0 report.refused)))) h.5,
+  ),
 )
   where
     same : (b : Bool) → nat_lt 0 (if b then 1 else 0) ≡ b
@@ -194,7 +200,7 @@ module _ (stop : Bool) (old new : State) (told taken before after : Option (List
       ok_map (λ x. (x ≡ report) × Appends told taken (dump_text new.database))
       (λ x. OfSession stop (status_of x.refused) before after (λ script. HasAnswered Dump (run_of stop (standing old told) script) (status_of x.refused) taken))
       (λ x h. subst (λ (y : Report). OfSession stop (status_of y.refused) before after (λ script. HasAnswered Dump (run_of stop (standing old told) script) (status_of y.refused) taken))
-          (sym h.0) (of_session stop report before after _ _ (λ script left. dumped stop old new told None legal script report left taken h.1) ran)) r
+      (sym h.0) (of_session stop report before after _ _ (λ script left. dumped stop old new told None legal script report left taken h.1) ran)) r
 
   pub dump_memory : IfErr r (IfMemory (λ done. (done ≡ report.statements) × (taken ≡ told)))
       → IfErr r (IfMemory (λ done. OfFront done before after (λ script. HasBegun Dump (run_of stop (standing old told) script) done taken)))

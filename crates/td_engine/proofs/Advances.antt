@@ -23,8 +23,8 @@ up_to_itself [] first found = absurd cc
 up_to_itself (t ∷ ts) first found = ⊎_elim
     (λ e. subst (λ (f : List PlacedToken). up_to ends f ≡ Some f) (sym e.one) (up_to-ends ends t [] e.yes))
     (λ l. subst (λ (f : List PlacedToken). up_to ends f ≡ Some f) (sym l.more)
-        (ap (λ b. if b then Some (t ∷ []) else option_map (λ qs. t ∷ qs) (up_to ends l.inner)) l.no
-        ∙ ap (option_map (λ qs. t ∷ qs)) (up_to_itself ts l.inner l.found)))
+    (ap (λ b. if b then Some (t ∷ []) else option_map (λ qs. t ∷ qs) (up_to ends l.inner)) l.no
+    ∙ ap (option_map (λ qs. t ∷ qs)) (up_to_itself ts l.inner l.found)))
     (up_to_cases ends t ts first found)
 
 chosen_ended : (all : List PlacedToken) (o : Option (List PlacedToken)) (x : List PlacedToken) → chosen false all o ≡ Some x → o ≡ Some x

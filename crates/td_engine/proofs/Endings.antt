@@ -174,7 +174,7 @@ pub streamed_fed : (limit room : ℕ) (stop : Bool) (before : Standing) (from mi
 streamed_fed limit room stop before from mid to old new count left s more f fits is same counts =
     let longer : length (s.given ++ f.piece) ≡ length s.given + count = length-append s.given f.piece ∙ ap (λ n. length s.given + n) f.size in
     let bytes : length new.held.bytes ≡ length old.held.bytes + count =
-        ap length f.bytes_are ∙ length-append old.held.bytes f.piece ∙ ap (λ n. length old.held.bytes + n) f.size in
+    ap length f.bytes_are ∙ length-append old.held.bytes f.piece ∙ ap (λ n. length old.held.bytes + n) f.size in
     let statements_are : new.report.statements ≡ old.report.statements = ap (λ c. c.statements) counts in
     let refused_are : new.report.refused ≡ old.report.refused = ap (λ c. c.refused) counts in
     record {

@@ -77,7 +77,7 @@ pub enum RunFault {
     Memory { done: u64 },
     /// The reader failed.
     Read { done: u64 },
-    /// The script has more than 1,073,741,824 bytes.
+    /// The script has more bytes than the limit.
     ReadLimit { done: u64 },
     /// The writer failed; the statement whose answer it was to take is counted.
     Write { done: u64 },

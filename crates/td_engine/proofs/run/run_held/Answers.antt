@@ -35,4 +35,3 @@ statements-preserved g c =
       λ h. c.in-Ok-true.ensures.legal (before.3 h),
       λ h. c.in-Ok-true.ensures.whole (before.4 h),
     )
-

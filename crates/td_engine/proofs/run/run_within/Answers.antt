@@ -52,7 +52,7 @@ returns-in-Err-run_held-clause-memory g c =
     let old : Place = place_at c.pieces.cutter (standing c.pieces.engine (g.W.Sink.taken c.pieces.writer)) c.pieces.report in
     let new : Place = place_at c.read_piece.new.cutter (standing c.pieces.engine (g.W.Sink.taken c.pieces.writer)) c.pieces.report in
     let s = streamed_fed c.args.limit c.pieces.room c.args.stop _ _ _ _ old new c.in-Ok.count (c.pieces.room - c.in-Ok.count) c.pieces.invariant.0 c.pieces.invariant.1
-        c.in-Ok.ensures.fed c.in-Ok.ensures.fits refl refl refl in
+    c.in-Ok.ensures.fed c.in-Ok.ensures.fits refl refl refl in
     memory_map _ _
     (λ done h. at_memory c.args.limit (c.pieces.room - c.in-Ok.count) c.args.stop _ _ _ new s (fed_end _ _ _ _ c.in-Ok.count c.in-Ok.ensures.fed) done _ h)
     c.in-Err-run_held.fault c.in-Err-run_held.ensures.memory
@@ -62,7 +62,7 @@ returns-in-Err-run_held-clause-write g c =
     let old : Place = place_at c.pieces.cutter (standing c.pieces.engine (g.W.Sink.taken c.pieces.writer)) c.pieces.report in
     let new : Place = place_at c.read_piece.new.cutter (standing c.pieces.engine (g.W.Sink.taken c.pieces.writer)) c.pieces.report in
     let s = streamed_fed c.args.limit c.pieces.room c.args.stop _ _ _ _ old new c.in-Ok.count (c.pieces.room - c.in-Ok.count) c.pieces.invariant.0 c.pieces.invariant.1
-        c.in-Ok.ensures.fed c.in-Ok.ensures.fits refl refl refl in
+    c.in-Ok.ensures.fed c.in-Ok.ensures.fits refl refl refl in
     write_both _ _ _
     (λ done broken h. (broken, at_write c.args.limit (c.pieces.room - c.in-Ok.count) c.args.stop _ _ _ new s (fed_end _ _ _ _ c.in-Ok.count c.in-Ok.ensures.fed) done _ h))
     c.in-Err-run_held.fault c.in-Err-run_held.ensures.broken c.in-Err-run_held.ensures.write
@@ -73,7 +73,7 @@ returns-then-count-eq0-clause-answers g c =
     let new : Place = place_at c.read_piece.new.cutter (standing c.pieces.engine (g.W.Sink.taken c.pieces.writer)) c.pieces.report in
     let last : Place = place_at c.run_held.new.cutter (standing c.run_held.new.engine (g.W.Sink.taken c.run_held.new.writer)) c.run_held.new.report in
     let s = streamed_fed c.args.limit c.pieces.room c.args.stop _ _ _ _ old new c.in-Ok.count (c.pieces.room - c.in-Ok.count) c.pieces.invariant.0 c.pieces.invariant.1
-        c.in-Ok.ensures.fed c.in-Ok.ensures.fits refl refl refl in
+    c.in-Ok.ensures.fed c.in-Ok.ensures.fits refl refl refl in
     let end = c.in-Ok.ensures.fed.none c.if-count-eq0.true in
     at_the_end c.args.limit (c.pieces.room - c.in-Ok.count) c.args.stop _ _ _ last
     (streamed_on c.args.limit (c.pieces.room - c.in-Ok.count) c.args.stop _ _ _ new last s c.in-Ok-run_held.ensures.advanced)
@@ -85,7 +85,7 @@ pieces-preserved g c =
     let new : Place = place_at c.read_piece.new.cutter (standing c.pieces.engine (g.W.Sink.taken c.pieces.writer)) c.pieces.report in
     let last : Place = place_at c.run_held.new.cutter (standing c.run_held.new.engine (g.W.Sink.taken c.run_held.new.writer)) c.run_held.new.report in
     let s = streamed_fed c.args.limit c.pieces.room c.args.stop _ _ _ _ old new c.in-Ok.count (c.pieces.room - c.in-Ok.count) c.pieces.invariant.0 c.pieces.invariant.1
-        c.in-Ok.ensures.fed c.in-Ok.ensures.fits refl refl refl in (
+    c.in-Ok.ensures.fed c.in-Ok.ensures.fits refl refl refl in (
       streamed_on c.args.limit (c.pieces.room - c.in-Ok.count) c.args.stop _ _ _ new last s c.in-Ok-run_held.ensures.advanced,
       c.in-Ok-run_held.ensures.advanced.finished_is ∙ c.in-Ok.ensures.fed.more (some_of c.in-Ok.count c.if-count-eq0.false),
       c.in-Ok-run_held.ensures.all,
