@@ -25,7 +25,7 @@ pieces-init g c =
 
 pub returns-in-Err-clause-headline : goal.returns-in-Err-clause-headline
 returns-in-Err-clause-headline g c =
-    piece_headline _ c.args.limit c.pieces.room c.args.stop _ _ _ _ _ c.pieces.invariant.0 _ _ _ _ c.in-Err.fault c.in-Err.ensures.read c.in-Err.ensures.limit c.in-Err.ensures.write
+    piece_headline Report c.args.limit c.pieces.room c.args.stop _ _ _ _ _ c.pieces.invariant.0 _ _ _ _ c.in-Err.fault c.in-Err.ensures.read c.in-Err.ensures.limit c.in-Err.ensures.write
 
 pub returns-in-Err-clause-memory : goal.returns-in-Err-clause-memory
 returns-in-Err-clause-memory g c =
