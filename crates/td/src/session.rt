@@ -101,11 +101,11 @@ pub(crate) fn session_on<B: Body, R: Source, W: Sink>(
         (W.taken writer.new)))) }
     ensures read { IfSome result.fault (IfRead (λ done. IsTrue (R.is_broken reader.new)
         × OfBroken done (R.left reader.old) (R.left reader.new) (λ script. HasBegun mode
-        (run_of stop (standing engine.old (W.taken writer.old)) script) done
+        (run_of stop (standing empty_state (W.taken writer.old)) script) done
         (W.taken writer.new)))) }
     ensures too_long { IfSome result.fault (IfReadLimit (λ done.
         OfTooMuch script_limit done (R.left reader.old) (R.left reader.new) (λ script. HasBegun mode
-        (run_of stop (standing engine.old (W.taken writer.old)) script) done
+        (run_of stop (standing empty_state (W.taken writer.old)) script) done
         (W.taken writer.new)))) }
     ensures write { IfSome result.fault (IfWrite (λ done. IsTrue (W.is_broken writer.new)
         × OfFront done (R.left reader.old) (R.left reader.new) (λ script. HasBegunCut mode
@@ -156,11 +156,11 @@ pub fn session<R: Source, W: Sink>(
         (W.taken writer.new)))) }
     ensures read { IfSome result.fault (IfRead (λ done. IsTrue (R.is_broken reader.new)
         × OfBroken done (R.left reader.old) (R.left reader.new) (λ script. HasBegun mode
-        (run_of stop (standing engine.old (W.taken writer.old)) script) done
+        (run_of stop (standing empty_state (W.taken writer.old)) script) done
         (W.taken writer.new)))) }
     ensures too_long { IfSome result.fault (IfReadLimit (λ done.
         OfTooMuch script_limit done (R.left reader.old) (R.left reader.new) (λ script. HasBegun mode
-        (run_of stop (standing engine.old (W.taken writer.old)) script) done
+        (run_of stop (standing empty_state (W.taken writer.old)) script) done
         (W.taken writer.new)))) }
     ensures write { IfSome result.fault (IfWrite (λ done. IsTrue (W.is_broken writer.new)
         × OfFront done (R.left reader.old) (R.left reader.new) (λ script. HasBegunCut mode
