@@ -2,7 +2,7 @@
 # Runs td with the words and the standard input given. Where it is out of date it is built first:
 # crates that don't need each other side by side, and each is told on standard error as it begins.
 set -u
-top=$(cd "$(dirname "${BASH_SOURCE[0]}")" && pwd)
+top=$(cd "$(dirname "$(readlink -f "${BASH_SOURCE[0]}")")" && pwd)
 binary=$top/crates/td/out/td
 stamp=$top/crates/td/out/td.built
 

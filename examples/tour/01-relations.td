@@ -1,5 +1,6 @@
 // How a relation is written doesn't count: neither order, nor that a tuple stands there twice.
-WRITE RELATION {TUPLE {SNO 'S2', CITY 'York'}, TUPLE {CITY 'Leeds', SNO 'S1'}, TUPLE {SNO 'S2', CITY 'York'}};
+WRITE RELATION {TUPLE {SNO 'S2', CITY 'York'}, TUPLE {CITY 'Leeds', SNO 'S1'},
+    TUPLE {SNO 'S2', CITY 'York'}};
 WRITE RELATION {SNO CHAR, CITY CHAR} {};
 WRITE RELATION {TUPLE {SNO 'S1', CITY 'Leeds'}} = RELATION {TUPLE {CITY 'Leeds', SNO 'S1'}};
 WRITE TUPLE {SNO 'S2'} IN RELATION {TUPLE {SNO 'S1'}, TUPLE {SNO 'S2'}};

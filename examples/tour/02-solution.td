@@ -1,5 +1,6 @@
 VAR S BASE RELATION {SNO CHAR, SNAME CHAR, CITY CHAR} INIT (RELATION {
     TUPLE {SNO 'S1', SNAME 'Ames', CITY 'Leeds'}, TUPLE {SNO 'S2', SNAME 'Bray', CITY 'York'},
-    TUPLE {SNO 'S3', SNAME 'Cole', CITY 'Leeds'}, TUPLE {SNO 'S4', SNAME 'Dunn', CITY 'Hull'}}) KEY {SNO};
+    TUPLE {SNO 'S3', SNAME 'Cole', CITY 'Leeds'}, TUPLE {SNO 'S4', SNAME 'Dunn', CITY 'Hull'}
+}) KEY {SNO};
 // Leeds is among them: S3 is there too.
 WRITE (S WHERE SNO <> 'S1') {CITY};

@@ -1,22 +1,27 @@
 VAR S BASE RELATION {SNO CHAR, SNAME CHAR, CITY CHAR} INIT (RELATION {
     TUPLE {SNO 'S1', SNAME 'Ames', CITY 'Leeds'}, TUPLE {SNO 'S2', SNAME 'Bray', CITY 'York'},
-    TUPLE {SNO 'S3', SNAME 'Cole', CITY 'Leeds'}, TUPLE {SNO 'S4', SNAME 'Dunn', CITY 'Hull'}}) KEY {SNO};
+    TUPLE {SNO 'S3', SNAME 'Cole', CITY 'Leeds'}, TUPLE {SNO 'S4', SNAME 'Dunn', CITY 'Hull'}
+}) KEY {SNO};
 VAR P BASE RELATION {PNO CHAR, PNAME CHAR, WEIGHT INTEGER, CITY CHAR} INIT (RELATION {
-    TUPLE {PNO 'P1', PNAME 'Bell', WEIGHT 90, CITY 'Leeds'}, TUPLE {PNO 'P2', PNAME 'Chain', WEIGHT 300, CITY 'York'},
-    TUPLE {PNO 'P3', PNAME 'Wheel', WEIGHT 1400, CITY 'Bath'}}) KEY {PNO};
+    TUPLE {PNO 'P1', PNAME 'Bell', WEIGHT 90, CITY 'Leeds'},
+    TUPLE {PNO 'P2', PNAME 'Chain', WEIGHT 300, CITY 'York'},
+    TUPLE {PNO 'P3', PNAME 'Wheel', WEIGHT 1400, CITY 'Bath'}
+}) KEY {PNO};
 VAR SP BASE RELATION {SNO CHAR, PNO CHAR, QTY INTEGER} INIT (RELATION {
-    TUPLE {SNO 'S1', PNO 'P1', QTY 200}, TUPLE {SNO 'S1', PNO 'P2', QTY 300}, TUPLE {SNO 'S1', PNO 'P3', QTY 40},
-    TUPLE {SNO 'S2', PNO 'P2', QTY 300}, TUPLE {SNO 'S3', PNO 'P2', QTY 100}}) KEY {SNO, PNO};
-// Who supplies what?
-WRITE (S JOIN SP JOIN P {PNO, PNAME}) {SNAME, PNAME};
-// Who supplies what in the city of both? S and P have CITY in common too.
-WRITE (S JOIN SP JOIN P) {SNAME, PNAME};
+    TUPLE {SNO 'S1', PNO 'P1', QTY 200}, TUPLE {SNO 'S1', PNO 'P2', QTY 300},
+    TUPLE {SNO 'S1', PNO 'P3', QTY 40}, TUPLE {SNO 'S2', PNO 'P2', QTY 300},
+    TUPLE {SNO 'S3', PNO 'P2', QTY 100}
+}) KEY {SNO, PNO};
+// Who supplies chains?
+WRITE (S JOIN SP JOIN P {PNO, PNAME} WHERE PNAME = 'Chain') {SNAME};
+// And who of them in the city where chains are made? S and P have CITY in common too.
+WRITE (S JOIN SP JOIN P WHERE PNAME = 'Chain') {SNAME};
 WRITE (S MATCHING SP) {SNAME};
 WRITE S NOT MATCHING SP;
-WRITE S {SNO, CITY} COMPOSE P {PNO, CITY};
-WRITE S {CITY} UNION P {CITY};
+WRITE S {SNO, CITY} COMPOSE P {PNO, CITY} WHERE PNO = 'P1';
+WRITE COUNT(S {CITY} UNION P {CITY});
 WRITE S {CITY} INTERSECT P {CITY};
 WRITE S {CITY} MINUS P {CITY};
-// TIMES asks for operands that have no attribute in common.
+// TIMES is for operands that have no attribute in common.
 WRITE S TIMES P;
 WRITE COUNT(S RENAME (CITY AS HOME) TIMES P);

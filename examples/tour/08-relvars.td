@@ -1,16 +1,19 @@
 VAR S BASE RELATION {SNO CHAR, SNAME CHAR, CITY CHAR} INIT (RELATION {
     TUPLE {SNO 'S1', SNAME 'Ames', CITY 'Leeds'}, TUPLE {SNO 'S2', SNAME 'Bray', CITY 'York'},
-    TUPLE {SNO 'S3', SNAME 'Cole', CITY 'Leeds'}, TUPLE {SNO 'S4', SNAME 'Dunn', CITY 'Hull'}}) KEY {SNO};
+    TUPLE {SNO 'S3', SNAME 'Cole', CITY 'Leeds'}, TUPLE {SNO 'S4', SNAME 'Dunn', CITY 'Hull'}
+}) KEY {SNO};
 VAR SP BASE RELATION {SNO CHAR, PNO CHAR, QTY INTEGER} INIT (RELATION {
-    TUPLE {SNO 'S1', PNO 'P1', QTY 200}, TUPLE {SNO 'S1', PNO 'P2', QTY 300}, TUPLE {SNO 'S1', PNO 'P3', QTY 40},
-    TUPLE {SNO 'S2', PNO 'P2', QTY 300}, TUPLE {SNO 'S3', PNO 'P2', QTY 100}}) KEY {SNO, PNO};
+    TUPLE {SNO 'S1', PNO 'P1', QTY 200}, TUPLE {SNO 'S1', PNO 'P2', QTY 300},
+    TUPLE {SNO 'S1', PNO 'P3', QTY 40}, TUPLE {SNO 'S2', PNO 'P2', QTY 300},
+    TUPLE {SNO 'S3', PNO 'P2', QTY 100}
+}) KEY {SNO, PNO};
 
 INSERT S RELATION {TUPLE {SNO 'S5', SNAME 'Eyre', CITY 'Bath'}};
 INSERT S RELATION {TUPLE {SNO 'S5', SNAME 'Eyre', CITY 'Bath'}};
 INSERT S RELATION {TUPLE {SNO 'S5', SNAME 'Eyre', CITY 'York'}};
 UPDATE S WHERE CITY = 'Leeds' (CITY := 'Ripon');
 DELETE S WHERE CITY = 'Hull';
-WRITE S {SNO, CITY};
+WRITE S {CITY};
 // Two relvars change at once: no statement sees the one without the other.
 UPDATE S WHERE SNO = 'S1' (SNO := 'S9'), UPDATE SP WHERE SNO = 'S1' (SNO := 'S9');
 WRITE SP {SNO};

@@ -1,16 +1,19 @@
 VAR S BASE RELATION {SNO CHAR, SNAME CHAR, CITY CHAR} INIT (RELATION {
     TUPLE {SNO 'S1', SNAME 'Ames', CITY 'Leeds'}, TUPLE {SNO 'S2', SNAME 'Bray', CITY 'York'},
-    TUPLE {SNO 'S3', SNAME 'Cole', CITY 'Leeds'}, TUPLE {SNO 'S4', SNAME 'Dunn', CITY 'Hull'}}) KEY {SNO};
+    TUPLE {SNO 'S3', SNAME 'Cole', CITY 'Leeds'}, TUPLE {SNO 'S4', SNAME 'Dunn', CITY 'Hull'}
+}) KEY {SNO};
 VAR SP BASE RELATION {SNO CHAR, PNO CHAR, QTY INTEGER} INIT (RELATION {
-    TUPLE {SNO 'S1', PNO 'P1', QTY 200}, TUPLE {SNO 'S1', PNO 'P2', QTY 300}, TUPLE {SNO 'S1', PNO 'P3', QTY 40},
-    TUPLE {SNO 'S2', PNO 'P2', QTY 300}, TUPLE {SNO 'S3', PNO 'P2', QTY 100}}) KEY {SNO, PNO};
+    TUPLE {SNO 'S1', PNO 'P1', QTY 200}, TUPLE {SNO 'S1', PNO 'P2', QTY 300},
+    TUPLE {SNO 'S1', PNO 'P3', QTY 40}, TUPLE {SNO 'S2', PNO 'P2', QTY 300},
+    TUPLE {SNO 'S3', PNO 'P2', QTY 100}
+}) KEY {SNO, PNO};
 
 // Every supplier of a shipment is in S: of relations, <= is inclusion.
 CONSTRAINT SUPPLIED SP {SNO} <= S {SNO};
 INSERT SP RELATION {TUPLE {SNO 'S5', PNO 'P1', QTY 10}};
 INSERT SP RELATION {TUPLE {SNO 'S5', PNO 'P1', QTY 10}},
     INSERT S RELATION {TUPLE {SNO 'S5', SNAME 'Eyre', CITY 'Leeds'}};
-// A virtual relvar has the value of its expression, and its key is asked after every change.
+// A virtual relvar has the value of its expression, and its key is checked after every change.
 VAR LEEDS VIRTUAL (S WHERE CITY = 'Leeds') KEY {SNAME};
 WRITE LEEDS {SNAME};
 INSERT S RELATION {TUPLE {SNO 'S6', SNAME 'Ames', CITY 'Leeds'}};

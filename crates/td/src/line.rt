@@ -79,6 +79,17 @@ fn dump_part<'a>(alloc: Global) -> Result<Command<'a>, AllocError>
         .arg(file)
 }
 
+/// What stands at the end of the help.
+const HELP_END: &str = "\
+Exit status:
+  0  no statement was refused
+  1  a statement was refused
+  2  the command line is wrong
+  3  a file, the output or memory failed
+
+Example:
+  echo 'WRITE 1 + 2;' | td run";
+
 /// The whole command.
 fn command<'a>(alloc: Global) -> Result<Command<'a>, AllocError>
     ensures app { IfOk result (λ c. app_of c ≡ td_app) }
@@ -87,6 +98,7 @@ fn command<'a>(alloc: Global) -> Result<Command<'a>, AllocError>
     let dump = dump_part(alloc)?;
     Command::new(alloc, "td")
         .about("An engine for Tutorial D")
+        .after_help(HELP_END)
         .subcommand_required(true)
         .subcommand(run)?
         .subcommand(dump)

@@ -6,6 +6,7 @@ mod checks;
 mod evaluation;
 mod given;
 mod groups;
+mod interruptions;
 mod look_ups;
 mod operators;
 mod pairs;

@@ -15,6 +15,7 @@ pub mod NarrowedOperands
 pub mod Places
 pub mod Planned
 pub mod PlannedAnswers
+pub mod PlannedBelow
 pub mod PlannedLists
 pub mod PlannedNames
 pub mod PlannedNodes
@@ -32,4 +33,5 @@ pub mod StepWeights
 pub mod SummaryLaws
 pub mod TotalConditions
 pub mod TreeWeights
+pub mod ValuedBelow
 pub mod VirtualRelvars

@@ -11,11 +11,15 @@ pub mod PlanViews
 pub mod PlannedParts
 pub mod Planners
 pub mod Plans
+pub mod PlansBelow
 pub mod PlansOf
 pub mod Pushing
 pub mod Quick
 pub mod Runs
+pub mod StepHeights
 pub mod StepViews
 pub mod SummaryItems
 pub mod TotalConditions
+pub mod TreeWeights
+pub mod ValuesBelow
 pub mod VirtualRelvars

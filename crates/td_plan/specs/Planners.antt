@@ -1,6 +1,7 @@
 -- What an expression is planned in (this project's own).
 use Rattle.std.specs.Prelude.{◌≡◌, ℕ, Bool, false, suc, List, [], ◌∷◌, Option, Some, None, option_map, reverse, if◌then◌else◌}
-use Rattle.td_catalog.specs.Database.{database_scope}
+use Rattle.td_catalog.specs.Database.{Database, database_scope}
+use Rattle.td_catalog.specs.KeptDatabases.{CatalogView}
 use Rattle.td_check.specs.Scopes.{Scope}
 use Rattle.td_plan.specs.declared.planner.Planner.{Planner}
 use Rattle.td_types.specs.Types.{Attribute, Heading, same_name}
@@ -9,9 +10,13 @@ use Rattle.td_types.specs.Types.{Attribute, Heading, same_name}
 abbrev pub among_headings : Scope → List Heading → Scope
 among_headings scope hs = record { types = scope.types; relvars = scope.relvars; constraints = scope.constraints; entered = hs }
 
--- the scope is the catalogue's, and the headings are those of the tuples in hand there; the innermost is the last
-abbrev pub IsPlanner : {B : Type 0} → Planner B → Type 0
-IsPlanner planner = planner.scope ≡ among_headings (database_scope planner.catalog.now.database) (reverse planner.headings.items)
+-- the database of a catalogue
+abbrev pub catalog_database : CatalogView → Database
+catalog_database catalog = catalog.database
+
+-- the scope is the database's, and the headings are those of the tuples in hand there; the innermost is the last
+abbrev pub IsPlanner : {C : Type 0} → (C → Database) → Planner C → Type 0
+IsPlanner database planner = planner.scope ≡ among_headings (database_scope (database planner.catalog.now)) (reverse planner.headings.items)
 
 -- whether there is an attribute, of that name
 abbrev pub is_named : List ℕ → Option Attribute → Bool

@@ -1,12 +1,14 @@
 //! Attributes that a condition fixes to values.
 ghost use Rattle.std.specs.List.{list_any};
-ghost use Rattle.std.specs.Prelude.{◌++◌, ◌≡◌, IfOk, IfSome, IsTrue, option_to_list};
+ghost use Rattle.std.specs.Prelude.{◌++◌, ◌≡◌, IfOk, IfSome, IsTrue, option_to_list, suc};
 ghost use Rattle.td_check.specs.CannotFail as unfailing;
 ghost use Rattle.td_eval.specs.ValueTypes.{IsWritten};
 ghost use Rattle.td_plan.specs.Fixing.{AreOneWhere, HasTypeOf, IsNamedApart, MayFix};
 ghost use Rattle.td_plan.specs.Narrowing.{AreFixed, IsFixedTo};
 ghost use Rattle.td_plan.specs.Planners.{IsPlanner};
+ghost use Rattle.td_plan.specs.PlansBelow.{PlansBelow};
 ghost use Rattle.td_plan.specs.StepViews.{step_view};
+ghost use Rattle.td_plan.specs.TreeWeights.{expr_weight};
 ghost use Rattle.td_tree.specs.declared.operator.Comparison.TheVariants as comparisons;
 ghost use Rattle.td_tree.specs.declared.operator.Operator.TheVariants as operators;
 ghost use Rattle.td_tree.specs.TreeViews.{tree_view};
@@ -16,11 +18,10 @@ ghost use Rattle.td_types.specs.Headings.{has_attribute};
 
 use crate::loops::goes_over_tuples;
 use crate::numbers::has_numbers;
-use crate::planner::Planner;
-use crate::planning::step_of;
+use crate::planner::{Known, Planner};
+use crate::planning::Planning;
 use crate::step::Step;
 use std::alloc::{AllocError, Global};
-use td_body::body::Body;
 use td_check::cannot_fail::cannot_fail;
 use td_check::expression::check_expr;
 use td_check::names::names_in;
@@ -60,8 +61,8 @@ fn is_named_apart(alloc: Global, heading: &Heading, value: &Expr) -> Result<bool
 }
 
 /// Whether an expression has, outside of the tuples of the heading, the type of an attribute there.
-fn has_type_of<B: Body>(
-    planner: &Planner<'_, B>,
+fn has_type_of<C: Known>(
+    planner: &Planner<'_, C>,
     heading: &Heading,
     name: &Name,
     value: &Expr,
@@ -80,7 +81,7 @@ fn has_type_of<B: Body>(
 }
 
 /// Whether an expression has a value there, whatever relations the base relvars hold.
-fn has_a_value<B: Body>(planner: &Planner<'_, B>, value: &Expr) -> Result<bool, AllocError>
+fn has_a_value<C: Known>(planner: &Planner<'_, C>, value: &Expr) -> Result<bool, AllocError>
     ensures { IfOk result
         (λ b. IsTrue b → IsTrue (unfailing.cannot_fail planner.now.scope (tree_view value.now))) }
 {
@@ -93,8 +94,8 @@ fn has_a_value<B: Body>(planner: &Planner<'_, B>, value: &Expr) -> Result<bool, 
 
 /// Whether an equality with the expression fixes the attribute of the name. What goes over tuples
 /// stays where it is, so that it is not planned once more for each WHERE around it.
-fn may_fix<B: Body>(
-    planner: &Planner<'_, B>,
+fn may_fix<C: Known>(
+    planner: &Planner<'_, C>,
     heading: &Heading,
     name: &Name,
     value: &Expr,
@@ -112,8 +113,8 @@ fn may_fix<B: Body>(
 }
 
 /// The name that an operand of an equality is, where the other operand fixes the attribute of it.
-fn fixed_name<B: Body>(
-    planner: &Planner<'_, B>,
+fn fixed_name<C: Known>(
+    planner: &Planner<'_, C>,
     heading: &Heading,
     operand: &Expr,
     value: &Expr,
@@ -129,27 +130,6 @@ fn fixed_name<B: Body>(
     } else {
         Ok(None)
     }
-}
-
-/// The attribute that an operand of an equality names, with the step of the other operand, where
-/// that fixes it.
-#[cycle(plan)]
-fn fixed_value<B: Body>(
-    planner: &Planner<'_, B>,
-    value: &Expr,
-    operand: &Expr,
-    heading: &Heading,
-) -> Result<Option<FixedValue>, AllocError>
-    requires { IsPlanner planner.now }
-    ensures { IfOk result (λ found. IfSome found (λ f. IsWritten (tree_view value.now)
-        → (e : Tree) → AreOneWhere e (tree_view operand.now) (tree_view value.now)
-        → IsFixedTo planner.now.scope heading.now e f.name (step_view f.value))) }
-{
-    let Some(name) = fixed_name(planner, heading, operand, value)? else {
-        return Ok(None);
-    };
-    let value = step_of(planner, value)?;
-    Ok(Some(FixedValue { name, value }))
 }
 
 /// Whether the operator is AND.
@@ -198,38 +178,63 @@ fn joined_lists(
     Ok(fixed)
 }
 
-/// The attributes of the heading that the condition's conjuncts fix, each with the step of its
-/// value.
-#[cycle(plan)]
-pub(crate) fn fixed_values<B: Body>(
-    planner: &Planner<'_, B>,
-    condition: &Expr,
-    heading: &Heading,
-) -> Result<Vec<FixedValue>, AllocError>
-    requires { IsPlanner planner.now }
-    ensures { IfOk result (λ fixed. IsWritten (tree_view condition.now)
-        → AreFixed planner.now.scope heading.now (tree_view condition.now) fixed.items) }
+impl<C: Known, F> Planning<'_, C, F>
+where
+    F: Fn(&Planner<'_, C>, &Expr) -> Result<Step, AllocError> + Copy,
 {
-    match condition {
-        Expr::Parentheses(inner) => fixed_values(planner, inner, heading),
-        Expr::Binary(left, op, right) => {
-            if !is_and(*op) {
-                return Ok(Vec::new(planner.alloc));
+    /// The attribute that an operand of an equality names, with the step of the other operand,
+    /// where that fixes it.
+    fn fixed_value(
+        &self,
+        value: &Expr,
+        operand: &Expr,
+        heading: &Heading,
+    ) -> Result<Option<FixedValue>, AllocError>
+        requires { PlansBelow C.database self.now (suc (expr_weight value.now)) F.pre F.post }
+        ensures { IfOk result (λ found. IfSome found (λ f. IsWritten (tree_view value.now)
+            → (e : Tree) → AreOneWhere e (tree_view operand.now) (tree_view value.now)
+            → IsFixedTo self.now.planner.now.scope heading.now e f.name (step_view f.value))) }
+    {
+        let Some(name) = fixed_name(self.planner, heading, operand, value)? else {
+            return Ok(None);
+        };
+        let value = self.step_of(value)?;
+        Ok(Some(FixedValue { name, value }))
+    }
+
+    /// The attributes of the heading that the condition's conjuncts fix, each with the step of its
+    /// value.
+    pub(crate) fn fixed_values(
+        &self,
+        condition: &Expr,
+        heading: &Heading,
+    ) -> Result<Vec<FixedValue>, AllocError>
+        requires { PlansBelow C.database self.now (suc (expr_weight condition.now)) F.pre F.post }
+        ensures { IfOk result (λ fixed. IsWritten (tree_view condition.now)
+            → AreFixed self.now.planner.now.scope heading.now (tree_view condition.now)
+            fixed.items) }
+    {
+        match condition {
+            Expr::Parentheses(inner) => self.fixed_values(inner, heading),
+            Expr::Binary(left, op, right) => {
+                if !is_and(*op) {
+                    return Ok(Vec::new(self.planner.alloc));
+                }
+                let first = self.fixed_values(left, heading)?;
+                joined_lists(first, self.fixed_values(right, heading)?)
             }
-            let first = fixed_values(planner, left, heading)?;
-            joined_lists(first, fixed_values(planner, right, heading)?)
-        }
-        Expr::Compare(left, op, right) => {
-            if !is_equal(*op) {
-                return Ok(Vec::new(planner.alloc));
+            Expr::Compare(left, op, right) => {
+                if !is_equal(*op) {
+                    return Ok(Vec::new(self.planner.alloc));
+                }
+                let first = self.fixed_value(right, left, heading)?;
+                list_of_both(
+                    self.planner.alloc,
+                    first,
+                    self.fixed_value(left, right, heading)?,
+                )
             }
-            let first = fixed_value(planner, right, left, heading)?;
-            list_of_both(
-                planner.alloc,
-                first,
-                fixed_value(planner, left, right, heading)?,
-            )
+            _ => Ok(Vec::new(self.planner.alloc)),
         }
-        _ => Ok(Vec::new(planner.alloc)),
     }
 }

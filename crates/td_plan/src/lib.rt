@@ -6,6 +6,7 @@ mod brief;
 pub mod chosen;
 mod counted;
 pub mod equalities;
+mod evaluator;
 pub mod explain;
 mod fixed;
 mod hand;

@@ -21,10 +21,9 @@ ghost use Rattle.td_types.specs.Types.{attribute_names, pack};
 
 use crate::fixed::FixedValue;
 use crate::numbers::has_numbers;
-use crate::planner::Planner;
+use crate::planner::{Known, Planner};
 use crate::step::Step;
 use std::alloc::{AllocError, Global};
-use td_body::body::Body;
 use td_check::cannot_fail::cannot_fail;
 use td_check::scope::Kind;
 use td_tree::expression::Expr;
@@ -46,7 +45,7 @@ fn bare_name(expr: &Expr) -> Option<&Name>
 }
 
 /// The name in an expression that is the name of a base relvar, which no attribute hides.
-pub(crate) fn base_named<'e, B: Body>(planner: &Planner<'_, B>, expr: &'e Expr) -> Option<&'e Name>
+pub(crate) fn base_named<'e, C: Known>(planner: &Planner<'_, C>, expr: &'e Expr) -> Option<&'e Name>
     ensures means { IfSome result (λ n. MeansName n.now (tree_view expr.now)) }
     ensures base { IfSome result (λ n. IsBase planner.now.scope n.now) }
 {
@@ -73,13 +72,12 @@ fn is_fixed_key(fixed: &[FixedValue], key: &[Name]) -> bool {
 }
 
 /// The names of the first key of a base relvar whose attributes are all fixed.
-fn key_of<'p, B: Body>(
-    planner: &'p Planner<'_, B>,
+fn key_of<'p, C: Known>(
+    planner: &'p Planner<'_, C>,
     name: &Name,
     fixed: &[FixedValue],
 ) -> Option<&'p [Name]> {
-    let entry = planner.catalog.get_base(name)?;
-    for key in &entry.keys {
+    for key in planner.catalog.keys_of(name)? {
         if is_fixed_key(fixed, key) {
             return Some(key);
         }
@@ -201,12 +199,12 @@ fn look_up_step(
 }
 
 /// Whether a condition is known to have a value in each tuple of the heading.
-pub(crate) fn is_total<B: Body>(
-    planner: &Planner<'_, B>,
+pub(crate) fn is_total<C: Known>(
+    planner: &Planner<'_, C>,
     heading: &Heading,
     condition: &Expr,
 ) -> Result<bool, AllocError>
-    requires { IsPlanner planner.now }
+    requires { IsPlanner C.database planner.now }
     ensures numbers { IfOk result (λ b. IsTrue b → HasNumbers (tree_view condition.now)) }
     ensures never { IfOk result (λ b. IsTrue b →
         IsTrue (cannot_fail (entered_with heading.now planner.now.scope)
@@ -225,15 +223,15 @@ pub(crate) fn is_total<B: Body>(
 
 /// The step of the operand of WHERE: a look-up by the first declared key whose attributes the
 /// condition all fixes, else the operand's own step.
-pub(crate) fn narrowed_operand<B: Body>(
-    planner: &Planner<'_, B>,
+pub(crate) fn narrowed_operand<C: Known>(
+    planner: &Planner<'_, C>,
     operand: &Expr,
     heading: &Heading,
     condition: &Expr,
     step: Step,
     fixed: Vec<FixedValue>,
 ) -> Result<Step, AllocError>
-    requires { IsPlanner planner.now }
+    requires { IsPlanner C.database planner.now }
     ensures { IfOk result (λ p.
         IsPlanOfTyped planner.now.scope (step_view step) (tree_view operand.now)
         → type_of planner.now.scope (tree_view operand.now)

@@ -11,11 +11,10 @@ ghost use Rattle.td_tree.specs.TreeViews.{postfix_view};
 ghost use Rattle.td_tree.specs.Trees as trees;
 ghost use Rattle.td_tree.specs.Trees.{Tree};
 
-use crate::planner::Planner;
+use crate::planner::{Known, Planner};
 use crate::step::Step;
 use std::alloc::{AllocError, Global};
 use std::rc::RcStr;
-use td_body::body::Body;
 use td_eval::operators::literals::literal_value;
 use td_tree::expression::{Literal, NamedExpr, Postfix};
 use td_tree::fault::Fault;
@@ -37,8 +36,8 @@ pub(crate) fn literal_step(alloc: Global, literal: &Literal) -> Result<Step, All
 }
 
 /// The step of the innermost attribute of a name, else of the relvar.
-pub(crate) fn name_step<B: Body>(planner: &Planner<'_, B>, name: &Name) -> Result<Step, AllocError>
-    requires { IsPlanner planner.now }
+pub(crate) fn name_step<C: Known>(planner: &Planner<'_, C>, name: &Name) -> Result<Step, AllocError>
+    requires { IsPlanner C.database planner.now }
     ensures { IfOk result
         (λ p. IsPlanOfTyped planner.now.scope (step_view p) (trees.name name.now)) }
 {
@@ -151,18 +150,18 @@ pub(crate) fn relation_step(elements: Vec<Step>) -> Step
 }
 
 /// The step of a relation of tuples of a heading.
-pub(crate) fn headed_step<B: Body>(
-    planner: &Planner<'_, B>,
+pub(crate) fn headed_step<C: Known>(
+    planner: &Planner<'_, C>,
     heading: &[AttributeTree],
     elements: Vec<Step>,
 ) -> Result<Step, AllocError>
-    requires { IsPlanner planner.now }
+    requires { IsPlanner C.database planner.now }
     ensures { IfOk result (λ p. (es : trees.Trees)
         → ArePlansOfTyped planner.now.scope (steps_view elements.items) (in_trees es)
         → IsPlanOfTyped planner.now.scope (step_view p)
         (trees.headed_relation (heading_tree_view heading.now) es)) }
 {
-    match resolve_heading(planner.catalog.types(), heading) {
+    match resolve_heading(planner.catalog.declared(), heading) {
         Ok(heading) => Ok(Step::HeadedRelation(heading, elements)),
         Err(Fault::Refused(cause)) => Ok(Step::Refused(cause)),
         Err(Fault::Memory) => Err(AllocError),

@@ -2,7 +2,7 @@
 ghost use Rattle.std.specs.Prelude.{◌≡◌, IfOk, length};
 ghost use Rattle.td_check.specs.Scopes.{entered_with};
 ghost use Rattle.td_plan.specs.PlannedParts.{ArePartPlans};
-ghost use Rattle.td_plan.specs.Planners.{IsPlanner};
+ghost use Rattle.td_plan.specs.Planners.{IsPlanner, catalog_database};
 ghost use Rattle.td_plan.specs.PlansOf.{IsPlanOfTyped, scope_in};
 ghost use Rattle.td_plan.specs.PlanViews.{plan_view};
 ghost use Rattle.td_tree.specs.TreeViews.{named_view, tree_view};
@@ -10,11 +10,11 @@ ghost use Rattle.td_tree.specs.Trees as trees;
 
 use crate::hoist::all_pulled;
 use crate::planner::Planner;
-use crate::planning::{part_steps, step_of};
-use crate::restrictions::where_of;
+use crate::planning::{part_steps, step_of, where_of};
 use crate::step::{Origin, Step};
 use std::alloc::{AllocError, Global};
 use td_body::body::Body;
+use td_catalog::catalog::Catalog;
 use td_eval::env::Env;
 use td_tree::expression::{Expr, NamedExpr};
 use td_types::heading::Heading;
@@ -33,8 +33,11 @@ pub(crate) struct PartPlans {
 }
 
 /// What is known to an expression that is planned there.
-fn planner_in<'a, B: Body>(alloc: Global, env: &Env<'a, B>) -> Result<Planner<'a, B>, AllocError>
-    ensures planner { IfOk result (λ p. IsPlanner p) }
+fn planner_in<'a, B: Body>(
+    alloc: Global,
+    env: &Env<'a, B>,
+) -> Result<Planner<'a, Catalog<B>>, AllocError>
+    ensures planner { IfOk result (λ p. IsPlanner catalog_database p) }
     ensures scope { IfOk result (λ p. p.scope ≡ scope_in env.now) }
 {
     let mut planner = Planner::outside(alloc, env.catalog);
@@ -49,8 +52,8 @@ fn planner_inside<'a, B: Body>(
     alloc: Global,
     env: &Env<'a, B>,
     heading: &Heading,
-) -> Result<Planner<'a, B>, AllocError>
-    ensures planner { IfOk result (λ p. IsPlanner p) }
+) -> Result<Planner<'a, Catalog<B>>, AllocError>
+    ensures planner { IfOk result (λ p. IsPlanner catalog_database p) }
     ensures scope { IfOk result (λ p. p.scope ≡ entered_with heading.now (scope_in env.now)) }
 {
     let planner = planner_in(alloc, env)?;

@@ -1,10 +1,11 @@
 //! What an expression is planned in.
 ghost use Rattle.std.specs.Prelude.{◌<◌, ◌≡◌, IfNone, IfOk, IfSome, List, [], length, reverse};
 ghost use Rattle.std.specs.List.{slice_get};
-ghost use Rattle.td_catalog.specs.Database.{database_scope};
+ghost use Rattle.td_catalog.specs.Database.{Database, database_scope};
 ghost use Rattle.td_check.specs.Scopes.{entered_with};
 ghost use Rattle.td_check.specs.StaticTypes.{named_types, type_of};
-ghost use Rattle.td_plan.specs.Planners.{IsPlanner, attribute_place, is_named, place_in};
+ghost use Rattle.td_plan.specs.Planners.{IsPlanner, attribute_place, catalog_database};
+ghost use Rattle.td_plan.specs.Planners.{is_named, place_in};
 ghost use Rattle.td_tree.specs.Outcomes.{Valued};
 ghost use Rattle.td_tree.specs.TreeViews.{named_view, tree_view};
 ghost use Rattle.td_types.specs.Types as types;
@@ -20,13 +21,48 @@ use td_tree::expression::{Expr, NamedExpr};
 use td_tree::fault::Fault;
 use td_tree::name::Name;
 use td_types::heading::Heading;
+use td_types::table::TypeTable;
 use td_types::ty::Ty;
+
+/// What is defined, as far as planning asks for it.
+pub(crate) trait Known {
+    /// All of it.
+    ghost database: { Self → Database };
+
+    /// What is known to expressions where no tuple is in hand.
+    fn outermost(&self) -> Scope<'_>
+        ensures { result ≡ database_scope (database self.now) };
+
+    /// The declared types.
+    fn declared(&self) -> &TypeTable
+        ensures { result.now ≡ (database self.now).types };
+
+    /// The keys of the base relvar of the name.
+    fn keys_of(&self, name: &Name) -> Option<&[Vec<Name>]>;
+}
+
+impl<B: Body> Known for Catalog<B> {
+    ghost database = { catalog_database };
+
+    fn outermost(&self) -> Scope<'_> {
+        self.scope()
+    }
+
+    fn declared(&self) -> &TypeTable {
+        self.types()
+    }
+
+    fn keys_of(&self, name: &Name) -> Option<&[Vec<Name>]> {
+        let entry = self.get_base(name)?;
+        Some(&entry.keys)
+    }
+}
 
 /// What is known where an expression stands, and the headings of the tuples in hand there.
 #[derive(Drop)]
-pub(crate) struct Planner<'a, B: Body> {
+pub(crate) struct Planner<'a, C> {
     pub(crate) alloc: Global,
-    pub(crate) catalog: &'a Catalog<B>,
+    pub(crate) catalog: &'a C,
     pub(crate) scope: Scope<'a>,
     /// The innermost is the last.
     pub(crate) headings: Vec<Heading>,
@@ -72,26 +108,26 @@ fn innermost_place(headings: &[Heading], name: &Name) -> Option<(usize, usize)>
     }
 }
 
-impl<'a, B: Body> Planner<'a, B> {
+impl<'a, C: Known> Planner<'a, C> {
     /// Where no tuple is in hand. It takes no memory.
-    pub(crate) fn outside(alloc: Global, catalog: &'a Catalog<B>) -> Planner<'a, B>
-        ensures planner { IsPlanner result }
-        ensures scope { result.scope ≡ database_scope catalog.now.database }
+    pub(crate) fn outside(alloc: Global, catalog: &'a C) -> Planner<'a, C>
+        ensures planner { IsPlanner C.database result }
+        ensures scope { result.scope ≡ database_scope (C.database catalog.now) }
         ensures headings { result.headings.items ≡ [] }
         ensures catalog { result.catalog.now ≡ catalog.now }
     {
         Planner {
             alloc,
             catalog,
-            scope: catalog.scope(),
+            scope: catalog.outermost(),
             headings: Vec::new(alloc),
         }
     }
 
     /// Where a further tuple, of the heading, is in hand.
-    pub(crate) fn with_heading(self, heading: Heading) -> Result<Planner<'a, B>, AllocError>
-        requires { IsPlanner self }
-        ensures planner { IfOk result (λ p. IsPlanner p) }
+    pub(crate) fn with_heading(self, heading: Heading) -> Result<Planner<'a, C>, AllocError>
+        requires { IsPlanner C.database self }
+        ensures planner { IfOk result (λ p. IsPlanner C.database p) }
         ensures scope { IfOk result (λ p. p.scope ≡ entered_with heading self.entry.scope) }
     {
         let mut planner = self;
@@ -101,9 +137,9 @@ impl<'a, B: Body> Planner<'a, B> {
     }
 
     /// Where a further tuple, of the heading, is in hand.
-    pub(crate) fn entered(&self, heading: &Heading) -> Result<Planner<'a, B>, AllocError>
-        requires { IsPlanner self.now }
-        ensures planner { IfOk result (λ p. IsPlanner p) }
+    pub(crate) fn entered(&self, heading: &Heading) -> Result<Planner<'a, C>, AllocError>
+        requires { IsPlanner C.database self.now }
+        ensures planner { IfOk result (λ p. IsPlanner C.database p) }
         ensures scope { IfOk result (λ p. p.scope ≡ entered_with heading.now self.now.scope) }
     {
         let mut inner = Planner::outside(self.alloc, self.catalog);
@@ -115,7 +151,7 @@ impl<'a, B: Body> Planner<'a, B> {
 
     /// How many tuples out the innermost attribute of the name is, and its place in its heading.
     pub(crate) fn attribute_place(&self, name: &Name) -> Option<(usize, usize)>
-        requires { IsPlanner self.now }
+        requires { IsPlanner C.database self.now }
         ensures { result ≡ attribute_place name.now self.now.scope.entered }
     {
         innermost_place(&self.headings, name)
@@ -123,7 +159,7 @@ impl<'a, B: Body> Planner<'a, B> {
 
     /// The heading of the relations that are an expression's values.
     pub(crate) fn heading_of(&self, expr: &Expr) -> Result<Option<Heading>, AllocError>
-        requires { IsPlanner self.now }
+        requires { IsPlanner C.database self.now }
         ensures some { IfOk result (λ found. IfSome found (λ h.
             type_of self.now.scope (tree_view expr.now) ≡ Valued (types.relation (pack h)))) }
         ensures none { IfOk result (λ found. IfNone found ((h : Heading)

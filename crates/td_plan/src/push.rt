@@ -16,9 +16,8 @@ ghost use Rattle.td_types.specs.Types.{attribute_names, pack};
 
 use crate::brief::is_brief;
 use crate::narrowed::is_total;
-use crate::planner::Planner;
+use crate::planner::{Known, Planner};
 use std::alloc::{AllocError, Global};
-use td_body::body::Body;
 use td_check::expression::check_expr;
 use td_check::names::names_in;
 use td_tree::expression::Expr;
@@ -37,12 +36,12 @@ pub(crate) enum Restricted {
 }
 
 /// Whether a condition is of truth values in the tuples of a heading.
-fn is_of_truths<B: Body>(
-    planner: &Planner<'_, B>,
+fn is_of_truths<C: Known>(
+    planner: &Planner<'_, C>,
     heading: &Heading,
     condition: &Expr,
 ) -> Result<bool, AllocError>
-    requires { IsPlanner planner.now }
+    requires { IsPlanner C.database planner.now }
     ensures { IfOk result (λ b. IsTrue b
         → type_of (entered_with heading.now planner.now.scope) (tree_view condition.now)
         ≡ Valued types.boolean) }
@@ -57,12 +56,12 @@ fn is_of_truths<B: Body>(
 }
 
 /// The heading of an operand in whose tuples a condition is known to have a truth value.
-fn answered_heading<B: Body>(
-    planner: &Planner<'_, B>,
+fn answered_heading<C: Known>(
+    planner: &Planner<'_, C>,
     operand: &Expr,
     condition: &Expr,
 ) -> Result<Option<Heading>, AllocError>
-    requires { IsPlanner planner.now }
+    requires { IsPlanner C.database planner.now }
     ensures { IfOk result (λ found. IfSome found
         (IsAnsweredIn planner.now.scope (tree_view operand.now) (tree_view condition.now))) }
 {
@@ -80,13 +79,13 @@ fn answered_heading<B: Body>(
 
 /// A union's operands, where a condition restricts both. It is planned for each, so that only a
 /// brief one is.
-fn restricted_of_union<B: Body>(
-    planner: &Planner<'_, B>,
+fn restricted_of_union<C: Known>(
+    planner: &Planner<'_, C>,
     left: &Expr,
     right: &Expr,
     condition: &Expr,
 ) -> Result<Option<Restricted>, AllocError>
-    requires { IsPlanner planner.now }
+    requires { IsPlanner C.database planner.now }
     ensures { IfOk result (λ found. IfSome found (λ restricted. MayStandFor planner.now.scope
         (restricted_tree restricted (tree_view left.now) operators.Union (tree_view right.now)
         (tree_view condition.now))
@@ -106,13 +105,13 @@ fn restricted_of_union<B: Body>(
 }
 
 /// The first operand of an intersection or a difference, where a condition restricts it.
-fn restricted_first<B: Body>(
-    planner: &Planner<'_, B>,
+fn restricted_first<C: Known>(
+    planner: &Planner<'_, C>,
     left: &Expr,
     right: &Expr,
     condition: &Expr,
 ) -> Result<Option<Restricted>, AllocError>
-    requires { IsPlanner planner.now }
+    requires { IsPlanner C.database planner.now }
     ensures intersect { IfOk result (λ found. IfSome found (λ restricted.
         MayStandFor planner.now.scope
         (restricted_tree restricted (tree_view left.now) operators.Intersect (tree_view right.now)
@@ -167,13 +166,13 @@ fn names_only(
 
 /// Whether a condition restricts an operand of a join whose tuples have the heading, since it asks
 /// of this operand's attributes alone.
-fn is_asked_of<B: Body>(
-    planner: &Planner<'_, B>,
+fn is_asked_of<C: Known>(
+    planner: &Planner<'_, C>,
     heading: &Heading,
     operand: &Expr,
     condition: &Expr,
 ) -> Result<Option<Heading>, AllocError>
-    requires { IsPlanner planner.now }
+    requires { IsPlanner C.database planner.now }
     ensures answered { IfOk result (λ found. IfSome found
         (IsAnsweredIn planner.now.scope (tree_view operand.now) (tree_view condition.now))) }
     ensures only { IfOk result (λ found. IfSome found (λ h.
@@ -190,14 +189,14 @@ fn is_asked_of<B: Body>(
 }
 
 /// The operand of a join or a product that has every attribute which a condition names.
-fn restricted_of_join<B: Body>(
-    planner: &Planner<'_, B>,
+fn restricted_of_join<C: Known>(
+    planner: &Planner<'_, C>,
     whole: &Expr,
     left: &Expr,
     right: &Expr,
     condition: &Expr,
 ) -> Result<Option<Restricted>, AllocError>
-    requires { IsPlanner planner.now }
+    requires { IsPlanner C.database planner.now }
     ensures join { IfOk result (λ found. IfSome found (λ restricted.
         tree_view whole.now ≡ trees.binary (tree_view left.now) operators.Join (tree_view right.now)
         → MayStandFor planner.now.scope
@@ -232,15 +231,15 @@ fn restricted_of_join<B: Body>(
 }
 
 /// The operands of an operator that a condition restricts in place of what the operator gives.
-pub(crate) fn restricted_operands<B: Body>(
-    planner: &Planner<'_, B>,
+pub(crate) fn restricted_operands<C: Known>(
+    planner: &Planner<'_, C>,
     whole: &Expr,
     left: &Expr,
     op: Operator,
     right: &Expr,
     condition: &Expr,
 ) -> Result<Option<Restricted>, AllocError>
-    requires { IsPlanner planner.now }
+    requires { IsPlanner C.database planner.now }
     ensures { IfOk result (λ found. IfSome found (λ restricted.
         tree_view whole.now ≡ trees.binary (tree_view left.now) op (tree_view right.now)
         → MayStandFor planner.now.scope

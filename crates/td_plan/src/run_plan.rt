@@ -16,8 +16,7 @@ ghost use Rattle.td_tree.specs.Trees.{Tree};
 
 use crate::hand::{Entered, Hand, Held, held_again};
 use crate::plan::Plan;
-use crate::run::run;
-use crate::run_rows::truths;
+use crate::run::{run, truths};
 use crate::surroundings::Surroundings;
 use std::alloc::{AllocError, Global};
 use std::rc::Rc;

@@ -1,25 +1,24 @@
 //! What plans give in each tuple of a relation.
-ghost use Rattle.std.specs.Prelude.{◌≡◌, ◌<◌, ◌≤◌, List, Some, length, map};
+ghost use Rattle.std.specs.Prelude.{◌≡◌, ◌<◌, ◌≤◌, List, Some, length, map, suc};
 ghost use Rattle.std.specs.List.{slice_get, zip};
 ghost use Rattle.td_algebra.specs.Columns.{columns_view};
 ghost use Rattle.td_eval.specs.NewColumns.{named_columns};
 ghost use Rattle.td_eval.specs.OperatorValues.{column_values, truth_value};
 ghost use Rattle.td_eval.specs.Totals.{total_of, total_view};
-ghost use Rattle.td_plan.specs.Hands.{AreSurroundings, world_around};
 ghost use Rattle.td_plan.specs.Plans.{Frame};
 ghost use Rattle.td_plan.specs.Runs.{IsEntered, value_in, values_in};
+ghost use Rattle.td_plan.specs.StepHeights.{step_height, steps_height};
+ghost use Rattle.td_plan.specs.ValuesBelow.{ValuesBelow};
 ghost use Rattle.td_tree.specs.Outcomes.{Answers, Outcome, Valued, gathered, with_value};
 ghost use Rattle.td_types.specs.Views.{pairs_view, type_view};
 ghost use Rattle.td_value.specs.Values.{Val};
 
+use crate::evaluator::{Evaluator, InWorld};
 use crate::hand::{Entered, Hand};
 use crate::quick::{quick_number, quick_truth};
 use crate::quick_rows::quick_truths;
-use crate::run::run;
 use crate::step::Step;
-use crate::surroundings::Surroundings;
 use td_algebra::extension::Column;
-use td_body::body::Body;
 use td_eval::rows::{named_column, truth_of, typed};
 use td_group::aggregates::Agg;
 use td_tree::fault::Fault;
@@ -30,210 +29,229 @@ use td_value::relation::Rel;
 use td_value::tuple::Tuple;
 use td_value::value::Value;
 
-/// The value of a step in a tuple. A number is looked for without causes first.
-#[cycle(run)]
-#[inline]
-fn value_in_row<B: Body>(
-    around: &Surroundings<'_, '_, '_, B>,
-    inside: &Entered,
-    row: &Tuple,
-    step: &Step,
-) -> Result<Value, Fault>
-    requires { AreSurroundings around.now }
-    ensures { (fs : List Frame) (os : List (Outcome Val)) → IsEntered inside.now fs os
-        → Answers (λ v. v) result (value_in (world_around around.now) fs os step.now row.now) }
+impl<A: InWorld, F> Evaluator<'_, A, F>
+where
+    F: Fn(&A, &Hand<'_, '_, '_>, &Step) -> Result<Value, Fault>,
 {
-    let hand = Hand {
-        tuple: row,
-        fixed: &inside.fixed,
-        outer: &inside.outer,
-    };
-    match quick_number(&hand, step) {
-        Some(z) => Ok(Value::int(z)),
-        None => run(around, &hand, step),
-    }
-}
-
-/// The truth value of a condition in a tuple. It is looked for without causes first.
-#[cycle(run)]
-#[inline]
-fn truth_in_row<B: Body>(
-    around: &Surroundings<'_, '_, '_, B>,
-    inside: &Entered,
-    row: &Tuple,
-    condition: &Step,
-) -> Result<bool, Fault>
-    requires { AreSurroundings around.now }
-    ensures { (fs : List Frame) (os : List (Outcome Val)) → IsEntered inside.now fs os
-        → Answers (λ b. b) result (truth_value
-        (value_in (world_around around.now) fs os condition.now row.now)) }
-{
-    let hand = Hand {
-        tuple: row,
-        fixed: &inside.fixed,
-        outer: &inside.outer,
-    };
-    match quick_truth(&hand, condition) {
-        Some(truth) => Ok(truth),
-        None => truth_of(run(around, &hand, condition)),
-    }
-}
-
-/// The truth values of a condition in tuples, one after the other.
-#[cycle(run)]
-#[inline(never)]
-fn truths_by_row<B: Body>(
-    around: &Surroundings<'_, '_, '_, B>,
-    inside: &Entered,
-    rows: &[Tuple],
-    condition: &Step,
-) -> Result<Vec<bool>, Fault>
-    requires { AreSurroundings around.now }
-    ensures { (fs : List Frame) (os : List (Outcome Val)) → IsEntered inside.now fs os
-        → Answers (λ m. m.items) result (gathered (map (λ t. truth_value
-        (value_in (world_around around.now) fs os condition.now t)) rows.now)) }
-{
-    let mut causes = Gathering::new();
-    let mut truths = Vec::with_capacity(around.alloc, rows.len())?;
-    for row in rows {
-        let Some(truth) = causes.add(truth_in_row(around, inside, row, condition))? else {
-            continue;
+    /// The value of a step in a tuple. A number is looked for without causes first.
+    #[inline]
+    fn value_in_row(&self, inside: &Entered, row: &Tuple, step: &Step) -> Result<Value, Fault>
+        requires { ValuesBelow A.world self.now (suc (step_height step.now)) F.pre F.post }
+        ensures { (fs : List Frame) (os : List (Outcome Val)) → IsEntered inside.now fs os
+            → Answers (λ v. v) result
+            (value_in (A.world self.now.around.now) fs os step.now row.now) }
+    {
+        let hand = Hand {
+            tuple: row,
+            fixed: &inside.fixed,
+            outer: &inside.outer,
         };
-        truths.push(truth)?;
+        match quick_number(&hand, step) {
+            Some(z) => Ok(Value::int(z)),
+            None => self.run(&hand, step),
+        }
     }
-    causes.finish(truths)
-}
 
-/// The truth values of a condition in tuples. They are looked for in all tuples at once first.
-#[cycle(run)]
-#[inline(never)]
-pub(crate) fn truths<B: Body>(
-    around: &Surroundings<'_, '_, '_, B>,
-    inside: &Entered,
-    rows: &[Tuple],
-    condition: &Step,
-) -> Result<Vec<bool>, Fault>
-    requires { AreSurroundings around.now }
-    ensures { (fs : List Frame) (os : List (Outcome Val)) → IsEntered inside.now fs os
-        → Answers (λ m. m.items) result (gathered (map (λ t. truth_value
-        (value_in (world_around around.now) fs os condition.now t)) rows.now)) }
-{
-    match quick_truths(around.alloc, inside, rows, condition)? {
-        Some(truths) => Ok(truths),
-        None => truths_by_row(around, inside, rows, condition),
-    }
-}
-
-/// The values of a step in tuples.
-#[cycle(run)]
-#[inline(never)]
-pub(crate) fn values_in_rows<B: Body>(
-    around: &Surroundings<'_, '_, '_, B>,
-    inside: &Entered,
-    rows: &[Tuple],
-    step: &Step,
-) -> Result<Vec<Value>, Fault>
-    requires { AreSurroundings around.now }
-    ensures { (fs : List Frame) (os : List (Outcome Val)) → IsEntered inside.now fs os
-        → Answers (λ vs. vs.items) result (gathered
-        (map (value_in (world_around around.now) fs os step.now) rows.now)) }
-{
-    let mut causes = Gathering::new();
-    let mut values = Vec::with_capacity(around.alloc, rows.len())?;
-    for row in rows {
-        let Some(value) = causes.add(value_in_row(around, inside, row, step))? else {
-            continue;
+    /// The truth value of a condition in a tuple. It is looked for without causes first.
+    #[inline]
+    fn truth_in_row(&self, inside: &Entered, row: &Tuple, condition: &Step) -> Result<bool, Fault>
+        requires { ValuesBelow A.world self.now (suc (step_height condition.now)) F.pre F.post }
+        ensures { (fs : List Frame) (os : List (Outcome Val)) → IsEntered inside.now fs os
+            → Answers (λ b. b) result (truth_value
+            (value_in (A.world self.now.around.now) fs os condition.now row.now)) }
+    {
+        let hand = Hand {
+            tuple: row,
+            fixed: &inside.fixed,
+            outer: &inside.outer,
         };
-        values.push(value)?;
+        match quick_truth(&hand, condition) {
+            Some(truth) => Ok(truth),
+            None => truth_of(self.run(&hand, condition)),
+        }
     }
-    causes.finish(values)
-}
 
-// ---- new attributes
-
-/// The values of a step in tuples, which are of a type.
-#[cycle(run)]
-#[inline(never)]
-fn column<B: Body>(
-    around: &Surroundings<'_, '_, '_, B>,
-    inside: &Entered,
-    rows: &[Tuple],
-    ty: &Ty,
-    step: &Step,
-) -> Result<Vec<Value>, Fault>
-    requires { AreSurroundings around.now }
-    ensures { (fs : List Frame) (os : List (Outcome Val)) → IsEntered inside.now fs os
-        → Answers (λ vs. vs.items) result (column_values (type_view ty.now)
-        (value_in (world_around around.now) fs os step.now) rows.now) }
-{
-    let mut causes = Gathering::new();
-    let mut values = Vec::with_capacity(around.alloc, rows.len())?;
-    for row in rows {
-        let value = typed(ty, value_in_row(around, inside, row, step));
-        let Some(value) = causes.add(value)? else {
-            continue;
-        };
-        values.push(value)?;
+    /// The truth values of a condition in tuples, one after the other.
+    #[inline(never)]
+    fn truths_by_row(
+        &self,
+        inside: &Entered,
+        rows: &[Tuple],
+        condition: &Step,
+    ) -> Result<Vec<bool>, Fault>
+        requires { ValuesBelow A.world self.now (suc (step_height condition.now)) F.pre F.post }
+        ensures { (fs : List Frame) (os : List (Outcome Val)) → IsEntered inside.now fs os
+            → Answers (λ m. m.items) result (gathered (map (λ t. truth_value
+            (value_in (A.world self.now.around.now) fs os condition.now t)) rows.now)) }
+    {
+        let mut causes = Gathering::new();
+        let mut truths = Vec::with_capacity(self.alloc, rows.len())?;
+        for row in rows {
+            let Some(truth) = causes.add(self.truth_in_row(inside, row, condition))? else {
+                continue;
+            };
+            truths.push(truth)?;
+        }
+        causes.finish(truths)
     }
-    causes.finish(values)
-}
 
-/// The new attributes with their values in tuples.
-#[cycle(run)]
-#[inline(never)]
-pub(crate) fn columns<B: Body>(
-    around: &Surroundings<'_, '_, '_, B>,
-    inside: &Entered,
-    rows: &[Tuple],
-    attributes: &[(Name, Ty)],
-    steps: &[Step],
-) -> Result<Vec<(Name, Column)>, Fault>
-    requires around { AreSurroundings around.now }
-    requires lengths { length attributes.now ≡ length steps.now }
-    ensures { (fs : List Frame) (os : List (Outcome Val)) → IsEntered inside.now fs os
-        → Answers (λ cs. columns_view cs.items) result (gathered (named_columns
-        (pairs_view attributes.now) (values_in (world_around around.now) fs os steps.now)
-        rows.now)) }
-{
-    let mut causes = Gathering::new();
-    let mut columns = Vec::with_capacity(around.alloc, steps.len())?;
-    for (place, step) in steps.iter().enumerate() {
-        let (name, ty) = &attributes[place];
-        let values = column(around, inside, rows, ty, step);
-        let Some(column) = causes.add(named_column(name, ty, values))? else {
-            continue;
-        };
-        columns.push(column)?;
+    /// The truth values of a condition in tuples. They are looked for in all tuples at once first.
+    #[inline(never)]
+    pub(crate) fn truths(
+        &self,
+        inside: &Entered,
+        rows: &[Tuple],
+        condition: &Step,
+    ) -> Result<Vec<bool>, Fault>
+        requires { ValuesBelow A.world self.now (suc (step_height condition.now)) F.pre F.post }
+        ensures { (fs : List Frame) (os : List (Outcome Val)) → IsEntered inside.now fs os
+            → Answers (λ m. m.items) result (gathered (map (λ t. truth_value
+            (value_in (A.world self.now.around.now) fs os condition.now t)) rows.now)) }
+    {
+        match quick_truths(self.alloc, inside, rows, condition)? {
+            Some(truths) => Ok(truths),
+            None => self.truths_by_row(inside, rows, condition),
+        }
     }
-    causes.finish(columns)
-}
 
-// ---- groups
-
-/// The values of a step in the tuples of each group.
-#[cycle(run)]
-#[inline(never)]
-fn values_in_groups<B: Body>(
-    around: &Surroundings<'_, '_, '_, B>,
-    inside: &Entered,
-    groups: &[(Tuple, Rel)],
-    step: &Step,
-) -> Result<Vec<Vec<Value>>, Fault>
-    requires { AreSurroundings around.now }
-    ensures { (fs : List Frame) (os : List (Outcome Val)) → IsEntered inside.now fs os
-        → Answers (λ vss. map (λ vs. vs.items) vss.items) result (gathered (map (λ g. gathered
-        (map (value_in (world_around around.now) fs os step.now) g.1.body)) groups.now)) }
-{
-    let mut causes = Gathering::new();
-    let mut values = Vec::with_capacity(around.alloc, groups.len())?;
-    for (_, group) in groups {
-        let found = values_in_rows(around, inside, group.rows(), step);
-        let Some(found) = causes.add(found)? else {
-            continue;
-        };
-        values.push(found)?;
+    /// The values of a step in tuples.
+    #[inline(never)]
+    pub(crate) fn values_in_rows(
+        &self,
+        inside: &Entered,
+        rows: &[Tuple],
+        step: &Step,
+    ) -> Result<Vec<Value>, Fault>
+        requires { ValuesBelow A.world self.now (suc (step_height step.now)) F.pre F.post }
+        ensures { (fs : List Frame) (os : List (Outcome Val)) → IsEntered inside.now fs os
+            → Answers (λ vs. vs.items) result (gathered
+            (map (value_in (A.world self.now.around.now) fs os step.now) rows.now)) }
+    {
+        let mut causes = Gathering::new();
+        let mut values = Vec::with_capacity(self.alloc, rows.len())?;
+        for row in rows {
+            let Some(value) = causes.add(self.value_in_row(inside, row, step))? else {
+                continue;
+            };
+            values.push(value)?;
+        }
+        causes.finish(values)
     }
-    causes.finish(values)
+
+    // ---- new attributes
+
+    /// The values of a step in tuples, which are of a type.
+    #[inline(never)]
+    fn column(
+        &self,
+        inside: &Entered,
+        rows: &[Tuple],
+        ty: &Ty,
+        step: &Step,
+    ) -> Result<Vec<Value>, Fault>
+        requires { ValuesBelow A.world self.now (suc (step_height step.now)) F.pre F.post }
+        ensures { (fs : List Frame) (os : List (Outcome Val)) → IsEntered inside.now fs os
+            → Answers (λ vs. vs.items) result (column_values (type_view ty.now)
+            (value_in (A.world self.now.around.now) fs os step.now) rows.now) }
+    {
+        let mut causes = Gathering::new();
+        let mut values = Vec::with_capacity(self.alloc, rows.len())?;
+        for row in rows {
+            let value = typed(ty, self.value_in_row(inside, row, step));
+            let Some(value) = causes.add(value)? else {
+                continue;
+            };
+            values.push(value)?;
+        }
+        causes.finish(values)
+    }
+
+    /// The new attributes with their values in tuples.
+    #[inline(never)]
+    pub(crate) fn columns(
+        &self,
+        inside: &Entered,
+        rows: &[Tuple],
+        attributes: &[(Name, Ty)],
+        steps: &[Step],
+    ) -> Result<Vec<(Name, Column)>, Fault>
+        requires values { ValuesBelow A.world self.now (suc (steps_height steps.now))
+            F.pre F.post }
+        requires lengths { length attributes.now ≡ length steps.now }
+        ensures { (fs : List Frame) (os : List (Outcome Val)) → IsEntered inside.now fs os
+            → Answers (λ cs. columns_view cs.items) result (gathered (named_columns
+            (pairs_view attributes.now)
+            (values_in (A.world self.now.around.now) fs os steps.now) rows.now)) }
+    {
+        let mut causes = Gathering::new();
+        let mut columns = Vec::with_capacity(self.alloc, steps.len())?;
+        for (place, step) in steps.iter().enumerate() {
+            let (name, ty) = &attributes[place];
+            let values = self.column(inside, rows, ty, step);
+            let Some(column) = causes.add(named_column(name, ty, values))? else {
+                continue;
+            };
+            columns.push(column)?;
+        }
+        causes.finish(columns)
+    }
+
+    // ---- groups
+
+    /// The values of a step in the tuples of each group.
+    #[inline(never)]
+    fn values_in_groups(
+        &self,
+        inside: &Entered,
+        groups: &[(Tuple, Rel)],
+        step: &Step,
+    ) -> Result<Vec<Vec<Value>>, Fault>
+        requires { ValuesBelow A.world self.now (suc (step_height step.now)) F.pre F.post }
+        ensures { (fs : List Frame) (os : List (Outcome Val)) → IsEntered inside.now fs os
+            → Answers (λ vss. map (λ vs. vs.items) vss.items) result (gathered (map (λ g. gathered
+            (map (value_in (A.world self.now.around.now) fs os step.now) g.1.body))
+            groups.now)) }
+    {
+        let mut causes = Gathering::new();
+        let mut values = Vec::with_capacity(self.alloc, groups.len())?;
+        for (_, group) in groups {
+            let found = self.values_in_rows(inside, group.rows(), step);
+            let Some(found) = causes.add(found)? else {
+                continue;
+            };
+            values.push(found)?;
+        }
+        causes.finish(values)
+    }
+
+    /// What each aggregate is of in the groups, by the step beside it.
+    #[inline(never)]
+    pub(crate) fn totals(
+        &self,
+        inside: &Entered,
+        groups: &[(Tuple, Rel)],
+        aggregates: &[Agg],
+        steps: &[Step],
+    ) -> Result<Vec<(Agg, Vec<Vec<Value>>)>, Fault>
+        requires { ValuesBelow A.world self.now (suc (steps_height steps.now)) F.pre F.post }
+        ensures { (fs : List Frame) (os : List (Outcome Val)) → IsEntered inside.now fs os
+            → Answers (λ ts. map total_view ts.items) result (gathered (map (total_of groups.now)
+            (zip aggregates.now (values_in (A.world self.now.around.now) fs os steps.now)))) }
+    {
+        let mut causes = Gathering::new();
+        let count = item_count(aggregates, steps);
+        let mut totals = Vec::with_capacity(self.alloc, count)?;
+        for place in 0..count {
+            let asked = aggregate_at(aggregates, place);
+            let values = self.values_in_groups(inside, groups, &steps[place]);
+            let total = with_aggregate(asked, values);
+            let Some(total) = causes.add(total)? else {
+                continue;
+            };
+            totals.push(total)?;
+        }
+        causes.finish(totals)
+    }
 }
 
 /// The aggregate with the values that it is of in each group.
@@ -267,34 +285,4 @@ fn aggregate_at(aggregates: &[Agg], place: usize) -> Agg
     ensures { slice_get aggregates.now place ≡ Some result }
 {
     aggregates[place]
-}
-
-/// What each aggregate is of in the groups, by the step beside it.
-#[cycle(run)]
-#[inline(never)]
-pub(crate) fn totals<B: Body>(
-    around: &Surroundings<'_, '_, '_, B>,
-    inside: &Entered,
-    groups: &[(Tuple, Rel)],
-    aggregates: &[Agg],
-    steps: &[Step],
-) -> Result<Vec<(Agg, Vec<Vec<Value>>)>, Fault>
-    requires { AreSurroundings around.now }
-    ensures { (fs : List Frame) (os : List (Outcome Val)) → IsEntered inside.now fs os
-        → Answers (λ ts. map total_view ts.items) result (gathered (map (total_of groups.now)
-        (zip aggregates.now (values_in (world_around around.now) fs os steps.now)))) }
-{
-    let mut causes = Gathering::new();
-    let count = item_count(aggregates, steps);
-    let mut totals = Vec::with_capacity(around.alloc, count)?;
-    for place in 0..count {
-        let asked = aggregate_at(aggregates, place);
-        let values = values_in_groups(around, inside, groups, &steps[place]);
-        let total = with_aggregate(asked, values);
-        let Some(total) = causes.add(total)? else {
-            continue;
-        };
-        totals.push(total)?;
-    }
-    causes.finish(totals)
 }

@@ -21,9 +21,8 @@ ghost use Rattle.td_types.specs.Views.{pairs_view};
 
 use crate::hand::Hand;
 use crate::plan::{PartPlans, plan_parts};
-use crate::run::entered;
+use crate::run::{columns, entered};
 use crate::run_plan::held_tuples;
-use crate::run_rows::columns;
 use crate::surroundings::Surroundings;
 use crate::virtuals::virtual_relvars_in_parts;
 use std::alloc::Global;

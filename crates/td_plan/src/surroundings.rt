@@ -3,6 +3,7 @@ ghost use Rattle.td_eval.specs.Worlds.{known_outcome};
 ghost use Rattle.td_plan.specs.Hands.{AreSurroundings, world_around};
 ghost use Rattle.td_tree.specs.Outcomes.{Answers};
 
+use crate::evaluator::InWorld;
 use crate::hand::again;
 use std::alloc::Global;
 use td_body::body::Body;
@@ -25,6 +26,10 @@ pub(crate) struct Surroundings<'e, 'a, 'v, B: Body> {
     pub(crate) alloc: Global,
     pub(crate) env: &'e Env<'a, B>,
     pub(crate) valued: &'v [ValuedRelvar],
+}
+
+impl<B: Body> InWorld for Surroundings<'_, '_, '_, B> {
+    ghost world = { world_around };
 }
 
 /// The value of the relvar of a name.

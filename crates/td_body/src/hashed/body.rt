@@ -141,14 +141,14 @@ fn step(
     Ok(())
 }
 
-/// Puts members that keep nothing in order anew, where a change of so many tuples, which are few,
+/// Puts members that keep nothing in order anew, where a change of so many tuples, which is small,
 /// can then be carried out step by step.
 fn put_in_order_for(alloc: Global, members: &mut Members, tuples: usize) -> Result<(), AllocError>
     ensures relation { members.new.relation ≡ members.old.relation }
     ensures kept { members.new.kept ≡ members.old.kept }
     ensures places { members.new.places ≡ members.old.places }
 {
-    if members.kept_count() > 0 || members.can_step(tuples) || tuples > members.len() {
+    if members.kept_count() > 0 || members.can_step(tuples) || !members.is_small(tuples) {
         return Ok(());
     }
     members.put_in_order(alloc)

@@ -55,9 +55,12 @@ impl Model for Members {
         AreMembers m.sorted.heading m.sorted.body m.touched.items m.histories.items m.kept_count };
 }
 
-/// How many more tuples may be touched than stand in order, before the members are put in order
-/// anew.
+/// A change of so many tuples, or of fewer, is small beside any members; and so many more tuples may
+/// be touched than stand in order, before the members are put in order anew.
 const FEW: usize = 16;
+
+/// A change is small, too, of one tuple for each so many members.
+const MEMBERS_A_TUPLE: usize = 4;
 
 impl Members {
     /// The members that the relation has, in order alone.
@@ -106,13 +109,19 @@ impl Members {
         self.sorted.heading()
     }
 
-    /// Whether a change of so many tuples is to be carried out step by step: they are hashed, and
-    /// those that were touched are not many more than those in order.
+    /// Whether a change of so many tuples is small beside the members: a large one takes longer step
+    /// by step than members that are made anew.
+    pub(crate) fn is_small(&self, tuples: usize) -> bool {
+        tuples <= self.len() / MEMBERS_A_TUPLE + FEW
+    }
+
+    /// Whether a change of so many tuples is to be carried out step by step: they are hashed, it is
+    /// small, and those that were touched are not many more than those in order.
     pub(crate) fn can_step(&self, tuples: usize) -> bool
         ensures { IsTrue result → 0 < length self.now.places }
     {
         let touched = self.touched.len().saturating_add(tuples);
-        self.is_hashed() && touched <= self.sorted.rows().len() + FEW
+        self.is_hashed() && self.is_small(tuples) && touched <= self.sorted.rows().len() + FEW
     }
 
     /// Whether they are hashed.

@@ -5,5 +5,5 @@ use Rattle.td_plan.proofs.planner.Planner.entered.Given as goal
 
 abbrev pub invariant-loop-outer : goal.invariant-loop-outer
 invariant-loop-outer g l =
-    IsPlanner l.inner
-    × (l.inner.scope ≡ among_headings (database_scope l.self.catalog.now.database) (reverse (take l.outer-index l.self.headings.items)))
+    IsPlanner g.C.Known.database l.inner
+    × (l.inner.scope ≡ among_headings (database_scope (g.C.Known.database l.self.catalog.now)) (reverse (take l.outer-index l.self.headings.items)))

@@ -1,0 +1,19 @@
+VAR S BASE RELATION {SNO CHAR} INIT (RELATION {TUPLE {SNO 'S1'}}) KEY {SNO};
+VAR SP BASE RELATION {SNO CHAR, PNO CHAR, QTY INTEGER} INIT (RELATION {
+    TUPLE {SNO 'S1', PNO 'P1', QTY 5}}) KEY {SNO, PNO};
+CONSTRAINT SUPPLIED SP {SNO} <= S {SNO};
+CONSTRAINT SOME IS_EMPTY(SP WHERE QTY < 1);
+
+INSERT SP RELATION {TUPLE {SNO 'S1', PNO 'P1', QTY 7}, TUPLE {SNO 'S1', PNO 'P2', QTY 7}};
+// Which of the new tuples has the key of an old one, but is not that one?
+WRITE RELATION {TUPLE {SNO 'S1', PNO 'P1', QTY 7}, TUPLE {SNO 'S1', PNO 'P2', QTY 7}}
+    MATCHING SP {SNO, PNO} MINUS SP;
+// Which new ones have one key?
+WRITE SUMMARIZE RELATION {TUPLE {SNO 'S1', PNO 'P2', QTY 7}, TUPLE {SNO 'S1', PNO 'P2', QTY 8}}
+    BY {SNO, PNO} ADD (COUNT() AS N) WHERE N > 1;
+
+INSERT SP RELATION {TUPLE {SNO 'S2', PNO 'P1', QTY 0}};
+// Of an inclusion: what is on the left and not on the right?
+WRITE RELATION {TUPLE {SNO 'S2', PNO 'P1', QTY 0}} {SNO} MINUS S {SNO};
+// Of IS_EMPTY: what is in it?
+WRITE RELATION {TUPLE {SNO 'S2', PNO 'P1', QTY 0}} WHERE QTY < 1;
