@@ -1,9 +1,12 @@
 -- When plans stand for the parts of an expression (this project's own).
-use Rattle.std.specs.Prelude.{◌≡◌, ℕ, true, List, [], ◌∷◌, Option, Some, None, ⊤}
+use Rattle.std.specs.declared.alloc.AllocError.{AllocError}
+use Rattle.std.specs.Global.{Box, Vec}
+use Rattle.std.specs.Prelude.{◌≡◌, ℕ, true, IfOk, List, [], ◌∷◌, Option, Some, None, Result, ⊤}
 use Rattle.td_check.specs.Scopes.{Scope, entered_with}
 use Rattle.td_check.specs.StaticTypes.{type_of}
 use Rattle.td_plan.specs.declared.operand.Operand.{Operand}
 use Rattle.td_plan.specs.declared.plan.PartPlans.{PartPlans}
+use Rattle.td_plan.specs.declared.step.Step.{Step}
 use Rattle.td_plan.specs.Hoisting.{HoistsAll}
 use Rattle.td_plan.specs.Plans.{PlanTrees, none, more}
 use Rattle.td_plan.specs.PlansOf.{IsPlanOfTyped}
@@ -23,6 +26,18 @@ ArePlansOfTyped scope none [] = ⊤
 ArePlansOfTyped scope none (e ∷ es) = ⊥
 ArePlansOfTyped scope (more p ps) [] = ⊥
 ArePlansOfTyped scope (more p ps) (e ∷ es) = IsPlanOfTyped scope p e × ArePlansOfTyped scope ps es
+
+-- ---- what planning gives, where there was memory for it
+
+abbrev pub IsPlanned : Scope → Result Step AllocError → Tree → Type 0
+IsPlanned scope made d = IfOk made (λ p. IsPlanOfTyped scope (step_view p) d)
+
+-- in a box
+abbrev pub IsBoxPlanned : Scope → Result (Box Step) AllocError → Tree → Type 0
+IsBoxPlanned scope made d = IfOk made (λ p. IsPlanOfTyped scope (step_view p.value) d)
+
+abbrev pub ArePlanned : Scope → Result (Vec Step) AllocError → List Tree → Type 0
+ArePlanned scope made ds = IfOk made (λ ps. ArePlansOfTyped scope (steps_view ps.items) ds)
 
 -- ---- the expressions in a list
 

@@ -2,7 +2,8 @@
 ghost use Rattle.std.specs.Prelude.{◌≡◌, IfOk, map};
 ghost use Rattle.std.specs.Rc.{rc_str_bytes};
 ghost use Rattle.td_check.specs.Scopes.{Scope};
-ghost use Rattle.td_plan.specs.PlannedParts.{ArePlansOfTyped, in_trees, part_tree};
+ghost use Rattle.td_plan.specs.PlannedParts.{ArePlansOfTyped, IsBoxPlanned, IsPlanned};
+ghost use Rattle.td_plan.specs.PlannedParts.{in_trees, part_tree};
 ghost use Rattle.td_plan.specs.Planners.{IsPlanner};
 ghost use Rattle.td_plan.specs.PlansOf.{IsPlanOfTyped};
 ghost use Rattle.td_plan.specs.StepViews.{step_view, steps_view};
@@ -71,19 +72,17 @@ pub(crate) fn extract_step(
 }
 
 /// The step of an operator between two operands.
+#[inline(never)]
 pub(crate) fn binary_step(
-    alloc: Global,
-    left: Step,
+    left: Result<Box<Step>, AllocError>,
     op: Operator,
-    right: Step,
+    right: Result<Box<Step>, AllocError>,
 ) -> Result<Step, AllocError>
-    ensures { IfOk result (λ p. (scope : Scope) (d e : Tree)
-        → IsPlanOfTyped scope (step_view left) d → IsPlanOfTyped scope (step_view right) e
-        → IsPlanOfTyped scope (step_view p) (trees.binary d op e)) }
+    ensures { (scope : Scope) (d e : Tree) → IsBoxPlanned scope left d → IsBoxPlanned scope right e
+        → IsPlanned scope result (trees.binary d op e) }
 {
-    let left = Box::new(alloc, left)?;
-    let right = Box::new(alloc, right)?;
-    Ok(Step::Binary(left, op, right))
+    let left = left?;
+    Ok(Step::Binary(left, op, right?))
 }
 
 /// The step of a comparison.

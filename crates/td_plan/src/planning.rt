@@ -1,7 +1,9 @@
 //! Plans of expressions. Each function takes what plans the parts of an expression as a parameter,
 //! so that it is proved by itself.
 ghost use Rattle.std.specs.Prelude.{IfOk, map, suc};
-ghost use Rattle.td_plan.specs.PlannedParts.{ArePlansOfTyped, IsOperandOf, item_tree, part_tree};
+ghost use Rattle.td_check.specs.Scopes.{entered_with};
+ghost use Rattle.td_plan.specs.PlannedParts.{ArePlansOfTyped, IsBoxPlanned, IsOperandOf};
+ghost use Rattle.td_plan.specs.PlannedParts.{IsPlanned, item_tree, part_tree};
 ghost use Rattle.td_plan.specs.Planners.{IsPlanner};
 ghost use Rattle.td_plan.specs.PlansBelow.{PlansBelow};
 ghost use Rattle.td_plan.specs.PlansOf.{IsPlanOfTyped};
@@ -26,6 +28,7 @@ use crate::summaries::{aggregates_of, attributes_of, count_step, summary_by_step
 use std::alloc::AllocError;
 use td_tree::expression::{Attributes, Expr, NamedExpr, Summary};
 use td_tree::operator::Aggregate;
+use td_types::heading::Heading;
 
 /// What an expression is planned in, and what plans the parts of it there.
 #[derive(Drop)]
@@ -46,6 +49,26 @@ where
             (λ p. IsPlanOfTyped self.now.planner.now.scope (step_view p) (tree_view expr.now)) }
     {
         (self.inner)(self.planner, expr)
+    }
+
+    /// The step of a part, in a box.
+    #[inline(never)]
+    pub(crate) fn boxed(&self, expr: &Expr) -> Result<Box<Step>, AllocError>
+        requires { PlansBelow C.database self.now (suc (expr_weight expr.now)) F.pre F.post }
+        ensures { IsBoxPlanned self.now.planner.now.scope result (tree_view expr.now) }
+    {
+        let step = self.step_of(expr)?;
+        Ok(Box::new(self.planner.alloc, step)?)
+    }
+
+    /// The step of a part where a further tuple, of the heading, is in hand.
+    pub(crate) fn step_inside(&self, heading: &Heading, expr: &Expr) -> Result<Step, AllocError>
+        requires { PlansBelow C.database self.now (suc (expr_weight expr.now)) F.pre F.post }
+        ensures { IsPlanned (entered_with heading.now self.now.planner.now.scope) result
+            (tree_view expr.now) }
+    {
+        let inner = self.planner.entered(heading)?;
+        (self.inner)(&inner, expr)
     }
 
     /// The steps of expressions, in the order written.
@@ -248,8 +271,7 @@ where
                 self.where_of(operand, condition, Origin::Written)
             }
             Expr::Binary(left, op, right) => {
-                let left = self.step_of(left)?;
-                binary_step(alloc, left, *op, self.step_of(right)?)
+                binary_step(self.boxed(left), *op, self.boxed(right))
             }
             Expr::Compare(left, op, right) => {
                 let left = self.step_of(left)?;
