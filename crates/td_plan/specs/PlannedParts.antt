@@ -4,6 +4,7 @@ use Rattle.std.specs.Global.{Box, Vec}
 use Rattle.std.specs.Prelude.{◌≡◌, ℕ, true, IfOk, List, [], ◌∷◌, Option, Some, None, Result, ⊤}
 use Rattle.td_check.specs.Scopes.{Scope, entered_with}
 use Rattle.td_check.specs.StaticTypes.{type_of}
+use Rattle.td_plan.specs.declared.in_tuples.NewColumns.{NewColumns}
 use Rattle.td_plan.specs.declared.operand.Operand.{Operand}
 use Rattle.td_plan.specs.declared.plan.PartPlans.{PartPlans}
 use Rattle.td_plan.specs.declared.step.Step.{Step}
@@ -14,11 +15,12 @@ use Rattle.td_plan.specs.StepViews.{step_view, steps_view}
 use Rattle.td_tree.specs.declared.expression.NamedExpr.{NamedExpr}
 use Rattle.td_tree.specs.declared.expression.Summary.{Summary}
 use Rattle.td_tree.specs.declared.expression.Summary.TheVariants as summaries
-use Rattle.td_tree.specs.Outcomes.{Valued}
+use Rattle.td_tree.specs.Outcomes.{Outcome, Valued}
 use Rattle.td_tree.specs.TreeViews.{tree_view}
 use Rattle.td_tree.specs.Trees.{Tree, literal, truth}
 use Rattle.td_tree.specs.Trees as trees
-use Rattle.td_types.specs.Types.{Heading, pack, relation}
+use Rattle.td_types.specs.Types.{Attribute, Heading, pack, relation}
+use Rattle.td_types.specs.Views.{pairs_view}
 
 -- plans of these expressions, one for each
 abbrev pub ArePlansOfTyped : Scope → PlanTrees → List Tree → Type 0
@@ -86,3 +88,14 @@ abbrev pub ArePartPlans : Scope → Heading → PartPlans → trees.NamedTrees �
 ArePartPlans scope h plans parts =
     (ps : PlanTrees) × ArePlansOfTyped (entered_with h scope) ps (in_named parts)
     × HoistsAll none (steps_view plans.once.items) ps (steps_view plans.values.items)
+
+-- the types are those of the new attributes, and of what they are of these are plans, with what is valued once
+abbrev pub AreColumns : Scope → NewColumns → Outcome (List Attribute) → List Tree → Type 0
+AreColumns inner columns types es =
+    (types ≡ Valued (pairs_view columns.attributes.items))
+    × (ps : PlanTrees) × ArePlansOfTyped inner ps es × HoistsAll none (steps_view columns.once.items) ps (steps_view columns.values.items)
+
+-- where there are such types; else none
+abbrev pub AreFoundColumns : Scope → Option NewColumns → Outcome (List Attribute) → List Tree → Type 0
+AreFoundColumns inner (Some columns) types es = AreColumns inner columns types es
+AreFoundColumns inner None types es = (xs : List Attribute) → types ≡ Valued xs → ⊥
