@@ -5,11 +5,12 @@ use Rattle.std.specs.Prelude.{◌≡◌, ℕ, true, IfOk, List, [], ◌∷◌, O
 use Rattle.td_check.specs.Scopes.{Scope, entered_with}
 use Rattle.td_check.specs.StaticTypes.{type_of}
 use Rattle.td_plan.specs.declared.in_tuples.NewColumns.{NewColumns}
+use Rattle.td_plan.specs.declared.in_tuples.PulledStep.{PulledStep}
 use Rattle.td_plan.specs.declared.operand.Operand.{Operand}
 use Rattle.td_plan.specs.declared.plan.PartPlans.{PartPlans}
 use Rattle.td_plan.specs.declared.step.Step.{Step}
-use Rattle.td_plan.specs.Hoisting.{HoistsAll}
-use Rattle.td_plan.specs.Plans.{PlanTrees, none, more}
+use Rattle.td_plan.specs.Hoisting.{Hoists, HoistsAll}
+use Rattle.td_plan.specs.Plans.{PlanTree, PlanTrees, none, more}
 use Rattle.td_plan.specs.PlansOf.{IsPlanOfTyped}
 use Rattle.td_plan.specs.StepViews.{step_view, steps_view}
 use Rattle.td_tree.specs.declared.expression.NamedExpr.{NamedExpr}
@@ -99,3 +100,7 @@ AreColumns inner columns types es =
 abbrev pub AreFoundColumns : Scope → Option NewColumns → Outcome (List Attribute) → List Tree → Type 0
 AreFoundColumns inner (Some columns) types es = AreColumns inner columns types es
 AreFoundColumns inner None types es = (xs : List Attribute) → types ≡ Valued xs → ⊥
+
+-- a plan of what is asked of a further tuple in hand, with what is valued once for all such tuples
+abbrev pub IsPulled : Scope → PulledStep → Tree → Type 0
+IsPulled inner asked e = (p : PlanTree) × IsPlanOfTyped inner p e × Hoists none (steps_view asked.once.items) p (step_view asked.step.value)

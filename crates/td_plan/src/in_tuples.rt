@@ -5,7 +5,7 @@ ghost use Rattle.td_check.specs.Scopes.{Scope, entered_with};
 ghost use Rattle.td_check.specs.StaticTypes.{named_types, type_of};
 ghost use Rattle.td_plan.specs.Narrowing.{Narrows};
 ghost use Rattle.td_plan.specs.PlannedParts.{AreColumns, ArePlanned, IsBoxPlanned, IsPlanned};
-ghost use Rattle.td_plan.specs.PlannedParts.{in_named};
+ghost use Rattle.td_plan.specs.PlannedParts.{IsPulled, in_named};
 ghost use Rattle.td_plan.specs.PlansOf.{IsPlanOfTyped};
 ghost use Rattle.td_plan.specs.StepViews.{step_view};
 ghost use Rattle.td_tree.specs.Outcomes.{Outcome, Valued};
@@ -73,24 +73,45 @@ pub(crate) fn new_columns(
     })
 }
 
+/// What is asked of the tuples of an operand.
+#[derive(Drop)]
+pub(crate) struct PulledStep {
+    /// What is valued once for all of these tuples.
+    pub(crate) once: Vec<Step>,
+    /// What is asked of each.
+    pub(crate) step: Box<Step>,
+}
+
+/// What is asked of the tuples of an operand by a step.
+#[inline(never)]
+pub(crate) fn pulled_step(
+    alloc: Global,
+    step: Result<Step, AllocError>,
+) -> Result<PulledStep, AllocError>
+    ensures { (inner : Scope) (e : Tree) → IsPlanned inner step e
+        → IfOk result (λ asked. IsPulled inner asked e) }
+{
+    let mut once = Vec::new(alloc);
+    let step = pulled(alloc, step?, &mut once)?;
+    let step = Box::new(alloc, step)?;
+    Ok(PulledStep { once, step })
+}
+
 /// The step of an aggregate of a value in the tuples of an operand.
 #[inline(never)]
 pub(crate) fn aggregation_step(
-    alloc: Global,
     op: Aggregate,
     operand: Result<Box<Step>, AllocError>,
-    value: Result<Step, AllocError>,
+    value: Result<PulledStep, AllocError>,
 ) -> Result<Step, AllocError>
     ensures { (scope : Scope) (d e : Tree) (h : Heading) → IsBoxPlanned scope operand d
         → type_of scope d ≡ Valued (types.relation (pack h))
-        → IsPlanned (entered_with h scope) value e
+        → IfOk value (λ asked. IsPulled (entered_with h scope) asked e)
         → IsPlanned scope result (trees.aggregate op d e) }
 {
     let operand = operand?;
-    let mut parts = Vec::new(alloc);
-    let value = pulled(alloc, value?, &mut parts)?;
-    let value = Box::new(alloc, value)?;
-    Ok(Step::Aggregate(op, operand, parts, value))
+    let value = value?;
+    Ok(Step::Aggregate(op, operand, value.once, value.step))
 }
 
 /// The step of an operand's tuples with new attributes.

@@ -17,7 +17,7 @@ ghost use Rattle.td_tree.specs.TreeViews.{attributes_view, named_view, summaries
 ghost use Rattle.td_tree.specs.TreeViews.{trees_view};
 ghost use Rattle.td_tree.specs.Trees as trees;
 
-use crate::in_tuples::{NewColumns, aggregation_step, extension_step, new_columns};
+use crate::in_tuples::{NewColumns, aggregation_step, extension_step, new_columns, pulled_step};
 use crate::nodes::{
     binary_step, choice_step, compare_step, component_step, extract_step, headed_step,
     literal_step, measure_step, name_step, postfix_step, prefix_step, relation_step, select_step,
@@ -64,6 +64,7 @@ where
     }
 
     /// The step of a part where a further tuple, of the heading, is in hand.
+    #[inline(never)]
     pub(crate) fn step_inside(&self, heading: &Heading, expr: &Expr) -> Result<Step, AllocError>
         requires { PlansBelow C.database self.now (suc (expr_weight expr.now)) F.pre F.post }
         ensures { IsPlanned (entered_with heading.now self.now.planner.now.scope) result
@@ -227,8 +228,8 @@ where
         let Some(heading) = self.planner.heading_of(operand)? else {
             return self.step_of(operand);
         };
-        let value = self.step_inside(&heading, value);
-        aggregation_step(self.planner.alloc, op, self.boxed(operand), value)
+        let value = pulled_step(self.planner.alloc, self.step_inside(&heading, value));
+        aggregation_step(op, self.boxed(operand), value)
     }
 
     /// The step of an operand's tuples with new attributes.

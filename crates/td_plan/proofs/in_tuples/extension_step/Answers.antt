@@ -15,4 +15,4 @@ returns c = λ scope d es h i static columns.
     let new = c.args.columns in
     subst (λ x. IsPlanOfTyped scope x (trees.extend d es)) (sym (extend_is p new.attributes new.once new.values))
     (extension_planned scope (step_view p.value) (pairs_view new.attributes.items) none (steps_view new.once.items) (steps_view new.values.items) columns.1 d es h
-    (subst (λ o. IsBoxPlanned scope o d) c.in_ok-operand.is i) static columns.0 columns.2 columns.3)
+    (subst (λ o. IsBoxPlanned scope o d) c.in_ok-operand.was i) static columns.0 columns.2 columns.3)

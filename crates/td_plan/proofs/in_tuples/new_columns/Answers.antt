@@ -10,6 +10,6 @@ returns c = λ inner types es known all.
     let once = steps_view c.all_pulled.new.pool.items in (
       known,
       ps,
-      subst (λ o. ArePlanned inner o es) c.in_ok-steps.is all,
+      subst (λ o. ArePlanned inner o es) c.in_ok-steps.was all,
       subst (λ old. HoistsAll (steps_view old) once ps (steps_view c.in_ok-values.values.items)) c.new-once.ensures.items c.in_ok-values.ensures,
     )

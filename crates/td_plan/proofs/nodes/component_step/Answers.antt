@@ -12,5 +12,5 @@ pub returns : goal.returns
 returns c = λ scope d i.
     let p = step_view c.in_ok-operand.operand.value in
     let rest = rc_str_bytes c.args.rest.now in
-    subst (λ n. IsPlanOfTyped scope (plans.component n p) (trees.component rest d)) (sym c.in_ok-clone.ensures)
-    (component_planned scope rest p d (subst (λ o. IsBoxPlanned scope o d) c.in_ok-operand.is i))
+    subst (λ n. IsPlanOfTyped scope (plans.component n p) (trees.component rest d)) (sym c.in_ok-clone.ensures.cases)
+    (component_planned scope rest p d (subst (λ o. IsBoxPlanned scope o d) c.in_ok-operand.was i))

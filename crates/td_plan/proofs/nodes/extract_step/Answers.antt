@@ -11,4 +11,4 @@ pub returns : goal.returns
 returns c = λ scope d i.
     let p = step_view c.in_ok-operand.operand.value in
     subst (λ n. IsPlanOfTyped scope (plans.extract n p) (trees.extract c.args.attribute.now d)) (sym c.in_ok-try_clone.ensures)
-    (extract_planned scope c.args.attribute.now p d (subst (λ o. IsBoxPlanned scope o d) c.in_ok-operand.is i))
+    (extract_planned scope c.args.attribute.now p d (subst (λ o. IsBoxPlanned scope o d) c.in_ok-operand.was i))

@@ -17,4 +17,4 @@ returns-in-Ok g c = λ es all.
     let known = c.declared.ensures ∙ sym (ap (λ s. s.types) c.requires) in
     subst (λ p. IsPlanOfTyped scope p (trees.headed_relation heading es)) (sym (headed_relation_is c.in-Ok.heading elements))
     (headed_planned scope heading c.in-Ok.heading (steps_view elements.items) es
-    (ap (λ ds. heading_meant ds heading) (sym known) ∙ c.in-Ok.ensures) (subst (λ o. ArePlanned scope o (in_trees es)) c.in_ok-elements.is all))
+    (ap (λ ds. heading_meant ds heading) (sym known) ∙ c.in-Ok.ensures) (subst (λ o. ArePlanned scope o (in_trees es)) c.in_ok-elements.was all))

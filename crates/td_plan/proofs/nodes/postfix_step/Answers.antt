@@ -12,4 +12,4 @@ pub returns : goal.returns
 returns c = λ scope d i.
     let p = step_view c.in_ok-operand.operand.value in
     subst (λ op. IsPlanOfTyped scope (plans.postfix p op) (trees.postfix d (postfix_view c.args.op.now))) (sym c.in_ok-try_clone.ensures)
-    (postfix_planned scope p d (postfix_view c.args.op.now) (subst (λ o. IsBoxPlanned scope o d) c.in_ok-operand.is i))
+    (postfix_planned scope p d (postfix_view c.args.op.now) (subst (λ o. IsBoxPlanned scope o d) c.in_ok-operand.was i))

@@ -6,4 +6,4 @@ use Rattle.td_plan.proofs.nodes.prefix_step.Goals as goal
 
 pub returns : goal.returns
 returns c = λ scope d i.
-    prefix_planned scope c.args.op (step_view c.in_ok-operand.field-0.value) d (subst (λ o. IsBoxPlanned scope o d) c.in_ok-operand.is i)
+    prefix_planned scope c.args.op (step_view c.in_ok-operand.field-0.value) d (subst (λ o. IsBoxPlanned scope o d) c.in_ok-operand.was i)

@@ -11,4 +11,4 @@ pub returns : goal.returns
 returns c = λ scope es all.
     let elements = c.in_ok-elements.field-0 in
     subst (λ p. IsPlanOfTyped scope p (trees.relation es)) (sym (relation_is elements))
-    (relation_planned scope (steps_view elements.items) es (subst (λ o. ArePlanned scope o (in_trees es)) c.in_ok-elements.is all))
+    (relation_planned scope (steps_view elements.items) es (subst (λ o. ArePlanned scope o (in_trees es)) c.in_ok-elements.was all))

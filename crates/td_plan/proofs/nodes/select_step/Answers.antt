@@ -14,4 +14,4 @@ returns c = λ scope es all.
     let ps = steps_view arguments.items in
     subst (λ p. IsPlanOfTyped scope p (trees.select c.args.ty.now es))
     (sym (select_is c.in_ok-try_clone.field-0 arguments ∙ ap (λ n. plans.select n ps) c.in_ok-try_clone.ensures))
-    (select_planned scope c.args.ty.now ps es (subst (λ o. ArePlanned scope o (in_trees es)) c.in_ok-arguments.is all))
+    (select_planned scope c.args.ty.now ps es (subst (λ o. ArePlanned scope o (in_trees es)) c.in_ok-arguments.was all))

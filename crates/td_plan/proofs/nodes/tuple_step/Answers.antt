@@ -17,4 +17,4 @@ returns c = λ scope all.
     let names = c.in_ok-names_of.field-0 in
     subst (λ p. IsPlanOfTyped scope p (trees.tuple (named_view parts))) (sym (tuple_is names values))
     (tuple_planned scope names.items ps (named_view parts) (c.in_ok-names_of.ensures ∙ sym (names_are parts))
-    (subst (ArePlansOfTyped scope ps) (sym (parts_are parts)) (subst (λ o. ArePlanned scope o (map part_tree parts)) c.in_ok-values.is all)))
+    (subst (ArePlansOfTyped scope ps) (sym (parts_are parts)) (subst (λ o. ArePlanned scope o (map part_tree parts)) c.in_ok-values.was all)))

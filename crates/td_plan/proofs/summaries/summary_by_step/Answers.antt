@@ -25,5 +25,5 @@ returns c = λ scope d items h i static asked columns.
     (subst (λ b. IsPlanOfTyped scope (plans.summarize_by (step_view p.value) b attributes aggregates.items (steps_view new.once.items) (steps_view new.values.items)) tree)
     (sym c.in_ok-by.ensures)
     (summary_by_planned scope (step_view p.value) attributes aggregates.items none (steps_view new.once.items) (steps_view new.values.items) columns.1
-    d items h (subst (λ o. IsBoxPlanned scope o d) c.in_ok-operand.is i) static columns.0
-    (subst (λ o. IfOk o (λ xs. xs.items ≡ aggregates_in items)) c.in_ok-aggregates.is asked) columns.2 columns.3 by))
+    d items h (subst (λ o. IsBoxPlanned scope o d) c.in_ok-operand.was i) static columns.0
+    (subst (λ o. IfOk o (λ xs. xs.items ≡ aggregates_in items)) c.in_ok-aggregates.was asked) columns.2 columns.3 by))

@@ -19,6 +19,6 @@ returns c = λ scope d q items h i m static asked columns.
     let new = c.args.columns in
     subst (λ x. IsPlanOfTyped scope x (trees.summarize_per d q items)) (sym (summarize_per_is p r new.attributes aggregates new.once new.values))
     (summary_planned scope (step_view p.value) (pairs_view new.attributes.items) aggregates.items none (steps_view new.once.items) (steps_view new.values.items) columns.1
-    d items h (subst (λ o. IsBoxPlanned scope o d) c.in_ok-operand.is i) static columns.0
-    (subst (λ o. IfOk o (λ xs. xs.items ≡ aggregates_in items)) c.in_ok-aggregates.is asked) columns.2 columns.3
-    (step_view r.value) q (subst (λ o. IsBoxPlanned scope o q) c.in_ok-per.is m))
+    d items h (subst (λ o. IsBoxPlanned scope o d) c.in_ok-operand.was i) static columns.0
+    (subst (λ o. IfOk o (λ xs. xs.items ≡ aggregates_in items)) c.in_ok-aggregates.was asked) columns.2 columns.3
+    (step_view r.value) q (subst (λ o. IsBoxPlanned scope o q) c.in_ok-per.was m))

@@ -38,7 +38,7 @@ returns-in_default-2 g c =
     let inner = entered_with c.in-Some.heading scope in
     let d = tree_view c.args.operand.now in
     let es = named_view c.args.parts.now in
-    untyped_planned scope c.step_of-2.result (trees.extend d es)
+    untyped_planned scope c.step_of-in_default-2.result (trees.extend d es)
     (λ kind typed.
     let found = parts_typed scope d c.in-Some.heading es extension_type kind
     (subst (λ o. IfSome o (λ h. type_of scope d ≡ Valued (relation (pack h)))) c.in-Some.is c.in_ok-heading.ensures.some)

@@ -43,7 +43,7 @@ returns-in_default-2 g c =
     let q = tree_view c.args.per.now in
     let items = summaries_view c.args.items.now in
     let inner = entered_with c.in-Some.heading scope in
-    untyped_planned scope c.step_of-2.result (trees.summarize_per d q items)
+    untyped_planned scope c.step_of-in_default-2.result (trees.summarize_per d q items)
     (per_of_refused scope d items c.in-Some.heading
     (subst (λ o. IfSome o (λ h. type_of scope d ≡ Valued (relation (pack h)))) c.in-Some.is c.in_ok-heading.ensures.some)
     (subst (λ o. AreFoundColumns inner o (summary_attributes inner items) (in_summaries items)) c.in_default-2.is c.in_ok-columns.ensures) q)
