@@ -1,6 +1,6 @@
 //! The steps of WHERE. A condition that cannot fail restricts the operands of what it is asked of.
 ghost use Rattle.std.specs.Prelude.{◌+◌, IfOk, suc};
-ghost use Rattle.td_plan.specs.PlannedParts.{IsOperandOf};
+ghost use Rattle.td_plan.specs.PlannedParts.{IsBoxPlanned, IsOperandOf};
 ghost use Rattle.td_plan.specs.Planners.{IsPlanner};
 ghost use Rattle.td_plan.specs.PlansBelow.{PlansBelow};
 ghost use Rattle.td_plan.specs.PlansOf.{IsPlanOfTyped};
@@ -69,31 +69,31 @@ where
             (restricted_tree restricted (tree_view left.now) op (tree_view right.now)
             (tree_view condition.now))) }
     {
-        let alloc = self.planner.alloc;
         match restricted {
             Restricted::First => {
-                let left = self.where_of(left, condition, Origin::Pushed)?;
-                binary_step(alloc, left, op, self.step_of(right)?)
+                binary_step(self.where_pushed(left, condition), op, self.boxed(right))
             }
             Restricted::Second => {
-                let left = self.step_of(left)?;
-                binary_step(
-                    alloc,
-                    left,
-                    op,
-                    self.where_of(right, condition, Origin::Pushed)?,
-                )
+                binary_step(self.boxed(left), op, self.where_pushed(right, condition))
             }
-            Restricted::Both => {
-                let left = self.where_of(left, condition, Origin::Pushed)?;
-                binary_step(
-                    alloc,
-                    left,
-                    op,
-                    self.where_of(right, condition, Origin::Pushed)?,
-                )
-            }
+            Restricted::Both => binary_step(
+                self.where_pushed(left, condition),
+                op,
+                self.where_pushed(right, condition),
+            ),
         }
+    }
+
+    /// The step of a restriction that is pushed into an operand, in a box.
+    #[cycle(restriction)]
+    fn where_pushed(&self, operand: &Expr, condition: &Expr) -> Result<Box<Step>, AllocError>
+        requires { PlansBelow C.database self.now
+            (suc (expr_weight operand.now + expr_weight condition.now)) F.pre F.post }
+        ensures { IsBoxPlanned self.now.planner.now.scope result
+            (trees.restriction (tree_view operand.now) (tree_view condition.now)) }
+    {
+        let step = self.where_of(operand, condition, Origin::Pushed)?;
+        Ok(Box::new(self.planner.alloc, step)?)
     }
 
     /// The step of WHERE of the expression's own step.
