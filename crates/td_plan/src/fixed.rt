@@ -6,7 +6,6 @@ ghost use Rattle.td_check.specs.Scopes.{Scope};
 ghost use Rattle.td_eval.specs.ValueTypes.{IsWritten};
 ghost use Rattle.td_plan.specs.Fixing.{AreOneWhere, HasTypeOf, IsNamedApart, MayFix};
 ghost use Rattle.td_plan.specs.Narrowing.{AreFixed, Implies, IsFixedTo};
-ghost use Rattle.td_plan.specs.Planners.{IsPlanner};
 ghost use Rattle.td_plan.specs.PlansBelow.{PlansBelow};
 ghost use Rattle.td_plan.specs.StepViews.{step_view};
 ghost use Rattle.td_plan.specs.TreeWeights.{expr_weight};

@@ -3,7 +3,6 @@ ghost use Rattle.std.specs.Prelude.{◌<◌, ◌≡◌, IfOk, IfSome, IsTrue, le
 ghost use Rattle.std.specs.List.{Contains, HoldsAt};
 ghost use Rattle.td_check.specs.CannotFail.{cannot_fail};
 ghost use Rattle.td_check.specs.Scopes.{entered_with};
-ghost use Rattle.td_check.specs.StaticTypes.{type_of};
 ghost use Rattle.td_eval.specs.TreeNumbers.{HasNumbers};
 ghost use Rattle.td_eval.specs.ValueTypes.{IsWritten};
 ghost use Rattle.td_plan.specs.declared.fixed.FixedValue.{FixedValue};
@@ -12,12 +11,10 @@ ghost use Rattle.td_plan.specs.Narrowing.{AreFixed, MayNarrow};
 ghost use Rattle.td_plan.specs.Planners.{IsPlanner};
 ghost use Rattle.td_plan.specs.Plans as plans;
 ghost use Rattle.td_plan.specs.StepViews.{step_view, steps_view};
-ghost use Rattle.td_tree.specs.Outcomes.{Valued};
 ghost use Rattle.td_tree.specs.TreeViews.{tree_view};
 ghost use Rattle.td_tree.specs.Trees.{Tree};
 ghost use Rattle.td_types.specs.Headings.{projection};
-ghost use Rattle.td_types.specs.Types as types;
-ghost use Rattle.td_types.specs.Types.{attribute_names, pack};
+ghost use Rattle.td_types.specs.Types.{attribute_names};
 
 use crate::fixed::{FixedValue, has_a_value};
 use crate::numbers::has_numbers;

@@ -1,4 +1,4 @@
-use Rattle.std.proofs.Common.{◌≡◌, subst, sym}
+use Rattle.std.proofs.Common.{subst, sym}
 use Rattle.std.specs.Prelude.{IfOk}
 use Rattle.td_plan.proofs.FixedValues.{one_more_fixed}
 use Rattle.td_plan.specs.Narrowing.{AreFixed, IsFixedTo}

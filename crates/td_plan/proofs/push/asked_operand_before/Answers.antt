@@ -11,7 +11,7 @@ pub returns-in-Some : goal.returns-in-Some
 returns-in-Some g c =
     let r = tree_view c.args.right.now in
     let other =
-    subst (λ o. IfSome o (λ h. type_of c.args.planner.now.scope r ≡ Valued (types.relation (pack h)))) c.in-Some.is c.in_ok-heading_of.ensures.some in
+    subst (λ o. IfSome o (λ h. type_of c.args.planner.now.scope r ≡ Valued (types.relation (pack h)))) c.in-Some.is c.in_ok-second.ensures.some in
     record {
       join = λ l static. c.asked_operand.ensures.join l r static other;
       times = λ l static. c.asked_operand.ensures.times l r static other;

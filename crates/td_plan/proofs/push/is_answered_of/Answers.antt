@@ -12,5 +12,5 @@ pub returns-in-Some : goal.returns-in-Some
 returns-in-Some g c =
     let d = tree_view c.args.operand.now in
     let static =
-    subst (λ o. IfSome o (λ h. type_of c.args.planner.now.scope d ≡ Valued (types.relation (pack h)))) c.in-Some.is c.in_ok-heading_of.ensures.some in
+    subst (λ o. IfSome o (λ h. type_of c.args.planner.now.scope d ≡ Valued (types.relation (pack h)))) c.in-Some.is c.in_ok-heading.ensures.some in
     IfOk-weaker c.is_answered.result _ _ (λ b given yes. (c.in-Some.heading, given yes d static)) c.is_answered.ensures

@@ -14,7 +14,7 @@ returns-in-Some g c =
     let h = c.args.heading.now in
     let x = tree_view c.args.value.now in
     let a = tree_view c.args.operand.now in
-    let may = subst (λ o. IfSome o (λ n. (a ≡ trees.name n) × MayFix scope h n x)) c.in-Some.is c.in_ok-fixed_name.ensures in
+    let may = subst (λ o. IfSome o (λ n. (a ≡ trees.name n) × MayFix scope h n x)) c.in-Some.is c.in_ok-name.ensures in
     IfOk-weaker c.put.result _ _
     (λ done given written e same all. given scope h e
     (IfOk-weaker c.step_of.result _ _ (λ p plan. one_fixed scope h c.in-Some.name x may.1 written (step_view p) plan e a may.0 same) c.step_of.ensures) all)
