@@ -3,10 +3,8 @@ use Rattle.std.specs.declared.alloc.AllocError.{AllocError}
 use Rattle.std.specs.Global.{Box, Vec}
 use Rattle.std.specs.Prelude.{◌≡◌, ℕ, true, IfOk, List, [], ◌∷◌, Option, Some, None, Result, ⊤}
 use Rattle.td_check.specs.Scopes.{Scope, entered_with}
-use Rattle.td_check.specs.StaticTypes.{type_of}
 use Rattle.td_plan.specs.declared.in_tuples.NewColumns.{NewColumns}
 use Rattle.td_plan.specs.declared.in_tuples.PulledStep.{PulledStep}
-use Rattle.td_plan.specs.declared.operand.Operand.{Operand}
 use Rattle.td_plan.specs.declared.plan.PartPlans.{PartPlans}
 use Rattle.td_plan.specs.declared.step.Step.{Step}
 use Rattle.td_plan.specs.Hoisting.{Hoists, HoistsAll}
@@ -20,7 +18,7 @@ use Rattle.td_tree.specs.Outcomes.{Outcome, Valued}
 use Rattle.td_tree.specs.TreeViews.{tree_view}
 use Rattle.td_tree.specs.Trees.{Tree, literal, truth}
 use Rattle.td_tree.specs.Trees as trees
-use Rattle.td_types.specs.Types.{Attribute, Heading, pack, relation}
+use Rattle.td_types.specs.Types.{Attribute, Heading}
 use Rattle.td_types.specs.Views.{pairs_view}
 
 -- plans of these expressions, one for each
@@ -65,17 +63,6 @@ part_tree part = tree_view part.value
 abbrev pub item_tree : Summary → Tree
 item_tree (summaries.Count name) = literal (truth true)
 item_tree (summaries.Of op value name) = tree_view value
-
--- ---- an operand
-
--- the heading of the relations that are the expression's values; none where they are no relations, or it has no type
-abbrev pub HasStaticHeading : Scope → Option Heading → Tree → Type 0
-HasStaticHeading scope (Some h) d = type_of scope d ≡ Valued (relation (pack h))
-HasStaticHeading scope None d = (h : Heading) → type_of scope d ≡ Valued (relation (pack h)) → ⊥
-
--- a plan of the expression, with that heading
-abbrev pub IsOperandOf : Scope → Operand → Tree → Type 0
-IsOperandOf scope operand d = IsPlanOfTyped scope (step_view operand.step) d × HasStaticHeading scope operand.heading d
 
 -- the names that parts give
 abbrev pub names_in : trees.NamedTrees → List (List ℕ)

@@ -3,11 +3,8 @@
 ghost use Rattle.std.specs.Prelude.{◌≡◌, IfOk, List};
 ghost use Rattle.td_check.specs.Scopes.{Scope, entered_with};
 ghost use Rattle.td_check.specs.StaticTypes.{named_types, type_of};
-ghost use Rattle.td_plan.specs.Narrowing.{Narrows};
 ghost use Rattle.td_plan.specs.PlannedParts.{AreColumns, ArePlanned, IsBoxPlanned, IsPlanned};
 ghost use Rattle.td_plan.specs.PlannedParts.{IsPulled, in_named};
-ghost use Rattle.td_plan.specs.PlansOf.{IsPlanOfTyped};
-ghost use Rattle.td_plan.specs.StepViews.{step_view};
 ghost use Rattle.td_tree.specs.Outcomes.{Outcome, Valued};
 ghost use Rattle.td_tree.specs.Trees as trees;
 ghost use Rattle.td_tree.specs.Trees.{Tree};
@@ -16,31 +13,11 @@ ghost use Rattle.td_types.specs.Types.{Attribute, Heading, pack};
 ghost use Rattle.td_types.specs.Views.{pairs_view};
 
 use crate::hoist::{all_pulled, pulled};
-use crate::step::{Origin, Step};
+use crate::step::Step;
 use std::alloc::{AllocError, Global};
 use td_tree::name::Name;
 use td_tree::operator::Aggregate;
 use td_types::ty::Ty;
-
-/// The step of the tuples of an operand for which a condition is true.
-pub(crate) fn restriction_step(
-    alloc: Global,
-    operand: Step,
-    condition: Step,
-    origin: Origin,
-) -> Result<Step, AllocError>
-    ensures { IfOk result (λ p. (scope : Scope) (d e : Tree) (h : Heading)
-        → Narrows scope (step_view operand) d e h
-        → type_of scope d ≡ Valued (types.relation (pack h))
-        → IsPlanOfTyped (entered_with h scope) (step_view condition) e
-        → IsPlanOfTyped scope (step_view p) (trees.restriction d e)) }
-{
-    let mut parts = Vec::new(alloc);
-    let condition = pulled(alloc, condition, &mut parts)?;
-    let operand = Box::new(alloc, operand)?;
-    let condition = Box::new(alloc, condition)?;
-    Ok(Step::Restriction(operand, parts, condition, origin))
-}
 
 /// New attributes, and what is asked for them of the tuples of an operand.
 #[derive(Drop)]

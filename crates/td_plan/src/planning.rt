@@ -5,7 +5,7 @@ ghost use Rattle.td_check.specs.Scopes.{entered_with};
 ghost use Rattle.td_check.specs.StaticTypes.{named_types};
 ghost use Rattle.td_eval.specs.AggregateValues.{summary_attributes};
 ghost use Rattle.td_plan.specs.PlannedParts.{AreFoundColumns, ArePlanned, ArePlansOfTyped};
-ghost use Rattle.td_plan.specs.PlannedParts.{IsBoxPlanned, IsOperandOf, IsPlanned, in_named};
+ghost use Rattle.td_plan.specs.PlannedParts.{IsBoxPlanned, IsPlanned, in_named};
 ghost use Rattle.td_plan.specs.PlannedParts.{in_summaries, item_tree, part_tree};
 ghost use Rattle.td_plan.specs.Planners.{IsPlanner};
 ghost use Rattle.td_plan.specs.PlansBelow.{PlansBelow};
@@ -23,7 +23,6 @@ use crate::nodes::{
     literal_step, measure_step, name_step, postfix_step, prefix_step, relation_step, select_step,
     tuple_step,
 };
-use crate::operand::Operand;
 use crate::planner::{Known, Planner};
 use crate::step::{Origin, Step};
 use crate::summaries::{aggregates_of, attributes_of, count_step, summary_by_step, summary_step};
@@ -126,17 +125,6 @@ where
             steps.push(self.item_step(item)?)?;
         }
         Ok(steps)
-    }
-
-    /// The step of an operand to whose tuples something is applied.
-    pub(crate) fn operand_of(&self, expr: &Expr) -> Result<Operand, AllocError>
-        requires { PlansBelow C.database self.now (suc (expr_weight expr.now)) F.pre F.post }
-        ensures { IfOk result
-            (λ o. IsOperandOf self.now.planner.now.scope o (tree_view expr.now)) }
-    {
-        let heading = self.planner.heading_of(expr)?;
-        let step = self.step_of(expr)?;
-        Ok(Operand { step, heading })
     }
 
     /// The new attributes that parts give to the tuple in hand; none where these have no types.
