@@ -1,5 +1,5 @@
 -- What is answered of the step of an expression, by what is answered of the steps of its parts.
-use Rattle.std.proofs.Common.{◌≡◌, ◌∙◌, ◌∷◌, [], ap, refl, subst, sym}
+use Rattle.std.proofs.Common.{◌≡◌, ◌∙◌, ◌∷◌, [], ap, refl, sym}
 use Rattle.std.specs.declared.alloc.AllocError.{AllocError}
 use Rattle.std.specs.Prelude.{List, Result, Ok, Err}
 use Rattle.td_check.specs.OperatorTypes.{over_relation}

@@ -77,8 +77,8 @@ pub(crate) fn count_step() -> Step
     Step::Constant(Value::bool(true))
 }
 
-/// The step of SUMMARIZE of an operand by the tuples of another relation, with new attributes, which
-/// are these aggregates.
+/// The step of SUMMARIZE of an operand by the tuples of another relation, with new attributes,
+/// which are these aggregates.
 #[inline(never)]
 pub(crate) fn summary_step(
     operand: Result<Box<Step>, AllocError>,
