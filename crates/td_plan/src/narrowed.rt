@@ -171,18 +171,16 @@ fn copied_names(alloc: Global, names: &[Name]) -> Result<Vec<Name>, AllocError>
     Ok(copy)
 }
 
-/// Puts an attribute's name and the step of its value after the others.
+/// Puts an attribute's name, and the step of its value, after the others.
 fn put_attribute(
     names: &mut Vec<Name>,
     values: &mut Vec<Step>,
-    attribute: FixedValue,
+    name: Name,
+    value: Step,
 ) -> Result<(), AllocError>
-    ensures names { IfOk result (λ _.
-        names.new.items ≡ names.old.items ++ (attribute.name ∷ [])) }
-    ensures values { IfOk result (λ _.
-        values.new.items ≡ values.old.items ++ (attribute.value ∷ [])) }
+    ensures names { IfOk result (λ _. names.new.items ≡ names.old.items ++ (name ∷ [])) }
+    ensures values { IfOk result (λ _. values.new.items ≡ values.old.items ++ (value ∷ [])) }
 {
-    let FixedValue { name, value } = attribute;
     names.push(name)?;
     Ok(values.push(value)?)
 }
@@ -195,7 +193,8 @@ fn part_step(alloc: Global, part: Vec<FixedValue>) -> Result<Step, AllocError>
     let mut names = Vec::with_capacity(alloc, part.len())?;
     let mut values = Vec::with_capacity(alloc, part.len())?;
     for attribute in part {
-        put_attribute(&mut names, &mut values, attribute)?;
+        let FixedValue { name, value } = attribute;
+        put_attribute(&mut names, &mut values, name, value)?;
     }
     Ok(Step::Tuple(names, values))
 }
