@@ -1,5 +1,5 @@
 //! Operands of WHERE that are looked up by a key.
-ghost use Rattle.std.specs.Prelude.{◌<◌, ◌≡◌, IfOk, IfSome, IsTrue, length, map};
+ghost use Rattle.std.specs.Prelude.{◌++◌, ◌<◌, ◌≡◌, ◌∷◌, [], IfOk, IfSome, IsTrue, length, map};
 ghost use Rattle.std.specs.List.{Contains, HoldsAt};
 ghost use Rattle.td_check.specs.CannotFail.{cannot_fail};
 ghost use Rattle.td_check.specs.Scopes.{entered_with};
@@ -171,6 +171,20 @@ fn copied_names(alloc: Global, names: &[Name]) -> Result<Vec<Name>, AllocError>
     Ok(copy)
 }
 
+/// Puts an attribute's name, and the step of its value, after the others.
+fn put_attribute(
+    names: &mut Vec<Name>,
+    values: &mut Vec<Step>,
+    name: Name,
+    value: Step,
+) -> Result<(), AllocError>
+    ensures names { IfOk result (λ _. names.new.items ≡ names.old.items ++ (name ∷ [])) }
+    ensures values { IfOk result (λ _. values.new.items ≡ values.old.items ++ (value ∷ [])) }
+{
+    names.push(name)?;
+    Ok(values.push(value)?)
+}
+
 /// The step of the tuple of these attributes.
 fn part_step(alloc: Global, part: Vec<FixedValue>) -> Result<Step, AllocError>
     ensures { IfOk result (λ p. step_view p ≡ plans.tuple (map (λ x. x.name) part.items)
@@ -180,8 +194,7 @@ fn part_step(alloc: Global, part: Vec<FixedValue>) -> Result<Step, AllocError>
     let mut values = Vec::with_capacity(alloc, part.len())?;
     for attribute in part {
         let FixedValue { name, value } = attribute;
-        names.push(name)?;
-        values.push(value)?;
+        put_attribute(&mut names, &mut values, name, value)?;
     }
     Ok(Step::Tuple(names, values))
 }

@@ -58,8 +58,9 @@ fn planner_inside<'a, B: Body>(
     ensures planner { IfOk result (λ p. IsPlanner catalog_database p) }
     ensures scope { IfOk result (λ p. p.scope ≡ entered_with heading.now (scope_in env.now)) }
 {
+    let heading = heading.try_clone()?;
     let planner = planner_in(alloc, env)?;
-    planner.with_heading(heading.try_clone()?)
+    planner.with_heading(heading)
 }
 
 /// The plan whose step this is.

@@ -15,8 +15,8 @@ use Rattle.td_types.specs.Headings.{projection}
 use Rattle.td_types.specs.Types.{attribute_names}
 use Rattle.td_plan.proofs.narrowed.look_up_by_key.Goals as goal
 
-pub returns-in-Some : goal.returns-in-Some
-returns-in-Some g c = λ d means base given static.
+pub returns-in_ok-look_up_step-in-Some-2 : goal.returns-in_ok-look_up_step-in-Some-2
+returns-in_ok-look_up_step-in-Some-2 g c = λ d means base given static.
     let scope = c.args.planner.now.scope in
     let e = tree_view c.args.condition.now in
     let h = c.args.heading.now in
@@ -28,7 +28,7 @@ returns-in-Some g c = λ d means base given static.
     subst (λ o. IfSome o (λ part. map (λ (x : FixedValue). x.name) part.items ≡ attribute_names (projection key h))) c.in-Some-2.is c.in_ok-part.ensures.names in
     let within =
     subst (λ o. IfSome o (λ part. (x : FixedValue) → Contains part.items x → Contains fixed x)) c.in-Some-2.is c.in_ok-part.ensures.fixed in
-    subst (λ q. Narrows scope q d e h) (sym c.in_ok-look_up_step.ensures)
+    subst (λ q. Narrows scope q d e h) (sym c.in_ok-look_up_step-in-Some-2.ensures)
     (look_up_narrows scope c.args.name.now key part d e h base means static
     (subst (λ o. IfSome o (λ key. HasNumbers e)) c.in-Some.is c.in_ok-key.ensures.numbers)
     (subst (λ o. IfSome o (λ key. IsTrue (cannot_fail (entered_with h scope) e))) c.in-Some.is c.in_ok-key.ensures.never)

@@ -42,11 +42,11 @@ returns-in_ok-put_fixed_value-in-Compare g t c =
     let fixed = AreFixed c.args.self.now.planner.now.scope c.args.heading.now in
     let old = c.args.fixed.now.items in
     let middle = c.put_fixed_value.new.fixed.items in
-    let new = c.put_fixed_value-2.new.fixed.items in
+    let new = c.put_fixed_value-in-Compare.new.fixed.items in
     let first =
     subst (λ (p : Tree × Tree). IsWritten p.1 → (e : Tree) → AreOneWhere e p.0 p.1 → fixed e old → fixed e middle)
     (λ i. (tree_view (c.deref-in-Compare-2.ensures i), tree_view (c.deref-in-Compare.ensures i))) c.in_ok-put_fixed_value-in-Compare.ensures in
-    IfOk-weaker c.put_fixed_value-2.result _ _
+    IfOk-weaker c.put_fixed_value-in-Compare.result _ _
     (λ done put.
     let second =
     subst (λ (p : Tree × Tree). IsWritten p.1 → (e : Tree) → AreOneWhere e p.0 p.1 → fixed e middle → fixed e new)
@@ -54,4 +54,4 @@ returns-in_ok-put_fixed_value-in-Compare g t c =
     subst (λ d. IsWritten d → (e : Tree) → Implies e d → fixed e old → fixed e new) (sym is)
     (λ written e implies all. second (written.0.0, written.1.0) e (operands_are_one_back e a b implies)
     (first (written.0.1, written.1.1) e (operands_are_one e a b implies) all)))
-    c.put_fixed_value-2.ensures
+    c.put_fixed_value-in-Compare.ensures

@@ -3,6 +3,7 @@ use Rattle.std.proofs.lemmas.Result.{IfOk-weaker}
 use Rattle.std.specs.Prelude.{IfSome}
 use Rattle.td_plan.proofs.Pushed.{stands_planned}
 use Rattle.td_plan.specs.PlannedParts.{IsPlanned}
+use Rattle.td_plan.specs.PlansOf.{IsPlanOfTyped}
 use Rattle.td_plan.specs.Pushing.{MayStandFor, restricted_tree}
 use Rattle.td_plan.specs.StepViews.{step_view}
 use Rattle.td_tree.specs.TreeViews.{tree_view}
@@ -57,3 +58,8 @@ pushed-returns-in-Both g t c =
     let e = tree_view c.args.condition.now in
     subst (λ k. IsPlanned scope c.binary_step-in-Both.result (restricted_tree k l c.args.op r e)) (sym c.in-Both.is)
     (c.binary_step-in-Both.ensures scope (trees.restriction l e) (trees.restriction r e) c.where_pushed-in-Both.ensures c.where_pushed-in-Both-2.ensures)
+
+pub where_pushed-returns : goal.where_pushed-returns
+where_pushed-returns g t c =
+    subst (λ s. IsPlanOfTyped c.args.self.now.planner.now.scope (step_view s) (trees.restriction (tree_view c.args.operand.now) (tree_view c.args.condition.now)))
+    (sym c.in_ok-new.ensures.ok) c.in_ok-step.ensures
