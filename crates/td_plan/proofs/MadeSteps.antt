@@ -1,11 +1,30 @@
 -- What holds of parts makes something hold of the step that is made of them.
-use Rattle.std.proofs.Common.{Err, Ok, Result, subst, sym}
+use Rattle.std.proofs.Common.{◌≡◌, Err, Ok, Result, subst, sym}
 use Rattle.std.specs.declared.alloc.AllocError.{AllocError}
-use Rattle.std.specs.Prelude.{IfOk}
+use Rattle.std.specs.Prelude.{IfOk, IsOkAnd}
 use Rattle.td_plan.specs.declared.step.Step.{Step}
 use Rattle.td_plan.specs.MadeSteps.{IsMadeOf, IsMadeOfBoth, IsMadeOfThree}
 use Rattle.td_plan.specs.Plans.{PlanTree}
 use Rattle.td_plan.specs.StepViews.{step_view}
+
+-- ---- made of parts that there are
+
+pub made_of : {A : Type 0} (part : Result A AllocError) (x : A) (step : Step) (view : A → PlanTree) → part ≡ Ok x → step_view step ≡ view x
+    → IsOkAnd part (λ x. step_view step ≡ view x)
+made_of part x step view e is = subst (λ r. IsOkAnd r (λ x. step_view step ≡ view x)) (sym e) is
+
+pub made_of_both : {A B : Type 0} (first : Result A AllocError) (second : Result B AllocError) (x : A) (y : B) (step : Step) (view : A → B → PlanTree)
+    → first ≡ Ok x → second ≡ Ok y → step_view step ≡ view x y → IsOkAnd first (λ x. IsOkAnd second (λ y. step_view step ≡ view x y))
+made_of_both first second x y step view e f is =
+    subst (λ r. IsOkAnd r (λ x. IsOkAnd second (λ y. step_view step ≡ view x y))) (sym e) (made_of second y step (view x) f is)
+
+pub made_of_three : {A B C : Type 0} (first : Result A AllocError) (second : Result B AllocError) (third : Result C AllocError) (x : A) (y : B) (z : C) (step : Step)
+    (view : A → B → C → PlanTree) → first ≡ Ok x → second ≡ Ok y → third ≡ Ok z → step_view step ≡ view x y z
+    → IsOkAnd first (λ x. IsOkAnd second (λ y. IsOkAnd third (λ z. step_view step ≡ view x y z)))
+made_of_three first second third x y z step view e f g is =
+    subst (λ r. IsOkAnd r (λ x. IsOkAnd second (λ y. IsOkAnd third (λ z. step_view step ≡ view x y z)))) (sym e) (made_of_both second third y z step (view x) f g is)
+
+-- ---- what holds of the parts
 
 pub both_hold : {A : Type 0} (r : Result A AllocError) (P Q : A → Type 0) → IfOk r P → IfOk r Q → IfOk r (λ x. P x × Q x)
 both_hold (Ok x) P Q p q = (p, q)

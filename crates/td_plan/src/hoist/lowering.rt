@@ -50,7 +50,7 @@ pub(crate) fn lowered(step: Step, depth: usize) -> Result<Step, AllocError>
         Step::If(condition, yes, no) => {
             made::choice(boxed(condition, depth), operands(yes, no, depth))
         }
-        leaf => Ok(leaf),
+        leaf @ (Step::Constant(_) | Step::Refused(_) | Step::Relvar(_)) => Ok(leaf),
     }
 }
 
@@ -97,6 +97,18 @@ fn inner(step: Box<Step>, depth: usize) -> Result<Box<Step>, AllocError>
     }
 }
 
+/// The same where several values are asked of them.
+#[cycle(lowered)]
+fn columns(steps: Vec<Step>, depth: usize) -> Result<Vec<Step>, AllocError>
+    ensures { IfOk result
+        (λ all. steps_view all.items ≡ all_lowered (suc depth) (steps_view steps.items)) }
+{
+    match depth.checked_add(1) {
+        Some(depth) => all(steps, depth),
+        None => Err(AllocError),
+    }
+}
+
 /// Two operands where the tuple is no more in hand.
 #[cycle(lowered)]
 fn operands(
@@ -139,17 +151,4 @@ fn all(steps: Vec<Step>, depth: usize) -> Result<Vec<Step>, AllocError>
         all.push(lowered(step, depth)?)?;
     }
     Ok(all)
-}
-
-/// What is asked of an operand's tuples, where the tuple at the depth outside of them is no more in
-/// hand.
-#[cycle(lowered)]
-fn columns(steps: Vec<Step>, depth: usize) -> Result<Vec<Step>, AllocError>
-    ensures { IfOk result
-        (λ all. steps_view all.items ≡ all_lowered (suc depth) (steps_view steps.items)) }
-{
-    match depth.checked_add(1) {
-        Some(depth) => all(steps, depth),
-        None => Err(AllocError),
-    }
 }

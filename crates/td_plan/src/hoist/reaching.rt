@@ -34,9 +34,7 @@ pub(crate) fn reaches(step: &Step, depth: usize) -> bool
             columns_reach(operand, parts, values, depth)
         }
         Step::SummarizePer(operand, per, _, _, parts, values) => {
-            either_reaches(operand, per, depth)
-                || list_reaches(parts, depth)
-                || inner_list_reaches(values, depth)
+            summary_reaches(operand, per, parts, values, depth)
         }
         Step::If(condition, consequent, alternative) => {
             operand_reaches(condition, depth) || either_reaches(consequent, alternative, depth)
@@ -71,6 +69,25 @@ fn columns_reach(operand: &Box<Step>, parts: &Vec<Step>, values: &Vec<Step>, dep
         || any_reaches (suc depth) (steps_view values.now.items))) ≡ false }
 {
     operand_reaches(operand, depth)
+        || list_reaches(parts, depth)
+        || inner_list_reaches(values, depth)
+}
+
+/// The same where they are asked of the groups of PER.
+#[cycle(reaches)]
+fn summary_reaches(
+    operand: &Box<Step>,
+    per: &Box<Step>,
+    parts: &Vec<Step>,
+    values: &Vec<Step>,
+    depth: usize,
+) -> bool
+    ensures { result ≡ false → ((reaches depth (step_view operand.now.value)
+        || reaches depth (step_view per.now.value))
+        || (any_reaches depth (steps_view parts.now.items)
+        || any_reaches (suc depth) (steps_view values.now.items))) ≡ false }
+{
+    either_reaches(operand, per, depth)
         || list_reaches(parts, depth)
         || inner_list_reaches(values, depth)
 }

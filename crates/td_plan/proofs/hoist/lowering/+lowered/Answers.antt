@@ -1,16 +1,35 @@
-use Rattle.std.proofs.Common.{rules, ◌≡◌, ◌∙◌, [], ◌∷◌, ◌++◌, ap, arith, sym}
+use Rattle.std.proofs.Common.{rules, ◌≡◌, ◌⊎◌, inl, inr, ◌∙◌, ℕ, List, [], ◌∷◌, ◌++◌, ap, arith, sym}
 use Rattle.std.proofs.lemmas.List.{append_assoc}
 use Rattle.std.specs.Rc.{rc_str_bytes}
 use Rattle.td_plan.proofs.LoweredSteps.{lowered_push}
 use Rattle.td_plan.proofs.MadeSteps.{both_hold, of_both, of_part, of_three}
 use Rattle.td_plan.proofs.StepRows.{aggregate_is, extend_is, headed_relation_is, relation_is, restriction_is, select_is, summarize_by_is, summarize_per_is, tuple_is}
 use Rattle.td_plan.proofs.StepWeights.{weight, weight_within, weights}
+use Rattle.td_plan.specs.declared.step.Step.{Step}
+use Rattle.td_plan.specs.declared.step.Step.TheVariants as steps
 use Rattle.td_plan.specs.Hoisting.{lowered}
 use Rattle.td_plan.specs.Plans.{aggregate, binary, choice, compare, component, extend, extract, headed_relation, look_up, measure, postfix, prefix, relation, restriction, select, summarize_by, summarize_per, tuple}
 use Rattle.td_plan.specs.StepViews.{step_view, steps_view}
+use Rattle.td_tree.specs.declared.cause.Cause.{Cause}
 use Rattle.td_tree.specs.TreeViews.{attributes_view, postfix_view}
 use Rattle.td_types.specs.Views.{pairs_view}
+use Rattle.td_value.specs.Values.{Val}
 use Rattle.td_plan.proofs.hoist.lowering.+lowered.Goals as goal
+
+-- ---- arms without parts
+
+without_parts : (k : ℕ) (s : Step) → ((v : Val) × s ≡ steps.Constant v) ⊎ (((cause : Cause) × s ≡ steps.Refused cause) ⊎ ((name : List ℕ) × s ≡ steps.Relvar name))
+    → step_view s ≡ lowered k (step_view s)
+without_parts k s is = elim is [
+  | inl x ↦ ap step_view x.1 ∙ sym (ap (λ s. lowered k (step_view s)) x.1)
+  | inr y ↦ elim y [
+    | inl x ↦ ap step_view x.1 ∙ sym (ap (λ s. lowered k (step_view s)) x.1)
+    | inr x ↦ ap step_view x.1 ∙ sym (ap (λ s. lowered k (step_view s)) x.1)
+  ]
+]
+
+pub lowered-returns-in-Constant : goal.lowered-returns-in-Constant
+lowered-returns-in-Constant t c = without_parts c.args.depth c.args.step c.in-Constant.is
 
 -- ---- arms of one part
 
@@ -52,7 +71,7 @@ lowered-returns-in-Compare t c =
 
 pub lowered-returns-in-If : goal.lowered-returns-in-If
 lowered-returns-in-If t c =
-    of_both _ _ _ _ _ _ (λ p. p ≡ lowered c.args.depth (step_view c.args.step)) c.choice.ensures c.boxed-in-If.ensures (both_hold c.operands-in-If.result _ _ c.operands-in-If.ensures.left c.operands-in-If.ensures.right)
+    of_both c.choice.result c.boxed-in-If.result c.operands-in-If.result (λ x y. choice (step_view x.value) (step_view y.0.value) (step_view y.1.value)) _ _ (λ p. p ≡ lowered c.args.depth (step_view c.args.step)) c.choice.ensures c.boxed-in-If.ensures (both_hold c.operands-in-If.result _ _ c.operands-in-If.ensures.left c.operands-in-If.ensures.right)
     (λ x y e f. (λ i. choice (e i) (f.0 i) (f.1 i)) ∙ sym (ap (lowered c.args.depth) (ap step_view c.in-If.is)))
 
 -- ---- arms of lists
@@ -77,27 +96,31 @@ lowered-returns-in-Tuple t c =
 
 pub lowered-returns-in-Restriction : goal.lowered-returns-in-Restriction
 lowered-returns-in-Restriction t c =
-    of_both _ _ _ _ _ _ (λ p. p ≡ lowered c.args.depth (step_view c.args.step)) c.restriction.ensures (both_hold c.over.result _ _ c.over.ensures.operand c.over.ensures.parts) c.inner.ensures
+    of_both c.restriction.result c.over.result c.inner.result (λ x y. restriction (step_view x.0.value) (steps_view x.1.items) (step_view y.value)) _ _ (λ p. p ≡ lowered c.args.depth (step_view c.args.step)) c.restriction.ensures (both_hold c.over.result _ _ c.over.ensures.operand c.over.ensures.parts) c.inner.ensures
     (λ x y e f. (λ i. restriction (e.0 i) (e.1 i) (f i)) ∙ sym (ap (lowered c.args.depth) (ap step_view c.in-Restriction.is ∙ restriction_is c.in-Restriction.operand c.in-Restriction.parts c.in-Restriction.condition c.in-Restriction.origin)))
 
 pub lowered-returns-in-Extend : goal.lowered-returns-in-Extend
 lowered-returns-in-Extend t c =
-    of_both _ _ _ _ _ _ (λ p. p ≡ lowered c.args.depth (step_view c.args.step)) c.extend.ensures (both_hold c.over-in-Extend.result _ _ c.over-in-Extend.ensures.operand c.over-in-Extend.ensures.parts) c.columns-values.ensures
+    of_both c.extend.result c.over-in-Extend.result c.columns-values.result (λ x y. extend (step_view x.0.value) (pairs_view c.in-Extend.attributes.items) (steps_view x.1.items) (steps_view y.items)) _ _ (λ p. p ≡ lowered c.args.depth (step_view c.args.step)) c.extend.ensures (both_hold c.over-in-Extend.result _ _ c.over-in-Extend.ensures.operand c.over-in-Extend.ensures.parts) c.columns-values.ensures
     (λ x y e f. (λ i. extend (e.0 i) (pairs_view c.in-Extend.attributes.items) (e.1 i) (f i)) ∙ sym (ap (lowered c.args.depth) (ap step_view c.in-Extend.is ∙ extend_is c.in-Extend.operand c.in-Extend.attributes c.in-Extend.parts c.in-Extend.values)))
 
 pub lowered-returns-in-Aggregate : goal.lowered-returns-in-Aggregate
 lowered-returns-in-Aggregate t c =
-    of_both _ _ _ _ _ _ (λ p. p ≡ lowered c.args.depth (step_view c.args.step)) c.aggregate.ensures (both_hold c.over-in-Aggregate.result _ _ c.over-in-Aggregate.ensures.operand c.over-in-Aggregate.ensures.parts) c.inner-in-Aggregate.ensures
+    of_both c.aggregate.result c.over-in-Aggregate.result c.inner-in-Aggregate.result (λ x y. aggregate c.in-Aggregate.op (step_view x.0.value) (steps_view x.1.items) (step_view y.value)) _ _ (λ p. p ≡ lowered c.args.depth (step_view c.args.step)) c.aggregate.ensures (both_hold c.over-in-Aggregate.result _ _ c.over-in-Aggregate.ensures.operand c.over-in-Aggregate.ensures.parts) c.inner-in-Aggregate.ensures
     (λ x y e f. (λ i. aggregate c.in-Aggregate.op (e.0 i) (e.1 i) (f i)) ∙ sym (ap (lowered c.args.depth) (ap step_view c.in-Aggregate.is ∙ aggregate_is c.in-Aggregate.op c.in-Aggregate.operand c.in-Aggregate.parts c.in-Aggregate.value)))
 
 pub lowered-returns-in-SummarizePer : goal.lowered-returns-in-SummarizePer
 lowered-returns-in-SummarizePer t c =
-    of_three _ _ _ _ _ _ _ _ (λ p. p ≡ lowered c.args.depth (step_view c.args.step)) c.summarize_per.ensures (both_hold c.over-operand.result _ _ c.over-operand.ensures.operand c.over-operand.ensures.parts) c.boxed-per.ensures c.columns.ensures
+    of_three c.summarize_per.result c.over-operand.result c.boxed-per.result c.columns.result
+    (λ x y z. summarize_per (step_view x.0.value) (step_view y.value) (pairs_view c.in-SummarizePer.attributes.items) c.in-SummarizePer.aggregates.items (steps_view x.1.items) (steps_view z.items)) _ _ _ (λ p. p ≡ lowered c.args.depth (step_view c.args.step))
+    c.summarize_per.ensures (both_hold c.over-operand.result _ _ c.over-operand.ensures.operand c.over-operand.ensures.parts) c.boxed-per.ensures c.columns.ensures
     (λ x y z e f g. (λ i. summarize_per (e.0 i) (f i) (pairs_view c.in-SummarizePer.attributes.items) c.in-SummarizePer.aggregates.items (e.1 i) (g i)) ∙ sym (ap (lowered c.args.depth) (ap step_view c.in-SummarizePer.is ∙ summarize_per_is c.in-SummarizePer.operand c.in-SummarizePer.per c.in-SummarizePer.attributes c.in-SummarizePer.aggregates c.in-SummarizePer.parts c.in-SummarizePer.values)))
 
 pub lowered-returns-in-SummarizeBy : goal.lowered-returns-in-SummarizeBy
 lowered-returns-in-SummarizeBy t c =
-    of_both _ _ _ _ _ _ (λ p. p ≡ lowered c.args.depth (step_view c.args.step)) c.summarize_by.ensures (both_hold c.over-operand-in-SummarizeBy.result _ _ c.over-operand-in-SummarizeBy.ensures.operand c.over-operand-in-SummarizeBy.ensures.parts) c.columns-in-SummarizeBy.ensures
+    of_both c.summarize_by.result c.over-operand-in-SummarizeBy.result c.columns-in-SummarizeBy.result
+    (λ x y. summarize_by (step_view x.0.value) (attributes_view c.in-SummarizeBy.by) (pairs_view c.in-SummarizeBy.attributes.items) c.in-SummarizeBy.aggregates.items (steps_view x.1.items) (steps_view y.items)) _ _ (λ p. p ≡ lowered c.args.depth (step_view c.args.step))
+    c.summarize_by.ensures (both_hold c.over-operand-in-SummarizeBy.result _ _ c.over-operand-in-SummarizeBy.ensures.operand c.over-operand-in-SummarizeBy.ensures.parts) c.columns-in-SummarizeBy.ensures
     (λ x y e f. (λ i. summarize_by (e.0 i) (attributes_view c.in-SummarizeBy.by) (pairs_view c.in-SummarizeBy.attributes.items) c.in-SummarizeBy.aggregates.items (e.1 i) (f i)) ∙ sym (ap (lowered c.args.depth) (ap step_view c.in-SummarizeBy.is ∙ summarize_by_is c.in-SummarizeBy.operand c.in-SummarizeBy.by c.in-SummarizeBy.attributes c.in-SummarizeBy.aggregates c.in-SummarizeBy.parts c.in-SummarizeBy.values)))
 
 -- ---- measures
