@@ -14,5 +14,5 @@ returns g c =
     IfOk-weaker c.has_a_truth_value.result _ _
     (λ b given yes d static.
     let known = subst (λ s. IsTrue (cannot_fail s e) × (type_of s e ≡ Valued types.boolean)) c.in_ok-inner.ensures.scope (given yes) in
-    record { operand = static; condition = known.1; numbers = c.has_numbers.ensures (c.if-not-has_numbers.false); unfailing = known.0; })
+    record { operand = static; condition = known.1; numbers = c.has_numbers.ensures (c.if-not-has_numbers.false); unfailing = known.0 })
     c.has_a_truth_value.ensures

@@ -12,4 +12,4 @@ returns-in-Some g c =
     let l = tree_view c.args.left.now in
     let static =
     subst (λ o. IfSome o (λ h. type_of c.args.planner.now.scope l ≡ Valued (types.relation (pack h)))) c.in-Some.is c.in_ok-first.ensures.some in
-    record { join = c.asked_operand_before.ensures.join l static; times = c.asked_operand_before.ensures.times l static; }
+    record { join = c.asked_operand_before.ensures.join l static; times = c.asked_operand_before.ensures.times l static }
