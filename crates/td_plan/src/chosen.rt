@@ -24,17 +24,17 @@ use td_tree::fault::Fault;
 use td_tree::name::Name;
 use td_value::value::Value;
 
-/// The plan of the tuples of the relvar for which the condition is TRUE.
+/// The plan, in a box, of the tuples of the relvar for which the condition is TRUE.
 fn plan_in_relvar<B: Body>(
     alloc: Global,
     env: &Env<'_, B>,
     relvar: &Name,
     condition: &Expr,
-) -> Result<Plan, AllocError>
-    ensures { IfOk result (λ p. IsPlanOfTyped (scope_in env.now) (plan_view p)
+) -> Result<Box<Plan>, AllocError>
+    ensures { IfOk result (λ p. IsPlanOfTyped (scope_in env.now) (plan_view p.value)
         (restriction (name relvar.now) (tree_view condition.now))) }
 {
-    let named = Expr::Name(relvar.try_clone()?);
+    let named = Box::new(alloc, Expr::Name(relvar.try_clone()?))?;
     plan_where(alloc, env, &named, condition)
 }
 

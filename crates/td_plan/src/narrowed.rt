@@ -181,8 +181,8 @@ fn put_attribute(
     ensures names { IfOk result (λ _. names.new.items ≡ names.old.items ++ (name ∷ [])) }
     ensures values { IfOk result (λ _. values.new.items ≡ values.old.items ++ (value ∷ [])) }
 {
-    names.push(name)?;
-    Ok(values.push(value)?)
+    values.push(value)?;
+    Ok(names.push(name)?)
 }
 
 /// The step of the tuple of these attributes.

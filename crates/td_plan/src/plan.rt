@@ -95,18 +95,27 @@ pub fn plan_in_tuples<B: Body>(
     plan_by(step_of(&planner, expr))
 }
 
-/// The plan of the tuples of an expression's relation for which a condition is TRUE.
+/// The plan whose step this is, in a box.
+fn boxed_plan(alloc: Global, value: Result<Step, AllocError>) -> Result<Box<Plan>, AllocError>
+    ensures { (scope : Scope) (d : Tree) → IsPlanned scope value d
+        → IfOk result (λ p. IsPlanOfTyped scope (plan_view p.value) d) }
+{
+    let plan = Plan { value: value? };
+    Ok(Box::new(alloc, plan)?)
+}
+
+/// The plan, in a box, of the tuples of an expression's relation for which a condition is TRUE.
 pub(crate) fn plan_where<B: Body>(
     alloc: Global,
     env: &Env<'_, B>,
     expr: &Expr,
     condition: &Expr,
-) -> Result<Plan, AllocError>
-    ensures { IfOk result (λ p. IsPlanOfTyped (scope_in env.now) (plan_view p)
+) -> Result<Box<Plan>, AllocError>
+    ensures { IfOk result (λ p. IsPlanOfTyped (scope_in env.now) (plan_view p.value)
         (trees.restriction (tree_view expr.now) (tree_view condition.now))) }
 {
     let planner = planner_in(alloc, env)?;
-    plan_by(where_of(&planner, expr, condition, Origin::Written))
+    boxed_plan(alloc, where_of(&planner, expr, condition, Origin::Written))
 }
 
 /// The plans whose steps these are.
