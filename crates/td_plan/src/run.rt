@@ -1,11 +1,10 @@
 //! The value of a plan.
-ghost use Rattle.std.specs.Prelude.{◌≡◌, IfOk, List, length, map};
+ghost use Rattle.std.specs.Prelude.{◌≡◌, IfOk, List, length};
 ghost use Rattle.td_algebra.specs.Columns.{columns_view};
 ghost use Rattle.td_eval.specs.NewColumns.{named_columns};
-ghost use Rattle.td_eval.specs.OperatorValues.{truth_value};
 ghost use Rattle.td_plan.specs.Hands.{AreSurroundings, IsHand, world_around};
 ghost use Rattle.td_plan.specs.Plans.{Frame, plan_value};
-ghost use Rattle.td_plan.specs.Runs.{IsEntered, IsInside, value_in, values_in};
+ghost use Rattle.td_plan.specs.Runs.{IsEntered, IsInside, truths_in, values_in};
 ghost use Rattle.td_plan.specs.StepViews.{step_view};
 ghost use Rattle.td_tree.specs.Outcomes.{Answers, Outcome, gathered};
 ghost use Rattle.td_types.specs.Views.{pairs_view};
@@ -102,8 +101,8 @@ pub(crate) fn truths<B: Body>(
 ) -> Result<Vec<bool>, Fault>
     requires { AreSurroundings around.now }
     ensures { (fs : List Frame) (os : List (Outcome Val)) → IsEntered inside.now fs os
-        → Answers (λ m. m.items) result (gathered (map (λ t. truth_value
-        (value_in (world_around around.now) fs os condition.now t)) rows.now)) }
+        → Answers (λ m. m.items) result
+        (truths_in (world_around around.now) fs os condition.now rows.now) }
 {
     Evaluator::new(around.alloc, around, run).truths(inside, rows, condition)
 }
