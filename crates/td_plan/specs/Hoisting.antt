@@ -1,7 +1,7 @@
 -- What does not depend on a tuple in hand, and is valued once for it and its like.
 use Rattle.std.specs.Prelude.{◌≡◌, ℕ, zero, suc, nat_eq, Bool, false, ◌||◌, List, ◌∷◌, ◌++◌, length}
 use Rattle.td_eval.specs.Worlds.{World}
-use Rattle.td_plan.specs.Plans.{Frame, PlanTree, PlanTrees, none, more, constant, refused, attribute, fixed, relvar, look_up, prefix, extract, restriction, binary, compare, postfix, select, component, measure, relation, headed_relation, tuple, extend, aggregate, summarize_per, summarize_by, choice, frame_of, plan_value, plan_values, plan_columns}
+use Rattle.td_plan.specs.Plans.{Frame, PlanTree, PlanTrees, none, more, constant, refused, attribute, fixed, relvar, look_up, prefix, extract, restriction, binary, compare, postfix, select, component, measure, relation, headed_relation, tuple, extend, aggregate, summarize_per, summarize_by, choice, frame_of, plan_value, plan_values}
 use Rattle.td_tree.specs.Outcomes.{Outcome}
 use Rattle.td_value.specs.Values.{Val, Tuple}
 

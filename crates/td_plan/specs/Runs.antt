@@ -1,5 +1,6 @@
 -- What steps give inside a loop over tuples, as the code has it (this project's own).
-use Rattle.std.specs.Prelude.{List, [], ◌∷◌, Bool, true, false}
+use Rattle.std.specs.Prelude.{List, [], ◌∷◌, Bool, true, false, map}
+use Rattle.td_eval.specs.OperatorValues.{truth_value}
 use Rattle.td_eval.specs.Worlds.{World}
 use Rattle.td_plan.specs.declared.hand.Entered.{Entered}
 use Rattle.td_plan.specs.declared.plan.PartPlans.{PartPlans}
@@ -7,7 +8,7 @@ use Rattle.td_plan.specs.declared.step.Step.{Step}
 use Rattle.td_plan.specs.Hands.{AreAnswers, AreHeld}
 use Rattle.td_plan.specs.Plans.{Frame, frame_of, plan_columns, plan_value, plan_values}
 use Rattle.td_plan.specs.StepViews.{step_view, steps_view}
-use Rattle.td_tree.specs.Outcomes.{Outcome}
+use Rattle.td_tree.specs.Outcomes.{Outcome, gathered}
 use Rattle.td_value.specs.Values.{Tuple, Val}
 
 -- the value of a step
@@ -25,6 +26,10 @@ value_in w fs os step t = plan_value w (frame_of os t ∷ fs) (step_view step)
 -- the same of each of the steps
 abbrev pub values_in : World → List Frame → List (Outcome Val) → List Step → List (Tuple → Outcome Val)
 values_in w fs os steps = plan_columns w fs os (steps_view steps)
+
+-- the truth values of a condition in tuples
+abbrev pub truths_in : World → List Frame → List (Outcome Val) → Step → List Tuple → Outcome (List Bool)
+truths_in w fs os condition ts = gathered (map (λ t. truth_value (value_in w fs os condition t)) ts)
 
 -- the frames of the tuples outside of a loop, and the outcomes of what is valued once for it
 abbrev pub IsEntered : Entered → List Frame → List (Outcome Val) → Type 0

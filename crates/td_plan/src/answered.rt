@@ -5,16 +5,16 @@ ghost use Rattle.std.specs.Rc.{rc_str_bytes};
 ghost use Rattle.td_eval.specs.OperatorValues.{component_value, extracted_value, headed_value};
 ghost use Rattle.td_eval.specs.OperatorValues.{listed_value, measure_value, postfix_value};
 ghost use Rattle.td_eval.specs.OperatorValues.{prefix_value, tuple_from};
-ghost use Rattle.td_eval.specs.Sights.{world_in};
 ghost use Rattle.td_eval.specs.Worlds.{selected};
+ghost use Rattle.td_plan.specs.Hands.{world_around};
 ghost use Rattle.td_tree.specs.Outcomes.{Answers, Outcome, with_value};
 ghost use Rattle.td_tree.specs.TreeViews.{postfix_view};
 ghost use Rattle.td_value.specs.Values.{Val};
 
+use crate::surroundings::Surroundings;
 use std::alloc::{AllocError, Global};
 use std::rc::RcStr;
 use td_body::body::Body;
-use td_eval::env::Env;
 use td_eval::known::selected_in;
 use td_eval::operators::elements::{headed, listed_value, tuple_from};
 use td_eval::operators::operand::{component_value, extracted_value, measure_value, prefix_value};
@@ -27,7 +27,7 @@ use td_types::heading::Heading;
 use td_value::value::Value;
 
 /// The value of an operator before its operand.
-#[inline(never)]
+#[inline]
 pub(crate) fn prefixed(
     alloc: Global,
     op: Prefix,
@@ -40,7 +40,7 @@ pub(crate) fn prefixed(
 }
 
 /// The value of an attribute of a tuple.
-#[inline(never)]
+#[inline]
 pub(crate) fn extracted(name: &Name, operand: Result<Value, Fault>) -> Result<Value, Fault>
     ensures { (o : Outcome Val) → Answers (λ v. v) operand o
         → Answers (λ v. v) result (with_value o (extracted_value name.now)) }
@@ -49,7 +49,7 @@ pub(crate) fn extracted(name: &Name, operand: Result<Value, Fault>) -> Result<Va
 }
 
 /// The value of an operator behind its operand.
-#[inline(never)]
+#[inline]
 pub(crate) fn postfixed(
     alloc: Global,
     op: &Postfix,
@@ -64,19 +64,19 @@ pub(crate) fn postfixed(
 /// The value of a component, by what follows `THE_`.
 #[inline(never)]
 pub(crate) fn component<B: Body>(
-    env: &Env<'_, B>,
+    around: &Surroundings<'_, '_, '_, B>,
     name: &RcStr,
     operand: Result<Value, Fault>,
 ) -> Result<Value, Fault>
     ensures { (o : Outcome Val) → Answers (λ v. v) operand o
         → Answers (λ v. v) result (with_value o
-        (component_value (world_in env.now).scope.types (rc_str_bytes name.now))) }
+        (component_value (world_around around.now).scope.types (rc_str_bytes name.now))) }
 {
-    component_value(env.catalog.types(), name, &operand?)
+    component_value(around.env.catalog.types(), name, &operand?)
 }
 
 /// What is asked of a relation alone.
-#[inline(never)]
+#[inline]
 pub(crate) fn measured(op: Measure, operand: Result<Value, Fault>) -> Result<Value, Fault>
     ensures { (o : Outcome Val) → Answers (λ v. v) operand o
         → Answers (λ v. v) result (with_value o (measure_value op)) }
@@ -85,7 +85,7 @@ pub(crate) fn measured(op: Measure, operand: Result<Value, Fault>) -> Result<Val
 }
 
 /// The relation of the elements, which are tuples of one heading, the first one's.
-#[inline(never)]
+#[inline]
 pub(crate) fn listed(alloc: Global, elements: Result<Vec<Value>, Fault>) -> Result<Value, Fault>
     ensures { (o : Outcome (List Val)) → Answers (λ vs. vs.items) elements o
         → Answers (λ v. v) result (with_value o listed_value) }
@@ -94,7 +94,7 @@ pub(crate) fn listed(alloc: Global, elements: Result<Vec<Value>, Fault>) -> Resu
 }
 
 /// The relation of the heading with the elements.
-#[inline(never)]
+#[inline]
 pub(crate) fn headed_by(
     alloc: Global,
     heading: &Heading,
@@ -124,7 +124,7 @@ fn named(alloc: Global, names: &[Name], values: &[Value]) -> Result<Vec<(Name, V
 }
 
 /// The tuple that gives each name the value that stands beside it.
-#[inline(never)]
+#[inline]
 pub(crate) fn tuple_of(
     alloc: Global,
     names: &[Name],
@@ -140,13 +140,12 @@ pub(crate) fn tuple_of(
 /// What the selector of the name gives of components.
 #[inline(never)]
 pub(crate) fn selected_by<B: Body>(
-    alloc: Global,
-    env: &Env<'_, B>,
+    around: &Surroundings<'_, '_, '_, B>,
     name: &Name,
     values: Result<Vec<Value>, Fault>,
 ) -> Result<Value, Fault>
     ensures { (o : Outcome (List Val)) → Answers (λ vs. vs.items) values o
-        → Answers (λ v. v) result (with_value o (selected (world_in env.now) name.now)) }
+        → Answers (λ v. v) result (with_value o (selected (world_around around.now) name.now)) }
 {
-    selected_in(alloc, env, name, values?)
+    selected_in(around.alloc, around.env, name, values?)
 }

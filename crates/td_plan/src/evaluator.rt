@@ -1,6 +1,6 @@
 //! What values steps. Each function takes what values the parts of a step as a parameter, so that
 //! it is proved by itself.
-ghost use Rattle.std.specs.Prelude.{IfOk, List, suc};
+ghost use Rattle.std.specs.Prelude.{◌≡◌, IfOk, List, suc};
 ghost use Rattle.td_eval.specs.Worlds.{World};
 ghost use Rattle.td_plan.specs.Hands.{AreAnswers, IsHand};
 ghost use Rattle.td_plan.specs.Plans.{Frame, plan_value};
@@ -31,6 +31,21 @@ pub(crate) struct Evaluator<'e, A, F> {
     pub(crate) around: &'e A,
     /// Values a part.
     pub(crate) inner: F,
+}
+
+impl<'e, A, F> Evaluator<'e, A, F> {
+    /// What values steps there, by what values their parts.
+    #[inline]
+    pub(crate) fn new(alloc: Global, around: &'e A, inner: F) -> Self
+        ensures around { result.around.now ≡ around.now }
+        ensures inner { result.inner ≡ inner }
+    {
+        Evaluator {
+            alloc,
+            around,
+            inner,
+        }
+    }
 }
 
 impl<A: InWorld, F> Evaluator<'_, A, F>

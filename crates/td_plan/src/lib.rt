@@ -26,6 +26,8 @@ mod quick;
 mod quick_rows;
 mod restrictions;
 mod run;
+mod run_loops;
+mod run_operators;
 pub mod run_plan;
 mod run_rows;
 pub mod settings;

@@ -6,7 +6,7 @@ ghost use Rattle.td_eval.specs.NewColumns.{named_columns};
 ghost use Rattle.td_eval.specs.OperatorValues.{column_values, truth_value};
 ghost use Rattle.td_eval.specs.Totals.{total_of, total_view};
 ghost use Rattle.td_plan.specs.Plans.{Frame};
-ghost use Rattle.td_plan.specs.Runs.{IsEntered, value_in, values_in};
+ghost use Rattle.td_plan.specs.Runs.{IsEntered, truths_in, value_in, values_in};
 ghost use Rattle.td_plan.specs.StepHeights.{step_height, steps_height};
 ghost use Rattle.td_plan.specs.ValuesBelow.{ValuesBelow};
 ghost use Rattle.td_tree.specs.Outcomes.{Answers, Outcome, Valued, gathered, with_value};
@@ -81,8 +81,8 @@ where
     ) -> Result<Vec<bool>, Fault>
         requires { ValuesBelow A.world self.now (suc (step_height condition.now)) F.pre F.post }
         ensures { (fs : List Frame) (os : List (Outcome Val)) → IsEntered inside.now fs os
-            → Answers (λ m. m.items) result (gathered (map (λ t. truth_value
-            (value_in (A.world self.now.around.now) fs os condition.now t)) rows.now)) }
+            → Answers (λ m. m.items) result
+            (truths_in (A.world self.now.around.now) fs os condition.now rows.now) }
     {
         let mut causes = Gathering::new();
         let mut truths = Vec::with_capacity(self.alloc, rows.len())?;
@@ -105,8 +105,8 @@ where
     ) -> Result<Vec<bool>, Fault>
         requires { ValuesBelow A.world self.now (suc (step_height condition.now)) F.pre F.post }
         ensures { (fs : List Frame) (os : List (Outcome Val)) → IsEntered inside.now fs os
-            → Answers (λ m. m.items) result (gathered (map (λ t. truth_value
-            (value_in (A.world self.now.around.now) fs os condition.now t)) rows.now)) }
+            → Answers (λ m. m.items) result
+            (truths_in (A.world self.now.around.now) fs os condition.now rows.now) }
     {
         match quick_truths(self.alloc, inside, rows, condition)? {
             Some(truths) => Ok(truths),

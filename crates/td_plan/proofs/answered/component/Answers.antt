@@ -10,4 +10,4 @@ returns g c = λ o a.
     let given : o ≡ Valued c.in_ok-operand.field-0 = subst (λ r. Answers (λ v. v) r o) c.in_ok-operand.was a in
     rw given
     (subst (λ ds. Answers (λ v. v) c.component_value-2.result (component_value ds (rc_str_bytes c.args.name.now) c.in_ok-operand.field-0))
-    (c.types.ensures ∙ sym (types_known c.args.env.now)) c.component_value-2.ensures)
+    (c.types.ensures ∙ sym (types_known c.args.around.now.env.now)) c.component_value-2.ensures)

@@ -6,11 +6,6 @@ use Rattle.td_plan.specs.Plans as plans
 use Rattle.td_plan.proofs.ValuedBelow.{lower}
 use Rattle.td_plan.proofs.evaluator.Evaluator.measure.Goals as goal
 
-pub run-operand-requires : goal.run-operand-requires
-run-operand-requires g c =
-    let h = ap height (ap step_view c.in-Restriction.is ∙ step_rows.restriction_is c.in-Restriction.operand c.in-Restriction.parts c.in-Restriction.condition c.in-Restriction.field-3 ∙ (λ i. plans.restriction (step_view (sym c.deref.ensures i)) (steps_view c.in-Restriction.parts.items) (step_view c.in-Restriction.condition.value))) in
-    lower (omega (arith, h)) c.requires
-
 pub restriction_measured-requires : goal.restriction_measured-requires
 restriction_measured-requires g c =
     let h = ap height (ap step_view c.in-Restriction.is ∙ step_rows.restriction_is c.in-Restriction.operand c.in-Restriction.parts c.in-Restriction.condition c.in-Restriction.field-3 ∙ (λ i. plans.restriction (step_view (sym c.deref.ensures i)) (steps_view (sym c.deref-in-Restriction.ensures.value i)) (step_view (sym c.deref-in-Restriction-2.ensures i)))) in
@@ -19,7 +14,7 @@ restriction_measured-requires g c =
 pub returns-in-Restriction : goal.returns-in-Restriction
 returns-in-Restriction g c = λ fs h.
     let is = ap step_view c.in-Restriction.is ∙ step_rows.restriction_is c.in-Restriction.operand c.in-Restriction.parts c.in-Restriction.condition c.in-Restriction.field-3 ∙ (λ i. plans.restriction (step_view (sym c.deref.ensures i)) (steps_view (sym c.deref-in-Restriction.ensures.value i)) (step_view (sym c.deref-in-Restriction-2.ensures i))) in
-    rw is (c.restriction_measured.ensures fs _ h (c.run-operand.ensures fs h))
+    rw is (c.restriction_measured.ensures fs h)
 
 pub run-requires : goal.run-requires
 run-requires g c = c.requires

@@ -1,12 +1,22 @@
-use Rattle.std.proofs.Common.{◌≡◌, IfOk, List, length, map, refl, subst}
+use Rattle.std.proofs.Common.{arith, ◌≡◌, IfOk, List, length, map, refl, subst}
 use Rattle.td_eval.proofs.WalkedExtension.{related}
 use Rattle.td_eval.proofs.WalkedLists.{of_as_many}
-use Rattle.td_eval.specs.OperatorValues.{restricted_value, truth_value}
+use Rattle.td_eval.specs.OperatorValues.{on_relation, restricted_value, truth_value}
 use Rattle.td_plan.proofs.RunLaws.{entered_told, frames_inside, inside_rows, no_rows, outcomes_inside}
-use Rattle.td_plan.specs.Runs.{step_values, value_in}
-use Rattle.td_tree.specs.Outcomes.{Answers, Valued, gathered}
+use Rattle.td_plan.specs.Runs.{step_value, step_values, value_in}
+use Rattle.td_tree.specs.Outcomes.{Answers, Valued, gathered, with_value}
 use Rattle.td_value.specs.Values.{Tuple}
+use Rattle.td_plan.proofs.ValuedBelow.{lower}
 use Rattle.td_plan.proofs.evaluator.Evaluator.restriction.Goals as goal
+
+pub run-requires : goal.run-requires
+run-requires g c = lower (omega arith) c.requires
+
+pub entered-requires : goal.entered-requires
+entered-requires g c = lower (omega arith) c.requires
+
+pub truths-requires : goal.truths-requires
+truths-requires g c = lower (omega arith) c.requires
 
 pub restricted-requires : goal.restricted-requires
 restricted-requires g c =
@@ -16,13 +26,15 @@ restricted-requires g c =
     (c.truths.ensures (frames_inside e) (outcomes_inside e) (entered_told e)))
 
 pub returns : goal.returns
-returns g c = λ fs o h a.
+returns g c = λ fs h.
     let w = g.A.InWorld.world c.args.self.now.around.now in
     let v = c.in_ok-operand.operand in
-    let given : o ≡ Valued v = subst (λ r. Answers (λ v. v) r o) c.in_ok-operand.was a in
+    let given : step_value w fs c.args.operand.now ≡ Valued v = c.in_ok-operand.ensures fs h in
     let p = value_in w fs (step_values w fs c.args.parts.now) c.args.condition.now in
     let truths : Answers (λ m. m.items) c.truths.result (gathered (map (λ t. truth_value (p t)) c.rows-rows.result.now)) =
     inside_rows w fs c.args.parts.now c.in_ok-inside.inside (λ gs os (ts : List Tuple). gathered (map (λ t. truth_value (value_in w gs os c.args.condition.now t)) ts)) (λ gs hs os ps. refl)
     (Answers (λ m. m.items) c.truths.result) c.is_empty.result c.rows-rows.result.now (no_rows c.rows-rows.result.now (length c.rows-rows.result.now) c.is_empty.result refl c.is_empty.ensures) (c.in_ok-inside.ensures fs h) c.truths.ensures in
+    let value : Answers (λ v. v) c.restricted.result (with_value (step_value w fs c.args.operand.now) (λ v. on_relation v (restricted_value p))) =
     rw (given, related v c.in_ok-rel.rel.now (restricted_value p) c.in_ok-rel.ensures)
-    (c.restricted.ensures p (subst (λ ts. Answers (λ m. m.items) c.truths.result (gathered (map (λ t. truth_value (p t)) ts))) c.rows-rows.ensures.rows truths))
+    (c.restricted.ensures p (subst (λ ts. Answers (λ m. m.items) c.truths.result (gathered (map (λ t. truth_value (p t)) ts))) c.rows-rows.ensures.rows truths)) in
+    value
