@@ -2,7 +2,7 @@
 use Rattle.std.proofs.Common.{◌≡◌, ◌∙◌, ◌||◌, ℕ, Bool, true, false, List, [], ◌∷◌, ◌++◌, Option, Some, None, ap, not, refl, subst, sym, true≢false}
 use Rattle.std.specs.Cmp.Lexicographic.{same_text}
 use Rattle.std.specs.List.{list_any}
-use Rattle.std.specs.Prelude.{IfSome, is_some, option_map, option_to_list}
+use Rattle.std.specs.Prelude.{is_some, option_map}
 use Rattle.td_algebra.proofs.Entries.{type_at-heading_of}
 use Rattle.td_check.proofs.NameSets.{names_are_a_set}
 use Rattle.td_check.specs.CannotFail.{cannot_fail}
@@ -19,7 +19,7 @@ use Rattle.td_plan.proofs.EqualNames.{values_depend_on_names}
 use Rattle.td_plan.proofs.EqualValues.{and_of_both, equality_of_one}
 use Rattle.td_plan.specs.declared.fixed.FixedValue.{FixedValue}
 use Rattle.td_plan.specs.Fixing.{AreOneWhere, IsNamedApart, MayFix}
-use Rattle.td_plan.specs.Narrowing.{AreFixed, IsFixedTo}
+use Rattle.td_plan.specs.Narrowing.{AreFixed, Implies, IsFixedTo}
 use Rattle.td_plan.specs.Plans.{PlanTree}
 use Rattle.td_plan.specs.PlansOf.{IsPlanOfTyped, outermost}
 use Rattle.td_plan.specs.StepViews.{step_view}
@@ -66,59 +66,25 @@ both_one (Valued v) (Refused ds) e = absurd (cc)
 both_one (Refused cs) (Valued u) e = absurd (cc)
 both_one (Refused cs) (Refused ds) e = absurd (cc)
 
-pub equality_fixes : (a b : Tree) → AreOneWhere (trees.compare a comparisons.Equal b) a b
-equality_fixes a b w s e = both_one (value_of w s a) (value_of w s b) e
+-- a conjunct is TRUE where the condition is
+pub first_implied : (e a b : Tree) → Implies e (trees.binary a operators.And b) → Implies e a
+first_implied e a b implies w s is = (and_of_both (value_of w s a) (value_of w s b) (implies w s is)).0
 
-pub equality_fixes_back : (a b : Tree) → AreOneWhere (trees.compare a comparisons.Equal b) b a
-equality_fixes_back a b w s e = sym (both_one (value_of w s a) (value_of w s b) e)
+pub second_implied : (e a b : Tree) → Implies e (trees.binary a operators.And b) → Implies e b
+second_implied e a b implies w s is = (and_of_both (value_of w s a) (value_of w s b) (implies w s is)).1
 
--- what a condition fixes, one that is TRUE only where that is TRUE fixes
-abbrev Implies : Tree → Tree → Type 0
-Implies e c = (w : World) (s : List Tuple) → value_of w s e ≡ of_truth true → value_of w s c ≡ of_truth true
+-- so are the operands of an equality one, in either order
+pub operands_are_one : (e a b : Tree) → Implies e (trees.compare a comparisons.Equal b) → AreOneWhere e a b
+operands_are_one e a b implies w s is = both_one (value_of w s a) (value_of w s b) (implies w s is)
 
-fixed_as_well : (scope : Scope) (h : Heading) (e c : Tree) → Implies e c → (fixed : List FixedValue) → AreFixed scope h c fixed → AreFixed scope h e fixed
-fixed_as_well scope h e c implies [] all = tt
-fixed_as_well scope h e c implies (f ∷ fixed) all = (one, fixed_as_well scope h e c implies fixed all.1)
-  where
-    one : IsFixedTo scope h e f.name (step_view f.value)
-    one w s fs k hand frames =
-        let is = all.0 w s fs k hand frames in
-        (is.0, is.1, record { typed = is.2.typed; same = λ u typed headed true_there. is.2.same u typed headed (implies w (u ∷ s) true_there) })
+pub operands_are_one_back : (e a b : Tree) → Implies e (trees.compare a comparisons.Equal b) → AreOneWhere e b a
+operands_are_one_back e a b implies w s is = sym (operands_are_one e a b implies w s is)
 
-pub parentheses_fix : (scope : Scope) (h : Heading) (c : Tree) (xs : List FixedValue) → AreFixed scope h c xs → AreFixed scope h (trees.parentheses c) xs
-parentheses_fix scope h c xs all = fixed_as_well scope h (trees.parentheses c) c (λ w s d. d) xs all
-
-joined_fixed : (scope : Scope) (h : Heading) (e : Tree) (xs ys : List FixedValue) → AreFixed scope h e xs → AreFixed scope h e ys → AreFixed scope h e (xs ++ ys)
-joined_fixed scope h e [] ys all more = more
-joined_fixed scope h e (x ∷ xs) ys all more = (all.0, joined_fixed scope h e xs ys all.1 more)
-
--- both conjuncts
-pub and_fixes : (scope : Scope) (h : Heading) (a b : Tree) (xs ys zs : List FixedValue) → zs ≡ xs ++ ys → AreFixed scope h a xs → AreFixed scope h b ys
-    → AreFixed scope h (trees.binary a operators.And b) zs
-and_fixes scope h a b xs ys zs is first second =
-    let e = trees.binary a operators.And b in
-    subst (AreFixed scope h e) (sym is)
-    (joined_fixed scope h e xs ys
-    (fixed_as_well scope h e a (λ w s d. (and_of_both (value_of w s a) (value_of w s b) d).0) xs first)
-    (fixed_as_well scope h e b (λ w s d. (and_of_both (value_of w s a) (value_of w s b) d).1) ys second))
-
--- either operand, where it is there
-abbrev pub OneIsFixed : Scope → Heading → Tree → Option FixedValue → Type 0
-OneIsFixed scope h e found = AreFixed scope h e (option_to_list found)
-
-pub both_fixed : (scope : Scope) (h : Heading) (e : Tree) (x y : Option FixedValue) (zs : List FixedValue) → zs ≡ option_to_list x ++ option_to_list y
-    → OneIsFixed scope h e x → OneIsFixed scope h e y → AreFixed scope h e zs
-both_fixed scope h e x y zs is first second =
-    subst (AreFixed scope h e) (sym is) (joined_fixed scope h e (option_to_list x) (option_to_list y) first second)
-
--- what is found fixes an attribute wherever the operand has the value of the expression
-abbrev pub FixesWhere : Scope → Heading → Tree → Tree → FixedValue → Type 0
-FixesWhere scope h a x f = IsWritten x → (e : Tree) → AreOneWhere e a x → IsFixedTo scope h e f.name (step_view f.value)
-
-pub one_is_fixed : (scope : Scope) (h : Heading) (e a x : Tree) (found : Option FixedValue) → IfSome found (FixesWhere scope h a x) → IsWritten x
-    → AreOneWhere e a x → OneIsFixed scope h e found
-one_is_fixed scope h e a x None is written same = tt
-one_is_fixed scope h e a x (Some f) is written same = (is written e same, tt)
+-- one more
+pub one_more_fixed : (scope : Scope) (h : Heading) (e : Tree) (xs : List FixedValue) (x : FixedValue) → AreFixed scope h e xs
+    → IsFixedTo scope h e x.name (step_view x.value) → AreFixed scope h e (xs ++ (x ∷ []))
+one_more_fixed scope h e [] x all one = (one, tt)
+one_more_fixed scope h e (y ∷ xs) x all one = (all.0, one_more_fixed scope h e xs x all.1 one)
 
 -- ---- one attribute
 

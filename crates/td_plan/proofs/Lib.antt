@@ -11,6 +11,7 @@ pub mod LookUpLaws
 pub mod LookUpParts
 pub mod LookUpValues
 pub mod LoweredSteps
+pub mod MadeSteps
 pub mod NarrowedOperands
 pub mod Places
 pub mod Planned

@@ -1,10 +1,12 @@
 -- What is answered of the step of an expression, by what is answered of the steps of its parts.
-use Rattle.std.proofs.Common.{◌≡◌, ◌∙◌, ◌∷◌, [], ap, refl, subst, sym, None, Option, Some}
-use Rattle.std.specs.Prelude.{IfNone, IfSome, List}
+use Rattle.std.proofs.Common.{◌≡◌, ◌∙◌, ◌∷◌, [], ap, refl, sym}
+use Rattle.std.specs.declared.alloc.AllocError.{AllocError}
+use Rattle.std.specs.Prelude.{List, Result, Ok, Err}
 use Rattle.td_check.specs.OperatorTypes.{over_relation}
 use Rattle.td_check.specs.Scopes.{Scope, entered_with}
 use Rattle.td_check.specs.StaticTypes.{named_types, type_of}
-use Rattle.td_plan.specs.PlannedParts.{HasStaticHeading}
+use Rattle.td_plan.specs.declared.step.Step.{Step}
+use Rattle.td_plan.specs.PlannedParts.{IsPlanned}
 use Rattle.td_tree.specs.Outcomes.{Outcome, Valued, with_value}
 use Rattle.td_tree.specs.Trees.{NamedTrees, Tree}
 use Rattle.td_types.proofs.Meanings.{pack_unpack}
@@ -32,12 +34,6 @@ relation_typed o f t e =
     let headed = relation_asked found.0 (f found.0) t found.2 in
     (headed.0, found.1 ∙ ap Valued headed.1)
 
--- the heading that was found is the static one
-pub has_static : (scope : Scope) (o : Option Heading) (d : Tree) → IfSome o (λ h. type_of scope d ≡ Valued (relation (pack h)))
-    → IfNone o ((h : Heading) → type_of scope d ≡ Valued (relation (pack h)) → ⊥) → HasStaticHeading scope o d
-has_static scope (Some h) d some none = some
-has_static scope None d some none = none
-
 -- parts have types where EXTEND of an operand of the heading has one
 pub parts_typed : (scope : Scope) (d : Tree) (h : Heading) (parts : NamedTrees) (f : Heading → List Attribute → Outcome Type') (t : Type')
     → type_of scope d ≡ Valued (relation (pack h))
@@ -48,3 +44,8 @@ parts_typed scope d h parts f t static e =
     let there : asked h ≡ Valued t = ap asked (sym (unpacked h)) ∙ ap (λ o. with_value o (λ s. over_relation s asked)) (sym static) ∙ e in
     let found = value_of_with (named_types (entered_with h scope) parts) (f h) t there in
     (found.0, found.1)
+
+-- of an expression that has no type each step is a plan
+pub untyped_planned : (scope : Scope) (made : Result Step AllocError) (e : Tree) → ((t : Type') → type_of scope e ≡ Valued t → ⊥) → IsPlanned scope made e
+untyped_planned scope (Ok p) e none = λ written t is. absurd (none t is)
+untyped_planned scope (Err failed) e none = tt

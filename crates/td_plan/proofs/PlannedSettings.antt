@@ -4,7 +4,7 @@ use Rattle.std.specs.Global.{Vec}
 use Rattle.td_algebra.proofs.Relations.{member_headed}
 use Rattle.td_algebra.specs.Columns.{columns_view}
 use Rattle.td_algebra.specs.declared.extension.Column.{Column}
-use Rattle.td_check.specs.Scopes.{Scope}
+use Rattle.td_check.specs.Scopes.{Scope, entered_with}
 use Rattle.td_eval.proofs.AlikeRows.{AreAlikeIn, map_alike}
 use Rattle.td_eval.proofs.KeepsGathered.{member_from_all}
 use Rattle.td_eval.specs.NewColumns.{named_columns, with_values}
@@ -15,31 +15,33 @@ use Rattle.td_eval.specs.Worlds.{World}
 use Rattle.td_plan.proofs.PlannedTuples.{all_pulled, parts_alike}
 use Rattle.td_plan.proofs.RunLaws.{as_many_columns}
 use Rattle.td_plan.specs.declared.plan.PartPlans.{PartPlans}
-use Rattle.td_plan.specs.declared.step.Step.{Step}
-use Rattle.td_plan.specs.Hoisting.{HoistsAll}
-use Rattle.td_plan.specs.PlannedParts.{ArePartPlans, ArePlansOfTyped}
-use Rattle.td_plan.specs.Plans.{Frame, PlanTrees, none, plan_columns, plan_values}
+use Rattle.td_plan.specs.PlannedParts.{ArePartPlans, ArePlansOfTyped, in_named}
+use Rattle.td_plan.specs.Plans.{Frame, PlanTrees, more, none, plan_columns, plan_values}
 use Rattle.td_plan.specs.PlansOf.{AreFramesOf, PartsMeetRulesIn}
 use Rattle.td_plan.specs.Runs.{values_planned}
 use Rattle.td_plan.specs.StepViews.{steps_view}
 use Rattle.td_tree.specs.declared.fault.Fault.{Fault}
 use Rattle.td_tree.specs.Outcomes.{Answers, Outcome, gathered, with_value}
 use Rattle.td_tree.specs.Trees.{NamedTrees, Tree}
-use Rattle.td_types.specs.Types.{Attribute}
+use Rattle.td_types.specs.Types.{Attribute, Heading}
 use Rattle.td_value.specs.Values.{Relation, Tuple, Val}
 
 -- ---- how many there are
 
-pub as_many_planned : (scope : Scope) (ps : List Step) (es : List Tree) → ArePlansOfTyped scope (steps_view ps) es → length ps ≡ length es
-as_many_planned scope [] [] all = refl
-as_many_planned scope [] (e ∷ es) all = absurd all
-as_many_planned scope (p ∷ ps) [] all = absurd all
-as_many_planned scope (p ∷ ps) (e ∷ es) all = ap suc (as_many_planned scope ps es all.1)
+as_many_planned : (w : World) (os : List (Outcome Val)) (scope : Scope) (ps : PlanTrees) (es : List Tree) → ArePlansOfTyped scope ps es
+    → length (plan_columns w [] os ps) ≡ length es
+as_many_planned w os scope none [] all = refl
+as_many_planned w os scope none (e ∷ es) all = absurd all
+as_many_planned w os scope (more p ps) [] all = absurd all
+as_many_planned w os scope (more p ps) (e ∷ es) all = ap suc (as_many_planned w os scope ps es all.1)
 
-pub as_many_pulled : (w : World) (once : PlanTrees) (ps qs : List Step) → HoistsAll none once (steps_view ps) (steps_view qs) → length qs ≡ length ps
-as_many_pulled w once ps qs pulls =
+pub as_many_values : (w : World) (scope : Scope) (h : Heading) (plans : PartPlans) (parts : NamedTrees) → ArePartPlans scope h plans parts
+    → length plans.values.items ≡ length (in_named parts)
+as_many_values w scope h plans parts p =
+    let once = steps_view plans.once.items in
     let os = plan_values w [] once in
-    sym (as_many_columns w [] os qs) ∙ ap length (all_pulled none once (steps_view ps) (steps_view qs) pulls w []) ∙ as_many_columns w [] os ps
+    sym (as_many_columns w [] os plans.values.items) ∙ ap length (all_pulled none once p.0 (steps_view plans.values.items) p.2 w [])
+    ∙ as_many_planned w os (entered_with h scope) p.0 (in_named parts) p.1
 
 -- ---- columns
 

@@ -1,9 +1,10 @@
 -- A restriction of what an operator gives may be computed of the operands that the condition asks.
 use Rattle.std.proofs.Common.{◌≡◌, ◌∙◌, ◌∷◌, ◌&&◌, ℕ, Bool, true, false, List, ap, not, refl, subst, sym, true≢false}
 use Rattle.std.specs.List.{list_any}
+use Rattle.std.specs.Prelude.{if◌then◌else◌, is_some}
 use Rattle.td_check.proofs.NameSets.{names_are_a_set}
 use Rattle.td_check.specs.Mentions.{name_set}
-use Rattle.td_check.specs.OperatorTypes.{operator_type, over_relation, restriction_type, same_type}
+use Rattle.td_check.specs.OperatorTypes.{joined_apart, operator_type, over_relation, over_relations, relation_if, restriction_type, same_heading, same_type}
 use Rattle.td_check.specs.Scopes.{Scope, entered_with}
 use Rattle.td_check.specs.StaticTypes.{type_of}
 use Rattle.td_check.specs.WrittenNames.{names_in}
@@ -28,16 +29,16 @@ use Rattle.td_plan.specs.Pushing.{IsAnsweredIn, MayStandFor, restricted_tree}
 use Rattle.td_tree.specs.declared.cause.Cause.TheVariants as causes
 use Rattle.td_tree.specs.declared.operator.Operator.{Operator}
 use Rattle.td_tree.specs.declared.operator.Operator.TheVariants as operators
-use Rattle.td_tree.specs.Outcomes.{Outcome, Valued, Refused, with_both, with_value}
+use Rattle.td_tree.specs.Outcomes.{Outcome, Valued, Refused, value_if, with_both, with_value}
 use Rattle.td_tree.specs.Trees.{Tree, binary, restriction}
-use Rattle.td_types.proofs.HeadingLaws.{has_attribute-names}
+use Rattle.td_types.proofs.HeadingLaws.{has_attribute-names, type_at-union}
 use Rattle.td_types.proofs.NameTests.{name_tests_tell}
-use Rattle.td_types.proofs.OutcomeLaws.{value_of_test, value_of_with, valued_is}
-use Rattle.td_types.specs.Headings.{has_attribute}
+use Rattle.td_types.proofs.OutcomeLaws.{value_of_test, value_of_with, valued_is, values_of_both}
+use Rattle.td_types.specs.Headings.{agree, has_attribute, has_name, have_no_common, heading_union, united_heading}
 use Rattle.td_types.specs.TypeCode.{unpack_pack}
 use Rattle.td_types.specs.TypeLists.{DeclaredType}
 use Rattle.td_types.specs.Types as types
-use Rattle.td_types.specs.Types.{Heading, Type', attribute_names, pack, unpack}
+use Rattle.td_types.specs.Types.{Heading, Type', attribute_names, pack, type_at, unpack}
 use Rattle.td_value.specs.Values.{IsRelation, Relation, Tuple, Val}
 
 -- a plan of what stands for an expression is one of the expression
@@ -122,6 +123,50 @@ names_kept h g e ns set none n c there =
 
 -- ---- types
 
+-- the heading of what is made of two relations, where it is that of their attributes together
+joined_type : (o p : Outcome Type') (h g : Heading) (test : Bool) (f : Heading → Heading → Outcome Heading) → f h g ≡ value_if test (heading_union h g) causes.Heading
+    → (t : Type') → o ≡ Valued (types.relation (pack h)) → p ≡ Valued (types.relation (pack g))
+    → with_both o p (λ s u. over_relations s u (λ x y. relation_if (f x y))) ≡ Valued t
+    → with_both o p (λ s u. over_relations s u (λ x y. relation_if (f x y))) ≡ Valued (types.relation (pack (heading_union h g)))
+joined_type o p h g test f made t a b is =
+    let asked = λ (o p : Outcome Type'). with_both o p (λ s u. over_relations s u (λ x y. relation_if (f x y))) in
+    let whole : asked o p ≡ relation_if (f h g) = (λ i. asked (a i) (b i)) ∙ (λ i. relation_if (f (unpack_pack h i) (unpack_pack g i))) in
+    let found = value_of_with (f h g) (λ x. Valued (types.relation (pack x))) t (sym whole ∙ is) in
+    let tested = value_of_test test (heading_union h g) found.0 causes.Heading (sym made ∙ found.1) in
+    whole ∙ ap relation_if found.1 ∙ ap (λ x. Valued (types.relation (pack x))) (sym tested.1)
+
+-- a relation is asked beside a relation
+other_related : (o p : Outcome Type') (h : Heading) (f : Type' → Heading → Heading → Outcome Type') (t : Type') → o ≡ Valued (types.relation (pack h))
+    → with_both o p (λ s u. over_relations s u (f s)) ≡ Valued t → (g : Heading) × (p ≡ Valued (types.relation (pack g)))
+other_related o p h f t a is =
+    let first = types.relation (pack h) in
+    let found = values_of_both (Valued first) p (λ s u. over_relations s u (f s)) t (subst (λ q. with_both q p (λ s u. over_relations s u (f s)) ≡ Valued t) a is) in
+    let asked = subst (λ s. over_relations s found.1 (f s) ≡ Valued t) (sym (valued_is first found.0 found.2)) found.4 in
+    relation_typed p (λ u. f first (unpack (pack h))) t (ap (λ q. with_value q (λ u. over_relation u (f first (unpack (pack h))))) found.3 ∙ asked)
+
+-- what is answered where two relations have one heading
+abbrev agreed : Type' → Heading → Heading → Outcome Type'
+agreed s g h = value_if (same_heading g h) s causes.Heading
+
+-- what is named of the one heading's attributes, and of the other's, is what is named of both
+module _ (h g : Heading) (e : Tree) where
+  in_other : (n : List ℕ) → has_attribute n (heading_union h g) ≡ true → has_attribute n h ≡ false → has_attribute n g ≡ true
+  in_other n there is = ap is_some (sym (type_at-union n h g ∙ (λ i. if is i then type_at n h else type_at n g))) ∙ there
+
+  first_only : NamesOnly (attribute_names h) g e → NamesOnly (attribute_names h) (heading_union h g) e
+  first_only only n c there = by_first (has_attribute n h) refl
+    where
+      by_first : (b : Bool) → has_attribute n h ≡ b → has_name n (attribute_names h) ≡ true
+      by_first true is = sym (has_attribute-names n h) ∙ is
+      by_first false is = only n c (in_other n there is)
+
+  second_only : NamesOnly (attribute_names g) h e → NamesOnly (attribute_names g) (heading_union h g) e
+  second_only only n c there = by_first (has_attribute n h) refl
+    where
+      by_first : (b : Bool) → has_attribute n h ≡ b → has_name n (attribute_names g) ≡ true
+      by_first true is = only n c is
+      by_first false is = sym (has_attribute-names n g) ∙ in_other n there is
+
 module _ (scope : Scope) where
   -- what WHERE gives has the operand's type
   operand_type : (d c : Tree) (t : Type') → type_of scope (restriction d c) ≡ Valued t → type_of scope d ≡ Valued t
@@ -205,54 +250,60 @@ module _ (scope : Scope) where
         (λ w s k hand wl wr we. where_of_union (λ t. value_of w (t ∷ s) e) (value_of w s l) (value_of w s r)
         (wholly scope w s k hand l e h a wl we) (wholly scope w s k hand r e g b wr we))
 
-    pub intersect_stands : (h g : Heading) → IsAnsweredIn scope l e h → type_of scope r ≡ Valued (types.relation (pack g))
+    pub intersect_stands : (h : Heading) → IsAnsweredIn scope l e h
         → MayStandFor scope (restricted_tree operands.First l operators.Intersect r e) (restriction (binary l operators.Intersect r) e)
-    intersect_stands h g a b =
+    intersect_stands h a = λ written t is.
+        let other = other_related (type_of scope l) (type_of scope r) h agreed t a.operand (operand_type (binary l operators.Intersect r) e t is) in
         first_stands l r e operators.Intersect h a
         (λ w s k hand wl wr we. where_of_intersect_left (λ t. value_of w (t ∷ s) e) (value_of w s l) (value_of w s r)
-        (totally scope w s k hand l e h a wl we) (relation_given scope w s k hand r g wr b))
+        (totally scope w s k hand l e h a wl we) (relation_given scope w s k hand r other.0 wr other.1)) written t is
 
-    pub minus_stands : (h g : Heading) → IsAnsweredIn scope l e h → type_of scope r ≡ Valued (types.relation (pack g))
+    pub minus_stands : (h : Heading) → IsAnsweredIn scope l e h
         → MayStandFor scope (restricted_tree operands.First l operators.Minus r e) (restriction (binary l operators.Minus r) e)
-    minus_stands h g a b =
+    minus_stands h a = λ written t is.
+        let other = other_related (type_of scope l) (type_of scope r) h agreed t a.operand (operand_type (binary l operators.Minus r) e t is) in
         first_stands l r e operators.Minus h a
         (λ w s k hand wl wr we. where_of_minus (λ t. value_of w (t ∷ s) e) (value_of w s l) (value_of w s r)
-        (totally scope w s k hand l e h a wl we) (relation_given scope w s k hand r g wr b))
+        (totally scope w s k hand l e h a wl we) (relation_given scope w s k hand r other.0 wr other.1)) written t is
 
-    -- the operator's relations have a heading, of which the condition names no attribute but those of the operand's heading
-    module _ (i h g : Heading) where
-      pub join_first_stands : IsAnsweredIn scope l e h → type_of scope r ≡ Valued (types.relation (pack g))
-          → type_of scope (binary l operators.Join r) ≡ Valued (types.relation (pack i)) → NamesOnly (attribute_names h) i e
+    -- the operands' relations have these headings; of what the condition names the one operand has all that the other one has
+    module _ (h g : Heading) where
+      pub join_first_stands : IsAnsweredIn scope l e h → type_of scope r ≡ Valued (types.relation (pack g)) → NamesOnly (attribute_names h) g e
           → MayStandFor scope (restricted_tree operands.First l operators.Join r e) (restriction (binary l operators.Join r) e)
-      join_first_stands a b whole only =
+      join_first_stands a b only = λ written t is.
+          let whole = joined_type (type_of scope l) (type_of scope r) h g (agree h g) united_heading refl t a.operand b (operand_type (binary l operators.Join r) e t is) in
           first_stands l r e operators.Join h a
           (λ w s k hand wl wr we. where_of_join_left (λ t. value_of w (t ∷ s) e) h (value_of w s l) (value_of w s r)
           (answered scope w s k hand l e h a wl we) (relation_given scope w s k hand r g wr b)
-          (asks_only scope w s k hand (binary l operators.Join r) e (attribute_names h) i ((wl.0, wr.0), (wl.1, wr.1)) whole only))
+          (asks_only scope w s k hand (binary l operators.Join r) e (attribute_names h) (heading_union h g) ((wl.0, wr.0), (wl.1, wr.1)) whole (first_only h g e only)))
+          written t is
 
-      pub join_second_stands : IsAnsweredIn scope r e h → type_of scope l ≡ Valued (types.relation (pack g))
-          → type_of scope (binary l operators.Join r) ≡ Valued (types.relation (pack i)) → NamesOnly (attribute_names h) i e
+      pub join_second_stands : type_of scope l ≡ Valued (types.relation (pack h)) → IsAnsweredIn scope r e g → NamesOnly (attribute_names g) h e
           → MayStandFor scope (restricted_tree operands.Second l operators.Join r e) (restriction (binary l operators.Join r) e)
-      join_second_stands a b whole only =
-          second_stands l r e operators.Join h a
-          (λ w s k hand wl wr we. where_of_join_right (λ t. value_of w (t ∷ s) e) h (value_of w s l) (value_of w s r)
-          (relation_given scope w s k hand l g wl b) (answered scope w s k hand r e h a wr we)
-          (asks_only scope w s k hand (binary l operators.Join r) e (attribute_names h) i ((wl.0, wr.0), (wl.1, wr.1)) whole only))
+      join_second_stands b a only = λ written t is.
+          let whole = joined_type (type_of scope l) (type_of scope r) h g (agree h g) united_heading refl t b a.operand (operand_type (binary l operators.Join r) e t is) in
+          second_stands l r e operators.Join g a
+          (λ w s k hand wl wr we. where_of_join_right (λ t. value_of w (t ∷ s) e) g (value_of w s l) (value_of w s r)
+          (relation_given scope w s k hand l h wl b) (answered scope w s k hand r e g a wr we)
+          (asks_only scope w s k hand (binary l operators.Join r) e (attribute_names g) (heading_union h g) ((wl.0, wr.0), (wl.1, wr.1)) whole (second_only h g e only)))
+          written t is
 
-      pub times_first_stands : IsAnsweredIn scope l e h → type_of scope r ≡ Valued (types.relation (pack g))
-          → type_of scope (binary l operators.Times r) ≡ Valued (types.relation (pack i)) → NamesOnly (attribute_names h) i e
+      pub times_first_stands : IsAnsweredIn scope l e h → type_of scope r ≡ Valued (types.relation (pack g)) → NamesOnly (attribute_names h) g e
           → MayStandFor scope (restricted_tree operands.First l operators.Times r e) (restriction (binary l operators.Times r) e)
-      times_first_stands a b whole only =
+      times_first_stands a b only = λ written t is.
+          let whole = joined_type (type_of scope l) (type_of scope r) h g (have_no_common h g) joined_apart refl t a.operand b (operand_type (binary l operators.Times r) e t is) in
           first_stands l r e operators.Times h a
           (λ w s k hand wl wr we. where_of_times_left (λ t. value_of w (t ∷ s) e) h (value_of w s l) (value_of w s r)
           (answered scope w s k hand l e h a wl we) (relation_given scope w s k hand r g wr b)
-          (asks_only scope w s k hand (binary l operators.Times r) e (attribute_names h) i ((wl.0, wr.0), (wl.1, wr.1)) whole only))
+          (asks_only scope w s k hand (binary l operators.Times r) e (attribute_names h) (heading_union h g) ((wl.0, wr.0), (wl.1, wr.1)) whole (first_only h g e only)))
+          written t is
 
-      pub times_second_stands : IsAnsweredIn scope r e h → type_of scope l ≡ Valued (types.relation (pack g))
-          → type_of scope (binary l operators.Times r) ≡ Valued (types.relation (pack i)) → NamesOnly (attribute_names h) i e
+      pub times_second_stands : type_of scope l ≡ Valued (types.relation (pack h)) → IsAnsweredIn scope r e g → NamesOnly (attribute_names g) h e
           → MayStandFor scope (restricted_tree operands.Second l operators.Times r e) (restriction (binary l operators.Times r) e)
-      times_second_stands a b whole only =
-          second_stands l r e operators.Times h a
-          (λ w s k hand wl wr we. where_of_times_right (λ t. value_of w (t ∷ s) e) h (value_of w s l) (value_of w s r)
-          (relation_given scope w s k hand l g wl b) (answered scope w s k hand r e h a wr we)
-          (asks_only scope w s k hand (binary l operators.Times r) e (attribute_names h) i ((wl.0, wr.0), (wl.1, wr.1)) whole only))
+      times_second_stands b a only = λ written t is.
+          let whole = joined_type (type_of scope l) (type_of scope r) h g (have_no_common h g) joined_apart refl t b a.operand (operand_type (binary l operators.Times r) e t is) in
+          second_stands l r e operators.Times g a
+          (λ w s k hand wl wr we. where_of_times_right (λ t. value_of w (t ∷ s) e) g (value_of w s l) (value_of w s r)
+          (relation_given scope w s k hand l h wl b) (answered scope w s k hand r e g a wr we)
+          (asks_only scope w s k hand (binary l operators.Times r) e (attribute_names g) (heading_union h g) ((wl.0, wr.0), (wl.1, wr.1)) whole (second_only h g e only)))
+          written t is

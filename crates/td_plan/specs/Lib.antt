@@ -6,6 +6,7 @@ pub mod Fixing
 pub mod Hands
 pub mod Hoisting
 pub mod LookUps
+pub mod MadeSteps
 pub mod Narrowing
 pub mod PlanViews
 pub mod PlannedParts

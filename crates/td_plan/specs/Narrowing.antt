@@ -1,5 +1,7 @@
 -- What stands for the operand of WHERE and gives fewer tuples: all for which the condition is TRUE are among them.
-use Rattle.std.specs.Prelude.{◌≡◌, ℕ, true, List, ◌∷◌, Some}
+use Rattle.std.specs.declared.alloc.AllocError.{AllocError}
+use Rattle.std.specs.Global.{Box}
+use Rattle.std.specs.Prelude.{◌≡◌, ℕ, true, IfOk, IfSome, List, ◌∷◌, Option, Result, Some}
 use Rattle.std.specs.List.{AllByRecursion}
 use Rattle.td_check.specs.Scopes.{Scope}
 use Rattle.td_check.specs.StaticTypes.{type_of}
@@ -9,6 +11,7 @@ use Rattle.td_eval.specs.UnfailingValues.{GivesValues}
 use Rattle.td_eval.specs.ValueTypes.{IsOfType, IsTypedTuple, IsWritten, KeepsType}
 use Rattle.td_eval.specs.Worlds.{World}
 use Rattle.td_plan.specs.declared.fixed.FixedValue.{FixedValue}
+use Rattle.td_plan.specs.declared.step.Step.{Step}
 use Rattle.td_plan.specs.EqualitiesOfValues.{where_value}
 use Rattle.td_plan.specs.Plans.{Frame, PlanTree, plan_value}
 use Rattle.td_plan.specs.PlansOf.{AreFramesOf, AreInHand, outermost}
@@ -38,6 +41,10 @@ IsFixedTo scope h e n p =
 abbrev pub AreFixed : Scope → Heading → Tree → List FixedValue → Type 0
 AreFixed scope h e fixed = AllByRecursion (λ (f : FixedValue). IsFixedTo scope h e f.name (step_view f.value)) fixed
 
+-- where the first condition is TRUE, the second is
+abbrev pub Implies : Tree → Tree → Type 0
+Implies e c = (w : World) (s : List Tuple) → value_of w s e ≡ of_truth true → value_of w s c ≡ of_truth true
+
 -- ---- operands
 
 -- the plan gives a relation of the heading, or causes, and WHERE by the condition gives the same of it as of the operand
@@ -51,3 +58,14 @@ Narrows scope p d e h =
     IsWritten (restriction d e) → (t : Type') → type_of scope (restriction d e) ≡ Valued t
     → (w : World) (s : List Tuple) (fs : List Frame) → GivesValues w (outermost scope) → AreInHand scope s → AreFramesOf s fs
     → NarrowsIn w scope s (plan_value w fs p) d e h
+
+-- ---- what planning gives, in a box, where there was memory for it; the operand is of the heading
+
+abbrev pub IsNarrowed : Scope → Result (Box Step) AllocError → Tree → Tree → Heading → Type 0
+IsNarrowed scope made d e h =
+    IfOk made (λ p. type_of scope d ≡ Valued (types.relation (pack h)) → Narrows scope (step_view p.value) d e h)
+
+-- if there is one
+abbrev pub MayNarrow : Scope → Result (Option (Box Step)) AllocError → Tree → Tree → Heading → Type 0
+MayNarrow scope found d e h =
+    IfOk found (λ o. IfSome o (λ p. type_of scope d ≡ Valued (types.relation (pack h)) → Narrows scope (step_view p.value) d e h))

@@ -1,21 +1,25 @@
 -- When plans stand for the parts of an expression (this project's own).
-use Rattle.std.specs.Prelude.{◌≡◌, ℕ, true, List, [], ◌∷◌, Option, Some, None, ⊤}
+use Rattle.std.specs.declared.alloc.AllocError.{AllocError}
+use Rattle.std.specs.Global.{Box, Vec}
+use Rattle.std.specs.Prelude.{◌≡◌, ℕ, true, IfOk, List, [], ◌∷◌, Option, Some, None, Result, ⊤}
 use Rattle.td_check.specs.Scopes.{Scope, entered_with}
-use Rattle.td_check.specs.StaticTypes.{type_of}
-use Rattle.td_plan.specs.declared.operand.Operand.{Operand}
+use Rattle.td_plan.specs.declared.in_tuples.NewColumns.{NewColumns}
+use Rattle.td_plan.specs.declared.in_tuples.PulledStep.{PulledStep}
 use Rattle.td_plan.specs.declared.plan.PartPlans.{PartPlans}
-use Rattle.td_plan.specs.Hoisting.{HoistsAll}
-use Rattle.td_plan.specs.Plans.{PlanTrees, none, more}
+use Rattle.td_plan.specs.declared.step.Step.{Step}
+use Rattle.td_plan.specs.Hoisting.{Hoists, HoistsAll}
+use Rattle.td_plan.specs.Plans.{PlanTree, PlanTrees, none, more}
 use Rattle.td_plan.specs.PlansOf.{IsPlanOfTyped}
 use Rattle.td_plan.specs.StepViews.{step_view, steps_view}
 use Rattle.td_tree.specs.declared.expression.NamedExpr.{NamedExpr}
 use Rattle.td_tree.specs.declared.expression.Summary.{Summary}
 use Rattle.td_tree.specs.declared.expression.Summary.TheVariants as summaries
-use Rattle.td_tree.specs.Outcomes.{Valued}
+use Rattle.td_tree.specs.Outcomes.{Outcome, Valued}
 use Rattle.td_tree.specs.TreeViews.{tree_view}
 use Rattle.td_tree.specs.Trees.{Tree, literal, truth}
 use Rattle.td_tree.specs.Trees as trees
-use Rattle.td_types.specs.Types.{Heading, pack, relation}
+use Rattle.td_types.specs.Types.{Attribute, Heading}
+use Rattle.td_types.specs.Views.{pairs_view}
 
 -- plans of these expressions, one for each
 abbrev pub ArePlansOfTyped : Scope → PlanTrees → List Tree → Type 0
@@ -23,6 +27,18 @@ ArePlansOfTyped scope none [] = ⊤
 ArePlansOfTyped scope none (e ∷ es) = ⊥
 ArePlansOfTyped scope (more p ps) [] = ⊥
 ArePlansOfTyped scope (more p ps) (e ∷ es) = IsPlanOfTyped scope p e × ArePlansOfTyped scope ps es
+
+-- ---- what planning gives, where there was memory for it
+
+abbrev pub IsPlanned : Scope → Result Step AllocError → Tree → Type 0
+IsPlanned scope made d = IfOk made (λ p. IsPlanOfTyped scope (step_view p) d)
+
+-- in a box
+abbrev pub IsBoxPlanned : Scope → Result (Box Step) AllocError → Tree → Type 0
+IsBoxPlanned scope made d = IfOk made (λ p. IsPlanOfTyped scope (step_view p.value) d)
+
+abbrev pub ArePlanned : Scope → Result (Vec Step) AllocError → List Tree → Type 0
+ArePlanned scope made ds = IfOk made (λ ps. ArePlansOfTyped scope (steps_view ps.items) ds)
 
 -- ---- the expressions in a list
 
@@ -48,17 +64,6 @@ abbrev pub item_tree : Summary → Tree
 item_tree (summaries.Count name) = literal (truth true)
 item_tree (summaries.Of op value name) = tree_view value
 
--- ---- an operand
-
--- the heading of the relations that are the expression's values; none where they are no relations, or it has no type
-abbrev pub HasStaticHeading : Scope → Option Heading → Tree → Type 0
-HasStaticHeading scope (Some h) d = type_of scope d ≡ Valued (relation (pack h))
-HasStaticHeading scope None d = (h : Heading) → type_of scope d ≡ Valued (relation (pack h)) → ⊥
-
--- a plan of the expression, with that heading
-abbrev pub IsOperandOf : Scope → Operand → Tree → Type 0
-IsOperandOf scope operand d = IsPlanOfTyped scope (step_view operand.step) d × HasStaticHeading scope operand.heading d
-
 -- the names that parts give
 abbrev pub names_in : trees.NamedTrees → List (List ℕ)
 names_in trees.none_named = []
@@ -71,3 +76,18 @@ abbrev pub ArePartPlans : Scope → Heading → PartPlans → trees.NamedTrees �
 ArePartPlans scope h plans parts =
     (ps : PlanTrees) × ArePlansOfTyped (entered_with h scope) ps (in_named parts)
     × HoistsAll none (steps_view plans.once.items) ps (steps_view plans.values.items)
+
+-- the types are those of the new attributes, and of what they are of these are plans, with what is valued once
+abbrev pub AreColumns : Scope → NewColumns → Outcome (List Attribute) → List Tree → Type 0
+AreColumns inner columns types es =
+    (types ≡ Valued (pairs_view columns.attributes.items))
+    × (ps : PlanTrees) × ArePlansOfTyped inner ps es × HoistsAll none (steps_view columns.once.items) ps (steps_view columns.values.items)
+
+-- where there are such types; else none
+abbrev pub AreFoundColumns : Scope → Option NewColumns → Outcome (List Attribute) → List Tree → Type 0
+AreFoundColumns inner (Some columns) types es = AreColumns inner columns types es
+AreFoundColumns inner None types es = (xs : List Attribute) → types ≡ Valued xs → ⊥
+
+-- a plan of what is asked of a further tuple in hand, with what is valued once for all such tuples
+abbrev pub IsPulled : Scope → PulledStep → Tree → Type 0
+IsPulled inner asked e = (p : PlanTree) × IsPlanOfTyped inner p e × Hoists none (steps_view asked.once.items) p (step_view asked.step.value)

@@ -1,5 +1,6 @@
 -- Restrictions that are computed of operands of what they restrict.
-use Rattle.std.specs.Prelude.{◌≡◌, List, IsTrue}
+use Rattle.std.specs.declared.alloc.AllocError.{AllocError}
+use Rattle.std.specs.Prelude.{◌≡◌, IfOk, IfSome, IsTrue, List, Option, Result}
 use Rattle.td_check.specs.CannotFail.{cannot_fail}
 use Rattle.td_check.specs.Scopes.{Scope, entered_with}
 use Rattle.td_check.specs.StaticTypes.{type_of}
@@ -41,3 +42,8 @@ abbrev pub restricted_tree : Restricted → Tree → Operator → Tree → Tree 
 restricted_tree operands.First left op right condition = binary (restriction left condition) op right
 restricted_tree operands.Second left op right condition = binary left op (restriction right condition)
 restricted_tree operands.Both left op right condition = binary (restriction left condition) op (restriction right condition)
+
+-- the operands that are found, where there was memory for it, may be restricted in place of what the operator gives
+abbrev pub MayBePushed : Scope → Result (Option Restricted) AllocError → Tree → Operator → Tree → Tree → Type 0
+MayBePushed scope found left op right condition =
+    IfOk found (λ o. IfSome o (λ k. MayStandFor scope (restricted_tree k left op right condition) (restriction (binary left op right) condition)))

@@ -1,11 +1,11 @@
 //! Attributes that a condition fixes to values.
 ghost use Rattle.std.specs.List.{list_any};
-ghost use Rattle.std.specs.Prelude.{◌++◌, ◌≡◌, IfOk, IfSome, IsTrue, option_to_list, suc};
+ghost use Rattle.std.specs.Prelude.{◌≡◌, IfOk, IfSome, IsTrue, suc};
 ghost use Rattle.td_check.specs.CannotFail as unfailing;
+ghost use Rattle.td_check.specs.Scopes.{Scope};
 ghost use Rattle.td_eval.specs.ValueTypes.{IsWritten};
 ghost use Rattle.td_plan.specs.Fixing.{AreOneWhere, HasTypeOf, IsNamedApart, MayFix};
-ghost use Rattle.td_plan.specs.Narrowing.{AreFixed, IsFixedTo};
-ghost use Rattle.td_plan.specs.Planners.{IsPlanner};
+ghost use Rattle.td_plan.specs.Narrowing.{AreFixed, Implies, IsFixedTo};
 ghost use Rattle.td_plan.specs.PlansBelow.{PlansBelow};
 ghost use Rattle.td_plan.specs.StepViews.{step_view};
 ghost use Rattle.td_plan.specs.TreeWeights.{expr_weight};
@@ -15,6 +15,7 @@ ghost use Rattle.td_tree.specs.TreeViews.{tree_view};
 ghost use Rattle.td_tree.specs.Trees as trees;
 ghost use Rattle.td_tree.specs.Trees.{Tree};
 ghost use Rattle.td_types.specs.Headings.{has_attribute};
+ghost use Rattle.td_types.specs.Types.{Heading};
 
 use crate::loops::goes_over_tuples;
 use crate::numbers::has_numbers;
@@ -25,6 +26,7 @@ use std::alloc::{AllocError, Global};
 use td_check::cannot_fail::cannot_fail;
 use td_check::expression::check_expr;
 use td_check::names::names_in;
+use td_check::scope::Scope;
 use td_tree::expression::Expr;
 use td_tree::fault::Fault;
 use td_tree::name::Name;
@@ -80,12 +82,12 @@ fn has_type_of<C: Known>(
     }
 }
 
-/// Whether an expression has a value there, whatever relations the base relvars hold.
-fn has_a_value<C: Known>(planner: &Planner<'_, C>, value: &Expr) -> Result<bool, AllocError>
+/// Whether an expression has a value, whatever relations the base relvars hold.
+pub(crate) fn has_a_value(scope: &Scope<'_>, expr: &Expr) -> Result<bool, AllocError>
     ensures { IfOk result
-        (λ b. IsTrue b → IsTrue (unfailing.cannot_fail planner.now.scope (tree_view value.now))) }
+        (λ b. IsTrue b → IsTrue (unfailing.cannot_fail scope.now (tree_view expr.now))) }
 {
-    match cannot_fail(&planner.scope, value) {
+    match cannot_fail(scope, expr) {
         Ok(answer) => Ok(answer),
         Err(Fault::Refused(_)) => Ok(false),
         Err(Fault::Memory) => Err(AllocError),
@@ -109,7 +111,7 @@ fn may_fix<C: Known>(
     if !is_named_apart(planner.alloc, heading, value)? {
         return Ok(false);
     }
-    Ok(has_type_of(planner, heading, name, value)? && has_a_value(planner, value)?)
+    Ok(has_type_of(planner, heading, name, value)? && has_a_value(&planner.scope, value)?)
 }
 
 /// The name that an operand of an equality is, where the other operand fixes the attribute of it.
@@ -146,60 +148,77 @@ fn is_equal(op: Comparison) -> bool
     matches!(op, Comparison::Equal)
 }
 
-/// Those of the two that are there.
-fn list_of_both(
-    alloc: Global,
-    first: Option<FixedValue>,
-    second: Option<FixedValue>,
-) -> Result<Vec<FixedValue>, AllocError>
-    ensures { IfOk result (λ fixed. fixed.items ≡ option_to_list first ++ option_to_list second) }
+/// Puts the attribute of the name, with the step of its value, after the others.
+fn put(
+    fixed: &mut Vec<FixedValue>,
+    name: Name,
+    value: Result<Step, AllocError>,
+) -> Result<(), AllocError>
+    ensures { IfOk result (λ _. (scope : Scope) (h : Heading) (e : Tree)
+        → IfOk value (λ p. IsFixedTo scope h e name (step_view p))
+        → AreFixed scope h e fixed.old.items → AreFixed scope h e fixed.new.items) }
 {
-    let mut fixed = Vec::new(alloc);
-    if let Some(value) = first {
-        fixed.push(value)?;
-    }
-    if let Some(value) = second {
-        fixed.push(value)?;
-    }
-    Ok(fixed)
-}
-
-/// The one list and then the other.
-fn joined_lists(
-    first: Vec<FixedValue>,
-    second: Vec<FixedValue>,
-) -> Result<Vec<FixedValue>, AllocError>
-    ensures { IfOk result (λ fixed. fixed.items ≡ first.items ++ second.items) }
-{
-    let mut fixed = first;
-    for value in second {
-        fixed.push(value)?;
-    }
-    Ok(fixed)
+    let value = value?;
+    Ok(fixed.push(FixedValue { name, value })?)
 }
 
 impl<C: Known, F> Planning<'_, C, F>
 where
     F: Fn(&Planner<'_, C>, &Expr) -> Result<Step, AllocError> + Copy,
 {
-    /// The attribute that an operand of an equality names, with the step of the other operand,
-    /// where that fixes it.
-    fn fixed_value(
+    /// Puts the attribute that an operand of an equality names after the others, with the step of
+    /// the other operand, where that fixes it.
+    fn put_fixed_value(
         &self,
         value: &Expr,
         operand: &Expr,
         heading: &Heading,
-    ) -> Result<Option<FixedValue>, AllocError>
+        fixed: &mut Vec<FixedValue>,
+    ) -> Result<(), AllocError>
         requires { PlansBelow C.database self.now (suc (expr_weight value.now)) F.pre F.post }
-        ensures { IfOk result (λ found. IfSome found (λ f. IsWritten (tree_view value.now)
-            → (e : Tree) → AreOneWhere e (tree_view operand.now) (tree_view value.now)
-            → IsFixedTo self.now.planner.now.scope heading.now e f.name (step_view f.value))) }
+        ensures { IfOk result (λ _. IsWritten (tree_view value.now) → (e : Tree)
+            → AreOneWhere e (tree_view operand.now) (tree_view value.now)
+            → AreFixed self.now.planner.now.scope heading.now e fixed.old.items
+            → AreFixed self.now.planner.now.scope heading.now e fixed.new.items) }
     {
-        let Some(name) = fixed_name(self.planner, heading, operand, value)? else {
-            return Ok(None);
-        };
-        let value = self.step_of(value)?;
-        Ok(Some(FixedValue { name, value }))
+        match fixed_name(self.planner, heading, operand, value)? {
+            Some(name) => put(fixed, name, self.step_of(value)),
+            None => Ok(()),
+        }
+    }
+
+    /// Puts the attributes of the heading that the condition's conjuncts fix after the others, each
+    /// with the step of its value.
+    fn put_fixed_values(
+        &self,
+        condition: &Expr,
+        heading: &Heading,
+        fixed: &mut Vec<FixedValue>,
+    ) -> Result<(), AllocError>
+        requires { PlansBelow C.database self.now (suc (expr_weight condition.now)) F.pre F.post }
+        ensures { IfOk result (λ _. IsWritten (tree_view condition.now) → (e : Tree)
+            → Implies e (tree_view condition.now)
+            → AreFixed self.now.planner.now.scope heading.now e fixed.old.items
+            → AreFixed self.now.planner.now.scope heading.now e fixed.new.items) }
+    {
+        match condition {
+            Expr::Parentheses(inner) => self.put_fixed_values(inner, heading, fixed),
+            Expr::Binary(left, op, right) => {
+                if !is_and(*op) {
+                    return Ok(());
+                }
+                self.put_fixed_values(left, heading, fixed)?;
+                self.put_fixed_values(right, heading, fixed)
+            }
+            Expr::Compare(left, op, right) => {
+                if !is_equal(*op) {
+                    return Ok(());
+                }
+                self.put_fixed_value(right, left, heading, fixed)?;
+                self.put_fixed_value(left, right, heading, fixed)
+            }
+            _ => Ok(()),
+        }
     }
 
     /// The attributes of the heading that the condition's conjuncts fix, each with the step of its
@@ -214,27 +233,8 @@ where
             → AreFixed self.now.planner.now.scope heading.now (tree_view condition.now)
             fixed.items) }
     {
-        match condition {
-            Expr::Parentheses(inner) => self.fixed_values(inner, heading),
-            Expr::Binary(left, op, right) => {
-                if !is_and(*op) {
-                    return Ok(Vec::new(self.planner.alloc));
-                }
-                let first = self.fixed_values(left, heading)?;
-                joined_lists(first, self.fixed_values(right, heading)?)
-            }
-            Expr::Compare(left, op, right) => {
-                if !is_equal(*op) {
-                    return Ok(Vec::new(self.planner.alloc));
-                }
-                let first = self.fixed_value(right, left, heading)?;
-                list_of_both(
-                    self.planner.alloc,
-                    first,
-                    self.fixed_value(left, right, heading)?,
-                )
-            }
-            _ => Ok(Vec::new(self.planner.alloc)),
-        }
+        let mut fixed = Vec::new(self.planner.alloc);
+        self.put_fixed_values(condition, heading, &mut fixed)?;
+        Ok(fixed)
     }
 }

@@ -4,6 +4,7 @@ ghost use Rattle.td_plan.specs.Hoisting.{Hoists, HoistsAll, reaches};
 ghost use Rattle.td_plan.specs.StepViews.{step_view, steps_view};
 
 mod lowering;
+mod made;
 mod reaching;
 
 use crate::hoist::lowering::lowered;
@@ -19,7 +20,7 @@ pub(crate) fn pulled(alloc: Global, step: Step, pool: &mut Vec<Step>) -> Result<
         (step_view step) (step_view q)) }
 {
     if is_worth_fixing(&step) {
-        fixed(alloc, step, pool)
+        fixed(step, pool)
     } else {
         with_parts_pulled(alloc, step, pool)
     }
@@ -68,12 +69,12 @@ fn count_of(pool: &Vec<Step>) -> usize
 }
 
 /// What stands for a step that is put into the pool.
-fn fixed(alloc: Global, step: Step, pool: &mut Vec<Step>) -> Result<Step, AllocError>
+fn fixed(step: Step, pool: &mut Vec<Step>) -> Result<Step, AllocError>
     requires { reaches 0 (step_view step) ≡ false }
     ensures { IfOk result (λ q. Hoists (steps_view pool.old.items) (steps_view pool.new.items)
         (step_view step) (step_view q)) }
 {
-    let part = lowered(alloc, step, 0)?;
+    let part = lowered(step, 0)?;
     let place = count_of(pool);
     pool.push(part)?;
     Ok(Step::Fixed { depth: 0, place })
@@ -87,72 +88,48 @@ fn with_parts_pulled(alloc: Global, step: Step, pool: &mut Vec<Step>) -> Result<
         (step_view step) (step_view q)) }
 {
     match step {
-        Step::Constant(value) => Ok(Step::Constant(value)),
-        Step::Refused(cause) => Ok(Step::Refused(cause)),
-        Step::Attribute { depth, place } => Ok(Step::Attribute { depth, place }),
-        Step::Fixed { depth, place } => Ok(Step::Fixed { depth, place }),
-        Step::Relvar(name) => Ok(Step::Relvar(name)),
-        Step::LookUp(name, key, part) => {
-            Ok(Step::LookUp(name, key, operand_pulled(alloc, part, pool)?))
-        }
-        Step::Prefix(op, operand) => Ok(Step::Prefix(op, operand_pulled(alloc, operand, pool)?)),
-        Step::Extract(attribute, operand) => {
-            Ok(Step::Extract(attribute, operand_pulled(alloc, operand, pool)?))
-        }
+        Step::LookUp(name, key, part) => made::look_up(name, key, boxed(alloc, part, pool)),
+        Step::Prefix(op, operand) => made::prefix(op, boxed(alloc, operand, pool)),
+        Step::Extract(name, operand) => made::extract(name, boxed(alloc, operand, pool)),
         Step::Restriction(operand, parts, condition, origin) => {
-            let (operand, parts) = loop_pulled(alloc, operand, parts, pool)?;
-            Ok(Step::Restriction(operand, parts, condition, origin))
+            made::restriction(over(alloc, operand, parts, pool), Ok(condition), origin)
         }
-        Step::Binary(left, op, right) => {
-            let (left, right) = operands_pulled(alloc, left, right, pool)?;
-            Ok(Step::Binary(left, op, right))
-        }
-        Step::Compare(left, op, right) => {
-            let (left, right) = operands_pulled(alloc, left, right, pool)?;
-            Ok(Step::Compare(left, op, right))
-        }
-        Step::Postfix(operand, op) => Ok(Step::Postfix(operand_pulled(alloc, operand, pool)?, op)),
-        Step::Select(ty, arguments) => Ok(Step::Select(ty, all_pulled(alloc, arguments, pool)?)),
-        Step::Component(rest, operand) => {
-            Ok(Step::Component(rest, operand_pulled(alloc, operand, pool)?))
-        }
-        Step::Measure(op, operand) => Ok(Step::Measure(op, operand_pulled(alloc, operand, pool)?)),
-        Step::Relation(elements) => Ok(Step::Relation(all_pulled(alloc, elements, pool)?)),
+        Step::Binary(left, op, right) => made::binary(operands(alloc, left, right, pool), op),
+        Step::Compare(left, op, right) => made::compare(operands(alloc, left, right, pool), op),
+        Step::Postfix(operand, op) => made::postfix(boxed(alloc, operand, pool), op),
+        Step::Select(ty, arguments) => made::select(ty, all_pulled(alloc, arguments, pool)),
+        Step::Component(rest, operand) => made::component(rest, boxed(alloc, operand, pool)),
+        Step::Measure(op, operand) => made::measure(op, boxed(alloc, operand, pool)),
+        Step::Relation(elements) => made::relation(all_pulled(alloc, elements, pool)),
         Step::HeadedRelation(heading, elements) => {
-            Ok(Step::HeadedRelation(heading, all_pulled(alloc, elements, pool)?))
+            made::headed(heading, all_pulled(alloc, elements, pool))
         }
-        Step::Tuple(names, parts) => Ok(Step::Tuple(names, all_pulled(alloc, parts, pool)?)),
+        Step::Tuple(names, parts) => made::tuple(names, all_pulled(alloc, parts, pool)),
         Step::Extend(operand, attributes, parts, values) => {
-            let (operand, parts) = loop_pulled(alloc, operand, parts, pool)?;
-            Ok(Step::Extend(operand, attributes, parts, values))
+            made::extend(over(alloc, operand, parts, pool), attributes, Ok(values))
         }
         Step::Aggregate(op, operand, parts, value) => {
-            let (operand, parts) = loop_pulled(alloc, operand, parts, pool)?;
-            Ok(Step::Aggregate(op, operand, parts, value))
+            made::aggregate(op, over(alloc, operand, parts, pool), Ok(value))
         }
         Step::SummarizePer(operand, per, attributes, aggregates, parts, values) => {
-            let per = operand_pulled(alloc, per, pool)?;
-            let (operand, parts) = loop_pulled(alloc, operand, parts, pool)?;
-            Ok(Step::SummarizePer(operand, per, attributes, aggregates, parts, values))
+            let per = boxed(alloc, per, pool);
+            let operand = over(alloc, operand, parts, pool);
+            made::summarize_per(operand, per, attributes, aggregates, Ok(values))
         }
         Step::SummarizeBy(operand, by, attributes, aggregates, parts, values) => {
-            let (operand, parts) = loop_pulled(alloc, operand, parts, pool)?;
-            Ok(Step::SummarizeBy(operand, by, attributes, aggregates, parts, values))
+            let operand = over(alloc, operand, parts, pool);
+            made::summarize_by(operand, by, attributes, aggregates, Ok(values))
         }
         Step::If(condition, consequent, alternative) => {
-            let condition = operand_pulled(alloc, condition, pool)?;
-            Ok(Step::If(condition, consequent, alternative))
+            made::choice(boxed(alloc, condition, pool), Ok((consequent, alternative)))
         }
+        leaf => Ok(leaf),
     }
 }
 
 /// An operand, pulled.
 #[cycle(pulled)]
-fn operand_pulled(
-    alloc: Global,
-    step: Box<Step>,
-    pool: &mut Vec<Step>,
-) -> Result<Box<Step>, AllocError>
+fn boxed(alloc: Global, step: Box<Step>, pool: &mut Vec<Step>) -> Result<Box<Step>, AllocError>
     ensures { IfOk result (λ q. Hoists (steps_view pool.old.items) (steps_view pool.new.items)
         (step_view step.value) (step_view q.value)) }
 {
@@ -162,7 +139,7 @@ fn operand_pulled(
 
 /// Two operands, pulled.
 #[cycle(pulled)]
-fn operands_pulled(
+fn operands(
     alloc: Global,
     left: Box<Step>,
     right: Box<Step>,
@@ -173,14 +150,13 @@ fn operands_pulled(
     ensures right { IfOk result (λ q. Hoists (steps_view pool.old.items)
         (steps_view pool.new.items) (step_view right.value) (step_view q.1.value)) }
 {
-    let left = operand_pulled(alloc, left, pool)?;
-    let right = operand_pulled(alloc, right, pool)?;
-    Ok((left, right))
+    let left = boxed(alloc, left, pool)?;
+    Ok((left, boxed(alloc, right, pool)?))
 }
 
 /// An operand, and what is valued once for its tuples, pulled.
 #[cycle(pulled)]
-fn loop_pulled(
+fn over(
     alloc: Global,
     operand: Box<Step>,
     parts: Vec<Step>,
@@ -191,7 +167,6 @@ fn loop_pulled(
     ensures parts { IfOk result (λ q. HoistsAll (steps_view pool.old.items)
         (steps_view pool.new.items) (steps_view parts.items) (steps_view q.1.items)) }
 {
-    let operand = operand_pulled(alloc, operand, pool)?;
-    let parts = all_pulled(alloc, parts, pool)?;
-    Ok((operand, parts))
+    let operand = boxed(alloc, operand, pool)?;
+    Ok((operand, all_pulled(alloc, parts, pool)?))
 }

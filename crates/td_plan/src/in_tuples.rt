@@ -1,82 +1,112 @@
 //! The steps of what is applied to the tuples of an operand. What does not name these tuples is
 //! valued once.
-ghost use Rattle.std.specs.Prelude.{◌≡◌, IfOk};
+ghost use Rattle.std.specs.Prelude.{◌≡◌, IfOk, List};
 ghost use Rattle.td_check.specs.Scopes.{Scope, entered_with};
 ghost use Rattle.td_check.specs.StaticTypes.{named_types, type_of};
-ghost use Rattle.td_plan.specs.Narrowing.{Narrows};
-ghost use Rattle.td_plan.specs.PlannedParts.{ArePlansOfTyped, in_named};
-ghost use Rattle.td_plan.specs.PlansOf.{IsPlanOfTyped};
-ghost use Rattle.td_plan.specs.StepViews.{step_view, steps_view};
-ghost use Rattle.td_tree.specs.Outcomes.{Valued};
+ghost use Rattle.td_plan.specs.PlannedParts.{AreColumns, ArePlanned, IsBoxPlanned, IsPlanned};
+ghost use Rattle.td_plan.specs.PlannedParts.{IsPulled, in_named};
+ghost use Rattle.td_tree.specs.Outcomes.{Outcome, Valued};
 ghost use Rattle.td_tree.specs.Trees as trees;
 ghost use Rattle.td_tree.specs.Trees.{Tree};
 ghost use Rattle.td_types.specs.Types as types;
-ghost use Rattle.td_types.specs.Types.{Heading, pack};
+ghost use Rattle.td_types.specs.Types.{Attribute, Heading, pack};
 ghost use Rattle.td_types.specs.Views.{pairs_view};
 
 use crate::hoist::{all_pulled, pulled};
-use crate::step::{Origin, Step};
+use crate::step::Step;
 use std::alloc::{AllocError, Global};
 use td_tree::name::Name;
 use td_tree::operator::Aggregate;
 use td_types::ty::Ty;
 
-/// The step of the tuples of an operand for which a condition is true.
-pub(crate) fn restriction_step(
+/// New attributes, and what is asked for them of the tuples of an operand.
+#[derive(Drop)]
+pub(crate) struct NewColumns {
+    /// Their names and types.
+    pub(crate) attributes: Vec<(Name, Ty)>,
+    /// What is valued once for all of these tuples.
+    pub(crate) once: Vec<Step>,
+    /// What each is of in a tuple.
+    pub(crate) values: Vec<Step>,
+}
+
+/// New attributes, which have these types, where these are the steps of what they are of.
+#[inline(never)]
+pub(crate) fn new_columns(
     alloc: Global,
-    operand: Step,
-    condition: Step,
-    origin: Origin,
-) -> Result<Step, AllocError>
-    ensures { IfOk result (λ p. (scope : Scope) (d e : Tree) (h : Heading)
-        → Narrows scope (step_view operand) d e h
-        → type_of scope d ≡ Valued (types.relation (pack h))
-        → IsPlanOfTyped (entered_with h scope) (step_view condition) e
-        → IsPlanOfTyped scope (step_view p) (trees.restriction d e)) }
+    attributes: Vec<(Name, Ty)>,
+    steps: Result<Vec<Step>, AllocError>,
+) -> Result<NewColumns, AllocError>
+    ensures { (inner : Scope) (types : Outcome (List Attribute)) (es : List Tree)
+        → types ≡ Valued (pairs_view attributes.items) → ArePlanned inner steps es
+        → IfOk result (λ columns. AreColumns inner columns types es) }
 {
-    let mut parts = Vec::new(alloc);
-    let condition = pulled(alloc, condition, &mut parts)?;
-    let operand = Box::new(alloc, operand)?;
-    let condition = Box::new(alloc, condition)?;
-    Ok(Step::Restriction(operand, parts, condition, origin))
+    let mut once = Vec::new(alloc);
+    let values = all_pulled(alloc, steps?, &mut once)?;
+    Ok(NewColumns {
+        attributes,
+        once,
+        values,
+    })
+}
+
+/// What is asked of the tuples of an operand.
+#[derive(Drop)]
+pub(crate) struct PulledStep {
+    /// What is valued once for all of these tuples.
+    pub(crate) once: Vec<Step>,
+    /// What is asked of each.
+    pub(crate) step: Box<Step>,
+}
+
+/// What is asked of the tuples of an operand by a step.
+#[inline(never)]
+pub(crate) fn pulled_step(
+    alloc: Global,
+    step: Result<Step, AllocError>,
+) -> Result<PulledStep, AllocError>
+    ensures { (inner : Scope) (e : Tree) → IsPlanned inner step e
+        → IfOk result (λ asked. IsPulled inner asked e) }
+{
+    let mut once = Vec::new(alloc);
+    let step = pulled(alloc, step?, &mut once)?;
+    let step = Box::new(alloc, step)?;
+    Ok(PulledStep { once, step })
 }
 
 /// The step of an aggregate of a value in the tuples of an operand.
+#[inline(never)]
 pub(crate) fn aggregation_step(
-    alloc: Global,
     op: Aggregate,
-    operand: Step,
-    value: Step,
+    operand: Result<Box<Step>, AllocError>,
+    value: Result<PulledStep, AllocError>,
 ) -> Result<Step, AllocError>
-    ensures { IfOk result (λ p. (scope : Scope) (d e : Tree) (h : Heading)
-        → IsPlanOfTyped scope (step_view operand) d
+    ensures { (scope : Scope) (d e : Tree) (h : Heading) → IsBoxPlanned scope operand d
         → type_of scope d ≡ Valued (types.relation (pack h))
-        → IsPlanOfTyped (entered_with h scope) (step_view value) e
-        → IsPlanOfTyped scope (step_view p) (trees.aggregate op d e)) }
+        → IfOk value (λ asked. IsPulled (entered_with h scope) asked e)
+        → IsPlanned scope result (trees.aggregate op d e) }
 {
-    let mut parts = Vec::new(alloc);
-    let value = pulled(alloc, value, &mut parts)?;
-    let operand = Box::new(alloc, operand)?;
-    let value = Box::new(alloc, value)?;
-    Ok(Step::Aggregate(op, operand, parts, value))
+    let operand = operand?;
+    let value = value?;
+    Ok(Step::Aggregate(op, operand, value.once, value.step))
 }
 
-/// The step of an operand's tuples with new attributes, which have these types.
+/// The step of an operand's tuples with new attributes.
+#[inline(never)]
 pub(crate) fn extension_step(
-    alloc: Global,
-    operand: Step,
-    attributes: Vec<(Name, Ty)>,
-    values: Vec<Step>,
+    operand: Result<Box<Step>, AllocError>,
+    columns: NewColumns,
 ) -> Result<Step, AllocError>
-    ensures { IfOk result (λ p. (scope : Scope) (d : Tree) (es : trees.NamedTrees) (h : Heading)
-        → IsPlanOfTyped scope (step_view operand) d
-        → type_of scope d ≡ Valued (types.relation (pack h))
-        → named_types (entered_with h scope) es ≡ Valued (pairs_view attributes.items)
-        → ArePlansOfTyped (entered_with h scope) (steps_view values.items) (in_named es)
-        → IsPlanOfTyped scope (step_view p) (trees.extend d es)) }
+    ensures { (scope : Scope) (d : Tree) (es : trees.NamedTrees) (h : Heading)
+        → IsBoxPlanned scope operand d → type_of scope d ≡ Valued (types.relation (pack h))
+        → AreColumns (entered_with h scope) columns (named_types (entered_with h scope) es)
+        (in_named es)
+        → IsPlanned scope result (trees.extend d es) }
 {
-    let mut parts = Vec::new(alloc);
-    let values = all_pulled(alloc, values, &mut parts)?;
-    let operand = Box::new(alloc, operand)?;
-    Ok(Step::Extend(operand, attributes, parts, values))
+    let NewColumns {
+        attributes,
+        once,
+        values,
+    } = columns;
+    Ok(Step::Extend(operand?, attributes, once, values))
 }

@@ -18,7 +18,6 @@ mod loops;
 mod narrowed;
 mod nodes;
 mod numbers;
-mod operand;
 pub mod plan;
 mod planner;
 mod planning;

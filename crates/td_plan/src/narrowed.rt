@@ -1,30 +1,26 @@
 //! Operands of WHERE that are looked up by a key.
-ghost use Rattle.std.specs.Prelude.{◌<◌, ◌≡◌, IfOk, IfSome, IsTrue, length, map};
+ghost use Rattle.std.specs.Prelude.{◌++◌, ◌<◌, ◌≡◌, ◌∷◌, [], IfOk, IfSome, IsTrue, length, map};
 ghost use Rattle.std.specs.List.{Contains, HoldsAt};
 ghost use Rattle.td_check.specs.CannotFail.{cannot_fail};
 ghost use Rattle.td_check.specs.Scopes.{entered_with};
-ghost use Rattle.td_check.specs.StaticTypes.{type_of};
 ghost use Rattle.td_eval.specs.TreeNumbers.{HasNumbers};
 ghost use Rattle.td_eval.specs.ValueTypes.{IsWritten};
 ghost use Rattle.td_plan.specs.declared.fixed.FixedValue.{FixedValue};
 ghost use Rattle.td_plan.specs.LookUps.{IsBase, MeansName};
-ghost use Rattle.td_plan.specs.Narrowing.{AreFixed, Narrows};
+ghost use Rattle.td_plan.specs.Narrowing.{AreFixed, MayNarrow};
 ghost use Rattle.td_plan.specs.Planners.{IsPlanner};
 ghost use Rattle.td_plan.specs.Plans as plans;
-ghost use Rattle.td_plan.specs.PlansOf.{IsPlanOfTyped};
 ghost use Rattle.td_plan.specs.StepViews.{step_view, steps_view};
-ghost use Rattle.td_tree.specs.Outcomes.{Valued};
 ghost use Rattle.td_tree.specs.TreeViews.{tree_view};
+ghost use Rattle.td_tree.specs.Trees.{Tree};
 ghost use Rattle.td_types.specs.Headings.{projection};
-ghost use Rattle.td_types.specs.Types as types;
-ghost use Rattle.td_types.specs.Types.{attribute_names, pack};
+ghost use Rattle.td_types.specs.Types.{attribute_names};
 
-use crate::fixed::FixedValue;
+use crate::fixed::{FixedValue, has_a_value};
 use crate::numbers::has_numbers;
 use crate::planner::{Known, Planner};
 use crate::step::Step;
 use std::alloc::{AllocError, Global};
-use td_check::cannot_fail::cannot_fail;
 use td_check::scope::Kind;
 use td_tree::expression::Expr;
 use td_tree::fault::Fault;
@@ -60,6 +56,14 @@ pub(crate) fn base_named<'e, C: Known>(planner: &Planner<'_, C>, expr: &'e Expr)
 }
 
 // ---- the key
+
+/// Whether a key of the base relvar of the name has attributes.
+pub(crate) fn has_key_attributes<C: Known>(planner: &Planner<'_, C>, name: &Name) -> bool {
+    match planner.catalog.keys_of(name) {
+        Some(keys) => keys.iter().any(|key| !key.is_empty()),
+        None => false,
+    }
+}
 
 /// Whether one of the attributes has the name.
 fn is_fixed(fixed: &[FixedValue], name: &Name) -> bool {
@@ -167,6 +171,20 @@ fn copied_names(alloc: Global, names: &[Name]) -> Result<Vec<Name>, AllocError>
     Ok(copy)
 }
 
+/// Puts an attribute's name, and the step of its value, after the others.
+fn put_attribute(
+    names: &mut Vec<Name>,
+    values: &mut Vec<Step>,
+    name: Name,
+    value: Step,
+) -> Result<(), AllocError>
+    ensures names { IfOk result (λ _. names.new.items ≡ names.old.items ++ (name ∷ [])) }
+    ensures values { IfOk result (λ _. values.new.items ≡ values.old.items ++ (value ∷ [])) }
+{
+    values.push(value)?;
+    Ok(names.push(name)?)
+}
+
 /// The step of the tuple of these attributes.
 fn part_step(alloc: Global, part: Vec<FixedValue>) -> Result<Step, AllocError>
     ensures { IfOk result (λ p. step_view p ≡ plans.tuple (map (λ x. x.name) part.items)
@@ -176,30 +194,30 @@ fn part_step(alloc: Global, part: Vec<FixedValue>) -> Result<Step, AllocError>
     let mut values = Vec::with_capacity(alloc, part.len())?;
     for attribute in part {
         let FixedValue { name, value } = attribute;
-        names.push(name)?;
-        values.push(value)?;
+        put_attribute(&mut names, &mut values, name, value)?;
     }
     Ok(Step::Tuple(names, values))
 }
 
-/// The step of the tuples of a base relvar that agree with these attributes on a key.
+/// The step, in a box, of the tuples of a base relvar that agree with these attributes on a key.
 fn look_up_step(
     alloc: Global,
     name: &Name,
     key: &[Name],
     part: Vec<FixedValue>,
-) -> Result<Step, AllocError>
-    ensures { IfOk result (λ p. step_view p ≡ plans.look_up name.now key.now
+) -> Result<Box<Step>, AllocError>
+    ensures { IfOk result (λ p. step_view p.value ≡ plans.look_up name.now key.now
         (plans.tuple (map (λ x. x.name) part.items)
         (steps_view (map (λ x. x.value) part.items)))) }
 {
-    let key = copied_names(alloc, key)?;
     let part = Box::new(alloc, part_step(alloc, part)?)?;
-    Ok(Step::LookUp(name.try_clone()?, key, part))
+    let key = copied_names(alloc, key)?;
+    let step = Step::LookUp(name.try_clone()?, key, part);
+    Ok(Box::new(alloc, step)?)
 }
 
 /// Whether a condition is known to have a value in each tuple of the heading.
-pub(crate) fn is_total<C: Known>(
+fn is_total<C: Known>(
     planner: &Planner<'_, C>,
     heading: &Heading,
     condition: &Expr,
@@ -214,44 +232,56 @@ pub(crate) fn is_total<C: Known>(
         return Ok(false);
     }
     let inner = planner.entered(heading)?;
-    match cannot_fail(&inner.scope, condition) {
-        Ok(never) => Ok(never),
-        Err(Fault::Refused(_)) => Ok(false),
-        Err(Fault::Memory) => Err(AllocError),
+    has_a_value(&inner.scope, condition)
+}
+
+/// The names of the first key of a base relvar whose attributes are all fixed, where the condition
+/// is known to have a value in each tuple.
+fn total_key<'p, C: Known>(
+    planner: &'p Planner<'_, C>,
+    name: &Name,
+    heading: &Heading,
+    condition: &Expr,
+    fixed: &[FixedValue],
+) -> Result<Option<&'p [Name]>, AllocError>
+    requires { IsPlanner C.database planner.now }
+    ensures numbers { IfOk result (λ found. IfSome found (λ _.
+        HasNumbers (tree_view condition.now))) }
+    ensures never { IfOk result (λ found. IfSome found (λ _.
+        IsTrue (cannot_fail (entered_with heading.now planner.now.scope)
+        (tree_view condition.now)))) }
+{
+    let Some(key) = key_of(planner, name, fixed) else {
+        return Ok(None);
+    };
+    if is_total(planner, heading, condition)? {
+        Ok(Some(key))
+    } else {
+        Ok(None)
     }
 }
 
-/// The step of the operand of WHERE: a look-up by the first declared key whose attributes the
-/// condition all fixes, else the operand's own step.
-pub(crate) fn narrowed_operand<C: Known>(
+/// The look-up of the operand of WHERE that the name means, by the first declared key whose
+/// attributes the condition all fixes.
+pub(crate) fn look_up_by_key<C: Known>(
     planner: &Planner<'_, C>,
-    operand: &Expr,
+    name: &Name,
     heading: &Heading,
     condition: &Expr,
-    step: Step,
-    fixed: Vec<FixedValue>,
-) -> Result<Step, AllocError>
+    fixed: Result<Vec<FixedValue>, AllocError>,
+) -> Result<Option<Box<Step>>, AllocError>
     requires { IsPlanner C.database planner.now }
-    ensures { IfOk result (λ p.
-        IsPlanOfTyped planner.now.scope (step_view step) (tree_view operand.now)
-        → type_of planner.now.scope (tree_view operand.now)
-        ≡ Valued (types.relation (pack heading.now))
-        → (IsWritten (tree_view condition.now)
-        → AreFixed planner.now.scope heading.now (tree_view condition.now) fixed.items)
-        → Narrows planner.now.scope (step_view p) (tree_view operand.now)
-        (tree_view condition.now) heading.now) }
+    ensures { (d : Tree) → MeansName name.now d → IsBase planner.now.scope name.now
+        → IfOk fixed (λ xs. IsWritten (tree_view condition.now)
+        → AreFixed planner.now.scope heading.now (tree_view condition.now) xs.items)
+        → MayNarrow planner.now.scope result d (tree_view condition.now) heading.now }
 {
-    let Some(name) = base_named(planner, operand) else {
-        return Ok(step);
+    let fixed = fixed?;
+    let Some(key) = total_key(planner, name, heading, condition, &fixed)? else {
+        return Ok(None);
     };
-    let Some(key) = key_of(planner, name, &fixed) else {
-        return Ok(step);
-    };
-    if !is_total(planner, heading, condition)? {
-        return Ok(step);
+    match key_part(planner.alloc, heading, key, fixed)? {
+        Some(part) => Ok(Some(look_up_step(planner.alloc, name, key, part)?)),
+        None => Ok(None),
     }
-    let Some(part) = key_part(planner.alloc, heading, key, fixed)? else {
-        return Ok(step);
-    };
-    look_up_step(planner.alloc, name, key, part)
 }

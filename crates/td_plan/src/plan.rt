@@ -1,12 +1,14 @@
 //! Plans, made once for all of the worlds that keep a scope.
 ghost use Rattle.std.specs.Prelude.{◌≡◌, IfOk, length};
-ghost use Rattle.td_check.specs.Scopes.{entered_with};
-ghost use Rattle.td_plan.specs.PlannedParts.{ArePartPlans};
+ghost use Rattle.td_check.specs.Scopes.{Scope, entered_with};
+ghost use Rattle.td_plan.specs.PlannedParts.{ArePartPlans, ArePlanned, IsPlanned, in_named};
 ghost use Rattle.td_plan.specs.Planners.{IsPlanner, catalog_database};
 ghost use Rattle.td_plan.specs.PlansOf.{IsPlanOfTyped, scope_in};
 ghost use Rattle.td_plan.specs.PlanViews.{plan_view};
 ghost use Rattle.td_tree.specs.TreeViews.{named_view, tree_view};
 ghost use Rattle.td_tree.specs.Trees as trees;
+ghost use Rattle.td_tree.specs.Trees.{NamedTrees, Tree};
+ghost use Rattle.td_types.specs.Types.{Heading};
 
 use crate::hoist::all_pulled;
 use crate::planner::Planner;
@@ -56,8 +58,17 @@ fn planner_inside<'a, B: Body>(
     ensures planner { IfOk result (λ p. IsPlanner catalog_database p) }
     ensures scope { IfOk result (λ p. p.scope ≡ entered_with heading.now (scope_in env.now)) }
 {
+    let heading = heading.try_clone()?;
     let planner = planner_in(alloc, env)?;
-    planner.with_heading(heading.try_clone()?)
+    planner.with_heading(heading)
+}
+
+/// The plan whose step this is.
+fn plan_by(value: Result<Step, AllocError>) -> Result<Plan, AllocError>
+    ensures { (scope : Scope) (d : Tree) → IsPlanned scope value d
+        → IfOk result (λ p. IsPlanOfTyped scope (plan_view p) d) }
+{
+    Ok(Plan { value: value? })
 }
 
 /// The plan of an expression: wherever names are known as there and tuples of the headings of those
@@ -67,8 +78,7 @@ pub fn plan_of<B: Body>(alloc: Global, env: &Env<'_, B>, expr: &Expr) -> Result<
         (λ p. IsPlanOfTyped (scope_in env.now) (plan_view p) (tree_view expr.now)) }
 {
     let planner = planner_in(alloc, env)?;
-    let value = step_of(&planner, expr)?;
-    Ok(Plan { value })
+    plan_by(step_of(&planner, expr))
 }
 
 /// The same where a further tuple, of the heading, is in hand.
@@ -82,23 +92,41 @@ pub fn plan_in_tuples<B: Body>(
         (plan_view p) (tree_view expr.now)) }
 {
     let planner = planner_inside(alloc, env, heading)?;
-    let value = step_of(&planner, expr)?;
-    Ok(Plan { value })
+    plan_by(step_of(&planner, expr))
 }
 
-/// The plan of the tuples of an expression's relation for which a condition is TRUE.
+/// The plan whose step this is, in a box.
+fn boxed_plan(alloc: Global, value: Result<Step, AllocError>) -> Result<Box<Plan>, AllocError>
+    ensures { (scope : Scope) (d : Tree) → IsPlanned scope value d
+        → IfOk result (λ p. IsPlanOfTyped scope (plan_view p.value) d) }
+{
+    let plan = Plan { value: value? };
+    Ok(Box::new(alloc, plan)?)
+}
+
+/// The plan, in a box, of the tuples of an expression's relation for which a condition is TRUE.
 pub(crate) fn plan_where<B: Body>(
     alloc: Global,
     env: &Env<'_, B>,
     expr: &Expr,
     condition: &Expr,
-) -> Result<Plan, AllocError>
-    ensures { IfOk result (λ p. IsPlanOfTyped (scope_in env.now) (plan_view p)
+) -> Result<Box<Plan>, AllocError>
+    ensures { IfOk result (λ p. IsPlanOfTyped (scope_in env.now) (plan_view p.value)
         (trees.restriction (tree_view expr.now) (tree_view condition.now))) }
 {
     let planner = planner_in(alloc, env)?;
-    let value = where_of(&planner, expr, condition, Origin::Written)?;
-    Ok(Plan { value })
+    boxed_plan(alloc, where_of(&planner, expr, condition, Origin::Written))
+}
+
+/// The plans whose steps these are.
+fn part_plans(alloc: Global, steps: Result<Vec<Step>, AllocError>) -> Result<PartPlans, AllocError>
+    ensures { (scope : Scope) (h : Heading) (parts : NamedTrees)
+        → ArePlanned (entered_with h scope) steps (in_named parts)
+        → IfOk result (λ p. ArePartPlans scope h p parts) }
+{
+    let mut once = Vec::new(alloc);
+    let values = all_pulled(alloc, steps?, &mut once)?;
+    Ok(PartPlans { once, values })
 }
 
 /// The plans of parts where a further tuple, of the heading, is in hand. What does not name that
@@ -114,8 +142,5 @@ pub(crate) fn plan_parts<B: Body>(
     ensures lengths { IfOk result (λ p. length p.values.items ≡ length parts.now) }
 {
     let planner = planner_inside(alloc, env, heading)?;
-    let mut once = Vec::new(alloc);
-    let steps = part_steps(&planner, parts)?;
-    let values = all_pulled(alloc, steps, &mut once)?;
-    Ok(PartPlans { once, values })
+    part_plans(alloc, part_steps(&planner, parts))
 }

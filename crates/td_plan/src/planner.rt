@@ -1,5 +1,6 @@
 //! What an expression is planned in.
-ghost use Rattle.std.specs.Prelude.{◌<◌, ◌≡◌, IfNone, IfOk, IfSome, List, [], length, reverse};
+ghost use Rattle.std.specs.Prelude.{◌<◌, ◌≡◌, IfNone, IfOk, IfSome, List, OnOk, [], length};
+ghost use Rattle.std.specs.Prelude.{reverse};
 ghost use Rattle.std.specs.List.{slice_get};
 ghost use Rattle.td_catalog.specs.Database.{Database, database_scope};
 ghost use Rattle.td_check.specs.Scopes.{entered_with};
@@ -124,6 +125,17 @@ impl<'a, C: Known> Planner<'a, C> {
         }
     }
 
+    /// A further tuple, of the heading, comes into hand.
+    fn enter(&mut self, heading: &Heading) -> Result<(), AllocError>
+        requires { IsPlanner C.database self.old }
+        ensures planner { OnOk result (IsPlanner C.database self.new) }
+        ensures scope { OnOk result (self.new.scope ≡ entered_with heading.now self.old.scope) }
+    {
+        self.scope.enter(heading.try_clone()?)?;
+        self.headings.push(heading.try_clone()?)?;
+        Ok(())
+    }
+
     /// Where a further tuple, of the heading, is in hand.
     pub(crate) fn with_heading(self, heading: Heading) -> Result<Planner<'a, C>, AllocError>
         requires { IsPlanner C.database self }
@@ -131,12 +143,12 @@ impl<'a, C: Known> Planner<'a, C> {
         ensures scope { IfOk result (λ p. p.scope ≡ entered_with heading self.entry.scope) }
     {
         let mut planner = self;
-        planner.scope.enter(heading.try_clone()?)?;
-        planner.headings.push(heading)?;
+        planner.enter(&heading)?;
         Ok(planner)
     }
 
     /// Where a further tuple, of the heading, is in hand.
+    #[inline(never)]
     pub(crate) fn entered(&self, heading: &Heading) -> Result<Planner<'a, C>, AllocError>
         requires { IsPlanner C.database self.now }
         ensures planner { IfOk result (λ p. IsPlanner C.database p) }
@@ -144,9 +156,10 @@ impl<'a, C: Known> Planner<'a, C> {
     {
         let mut inner = Planner::outside(self.alloc, self.catalog);
         for outer in &self.headings {
-            inner = inner.with_heading(outer.try_clone()?)?;
+            inner.enter(outer)?;
         }
-        inner.with_heading(heading.try_clone()?)
+        inner.enter(heading)?;
+        Ok(inner)
     }
 
     /// How many tuples out the innermost attribute of the name is, and its place in its heading.

@@ -1,7 +1,12 @@
 //! Plans of expressions. Each function takes what plans the parts of an expression as a parameter,
 //! so that it is proved by itself.
-ghost use Rattle.std.specs.Prelude.{IfOk, map, suc};
-ghost use Rattle.td_plan.specs.PlannedParts.{ArePlansOfTyped, IsOperandOf, item_tree, part_tree};
+ghost use Rattle.std.specs.Prelude.{◌+◌, IfOk, map, suc};
+ghost use Rattle.td_check.specs.Scopes.{entered_with};
+ghost use Rattle.td_check.specs.StaticTypes.{named_types};
+ghost use Rattle.td_eval.specs.AggregateValues.{summary_attributes};
+ghost use Rattle.td_plan.specs.PlannedParts.{AreFoundColumns, ArePlanned, ArePlansOfTyped};
+ghost use Rattle.td_plan.specs.PlannedParts.{IsBoxPlanned, IsPlanned, in_named};
+ghost use Rattle.td_plan.specs.PlannedParts.{in_summaries, item_tree, part_tree};
 ghost use Rattle.td_plan.specs.Planners.{IsPlanner};
 ghost use Rattle.td_plan.specs.PlansBelow.{PlansBelow};
 ghost use Rattle.td_plan.specs.PlansOf.{IsPlanOfTyped};
@@ -11,21 +16,20 @@ ghost use Rattle.td_plan.specs.TreeWeights.{summaries_weight, weights};
 ghost use Rattle.td_tree.specs.TreeViews.{attributes_view, named_view, summaries_view, tree_view};
 ghost use Rattle.td_tree.specs.TreeViews.{trees_view};
 ghost use Rattle.td_tree.specs.Trees as trees;
-ghost use Rattle.td_tree.specs.Trees.{Tree};
 
-use crate::in_tuples::{aggregation_step, extension_step};
+use crate::in_tuples::{NewColumns, aggregation_step, extension_step, new_columns, pulled_step};
 use crate::nodes::{
     binary_step, choice_step, compare_step, component_step, extract_step, headed_step,
     literal_step, measure_step, name_step, postfix_step, prefix_step, relation_step, select_step,
     tuple_step,
 };
-use crate::operand::{Operand, RelatedOperand};
 use crate::planner::{Known, Planner};
 use crate::step::{Origin, Step};
 use crate::summaries::{aggregates_of, attributes_of, count_step, summary_by_step, summary_step};
 use std::alloc::AllocError;
 use td_tree::expression::{Attributes, Expr, NamedExpr, Summary};
 use td_tree::operator::Aggregate;
+use td_types::heading::Heading;
 
 /// What an expression is planned in, and what plans the parts of it there.
 #[derive(Drop)]
@@ -48,12 +52,33 @@ where
         (self.inner)(self.planner, expr)
     }
 
+    /// The step of a part, in a box.
+    #[inline(never)]
+    pub(crate) fn boxed(&self, expr: &Expr) -> Result<Box<Step>, AllocError>
+        requires { PlansBelow C.database self.now (suc (expr_weight expr.now)) F.pre F.post }
+        ensures { IsBoxPlanned self.now.planner.now.scope result (tree_view expr.now) }
+    {
+        let step = self.step_of(expr)?;
+        Ok(Box::new(self.planner.alloc, step)?)
+    }
+
+    /// The step of a part where a further tuple, of the heading, is in hand.
+    #[inline(never)]
+    pub(crate) fn step_inside(&self, heading: &Heading, expr: &Expr) -> Result<Step, AllocError>
+        requires { PlansBelow C.database self.now (suc (expr_weight expr.now)) F.pre F.post }
+        ensures { IsPlanned (entered_with heading.now self.now.planner.now.scope) result
+            (tree_view expr.now) }
+    {
+        let inner = self.planner.entered(heading)?;
+        (self.inner)(&inner, expr)
+    }
+
     /// The steps of expressions, in the order written.
+    #[inline(never)]
     fn steps_of(&self, exprs: &[Expr]) -> Result<Vec<Step>, AllocError>
         requires { PlansBelow C.database self.now (suc (weights (trees_view exprs.now)))
             F.pre F.post }
-        ensures { IfOk result (λ ps. ArePlansOfTyped self.now.planner.now.scope
-            (steps_view ps.items) (map tree_view exprs.now)) }
+        ensures { ArePlanned self.now.planner.now.scope result (map tree_view exprs.now) }
     {
         let mut steps = Vec::with_capacity(self.planner.alloc, exprs.len())?;
         for expr in exprs {
@@ -63,11 +88,11 @@ where
     }
 
     /// The steps of the expressions of parts, in the order written.
+    #[inline(never)]
     pub(crate) fn part_steps(&self, parts: &[NamedExpr]) -> Result<Vec<Step>, AllocError>
         requires { PlansBelow C.database self.now (suc (named_weight (named_view parts.now)))
             F.pre F.post }
-        ensures { IfOk result (λ ps. ArePlansOfTyped self.now.planner.now.scope
-            (steps_view ps.items) (map part_tree parts.now)) }
+        ensures { ArePlanned self.now.planner.now.scope result (map part_tree parts.now) }
     {
         let mut steps = Vec::with_capacity(self.planner.alloc, parts.len())?;
         for part in parts {
@@ -89,11 +114,11 @@ where
     }
 
     /// The steps of what items are of in a tuple, in the order written.
+    #[inline(never)]
     fn item_steps(&self, items: &[Summary]) -> Result<Vec<Step>, AllocError>
         requires { PlansBelow C.database self.now
             (suc (summaries_weight (summaries_view items.now))) F.pre F.post }
-        ensures { IfOk result (λ ps. ArePlansOfTyped self.now.planner.now.scope
-            (steps_view ps.items) (map item_tree items.now)) }
+        ensures { ArePlanned self.now.planner.now.scope result (map item_tree items.now) }
     {
         let mut steps = Vec::with_capacity(self.planner.alloc, items.len())?;
         for item in items {
@@ -102,133 +127,160 @@ where
         Ok(steps)
     }
 
-    /// The step of an operand to whose tuples something is applied.
-    pub(crate) fn operand_of(&self, expr: &Expr) -> Result<Operand, AllocError>
-        requires { PlansBelow C.database self.now (suc (expr_weight expr.now)) F.pre F.post }
-        ensures { IfOk result
-            (λ o. IsOperandOf self.now.planner.now.scope o (tree_view expr.now)) }
+    /// The new attributes that parts give to the tuple in hand; none where these have no types.
+    fn part_columns(&self, parts: &[NamedExpr]) -> Result<Option<NewColumns>, AllocError>
+        requires { PlansBelow C.database self.now (suc (named_weight (named_view parts.now)))
+            F.pre F.post }
+        ensures { IfOk result (λ found. AreFoundColumns self.now.planner.now.scope found
+            (named_types self.now.planner.now.scope (named_view parts.now))
+            (in_named (named_view parts.now))) }
     {
-        let heading = self.planner.heading_of(expr)?;
-        let step = self.step_of(expr)?;
-        Ok(Operand { step, heading })
+        let Some(attributes) = self.planner.attributes_of(parts)? else {
+            return Ok(None);
+        };
+        let columns = new_columns(self.planner.alloc, attributes, self.part_steps(parts))?;
+        Ok(Some(columns))
+    }
+
+    /// The same where a further tuple, of the heading, is in hand.
+    fn part_columns_inside(
+        &self,
+        heading: &Heading,
+        parts: &[NamedExpr],
+    ) -> Result<Option<NewColumns>, AllocError>
+        requires { PlansBelow C.database self.now (suc (named_weight (named_view parts.now)))
+            F.pre F.post }
+        ensures { IfOk result (λ found.
+            AreFoundColumns (entered_with heading.now self.now.planner.now.scope) found
+            (named_types (entered_with heading.now self.now.planner.now.scope)
+            (named_view parts.now)) (in_named (named_view parts.now))) }
+    {
+        let inner = self.planner.entered(heading)?;
+        Planning {
+            planner: &inner,
+            inner: self.inner,
+        }
+        .part_columns(parts)
+    }
+
+    /// The new attributes that items give to a group; none where these have no types.
+    fn item_columns(&self, items: &[Summary]) -> Result<Option<NewColumns>, AllocError>
+        requires { PlansBelow C.database self.now
+            (suc (summaries_weight (summaries_view items.now))) F.pre F.post }
+        ensures { IfOk result (λ found. AreFoundColumns self.now.planner.now.scope found
+            (summary_attributes self.now.planner.now.scope (summaries_view items.now))
+            (in_summaries (summaries_view items.now))) }
+    {
+        let alloc = self.planner.alloc;
+        let Some(attributes) = attributes_of(alloc, &self.planner.scope, items)? else {
+            return Ok(None);
+        };
+        let columns = new_columns(alloc, attributes, self.item_steps(items))?;
+        Ok(Some(columns))
+    }
+
+    /// The same where a further tuple, of the heading, is in hand.
+    fn item_columns_inside(
+        &self,
+        heading: &Heading,
+        items: &[Summary],
+    ) -> Result<Option<NewColumns>, AllocError>
+        requires { PlansBelow C.database self.now
+            (suc (summaries_weight (summaries_view items.now))) F.pre F.post }
+        ensures { IfOk result (λ found.
+            AreFoundColumns (entered_with heading.now self.now.planner.now.scope) found
+            (summary_attributes (entered_with heading.now self.now.planner.now.scope)
+            (summaries_view items.now)) (in_summaries (summaries_view items.now))) }
+    {
+        let inner = self.planner.entered(heading)?;
+        Planning {
+            planner: &inner,
+            inner: self.inner,
+        }
+        .item_columns(items)
     }
 
     /// The step of an aggregate of an expression in the tuples of an operand.
+    #[inline(never)]
     fn aggregate_step(
         &self,
         op: Aggregate,
-        operand: Operand,
+        operand: &Expr,
         value: &Expr,
     ) -> Result<Step, AllocError>
-        requires { PlansBelow C.database self.now (suc (expr_weight value.now)) F.pre F.post }
-        ensures { IfOk result (λ p. (d : Tree) → IsOperandOf self.now.planner.now.scope operand d
-            → IsPlanOfTyped self.now.planner.now.scope (step_view p)
-            (trees.aggregate op d (tree_view value.now))) }
+        requires { PlansBelow C.database self.now
+            (suc (expr_weight operand.now + expr_weight value.now)) F.pre F.post }
+        ensures { IsPlanned self.now.planner.now.scope result
+            (trees.aggregate op (tree_view operand.now) (tree_view value.now)) }
     {
-        let Operand { step, heading } = operand;
-        let Some(heading) = heading else {
-            return Ok(step);
+        let Some(heading) = self.planner.heading_of(operand)? else {
+            return self.step_of(operand);
         };
-        let inner = self.planner.entered(&heading)?;
-        let inside = Planning {
-            planner: &inner,
-            inner: self.inner,
-        };
-        let value = inside.step_of(value)?;
-        aggregation_step(self.planner.alloc, op, step, value)
+        let value = pulled_step(self.planner.alloc, self.step_inside(&heading, value));
+        aggregation_step(op, self.boxed(operand), value)
     }
 
     /// The step of an operand's tuples with new attributes.
-    fn extend_step(&self, operand: Operand, parts: &[NamedExpr]) -> Result<Step, AllocError>
-        requires { PlansBelow C.database self.now (suc (named_weight (named_view parts.now)))
-            F.pre F.post }
-        ensures { IfOk result (λ p. (d : Tree) → IsOperandOf self.now.planner.now.scope operand d
-            → IsPlanOfTyped self.now.planner.now.scope (step_view p)
-            (trees.extend d (named_view parts.now))) }
+    #[inline(never)]
+    fn extend_step(&self, operand: &Expr, parts: &[NamedExpr]) -> Result<Step, AllocError>
+        requires { PlansBelow C.database self.now
+            (suc (expr_weight operand.now + named_weight (named_view parts.now))) F.pre F.post }
+        ensures { IsPlanned self.now.planner.now.scope result
+            (trees.extend (tree_view operand.now) (named_view parts.now)) }
     {
-        let Operand { step, heading } = operand;
-        let Some(heading) = heading else {
-            return Ok(step);
+        let Some(heading) = self.planner.heading_of(operand)? else {
+            return self.step_of(operand);
         };
-        let inner = self.planner.entered(&heading)?;
-        let Some(attributes) = inner.attributes_of(parts)? else {
-            return Ok(step);
+        let Some(columns) = self.part_columns_inside(&heading, parts)? else {
+            return self.step_of(operand);
         };
-        let inside = Planning {
-            planner: &inner,
-            inner: self.inner,
-        };
-        let values = inside.part_steps(parts)?;
-        extension_step(self.planner.alloc, step, attributes, values)
+        extension_step(self.boxed(operand), columns)
     }
 
     /// The step of SUMMARIZE of an operand by the tuples of another relation.
+    #[inline(never)]
     fn summarize_per_step(
         &self,
-        related: RelatedOperand,
+        operand: &Expr,
+        per: &Expr,
         items: &[Summary],
     ) -> Result<Step, AllocError>
-        requires { PlansBelow C.database self.now
-            (suc (summaries_weight (summaries_view items.now))) F.pre F.post }
-        ensures { IfOk result (λ p. (d q : Tree)
-            → IsOperandOf self.now.planner.now.scope related.operand d
-            → IsPlanOfTyped self.now.planner.now.scope (step_view related.per) q
-            → IsPlanOfTyped self.now.planner.now.scope (step_view p)
-            (trees.summarize_per d q (summaries_view items.now))) }
+        requires { PlansBelow C.database self.now (suc (expr_weight operand.now
+            + expr_weight per.now + summaries_weight (summaries_view items.now))) F.pre F.post }
+        ensures { IsPlanned self.now.planner.now.scope result (trees.summarize_per
+            (tree_view operand.now) (tree_view per.now) (summaries_view items.now)) }
     {
-        let RelatedOperand { operand, per } = related;
-        let Operand { step, heading } = operand;
-        let Some(heading) = heading else {
-            return Ok(step);
+        let Some(heading) = self.planner.heading_of(operand)? else {
+            return self.step_of(operand);
         };
-        let inner = self.planner.entered(&heading)?;
-        let Some(attributes) = attributes_of(self.planner.alloc, &inner.scope, items)? else {
-            return Ok(step);
+        let Some(columns) = self.item_columns_inside(&heading, items)? else {
+            return self.step_of(operand);
         };
-        let aggregates = aggregates_of(self.planner.alloc, items)?;
-        let inside = Planning {
-            planner: &inner,
-            inner: self.inner,
-        };
-        let values = inside.item_steps(items)?;
-        summary_step(
-            self.planner.alloc,
-            step,
-            per,
-            attributes,
-            aggregates,
-            values,
-        )
+        let aggregates = aggregates_of(self.planner.alloc, items);
+        summary_step(self.boxed(operand), self.boxed(per), aggregates, columns)
     }
 
     /// The step of SUMMARIZE of an operand by some of its attributes.
+    #[inline(never)]
     fn summarize_by_step(
         &self,
-        operand: Operand,
+        operand: &Expr,
         by: &Attributes,
         items: &[Summary],
     ) -> Result<Step, AllocError>
-        requires { PlansBelow C.database self.now
-            (suc (summaries_weight (summaries_view items.now))) F.pre F.post }
-        ensures { IfOk result (λ p. (d : Tree) → IsOperandOf self.now.planner.now.scope operand d
-            → IsPlanOfTyped self.now.planner.now.scope (step_view p)
-            (trees.summarize_by d (attributes_view by.now) (summaries_view items.now))) }
+        requires { PlansBelow C.database self.now (suc (expr_weight operand.now
+            + summaries_weight (summaries_view items.now))) F.pre F.post }
+        ensures { IsPlanned self.now.planner.now.scope result (trees.summarize_by
+            (tree_view operand.now) (attributes_view by.now) (summaries_view items.now)) }
     {
-        let Operand { step, heading } = operand;
-        let Some(heading) = heading else {
-            return Ok(step);
+        let Some(heading) = self.planner.heading_of(operand)? else {
+            return self.step_of(operand);
         };
-        let inner = self.planner.entered(&heading)?;
-        let Some(attributes) = attributes_of(self.planner.alloc, &inner.scope, items)? else {
-            return Ok(step);
+        let Some(columns) = self.item_columns_inside(&heading, items)? else {
+            return self.step_of(operand);
         };
-        let aggregates = aggregates_of(self.planner.alloc, items)?;
-        let inside = Planning {
-            planner: &inner,
-            inner: self.inner,
-        };
-        let values = inside.item_steps(items)?;
-        summary_by_step(self.planner.alloc, step, by, attributes, aggregates, values)
+        let aggregates = aggregates_of(self.planner.alloc, items);
+        summary_by_step(self.boxed(operand), by, aggregates, columns)
     }
 
     /// The step of an expression, by those of its parts.
@@ -237,50 +289,39 @@ where
         ensures { IfOk result
             (λ p. IsPlanOfTyped self.now.planner.now.scope (step_view p) (tree_view expr.now)) }
     {
-        let alloc = self.planner.alloc;
         match expr {
-            Expr::Literal(literal) => literal_step(alloc, literal),
+            Expr::Literal(literal) => literal_step(self.planner.alloc, literal),
             Expr::Name(name) => name_step(self.planner, name),
             Expr::Parentheses(inner) => self.step_of(inner),
-            Expr::Prefix(op, operand) => prefix_step(alloc, *op, self.step_of(operand)?),
-            Expr::Extract(name, operand) => extract_step(alloc, name, self.step_of(operand)?),
+            Expr::Prefix(op, operand) => prefix_step(*op, self.boxed(operand)),
+            Expr::Extract(name, operand) => extract_step(name, self.boxed(operand)),
             Expr::Restriction(operand, condition) => {
                 self.where_of(operand, condition, Origin::Written)
             }
             Expr::Binary(left, op, right) => {
-                let left = self.step_of(left)?;
-                binary_step(alloc, left, *op, self.step_of(right)?)
+                binary_step(self.boxed(left), *op, self.boxed(right))
             }
             Expr::Compare(left, op, right) => {
-                let left = self.step_of(left)?;
-                compare_step(alloc, left, *op, self.step_of(right)?)
+                compare_step(self.boxed(left), *op, self.boxed(right))
             }
-            Expr::Postfix(operand, op) => postfix_step(alloc, self.step_of(operand)?, op),
-            Expr::Select(ty, arguments) => select_step(ty, self.steps_of(arguments)?),
-            Expr::Component(rest, operand) => component_step(alloc, rest, self.step_of(operand)?),
-            Expr::Measure(op, operand) => measure_step(alloc, *op, self.step_of(operand)?),
-            Expr::Aggregate(op, operand, value) => {
-                self.aggregate_step(*op, self.operand_of(operand)?, value)
-            }
-            Expr::Relation(elements) => Ok(relation_step(self.steps_of(elements)?)),
+            Expr::Postfix(operand, op) => postfix_step(self.boxed(operand), op),
+            Expr::Select(ty, arguments) => select_step(ty, self.steps_of(arguments)),
+            Expr::Component(rest, operand) => component_step(rest, self.boxed(operand)),
+            Expr::Measure(op, operand) => measure_step(*op, self.boxed(operand)),
+            Expr::Aggregate(op, operand, value) => self.aggregate_step(*op, operand, value),
+            Expr::Relation(elements) => relation_step(self.steps_of(elements)),
             Expr::HeadedRelation(heading, elements) => {
-                headed_step(self.planner, heading, self.steps_of(elements)?)
+                headed_step(self.planner, heading, self.steps_of(elements))
             }
-            Expr::Tuple(parts) => tuple_step(alloc, parts, self.part_steps(parts)?),
-            Expr::Extend(operand, parts) => self.extend_step(self.operand_of(operand)?, parts),
-            Expr::SummarizePer(operand, per, items) => {
-                let operand = self.operand_of(operand)?;
-                let per = self.step_of(per)?;
-                self.summarize_per_step(RelatedOperand { operand, per }, items)
-            }
-            Expr::SummarizeBy(operand, by, items) => {
-                self.summarize_by_step(self.operand_of(operand)?, by, items)
-            }
-            Expr::If(condition, consequent, alternative) => {
-                let condition = self.step_of(condition)?;
-                let consequent = self.step_of(consequent)?;
-                choice_step(alloc, condition, consequent, self.step_of(alternative)?)
-            }
+            Expr::Tuple(parts) => tuple_step(self.planner.alloc, parts, self.part_steps(parts)),
+            Expr::Extend(operand, parts) => self.extend_step(operand, parts),
+            Expr::SummarizePer(operand, per, items) => self.summarize_per_step(operand, per, items),
+            Expr::SummarizeBy(operand, by, items) => self.summarize_by_step(operand, by, items),
+            Expr::If(condition, consequent, alternative) => choice_step(
+                self.boxed(condition),
+                self.boxed(consequent),
+                self.boxed(alternative),
+            ),
         }
     }
 }

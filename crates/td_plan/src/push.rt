@@ -1,25 +1,27 @@
 //! Restrictions that are computed of operands of what they restrict.
-ghost use Rattle.std.specs.Prelude.{◌&&◌, ◌≡◌, IfOk, IfSome, IsTrue, not};
+ghost use Rattle.std.specs.Prelude.{◌&&◌, ◌≡◌, IfOk, IsTrue, not};
 ghost use Rattle.std.specs.List.{list_any};
-ghost use Rattle.td_check.specs.Scopes.{entered_with};
+ghost use Rattle.td_check.specs.CannotFail.{cannot_fail};
 ghost use Rattle.td_check.specs.StaticTypes.{type_of};
 ghost use Rattle.td_plan.specs.EqualitiesOfNames.{NamesOnly};
 ghost use Rattle.td_plan.specs.Planners.{IsPlanner};
-ghost use Rattle.td_plan.specs.Pushing.{IsAnsweredIn, MayStandFor, restricted_tree};
+ghost use Rattle.td_plan.specs.Pushing.{IsAnsweredIn, MayBePushed};
 ghost use Rattle.td_tree.specs.declared.operator.Operator.TheVariants as operators;
 ghost use Rattle.td_tree.specs.Outcomes.{Valued};
 ghost use Rattle.td_tree.specs.TreeViews.{tree_view};
-ghost use Rattle.td_tree.specs.Trees as trees;
+ghost use Rattle.td_tree.specs.Trees.{Tree};
 ghost use Rattle.td_types.specs.Headings.{has_attribute};
 ghost use Rattle.td_types.specs.Types as types;
 ghost use Rattle.td_types.specs.Types.{attribute_names, pack};
 
 use crate::brief::is_brief;
-use crate::narrowed::is_total;
+use crate::fixed::has_a_value;
+use crate::numbers::has_numbers;
 use crate::planner::{Known, Planner};
 use std::alloc::{AllocError, Global};
 use td_check::expression::check_expr;
 use td_check::names::names_in;
+use td_check::scope::Scope;
 use td_tree::expression::Expr;
 use td_tree::fault::Fault;
 use td_tree::name::Name;
@@ -35,19 +37,12 @@ pub(crate) enum Restricted {
     Both,
 }
 
-/// Whether a condition is of truth values in the tuples of a heading.
-fn is_of_truths<C: Known>(
-    planner: &Planner<'_, C>,
-    heading: &Heading,
-    condition: &Expr,
-) -> Result<bool, AllocError>
-    requires { IsPlanner C.database planner.now }
+/// Whether an expression is of truth values.
+fn is_of_truths(scope: &Scope<'_>, expr: &Expr) -> Result<bool, AllocError>
     ensures { IfOk result (λ b. IsTrue b
-        → type_of (entered_with heading.now planner.now.scope) (tree_view condition.now)
-        ≡ Valued types.boolean) }
+        → type_of scope.now (tree_view expr.now) ≡ Valued types.boolean) }
 {
-    let inner = planner.entered(heading)?;
-    match check_expr(&inner.scope, condition) {
+    match check_expr(scope, expr) {
         Ok(Ty::Bool) => Ok(true),
         Ok(_) => Ok(false),
         Err(Fault::Refused(_)) => Ok(false),
@@ -55,26 +50,50 @@ fn is_of_truths<C: Known>(
     }
 }
 
-/// The heading of an operand in whose tuples a condition is known to have a truth value.
-fn answered_heading<C: Known>(
+/// Whether an expression is known to have a truth value.
+fn has_a_truth_value(scope: &Scope<'_>, expr: &Expr) -> Result<bool, AllocError>
+    ensures { IfOk result (λ b. IsTrue b → IsTrue (cannot_fail scope.now (tree_view expr.now))
+        × (type_of scope.now (tree_view expr.now) ≡ Valued types.boolean)) }
+{
+    if has_a_value(scope, expr)? {
+        is_of_truths(scope, expr)
+    } else {
+        Ok(false)
+    }
+}
+
+/// Whether a condition is known to have a truth value in each tuple of the heading.
+fn is_answered<C: Known>(
+    planner: &Planner<'_, C>,
+    heading: &Heading,
+    condition: &Expr,
+) -> Result<bool, AllocError>
+    requires { IsPlanner C.database planner.now }
+    ensures { IfOk result (λ b. IsTrue b → (d : Tree)
+        → type_of planner.now.scope d ≡ Valued (types.relation (pack heading.now))
+        → IsAnsweredIn planner.now.scope d (tree_view condition.now) heading.now) }
+{
+    if !has_numbers(condition) {
+        return Ok(false);
+    }
+    let inner = planner.entered(heading)?;
+    has_a_truth_value(&inner.scope, condition)
+}
+
+/// Whether it is so of the heading of an operand's tuples.
+fn is_answered_of<C: Known>(
     planner: &Planner<'_, C>,
     operand: &Expr,
     condition: &Expr,
-) -> Result<Option<Heading>, AllocError>
+) -> Result<bool, AllocError>
     requires { IsPlanner C.database planner.now }
-    ensures { IfOk result (λ found. IfSome found
-        (IsAnsweredIn planner.now.scope (tree_view operand.now) (tree_view condition.now))) }
+    ensures { IfOk result (λ b. IsTrue b → (h : types.Heading)
+        × IsAnsweredIn planner.now.scope (tree_view operand.now) (tree_view condition.now) h) }
 {
-    let Some(heading) = planner.heading_of(operand)? else {
-        return Ok(None);
-    };
-    if !is_total(planner, &heading, condition)? {
-        return Ok(None);
+    match planner.heading_of(operand)? {
+        Some(heading) => is_answered(planner, &heading, condition),
+        None => Ok(false),
     }
-    if !is_of_truths(planner, &heading, condition)? {
-        return Ok(None);
-    }
-    Ok(Some(heading))
 }
 
 /// A union's operands, where a condition restricts both. It is planned for each, so that only a
@@ -86,52 +105,39 @@ fn restricted_of_union<C: Known>(
     condition: &Expr,
 ) -> Result<Option<Restricted>, AllocError>
     requires { IsPlanner C.database planner.now }
-    ensures { IfOk result (λ found. IfSome found (λ restricted. MayStandFor planner.now.scope
-        (restricted_tree restricted (tree_view left.now) operators.Union (tree_view right.now)
-        (tree_view condition.now))
-        (trees.restriction (trees.binary (tree_view left.now) operators.Union
-        (tree_view right.now)) (tree_view condition.now)))) }
+    ensures { MayBePushed planner.now.scope result (tree_view left.now) operators.Union
+        (tree_view right.now) (tree_view condition.now) }
 {
     if !is_brief(condition) {
         return Ok(None);
     }
-    let Some(_) = answered_heading(planner, left, condition)? else {
+    if !is_answered_of(planner, left, condition)? {
         return Ok(None);
-    };
-    let Some(_) = answered_heading(planner, right, condition)? else {
-        return Ok(None);
-    };
-    Ok(Some(Restricted::Both))
+    }
+    if is_answered_of(planner, right, condition)? {
+        Ok(Some(Restricted::Both))
+    } else {
+        Ok(None)
+    }
 }
 
 /// The first operand of an intersection or a difference, where a condition restricts it.
 fn restricted_first<C: Known>(
     planner: &Planner<'_, C>,
     left: &Expr,
-    right: &Expr,
     condition: &Expr,
 ) -> Result<Option<Restricted>, AllocError>
     requires { IsPlanner C.database planner.now }
-    ensures intersect { IfOk result (λ found. IfSome found (λ restricted.
-        MayStandFor planner.now.scope
-        (restricted_tree restricted (tree_view left.now) operators.Intersect (tree_view right.now)
-        (tree_view condition.now))
-        (trees.restriction (trees.binary (tree_view left.now) operators.Intersect
-        (tree_view right.now)) (tree_view condition.now)))) }
-    ensures minus { IfOk result (λ found. IfSome found (λ restricted.
-        MayStandFor planner.now.scope
-        (restricted_tree restricted (tree_view left.now) operators.Minus (tree_view right.now)
-        (tree_view condition.now))
-        (trees.restriction (trees.binary (tree_view left.now) operators.Minus
-        (tree_view right.now)) (tree_view condition.now)))) }
+    ensures intersect { (r : Tree) → MayBePushed planner.now.scope result (tree_view left.now)
+        operators.Intersect r (tree_view condition.now) }
+    ensures minus { (r : Tree) → MayBePushed planner.now.scope result (tree_view left.now)
+        operators.Minus r (tree_view condition.now) }
 {
-    let Some(_) = answered_heading(planner, left, condition)? else {
-        return Ok(None);
-    };
-    let Some(_) = planner.heading_of(right)? else {
-        return Ok(None);
-    };
-    Ok(Some(Restricted::First))
+    if is_answered_of(planner, left, condition)? {
+        Ok(Some(Restricted::First))
+    } else {
+        Ok(None)
+    }
 }
 
 /// Whether the heading has an attribute of the name and the other has none.
@@ -165,95 +171,112 @@ fn names_only(
 }
 
 /// Whether a condition restricts an operand of a join whose tuples have the heading, since it asks
-/// of this operand's attributes alone.
+/// of this operand's attributes alone, and of none that the other operand has besides.
 fn is_asked_of<C: Known>(
     planner: &Planner<'_, C>,
     heading: &Heading,
-    operand: &Expr,
+    other: &Heading,
     condition: &Expr,
-) -> Result<Option<Heading>, AllocError>
+) -> Result<bool, AllocError>
     requires { IsPlanner C.database planner.now }
-    ensures answered { IfOk result (λ found. IfSome found
-        (IsAnsweredIn planner.now.scope (tree_view operand.now) (tree_view condition.now))) }
-    ensures only { IfOk result (λ found. IfSome found (λ h.
-        NamesOnly (attribute_names h) heading.now (tree_view condition.now))) }
+    ensures answered { IfOk result (λ b. IsTrue b → (d : Tree)
+        → type_of planner.now.scope d ≡ Valued (types.relation (pack heading.now))
+        → IsAnsweredIn planner.now.scope d (tree_view condition.now) heading.now) }
+    ensures only { IfOk result (λ b. IsTrue b
+        → NamesOnly (attribute_names heading.now) other.now (tree_view condition.now)) }
 {
-    let Some(own) = answered_heading(planner, operand, condition)? else {
-        return Ok(None);
-    };
-    if names_only(planner.alloc, heading, &own, condition)? {
-        Ok(Some(own))
+    if names_only(planner.alloc, other, heading, condition)? {
+        is_answered(planner, heading, condition)
     } else {
-        Ok(None)
+        Ok(false)
+    }
+}
+
+/// The operand of a join or a product that has every attribute which a condition names, where the
+/// operands' tuples have these headings.
+fn asked_operand<C: Known>(
+    planner: &Planner<'_, C>,
+    first: &Heading,
+    second: &Heading,
+    condition: &Expr,
+) -> Result<Option<Restricted>, AllocError>
+    requires { IsPlanner C.database planner.now }
+    ensures join { (l r : Tree)
+        → type_of planner.now.scope l ≡ Valued (types.relation (pack first.now))
+        → type_of planner.now.scope r ≡ Valued (types.relation (pack second.now))
+        → MayBePushed planner.now.scope result l operators.Join r (tree_view condition.now) }
+    ensures times { (l r : Tree)
+        → type_of planner.now.scope l ≡ Valued (types.relation (pack first.now))
+        → type_of planner.now.scope r ≡ Valued (types.relation (pack second.now))
+        → MayBePushed planner.now.scope result l operators.Times r (tree_view condition.now) }
+{
+    if is_asked_of(planner, first, second, condition)? {
+        return Ok(Some(Restricted::First));
+    }
+    if is_asked_of(planner, second, first, condition)? {
+        return Ok(Some(Restricted::Second));
+    }
+    Ok(None)
+}
+
+/// The same where the second operand's heading is to be found.
+fn asked_operand_before<C: Known>(
+    planner: &Planner<'_, C>,
+    first: &Heading,
+    right: &Expr,
+    condition: &Expr,
+) -> Result<Option<Restricted>, AllocError>
+    requires { IsPlanner C.database planner.now }
+    ensures join { (l : Tree)
+        → type_of planner.now.scope l ≡ Valued (types.relation (pack first.now))
+        → MayBePushed planner.now.scope result l operators.Join (tree_view right.now)
+        (tree_view condition.now) }
+    ensures times { (l : Tree)
+        → type_of planner.now.scope l ≡ Valued (types.relation (pack first.now))
+        → MayBePushed planner.now.scope result l operators.Times (tree_view right.now)
+        (tree_view condition.now) }
+{
+    match planner.heading_of(right)? {
+        Some(second) => asked_operand(planner, first, &second, condition),
+        None => Ok(None),
     }
 }
 
 /// The operand of a join or a product that has every attribute which a condition names.
 fn restricted_of_join<C: Known>(
     planner: &Planner<'_, C>,
-    whole: &Expr,
     left: &Expr,
     right: &Expr,
     condition: &Expr,
 ) -> Result<Option<Restricted>, AllocError>
     requires { IsPlanner C.database planner.now }
-    ensures join { IfOk result (λ found. IfSome found (λ restricted.
-        tree_view whole.now ≡ trees.binary (tree_view left.now) operators.Join (tree_view right.now)
-        → MayStandFor planner.now.scope
-        (restricted_tree restricted (tree_view left.now) operators.Join (tree_view right.now)
-        (tree_view condition.now))
-        (trees.restriction (trees.binary (tree_view left.now) operators.Join
-        (tree_view right.now)) (tree_view condition.now)))) }
-    ensures times { IfOk result (λ found. IfSome found (λ restricted.
-        tree_view whole.now ≡ trees.binary (tree_view left.now) operators.Times (tree_view right.now)
-        → MayStandFor planner.now.scope
-        (restricted_tree restricted (tree_view left.now) operators.Times (tree_view right.now)
-        (tree_view condition.now))
-        (trees.restriction (trees.binary (tree_view left.now) operators.Times
-        (tree_view right.now)) (tree_view condition.now)))) }
+    ensures join { MayBePushed planner.now.scope result (tree_view left.now) operators.Join
+        (tree_view right.now) (tree_view condition.now) }
+    ensures times { MayBePushed planner.now.scope result (tree_view left.now) operators.Times
+        (tree_view right.now) (tree_view condition.now) }
 {
-    let Some(heading) = planner.heading_of(whole)? else {
-        return Ok(None);
-    };
-    let Some(_) = planner.heading_of(left)? else {
-        return Ok(None);
-    };
-    let Some(_) = planner.heading_of(right)? else {
-        return Ok(None);
-    };
-    if let Some(_) = is_asked_of(planner, &heading, left, condition)? {
-        return Ok(Some(Restricted::First));
+    match planner.heading_of(left)? {
+        Some(first) => asked_operand_before(planner, &first, right, condition),
+        None => Ok(None),
     }
-    if let Some(_) = is_asked_of(planner, &heading, right, condition)? {
-        return Ok(Some(Restricted::Second));
-    }
-    Ok(None)
 }
 
 /// The operands of an operator that a condition restricts in place of what the operator gives.
 pub(crate) fn restricted_operands<C: Known>(
     planner: &Planner<'_, C>,
-    whole: &Expr,
     left: &Expr,
     op: Operator,
     right: &Expr,
     condition: &Expr,
 ) -> Result<Option<Restricted>, AllocError>
     requires { IsPlanner C.database planner.now }
-    ensures { IfOk result (λ found. IfSome found (λ restricted.
-        tree_view whole.now ≡ trees.binary (tree_view left.now) op (tree_view right.now)
-        → MayStandFor planner.now.scope
-        (restricted_tree restricted (tree_view left.now) op (tree_view right.now)
-        (tree_view condition.now))
-        (trees.restriction (trees.binary (tree_view left.now) op (tree_view right.now))
-        (tree_view condition.now)))) }
+    ensures { MayBePushed planner.now.scope result (tree_view left.now) op (tree_view right.now)
+        (tree_view condition.now) }
 {
     match op {
         Operator::Union => restricted_of_union(planner, left, right, condition),
-        Operator::Intersect | Operator::Minus => restricted_first(planner, left, right, condition),
-        Operator::Join | Operator::Times => {
-            restricted_of_join(planner, whole, left, right, condition)
-        }
+        Operator::Intersect | Operator::Minus => restricted_first(planner, left, condition),
+        Operator::Join | Operator::Times => restricted_of_join(planner, left, right, condition),
         _ => Ok(None),
     }
 }

@@ -1,26 +1,30 @@
 //! The steps of WHERE. A condition that cannot fail restricts the operands of what it is asked of.
-ghost use Rattle.std.specs.Prelude.{◌+◌, IfOk, suc};
-ghost use Rattle.td_plan.specs.PlannedParts.{IsOperandOf};
-ghost use Rattle.td_plan.specs.Planners.{IsPlanner};
+ghost use Rattle.std.specs.Prelude.{◌+◌, ◌≡◌, suc};
+ghost use Rattle.td_check.specs.Scopes.{Scope, entered_with};
+ghost use Rattle.td_check.specs.StaticTypes.{type_of};
+ghost use Rattle.td_plan.specs.Narrowing.{IsNarrowed, MayNarrow};
+ghost use Rattle.td_plan.specs.PlannedParts.{IsBoxPlanned, IsPlanned};
 ghost use Rattle.td_plan.specs.PlansBelow.{PlansBelow};
-ghost use Rattle.td_plan.specs.PlansOf.{IsPlanOfTyped};
 ghost use Rattle.td_plan.specs.Pushing.{restricted_tree};
-ghost use Rattle.td_plan.specs.StepViews.{step_view};
 ghost use Rattle.td_plan.specs.TreeWeights.{expr_weight};
+ghost use Rattle.td_tree.specs.Outcomes.{Valued};
 ghost use Rattle.td_tree.specs.TreeViews.{tree_view};
 ghost use Rattle.td_tree.specs.Trees as trees;
+ghost use Rattle.td_tree.specs.Trees.{Tree};
+ghost use Rattle.td_types.specs.Types as types;
+ghost use Rattle.td_types.specs.Types.{Heading, pack};
 
-use crate::in_tuples::restriction_step;
-use crate::narrowed::{base_named, narrowed_operand};
+use crate::hoist::pulled;
+use crate::narrowed::{base_named, has_key_attributes, look_up_by_key};
 use crate::nodes::binary_step;
-use crate::operand::{Operand, WrittenOperand};
 use crate::planner::{Known, Planner};
 use crate::planning::Planning;
 use crate::push::{Restricted, restricted_operands};
 use crate::step::{Origin, Step};
-use std::alloc::AllocError;
+use std::alloc::{AllocError, Global};
 use td_tree::expression::Expr;
 use td_tree::operator::Operator;
+use td_types::heading::Heading;
 
 impl<C: Known, F> Planning<'_, C, F>
 where
@@ -36,15 +40,15 @@ where
     ) -> Result<Step, AllocError>
         requires { PlansBelow C.database self.now
             (suc (expr_weight expr.now + expr_weight condition.now)) F.pre F.post }
-        ensures { IfOk result (λ p. IsPlanOfTyped self.now.planner.now.scope (step_view p)
-            (trees.restriction (tree_view expr.now) (tree_view condition.now))) }
+        ensures { IsPlanned self.now.planner.now.scope result
+            (trees.restriction (tree_view expr.now) (tree_view condition.now)) }
     {
         match expr {
             Expr::Parentheses(inner) => self.where_of(inner, condition, origin),
             Expr::Binary(left, op, right) => {
                 let left: &Expr = left;
                 let right: &Expr = right;
-                match restricted_operands(self.planner, expr, left, *op, right, condition)? {
+                match restricted_operands(self.planner, left, *op, right, condition)? {
                     Some(restricted) => self.pushed(restricted, left, *op, right, condition),
                     None => self.where_here(expr, condition, origin),
                 }
@@ -65,79 +69,114 @@ where
     ) -> Result<Step, AllocError>
         requires { PlansBelow C.database self.now (suc (expr_weight left.now + expr_weight right.now
             + expr_weight condition.now)) F.pre F.post }
-        ensures { IfOk result (λ p. IsPlanOfTyped self.now.planner.now.scope (step_view p)
+        ensures { IsPlanned self.now.planner.now.scope result
             (restricted_tree restricted (tree_view left.now) op (tree_view right.now)
-            (tree_view condition.now))) }
+            (tree_view condition.now)) }
     {
-        let alloc = self.planner.alloc;
         match restricted {
             Restricted::First => {
-                let left = self.where_of(left, condition, Origin::Pushed)?;
-                binary_step(alloc, left, op, self.step_of(right)?)
+                binary_step(self.where_pushed(left, condition), op, self.boxed(right))
             }
             Restricted::Second => {
-                let left = self.step_of(left)?;
-                binary_step(
-                    alloc,
-                    left,
-                    op,
-                    self.where_of(right, condition, Origin::Pushed)?,
-                )
+                binary_step(self.boxed(left), op, self.where_pushed(right, condition))
             }
-            Restricted::Both => {
-                let left = self.where_of(left, condition, Origin::Pushed)?;
-                binary_step(
-                    alloc,
-                    left,
-                    op,
-                    self.where_of(right, condition, Origin::Pushed)?,
-                )
-            }
+            Restricted::Both => binary_step(
+                self.where_pushed(left, condition),
+                op,
+                self.where_pushed(right, condition),
+            ),
         }
     }
 
-    /// The step of WHERE of the expression's own step.
+    /// The step of a restriction that is pushed into an operand, in a box.
+    #[cycle(restriction)]
+    #[inline(never)]
+    fn where_pushed(&self, operand: &Expr, condition: &Expr) -> Result<Box<Step>, AllocError>
+        requires { PlansBelow C.database self.now
+            (suc (expr_weight operand.now + expr_weight condition.now)) F.pre F.post }
+        ensures { IsBoxPlanned self.now.planner.now.scope result
+            (trees.restriction (tree_view operand.now) (tree_view condition.now)) }
+    {
+        let step = self.where_of(operand, condition, Origin::Pushed)?;
+        Ok(Box::new(self.planner.alloc, step)?)
+    }
+
+    /// The step of WHERE of the expression's own step, or of a look-up in its place.
+    #[inline(never)]
     fn where_here(&self, expr: &Expr, condition: &Expr, origin: Origin) -> Result<Step, AllocError>
         requires { PlansBelow C.database self.now
             (suc (expr_weight expr.now + expr_weight condition.now)) F.pre F.post }
-        ensures { IfOk result (λ p. IsPlanOfTyped self.now.planner.now.scope (step_view p)
-            (trees.restriction (tree_view expr.now) (tree_view condition.now))) }
+        ensures { IsPlanned self.now.planner.now.scope result
+            (trees.restriction (tree_view expr.now) (tree_view condition.now)) }
     {
-        let operand = self.operand_of(expr)?;
-        self.where_step(WrittenOperand { operand, expr }, condition, origin)
+        let Some(heading) = self.planner.heading_of(expr)? else {
+            return self.step_of(expr);
+        };
+        restriction_step(
+            self.planner.alloc,
+            self.narrowed(&heading, expr, condition),
+            self.step_inside(&heading, condition),
+            origin,
+        )
     }
 
-    /// The step of the tuples of an operand for which a condition is true.
-    fn where_step(
+    /// The step of the operand of WHERE, in a box: a look-up by a key that the condition fixes, if
+    /// there is one, else the operand's own step.
+    #[inline(never)]
+    fn narrowed(
         &self,
-        written: WrittenOperand<'_>,
+        heading: &Heading,
+        operand: &Expr,
         condition: &Expr,
-        origin: Origin,
-    ) -> Result<Step, AllocError>
-        requires { PlansBelow C.database self.now (suc (expr_weight condition.now)) F.pre F.post }
-        ensures { IfOk result (λ p.
-            IsOperandOf self.now.planner.now.scope written.entry.operand
-            (tree_view written.entry.expr.now)
-            → IsPlanOfTyped self.now.planner.now.scope (step_view p)
-            (trees.restriction (tree_view written.entry.expr.now)
-            (tree_view condition.now))) }
+    ) -> Result<Box<Step>, AllocError>
+        requires { PlansBelow C.database self.now
+            (suc (expr_weight operand.now + expr_weight condition.now)) F.pre F.post }
+        ensures { IsNarrowed self.now.planner.now.scope result (tree_view operand.now)
+            (tree_view condition.now) heading.now }
     {
-        let WrittenOperand { operand, expr } = written;
-        let Operand { step, heading } = operand;
-        let Some(heading) = heading else {
-            return Ok(step);
-        };
-        let inner = self.planner.entered(&heading)?;
-        let inside = Planning {
-            planner: &inner,
-            inner: self.inner,
-        };
-        let asked = inside.step_of(condition)?;
-        if base_named(self.planner, expr).is_none() {
-            return restriction_step(self.planner.alloc, step, asked, origin);
+        match self.look_up_of(heading, operand, condition)? {
+            Some(look_up) => Ok(look_up),
+            None => self.boxed(operand),
         }
-        let fixed = self.fixed_values(condition, &heading)?;
-        let step = narrowed_operand(self.planner, expr, &heading, condition, step, fixed)?;
-        restriction_step(self.planner.alloc, step, asked, origin)
     }
+
+    /// The look-up, in a box, of the operand of WHERE by a key that the condition fixes.
+    fn look_up_of(
+        &self,
+        heading: &Heading,
+        operand: &Expr,
+        condition: &Expr,
+    ) -> Result<Option<Box<Step>>, AllocError>
+        requires { PlansBelow C.database self.now (suc (expr_weight condition.now)) F.pre F.post }
+        ensures { MayNarrow self.now.planner.now.scope result (tree_view operand.now)
+            (tree_view condition.now) heading.now }
+    {
+        let Some(name) = base_named(self.planner, operand) else {
+            return Ok(None);
+        };
+        if !has_key_attributes(self.planner, name) {
+            return Ok(None);
+        }
+        let fixed = self.fixed_values(condition, heading);
+        look_up_by_key(self.planner, name, heading, condition, fixed)
+    }
+}
+
+/// The step of the tuples of an operand for which a condition is true.
+#[inline(never)]
+fn restriction_step(
+    alloc: Global,
+    operand: Result<Box<Step>, AllocError>,
+    condition: Result<Step, AllocError>,
+    origin: Origin,
+) -> Result<Step, AllocError>
+    ensures { (scope : Scope) (d e : Tree) (h : Heading) → IsNarrowed scope operand d e h
+        → type_of scope d ≡ Valued (types.relation (pack h))
+        → IsPlanned (entered_with h scope) condition e
+        → IsPlanned scope result (trees.restriction d e) }
+{
+    let mut parts = Vec::new(alloc);
+    let condition = pulled(alloc, condition?, &mut parts)?;
+    let condition = Box::new(alloc, condition)?;
+    Ok(Step::Restriction(operand?, parts, condition, origin))
 }

@@ -4,9 +4,9 @@ ghost use Rattle.td_check.specs.Scopes.{Scope, entered_with};
 ghost use Rattle.td_check.specs.StaticTypes.{type_of};
 ghost use Rattle.td_eval.specs.AggregateValues.{summary_attributes};
 ghost use Rattle.td_eval.specs.Totals.{asked_by};
-ghost use Rattle.td_plan.specs.PlannedParts.{ArePlansOfTyped, in_summaries};
+ghost use Rattle.td_plan.specs.PlannedParts.{AreColumns, IsBoxPlanned, IsPlanned, in_summaries};
 ghost use Rattle.td_plan.specs.PlansOf.{IsPlanOfTyped};
-ghost use Rattle.td_plan.specs.StepViews.{step_view, steps_view};
+ghost use Rattle.td_plan.specs.StepViews.{step_view};
 ghost use Rattle.td_plan.specs.SummaryItems.{aggregates_in};
 ghost use Rattle.td_tree.specs.Outcomes.{Valued};
 ghost use Rattle.td_tree.specs.TreeViews.{attributes_view, summaries_view};
@@ -16,7 +16,7 @@ ghost use Rattle.td_types.specs.Types as types;
 ghost use Rattle.td_types.specs.Types.{Attribute, Heading, pack};
 ghost use Rattle.td_types.specs.Views.{pairs_view};
 
-use crate::hoist::all_pulled;
+use crate::in_tuples::NewColumns;
 use crate::step::Step;
 use std::alloc::{AllocError, Global};
 use td_check::scope::Scope;
@@ -77,54 +77,55 @@ pub(crate) fn count_step() -> Step
     Step::Constant(Value::bool(true))
 }
 
-/// The step of SUMMARIZE of an operand by the tuples of another relation, with new attributes, which
-/// have these types.
+/// The step of SUMMARIZE of an operand by the tuples of another relation, with new attributes,
+/// which are these aggregates.
+#[inline(never)]
 pub(crate) fn summary_step(
-    alloc: Global,
-    operand: Step,
-    per: Step,
-    attributes: Vec<(Name, Ty)>,
-    aggregates: Vec<Agg>,
-    values: Vec<Step>,
+    operand: Result<Box<Step>, AllocError>,
+    per: Result<Box<Step>, AllocError>,
+    aggregates: Result<Vec<Agg>, AllocError>,
+    columns: NewColumns,
 ) -> Result<Step, AllocError>
-    ensures { IfOk result (λ p. (scope : Scope) (d q : Tree) (items : trees.Summaries)
-        → (h : Heading) → IsPlanOfTyped scope (step_view operand) d
-        → IsPlanOfTyped scope (step_view per) q
+    ensures { (scope : Scope) (d q : Tree) (items : trees.Summaries) (h : Heading)
+        → IsBoxPlanned scope operand d → IsBoxPlanned scope per q
         → type_of scope d ≡ Valued (types.relation (pack h))
-        → summary_attributes (entered_with h scope) items ≡ Valued (pairs_view attributes.items)
-        → aggregates.items ≡ aggregates_in items
-        → ArePlansOfTyped (entered_with h scope) (steps_view values.items) (in_summaries items)
-        → IsPlanOfTyped scope (step_view p) (trees.summarize_per d q items)) }
+        → IfOk aggregates (λ xs. xs.items ≡ aggregates_in items)
+        → AreColumns (entered_with h scope) columns
+        (summary_attributes (entered_with h scope) items) (in_summaries items)
+        → IsPlanned scope result (trees.summarize_per d q items) }
 {
-    let mut parts = Vec::new(alloc);
-    let values = all_pulled(alloc, values, &mut parts)?;
-    let operand = Box::new(alloc, operand)?;
-    let per = Box::new(alloc, per)?;
-    Ok(Step::SummarizePer(operand, per, attributes, aggregates, parts, values))
+    let NewColumns {
+        attributes,
+        once,
+        values,
+    } = columns;
+    let aggregates = aggregates?;
+    let operand = operand?;
+    Ok(Step::SummarizePer(operand, per?, attributes, aggregates, once, values))
 }
 
-/// The step of SUMMARIZE of an operand by some of its attributes, with new attributes, which have these
-/// types.
+/// The step of SUMMARIZE of an operand by some of its attributes, with new attributes, which are
+/// these aggregates.
+#[inline(never)]
 pub(crate) fn summary_by_step(
-    alloc: Global,
-    operand: Step,
+    operand: Result<Box<Step>, AllocError>,
     by: &Attributes,
-    attributes: Vec<(Name, Ty)>,
-    aggregates: Vec<Agg>,
-    values: Vec<Step>,
+    aggregates: Result<Vec<Agg>, AllocError>,
+    columns: NewColumns,
 ) -> Result<Step, AllocError>
-    ensures { IfOk result (λ p. (scope : Scope) (d : Tree) (items : trees.Summaries)
-        → (h : Heading) → IsPlanOfTyped scope (step_view operand) d
-        → type_of scope d ≡ Valued (types.relation (pack h))
-        → summary_attributes (entered_with h scope) items ≡ Valued (pairs_view attributes.items)
-        → aggregates.items ≡ aggregates_in items
-        → ArePlansOfTyped (entered_with h scope) (steps_view values.items) (in_summaries items)
-        → IsPlanOfTyped scope (step_view p)
-        (trees.summarize_by d (attributes_view by.now) items)) }
+    ensures { (scope : Scope) (d : Tree) (items : trees.Summaries) (h : Heading)
+        → IsBoxPlanned scope operand d → type_of scope d ≡ Valued (types.relation (pack h))
+        → IfOk aggregates (λ xs. xs.items ≡ aggregates_in items)
+        → AreColumns (entered_with h scope) columns
+        (summary_attributes (entered_with h scope) items) (in_summaries items)
+        → IsPlanned scope result (trees.summarize_by d (attributes_view by.now) items) }
 {
-    let mut parts = Vec::new(alloc);
-    let values = all_pulled(alloc, values, &mut parts)?;
-    let operand = Box::new(alloc, operand)?;
+    let NewColumns {
+        attributes,
+        once,
+        values,
+    } = columns;
+    let aggregates = aggregates?;
     let by = by.try_clone()?;
-    Ok(Step::SummarizeBy(operand, by, attributes, aggregates, parts, values))
+    Ok(Step::SummarizeBy(operand?, by, attributes, aggregates, once, values))
 }

@@ -1,91 +1,56 @@
 //! Steps where a tuple that they do not name is no more in hand.
 ghost use Rattle.std.specs.Prelude.{◌≡◌, IfOk, suc};
 ghost use Rattle.td_plan.specs.Hoisting.{all_lowered, lowered, shifted};
+ghost use Rattle.td_plan.specs.Plans as plans;
 ghost use Rattle.td_plan.specs.StepViews.{step_view, steps_view};
 
+use crate::hoist::made;
 use crate::step::Step;
-use std::alloc::{AllocError, Global};
+use std::alloc::AllocError;
 
 /// The step where the tuple at a depth, which it does not name, is no more in hand.
 #[cycle(lowered)]
-pub(crate) fn lowered(alloc: Global, step: Step, depth: usize) -> Result<Step, AllocError>
+pub(crate) fn lowered(step: Step, depth: usize) -> Result<Step, AllocError>
     ensures { IfOk result (λ p. step_view p ≡ lowered depth (step_view step)) }
 {
     match step {
-        Step::Constant(value) => Ok(Step::Constant(value)),
-        Step::Refused(cause) => Ok(Step::Refused(cause)),
-        Step::Attribute { depth: d, place } => Ok(Step::Attribute {
-            depth: shifted(depth, d),
-            place,
-        }),
-        Step::Fixed { depth: d, place } => Ok(Step::Fixed {
-            depth: shifted(depth, d),
-            place,
-        }),
-        Step::Relvar(name) => Ok(Step::Relvar(name)),
-        Step::LookUp(name, key, part) => {
-            Ok(Step::LookUp(name, key, operand_lowered(alloc, part, depth)?))
-        }
-        Step::Prefix(op, operand) => Ok(Step::Prefix(op, operand_lowered(alloc, operand, depth)?)),
-        Step::Extract(attribute, operand) => {
-            Ok(Step::Extract(attribute, operand_lowered(alloc, operand, depth)?))
-        }
+        Step::Attribute { depth: d, place } => Ok(attribute(shifted(depth, d), place)),
+        Step::Fixed { depth: d, place } => Ok(fixed(shifted(depth, d), place)),
+        Step::LookUp(name, key, part) => made::look_up(name, key, boxed(part, depth)),
+        Step::Prefix(op, operand) => made::prefix(op, boxed(operand, depth)),
+        Step::Extract(name, operand) => made::extract(name, boxed(operand, depth)),
         Step::Restriction(operand, parts, condition, origin) => {
-            let (operand, parts, condition) = loop_lowered(
-                alloc, operand, parts, condition, depth,
-            )?;
-            Ok(Step::Restriction(operand, parts, condition, origin))
+            made::restriction(over(operand, parts, depth), inner(condition, depth), origin)
         }
-        Step::Binary(left, op, right) => {
-            let (left, right) = operands_lowered(alloc, left, right, depth)?;
-            Ok(Step::Binary(left, op, right))
-        }
-        Step::Compare(left, op, right) => {
-            let (left, right) = operands_lowered(alloc, left, right, depth)?;
-            Ok(Step::Compare(left, op, right))
-        }
-        Step::Postfix(operand, op) => {
-            Ok(Step::Postfix(operand_lowered(alloc, operand, depth)?, op))
-        }
-        Step::Select(ty, arguments) => Ok(Step::Select(ty, all_lowered(alloc, arguments, depth)?)),
-        Step::Component(rest, operand) => {
-            Ok(Step::Component(rest, operand_lowered(alloc, operand, depth)?))
-        }
-        Step::Measure(op, operand) => {
-            Ok(Step::Measure(op, operand_lowered(alloc, operand, depth)?))
-        }
-        Step::Relation(elements) => Ok(Step::Relation(all_lowered(alloc, elements, depth)?)),
-        Step::HeadedRelation(heading, elements) => {
-            Ok(Step::HeadedRelation(heading, all_lowered(alloc, elements, depth)?))
-        }
-        Step::Tuple(names, parts) => Ok(Step::Tuple(names, all_lowered(alloc, parts, depth)?)),
+        Step::Binary(left, op, right) => made::binary(operands(left, right, depth), op),
+        Step::Compare(left, op, right) => made::compare(operands(left, right, depth), op),
+        Step::Postfix(operand, op) => made::postfix(boxed(operand, depth), op),
+        Step::Select(ty, arguments) => made::select(ty, all(arguments, depth)),
+        Step::Component(rest, operand) => made::component(rest, boxed(operand, depth)),
+        Step::Measure(op, operand) => made::measure(op, boxed(operand, depth)),
+        Step::Relation(elements) => made::relation(all(elements, depth)),
+        Step::HeadedRelation(heading, elements) => made::headed(heading, all(elements, depth)),
+        Step::Tuple(names, parts) => made::tuple(names, all(parts, depth)),
         Step::Extend(operand, attributes, parts, values) => {
-            let (operand, parts, values) = columns_lowered(alloc, operand, parts, values, depth)?;
-            Ok(Step::Extend(operand, attributes, parts, values))
+            let values = columns(values, depth);
+            made::extend(over(operand, parts, depth), attributes, values)
         }
         Step::Aggregate(op, operand, parts, value) => {
-            let (operand, parts, value) = loop_lowered(alloc, operand, parts, value, depth)?;
-            Ok(Step::Aggregate(op, operand, parts, value))
+            made::aggregate(op, over(operand, parts, depth), inner(value, depth))
         }
         Step::SummarizePer(operand, per, attributes, aggregates, parts, values) => {
-            let per = operand_lowered(alloc, per, depth)?;
-            let (operand, parts, values) = columns_lowered(alloc, operand, parts, values, depth)?;
-            Ok(Step::SummarizePer(operand, per, attributes, aggregates, parts, values))
+            let per = boxed(per, depth);
+            let operand = over(operand, parts, depth);
+            made::summarize_per(operand, per, attributes, aggregates, columns(values, depth))
         }
         Step::SummarizeBy(operand, by, attributes, aggregates, parts, values) => {
-            let (operand, parts, values) = columns_lowered(alloc, operand, parts, values, depth)?;
-            Ok(Step::SummarizeBy(operand, by, attributes, aggregates, parts, values))
+            let operand = over(operand, parts, depth);
+            made::summarize_by(operand, by, attributes, aggregates, columns(values, depth))
         }
-        Step::If(condition, consequent, alternative) => {
-            let condition = operand_lowered(alloc, condition, depth)?;
-            let (consequent, alternative) = operands_lowered(
-                alloc,
-                consequent,
-                alternative,
-                depth,
-            )?;
-            Ok(Step::If(condition, consequent, alternative))
+        Step::If(condition, yes, no) => {
+            made::choice(boxed(condition, depth), operands(yes, no, depth))
         }
+        leaf @ (Step::Constant(_) | Step::Refused(_) | Step::Relvar(_)) => Ok(leaf),
     }
 }
 
@@ -96,29 +61,57 @@ fn shifted(out: usize, depth: usize) -> usize
     if out < depth { depth - 1 } else { depth }
 }
 
-/// One more, if it can be counted.
-fn deeper(depth: usize) -> Result<usize, AllocError>
-    ensures { IfOk result (λ d. d ≡ suc depth) }
+/// An attribute of a tuple in hand.
+fn attribute(depth: usize, place: usize) -> Step
+    ensures { step_view result ≡ plans.attribute depth place }
 {
-    match depth.checked_add(1) {
-        Some(deeper) => Ok(deeper),
-        None => Err(AllocError),
-    }
+    Step::Attribute { depth, place }
+}
+
+/// What was valued once for a tuple in hand.
+fn fixed(depth: usize, place: usize) -> Step
+    ensures { step_view result ≡ plans.fixed depth place }
+{
+    Step::Fixed { depth, place }
 }
 
 /// An operand where the tuple is no more in hand.
 #[cycle(lowered)]
-fn operand_lowered(alloc: Global, step: Box<Step>, depth: usize) -> Result<Box<Step>, AllocError>
+fn boxed(step: Box<Step>, depth: usize) -> Result<Box<Step>, AllocError>
     ensures { IfOk result (λ p. step_view p.value ≡ lowered depth (step_view step.value)) }
 {
-    let step = lowered(alloc, Box::into_inner(step), depth)?;
+    let alloc = *Box::allocator(&step);
+    let step = lowered(Box::into_inner(step), depth)?;
     Ok(Box::new(alloc, step)?)
+}
+
+/// What is asked of an operand's tuples, where the tuple at the depth outside of them is no more in
+/// hand.
+#[cycle(lowered)]
+fn inner(step: Box<Step>, depth: usize) -> Result<Box<Step>, AllocError>
+    ensures { IfOk result (λ p. step_view p.value ≡ lowered (suc depth) (step_view step.value)) }
+{
+    match depth.checked_add(1) {
+        Some(depth) => boxed(step, depth),
+        None => Err(AllocError),
+    }
+}
+
+/// The same where several values are asked of them.
+#[cycle(lowered)]
+fn columns(steps: Vec<Step>, depth: usize) -> Result<Vec<Step>, AllocError>
+    ensures { IfOk result
+        (λ all. steps_view all.items ≡ all_lowered (suc depth) (steps_view steps.items)) }
+{
+    match depth.checked_add(1) {
+        Some(depth) => all(steps, depth),
+        None => Err(AllocError),
+    }
 }
 
 /// Two operands where the tuple is no more in hand.
 #[cycle(lowered)]
-fn operands_lowered(
-    alloc: Global,
+fn operands(
     left: Box<Step>,
     right: Box<Step>,
     depth: usize,
@@ -127,67 +120,35 @@ fn operands_lowered(
     ensures right { IfOk result
         (λ p. step_view p.1.value ≡ lowered depth (step_view right.value)) }
 {
-    let left = operand_lowered(alloc, left, depth)?;
-    let right = operand_lowered(alloc, right, depth)?;
-    Ok((left, right))
+    let left = boxed(left, depth)?;
+    Ok((left, boxed(right, depth)?))
 }
 
-/// An operand, what is valued once for its tuples, and what is asked of them, where the tuple is no
-/// more in hand.
+/// An operand, and what is valued once for its tuples, where the tuple is no more in hand.
 #[cycle(lowered)]
-fn loop_lowered(
-    alloc: Global,
+fn over(
     operand: Box<Step>,
     parts: Vec<Step>,
-    value: Box<Step>,
     depth: usize,
-) -> Result<(Box<Step>, Vec<Step>, Box<Step>), AllocError>
+) -> Result<(Box<Step>, Vec<Step>), AllocError>
     ensures operand { IfOk result
         (λ p. step_view p.0.value ≡ lowered depth (step_view operand.value)) }
     ensures parts { IfOk result
         (λ p. steps_view p.1.items ≡ all_lowered depth (steps_view parts.items)) }
-    ensures value { IfOk result
-        (λ p. step_view p.2.value ≡ lowered (suc depth) (step_view value.value)) }
 {
-    let operand = operand_lowered(alloc, operand, depth)?;
-    let parts = all_lowered(alloc, parts, depth)?;
-    let inner = deeper(depth)?;
-    let value = operand_lowered(alloc, value, inner)?;
-    Ok((operand, parts, value))
-}
-
-/// The same where several values are asked of them.
-#[cycle(lowered)]
-fn columns_lowered(
-    alloc: Global,
-    operand: Box<Step>,
-    parts: Vec<Step>,
-    values: Vec<Step>,
-    depth: usize,
-) -> Result<(Box<Step>, Vec<Step>, Vec<Step>), AllocError>
-    ensures operand { IfOk result
-        (λ p. step_view p.0.value ≡ lowered depth (step_view operand.value)) }
-    ensures parts { IfOk result
-        (λ p. steps_view p.1.items ≡ all_lowered depth (steps_view parts.items)) }
-    ensures values { IfOk result
-        (λ p. steps_view p.2.items ≡ all_lowered (suc depth) (steps_view values.items)) }
-{
-    let operand = operand_lowered(alloc, operand, depth)?;
-    let parts = all_lowered(alloc, parts, depth)?;
-    let inner = deeper(depth)?;
-    let values = all_lowered(alloc, values, inner)?;
-    Ok((operand, parts, values))
+    let operand = boxed(operand, depth)?;
+    Ok((operand, all(parts, depth)?))
 }
 
 /// The steps where the tuple is no more in hand.
 #[cycle(lowered)]
-fn all_lowered(alloc: Global, steps: Vec<Step>, depth: usize) -> Result<Vec<Step>, AllocError>
+fn all(steps: Vec<Step>, depth: usize) -> Result<Vec<Step>, AllocError>
     ensures { IfOk result
         (λ all. steps_view all.items ≡ all_lowered depth (steps_view steps.items)) }
 {
-    let mut all = Vec::new(alloc);
+    let mut all = Vec::with_capacity(*steps.allocator(), steps.len())?;
     for step in steps {
-        all.push(lowered(alloc, step, depth)?)?;
+        all.push(lowered(step, depth)?)?;
     }
     Ok(all)
 }

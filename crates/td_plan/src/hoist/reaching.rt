@@ -1,5 +1,5 @@
 //! Which tuples in hand a step names.
-ghost use Rattle.std.specs.Prelude.{◌≡◌, ◌||◌, Bool, false, suc};
+ghost use Rattle.std.specs.Prelude.{◌≡◌, ◌||◌, false, suc};
 ghost use Rattle.td_plan.specs.Hoisting.{any_reaches, reaches};
 ghost use Rattle.td_plan.specs.StepViews.{step_view, steps_view};
 
@@ -11,84 +11,85 @@ pub(crate) fn reaches(step: &Step, depth: usize) -> bool
     ensures { result ≡ false → reaches depth (step_view step.now) ≡ false }
 {
     match step {
-        Step::Constant(_) => false,
-        Step::Refused(_) => false,
-        Step::Attribute { depth: d, place: _ } => *d == depth,
-        Step::Fixed { depth: d, place: _ } => *d == depth,
-        Step::Relvar(_) => false,
-        Step::LookUp(_, _, part) => operand_reaches(part, depth),
-        Step::Prefix(_, operand) => operand_reaches(operand, depth),
-        Step::Extract(_, operand) => operand_reaches(operand, depth),
-        Step::Restriction(operand, parts, condition, _) => one_of_three(
-            operand_reaches(operand, depth),
-            list_reaches(parts, depth),
-            inner_reaches(condition, depth),
-        ),
-        Step::Binary(left, _, right) => {
-            either(operand_reaches(left, depth), operand_reaches(right, depth))
+        Step::Constant(_) | Step::Refused(_) | Step::Relvar(_) => false,
+        Step::Attribute { depth: d, place: _ } | Step::Fixed { depth: d, place: _ } => *d == depth,
+        Step::LookUp(_, _, operand)
+        | Step::Prefix(_, operand)
+        | Step::Extract(_, operand)
+        | Step::Postfix(operand, _)
+        | Step::Component(_, operand)
+        | Step::Measure(_, operand) => operand_reaches(operand, depth),
+        Step::Binary(left, _, right) | Step::Compare(left, _, right) => {
+            either_reaches(left, right, depth)
         }
-        Step::Compare(left, _, right) => {
-            either(operand_reaches(left, depth), operand_reaches(right, depth))
+        Step::Select(_, parts)
+        | Step::Relation(parts)
+        | Step::HeadedRelation(_, parts)
+        | Step::Tuple(_, parts) => list_reaches(parts, depth),
+        Step::Restriction(operand, parts, value, _) | Step::Aggregate(_, operand, parts, value) => {
+            loop_reaches(operand, parts, value, depth)
         }
-        Step::Postfix(operand, _) => operand_reaches(operand, depth),
-        Step::Select(_, arguments) => list_reaches(arguments, depth),
-        Step::Component(_, operand) => operand_reaches(operand, depth),
-        Step::Measure(_, operand) => operand_reaches(operand, depth),
-        Step::Relation(elements) => list_reaches(elements, depth),
-        Step::HeadedRelation(_, elements) => list_reaches(elements, depth),
-        Step::Tuple(_, parts) => list_reaches(parts, depth),
-        Step::Extend(operand, _, parts, values) => one_of_three(
-            operand_reaches(operand, depth),
-            list_reaches(parts, depth),
-            inner_list_reaches(values, depth),
-        ),
-        Step::Aggregate(_, operand, parts, value) => one_of_three(
-            operand_reaches(operand, depth),
-            list_reaches(parts, depth),
-            inner_reaches(value, depth),
-        ),
-        Step::SummarizePer(operand, per, _, _, parts, values) => one_of_four(
-            operand_reaches(operand, depth),
-            operand_reaches(per, depth),
-            list_reaches(parts, depth),
-            inner_list_reaches(values, depth),
-        ),
-        Step::SummarizeBy(operand, _, _, _, parts, values) => one_of_three(
-            operand_reaches(operand, depth),
-            list_reaches(parts, depth),
-            inner_list_reaches(values, depth),
-        ),
-        Step::If(condition, consequent, alternative) => one_of_three(
-            operand_reaches(condition, depth),
-            operand_reaches(consequent, depth),
-            operand_reaches(alternative, depth),
-        ),
+        Step::Extend(operand, _, parts, values)
+        | Step::SummarizeBy(operand, _, _, _, parts, values) => {
+            columns_reach(operand, parts, values, depth)
+        }
+        Step::SummarizePer(operand, per, _, _, parts, values) => {
+            summary_reaches(operand, per, parts, values, depth)
+        }
+        Step::If(condition, consequent, alternative) => {
+            operand_reaches(condition, depth) || either_reaches(consequent, alternative, depth)
+        }
     }
 }
 
-/// Whether either holds.
-fn either(first: bool, second: bool) -> bool
-    ensures { (a b : Bool) → (first ≡ false → a ≡ false) → (second ≡ false → b ≡ false)
-        → result ≡ false → (a || b) ≡ false }
+/// Whether one of two operands may name the tuple at a depth.
+#[cycle(reaches)]
+fn either_reaches(left: &Box<Step>, right: &Box<Step>, depth: usize) -> bool
+    ensures { result ≡ false → (reaches depth (step_view left.now.value)
+        || reaches depth (step_view right.now.value)) ≡ false }
 {
-    first || second
+    operand_reaches(left, depth) || operand_reaches(right, depth)
 }
 
-/// Whether one of them holds.
-fn one_of_three(first: bool, second: bool, third: bool) -> bool
-    ensures { (a b c : Bool) → (first ≡ false → a ≡ false) → (second ≡ false → b ≡ false)
-        → (third ≡ false → c ≡ false) → result ≡ false → (a || (b || c)) ≡ false }
+/// Whether an operand, what is valued once for its tuples or what is asked of them may.
+#[cycle(reaches)]
+fn loop_reaches(operand: &Box<Step>, parts: &Vec<Step>, value: &Box<Step>, depth: usize) -> bool
+    ensures { result ≡ false → (reaches depth (step_view operand.now.value)
+        || (any_reaches depth (steps_view parts.now.items)
+        || reaches (suc depth) (step_view value.now.value))) ≡ false }
 {
-    first || (second || third)
+    operand_reaches(operand, depth) || list_reaches(parts, depth) || inner_reaches(value, depth)
 }
 
-/// Whether one of them holds.
-fn one_of_four(first: bool, second: bool, third: bool, fourth: bool) -> bool
-    ensures { (a b c d : Bool) → (first ≡ false → a ≡ false) → (second ≡ false → b ≡ false)
-        → (third ≡ false → c ≡ false) → (fourth ≡ false → d ≡ false) → result ≡ false
-        → ((a || b) || (c || d)) ≡ false }
+/// The same where several values are asked of them.
+#[cycle(reaches)]
+fn columns_reach(operand: &Box<Step>, parts: &Vec<Step>, values: &Vec<Step>, depth: usize) -> bool
+    ensures { result ≡ false → (reaches depth (step_view operand.now.value)
+        || (any_reaches depth (steps_view parts.now.items)
+        || any_reaches (suc depth) (steps_view values.now.items))) ≡ false }
 {
-    (first || second) || (third || fourth)
+    operand_reaches(operand, depth)
+        || list_reaches(parts, depth)
+        || inner_list_reaches(values, depth)
+}
+
+/// The same where they are asked of the groups of PER.
+#[cycle(reaches)]
+fn summary_reaches(
+    operand: &Box<Step>,
+    per: &Box<Step>,
+    parts: &Vec<Step>,
+    values: &Vec<Step>,
+    depth: usize,
+) -> bool
+    ensures { result ≡ false → ((reaches depth (step_view operand.now.value)
+        || reaches depth (step_view per.now.value))
+        || (any_reaches depth (steps_view parts.now.items)
+        || any_reaches (suc depth) (steps_view values.now.items))) ≡ false }
+{
+    either_reaches(operand, per, depth)
+        || list_reaches(parts, depth)
+        || inner_list_reaches(values, depth)
 }
 
 /// Whether an operand may name the tuple at a depth.

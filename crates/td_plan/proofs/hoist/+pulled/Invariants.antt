@@ -10,14 +10,14 @@ decreases-pulled l = 4 * weight (step_view l.step) + 1
 abbrev pub decreases-with_parts_pulled : goal.decreases-with_parts_pulled
 decreases-with_parts_pulled l = 4 * weight (step_view l.step)
 
-abbrev pub decreases-operand_pulled : goal.decreases-operand_pulled
-decreases-operand_pulled l = 4 * weight (step_view l.step.value) + 2
+abbrev pub decreases-boxed : goal.decreases-boxed
+decreases-boxed l = 4 * weight (step_view l.step.value) + 2
 
-abbrev pub decreases-operands_pulled : goal.decreases-operands_pulled
-decreases-operands_pulled l = 4 * (weight (step_view l.left.value) + weight (step_view l.right.value)) + 3
+abbrev pub decreases-operands : goal.decreases-operands
+decreases-operands l = 4 * (weight (step_view l.left.value) + weight (step_view l.right.value)) + 3
 
-abbrev pub decreases-loop_pulled : goal.decreases-loop_pulled
-decreases-loop_pulled l = 4 * (weight (step_view l.operand.value) + weights (steps_view l.parts.items)) + 3
+abbrev pub decreases-over : goal.decreases-over
+decreases-over l = 4 * (weight (step_view l.operand.value) + weights (steps_view l.parts.items)) + 3
 
 abbrev pub decreases-all_pulled : goal.decreases-all_pulled
 decreases-all_pulled l = 4 * weights (steps_view l.steps.items)

@@ -1,4 +1,6 @@
 use Rattle.std.proofs.Common.{subst, sym}
+use Rattle.td_plan.specs.PlannedParts.{IsBoxPlanned}
+use Rattle.td_plan.specs.Plans.{none}
 use Rattle.td_plan.specs.PlansOf.{IsPlanOfTyped}
 use Rattle.td_plan.specs.StepViews.{step_view, steps_view}
 use Rattle.td_plan.proofs.PlannedTuples.{extension_planned}
@@ -8,11 +10,9 @@ use Rattle.td_types.specs.Views.{pairs_view}
 use Rattle.td_plan.proofs.in_tuples.extension_step.Goals as goal
 
 pub returns : goal.returns
-returns c = λ scope d es h i static known all.
-    let p = c.in_ok-operand.operand in
-    let parts = c.all_pulled.new.pool in
-    let qs = c.in_ok-values.values in
-    subst (λ x. IsPlanOfTyped scope x (trees.extend d es)) (sym (extend_is p c.args.attributes parts qs))
-    (extension_planned scope (step_view p.value) (pairs_view c.args.attributes.items) (steps_view c.new-parts.result.items) (steps_view parts.items) (steps_view qs.items)
-    (steps_view c.args.values.items) d es h
-    (subst (λ x. IsPlanOfTyped scope (step_view x) d) (sym c.in_ok-operand.ensures.ok) i) static known all c.in_ok-values.ensures)
+returns c = λ scope d es h i static columns.
+    let p = c.in_ok-operand.field-0 in
+    let new = c.args.columns in
+    subst (λ x. IsPlanOfTyped scope x (trees.extend d es)) (sym (extend_is p new.attributes new.once new.values))
+    (extension_planned scope (step_view p.value) (pairs_view new.attributes.items) none (steps_view new.once.items) (steps_view new.values.items) columns.1 d es h
+    (subst (λ o. IsBoxPlanned scope o d) c.in_ok-operand.was i) static columns.0 columns.2 columns.3)

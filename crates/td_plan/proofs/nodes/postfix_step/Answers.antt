@@ -1,4 +1,5 @@
 use Rattle.std.proofs.Common.{subst, sym}
+use Rattle.td_plan.specs.PlannedParts.{IsBoxPlanned}
 use Rattle.td_plan.specs.Plans as plans
 use Rattle.td_plan.specs.PlansOf.{IsPlanOfTyped}
 use Rattle.td_plan.specs.StepViews.{step_view}
@@ -9,7 +10,6 @@ use Rattle.td_plan.proofs.nodes.postfix_step.Goals as goal
 
 pub returns : goal.returns
 returns c = λ scope d i.
-    let p = step_view c.in_ok-new.field-0.value in
-    subst (λ op. IsPlanOfTyped scope (plans.postfix p op) (trees.postfix d (postfix_view c.args.op.now))) (sym c.in_ok-op.ensures)
-    (postfix_planned scope p d (postfix_view c.args.op.now)
-    (subst (λ p. IsPlanOfTyped scope (step_view p) d) (sym c.in_ok-new.ensures.ok) i))
+    let p = step_view c.in_ok-operand.operand.value in
+    subst (λ op. IsPlanOfTyped scope (plans.postfix p op) (trees.postfix d (postfix_view c.args.op.now))) (sym c.in_ok-try_clone.ensures)
+    (postfix_planned scope p d (postfix_view c.args.op.now) (subst (λ o. IsBoxPlanned scope o d) c.in_ok-operand.was i))

@@ -1,4 +1,5 @@
 use Rattle.std.proofs.Common.{subst, sym}
+use Rattle.td_plan.specs.PlannedParts.{ArePlanned, in_trees}
 use Rattle.td_plan.specs.PlansOf.{IsPlanOfTyped}
 use Rattle.td_plan.specs.StepViews.{steps_view}
 use Rattle.td_plan.proofs.PlannedNodes.{relation_planned}
@@ -8,5 +9,6 @@ use Rattle.td_plan.proofs.nodes.relation_step.Goals as goal
 
 pub returns : goal.returns
 returns c = λ scope es all.
-    subst (λ p. IsPlanOfTyped scope p (trees.relation es)) (sym (relation_is c.args.elements))
-    (relation_planned scope (steps_view c.args.elements.items) es all)
+    let elements = c.in_ok-elements.field-0 in
+    subst (λ p. IsPlanOfTyped scope p (trees.relation es)) (sym (relation_is elements))
+    (relation_planned scope (steps_view elements.items) es (subst (λ o. ArePlanned scope o (in_trees es)) c.in_ok-elements.was all))

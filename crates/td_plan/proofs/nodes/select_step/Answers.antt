@@ -1,4 +1,5 @@
 use Rattle.std.proofs.Common.{◌∙◌, ap, subst, sym}
+use Rattle.td_plan.specs.PlannedParts.{ArePlanned, in_trees}
 use Rattle.td_plan.specs.Plans as plans
 use Rattle.td_plan.specs.PlansOf.{IsPlanOfTyped}
 use Rattle.td_plan.specs.StepViews.{steps_view}
@@ -9,7 +10,8 @@ use Rattle.td_plan.proofs.nodes.select_step.Goals as goal
 
 pub returns : goal.returns
 returns c = λ scope es all.
-    let ps = steps_view c.args.arguments.items in
+    let arguments = c.in_ok-arguments.arguments in
+    let ps = steps_view arguments.items in
     subst (λ p. IsPlanOfTyped scope p (trees.select c.args.ty.now es))
-    (sym (select_is c.in_ok-try_clone.field-0 c.args.arguments ∙ ap (λ n. plans.select n ps) c.in_ok-try_clone.ensures))
-    (select_planned scope c.args.ty.now ps es all)
+    (sym (select_is c.in_ok-try_clone.field-0 arguments ∙ ap (λ n. plans.select n ps) c.in_ok-try_clone.ensures))
+    (select_planned scope c.args.ty.now ps es (subst (λ o. ArePlanned scope o (in_trees es)) c.in_ok-arguments.was all))

@@ -1,8 +1,13 @@
 use Rattle.std.proofs.Common.{subst}
-use Rattle.td_plan.specs.PlansOf.{IsPlanOfTyped}
-use Rattle.td_plan.specs.StepViews.{step_view}
+use Rattle.td_plan.specs.PlannedParts.{IsPlanned}
+use Rattle.td_plan.specs.PlansOf.{scope_in}
 use Rattle.td_tree.specs.TreeViews.{tree_view}
 use Rattle.td_plan.proofs.plan.plan_of.Goals as goal
 
 pub returns : goal.returns
-returns g c = subst (λ s. IsPlanOfTyped s (step_view c.in_ok-value.value) (tree_view c.args.expr.now)) c.in_ok-planner.ensures.scope c.in_ok-value.ensures
+returns g c =
+    let d = tree_view c.args.expr.now in
+    c.plan_by.ensures (scope_in c.args.env.now) d (subst (λ s. IsPlanned s c.step_of.result d) c.in_ok-planner.ensures.scope c.step_of.ensures)
+
+pub step_of-requires : goal.step_of-requires
+step_of-requires g c = c.in_ok-planner.ensures.planner

@@ -1,14 +1,14 @@
 use Rattle.std.proofs.Common.{subst}
-use Rattle.td_plan.specs.PlansOf.{IsPlanOfTyped}
-use Rattle.td_plan.specs.StepViews.{step_view}
+use Rattle.td_plan.specs.PlannedParts.{IsPlanned}
+use Rattle.td_plan.specs.PlansOf.{scope_in}
 use Rattle.td_tree.specs.TreeViews.{tree_view}
 use Rattle.td_tree.specs.Trees as trees
 use Rattle.td_plan.proofs.plan.plan_where.Goals as goal
 
 pub returns : goal.returns
 returns g c =
-    subst (λ s. IsPlanOfTyped s (step_view c.in_ok-value.value) (trees.restriction (tree_view c.args.expr.now) (tree_view c.args.condition.now)))
-    c.in_ok-planner.ensures.scope c.in_ok-value.ensures
+    let d = trees.restriction (tree_view c.args.expr.now) (tree_view c.args.condition.now) in
+    c.boxed_plan.ensures (scope_in c.args.env.now) d (subst (λ s. IsPlanned s c.where_of.result d) c.in_ok-planner.ensures.scope c.where_of.ensures)
 
 pub where_of-requires : goal.where_of-requires
 where_of-requires g c = c.in_ok-planner.ensures.planner

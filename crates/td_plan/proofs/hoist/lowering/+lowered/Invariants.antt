@@ -7,21 +7,24 @@ use Rattle.td_plan.proofs.hoist.lowering.+lowered.Given as goal
 abbrev pub decreases-lowered : goal.decreases-lowered
 decreases-lowered l = 4 * weight (step_view l.step)
 
-abbrev pub decreases-operand_lowered : goal.decreases-operand_lowered
-decreases-operand_lowered l = 4 * weight (step_view l.step.value) + 1
+abbrev pub decreases-boxed : goal.decreases-boxed
+decreases-boxed l = 4 * weight (step_view l.step.value) + 1
 
-abbrev pub decreases-operands_lowered : goal.decreases-operands_lowered
-decreases-operands_lowered l = 4 * (weight (step_view l.left.value) + weight (step_view l.right.value)) + 2
+abbrev pub decreases-inner : goal.decreases-inner
+decreases-inner l = 4 * weight (step_view l.step.value) + 2
 
-abbrev pub decreases-loop_lowered : goal.decreases-loop_lowered
-decreases-loop_lowered l = 4 * (weight (step_view l.operand.value) + (weights (steps_view l.parts.items) + weight (step_view l.value.value))) + 2
+abbrev pub decreases-operands : goal.decreases-operands
+decreases-operands l = 4 * (weight (step_view l.left.value) + weight (step_view l.right.value)) + 2
 
-abbrev pub decreases-columns_lowered : goal.decreases-columns_lowered
-decreases-columns_lowered l = 4 * (weight (step_view l.operand.value) + (weights (steps_view l.parts.items) + weights (steps_view l.values.items))) + 2
+abbrev pub decreases-over : goal.decreases-over
+decreases-over l = 4 * (weight (step_view l.operand.value) + weights (steps_view l.parts.items)) + 2
 
-abbrev pub decreases-all_lowered : goal.decreases-all_lowered
-decreases-all_lowered l = 4 * weights (steps_view l.steps.items)
+abbrev pub decreases-all : goal.decreases-all
+decreases-all l = 4 * weights (steps_view l.steps.items)
 
-abbrev pub invariant-all_lowered-loop-step : goal.invariant-all_lowered-loop-step
-invariant-all_lowered-loop-step l =
+abbrev pub decreases-columns : goal.decreases-columns
+decreases-columns l = 4 * weights (steps_view l.steps.items) + 1
+
+abbrev pub invariant-all-loop-step : goal.invariant-all-loop-step
+invariant-all-loop-step l =
     (l.fn.steps.items ≡ l.yielded ++ l.step-iterator.rest.items) × (steps_view l.all.items ≡ all_lowered l.depth (steps_view l.yielded))

@@ -1,96 +1,90 @@
-use Rattle.std.proofs.Common.{◌≡◌, ◌∙◌, ◌||◌, ◌++◌, ℕ, List, [], ◌∷◌, false, ap, arith, sym, take}
+use Rattle.std.proofs.Common.{◌≡◌, ◌⊎◌, inl, inr, ◌∙◌, ◌+◌, ◌||◌, ◌++◌, ℕ, suc, List, [], ◌∷◌, false, ap, arith, sym, take}
 use Rattle.std.proofs.lemmas.List.{take_more}
+use Rattle.std.specs.Global.{Box, Vec}
+use Rattle.td_group.specs.declared.aggregates.Agg.{Agg}
 use Rattle.td_plan.proofs.Independence.{neither}
-use Rattle.td_plan.specs.declared.step.Step.{Step}
 use Rattle.td_plan.proofs.StepRows.{aggregate_is, extend_is, headed_relation_is, relation_is, restriction_is, select_is, summarize_by_is, summarize_per_is, tuple_is}
-use Rattle.td_plan.proofs.StepWeights.{weight, weight_at}
+use Rattle.td_plan.proofs.StepWeights.{weight, weight_at, weights}
+use Rattle.td_plan.specs.declared.step.Origin.{Origin}
+use Rattle.td_plan.specs.declared.step.Step.{Step}
+use Rattle.td_plan.specs.declared.step.Step.TheVariants as steps
 use Rattle.td_plan.specs.Hoisting.{any_reaches, reaches}
 use Rattle.td_plan.specs.StepViews.{step_view, steps_view}
+use Rattle.td_tree.specs.declared.expression.Attributes.{Attributes}
+use Rattle.td_tree.specs.declared.operator.Aggregate.{Aggregate}
+use Rattle.td_types.specs.declared.ty.Ty.{Ty}
+use Rattle.td_types.specs.Types.{Heading}
 use Rattle.td_plan.proofs.hoist.reaching.+reaches.Goals as goal
 
+-- ---- steps with the same parts
+
+of_list : (k : ℕ) (s : Step) (v : Vec Step)
+    → ((ty : List ℕ) × s ≡ steps.Select ty v) ⊎ ((s ≡ steps.Relation v) ⊎ (((h : Heading) × s ≡ steps.HeadedRelation h v) ⊎ ((names : Vec (List ℕ)) × s ≡ steps.Tuple names v)))
+    → (reaches k (step_view s) ≡ any_reaches k (steps_view v.items)) × (weight (step_view s) ≡ suc (weights (steps_view v.items)))
+of_list k s v is = elim is [
+  | inl x ↦ let e = ap step_view x.1 ∙ select_is x.0 v in (ap (reaches k) e, ap weight e)
+  | inr y ↦ elim y [
+    | inl x ↦ let e = ap step_view x ∙ relation_is v in (ap (reaches k) e, ap weight e)
+    | inr z ↦ elim z [
+      | inl x ↦ let e = ap step_view x.1 ∙ headed_relation_is x.0 v in (ap (reaches k) e, ap weight e)
+      | inr x ↦ let e = ap step_view x.1 ∙ tuple_is x.0 v in (ap (reaches k) e, ap weight e)
+    ]
+  ]
+]
+
+of_loop : (k : ℕ) (s : Step) (o : Box Step) (v : Vec Step) (x : Box Step)
+    → ((origin : Origin) × s ≡ steps.Restriction o v x origin) ⊎ ((op : Aggregate) × s ≡ steps.Aggregate op o v x)
+    → (reaches k (step_view s) ≡ (reaches k (step_view o.value) || (any_reaches k (steps_view v.items) || reaches (suc k) (step_view x.value))))
+    × (weight (step_view s) ≡ suc (weight (step_view o.value) + (weights (steps_view v.items) + weight (step_view x.value))))
+of_loop k s o v x is = elim is [
+  | inl y ↦ let e = ap step_view y.1 ∙ restriction_is o v x y.0 in (ap (reaches k) e, ap weight e)
+  | inr y ↦ let e = ap step_view y.1 ∙ aggregate_is y.0 o v x in (ap (reaches k) e, ap weight e)
+]
+
+of_columns : (k : ℕ) (s : Step) (o : Box Step) (v z : Vec Step)
+    → ((xs : Vec (List ℕ × Ty)) × s ≡ steps.Extend o xs v z) ⊎ ((by : Attributes) × (xs : Vec (List ℕ × Ty)) × (aggs : Vec Agg) × s ≡ steps.SummarizeBy o by xs aggs v z)
+    → (reaches k (step_view s) ≡ (reaches k (step_view o.value) || (any_reaches k (steps_view v.items) || any_reaches (suc k) (steps_view z.items))))
+    × (weight (step_view s) ≡ suc (weight (step_view o.value) + (weights (steps_view v.items) + weights (steps_view z.items))))
+of_columns k s o v z is = elim is [
+  | inl y ↦ let e = ap step_view y.1 ∙ extend_is o y.0 v z in (ap (reaches k) e, ap weight e)
+  | inr y ↦ let e = ap step_view y.3 ∙ summarize_by_is o y.0 y.1 y.2 v z in (ap (reaches k) e, ap weight e)
+]
+
+-- ---- arms
+
 pub reaches-list_reaches-requires : goal.reaches-list_reaches-requires
-reaches-list_reaches-requires t c =
-    (let h = ap weight (ap step_view c.in-Restriction.is ∙ restriction_is c.in-Restriction.operand c.in-Restriction.parts c.in-Restriction.condition c.in-Restriction.field-3) in omega (arith, c.decreases, h), tt)
-
-pub reaches-returns-in-Restriction : goal.reaches-returns-in-Restriction
-reaches-returns-in-Restriction t c = λ e. ap (reaches c.args.depth) (ap step_view c.in-Restriction.is ∙ restriction_is c.in-Restriction.operand c.in-Restriction.parts c.in-Restriction.condition c.in-Restriction.field-3) ∙ c.one_of_three.ensures _ _ _ c.operand_reaches-in-Restriction.ensures c.list_reaches.ensures c.inner_reaches.ensures e
-
-pub reaches-returns-in-Binary : goal.reaches-returns-in-Binary
-reaches-returns-in-Binary t c = λ e. ap (reaches c.args.depth) (ap step_view c.in-Binary.is) ∙ c.either.ensures _ _ c.operand_reaches-in-Binary.ensures c.operand_reaches-in-Binary-2.ensures e
-
-pub reaches-returns-in-Compare : goal.reaches-returns-in-Compare
-reaches-returns-in-Compare t c = λ e. ap (reaches c.args.depth) (ap step_view c.in-Compare.is) ∙ c.either-in-Compare.ensures _ _ c.operand_reaches-in-Compare.ensures c.operand_reaches-in-Compare-2.ensures e
-
-pub reaches-list_reaches-requires-in-Select : goal.reaches-list_reaches-requires-in-Select
-reaches-list_reaches-requires-in-Select t c =
-    (let h = ap weight (ap step_view c.in-Select.is ∙ select_is c.in-Select.field-0 c.in-Select.arguments) in omega (arith, c.decreases, h), tt)
+reaches-list_reaches-requires t c = (let h = (of_list c.args.depth _ c.in-Select.parts c.in-Select.is).1 in omega (arith, c.decreases, h), tt)
 
 pub reaches-returns-in-Select : goal.reaches-returns-in-Select
-reaches-returns-in-Select t c = λ e. ap (reaches c.args.depth) (ap step_view c.in-Select.is ∙ select_is c.in-Select.field-0 c.in-Select.arguments) ∙ c.list_reaches-in-Select.ensures e
+reaches-returns-in-Select t c = λ e. (of_list c.args.depth _ c.in-Select.parts c.in-Select.is).0 ∙ c.list_reaches.ensures e
 
-pub reaches-list_reaches-requires-in-Relation : goal.reaches-list_reaches-requires-in-Relation
-reaches-list_reaches-requires-in-Relation t c =
-    (let h = ap weight (ap step_view c.in-Relation.is ∙ relation_is c.in-Relation.elements) in omega (arith, c.decreases, h), tt)
+pub reaches-loop_reaches-requires : goal.reaches-loop_reaches-requires
+reaches-loop_reaches-requires t c =
+    (let h = (of_loop c.args.depth _ c.in-Restriction.operand c.in-Restriction.parts c.in-Restriction.value c.in-Restriction.is).1 in omega (arith, c.decreases, h), tt)
 
-pub reaches-returns-in-Relation : goal.reaches-returns-in-Relation
-reaches-returns-in-Relation t c = λ e. ap (reaches c.args.depth) (ap step_view c.in-Relation.is ∙ relation_is c.in-Relation.elements) ∙ c.list_reaches-in-Relation.ensures e
+pub reaches-returns-in-Restriction : goal.reaches-returns-in-Restriction
+reaches-returns-in-Restriction t c = λ e.
+    (of_loop c.args.depth _ c.in-Restriction.operand c.in-Restriction.parts c.in-Restriction.value c.in-Restriction.is).0 ∙ c.loop_reaches.ensures e
 
-pub reaches-list_reaches-requires-in-HeadedRelation : goal.reaches-list_reaches-requires-in-HeadedRelation
-reaches-list_reaches-requires-in-HeadedRelation t c =
-    (let h = ap weight (ap step_view c.in-HeadedRelation.is ∙ headed_relation_is c.in-HeadedRelation.field-0 c.in-HeadedRelation.elements) in omega (arith, c.decreases, h), tt)
-
-pub reaches-returns-in-HeadedRelation : goal.reaches-returns-in-HeadedRelation
-reaches-returns-in-HeadedRelation t c = λ e. ap (reaches c.args.depth) (ap step_view c.in-HeadedRelation.is ∙ headed_relation_is c.in-HeadedRelation.field-0 c.in-HeadedRelation.elements) ∙ c.list_reaches-in-HeadedRelation.ensures e
-
-pub reaches-list_reaches-requires-in-Tuple : goal.reaches-list_reaches-requires-in-Tuple
-reaches-list_reaches-requires-in-Tuple t c =
-    (let h = ap weight (ap step_view c.in-Tuple.is ∙ tuple_is c.in-Tuple.field-0 c.in-Tuple.parts) in omega (arith, c.decreases, h), tt)
-
-pub reaches-returns-in-Tuple : goal.reaches-returns-in-Tuple
-reaches-returns-in-Tuple t c = λ e. ap (reaches c.args.depth) (ap step_view c.in-Tuple.is ∙ tuple_is c.in-Tuple.field-0 c.in-Tuple.parts) ∙ c.list_reaches-in-Tuple.ensures e
-
-pub reaches-list_reaches-requires-in-Extend : goal.reaches-list_reaches-requires-in-Extend
-reaches-list_reaches-requires-in-Extend t c =
-    (let h = ap weight (ap step_view c.in-Extend.is ∙ extend_is c.in-Extend.operand c.in-Extend.field-1 c.in-Extend.parts c.in-Extend.values) in omega (arith, c.decreases, h), tt)
-
-pub reaches-inner_list_reaches-requires : goal.reaches-inner_list_reaches-requires
-reaches-inner_list_reaches-requires t c =
-    (let h = ap weight (ap step_view c.in-Extend.is ∙ extend_is c.in-Extend.operand c.in-Extend.field-1 c.in-Extend.parts c.in-Extend.values) in omega (arith, c.decreases, h), tt)
+pub reaches-columns_reach-requires : goal.reaches-columns_reach-requires
+reaches-columns_reach-requires t c =
+    (let h = (of_columns c.args.depth _ c.in-Extend.operand c.in-Extend.parts c.in-Extend.values c.in-Extend.is).1 in omega (arith, c.decreases, h), tt)
 
 pub reaches-returns-in-Extend : goal.reaches-returns-in-Extend
-reaches-returns-in-Extend t c = λ e. ap (reaches c.args.depth) (ap step_view c.in-Extend.is ∙ extend_is c.in-Extend.operand c.in-Extend.field-1 c.in-Extend.parts c.in-Extend.values) ∙ c.one_of_three-in-Extend.ensures _ _ _ c.operand_reaches-in-Extend.ensures c.list_reaches-in-Extend.ensures c.inner_list_reaches.ensures e
+reaches-returns-in-Extend t c = λ e.
+    (of_columns c.args.depth _ c.in-Extend.operand c.in-Extend.parts c.in-Extend.values c.in-Extend.is).0 ∙ c.columns_reach.ensures e
 
-pub reaches-list_reaches-requires-in-Aggregate : goal.reaches-list_reaches-requires-in-Aggregate
-reaches-list_reaches-requires-in-Aggregate t c =
-    (let h = ap weight (ap step_view c.in-Aggregate.is ∙ aggregate_is c.in-Aggregate.field-0 c.in-Aggregate.operand c.in-Aggregate.parts c.in-Aggregate.value) in omega (arith, c.decreases, h), tt)
-
-pub reaches-returns-in-Aggregate : goal.reaches-returns-in-Aggregate
-reaches-returns-in-Aggregate t c = λ e. ap (reaches c.args.depth) (ap step_view c.in-Aggregate.is ∙ aggregate_is c.in-Aggregate.field-0 c.in-Aggregate.operand c.in-Aggregate.parts c.in-Aggregate.value) ∙ c.one_of_three-in-Aggregate.ensures _ _ _ c.operand_reaches-in-Aggregate.ensures c.list_reaches-in-Aggregate.ensures c.inner_reaches-in-Aggregate.ensures e
-
-pub reaches-list_reaches-requires-in-SummarizePer : goal.reaches-list_reaches-requires-in-SummarizePer
-reaches-list_reaches-requires-in-SummarizePer t c =
-    (let h = ap weight (ap step_view c.in-SummarizePer.is ∙ summarize_per_is c.in-SummarizePer.operand c.in-SummarizePer.per c.in-SummarizePer.field-2 c.in-SummarizePer.field-3 c.in-SummarizePer.parts c.in-SummarizePer.values) in omega (arith, c.decreases, h), tt)
-
-pub reaches-inner_list_reaches-requires-in-SummarizePer : goal.reaches-inner_list_reaches-requires-in-SummarizePer
-reaches-inner_list_reaches-requires-in-SummarizePer t c =
-    (let h = ap weight (ap step_view c.in-SummarizePer.is ∙ summarize_per_is c.in-SummarizePer.operand c.in-SummarizePer.per c.in-SummarizePer.field-2 c.in-SummarizePer.field-3 c.in-SummarizePer.parts c.in-SummarizePer.values) in omega (arith, c.decreases, h), tt)
+pub reaches-summary_reaches-requires : goal.reaches-summary_reaches-requires
+reaches-summary_reaches-requires t c = (
+  let h = ap weight (ap step_view c.in-SummarizePer.is ∙ summarize_per_is c.in-SummarizePer.operand c.in-SummarizePer.per c.in-SummarizePer.field-2 c.in-SummarizePer.field-3 c.in-SummarizePer.parts c.in-SummarizePer.values) in
+      omega (arith, c.decreases, h),
+  tt,
+)
 
 pub reaches-returns-in-SummarizePer : goal.reaches-returns-in-SummarizePer
-reaches-returns-in-SummarizePer t c = λ e. ap (reaches c.args.depth) (ap step_view c.in-SummarizePer.is ∙ summarize_per_is c.in-SummarizePer.operand c.in-SummarizePer.per c.in-SummarizePer.field-2 c.in-SummarizePer.field-3 c.in-SummarizePer.parts c.in-SummarizePer.values) ∙ c.one_of_four.ensures _ _ _ _ c.operand_reaches-in-SummarizePer.ensures c.operand_reaches-in-SummarizePer-2.ensures c.list_reaches-in-SummarizePer.ensures c.inner_list_reaches-in-SummarizePer.ensures e
-
-pub reaches-list_reaches-requires-in-SummarizeBy : goal.reaches-list_reaches-requires-in-SummarizeBy
-reaches-list_reaches-requires-in-SummarizeBy t c =
-    (let h = ap weight (ap step_view c.in-SummarizeBy.is ∙ summarize_by_is c.in-SummarizeBy.operand c.in-SummarizeBy.field-1 c.in-SummarizeBy.field-2 c.in-SummarizeBy.field-3 c.in-SummarizeBy.parts c.in-SummarizeBy.values) in omega (arith, c.decreases, h), tt)
-
-pub reaches-inner_list_reaches-requires-in-SummarizeBy : goal.reaches-inner_list_reaches-requires-in-SummarizeBy
-reaches-inner_list_reaches-requires-in-SummarizeBy t c =
-    (let h = ap weight (ap step_view c.in-SummarizeBy.is ∙ summarize_by_is c.in-SummarizeBy.operand c.in-SummarizeBy.field-1 c.in-SummarizeBy.field-2 c.in-SummarizeBy.field-3 c.in-SummarizeBy.parts c.in-SummarizeBy.values) in omega (arith, c.decreases, h), tt)
-
-pub reaches-returns-in-SummarizeBy : goal.reaches-returns-in-SummarizeBy
-reaches-returns-in-SummarizeBy t c = λ e. ap (reaches c.args.depth) (ap step_view c.in-SummarizeBy.is ∙ summarize_by_is c.in-SummarizeBy.operand c.in-SummarizeBy.field-1 c.in-SummarizeBy.field-2 c.in-SummarizeBy.field-3 c.in-SummarizeBy.parts c.in-SummarizeBy.values) ∙ c.one_of_three-in-SummarizeBy.ensures _ _ _ c.operand_reaches-in-SummarizeBy.ensures c.list_reaches-in-SummarizeBy.ensures c.inner_list_reaches-in-SummarizeBy.ensures e
-
-pub reaches-returns-in-If : goal.reaches-returns-in-If
-reaches-returns-in-If t c = λ e. ap (reaches c.args.depth) (ap step_view c.in-If.is) ∙ c.one_of_three-in-If.ensures _ _ _ c.operand_reaches-in-If.ensures c.operand_reaches-in-If-2.ensures c.operand_reaches-in-If-3.ensures e
+reaches-returns-in-SummarizePer t c = λ e.
+    ap (reaches c.args.depth) (ap step_view c.in-SummarizePer.is ∙ summarize_per_is c.in-SummarizePer.operand c.in-SummarizePer.per c.in-SummarizePer.field-2 c.in-SummarizePer.field-3 c.in-SummarizePer.parts c.in-SummarizePer.values)
+    ∙ c.summary_reaches.ensures e
 
 -- ---- lists
 

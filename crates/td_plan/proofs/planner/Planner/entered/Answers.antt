@@ -9,10 +9,9 @@ pub loop-outer-preserved : goal.loop-outer-preserved
 loop-outer-preserved g c =
     let hs = c.args.self.now.headings.items in
     let within : c.loop-outer.outer-index < length hs = search rules in
-    let at = subst (λ xs. c.outer-item.result ≡ get_or xs c.loop-outer.outer-index c.outer-item.result) c.deref-outer-items.ensures.value c.outer-item.is in
-    let first = c.in_ok-try_clone.ensures in (
-      c.in_ok-inner.ensures.planner,
-      c.in_ok-inner.ensures.scope
-          ∙ (λ i. entered_with (first i) (c.loop-outer.invariant.1 i))
+    let at = subst (λ xs. c.outer-item.result ≡ get_or xs c.loop-outer.outer-index c.outer-item.result) c.deref-outer-items.ensures.value c.outer-item.is in (
+      c.in_ok-enter.ensures.planner,
+      c.in_ok-enter.ensures.scope
+          ∙ (λ i. entered_with c.outer-item.result (c.loop-outer.invariant.1 i))
           ∙ ap (among_headings (database_scope (g.C.Known.database c.args.self.now.catalog.now))) (sym (one_more_first hs c.loop-outer.outer-index c.outer-item.result within at)),
     )

@@ -1,7 +1,8 @@
-use Rattle.std.proofs.Common.{◌≡◌, ◌∙◌, ap, subst, sym}
+use Rattle.std.proofs.Common.{◌∙◌, ap, subst, sym}
 use Rattle.std.proofs.lemmas.Result.{IfOk-weaker}
 use Rattle.std.specs.Prelude.{IfSome}
 use Rattle.td_plan.proofs.Pushed.{stands_planned}
+use Rattle.td_plan.specs.PlannedParts.{IsPlanned}
 use Rattle.td_plan.specs.PlansOf.{IsPlanOfTyped}
 use Rattle.td_plan.specs.Pushing.{MayStandFor, restricted_tree}
 use Rattle.td_plan.specs.StepViews.{step_view}
@@ -12,8 +13,7 @@ use Rattle.td_plan.proofs.planning.Planning.+restriction.Goals as goal
 pub where_of-returns-in-Parentheses : goal.where_of-returns-in-Parentheses
 where_of-returns-in-Parentheses g t c =
     let is = ap tree_view c.in-Parentheses.is ∙ ap (λ x. trees.parentheses (tree_view x)) (sym c.deref.ensures) in
-    IfOk-weaker c.where_of.result _ _
-    (λ p h. subst (λ d. IsPlanOfTyped c.args.self.now.planner.now.scope (step_view p) (trees.restriction d (tree_view c.args.condition.now))) (sym is) h)
+    subst (λ d. IsPlanned c.args.self.now.planner.now.scope c.where_of.result (trees.restriction d (tree_view c.args.condition.now))) (sym is)
     c.where_of.ensures
 
 pub where_of-returns-in-Some : goal.where_of-returns-in-Some
@@ -25,42 +25,41 @@ where_of-returns-in-Some g t c =
     let op = c.in-Binary.op in
     let is = ap tree_view c.in-Binary.is ∙ (λ i. trees.binary (tree_view (sym c.deref-left.ensures i)) op (tree_view (sym c.deref-right.ensures i))) in
     let stands =
-    subst (λ o. IfSome o (λ k. tree_view c.args.expr.now ≡ trees.binary l op r → MayStandFor scope (restricted_tree k l op r e) (trees.restriction (trees.binary l op r) e)))
-    c.in-Some.is c.in_ok-restricted-in-Binary.ensures is in
-    IfOk-weaker c.pushed.result _ _
-    (λ p h. subst (λ d. IsPlanOfTyped scope (step_view p) (trees.restriction d e)) (sym is)
-    (stands_planned scope (step_view p) (restricted_tree c.in-Some.restricted l op r e) (trees.restriction (trees.binary l op r) e) stands h))
-    c.pushed.ensures
+    subst (λ o. IfSome o (λ k. MayStandFor scope (restricted_tree k l op r e) (trees.restriction (trees.binary l op r) e)))
+    c.in-Some.is c.in_ok-restricted-in-Binary.ensures in
+    subst (λ d. IsPlanned scope c.pushed.result (trees.restriction d e)) (sym is)
+    (IfOk-weaker c.pushed.result _ _
+    (λ p h. stands_planned scope (step_view p) (restricted_tree c.in-Some.restricted l op r e) (trees.restriction (trees.binary l op r) e) stands h)
+    c.pushed.ensures)
 
-pub pushed-returns-in_ok-step_of-in-First : goal.pushed-returns-in_ok-step_of-in-First
-pushed-returns-in_ok-step_of-in-First g t c =
+pub pushed-returns-in-First : goal.pushed-returns-in-First
+pushed-returns-in-First g t c =
     let scope = c.args.self.now.planner.now.scope in
     let l = tree_view c.args.left.now in
     let r = tree_view c.args.right.now in
     let e = tree_view c.args.condition.now in
-    IfOk-weaker c.binary_step.result _ _
-    (λ p h. subst (λ k. IsPlanOfTyped scope (step_view p) (restricted_tree k l c.args.op r e)) (sym c.in-First.is)
-    (h scope (trees.restriction l e) r c.in_ok-left-in-First.ensures c.in_ok-step_of-in-First.ensures))
-    c.binary_step.ensures
+    subst (λ k. IsPlanned scope c.binary_step.result (restricted_tree k l c.args.op r e)) (sym c.in-First.is)
+    (c.binary_step.ensures scope (trees.restriction l e) r c.where_pushed.ensures c.boxed.ensures)
 
-pub pushed-returns-in_ok-where_of-in-Second : goal.pushed-returns-in_ok-where_of-in-Second
-pushed-returns-in_ok-where_of-in-Second g t c =
+pub pushed-returns-in-Second : goal.pushed-returns-in-Second
+pushed-returns-in-Second g t c =
     let scope = c.args.self.now.planner.now.scope in
     let l = tree_view c.args.left.now in
     let r = tree_view c.args.right.now in
     let e = tree_view c.args.condition.now in
-    IfOk-weaker c.binary_step-in-Second.result _ _
-    (λ p h. subst (λ k. IsPlanOfTyped scope (step_view p) (restricted_tree k l c.args.op r e)) (sym c.in-Second.is)
-    (h scope l (trees.restriction r e) c.in_ok-left-in-Second.ensures c.in_ok-where_of-in-Second.ensures))
-    c.binary_step-in-Second.ensures
+    subst (λ k. IsPlanned scope c.binary_step-in-Second.result (restricted_tree k l c.args.op r e)) (sym c.in-Second.is)
+    (c.binary_step-in-Second.ensures scope l (trees.restriction r e) c.boxed-in-Second.ensures c.where_pushed-in-Second.ensures)
 
-pub pushed-returns-in_ok-where_of-in-Both : goal.pushed-returns-in_ok-where_of-in-Both
-pushed-returns-in_ok-where_of-in-Both g t c =
+pub pushed-returns-in-Both : goal.pushed-returns-in-Both
+pushed-returns-in-Both g t c =
     let scope = c.args.self.now.planner.now.scope in
     let l = tree_view c.args.left.now in
     let r = tree_view c.args.right.now in
     let e = tree_view c.args.condition.now in
-    IfOk-weaker c.binary_step-in-Both.result _ _
-    (λ p h. subst (λ k. IsPlanOfTyped scope (step_view p) (restricted_tree k l c.args.op r e)) (sym c.in-Both.is)
-    (h scope (trees.restriction l e) (trees.restriction r e) c.in_ok-left-in-Both.ensures c.in_ok-where_of-in-Both.ensures))
-    c.binary_step-in-Both.ensures
+    subst (λ k. IsPlanned scope c.binary_step-in-Both.result (restricted_tree k l c.args.op r e)) (sym c.in-Both.is)
+    (c.binary_step-in-Both.ensures scope (trees.restriction l e) (trees.restriction r e) c.where_pushed-in-Both.ensures c.where_pushed-in-Both-2.ensures)
+
+pub where_pushed-returns : goal.where_pushed-returns
+where_pushed-returns g t c =
+    subst (λ s. IsPlanOfTyped c.args.self.now.planner.now.scope (step_view s) (trees.restriction (tree_view c.args.operand.now) (tree_view c.args.condition.now)))
+    (sym c.in_ok-new.ensures.ok) c.in_ok-step.ensures

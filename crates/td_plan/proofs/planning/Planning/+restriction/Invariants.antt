@@ -3,7 +3,10 @@ use Rattle.td_plan.specs.TreeWeights.{expr_weight}
 use Rattle.td_plan.proofs.planning.Planning.+restriction.Given as goal
 
 abbrev pub decreases-where_of : goal.decreases-where_of
-decreases-where_of g l = 2 * expr_weight l.expr.now
+decreases-where_of g l = 3 * expr_weight l.expr.now
+
+abbrev pub decreases-where_pushed : goal.decreases-where_pushed
+decreases-where_pushed g l = 3 * expr_weight l.operand.now + 1
 
 abbrev pub decreases-pushed : goal.decreases-pushed
-decreases-pushed g l = 2 * (expr_weight l.left.now + expr_weight l.right.now) + 1
+decreases-pushed g l = 3 * (expr_weight l.left.now + expr_weight l.right.now) + 2

@@ -1,38 +1,49 @@
-use Rattle.std.proofs.Common.{◌≡◌, ◌∙◌, List, subst, sym}
+use Rattle.std.proofs.Common.{◌≡◌, ◌∙◌, subst, sym}
 use Rattle.std.proofs.lemmas.Result.{IfOk-weaker}
 use Rattle.std.specs.Prelude.{IfNone, IfSome}
+use Rattle.td_check.specs.Scopes.{entered_with}
+use Rattle.td_check.specs.StaticTypes.{type_of}
 use Rattle.td_eval.specs.AggregateValues.{summary_attributes}
-use Rattle.td_plan.proofs.PlannedLists.{items_are}
+use Rattle.td_plan.proofs.PlannedAnswers.{untyped_planned}
 use Rattle.td_plan.proofs.PlannedSummaries.{aggregates_are, by_of_none, by_of_refused}
-use Rattle.td_plan.specs.PlannedParts.{ArePlansOfTyped, HasStaticHeading, in_summaries}
-use Rattle.td_plan.specs.StepViews.{steps_view}
+use Rattle.td_plan.specs.PlannedParts.{AreFoundColumns, in_summaries}
 use Rattle.td_tree.specs.Outcomes.{Valued}
-use Rattle.td_tree.specs.TreeViews.{attributes_view, summaries_view}
-use Rattle.td_types.specs.Types.{Attribute}
-use Rattle.td_types.specs.Views.{pairs_view}
+use Rattle.td_tree.specs.TreeViews.{attributes_view, summaries_view, tree_view}
+use Rattle.td_tree.specs.Trees as trees
+use Rattle.td_types.specs.Types.{Heading, pack, relation}
 use Rattle.td_plan.proofs.planning.Planning.summarize_by_step.Goals as goal
 
 pub returns : goal.returns
 returns g c =
     let scope = c.args.self.now.planner.now.scope in
-    let items = c.args.items.now in
-    IfOk-weaker c.summary_by_step.result _ _
-    (λ p given d is. given scope d (summaries_view items) c.in-Some.heading is.0 (subst (λ o. HasStaticHeading scope o d) c.in-Some.is is.1)
-    (subst (λ s. summary_attributes s (summaries_view items) ≡ Valued (pairs_view c.in-Some-2.attributes.items)) c.in_ok-inner.ensures.scope
-    (subst (λ o. IfSome o (λ xs. summary_attributes c.in_ok-inner.inner.scope (summaries_view items) ≡ Valued (pairs_view xs.items))) c.in-Some-2.is c.in_ok-attributes.ensures.some))
-    (c.in_ok-aggregates.ensures ∙ sym (aggregates_are items))
-    (subst (λ s. ArePlansOfTyped s (steps_view c.in_ok-values.values.items) (in_summaries (summaries_view items))) c.in_ok-inner.ensures.scope
-    (subst (ArePlansOfTyped c.in_ok-inner.inner.scope (steps_view c.in_ok-values.values.items)) (sym (items_are items)) c.in_ok-values.ensures)))
-    c.summary_by_step.ensures
+    let d = tree_view c.args.operand.now in
+    let by = attributes_view c.args.by.now in
+    let items = summaries_view c.args.items.now in
+    let inner = entered_with c.in-Some.heading scope in
+    c.summary_by_step.ensures scope d items c.in-Some.heading c.boxed.ensures
+    (subst (λ o. IfSome o (λ h. type_of scope d ≡ Valued (relation (pack h)))) c.in-Some.is c.in_ok-heading.ensures.some)
+    (IfOk-weaker c.aggregates_of-aggregates.result _ _ (λ xs is. is ∙ sym (aggregates_are c.args.items.now)) c.aggregates_of-aggregates.ensures)
+    (subst (λ o. AreFoundColumns inner o (summary_attributes inner items) (in_summaries items)) c.in-Some-2.is c.in_ok-columns.ensures)
 
 pub returns-in_default : goal.returns-in_default
-returns-in_default g c d is written kind typed =
-    absurd (by_of_none c.args.self.now.planner.now.scope d (summaries_view c.args.items.now) (subst (λ o. HasStaticHeading c.args.self.now.planner.now.scope o d) c.in_default.is is.1) (attributes_view c.args.by.now) kind typed)
+returns-in_default g c =
+    let scope = c.args.self.now.planner.now.scope in
+    let d = tree_view c.args.operand.now in
+    let by = attributes_view c.args.by.now in
+    let items = summaries_view c.args.items.now in
+    untyped_planned scope c.step_of.result (trees.summarize_by d by items)
+    (by_of_none scope d items
+    (subst (λ o. IfNone o ((h : Heading) → type_of scope d ≡ Valued (relation (pack h)) → ⊥)) c.in_default.is c.in_ok-heading.ensures.none)
+    by)
 
 pub returns-in_default-2 : goal.returns-in_default-2
-returns-in_default-2 g c d is written kind typed =
+returns-in_default-2 g c =
     let scope = c.args.self.now.planner.now.scope in
+    let d = tree_view c.args.operand.now in
+    let by = attributes_view c.args.by.now in
     let items = summaries_view c.args.items.now in
-    let none = subst (λ o. IfNone o ((xs : List Attribute) → summary_attributes c.in_ok-inner.inner.scope items ≡ Valued xs → ⊥)) c.in_default-2.is c.in_ok-attributes.ensures.none in
-    absurd (by_of_refused scope d items c.in-Some.heading (subst (λ o. HasStaticHeading scope o d) c.in-Some.is is.1)
-    (subst (λ s. (xs : List Attribute) → summary_attributes s items ≡ Valued xs → ⊥) c.in_ok-inner.ensures.scope none) (attributes_view c.args.by.now) kind typed)
+    let inner = entered_with c.in-Some.heading scope in
+    untyped_planned scope c.step_of-in_default-2.result (trees.summarize_by d by items)
+    (by_of_refused scope d items c.in-Some.heading
+    (subst (λ o. IfSome o (λ h. type_of scope d ≡ Valued (relation (pack h)))) c.in-Some.is c.in_ok-heading.ensures.some)
+    (subst (λ o. AreFoundColumns inner o (summary_attributes inner items) (in_summaries items)) c.in_default-2.is c.in_ok-columns.ensures) by)
