@@ -118,7 +118,7 @@ pub(crate) fn extended_rows(
     for row in 0..rows.len() {
         put_cells(&mut cells, columns, row)?;
         let tuple = layout.tuple(alloc, rows[row].values(), &cells)?;
-        let _ = tuple.values();
+        tuple.reveal();
         extended.push(tuple)?;
     }
     Ok(extended)

@@ -115,8 +115,8 @@ fn pairs_from_first(
 {
     let heading = rel.heading();
     let others = other.heading();
-    let _ = rel.rows();
-    let _ = other.rows();
+    rel.reveal();
+    other.reveal();
     heading.reveal();
     others.reveal();
     let layout = pair_layout(alloc, left_out, heading, 0, others, heading.len())?;
@@ -135,8 +135,8 @@ fn pairs_from_second(
 {
     let heading = rel.heading();
     let others = other.heading();
-    let _ = rel.rows();
-    let _ = other.rows();
+    rel.reveal();
+    other.reveal();
     heading.reveal();
     others.reveal();
     let layout = pair_layout(alloc, left_out, heading, others.len(), others, 0)?;
@@ -166,8 +166,8 @@ pub fn hash_join(alloc: Global, rel: &Rel, other: &Rel) -> Result<Rel, AllocErro
     requires { IsTrue (agree rel.now.heading other.now.heading) }
     ensures { IfOk result (λ r. r ≡ join rel.now other.now) }
 {
-    let _ = rel.rows();
-    let _ = other.rows();
+    rel.reveal();
+    other.reveal();
     let heading = unrefused(rel.heading().union(other.heading()))?;
     let none = Heading::empty(alloc);
     let pairs = partners_of_either(alloc, &none, rel, other)?;
@@ -195,8 +195,8 @@ pub fn compose(alloc: Global, rel: &Rel, other: &Rel) -> Result<Rel, AllocError>
     requires { IsTrue (agree rel.now.heading other.now.heading) }
     ensures { IfOk result (λ r. r ≡ composition rel.now other.now) }
 {
-    let _ = rel.rows();
-    let _ = other.rows();
+    rel.reveal();
+    other.reveal();
     rel.heading().reveal();
     let own = rel.heading().lacking(other.heading())?;
     let others = other.heading().lacking(rel.heading())?;

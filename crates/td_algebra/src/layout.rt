@@ -86,7 +86,7 @@ impl Layout {
         ensures { (sources : Sources) → IsPermutation sources self.now
             → IfOk result (λ t. t ≡ placed_tuple sources (first.now ++ second.now)) }
     {
-        let _ = self.names.as_slice();
+        self.names.reveal();
         let mut values = Vec::with_capacity(alloc, self.places.len())?;
         for place in &self.places {
             values.push(value_at(*place, first, second).try_clone()?)?;
@@ -112,7 +112,7 @@ impl Layout {
         ensures { (sources : Sources) → IsPermutation sources self.now
             → IsTrue result ↔ (tuple.now ≡ placed_tuple sources values.now) }
     {
-        let _ = self.names.as_slice();
+        self.names.reveal();
         let own = tuple.values();
         for index in 0..self.places.len() {
             if own[index] != *value_at(self.places[index], values, &[]) {

@@ -169,7 +169,7 @@ fn kept(alloc: Global, rel: &Rel, other: &Rel, wanted: bool) -> Result<Rel, Allo
     ensures { IfOk result (λ r.
         r ≡ restriction (is_wanted wanted other.now.body) rel.now) }
 {
-    let _ = rel.rows();
+    rel.reveal();
     let rows = chosen_rows(alloc, rel, other, wanted)?;
     with_rows(rel, rows)
 }

@@ -174,7 +174,7 @@ pub fn agreeing(
     ensures { IfOk result (λ found. found ≡ agreeing key.now part.now relation.now) }
 {
     let kept = members_agreeing(alloc, key, part, relation)?;
-    let _ = relation.rows();
+    relation.reveal();
     let heading = relation.heading().try_clone()?;
     Rel::of_ascending(heading, kept)
 }

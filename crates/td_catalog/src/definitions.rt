@@ -111,7 +111,7 @@ impl<B: Body> Catalog<B> {
             return Err(Fault::Refused(Cause::NameTaken));
         }
         let _ = body.len();
-        let _ = name.as_str();
+        name.reveal();
         let known = name.try_clone()?;
         let known_heading = heading.try_clone()?;
         let entry = BaseEntry {
@@ -146,7 +146,7 @@ impl<B: Body> Catalog<B> {
         if self.has_relvar(&name) {
             return Err(Fault::Refused(Cause::NameTaken));
         }
-        let _ = name.as_str();
+        name.reveal();
         let known = name.try_clone()?;
         let known_heading = heading.try_clone()?;
         let tree = DefiningExpression::new(*self.tables.virtuals.allocator(), tree)?;
@@ -177,7 +177,7 @@ impl<B: Body> Catalog<B> {
         if self.tables.constraints.contains_key(&name) {
             return Err(Fault::Refused(Cause::NameTaken));
         }
-        let _ = name.as_str();
+        name.reveal();
         let known = name.try_clone()?;
         let tree = DefiningExpression::new(*self.tables.constraints.allocator(), tree)?;
         prepare(&mut self.tables, &mut self.log)?;

@@ -98,7 +98,7 @@ fn body_of<B: Body>(alloc: Global, keys: &Vec<Vec<Name>>, relation: Rel) -> Resu
     let none = Rel::of_ascending(relation.heading().try_clone()?, Vec::new(alloc))?;
     let empty: B = B::empty(alloc, relation.heading().try_clone()?, copied_keys(keys)?)?;
     let _ = empty.len();
-    let _ = relation.rows();
+    relation.reveal();
     body_after(empty, &none, &relation)
 }
 

@@ -18,7 +18,7 @@ pub(crate) struct Change {
 pub(crate) fn emptied(alloc: Global, relation: &Rel) -> Result<Rel, AllocError>
     ensures { IfOk result (λ r. r ≡ relation_view relation.now.heading []) }
 {
-    let _ = relation.rows();
+    relation.reveal();
     Rel::of_ascending(relation.heading().try_clone()?, Vec::new(alloc))
 }
 
@@ -39,8 +39,8 @@ impl Change {
         ensures headings { IfOk result (IsOfHeading relation.now.heading) }
     {
         relation.heading().reveal();
-        let _ = relation.rows();
-        let _ = other.rows();
+        relation.reveal();
+        other.reveal();
         let out = minus(alloc, relation, other)?;
         let add = minus(alloc, other, relation)?;
         Ok(Change { out, add })

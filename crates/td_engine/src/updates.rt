@@ -373,7 +373,7 @@ fn delete<B: Body>(
     ensures headings { IfOk result (IsOfHeading so_far.now.heading) }
 {
     so_far.heading().reveal();
-    let _ = so_far.rows();
+    so_far.reveal();
     let out = chosen(alloc, catalog, target, so_far, condition)?;
     Ok(Change::taking(alloc, out)?)
 }

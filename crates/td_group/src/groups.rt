@@ -45,7 +45,7 @@ fn group_of(
     ensures { IfOk result (λ r. r ≡ relation_view rel.now.heading
         (partners_in lookup.now places.now tuple.now)) }
 {
-    let _ = rel.rows();
+    rel.reveal();
     let rows = partners_of(alloc, lookup, places, tuple)?;
     Rel::of_ascending(rel.heading().try_clone()?, rows)
 }

@@ -88,6 +88,13 @@ impl Name {
         Ok(Name { text })
     }
 
+    /// What holds of every name. It takes no time.
+    pub fn reveal(&self)
+        ensures { IsName self.now }
+    {
+        let _ = self.text.as_str();
+    }
+
     /// The name as a text.
     pub fn as_str(&self) -> &str
         ensures value { result.now ≡ self.now }

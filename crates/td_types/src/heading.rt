@@ -60,7 +60,7 @@ fn from_sorted(alloc: Global, pairs: Vec<(Name, Ty)>) -> Result<Heading, AllocEr
 {
     let mut attributes = Vec::with_capacity(alloc, pairs.len())?;
     for (name, ty) in pairs {
-        let _ = name.as_str();
+        name.reveal();
         ty.reveal();
         attributes.push(Attribute { name, ty })?;
     }

@@ -94,7 +94,7 @@ fn reveal_all(components: &[(Name, Ty)])
     ensures { ArePairs (pairs_view components.now) }
 {
     for (name, ty) in components {
-        let _ = name.as_str();
+        name.reveal();
         ty.reveal();
     }
 }

@@ -30,7 +30,7 @@ impl Ty {
     {
         match self {
             Ty::User(name) => {
-                let _ = name.as_str();
+                name.reveal();
             }
             Ty::Tup(heading) | Ty::Rel(heading) => {
                 let _ = &heading.attributes;

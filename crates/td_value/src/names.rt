@@ -36,7 +36,7 @@ fn know_names(names: &[Name])
     ensures { All IsName names.now }
 {
     for name in names {
-        let _ = name.as_str();
+        name.reveal();
     }
 }
 
@@ -49,6 +49,13 @@ impl NameList {
         know_names(&names);
         let names = Rc::new(alloc, names)?;
         Ok(NameList { names })
+    }
+
+    /// What holds of every list of names: they ascend. It takes no time.
+    pub fn reveal(&self)
+        ensures { IsStrictlySortedBy (slice_cmp nat_cmp) self.now }
+    {
+        let _ = self.names.len();
     }
 
     /// The names, ascending.

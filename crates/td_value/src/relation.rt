@@ -217,6 +217,14 @@ impl Rel {
         &self.heading
     }
 
+    /// What holds of every relation. It takes no time.
+    pub fn reveal(&self)
+        ensures headed { All (IsTupleOf self.now.heading) self.now.body }
+        ensures ascending { IsAscendingBody self.now.body }
+    {
+        let _ = self.rows();
+    }
+
     /// The tuples, ascending.
     pub fn rows(&self) -> &[Tuple]
         ensures rows { result.now ≡ self.now.body }

@@ -134,7 +134,7 @@ fn values_alone(alloc: Global, entries: Vec<(Name, Value)>) -> Result<Vec<Value>
 {
     let mut values = Vec::with_capacity(alloc, entries.len())?;
     for (name, value) in entries {
-        let _ = name.as_str();
+        name.reveal();
         let _ = &value.node;
         put(&mut values, value)?;
     }
@@ -255,6 +255,13 @@ impl Tuple {
         ensures valid { IsTuple self.now }
     {
         self.names.as_slice()
+    }
+
+    /// What holds of every tuple. It takes no time.
+    pub fn reveal(&self)
+        ensures { IsTuple self.now }
+    {
+        let _ = self.values.len();
     }
 
     /// The values, in the order of their names.

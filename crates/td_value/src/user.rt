@@ -46,7 +46,7 @@ impl User {
     pub fn new(name: Name, components: Vec<Value>) -> User
         ensures { result ≡ user_view name components.items }
     {
-        let _ = name.as_str();
+        name.reveal();
         know_values(&components);
         User { name, components }
     }

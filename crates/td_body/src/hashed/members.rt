@@ -70,7 +70,7 @@ impl Members {
         ensures places { result.places ≡ [] }
     {
         sorted.heading().reveal();
-        let _ = sorted.rows();
+        sorted.reveal();
         Members {
             sorted,
             touched: Vec::new(alloc),
@@ -92,7 +92,7 @@ impl Members {
             (attribute_names sorted.heading) m.places) }
     {
         sorted.heading().reveal();
-        let _ = sorted.rows();
+        sorted.reveal();
         let histories = histories_of(alloc, keys, &sorted)?;
         Ok(Members {
             sorted,
@@ -394,7 +394,7 @@ impl Members {
         let Some(history) = self.histories.first() else {
             return self.sorted.try_clone();
         };
-        let _ = self.sorted.rows();
+        self.sorted.reveal();
         if self.touched.as_slice().is_empty() {
             return self.sorted.try_clone();
         }

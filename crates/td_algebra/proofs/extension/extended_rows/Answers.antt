@@ -24,7 +24,7 @@ loop-row-preserved c = (
       row_more sources additions c.args.columns.now c.args.rows.now c.loop-row.row c.index-rows-row.result c.in_ok-tuple.tuple c.values.result.now c.deref.result.now _ _
       e c.loop-row-test.true c.index-rows-row.is c.values.ensures.values (c.deref.ensures.value ∙ c.in_ok-put_cells.ensures) (c.in_ok-tuple.ensures sources p)
       (c.loop-row.invariant.0 sources additions p e) c.in_ok-push.ensures.items),
-  All-more IsTuple c.loop-row.extended.items c.push.new.self.items c.in_ok-tuple.tuple c.in_ok-push.ensures.items c.loop-row.invariant.1 c.values-in-loop-row.ensures.valid,
+  All-more IsTuple c.loop-row.extended.items c.push.new.self.items c.in_ok-tuple.tuple c.in_ok-push.ensures.items c.loop-row.invariant.1 c.reveal.ensures,
 )
 
 pub returns : goal.returns

@@ -28,11 +28,11 @@ new-requires c =
     let heading : c.in_ok-heading.heading ≡ projection (either_names c.args.rel.now c.args.other.now) (heading_union c.args.rel.now.heading c.args.other.now.heading) =
     united_answer c.in_ok-own.own c.in_ok-others.others (outside c.args.other.now.heading c.args.rel.now.heading) (outside c.args.rel.now.heading c.args.other.now.heading) c.union.result
     c.in_ok-heading.heading own others c.in_ok-heading.ensures c.union.ensures.answer
-    ∙ composed_heading_is c.args.rel.now c.args.other.now (subst IsAscending c.heading.ensures c.reveal.ensures.ascending) in
+    ∙ composed_heading_is c.args.rel.now c.args.other.now (subst IsAscending c.heading.ensures c.reveal-3.ensures.ascending) in
     let same : HaveSameMembers c.in_ok-pairs.pairs.items (partners_paired c.args.other.now.heading c.args.rel.now c.args.other.now) =
     subst (λ h. HaveSameMembers c.in_ok-pairs.pairs.items (partners_paired h c.args.rel.now c.args.other.now)) c.heading-6.ensures c.in_ok-pairs.ensures in
     subst (λ h. All (IsTupleOf h) c.in_ok-pairs.pairs.items) (sym heading)
-    (all_composed c.args.rel.now c.args.other.now c.in_ok-pairs.pairs.items c.rows.ensures.headed c.rows-2.ensures.headed same)
+    (all_composed c.args.rel.now c.args.other.now c.in_ok-pairs.pairs.items c.reveal.ensures.headed c.reveal-2.ensures.headed same)
 
 pub returns : goal.returns
 returns c =
@@ -41,10 +41,10 @@ returns c =
     let heading : c.in_ok-heading.heading ≡ projection (either_names c.args.rel.now c.args.other.now) (heading_union c.args.rel.now.heading c.args.other.now.heading) =
     united_answer c.in_ok-own.own c.in_ok-others.others (outside c.args.other.now.heading c.args.rel.now.heading) (outside c.args.rel.now.heading c.args.other.now.heading) c.union.result
     c.in_ok-heading.heading own others c.in_ok-heading.ensures c.union.ensures.answer
-    ∙ composed_heading_is c.args.rel.now c.args.other.now (subst IsAscending c.heading.ensures c.reveal.ensures.ascending) in
+    ∙ composed_heading_is c.args.rel.now c.args.other.now (subst IsAscending c.heading.ensures c.reveal-3.ensures.ascending) in
     let same : HaveSameMembers c.in_ok-pairs.pairs.items (partners_paired c.args.other.now.heading c.args.rel.now c.args.other.now) =
     subst (λ h. HaveSameMembers c.in_ok-pairs.pairs.items (partners_paired h c.args.rel.now c.args.other.now)) c.heading-6.ensures c.in_ok-pairs.ensures in
     let rows : set_of tuple_cmp c.in_ok-pairs.pairs.items ≡ (composition c.args.rel.now c.args.other.now).body =
-    composed_set c.args.rel.now c.args.other.now c.in_ok-pairs.pairs.items c.rows.ensures.headed c.rows-2.ensures.headed same in
+    composed_set c.args.rel.now c.args.other.now c.in_ok-pairs.pairs.items c.reveal.ensures.headed c.reveal-2.ensures.headed same in
     if_ok (λ r. r ≡ relation_view c.in_ok-heading.heading (set_of tuple_cmp c.in_ok-pairs.pairs.items)) (λ r. r ≡ composition c.args.rel.now c.args.other.now) c.new.result
     (λ r e. e ∙ (λ i. relation_view (heading i) (rows i))) c.new.ensures.value

@@ -18,7 +18,7 @@ new-requires c =
     let same : HaveSameMembers c.in_ok-pairs.pairs.items (partners_paired [] c.args.rel.now c.args.other.now) =
     subst (λ h. HaveSameMembers c.in_ok-pairs.pairs.items (partners_paired h c.args.rel.now c.args.other.now)) c.empty-none.ensures c.in_ok-pairs.ensures in
     subst (λ h. All (IsTupleOf h) c.in_ok-pairs.pairs.items) (sym heading)
-    (joined_headed c.args.rel.now c.args.other.now c.in_ok-pairs.pairs.items c.rows.ensures.headed c.rows-2.ensures.headed same)
+    (joined_headed c.args.rel.now c.args.other.now c.in_ok-pairs.pairs.items c.reveal.ensures.headed c.reveal-2.ensures.headed same)
 
 pub returns : goal.returns
 returns c =

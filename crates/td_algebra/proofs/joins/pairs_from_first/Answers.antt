@@ -8,7 +8,7 @@ use Rattle.td_algebra.proofs.joins.pairs_from_first.Goals as goal
 pub partner_pairs-requires : goal.partner_pairs-requires
 partner_pairs-requires c =
     first_paired c.args.left_out.now c.args.rel.now c.args.other.now c.heading-heading.result.now c.heading-others.result.now c.heading-heading.ensures c.heading-others.ensures c.len.result (length c.heading-others.result.now) c.len.ensures refl
-    c.rows.ensures.headed c.rows-2.ensures.headed c.in_ok-layout.layout c.in_ok-layout.ensures
+    c.reveal.ensures.headed c.reveal-2.ensures.headed c.in_ok-layout.layout c.in_ok-layout.ensures
 
 pub returns : goal.returns
 returns c =
@@ -16,5 +16,5 @@ returns c =
     (λ pairs. pairs.items ≡ partners_paired c.args.left_out.now c.args.rel.now c.args.other.now) c.partner_pairs.result
     (λ pairs e. e
     ∙ from_first c.args.left_out.now c.args.rel.now c.args.other.now c.heading-heading.result.now c.heading-others.result.now c.heading-heading.ensures c.heading-others.ensures c.len.result (length c.heading-others.result.now) c.len.ensures refl
-    c.rows.ensures.headed c.rows-2.ensures.headed c.in_ok-layout.layout c.in_ok-layout.ensures)
+    c.reveal.ensures.headed c.reveal-2.ensures.headed c.in_ok-layout.layout c.in_ok-layout.ensures)
     c.partner_pairs.ensures

@@ -9,7 +9,7 @@ use Rattle.td_algebra.proofs.joins.pairs_from_second.Goals as goal
 pub partner_pairs-requires : goal.partner_pairs-requires
 partner_pairs-requires c =
     second_paired c.args.left_out.now c.args.rel.now c.args.other.now c.heading-heading.result.now c.heading-others.result.now c.heading-heading.ensures c.heading-others.ensures (length c.heading-heading.result.now) c.len.result refl c.len.ensures
-    c.rows.ensures.headed c.rows-2.ensures.headed c.in_ok-layout.layout c.in_ok-layout.ensures
+    c.reveal.ensures.headed c.reveal-2.ensures.headed c.in_ok-layout.layout c.in_ok-layout.ensures
 
 pub returns : goal.returns
 returns c =
@@ -17,5 +17,5 @@ returns c =
     (λ pairs. HaveSameMembers pairs.items (partners_paired c.args.left_out.now c.args.rel.now c.args.other.now)) c.partner_pairs.result
     (λ pairs e. subst (λ ts. HaveSameMembers ts (partners_paired c.args.left_out.now c.args.rel.now c.args.other.now)) (sym e)
     (from_second c.args.left_out.now c.args.rel.now c.args.other.now c.heading-heading.result.now c.heading-others.result.now c.heading-heading.ensures c.heading-others.ensures (length c.heading-heading.result.now) c.len.result refl c.len.ensures
-    c.rows.ensures.headed c.rows-2.ensures.headed c.in_ok-layout.layout c.in_ok-layout.ensures))
+    c.reveal.ensures.headed c.reveal-2.ensures.headed c.in_ok-layout.layout c.in_ok-layout.ensures))
     c.partner_pairs.ensures

@@ -25,7 +25,7 @@ returns-clause-relation g c =
     let empty-is : r ≡ relation_view s.heading [] =
     c.in_ok-empty.ensures.relation ∙ ap (λ h. relation_view h []) (c.in_ok-try_clone-2.ensures ∙ c.heading-2.ensures) in
     let headed : IsHeading (pack s.heading) = subst (λ (q : Relation). IsHeading (pack q.heading)) empty-is c.len.ensures.valid.2 in
-    let valid : IsRelation s = IsRelation-view s.heading s.body headed c.rows.ensures.headed c.rows.ensures.ascending in
+    let valid : IsRelation s = IsRelation-view s.heading s.body headed c.reveal.ensures.headed c.reveal.ensures.ascending in
     subst (λ q. IfOk c.body_after.result (λ b. g.B.Body.relation b ≡ q))
     (ap (λ o. after_change o s r) (none-is ∙ sym empty-is) ∙ replaced r s (c.len.ensures.valid, valid, ap (λ (q : Relation). q.heading) empty-is))
     c.body_after.ensures.relation

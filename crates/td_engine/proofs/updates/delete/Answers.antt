@@ -22,7 +22,7 @@ returns-in_err-out-clause-answer g c =
     let n = c.args.target.now in
     let condition = option_map (λ e. tree_view e.now) c.args.condition in
     let headed : IsHeading (pack cur.heading) = subst (λ (k : Heading). IsHeading (pack k)) c.heading.ensures c.reveal.ensures.heading in
-    let is : IsRelation cur = IsRelation-view cur.heading cur.body headed c.rows.ensures.headed c.rows.ensures.ascending in
+    let is : IsRelation cur = IsRelation-view cur.heading cur.body headed c.reveal-2.ensures.headed c.reveal-2.ensures.ascending in
     let view = λ (d : Change). after d cur in
     let e = err_from_is_err_and c.from_residual.result c.from_residual.ensures.1 in
     subst (λ r. Answers view r (assignment_value (source_world db n cur) cur (delete n condition))) (sym (e.1 ∙ ap Err e.2))
@@ -37,7 +37,7 @@ returns-clause-answer g c =
     let n = c.args.target.now in
     let condition = option_map (λ e. tree_view e.now) c.args.condition in
     let headed : IsHeading (pack cur.heading) = subst (λ (k : Heading). IsHeading (pack k)) c.heading.ensures c.reveal.ensures.heading in
-    let is : IsRelation cur = IsRelation-view cur.heading cur.body headed c.rows.ensures.headed c.rows.ensures.ascending in
+    let is : IsRelation cur = IsRelation-view cur.heading cur.body headed c.reveal-2.ensures.headed c.reveal-2.ensures.ascending in
     let d = c.in_ok-taking.field-0 in
     let out = c.in_ok-out.out in
     let there : after d cur ≡ after_change out (relation_view out.heading []) cur =

@@ -9,9 +9,9 @@ pub of_ascending-requires-clause-headed : goal.of_ascending-requires-clause-head
 of_ascending-requires-clause-headed c =
     let test = has_part c.args.lookup.now.0 (part_of c.args.places.now c.args.tuple.now) in
     subst (λ h. All (IsTupleOf h) c.in_ok-rows.rows.items) (sym (c.in_ok-try_clone.ensures ∙ c.heading.ensures))
-    (kept_headed test c.args.rel.now.heading c.in_ok-rows.rows.items c.args.rel.now.body (c.in_ok-rows.ensures ∙ ap (filter test) c.requires.rows) c.rows.ensures.headed)
+    (kept_headed test c.args.rel.now.heading c.in_ok-rows.rows.items c.args.rel.now.body (c.in_ok-rows.ensures ∙ ap (filter test) c.requires.rows) c.reveal.ensures.headed)
 
 pub of_ascending-requires-clause-ascending : goal.of_ascending-requires-clause-ascending
 of_ascending-requires-clause-ascending c =
     let test = has_part c.args.lookup.now.0 (part_of c.args.places.now c.args.tuple.now) in
-    kept_ascends test c.in_ok-rows.rows.items c.args.rel.now.body (c.in_ok-rows.ensures ∙ ap (filter test) c.requires.rows) c.rows.ensures.ascending
+    kept_ascends test c.in_ok-rows.rows.items c.args.rel.now.body (c.in_ok-rows.ensures ∙ ap (filter test) c.requires.rows) c.reveal.ensures.ascending

@@ -14,7 +14,7 @@ loop-name-preserved c =
     let a : Attribute = (c.in-Some.name, type_view c.in-Some.ty) in
     let more : pairs_view (ps ++ (c.in-Some.name, c.in-Some.ty) ∷ []) ≡ pairs_view ps ++ a ∷ [] = map-append (λ p. (p.0, type_view p.1)) ps ((c.in-Some.name, c.in-Some.ty) ∷ []) in (
       ap heading_view c.in_ok-push.ensures.items ∙ map-append attribute_view c.loop-name.attributes.items (_ ∷ []) ∙ ap (λ xs. xs ++ a ∷ []) c.loop-name.invariant.0 ∙ sym more,
-      subst ArePairs (sym more) (ArePairs-push (pairs_view ps) a c.loop-name.invariant.1 c.as_str.ensures.is_name c.reveal.ensures),
+      subst ArePairs (sym more) (ArePairs-push (pairs_view ps) a c.loop-name.invariant.1 c.reveal.ensures c.reveal-in-loop-name.ensures),
     )
 
 pub returns : goal.returns

@@ -7,7 +7,7 @@ pub loop-name-preserved : goal.loop-name-preserved
 loop-name-preserved c k d =
     let same = c.name-item.is ∙ get_or_default c.args.names.now c.loop-name.name-index c.name-item.result d c.loop-name-test.true in
     let P : ℕ → Type 0 = λ i. IsName (get_or c.args.names.now i d) in
-    below_more P c.loop-name.name-index (λ i h. c.loop-name.invariant i d h) (subst IsName same c.as_str.ensures.is_name) k
+    below_more P c.loop-name.name-index (λ i h. c.loop-name.invariant i d h) (subst IsName same c.reveal.ensures) k
 
 pub returns : goal.returns
 returns c k d h =

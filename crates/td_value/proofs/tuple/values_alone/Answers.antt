@@ -12,7 +12,7 @@ loop-name-preserved c =
     let more : Tuple = (c.in-Some.name, c.in-Some.value) ∷ [] in
     let es : Tuple = c.loop-name.yielded in (
       c.in_ok-put.ensures.ok ∙ ap (λ vs. vs ++ c.in-Some.value ∷ []) c.loop-name.invariant.0 ∙ sym (map-append (λ e. e.1) es more),
-      AreFields-push es c.in-Some.name c.in-Some.value c.loop-name.invariant.1 c.as_str.ensures.is_name (subst IsValue c.value.view_is c.value.invariant),
+      AreFields-push es c.in-Some.name c.in-Some.value c.loop-name.invariant.1 c.reveal.ensures (subst IsValue c.value.view_is c.value.invariant),
     )
 
 pub returns-clause-values : goal.returns-clause-values

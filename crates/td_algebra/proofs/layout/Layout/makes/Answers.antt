@@ -21,7 +21,7 @@ bounds-own-index c =
     let inside = c.self.inside in
     let made = subst (λ ss. IsMade ss c.args.tuple.now) (sym c.self.view_is) c.requires.made in
     let long : length c.values-own.result.now ≡ length inside.places.items =
-    ap length c.values-own.ensures.values ∙ made_length inside.names inside.places.items c.args.tuple.now c.self.invariant c.as_slice.ensures.ascending made in
+    ap length c.values-own.ensures.values ∙ made_length inside.names inside.places.items c.args.tuple.now c.self.invariant c.reveal.ensures made in
     omega arith
 
 pub value_at-requires : goal.value_at-requires
@@ -44,7 +44,7 @@ returns-then-ne c = λ sources p.
     let read = value_read inside.places.items vs c.loop-index.index c.index.result.now c.value_at.result.now below c.index.ensures c.value_at.ensures in (
       λ e. absurd (true≢false (sym e)),
       λ e.
-          let own = c.values-own.ensures.values ∙ values_made inside.names inside.places.items c.args.tuple.now c.self.invariant c.as_slice.ensures.ascending made vs sources range order e in
+          let own = c.values-own.ensures.values ∙ values_made inside.names inside.places.items c.args.tuple.now c.self.invariant c.reveal.ensures made vs sources range order e in
           let same = value_there inside.places.items vs c.values-own.result.now c.loop-index.index c.index-own-index.result below c.index-own-index.is own ∙ sym read in
           sym (passed _ c.if-ne.ensures) ∙ (value_Decides c.index-own-index.result c.value_at.result.now).1 same,
     )
@@ -56,7 +56,7 @@ loop-index-preserved c =
     let below : c.loop-index.index < length inside.places.items = omega arith in
     let made = subst (λ ss. IsMade ss c.args.tuple.now) (sym c.self.view_is) c.requires.made in
     let long : length c.values-own.result.now ≡ length inside.places.items =
-    ap length c.values-own.ensures.values ∙ made_length inside.names inside.places.items c.args.tuple.now c.self.invariant c.as_slice.ensures.ascending made in
+    ap length c.values-own.ensures.values ∙ made_length inside.names inside.places.items c.args.tuple.now c.self.invariant c.reveal.ensures made in
     let read = value_read inside.places.items vs c.loop-index.index c.index.result.now c.value_at.result.now below c.index.ensures c.value_at.ensures in
     values_more inside.places.items vs c.values-own.result.now c.loop-index.index c.index-own-index.result below (omega arith) c.index-own-index.is
     ((value_Decides c.index-own-index.result c.value_at.result.now).0 (failed _ c.if-ne.ensures) ∙ read) c.loop-index.invariant
@@ -69,8 +69,8 @@ returns c = λ sources p.
     let range = subst (λ ss. AreInRange ss vs) (sym c.self.view_is) c.requires.range in
     let order = subst (IsPermutation sources) (sym c.self.view_is) p in
     let long : length c.values-own.result.now ≡ length inside.places.items =
-    ap length c.values-own.ensures.values ∙ made_length inside.names inside.places.items c.args.tuple.now c.self.invariant c.as_slice.ensures.ascending made in
+    ap length c.values-own.ensures.values ∙ made_length inside.names inside.places.items c.args.tuple.now c.self.invariant c.reveal.ensures made in
     let own : c.values-own.result.now ≡ map (value_in vs) inside.places.items =
     sym (take_all c.loop-index.index c.values-own.result.now (omega arith)) ∙ c.loop-index.invariant
     ∙ ap (map (value_in vs)) (take_all c.loop-index.index inside.places.items (omega arith)) in
-    (λ e. made_of inside.names inside.places.items c.args.tuple.now c.self.invariant c.as_slice.ensures.ascending made vs sources range order (sym c.values-own.ensures.values ∙ own), λ e. refl)
+    (λ e. made_of inside.names inside.places.items c.args.tuple.now c.self.invariant c.reveal.ensures made vs sources range order (sym c.values-own.ensures.values ∙ own), λ e. refl)

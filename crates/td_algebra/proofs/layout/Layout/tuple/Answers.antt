@@ -39,6 +39,6 @@ returns c = λ sources p.
     let inside = c.self.inside in
     let vs = c.args.first.now ++ c.args.second.now in
     let is = ap (zip inside.names) (all_values (value_in (c.args.first.now ++ c.args.second.now)) _ _ _ _ c.loop-place.invariant c.loop-place-test.false c.deref-place-items.ensures.value)
-    ∙ tuple_is_taken inside.names inside.places.items vs sources c.self.invariant c.as_slice.ensures.ascending
+    ∙ tuple_is_taken inside.names inside.places.items vs sources c.self.invariant c.reveal.ensures
     (subst (λ ss. AreInRange ss vs) (sym c.self.view_is) c.requires) (subst (IsPermutation sources) (sym c.self.view_is) p) in
     subst (λ made. IfOk c.of.result (λ t. t ≡ made)) is c.of.ensures

@@ -35,7 +35,7 @@ invariant_of-self-2 g c =
     subst (λ es. IsCatalog relation keys (with_base_rows es rows)) (sym c.in_ok-insert.ensures.entries)
     (catalog_with_base relation keys rows c.prepare.new.tables.bases c.args.name entry refl free history.catalog
     (record {
-      named = c.as_str.ensures.is_name;
+      named = c.reveal.ensures;
       heading = subst (λ (db : Database). AreKnown db.types (pack c.args.heading)) (sym seen) c.requires.heading;
       of_body = c.requires.body;
       proper = c.len.ensures.valid;

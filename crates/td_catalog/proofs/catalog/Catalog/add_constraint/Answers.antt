@@ -34,7 +34,7 @@ invariant_of-self-2 g c =
     let entry : ConstraintEntry = record { tree = c.in_ok-tree.tree } in
     let catalog : IsCatalog relation keys (with_constraint_rows c.insert.new.self.entries rows) =
     subst (λ es. IsCatalog relation keys (with_constraint_rows es rows)) (sym c.in_ok-insert.ensures.entries)
-    (catalog_with_constraint relation keys rows c.prepare.new.tables.constraints c.args.name entry refl free history.catalog c.as_str.ensures.is_name
+    (catalog_with_constraint relation keys rows c.prepare.new.tables.constraints c.args.name entry refl free history.catalog c.reveal.ensures
     (subst (λ e. IsTypedConstraint (database_scope (database_view relation rows)) (named_constraint c.args.name e)) (sym c.in_ok-tree.ensures)
     (subst (λ (db : Database). IsTypedConstraint (database_scope db) (named_constraint c.args.name (tree_view c.args.tree))) (sym seen) c.requires))) in
     let led = constraint_added relation keys kept rows c.insert.new.self.entries (c.args.name, entry)

@@ -33,7 +33,7 @@ invariant_of-self-2 g c =
     let entry : VirtualEntry = record { heading = c.args.heading; tree = c.in_ok-tree.tree; keys = c.args.keys } in
     let catalog : IsCatalog relation keys (with_virtual_rows c.insert.new.self.entries rows) =
     subst (λ es. IsCatalog relation keys (with_virtual_rows es rows)) (sym c.in_ok-insert.ensures.entries)
-    (catalog_with_virtual relation keys rows c.prepare.new.tables.virtuals c.args.name entry refl free history.catalog c.as_str.ensures.is_name
+    (catalog_with_virtual relation keys rows c.prepare.new.tables.virtuals c.args.name entry refl free history.catalog c.reveal.ensures
     (subst (λ e. IsTypedVirtual (database_scope (database_view relation rows)) (virtual_relvar c.args.name c.args.heading e (map (λ key. key.items) c.args.keys.items)))
     (sym c.in_ok-tree.ensures)
     (subst (λ (db : Database). IsTypedVirtual (database_scope db) (virtual_relvar c.args.name c.args.heading (tree_view c.args.tree) (map (λ key. key.items) c.args.keys.items)))

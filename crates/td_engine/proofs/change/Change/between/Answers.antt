@@ -12,8 +12,8 @@ returns-clause-after c =
     let r = c.args.relation.now in
     let s = c.args.other.now in
     let headed : IsHeading (pack r.heading) = subst (λ (k : Heading). IsHeading (pack k)) c.heading.ensures c.reveal.ensures.heading in
-    let first : IsRelation r = IsRelation-view r.heading r.body headed c.rows.ensures.headed c.rows.ensures.ascending in
+    let first : IsRelation r = IsRelation-view r.heading r.body headed c.reveal-2.ensures.headed c.reveal-2.ensures.ascending in
     let there : IsHeading (pack s.heading) = subst (λ (k : Heading). IsHeading (pack k)) (sym c.requires) headed in
-    let second : IsRelation s = IsRelation-view s.heading s.body there c.rows-2.ensures.headed c.rows-2.ensures.ascending in
+    let second : IsRelation s = IsRelation-view s.heading s.body there c.reveal-3.ensures.headed c.reveal-3.ensures.ascending in
     ap (λ o. after_change o c.in_ok-add.add r) c.in_ok-out.ensures ∙ ap (λ a. after_change (difference r s) a r) c.in_ok-add.ensures
     ∙ led_over r s (first, second, sym c.requires)

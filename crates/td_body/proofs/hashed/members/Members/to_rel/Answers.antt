@@ -17,7 +17,7 @@ returns-then-is_empty c =
     let covers : Covers r.body [] (set_in r.body hs) = subst (λ ts. Covers r.body ts (set_in r.body hs)) none (set_covered r.heading r.body touched hs c.self.inside.kept_count c.self.invariant) in
     let up : IsAscendingBody (set_in r.body hs) = rows_ascend (relation_view r.heading (set_in r.body hs)) (set_relation r.heading r.body touched hs c.self.inside.kept_count c.self.invariant) in
     if_ok (λ s. s ≡ r) (λ s. s ≡ c.args.self.now.relation) c.try_clone-then-is_empty.result
-    (λ s e. e ∙ sym (ap (relation_view r.heading) (untouched_same r.body (set_in r.body hs) covers c.rows.ensures.ascending up)) ∙ ap (λ (n : Members). n.relation) c.self.view_is) c.try_clone-then-is_empty.ensures
+    (λ s e. e ∙ sym (ap (relation_view r.heading) (untouched_same r.body (set_in r.body hs) covers c.reveal.ensures.ascending up)) ∙ ap (λ (n : Members). n.relation) c.self.view_is) c.try_clone-then-is_empty.ensures
 
 pub returns : goal.returns
 returns c =
