@@ -206,7 +206,7 @@ impl Body for HashBody {
     }
 
     fn insert(&mut self, tuple: Tuple) -> Result<bool, Tuple> {
-        let _ = self.members.len();
+        self.members.reveal();
         if self.members.contains(&tuple) {
             return Ok(false);
         }
@@ -219,7 +219,7 @@ impl Body for HashBody {
     }
 
     fn remove(&mut self, tuple: &Tuple) -> Result<bool, AllocError> {
-        let _ = self.members.len();
+        self.members.reveal();
         if !self.members.contains(tuple) {
             return Ok(false);
         }

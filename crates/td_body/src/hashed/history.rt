@@ -59,7 +59,7 @@ fn put_all(index: &mut KeyIndex, tuples: &[Tuple]) -> Result<(), AllocError>
         index.reserve(1)?;
         index.put_in(piece);
     }
-    let _ = index.len();
+    index.reveal();
     Ok(())
 }
 
@@ -172,7 +172,7 @@ impl KeyHistory {
         'outs: for tuple in out {
             self.take_out(tuple);
         }
-        let _ = self.index.len();
+        self.index.reveal();
         self.put_pending();
     }
 
@@ -191,7 +191,7 @@ impl KeyHistory {
         'adds: while let Some(entry) = self.pending.pop() {
             self.put_in(entry);
         }
-        let _ = self.index.len();
+        self.index.reveal();
     }
 
     /// Goes back to the set that was kept last. It takes no memory.

@@ -121,6 +121,13 @@ impl KeyIndex {
         Ok(())
     }
 
+    /// What holds of every index: its tuples ascend. It takes no time.
+    pub(crate) fn reveal(&self)
+        ensures { IsAscendingBody self.now.tuples }
+    {
+        let _ = self.len();
+    }
+
     /// How many tuples there are.
     pub(crate) fn len(&self) -> usize
         ensures length { result ≡ length self.now.tuples }

@@ -29,7 +29,7 @@ pub(crate) fn found_by_key(
     ensures { IfOk result (λ found.
         found ≡ agreeing key.now part.now members.now.relation) }
 {
-    let _ = members.len();
+    members.reveal();
     match members.found(alloc, number, part.values())? {
         Some(tuples) => Rel::new(members.heading().try_clone()?, tuples),
         None => agreeing(alloc, key, part, &members.to_rel(alloc)?),
@@ -47,7 +47,7 @@ pub(crate) fn holds_of(
         ≡ places_from 0 key.now (attribute_names members.now.relation.heading)) }
     ensures { IfOk result (λ holds. holds ≡ key_holds key.now members.now.relation.body) }
 {
-    let _ = members.len();
+    members.reveal();
     match members.are_apart(number) {
         Some(are_apart) => Ok(are_apart),
         None => key_holds(alloc, key, &members.to_rel(alloc)?),

@@ -141,6 +141,13 @@ impl Members {
         }
     }
 
+    /// What holds of all members: they are a relation. It takes no time.
+    pub(crate) fn reveal(&self)
+        ensures { IsRelation self.now.relation }
+    {
+        let _ = self.len();
+    }
+
     /// How many members there are.
     pub(crate) fn len(&self) -> usize
         ensures length { result ≡ length self.now.relation.body }

@@ -19,5 +19,5 @@ rows-preserved c =
 
 pub returns-clause-tuples : goal.returns-clause-tuples
 returns-clause-tuples c =
-    sym (at_drop_all (λ l. changed_set [] l c.rows.index.tuples) c.args.tuples.now c.rows.tuple-index c.rows-test.false ∙ changed_none c.rows.index.tuples c.len.ensures.ascending)
+    sym (at_drop_all (λ l. changed_set [] l c.rows.index.tuples) c.args.tuples.now c.rows.tuple-index c.rows-test.false ∙ changed_none c.rows.index.tuples c.reveal.ensures)
     ∙ c.rows.invariant.tuples

@@ -38,7 +38,7 @@ new-requires c =
     c.in_ok-tuples.field-0 c.in-Some.tuples c.in_ok-tuples.ensures c.in-Some.is in
     let same = told (slice_get c.args.members.now.places c.args.number) r key c.values.result.now tuples c.requires.placed found in
     let headed : All (IsTupleOf r.heading) tuples =
-    found_headed r c.len.ensures.valid key part c.requires.part tuples (subst (λ vs. HaveSameMembers tuples (with_part (places_from 0 key (attribute_names r.heading)) vs r.body)) c.values.ensures.values same) in
+    found_headed r c.reveal.ensures key part c.requires.part tuples (subst (λ vs. HaveSameMembers tuples (with_part (places_from 0 key (attribute_names r.heading)) vs r.body)) c.values.ensures.values same) in
     subst (λ h. All (IsTupleOf h) tuples) (sym (c.in_ok-try_clone-in-Some.ensures ∙ c.heading.ensures)) headed
 
 pub returns-in_ok-try_clone-in-Some : goal.returns-in_ok-try_clone-in-Some
@@ -51,7 +51,7 @@ returns-in_ok-try_clone-in-Some c =
     c.in_ok-tuples.field-0 c.in-Some.tuples c.in_ok-tuples.ensures c.in-Some.is in
     let same = told (slice_get c.args.members.now.places c.args.number) r key c.values.result.now tuples c.requires.placed found in
     let body : set_of tuple_cmp tuples ≡ filter (agree_on key part) r.body =
-    found_agreeing r c.len.ensures.valid key part c.requires.part tuples (subst (λ vs. HaveSameMembers tuples (with_part (places_from 0 key (attribute_names r.heading)) vs r.body)) c.values.ensures.values same) in
+    found_agreeing r c.reveal.ensures key part c.requires.part tuples (subst (λ vs. HaveSameMembers tuples (with_part (places_from 0 key (attribute_names r.heading)) vs r.body)) c.values.ensures.values same) in
     let heading = c.in_ok-try_clone-in-Some.ensures ∙ c.heading.ensures in
     if_ok (λ f. f ≡ relation_view c.in_ok-try_clone-in-Some.field-0 (set_of tuple_cmp tuples)) (λ f. f ≡ agreeing key part r)
     c.new.result (λ f e. e ∙ (λ i. relation_view (heading i) (body i))) c.new.ensures.value

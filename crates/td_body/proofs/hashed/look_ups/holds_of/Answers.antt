@@ -9,4 +9,4 @@ returns-in-Some c =
     let r = c.args.members.now.relation in
     let told = c.in-Some.ensures in
     told.2 ∙ ap (λ ps. apart_at ps r.body) (at_some (λ ps. ps ≡ places_from 0 c.args.key.now (attribute_names r.heading)) _ told.0 c.requires told.1)
-    ∙ apart_held r c.len.ensures.valid c.args.key.now
+    ∙ apart_held r c.reveal.ensures c.args.key.now

@@ -10,7 +10,7 @@ pub returns-then-contains-clause-with : goal.returns-then-contains-clause-with
 returns-then-contains-clause-with c =
     let m = c.self.inside.members.relation in
     let same : m ≡ with_tuple c.args.tuple m =
-    ap (relation_view m.heading) (sym (put_again c.args.tuple m.body (rows_ascend m c.len.ensures.valid) (sym c.if-contains.ensures))) in
+    ap (relation_view m.heading) (sym (put_again c.args.tuple m.body (rows_ascend m c.reveal.ensures) (sym c.if-contains.ensures))) in
     subst (λ r. r ≡ with_tuple c.args.tuple r) (ap (λ b. b.relation) c.self.view_is) same
 
 pub returns-clause-with : goal.returns-clause-with
@@ -19,5 +19,5 @@ returns-clause-with c =
     let m = c.self.inside.members.relation in
     let one : changed_set [] c.from_ref-one.result.now m.body ≡ put_tuple t m.body =
     ap (λ ts. changed_set [] ts m.body) c.from_ref-one.ensures.value
-    ∙ sym (changed_first t [] m.body) ∙ changed_none (put_tuple t m.body) (ascends-put t m.body (rows_ascend m c.len.ensures.valid)) in
+    ∙ sym (changed_first t [] m.body) ∙ changed_none (put_tuple t m.body) (ascends-put t m.body (rows_ascend m c.reveal.ensures)) in
     c.in-Ok.ensures.relation ∙ ap (relation_view m.heading) one ∙ ap (with_tuple t) (ap (λ b. b.relation) c.self.view_is)

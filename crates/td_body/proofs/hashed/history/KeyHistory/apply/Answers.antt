@@ -28,5 +28,5 @@ returns-clause-tuples c =
     let before = c.args.self.now.index.tuples in
     let ts = c.outs.self.index.tuples in
     let gone : ts ≡ changed_set out [] before =
-    sym (at_drop_all (λ l. changed_set l [] ts) out c.outs.tuple-index c.outs-test.false ∙ changed_none ts c.len.ensures.ascending) ∙ c.outs.invariant.tuples in
+    sym (at_drop_all (λ l. changed_set l [] ts) out c.outs.tuple-index c.outs-test.false ∙ changed_none ts c.reveal.ensures) ∙ c.outs.invariant.tuples in
     c.put_pending.ensures.tuples ∙ (λ i. changed_set [] (c.outs.invariant.pending i) (gone i)) ∙ changed_both out c.args.self.now.pending.items before

@@ -24,4 +24,4 @@ returns-clause-tuples c =
     let pending = c.adds.self.pending.items in
     let ts = c.adds.self.index.tuples in
     let none : pending ≡ [] = c.in_default.ensures.items ∙ append-nil c.pop.new.self.items ∙ c.in_default.ensures.rest ∙ ap (λ n. take (n - 1) pending) c.in_default.ensures.cases.0 in
-    sym (ap (λ es. changed_set [] es ts) none ∙ changed_none ts c.len.ensures.ascending) ∙ c.adds.invariant.tuples
+    sym (ap (λ es. changed_set [] es ts) none ∙ changed_none ts c.reveal.ensures) ∙ c.adds.invariant.tuples
