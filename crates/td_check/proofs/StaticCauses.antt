@@ -77,10 +77,7 @@ module _ (P : Cause → Type 0) (unknown : P causes.NameUnknown) (mismatched : P
   attribute_refused n h = by_known P causes.Heading (type_at n h) misfit
 
   closure_refused : (h : Heading) → IsRefusedOnlyBy P (closure_type h)
-  closure_refused (a ∷ b ∷ []) = fitting _ _
-  closure_refused [] = by_one P causes.Heading misfit
-  closure_refused (a ∷ []) = by_one P causes.Heading misfit
-  closure_refused (a ∷ b ∷ c ∷ h) = by_one P causes.Heading misfit
+  closure_refused h = fitting _ _
 
   prefix_refused : (op : Prefix) (t : Type') → IsRefusedOnlyBy P (prefix_type op t)
   prefix_refused prefixes.Not t = typed _ _

@@ -7,7 +7,7 @@ use Rattle.std.specs.Prelude.{if◌then◌else◌}
 use Rattle.std.proofs.lemmas.Str.{IsUtf8-append}
 use Rattle.td_check.specs.OperatorTypes.{attribute_type, both_of, choice_type, closure_type, comparison_type, component_type, equality_type, extracted_type, if_type, known_or, measure_type, membership_type, operator_type, order_type, prefix_type, same_heading, same_type}
 use Rattle.td_check.specs.StaticTypes.{literal_type, paired}
-use Rattle.td_group.specs.Closure.{closure, is_closable}
+use Rattle.td_group.specs.Closure.{closure}
 use Rattle.td_tree.specs.declared.cause.Cause.{Cause}
 use Rattle.td_tree.specs.declared.cause.Cause.TheVariants as causes
 use Rattle.td_tree.specs.declared.operator.Comparison.{Comparison}
@@ -19,6 +19,7 @@ use Rattle.td_tree.specs.declared.operator.Prefix.{Prefix}
 use Rattle.td_tree.specs.declared.operator.Prefix.TheVariants as prefixes
 use Rattle.td_tree.specs.Outcomes.{Outcome, Valued, Refused, Only, value_if, with_both, with_value}
 use Rattle.td_tree.specs.Trees.{Literal, number, text, truth, table_dee, table_dum}
+use Rattle.td_types.specs.Headings.{is_closable}
 use Rattle.td_types.specs.TypeLists.{DeclaredType}
 use Rattle.td_types.specs.Types.{Type', Attribute, Attrs, Heading, attribute_names, pack, same_name, type_at, unpack}
 use Rattle.td_types.specs.Types as types

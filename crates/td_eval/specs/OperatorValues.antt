@@ -7,7 +7,7 @@ use Rattle.std.specs.List.{zip}
 use Rattle.std.specs.Ordering.{eq_by_cmp, int_cmp, is_le, nat_cmp}
 use Rattle.td_algebra.specs.Operators.{Addition, composition, difference, extended_relation, intersection, is_subset, join, product, projected_relation, renamed_relation, restriction, semidifference, semijoin, set_relation, union}
 use Rattle.td_check.specs.OperatorTypes.{attribute_type, equality_type, extended_by, known_or, mismatch, named_part, over_relation, over_tuple, renaming_pairs, same_heading, same_type}
-use Rattle.td_group.specs.Closure.{closure, is_closable}
+use Rattle.td_group.specs.Closure.{closure}
 use Rattle.td_group.specs.Nesting.{can_nest, can_unnest, grouped_relation, unnested_relation, wrapped_relation}
 use Rattle.td_tree.specs.declared.cause.Cause.TheVariants as causes
 use Rattle.td_tree.specs.declared.operator.Comparison.{Comparison}
@@ -20,7 +20,7 @@ use Rattle.td_tree.specs.declared.operator.Prefix.{Prefix}
 use Rattle.td_tree.specs.declared.operator.Prefix.TheVariants as prefixes
 use Rattle.td_tree.specs.Outcomes.{Outcome, Valued, Refused, Only, gathered, value_if, with_value}
 use Rattle.td_tree.specs.Trees.{Attributes, only, all_but, Literal, number, text, truth, table_dee, table_dum, Postfix, project, rename, group, ungroup, wrap, unwrap}
-use Rattle.td_types.specs.Headings.{agree, can_rename, has_projection, have_no_common, outside, projection}
+use Rattle.td_types.specs.Headings.{agree, can_rename, has_projection, have_no_common, is_closable, outside, projection}
 use Rattle.td_types.specs.TypeLists.{DeclaredType, declared_at}
 use Rattle.td_types.specs.Types.{Type', Attribute, Heading, attribute_names, pack, unpack}
 use Rattle.td_value.specs.Sets.{has}
