@@ -19,7 +19,7 @@ use Rattle.td_eval.proofs.LiteralTypes.{heading_means, literals_have_their_types
 use Rattle.td_eval.proofs.LiteralValues.{stored_literals_have_their_values}
 use Rattle.td_eval.proofs.TypedValues.{same_is}
 use Rattle.td_eval.specs.LiteralValues.{MeetsConstraints}
-use Rattle.td_eval.specs.OperatorValues.{on_relation, relation_as_value}
+use Rattle.td_eval.specs.OperatorValues.{on_relation}
 use Rattle.td_tree.specs.Outcomes.{Outcome, Valued, value_if, with_both, with_value}
 use Rattle.td_tree.specs.Trees.{Statement, Tree, define_base, define_virtual}
 use Rattle.td_tree.specs.declared.cause.Cause.TheVariants as causes
@@ -29,7 +29,7 @@ use Rattle.td_types.specs.TypeTrees.{attribute_trees}
 use Rattle.td_types.specs.Types.{Heading, Type', boolean, pack, relation}
 use Rattle.td_value.specs.LiteralTrees.{literal_tree}
 use Rattle.td_value.specs.ValueCode.{unpack_pack_rows}
-use Rattle.td_value.specs.Values.{Relation}
+use Rattle.td_value.specs.Values.{Relation, relation_value}
 use Rattle.td_value.specs.Views.{relation_view}
 
 some_key : (keys : List (List (List ℕ))) → (keys ≡ [] → ⊥) → has_key keys ≡ Valued tt
@@ -40,10 +40,10 @@ some_key (key ∷ keys) some = refl
 
 -- its statement, with these keys
 abbrev base_with_keys : BaseRelvar → List (List (List ℕ)) → Statement
-base_with_keys r = define_base r.name (attribute_trees (pack r.relation.heading)) (Some (literal_tree (relation_as_value r.relation)))
+base_with_keys r = define_base r.name (attribute_trees (pack r.relation.heading)) (Some (literal_tree (relation_value r.relation)))
 
 -- the relation of a relation's value is of its own heading
-own_heading : (r : Relation) (h : Heading) → r.heading ≡ h → on_relation (relation_as_value r) (of_heading (relation_view h [])) ≡ Valued r
+own_heading : (r : Relation) (h : Heading) → r.heading ≡ h → on_relation (relation_value r) (of_heading (relation_view h [])) ≡ Valued r
 own_heading r h e =
     (λ i. of_heading (relation_view h []) (relation_view (unpack_pack r.heading i) (unpack_pack_rows r.body i)))
     ∙ ap (λ b. value_if b r causes.Heading) (same_is r.heading h e)
@@ -56,7 +56,7 @@ module _ (db : Database) (legal : IsLegal db) (front rest : List BaseRelvar) (r 
   heading = r.relation.heading
 
   abbrev init : Tree
-  init = literal_tree (relation_as_value r.relation)
+  init = literal_tree (relation_value r.relation)
 
   is_base : IsTypedBase db.types r
   is_base = all_at (IsTypedBase db.types) db.bases front rest r e legal.typed.bases
@@ -73,7 +73,7 @@ module _ (db : Database) (legal : IsLegal db) (front rest : List BaseRelvar) (r 
   init_typed : init_type (database_scope before_base) (Some init) ≡ Valued (Some (relation (pack heading)))
   init_typed =
       ap (λ o. with_value o (λ t. Valued (Some t)))
-      (literals_have_their_types (database_scope before_base) (relation_as_value r.relation) (relation (pack heading)) is_base.relation
+      (literals_have_their_types (database_scope before_base) (relation_value r.relation) (relation (pack heading)) is_base.relation
       (refl, is_base.known, is_base.typed))
 
   -- the keys as they are
@@ -99,9 +99,9 @@ module _ (db : Database) (legal : IsLegal db) (front rest : List BaseRelvar) (r 
   init_valued : init_relation before_base (Some init) heading ≡ Valued r.relation
   init_valued =
       ap (λ o. with_value o (λ v. on_relation v (of_heading (relation_view heading []))))
-      (stored_literals_have_their_values before_base [] (relation_as_value r.relation) (relation (pack heading))
+      (stored_literals_have_their_values before_base [] (relation_value r.relation) (relation (pack heading))
       (typed_bases db legal.typed front (r ∷ rest, e)) is_base.relation (refl, is_base.known, is_base.typed)
-      (all_at (λ (b : BaseRelvar). MeetsConstraints db.types (relation_as_value b.relation)) db.bases front rest r e legal.types))
+      (all_at (λ (b : BaseRelvar). MeetsConstraints db.types (relation_value b.relation)) db.bases front rest r e legal.types))
       ∙ own_heading r.relation heading refl
 
   pub base_made : carried_out before_base (base_statement r) ≡ changed (database_of db.types (front ++ (r ∷ [])) [] [])

@@ -14,9 +14,8 @@ use Rattle.td_types.specs.Headings.{are_distinct, has_name}
 use Rattle.td_types.specs.TypeLists.{DeclaredType}
 use Rattle.td_types.specs.Types.{pack, same_name}
 use Rattle.td_types.specs.Types as types
-use Rattle.td_value.specs.Values.{Tuple}
+use Rattle.td_value.specs.Values.{Tuple, relation_value}
 use Rattle.td_eval.specs.DatabaseWorlds.{Selectors, selectors_of, types_alone, with_selector, world_of}
-use Rattle.td_eval.specs.OperatorValues.{relation_as_value}
 use Rattle.td_eval.specs.TreeValues.{value_of}
 use Rattle.td_eval.specs.ValueLaws.{HasLater, IsChecked, LaterEntriesChangeNothing, SelectsTheSame}
 use Rattle.td_eval.specs.ValueTypes.{DefinitionsAreWritten, IsWritten}
@@ -119,7 +118,7 @@ module _ (first second : Database) (later : HasLater first second) (is_typed : I
         }
 
   none_alike : AreAlike []
-  none_alike n has = ap (option_map (λ (b : BaseRelvar). Valued (relation_as_value b.relation))) (base_same first second later n has)
+  none_alike n has = ap (option_map (λ (b : BaseRelvar). Valued (relation_value b.relation))) (base_same first second later n has)
 
   next_alike : (front rest : List VirtualRelvar) (v : VirtualRelvar) → first.virtuals ≡ front ++ (v ∷ rest) → AreAlike front → AreAlike (front ++ (v ∷ []))
   next_alike front rest v e alike n has =

@@ -23,10 +23,10 @@ use Rattle.td_types.specs.Types as types
 use Rattle.td_types.proofs.KnownTypes.{declared_more}
 use Rattle.td_types.proofs.Meanings.{attributes_later, pack_unpack}
 use Rattle.td_types.proofs.OutcomeLaws.{value_of_test, value_of_with, values_of_both}
-use Rattle.td_value.specs.Values.{Val, boolean, integer, char, user, Relation, Tuple, heading_of}
+use Rattle.td_value.specs.Values.{Val, boolean, integer, char, relation_value, user, Relation, Tuple, heading_of}
 use Rattle.td_value.specs.Values as values
 use Rattle.td_eval.specs.AggregateValues.{aggregated_value, asked_of, summarized_value, summary_attributes, summary_value}
-use Rattle.td_eval.specs.OperatorValues.{comparison_value, component_value, extended_value, extracted_value, headed_value, listed_value, measure_value, on_relation, on_truth, operator_value, postfix_value, prefix_value, relation_as_value, restricted_value, tuple_from}
+use Rattle.td_eval.specs.OperatorValues.{comparison_value, component_value, extended_value, extracted_value, headed_value, listed_value, measure_value, on_relation, on_truth, operator_value, postfix_value, prefix_value, restricted_value, tuple_from}
 use Rattle.td_eval.specs.TreeTexts.{HasTexts, HaveTexts, ItemsHaveTexts, PartsHaveTexts}
 use Rattle.td_eval.specs.TreeValues.{argument_values, entry_values, items_in_tuples, value_of, values_in_tuples}
 use Rattle.td_eval.specs.ValueLaws.{HasTheSame, SelectsTheSame, ValuesDependOnMentions}
@@ -195,7 +195,7 @@ module _ (among : List ℕ → Bool) (scope : Scope) (w v : World) (k : KeepsSco
       → with_items q (λ g. items_of (here (g ∷ map heading_of s)) items) ≡ Valued o
       → ((g : Attrs) → q ≡ types.relation g
       → Agreed (unpack g ∷ map heading_of s) (types_in_items items) (relvars_in_items (here (unpack g ∷ map heading_of s)) items))
-      → ((r : Relation) (xs : Items) → IsOfType ds (relation_as_value r) (types.relation (pack r.heading))
+      → ((r : Relation) (xs : Items) → IsOfType ds (relation_value r) (types.relation (pack r.heading))
       → Agreed (r.heading ∷ map heading_of s) (types_in_items items) (relvars_in_items (here (r.heading ∷ map heading_of s)) items)
       → items_of (here (r.heading ∷ map heading_of s)) items ≡ Valued xs → SummandsAlikeIn r (items_in_tuples v s items) (items_in_tuples w s items))
       → summary_value (λ g. summary_attributes (entered_with g (scope_among v s)) items) (items_in_tuples v s items) z u
@@ -428,7 +428,7 @@ module _ (among : List ℕ → Bool) (scope : Scope) (w v : World) (k : KeepsSco
         (rest_part hs (types_in value) (types_in_named rest) (relvars_in (here hs) value) (relvars_in_named (here hs) rest) a) y.3 in
         λ i. with_both (one i) (others i) (λ v entries. Valued ((m, v) ∷ entries))
 
-    same_parts : (parts : NamedTrees) (s : List Tuple) (r : Relation) (xs : List Attribute) → IsOfType ds (relation_as_value r) (types.relation (pack r.heading)) → AreTyped s
+    same_parts : (parts : NamedTrees) (s : List Tuple) (r : Relation) (xs : List Attribute) → IsOfType ds (relation_value r) (types.relation (pack r.heading)) → AreTyped s
         → PartsGiveNames parts → PartsHaveTexts parts
         → Agreed (r.heading ∷ map heading_of s) (types_in_named parts) (relvars_in_named (here (r.heading ∷ map heading_of s)) parts)
         → named_types (here (r.heading ∷ map heading_of s)) parts ≡ Valued xs → AreAlikeIn r (values_in_tuples v s parts) (values_in_tuples w s parts)
@@ -447,7 +447,7 @@ module _ (among : List ℕ → Bool) (scope : Scope) (w v : World) (k : KeepsSco
           same_parts rest s r y.1 typed h n.2 x.1 others y.3,
         )
 
-    same_items : (items : Summaries) (s : List Tuple) (r : Relation) (xs : Items) → IsOfType ds (relation_as_value r) (types.relation (pack r.heading)) → AreTyped s
+    same_items : (items : Summaries) (s : List Tuple) (r : Relation) (xs : Items) → IsOfType ds (relation_value r) (types.relation (pack r.heading)) → AreTyped s
         → ItemsGiveNames items → ItemsHaveTexts items
         → Agreed (r.heading ∷ map heading_of s) (types_in_items items) (relvars_in_items (here (r.heading ∷ map heading_of s)) items)
         → items_of (here (r.heading ∷ map heading_of s)) items ≡ Valued xs → SummandsAlikeIn r (items_in_tuples v s items) (items_in_tuples w s items)

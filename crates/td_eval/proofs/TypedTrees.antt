@@ -26,13 +26,13 @@ use Rattle.td_types.specs.Types as types
 use Rattle.td_types.proofs.Meanings.{attributes_later}
 use Rattle.td_types.proofs.OutcomeLaws.{value_of_with, valued_is, values_of_both}
 use Rattle.td_value.specs.KnownValues.{AreOfTypes}
-use Rattle.td_value.specs.Values.{Val, AreValues, Relation, Tuple, heading_of, pack_fields, pack_parts, value_at}
+use Rattle.td_value.specs.Values.{Val, AreValues, Relation, Tuple, heading_of, pack_fields, pack_parts, relation_value, value_at}
 use Rattle.td_value.specs.Values as values
 use Rattle.td_value.proofs.HeadingOf.{fields_type-heading}
 use Rattle.td_value.proofs.KnownValues.{has_its_type, has_known_type}
 use Rattle.td_value.proofs.Typed.{typed}
 use Rattle.td_eval.specs.AggregateValues.{aggregated_value, asked_of, summary_attributes}
-use Rattle.td_eval.specs.OperatorValues.{comparison_value, component_value, extended_value, extracted_value, headed_value, listed_value, measure_value, on_relation, operator_value, postfix_value, prefix_value, relation_as_value, restricted_value, tuple_from}
+use Rattle.td_eval.specs.OperatorValues.{comparison_value, component_value, extended_value, extracted_value, headed_value, listed_value, measure_value, on_relation, operator_value, postfix_value, prefix_value, restricted_value, tuple_from}
 use Rattle.td_eval.specs.TreeTexts.{HasTexts, HaveTexts, ItemsHaveTexts, PartsHaveTexts}
 use Rattle.td_eval.specs.TreeValues.{argument_values, entry_values, items_in_tuples, value_of, values_in_tuples}
 use Rattle.td_eval.specs.ValueTypes.{IsOfType, IsTypedTuple, KeepsScope, KeepsType, ValuesKeepTypes, with_tuples}
@@ -205,7 +205,7 @@ module _ (w : World) (scope : Scope) (k : KeepsScope w scope) where
 
   -- the new attributes of SUMMARIZE, where the items have types
   items_are_kept : (items : Summaries) (s : List Tuple) (r : Relation) (xs : Items) → AreTyped s → ItemsGiveNames items
-      → IsOfType ds (relation_as_value r) (types.relation (pack r.heading)) → items_of (entered_with r.heading (with_tuples scope s)) items ≡ Valued xs
+      → IsOfType ds (relation_value r) (types.relation (pack r.heading)) → items_of (entered_with r.heading (with_tuples scope s)) items ≡ Valued xs
       → ItemsKeep ds r xs (items_in_tuples w s items)
       → (summary_attributes (entered_with r.heading (scope_among w s)) items ≡ gathered (map item_type xs))
       × AllByRecursion (ItemFits (known_closed ds)) xs × ItemsKeep ds r xs (items_in_tuples w s items)
@@ -343,7 +343,7 @@ module _ (w : World) (scope : Scope) (k : KeepsScope w scope) where
         ((λ i. (m, (sym first) i) ∷ others i), ((n.0, own_type ds v t p), q.1)))
 
     parts_keep : (parts : NamedTrees) (s : List Tuple) → AreTyped s → PartsGiveNames parts → PartsHaveTexts parts
-        → (r : Relation) → IsOfType ds (relation_as_value r) (types.relation (pack r.heading))
+        → (r : Relation) → IsOfType ds (relation_value r) (types.relation (pack r.heading))
         → KeepParts ds r (named_types (entered_with r.heading (with_tuples scope s)) parts) (values_in_tuples w s parts)
     parts_keep none_named s h n x r p = tt
     parts_keep (more_named m value rest) s h n x r p =
@@ -356,7 +356,7 @@ module _ (w : World) (scope : Scope) (k : KeepsScope w scope) where
         (parts_keep rest s h n.2 x.1 r p)
 
     items_keep : (items : Summaries) (s : List Tuple) → AreTyped s → ItemsGiveNames items → ItemsHaveTexts items
-        → (r : Relation) → IsOfType ds (relation_as_value r) (types.relation (pack r.heading)) → (xs : Items)
+        → (r : Relation) → IsOfType ds (relation_value r) (types.relation (pack r.heading)) → (xs : Items)
         → items_of (entered_with r.heading (with_tuples scope s)) items ≡ Valued xs → ItemsKeep ds r xs (items_in_tuples w s items)
     items_keep no_summaries s h n x r p xs e = subst (λ ys. ItemsKeep ds r ys []) (valued_is [] xs e) tt
     items_keep (counted m rest) s h n x r p xs e =

@@ -14,10 +14,10 @@ use Rattle.td_types.specs.Types as types
 use Rattle.td_types.specs.TypeCode.{unpack_pack}
 use Rattle.td_value.specs.KnownValues.{AreOfTypes, HasHeading, HasType, HaveHeading}
 use Rattle.td_value.specs.ValueCode.{unpack_pack_fields}
-use Rattle.td_value.specs.Values.{Val, boolean, integer, char, user, tuple, relation, Parts, Fields, no_fields, field, Rows, no_rows, row, AreFields, IsInRange, IsValue, Relation, Tuple, heading_of, pack_fields, pack_rows, unpack_fields, unpack_rows, value_at}
+use Rattle.td_value.specs.Values.{Val, boolean, integer, char, is_in_range, of_number, user, tuple, relation, Parts, Fields, no_fields, field, Rows, no_rows, row, AreFields, IsInRange, IsValue, Relation, Tuple, heading_of, pack_fields, pack_rows, unpack_fields, unpack_rows, value_at}
 use Rattle.td_value.specs.Views.{relation_view}
 use Rattle.td_value.proofs.KnownValues.{has_its_type}
-use Rattle.td_eval.specs.OperatorValues.{is_in_range, of_number, on_number, on_relation, on_text, on_truth, on_tuple}
+use Rattle.td_eval.specs.OperatorValues.{on_number, on_relation, on_text, on_truth, on_tuple}
 use Rattle.td_eval.specs.ValueTypes.{IsOfType, IsTypedTuple, KeepsType}
 use Rattle.td_eval.proofs.KeepsGathered.{one_dynamic}
 

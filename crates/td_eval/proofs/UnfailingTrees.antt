@@ -12,7 +12,7 @@ use Rattle.td_check.specs.Scopes.{KnownRelvar, Scope, entered_with, innermost, k
 use Rattle.td_check.specs.StaticLaws.{GiveNames, GivesNames, HasMore, PartsGiveNames}
 use Rattle.td_check.specs.StaticTypes.{items_of, name_type, named_types, paired, type_of, types_of, with_items}
 use Rattle.td_check.proofs.StaticLaws.{more_changes_no_parts}
-use Rattle.td_eval.specs.OperatorValues.{comparison_value, component_value, extended_value, extracted_value, headed_value, listed_value, literal_value, measure_value, of_number, on_relation, on_truth, operator_value, postfix_value, prefix_value, relation_as_value, restricted_value, signed, tuple_from}
+use Rattle.td_eval.specs.OperatorValues.{comparison_value, component_value, extended_value, extracted_value, headed_value, listed_value, literal_value, measure_value, on_relation, on_truth, operator_value, postfix_value, prefix_value, restricted_value, signed, tuple_from}
 use Rattle.td_eval.specs.TreeTexts.{HasTexts, HaveTexts, PartsHaveTexts}
 use Rattle.td_eval.specs.TreeValues.{argument_values, entry_values, value_of, values_in_tuples}
 use Rattle.td_eval.specs.AggregateValues.{summary_value}
@@ -35,7 +35,7 @@ use Rattle.td_types.specs.Types.{Type', Attribute, Heading, pack}
 use Rattle.td_types.specs.Types as types
 use Rattle.td_types.proofs.Meanings.{attributes_later}
 use Rattle.td_types.proofs.OutcomeLaws.{value_of_test, value_of_with, values_of_both}
-use Rattle.td_value.specs.Values.{Val, Relation, Tuple, heading_of}
+use Rattle.td_value.specs.Values.{Val, Relation, Tuple, heading_of, of_number, relation_value}
 use Rattle.td_value.specs.Values as values
 
 -- ---- nodes
@@ -293,7 +293,7 @@ module _ (w : World) (scope : Scope) (k : GivesValues w scope) where
         (λ v entries. tt)
 
     parts_static : (parts : NamedTrees) (s : List Tuple) (r : Relation) (attributes : List Attribute) → AreTyped s → PartsGiveNames parts
-        → PartsHaveTexts parts → PartsHaveNumbers parts → IsOfType ds (relation_as_value r) (types.relation (pack r.heading))
+        → PartsHaveTexts parts → PartsHaveNumbers parts → IsOfType ds (relation_value r) (types.relation (pack r.heading))
         → named_types (entered_with r.heading (with_tuples scope s)) parts ≡ Valued attributes
         → parts_cannot_fail (entered_with r.heading (with_tuples scope s)) parts ≡ true → AreStaticIn r.body (values_in_tuples w s parts)
     parts_static none_named s r attributes h n x m p is never = tt

@@ -5,7 +5,6 @@ use Rattle.std.specs.Option.{option_or}
 use Rattle.std.proofs.lemmas.List.{length-take, take_all}
 use Rattle.td_catalog.specs.Database.{BaseRelvar, Database, VirtualRelvar, base_named, with_virtuals}
 use Rattle.td_eval.specs.DatabaseWorlds.{with_other, with_virtual_value, world_of, world_of_bases}
-use Rattle.td_eval.specs.OperatorValues.{relation_as_value}
 use Rattle.td_eval.specs.declared.sight.Sight.{Sight}
 use Rattle.td_eval.specs.Sights.{IsNoVirtualRelvar, IsVirtualRelvar, held_by, other_named, other_seen, seen_by, with_first_virtuals}
 use Rattle.td_eval.specs.TreeValues.{value_of}
@@ -15,11 +14,11 @@ use Rattle.td_eval.proofs.WorldParts.{base_value, relvar_at, virtual_name, virtu
 use Rattle.td_tree.specs.Outcomes.{Outcome, Valued}
 use Rattle.td_tree.specs.Trees.{Tree}
 use Rattle.td_types.specs.Types.{same_name}
-use Rattle.td_value.specs.Values.{Val, Relation}
+use Rattle.td_value.specs.Values.{Val, Relation, relation_value}
 
 -- a relation that a relvar has
 abbrev pub as_outcome : Relation → Outcome Val
-as_outcome r = Valued (relation_as_value r)
+as_outcome r = Valued (relation_value r)
 
 module _ (o : Option (List ℕ × Relation)) (db : Database) (k : ℕ) (n : List ℕ) where
   -- the relation that is held, and what is seen

@@ -7,7 +7,7 @@ use Rattle.td_types.specs.Headings.{has_attribute, has_projection, heading_union
 use Rattle.td_types.specs.Types.{Heading, IsHeading, Type', attribute_names, pack, same_name, type_at, unpack}
 use Rattle.td_types.specs.Types as types
 use Rattle.td_types.proofs.Meanings.{pack_unpack}
-use Rattle.td_value.specs.Values.{AreRows, Fields, IsTupleOf, IsValue, Relation, Rows, Tuple, Val, boolean, char, field, fields_type, integer, no_fields, no_rows, pack_fields, pack_rows, projected_tuple, relation, row, tuple, tuple_of, type_of, unpack_fields, unpack_rows, user, value_at}
+use Rattle.td_value.specs.Values.{AreRows, Fields, IsTupleOf, IsValue, Relation, Rows, Tuple, Val, boolean, char, field, fields_type, integer, no_fields, no_rows, pack_fields, pack_rows, projected_tuple, relation, row, tuple, tuple_of, tuple_value, type_of, unpack_fields, unpack_rows, user, value_at}
 use Rattle.td_value.proofs.HeadingOf.{fields_type-heading}
 use Rattle.td_value.proofs.Rows.{All-from_rows, IsTupleOf-from}
 use Rattle.td_algebra.proofs.Entries.{HaveValues, typed_values, values_of_fields}
@@ -15,7 +15,7 @@ use Rattle.td_algebra.proofs.Lists.{contains_cases, contains_flat_map, contains_
 use Rattle.td_algebra.proofs.Members.{second_true}
 use Rattle.td_algebra.proofs.Projections.{IsTupleOf-projected}
 use Rattle.td_algebra.proofs.Relations.{All-from_members}
-use Rattle.td_group.specs.Nesting.{AreApart, can_nest, can_unnest, heading_inside, inner_heading, is_relation_type, is_tuple_type, other_names, rest_heading, rest_names, tuple_value, tuples_inside, unnested_tuples, wrapped_tuple}
+use Rattle.td_group.specs.Nesting.{AreApart, can_nest, can_unnest, heading_inside, inner_heading, is_relation_type, is_tuple_type, other_names, rest_heading, rest_names, tuples_inside, unnested_tuples, wrapped_tuple}
 use Rattle.td_group.proofs.Apart.{entry_apart, entry_headed, joined_headed, tuples_apart}
 use Rattle.td_group.proofs.Rests.{rest_headed}
 

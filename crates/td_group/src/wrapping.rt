@@ -1,8 +1,8 @@
 //! WRAP: each tuple with the tuple of some of its attributes in their place.
 ghost use Rattle.std.specs.Prelude.{◌≡◌, ◌∷◌, ◌++◌, [], IfOk, IsTrue, map};
 ghost use Rattle.std.specs.List.{All};
-ghost use Rattle.td_group.specs.Nesting.{AreApart, can_nest, tuple_value, wrapped_relation};
-ghost use Rattle.td_value.specs.Values.{projected_tuple, tuple_of};
+ghost use Rattle.td_group.specs.Nesting.{AreApart, can_nest, wrapped_relation};
+ghost use Rattle.td_value.specs.Values.{projected_tuple, tuple_of, tuple_value};
 
 use crate::groups::attribute_names;
 use crate::tuples::joined;

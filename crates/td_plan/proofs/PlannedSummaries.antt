@@ -9,7 +9,7 @@ use Rattle.td_check.specs.StaticLaws.{ItemsGiveNames}
 use Rattle.td_check.specs.StaticTypes.{items_of, type_of, with_items}
 use Rattle.td_check.proofs.SummaryLaws.{HeadingItems, Items}
 use Rattle.td_eval.specs.AggregateValues.{summarized_value, summary_attributes, summary_value}
-use Rattle.td_eval.specs.OperatorValues.{on_relation, postfix_value, relation_as_value}
+use Rattle.td_eval.specs.OperatorValues.{on_relation, postfix_value}
 use Rattle.td_eval.specs.Totals.{asked_by}
 use Rattle.td_eval.specs.TreeTexts.{ItemsHaveTexts}
 use Rattle.td_eval.specs.TreeValues.{items_in_tuples, value_of}
@@ -39,7 +39,7 @@ use Rattle.td_types.proofs.OutcomeLaws.{value_of_with, valued_is, values_of_both
 use Rattle.td_types.specs.TypeCode.{unpack_pack}
 use Rattle.td_types.specs.Types.{Attribute, Heading, Type', boolean, integer, pack, unpack}
 use Rattle.td_types.specs.Types as types
-use Rattle.td_value.specs.Values.{Relation, Tuple, Val}
+use Rattle.td_value.specs.Values.{Relation, Tuple, Val, relation_value}
 
 -- the aggregates of the items of the code
 pub aggregates_are : (xs : List Summary) → aggregates_in (summaries_view xs) ≡ map asked_by xs
@@ -156,7 +156,7 @@ module _ (scope : Scope) (w : World) (s : List Tuple) (fs : List Frame) (k : Giv
         ap length (sym (valued_is ((m, y.0) ∷ y.1) xs y.4)) ∙ ap suc (as_many_items inner ps rest y.1 all.1 y.3)
 
     -- each item is of the same in the tuples of the operand
-    module _ (r : Relation) (h : Heading) (head : r.heading ≡ h) (typed : IsOfType scope.types (relation_as_value r) (types.relation (pack r.heading))) where
+    module _ (r : Relation) (h : Heading) (head : r.heading ≡ h) (typed : IsOfType scope.types (relation_value r) (types.relation (pack r.heading))) where
       items_alike : (ps : PlanTrees) (items : Summaries) (xs : List Attribute) → ArePlansOfTyped (entered_with h scope) ps (in_summaries items)
           → ItemsGiveNames items → ItemsHaveTexts items → summary_attributes (entered_with h scope) items ≡ Valued xs
           → SummandsAlikeIn r (zip (aggregates_in items) (plan_columns w fs os ps)) (items_in_tuples w s items)

@@ -4,12 +4,12 @@ use Rattle.td_tree.specs.declared.cause.Cause.TheVariants as causes
 use Rattle.td_types.specs.Headings.{has_attribute, has_projection, outside, projection, with_attribute}
 use Rattle.td_types.specs.Types.{Heading, IsHeading, attribute_names, pack}
 use Rattle.td_types.specs.Types as types
-use Rattle.td_value.specs.Values.{IsTupleOf, Tuple, projected_tuple, tuple_of}
+use Rattle.td_value.specs.Values.{IsTupleOf, Tuple, projected_tuple, tuple_of, tuple_value}
 use Rattle.td_algebra.proofs.Taken.{relation_is, value_of_answer}
 use Rattle.std.specs.Prelude.{not}
 use Rattle.td_tree.proofs.Unrefused.{unrefused_if}
 use Rattle.td_algebra.proofs.Members.{second_true}
-use Rattle.td_group.specs.Nesting.{AreApart, rest_heading, rest_names, tuple_value, wrapped_tuple}
+use Rattle.td_group.specs.Nesting.{AreApart, rest_heading, rest_names, wrapped_tuple}
 use Rattle.td_group.proofs.Nested.{wrapped_apart, wrapped_headed}
 use Rattle.td_group.proofs.wrapping.wrap.Goals as goal
 
