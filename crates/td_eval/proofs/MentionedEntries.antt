@@ -17,8 +17,8 @@ use Rattle.td_types.specs.Types as types
 use Rattle.td_eval.specs.DatabaseWorlds.{selectors_of, world_of}
 use Rattle.td_eval.specs.TreeValues.{value_of}
 use Rattle.td_eval.specs.ValueLaws.{AgreeOnRelvars, AgreeOnTypes, HasTheSame, IsChecked, SelectsTheSame, ValuesDependOnEntries}
-use Rattle.td_eval.specs.ValueTypes.{DefinitionsAreWritten, IsWritten, with_tuples}
-use Rattle.td_eval.specs.Worlds.{World}
+use Rattle.td_eval.specs.ValueTypes.{DefinitionsAreWritten, IsWritten}
+use Rattle.td_eval.specs.Worlds.{World, with_tuples}
 use Rattle.td_eval.proofs.KnownRelvars.{NamedAt, front_has_more, fronted, known_as_base, known_as_virtual, known_in_more, named, named_at, named_behind, never_none, no_base, of_all, one_more_scope, relvar_behind, some_of, some_one, stays_behind, unknown_parts, virtual_at}
 use Rattle.td_eval.proofs.LaterTypes.{selected_by}
 use Rattle.td_eval.proofs.MentionedTypes.{all_alike}

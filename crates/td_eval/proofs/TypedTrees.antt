@@ -35,8 +35,8 @@ use Rattle.td_eval.specs.AggregateValues.{aggregated_value, asked_of, summary_at
 use Rattle.td_eval.specs.OperatorValues.{comparison_value, component_value, extended_value, extracted_value, headed_value, listed_value, measure_value, on_relation, operator_value, postfix_value, prefix_value, restricted_value, tuple_from}
 use Rattle.td_eval.specs.TreeTexts.{HasTexts, HaveTexts, ItemsHaveTexts, PartsHaveTexts}
 use Rattle.td_eval.specs.TreeValues.{argument_values, entry_values, items_in_tuples, value_of, values_in_tuples}
-use Rattle.td_eval.specs.ValueTypes.{IsOfType, IsTypedTuple, KeepsScope, KeepsType, ValuesKeepTypes, with_tuples}
-use Rattle.td_eval.specs.Worlds.{World, innermost_value, known_outcome, name_value, scope_among, selected}
+use Rattle.td_eval.specs.ValueTypes.{IsOfType, IsTypedTuple, KeepsScope, KeepsType, ValuesKeepTypes}
+use Rattle.td_eval.specs.Worlds.{World, innermost_value, known_outcome, name_value, selected, with_tuples}
 use Rattle.td_eval.proofs.KeepsGathered.{member_from_all}
 use Rattle.td_eval.proofs.KeepsAggregates.{aggregation_keeps}
 use Rattle.td_eval.proofs.KeepsExtension.{PartsKeep}
@@ -178,7 +178,7 @@ module _ (w : World) (scope : Scope) (k : KeepsScope w scope) where
       }
 
   -- the world knows more types there
-  more_there : (s : List Tuple) (h : Heading) → HasMore (entered_with h (with_tuples scope s)) (entered_with h (scope_among w s))
+  more_there : (s : List Tuple) (h : Heading) → HasMore (entered_with h (with_tuples scope s)) (entered_with h (with_tuples w.scope s))
   more_there s h = record { types = k.types; relvars = ([], k.known ∙ sym (append-nil scope.relvars)); entered = refl }
 
   relvar_keeps : (n : List ℕ) (o : Option KnownRelvar) → known_relvar scope n ≡ o
@@ -207,11 +207,11 @@ module _ (w : World) (scope : Scope) (k : KeepsScope w scope) where
   items_are_kept : (items : Summaries) (s : List Tuple) (r : Relation) (xs : Items) → AreTyped s → ItemsGiveNames items
       → IsOfType ds (relation_value r) (types.relation (pack r.heading)) → items_of (entered_with r.heading (with_tuples scope s)) items ≡ Valued xs
       → ItemsKeep ds r xs (items_in_tuples w s items)
-      → (summary_attributes (entered_with r.heading (scope_among w s)) items ≡ gathered (map item_type xs))
+      → (summary_attributes (entered_with r.heading (with_tuples w.scope s)) items ≡ gathered (map item_type xs))
       × AllByRecursion (ItemFits (known_closed ds)) xs × ItemsKeep ds r xs (items_in_tuples w s items)
   items_are_kept items s r xs h n p e kept =
       let here = entered_with r.heading (with_tuples scope s) in
-      let there = entered_with r.heading (scope_among w s) in (
+      let there = entered_with r.heading (with_tuples w.scope s) in (
         attributes_of_items there items xs (more_changes_no_items here there items xs (more_there s r.heading) e),
         subst (Gives (AllByRecursion (ItemFits (known_closed ds)))) e
             (items_give (known_closed ds) items n here (supplies here (entered_is s r.heading h (p.0.2, p.1.1)))),
@@ -289,25 +289,25 @@ module _ (w : World) (scope : Scope) (k : KeepsScope w scope) where
     keeps (extend operand parts) s h n x =
         value_keeps ds (type_of (with_tuples scope s) operand) (value_of w s operand)
         (λ t. over_relation t (λ g. with_value (named_types (entered_with g (with_tuples scope s)) parts) (extension_type g)))
-        (λ v. on_relation v (λ r. extended_value (named_types (entered_with r.heading (scope_among w s)) parts) (values_in_tuples w s parts) r))
+        (λ v. on_relation v (λ r. extended_value (named_types (entered_with r.heading (with_tuples w.scope s)) parts) (values_in_tuples w s parts) r))
         (keeps operand s h n.0 x.0)
-        (λ t v q. extend_keeps ds (λ g. named_types (entered_with g (with_tuples scope s)) parts) (λ g. named_types (entered_with g (scope_among w s)) parts)
+        (λ t v q. extend_keeps ds (λ g. named_types (entered_with g (with_tuples scope s)) parts) (λ g. named_types (entered_with g (with_tuples w.scope s)) parts)
         (values_in_tuples w s parts) t v q
         (λ r attributes p e. (
-          more_changes_no_parts (entered_with r.heading (with_tuples scope s)) (entered_with r.heading (scope_among w s)) parts attributes (more_there s r.heading) e,
+          more_changes_no_parts (entered_with r.heading (with_tuples scope s)) (entered_with r.heading (with_tuples w.scope s)) parts attributes (more_there s r.heading) e,
           types_are_known.of_parts (entered_with r.heading (with_tuples scope s)) parts attributes (entered_is s r.heading h (p.0.2, p.1.1)) n.1 e,
           subst (λ o. KeepParts ds r o (values_in_tuples w s parts)) e
               (parts_keep parts s h n.1 x.1 r p),
         )))
     keeps (summarize_per operand per items) s h n x =
-        summarize_per_keeps ds (λ g. items_of (entered_with g (with_tuples scope s)) items) (λ g. summary_attributes (entered_with g (scope_among w s)) items)
+        summarize_per_keeps ds (λ g. items_of (entered_with g (with_tuples scope s)) items) (λ g. summary_attributes (entered_with g (with_tuples w.scope s)) items)
         (items_in_tuples w s items) (type_of (with_tuples scope s) operand) (type_of (with_tuples scope s) per) (value_of w s operand) (value_of w s per)
         (λ r xs p e. items_are_kept items s r xs h n.2 p e
         (items_keep items s h n.2 x.2 r p xs e))
         (keeps operand s h n.0 x.0)
         (keeps per s h n.1 x.1)
     keeps (summarize_by operand by items) s h n x =
-        summarize_by_keeps ds (λ g. items_of (entered_with g (with_tuples scope s)) items) (λ g. summary_attributes (entered_with g (scope_among w s)) items)
+        summarize_by_keeps ds (λ g. items_of (entered_with g (with_tuples scope s)) items) (λ g. summary_attributes (entered_with g (with_tuples w.scope s)) items)
         (items_in_tuples w s items) by (type_of (with_tuples scope s) operand) (value_of w s operand)
         (λ r xs p e. items_are_kept items s r xs h n.1 p e
         (items_keep items s h n.1 x.1 r p xs e))

@@ -16,8 +16,8 @@ use Rattle.td_eval.specs.OperatorValues.{comparison_value, component_value, exte
 use Rattle.td_eval.specs.TreeTexts.{HasTexts, HaveTexts, PartsHaveTexts}
 use Rattle.td_eval.specs.TreeValues.{argument_values, entry_values, value_of, values_in_tuples}
 use Rattle.td_eval.specs.AggregateValues.{summary_value}
-use Rattle.td_eval.specs.ValueTypes.{IsOfType, IsTypedTuple, KeepsType, with_tuples}
-use Rattle.td_eval.specs.Worlds.{World, innermost_value, known_outcome, name_value, scope_among, selected}
+use Rattle.td_eval.specs.ValueTypes.{IsOfType, IsTypedTuple, KeepsType}
+use Rattle.td_eval.specs.Worlds.{World, innermost_value, known_outcome, name_value, selected, with_tuples}
 use Rattle.td_eval.proofs.TypedArguments.{arguments_typed, known_is}
 use Rattle.td_eval.proofs.TypedRows.{rows_typed}
 use Rattle.td_eval.proofs.TypedTrees.{innermost_typed, keeps}
@@ -83,7 +83,7 @@ module _ (w : World) (scope : Scope) (k : GivesValues w scope) where
   AreTyped s = AllByRecursion (IsTypedTuple ds) s
 
   -- the world knows more types where a relation's tuples are in hand too
-  more_there : (s : List Tuple) (h : Heading) → HasMore (entered_with h (with_tuples scope s)) (entered_with h (scope_among w s))
+  more_there : (s : List Tuple) (h : Heading) → HasMore (entered_with h (with_tuples scope s)) (entered_with h (with_tuples w.scope s))
   more_there s h = record { types = k.keeps.types; relvars = ([], k.keeps.known ∙ sym (append-nil scope.relvars)); entered = refl }
 
   -- a name of an attribute or of a base relvar
@@ -218,14 +218,14 @@ module _ (w : World) (scope : Scope) (k : GivesValues w scope) where
         let y = value_of_with (type_of sc operand)
         (λ u. over_relation u (λ g. with_value (named_types (entered_with g sc) parts) (extension_type g))) t is in
         kept_static ds (type_of sc operand) (value_of w s operand) y.0
-        (λ v. on_relation v (λ r. extended_value (named_types (entered_with r.heading (scope_among w s)) parts) (values_in_tuples w s parts) r))
+        (λ v. on_relation v (λ r. extended_value (named_types (entered_with r.heading (with_tuples w.scope s)) parts) (values_in_tuples w s parts) r))
         (keeps w scope k.keeps operand s h n.0 x.0) y.1
         (tree_static operand s y.0 h n.0 x.0 m.0 y.1 (first_true (cannot_fail sc operand) _ never))
-        (λ v q. rows_static ds v y.0 (λ r. extended_value (named_types (entered_with r.heading (scope_among w s)) parts) (values_in_tuples w s parts) r) q
+        (λ v q. rows_static ds v y.0 (λ r. extended_value (named_types (entered_with r.heading (with_tuples w.scope s)) parts) (values_in_tuples w s parts) r) q
         (λ r f p.
         let z = value_of_with (named_types (entered_with r.heading sc) parts) (extension_type r.heading) t
         (sym (over_its_heading y.0 r.heading (λ g. with_value (named_types (entered_with g sc) parts) (extension_type g)) f) ∙ y.2) in
-        let there = more_changes_no_parts (entered_with r.heading sc) (entered_with r.heading (scope_among w s)) parts z.0 (more_there s r.heading) z.1 in
+        let there = more_changes_no_parts (entered_with r.heading sc) (entered_with r.heading (with_tuples w.scope s)) parts z.0 (more_there s r.heading) z.1 in
         let free = subst (λ there. parts_cannot_fail there parts ≡ true) (in_its_tuples sc (type_of sc operand) y.0 r.heading y.1 f)
         (second_true (cannot_fail sc operand) _ never) in
         subst (λ o. IsStatic (extended_value o (values_in_tuples w s parts) r)) (sym there)

@@ -16,8 +16,8 @@ use Rattle.td_eval.specs.OperatorValues.{of_relation, on_relation}
 use Rattle.td_eval.specs.TreeNumbers.{HasNumbers}
 use Rattle.td_eval.specs.TreeValues.{value_of}
 use Rattle.td_eval.specs.UnfailingValues.{GivesValues}
-use Rattle.td_eval.specs.ValueTypes.{IsOfType, IsWritten, KeepsType, with_tuples}
-use Rattle.td_eval.specs.Worlds.{World, innermost_value, known_outcome}
+use Rattle.td_eval.specs.ValueTypes.{IsOfType, IsWritten, KeepsType}
+use Rattle.td_eval.specs.Worlds.{World, innermost_value, known_outcome, with_tuples}
 use Rattle.td_plan.proofs.EqualValues.{where_after_look_up}
 use Rattle.td_plan.proofs.LookUpParts.{entries_heading, entries_tuple, fixed_entries, fixed_names, fixed_plans, fixed_values_hold, part_found, part_value}
 use Rattle.td_plan.proofs.TotalConditions.{unfailing_conditions_are_total}

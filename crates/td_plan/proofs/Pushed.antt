@@ -12,8 +12,8 @@ use Rattle.td_eval.proofs.TypedTrees.{values_keep_types}
 use Rattle.td_eval.specs.OperatorValues.{of_relation}
 use Rattle.td_eval.specs.TreeValues.{value_of}
 use Rattle.td_eval.specs.UnfailingValues.{GivesValues}
-use Rattle.td_eval.specs.ValueTypes.{IsOfType, IsWritten, KeepsType, with_tuples}
-use Rattle.td_eval.specs.Worlds.{World}
+use Rattle.td_eval.specs.ValueTypes.{IsOfType, IsWritten, KeepsType}
+use Rattle.td_eval.specs.Worlds.{World, with_tuples}
 use Rattle.td_plan.proofs.EqualNames.{names_are_asked}
 use Rattle.td_plan.proofs.EqualValues.{gives_more, where_of_intersect_left, where_of_join_left, where_of_join_right, where_of_minus, where_of_times_left, where_of_times_right, where_of_union}
 use Rattle.td_plan.proofs.FixedValues.{none_passes}
