@@ -139,8 +139,8 @@ assignment_checked scope (update target condition settings) =
 -- ---- statements
 
 -- whether there is a relvar of the name, base or virtual
-abbrev pub knows_relvar : Scope → List ℕ → Bool
-knows_relvar scope name = is_some (known_relvar scope name)
+abbrev pub knows_relvar : List ℕ → Scope → Bool
+knows_relvar name scope = is_some (known_relvar scope name)
 
 abbrev pub statement_checked : Scope → Statement → Outcome ⊤
 statement_checked scope empty = Valued tt
@@ -150,18 +150,18 @@ statement_checked scope (define_type name components constraint) =
     both_hold (constraint_fits scope attributes constraint) (rank_fits scope.types attributes)))
 statement_checked scope (drop_type name) = holds_or causes.NameUnknown (is_declared name scope.types)
 statement_checked scope (define_base name heading init keys) =
-    both_hold (holds_or causes.NameTaken (not (knows_relvar scope name)))
+    both_hold (holds_or causes.NameTaken (not (knows_relvar name scope)))
     (with_both (heading_meant scope.types heading) (init_type scope init) (λ h t.
     both_hold (init_fits h t) (both_hold (both_hold (has_key keys) (keys_asked h keys)) (heading_rank_fits scope.types h))))
 statement_checked scope (define_virtual name expression keys) =
-    both_hold (holds_or causes.NameTaken (not (knows_relvar scope name)))
+    both_hold (holds_or causes.NameTaken (not (knows_relvar name scope)))
     (with_value (type_of scope expression) (λ t. over_relation t (λ h.
     both_hold (keys_asked h keys) (heading_rank_fits scope.types h))))
-statement_checked scope (drop_var name) = holds_or causes.NameUnknown (knows_relvar scope name)
+statement_checked scope (drop_var name) = holds_or causes.NameUnknown (knows_relvar name scope)
 statement_checked scope (define_constraint name condition) =
-    both_hold (holds_or causes.NameTaken (not (knows_constraint scope name)))
+    both_hold (holds_or causes.NameTaken (not (knows_constraint name scope)))
     (with_value (type_of scope condition) (λ t. if_type boolean t tt))
-statement_checked scope (drop_constraint name) = holds_or causes.NameUnknown (knows_constraint scope name)
+statement_checked scope (drop_constraint name) = holds_or causes.NameUnknown (knows_constraint name scope)
 statement_checked scope (assign_all assignments) =
     with_value (gathered (map (assignment_checked scope) assignments)) (λ _. Valued tt)
 statement_checked scope begin_transaction = Valued tt

@@ -156,7 +156,7 @@ module _ (db : Database) (is_typed : IsTyped db) (front rest : List NamedConstra
 
   pub constraint_checked : statement_checked (database_scope before_constraint) (constraint_statement c) ≡ Valued tt
   constraint_checked =
-      both_asked (holds_or causes.NameTaken (not (knows_constraint (database_scope before_constraint) c.name)))
+      both_asked (holds_or causes.NameTaken (not (knows_constraint c.name (database_scope before_constraint))))
       (with_value (type_of (database_scope before_constraint) c.tree) (λ t. if_type boolean t tt))
       (is_free _ (constraint_is_new db is_typed front rest c e))
       (ap (λ o. with_value o (λ t. if_type boolean t tt)) (constraint_there db is_typed front rest c e))

@@ -93,7 +93,7 @@ pub(crate) fn define_type(scope: &Scope<'_>, definition: &TypeDefinition) -> Res
 /// What is asked of a new relvar's name: no relvar has it, base or virtual.
 fn relvar_is_new(scope: &Scope<'_>, name: &Name) -> Result<(), Fault>
     ensures { Answers (λ u. u) result
-        (holds_or causes.NameTaken (not (knows_relvar scope.now name.now))) }
+        (holds_or causes.NameTaken (not (knows_relvar name.now scope.now))) }
 {
     ask(!scope.knows_relvar(name), Cause::NameTaken)
 }
