@@ -5,7 +5,7 @@ use Rattle.td_catalog.specs.Database.{BaseRelvar, Database, NamedConstraint, Vir
 use Rattle.td_catalog.specs.TypedDatabases.{IsTyped, IsTypedBase, IsTypedVirtual}
 use Rattle.td_check.specs.OperatorTypes.{if_type, over_relation}
 use Rattle.td_check.specs.Scopes.{known_relvar, knows_constraint}
-use Rattle.td_check.specs.StatementTypes.{both_hold, has_key, heading_rank_fits, holds_or, init_fits, init_type, keys_asked, statement_checked}
+use Rattle.td_check.specs.StatementTypes.{both_hold, has_key, heading_rank_fits, holds_or, init_fits, keys_asked, statement_checked, type_if_given}
 use Rattle.td_check.specs.StaticTypes.{type_of}
 use Rattle.td_engine.proofs.RebuiltEffects.{both_asked, is_asked, is_free, over_heading, unknown_name}
 use Rattle.td_engine.proofs.RebuiltLists.{all_at}
@@ -70,7 +70,7 @@ module _ (db : Database) (legal : IsLegal db) (front rest : List BaseRelvar) (r 
   heading_is : heading_meant db.types (attribute_trees (pack heading)) ≡ Valued heading
   heading_is = heading_means db.types (pack heading) is_base.relation.2 is_base.known ∙ ap Valued (unpack_pack heading)
 
-  init_typed : init_type (database_scope before_base) (Some init) ≡ Valued (Some (relation (pack heading)))
+  init_typed : type_if_given (database_scope before_base) (Some init) ≡ Valued (Some (relation (pack heading)))
   init_typed =
       ap (λ o. with_value o (λ t. Valued (Some t)))
       (literals_have_their_types (database_scope before_base) (relation_value r.relation) (relation (pack heading)) is_base.relation
@@ -83,7 +83,7 @@ module _ (db : Database) (legal : IsLegal db) (front rest : List BaseRelvar) (r 
       let asked : Heading → Option Type' → Outcome ⊤ =
       λ h t. both_hold (init_fits h t) (both_hold (both_hold (has_key r.keys) (keys_asked h r.keys)) (heading_rank_fits db.types h)) in
       both_asked (holds_or causes.NameTaken (not (is_some (known_relvar scope r.name))))
-      (with_both (heading_meant db.types (attribute_trees (pack heading))) (init_type scope (Some init)) asked)
+      (with_both (heading_meant db.types (attribute_trees (pack heading))) (type_if_given scope (Some init)) asked)
       (is_free _ (unknown_name before_base r.name (base_is_new db legal.typed front rest r e)))
       ((λ i. with_both (heading_is i) (init_typed i) asked)
       ∙ both_asked (init_fits heading (Some (relation (pack heading)))) _
