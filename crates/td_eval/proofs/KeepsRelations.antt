@@ -13,10 +13,11 @@ use Rattle.td_check.specs.OperatorTypes.{mismatch, over_relation, over_relations
 use Rattle.td_check.specs.StaticLaws.{IsKnownHeading}
 use Rattle.td_value.specs.KnownValues.{HasHeading, HasType}
 use Rattle.td_value.specs.Sets.{put_in}
-use Rattle.td_value.specs.Values.{Val, boolean, integer, char, relation_value, user, tuple, relation, Fields, no_fields, field, Rows, no_rows, row, IsRelation, Relation, Tuple, entry_cmp, pack_fields, pack_rows, relation_of, tuple_of, type_of, unpack_fields, unpack_rows}
+use Rattle.td_value.specs.Values.{Val, boolean, integer, char, relation_value, user, tuple, relation, Rows, IsRelation, Relation, Tuple, entry_cmp, pack_fields, pack_rows, relation_of, tuple_of, type_of, unpack_rows}
 use Rattle.td_value.specs.Views.{relation_view}
 use Rattle.td_value.proofs.KnownValues.{by_values}
 use Rattle.td_value.proofs.Members.{set_members}
+use Rattle.td_value.proofs.Packed.{pack_unpack_rows}
 use Rattle.td_algebra.proofs.Relations.{member_headed}
 use Rattle.td_eval.specs.OperatorValues.{on_relation, on_relations, relation_where}
 use Rattle.td_eval.specs.ValueTypes.{IsOfType, KeepsType}
@@ -85,14 +86,6 @@ module _ (P : List ℕ × Val → Type 0) where
   all_joined (e ∷ es) fs h k = (h.0, all_joined es fs h.1 k)
 
 -- ---- a value as a relation
-
-pack_unpack_fields : (fs : Fields) → pack_fields (unpack_fields fs) ≡ fs
-pack_unpack_fields no_fields = refl
-pack_unpack_fields (field n v fs) = ap (field n v) (pack_unpack_fields fs)
-
-pack_unpack_rows : (rs : Rows) → pack_rows (unpack_rows rs) ≡ rs
-pack_unpack_rows no_rows = refl
-pack_unpack_rows (row fs rs) = λ i. row (pack_unpack_fields fs i) (pack_unpack_rows rs i)
 
 module _ (ds : List DeclaredType) where
   typed_view : (h : Attrs) (rs : Rows) → IsOfType ds (relation h rs) (types.relation h) → IsTypedRelation ds (relation_view (unpack h) (unpack_rows rs))

@@ -5,6 +5,7 @@ use Rattle.std.specs.Option.{option_or}
 use Rattle.std.specs.Prelude.{IsTrue, if◌then◌else◌, is_some}
 use Rattle.std.proofs.lemmas.List.{map-append}
 use Rattle.std.proofs.lemmas.List.Sums.{fold-append}
+use Rattle.td_catalog.proofs.Lists.{distinct_between, not_true}
 use Rattle.td_catalog.specs.Database.{BaseRelvar, Database, NamedConstraint, VirtualRelvar, base_among, base_named, database_scope, known_virtual, knows_relvar, relvar_names, virtual_named, with_base, with_constraint, with_declared, with_virtual}
 use Rattle.td_catalog.specs.TypedDatabases.{IsTyped}
 use Rattle.td_check.specs.Scopes.{KnownRelvar, Scope, known_relvar}
@@ -20,7 +21,6 @@ use Rattle.td_eval.specs.TreeValues.{value_of}
 use Rattle.td_eval.specs.ValueLaws.{HasLater, IsChecked, LaterEntriesChangeNothing, SelectsTheSame}
 use Rattle.td_eval.specs.ValueTypes.{DefinitionsAreWritten, IsWritten}
 use Rattle.td_eval.specs.Worlds.{World, selected}
-use Rattle.td_eval.proofs.DistinctNames.{distinct_between, not_true}
 use Rattle.td_eval.proofs.KnownRelvars.{fronted, known_as_base, known_as_virtual, known_in_more, known_name, named, named_more, never_none, no_base, of_all, one_more_world, some_of, stays_behind, unnamed}
 use Rattle.td_eval.proofs.LaterTypes.{AreTypedTypes, all_select, selected_by, stays}
 use Rattle.td_eval.proofs.MoreWorlds.{HasMoreThan, same_in_more}

@@ -19,6 +19,7 @@ use Rattle.td_types.proofs.DistinctNames.{name_cmp}
 use Rattle.td_types.proofs.HeadingLaws.{same_name-itself}
 use Rattle.td_types.proofs.Meanings.{pack_unpack}
 use Rattle.td_types.proofs.OutcomeLaws.{value_of_test, value_of_with}
+use Rattle.td_value.proofs.Packed.{pack_unpack_fields, pack_unpack_rows}
 use Rattle.td_value.specs.KnownValues.{AreOfTypes, HasHeading, HasType, HaveHeading}
 use Rattle.td_value.specs.LiteralTrees.{field_trees, literal_tree, part_trees, row_trees}
 use Rattle.td_value.specs.Sets.{set_of}
@@ -37,7 +38,7 @@ use Rattle.td_eval.proofs.LaterTypes.{selected_by}
 use Rattle.td_eval.proofs.LiteralTypes.{heading_means}
 use Rattle.td_eval.proofs.MentionedTypes.{chosen}
 use Rattle.td_eval.proofs.TypedDatabases.{types_fit}
-use Rattle.td_eval.proofs.TypedValues.{fields_heading, pack_unpack_fields, pack_unpack_rows, same_is}
+use Rattle.td_eval.proofs.TypedValues.{fields_heading, same_is}
 use Rattle.td_eval.proofs.WorldParts.{world_scope, world_selectors}
 
 -- ---- numbers, tuples and relations

@@ -25,6 +25,7 @@ use Rattle.td_types.specs.Types.{Type', Attribute, Attrs, Heading, attribute_nam
 use Rattle.td_types.specs.Types as types
 use Rattle.td_types.proofs.KnownTypes.{declared_more}
 use Rattle.td_types.proofs.Meanings.{pack_unpack}
+use Rattle.td_value.proofs.Packed.{pack_unpack_fields}
 use Rattle.td_value.specs.KnownValues.{AreOfTypes}
 use Rattle.td_value.specs.Values.{Val, char, of_number, tuple, relation, Parts, no_parts, part, Rows, no_rows, row, AreValues, IsValue, heading_of, unpack_fields, unpack_rows, value_at, value_cmp}
 use Rattle.td_value.proofs.KnownValues.{has_its_type}
@@ -35,7 +36,7 @@ use Rattle.td_eval.proofs.KeepsClosure.{closure_keeps}
 use Rattle.td_eval.proofs.KeepsGathered.{one_dynamic}
 use Rattle.td_eval.proofs.KeepsRelations.{over_relation_keeps}
 use Rattle.td_eval.proofs.TypedOutcomes.{KeepsAs, test_keeps}
-use Rattle.td_eval.proofs.TypedValues.{BothFound, fields_heading, fields_of, found_in_fields, in_range_keeps, integer_of, known_keeps, number_keeps, pack_unpack_fields, relation_keeps, rows_of, same_is, text_keeps, text_of, truth_keeps, tuple_keeps, type_is, user_of}
+use Rattle.td_eval.proofs.TypedValues.{BothFound, fields_heading, fields_of, found_in_fields, in_range_keeps, integer_of, known_keeps, number_keeps, relation_keeps, rows_of, same_is, text_keeps, text_of, truth_keeps, tuple_keeps, type_is, user_of}
 
 module _ (ds : List DeclaredType) where
   -- ---- literals

@@ -16,6 +16,7 @@ use Rattle.td_types.specs.Types.{Type', Attribute, Attrs, Heading, IsHeading, Is
 use Rattle.td_types.specs.Types as types
 use Rattle.td_types.proofs.Made.{type_at-heading_from}
 use Rattle.td_types.proofs.Meanings.{known_heading, pack_unpack}
+use Rattle.td_value.proofs.Packed.{pack_unpack_fields, pack_unpack_rows}
 use Rattle.td_value.specs.KnownValues.{HasHeading, HasType}
 use Rattle.td_value.specs.Sets.{placed, put_in, set_of}
 use Rattle.td_value.specs.Values.{Val, relation_value, tuple, relation, AreFields, Fields, IsTuple, IsTupleOf, IsValue, Relation, Rows, Tuple, entry_cmp, heading_of, pack_fields, relation_of, tuple_cmp, tuple_names, tuple_of, type_of, unpack_fields, unpack_rows}
@@ -27,7 +28,7 @@ use Rattle.td_eval.specs.ValueTypes.{IsOfType, IsTypedTuple, KeepsType}
 use Rattle.td_eval.proofs.KeepsGathered.{has_type_members, member_from_all}
 use Rattle.td_eval.proofs.KeepsExtension.{PartsKeep, extended_keeps, restricted_keeps}
 use Rattle.td_eval.proofs.TypedOutcomes.{KeepsAs, keeps_both, made_keeps, test_keeps}
-use Rattle.td_eval.proofs.TypedValues.{fields_heading, fields_of, heading_is, pack_unpack_fields, pack_unpack_rows, relation_keeps, rows_of, same_is, type_is}
+use Rattle.td_eval.proofs.TypedValues.{fields_heading, fields_of, heading_is, relation_keeps, rows_of, same_is, type_is}
 
 -- ---- what holds of each item holds of the set of them
 

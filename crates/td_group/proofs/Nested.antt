@@ -7,8 +7,9 @@ use Rattle.td_types.specs.Headings.{has_attribute, has_projection, heading_union
 use Rattle.td_types.specs.Types.{Heading, IsHeading, Type', attribute_names, pack, same_name, type_at, unpack}
 use Rattle.td_types.specs.Types as types
 use Rattle.td_types.proofs.Meanings.{pack_unpack}
-use Rattle.td_value.specs.Values.{AreRows, Fields, IsTupleOf, IsValue, Relation, Rows, Tuple, Val, boolean, char, field, fields_type, integer, no_fields, no_rows, pack_fields, pack_rows, projected_tuple, relation, row, tuple, tuple_of, tuple_value, type_of, unpack_fields, unpack_rows, user, value_at}
+use Rattle.td_value.specs.Values.{AreRows, IsTupleOf, IsValue, Relation, Tuple, Val, boolean, char, fields_type, integer, projected_tuple, relation, tuple, tuple_of, tuple_value, type_of, unpack_fields, unpack_rows, user, value_at}
 use Rattle.td_value.proofs.HeadingOf.{fields_type-heading}
+use Rattle.td_value.proofs.Packed.{pack_unpack_fields, pack_unpack_rows}
 use Rattle.td_value.proofs.Rows.{All-from_rows, IsTupleOf-from}
 use Rattle.td_algebra.proofs.Entries.{HaveValues, typed_values, values_of_fields}
 use Rattle.td_algebra.proofs.Lists.{contains_cases, contains_flat_map, contains_map, contains_none}
@@ -18,15 +19,6 @@ use Rattle.td_algebra.proofs.Relations.{All-from_members}
 use Rattle.td_group.specs.Nesting.{AreApart, can_nest, can_unnest, heading_inside, inner_heading, is_relation_type, is_tuple_type, other_names, rest_heading, rest_names, tuples_inside, unnested_tuples, wrapped_tuple}
 use Rattle.td_group.proofs.Apart.{entry_apart, entry_headed, joined_headed, tuples_apart}
 use Rattle.td_group.proofs.Rests.{rest_headed}
-
--- what is packed again
-pub pack_unpack_fields : (fs : Fields) → pack_fields (unpack_fields fs) ≡ fs
-pack_unpack_fields no_fields = refl
-pack_unpack_fields (field n v fs) = ap (field n v) (pack_unpack_fields fs)
-
-pub pack_unpack_rows : (rs : Rows) → pack_rows (unpack_rows rs) ≡ rs
-pack_unpack_rows no_rows = refl
-pack_unpack_rows (row fs rs) = λ i. row (pack_unpack_fields fs i) (pack_unpack_rows rs i)
 
 -- ---- WRAP
 

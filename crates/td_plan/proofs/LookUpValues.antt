@@ -11,7 +11,7 @@ use Rattle.td_eval.proofs.KeepsRelations.{typed_from_value, value_from_typed}
 use Rattle.td_eval.proofs.OpValues.{relation_unpacked, tuple_unpacked}
 use Rattle.td_eval.proofs.TypedRows.{parts_typed, rows_typed}
 use Rattle.td_eval.proofs.TypedTrees.{innermost_typed}
-use Rattle.td_eval.proofs.TypedValues.{pack_unpack_rows, rows_of, type_is}
+use Rattle.td_eval.proofs.TypedValues.{rows_of, type_is}
 use Rattle.td_eval.specs.OperatorValues.{of_relation, on_relation}
 use Rattle.td_eval.specs.TreeNumbers.{HasNumbers}
 use Rattle.td_eval.specs.TreeValues.{value_of}
@@ -38,6 +38,7 @@ use Rattle.td_types.specs.TypeCode.{unpack_pack}
 use Rattle.td_types.specs.TypeLists.{DeclaredType}
 use Rattle.td_types.specs.Types as types
 use Rattle.td_types.specs.Types.{Heading, IsHeading, Type', attribute_names, pack, unpack}
+use Rattle.td_value.proofs.Packed.{pack_unpack_rows}
 use Rattle.td_value.specs.Agreement.{agree_on}
 use Rattle.td_value.specs.Values.{Relation, Tuple, Val, relation_value, unpack_rows}
 use Rattle.td_value.specs.Values as values
