@@ -24,8 +24,8 @@ abbrev pub can_nest : List (List ℕ) → List ℕ → Heading → Bool
 can_nest names name h = has_projection names h && not (has_attribute name (rest_heading names h))
 
 -- no name comes twice in two tuples, so that they can be put together
-abbrev pub AreApart : Tuple → Tuple → Type 0
-AreApart t u = IsTrue (are_distinct (tuple_names (t ++ u)))
+abbrev pub HaveNoCommonName : Tuple → Tuple → Type 0
+HaveNoCommonName t u = IsTrue (are_distinct (tuple_names (t ++ u)))
 
 -- ---- GROUP and WRAP
 
