@@ -1,8 +1,8 @@
 //! What an expression may look at.
 ghost use Rattle.std.specs.Prelude.{◌≡◌, [], ◌<◌, IfNone, IfOk, IfSome, None, option_map, reverse};
 ghost use Rattle.td_eval.specs.Sights.{IsNoVirtualRelvar, IsPlaced, IsSight, IsVirtualRelvar};
-ghost use Rattle.td_eval.specs.Sights.{constraint_sight, held_by, other_named, other_seen, seen_by};
-ghost use Rattle.td_eval.specs.Sights.{virtual_sight, world_in};
+ghost use Rattle.td_eval.specs.Sights.{constraint_sight, other_named, other_seen, seen_by};
+ghost use Rattle.td_eval.specs.Sights.{held_relation, virtual_sight, world_in};
 ghost use Rattle.td_eval.specs.Worlds.{with_tuples};
 ghost use Rattle.td_tree.specs.TreeViews.{tree_view};
 
@@ -57,7 +57,7 @@ impl<'a, B: Body> Sight<'a, B> {
 
     /// The relation that the relvar of the name holds.
     pub(crate) fn relation(&self, name: &Name) -> Result<Option<Rel>, AllocError>
-        ensures { IfOk result (λ found. found ≡ held_by self.now name.now) }
+        ensures { IfOk result (λ found. found ≡ held_relation self.now name.now) }
     {
         let Some(catalog) = self.catalog else {
             return Ok(None);

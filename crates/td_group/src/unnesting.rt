@@ -2,7 +2,8 @@
 ghost use Rattle.std.specs.Prelude.{◌≡◌, ◌++◌, IfOk, IsTrue, OnOk, Some, map};
 ghost use Rattle.std.specs.List.{All, flat_map};
 ghost use Rattle.td_group.specs.Nesting.{can_unnest, inner_heading, is_relation_type};
-ghost use Rattle.td_group.specs.Nesting.{HaveNoCommonName, is_tuple_type, tuples_inside, unnested_relation};
+ghost use Rattle.td_group.specs.Nesting.{HaveNoCommonName, is_tuple_type, tuples_inside};
+ghost use Rattle.td_group.specs.Nesting.{unnested_relation};
 ghost use Rattle.td_types.specs.Headings.{has_attribute};
 ghost use Rattle.td_types.specs.Types.{type_at};
 ghost use Rattle.td_value.specs.Values.{projected_tuple, tuple_of, value_at};
