@@ -6,7 +6,7 @@ use Rattle.std.proofs.lemmas.List.Elements.{All-append, All-contains, Contains-p
 use Rattle.td_types.specs.Types.{attribute_names}
 use Rattle.td_value.specs.Values.{Relation}
 use Rattle.td_body.specs.Bodies.{HaveOneHeading}
-use Rattle.td_body.specs.HashBodies.{IsHashBody, IsPlacedFor, held_by, kept_by}
+use Rattle.td_body.specs.HashBodies.{IsHashBody, IsPlacedFor, held_by, kept_with_aside}
 use Rattle.td_body.specs.Members.{ArePlaced, Members}
 use Rattle.td_body.proofs.MembersLaws.{one}
 
@@ -16,13 +16,13 @@ held_append [] ys = refl
 held_append (x ∷ xs) ys = ap (λ l. held_by x ++ l) (held_append xs ys) ∙ sym (append_assoc (held_by x) (flat_map held_by xs) (flat_map held_by ys))
 
 -- members that are put aside for those that keep nothing
-pub kept_aside : (aside : List Members) (before now : Members) → now.kept ≡ [] → kept_by (aside ++ before ∷ []) now ≡ kept_by aside before ++ before.relation ∷ []
+pub kept_aside : (aside : List Members) (before now : Members) → now.kept ≡ [] → kept_with_aside (aside ++ before ∷ []) now ≡ kept_with_aside aside before ++ before.relation ∷ []
 kept_aside aside before now none =
     (λ i. held_append aside (before ∷ []) i ++ none i) ∙ append-nil (flat_map held_by aside ++ (held_by before ++ []))
     ∙ ap (λ l. flat_map held_by aside ++ l) (append-nil (held_by before)) ∙ sym (append_assoc (flat_map held_by aside) before.kept (before.relation ∷ []))
 
 -- members that keep one relation more
-pub kept_more : (aside : List Members) (old new : Members) → new.kept ≡ old.kept ++ old.relation ∷ [] → kept_by aside new ≡ kept_by aside old ++ old.relation ∷ []
+pub kept_more : (aside : List Members) (old new : Members) → new.kept ≡ old.kept ++ old.relation ∷ [] → kept_with_aside aside new ≡ kept_with_aside aside old ++ old.relation ∷ []
 kept_more aside old new e = ap (λ l. flat_map held_by aside ++ l) e ∙ sym (append_assoc (flat_map held_by aside) old.kept (old.relation ∷ []))
 
 front_headed : (r : Relation) (xs : List Relation) (x : Relation) → HaveOneHeading r (xs ++ x ∷ []) → HaveOneHeading r xs
@@ -42,12 +42,12 @@ module _ (keys : List (List (List ℕ))) where
 
   -- a change of which the relation before it is kept
   pub body_changed : (m n : Members) (aside next : List Members) (count : ℕ) → IsHashBody keys m aside count → n.relation.heading ≡ m.relation.heading
-      → kept_by next n ≡ kept_by aside m ++ m.relation ∷ [] → IsPlacedFor keys n → All (IsPlacedFor keys) next → IsHashBody keys n next (count + 1)
+      → kept_with_aside next n ≡ kept_with_aside aside m ++ m.relation ∷ [] → IsPlacedFor keys n → All (IsPlacedFor keys) next → IsHashBody keys n next (count + 1)
   body_changed m n aside next count b h kept placed placed_aside = record {
-    counted = omega (arith, b.counted, ap length kept, length-append (kept_by aside m) (m.relation ∷ []));
+    counted = omega (arith, b.counted, ap length kept, length-append (kept_with_aside aside m) (m.relation ∷ []));
     headings = subst (HaveOneHeading n.relation) (sym kept)
-        (other_heading m.relation n.relation (kept_by aside m ++ m.relation ∷ []) (sym h)
-        (All-append (λ (s : Relation). s.heading ≡ m.relation.heading) (kept_by aside m) (m.relation ∷ []) b.headings (one (λ (s : Relation). s.heading ≡ m.relation.heading) m.relation refl)));
+        (other_heading m.relation n.relation (kept_with_aside aside m ++ m.relation ∷ []) (sym h)
+        (All-append (λ (s : Relation). s.heading ≡ m.relation.heading) (kept_with_aside aside m) (m.relation ∷ []) b.headings (one (λ (s : Relation). s.heading ≡ m.relation.heading) m.relation refl)));
     placed = placed;
     placed_aside = placed_aside;
   }
@@ -55,7 +55,7 @@ module _ (keys : List (List (List ℕ))) where
   -- members that keep nothing, with nothing aside
   pub body_empty : (m : Members) (aside : List Members) → aside ≡ [] → m.kept ≡ [] → IsPlacedFor keys m → IsHashBody keys m aside 0
   body_empty m aside none kept placed =
-      let all : kept_by aside m ≡ [] = (λ i. flat_map held_by (none i) ++ kept i) in
+      let all : kept_with_aside aside m ≡ [] = (λ i. flat_map held_by (none i) ++ kept i) in
       record {
         counted = sym (ap length all);
         headings = subst (HaveOneHeading m.relation) (sym all) (λ k d low. absurd (omega arith));
@@ -65,22 +65,22 @@ module _ (keys : List (List (List ℕ))) where
 
   -- a way back to the relation that was kept last
   pub body_back : (m n : Members) (aside next : List Members) (count : ℕ) → IsHashBody keys m aside count
-      → kept_by aside m ≡ kept_by next n ++ n.relation ∷ [] → IsPlacedFor keys n → All (IsPlacedFor keys) next → IsHashBody keys n next (count - 1)
+      → kept_with_aside aside m ≡ kept_with_aside next n ++ n.relation ∷ [] → IsPlacedFor keys n → All (IsPlacedFor keys) next → IsHashBody keys n next (count - 1)
   body_back m n aside next count b kept placed placed_aside =
-      let all : HaveOneHeading m.relation (kept_by next n ++ n.relation ∷ []) = subst (HaveOneHeading m.relation) kept b.headings in
+      let all : HaveOneHeading m.relation (kept_with_aside next n ++ n.relation ∷ []) = subst (HaveOneHeading m.relation) kept b.headings in
       record {
-        counted = omega (arith, b.counted, ap length kept, length-append (kept_by next n) (n.relation ∷ []));
-        headings = other_heading m.relation n.relation (kept_by next n) (sym (last_headed m.relation (kept_by next n) n.relation all)) (front_headed m.relation (kept_by next n) n.relation all);
+        counted = omega (arith, b.counted, ap length kept, length-append (kept_with_aside next n) (n.relation ∷ []));
+        headings = other_heading m.relation n.relation (kept_with_aside next n) (sym (last_headed m.relation (kept_with_aside next n) n.relation all)) (front_headed m.relation (kept_with_aside next n) n.relation all);
         placed = placed;
         placed_aside = placed_aside;
       }
 
 -- what keeps nothing has put nothing aside, and keeps nothing
-pub nothing_aside : (aside : List Members) (m : Members) → kept_by aside m ≡ [] → aside ≡ []
+pub nothing_aside : (aside : List Members) (m : Members) → kept_with_aside aside m ≡ [] → aside ≡ []
 nothing_aside [] m e = refl
 nothing_aside (a ∷ aside) m e =
     absurd (omega (arith, ap length e, length-append (flat_map held_by (a ∷ aside)) m.kept, length-append (held_by a) (flat_map held_by aside), length-append a.kept (a.relation ∷ [])))
 
-pub nothing_kept : (aside : List Members) (m : Members) → kept_by aside m ≡ [] → m.kept ≡ []
+pub nothing_kept : (aside : List Members) (m : Members) → kept_with_aside aside m ≡ [] → m.kept ≡ []
 nothing_kept [] m e = e
 nothing_kept (a ∷ aside) m e = absurd (omega (arith, ap length e, length-append (flat_map held_by (a ∷ aside)) m.kept, length-append (held_by a) (flat_map held_by aside), length-append a.kept (a.relation ∷ [])))

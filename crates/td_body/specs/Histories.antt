@@ -24,11 +24,11 @@ step_back earlier (Dropped t) ts = earlier (put_tuple t ts)
 abbrev pub kept_sets : List Step → List Tuple → List (List Tuple)
 kept_sets log = fold step_back (λ _. []) log
 
-abbrev pub is_dropped : Step → Bool
-is_dropped (Dropped t) = true
-is_dropped Kept = false
-is_dropped (Added t) = false
+abbrev pub is_tuple_drop : Step → Bool
+is_tuple_drop (Dropped t) = true
+is_tuple_drop Kept = false
+is_tuple_drop (Added t) = false
 
 -- how many tuples the steps took out
-abbrev pub dropped_in : List Step → ℕ
-dropped_in log = count_by is_dropped log
+abbrev pub dropped_tuples_in : List Step → ℕ
+dropped_tuples_in log = count_by is_tuple_drop log

@@ -73,7 +73,7 @@ constraint_named name db = find (λ c. same_name c.name name) db.constraints
 abbrev pub relvar_names : Database → List (List ℕ)
 relvar_names db = map (λ r. r.name) db.bases ++ map (λ r. r.name) db.virtuals
 
--- whether there is a relvar of the name
+-- whether there is a relvar of the name: the database's scope knows the same (`knows_relvar` of td_check)
 abbrev pub knows_relvar : List ℕ → Database → Bool
 knows_relvar name db = has_name name (relvar_names db)
 
@@ -81,7 +81,7 @@ knows_relvar name db = has_name name (relvar_names db)
 abbrev pub constraint_names : Database → List (List ℕ)
 constraint_names db = map (λ c. c.name) db.constraints
 
--- whether there is a constraint of the name
+-- whether there is a constraint of the name: the database's scope knows the same (`knows_constraint` of td_check)
 abbrev pub knows_constraint : List ℕ → Database → Bool
 knows_constraint name db = has_name name (constraint_names db)
 

@@ -12,9 +12,9 @@ hash_of name = folding.finish (fold folding.write folding.initial (fed.str name)
 abbrev pub bit_of : List ℕ → ℕ
 bit_of name = hash_of name % 64
 
-abbrev pub mark_of : List ℕ → ℕ
-mark_of name = 2 ^ bit_of name
+abbrev pub name_mark : List ℕ → ℕ
+name_mark name = 2 ^ bit_of name
 
 -- marks with those of more names
-abbrev pub marks_of : ℕ → List (List ℕ) → ℕ
-marks_of marks names = fold (λ marks name. bit_or marks (mark_of name)) marks names
+abbrev pub name_marks : ℕ → List (List ℕ) → ℕ
+name_marks marks names = fold (λ marks name. bit_or marks (name_mark name)) marks names

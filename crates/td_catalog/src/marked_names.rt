@@ -1,7 +1,7 @@
 //! Names with marks by which lists that have none in common are mostly told apart at once.
 ghost use Rattle.std.specs.Prelude.{◌≡◌, ◌∷◌, ◌++◌, [], OnErr, OnOk, bit_and};
 ghost use Rattle.std.specs.List.{list_any};
-ghost use Rattle.td_catalog.specs.NameMarks.{mark_of, marks_of};
+ghost use Rattle.td_catalog.specs.NameMarks.{name_mark, name_marks};
 ghost use Rattle.td_types.specs.Headings.{has_name};
 
 use std::alloc::AllocError;
@@ -11,8 +11,8 @@ use td_tree::name::Name;
 use td_types::names::is_among;
 
 /// The mark of a name: one bit of 64, which its hash gives.
-fn mark_of(name: &Name) -> u64
-    ensures { result ≡ mark_of name.now }
+fn name_mark(name: &Name) -> u64
+    ensures { result ≡ name_mark name.now }
 {
     let mut state = FoldHasher::default();
     name.hash(&mut state);
@@ -20,12 +20,12 @@ fn mark_of(name: &Name) -> u64
 }
 
 /// The marks of names together.
-fn marks_of(names: &[Name]) -> u64
-    ensures { result ≡ marks_of 0 names.now }
+fn name_marks(names: &[Name]) -> u64
+    ensures { result ≡ name_marks 0 names.now }
 {
     let mut marks = 0;
     for name in names {
-        marks |= mark_of(name);
+        marks |= name_mark(name);
     }
     marks
 }
@@ -53,7 +53,7 @@ pub struct MarkedNames {
 impl Model for MarkedNames {
     ghost use Rattle.std.specs.Prelude.{ℕ, List, ◌≡◌};
     ghost use Rattle.std.specs.Coded.{coded_list, coded_ℕ};
-    ghost use Rattle.td_catalog.specs.NameMarks.{marks_of};
+    ghost use Rattle.td_catalog.specs.NameMarks.{name_marks};
 
     ghost Value = { List (List ℕ) };
 
@@ -61,7 +61,7 @@ impl Model for MarkedNames {
 
     ghost view = { λ m. m.names.items };
 
-    ghost invariant = { λ m. m.marks ≡ marks_of 0 m.names.items };
+    ghost invariant = { λ m. m.marks ≡ name_marks 0 m.names.items };
 }
 
 impl MarkedNames {
@@ -69,7 +69,7 @@ impl MarkedNames {
     pub fn new(names: Vec<Name>) -> MarkedNames
         ensures { result ≡ names.items }
     {
-        let marks = marks_of(&names);
+        let marks = name_marks(&names);
         MarkedNames { names, marks }
     }
 
@@ -78,7 +78,7 @@ impl MarkedNames {
         ensures added { OnOk result (self.new ≡ self.old ++ name ∷ []) }
         ensures unchanged { OnErr result (self.new ≡ self.old) }
     {
-        let mark = mark_of(&name);
+        let mark = name_mark(&name);
         self.names.push(name)?;
         self.marks |= mark;
         Ok(())

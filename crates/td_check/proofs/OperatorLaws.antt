@@ -150,10 +150,7 @@ module _ {N : List ℕ → Type 0} {G : Type' → Type 0} {H : Heading → Type 
   attribute_gives name h k = gives_known G _ (type_at name h) (λ t e. type_fits name t h k e)
 
   closure_gives : (h : Heading) → H h → Gives G (closure_type h)
-  closure_gives [] k = tt
-  closure_gives (a ∷ []) k = tt
-  closure_gives (a ∷ b ∷ []) k = gives_if G _ _ _ (c.of_relation (a ∷ b ∷ []) k)
-  closure_gives (a ∷ b ∷ d ∷ h) k = tt
+  closure_gives h k = gives_if G _ _ _ (c.of_relation h k)
 
   pub prefix_gives : (op : Prefix) (t : Type') → G t → Gives G (prefix_type op t)
   prefix_gives prefixes.Not t g = search (gives_if, c.truth)

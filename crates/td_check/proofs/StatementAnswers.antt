@@ -7,7 +7,7 @@ use Rattle.std.specs.Prelude.{Bool, true, false, ⊤}
 use Rattle.td_check.proofs.Scopes.{of_references}
 use Rattle.td_check.specs.Both.{both_answers, lesser_fault}
 use Rattle.td_check.specs.Scopes.{Scope}
-use Rattle.td_check.specs.StatementTypes.{both_hold, components_meant, condition_fits, condition_type, constraint_fits, has_key, heading_rank_fits, init_fits, init_type, keys_asked, rank_fits, settings_fit}
+use Rattle.td_check.specs.StatementTypes.{both_hold, components_meant, condition_fits, constraint_fits, has_key, heading_rank_fits, init_fits, keys_asked, rank_fits, settings_fit, type_if_given}
 use Rattle.td_tree.specs.declared.cause.Cause.{Cause}
 use Rattle.td_tree.specs.declared.cause.Cause.TheVariants as causes
 use Rattle.td_tree.specs.declared.fault.Fault.{Fault}
@@ -83,11 +83,6 @@ module _ {X Y A B C : Type 0} (first : X → A) (second : Y → B) (k : A → B 
 
 -- ---- parts that may be left out
 
--- the type of INIT's expression is as that of any that may be left out
-pub init_is : (scope : Scope) (e : Option Tree) → condition_type scope e ≡ init_type scope e
-init_is scope None = refl
-init_is scope (Some e) = refl
-
 -- what is kept of a reference to what may be left out
 pub given_is : {T U : Type 0} (f : T → U) (o : Option (Bor T)) (given : Option T) → option_copied o ≡ given
     → option_map (λ t. f t.now) o ≡ option_map f given
@@ -95,13 +90,11 @@ given_is f o given is = of_references f o ∙ ap (option_map f) is
 
 -- what is answered of INIT
 pub init_answers : (scope place : Scope) (r : Result (Option Ty) Fault) (o : Option (Bor Expr)) (given : Option Expr) → place ≡ scope → option_copied o ≡ given
-    → Answers (option_map type_view) r (condition_type place (option_map (λ e. tree_view e.now) o))
-    → Answers (option_map type_view) r (init_type scope (option_map tree_view given))
+    → Answers (option_map type_view) r (type_if_given place (option_map (λ e. tree_view e.now) o))
+    → Answers (option_map type_view) r (type_if_given scope (option_map tree_view given))
 init_answers scope place r o given at is h =
     subst (Answers (option_map type_view) r)
-    (ap (λ s. condition_type s (option_map (λ e. tree_view e.now) o)) at ∙ ap (condition_type scope) (given_is tree_view o given is)
-    ∙ init_is scope (option_map tree_view given))
-    h
+    (ap (λ s. type_if_given s (option_map (λ e. tree_view e.now) o)) at ∙ ap (type_if_given scope) (given_is tree_view o given is)) h
 
 -- what is asked of a base relvar by its heading and INIT's type
 abbrev pub base_asked : List DeclaredType → List (List (List ℕ)) → Heading → Option Type' → Outcome ⊤

@@ -5,7 +5,7 @@ use Rattle.td_check.specs.declared.scope.Kind.{Kind}
 use Rattle.td_check.specs.declared.scope.Kind.TheVariants as kinds
 use Rattle.td_check.specs.OperatorTypes.{Item, aggregate_item, aggregate_type, attribute_type, closure_type, comparison_type, component_type, composed_heading, count_item, element_type, equality_type, extended_by, extension_type, extracted_type, headed_type, item_type, known_or, listed_type, measure_type, membership_type, mismatch, named_part, operator_type, order_type, over_relation, per_heading, postfix_type, prefix_type, restriction_type, selector_type, summary_type, tuple_type}
 use Rattle.td_check.specs.Scopes.{KnownRelvar, Scope, entered_with, innermost, known_relvar}
-use Rattle.td_check.specs.StatementTypes.{assignment_checked, both_hold, condition_fits, condition_type, constraint_fits, components_meant, has_key, holds_or, in_target, init_fits, init_type, is_target, keys_allowed, keys_asked, relation_fits, setting_fits, settings_fit, source_fits, statement_checked, type_rank_fits}
+use Rattle.td_check.specs.StatementTypes.{assignment_checked, both_hold, condition_fits, constraint_fits, components_meant, has_key, holds_or, in_target, init_fits, is_target, keys_allowed, keys_asked, relation_fits, setting_fits, settings_fit, source_fits, statement_checked, type_if_given, type_rank_fits}
 use Rattle.td_check.specs.StaticCauses.{CausesAreStatic, IsExpressionCause, IsRefusedOnlyBy, IsStatementCause, IsTypeCause}
 use Rattle.td_check.specs.StaticTypes.{items_of, name_type, named_types, paired, type_of, types_of, with_items}
 use Rattle.td_check.proofs.Refusals.{by_both, by_each, by_known, by_one, by_relation, by_test, by_tuple, by_value}
@@ -77,10 +77,7 @@ module _ (P : Cause → Type 0) (unknown : P causes.NameUnknown) (mismatched : P
   attribute_refused n h = by_known P causes.Heading (type_at n h) misfit
 
   closure_refused : (h : Heading) → IsRefusedOnlyBy P (closure_type h)
-  closure_refused (a ∷ b ∷ []) = fitting _ _
-  closure_refused [] = by_one P causes.Heading misfit
-  closure_refused (a ∷ []) = by_one P causes.Heading misfit
-  closure_refused (a ∷ b ∷ c ∷ h) = by_one P causes.Heading misfit
+  closure_refused h = fitting _ _
 
   prefix_refused : (op : Prefix) (t : Type') → IsRefusedOnlyBy P (prefix_type op t)
   prefix_refused prefixes.Not t = typed _ _
@@ -399,9 +396,9 @@ init_allowed : (h : Heading) (t : Option Type') → IsAllowed (init_fits h t)
 init_allowed h None = tt
 init_allowed h (Some t) = fits_allowed h t
 
-init_typed : (scope : Scope) (init : Option Tree) → IsRefusedOnlyBy IsStatementCause (init_type scope init)
-init_typed scope None = tt
-init_typed scope (Some e) = by_value IsStatementCause (type_of scope e) _ (expression_in e scope) (λ t. tt)
+given_typed : (scope : Scope) (e : Option Tree) → IsRefusedOnlyBy IsStatementCause (type_if_given scope e)
+given_typed scope None = tt
+given_typed scope (Some e) = by_value IsStatementCause (type_of scope e) _ (expression_in e scope) (λ t. tt)
 
 components_allowed : (ds : List DeclaredType) (components : AttributeTrees) → IsRefusedOnlyBy IsStatementCause (components_meant ds components)
 components_allowed ds components =
@@ -421,10 +418,6 @@ target_allowed (Some r) = by_kind r.kind
 source_allowed : (r : Option KnownRelvar) (t : Type') → IsAllowed (source_fits r t)
 source_allowed None t = relation_allowed t _ (λ g. tt)
 source_allowed (Some r) t = fits_allowed r.heading t
-
-condition_typed : (scope : Scope) (condition : Option Tree) → IsRefusedOnlyBy IsStatementCause (condition_type scope condition)
-condition_typed scope None = tt
-condition_typed scope (Some e) = by_value IsStatementCause (type_of scope e) _ (expression_in e scope) (λ t. tt)
 
 condition_allowed : (t : Option Type') → IsAllowed (condition_fits t)
 condition_allowed None = tt
@@ -455,11 +448,11 @@ assignment_allowed scope (insert target source) =
 assignment_allowed scope (delete target condition) =
     both_allowed _ _ (target_allowed (known_relvar scope target))
     (target_then scope (known_relvar scope target) _
-    (λ inside h. by_value IsStatementCause (condition_type inside condition) condition_fits (condition_typed inside condition) condition_allowed))
+    (λ inside h. by_value IsStatementCause (type_if_given inside condition) condition_fits (given_typed inside condition) condition_allowed))
 assignment_allowed scope (update target condition settings) =
     both_allowed _ _ (target_allowed (known_relvar scope target))
     (target_then scope (known_relvar scope target) _
-    (λ inside h. by_both IsStatementCause (condition_type inside condition) (named_types inside settings) _ (condition_typed inside condition)
+    (λ inside h. by_both IsStatementCause (type_if_given inside condition) (named_types inside settings) _ (given_typed inside condition)
     (parts_refused IsStatementCause tt tt tt settings inside)
     (λ c values. both_allowed _ _ (condition_allowed c) (settings_allowed h values))))
 
@@ -477,8 +470,8 @@ statement_allowed scope (define_type n components constraint) =
 statement_allowed scope (drop_type n) = name_is _ causes.NameUnknown tt
 statement_allowed scope (define_base n heading init keys) =
     both_allowed _ _ (name_is _ causes.NameTaken tt)
-    (by_both IsStatementCause (heading_meant scope.types heading) (init_type scope init) _
-    (heading_refused IsStatementCause tt tt scope.types heading) (init_typed scope init)
+    (by_both IsStatementCause (heading_meant scope.types heading) (type_if_given scope init) _
+    (heading_refused IsStatementCause tt tt scope.types heading) (given_typed scope init)
     (λ h t. both_allowed _ _ (init_allowed h t)
     (both_allowed _ _ (both_allowed _ _ (key_allowed keys) (keys_allowed_by h keys)) (rank_allowed scope.types (types.relation (pack h))))))
 statement_allowed scope (define_virtual n expression keys) =

@@ -1,7 +1,6 @@
 pub mod Both
 pub mod CannotFail
 pub mod CheckViews
-pub mod Closures
 pub mod ItemViews
 pub mod LentScopes
 pub mod Mentions

@@ -17,7 +17,7 @@ use Rattle.td_tree.specs.declared.operator.Prefix.{Prefix}
 use Rattle.td_tree.specs.declared.operator.Prefix.TheVariants as prefixes
 use Rattle.td_tree.specs.Outcomes.{Outcome, Valued, Refused, Only, gathered, with_value, with_both, value_if}
 use Rattle.td_tree.specs.Trees.{Attributes, only, all_but, Renaming, Postfix, project, rename, group, ungroup, wrap, unwrap}
-use Rattle.td_types.specs.Headings.{agree, are_distinct, common_heading, extended_heading, has_attribute, have_no_common, heading_union, is_part, made_heading, outside, projected_heading, renamed_heading, united_heading, with_attribute, without_attribute}
+use Rattle.td_types.specs.Headings.{agree, are_distinct, common_heading, extended_heading, has_attribute, have_no_common, heading_union, is_closable, is_part, made_heading, outside, projected_heading, renamed_heading, united_heading, with_attribute, without_attribute}
 use Rattle.td_types.specs.TypeLists.{DeclaredType, declared_at}
 use Rattle.td_types.specs.TypeOrder.{heading_cmp}
 use Rattle.td_types.specs.Types.{Type', boolean, integer, char, user, tuple, relation, Attribute, Heading, attribute_names, pack, unpack, type_at, type_cmp}
@@ -100,8 +100,7 @@ attribute_type name h = known_or causes.Heading (type_at name h)
 
 -- two attributes of one type
 abbrev pub closure_type : Heading → Outcome Type'
-closure_type (a ∷ b ∷ []) = value_if (same_type a.1 b.1) (relation (pack (a ∷ b ∷ []))) causes.Heading
-closure_type _ = misfit
+closure_type h = value_if (is_closable h) (relation (pack h)) causes.Heading
 
 abbrev pub prefix_type : Prefix → Type' → Outcome Type'
 -- NOT asks BOOLEAN

@@ -32,8 +32,8 @@ abbrev pub kind_and_heading : KnownRelvar → Kind × Heading
 kind_and_heading r = (r.kind, r.heading)
 
 -- whether there is a constraint of the name
-abbrev pub knows_constraint : Scope → List ℕ → Bool
-knows_constraint scope name = has_name name scope.constraints
+abbrev pub knows_constraint : List ℕ → Scope → Bool
+knows_constraint name scope = has_name name scope.constraints
 
 -- the type of the innermost attribute of a name
 abbrev pub innermost : List ℕ → List Heading → Option Type'

@@ -72,11 +72,12 @@ has_key (key ∷ keys) = Valued tt
 abbrev pub relation_fits : Heading → Type' → Outcome ⊤
 relation_fits h t = over_relation t (λ g. holds_or causes.Heading (same_heading g h))
 
--- the type of INIT's expression, where it is given; the new relvar is not known in it
-abbrev pub init_type : Scope → Option Tree → Outcome (Option Type')
-init_type scope None = Valued None
-init_type scope (Some init) = with_value (type_of scope init) (λ t. Valued (Some t))
+-- the type of an expression, where it is given
+abbrev pub type_if_given : Scope → Option Tree → Outcome (Option Type')
+type_if_given scope None = Valued None
+type_if_given scope (Some e) = with_value (type_of scope e) (λ t. Valued (Some t))
 
+-- what is asked of INIT's type, where it is given
 abbrev pub init_fits : Heading → Option Type' → Outcome ⊤
 init_fits h None = Valued tt
 init_fits h (Some t) = relation_fits h t
@@ -98,10 +99,6 @@ source_fits None t = over_relation t (λ g. Valued tt)
 source_fits (Some r) t = relation_fits r.heading t
 
 -- what is asked of each tuple after WHERE is BOOLEAN
-abbrev pub condition_type : Scope → Option Tree → Outcome (Option Type')
-condition_type scope None = Valued None
-condition_type scope (Some condition) = with_value (type_of scope condition) (λ t. Valued (Some t))
-
 abbrev pub condition_fits : Option Type' → Outcome ⊤
 condition_fits None = Valued tt
 condition_fits (Some t) = if_type boolean t tt
@@ -130,17 +127,17 @@ assignment_checked scope (insert target source) =
     (with_value (type_of scope source) (source_fits (known_relvar scope target)))
 assignment_checked scope (delete target condition) =
     both_hold (is_target (known_relvar scope target))
-    (in_target scope (known_relvar scope target) (λ inside h. with_value (condition_type inside condition) condition_fits))
+    (in_target scope (known_relvar scope target) (λ inside h. with_value (type_if_given inside condition) condition_fits))
 assignment_checked scope (update target condition settings) =
     both_hold (is_target (known_relvar scope target))
-    (in_target scope (known_relvar scope target) (λ inside h. with_both (condition_type inside condition) (named_types inside settings)
+    (in_target scope (known_relvar scope target) (λ inside h. with_both (type_if_given inside condition) (named_types inside settings)
     (λ c values. both_hold (condition_fits c) (settings_fit h values))))
 
 -- ---- statements
 
 -- whether there is a relvar of the name, base or virtual
-abbrev pub knows_relvar : Scope → List ℕ → Bool
-knows_relvar scope name = is_some (known_relvar scope name)
+abbrev pub knows_relvar : List ℕ → Scope → Bool
+knows_relvar name scope = is_some (known_relvar scope name)
 
 abbrev pub statement_checked : Scope → Statement → Outcome ⊤
 statement_checked scope empty = Valued tt
@@ -149,19 +146,20 @@ statement_checked scope (define_type name components constraint) =
     (with_value (components_meant scope.types components) (λ attributes.
     both_hold (constraint_fits scope attributes constraint) (rank_fits scope.types attributes)))
 statement_checked scope (drop_type name) = holds_or causes.NameUnknown (is_declared name scope.types)
+-- the new relvar is not known in INIT's expression
 statement_checked scope (define_base name heading init keys) =
-    both_hold (holds_or causes.NameTaken (not (knows_relvar scope name)))
-    (with_both (heading_meant scope.types heading) (init_type scope init) (λ h t.
+    both_hold (holds_or causes.NameTaken (not (knows_relvar name scope)))
+    (with_both (heading_meant scope.types heading) (type_if_given scope init) (λ h t.
     both_hold (init_fits h t) (both_hold (both_hold (has_key keys) (keys_asked h keys)) (heading_rank_fits scope.types h))))
 statement_checked scope (define_virtual name expression keys) =
-    both_hold (holds_or causes.NameTaken (not (knows_relvar scope name)))
+    both_hold (holds_or causes.NameTaken (not (knows_relvar name scope)))
     (with_value (type_of scope expression) (λ t. over_relation t (λ h.
     both_hold (keys_asked h keys) (heading_rank_fits scope.types h))))
-statement_checked scope (drop_var name) = holds_or causes.NameUnknown (knows_relvar scope name)
+statement_checked scope (drop_var name) = holds_or causes.NameUnknown (knows_relvar name scope)
 statement_checked scope (define_constraint name condition) =
-    both_hold (holds_or causes.NameTaken (not (knows_constraint scope name)))
+    both_hold (holds_or causes.NameTaken (not (knows_constraint name scope)))
     (with_value (type_of scope condition) (λ t. if_type boolean t tt))
-statement_checked scope (drop_constraint name) = holds_or causes.NameUnknown (knows_constraint scope name)
+statement_checked scope (drop_constraint name) = holds_or causes.NameUnknown (knows_constraint name scope)
 statement_checked scope (assign_all assignments) =
     with_value (gathered (map (assignment_checked scope) assignments)) (λ _. Valued tt)
 statement_checked scope begin_transaction = Valued tt

@@ -126,7 +126,7 @@ impl<'a> Scope<'a> {
 
     /// Whether there is a constraint of the name.
     pub fn knows_constraint(&self, name: &Name) -> bool
-        ensures { result ≡ knows_constraint self.now name.now }
+        ensures { result ≡ knows_constraint name.now self.now }
     {
         knows_lent_constraint(self.lent, name) || self.constraints.contains(name)
     }
@@ -148,7 +148,7 @@ impl<'a> Scope<'a> {
 
     /// The scope with one more constraint, of a name that no constraint has.
     pub fn with_constraint(self, name: Name) -> Result<Scope<'a>, AllocError>
-        requires new { IsTrue (not (knows_constraint self name)) }
+        requires new { IsTrue (not (knows_constraint name self)) }
         ensures { IfOk result (λ s. s ≡ with_known_constraint name self.entry) }
     {
         let mut scope = self;

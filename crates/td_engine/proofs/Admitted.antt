@@ -12,7 +12,7 @@ use Rattle.td_tree.specs.declared.cause.Cause.TheVariants as causes
 use Rattle.td_check.specs.StatementTypes.{both_hold, components_meant, constraint_fits, heading_rank_fits, holds_or, keys_asked, keys_allowed, rank_fits}
 use Rattle.td_check.specs.StaticTypes.{type_of}
 use Rattle.td_engine.proofs.OrderedKeys.{keys_stay_allowed}
-use Rattle.td_engine.specs.Carried.{Changes, IsAdmitted, IsSpelled, failure_of}
+use Rattle.td_engine.specs.Carried.{Changes, IsAdmitted, IsSpelledStatement, failure_of}
 use Rattle.td_engine.specs.Machine.{Denied, Effect, by_outcome}
 use Rattle.td_engine.specs.Refusals.{by_cause}
 use Rattle.td_tree.specs.Grammar.{AttributesSpelling, last_attribute, next_attribute}
@@ -82,7 +82,7 @@ spelled_some : (xs : List Lexeme) (h : AttributeTrees) → AttributesSpelling xs
 spelled_some xs _ (last_attribute s) e = absurd (cc)
 spelled_some xs _ (next_attribute s r) e = absurd (cc)
 
-type_some : (n : Text) (h : AttributeTrees) (t : Option Tree) → IsSpelled (trees.define_type n h t) → AreSome h
+type_some : (n : Text) (h : AttributeTrees) (t : Option Tree) → IsSpelledStatement (trees.define_type n h t) → AreSome h
 type_some n h t s = by_spelling (lexemes s.0) s.1
   where
     by_body : (xs : List Lexeme) → BodySpelling xs (trees.define_type n h t) → AreSome h

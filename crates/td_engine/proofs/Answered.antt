@@ -3,7 +3,7 @@ use Rattle.std.proofs.Common.{◌≡◌, ◌∙◌, ℕ, List, None, Result, Ok,
 use Rattle.std.specs.Prelude.{IfOk, IsTrue, is_none}
 use Rattle.std.specs.String.{string_bytes}
 use Rattle.td_catalog.specs.Database.{Database}
-use Rattle.td_engine.specs.Carried.{AnswersText, Changes, IsAdmitted, IsDenied, IsOfDatabase, IsRefusedBy, IsSpelled, Prints}
+use Rattle.td_engine.specs.Carried.{AnswersText, Changes, IsAdmitted, IsDenied, IsOfDatabase, IsRefusedBy, IsSpelledStatement, Prints}
 use Rattle.td_engine.specs.Machine.{Accepted, Denied, Effect, State, Step, by_outcome, carried_out, effect, effect_in, keeping, ok_text, state_of, step_of, stepped}
 use Rattle.td_engine.specs.Refusals.{by_cause}
 use Rattle.td_engine.specs.Legality.{IsLegal}
@@ -67,13 +67,13 @@ pub parsed_step : (old new : State) (tokens : List PlacedToken) (o : Outcome Sta
 parsed_step old new tokens o answer parsed does = record { step = (o, parsed, does.is); accepted = does.accepted }
 
 -- what tokens were read as is spelled
-pub read_spelled : (tokens : List PlacedToken) (r : Result code_tree.Statement Fault) (s : code_tree.Statement) → IsParsed tokens r → r ≡ Ok s → IsSpelled (statement_view s)
+pub read_spelled : (tokens : List PlacedToken) (r : Result code_tree.Statement Fault) (s : code_tree.Statement) → IsParsed tokens r → r ≡ Ok s → IsSpelledStatement (statement_view s)
 read_spelled tokens r s is e = by_meaning is.0 is.1 (subst (λ q. Answers statement_view q is.0) e is.2)
   where
-    by_meaning : (o : Outcome Statement) → Parsed tokens o → o ≡ Valued (statement_view s) → IsSpelled (statement_view s)
+    by_meaning : (o : Outcome Statement) → Parsed tokens o → o ≡ Valued (statement_view s) → IsSpelledStatement (statement_view s)
     by_meaning _ (bad_token bad) h = absurd (cc)
     by_meaning _ (nothing_spelled good none) h = absurd (cc)
-    by_meaning _ (statement_spelled {s = t} good only) h = subst IsSpelled (valued_is t (statement_view s) h) (tokens, only.0)
+    by_meaning _ (statement_spelled {s = t} good only) h = subst IsSpelledStatement (valued_is t (statement_view s) h) (tokens, only.0)
 
 -- an answer OK to what is accepted
 pub ok_does : {S : Type 0} (answer : code.Answer) (old new : S) (e : Effect S) → e ≡ Accepted new ok_text → IsTrue answer.accepted × (answer.cause ≡ None)
@@ -84,7 +84,7 @@ ok_does answer old new e is flag text =
       accepted = flag.0 ∙ ap is_none (sym flag.1);
     })
 
-pub parsed_spelled : (tokens : List PlacedToken) (r : Result code_tree.Statement Fault) → IsParsed tokens r → IfOk r (λ s. IsSpelled (statement_view s))
+pub parsed_spelled : (tokens : List PlacedToken) (r : Result code_tree.Statement Fault) → IsParsed tokens r → IfOk r (λ s. IsSpelledStatement (statement_view s))
 parsed_spelled tokens (Ok s) is = read_spelled tokens (Ok s) s is refl
 parsed_spelled tokens (Err fault) is = tt
 

@@ -2,7 +2,7 @@
 use Rattle.std.proofs.Common.{◌≡◌, ◌∙◌, ◌∷◌, ℕ, List, [], Option, Some, None, refl, subst, sym}
 use Rattle.td_catalog.specs.Database.{Database, database_scope}
 use Rattle.td_catalog.specs.TypedDatabases.{AreTyped}
-use Rattle.td_check.specs.StatementTypes.{has_key, init_type, keys_allowed}
+use Rattle.td_check.specs.StatementTypes.{has_key, keys_allowed, type_if_given}
 use Rattle.td_check.specs.StaticTypes.{type_of}
 use Rattle.td_engine.specs.Carried.{IsAdmitted}
 use Rattle.td_engine.specs.Machine.{init_relation}
@@ -37,7 +37,7 @@ heading_known db hs h names is =
 
 -- without INIT there is no tuple; the value of INIT is of the heading, and its values are of their types
 init_fits_target : (db : Database) (init : Option Tree) (h : Heading) (t : Option Type') (r : Relation) → IsLegal db → IsWrittenIf init
-    → init_type (database_scope db) init ≡ Valued t → init_relation db init h ≡ Valued r → FitsTarget db.types (relation_view h []) r
+    → type_if_given (database_scope db) init ≡ Valued t → init_relation db init h ≡ Valued r → FitsTarget db.types (relation_view h []) r
 init_fits_target db None h t r legal written typed is =
     subst (FitsTarget db.types (relation_view h [])) (valued_is (relation_view h []) r is) (record { typed = tt; headed = refl })
 init_fits_target db (Some e) h t r legal written typed is =
@@ -56,7 +56,7 @@ pub base_admitted : (db : Database) (n : Text) (hs : AttributeTrees) (init : Opt
     → with_value (heading_meant db.types hs) (init_relation db init) ≡ Valued r → BaseAdmitted db keys r
 base_admitted db n hs init keys r legal is names written made =
     let both = both_asked _ _ is.checked in
-    let parts = values_of_both (heading_meant db.types hs) (init_type (database_scope db) init) _ tt both.1 in
+    let parts = values_of_both (heading_meant db.types hs) (type_if_given (database_scope db) init) _ tt both.1 in
     let given = value_of_with (heading_meant db.types hs) (init_relation db init) r made in
     let same : given.0 ≡ parts.0 = valued_is given.0 parts.0 (sym given.1 ∙ parts.2) in
     let rest = both_asked _ _ (both_asked _ _ parts.4).1 in

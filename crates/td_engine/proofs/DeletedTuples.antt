@@ -14,24 +14,24 @@ use Rattle.td_engine.specs.Assignments.{assignment_value, chosen_for, source_wor
 use Rattle.td_engine.specs.Gifts.{restricted_relation}
 use Rattle.td_eval.proofs.WorldParts.{base_value}
 use Rattle.td_eval.specs.DatabaseWorlds.{world_of}
-use Rattle.td_eval.specs.OperatorValues.{is_true, prefix_value, relation_as_value, truth_value}
+use Rattle.td_eval.specs.OperatorValues.{is_true, prefix_value, truth_value}
 use Rattle.td_eval.specs.TreeValues.{value_of}
 use Rattle.td_tree.specs.Outcomes.{Outcome, Valued, Refused, gathered, with_value}
 use Rattle.td_tree.specs.Trees.{Tree, delete, parentheses, prefix}
 use Rattle.td_tree.specs.declared.operator.Prefix.TheVariants as prefixes
 use Rattle.td_types.proofs.OutcomeLaws.{values_of_both}
 use Rattle.td_types.specs.Types.{same_name}
-use Rattle.td_value.specs.Values.{Val, boolean, integer, char, user, tuple, relation, IsRelation, Relation, Tuple}
+use Rattle.td_value.specs.Values.{Val, boolean, integer, char, relation_value, user, tuple, relation, IsRelation, Relation, Tuple}
 use Rattle.td_value.specs.Views.{relation_view}
 
 -- where a target holds what it held, its name means what it means anyway
 pub same_world : (db : Database) (n : List ℕ) (b : BaseRelvar) → base_named n db ≡ Some b → source_world db n b.relation ≡ world_of db
 same_world db n b is = λ i. record { scope = (world_of db).scope; relvar = λ m. same m i; selector = (world_of db).selector }
   where
-    same : (m : List ℕ) → (if same_name n m then Some (Valued (relation_as_value b.relation)) else (world_of db).relvar m) ≡ (world_of db).relvar m
+    same : (m : List ℕ) → (if same_name n m then Some (Valued (relation_value b.relation)) else (world_of db).relvar m) ≡ (world_of db).relvar m
     same m = by_test (same_name n m) refl
       where
-        by_test : (t : Bool) → same_name n m ≡ t → (if t then Some (Valued (relation_as_value b.relation)) else (world_of db).relvar m) ≡ (world_of db).relvar m
+        by_test : (t : Bool) → same_name n m ≡ t → (if t then Some (Valued (relation_value b.relation)) else (world_of db).relvar m) ≡ (world_of db).relvar m
         by_test true e = sym (base_value db n b is) ∙ ap (world_of db).relvar (same_text n m (sym e))
         by_test false e = refl
 

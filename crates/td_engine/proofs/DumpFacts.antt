@@ -6,7 +6,6 @@ use Rattle.std.proofs.lemmas.Bool.Decides.{nat_tests}
 use Rattle.std.proofs.lemmas.List.Elements.{Contains-get_or, recursion_from_All}
 use Rattle.td_check.specs.StatementTypes.{heading_rank_fits, rank_fits, type_rank_fits}
 use Rattle.td_engine.specs.Legality.{IsSpelledExpression}
-use Rattle.td_eval.specs.OperatorValues.{relation_as_value}
 use Rattle.td_tree.specs.declared.cause.Cause.TheVariants as causes
 use Rattle.td_tree.specs.Grammar.{height_limit}
 use Rattle.td_tree.specs.Heights.{attributes_height, height, type_height}
@@ -22,7 +21,7 @@ use Rattle.td_types.proofs.RankBounds.{type_low, user_ranks_positive}
 use Rattle.td_value.specs.KnownValues.{HaveHeading}
 use Rattle.td_value.specs.Literal.{literal}
 use Rattle.td_value.specs.LiteralTrees.{literal_tree}
-use Rattle.td_value.specs.Values.{IsRelation, Relation, pack_rows}
+use Rattle.td_value.specs.Values.{IsRelation, Relation, pack_rows, relation_value}
 use Rattle.td_value.proofs.LiteralHeights.{low}
 use Rattle.td_value.proofs.LiteralSpellings.{literals_spell}
 use Rattle.td_engine.proofs.DumpLists.{AreTypedNames}
@@ -70,9 +69,9 @@ heading_is_low ds h e =
 
 -- the literal of a relvar's relation has tokens that spell it
 pub literal_spelled : (ds : List DeclaredType) (r : Relation) → AreDeclared ds → heading_rank_fits ds r.heading ≡ Valued tt → IsRelation r
-    → AreKnown ds (pack r.heading) → HaveHeading ds (pack_rows r.body) (pack r.heading) → IsSpelledExpression (literal_tree (relation_as_value r))
+    → AreKnown ds (pack r.heading) → HaveHeading ds (pack_rows r.body) (pack r.heading) → IsSpelledExpression (literal_tree (relation_value r))
 literal_spelled ds r declared fits is known typed =
     let ranked = ranked_type ds (relation (pack r.heading)) fits in
-    let v = relation_as_value r in
+    let v = relation_value r in
     let double : height (literal_tree v) ≤ 2 * ranked.rank = low ds v (relation (pack r.heading)) ranked.rank declared (refl, known, typed) ranked.is in
     (tokens 0 (literal v), literals_spell v is (omega (arith, ranked.within_limit, double)))

@@ -5,7 +5,6 @@ use Rattle.td_catalog.specs.Database.{BaseRelvar, NamedConstraint, VirtualRelvar
 use Rattle.td_catalog.specs.Dumps.{base_line, condition_text, constraint_line, line_end, type_line, virtual_line}
 use Rattle.td_engine.specs.Rebuilding.{base_statement, constraint_statement, type_statement, virtual_statement}
 use Rattle.td_engine.specs.Legality.{IsSpelledExpression, IsSpelledIf}
-use Rattle.td_eval.specs.OperatorValues.{relation_as_value}
 use Rattle.td_tree.specs.declared.keyword.Keyword.{Keyword}
 use Rattle.td_tree.specs.declared.keyword.Keyword.TheVariants as k
 use Rattle.td_tree.specs.declared.token.Sign.TheVariants as signs
@@ -25,7 +24,7 @@ use Rattle.td_types.specs.TypeTrees.{attribute_trees}
 use Rattle.td_types.specs.Types.{IsHeading, attribute_names, pack, relation}
 use Rattle.td_value.specs.LiteralTrees.{literal_tree}
 use Rattle.td_value.specs.Literal.{literal}
-use Rattle.td_value.specs.Values.{IsValue, Val}
+use Rattle.td_value.specs.Values.{IsValue, Val, relation_value}
 use Rattle.td_value.proofs.LiteralSpellings.{value_seen}
 use Rattle.td_engine.proofs.DumpInner.{AllInner, also, attributes_inner, commas_inner, in_braces, in_parentheses, join, none_left, tree_inner}
 use Rattle.td_engine.proofs.DumpLists.{AreTypedNames, components_show, components_spelled, keys_inner, keys_lexemes, keys_show, keys_spelled}
@@ -101,12 +100,12 @@ a_value : (v : Val) → IsValue v → ShowsBefore (literal v) (lexemes_of (liter
 a_value v p = record { seen = λ rest ls bounded seen. value_seen v p rest ls bounded seen }
 
 pub base_line_is : (r : BaseRelvar) → IsName r.name → IsHeading (pack r.relation.heading)
-    → AllByRecursion IsName (attribute_names r.relation.heading) → IsValue (relation_as_value r.relation)
+    → AllByRecursion IsName (attribute_names r.relation.heading) → IsValue (relation_value r.relation)
     → type_height (relation_type (attribute_trees (pack r.relation.heading))) ≤ height_limit
-    → IsSpelledExpression (literal_tree (relation_as_value r.relation)) → IsLine (base_line r) (base_statement r)
+    → IsSpelledExpression (literal_tree (relation_value r.relation)) → IsLine (base_line r) (base_statement r)
 base_line_is r name heading names value low tokens =
     let h = r.relation.heading in
-    let v = relation_as_value r.relation in
+    let v = relation_value r.relation in
     let hs : List Lexeme = heading_lexemes (attribute_trees (pack h)) in
     let xs : List Lexeme = lexemes_of (literal_tree v) in
     let keys : List Lexeme = keys_lexemes h r.keys in

@@ -9,7 +9,7 @@ use Rattle.td_check.specs.OperatorTypes.{known_or, same_heading}
 use Rattle.td_engine.proofs.DeletedTuples.{delete_is, same_world}
 use Rattle.td_engine.proofs.Sources.{inserted_is}
 use Rattle.td_engine.specs.Assignments.{Given, chosen_for, current, given_to, relation_for, setting_names, target_of, updated_relation, with_assignment, with_given}
-use Rattle.td_engine.specs.Changes.{IsChangeOf, IsOfHeading, after, given_as, gift_over}
+use Rattle.td_engine.specs.Changes.{IsChangeOf, IsOfHeading, changed_by, gift_over, given_as}
 use Rattle.td_engine.specs.Gifts.{gift_of}
 use Rattle.td_engine.specs.declared.change.Change.{Change}
 use Rattle.td_eval.specs.DatabaseWorlds.{world_of}
@@ -31,37 +31,37 @@ for_heading w e p q same = ap (λ h. with_value (value_of w [] e) (λ v. on_rela
 module _ (db : Database) where
   -- what is given over what a base relvar held
   pub first_given : (a : Assignment) (r : BaseRelvar) (result : Result Change Fault) → base_named (target_of a) db ≡ Some r
-      → Answers (λ c. after c r.relation) result (gift_over db r.relation a) → Answers (given_as db (target_of a)) result (gift_of db [] a)
+      → Answers (λ c. changed_by c r.relation) result (gift_over db r.relation a) → Answers (given_as db (target_of a)) result (gift_of db [] a)
   first_given a r result is told =
-      subst (λ (o : Option BaseRelvar). Answers (λ (c : Change). elim o as (λ _. Relation) [ Some b ↦ after c b.relation | None ↦ c.add ]) result
+      subst (λ (o : Option BaseRelvar). Answers (λ (c : Change). elim o as (λ _. Relation) [ Some b ↦ changed_by c b.relation | None ↦ c.add ]) result
       (with_value (known_or causes.NameUnknown (option_map (λ b. b.relation) o)) (λ so_far. gift_over db so_far a))) (sym is) told
 
   -- INSERT, where the target's name means what it means anyway
   pub insert_first : (n : List ℕ) (source : Tree) (r : BaseRelvar) (result : Result Change Fault) → base_named n db ≡ Some r
-      → Answers (λ c. after c r.relation) result (with_value (relation_for r.relation (world_of db) source) (λ s. Valued (union r.relation s)))
-      → Answers (λ c. after c r.relation) result (gift_over db r.relation (insert n source))
+      → Answers (λ c. changed_by c r.relation) result (with_value (relation_for r.relation (world_of db) source) (λ s. Valued (union r.relation s)))
+      → Answers (λ c. changed_by c r.relation) result (gift_over db r.relation (insert n source))
   insert_first n source r result is told =
-      subst (Answers (λ (c : Change). after c r.relation) result)
+      subst (Answers (λ (c : Change). changed_by c r.relation) result)
       (sym (inserted_is db n r.relation source ∙ ap (λ w. with_value (relation_for r.relation w source) (λ s. Valued (union r.relation s))) (same_world db n r is))) told
 
   -- so DELETE and UPDATE
   module _ (n : List ℕ) (condition : Option Tree) (r : BaseRelvar) (result : Result Change Fault) (is : base_named n db ≡ Some r) where
     pub delete_first : IsRelation r.relation
-        → Answers (λ c. after c r.relation) result
+        → Answers (λ c. changed_by c r.relation) result
         (with_value (chosen_for r.relation (world_of db) n condition) (λ out. Valued (after_change out (relation_view out.heading []) r.relation)))
-        → Answers (λ c. after c r.relation) result (gift_over db r.relation (delete n condition))
+        → Answers (λ c. changed_by c r.relation) result (gift_over db r.relation (delete n condition))
     delete_first valid told =
-        subst (Answers (λ (c : Change). after c r.relation) result)
+        subst (Answers (λ (c : Change). changed_by c r.relation) result)
         (sym (delete_is db n r.relation condition valid
         ∙ ap (λ w. with_value (chosen_for r.relation w n condition) (λ out. Valued (after_change out (relation_view out.heading []) r.relation))) (same_world db n r is)))
         told
 
     pub update_first : (settings : NamedTrees)
-        → Answers (λ c. after c r.relation) result
+        → Answers (λ c. changed_by c r.relation) result
         (with_value (chosen_for r.relation (world_of db) n condition) (updated_relation r.relation (setting_names settings) (values_in_tuples (world_of db) [] settings)))
-        → Answers (λ c. after c r.relation) result (gift_over db r.relation (update n condition settings))
+        → Answers (λ c. changed_by c r.relation) result (gift_over db r.relation (update n condition settings))
     update_first settings told =
-        subst (Answers (λ (c : Change). after c r.relation) result)
+        subst (Answers (λ (c : Change). changed_by c r.relation) result)
         (sym (ap (λ w. with_value (chosen_for r.relation w n condition) (updated_relation r.relation (setting_names settings) (values_in_tuples w [] settings)))
         (same_world db n r is)))
         told

@@ -173,6 +173,3 @@ pub gift_heading : (db : Database) (given : Given) (n : List ℕ) (q : Relation)
 gift_heading db given n q r h e is =
     let gift = gift_to db given n q h e in
     gift.heading ∙ ap (λ (b : BaseRelvar). b.relation.heading) (some_is gift.target r (sym gift.named ∙ is))
-
-pub never_none : {A B : Type 0} (x : A) (o : Option A) → o ≡ Some x → o ≡ None → B
-never_none x o e f = let clash : Some x ≡ None = sym e ∙ f in absurd (cc)

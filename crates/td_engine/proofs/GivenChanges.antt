@@ -11,7 +11,7 @@ use Rattle.td_catalog.specs.Database.{BaseRelvar, Database, base_named}
 use Rattle.td_catalog.specs.TypedDatabases.{AreTyped}
 use Rattle.td_engine.proofs.Gifted.{some_is}
 use Rattle.td_engine.specs.Assignments.{Given, given_to, with_given}
-use Rattle.td_engine.specs.Changes.{AreChanges, AreTypedChanges, IsChangeOf, IsTypedChange, after, given_as, given_in}
+use Rattle.td_engine.specs.Changes.{AreChanges, AreTypedChanges, IsChangeOf, IsTypedChange, changed_by, given_as, given_in}
 use Rattle.td_engine.specs.Gifts.{AreGifts, IsGift}
 use Rattle.td_engine.specs.declared.change.Change.{Change}
 use Rattle.td_eval.proofs.KeepsGathered.{has_type_members}
@@ -79,7 +79,7 @@ module _ (db : Database) where
       by_test false is rest = rest
 
   -- of a base relvar
-  pub given_of : (n : List ℕ) (c : Change) (r : BaseRelvar) → base_named n db ≡ Some r → given_as db n c ≡ after c r.relation
+  pub given_of : (n : List ℕ) (c : Change) (r : BaseRelvar) → base_named n db ≡ Some r → given_as db n c ≡ changed_by c r.relation
   given_of n c r e = rw (given_as, e) refl
 
   -- ---- types
@@ -94,7 +94,7 @@ module _ (db : Database) where
   one_typed : (e : List ℕ × Change) → IsChangeOf db e → IsGift db (e.0, given_as db e.0 e.1) → IsTypedChange db e
   one_typed e is gift =
       let r = is.target.relation in
-      let typed : AreTyped db.types (after e.1 r) = subst (AreTyped db.types) (given_of e.0 e.1 is.target is.named) gift.typed in
+      let typed : AreTyped db.types (changed_by e.1 r) = subst (AreTyped db.types) (given_of e.0 e.1 is.target is.named) gift.typed in
       record { is = is; typed = added_typed db.types (difference r e.1.out) e.1.add is.headings.1 typed }
 
   pub all_typed : (es : List (List ℕ × Change)) → AreChanges db es → AreGifts db (given_in db es) → AreTypedChanges db es

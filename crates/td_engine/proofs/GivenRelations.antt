@@ -14,7 +14,7 @@ use Rattle.td_eval.proofs.MetWorlds.{values_meet_constraints}
 use Rattle.td_eval.specs.DatabaseWorlds.{world_of}
 use Rattle.td_eval.specs.LiteralValues.{MeetConstraint, MeetsConstraints}
 use Rattle.td_eval.specs.MetConstraints.{EachInValues, GivesOnly}
-use Rattle.td_eval.specs.OperatorValues.{on_relation, relation_as_value, set_value}
+use Rattle.td_eval.specs.OperatorValues.{on_relation, set_value}
 use Rattle.td_eval.specs.TreeValues.{value_of, values_in_tuples}
 use Rattle.td_eval.specs.Worlds.{World}
 use Rattle.td_tree.specs.Outcomes.{Outcome, Valued}
@@ -24,12 +24,12 @@ use Rattle.td_types.proofs.OutcomeLaws.{value_of_test, value_of_with, valued_is}
 use Rattle.td_types.specs.TypeLists.{DeclaredType}
 use Rattle.td_types.specs.Types.{Heading, same_name, unpack}
 use Rattle.td_value.specs.Sets.{has}
-use Rattle.td_value.specs.Values.{Val, boolean, integer, char, user, tuple, relation, Relation, Tuple, tuple_cmp, unpack_rows}
+use Rattle.td_value.specs.Values.{Val, boolean, integer, char, relation_value, user, tuple, relation, Relation, Tuple, tuple_cmp, unpack_rows}
 use Rattle.td_value.specs.Views.{relation_view}
 
 -- the user values in a relation meet the constraints of these types
 abbrev pub Meets : List DeclaredType → Relation → Type 0
-Meets ds r = MeetsConstraints ds (relation_as_value r)
+Meets ds r = MeetsConstraints ds (relation_value r)
 
 -- a relation that is of the heading asked is the one that the value was
 same_relation : (target r : Relation) (v : Val) → on_relation v (of_heading target) ≡ Valued r → on_relation v Valued ≡ Valued r

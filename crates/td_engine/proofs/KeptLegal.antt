@@ -2,6 +2,7 @@
 use Rattle.std.proofs.Common.{◌≡◌, ◌∙◌, ◌∷◌, ◌++◌, ℕ, Bool, true, false, List, [], Option, None, ap, map, not, subst}
 use Rattle.std.specs.List.{AllByRecursion}
 use Rattle.td_catalog.proofs.EntriesLess.{drops_keep}
+use Rattle.td_catalog.proofs.Lists.{not_true}
 use Rattle.td_catalog.specs.Database.{BaseRelvar, Database, base_relvar, database_scope, knows_relvar, named_constraint, virtual_relvar, with_base, with_constraint, with_declared, with_virtual, without_constraint, without_relvar, without_type}
 use Rattle.td_catalog.specs.Dumps.{dump_text, ordered_names}
 use Rattle.td_catalog.specs.Mentioned.{constraint_droppable, is_relvar_in_use, is_type_in_use, relvar_droppable, type_droppable, unused}
@@ -24,7 +25,6 @@ use Rattle.td_engine.specs.Legality.{IsLegal}
 use Rattle.td_engine.specs.LegalityLaws.{AcceptedStatementsKeepLegality}
 use Rattle.td_engine.specs.Machine.{Accepted, base_defined, by_outcome, carried_out, changed, constraint_dropped, init_relation, ok_text, relvar_dropped, type_defined, type_dropped, unchecked, virtual_defined}
 use Rattle.td_engine.specs.Refusals.{by_key, line}
-use Rattle.td_eval.proofs.DistinctNames.{not_true}
 use Rattle.td_eval.specs.DatabaseWorlds.{world_of}
 use Rattle.td_eval.specs.TreeValues.{value_of}
 use Rattle.td_tree.specs.Outcomes.{Valued, with_value}

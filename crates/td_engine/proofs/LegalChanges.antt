@@ -25,11 +25,11 @@ use Rattle.td_eval.proofs.MetWorlds.{values_meet_constraints}
 use Rattle.td_eval.specs.DatabaseWorlds.{world_of}
 use Rattle.td_eval.specs.LiteralValues.{MeetConstraint}
 use Rattle.td_eval.specs.MetConstraints.{GivesOnly}
-use Rattle.td_eval.specs.OperatorValues.{relation_as_value}
 use Rattle.td_tree.specs.Outcomes.{Valued}
 use Rattle.td_tree.specs.Trees.{Assignment}
 use Rattle.td_types.specs.TypeLists.{DeclaredType}
 use Rattle.td_types.specs.Types.{pack, relation, same_name}
+use Rattle.td_value.specs.Values.{relation_value}
 
 -- a database in which nothing is defined
 pub legal_empty : IsLegal empty_database
@@ -70,7 +70,7 @@ module _ (db : Database) (legal : IsLegal db) where
         ordered = record { bases = legal.ordered.bases; virtuals = legal.ordered.virtuals };
         types =
             all_given (IsTypedBase db.types) (λ (r : BaseRelvar). Meets db.types r.relation) (λ (r : BaseRelvar). Meets (with_declared d db).types r.relation)
-            (λ r is. later_types_keep_what_meets db (with_declared d db) (relation_as_value r.relation) (relation (pack r.relation.heading)) legal.typed typed
+            (λ r is. later_types_keep_what_meets db (with_declared d db) (relation_value r.relation) (relation (pack r.relation.heading)) legal.typed typed
             (definitions_written db legal.spelled).constraints (later_entries_change_nothing.one_type db d legal.typed) is.relation (refl, is.known, is.typed))
             db.bases legal.typed.bases legal.types;
         virtuals = checked.virtuals;
@@ -184,7 +184,7 @@ module _ (db : Database) (legal : IsLegal db) where
         ordered = record { bases = legal.ordered.bases; virtuals = legal.ordered.virtuals };
         types =
             all_given (IsTypedBase few.types) (λ (r : BaseRelvar). Meets db.types r.relation) (λ (r : BaseRelvar). Meets few.types r.relation)
-            (λ r is. drops_keep_what_meets db dropped (relation_as_value r.relation) (relation (pack r.relation.heading)) legal.typed typed
+            (λ r is. drops_keep_what_meets db dropped (relation_value r.relation) (relation (pack r.relation.heading)) legal.typed typed
             (definitions_written db legal.spelled).constraints is.relation (refl, is.known, is.typed))
             db.bases typed.bases legal.types;
         virtuals = virtuals_without_type db legal dropped typed;

@@ -6,7 +6,7 @@ use Rattle.td_catalog.specs.Database.{Database}
 use Rattle.td_engine.proofs.Answered.{of_database}
 use Rattle.td_engine.proofs.KeptLegal.{accepted_keep_legal}
 use Rattle.td_engine.proofs.Transactions.{begin_legal, commit_legal, rollback_legal}
-use Rattle.td_engine.specs.Carried.{IsOfDatabase, IsSpelled}
+use Rattle.td_engine.specs.Carried.{IsOfDatabase, IsSpelledStatement}
 use Rattle.td_engine.specs.Machine.{Accepted, Denied, Effect, Progress, Runs, State, Step, Steps, and_then, begun_transaction, committed, denied_transaction, effect, effect_in, keeping, next, nothing, ok_text, rolled_back, state_of, step_of, stepped, stopped, transaction_limit}
 use Rattle.td_engine.specs.Legality.{IsLegalState}
 use Rattle.td_engine.specs.LegalityLaws.{RunsKeepLegality}
@@ -40,16 +40,16 @@ module _ (old : State) (legal : IsLegalState old) where
   rollback_left (last ∷ others) is = rollback_legal old last others legal is
 
   -- what is done to the database
-  kept_left : (s : Statement) → IsSpelled s → (e : Effect Database) → effect old.database s ≡ e → IsLegalState (left_by old (keeping old.kept e))
+  kept_left : (s : Statement) → IsSpelledStatement s → (e : Effect Database) → effect old.database s ≡ e → IsLegalState (left_by old (keeping old.kept e))
   kept_left s spelled (Accepted new text) is =
       record { database = accepted_keep_legal old.database new s text legal.database spelled is; kept = legal.kept; few = legal.few }
   kept_left s spelled (Denied refusal) is = legal
 
-  database_left : (s : Statement) → IsSpelled s → IsOfDatabase s → IsLegalState (left_by old (effect_in old s))
+  database_left : (s : Statement) → IsSpelledStatement s → IsOfDatabase s → IsLegalState (left_by old (effect_in old s))
   database_left s spelled is =
       subst (λ e. IsLegalState (left_by old e)) (sym (of_database old s is)) (kept_left s spelled (effect old.database s) refl)
 
-  statement_left : (s : Statement) → IsSpelled s → IsLegalState (left_by old (effect_in old s))
+  statement_left : (s : Statement) → IsSpelledStatement s → IsLegalState (left_by old (effect_in old s))
   statement_left begin_transaction spelled = begin_left
   statement_left commit spelled = commit_left old.kept refl
   statement_left rollback spelled = rollback_left old.kept refl

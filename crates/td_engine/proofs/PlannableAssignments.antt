@@ -4,7 +4,7 @@ use Rattle.std.specs.List.{AllByRecursion}
 use Rattle.td_catalog.specs.Database.{BaseRelvar, Database, base_named, database_scope}
 use Rattle.td_check.specs.OperatorTypes.{known_or, over_relation, restriction_type, same_type}
 use Rattle.td_check.specs.Scopes.{entered_with, known_relvar}
-use Rattle.td_check.specs.StatementTypes.{both_hold, condition_fits, condition_type, is_target, source_fits}
+use Rattle.td_check.specs.StatementTypes.{both_hold, condition_fits, is_target, source_fits, type_if_given}
 use Rattle.td_check.specs.StaticTypes.{named_types, type_of}
 use Rattle.td_engine.proofs.Admitted.{both_asked}
 use Rattle.td_engine.proofs.DeletedTuples.{same_world}
@@ -70,7 +70,7 @@ module _ (db : Database) (legal : IsLegal db) where
         }
 
     condition_plannable : (condition : Option Tree) (k : Option Type')
-        → condition_type (entered_with gift.target.relation.heading (database_scope db)) condition ≡ Valued k
+        → type_if_given (entered_with gift.target.relation.heading (database_scope db)) condition ≡ Valued k
         → IsWrittenIf condition → IsPlannableConditionIf db n so_far condition
     condition_plannable None k typed is_written = tt
     condition_plannable (Some e) k typed is_written =
@@ -113,7 +113,7 @@ module _ (db : Database) (legal : IsLegal db) where
   -- ---- what is chosen of what a base relvar holds
 
   module _ (n : List ℕ) (b : BaseRelvar) (at : base_named n db ≡ Some b) where
-    chosen_plannable : (condition : Option Tree) (k : Option Type') → condition_type (entered_with b.relation.heading (database_scope db)) condition ≡ Valued k
+    chosen_plannable : (condition : Option Tree) (k : Option Type') → type_if_given (entered_with b.relation.heading (database_scope db)) condition ≡ Valued k
         → condition_fits k ≡ Valued tt → IsWrittenIf condition → IsPlannableIf db (option_map (restriction (name n)) condition)
     chosen_plannable None k typed fits is_written = tt
     chosen_plannable (Some p) k typed fits is_written =

@@ -5,7 +5,7 @@ use Rattle.td_catalog.specs.Database.{Database, NamedConstraint, VirtualRelvar, 
 use Rattle.td_catalog.specs.TypedDatabases.{IsTyped, IsTypedConstraint}
 use Rattle.td_check.specs.OperatorTypes.{known_or}
 use Rattle.td_check.specs.Scopes.{KnownRelvar, relvar_in}
-use Rattle.td_check.specs.StatementTypes.{init_type}
+use Rattle.td_check.specs.StatementTypes.{type_if_given}
 use Rattle.td_check.specs.StaticTypes.{type_of}
 use Rattle.td_engine.proofs.Admitted.{both_asked}
 use Rattle.td_engine.proofs.EachOf.{of_place}
@@ -62,7 +62,7 @@ write_plannable db e legal is =
     }
 
 -- what INIT gives
-init_typed : (db : Database) (init : Option Tree) (t : Option Type') → IsLegal db → init_type (database_scope db) init ≡ Valued t → IsWrittenIf init
+init_typed : (db : Database) (init : Option Tree) (t : Option Type') → IsLegal db → type_if_given (database_scope db) init ≡ Valued t → IsWrittenIf init
     → IsPlannableIf db init
 init_typed db None t legal typed written = tt
 init_typed db (Some e) t legal typed written =
@@ -77,7 +77,7 @@ init_typed db (Some e) t legal typed written =
 pub init_plannable : (db : Database) (n : Text) (h : AttributeTrees) (init : Option Tree) (keys : List (List Text)) → IsLegal db
     → IsAdmitted db (define_base n h init keys) → IsPlannableIf db init
 init_plannable db n h init keys legal is =
-    let parts = values_of_both (heading_meant db.types h) (init_type (database_scope db) init) _ tt (both_asked _ _ is.checked).1 in
+    let parts = values_of_both (heading_meant db.types h) (type_if_given (database_scope db) init) _ tt (both_asked _ _ is.checked).1 in
     init_typed db init parts.1 legal parts.3 (statement_written (define_base n h init keys) is.spelled).2
 
 -- ---- what stands in a database

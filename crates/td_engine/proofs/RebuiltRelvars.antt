@@ -5,7 +5,7 @@ use Rattle.td_catalog.specs.Database.{BaseRelvar, Database, NamedConstraint, Vir
 use Rattle.td_catalog.specs.TypedDatabases.{IsTyped, IsTypedBase, IsTypedVirtual}
 use Rattle.td_check.specs.OperatorTypes.{if_type, over_relation}
 use Rattle.td_check.specs.Scopes.{known_relvar, knows_constraint}
-use Rattle.td_check.specs.StatementTypes.{both_hold, has_key, heading_rank_fits, holds_or, init_fits, init_type, keys_asked, statement_checked}
+use Rattle.td_check.specs.StatementTypes.{both_hold, has_key, heading_rank_fits, holds_or, init_fits, keys_asked, statement_checked, type_if_given}
 use Rattle.td_check.specs.StaticTypes.{type_of}
 use Rattle.td_engine.proofs.RebuiltEffects.{both_asked, is_asked, is_free, over_heading, unknown_name}
 use Rattle.td_engine.proofs.RebuiltLists.{all_at}
@@ -19,7 +19,7 @@ use Rattle.td_eval.proofs.LiteralTypes.{heading_means, literals_have_their_types
 use Rattle.td_eval.proofs.LiteralValues.{stored_literals_have_their_values}
 use Rattle.td_eval.proofs.TypedValues.{same_is}
 use Rattle.td_eval.specs.LiteralValues.{MeetsConstraints}
-use Rattle.td_eval.specs.OperatorValues.{on_relation, relation_as_value}
+use Rattle.td_eval.specs.OperatorValues.{on_relation}
 use Rattle.td_tree.specs.Outcomes.{Outcome, Valued, value_if, with_both, with_value}
 use Rattle.td_tree.specs.Trees.{Statement, Tree, define_base, define_virtual}
 use Rattle.td_tree.specs.declared.cause.Cause.TheVariants as causes
@@ -29,7 +29,7 @@ use Rattle.td_types.specs.TypeTrees.{attribute_trees}
 use Rattle.td_types.specs.Types.{Heading, Type', boolean, pack, relation}
 use Rattle.td_value.specs.LiteralTrees.{literal_tree}
 use Rattle.td_value.specs.ValueCode.{unpack_pack_rows}
-use Rattle.td_value.specs.Values.{Relation}
+use Rattle.td_value.specs.Values.{Relation, relation_value}
 use Rattle.td_value.specs.Views.{relation_view}
 
 some_key : (keys : List (List (List ℕ))) → (keys ≡ [] → ⊥) → has_key keys ≡ Valued tt
@@ -40,10 +40,10 @@ some_key (key ∷ keys) some = refl
 
 -- its statement, with these keys
 abbrev base_with_keys : BaseRelvar → List (List (List ℕ)) → Statement
-base_with_keys r = define_base r.name (attribute_trees (pack r.relation.heading)) (Some (literal_tree (relation_as_value r.relation)))
+base_with_keys r = define_base r.name (attribute_trees (pack r.relation.heading)) (Some (literal_tree (relation_value r.relation)))
 
 -- the relation of a relation's value is of its own heading
-own_heading : (r : Relation) (h : Heading) → r.heading ≡ h → on_relation (relation_as_value r) (of_heading (relation_view h [])) ≡ Valued r
+own_heading : (r : Relation) (h : Heading) → r.heading ≡ h → on_relation (relation_value r) (of_heading (relation_view h [])) ≡ Valued r
 own_heading r h e =
     (λ i. of_heading (relation_view h []) (relation_view (unpack_pack r.heading i) (unpack_pack_rows r.body i)))
     ∙ ap (λ b. value_if b r causes.Heading) (same_is r.heading h e)
@@ -56,7 +56,7 @@ module _ (db : Database) (legal : IsLegal db) (front rest : List BaseRelvar) (r 
   heading = r.relation.heading
 
   abbrev init : Tree
-  init = literal_tree (relation_as_value r.relation)
+  init = literal_tree (relation_value r.relation)
 
   is_base : IsTypedBase db.types r
   is_base = all_at (IsTypedBase db.types) db.bases front rest r e legal.typed.bases
@@ -70,10 +70,10 @@ module _ (db : Database) (legal : IsLegal db) (front rest : List BaseRelvar) (r 
   heading_is : heading_meant db.types (attribute_trees (pack heading)) ≡ Valued heading
   heading_is = heading_means db.types (pack heading) is_base.relation.2 is_base.known ∙ ap Valued (unpack_pack heading)
 
-  init_typed : init_type (database_scope before_base) (Some init) ≡ Valued (Some (relation (pack heading)))
+  init_typed : type_if_given (database_scope before_base) (Some init) ≡ Valued (Some (relation (pack heading)))
   init_typed =
       ap (λ o. with_value o (λ t. Valued (Some t)))
-      (literals_have_their_types (database_scope before_base) (relation_as_value r.relation) (relation (pack heading)) is_base.relation
+      (literals_have_their_types (database_scope before_base) (relation_value r.relation) (relation (pack heading)) is_base.relation
       (refl, is_base.known, is_base.typed))
 
   -- the keys as they are
@@ -83,7 +83,7 @@ module _ (db : Database) (legal : IsLegal db) (front rest : List BaseRelvar) (r 
       let asked : Heading → Option Type' → Outcome ⊤ =
       λ h t. both_hold (init_fits h t) (both_hold (both_hold (has_key r.keys) (keys_asked h r.keys)) (heading_rank_fits db.types h)) in
       both_asked (holds_or causes.NameTaken (not (is_some (known_relvar scope r.name))))
-      (with_both (heading_meant db.types (attribute_trees (pack heading))) (init_type scope (Some init)) asked)
+      (with_both (heading_meant db.types (attribute_trees (pack heading))) (type_if_given scope (Some init)) asked)
       (is_free _ (unknown_name before_base r.name (base_is_new db legal.typed front rest r e)))
       ((λ i. with_both (heading_is i) (init_typed i) asked)
       ∙ both_asked (init_fits heading (Some (relation (pack heading)))) _
@@ -99,9 +99,9 @@ module _ (db : Database) (legal : IsLegal db) (front rest : List BaseRelvar) (r 
   init_valued : init_relation before_base (Some init) heading ≡ Valued r.relation
   init_valued =
       ap (λ o. with_value o (λ v. on_relation v (of_heading (relation_view heading []))))
-      (stored_literals_have_their_values before_base [] (relation_as_value r.relation) (relation (pack heading))
+      (stored_literals_have_their_values before_base [] (relation_value r.relation) (relation (pack heading))
       (typed_bases db legal.typed front (r ∷ rest, e)) is_base.relation (refl, is_base.known, is_base.typed)
-      (all_at (λ (b : BaseRelvar). MeetsConstraints db.types (relation_as_value b.relation)) db.bases front rest r e legal.types))
+      (all_at (λ (b : BaseRelvar). MeetsConstraints db.types (relation_value b.relation)) db.bases front rest r e legal.types))
       ∙ own_heading r.relation heading refl
 
   pub base_made : carried_out before_base (base_statement r) ≡ changed (database_of db.types (front ++ (r ∷ [])) [] [])
@@ -156,7 +156,7 @@ module _ (db : Database) (is_typed : IsTyped db) (front rest : List NamedConstra
 
   pub constraint_checked : statement_checked (database_scope before_constraint) (constraint_statement c) ≡ Valued tt
   constraint_checked =
-      both_asked (holds_or causes.NameTaken (not (knows_constraint (database_scope before_constraint) c.name)))
+      both_asked (holds_or causes.NameTaken (not (knows_constraint c.name (database_scope before_constraint))))
       (with_value (type_of (database_scope before_constraint) c.tree) (λ t. if_type boolean t tt))
       (is_free _ (constraint_is_new db is_typed front rest c e))
       (ap (λ o. with_value o (λ t. if_type boolean t tt)) (constraint_there db is_typed front rest c e))

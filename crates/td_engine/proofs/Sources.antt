@@ -7,7 +7,7 @@ use Rattle.td_check.specs.OperatorTypes.{same_heading}
 use Rattle.td_engine.specs.Assignments.{of_heading, relation_for, source_world, with_inserted}
 use Rattle.td_engine.specs.Gifts.{restricted_relation}
 use Rattle.td_eval.proofs.OpValues.{relation_unpacked}
-use Rattle.td_eval.specs.OperatorValues.{is_true, of_relation, on_relation, operator_value, prefix_value, relation_as_value, relation_where, restricted_value, truth_value}
+use Rattle.td_eval.specs.OperatorValues.{is_true, of_relation, on_relation, operator_value, prefix_value, relation_where, restricted_value, truth_value}
 use Rattle.td_eval.specs.TreeValues.{value_of}
 use Rattle.td_eval.specs.Worlds.{World, name_value}
 use Rattle.td_tree.specs.declared.cause.Cause.TheVariants as causes
@@ -21,7 +21,7 @@ use Rattle.td_types.proofs.HeadingLaws.{same_name-itself}
 use Rattle.td_types.proofs.OutcomeLaws.{valued_is}
 use Rattle.td_types.specs.TypeOrder.{heading_eq-Decides}
 use Rattle.td_types.specs.Types.{Heading, unpack}
-use Rattle.td_value.specs.Values.{Val, boolean, integer, char, user, tuple, relation, Relation, Tuple, unpack_rows}
+use Rattle.td_value.specs.Values.{Val, boolean, integer, char, relation_value, user, tuple, relation, Relation, Tuple, unpack_rows}
 use Rattle.td_value.specs.Views.{relation_view}
 
 -- ---- headings
@@ -83,7 +83,7 @@ module _ (db : Database) (n : List ℕ) (cur : Relation) where
   w = source_world db n cur
 
   -- the name of the target means its relation so far
-  target_value : name_value w [] n ≡ Valued (relation_as_value cur)
+  target_value : name_value w [] n ≡ Valued (relation_value cur)
   target_value = rw (same_name-itself n) refl
 
   -- INSERT gives the tuples of either
@@ -93,7 +93,7 @@ module _ (db : Database) (n : List ℕ) (cur : Relation) where
       ∙ by_source (value_of w [] x)
     where
       by_test : (s : Relation) (b c : Bool) → c ≡ b
-          → with_value (value_if b (relation_as_value (union cur s)) causes.Heading) (λ v. on_relation v (of_heading cur))
+          → with_value (value_if b (relation_value (union cur s)) causes.Heading) (λ v. on_relation v (of_heading cur))
           ≡ with_value (value_if c s causes.Heading) (λ r. Valued (union cur r))
       by_test s true true e = relation_unpacked (union cur s) (of_heading cur) ∙ rw (itself cur.heading) refl
       by_test s true false e = absurd (true≢false (sym e))
@@ -101,7 +101,7 @@ module _ (db : Database) (n : List ℕ) (cur : Relation) where
       by_test s false false e = refl
 
       by_source : (o : Outcome Val)
-          → with_value (with_both (Valued (relation_as_value cur)) o (operator_value operators.Union)) (λ v. on_relation v (of_heading cur))
+          → with_value (with_both (Valued (relation_value cur)) o (operator_value operators.Union)) (λ v. on_relation v (of_heading cur))
           ≡ with_value (with_value o (λ v. on_relation v (of_heading cur))) (λ r. Valued (union cur r))
       by_source (Refused cs) = refl
       by_source (Valued (boolean b)) = refl

@@ -7,7 +7,7 @@ use Rattle.td_check.specs.StaticTypes.{type_of}
 use Rattle.td_engine.proofs.EachOf.{all_push}
 use Rattle.td_engine.proofs.SpelledParts.{constraint_spelled, virtual_spelled}
 use Rattle.td_engine.specs.Assignments.{Given, with_gifts}
-use Rattle.td_engine.specs.Carried.{IsSpelled}
+use Rattle.td_engine.specs.Carried.{IsSpelledStatement}
 use Rattle.td_engine.specs.Legality.{AreSpelled, IsSpelledExpression}
 use Rattle.td_engine.specs.Machine.{virtual_defined}
 use Rattle.td_tree.specs.Outcomes.{Valued}
@@ -21,7 +21,7 @@ module _ (db : Database) (spelled : AreSpelled db) where
   gifts_spelled given = record { types = spelled.types; virtuals = spelled.virtuals; constraints = spelled.constraints }
 
   -- a constraint
-  pub with_constraint_spelled : (n : Text) (e : Tree) → IsSpelled (define_constraint n e) → AreSpelled (with_constraint (named_constraint n e) db)
+  pub with_constraint_spelled : (n : Text) (e : Tree) → IsSpelledStatement (define_constraint n e) → AreSpelled (with_constraint (named_constraint n e) db)
   with_constraint_spelled n e is =
       record {
         types = spelled.types;
@@ -32,7 +32,7 @@ module _ (db : Database) (spelled : AreSpelled db) where
       }
 
   -- a virtual relvar, whose expression is a relation
-  module _ (n : Text) (e : Tree) (keys : List (List Text)) (is : IsSpelled (define_virtual n e keys)) (next : Database) where
+  module _ (n : Text) (e : Tree) (keys : List (List Text)) (is : IsSpelledStatement (define_virtual n e keys)) (next : Database) where
     with_relvar_spelled : (v : VirtualRelvar) → v.tree ≡ e → AreSpelled (with_virtual v db)
     with_relvar_spelled v same =
         record {

@@ -1,6 +1,6 @@
 -- Expressions in a statement that some tokens spell are spelled by some of these tokens.
 use Rattle.std.proofs.Common.{◌≡◌, ◌∷◌, ◌++◌, List, [], Option, Some, None, append_assoc, refl, subst, sym}
-use Rattle.td_engine.specs.Carried.{IsSpelled}
+use Rattle.td_engine.specs.Carried.{IsSpelledStatement}
 use Rattle.td_engine.specs.Legality.{IsSpelledExpression, IsSpelledIf}
 use Rattle.td_tree.specs.Lexemes.{Lexeme, keyword, sign}
 use Rattle.td_tree.specs.Lexemes as lexeme
@@ -44,7 +44,7 @@ part_spelled ts e part =
 
 -- ---- constraints
 
-pub constraint_spelled : (n : Text) (e : Tree) → IsSpelled (define_constraint n e) → IsSpelledExpression e
+pub constraint_spelled : (n : Text) (e : Tree) → IsSpelledStatement (define_constraint n e) → IsSpelledExpression e
 constraint_spelled n e s = part_spelled s.0 e (by_spelling (lexemes s.0) s.1)
   where
     by_body : (xs : List Lexeme) → BodySpelling xs (define_constraint n e) → HasPart (xs ++ (sign signs.Semicolon ∷ [])) e
@@ -64,7 +64,7 @@ constraint_spelled n e s = part_spelled s.0 e (by_spelling (lexemes s.0) s.1)
 between_parentheses : (item ys zs : List Lexeme) → (parenthesized item ++ ys) ++ zs ≡ sign signs.OpenParenthesis ∷ (item ++ (sign signs.CloseParenthesis ∷ (ys ++ zs)))
 between_parentheses item ys zs = simp append_assoc
 
-pub virtual_spelled : (n : Text) (e : Tree) (keys : List (List Text)) → IsSpelled (define_virtual n e keys) → IsSpelledExpression e
+pub virtual_spelled : (n : Text) (e : Tree) (keys : List (List Text)) → IsSpelledStatement (define_virtual n e keys) → IsSpelledExpression e
 virtual_spelled n e keys s = part_spelled s.0 e (by_spelling (lexemes s.0) s.1)
   where
     by_body : (xs : List Lexeme) → BodySpelling xs (define_virtual n e keys) → HasPart (xs ++ (sign signs.Semicolon ∷ [])) e
@@ -84,7 +84,7 @@ virtual_spelled n e keys s = part_spelled s.0 e (by_spelling (lexemes s.0) s.1)
 behind_components : (xs item zs : List Lexeme) → braced (xs ++ (keyword k.Constraint ∷ item)) ++ zs ≡ (sign signs.OpenBrace ∷ (xs ++ (keyword k.Constraint ∷ []))) ++ (item ++ (sign signs.CloseBrace ∷ zs))
 behind_components xs item zs = simp append_assoc
 
-pub type_spelled : (n : Text) (h : AttributeTrees) (c : Option Tree) → IsSpelled (define_type n h c) → IsSpelledIf c
+pub type_spelled : (n : Text) (h : AttributeTrees) (c : Option Tree) → IsSpelledStatement (define_type n h c) → IsSpelledIf c
 type_spelled n h None s = tt
 type_spelled n h (Some e) s = part_spelled s.0 e (by_spelling (lexemes s.0) s.1)
   where

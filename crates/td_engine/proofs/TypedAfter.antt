@@ -9,7 +9,7 @@ use Rattle.td_catalog.specs.Dumps.{ordered_names}
 use Rattle.td_catalog.specs.TypedDatabases.{IsTyped, IsTypedBase}
 use Rattle.td_check.proofs.StaticLaws.{types_are_known}
 use Rattle.td_check.specs.OperatorTypes.{over_relation}
-use Rattle.td_check.specs.StatementTypes.{init_type}
+use Rattle.td_check.specs.StatementTypes.{type_if_given}
 use Rattle.td_check.specs.StaticTypes.{type_of}
 use Rattle.td_engine.proofs.Admitted.{both_asked, constraint_admitted, free_in, is_held, type_admitted, virtual_admitted}
 use Rattle.td_engine.proofs.BaseAdmitted.{base_admitted}
@@ -73,7 +73,7 @@ module _ (db : Database) (legal : IsLegal db) where
       )
 
   -- the relation of a new relvar is one
-  init_proper : (init : Option Tree) (h : Heading) (t : Option Type') (r : Relation) → IsWrittenIf init → IsHeading (pack h) → init_type (database_scope db) init ≡ Valued t
+  init_proper : (init : Option Tree) (h : Heading) (t : Option Type') (r : Relation) → IsWrittenIf init → IsHeading (pack h) → type_if_given (database_scope db) init ≡ Valued t
       → init_relation db init h ≡ Valued r → IsRelation r
   unfolding IsStrictlySortedBy
   init_proper None h t r is_written headed typed is = subst IsRelation (valued_is (relation_view h []) r is) (tt, tt, headed)
@@ -99,7 +99,7 @@ module _ (db : Database) (legal : IsLegal db) where
       let names = statement_written (trees.define_base n hs init keys) is.spelled in
       let asked = base_admitted db n hs init keys r legal is names.1 names.2 made in
       let both = both_asked _ _ is.checked in
-      let parts = values_of_both (heading_meant db.types hs) (init_type (database_scope db) init) _ tt both.1 in
+      let parts = values_of_both (heading_meant db.types hs) (type_if_given (database_scope db) init) _ tt both.1 in
       let given = value_of_with (heading_meant db.types hs) (init_relation db init) r made in
       let proper : IsRelation r = init_proper init given.0 parts.1 r names.2 (heading_proper hs given.0 names.1 given.1) parts.3 given.2 in
       let free = is_held causes.NameTaken (not (knows_relvar n db)) (free_in db n both.0) in (

@@ -9,7 +9,7 @@ use Rattle.td_catalog.specs.Database.{BaseRelvar, Database, base_among, base_nam
 use Rattle.td_catalog.specs.TypedDatabases.{IsTyped, IsTypedBase}
 use Rattle.td_check.specs.OperatorTypes.{known_or, same_heading}
 use Rattle.td_check.specs.Scopes.{Scope, entered_with, known_relvar}
-use Rattle.td_check.specs.StatementTypes.{assignment_checked, both_hold, condition_fits, condition_type, in_target, is_target, settings_fit, source_fits, statement_checked}
+use Rattle.td_check.specs.StatementTypes.{assignment_checked, both_hold, condition_fits, in_target, is_target, settings_fit, source_fits, statement_checked, type_if_given}
 use Rattle.td_check.specs.StaticTypes.{named_types, type_of}
 use Rattle.td_engine.proofs.Admitted.{both_asked}
 use Rattle.td_engine.proofs.Gifted.{gift_to, some_is}
@@ -207,31 +207,31 @@ module _ (db : Database) (is_typed : IsTyped db) (written : DefinitionsAreWritte
 
     -- what DELETE asks of each tuple
     pub checked_condition : (condition : Option Tree) → assignment_checked scope (delete n condition) ≡ Valued tt
-        → (k : Option Type') × (condition_type (entered_with gift.target.relation.heading scope) condition ≡ Valued k) × (condition_fits k ≡ Valued tt)
+        → (k : Option Type') × (type_if_given (entered_with gift.target.relation.heading scope) condition ≡ Valued k) × (condition_fits k ≡ Valued tt)
     checked_condition condition checked =
-        let asked = λ (inside : Scope) (h : Heading). with_value (condition_type inside condition) condition_fits in
+        let asked = λ (inside : Scope) (h : Heading). with_value (type_if_given inside condition) condition_fits in
         let is : asked (entered_with gift.target.relation.heading scope) gift.target.relation.heading ≡ Valued tt =
         ap (λ o. in_target scope o asked) (sym known) ∙ (both_asked _ _ checked).1 in
-        let one = value_of_with (condition_type (entered_with gift.target.relation.heading scope) condition) condition_fits tt is in
+        let one = value_of_with (type_if_given (entered_with gift.target.relation.heading scope) condition) condition_fits tt is in
         (one.0, one.1, one.2)
 
     -- and UPDATE
     pub checked_setting_condition : (condition : Option Tree) (settings : NamedTrees) → assignment_checked scope (update n condition settings) ≡ Valued tt
-        → (k : Option Type') × (condition_type (entered_with gift.target.relation.heading scope) condition ≡ Valued k) × (condition_fits k ≡ Valued tt)
+        → (k : Option Type') × (type_if_given (entered_with gift.target.relation.heading scope) condition ≡ Valued k) × (condition_fits k ≡ Valued tt)
     checked_setting_condition condition settings checked =
-        let asked = λ (inside : Scope) (h : Heading). with_both (condition_type inside condition) (named_types inside settings) (λ c kinds. both_hold (condition_fits c) (settings_fit h kinds)) in
+        let asked = λ (inside : Scope) (h : Heading). with_both (type_if_given inside condition) (named_types inside settings) (λ c kinds. both_hold (condition_fits c) (settings_fit h kinds)) in
         let is : asked (entered_with gift.target.relation.heading scope) gift.target.relation.heading ≡ Valued tt =
         ap (λ o. in_target scope o asked) (sym known) ∙ (both_asked _ _ checked).1 in
-        let both = values_of_both (condition_type (entered_with gift.target.relation.heading scope) condition) (named_types (entered_with gift.target.relation.heading scope) settings) _ tt is in
+        let both = values_of_both (type_if_given (entered_with gift.target.relation.heading scope) condition) (named_types (entered_with gift.target.relation.heading scope) settings) _ tt is in
         (both.0, both.2, (both_asked _ _ both.4).0)
 
     pub checked_settings : (condition : Option Tree) (settings : NamedTrees) → assignment_checked scope (update n condition settings) ≡ Valued tt
         → (kinds : List Attribute) × (named_types (entered_with gift.target.relation.heading scope) settings ≡ Valued kinds)
     checked_settings condition settings checked =
-        let asked = λ (inside : Scope) (h : Heading). with_both (condition_type inside condition) (named_types inside settings) (λ c kinds. both_hold (condition_fits c) (settings_fit h kinds)) in
+        let asked = λ (inside : Scope) (h : Heading). with_both (type_if_given inside condition) (named_types inside settings) (λ c kinds. both_hold (condition_fits c) (settings_fit h kinds)) in
         let is : asked (entered_with gift.target.relation.heading scope) gift.target.relation.heading ≡ Valued tt =
         ap (λ o. in_target scope o asked) (sym known) ∙ (both_asked _ _ checked).1 in
-        let both = values_of_both (condition_type (entered_with gift.target.relation.heading scope) condition) (named_types (entered_with gift.target.relation.heading scope) settings) _ tt is in
+        let both = values_of_both (type_if_given (entered_with gift.target.relation.heading scope) condition) (named_types (entered_with gift.target.relation.heading scope) settings) _ tt is in
         (both.1, both.3)
 
     typed : IsTypedRelation ds so_far

@@ -6,7 +6,6 @@ use Rattle.td_check.specs.OperatorTypes.{same_heading}
 use Rattle.td_check.specs.StaticTypes.{type_of}
 use Rattle.td_engine.specs.Assignments.{of_heading, relation_for}
 use Rattle.td_eval.proofs.TypedTrees.{values_keep_types}
-use Rattle.td_eval.proofs.TypedValues.{pack_unpack_rows}
 use Rattle.td_eval.specs.OperatorValues.{on_relation}
 use Rattle.td_eval.specs.TreeValues.{value_of}
 use Rattle.td_eval.specs.ValueTypes.{IsWritten, KeepsScope, KeepsType}
@@ -19,6 +18,7 @@ use Rattle.td_types.proofs.OutcomeLaws.{value_of_test, value_of_with}
 use Rattle.td_types.specs.TypeLists.{DeclaredType}
 use Rattle.td_types.specs.TypeOrder.{heading_eq-Decides}
 use Rattle.td_types.specs.Types.{Type', unpack}
+use Rattle.td_value.proofs.Packed.{pack_unpack_rows}
 use Rattle.td_value.specs.KnownValues.{HasType}
 use Rattle.td_value.specs.Values.{Val, boolean, integer, char, user, tuple, relation, Relation, unpack_rows}
 use Rattle.td_value.specs.Views.{relation_view}

@@ -2,6 +2,7 @@
 use Rattle.std.proofs.Common.{◌≡◌, ◌++◌, List, Option, Some, None, subst}
 use Rattle.std.specs.Prelude.{⊤}
 use Rattle.std.specs.List.{AllByRecursion}
+use Rattle.td_engine.specs.Carried.{IsSpelledStatement}
 use Rattle.td_tree.specs.Lexemes.{Lexeme}
 use Rattle.td_tree.specs.Lists.{Optional, Separated, absent, next_item, one_item, parenthesized, present}
 use Rattle.td_tree.specs.Names.{IsName}
@@ -13,7 +14,6 @@ use Rattle.td_types.specs.TypeListLaws.{HaveNames}
 use Rattle.td_types.specs.TypeLists.{DeclaredType}
 use Rattle.td_catalog.specs.Database.{Database, NamedConstraint, VirtualRelvar}
 use Rattle.td_engine.proofs.EachOf.{all_follow}
-use Rattle.td_engine.specs.Carried.{IsSpelled}
 use Rattle.td_engine.specs.Plannable.{AreWrittenSettings, IsWrittenAssignment, IsWrittenIf}
 use Rattle.td_engine.specs.Legality.{AreSpelled, IsSpelledExpression, IsSpelledIf}
 use Rattle.td_engine.proofs.WrittenSpellings.{AreOfTokens, attributes_written, back, front, heading_written, inside, of_tokens, written}
@@ -86,7 +86,7 @@ body_written s.dump h = tt
 pub spelling_written : {xs : List Lexeme} {t : Statement} → StatementSpelling xs t → AreOfTokens xs → IsWrittenStatement t
 spelling_written (s.statement {xs} p) h = body_written p (front xs _ h)
 
-pub statement_written : (t : Statement) → IsSpelled t → IsWrittenStatement t
+pub statement_written : (t : Statement) → IsSpelledStatement t → IsWrittenStatement t
 statement_written t s = spelling_written s.1 (of_tokens s.0)
 
 -- ---- definitions

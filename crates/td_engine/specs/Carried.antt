@@ -54,12 +54,12 @@ IsOfDatabase rollback = ⊥
 IsOfDatabase _ = ⊤
 
 -- some tokens spell the statement
-abbrev pub IsSpelled : Statement → Type 0
-IsSpelled s = (tokens : List PlacedToken) × StatementSpelling (lexemes tokens) s
+abbrev pub IsSpelledStatement : Statement → Type 0
+IsSpelledStatement s = (tokens : List PlacedToken) × StatementSpelling (lexemes tokens) s
 
 -- a statement that is spelled, and meets the static rules
 pub record IsAdmitted (db : Database) (s : Statement) : Type 0 where
-  pub spelled : IsSpelled s
+  pub spelled : IsSpelledStatement s
   pub checked : statement_checked (database_scope db) s ≡ Valued tt
 
 -- ---- answers

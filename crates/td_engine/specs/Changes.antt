@@ -12,8 +12,8 @@ use Rattle.td_types.specs.Types.{Heading}
 use Rattle.td_value.specs.Values.{Relation}
 
 -- a relation after a change
-abbrev pub after : Change → Relation → Relation
-after c r = after_change c.out c.add r
+abbrev pub changed_by : Change → Relation → Relation
+changed_by c r = after_change c.out c.add r
 
 -- what goes out and what comes in are of a heading
 abbrev pub IsOfHeading : Heading → Change → Type 0
@@ -21,7 +21,7 @@ IsOfHeading h c = (c.out.heading ≡ h) × (c.add.heading ≡ h)
 
 -- the relation of a base relvar after a change
 abbrev pub given_as : Database → List ℕ → Change → Relation
-given_as db name c = elim (base_named name db) as (λ _. Relation) [ Some r ↦ after c r.relation | None ↦ c.add ]
+given_as db name c = elim (base_named name db) as (λ _. Relation) [ Some r ↦ changed_by c r.relation | None ↦ c.add ]
 
 -- what was given to targets by changes of what they held
 abbrev pub given_in : Database → List (List ℕ × Change) → Given

@@ -11,7 +11,7 @@ use Rattle.td_engine.specs.Checks.{virtual_test}
 use Rattle.td_engine.specs.Machine.{State, transaction_limit}
 use Rattle.td_eval.specs.DatabaseWorlds.{world_of}
 use Rattle.td_eval.specs.LiteralValues.{MeetsConstraints}
-use Rattle.td_eval.specs.OperatorValues.{relation_as_value, truth_value}
+use Rattle.td_eval.specs.OperatorValues.{truth_value}
 use Rattle.td_eval.specs.TreeValues.{value_of}
 use Rattle.td_eval.specs.Worlds.{World}
 use Rattle.td_tree.specs.Outcomes.{Valued}
@@ -21,7 +21,7 @@ use Rattle.td_tree.specs.TokenLexemes.{lexemes}
 use Rattle.td_tree.specs.Trees.{Tree}
 use Rattle.td_types.specs.TypeLists.{DeclaredType}
 use Rattle.td_types.specs.Types.{Heading}
-use Rattle.td_value.specs.Values.{Tuple}
+use Rattle.td_value.specs.Values.{Tuple, relation_value}
 
 -- a constraint is TRUE
 abbrev pub IsTrueOf : World → NamedConstraint → Type 0
@@ -97,7 +97,7 @@ pub record IsLegal (db : Database) : Type 0 where
   pub spelled : AreSpelled db
   pub ordered : KeysAreOrdered db
   -- each user value in a base relvar meets its type's constraint
-  pub types : AllByRecursion (λ r. MeetsConstraints db.types (relation_as_value r.relation)) db.bases
+  pub types : AllByRecursion (λ r. MeetsConstraints db.types (relation_value r.relation)) db.bases
   pub virtuals : AllByRecursion (HasKeysThatHold (world_of db)) db.virtuals
   pub constraints : AllByRecursion (IsTrueOf (world_of db)) db.constraints
 

@@ -1,7 +1,7 @@
 -- What keeps a database legal: laws (Tutorial D's; what names and texts may be is this project's own).
 use Rattle.std.specs.Prelude.{◌≡◌, ℕ, Bool, List}
 use Rattle.td_catalog.specs.Database.{Database}
-use Rattle.td_engine.specs.Carried.{IsSpelled}
+use Rattle.td_engine.specs.Carried.{IsSpelledStatement}
 use Rattle.td_engine.specs.Machine.{Accepted, Progress, Runs, State, begun, effect}
 use Rattle.td_engine.specs.Legality.{IsLegal, IsLegalState}
 use Rattle.td_eval.specs.ValueTypes.{IsWritten}
@@ -17,7 +17,7 @@ SpelledExpressionsAreWritten = (tokens : List PlacedToken) (e : Tree) → Expres
 -- what an accepted statement makes of a legal database is legal, where some tokens spell it
 abbrev pub AcceptedStatementsKeepLegality : Type 0
 AcceptedStatementsKeepLegality =
-    (db new : Database) (s : Statement) (text : List ℕ) → IsLegal db → IsSpelled s → effect db s ≡ Accepted new text → IsLegal new
+    (db new : Database) (s : Statement) (text : List ℕ) → IsLegal db → IsSpelledStatement s → effect db s ≡ Accepted new text → IsLegal new
 
 -- whatever statements are run from a state, what stands after them is legal: so it is between any two of a script
 abbrev pub IsLegalThroughout : Bool → State → Type 0

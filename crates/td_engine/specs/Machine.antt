@@ -9,7 +9,7 @@ use Rattle.td_check.specs.StatementTypes.{components_meant, statement_checked}
 use Rattle.td_check.specs.StaticTypes.{type_of}
 use Rattle.td_engine.specs.Assignments.{assigned_database, relation_for}
 use Rattle.td_engine.specs.Checks.{database_check}
-use Rattle.td_engine.specs.Refusals.{Refusal, by_cause, cause_of, line, refusal_text}
+use Rattle.td_engine.specs.Refusals.{Refusal, by_cause, cause_of_refusal, line, refusal_text}
 use Rattle.td_eval.specs.DatabaseWorlds.{world_of}
 use Rattle.td_eval.specs.TreeValues.{value_of}
 use Rattle.td_parse.specs.Parsing.{Parsed}
@@ -165,7 +165,7 @@ pub record Step (S : Type 0) : Type 0 where
 -- a refused statement changes nothing
 abbrev pub step_of : {S : Type 0} → S → Effect S → Step S
 step_of old (Accepted new text) = record { after = new; cause = None; text = text }
-step_of old (Denied refusal) = record { after = old; cause = Some (cause_of refusal); text = line (refusal_text refusal) }
+step_of old (Denied refusal) = record { after = old; cause = Some (cause_of_refusal refusal); text = line (refusal_text refusal) }
 
 -- what is meant, or is refused by the least of its causes
 abbrev pub stepped : State → Outcome Statement → Step State

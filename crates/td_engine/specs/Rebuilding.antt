@@ -4,7 +4,6 @@ use Rattle.td_catalog.specs.Database.{BaseRelvar, Database, NamedConstraint, Vir
 use Rattle.td_catalog.specs.Dumps.{dump_text, ordered_names}
 use Rattle.td_engine.specs.Machine.{Accepted, Progress, Runs, begun, effect, empty_state, ok_text, state_of}
 use Rattle.td_engine.specs.Legality.{IsLegal}
-use Rattle.td_eval.specs.OperatorValues.{relation_as_value}
 use Rattle.td_parse.specs.Parsing.{has_bad}
 use Rattle.td_tree.specs.StatementGrammar.{StatementSpelling}
 use Rattle.td_tree.specs.Statements.{PlacedToken, statements}
@@ -14,6 +13,7 @@ use Rattle.td_types.specs.TypeLists.{DeclaredType}
 use Rattle.td_types.specs.Types.{pack}
 use Rattle.td_types.specs.TypeTrees.{attribute_trees}
 use Rattle.td_value.specs.LiteralTrees.{literal_tree}
+use Rattle.td_value.specs.Values.{relation_value}
 
 -- ---- the statement of each line
 
@@ -22,7 +22,7 @@ type_statement d = define_type d.name (attribute_trees (pack d.components)) d.co
 
 abbrev pub base_statement : BaseRelvar → Statement
 base_statement r =
-    define_base r.name (attribute_trees (pack r.relation.heading)) (Some (literal_tree (relation_as_value r.relation)))
+    define_base r.name (attribute_trees (pack r.relation.heading)) (Some (literal_tree (relation_value r.relation)))
     (map (ordered_names r.relation.heading) r.keys)
 
 abbrev pub virtual_statement : VirtualRelvar → Statement

@@ -10,10 +10,10 @@ pub data Refusal : Type 0 where
   by_key : List ℕ → Refusal
   by_constraint : List ℕ → Refusal
 
-abbrev pub cause_of : Refusal → Cause
-cause_of (by_cause c) = c
-cause_of (by_key name) = causes.Key
-cause_of (by_constraint name) = causes.Constraint
+abbrev pub cause_of_refusal : Refusal → Cause
+cause_of_refusal (by_cause c) = c
+cause_of_refusal (by_key name) = causes.Key
+cause_of_refusal (by_constraint name) = causes.Constraint
 
 -- ---- texts
 

@@ -8,8 +8,8 @@ ghost use Rattle.td_engine.specs.Assignments.{assigned_database, given_by, targe
 ghost use Rattle.td_engine.specs.Assignments.{with_assignment, with_gift, with_gifts};
 ghost use Rattle.td_engine.specs.Carried.{Changes, IsAdmitted, Passes};
 ghost use Rattle.td_engine.specs.Changes.{AreChanges, AreTypedChanges, IsChangeOf, IsTypedChange};
-ghost use Rattle.td_engine.specs.Changes.{IsOfHeading, after, given_as};
-ghost use Rattle.td_engine.specs.Changes.{given_in, gift_over};
+ghost use Rattle.td_engine.specs.Changes.{IsOfHeading, changed_by, given_as};
+ghost use Rattle.td_engine.specs.Changes.{gift_over, given_in};
 ghost use Rattle.td_engine.specs.Checks.{BasesHold, base_check, first_refusal};
 ghost use Rattle.td_engine.specs.Gifts.{AreGifts, gift_of, gifted};
 ghost use Rattle.td_engine.specs.LeftOut.{PassesElsewhere};
@@ -50,7 +50,7 @@ fn change_over<B: Body>(
 ) -> Result<Change, Fault>
     requires { IsPlannableAssignment catalog.now.database (B.relation entry.now.body)
         (assignment_view assignment.now) }
-    ensures answer { Answers (λ c. after c (B.relation entry.now.body)) result
+    ensures answer { Answers (λ c. changed_by c (B.relation entry.now.body)) result
         (gift_over catalog.now.database (B.relation entry.now.body)
         (assignment_view assignment.now)) }
     ensures headings { IfOk result (IsOfHeading (B.relation entry.now.body).heading) }
@@ -220,7 +220,7 @@ fn only_one(given: &IndexMap<Name, Change>) -> Option<(&Name, &Change)>
 fn put<B: Body>(catalog: &mut Catalog<B>, name: &Name, change: &Change) -> Result<(), Failure>
     requires { IsTypedChange catalog.old.database (name.now, change.now) }
     ensures check { IfSome (base_named name.now catalog.old.database) (λ r.
-        Passes result (base_check (base_relvar r.name r.keys (after change.now r.relation)))) }
+        Passes result (base_check (base_relvar r.name r.keys (changed_by change.now r.relation)))) }
     ensures put { OnOk result (catalog.new.database ≡ with_body name.now
         (given_as catalog.old.database name.now change.now) catalog.old.database) }
     ensures on { GoesOn catalog.old catalog.new }

@@ -1,6 +1,6 @@
 //! What a statement takes out of a base relvar, and puts in.
 ghost use Rattle.std.specs.Prelude.{◌≡◌, [], IfOk};
-ghost use Rattle.td_engine.specs.Changes.{IsOfHeading, after};
+ghost use Rattle.td_engine.specs.Changes.{IsOfHeading, changed_by};
 ghost use Rattle.td_value.specs.Views.{relation_view};
 
 use std::alloc::{AllocError, Global};
@@ -26,7 +26,7 @@ impl Change {
     /// The relation after the change.
     pub(crate) fn after(&self, alloc: Global, relation: &Rel) -> Result<Rel, AllocError>
         requires { IsOfHeading relation.now.heading self.now }
-        ensures { IfOk result (λ r. r ≡ after self.now relation.now) }
+        ensures { IfOk result (λ r. r ≡ changed_by self.now relation.now) }
     {
         let others = minus(alloc, relation, &self.out)?;
         union(alloc, &others, &self.add)
@@ -35,7 +35,7 @@ impl Change {
     /// The change that leads from the one relation to the other.
     pub(crate) fn between(alloc: Global, relation: &Rel, other: &Rel) -> Result<Change, AllocError>
         requires { other.now.heading ≡ relation.now.heading }
-        ensures after { IfOk result (λ c. after c relation.now ≡ other.now) }
+        ensures after { IfOk result (λ c. changed_by c relation.now ≡ other.now) }
         ensures headings { IfOk result (IsOfHeading relation.now.heading) }
     {
         relation.heading().reveal();

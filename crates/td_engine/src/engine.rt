@@ -2,7 +2,7 @@
 ghost use Rattle.std.specs.Prelude.{◌≡◌, Bool, IfOk, List, OnErr, length};
 ghost use Rattle.std.specs.String.{string_bytes};
 ghost use Rattle.td_catalog.specs.Dumps.{dump_text};
-ghost use Rattle.td_engine.specs.Carried.{IsOfDatabase, IsSpelled};
+ghost use Rattle.td_engine.specs.Carried.{IsOfDatabase, IsSpelledStatement};
 ghost use Rattle.td_engine.specs.Machine.{begun_transaction, committed, effect_in, empty_state};
 ghost use Rattle.td_engine.specs.Machine.{rolled_back, step_of};
 ghost use Rattle.td_engine.specs.Rebuilding.{Rebuilds};
@@ -112,7 +112,7 @@ impl<B: Body> Engine<B> {
         &mut self,
         parsed: Result<Statement, Fault>,
     ) -> Result<Answer, AllocError>
-        requires { IfOk parsed (λ s. IsSpelled (statement_view s)) }
+        requires { IfOk parsed (λ s. IsSpelledStatement (statement_view s)) }
         ensures step { IfOk result (λ answer. (tokens : List PlacedToken)
             → IsParsed tokens parsed → IsStep self.old tokens answer self.new) }
         ensures err { OnErr result (self.new ≡ self.old) }
@@ -129,7 +129,7 @@ impl<B: Body> Engine<B> {
 
     /// Does what a statement means.
     fn execute(&mut self, statement: Statement) -> Result<Answer, AllocError>
-        requires { IsSpelled (statement_view statement) }
+        requires { IsSpelledStatement (statement_view statement) }
         ensures done { IfOk result (λ answer.
             Does (step_of self.old (effect_in self.old (statement_view statement))) answer self.new) }
         ensures err { OnErr result (self.new ≡ self.old) }
@@ -146,7 +146,7 @@ impl<B: Body> Engine<B> {
 
     /// Does what a statement means that is not of transactions.
     fn change(&mut self, statement: Statement) -> Result<Answer, AllocError>
-        requires spelled { IsSpelled (statement_view statement) }
+        requires spelled { IsSpelledStatement (statement_view statement) }
         requires change { IsOfDatabase (statement_view statement) }
         ensures done { IfOk result (λ answer.
             Does (step_of self.old (effect_in self.old (statement_view statement))) answer self.new) }

@@ -4,7 +4,7 @@ ghost use Rattle.td_algebra.specs.Operators.{union};
 ghost use Rattle.td_body.specs.Bodies.{after_change};
 ghost use Rattle.td_engine.specs.Assignments.{chosen_for, relation_for, setting_names};
 ghost use Rattle.td_engine.specs.Assignments.{updated_relation};
-ghost use Rattle.td_engine.specs.Changes.{IsOfHeading, after};
+ghost use Rattle.td_engine.specs.Changes.{IsOfHeading, changed_by};
 ghost use Rattle.td_engine.specs.Plannable.{ArePlannableSettings, IsPlannable, IsPlannableIf};
 ghost use Rattle.td_eval.specs.DatabaseWorlds.{world_of};
 ghost use Rattle.td_eval.specs.TreeValues.{values_in_tuples};
@@ -37,7 +37,7 @@ pub(crate) fn put_in<B: Body>(
     source: &Expr,
 ) -> Result<Change, Fault>
     requires { IsPlannable catalog.now.database (tree_view source.now) }
-    ensures answer { (r : Relation) → r.heading ≡ heading.now → Answers (λ c. after c r) result
+    ensures answer { (r : Relation) → r.heading ≡ heading.now → Answers (λ c. changed_by c r) result
         (with_value (relation_for r (world_of catalog.now.database) (tree_view source.now))
         (λ s. Valued (union r s))) }
     ensures headings { IfOk result (IsOfHeading heading.now) }
@@ -89,7 +89,7 @@ pub(crate) fn first_delete<B: Body>(
     requires heading { (B.relation entry.now.body).heading ≡ entry.now.heading }
     requires condition { IsPlannableIf catalog.now.database (option_map
         (restriction (name target.now)) (option_map (λ e. tree_view e.now) condition)) }
-    ensures answer { Answers (λ c. after c (B.relation entry.now.body)) result (with_value
+    ensures answer { Answers (λ c. changed_by c (B.relation entry.now.body)) result (with_value
         (chosen_for (B.relation entry.now.body) (world_of catalog.now.database) target.now
         (option_map (λ e. tree_view e.now) condition.entry)) (λ out. Valued
         (after_change out (relation_view out.heading []) (B.relation entry.now.body)))) }
@@ -139,7 +139,7 @@ pub(crate) fn first_update<B: Body>(
         (world_of catalog.now.database) (chosen_for (B.relation entry.now.body)
         (world_of catalog.now.database) target.now
         (option_map (λ e. tree_view e.now) condition)) (named_view settings.now) }
-    ensures answer { Answers (λ c. after c (B.relation entry.now.body)) result (with_value
+    ensures answer { Answers (λ c. changed_by c (B.relation entry.now.body)) result (with_value
         (chosen_for (B.relation entry.now.body) (world_of catalog.now.database) target.now
         (option_map (λ e. tree_view e.now) condition.entry))
         (updated_relation (B.relation entry.now.body) (setting_names (named_view settings.now))

@@ -4,8 +4,8 @@ ghost use Rattle.std.specs.String.{string_bytes};
 ghost use Rattle.td_catalog.specs.Database.{Database, empty_database};
 ghost use Rattle.td_catalog.specs.Dumps.{dump_text};
 ghost use Rattle.td_catalog.specs.KeptDatabases.{settled, stages};
-ghost use Rattle.td_engine.specs.Carried.{IsAdmitted, IsChange, IsDenied, IsRefusedBy, IsSpelled};
-ghost use Rattle.td_engine.specs.Carried.{AnswersText, Prints};
+ghost use Rattle.td_engine.specs.Carried.{IsAdmitted, IsChange, IsDenied, IsRefusedBy};
+ghost use Rattle.td_engine.specs.Carried.{AnswersText, IsSpelledStatement, Prints};
 ghost use Rattle.td_engine.specs.Machine.{State, effect, step_of};
 ghost use Rattle.td_engine.specs.Refusals.{line};
 ghost use Rattle.td_engine.specs.Legality.{IsLegal};
@@ -170,7 +170,7 @@ impl<B: Body> Present<B> {
     /// Does what a statement means. A statement that is refused or finds no memory leaves the
     /// catalogue as it was.
     pub(crate) fn execute(&mut self, statement: Statement) -> Result<Answer, AllocError>
-        requires { IsSpelled (statement_view statement) }
+        requires { IsSpelledStatement (statement_view statement) }
         ensures done { IfOk result (λ answer. Does (step_of self.old.database
             (effect self.old.database (statement_view statement))) answer self.new.database) }
         ensures err { OnErr result (self.new ≡ self.old) }

@@ -7,7 +7,7 @@ ghost use Rattle.td_engine.specs.Assignments.{assignment_value, chosen_for, of_h
 ghost use Rattle.td_engine.specs.Assignments.{relation_for, setting_attributes, setting_names};
 ghost use Rattle.td_engine.specs.Assignments.{source_world, target_of, updated_relation};
 ghost use Rattle.td_engine.specs.Assignments.{with_inserted};
-ghost use Rattle.td_engine.specs.Changes.{IsOfHeading, after};
+ghost use Rattle.td_engine.specs.Changes.{IsOfHeading, changed_by};
 ghost use Rattle.td_engine.specs.Gifts.{restricted_relation, setting_attribute};
 ghost use Rattle.td_engine.specs.Plannable.{ArePlannableSettings, IsPlannableAssignment};
 ghost use Rattle.td_engine.specs.Plannable.{IsPlannableCondition, IsPlannableConditionIf};
@@ -127,7 +127,7 @@ fn replaced<B: Body>(
     source: &Expr,
 ) -> Result<Change, Fault>
     requires { IsPlannableSource catalog.now.database target.now so_far.now (tree_view source.now) }
-    ensures answer { Answers (λ c. after c so_far.now) result (relation_for so_far.now
+    ensures answer { Answers (λ c. changed_by c so_far.now) result (relation_for so_far.now
         (source_world catalog.now.database target.now so_far.now) (tree_view source.now)) }
     ensures headings { IfOk result (IsOfHeading so_far.now.heading) }
 {
@@ -144,7 +144,7 @@ fn inserted<B: Body>(
     source: &Expr,
 ) -> Result<Change, Fault>
     requires { IsPlannableSource catalog.now.database target.now so_far.now (tree_view source.now) }
-    ensures answer { Answers (λ c. after c so_far.now) result (relation_for so_far.now
+    ensures answer { Answers (λ c. changed_by c so_far.now) result (relation_for so_far.now
         (source_world catalog.now.database target.now so_far.now)
         (with_inserted target.now (tree_view source.now))) }
     ensures headings { IfOk result (IsOfHeading so_far.now.heading) }
@@ -330,7 +330,7 @@ fn update<B: Body>(
         (source_world catalog.now.database target.now so_far.now) (chosen_for so_far.now
         (source_world catalog.now.database target.now so_far.now) target.now
         (option_map (λ e. tree_view e.now) condition)) (named_view settings.now) }
-    ensures answer { Answers (λ c. after c so_far.now) result (with_value
+    ensures answer { Answers (λ c. changed_by c so_far.now) result (with_value
         (chosen_for so_far.now (source_world catalog.now.database target.now so_far.now) target.now
         (option_map (λ e. tree_view e.now) condition.entry))
         (updated_relation so_far.now (setting_names (named_view settings.now))
@@ -367,7 +367,7 @@ fn delete<B: Body>(
 ) -> Result<Change, Fault>
     requires { IsPlannableConditionIf catalog.now.database target.now so_far.now
         (option_map (λ e. tree_view e.now) condition) }
-    ensures answer { Answers (λ c. after c so_far.now) result (assignment_value
+    ensures answer { Answers (λ c. changed_by c so_far.now) result (assignment_value
         (source_world catalog.now.database target.now so_far.now) so_far.now
         (delete target.now (option_map (λ e. tree_view e.now) condition.entry))) }
     ensures headings { IfOk result (IsOfHeading so_far.now.heading) }
@@ -387,7 +387,7 @@ pub(crate) fn change_of<B: Body>(
 ) -> Result<Change, Fault>
     requires { IsPlannableAssignment catalog.now.database so_far.now
         (assignment_view assignment.now) }
-    ensures answer { Answers (λ c. after c so_far.now) result (assignment_value
+    ensures answer { Answers (λ c. changed_by c so_far.now) result (assignment_value
         (source_world catalog.now.database (target_of (assignment_view assignment.now)) so_far.now)
         so_far.now (assignment_view assignment.now)) }
     ensures headings { IfOk result (IsOfHeading so_far.now.heading) }

@@ -12,7 +12,7 @@ use Rattle.std.proofs.lemmas.List.Sorted.{Contains-permutation, IsPermutation-sy
 use Rattle.std.proofs.lemmas.List.Sums.{sum_by-cons}
 use Rattle.td_algebra.specs.Operators.{common_names, restriction}
 use Rattle.td_algebra.proofs.Lists.{contains_filter, contains_first, contains_map, contains_none}
-use Rattle.td_group.specs.Aggregates.{aggregate, greatest_value, least_value, of_number, sum_of, summand}
+use Rattle.td_group.specs.Aggregates.{aggregate, greatest_value, least_value, sum_of, summand}
 use Rattle.td_group.specs.Groups.{groups}
 use Rattle.td_group.specs.declared.aggregates.Agg.{Agg}
 use Rattle.td_group.specs.declared.aggregates.Agg.TheVariants as asked
@@ -25,7 +25,7 @@ use Rattle.td_types.specs.Types.{Attribute}
 use Rattle.td_types.proofs.OutcomeLaws.{valued_is, values_of_both}
 use Rattle.td_value.specs.Agreement.{agree_on}
 use Rattle.td_value.specs.ValueOrder.{order_same, order_total}
-use Rattle.td_value.specs.Values.{Val, HaveSameMembers, Relation, Tuple, value_cmp}
+use Rattle.td_value.specs.Values.{Val, HaveSameMembers, Relation, Tuple, of_number, value_cmp}
 use Rattle.td_value.specs.Views.{relation_view}
 use Rattle.td_eval.specs.AggregateValues.{Summand, aggregate_of, aggregated_value, group_values, group_with, summarized_value, summary_in, takes}
 use Rattle.td_eval.specs.OperatorValues.{extended_value, value_or_false}

@@ -4,9 +4,9 @@ use Rattle.td_tree.specs.Outcomes.{Outcome, Valued, Refused, with_both, with_val
 use Rattle.td_types.specs.TypeLists.{DeclaredType}
 use Rattle.td_types.specs.Types.{Type', Attrs, pack, unpack}
 use Rattle.td_types.specs.Types as types
-use Rattle.td_value.specs.Values.{Val, boolean, integer, char, user, tuple, relation, Relation, unpack_rows}
+use Rattle.td_value.specs.Values.{Val, boolean, integer, char, relation_value, user, tuple, relation, Relation, unpack_rows}
 use Rattle.td_value.specs.Views.{relation_view}
-use Rattle.td_eval.specs.OperatorValues.{on_relation, relation_as_value}
+use Rattle.td_eval.specs.OperatorValues.{on_relation}
 use Rattle.td_eval.specs.ValueTypes.{IsOfType, KeepsType}
 use Rattle.td_eval.proofs.TypedRows.{parts_typed}
 
@@ -29,7 +29,7 @@ both_alike (Refused cs) (Refused ds) f g same = refl
 pub over_same : (ds : List DeclaredType) (t : Type') (o : Outcome Val) (f g : Relation → Outcome Val)
     → KeepsType ds (Valued t) o
     → ((h : Attrs) (r : Relation) → t ≡ types.relation h → r.heading ≡ unpack h
-    → IsOfType ds (relation_as_value r) (types.relation (pack r.heading)) → f r ≡ g r)
+    → IsOfType ds (relation_value r) (types.relation (pack r.heading)) → f r ≡ g r)
     → with_value o (λ x. on_relation x f) ≡ with_value o (λ x. on_relation x g)
 over_same ds t (Valued (relation h rs)) f g q same =
     same h (relation_view (unpack h) (unpack_rows rs)) q.1.0 refl (parts_typed ds h rs (q.0, (refl, q.1.1, q.1.2)))

@@ -1,24 +1,10 @@
 -- Lists of names of which none comes twice.
 use Rattle.std.proofs.Common.{◌≡◌, ◌∙◌, ◌∷◌, ◌++◌, ℕ, Bool, true, false, List, [], ap, not, refl, sym, true≢false}
 use Rattle.std.specs.Cmp.Lexicographic.{same_text}
-use Rattle.std.specs.Prelude.{◌&&◌, ◌||◌}
+use Rattle.std.specs.Prelude.{◌||◌}
 use Rattle.td_types.specs.Headings.{are_distinct, has_name}
 use Rattle.td_types.specs.Types.{same_name}
-use Rattle.td_types.proofs.HeadingLaws.{same_name-flips}
-
-pub not_true : (b : Bool) → not b ≡ true → b ≡ false
-not_true true e = absurd (cc)
-not_true false e = refl
-
-both : (a b : Bool) → (a && b) ≡ true → (a ≡ true) × (b ≡ true)
-both true true e = (refl, refl)
-both true false e = absurd (cc)
-both false b e = absurd (cc)
-
-neither : (a b : Bool) → (a || b) ≡ false → (a ≡ false) × (b ≡ false)
-neither false false e = (refl, refl)
-neither false true e = absurd (cc)
-neither true b e = absurd (cc)
+use Rattle.td_catalog.proofs.Lists.{both, neither, not_true}
 
 pub has_name-append : (n : List ℕ) (xs ys : List (List ℕ)) → has_name n (xs ++ ys) ≡ (has_name n xs || has_name n ys)
 has_name-append n [] ys = refl
@@ -67,18 +53,3 @@ distinct_first (x ∷ xs) ys h =
 pub distinct_rest : (xs ys : List (List ℕ)) → are_distinct (xs ++ ys) ≡ true → are_distinct ys ≡ true
 distinct_rest [] ys h = h
 distinct_rest (x ∷ xs) ys h = distinct_rest xs ys (first_apart x (xs ++ ys) h).1
-
-has_between : (n m : List ℕ) (xs ys : List (List ℕ)) → has_name n (xs ++ ys) ≡ false → same_name m n ≡ false → has_name n ((xs ++ (m ∷ [])) ++ ys) ≡ false
-has_between n m [] ys h k = rw (k, h) refl
-has_between n m (x ∷ xs) ys h k =
-    let apart = neither (same_name x n) (has_name n (xs ++ ys)) h in
-    rw (apart.0, has_between n m xs ys apart.1 k) refl
-
--- one more name that is new
-pub distinct_between : (n : List ℕ) (xs ys : List (List ℕ)) → are_distinct (xs ++ ys) ≡ true → has_name n (xs ++ ys) ≡ false
-    → are_distinct ((xs ++ (n ∷ [])) ++ ys) ≡ true
-distinct_between n [] ys h k = rw (k, h) refl
-distinct_between n (x ∷ xs) ys h k =
-    let parts = first_apart x (xs ++ ys) h in
-    let apart = neither (same_name x n) (has_name n (xs ++ ys)) k in
-    rw (has_between x n xs ys parts.0 (sym (same_name-flips x n) ∙ apart.0), distinct_between n xs ys parts.1 apart.1) refl

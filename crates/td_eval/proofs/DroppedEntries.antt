@@ -5,6 +5,7 @@ use Rattle.std.specs.List.{AllByRecursion}
 use Rattle.std.specs.Option.{option_or}
 use Rattle.std.specs.Prelude.{if◌then◌else◌, is_some}
 use Rattle.std.specs.Set.{remove_key}
+use Rattle.td_catalog.proofs.Lists.{not_true}
 use Rattle.td_catalog.specs.Database.{BaseRelvar, Database, VirtualRelvar, base_named, database_scope, known_base, known_virtual, virtual_named, without_constraint, without_relvar, without_type}
 use Rattle.td_catalog.specs.TypedDatabases.{IsTypedBase, IsTyped, IsTypedVirtual}
 use Rattle.td_check.specs.Mentions.{relvars_in, types_in}
@@ -14,6 +15,7 @@ use Rattle.td_check.specs.StatementTypes.{constraint_fits}
 use Rattle.td_check.specs.StaticLaws.{AgreeAt, AgreeOn, UsersAllIn, UsersIn, is_other}
 use Rattle.td_check.specs.StaticTypes.{type_of}
 use Rattle.td_check.proofs.StaticLaws.{depends, mentions_are_known, more_changes_nothing}
+use Rattle.td_eval.specs.Worlds.{with_tuples}
 use Rattle.td_tree.specs.Outcomes.{Valued, with_value}
 use Rattle.td_tree.specs.Trees.{Tree}
 use Rattle.td_types.specs.Headings.{are_distinct, has_name, heading_from}
@@ -24,8 +26,7 @@ use Rattle.td_types.proofs.HeadingLaws.{same_name-itself}
 use Rattle.td_types.proofs.OutcomeLaws.{value_of_with}
 use Rattle.td_types.proofs.RemovedTypes.{declared_at-without, other_name, removed_is_gone}
 use Rattle.td_eval.specs.ValueLaws.{AgreeOnRelvars, AgreeOnTypes, DropsChangeNoValue}
-use Rattle.td_eval.specs.ValueTypes.{with_tuples}
-use Rattle.td_eval.proofs.DistinctNames.{distinct_first, distinct_rest, first_apart, not_true}
+use Rattle.td_eval.proofs.DistinctNames.{distinct_first, distinct_rest, first_apart}
 use Rattle.td_eval.proofs.KnownRelvars.{front_has_more, fronted, has_named, known_as_virtual, known_in, named, named_at}
 use Rattle.td_eval.proofs.MentionedEntries.{values_depend_on_entries}
 use Rattle.td_eval.proofs.MoreWorlds.{any, any_users_all}

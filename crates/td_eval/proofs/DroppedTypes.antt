@@ -1,10 +1,10 @@
 -- What meets the constraints of its types meets them still where another type is dropped.
 use Rattle.std.proofs.Common.{◌≡◌, ◌∙◌, ℕ, true, List, [], ◌∷◌, None, Option, Some, ap, subst, sym}
 use Rattle.std.specs.Prelude.{is_some}
+use Rattle.td_catalog.proofs.Lists.{not_true}
 use Rattle.td_catalog.specs.Database.{Database, without_type}
 use Rattle.td_catalog.specs.TypedDatabases.{IsTyped}
 use Rattle.td_check.specs.StaticLaws.{is_other}
-use Rattle.td_eval.proofs.DistinctNames.{not_true}
 use Rattle.td_eval.proofs.DroppedEntries.{none_there, other_declared, types_apart}
 use Rattle.td_eval.proofs.LaterTypes.{AreTypedTypes}
 use Rattle.td_eval.proofs.LiteralValues.{each, packed_components, selectors_give_what_meets, selects}

@@ -9,7 +9,7 @@ use Rattle.td_eval.proofs.KeepsGathered.{gathered_map_keeps, keeps_type, one_dyn
 use Rattle.td_eval.proofs.TypedRows.{parts_typed, rows_typed}
 use Rattle.td_eval.proofs.TypedValues.{in_range_keeps, integer_of, relation_keeps, text_of, type_is}
 use Rattle.td_eval.specs.AggregateValues.{aggregate_of, aggregated_value, asked_of, is_number, is_number_or_text, takes}
-use Rattle.td_eval.specs.OperatorValues.{of_number, on_relation}
+use Rattle.td_eval.specs.OperatorValues.{on_relation}
 use Rattle.td_eval.specs.ValueTypes.{IsOfType, IsTypedTuple, KeepsType}
 use Rattle.td_group.specs.Aggregates.{aggregate, greater, greatest_value, least_value, less, sum_of}
 use Rattle.td_group.specs.declared.aggregates.Agg.{Agg}
@@ -23,7 +23,7 @@ use Rattle.td_types.specs.TypeLists.{DeclaredType}
 use Rattle.td_types.specs.Types.{Attrs, Heading, Type', pack, unpack}
 use Rattle.td_types.specs.Types as types
 use Rattle.td_value.specs.KnownValues.{HasType}
-use Rattle.td_value.specs.Values.{Val, relation, Relation, Rows, Tuple, heading_of, unpack_rows, value_cmp}
+use Rattle.td_value.specs.Values.{Val, of_number, relation, Relation, Rows, Tuple, heading_of, unpack_rows, value_cmp}
 use Rattle.td_value.specs.Views.{relation_view}
 
 -- ---- the type of an aggregate of values of a type

@@ -1,5 +1,5 @@
 -- TCLOSE gives values of its operand's type, or is refused by dynamic causes alone.
-use Rattle.std.proofs.Common.{◌≡◌, ◌⊎◌, inl, inr, ℕ, zero, suc, true, List, [], ◌∷◌, length, filter, map, refl, subst, sym}
+use Rattle.std.proofs.Common.{◌≡◌, ◌⊎◌, inl, inr, ℕ, zero, suc, true, List, [], ◌∷◌, length, filter, map, refl, subst}
 use Rattle.std.specs.List.{Contains, flat_map}
 use Rattle.std.proofs.lemmas.List.Elements.{Contains-append_cases}
 use Rattle.td_algebra.proofs.Lists.{contains_filter, contains_flat_map, contains_map}
@@ -8,20 +8,13 @@ use Rattle.td_eval.proofs.KeepsRelations.{AreOwn, IsTypedRelation, type_if_keeps
 use Rattle.td_eval.specs.OperatorValues.{relation_where}
 use Rattle.td_eval.specs.ValueTypes.{KeepsType}
 use Rattle.td_group.proofs.ClosureLaws.{closure_is_relation}
-use Rattle.td_group.specs.Closure.{chained_tuple, chained_tuples, closure, is_closable, is_followed_by}
+use Rattle.td_group.specs.Closure.{chained_tuple, chained_tuples, closure, is_followed_by}
 use Rattle.td_tree.specs.declared.cause.Cause.TheVariants as causes
-use Rattle.td_tree.specs.Outcomes.{value_if}
+use Rattle.td_types.specs.Headings.{is_closable}
 use Rattle.td_types.specs.TypeLists.{DeclaredType}
-use Rattle.td_types.specs.Types.{Heading, pack}
+use Rattle.td_types.specs.Types.{pack}
 use Rattle.td_types.specs.Types as types
 use Rattle.td_value.specs.Values.{Relation, Tuple}
-
--- what the static rule asks
-asked : (h : Heading) → closure_type h ≡ value_if (is_closable h) (types.relation (pack h)) causes.Heading
-asked [] = refl
-asked (a ∷ []) = refl
-asked (a ∷ b ∷ []) = refl
-asked (a ∷ b ∷ d ∷ h) = refl
 
 module _ (ds : List DeclaredType) where
   -- the tuple from one to another has values of both
@@ -51,5 +44,4 @@ module _ (ds : List DeclaredType) where
 
   pub closure_keeps : (r : Relation) → IsTypedRelation ds r → KeepsType ds (closure_type r.heading) (relation_where (is_closable r.heading) (closure r))
   closure_keeps r m =
-      subst (λ o. KeepsType ds o (relation_where (is_closable r.heading) (closure r))) (sym (asked r.heading))
-      (type_if_keeps ds (is_closable r.heading) (types.relation (pack r.heading)) causes.Heading (closure r) refl (λ e. typed_closure r e m))
+      type_if_keeps ds (is_closable r.heading) (types.relation (pack r.heading)) causes.Heading (closure r) refl (λ e. typed_closure r e m)

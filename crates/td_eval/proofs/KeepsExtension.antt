@@ -17,7 +17,7 @@ use Rattle.td_check.proofs.HeadingRules.{lacks_with}
 use Rattle.td_check.proofs.KnownLaws.{IsKnownType, known_closed}
 use Rattle.td_check.proofs.OperatorLaws.{united}
 use Rattle.td_value.specs.KnownValues.{HasType}
-use Rattle.td_value.specs.Values.{Val, boolean, integer, char, user, tuple, relation, Relation, Tuple, type_of}
+use Rattle.td_value.specs.Values.{Val, boolean, integer, char, relation_value, user, tuple, relation, Relation, Tuple, type_of}
 use Rattle.td_value.proofs.KnownValues.{has_its_type}
 use Rattle.td_algebra.specs.Membership.{AreNew}
 use Rattle.td_algebra.specs.Operators.{Addition, added_attributes, added_values, extended_relation, extended_tuple, restriction}
@@ -25,7 +25,7 @@ use Rattle.td_algebra.specs.Results.{IsTyped}
 use Rattle.td_algebra.proofs.Lists.{contains_cases, contains_map, contains_none}
 use Rattle.td_algebra.proofs.Members.{both_true, first_true, second_true}
 use Rattle.td_algebra.proofs.Results.{IsRelation-extended}
-use Rattle.td_eval.specs.OperatorValues.{additions_of, columns_values, extended_value, is_true, of_relation, on_truth, relation_as_value, restricted_value, truth_value, value_of_type, value_or_false}
+use Rattle.td_eval.specs.OperatorValues.{additions_of, columns_values, extended_value, is_true, of_relation, on_truth, restricted_value, truth_value, value_of_type, value_or_false}
 use Rattle.td_eval.specs.ValueTypes.{IsOfType, KeepsType}
 use Rattle.td_eval.proofs.KeepsGathered.{Keeps, gathered_dynamic, gathered_map_keeps, keeps_type, with_value_keeps}
 use Rattle.td_eval.proofs.KeepsOperators.{typed_restriction}
@@ -45,7 +45,7 @@ truth_keeps : (ds : List DeclaredType) (o : Outcome Val) → KeepsType ds (Value
 truth_keeps ds (Valued v) k = truth_of ds v k.1
 truth_keeps ds (Refused cs) k = k
 
-pub restricted_keeps : (ds : List DeclaredType) (r : Relation) (p : Tuple → Outcome Val) → IsOfType ds (relation_as_value r) (types.relation (pack r.heading))
+pub restricted_keeps : (ds : List DeclaredType) (r : Relation) (p : Tuple → Outcome Val) → IsOfType ds (relation_value r) (types.relation (pack r.heading))
     → ((u : Tuple) → Contains r.body u → KeepsType ds (Valued types.boolean) (p u))
     → KeepsType ds (Valued (types.relation (pack r.heading))) (restricted_value p r)
 restricted_keeps ds r p k h =
@@ -168,7 +168,7 @@ module _ (ds : List DeclaredType) (r : Relation) where
       (all_made (IsOwn ds) (d.0 ++ added_values bs d.0) (all_joined (IsOwn ds) d.0 (added_values bs d.0) (m.rows d.0 d.1) (own_added bs d.0 d.1 h))))
 
 pub extended_keeps : (ds : List DeclaredType) (r : Relation) (attributes : List Attribute) (fs : List (Tuple → Outcome Val))
-    → IsOfType ds (relation_as_value r) (types.relation (pack r.heading)) → AllByRecursion (λ (a : Attribute). IsName a.0 × IsType a.1 × IsKnown ds a.1) attributes
+    → IsOfType ds (relation_value r) (types.relation (pack r.heading)) → AllByRecursion (λ (a : Attribute). IsName a.0 × IsType a.1 × IsKnown ds a.1) attributes
     → PartsKeep ds r attributes fs → KeepsType ds (extension_type r.heading attributes) (extended_value (Valued attributes) fs r)
 extended_keeps ds r attributes fs k named parts = by_test (are_distinct (attribute_names attributes) && list_all (λ a. not (has_attribute a.0 r.heading)) attributes) refl
   where
@@ -186,7 +186,7 @@ extended_keeps ds r attributes fs k named parts = by_test (are_distinct (attribu
         let new : AreNew bs r =
         (ap (λ xs. are_distinct (attribute_names xs)) is ∙ distinct, ap (λ xs. have_no_common xs r.heading) is ∙ lacking) in
         let h = all_new ds r attributes fs parts named (gathered_items (columns_values attributes fs r.body) ys e) in
-        subst (λ (g : Heading). IsOfType ds (relation_as_value (extended_relation bs r)) (types.relation (pack g)))
+        subst (λ (g : Heading). IsOfType ds (relation_value (extended_relation bs r)) (types.relation (pack g)))
         (ap (heading_union r.heading) is ∙ sym (folded_is_union r.heading attributes distinct lacking))
         (value_from_typed ds (extended_relation bs r) (typed_extended ds r attributes bs is new named h (typed_from_value ds r k)))
     by_columns distinct lacking (Refused cs) e g = g

@@ -19,9 +19,9 @@ use Rattle.td_check.proofs.OperatorLaws.{united}
 use Rattle.td_eval.proofs.KeepsGathered.{member_from_all}
 use Rattle.td_eval.proofs.KeepsRelations.{AreOwn, IsOwn, IsTypedRelation, all_filtered, all_joined, all_made, typed_heading, typed_set, value_from_typed}
 use Rattle.td_eval.proofs.NestedNames.{IsNamed, nest_test, part_is_named, rest_named, rest_told}
-use Rattle.td_eval.specs.OperatorValues.{nested_names, of_relation, relation_as_value}
+use Rattle.td_eval.specs.OperatorValues.{nested_names, of_relation}
 use Rattle.td_eval.specs.ValueTypes.{IsOfType, KeepsType}
-use Rattle.td_group.specs.Nesting.{can_nest, group_of, grouped_relation, relation_value, rest_heading, rest_names, tuple_value, wrapped_relation, wrapped_tuple}
+use Rattle.td_group.specs.Nesting.{can_nest, group_of, grouped_relation, rest_heading, rest_names, wrapped_relation, wrapped_tuple}
 use Rattle.td_tree.specs.declared.cause.Cause.TheVariants as causes
 use Rattle.td_tree.specs.Names.{IsName}
 use Rattle.td_tree.specs.Outcomes.{Outcome, Valued, Refused, value_if, with_value}
@@ -33,7 +33,7 @@ use Rattle.td_types.specs.Types.{Heading, IsHeading, Type', attribute_names, pac
 use Rattle.td_types.specs.Types as types
 use Rattle.td_value.specs.Agreement.{agree_on}
 use Rattle.td_value.specs.KnownValues.{HasType}
-use Rattle.td_value.specs.Values.{IsRelation, IsTupleOf, Relation, Tuple, projected_tuple, relation_of}
+use Rattle.td_value.specs.Values.{IsRelation, IsTupleOf, Relation, Tuple, projected_tuple, relation_of, relation_value, tuple_value}
 use Rattle.td_value.proofs.KnownValues.{by_values, has_its_type}
 
 -- ---- attributes that are put into a new one
@@ -43,7 +43,7 @@ module _ (ds : List DeclaredType) where
   abbrev pub IsMade : Heading → List ℕ → (Heading → Type') → (List (List ℕ) → Relation) → Type 0
   IsMade h name kind made =
       (part : Heading) → IsNamed h part → has_attribute name (outside part h) ≡ false
-      → IsOfType ds (relation_as_value (made (attribute_names part))) (types.relation (pack (with_attribute (outside part h) (name, kind part))))
+      → IsOfType ds (relation_value (made (attribute_names part))) (types.relation (pack (with_attribute (outside part h) (name, kind part))))
 
   pub nest_keeps : (attributes : Attributes) (h : Heading) (name : List ℕ) (kind : Heading → Type') (made : List (List ℕ) → Relation)
       → IsHeading (pack h) → IsMade h name kind made
@@ -106,7 +106,7 @@ module _ (ds : List DeclaredType) (name : List ℕ) (n : IsName name) (r : Relat
       let p = (typed_heading ds r m).0 in
       let rest = rest_told r part p is in
       let absent = ap (has_attribute name) rest ∙ lacks in
-      subst (λ g. IsOfType ds (relation_as_value (grouped_relation names name r)) (types.relation (pack g)))
+      subst (λ g. IsOfType ds (relation_value (grouped_relation names name r)) (types.relation (pack g)))
       (ap (λ b. if b then projection (rest_names names r) r.heading
       else with_attribute (projection (rest_names names r) r.heading) (name, types.relation (pack (projection names r.heading)))) absent
       ∙ nested_heading r part name (λ g. types.relation (pack g)) p is lacks)
@@ -187,6 +187,6 @@ module _ (ds : List DeclaredType) (name : List ℕ) (n : IsName name) (r : Relat
   wrapped_made part is lacks =
       let names = attribute_names part in
       let absent = ap (has_attribute name) (rest_told r part (typed_heading ds r m).0 is) ∙ lacks in
-      subst (λ g. IsOfType ds (relation_as_value (wrapped_relation names name r)) (types.relation (pack g)))
+      subst (λ g. IsOfType ds (relation_value (wrapped_relation names name r)) (types.relation (pack g)))
       (λ i. with_attribute (outside (is.0 i) r.heading) (name, types.tuple (pack (is.0 i))))
       (value_from_typed ds (wrapped_relation names name r) (typed_wrapped names absent))

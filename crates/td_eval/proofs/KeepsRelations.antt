@@ -13,12 +13,13 @@ use Rattle.td_check.specs.OperatorTypes.{mismatch, over_relation, over_relations
 use Rattle.td_check.specs.StaticLaws.{IsKnownHeading}
 use Rattle.td_value.specs.KnownValues.{HasHeading, HasType}
 use Rattle.td_value.specs.Sets.{put_in}
-use Rattle.td_value.specs.Values.{Val, boolean, integer, char, user, tuple, relation, Fields, no_fields, field, Rows, no_rows, row, IsRelation, Relation, Tuple, entry_cmp, pack_fields, pack_rows, relation_of, tuple_of, type_of, unpack_fields, unpack_rows}
+use Rattle.td_value.specs.Values.{Val, boolean, integer, char, relation_value, user, tuple, relation, Rows, IsRelation, Relation, Tuple, entry_cmp, pack_fields, pack_rows, relation_of, tuple_of, type_of, unpack_rows}
 use Rattle.td_value.specs.Views.{relation_view}
 use Rattle.td_value.proofs.KnownValues.{by_values}
 use Rattle.td_value.proofs.Members.{set_members}
+use Rattle.td_value.proofs.Packed.{pack_unpack_rows}
 use Rattle.td_algebra.proofs.Relations.{member_headed}
-use Rattle.td_eval.specs.OperatorValues.{on_relation, on_relations, relation_as_value, relation_where}
+use Rattle.td_eval.specs.OperatorValues.{on_relation, on_relations, relation_where}
 use Rattle.td_eval.specs.ValueTypes.{IsOfType, KeepsType}
 use Rattle.td_eval.proofs.KeepsGathered.{all_from_members, has_type_members, member_from_all}
 
@@ -36,14 +37,14 @@ module _ (ds : List DeclaredType) where
     pub known : AreKnown ds (pack r.heading)
     pub rows : (t : Tuple) → Contains r.body t → AreOwn t
 
-  pub typed_from_value : (r : Relation) → IsOfType ds (relation_as_value r) (types.relation (pack r.heading)) → IsTypedRelation r
+  pub typed_from_value : (r : Relation) → IsOfType ds (relation_value r) (types.relation (pack r.heading)) → IsTypedRelation r
   typed_from_value r k = record {
     is_relation = k.0;
     known = k.1.1;
     rows = λ t c. all_from_members IsOwn t ((by_values ds t r.heading).0 ((has_type_members ds r.body (pack r.heading)).0 k.1.2 t c)).1;
   }
 
-  pub value_from_typed : (r : Relation) → IsTypedRelation r → IsOfType ds (relation_as_value r) (types.relation (pack r.heading))
+  pub value_from_typed : (r : Relation) → IsTypedRelation r → IsOfType ds (relation_value r) (types.relation (pack r.heading))
   value_from_typed r k = (k.is_relation, (refl, k.known, (has_type_members ds r.body (pack r.heading)).1 headed))
     where
       headed : (t : Tuple) → Contains r.body t → HasHeading ds (pack_fields t) (pack r.heading)
@@ -86,14 +87,6 @@ module _ (P : List ℕ × Val → Type 0) where
 
 -- ---- a value as a relation
 
-pack_unpack_fields : (fs : Fields) → pack_fields (unpack_fields fs) ≡ fs
-pack_unpack_fields no_fields = refl
-pack_unpack_fields (field n v fs) = ap (field n v) (pack_unpack_fields fs)
-
-pack_unpack_rows : (rs : Rows) → pack_rows (unpack_rows rs) ≡ rs
-pack_unpack_rows no_rows = refl
-pack_unpack_rows (row fs rs) = λ i. row (pack_unpack_fields fs i) (pack_unpack_rows rs i)
-
 module _ (ds : List DeclaredType) where
   typed_view : (h : Attrs) (rs : Rows) → IsOfType ds (relation h rs) (types.relation h) → IsTypedRelation ds (relation_view (unpack h) (unpack_rows rs))
   typed_view h rs k =
@@ -128,13 +121,13 @@ module _ (ds : List DeclaredType) where
 
   pub type_if_keeps : (test : Bool) (s : Type') (cause : Cause) (r : Relation) → s ≡ types.relation (pack r.heading) → (test ≡ true → IsTypedRelation ds r)
       → KeepsType ds (value_if test s cause) (relation_where test r)
-  type_if_keeps true s cause r e k = subst (IsOfType ds (relation_as_value r)) (sym e) (value_from_typed ds r (k refl))
+  type_if_keeps true s cause r e k = subst (IsOfType ds (relation_value r)) (sym e) (value_from_typed ds r (k refl))
   type_if_keeps false s cause r e k = tt
 
   pub heading_if_keeps : (test : Bool) (h : Heading) (cause : Cause) (r : Relation) → r.heading ≡ h → (test ≡ true → IsTypedRelation ds r)
       → KeepsType ds (relation_if (value_if test h cause)) (relation_where test r)
   heading_if_keeps true h cause r e k =
-      subst (λ (g : Heading). IsOfType ds (relation_as_value r) (types.relation (pack g))) e (value_from_typed ds r (k refl))
+      subst (λ (g : Heading). IsOfType ds (relation_value r) (types.relation (pack g))) e (value_from_typed ds r (k refl))
   heading_if_keeps false h cause r e k = tt
 
   -- the set of tuples whose values are of their types
@@ -147,5 +140,5 @@ module _ (ds : List DeclaredType) where
   pub made_if_keeps : (test : Bool) (x : Heading) (cause : Cause) (f : Heading → Heading) (r : Relation) → r.heading ≡ f x → (test ≡ true → IsTypedRelation ds r)
       → KeepsType ds (relation_if (with_value (value_if test x cause) (λ y. Valued (f y)))) (relation_where test r)
   made_if_keeps true x cause f r e k =
-      subst (λ (g : Heading). IsOfType ds (relation_as_value r) (types.relation (pack g))) e (value_from_typed ds r (k refl))
+      subst (λ (g : Heading). IsOfType ds (relation_value r) (types.relation (pack g))) e (value_from_typed ds r (k refl))
   made_if_keeps false x cause f r e k = tt

@@ -20,12 +20,12 @@ use Rattle.td_types.specs.TypeLists.{DeclaredType, IsKnown}
 use Rattle.td_types.specs.Types.{Attribute, Heading, IsHeading, IsType, Type', boolean, char, integer, pack, relation, tuple, unpack, user}
 use Rattle.td_types.proofs.Meanings.{pack_unpack}
 use Rattle.td_types.proofs.OutcomeLaws.{value_of_test, value_of_with, valued_is, values_of_both}
-use Rattle.td_value.specs.Values.{Val, Relation, Tuple, unpack_rows}
+use Rattle.td_value.specs.Values.{Val, Relation, Tuple, relation_value, unpack_rows}
 use Rattle.td_value.specs.Views.{relation_view}
 use Rattle.td_value.proofs.KnownValues.{has_its_type}
 use Rattle.td_value.proofs.Typed.{typed}
 use Rattle.td_eval.specs.AggregateValues.{Summand, asked_of, group_values, group_with, summarized_value, summary_in, summary_value}
-use Rattle.td_eval.specs.OperatorValues.{extended_value, on_relation, postfix_value, relation_as_value}
+use Rattle.td_eval.specs.OperatorValues.{extended_value, on_relation, postfix_value}
 use Rattle.td_eval.specs.ValueTypes.{IsOfType, KeepsType}
 use Rattle.td_eval.proofs.KeepsAggregates.{GivesOf, aggregated_keeps, gives_of}
 use Rattle.td_eval.proofs.KeepsExtension.{PartsKeep, extended_keeps}
@@ -120,7 +120,7 @@ module _ (ds : List DeclaredType) where
     )
 
     pub summarized_keeps : (xs : Items) (fs : List Summand) (attributes : List Attribute)
-        → IsOfType ds (relation_as_value p) (relation (pack p.heading))
+        → IsOfType ds (relation_value p) (relation (pack p.heading))
         → is_part p.heading r.heading ≡ true → gathered (map item_type xs) ≡ Valued attributes
         → AllByRecursion (ItemFits (known_closed ds)) xs → ItemsKeep ds r xs fs
         → KeepsType ds (extension_type p.heading attributes) (summarized_value (Valued attributes) fs r p)
@@ -181,7 +181,7 @@ module _ (ds : List DeclaredType) (items : Heading → Outcome Items) (attribute
   -- in each relation of a heading in whose tuples the items have types, the summands keep these, which tell the new attributes
   abbrev pub AreKept : Type 0
   AreKept =
-      (r : Relation) (xs : Items) → IsOfType ds (relation_as_value r) (relation (pack r.heading)) → items r.heading ≡ Valued xs
+      (r : Relation) (xs : Items) → IsOfType ds (relation_value r) (relation (pack r.heading)) → items r.heading ≡ Valued xs
       → (attributes r.heading ≡ gathered (map item_type xs)) × AllByRecursion (ItemFits (known_closed ds)) xs × ItemsKeep ds r xs summands
 
   -- a relation of the heading
@@ -223,8 +223,8 @@ module _ (ds : List DeclaredType) (items : Heading → Outcome Items) (attribute
       (unpack_pack h) (unpack_pack g) (parts_typed ds (pack h) rs a) (parts_typed ds (pack g) ss b)))
     where
       of_relations : (r p : Relation) → r.heading ≡ h → p.heading ≡ g
-          → IsOfType ds (relation_as_value r) (relation (pack r.heading))
-          → IsOfType ds (relation_as_value p) (relation (pack p.heading))
+          → IsOfType ds (relation_value r) (relation (pack r.heading))
+          → IsOfType ds (relation_value p) (relation (pack p.heading))
           → KeepsType ds (extension_type g kinds) (summarized_value (attributes r.heading) summands r p)
       of_relations r p is there a b =
           let x = kept r xs a (ap items is ∙ e) in

@@ -10,7 +10,6 @@ use Rattle.td_check.specs.declared.scope.Kind.TheVariants as kinds
 use Rattle.td_check.specs.Scopes.{KnownRelvar, Scope, known_relvar, relvar_in, with_known_relvar}
 use Rattle.td_check.specs.StaticLaws.{HasMore}
 use Rattle.td_eval.specs.DatabaseWorlds.{with_virtual_value, world_of, world_of_bases}
-use Rattle.td_eval.specs.OperatorValues.{relation_as_value}
 use Rattle.td_eval.specs.TreeValues.{value_of}
 use Rattle.td_eval.specs.Worlds.{World}
 use Rattle.td_eval.proofs.AddedInTurn.{listed_none}
@@ -19,7 +18,7 @@ use Rattle.td_eval.proofs.WorldParts.{base_value, relvar_at, relvar_stays, virtu
 use Rattle.td_tree.specs.Outcomes.{Outcome, Valued}
 use Rattle.td_types.specs.Headings.{are_distinct, has_name}
 use Rattle.td_types.specs.Types.{same_name}
-use Rattle.td_value.specs.Values.{Val}
+use Rattle.td_value.specs.Values.{Val, relation_value}
 
 -- ---- lists
 
@@ -257,7 +256,7 @@ unknown_parts db n unknown = by_base (base_named n db) refl
 pub lacking : (db : Database) (n : List ℕ) → base_named n db ≡ None → virtual_named n db ≡ None → (world_of db).relvar n ≡ None
 lacking db n no_base no_virtual =
     listed_none relvar_at with_virtual_value virtual_name virtual_value (λ w v m. refl) db.virtuals (world_of_bases db) n
-    (ap (option_map (λ (b : BaseRelvar). Valued (relation_as_value b.relation))) no_base) no_virtual
+    (ap (option_map (λ (b : BaseRelvar). Valued (relation_value b.relation))) no_base) no_virtual
 
 pub unknown_lacks : (db : Database) (n : List ℕ) → known_relvar (database_scope db) n ≡ None → (world_of db).relvar n ≡ None
 unknown_lacks db n unknown = let parts = unknown_parts db n unknown in lacking db n parts.0 parts.1
@@ -283,7 +282,7 @@ known_has db n k = by_base (base_named n db) refl
 
     by_base : (o : Option BaseRelvar) → base_named n db ≡ o → (o : Outcome Val) × ((world_of db).relvar n ≡ Some o)
     by_base None is = by_virtual is (virtual_named n db) refl
-    by_base (Some b) is = (Valued (relation_as_value b.relation), base_value db n b is)
+    by_base (Some b) is = (Valued (relation_value b.relation), base_value db n b is)
 
 -- and keeps it where more virtual relvars stand behind
 pub stays_behind : (db : Database) (front rest : List VirtualRelvar) (n : List ℕ) → is_some (known_relvar (database_scope (fronted db front)) n) ≡ true

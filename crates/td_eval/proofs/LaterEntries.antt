@@ -5,6 +5,7 @@ use Rattle.std.specs.Option.{option_or}
 use Rattle.std.specs.Prelude.{IsTrue, if◌then◌else◌, is_some}
 use Rattle.std.proofs.lemmas.List.{map-append}
 use Rattle.std.proofs.lemmas.List.Sums.{fold-append}
+use Rattle.td_catalog.proofs.Lists.{distinct_between, not_true}
 use Rattle.td_catalog.specs.Database.{BaseRelvar, Database, NamedConstraint, VirtualRelvar, base_among, base_named, database_scope, known_virtual, knows_relvar, relvar_names, virtual_named, with_base, with_constraint, with_declared, with_virtual}
 use Rattle.td_catalog.specs.TypedDatabases.{IsTyped}
 use Rattle.td_check.specs.Scopes.{KnownRelvar, Scope, known_relvar}
@@ -14,14 +15,12 @@ use Rattle.td_types.specs.Headings.{are_distinct, has_name}
 use Rattle.td_types.specs.TypeLists.{DeclaredType}
 use Rattle.td_types.specs.Types.{pack, same_name}
 use Rattle.td_types.specs.Types as types
-use Rattle.td_value.specs.Values.{Tuple}
+use Rattle.td_value.specs.Values.{Tuple, relation_value}
 use Rattle.td_eval.specs.DatabaseWorlds.{Selectors, selectors_of, types_alone, with_selector, world_of}
-use Rattle.td_eval.specs.OperatorValues.{relation_as_value}
 use Rattle.td_eval.specs.TreeValues.{value_of}
 use Rattle.td_eval.specs.ValueLaws.{HasLater, IsChecked, LaterEntriesChangeNothing, SelectsTheSame}
 use Rattle.td_eval.specs.ValueTypes.{DefinitionsAreWritten, IsWritten}
 use Rattle.td_eval.specs.Worlds.{World, selected}
-use Rattle.td_eval.proofs.DistinctNames.{distinct_between, not_true}
 use Rattle.td_eval.proofs.KnownRelvars.{fronted, known_as_base, known_as_virtual, known_in_more, known_name, named, named_more, never_none, no_base, of_all, one_more_world, some_of, stays_behind, unnamed}
 use Rattle.td_eval.proofs.LaterTypes.{AreTypedTypes, all_select, selected_by, stays}
 use Rattle.td_eval.proofs.MoreWorlds.{HasMoreThan, same_in_more}
@@ -119,7 +118,7 @@ module _ (first second : Database) (later : HasLater first second) (is_typed : I
         }
 
   none_alike : AreAlike []
-  none_alike n has = ap (option_map (λ (b : BaseRelvar). Valued (relation_as_value b.relation))) (base_same first second later n has)
+  none_alike n has = ap (option_map (λ (b : BaseRelvar). Valued (relation_value b.relation))) (base_same first second later n has)
 
   next_alike : (front rest : List VirtualRelvar) (v : VirtualRelvar) → first.virtuals ≡ front ++ (v ∷ rest) → AreAlike front → AreAlike (front ++ (v ∷ []))
   next_alike front rest v e alike n has =

@@ -19,25 +19,26 @@ use Rattle.td_types.proofs.DistinctNames.{name_cmp}
 use Rattle.td_types.proofs.HeadingLaws.{same_name-itself}
 use Rattle.td_types.proofs.Meanings.{pack_unpack}
 use Rattle.td_types.proofs.OutcomeLaws.{value_of_test, value_of_with}
+use Rattle.td_value.proofs.Packed.{pack_unpack_fields, pack_unpack_rows}
 use Rattle.td_value.specs.KnownValues.{AreOfTypes, HasHeading, HasType, HaveHeading}
 use Rattle.td_value.specs.LiteralTrees.{field_trees, literal_tree, part_trees, row_trees}
 use Rattle.td_value.specs.Sets.{set_of}
 use Rattle.td_value.specs.ValueOrder.{tuple_order_same, tuple_order_total}
-use Rattle.td_value.specs.Values.{Val, boolean, integer, char, user, tuple, relation, AreFields, AreRows, AreValues, Fields, no_fields, field, IsAscendingBody, IsInRange, Parts, no_parts, part, Rows, no_rows, row, Tuple, made_tuple, pack_fields, pack_parts, pack_rows, relation_of, selected_value, tuple_cmp, tuple_names, tuple_of, unpack_fields, unpack_rows}
+use Rattle.td_value.specs.Values.{Val, boolean, integer, char, is_in_range, user, tuple, relation, AreFields, AreRows, AreValues, Fields, no_fields, field, IsAscendingBody, IsInRange, Parts, no_parts, part, Rows, no_rows, row, Tuple, made_tuple, pack_fields, pack_parts, pack_rows, relation_of, selected_value, tuple_cmp, tuple_names, tuple_of, unpack_fields, unpack_rows}
 use Rattle.td_value.specs.Values as values
 use Rattle.td_value.specs.Views.{user_view}
 use Rattle.td_value.proofs.Maps.{sorted_is_tuple_of}
 use Rattle.td_value.proofs.SetLaws.{is_set_of}
 use Rattle.td_eval.specs.DatabaseWorlds.{constraint_value, selector_value, selectors_of, types_alone, world_of}
 use Rattle.td_eval.specs.LiteralValues.{EachInFields, EachInParts, EachInRows, EachUserValue, LiteralsHaveTheirValues, MeetConstraint, Selects, SelectorsGiveWhatMeets, StoredLiteralsHaveTheirValues}
-use Rattle.td_eval.specs.OperatorValues.{components_of, element_of, headed_value, is_in_range, of_relation, tuple_from}
+use Rattle.td_eval.specs.OperatorValues.{components_of, element_of, headed_value, of_relation, tuple_from}
 use Rattle.td_eval.specs.TreeValues.{argument_values, entry_values, value_of}
 use Rattle.td_eval.specs.Worlds.{World, selected}
 use Rattle.td_eval.proofs.LaterTypes.{selected_by}
 use Rattle.td_eval.proofs.LiteralTypes.{heading_means}
 use Rattle.td_eval.proofs.MentionedTypes.{chosen}
 use Rattle.td_eval.proofs.TypedDatabases.{types_fit}
-use Rattle.td_eval.proofs.TypedValues.{fields_heading, pack_unpack_fields, pack_unpack_rows, same_is}
+use Rattle.td_eval.proofs.TypedValues.{fields_heading, same_is}
 use Rattle.td_eval.proofs.WorldParts.{world_scope, world_selectors}
 
 -- ---- numbers, tuples and relations

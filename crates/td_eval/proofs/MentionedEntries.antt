@@ -15,17 +15,17 @@ use Rattle.td_types.specs.TypeLists.{declared_at}
 use Rattle.td_types.specs.Types.{Type', pack, same_name}
 use Rattle.td_types.specs.Types as types
 use Rattle.td_eval.specs.DatabaseWorlds.{selectors_of, world_of}
-use Rattle.td_eval.specs.OperatorValues.{relation_as_value}
 use Rattle.td_eval.specs.TreeValues.{value_of}
 use Rattle.td_eval.specs.ValueLaws.{AgreeOnRelvars, AgreeOnTypes, HasTheSame, IsChecked, SelectsTheSame, ValuesDependOnEntries}
-use Rattle.td_eval.specs.ValueTypes.{DefinitionsAreWritten, IsWritten, with_tuples}
-use Rattle.td_eval.specs.Worlds.{World}
+use Rattle.td_eval.specs.ValueTypes.{DefinitionsAreWritten, IsWritten}
+use Rattle.td_eval.specs.Worlds.{World, with_tuples}
 use Rattle.td_eval.proofs.KnownRelvars.{NamedAt, front_has_more, fronted, known_as_base, known_as_virtual, known_in_more, named, named_at, named_behind, never_none, no_base, of_all, one_more_scope, relvar_behind, some_of, some_one, stays_behind, unknown_parts, virtual_at}
 use Rattle.td_eval.proofs.LaterTypes.{selected_by}
 use Rattle.td_eval.proofs.MentionedTypes.{all_alike}
 use Rattle.td_eval.proofs.MentionedValues.{values_depend_on_mentions}
 use Rattle.td_eval.proofs.TypedDatabases.{all_at, database_keeps, fronts_keep}
 use Rattle.td_eval.proofs.WorldParts.{base_value, virtual_name, world_scope, world_selectors}
+use Rattle.td_value.specs.Values.{relation_value}
 
 module _ (among seen : List ℕ → Bool) (first second : Database) (is_typed : IsTyped first) (other : IsTyped second)
     (written : DefinitionsAreWritten first) (agree_types : AgreeOnTypes among first.types second.types)
@@ -181,7 +181,7 @@ module _ (among seen : List ℕ → Bool) (first second : Database) (is_typed : 
       by_base None none = absurd (true≢false (sym known ∙ ap is_some (known_as_virtual (fronted first []) n none)))
       by_base (Some b) is =
           let x = agree.bases n b m is in
-          base_value second n x.1 x.2 ∙ ap (λ q. Some (Valued (relation_as_value q))) x.3 ∙ sym (base_value (fronted first []) n b is)
+          base_value second n x.1 x.2 ∙ ap (λ q. Some (Valued (relation_value q))) x.3 ∙ sym (base_value (fronted first []) n b is)
 
   module _ (front rest : List VirtualRelvar) (v : VirtualRelvar) (e : first.virtuals ≡ front ++ (v ∷ rest)) (alike : AreAlike front)
       (n : List ℕ) (m : IsTrue (seen n)) where

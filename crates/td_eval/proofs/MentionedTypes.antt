@@ -30,8 +30,8 @@ use Rattle.td_value.specs.Values.{Val, Parts, no_parts, part, heading_of, pack_p
 use Rattle.td_value.proofs.KnownValues.{kept}
 use Rattle.td_eval.specs.DatabaseWorlds.{Selectors, selector_value, selectors_of, types_alone, with_selector, world_of_types}
 use Rattle.td_eval.specs.ValueLaws.{AgreeOnTypes, SelectsTheSame}
-use Rattle.td_eval.specs.ValueTypes.{AreComponentsOf, with_tuples}
-use Rattle.td_eval.specs.Worlds.{World, selected}
+use Rattle.td_eval.specs.ValueTypes.{AreComponentsOf}
+use Rattle.td_eval.specs.Worlds.{World, selected, with_tuples}
 use Rattle.td_eval.proofs.LaterTypes.{AreTypedTypes, IsValuedAlike, SelectThose, alike_in_more, all_select, first_typed, parts_shrunk, selector_same, stays, types_keep, types_more}
 use Rattle.td_eval.proofs.MentionedValues.{values_depend_on_mentions}
 use Rattle.td_eval.proofs.TypedDatabases.{some_same}

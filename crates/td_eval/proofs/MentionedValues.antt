@@ -23,15 +23,15 @@ use Rattle.td_types.specs.Types as types
 use Rattle.td_types.proofs.KnownTypes.{declared_more}
 use Rattle.td_types.proofs.Meanings.{attributes_later, pack_unpack}
 use Rattle.td_types.proofs.OutcomeLaws.{value_of_test, value_of_with, values_of_both}
-use Rattle.td_value.specs.Values.{Val, boolean, integer, char, user, Relation, Tuple, heading_of}
+use Rattle.td_value.specs.Values.{Val, boolean, integer, char, relation_value, user, Relation, Tuple, heading_of}
 use Rattle.td_value.specs.Values as values
 use Rattle.td_eval.specs.AggregateValues.{aggregated_value, asked_of, summarized_value, summary_attributes, summary_value}
-use Rattle.td_eval.specs.OperatorValues.{comparison_value, component_value, extended_value, extracted_value, headed_value, listed_value, measure_value, on_relation, on_truth, operator_value, postfix_value, prefix_value, relation_as_value, restricted_value, tuple_from}
+use Rattle.td_eval.specs.OperatorValues.{comparison_value, component_value, extended_value, extracted_value, headed_value, listed_value, measure_value, on_relation, on_truth, operator_value, postfix_value, prefix_value, restricted_value, tuple_from}
 use Rattle.td_eval.specs.TreeTexts.{HasTexts, HaveTexts, ItemsHaveTexts, PartsHaveTexts}
 use Rattle.td_eval.specs.TreeValues.{argument_values, entry_values, items_in_tuples, value_of, values_in_tuples}
 use Rattle.td_eval.specs.ValueLaws.{HasTheSame, SelectsTheSame, ValuesDependOnMentions}
 use Rattle.td_eval.specs.ValueTypes.{AreComponentsOf, IsOfType, IsTypedTuple, KeepsScope, KeepsType}
-use Rattle.td_eval.specs.Worlds.{World, innermost_value, known_outcome, name_value, scope_among, selected}
+use Rattle.td_eval.specs.Worlds.{World, innermost_value, known_outcome, name_value, selected, with_tuples}
 use Rattle.td_eval.proofs.AlikeOutcomes.{both_alike, over_same, with_alike}
 use Rattle.td_eval.proofs.AlikeRows.{AreAlikeIn, aggregated_alike, extended_alike, restricted_alike}
 use Rattle.td_eval.proofs.AlikeSummaries.{SummandsAlikeIn, summarized_alike}
@@ -167,43 +167,43 @@ module _ (among : List ℕ → Bool) (scope : Scope) (w v : World) (k : KeepsSco
   -- ---- what is applied to tuples
 
   -- where more is known, the parts of EXTEND have the same types
-  more_there : (s : List Tuple) (h : Heading) → HasMore (here (h ∷ map heading_of s)) (entered_with h (scope_among w s))
+  more_there : (s : List Tuple) (h : Heading) → HasMore (here (h ∷ map heading_of s)) (entered_with h (with_tuples w.scope s))
   more_there s h = record { types = k.types; relvars = ([], k.known ∙ sym (append-nil scope.relvars)); entered = refl }
 
   parts_typed_same : (s : List Tuple) (h : Heading) (parts : NamedTrees) (xs : List Attribute)
       → Agreed (h ∷ map heading_of s) (types_in_named parts) (relvars_in_named (here (h ∷ map heading_of s)) parts)
       → named_types (here (h ∷ map heading_of s)) parts ≡ Valued xs
-      → named_types (entered_with h (scope_among v s)) parts ≡ named_types (entered_with h (scope_among w s)) parts
+      → named_types (entered_with h (with_tuples v.scope s)) parts ≡ named_types (entered_with h (with_tuples w.scope s)) parts
   parts_typed_same s h parts xs a is =
       ((named_carried among parts (here (h ∷ map heading_of s)) (there (h ∷ map heading_of s)) a.known (λ n c. (a.types_agree n c).0) (λ n c. (a.relvars_agree n c).0)).carried xs is).0
-      ∙ sym (more_changes_no_parts (here (h ∷ map heading_of s)) (entered_with h (scope_among w s)) parts xs (more_there s h) is)
+      ∙ sym (more_changes_no_parts (here (h ∷ map heading_of s)) (entered_with h (with_tuples w.scope s)) parts xs (more_there s h) is)
 
   -- and so have the new attributes of SUMMARIZE
   attributes_same : (s : List Tuple) (h : Heading) (items : Summaries) (xs : Items)
       → Agreed (h ∷ map heading_of s) (types_in_items items) (relvars_in_items (here (h ∷ map heading_of s)) items)
       → items_of (here (h ∷ map heading_of s)) items ≡ Valued xs
-      → summary_attributes (entered_with h (scope_among v s)) items ≡ summary_attributes (entered_with h (scope_among w s)) items
+      → summary_attributes (entered_with h (with_tuples v.scope s)) items ≡ summary_attributes (entered_with h (with_tuples w.scope s)) items
   attributes_same s h items xs a is =
       let hs = h ∷ map heading_of s in
       let second = (items_carried_in among items (here hs) (there hs) a.known (λ n c. (a.types_agree n c).0) (λ n c. (a.relvars_agree n c).0)).carried xs is in
-      attributes_of_items (entered_with h (scope_among v s)) items xs second.0
-      ∙ sym (attributes_of_items (entered_with h (scope_among w s)) items xs
-      (more_changes_no_items (here hs) (entered_with h (scope_among w s)) items xs (more_there s h) is))
+      attributes_of_items (entered_with h (with_tuples v.scope s)) items xs second.0
+      ∙ sym (attributes_of_items (entered_with h (with_tuples w.scope s)) items xs
+      (more_changes_no_items (here hs) (entered_with h (with_tuples w.scope s)) items xs (more_there s h) is))
 
   -- SUMMARIZE of an operand that has a type, by the same tuples
   summary_same : (s : List Tuple) (items : Summaries) (q : Type') (o : Option HeadingItems) (z u : Val) → KeepsType ds (Valued q) (Valued z)
       → with_items q (λ g. items_of (here (g ∷ map heading_of s)) items) ≡ Valued o
       → ((g : Attrs) → q ≡ types.relation g
       → Agreed (unpack g ∷ map heading_of s) (types_in_items items) (relvars_in_items (here (unpack g ∷ map heading_of s)) items))
-      → ((r : Relation) (xs : Items) → IsOfType ds (relation_as_value r) (types.relation (pack r.heading))
+      → ((r : Relation) (xs : Items) → IsOfType ds (relation_value r) (types.relation (pack r.heading))
       → Agreed (r.heading ∷ map heading_of s) (types_in_items items) (relvars_in_items (here (r.heading ∷ map heading_of s)) items)
       → items_of (here (r.heading ∷ map heading_of s)) items ≡ Valued xs → SummandsAlikeIn r (items_in_tuples v s items) (items_in_tuples w s items))
-      → summary_value (λ g. summary_attributes (entered_with g (scope_among v s)) items) (items_in_tuples v s items) z u
-      ≡ summary_value (λ g. summary_attributes (entered_with g (scope_among w s)) items) (items_in_tuples w s items) z u
+      → summary_value (λ g. summary_attributes (entered_with g (with_tuples v.scope s)) items) (items_in_tuples v s items) z u
+      ≡ summary_value (λ g. summary_attributes (entered_with g (with_tuples w.scope s)) items) (items_in_tuples w s items) z u
   summary_same s items q o z u kept is agreed alike =
       over_same ds q (Valued z)
-      (λ r. on_relation u (λ p. summarized_value (summary_attributes (entered_with r.heading (scope_among v s)) items) (items_in_tuples v s items) r p))
-      (λ r. on_relation u (λ p. summarized_value (summary_attributes (entered_with r.heading (scope_among w s)) items) (items_in_tuples w s items) r p)) kept
+      (λ r. on_relation u (λ p. summarized_value (summary_attributes (entered_with r.heading (with_tuples v.scope s)) items) (items_in_tuples v s items) r p))
+      (λ r. on_relation u (λ p. summarized_value (summary_attributes (entered_with r.heading (with_tuples w.scope s)) items) (items_in_tuples w s items) r p)) kept
       (λ g r e head typed.
       let hs = map heading_of s in
       let y = value_of_with (items_of (here (unpack g ∷ hs)) items) (λ xs. Valued (Some (unpack g, xs))) o
@@ -211,7 +211,7 @@ module _ (among : List ℕ → Bool) (scope : Scope) (w v : World) (k : KeepsSco
       let within = subst (λ i. Agreed (i ∷ hs) (types_in_items items) (relvars_in_items (here (i ∷ hs)) items)) (sym head) (agreed g e) in
       let known = subst (λ i. items_of (here (i ∷ hs)) items ≡ Valued y.0) (sym head) y.1 in
       ap (λ x. on_relation u (λ p. summarized_value x (items_in_tuples v s items) r p)) (attributes_same s r.heading items y.0 within known)
-      ∙ (λ i. on_relation u (λ p. summarized_alike r p (summary_attributes (entered_with r.heading (scope_among w s)) items)
+      ∙ (λ i. on_relation u (λ p. summarized_alike r p (summary_attributes (entered_with r.heading (with_tuples w.scope s)) items)
       (items_in_tuples v s items) (items_in_tuples w s items) (alike r y.0 typed within known) i)))
 
   -- ---- trees
@@ -329,11 +329,11 @@ module _ (among : List ℕ → Bool) (scope : Scope) (w v : World) (k : KeepsSco
         let rest = rest_part hs (types_in operand) (types_in_named parts) (relvars_in (here hs) operand)
         (relvars_in_named (in_tuples (here hs) (type_of (here hs) operand)) parts) a in
         let kept = subst (λ o. KeepsType ds o (value_of w s operand)) y.1 (keeps w scope k operand s h n.0 x.0) in
-        ap (λ o. with_value o (λ z. on_relation z (λ r. extended_value (named_types (entered_with r.heading (scope_among v s)) parts) (values_in_tuples v s parts) r)))
+        ap (λ o. with_value o (λ z. on_relation z (λ r. extended_value (named_types (entered_with r.heading (with_tuples v.scope s)) parts) (values_in_tuples v s parts) r)))
         (same operand s y.0 h n.0 x.0 first y.1)
         ∙ over_same ds y.0 (value_of w s operand)
-        (λ r. extended_value (named_types (entered_with r.heading (scope_among v s)) parts) (values_in_tuples v s parts) r)
-        (λ r. extended_value (named_types (entered_with r.heading (scope_among w s)) parts) (values_in_tuples w s parts) r) kept
+        (λ r. extended_value (named_types (entered_with r.heading (with_tuples v.scope s)) parts) (values_in_tuples v s parts) r)
+        (λ r. extended_value (named_types (entered_with r.heading (with_tuples w.scope s)) parts) (values_in_tuples w s parts) r) kept
         (λ g r e head typed.
         let into = inside hs (type_of (here hs) operand) g (types_in_named parts) (λ m. relvars_in_named m parts) (y.1 ∙ ap Valued e)
         (subst (UsersIn among) e (users_agreed hs operand y.0 first y.1)) rest in
@@ -342,7 +342,7 @@ module _ (among : List ℕ → Bool) (scope : Scope) (w v : World) (k : KeepsSco
         let agreed = subst (λ i. Agreed (i ∷ hs) (types_in_named parts) (relvars_in_named (here (i ∷ hs)) parts)) (sym head) into in
         let known = subst (λ i. named_types (here (i ∷ hs)) parts ≡ Valued z.0) (sym head) z.1 in
         ap (λ o. extended_value o (values_in_tuples v s parts) r) (parts_typed_same s r.heading parts z.0 agreed known)
-        ∙ extended_alike r (named_types (entered_with r.heading (scope_among w s)) parts) (values_in_tuples v s parts) (values_in_tuples w s parts)
+        ∙ extended_alike r (named_types (entered_with r.heading (with_tuples w.scope s)) parts) (values_in_tuples v s parts) (values_in_tuples w s parts)
         (same_parts parts s r z.0 typed h n.1 x.1 agreed known))
     same (summarize_per operand per items) s t h n x a is =
         let hs = map heading_of s in
@@ -357,10 +357,10 @@ module _ (among : List ℕ → Bool) (scope : Scope) (w v : World) (k : KeepsSco
         let one = same operand s q.0 h n.0 x.0 first q.1 in
         let two = same per s y.1 h n.1 x.1
         (rest_part hs (types_in_items items) (types_in per) inner (relvars_in (here hs) per) rest) y.3 in
-        (λ i. with_both (one i) (two i) (summary_value (λ g. summary_attributes (entered_with g (scope_among v s)) items) (items_in_tuples v s items)))
+        (λ i. with_both (one i) (two i) (summary_value (λ g. summary_attributes (entered_with g (with_tuples v.scope s)) items) (items_in_tuples v s items)))
         ∙ both_alike (value_of w s operand) (value_of w s per)
-        (summary_value (λ g. summary_attributes (entered_with g (scope_among v s)) items) (items_in_tuples v s items))
-        (summary_value (λ g. summary_attributes (entered_with g (scope_among w s)) items) (items_in_tuples w s items))
+        (summary_value (λ g. summary_attributes (entered_with g (with_tuples v.scope s)) items) (items_in_tuples v s items))
+        (summary_value (λ g. summary_attributes (entered_with g (with_tuples w.scope s)) items) (items_in_tuples w s items))
         (λ z u e. summary_same s items q.0 y.0 z u (subst (KeepsType ds (Valued q.0)) e kept) q.2
         (λ g f. inside hs (type_of (here hs) operand) g (types_in_items items) (λ m. relvars_in_items m items) (q.1 ∙ ap Valued f)
         (subst (UsersIn among) f (users_agreed hs operand q.0 first q.1)) within)
@@ -375,13 +375,13 @@ module _ (among : List ℕ → Bool) (scope : Scope) (w v : World) (k : KeepsSco
         let within = rest_part hs (types_in operand) (types_in_items items) (relvars_in (here hs) operand) inner a in
         let kept = subst (λ o. KeepsType ds o (value_of w s operand)) q.1 (keeps w scope k operand s h n.0 x.0) in
         ap (λ o. with_value o (λ z. with_value (postfix_value (project by) z)
-        (summary_value (λ g. summary_attributes (entered_with g (scope_among v s)) items) (items_in_tuples v s items) z))) (same operand s q.0 h n.0 x.0 first q.1)
+        (summary_value (λ g. summary_attributes (entered_with g (with_tuples v.scope s)) items) (items_in_tuples v s items) z))) (same operand s q.0 h n.0 x.0 first q.1)
         ∙ with_alike (value_of w s operand)
-        (λ z. with_value (postfix_value (project by) z) (summary_value (λ g. summary_attributes (entered_with g (scope_among v s)) items) (items_in_tuples v s items) z))
-        (λ z. with_value (postfix_value (project by) z) (summary_value (λ g. summary_attributes (entered_with g (scope_among w s)) items) (items_in_tuples w s items) z))
+        (λ z. with_value (postfix_value (project by) z) (summary_value (λ g. summary_attributes (entered_with g (with_tuples v.scope s)) items) (items_in_tuples v s items) z))
+        (λ z. with_value (postfix_value (project by) z) (summary_value (λ g. summary_attributes (entered_with g (with_tuples w.scope s)) items) (items_in_tuples w s items) z))
         (λ z e. with_alike (postfix_value (project by) z)
-        (summary_value (λ g. summary_attributes (entered_with g (scope_among v s)) items) (items_in_tuples v s items) z)
-        (summary_value (λ g. summary_attributes (entered_with g (scope_among w s)) items) (items_in_tuples w s items) z)
+        (summary_value (λ g. summary_attributes (entered_with g (with_tuples v.scope s)) items) (items_in_tuples v s items) z)
+        (summary_value (λ g. summary_attributes (entered_with g (with_tuples w.scope s)) items) (items_in_tuples w s items) z)
         (λ u _. summary_same s items q.0 y.0 z u (subst (KeepsType ds (Valued q.0)) e kept) q.2
         (λ g f. inside hs (type_of (here hs) operand) g (types_in_items items) (λ m. relvars_in_items m items) (q.1 ∙ ap Valued f)
         (subst (UsersIn among) f (users_agreed hs operand q.0 first q.1)) within)
@@ -428,7 +428,7 @@ module _ (among : List ℕ → Bool) (scope : Scope) (w v : World) (k : KeepsSco
         (rest_part hs (types_in value) (types_in_named rest) (relvars_in (here hs) value) (relvars_in_named (here hs) rest) a) y.3 in
         λ i. with_both (one i) (others i) (λ v entries. Valued ((m, v) ∷ entries))
 
-    same_parts : (parts : NamedTrees) (s : List Tuple) (r : Relation) (xs : List Attribute) → IsOfType ds (relation_as_value r) (types.relation (pack r.heading)) → AreTyped s
+    same_parts : (parts : NamedTrees) (s : List Tuple) (r : Relation) (xs : List Attribute) → IsOfType ds (relation_value r) (types.relation (pack r.heading)) → AreTyped s
         → PartsGiveNames parts → PartsHaveTexts parts
         → Agreed (r.heading ∷ map heading_of s) (types_in_named parts) (relvars_in_named (here (r.heading ∷ map heading_of s)) parts)
         → named_types (here (r.heading ∷ map heading_of s)) parts ≡ Valued xs → AreAlikeIn r (values_in_tuples v s parts) (values_in_tuples w s parts)
@@ -447,7 +447,7 @@ module _ (among : List ℕ → Bool) (scope : Scope) (w v : World) (k : KeepsSco
           same_parts rest s r y.1 typed h n.2 x.1 others y.3,
         )
 
-    same_items : (items : Summaries) (s : List Tuple) (r : Relation) (xs : Items) → IsOfType ds (relation_as_value r) (types.relation (pack r.heading)) → AreTyped s
+    same_items : (items : Summaries) (s : List Tuple) (r : Relation) (xs : Items) → IsOfType ds (relation_value r) (types.relation (pack r.heading)) → AreTyped s
         → ItemsGiveNames items → ItemsHaveTexts items
         → Agreed (r.heading ∷ map heading_of s) (types_in_items items) (relvars_in_items (here (r.heading ∷ map heading_of s)) items)
         → items_of (here (r.heading ∷ map heading_of s)) items ≡ Valued xs → SummandsAlikeIn r (items_in_tuples v s items) (items_in_tuples w s items)

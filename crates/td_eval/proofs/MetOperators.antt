@@ -10,7 +10,7 @@ use Rattle.td_eval.proofs.KeepsGathered.{member_from_all}
 use Rattle.td_eval.proofs.KeepsRelations.{all_made}
 use Rattle.td_eval.proofs.MetRelations.{EntryMeets, RelationMeets, TupleMeets, ValuesMeet, closure_meets, composition_meets, extended_meets, fields_meet, grouped_meets, join_meets, product_meets, projected_meets, relation_meets, renamed_meets, restriction_meets, rows_meet, set_attributes_meet, set_meets, union_meets, unnested_meets, unpacked_meet, value_meets, wrapped_meets}
 use Rattle.td_eval.specs.LiteralValues.{EachInParts, EachUserValue}
-use Rattle.td_eval.specs.OperatorValues.{additions_of, at_most, columns_values, comparison_value, component_value, components_of, element_of, extended_value, extracted_value, headed_value, is_true, is_zero, less_or_equal, less_than, listed_value, literal_value, measure_value, membership_value, nested_names, of_number, of_relation, of_truth, on_number, on_relation, on_relations, on_text, on_truth, on_tuple, only_tuple, operator_value, postfix_value, prefix_value, projected_names, quotient, relation_as_value, relation_where, restricted_value, set_value, signed, truth_value, tuple_as_value, tuple_from, value_or_false}
+use Rattle.td_eval.specs.OperatorValues.{additions_of, at_most, columns_values, comparison_value, component_value, components_of, element_of, extended_value, extracted_value, headed_value, is_true, is_zero, less_or_equal, less_than, listed_value, literal_value, measure_value, membership_value, nested_names, of_relation, of_truth, on_number, on_relation, on_relations, on_text, on_truth, on_tuple, only_tuple, operator_value, postfix_value, prefix_value, projected_names, quotient, relation_where, restricted_value, set_value, signed, truth_value, tuple_from, value_or_false}
 use Rattle.td_group.specs.Closure.{closure}
 use Rattle.td_group.specs.Nesting.{grouped_relation, unnested_relation, wrapped_relation}
 use Rattle.td_tree.specs.declared.cause.Cause.TheVariants as causes
@@ -28,7 +28,7 @@ use Rattle.td_types.specs.Headings.{are_distinct}
 use Rattle.td_types.specs.TypeLists.{DeclaredType, declared_at}
 use Rattle.td_types.specs.Types.{Attribute, Heading, Type', attribute_names, unpack}
 use Rattle.td_types.specs.Types as types
-use Rattle.td_value.specs.Values.{Val, boolean, integer, char, user, tuple, relation, Parts, no_parts, part, Relation, Tuple, heading_of, made_tuple, relation_of, tuple_names, tuple_of, type_of, unpack_fields, unpack_rows, value_at}
+use Rattle.td_value.specs.Values.{Val, boolean, integer, char, of_number, relation_value, tuple_value, user, tuple, relation, Parts, no_parts, part, Relation, Tuple, heading_of, made_tuple, relation_of, tuple_names, tuple_of, type_of, unpack_fields, unpack_rows, value_at}
 use Rattle.td_value.specs.Views.{relation_view}
 
 module _ (P : List ℕ → Parts → Type 0) where
@@ -82,7 +82,7 @@ module _ (P : List ℕ → Parts → Type 0) where
   in_range_meets z = gives_if HasOnly _ (integer z) causes.Overflow tt
 
   where_meets : (test : Bool) (r : Relation) → RelationMeets P r → GivesMet (relation_where test r)
-  where_meets test r m = gives_if HasOnly test (relation_as_value r) causes.Heading (relation_meets P r m)
+  where_meets test r m = gives_if HasOnly test (relation_value r) causes.Heading (relation_meets P r m)
 
   -- ---- literals, and operators of one operand
 
@@ -229,7 +229,7 @@ module _ (P : List ℕ → Parts → Type 0) where
 
   pub tuple_from_meets : (es : Tuple) → TupleMeets P es → GivesMet (tuple_from es)
   tuple_from_meets es m =
-      gives_with (TupleMeets P) HasOnly (made_tuple es) (λ t. Valued (tuple_as_value t))
+      gives_with (TupleMeets P) HasOnly (made_tuple es) (λ t. Valued (tuple_value t))
       (gives_if (TupleMeets P) (are_distinct (tuple_names es)) (tuple_of es) causes.Heading (all_made (EntryMeets P) es m))
       (λ t a. fields_meet P t a)
 

@@ -9,15 +9,14 @@ use Rattle.td_algebra.specs.Columns.{new_attribute}
 use Rattle.td_algebra.specs.Operators.{Addition, added_attributes, added_values, are_partners, composition, extended_relation, extended_tuple, join, own_names, product, projected_relation, renamed_relation, renamed_tuple, restriction, set_relation, set_tuple, union, united_tuple}
 use Rattle.td_eval.proofs.KeepsRelations.{all_filtered, all_joined, all_made}
 use Rattle.td_eval.specs.LiteralValues.{EachInFields, EachInRows, EachUserValue}
-use Rattle.td_eval.specs.OperatorValues.{relation_as_value}
 use Rattle.td_group.specs.Closure.{chained_tuple, chained_tuples, closure, is_followed_by}
-use Rattle.td_group.specs.Nesting.{group_of, grouped_relation, other_names, relation_value, rest_names, tuple_value, tuples_inside, unnested_relation, unnested_tuples, wrapped_relation, wrapped_tuple}
+use Rattle.td_group.specs.Nesting.{group_of, grouped_relation, other_names, rest_names, tuples_inside, unnested_relation, unnested_tuples, wrapped_relation, wrapped_tuple}
 use Rattle.td_types.specs.Headings.{has_attribute, has_name, new_name, projection}
 use Rattle.td_types.specs.Types.{Heading, pack, same_name}
 use Rattle.td_types.specs.Types as types
 use Rattle.td_value.proofs.Members.{set_members}
 use Rattle.td_value.specs.Agreement.{agree_on}
-use Rattle.td_value.specs.Values.{Val, tuple, relation, Parts, Fields, no_fields, field, Rows, no_rows, row, Relation, Tuple, pack_fields, pack_rows, projected_tuple, relation_of, tuple_names, tuple_of, unpack_fields, unpack_rows, value_at}
+use Rattle.td_value.specs.Values.{Val, relation_value, tuple, relation, Parts, Fields, no_fields, field, Rows, no_rows, row, Relation, Tuple, pack_fields, pack_rows, projected_tuple, relation_of, tuple_names, tuple_of, tuple_value, unpack_fields, unpack_rows, value_at}
 
 module _ (P : List ℕ → Parts → Type 0) where
   -- the user values in an entry, in a tuple and in the tuples of a relation have it
@@ -62,10 +61,10 @@ module _ (P : List ℕ → Parts → Type 0) where
   packed_meet (t ∷ ts) h = (fields_meet t (h t (contains_first t ts)), packed_meet ts (λ u c. h u (contains_later t ts u c)))
 
   -- a relation as a value
-  pub relation_meets : (r : Relation) → RelationMeets r → EachUserValue P (relation_as_value r)
+  pub relation_meets : (r : Relation) → RelationMeets r → EachUserValue P (relation_value r)
   relation_meets r m = packed_meet r.body m
 
-  pub met_relation : (r : Relation) → EachUserValue P (relation_as_value r) → RelationMeets r
+  pub met_relation : (r : Relation) → EachUserValue P (relation_value r) → RelationMeets r
   met_relation r h = by_body r.body h
     where
       by_body : (ts : List Tuple) → EachInRows P (pack_rows ts) → (t : Tuple) → Contains ts t → TupleMeets t

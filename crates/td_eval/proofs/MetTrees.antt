@@ -12,14 +12,14 @@ use Rattle.td_eval.proofs.MetRelations.{TupleMeets, entries_meet, met_relation, 
 use Rattle.td_eval.proofs.MetSummaries.{ItemsMeet, aggregated_meets, summary_meets}
 use Rattle.td_eval.specs.AggregateValues.{aggregated_value, asked_of, summary_attributes, summary_value}
 use Rattle.td_eval.specs.MetConstraints.{EachInTuple, EachInValues, GivesOnly}
-use Rattle.td_eval.specs.OperatorValues.{comparison_value, component_value, extended_value, extracted_value, headed_value, listed_value, measure_value, on_relation, on_truth, operator_value, postfix_value, prefix_value, relation_as_value, restricted_value, tuple_from}
+use Rattle.td_eval.specs.OperatorValues.{comparison_value, component_value, extended_value, extracted_value, headed_value, listed_value, measure_value, on_relation, on_truth, operator_value, postfix_value, prefix_value, restricted_value, tuple_from}
 use Rattle.td_eval.specs.TreeValues.{argument_values, entry_values, items_in_tuples, value_of, values_in_tuples}
-use Rattle.td_eval.specs.Worlds.{World, innermost_value, known_outcome, name_value, scope_among, selected}
+use Rattle.td_eval.specs.Worlds.{World, innermost_value, known_outcome, name_value, selected, with_tuples}
 use Rattle.td_tree.specs.Outcomes.{Outcome, Valued, Refused}
 use Rattle.td_tree.specs.Trees.{Tree, literal, name, parentheses, prefix, extract, restriction, binary, compare, postfix, select, component, measure, aggregate, relation, headed_relation, tuple, extend, summarize_per, summarize_by, choice, Trees, none, more, NamedTrees, none_named, more_named, Summaries, no_summaries, counted, summed, project}
 use Rattle.td_types.specs.TypeLists.{heading_meant}
 use Rattle.td_types.specs.Types.{Heading}
-use Rattle.td_value.specs.Values.{Val, Parts, Relation, Tuple, value_at}
+use Rattle.td_value.specs.Values.{Val, Parts, Relation, Tuple, relation_value, value_at}
 
 module _ (P : List ℕ → Parts → Type 0) where
   -- ---- names
@@ -113,24 +113,24 @@ module _ (P : List ℕ → Parts → Type 0) where
       value_has (extend operand parts) s m =
           gives_with (HasOnly P) (HasOnly P) (value_of w s operand)
           (λ v. on_relation v
-          (λ r. extended_value (named_types (entered_with r.heading (scope_among w s)) parts) (values_in_tuples w s parts) r))
+          (λ r. extended_value (named_types (entered_with r.heading (with_tuples w.scope s)) parts) (values_in_tuples w s parts) r))
           (value_has operand s m)
           (λ v a. relation_gives P (HasOnly P) v
-          (λ r. extended_value (named_types (entered_with r.heading (scope_among w s)) parts) (values_in_tuples w s parts) r) a
-          (λ r b. extended_value_meets P (named_types (entered_with r.heading (scope_among w s)) parts) (values_in_tuples w s parts) r b
+          (λ r. extended_value (named_types (entered_with r.heading (with_tuples w.scope s)) parts) (values_in_tuples w s parts) r) a
+          (λ r b. extended_value_meets P (named_types (entered_with r.heading (with_tuples w.scope s)) parts) (values_in_tuples w s parts) r b
           (λ t c. parts_have parts s m t (b t c))))
       value_has (summarize_per operand per items) s m =
           gives_both (HasOnly P) (HasOnly P) (HasOnly P) (value_of w s operand) (value_of w s per)
-          (summary_value (λ h. summary_attributes (entered_with h (scope_among w s)) items) (items_in_tuples w s items))
+          (summary_value (λ h. summary_attributes (entered_with h (with_tuples w.scope s)) items) (items_in_tuples w s items))
           (value_has operand s m) (value_has per s m)
-          (λ v u a b. summary_meets P (λ h. summary_attributes (entered_with h (scope_among w s)) items) (items_in_tuples w s items) v u a b
+          (λ v u a b. summary_meets P (λ h. summary_attributes (entered_with h (with_tuples w.scope s)) items) (items_in_tuples w s items) v u a b
           (items_have items s m))
       value_has (summarize_by operand by items) s m =
           gives_with (HasOnly P) (HasOnly P) (value_of w s operand) _ (value_has operand s m)
           (λ v a. gives_with (HasOnly P) (HasOnly P) (postfix_value (project by) v)
-          (summary_value (λ h. summary_attributes (entered_with h (scope_among w s)) items) (items_in_tuples w s items) v)
+          (summary_value (λ h. summary_attributes (entered_with h (with_tuples w.scope s)) items) (items_in_tuples w s items) v)
           (postfix_meets P (project by) v a)
-          (λ u b. summary_meets P (λ h. summary_attributes (entered_with h (scope_among w s)) items) (items_in_tuples w s items) v u a b
+          (λ u b. summary_meets P (λ h. summary_attributes (entered_with h (with_tuples w.scope s)) items) (items_in_tuples w s items) v u a b
           (items_have items s m)))
       value_has (choice condition consequent alternative) s m =
           gives_with (HasOnly P) (HasOnly P) (value_of w s condition)
@@ -167,7 +167,7 @@ module _ (P : List ℕ → Parts → Type 0) where
     pub values_have : (s : List Tuple) (e : Tree) (v : Val) → AllByRecursion (EachInTuple P) s → value_of w s e ≡ Valued v → HasOnly P v
     values_have s e v h is = met_given P (value_of w s e) v (value_has e s (are_met s h)) is
 
-    pub values_in_parts : (s : List Tuple) (parts : NamedTrees) (r : Relation) → AllByRecursion (EachInTuple P) s → HasOnly P (relation_as_value r)
+    pub values_in_parts : (s : List Tuple) (parts : NamedTrees) (r : Relation) → AllByRecursion (EachInTuple P) s → HasOnly P (relation_value r)
         → EachInValues P r (values_in_tuples w s parts)
     values_in_parts s none_named r h k = tt
     values_in_parts s (more_named n value rest) r h k = (

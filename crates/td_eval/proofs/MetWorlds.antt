@@ -12,12 +12,11 @@ use Rattle.td_eval.proofs.MetTrees.{values_have, values_in_parts}
 use Rattle.td_eval.specs.DatabaseWorlds.{with_other, with_virtual_value, world_of, world_of_bases}
 use Rattle.td_eval.specs.LiteralValues.{EachInParts, MeetConstraint}
 use Rattle.td_eval.specs.MetConstraints.{GivesOnly, ValuesMeetConstraints}
-use Rattle.td_eval.specs.OperatorValues.{relation_as_value}
 use Rattle.td_eval.specs.TreeValues.{value_of}
 use Rattle.td_eval.specs.Worlds.{World, selected}
 use Rattle.td_tree.specs.Outcomes.{Outcome, Valued}
 use Rattle.td_types.specs.Types.{same_name}
-use Rattle.td_value.specs.Values.{Val, Parts, Relation, pack_parts}
+use Rattle.td_value.specs.Values.{Val, Parts, Relation, pack_parts, relation_value}
 
 module _ (P : List ℕ → Parts → Type 0) where
   -- ---- one relvar more or another
@@ -41,11 +40,11 @@ module _ (P : List ℕ → Parts → Type 0) where
   all_virtuals [] w gives = gives
   all_virtuals (v ∷ vs) w gives = all_virtuals vs (with_virtual_value w v) (one_virtual w v gives)
 
-  pub other_gives : (w : World) (n : List ℕ) (r : Relation) → GivesOnly P w → HasOnly P (relation_as_value r) → GivesOnly P (with_other (Some (n, r)) w)
+  pub other_gives : (w : World) (n : List ℕ) (r : Relation) → GivesOnly P w → HasOnly P (relation_value r) → GivesOnly P (with_other (Some (n, r)) w)
   other_gives w n r gives met = record { relvars = λ m v e. by_test m v (same_name n m) e; selectors = gives.selectors }
     where
-      by_test : (m : List ℕ) (v : Val) (b : Bool) → (if b then Some (Valued (relation_as_value r)) else w.relvar m) ≡ Some (Valued v) → HasOnly P v
-      by_test m v true e = let is : relation_as_value r ≡ v = cc in subst (HasOnly P) is met
+      by_test : (m : List ℕ) (v : Val) (b : Bool) → (if b then Some (Valued (relation_value r)) else w.relvar m) ≡ Some (Valued v) → HasOnly P v
+      by_test m v true e = let is : relation_value r ≡ v = cc in subst (HasOnly P) is met
       by_test m v false e = gives.relvars m v e
 
   -- ---- a database
@@ -55,15 +54,15 @@ module _ (P : List ℕ → Parts → Type 0) where
   packed_parts_meet (v ∷ vs) h = (h.0, packed_parts_meet vs h.1)
 
   -- the relation that a base relvar holds
-  held_meets : (n : List ℕ) (bs : List BaseRelvar) → AllByRecursion (λ (b : BaseRelvar). HasOnly P (relation_as_value b.relation)) bs → (v : Val)
-      → option_map (λ (b : BaseRelvar). Valued (relation_as_value b.relation)) (base_among n bs) ≡ Some (Valued v) → HasOnly P v
+  held_meets : (n : List ℕ) (bs : List BaseRelvar) → AllByRecursion (λ (b : BaseRelvar). HasOnly P (relation_value b.relation)) bs → (v : Val)
+      → option_map (λ (b : BaseRelvar). Valued (relation_value b.relation)) (base_among n bs) ≡ Some (Valued v) → HasOnly P v
   held_meets n [] h v e = absurd (cc)
   held_meets n (b ∷ bs) h v e = by_test (same_name b.name n) (held_meets n bs h.1 v) e
     where
       by_test : (t : Bool)
-          → (option_map (λ (b : BaseRelvar). Valued (relation_as_value b.relation)) (base_among n bs) ≡ Some (Valued v) → HasOnly P v)
-          → option_map (λ (b : BaseRelvar). Valued (relation_as_value b.relation)) (if t then Some b else base_among n bs) ≡ Some (Valued v) → HasOnly P v
-      by_test true rest f = let is : relation_as_value b.relation ≡ v = cc in subst (HasOnly P) is h.0
+          → (option_map (λ (b : BaseRelvar). Valued (relation_value b.relation)) (base_among n bs) ≡ Some (Valued v) → HasOnly P v)
+          → option_map (λ (b : BaseRelvar). Valued (relation_value b.relation)) (if t then Some b else base_among n bs) ≡ Some (Valued v) → HasOnly P v
+      by_test true rest f = let is : relation_value b.relation ≡ v = cc in subst (HasOnly P) is h.0
       by_test false rest f = rest f
 
 module _ (db : Database) (is_typed : IsTyped db) where
@@ -74,7 +73,7 @@ module _ (db : Database) (is_typed : IsTyped db) where
       let given = what_selectors_give_meets db n vs v is_typed (selects db n vs ∙ e) in
       subst (HasOnly P) (sym given.0) (given.1, packed_parts_meet P vs h)
 
-  pub database_gives : AllByRecursion (λ (b : BaseRelvar). HasOnly (MeetConstraint db.types) (relation_as_value b.relation)) db.bases
+  pub database_gives : AllByRecursion (λ (b : BaseRelvar). HasOnly (MeetConstraint db.types) (relation_value b.relation)) db.bases
       → GivesOnly (MeetConstraint db.types) (world_of db)
   database_gives h =
       all_virtuals (MeetConstraint db.types) db.virtuals (world_of_bases db)

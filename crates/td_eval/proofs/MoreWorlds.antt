@@ -11,8 +11,8 @@ use Rattle.td_types.proofs.KnownTypes.{declared_more}
 use Rattle.td_value.specs.Values.{Tuple}
 use Rattle.td_eval.specs.TreeValues.{value_of}
 use Rattle.td_eval.specs.ValueLaws.{IsChecked, SelectsTheSame}
-use Rattle.td_eval.specs.ValueTypes.{KeepsScope, with_tuples}
-use Rattle.td_eval.specs.Worlds.{World, scope_among}
+use Rattle.td_eval.specs.ValueTypes.{KeepsScope}
+use Rattle.td_eval.specs.Worlds.{World, with_tuples}
 use Rattle.td_eval.proofs.MentionedValues.{values_depend_on_mentions}
 
 -- every name
@@ -40,7 +40,7 @@ pub record HasMoreThan (scope : Scope) (first second : World) : Type 0 where
   pub selectors : (n : List ℕ) → SelectsTheSame scope first second n
 
 module _ (scope : Scope) (first second : World) (h : HasMoreThan scope first second) where
-  agree_more : (s : List Tuple) → AgreeOn any (with_tuples scope s) (scope_among second s)
+  agree_more : (s : List Tuple) → AgreeOn any (with_tuples scope s) (with_tuples second.scope s)
   agree_more s =
       record {
         entered = refl;

@@ -7,7 +7,7 @@ use Rattle.std.specs.Ordering.{eq_by_cmp}
 use Rattle.td_algebra.specs.Operators.{is_subset}
 use Rattle.td_check.specs.OperatorTypes.{equality_type, same_heading, same_type}
 use Rattle.td_check.proofs.Comparisons.{equal_valued}
-use Rattle.td_eval.specs.OperatorValues.{at_most, equality_value, membership_value, of_truth, relation_as_value, tuple_as_value}
+use Rattle.td_eval.specs.OperatorValues.{at_most, equality_value, membership_value, of_truth}
 use Rattle.td_tree.specs.declared.cause.Cause.TheVariants as causes
 use Rattle.td_tree.specs.Outcomes.{Outcome, Valued, Refused, named_cause, value_if, with_value}
 use Rattle.td_types.specs.TypeCode.{unpack_pack}
@@ -16,7 +16,7 @@ use Rattle.td_types.specs.Types as types
 use Rattle.td_types.specs.Types.{Type', Attrs}
 use Rattle.td_value.specs.Sets.{has}
 use Rattle.td_value.specs.ValueCode.{unpack_pack_fields, unpack_pack_rows}
-use Rattle.td_value.specs.Values.{Val, boolean, Relation, Tuple, heading_of, tuple_cmp, type_of, value_cmp}
+use Rattle.td_value.specs.Values.{Val, boolean, Relation, Tuple, heading_of, relation_value, tuple_cmp, tuple_value, type_of, value_cmp}
 use Rattle.td_value.specs.Views.{node_view}
 use Rattle.td_value.specs.declared.value.Node.{Node}
 use Rattle.td_value.specs.declared.value.Node.TheVariants as nodes
@@ -81,10 +81,10 @@ equality_then v w f = by_outcome (equality_type (type_of v) (type_of w))
 -- ---- inclusion and membership
 
 -- two relations
-pub at_most_relations : (r s : Relation) → at_most (relation_as_value r) (relation_as_value s) ≡ value_if (same_heading r.heading s.heading) (is_subset r s) causes.Heading
+pub at_most_relations : (r s : Relation) → at_most (relation_value r) (relation_value s) ≡ value_if (same_heading r.heading s.heading) (is_subset r s) causes.Heading
 at_most_relations r s = rw (unpack_pack r.heading, unpack_pack_rows r.body, unpack_pack s.heading, unpack_pack_rows s.body) refl
 
 -- a tuple and a relation
 pub membership_of : (t : Tuple) (r : Relation)
-    → membership_value (tuple_as_value t) (relation_as_value r) ≡ value_if (same_heading (heading_of t) r.heading) (boolean (has tuple_cmp t r.body)) causes.Heading
+    → membership_value (tuple_value t) (relation_value r) ≡ value_if (same_heading (heading_of t) r.heading) (boolean (has tuple_cmp t r.body)) causes.Heading
 membership_of t r = rw (unpack_pack_fields t, unpack_pack r.heading, unpack_pack_rows r.body) refl

@@ -5,13 +5,12 @@ use Rattle.td_catalog.specs.Database.{Database}
 use Rattle.td_catalog.specs.TypedDatabases.{AreTyped}
 use Rattle.td_check.specs.Scopes.{KnownRelvar, Scope, known_relvar}
 use Rattle.td_eval.specs.DatabaseWorlds.{with_other, world_of}
-use Rattle.td_eval.specs.OperatorValues.{relation_as_value}
 use Rattle.td_eval.specs.ValueTypes.{KeepsType, OtherRelationsKeepScopes}
 use Rattle.td_tree.specs.Outcomes.{Outcome, Valued}
 use Rattle.td_types.specs.TypeLists.{AreKnown, DeclaredType}
 use Rattle.td_types.specs.Types.{pack, same_name}
 use Rattle.td_types.specs.Types as types
-use Rattle.td_value.specs.Values.{Val}
+use Rattle.td_value.specs.Values.{Val, relation_value}
 use Rattle.td_eval.proofs.WorldParts.{base_value, world_scope}
 
 -- the types that its world knows
@@ -27,12 +26,12 @@ other_relations_keep_scopes db n b r keeps is_base valid typed headed =
 
     -- the relation that the relvar holds tells the heading that is known of it
     known_heading : (m : List ℕ) (k : KnownRelvar) → known_relvar (world_of db).scope m ≡ Some k → same_name n m ≡ true
-        → KeepsType (types_of db) (Valued (types.relation (pack k.heading))) (Valued (relation_as_value b.relation))
+        → KeepsType (types_of db) (Valued (types.relation (pack k.heading))) (Valued (relation_value b.relation))
     known_heading m k e same =
         let there = keeps.relvars m k e in
-        let held : Some there.0 ≡ Some (Valued (relation_as_value b.relation)) =
+        let held : Some there.0 ≡ Some (Valued (relation_value b.relation)) =
         sym there.1 ∙ ap (λ x. (world_of db).relvar x) (sym (same_text n m (sym same))) ∙ base_value db n b is_base in
-        let outcome : there.0 ≡ Valued (relation_as_value b.relation) = cc in
+        let outcome : there.0 ≡ Valued (relation_value b.relation) = cc in
         subst (KeepsType (types_of db) (Valued (types.relation (pack k.heading)))) outcome there.2
 
     others : (m : List ℕ) (k : KnownRelvar) → known_relvar (world_of db).scope m ≡ Some k
@@ -43,7 +42,7 @@ other_relations_keep_scopes db n b r keeps is_base valid typed headed =
             → (o : Outcome Val) × ((with_other (Some (n, r)) (world_of db)).relvar m ≡ Some o) × KeepsType (types_of db) (Valued (types.relation (pack k.heading))) o
         by_test true same =
             let h = known_heading m k e same in (
-              Valued (relation_as_value r),
+              Valued (relation_value r),
               rw same refl,
               (
                 valid,

@@ -6,6 +6,7 @@ use Rattle.td_check.specs.Scopes.{entered_with}
 use Rattle.td_check.specs.StaticTypes.{items_of, type_of, with_items}
 use Rattle.td_check.proofs.StaticLaws.{types_are_known}
 use Rattle.td_check.proofs.SummaryLaws.{Items}
+use Rattle.td_eval.specs.Worlds.{with_tuples}
 use Rattle.td_tree.specs.declared.cause.Cause.{Cause}
 use Rattle.td_tree.specs.declared.cause.Cause.TheVariants as causes
 use Rattle.td_tree.specs.Outcomes.{Causes, Union, Has, Outcome, Valued, Refused, gathered, value_if, with_both, with_value}
@@ -20,7 +21,6 @@ use Rattle.td_eval.specs.AggregateValues.{summary_attributes, summary_value}
 use Rattle.td_eval.specs.OperatorValues.{postfix_value}
 use Rattle.td_eval.specs.TreeValues.{items_in_tuples, value_of}
 use Rattle.td_eval.specs.ValueLaws.{AreOneOutcome, SummarizeByIsPerOfTheProjection}
-use Rattle.td_eval.specs.Worlds.{scope_among}
 use Rattle.td_eval.proofs.SummaryParts.{by_type, meant_is_part, per_type}
 use Rattle.td_eval.proofs.TupleOrder.{one_itself, one_least}
 
@@ -106,7 +106,7 @@ pub summarize_by_is_per_of_the_projection : SummarizeByIsPerOfTheProjection
 summarize_by_is_per_of_the_projection =
     record {
       values = λ w s operand by items. of_operand (value_of w s operand) (postfix_value (project by))
-          (summary_value (λ h. summary_attributes (entered_with h (scope_among w s)) items) (items_in_tuples w s items));
+          (summary_value (λ h. summary_attributes (entered_with h (with_tuples w.scope s)) items) (items_in_tuples w s items));
       types = λ scope operand by items t is names. one_type (λ h. items_of (entered_with h scope) items) by
           (type_of scope operand) t
           (λ s e. (types_are_known.of_tree scope operand s is names e).0);

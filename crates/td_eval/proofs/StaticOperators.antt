@@ -5,8 +5,8 @@ use Rattle.std.specs.Ordering.{eq_by_cmp}
 use Rattle.td_algebra.specs.Operators.{composition, difference, intersection, is_subset, join, product, projected_relation, renamed_relation, semidifference, semijoin, union}
 use Rattle.td_check.specs.CannotFail.{measure_cannot_fail, operator_cannot_fail, prefix_cannot_fail}
 use Rattle.td_check.specs.OperatorTypes.{attribute_type, equality_type, known_or, named_part, over_relation, over_tuple, renaming_pairs, same_heading, same_type}
-use Rattle.td_eval.specs.OperatorValues.{at_most, comparison_value, component_value, components_of, element_of, equality_value, extracted_value, headed_value, less_or_equal, less_than, listed_names, listed_value, measure_value, membership_value, nested_names, of_relation, of_truth, on_relations, on_text, operator_value, postfix_value, prefix_value, projected_names, relation_as_value, relation_where, tuple_as_value, tuple_from}
-use Rattle.td_group.specs.Closure.{closure, is_closable}
+use Rattle.td_eval.specs.OperatorValues.{at_most, comparison_value, component_value, components_of, element_of, equality_value, extracted_value, headed_value, less_or_equal, less_than, listed_names, listed_value, measure_value, membership_value, nested_names, of_relation, of_truth, on_relations, on_text, operator_value, postfix_value, prefix_value, projected_names, relation_where, tuple_from}
+use Rattle.td_group.specs.Closure.{closure}
 use Rattle.td_group.specs.Nesting.{can_nest, can_unnest, grouped_relation, unnested_relation, wrapped_relation}
 use Rattle.td_eval.proofs.StaticOutcomes.{IsStatic, gathered_static, known_static, over_relation_static, over_tuple_static, relation_static, relations_static, test_static, text_static, truth_static, truths_static, tuple_static, with_static}
 use Rattle.td_tree.specs.declared.cause.Cause.TheVariants as causes
@@ -20,18 +20,18 @@ use Rattle.td_tree.specs.declared.operator.Prefix.{Prefix}
 use Rattle.td_tree.specs.declared.operator.Prefix.TheVariants as prefixes
 use Rattle.td_tree.specs.Outcomes.{Valued, gathered, value_if, with_value}
 use Rattle.td_tree.specs.Trees.{Attributes, only, all_but, Postfix, project, rename, group, ungroup, wrap, unwrap}
-use Rattle.td_types.specs.Headings.{agree, are_distinct, can_rename, has_projection, have_no_common, outside, projected_heading, projection}
+use Rattle.td_types.specs.Headings.{agree, are_distinct, can_rename, has_projection, have_no_common, is_closable, outside, projected_heading, projection}
 use Rattle.td_types.specs.TypeLists.{DeclaredType, declared_at}
 use Rattle.td_types.specs.Types.{Type', Heading, attribute_names, type_at, unpack}
 use Rattle.td_types.specs.Types as types
 use Rattle.td_value.specs.Sets.{has}
-use Rattle.td_value.specs.Values.{Val, boolean, integer, char, user, tuple, relation, Relation, Tuple, heading_of, made_tuple, relation_of, tuple_cmp, tuple_names, tuple_of, type_of, unpack_fields, unpack_rows, value_at, value_cmp}
+use Rattle.td_value.specs.Values.{Val, boolean, integer, char, relation_value, tuple_value, user, tuple, relation, Relation, Tuple, heading_of, made_tuple, relation_of, tuple_cmp, tuple_names, tuple_of, type_of, unpack_fields, unpack_rows, value_at, value_cmp}
 use Rattle.td_value.specs.Views.{relation_view}
 
 -- ---- operators of one operand
 
 fits_static : (fits : Bool) (r : Relation) → IsStatic (relation_where fits r)
-fits_static fits r = test_static fits (relation_as_value r) causes.Heading (λ h. h)
+fits_static fits r = test_static fits (relation_value r) causes.Heading (λ h. h)
 
 pub prefix_static : (op : Prefix) (v : Val) → prefix_cannot_fail op ≡ true → IsStatic (prefix_value op v)
 prefix_static prefixes.Not v e = truth_static v (λ b. of_truth (not b)) (λ b. tt)
@@ -177,7 +177,7 @@ comparison_static comparisons.In v w = membership_static v w
 
 pub tuple_from_static : (entries : Tuple) → IsStatic (tuple_from entries)
 tuple_from_static entries =
-    with_static (made_tuple entries) (λ t. Valued (tuple_as_value t))
+    with_static (made_tuple entries) (λ t. Valued (tuple_value t))
     (test_static (are_distinct (tuple_names entries)) (tuple_of entries) causes.Heading (λ h. h)) (λ t. tt)
 
 pub headed_static : (h : Heading) (vs : List Val) → IsStatic (headed_value h vs)

@@ -7,7 +7,7 @@ use Rattle.td_check.specs.Mentions.{in_tuples}
 use Rattle.td_check.specs.OperatorTypes.{extended_by, over_relation, same_type}
 use Rattle.td_check.specs.Scopes.{Scope, entered_with}
 use Rattle.td_eval.specs.AggregateValues.{group_values, summarized_value, summary_in, summary_value}
-use Rattle.td_eval.specs.OperatorValues.{additions_of, columns_values, extended_value, is_true, of_relation, on_relation, on_truth, relation_as_value, restricted_value, truth_value, value_of_type}
+use Rattle.td_eval.specs.OperatorValues.{additions_of, columns_values, extended_value, is_true, of_relation, on_relation, on_truth, restricted_value, truth_value, value_of_type}
 use Rattle.td_eval.specs.ValueTypes.{IsOfType, KeepsType}
 use Rattle.td_eval.proofs.TypedRows.{parts_typed}
 use Rattle.td_group.specs.Groups.{groups}
@@ -20,7 +20,7 @@ use Rattle.td_types.specs.TypeLists.{DeclaredType}
 use Rattle.td_types.specs.Types.{Type', Attribute, Heading, attribute_names, pack, unpack}
 use Rattle.td_types.specs.Types as types
 use Rattle.td_types.proofs.Meanings.{pack_unpack}
-use Rattle.td_value.specs.Values.{Val, relation, Relation, Tuple, type_of, unpack_rows}
+use Rattle.td_value.specs.Values.{Val, relation, Relation, Tuple, relation_value, type_of, unpack_rows}
 use Rattle.td_value.specs.Views.{relation_view}
 
 -- ---- WHERE
@@ -79,7 +79,7 @@ module _ (ds : List DeclaredType) where
 
   -- what follows of a relation, of its type
   pub rows_static : {A : Type 0} (v : Val) (t : Type') (f : Relation → Outcome A) → IsOfType ds v t
-      → ((r : Relation) → t ≡ types.relation (pack r.heading) → IsOfType ds (relation_as_value r) (types.relation (pack r.heading)) → IsStatic (f r))
+      → ((r : Relation) → t ≡ types.relation (pack r.heading) → IsOfType ds (relation_value r) (types.relation (pack r.heading)) → IsStatic (f r))
       → IsStatic (on_relation v f)
   rows_static (relation h rs) t f q k =
       k (relation_view (unpack h) (unpack_rows rs)) (q.1.0 ∙ ap types.relation (sym (pack_unpack h)))

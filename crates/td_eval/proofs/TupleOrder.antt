@@ -15,10 +15,10 @@ use Rattle.td_tree.specs.Outcomes.{Causes, Has, Outcome, Valued, Refused, gather
 use Rattle.td_tree.proofs.LeastCauses.{least_is_named}
 use Rattle.td_types.specs.Types.{Attribute, Heading}
 use Rattle.td_value.specs.ValueOrder.{tuple_order_same, tuple_order_total}
-use Rattle.td_value.specs.Values.{Val, HaveSameMembers, IsRelation, Relation, Tuple, relation_of, tuple_cmp}
+use Rattle.td_value.specs.Values.{Val, HaveSameMembers, IsRelation, Relation, Tuple, relation_of, relation_value, tuple_cmp}
 use Rattle.td_value.specs.Views.{relation_view}
 use Rattle.td_value.proofs.SetLaws.{is_set_of}
-use Rattle.td_eval.specs.OperatorValues.{additions_of, columns_values, extended_value, is_true, of_relation, relation_as_value, restricted_value, truth_value, value_of_type}
+use Rattle.td_eval.specs.OperatorValues.{additions_of, columns_values, extended_value, is_true, of_relation, restricted_value, truth_value, value_of_type}
 use Rattle.td_eval.specs.ValueLaws.{AreOneOutcome, restricted_in_turn}
 
 -- ---- sets of causes
@@ -133,7 +133,7 @@ restricted p r us is same =
     follows (gathered (map (λ t. truth_value (p t)) r.body)) (gathered (map (λ t. truth_value (p t)) us))
     (λ truths. of_relation (restriction (λ t. is_true (p t)) r)) (λ truths. of_relation (relation_of r.heading (filter (λ t. is_true (p t)) us)))
     (one_order (λ t. truth_value (p t)) r.body us same)
-    (λ x y e g. ap relation_as_value (kept_set (λ t. is_true (p t)) r us is same))
+    (λ x y e g. ap relation_value (kept_set (λ t. is_true (p t)) r us is same))
 
 -- ---- EXTEND
 
@@ -199,7 +199,7 @@ extended (Valued attributes) fs r us same = by_heading (extended_by r.heading at
         (λ columns. of_relation (extended_relation (additions_of attributes fs) r))
         (λ columns. of_relation (extended_relation (additions_of attributes fs) (relation_view r.heading us)))
         (gathered_alike (columns_values attributes fs r.body) (columns_values attributes fs us) (columns_alike attributes fs r.body us same))
-        (λ x y e g. ap relation_as_value (extended_set (additions_of attributes fs) r us same))
+        (λ x y e g. ap relation_value (extended_set (additions_of attributes fs) r us same))
 
     by_heading : (o : Outcome Heading)
         → AreOneOutcome (with_value o (λ heading. with_value (gathered (columns_values attributes fs r.body)) (λ columns. of_relation (extended_relation (additions_of attributes fs) r))))

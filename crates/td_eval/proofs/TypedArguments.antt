@@ -16,8 +16,8 @@ use Rattle.td_value.specs.KnownValues.{AreOfTypes}
 use Rattle.td_value.specs.Values.{Val, AreValues, Tuple, pack_parts}
 use Rattle.td_eval.specs.TreeTexts.{HaveTexts}
 use Rattle.td_eval.specs.TreeValues.{argument_values, value_of}
-use Rattle.td_eval.specs.ValueTypes.{IsOfType, IsTypedTuple, KeepsScope, KeepsType, with_tuples}
-use Rattle.td_eval.specs.Worlds.{World}
+use Rattle.td_eval.specs.ValueTypes.{IsOfType, IsTypedTuple, KeepsScope, KeepsType}
+use Rattle.td_eval.specs.Worlds.{World, with_tuples}
 use Rattle.td_eval.proofs.TypedTrees.{keeps}
 use Rattle.td_eval.proofs.TypedValues.{type_is}
 

@@ -29,12 +29,12 @@ use Rattle.td_types.proofs.KnownTypes.{declared_more}
 use Rattle.td_types.proofs.OutcomeLaws.{value_of_test, value_of_with}
 use Rattle.td_types.proofs.Ranks.{known_components}
 use Rattle.td_value.specs.KnownValues.{AreOfTypes, HasHeading, HasType, HaveHeading}
-use Rattle.td_value.specs.Values.{Val, boolean, integer, char, user, tuple, relation, AreValues, Fields, no_fields, field, Parts, no_parts, part, Rows, no_rows, row, Tuple, heading_of, made_tuple, pack_parts, selected_value, tuple_names, tuple_of}
+use Rattle.td_value.specs.Values.{Val, boolean, integer, char, relation_value, user, tuple, relation, AreValues, Fields, no_fields, field, Parts, no_parts, part, Rows, no_rows, row, Tuple, heading_of, made_tuple, pack_parts, selected_value, tuple_names, tuple_of}
 use Rattle.td_value.specs.Values as values
 use Rattle.td_value.specs.Views.{user_view}
 use Rattle.td_value.proofs.KnownValues.{has_its_type, kept}
 use Rattle.td_eval.specs.DatabaseWorlds.{Selectors, constraint_value, selector_value, selectors_of, types_alone, with_selector, with_virtual_value, world_of}
-use Rattle.td_eval.specs.OperatorValues.{relation_as_value, truth_value}
+use Rattle.td_eval.specs.OperatorValues.{truth_value}
 use Rattle.td_eval.specs.TreeValues.{value_of}
 use Rattle.td_eval.specs.ValueTypes.{AreComponentsOf, ConstraintsAreWritten, DefinitionsAreWritten, IsOfType, IsWritten, KeepsScope, KeepsType, TypedDatabasesKeepScopes}
 use Rattle.td_eval.specs.Worlds.{World}
@@ -343,9 +343,9 @@ module _ (db : Database) (is_typed : IsTyped db) (written : DefinitionsAreWritte
         known = refl;
         relvars = λ n r e.
             let b = base_known db.types n db.bases r is_typed.bases (of_bases n r e) in (
-              Valued (relation_as_value b.0.relation),
+              Valued (relation_value b.0.relation),
               rw b.1 refl,
-              subst (λ (q : KnownRelvar). KeepsType db.types (Valued (types.relation (pack q.heading))) (Valued (relation_as_value b.0.relation))) b.2
+              subst (λ (q : KnownRelvar). KeepsType db.types (Valued (types.relation (pack q.heading))) (Valued (relation_value b.0.relation))) b.2
                   (b.3.relation, (refl, b.3.known, b.3.typed)),
             );
         selectors = (all_selectors db.types is_typed.declared is_typed.constrained written.constraints).found;

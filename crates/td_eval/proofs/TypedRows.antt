@@ -16,18 +16,19 @@ use Rattle.td_types.specs.Types.{Type', Attribute, Attrs, Heading, IsHeading, Is
 use Rattle.td_types.specs.Types as types
 use Rattle.td_types.proofs.Made.{type_at-heading_from}
 use Rattle.td_types.proofs.Meanings.{known_heading, pack_unpack}
+use Rattle.td_value.proofs.Packed.{pack_unpack_fields, pack_unpack_rows}
 use Rattle.td_value.specs.KnownValues.{HasHeading, HasType}
 use Rattle.td_value.specs.Sets.{placed, put_in, set_of}
-use Rattle.td_value.specs.Values.{Val, tuple, relation, AreFields, Fields, IsTuple, IsTupleOf, IsValue, Relation, Rows, Tuple, entry_cmp, heading_of, pack_fields, relation_of, tuple_cmp, tuple_names, tuple_of, type_of, unpack_fields, unpack_rows}
+use Rattle.td_value.specs.Values.{Val, relation_value, tuple, relation, AreFields, Fields, IsTuple, IsTupleOf, IsValue, Relation, Rows, Tuple, entry_cmp, heading_of, pack_fields, relation_of, tuple_cmp, tuple_names, tuple_of, type_of, unpack_fields, unpack_rows}
 use Rattle.td_value.specs.Views.{relation_view}
 use Rattle.td_value.proofs.KnownValues.{by_values, has_its_type, has_known_type}
 use Rattle.td_value.proofs.Typed.{typed}
-use Rattle.td_eval.specs.OperatorValues.{element_of, extended_value, headed_value, listed_value, of_relation, on_relation, relation_as_value, restricted_value, tuple_from}
+use Rattle.td_eval.specs.OperatorValues.{element_of, extended_value, headed_value, listed_value, of_relation, on_relation, restricted_value, tuple_from}
 use Rattle.td_eval.specs.ValueTypes.{IsOfType, IsTypedTuple, KeepsType}
 use Rattle.td_eval.proofs.KeepsGathered.{has_type_members, member_from_all}
 use Rattle.td_eval.proofs.KeepsExtension.{PartsKeep, extended_keeps, restricted_keeps}
 use Rattle.td_eval.proofs.TypedOutcomes.{KeepsAs, keeps_both, made_keeps, test_keeps}
-use Rattle.td_eval.proofs.TypedValues.{fields_heading, fields_of, heading_is, pack_unpack_fields, pack_unpack_rows, relation_keeps, rows_of, same_is, type_is}
+use Rattle.td_eval.proofs.TypedValues.{fields_heading, fields_of, heading_is, relation_keeps, rows_of, same_is, type_is}
 
 -- ---- what holds of each item holds of the set of them
 
@@ -103,7 +104,7 @@ module _ (ds : List DeclaredType) where
   IsTupleAt h t = IsTuple t × HasHeading ds (pack_fields t) (pack h)
 
   pub relation_typed : (h : Heading) (ts : List Tuple) → IsHeading (pack h) → AreKnown ds (pack h) → AllByRecursion (IsTupleAt h) ts
-      → IsOfType ds (relation_as_value (relation_of h ts)) (types.relation (pack h))
+      → IsOfType ds (relation_value (relation_of h ts)) (types.relation (pack h))
   relation_typed h ts p k all =
       let headed = All-from_members (IsTupleOf h) ts
       (λ t c. let at = member_from_all (IsTupleAt h) ts all t c in (at.0, ((by_values ds t h).0 at.1).0, p)) in
@@ -189,14 +190,14 @@ module _ (ds : List DeclaredType) where
 
   -- a relation as its parts
   pub parts_typed : (h : Attrs) (rs : Rows) → IsOfType ds (relation h rs) (types.relation h)
-      → IsOfType ds (relation_as_value (relation_view (unpack h) (unpack_rows rs))) (types.relation (pack (unpack h)))
+      → IsOfType ds (relation_value (relation_view (unpack h) (unpack_rows rs))) (types.relation (pack (unpack h)))
   parts_typed h rs q = rw (pack_unpack h, pack_unpack_rows rs) q
 
   -- its tuples
-  pub rows_typed : (r : Relation) → IsOfType ds (relation_as_value r) (types.relation (pack r.heading)) → (u : Tuple) → Contains r.body u
+  pub rows_typed : (r : Relation) → IsOfType ds (relation_value r) (types.relation (pack r.heading)) → (u : Tuple) → Contains r.body u
       → IsTypedTuple ds u × (heading_of u ≡ r.heading)
   rows_typed r q u c =
-      let x = rows_of ds (pack r.heading) (relation_as_value r) q.1 in
+      let x = rows_of ds (pack r.heading) (relation_value r) q.1 in
       let at = member_headed r u q.0 c in
       let k = (has_type_members ds r.body (pack r.heading)).0 q.1.2 u c in
       ((at.0, subst (λ (h : Heading). HasHeading ds (pack_fields u) (pack h)) (sym at.1) k), at.1)
@@ -222,7 +223,7 @@ module _ (ds : List DeclaredType) where
 
   -- the parts of EXTEND, where their types are known
   pub extend_keeps : (kinds others : Heading → Outcome (List Attribute)) (fs : List (Tuple → Outcome Val)) (t : Type') (v : Val) → IsOfType ds v t
-      → ((r : Relation) (attributes : List Attribute) → IsOfType ds (relation_as_value r) (types.relation (pack r.heading))
+      → ((r : Relation) (attributes : List Attribute) → IsOfType ds (relation_value r) (types.relation (pack r.heading))
       → kinds r.heading ≡ Valued attributes
       → (others r.heading ≡ Valued attributes) × AllByRecursion (λ a. IsName a.0 × IsType a.1 × IsKnown ds a.1) attributes × PartsKeep ds r attributes fs)
       → KeepsType ds (over_relation t (λ h. with_value (kinds h) (extension_type h))) (on_relation v (λ r. extended_value (others r.heading) fs r))
@@ -230,7 +231,7 @@ module _ (ds : List DeclaredType) where
       relation_keeps ds (with_value (kinds (unpack h)) (extension_type (unpack h))) v h (λ r. extended_value (others r.heading) fs r) q
       (λ rs w. extends (relation_view (unpack h) (unpack_rows rs)) (parts_typed h rs w) (kinds (unpack h)) refl)
     where
-      extends : (r : Relation) → IsOfType ds (relation_as_value r) (types.relation (pack r.heading)) → (o : Outcome (List Attribute)) → kinds r.heading ≡ o
+      extends : (r : Relation) → IsOfType ds (relation_value r) (types.relation (pack r.heading)) → (o : Outcome (List Attribute)) → kinds r.heading ≡ o
           → KeepsType ds (with_value o (extension_type r.heading)) (extended_value (others r.heading) fs r)
       extends r w (Valued attributes) e =
           let x = k r attributes w e in

@@ -26,17 +26,17 @@ use Rattle.td_types.specs.Types as types
 use Rattle.td_types.proofs.Meanings.{attributes_later}
 use Rattle.td_types.proofs.OutcomeLaws.{value_of_with, valued_is, values_of_both}
 use Rattle.td_value.specs.KnownValues.{AreOfTypes}
-use Rattle.td_value.specs.Values.{Val, AreValues, Relation, Tuple, heading_of, pack_fields, pack_parts, value_at}
+use Rattle.td_value.specs.Values.{Val, AreValues, Relation, Tuple, heading_of, pack_fields, pack_parts, relation_value, value_at}
 use Rattle.td_value.specs.Values as values
 use Rattle.td_value.proofs.HeadingOf.{fields_type-heading}
 use Rattle.td_value.proofs.KnownValues.{has_its_type, has_known_type}
 use Rattle.td_value.proofs.Typed.{typed}
 use Rattle.td_eval.specs.AggregateValues.{aggregated_value, asked_of, summary_attributes}
-use Rattle.td_eval.specs.OperatorValues.{comparison_value, component_value, extended_value, extracted_value, headed_value, listed_value, measure_value, on_relation, operator_value, postfix_value, prefix_value, relation_as_value, restricted_value, tuple_from}
+use Rattle.td_eval.specs.OperatorValues.{comparison_value, component_value, extended_value, extracted_value, headed_value, listed_value, measure_value, on_relation, operator_value, postfix_value, prefix_value, restricted_value, tuple_from}
 use Rattle.td_eval.specs.TreeTexts.{HasTexts, HaveTexts, ItemsHaveTexts, PartsHaveTexts}
 use Rattle.td_eval.specs.TreeValues.{argument_values, entry_values, items_in_tuples, value_of, values_in_tuples}
-use Rattle.td_eval.specs.ValueTypes.{IsOfType, IsTypedTuple, KeepsScope, KeepsType, ValuesKeepTypes, with_tuples}
-use Rattle.td_eval.specs.Worlds.{World, innermost_value, known_outcome, name_value, scope_among, selected}
+use Rattle.td_eval.specs.ValueTypes.{IsOfType, IsTypedTuple, KeepsScope, KeepsType, ValuesKeepTypes}
+use Rattle.td_eval.specs.Worlds.{World, innermost_value, known_outcome, name_value, selected, with_tuples}
 use Rattle.td_eval.proofs.KeepsGathered.{member_from_all}
 use Rattle.td_eval.proofs.KeepsAggregates.{aggregation_keeps}
 use Rattle.td_eval.proofs.KeepsExtension.{PartsKeep}
@@ -178,7 +178,7 @@ module _ (w : World) (scope : Scope) (k : KeepsScope w scope) where
       }
 
   -- the world knows more types there
-  more_there : (s : List Tuple) (h : Heading) → HasMore (entered_with h (with_tuples scope s)) (entered_with h (scope_among w s))
+  more_there : (s : List Tuple) (h : Heading) → HasMore (entered_with h (with_tuples scope s)) (entered_with h (with_tuples w.scope s))
   more_there s h = record { types = k.types; relvars = ([], k.known ∙ sym (append-nil scope.relvars)); entered = refl }
 
   relvar_keeps : (n : List ℕ) (o : Option KnownRelvar) → known_relvar scope n ≡ o
@@ -205,13 +205,13 @@ module _ (w : World) (scope : Scope) (k : KeepsScope w scope) where
 
   -- the new attributes of SUMMARIZE, where the items have types
   items_are_kept : (items : Summaries) (s : List Tuple) (r : Relation) (xs : Items) → AreTyped s → ItemsGiveNames items
-      → IsOfType ds (relation_as_value r) (types.relation (pack r.heading)) → items_of (entered_with r.heading (with_tuples scope s)) items ≡ Valued xs
+      → IsOfType ds (relation_value r) (types.relation (pack r.heading)) → items_of (entered_with r.heading (with_tuples scope s)) items ≡ Valued xs
       → ItemsKeep ds r xs (items_in_tuples w s items)
-      → (summary_attributes (entered_with r.heading (scope_among w s)) items ≡ gathered (map item_type xs))
+      → (summary_attributes (entered_with r.heading (with_tuples w.scope s)) items ≡ gathered (map item_type xs))
       × AllByRecursion (ItemFits (known_closed ds)) xs × ItemsKeep ds r xs (items_in_tuples w s items)
   items_are_kept items s r xs h n p e kept =
       let here = entered_with r.heading (with_tuples scope s) in
-      let there = entered_with r.heading (scope_among w s) in (
+      let there = entered_with r.heading (with_tuples w.scope s) in (
         attributes_of_items there items xs (more_changes_no_items here there items xs (more_there s r.heading) e),
         subst (Gives (AllByRecursion (ItemFits (known_closed ds)))) e
             (items_give (known_closed ds) items n here (supplies here (entered_is s r.heading h (p.0.2, p.1.1)))),
@@ -289,25 +289,25 @@ module _ (w : World) (scope : Scope) (k : KeepsScope w scope) where
     keeps (extend operand parts) s h n x =
         value_keeps ds (type_of (with_tuples scope s) operand) (value_of w s operand)
         (λ t. over_relation t (λ g. with_value (named_types (entered_with g (with_tuples scope s)) parts) (extension_type g)))
-        (λ v. on_relation v (λ r. extended_value (named_types (entered_with r.heading (scope_among w s)) parts) (values_in_tuples w s parts) r))
+        (λ v. on_relation v (λ r. extended_value (named_types (entered_with r.heading (with_tuples w.scope s)) parts) (values_in_tuples w s parts) r))
         (keeps operand s h n.0 x.0)
-        (λ t v q. extend_keeps ds (λ g. named_types (entered_with g (with_tuples scope s)) parts) (λ g. named_types (entered_with g (scope_among w s)) parts)
+        (λ t v q. extend_keeps ds (λ g. named_types (entered_with g (with_tuples scope s)) parts) (λ g. named_types (entered_with g (with_tuples w.scope s)) parts)
         (values_in_tuples w s parts) t v q
         (λ r attributes p e. (
-          more_changes_no_parts (entered_with r.heading (with_tuples scope s)) (entered_with r.heading (scope_among w s)) parts attributes (more_there s r.heading) e,
+          more_changes_no_parts (entered_with r.heading (with_tuples scope s)) (entered_with r.heading (with_tuples w.scope s)) parts attributes (more_there s r.heading) e,
           types_are_known.of_parts (entered_with r.heading (with_tuples scope s)) parts attributes (entered_is s r.heading h (p.0.2, p.1.1)) n.1 e,
           subst (λ o. KeepParts ds r o (values_in_tuples w s parts)) e
               (parts_keep parts s h n.1 x.1 r p),
         )))
     keeps (summarize_per operand per items) s h n x =
-        summarize_per_keeps ds (λ g. items_of (entered_with g (with_tuples scope s)) items) (λ g. summary_attributes (entered_with g (scope_among w s)) items)
+        summarize_per_keeps ds (λ g. items_of (entered_with g (with_tuples scope s)) items) (λ g. summary_attributes (entered_with g (with_tuples w.scope s)) items)
         (items_in_tuples w s items) (type_of (with_tuples scope s) operand) (type_of (with_tuples scope s) per) (value_of w s operand) (value_of w s per)
         (λ r xs p e. items_are_kept items s r xs h n.2 p e
         (items_keep items s h n.2 x.2 r p xs e))
         (keeps operand s h n.0 x.0)
         (keeps per s h n.1 x.1)
     keeps (summarize_by operand by items) s h n x =
-        summarize_by_keeps ds (λ g. items_of (entered_with g (with_tuples scope s)) items) (λ g. summary_attributes (entered_with g (scope_among w s)) items)
+        summarize_by_keeps ds (λ g. items_of (entered_with g (with_tuples scope s)) items) (λ g. summary_attributes (entered_with g (with_tuples w.scope s)) items)
         (items_in_tuples w s items) by (type_of (with_tuples scope s) operand) (value_of w s operand)
         (λ r xs p e. items_are_kept items s r xs h n.1 p e
         (items_keep items s h n.1 x.1 r p xs e))
@@ -343,7 +343,7 @@ module _ (w : World) (scope : Scope) (k : KeepsScope w scope) where
         ((λ i. (m, (sym first) i) ∷ others i), ((n.0, own_type ds v t p), q.1)))
 
     parts_keep : (parts : NamedTrees) (s : List Tuple) → AreTyped s → PartsGiveNames parts → PartsHaveTexts parts
-        → (r : Relation) → IsOfType ds (relation_as_value r) (types.relation (pack r.heading))
+        → (r : Relation) → IsOfType ds (relation_value r) (types.relation (pack r.heading))
         → KeepParts ds r (named_types (entered_with r.heading (with_tuples scope s)) parts) (values_in_tuples w s parts)
     parts_keep none_named s h n x r p = tt
     parts_keep (more_named m value rest) s h n x r p =
@@ -356,7 +356,7 @@ module _ (w : World) (scope : Scope) (k : KeepsScope w scope) where
         (parts_keep rest s h n.2 x.1 r p)
 
     items_keep : (items : Summaries) (s : List Tuple) → AreTyped s → ItemsGiveNames items → ItemsHaveTexts items
-        → (r : Relation) → IsOfType ds (relation_as_value r) (types.relation (pack r.heading)) → (xs : Items)
+        → (r : Relation) → IsOfType ds (relation_value r) (types.relation (pack r.heading)) → (xs : Items)
         → items_of (entered_with r.heading (with_tuples scope s)) items ≡ Valued xs → ItemsKeep ds r xs (items_in_tuples w s items)
     items_keep no_summaries s h n x r p xs e = subst (λ ys. ItemsKeep ds r ys []) (valued_is [] xs e) tt
     items_keep (counted m rest) s h n x r p xs e =

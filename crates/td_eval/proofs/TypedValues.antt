@@ -1,5 +1,5 @@
 -- What a value of a type is, and what follows of it.
-use Rattle.std.proofs.Common.{◌≡◌, ℕ, ℤ, pos, Bool, true, false, List, ◌∷◌, Option, Some, None, ap, ap₂, arith, refl, subst, sym, negsuc}
+use Rattle.std.proofs.Common.{◌≡◌, ℕ, ℤ, pos, Bool, true, false, List, ◌∷◌, Option, Some, None, arith, refl, subst, sym, negsuc}
 use Rattle.std.specs.Prelude.{IsUtf8, ⊤, if◌then◌else◌}
 use Rattle.std.proofs.lemmas.Bool.Decides.{nat_tests}
 use Rattle.std.proofs.lemmas.Int.{ints}
@@ -14,10 +14,10 @@ use Rattle.td_types.specs.Types as types
 use Rattle.td_types.specs.TypeCode.{unpack_pack}
 use Rattle.td_value.specs.KnownValues.{AreOfTypes, HasHeading, HasType, HaveHeading}
 use Rattle.td_value.specs.ValueCode.{unpack_pack_fields}
-use Rattle.td_value.specs.Values.{Val, boolean, integer, char, user, tuple, relation, Parts, Fields, no_fields, field, Rows, no_rows, row, AreFields, IsInRange, IsValue, Relation, Tuple, heading_of, pack_fields, pack_rows, unpack_fields, unpack_rows, value_at}
+use Rattle.td_value.specs.Values.{Val, boolean, integer, char, is_in_range, of_number, user, tuple, relation, Parts, Fields, no_fields, field, Rows, AreFields, IsInRange, IsValue, Relation, Tuple, heading_of, pack_fields, unpack_fields, unpack_rows, value_at}
 use Rattle.td_value.specs.Views.{relation_view}
 use Rattle.td_value.proofs.KnownValues.{has_its_type}
-use Rattle.td_eval.specs.OperatorValues.{is_in_range, of_number, on_number, on_relation, on_text, on_truth, on_tuple}
+use Rattle.td_eval.specs.OperatorValues.{on_number, on_relation, on_text, on_truth, on_tuple}
 use Rattle.td_eval.specs.ValueTypes.{IsOfType, IsTypedTuple, KeepsType}
 use Rattle.td_eval.proofs.KeepsGathered.{one_dynamic}
 
@@ -120,14 +120,6 @@ module _ (ds : List DeclaredType) (o : Outcome Type') where
   relation_keeps v h f q k =
       let e = rows_of ds h v q.1 in
       subst (λ w. KeepsType ds o (on_relation w f)) (sym e.1) (k e.0 (subst (λ w. IsOfType ds w (types.relation h)) e.1 q))
-
-pub pack_unpack_fields : (fs : Fields) → pack_fields (unpack_fields fs) ≡ fs
-pack_unpack_fields no_fields = refl
-pack_unpack_fields (field n v fs) = ap (field n v) (pack_unpack_fields fs)
-
-pub pack_unpack_rows : (rs : Rows) → pack_rows (unpack_rows rs) ≡ rs
-pack_unpack_rows no_rows = refl
-pack_unpack_rows (row fs rs) = ap₂ row (pack_unpack_fields fs) (pack_unpack_rows rs)
 
 -- the heading of a tuple that has a heading
 pub fields_heading : (ds : List DeclaredType) (fs : Fields) (h : Attrs) → HasHeading ds fs h → heading_of (unpack_fields fs) ≡ unpack h

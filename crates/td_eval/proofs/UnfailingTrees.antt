@@ -12,12 +12,12 @@ use Rattle.td_check.specs.Scopes.{KnownRelvar, Scope, entered_with, innermost, k
 use Rattle.td_check.specs.StaticLaws.{GiveNames, GivesNames, HasMore, PartsGiveNames}
 use Rattle.td_check.specs.StaticTypes.{items_of, name_type, named_types, paired, type_of, types_of, with_items}
 use Rattle.td_check.proofs.StaticLaws.{more_changes_no_parts}
-use Rattle.td_eval.specs.OperatorValues.{comparison_value, component_value, extended_value, extracted_value, headed_value, listed_value, literal_value, measure_value, of_number, on_relation, on_truth, operator_value, postfix_value, prefix_value, relation_as_value, restricted_value, signed, tuple_from}
+use Rattle.td_eval.specs.OperatorValues.{comparison_value, component_value, extended_value, extracted_value, headed_value, listed_value, literal_value, measure_value, on_relation, on_truth, operator_value, postfix_value, prefix_value, restricted_value, signed, tuple_from}
 use Rattle.td_eval.specs.TreeTexts.{HasTexts, HaveTexts, PartsHaveTexts}
 use Rattle.td_eval.specs.TreeValues.{argument_values, entry_values, value_of, values_in_tuples}
 use Rattle.td_eval.specs.AggregateValues.{summary_value}
-use Rattle.td_eval.specs.ValueTypes.{IsOfType, IsTypedTuple, KeepsType, with_tuples}
-use Rattle.td_eval.specs.Worlds.{World, innermost_value, known_outcome, name_value, scope_among, selected}
+use Rattle.td_eval.specs.ValueTypes.{IsOfType, IsTypedTuple, KeepsType}
+use Rattle.td_eval.specs.Worlds.{World, innermost_value, known_outcome, name_value, selected, with_tuples}
 use Rattle.td_eval.proofs.TypedArguments.{arguments_typed, known_is}
 use Rattle.td_eval.proofs.TypedRows.{rows_typed}
 use Rattle.td_eval.proofs.TypedTrees.{innermost_typed, keeps}
@@ -35,7 +35,7 @@ use Rattle.td_types.specs.Types.{Type', Attribute, Heading, pack}
 use Rattle.td_types.specs.Types as types
 use Rattle.td_types.proofs.Meanings.{attributes_later}
 use Rattle.td_types.proofs.OutcomeLaws.{value_of_test, value_of_with, values_of_both}
-use Rattle.td_value.specs.Values.{Val, Relation, Tuple, heading_of}
+use Rattle.td_value.specs.Values.{Val, Relation, Tuple, heading_of, of_number, relation_value}
 use Rattle.td_value.specs.Values as values
 
 -- ---- nodes
@@ -83,7 +83,7 @@ module _ (w : World) (scope : Scope) (k : GivesValues w scope) where
   AreTyped s = AllByRecursion (IsTypedTuple ds) s
 
   -- the world knows more types where a relation's tuples are in hand too
-  more_there : (s : List Tuple) (h : Heading) → HasMore (entered_with h (with_tuples scope s)) (entered_with h (scope_among w s))
+  more_there : (s : List Tuple) (h : Heading) → HasMore (entered_with h (with_tuples scope s)) (entered_with h (with_tuples w.scope s))
   more_there s h = record { types = k.keeps.types; relvars = ([], k.keeps.known ∙ sym (append-nil scope.relvars)); entered = refl }
 
   -- a name of an attribute or of a base relvar
@@ -218,14 +218,14 @@ module _ (w : World) (scope : Scope) (k : GivesValues w scope) where
         let y = value_of_with (type_of sc operand)
         (λ u. over_relation u (λ g. with_value (named_types (entered_with g sc) parts) (extension_type g))) t is in
         kept_static ds (type_of sc operand) (value_of w s operand) y.0
-        (λ v. on_relation v (λ r. extended_value (named_types (entered_with r.heading (scope_among w s)) parts) (values_in_tuples w s parts) r))
+        (λ v. on_relation v (λ r. extended_value (named_types (entered_with r.heading (with_tuples w.scope s)) parts) (values_in_tuples w s parts) r))
         (keeps w scope k.keeps operand s h n.0 x.0) y.1
         (tree_static operand s y.0 h n.0 x.0 m.0 y.1 (first_true (cannot_fail sc operand) _ never))
-        (λ v q. rows_static ds v y.0 (λ r. extended_value (named_types (entered_with r.heading (scope_among w s)) parts) (values_in_tuples w s parts) r) q
+        (λ v q. rows_static ds v y.0 (λ r. extended_value (named_types (entered_with r.heading (with_tuples w.scope s)) parts) (values_in_tuples w s parts) r) q
         (λ r f p.
         let z = value_of_with (named_types (entered_with r.heading sc) parts) (extension_type r.heading) t
         (sym (over_its_heading y.0 r.heading (λ g. with_value (named_types (entered_with g sc) parts) (extension_type g)) f) ∙ y.2) in
-        let there = more_changes_no_parts (entered_with r.heading sc) (entered_with r.heading (scope_among w s)) parts z.0 (more_there s r.heading) z.1 in
+        let there = more_changes_no_parts (entered_with r.heading sc) (entered_with r.heading (with_tuples w.scope s)) parts z.0 (more_there s r.heading) z.1 in
         let free = subst (λ there. parts_cannot_fail there parts ≡ true) (in_its_tuples sc (type_of sc operand) y.0 r.heading y.1 f)
         (second_true (cannot_fail sc operand) _ never) in
         subst (λ o. IsStatic (extended_value o (values_in_tuples w s parts) r)) (sym there)
@@ -293,7 +293,7 @@ module _ (w : World) (scope : Scope) (k : GivesValues w scope) where
         (λ v entries. tt)
 
     parts_static : (parts : NamedTrees) (s : List Tuple) (r : Relation) (attributes : List Attribute) → AreTyped s → PartsGiveNames parts
-        → PartsHaveTexts parts → PartsHaveNumbers parts → IsOfType ds (relation_as_value r) (types.relation (pack r.heading))
+        → PartsHaveTexts parts → PartsHaveNumbers parts → IsOfType ds (relation_value r) (types.relation (pack r.heading))
         → named_types (entered_with r.heading (with_tuples scope s)) parts ≡ Valued attributes
         → parts_cannot_fail (entered_with r.heading (with_tuples scope s)) parts ≡ true → AreStaticIn r.body (values_in_tuples w s parts)
     parts_static none_named s r attributes h n x m p is never = tt

@@ -3,6 +3,7 @@ use Rattle.std.proofs.Common.{◌≡◌, ◌∙◌, ◌∷◌, ◌++◌, ℕ, Bo
 use Rattle.std.proofs.lemmas.List.{map-append}
 use Rattle.std.specs.Prelude.{◌||◌, if◌then◌else◌, is_some}
 use Rattle.std.specs.List.{find, list_any}
+use Rattle.td_catalog.proofs.Lists.{not_true}
 use Rattle.td_catalog.specs.Database.{BaseRelvar, Database, VirtualRelvar, database_scope, relvar_names}
 use Rattle.td_catalog.specs.NamedRelvars.{names_any}
 use Rattle.td_catalog.specs.TypedDatabases.{IsTyped}
@@ -11,7 +12,7 @@ use Rattle.td_check.proofs.StaticLaws.{mentions_are_known, more_changes_nothing}
 use Rattle.td_check.specs.Mentions.{relvars_in}
 use Rattle.td_check.specs.Scopes.{known_relvar}
 use Rattle.td_check.specs.WrittenNames.{names_in}
-use Rattle.td_eval.proofs.DistinctNames.{are_apart, has_first, has_name-append, has_rest, not_true}
+use Rattle.td_eval.proofs.DistinctNames.{are_apart, has_first, has_name-append, has_rest}
 use Rattle.td_eval.proofs.KnownRelvars.{front_has_more, fronted, known_name, named_at}
 use Rattle.td_eval.proofs.MentionedEntries.{values_depend_on_entries}
 use Rattle.td_eval.proofs.MoreWorlds.{any, any_users_all}

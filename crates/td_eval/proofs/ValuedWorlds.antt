@@ -5,7 +5,6 @@ use Rattle.td_check.specs.declared.scope.Kind.TheVariants as kinds
 use Rattle.td_check.specs.OperatorTypes.{are_types_of}
 use Rattle.td_check.specs.Scopes.{KnownRelvar, Scope, known_relvar}
 use Rattle.td_eval.specs.DatabaseWorlds.{Selectors, constraint_value, selector_value, types_alone, with_other, with_selector, world_of}
-use Rattle.td_eval.specs.OperatorValues.{relation_as_value}
 use Rattle.td_eval.specs.ValueTypes.{AreComponentsOf, KeepsScope, KeepsType}
 use Rattle.td_eval.specs.Worlds.{World, selected}
 use Rattle.td_eval.proofs.AddedInTurn.{stays}
@@ -20,7 +19,7 @@ use Rattle.td_tree.specs.Outcomes.{Outcome, Valued, value_if, with_value}
 use Rattle.td_types.specs.TypeLists.{DeclaredType, declared_at}
 use Rattle.td_types.specs.Types.{same_name}
 use Rattle.td_types.specs.Types as types
-use Rattle.td_value.specs.Values.{Val, selected_value, type_of}
+use Rattle.td_value.specs.Values.{Val, relation_value, selected_value, type_of}
 use Rattle.td_value.specs.Views.{user_view}
 
 -- ---- selectors
@@ -80,7 +79,7 @@ module _ (db : Database) (keeps : KeepsScope (world_of db) (world_of db).scope) 
       by_virtual (Some v) is = absurd (is_virtual v (some_one (known_virtual v) r (sym is ∙ here)))
 
       by_base : (o : Option BaseRelvar) → base_named n db ≡ o → (v : Val) × ((world_of db).relvar n ≡ Some (Valued v))
-      by_base (Some b) is = (relation_as_value b.relation, base_value db n b is)
+      by_base (Some b) is = (relation_value b.relation, base_value db n b is)
       by_base None is = by_virtual (virtual_named n db) (known_as_virtual db n is)
 
   free_selected : (n : List ℕ) (d : DeclaredType) (vs : List Val) → declared_at n (world_of db).scope.types ≡ Some d → d.constraint ≡ None
@@ -114,5 +113,5 @@ other_relations_give_values db n b r values is_base valid typed headed =
     others m k e base = by_test (same_name n m) refl
       where
         by_test : (t : Bool) → same_name n m ≡ t → (v : Val) × ((with_other (Some (n, r)) (world_of db)).relvar m ≡ Some (Valued v))
-        by_test true same = (relation_as_value r, rw same refl)
+        by_test true same = (relation_value r, rw same refl)
         by_test false same = let there = values.relvars m k e base in (there.0, rw same there.1)

@@ -5,9 +5,8 @@ use Rattle.std.specs.Option.{option_or}
 use Rattle.std.proofs.lemmas.List.{length-take, take_all}
 use Rattle.td_catalog.specs.Database.{BaseRelvar, Database, VirtualRelvar, base_named, with_virtuals}
 use Rattle.td_eval.specs.DatabaseWorlds.{with_other, with_virtual_value, world_of, world_of_bases}
-use Rattle.td_eval.specs.OperatorValues.{relation_as_value}
 use Rattle.td_eval.specs.declared.sight.Sight.{Sight}
-use Rattle.td_eval.specs.Sights.{IsNoVirtualRelvar, IsVirtualRelvar, held_by, other_named, other_seen, seen_by, with_first_virtuals}
+use Rattle.td_eval.specs.Sights.{IsNoVirtualRelvar, IsVirtualRelvar, held_relation, other_named, other_seen, seen_by, with_first_virtuals}
 use Rattle.td_eval.specs.TreeValues.{value_of}
 use Rattle.td_eval.specs.Worlds.{World}
 use Rattle.td_eval.proofs.AddedInTurn.{found_there, placed, placed_first, placed_none, unplaced}
@@ -15,11 +14,11 @@ use Rattle.td_eval.proofs.WorldParts.{base_value, relvar_at, virtual_name, virtu
 use Rattle.td_tree.specs.Outcomes.{Outcome, Valued}
 use Rattle.td_tree.specs.Trees.{Tree}
 use Rattle.td_types.specs.Types.{same_name}
-use Rattle.td_value.specs.Values.{Val, Relation}
+use Rattle.td_value.specs.Values.{Val, Relation, relation_value}
 
 -- a relation that a relvar has
 abbrev pub as_outcome : Relation → Outcome Val
-as_outcome r = Valued (relation_as_value r)
+as_outcome r = Valued (relation_value r)
 
 module _ (o : Option (List ℕ × Relation)) (db : Database) (k : ℕ) (n : List ℕ) where
   -- the relation that is held, and what is seen
@@ -122,22 +121,22 @@ never_missing n vs p place none =
 
 module _ {B : Type 0} (sight : Sight B) (n : List ℕ) where
   -- what is held
-  pub held_other : (c : _) → sight.catalog ≡ Some c → (r : Relation) → Some r ≡ other_named n (other_seen sight) → Some r ≡ held_by sight n
+  pub held_other : (c : _) → sight.catalog ≡ Some c → (r : Relation) → Some r ≡ other_named n (other_seen sight) → Some r ≡ held_relation sight n
   held_other c some r is = rw some (ap (λ o. option_or o (option_map (λ (b : BaseRelvar). b.relation) (base_named n c.now.database))) is)
 
   pub held_base : (c : _) → sight.catalog ≡ Some c → None ≡ other_named n (other_seen sight) → (b : BaseRelvar) → Some b ≡ base_named n c.now.database
-      → Some b.relation ≡ held_by sight n
+      → Some b.relation ≡ held_relation sight n
   held_base c some none b is =
       rw some
       (ap (option_map (λ (b : BaseRelvar). b.relation)) is ∙ ap (λ o. option_or o (option_map (λ (b : BaseRelvar). b.relation) (base_named n c.now.database))) none)
 
-  pub held_none : (c : _) → sight.catalog ≡ Some c → None ≡ other_named n (other_seen sight) → None ≡ base_named n c.now.database → None ≡ held_by sight n
+  pub held_none : (c : _) → sight.catalog ≡ Some c → None ≡ other_named n (other_seen sight) → None ≡ base_named n c.now.database → None ≡ held_relation sight n
   held_none c some none is =
       rw some
       (ap (option_map (λ (b : BaseRelvar). b.relation)) is ∙ ap (λ o. option_or o (option_map (λ (b : BaseRelvar). b.relation) (base_named n c.now.database))) none)
 
   -- is what the relvar has
-  pub held_seen : (r : Relation) → held_by sight n ≡ Some r → (seen_by sight).relvar n ≡ Some (as_outcome r)
+  pub held_seen : (r : Relation) → held_relation sight n ≡ Some r → (seen_by sight).relvar n ≡ Some (as_outcome r)
   held_seen r held = by_catalog sight.catalog refl
     where
       by_catalog : (c : _) → sight.catalog ≡ c → (seen_by sight).relvar n ≡ Some (as_outcome r)

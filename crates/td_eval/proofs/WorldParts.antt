@@ -4,12 +4,11 @@ use Rattle.std.proofs.Common.{◌≡◌, ◌∙◌, ◌∷◌, ◌++◌, ℕ, Li
 use Rattle.td_catalog.specs.Database.{BaseRelvar, Database, VirtualRelvar, base_named, database_scope, known_base, known_virtual}
 use Rattle.td_check.specs.Scopes.{KnownRelvar, Scope}
 use Rattle.td_eval.specs.DatabaseWorlds.{selectors_of, with_virtual_value, world_of, world_of_bases}
-use Rattle.td_eval.specs.OperatorValues.{relation_as_value}
 use Rattle.td_eval.specs.TreeValues.{value_of}
 use Rattle.td_eval.specs.Worlds.{World}
 use Rattle.td_eval.proofs.AddedInTurn.{stays}
 use Rattle.td_tree.specs.Outcomes.{Outcome, Valued}
-use Rattle.td_value.specs.Values.{Val}
+use Rattle.td_value.specs.Values.{Val, relation_value}
 
 -- ---- the scope and the selectors
 
@@ -51,7 +50,7 @@ pub relvar_stays : (vs : List VirtualRelvar) (w : World) (n : List ℕ) (o : Out
 relvar_stays = stays relvar_at with_virtual_value virtual_name virtual_value (λ w v n. refl)
 
 -- a base relvar has the relation that it holds
-pub base_value : (db : Database) (n : List ℕ) (b : BaseRelvar) → base_named n db ≡ Some b → (world_of db).relvar n ≡ Some (Valued (relation_as_value b.relation))
+pub base_value : (db : Database) (n : List ℕ) (b : BaseRelvar) → base_named n db ≡ Some b → (world_of db).relvar n ≡ Some (Valued (relation_value b.relation))
 base_value db n b is =
-    relvar_stays db.virtuals (world_of_bases db) n (Valued (relation_as_value b.relation))
-    (ap (option_map (λ (r : BaseRelvar). Valued (relation_as_value r.relation))) is)
+    relvar_stays db.virtuals (world_of_bases db) n (Valued (relation_value b.relation))
+    (ap (option_map (λ (r : BaseRelvar). Valued (relation_value r.relation))) is)

@@ -8,14 +8,14 @@ use Rattle.td_catalog.specs.Database.{Database, VirtualRelvar, base_named, datab
 use Rattle.td_check.specs.OperatorTypes.{are_types_of}
 use Rattle.td_check.specs.Scopes.{scope_of, with_known_relvar}
 use Rattle.td_check.specs.declared.scope.Kind.TheVariants as kinds
-use Rattle.td_eval.specs.OperatorValues.{relation_as_value, truth_value}
+use Rattle.td_eval.specs.OperatorValues.{truth_value}
 use Rattle.td_eval.specs.TreeValues.{value_of}
 use Rattle.td_eval.specs.Worlds.{World}
 use Rattle.td_tree.specs.declared.cause.Cause.TheVariants as causes
 use Rattle.td_tree.specs.Outcomes.{Outcome, Valued, value_if, with_value}
 use Rattle.td_types.specs.TypeLists.{DeclaredType}
 use Rattle.td_types.specs.Types.{attribute_names, same_name}
-use Rattle.td_value.specs.Values.{Val, Relation, made_tuple, selected_value, type_of}
+use Rattle.td_value.specs.Values.{Val, Relation, made_tuple, relation_value, selected_value, type_of}
 use Rattle.td_value.specs.Views.{user_view}
 
 -- ---- types
@@ -60,7 +60,7 @@ world_of_types ds first = types_alone ds (selectors_of ds first)
 -- each base relvar has the relation that it holds, and no virtual relvar is known
 abbrev pub world_of_bases : Database → World
 world_of_bases db =
-    record { scope = database_scope (with_virtuals [] db); relvar = λ n. option_map (λ b. Valued (relation_as_value b.relation)) (base_named n db); selector = selectors_of db.types db.types }
+    record { scope = database_scope (with_virtuals [] db); relvar = λ n. option_map (λ b. Valued (relation_value b.relation)) (base_named n db); selector = selectors_of db.types db.types }
 
 -- one more virtual relvar: its value is that of its expression where the earlier ones alone are known and no tuple is in hand
 abbrev pub with_virtual_value : World → VirtualRelvar → World
@@ -75,4 +75,4 @@ world_of db = fold with_virtual_value (world_of_bases db) db.virtuals
 abbrev pub with_other : Option (List ℕ × Relation) → World → World
 with_other None w = w
 with_other (Some o) w =
-    record { scope = w.scope; relvar = λ n. if same_name o.0 n then Some (Valued (relation_as_value o.1)) else w.relvar n; selector = w.selector }
+    record { scope = w.scope; relvar = λ n. if same_name o.0 n then Some (Valued (relation_value o.1)) else w.relvar n; selector = w.selector }

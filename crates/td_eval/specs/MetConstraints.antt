@@ -7,14 +7,14 @@ use Rattle.td_catalog.specs.Database.{BaseRelvar, Database}
 use Rattle.td_catalog.specs.TypedDatabases.{IsTyped}
 use Rattle.td_eval.specs.DatabaseWorlds.{with_other, world_of}
 use Rattle.td_eval.specs.LiteralValues.{EachInFields, EachUserValue, MeetConstraint, MeetsConstraints}
-use Rattle.td_eval.specs.OperatorValues.{on_relation, relation_as_value, set_value}
+use Rattle.td_eval.specs.OperatorValues.{on_relation, set_value}
 use Rattle.td_eval.specs.TreeValues.{value_of, values_in_tuples}
 use Rattle.td_eval.specs.Worlds.{World, selected}
 use Rattle.td_tree.specs.Outcomes.{Outcome, Valued}
 use Rattle.td_tree.specs.Trees.{NamedTrees, Tree}
 use Rattle.td_types.specs.TypeLists.{DeclaredType}
 use Rattle.td_types.specs.Types.{Attribute}
-use Rattle.td_value.specs.Values.{Val, Parts, Relation, Tuple, pack_fields}
+use Rattle.td_value.specs.Values.{Val, Parts, Relation, Tuple, pack_fields, relation_value}
 
 -- P holds of each user value in a tuple
 abbrev pub EachInTuple : (List ℕ → Parts → Type 0) → Tuple → Type 0
@@ -38,28 +38,28 @@ pub record ValuesMeetConstraints : Type 0 where
       → AllByRecursion (EachInTuple (MeetConstraint ds)) s → value_of w s e ≡ Valued v → MeetsConstraints ds v
   pub parts :
       (ds : List DeclaredType) (w : World) (s : List Tuple) (parts : NamedTrees) (r : Relation) → GivesOnly (MeetConstraint ds) w
-      → AllByRecursion (EachInTuple (MeetConstraint ds)) s → MeetsConstraints ds (relation_as_value r)
+      → AllByRecursion (EachInTuple (MeetConstraint ds)) s → MeetsConstraints ds (relation_value r)
       → EachInValues (MeetConstraint ds) r (values_in_tuples w s parts)
   pub world :
       (db : Database) → IsTyped db
-      → AllByRecursion (λ (b : BaseRelvar). MeetsConstraints db.types (relation_as_value b.relation)) db.bases
+      → AllByRecursion (λ (b : BaseRelvar). MeetsConstraints db.types (relation_value b.relation)) db.bases
       → GivesOnly (MeetConstraint db.types) (world_of db)
   pub other :
       (ds : List DeclaredType) (w : World) (n : List ℕ) (r : Relation) → GivesOnly (MeetConstraint ds) w
-      → MeetsConstraints ds (relation_as_value r) → GivesOnly (MeetConstraint ds) (with_other (Some (n, r)) w)
+      → MeetsConstraints ds (relation_value r) → GivesOnly (MeetConstraint ds) (with_other (Some (n, r)) w)
 
 -- so has what assignments make of relations that have only such
 pub record AssignedRelationsMeetConstraints : Type 0 where
   pub related :
       (ds : List DeclaredType) (v : Val) (r : Relation) → MeetsConstraints ds v → on_relation v Valued ≡ Valued r
-      → MeetsConstraints ds (relation_as_value r)
+      → MeetsConstraints ds (relation_value r)
   pub united :
-      (ds : List DeclaredType) (r s : Relation) → MeetsConstraints ds (relation_as_value r) → MeetsConstraints ds (relation_as_value s)
-      → MeetsConstraints ds (relation_as_value (union r s))
+      (ds : List DeclaredType) (r s : Relation) → MeetsConstraints ds (relation_value r) → MeetsConstraints ds (relation_value s)
+      → MeetsConstraints ds (relation_value (union r s))
   pub restricted :
-      (ds : List DeclaredType) (p : Tuple → Bool) (r : Relation) → MeetsConstraints ds (relation_as_value r)
-      → MeetsConstraints ds (relation_as_value (restriction p r))
+      (ds : List DeclaredType) (p : Tuple → Bool) (r : Relation) → MeetsConstraints ds (relation_value r)
+      → MeetsConstraints ds (relation_value (restriction p r))
   pub set :
       (ds : List DeclaredType) (attributes : List Attribute) (fs : List (Tuple → Outcome Val)) (r q : Relation)
-      → MeetsConstraints ds (relation_as_value r) → EachInValues (MeetConstraint ds) r fs → set_value attributes fs r ≡ Valued q
-      → MeetsConstraints ds (relation_as_value q)
+      → MeetsConstraints ds (relation_value r) → EachInValues (MeetConstraint ds) r fs → set_value attributes fs r ≡ Valued q
+      → MeetsConstraints ds (relation_value q)

@@ -1,13 +1,13 @@
--- The values that the operators give (Tutorial D's; the causes, INTEGER's range and the inclusion of relations as an order are
--- this project's own). An operand that is not as the static rule asks has that rule's cause, so that there is a value or a
+-- The values that the operators give (Tutorial D's; the causes and the inclusion of relations as an order are this project's
+-- own). An operand that is not as the static rule asks has that rule's cause, so that there is a value or a
 -- cause for all operands; an expression that has a type meets no such operand.
-use Rattle.std.specs.Prelude.{ℕ, ℤ, pos, negsuc, neg_ℤ, ◌+ℤ◌, ◌-ℤ◌, ◌*ℤ◌, int_div, ◌^◌, nat_eq, nat_lt, Bool, true, false, not, ◌&&◌, ◌||◌, List, [], ◌∷◌, ◌++◌, length, map, if◌then◌else◌}
+use Rattle.std.specs.Prelude.{ℕ, ℤ, pos, negsuc, neg_ℤ, ◌+ℤ◌, ◌-ℤ◌, ◌*ℤ◌, int_div, nat_eq, Bool, true, false, not, ◌&&◌, ◌||◌, List, [], ◌∷◌, ◌++◌, length, map, if◌then◌else◌}
 use Rattle.std.specs.Cmp.Lexicographic.{slice_cmp}
 use Rattle.std.specs.List.{zip}
 use Rattle.std.specs.Ordering.{eq_by_cmp, int_cmp, is_le, nat_cmp}
 use Rattle.td_algebra.specs.Operators.{Addition, composition, difference, extended_relation, intersection, is_subset, join, product, projected_relation, renamed_relation, restriction, semidifference, semijoin, set_relation, union}
 use Rattle.td_check.specs.OperatorTypes.{attribute_type, equality_type, extended_by, known_or, mismatch, named_part, over_relation, over_tuple, renaming_pairs, same_heading, same_type}
-use Rattle.td_group.specs.Closure.{closure, is_closable}
+use Rattle.td_group.specs.Closure.{closure}
 use Rattle.td_group.specs.Nesting.{can_nest, can_unnest, grouped_relation, unnested_relation, wrapped_relation}
 use Rattle.td_tree.specs.declared.cause.Cause.TheVariants as causes
 use Rattle.td_tree.specs.declared.operator.Comparison.{Comparison}
@@ -20,11 +20,11 @@ use Rattle.td_tree.specs.declared.operator.Prefix.{Prefix}
 use Rattle.td_tree.specs.declared.operator.Prefix.TheVariants as prefixes
 use Rattle.td_tree.specs.Outcomes.{Outcome, Valued, Refused, Only, gathered, value_if, with_value}
 use Rattle.td_tree.specs.Trees.{Attributes, only, all_but, Literal, number, text, truth, table_dee, table_dum, Postfix, project, rename, group, ungroup, wrap, unwrap}
-use Rattle.td_types.specs.Headings.{agree, can_rename, has_projection, have_no_common, outside, projection}
+use Rattle.td_types.specs.Headings.{agree, can_rename, has_projection, have_no_common, is_closable, outside, projection}
 use Rattle.td_types.specs.TypeLists.{DeclaredType, declared_at}
-use Rattle.td_types.specs.Types.{Type', Attribute, Heading, attribute_names, pack, unpack}
+use Rattle.td_types.specs.Types.{Type', Attribute, Heading, attribute_names, unpack}
 use Rattle.td_value.specs.Sets.{has}
-use Rattle.td_value.specs.Values.{Val, boolean, integer, char, user, tuple, relation, Parts, no_parts, part, Tuple, Relation, heading_of, made_tuple, pack_fields, pack_rows, relation_of, tuple_cmp, type_of, unpack_fields, unpack_rows, value_at, value_cmp}
+use Rattle.td_value.specs.Values.{Val, boolean, integer, char, user, tuple, relation, Parts, no_parts, part, Tuple, Relation, heading_of, made_tuple, of_number, relation_of, relation_value, tuple_cmp, tuple_value, type_of, unpack_fields, unpack_rows, value_at, value_cmp}
 use Rattle.td_value.specs.Views.{relation_view}
 
 -- ---- what an operator asks of a value
@@ -66,27 +66,12 @@ on_relations v w f = on_relation v (λ r. on_relation w (λ s. f r s))
 abbrev pub of_truth : Bool → Outcome Val
 of_truth b = Valued (boolean b)
 
--- whether a number is in INTEGER's range
-abbrev pub is_in_range : ℤ → Bool
-is_in_range (pos n) = nat_lt n (2 ^ 63)
-is_in_range (negsuc n) = nat_lt n (2 ^ 63)
-
--- a number out of range is OVERFLOW
-abbrev pub of_number : ℤ → Outcome Val
-of_number z = value_if (is_in_range z) (integer z) causes.Overflow
-
-abbrev pub tuple_as_value : Tuple → Val
-tuple_as_value t = tuple (pack_fields t)
-
-abbrev pub relation_as_value : Relation → Val
-relation_as_value r = relation (pack r.heading) (pack_rows r.body)
-
 abbrev pub of_relation : Relation → Outcome Val
-of_relation r = Valued (relation_as_value r)
+of_relation r = Valued (relation_value r)
 
 -- the relation where the headings fit, else HEADING
 abbrev pub relation_where : Bool → Relation → Outcome Val
-relation_where fits r = value_if fits (relation_as_value r) causes.Heading
+relation_where fits r = value_if fits (relation_value r) causes.Heading
 
 -- ---- literals
 
@@ -108,7 +93,7 @@ literal_value table_dum = of_relation (relation_of [] [])
 
 -- a relation's only tuple, else NOT_ONE_TUPLE
 abbrev pub only_tuple : List Tuple → Outcome Val
-only_tuple (t ∷ []) = Valued (tuple_as_value t)
+only_tuple (t ∷ []) = Valued (tuple_value t)
 only_tuple _ = Refused (Only causes.NotOneTuple)
 
 abbrev pub prefix_value : Prefix → Val → Outcome Val
@@ -239,7 +224,7 @@ comparison_value comparisons.In v w = membership_value v w
 
 -- TUPLE: a name twice is HEADING
 abbrev pub tuple_from : Tuple → Outcome Val
-tuple_from entries = with_value (made_tuple entries) (λ t. Valued (tuple_as_value t))
+tuple_from entries = with_value (made_tuple entries) (λ t. Valued (tuple_value t))
 
 -- an element of a relation of the heading is a tuple of it
 abbrev pub element_of : Heading → Val → Outcome Tuple

@@ -78,8 +78,8 @@ other_named name None = None
 other_named name (Some o) = if same_name o.0 name then Some o.1 else None
 
 -- the relation that the relvar of a name holds: the other one, or that of a base relvar
-abbrev pub held_by : {B : Type 0} → Sight B → List ℕ → Option Relation
-held_by sight name =
+abbrev pub held_relation : {B : Type 0} → Sight B → List ℕ → Option Relation
+held_relation sight name =
     elim sight.catalog as (λ _. Option Relation) [
       | Some catalog ↦ option_or (other_named name (other_seen sight)) (option_map (λ b. b.relation) (base_named name catalog.now.database))
       | None ↦ None
@@ -98,8 +98,8 @@ virtual_sight place sight =
 pub record IsVirtualRelvar {B : Type 0} (sight : Sight B) (name : List ℕ) (place : ℕ) (tree : Tree) : Type 0 where
   pub known : place < sight.virtuals
   pub entry : option_map (λ v. v.tree) (slice_get (virtuals_of sight) place) ≡ Some tree
-  pub value : held_by sight name ≡ None → (seen_by sight).relvar name ≡ Some (value_of (seen_by (virtual_sight place sight)) [] tree)
+  pub value : held_relation sight name ≡ None → (seen_by sight).relvar name ≡ Some (value_of (seen_by (virtual_sight place sight)) [] tree)
 
 -- no known virtual relvar has the name
 abbrev pub IsNoVirtualRelvar : {B : Type 0} → Sight B → List ℕ → Type 0
-IsNoVirtualRelvar sight name = held_by sight name ≡ None → (seen_by sight).relvar name ≡ None
+IsNoVirtualRelvar sight name = held_relation sight name ≡ None → (seen_by sight).relvar name ≡ None

@@ -6,7 +6,7 @@ use Rattle.td_check.specs.Scopes.{entered_with}
 use Rattle.td_check.specs.StaticTypes.{named_types}
 use Rattle.td_eval.specs.AggregateValues.{Summand, aggregated_value, asked_of, summary_attributes, summary_value}
 use Rattle.td_eval.specs.OperatorValues.{comparison_value, component_value, extended_value, extracted_value, headed_value, listed_value, literal_value, measure_value, of_truth, on_relation, on_truth, operator_value, postfix_value, prefix_value, restricted_value, tuple_from}
-use Rattle.td_eval.specs.Worlds.{World, name_value, scope_among, selected}
+use Rattle.td_eval.specs.Worlds.{World, name_value, selected, with_tuples}
 use Rattle.td_group.specs.declared.aggregates.Agg.TheVariants as asked
 use Rattle.td_tree.specs.Outcomes.{Outcome, Valued, with_both, with_value}
 use Rattle.td_tree.specs.Trees.{Tree, literal, name, parentheses, prefix, extract, restriction, binary, compare, postfix, select, component, measure, aggregate, relation, headed_relation, tuple, extend, summarize_per, summarize_by, choice, Trees, none, more, NamedTrees, none_named, more_named, Summaries, no_summaries, counted, summed, project}
@@ -36,14 +36,14 @@ abbrev mutual
   value_of w s (tuple parts) = with_value (entry_values w s parts) tuple_from
   value_of w s (extend operand parts) =
       with_value (value_of w s operand) (λ v. on_relation v
-      (λ r. extended_value (named_types (entered_with r.heading (scope_among w s)) parts) (values_in_tuples w s parts) r))
+      (λ r. extended_value (named_types (entered_with r.heading (with_tuples w.scope s)) parts) (values_in_tuples w s parts) r))
   value_of w s (summarize_per operand per items) =
       with_both (value_of w s operand) (value_of w s per)
-      (summary_value (λ h. summary_attributes (entered_with h (scope_among w s)) items) (items_in_tuples w s items))
+      (summary_value (λ h. summary_attributes (entered_with h (with_tuples w.scope s)) items) (items_in_tuples w s items))
   -- PER of the projection of the operand
   value_of w s (summarize_by operand by items) =
       with_value (value_of w s operand) (λ v. with_value (postfix_value (project by) v)
-      (summary_value (λ h. summary_attributes (entered_with h (scope_among w s)) items) (items_in_tuples w s items) v))
+      (summary_value (λ h. summary_attributes (entered_with h (with_tuples w.scope s)) items) (items_in_tuples w s items) v))
   value_of w s (choice condition consequent alternative) =
       with_value (value_of w s condition) (λ v. on_truth v (λ b. if b then value_of w s consequent else value_of w s alternative))
 

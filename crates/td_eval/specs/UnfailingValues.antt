@@ -9,8 +9,8 @@ use Rattle.td_check.specs.Scopes.{KnownRelvar, Scope, known_relvar}
 use Rattle.td_check.specs.StaticTypes.{type_of}
 use Rattle.td_eval.specs.DatabaseWorlds.{with_other, world_of}
 use Rattle.td_eval.specs.TreeValues.{value_of}
-use Rattle.td_eval.specs.ValueTypes.{AreComponentsOf, DefinitionsAreWritten, IsOfType, IsTypedTuple, IsWritten, KeepsScope, with_tuples}
-use Rattle.td_eval.specs.Worlds.{World, selected}
+use Rattle.td_eval.specs.ValueTypes.{AreComponentsOf, DefinitionsAreWritten, IsOfType, IsTypedTuple, IsWritten, KeepsScope}
+use Rattle.td_eval.specs.Worlds.{World, selected, with_tuples}
 use Rattle.td_eval.specs.TreeNumbers.{HasNumbers}
 use Rattle.td_tree.specs.Outcomes.{Valued}
 use Rattle.td_tree.specs.Trees.{Tree}

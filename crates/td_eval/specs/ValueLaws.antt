@@ -12,8 +12,8 @@ use Rattle.td_eval.specs.AggregateValues.{Summand, aggregated_value, summarized_
 use Rattle.td_eval.specs.DatabaseWorlds.{world_of}
 use Rattle.td_eval.specs.OperatorValues.{extended_value, is_true, of_relation, restricted_value, truth_value}
 use Rattle.td_eval.specs.TreeValues.{value_of}
-use Rattle.td_eval.specs.ValueTypes.{AreComponentsOf, DefinitionsAreWritten, IsTypedTuple, IsWritten, KeepsScope, with_tuples}
-use Rattle.td_eval.specs.Worlds.{World, scope_among, selected}
+use Rattle.td_eval.specs.ValueTypes.{AreComponentsOf, DefinitionsAreWritten, IsTypedTuple, IsWritten, KeepsScope}
+use Rattle.td_eval.specs.Worlds.{World, selected, with_tuples}
 use Rattle.td_group.specs.Aggregates.{aggregate}
 use Rattle.td_group.specs.declared.aggregates.Agg.{Agg}
 use Rattle.td_tree.specs.declared.cause.Cause.{Cause}
@@ -47,7 +47,7 @@ HasTheSame among scope first second n = AgreeAt among scope second.scope n × (s
 -- both worlds agree on what the expression mentions where these tuples are in hand: on its types, with those that they and
 -- the tuples are made of, and on its relvars
 pub record AgreeOnMentions (among : List ℕ → Bool) (scope : Scope) (first second : World) (s : List Tuple) (e : Tree) : Type 0 where
-  pub known : AgreeOn among (with_tuples scope s) (scope_among second s)
+  pub known : AgreeOn among (with_tuples scope s) (with_tuples second.scope s)
   pub types : (n : List ℕ) → Contains (types_in e) n → IsTrue (among n) × SelectsTheSame scope first second n
   pub relvars : (n : List ℕ) → Contains (relvars_in (with_tuples scope s) e) n → HasTheSame among scope first second n
 

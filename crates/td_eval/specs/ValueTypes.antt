@@ -1,6 +1,6 @@
 -- What an expression of a type may have: a value of that type, or causes that no static rule has: laws (Tutorial D's; the
 -- causes are this project's own).
-use Rattle.std.specs.Prelude.{◌≡◌, ℕ, List, ◌++◌, map, Some, Result, Ok, Err, ⊤}
+use Rattle.std.specs.Prelude.{◌≡◌, ℕ, List, ◌++◌, Some, Result, Ok, Err, ⊤}
 use Rattle.std.specs.List.{AllByRecursion}
 use Rattle.td_catalog.specs.Database.{BaseRelvar, Database, VirtualRelvar, base_named}
 use Rattle.td_catalog.specs.TypedDatabases.{AreTyped, IsTyped}
@@ -73,11 +73,6 @@ pub record KeepsScope (w : World) (scope : Scope) : Type 0 where
       (n : List ℕ) (d : DeclaredType) → declared_at n scope.types ≡ Some d
       → (f : List Val → Outcome Val) × (w.selector n ≡ Some f)
       × ((vs : List Val) → AreComponentsOf scope.types d vs → KeepsType scope.types (Valued (user n)) (f vs))
-
--- what the scope knows of tuples in hand
-abbrev pub with_tuples : Scope → List Tuple → Scope
-with_tuples scope s =
-    record { types = scope.types; relvars = scope.relvars; constraints = scope.constraints; entered = map heading_of s }
 
 -- the names that an expression gives are names, and its texts are UTF-8
 abbrev pub IsWritten : Tree → Type 0

@@ -11,10 +11,10 @@ pub record World : Type 0 where
   pub relvar : List ℕ → Option (Outcome Val)
   pub selector : List ℕ → Option (List Val → Outcome Val)
 
--- what is known where these tuples are in hand, the innermost first
-abbrev pub scope_among : World → List Tuple → Scope
-scope_among w s =
-    record { types = w.scope.types; relvars = w.scope.relvars; constraints = w.scope.constraints; entered = map heading_of s }
+-- what the scope knows where these tuples are in hand, the innermost first
+abbrev pub with_tuples : Scope → List Tuple → Scope
+with_tuples scope s =
+    record { types = scope.types; relvars = scope.relvars; constraints = scope.constraints; entered = map heading_of s }
 
 -- the innermost attribute of a name
 abbrev pub innermost_value : List ℕ → List Tuple → Option Val

@@ -8,7 +8,7 @@ ghost use Rattle.td_check.specs.StaticTypes.{named_types};
 ghost use Rattle.td_eval.specs.NewColumns.{AreColumnsFor, named_columns};
 ghost use Rattle.td_eval.specs.OperatorValues.{extended_value};
 ghost use Rattle.td_eval.specs.Sights.{IsSight, seen_by};
-ghost use Rattle.td_eval.specs.Worlds.{scope_among};
+ghost use Rattle.td_eval.specs.Worlds.{with_tuples};
 ghost use Rattle.td_tree.specs.Outcomes.{Answers, Outcome, Valued, gathered, with_value};
 ghost use Rattle.td_tree.specs.TreeViews.{named_view};
 ghost use Rattle.td_types.specs.Headings.{has_attribute};
@@ -66,7 +66,7 @@ pub(crate) fn new_attributes<B: Body>(
     requires { IsSight sight.now }
     ensures { Answers (λ ts. pairs_view ts.items) result
         (named_types (entered_with operand.now.heading
-        (scope_among (seen_by sight.now) (reverse tuples.now))) (named_view parts.now)) }
+        (with_tuples (seen_by sight.now).scope (reverse tuples.now))) (named_view parts.now)) }
 {
     let mut scope = sight.scope(tuples)?;
     scope.enter(operand.heading().try_clone()?)?;

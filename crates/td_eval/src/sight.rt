@@ -1,9 +1,9 @@
 //! What an expression may look at.
 ghost use Rattle.std.specs.Prelude.{◌≡◌, [], ◌<◌, IfNone, IfOk, IfSome, None, option_map, reverse};
 ghost use Rattle.td_eval.specs.Sights.{IsNoVirtualRelvar, IsPlaced, IsSight, IsVirtualRelvar};
-ghost use Rattle.td_eval.specs.Sights.{constraint_sight, held_by, other_named, other_seen, seen_by};
-ghost use Rattle.td_eval.specs.Sights.{virtual_sight, world_in};
-ghost use Rattle.td_eval.specs.Worlds.{scope_among};
+ghost use Rattle.td_eval.specs.Sights.{constraint_sight, other_named, other_seen, seen_by};
+ghost use Rattle.td_eval.specs.Sights.{held_relation, virtual_sight, world_in};
+ghost use Rattle.td_eval.specs.Worlds.{with_tuples};
 ghost use Rattle.td_tree.specs.TreeViews.{tree_view};
 
 use crate::env::Env;
@@ -57,7 +57,7 @@ impl<'a, B: Body> Sight<'a, B> {
 
     /// The relation that the relvar of the name holds.
     pub(crate) fn relation(&self, name: &Name) -> Result<Option<Rel>, AllocError>
-        ensures { IfOk result (λ found. found ≡ held_by self.now name.now) }
+        ensures { IfOk result (λ found. found ≡ held_relation self.now name.now) }
     {
         let Some(catalog) = self.catalog else {
             return Ok(None);
@@ -90,7 +90,7 @@ impl<'a, B: Body> Sight<'a, B> {
     /// What is known where no tuple is in hand.
     fn outer_scope(&self) -> Result<Scope<'_>, AllocError>
         requires { IsSight self.now }
-        ensures { IfOk result (λ s. s ≡ scope_among (seen_by self.now) []) }
+        ensures { IfOk result (λ s. s ≡ with_tuples (seen_by self.now).scope []) }
     {
         match self.catalog {
             Some(catalog) => Ok(catalog.scope_before(self.virtuals)),
@@ -102,7 +102,7 @@ impl<'a, B: Body> Sight<'a, B> {
     pub(crate) fn scope(&self, tuples: &[Tuple]) -> Result<Scope<'_>, AllocError>
         requires { IsSight self.now }
         ensures { IfOk result
-            (λ s. s ≡ scope_among (seen_by self.now) (reverse tuples.now)) }
+            (λ s. s ≡ with_tuples (seen_by self.now).scope (reverse tuples.now)) }
     {
         let mut scope = self.outer_scope()?;
         for tuple in tuples {

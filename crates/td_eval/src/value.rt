@@ -16,7 +16,7 @@ ghost use Rattle.td_eval.specs.TreeValues.{argument_values, entry_values, items_
 ghost use Rattle.td_eval.specs.TreeValues.{value_of, values_in_tuples};
 ghost use Rattle.td_eval.specs.ValueLaws.{IsChecked};
 ghost use Rattle.td_eval.specs.ValueTypes.{AnswersType, KeepsScope};
-ghost use Rattle.td_eval.specs.Worlds.{known_outcome, name_value, scope_among, selected};
+ghost use Rattle.td_eval.specs.Worlds.{known_outcome, name_value, selected, with_tuples};
 ghost use Rattle.td_tree.specs.Outcomes.{Answers, gathered};
 ghost use Rattle.td_tree.specs.TreeViews.{named_view, summaries_view, tree_view, trees_view};
 ghost use Rattle.td_tree.specs.Trees.{choice};
@@ -396,7 +396,7 @@ fn extension<B: Body>(
     requires { IsSight sight.now }
     ensures { Answers (λ v. v) result (on_relation operand.now (λ r. extended_value
         (named_types (entered_with r.heading
-        (scope_among (seen_by sight.now) (reverse tuples.now))) (named_view parts.now))
+        (with_tuples (seen_by sight.now).scope (reverse tuples.now))) (named_view parts.now))
         (values_in_tuples (seen_by sight.now) (reverse tuples.now) (named_view parts.now)) r)) }
 {
     let rel = relation_in(operand)?;
@@ -530,7 +530,7 @@ fn summary<B: Body>(
     requires { IsSight sight.now }
     ensures { Answers (λ v. v) result (summary_value
         (λ h. summary_attributes (entered_with h
-        (scope_among (seen_by sight.now) (reverse tuples.now))) (summaries_view items.now))
+        (with_tuples (seen_by sight.now).scope (reverse tuples.now))) (summaries_view items.now))
         (items_in_tuples (seen_by sight.now) (reverse tuples.now) (summaries_view items.now))
         operand.now per.now) }
 {

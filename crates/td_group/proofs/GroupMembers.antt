@@ -6,8 +6,7 @@ use Rattle.td_types.specs.Headings.{has_attribute, has_name, has_projection, pro
 use Rattle.td_types.specs.Types.{Heading, IsHeading, Type', attribute_names, pack}
 use Rattle.td_types.specs.Types as types
 use Rattle.td_value.specs.Agreement.{AgreeOn, agree_on}
-use Rattle.td_value.specs.Values.{IsRelation, IsTupleOf, Relation, Tuple, projected_tuple, value_at}
-use Rattle.td_value.specs.ValueOrder.{relation_value}
+use Rattle.td_value.specs.Values.{IsRelation, IsTupleOf, Relation, Tuple, projected_tuple, relation_value, value_at}
 use Rattle.td_value.proofs.Agreement.{agreement_of_values, value_of_projection}
 use Rattle.td_value.proofs.Members.{by_members, set_members}
 use Rattle.td_algebra.specs.Columns.{new_attribute}

@@ -8,14 +8,13 @@ use Rattle.td_types.specs.Headings.{are_distinct, has_attribute, has_attributes,
 use Rattle.td_types.specs.Types.{Type', Heading, IsHeading, attribute_names, pack, type_at}
 use Rattle.td_types.proofs.HeadingLaws.{IsHeading-filter, has_attribute-names, type_at-projection}
 use Rattle.td_value.specs.Agreement.{agree_on}
-use Rattle.td_value.specs.Values.{Val, Relation, Tuple, type_of}
+use Rattle.td_value.specs.Values.{Val, Relation, Tuple, relation_value, type_of}
 use Rattle.td_algebra.specs.Columns.{IsColumn}
 use Rattle.td_algebra.specs.Operators.{projected_relation, restriction}
 use Rattle.td_algebra.proofs.Members.{both_true, first_true}
 use Rattle.td_algebra.proofs.Entries.{heading_distinct}
 use Rattle.td_algebra.proofs.Sources.{has_attribute-outside}
 use Rattle.td_group.specs.Groups.{groups_on}
-use Rattle.td_group.specs.Nesting.{relation_value}
 use Rattle.td_algebra.proofs.OnNames.{all_named}
 
 -- ---- the rest of a heading

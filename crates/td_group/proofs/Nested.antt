@@ -7,26 +7,18 @@ use Rattle.td_types.specs.Headings.{has_attribute, has_projection, heading_union
 use Rattle.td_types.specs.Types.{Heading, IsHeading, Type', attribute_names, pack, same_name, type_at, unpack}
 use Rattle.td_types.specs.Types as types
 use Rattle.td_types.proofs.Meanings.{pack_unpack}
-use Rattle.td_value.specs.Values.{AreRows, Fields, IsTupleOf, IsValue, Relation, Rows, Tuple, Val, boolean, char, field, fields_type, integer, no_fields, no_rows, pack_fields, pack_rows, projected_tuple, relation, row, tuple, tuple_of, type_of, unpack_fields, unpack_rows, user, value_at}
+use Rattle.td_value.specs.Values.{AreRows, IsTupleOf, IsValue, Relation, Tuple, Val, boolean, char, fields_type, integer, projected_tuple, relation, tuple, tuple_of, tuple_value, type_of, unpack_fields, unpack_rows, user, value_at}
 use Rattle.td_value.proofs.HeadingOf.{fields_type-heading}
+use Rattle.td_value.proofs.Packed.{pack_unpack_fields, pack_unpack_rows}
 use Rattle.td_value.proofs.Rows.{All-from_rows, IsTupleOf-from}
 use Rattle.td_algebra.proofs.Entries.{HaveValues, typed_values, values_of_fields}
 use Rattle.td_algebra.proofs.Lists.{contains_cases, contains_flat_map, contains_map, contains_none}
 use Rattle.td_algebra.proofs.Members.{second_true}
 use Rattle.td_algebra.proofs.Projections.{IsTupleOf-projected}
 use Rattle.td_algebra.proofs.Relations.{All-from_members}
-use Rattle.td_group.specs.Nesting.{AreApart, can_nest, can_unnest, heading_inside, inner_heading, is_relation_type, is_tuple_type, other_names, rest_heading, rest_names, tuple_value, tuples_inside, unnested_tuples, wrapped_tuple}
+use Rattle.td_group.specs.Nesting.{HaveNoCommonName, can_nest, can_unnest, heading_inside, inner_heading, is_relation_type, is_tuple_type, other_names, rest_heading, rest_names, tuples_inside, unnested_tuples, wrapped_tuple}
 use Rattle.td_group.proofs.Apart.{entry_apart, entry_headed, joined_headed, tuples_apart}
 use Rattle.td_group.proofs.Rests.{rest_headed}
-
--- what is packed again
-pub pack_unpack_fields : (fs : Fields) → pack_fields (unpack_fields fs) ≡ fs
-pack_unpack_fields no_fields = refl
-pack_unpack_fields (field n v fs) = ap (field n v) (pack_unpack_fields fs)
-
-pub pack_unpack_rows : (rs : Rows) → pack_rows (unpack_rows rs) ≡ rs
-pack_unpack_rows no_rows = refl
-pack_unpack_rows (row fs rs) = λ i. row (pack_unpack_fields fs i) (pack_unpack_rows rs i)
 
 -- ---- WRAP
 
@@ -59,9 +51,9 @@ wrapped_headed names name r all can w =
 
 -- the rest of a tuple has no name of the new one
 pub wrapped_apart : (names : List (List ℕ)) (name : List ℕ) (r : Relation) → All (IsTupleOf r.heading) r.body → IsTrue (can_nest names name r.heading)
-    → All (λ t. AreApart (projected_tuple (rest_names names r) t) ((name, tuple_value (projected_tuple names t)) ∷ [])) r.body
+    → All (λ t. HaveNoCommonName (projected_tuple (rest_names names r) t) ((name, tuple_value (projected_tuple names t)) ∷ [])) r.body
 wrapped_apart names name r all can =
-    All-from_members (λ t. AreApart (projected_tuple (rest_names names r) t) ((name, tuple_value (projected_tuple names t)) ∷ [])) r.body (λ t c.
+    All-from_members (λ t. HaveNoCommonName (projected_tuple (rest_names names r) t) ((name, tuple_value (projected_tuple names t)) ∷ [])) r.body (λ t c.
     entry_apart (rest_heading names r.heading) (projected_tuple (rest_names names r) t) name (tuple_value (projected_tuple names t))
     (rest_headed (λ n. not (has_attribute n (projection names r.heading))) r.heading t (All-contains (IsTupleOf r.heading) r.body t all c))
     (lacked (has_attribute name (rest_heading names r.heading)) (second_true (has_projection names r.heading) (not (has_attribute name (rest_heading names r.heading))) can)))
@@ -128,11 +120,11 @@ unnested_headed name r all can =
 
 -- the rest of a tuple has no name of a tuple inside
 pub unnested_apart : (name : List ℕ) (r : Relation) → All (IsTupleOf r.heading) r.body → IsTrue (can_unnest name r.heading)
-    → All (λ u. All (AreApart (projected_tuple (other_names name r) u)) (tuples_inside (value_at name u))) r.body
+    → All (λ u. All (HaveNoCommonName (projected_tuple (other_names name r) u)) (tuples_inside (value_at name u))) r.body
 unnested_apart name r all can =
-    All-from_members (λ u. All (AreApart (projected_tuple (other_names name r) u)) (tuples_inside (value_at name u))) r.body (λ u c.
+    All-from_members (λ u. All (HaveNoCommonName (projected_tuple (other_names name r) u)) (tuples_inside (value_at name u))) r.body (λ u c.
     let has : IsTupleOf r.heading u = All-contains (IsTupleOf r.heading) r.body u all c in
-    All-from_members (AreApart (projected_tuple (other_names name r) u)) (tuples_inside (value_at name u)) (λ x d.
+    All-from_members (HaveNoCommonName (projected_tuple (other_names name r) u)) (tuples_inside (value_at name u)) (λ x d.
     tuples_apart (without_attribute name r.heading) (inner_heading name r.heading) (projected_tuple (other_names name r) u) x
     (rest_headed (λ n. not (same_name n name)) r.heading u has) (inside_headed name r.heading u x has d) can))
 

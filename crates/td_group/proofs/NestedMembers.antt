@@ -8,7 +8,7 @@ use Rattle.td_types.specs.Types.{Heading, IsHeading, attribute_names, pack, same
 use Rattle.td_types.specs.Types as types
 use Rattle.td_types.proofs.HeadingLaws.{has_attribute-names, has_attribute-with, same_name-itself, type_at-union}
 use Rattle.td_value.specs.Agreement.{AgreeOn, agree_on}
-use Rattle.td_value.specs.Values.{IsRelation, IsTupleOf, Relation, Tuple, projected_tuple, tuple_names, tuple_of, value_at}
+use Rattle.td_value.specs.Values.{IsRelation, IsTupleOf, Relation, Tuple, projected_tuple, tuple_names, tuple_of, tuple_value, value_at}
 use Rattle.td_value.proofs.Agreement.{agreement_of_values, value_of_projection}
 use Rattle.td_value.proofs.Maps.{value_at-tuple_of}
 use Rattle.td_value.proofs.Members.{set_members}
@@ -21,7 +21,7 @@ use Rattle.td_algebra.proofs.Relations.{member_headed, rows_headed}
 use Rattle.std.proofs.lemmas.List.Elements.{All-contains}
 use Rattle.td_group.specs.Groups.{groups}
 use Rattle.td_group.specs.Membership.{GroupsByMembership, UnnestByMembership, WrapByMembership}
-use Rattle.td_group.specs.Nesting.{can_nest, can_unnest, inner_heading, other_names, rest_heading, rest_names, tuple_value, tuples_inside, unnested_relation, unnested_tuples, wrapped_relation, wrapped_tuple}
+use Rattle.td_group.specs.Nesting.{can_nest, can_unnest, inner_heading, other_names, rest_heading, rest_names, tuples_inside, unnested_relation, unnested_tuples, wrapped_relation, wrapped_tuple}
 use Rattle.td_group.proofs.Apart.{apart}
 use Rattle.td_group.proofs.Nested.{inside_headed, unnested_headed, wrapped_headed}
 use Rattle.td_group.proofs.Rests.{rest_headed}

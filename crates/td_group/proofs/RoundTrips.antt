@@ -10,7 +10,7 @@ use Rattle.td_types.specs.Types as types
 use Rattle.td_types.proofs.HeadingLaws.{IsAscending-union, IsAscending-without, IsHeading-filter, IsHeading-with, ascending_from_heading, has_attribute-names, same_name-itself, type_at-outside, type_at-projection, type_at-union, type_at-with, type_at-without, types_determine_heading}
 use Rattle.td_value.specs.Agreement.{AgreeOn, agree_on}
 use Rattle.td_value.specs.ValueCode.{unpack_pack_fields, unpack_pack_rows}
-use Rattle.td_value.specs.Values.{IsRelation, IsTupleOf, Relation, Tuple, pack_fields, projected_tuple, tuple_names, unpack_fields, value_at}
+use Rattle.td_value.specs.Values.{IsRelation, IsTupleOf, Relation, Tuple, pack_fields, projected_tuple, relation_value, tuple_names, tuple_value, unpack_fields, value_at}
 use Rattle.td_value.proofs.Agreement.{value_of_projection}
 use Rattle.td_value.proofs.Members.{by_members, set_members}
 use Rattle.td_algebra.specs.Membership.{IsIn}
@@ -24,7 +24,7 @@ use Rattle.td_algebra.proofs.Projections.{IsTupleOf-projected}
 use Rattle.td_algebra.proofs.Relations.{IsRelation-relation_of, IsRelation-restriction, member_headed, rows_headed}
 use Rattle.td_algebra.proofs.Sources.{has_attribute-outside}
 use Rattle.td_group.specs.Membership.{UngroupUndoesGroup, UnwrapUndoesWrap}
-use Rattle.td_group.specs.Nesting.{can_nest, can_unnest, heading_inside, group_of, grouped_relation, inner_heading, other_names, relation_value, rest_heading, rest_names, tuple_value, tuples_inside, unnested_relation, unnested_tuples, wrapped_relation, wrapped_tuple}
+use Rattle.td_group.specs.Nesting.{can_nest, can_unnest, heading_inside, group_of, grouped_relation, inner_heading, other_names, rest_heading, rest_names, tuples_inside, unnested_relation, unnested_tuples, wrapped_relation, wrapped_tuple}
 use Rattle.td_group.proofs.GroupMembers.{addition, addition_new, group_by_membership, is_group, keys, keys_are}
 use Rattle.td_group.proofs.Rests.{rest_of_names}
 use Rattle.td_group.proofs.Nested.{unnested_headed, wrapped_headed}

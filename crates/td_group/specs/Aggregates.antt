@@ -1,20 +1,11 @@
--- Aggregates (Tutorial D's; the causes and INTEGER's range are this project's own).
-use Rattle.std.specs.Prelude.{◌^◌, nat_lt, ℤ, pos, negsuc, ◌+ℤ◌, Bool, List, [], ◌∷◌, length, if◌then◌else◌}
+-- Aggregates (Tutorial D's; the causes are this project's own).
+use Rattle.std.specs.Prelude.{ℤ, pos, ◌+ℤ◌, List, [], ◌∷◌, length, if◌then◌else◌}
 use Rattle.std.specs.Ordering.{is_lt}
 use Rattle.td_group.specs.declared.aggregates.Agg.{Agg}
 use Rattle.td_group.specs.declared.aggregates.Agg.TheVariants.{Count, Sum, Max, Min}
-use Rattle.td_tree.specs.Outcomes.{Outcome, Valued, Refused, Only, value_if}
+use Rattle.td_tree.specs.Outcomes.{Outcome, Valued, Refused, Only}
 use Rattle.td_tree.specs.declared.cause.Cause.TheVariants as causes
-use Rattle.td_value.specs.Values.{Val, integer, value_cmp}
-
--- whether a number is one of INTEGER's
-abbrev pub is_in_range : ℤ → Bool
-is_in_range (pos n) = nat_lt n (2 ^ 63)
-is_in_range (negsuc n) = nat_lt n (2 ^ 63)
-
--- a number out of range is OVERFLOW
-abbrev pub of_number : ℤ → Outcome Val
-of_number z = value_if (is_in_range z) (integer z) causes.Overflow
+use Rattle.td_value.specs.Values.{Val, integer, of_number, value_cmp}
 
 -- the number that a value is; a value of another type is none and counts as zero
 abbrev pub summand : Val → ℤ

@@ -3,13 +3,7 @@
 use Rattle.std.specs.Prelude.{◌≡◌, ℕ, zero, suc, Bool, false, List, [], ◌∷◌, ◌++◌, Option, None, Some, filter, length, map}
 use Rattle.std.specs.List.{flat_map}
 use Rattle.std.specs.Ordering.{eq_by_cmp}
-use Rattle.td_types.specs.Types.{Heading, type_cmp}
 use Rattle.td_value.specs.Values.{Val, Tuple, Relation, relation_of, value_cmp}
-
--- whether there are two attributes, of one type
-abbrev pub is_closable : Heading → Bool
-is_closable (a ∷ b ∷ []) = eq_by_cmp type_cmp a.1 b.1
-is_closable h = false
 
 -- the values from which and to which a tuple leads
 abbrev pub first_value : Tuple → Option Val

@@ -2,17 +2,16 @@
 use Rattle.std.specs.Prelude.{◌≡◌, ℕ, IsTrue, false, ◌↔◌, List, ◌∷◌, Some, map}
 use Rattle.std.specs.List.{All, Contains}
 use Rattle.std.specs.Ordering.{is_lt}
-use Rattle.td_types.specs.Headings.{projection}
+use Rattle.td_types.specs.Headings.{is_closable, projection}
 use Rattle.td_tree.specs.Names.{IsName}
 use Rattle.td_value.specs.Agreement.{AgreeOn}
-use Rattle.td_value.specs.Values.{Val, Tuple, Relation, IsRelation, IsTupleOf, projected_tuple, tuple_names, value_at, value_cmp}
-use Rattle.td_value.specs.ValueOrder.{relation_value}
+use Rattle.td_value.specs.Values.{Val, Tuple, Relation, IsRelation, IsTupleOf, projected_tuple, relation_value, tuple_names, tuple_value, value_at, value_cmp}
 use Rattle.td_algebra.specs.Membership.{IsIn}
 use Rattle.td_algebra.specs.Operators.{common_names}
 use Rattle.td_group.specs.Aggregates.{greatest_value, least_value}
-use Rattle.td_group.specs.Closure.{IsChain, chained_tuple, closure, first_value, is_closable, is_followed_by, second_value}
+use Rattle.td_group.specs.Closure.{IsChain, chained_tuple, closure, first_value, is_followed_by, second_value}
 use Rattle.td_group.specs.Groups.{groups}
-use Rattle.td_group.specs.Nesting.{can_nest, can_unnest, grouped_relation, other_names, rest_names, tuple_value, tuples_inside, unnested_relation, wrapped_relation}
+use Rattle.td_group.specs.Nesting.{can_nest, can_unnest, grouped_relation, other_names, rest_names, tuples_inside, unnested_relation, wrapped_relation}
 
 -- ---- GROUP, WRAP and what undoes them
 

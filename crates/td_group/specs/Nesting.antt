@@ -7,8 +7,7 @@ use Rattle.td_types.specs.Headings.{are_distinct, has_attribute, has_projection,
 use Rattle.td_types.specs.Types.{Type', Attrs, Heading, attribute_names, pack, type_at, unpack}
 use Rattle.td_types.specs.Types as types
 use Rattle.td_value.specs.Agreement.{agree_on}
-pub use Rattle.td_value.specs.ValueOrder.{relation_value}
-use Rattle.td_value.specs.Values.{Val, tuple, relation, Tuple, Relation, pack_fields, projected_tuple, relation_of, tuple_names, tuple_of, unpack_fields, unpack_rows, value_at}
+use Rattle.td_value.specs.Values.{Val, tuple, relation, Tuple, Relation, projected_tuple, relation_of, relation_value, tuple_names, tuple_of, tuple_value, unpack_fields, unpack_rows, value_at}
 
 -- ---- some attributes, and the rest
 
@@ -25,18 +24,14 @@ abbrev pub can_nest : List (List ℕ) → List ℕ → Heading → Bool
 can_nest names name h = has_projection names h && not (has_attribute name (rest_heading names h))
 
 -- no name comes twice in two tuples, so that they can be put together
-abbrev pub AreApart : Tuple → Tuple → Type 0
-AreApart t u = IsTrue (are_distinct (tuple_names (t ++ u)))
+abbrev pub HaveNoCommonName : Tuple → Tuple → Type 0
+HaveNoCommonName t u = IsTrue (are_distinct (tuple_names (t ++ u)))
 
 -- ---- GROUP and WRAP
 
 -- the relation that is X of t: the set of the N parts of the tuples that agree with t on the rest
 abbrev pub group_of : List (List ℕ) → Relation → Tuple → Relation
 group_of names r t = projected_relation names (restriction (agree_on (rest_names names r) t) r)
-
--- a tuple as a value
-abbrev pub tuple_value : Tuple → Val
-tuple_value t = tuple (pack_fields t)
 
 -- r GROUP ({N} AS X): the projection on the rest, with X the set of the N parts of the tuples that agree on the rest
 abbrev pub grouped_relation : List (List ℕ) → List ℕ → Relation → Relation

@@ -1,8 +1,6 @@
 //! COUNT, SUM, MAX and MIN of values.
-ghost use Rattle.std.specs.Prelude.{◌≡◌, ◌-◌, ◌^◌, ◌+ℤ◌, ◌≤ℤ◌, ℤ, FitsSigned, pos};
-ghost use Rattle.std.specs.Int.{w64};
-ghost use Rattle.std.specs.Option.{SomeIff};
-ghost use Rattle.td_group.specs.Aggregates.{aggregate, greatest_value, least_value, of_number, summand};
+ghost use Rattle.std.specs.Prelude.{◌≡◌, ◌-◌, ◌^◌, ◌+ℤ◌, ◌≤ℤ◌, ℤ, pos};
+ghost use Rattle.td_group.specs.Aggregates.{aggregate, greatest_value, least_value, summand};
 ghost use Rattle.td_group.specs.Aggregates.{sum_of};
 ghost use Rattle.td_tree.specs.Outcomes.{Answers};
 
@@ -55,17 +53,6 @@ fn sum_of(values: &[Value]) -> i128
     total
 }
 
-/// The value of a number, if it was found: one out of range is refused.
-fn in_range(found: Option<i64>) -> Result<Value, Fault>
-    ensures { (z : ℤ) → SomeIff found (FitsSigned w64 z) z
-        → Answers (λ v. v) result (of_number z) }
-{
-    match found {
-        Some(z) => Ok(Value::int(z)),
-        None => Err(Fault::Refused(Cause::Overflow)),
-    }
-}
-
 /// The greatest of the value and the others.
 fn greatest<'a>(first: &'a Value, others: &'a [Value]) -> &'a Value
     ensures { result.now ≡ greatest_value first.now others.now }
@@ -98,8 +85,8 @@ pub fn aggregate(asked: Agg, values: &[Value]) -> Result<Value, Fault>
     ensures { Answers (λ v. v) result (aggregate asked values.now) }
 {
     match (asked, values) {
-        (Agg::Count, _) => in_range(i64::try_from(values.len()).ok()),
-        (Agg::Sum, _) => in_range(i64::try_from(sum_of(values)).ok()),
+        (Agg::Count, _) => Value::in_range(i64::try_from(values.len()).ok()),
+        (Agg::Sum, _) => Value::in_range(i64::try_from(sum_of(values)).ok()),
         (Agg::Max, [first, others @ ..]) => Ok(greatest(first, others).try_clone()?),
         (Agg::Min, [first, others @ ..]) => Ok(least(first, others).try_clone()?),
         (Agg::Max | Agg::Min, []) => Err(Fault::Refused(Cause::EmptyAggregate)),

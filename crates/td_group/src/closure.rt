@@ -3,16 +3,16 @@ ghost use Rattle.std.specs.Prelude.{◌≡◌, ◌∷◌, ◌++◌, [], IfOk, Is
 ghost use Rattle.std.specs.Prelude.{option_map};
 ghost use Rattle.std.specs.Prelude.{if◌then◌else◌};
 ghost use Rattle.std.specs.Ordering.{eq_by_cmp};
-ghost use Rattle.td_group.specs.Closure.{closure, is_closable};
+ghost use Rattle.td_group.specs.Closure.{closure};
 ghost use Rattle.td_group.specs.Successors.{AreReached, AreSeen, AreSuccessors, HaveSameValues};
 ghost use Rattle.td_group.specs.Successors.{ArePairsFrom, added, all_added, led_to, ends_of};
 ghost use Rattle.td_group.specs.Successors.{pair_of, start_of, starts_in, successors_at};
+ghost use Rattle.td_types.specs.Headings.{is_closable};
 ghost use Rattle.td_value.specs.Values.{Tuple, Val, value_cmp};
 
 use crate::groups::attribute_names;
 use std::alloc::{AllocError, Global};
 use std::collections::{HashMap, HashSet};
-use td_types::heading::Heading;
 use td_value::names::NameList;
 use td_value::relation::Rel;
 use td_value::tuple::Tuple;
@@ -224,16 +224,6 @@ fn starts_of<'a>(alloc: Global, rows: &'a [Tuple]) -> Result<Vec<&'a Value>, All
         put_start(&mut starts, row)?;
     }
     Ok(starts)
-}
-
-/// Whether there are two attributes, of one type.
-pub fn is_closable(heading: &Heading) -> bool
-    ensures { result ≡ is_closable heading.now }
-{
-    match (heading.at(0), heading.at(1)) {
-        (Some((_, first)), Some((_, second))) => heading.len() == 2 && first == second,
-        _ => false,
-    }
 }
 
 /// The transitive closure of a relation of two attributes of one type.

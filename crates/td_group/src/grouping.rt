@@ -2,8 +2,9 @@
 ghost use Rattle.std.specs.Prelude.{◌≡◌, IfOk, IsTrue, map};
 ghost use Rattle.std.specs.List.{All};
 ghost use Rattle.td_algebra.specs.Operators.{projected_relation};
-ghost use Rattle.td_group.specs.Nesting.{can_nest, grouped_relation, relation_value};
+ghost use Rattle.td_group.specs.Nesting.{can_nest, grouped_relation};
 ghost use Rattle.td_types.specs.Headings.{has_projection};
+ghost use Rattle.td_value.specs.Values.{relation_value};
 
 use crate::groups::{attribute_names, groups_on};
 use std::alloc::{AllocError, Global};

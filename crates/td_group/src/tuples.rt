@@ -1,6 +1,6 @@
 //! Tuples made of the entries of others.
 ghost use Rattle.std.specs.Prelude.{◌≡◌, ◌++◌, IfOk, OnOk};
-ghost use Rattle.td_group.specs.Nesting.{AreApart};
+ghost use Rattle.td_group.specs.Nesting.{HaveNoCommonName};
 ghost use Rattle.td_value.specs.Values.{tuple_of};
 
 use std::alloc::{AllocError, Global};
@@ -24,7 +24,7 @@ fn put_entries(entries: &mut Vec<(Name, Value)>, tuple: &Tuple) -> Result<(), Al
 
 /// The tuple of the entries of both, which have no common name.
 pub(crate) fn joined(alloc: Global, first: &Tuple, second: &Tuple) -> Result<Tuple, AllocError>
-    requires { AreApart first.now second.now }
+    requires { HaveNoCommonName first.now second.now }
     ensures { IfOk result (λ t. t ≡ tuple_of (first.now ++ second.now)) }
 {
     let mut entries = Vec::with_capacity(alloc, 1)?;

@@ -1,8 +1,9 @@
 //! UNGROUP and UNWRAP: the tuples that an attribute's value has or is, each with the rest.
 ghost use Rattle.std.specs.Prelude.{◌≡◌, ◌++◌, IfOk, IsTrue, OnOk, Some, map};
 ghost use Rattle.std.specs.List.{All, flat_map};
-ghost use Rattle.td_group.specs.Nesting.{AreApart, can_unnest, inner_heading, is_relation_type};
-ghost use Rattle.td_group.specs.Nesting.{is_tuple_type, tuples_inside, unnested_relation};
+ghost use Rattle.td_group.specs.Nesting.{can_unnest, inner_heading, is_relation_type};
+ghost use Rattle.td_group.specs.Nesting.{HaveNoCommonName, is_tuple_type, tuples_inside};
+ghost use Rattle.td_group.specs.Nesting.{unnested_relation};
 ghost use Rattle.td_types.specs.Headings.{has_attribute};
 ghost use Rattle.td_types.specs.Types.{type_at};
 ghost use Rattle.td_value.specs.Values.{projected_tuple, tuple_of, value_at};
@@ -36,7 +37,7 @@ fn put_joined(
     tuples: &[Tuple],
     rows: &mut Vec<Tuple>,
 ) -> Result<(), AllocError>
-    requires { All (AreApart rest.now) tuples.now }
+    requires { All (HaveNoCommonName rest.now) tuples.now }
     ensures { OnOk result (rows.new.items
         ≡ rows.old.items ++ map (λ x. tuple_of (rest.now ++ x)) tuples.now) }
 {
@@ -53,7 +54,7 @@ fn put_inside(
     value: &Value,
     rows: &mut Vec<Tuple>,
 ) -> Result<(), AllocError>
-    requires { All (AreApart rest.now) (tuples_inside (Some value.now)) }
+    requires { All (HaveNoCommonName rest.now) (tuples_inside (Some value.now)) }
     ensures { OnOk result (rows.new.items ≡ rows.old.items
         ++ map (λ x. tuple_of (rest.now ++ x)) (tuples_inside (Some value.now))) }
 {
@@ -73,7 +74,7 @@ fn put_unnested(
     name: &Name,
     rows: &mut Vec<Tuple>,
 ) -> Result<(), AllocError>
-    requires { All (AreApart (projected_tuple rest.now row.now))
+    requires { All (HaveNoCommonName (projected_tuple rest.now row.now))
         (tuples_inside (value_at name.now row.now)) }
     ensures { OnOk result (rows.new.items ≡ rows.old.items
         ++ map (λ x. tuple_of (projected_tuple rest.now row.now ++ x))
@@ -92,7 +93,7 @@ fn unnested_rows(
     rest: &[Name],
     name: &Name,
 ) -> Result<Vec<Tuple>, AllocError>
-    requires { All (λ u. All (AreApart (projected_tuple rest.now u))
+    requires { All (λ u. All (HaveNoCommonName (projected_tuple rest.now u))
         (tuples_inside (value_at name.now u))) rows.now }
     ensures { IfOk result (λ unnested. unnested.items ≡ flat_map (λ u.
         map (λ x. tuple_of (projected_tuple rest.now u ++ x))

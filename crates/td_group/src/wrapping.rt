@@ -1,8 +1,8 @@
 //! WRAP: each tuple with the tuple of some of its attributes in their place.
 ghost use Rattle.std.specs.Prelude.{◌≡◌, ◌∷◌, ◌++◌, [], IfOk, IsTrue, map};
 ghost use Rattle.std.specs.List.{All};
-ghost use Rattle.td_group.specs.Nesting.{AreApart, can_nest, tuple_value, wrapped_relation};
-ghost use Rattle.td_value.specs.Values.{projected_tuple, tuple_of};
+ghost use Rattle.td_group.specs.Nesting.{HaveNoCommonName, can_nest, wrapped_relation};
+ghost use Rattle.td_value.specs.Values.{projected_tuple, tuple_of, tuple_value};
 
 use crate::groups::attribute_names;
 use crate::tuples::joined;
@@ -32,7 +32,7 @@ fn wrapped_rows(
     names: &[Name],
     name: &Name,
 ) -> Result<Vec<Tuple>, AllocError>
-    requires { All (λ t. AreApart (projected_tuple rest.now t)
+    requires { All (λ t. HaveNoCommonName (projected_tuple rest.now t)
         ((name.now, tuple_value (projected_tuple names.now t)) ∷ [])) rows.now }
     ensures { IfOk result (λ wrapped. wrapped.items ≡ map (λ t. tuple_of (projected_tuple rest.now t
         ++ (name.now, tuple_value (projected_tuple names.now t)) ∷ [])) rows.now) }

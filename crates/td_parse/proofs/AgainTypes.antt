@@ -9,7 +9,7 @@ use Rattle.td_tree.specs.Lexemes.{Lexeme, keyword, sign}
 use Rattle.td_tree.specs.Lexemes as lexeme
 use Rattle.td_tree.specs.Lists.{braced}
 use Rattle.td_parse.specs.ReadingSteps.{expect, read_name}
-use Rattle.td_parse.specs.ReadingTypes.{attributes_from, attribute, heading, type_of_word, type_of_first, read_type, relation_heading}
+use Rattle.td_parse.specs.ReadingTypes.{attribute, attribute_trees_from, heading, type_of_word, type_of_first, read_type, relation_heading}
 use Rattle.td_tree.specs.Trees as tree
 use Rattle.td_tree.specs.Trees.{Text, TypeTree, AttributeTrees}
 use Rattle.td_parse.proofs.AgainLists.{ItemAgain, SeparatedAgain, last_again, next_again, listed_again, empty_again, brace_closes}
@@ -26,7 +26,7 @@ abbrev pub attribute_items : AttributeTrees → List (Text × TypeTree)
 attribute_items tree.no_attributes = []
 attribute_items (tree.attribute n t rest) = (n, t) ∷ attribute_items rest
 
-pub attributes_back : (h : AttributeTrees) → attributes_from (attribute_items h) ≡ h
+pub attributes_back : (h : AttributeTrees) → attribute_trees_from (attribute_items h) ≡ h
 attributes_back tree.no_attributes = refl
 attributes_back (tree.attribute n t rest) = ap (λ r. tree.attribute n t r) (attributes_back rest)
 

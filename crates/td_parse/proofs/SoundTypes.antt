@@ -10,7 +10,7 @@ use Rattle.td_tree.specs.Lexemes.{Lexeme, keyword, sign}
 use Rattle.td_tree.specs.Lexemes as lexeme
 use Rattle.td_tree.specs.Lists.{Listed, no_items, some_items, Separated, one_item, next_item, braced}
 use Rattle.td_parse.specs.ReadingSteps.{ReadOf, expect, read_name, listed_to}
-use Rattle.td_parse.specs.ReadingTypes.{attributes_from, attribute, heading, type_of_word, type_of_first, read_type, relation_heading}
+use Rattle.td_parse.specs.ReadingTypes.{attribute, attribute_trees_from, heading, type_of_word, type_of_first, read_type, relation_heading}
 use Rattle.td_tree.specs.Trees as tree
 use Rattle.td_tree.specs.Trees.{Text, TypeTree, AttributeTrees}
 use Rattle.td_parse.proofs.SoundNames.{after_word}
@@ -34,13 +34,13 @@ pub record AreAttributes (d : ℕ) (xs : List Lexeme) (h : AttributeTrees) : Typ
 pub data IsAttribute (d : ℕ) : List Lexeme → Text × TypeTree → Type 0 where
   attribute_item : {n : Text} {xs : List Lexeme} {t : TypeTree} → TypeSpelling xs t → type_height t ≤ d → IsAttribute d (lexeme.name n ∷ xs) (n, t)
 
-pub are_attributes : {d : ℕ} {xs : List Lexeme} {all : List (Text × TypeTree)} → Separated (IsAttribute d) xs all → AreAttributes d xs (attributes_from all)
+pub are_attributes : {d : ℕ} {xs : List Lexeme} {all : List (Text × TypeTree)} → Separated (IsAttribute d) xs all → AreAttributes d xs (attribute_trees_from all)
 are_attributes (one_item (attribute_item p lt)) = record { spelled = last_attribute p; low = omega arith }
 are_attributes (next_item (attribute_item p lt) q) =
     let r = are_attributes q in
     record { spelled = next_attribute p r.spelled; low = omega (arith, r.low) }
 
-is_heading : {d : ℕ} {xs : List Lexeme} {all : List (Text × TypeTree)} → Listed (IsAttribute d) xs all → IsHeading d (braced xs) (attributes_from all)
+is_heading : {d : ℕ} {xs : List Lexeme} {all : List (Text × TypeTree)} → Listed (IsAttribute d) xs all → IsHeading d (braced xs) (attribute_trees_from all)
 is_heading no_items = record { spelled = empty_heading; low = omega arith }
 is_heading (some_items p) =
     let r = are_attributes p in

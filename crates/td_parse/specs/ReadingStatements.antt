@@ -9,7 +9,7 @@ use Rattle.td_tree.specs.Lexemes.{Lexeme, keyword, sign}
 use Rattle.td_tree.specs.Lexemes as lexeme
 use Rattle.td_parse.specs.Reading.{Read, named_from, read}
 use Rattle.td_parse.specs.ReadingSteps.{◌>>=◌, either, ReadOf, expect, read_name, read_up_to, enclosed, optional, separated, repeated, names}
-use Rattle.td_parse.specs.ReadingTypes.{attributes_from, attribute, read_type, relation_heading}
+use Rattle.td_parse.specs.ReadingTypes.{attribute, attribute_trees_from, read_type, relation_heading}
 use Rattle.td_tree.specs.Trees as tree
 use Rattle.td_tree.specs.Trees.{Text, TypeTree, Tree, Assignment, Statement}
 
@@ -73,7 +73,7 @@ unfoldable pub components : Text → List Lexeme → ReadOf Statement
 components n ts =
     separated (attribute (read_type height_limit)) ts
     >>= λ h. optional (keyword k.Constraint) expression h.1
-    >>= λ c. Some (tree.define_type n (attributes_from h.0) c.0, c.1)
+    >>= λ c. Some (tree.define_type n (attribute_trees_from h.0) c.0, c.1)
 
 -- TYPE name POSSREP '{' attr,+ [CONSTRAINT e] '}', after TYPE
 unfoldable pub type_definition : List Lexeme → ReadOf Statement

@@ -10,9 +10,9 @@ use Rattle.td_tree.specs.Trees as tree
 use Rattle.td_tree.specs.Trees.{Text, TypeTree, AttributeTrees}
 
 -- names with their types
-abbrev pub attributes_from : List (Text × TypeTree) → AttributeTrees
-attributes_from [] = tree.no_attributes
-attributes_from (a ∷ rest) = tree.attribute a.0 a.1 (attributes_from rest)
+abbrev pub attribute_trees_from : List (Text × TypeTree) → AttributeTrees
+attribute_trees_from [] = tree.no_attributes
+attribute_trees_from (a ∷ rest) = tree.attribute a.0 a.1 (attribute_trees_from rest)
 
 -- types inside are read by inner
 module _ (inner : List Lexeme → ReadOf TypeTree) where
@@ -25,7 +25,7 @@ module _ (inner : List Lexeme → ReadOf TypeTree) where
   heading ts =
       expect (sign signs.OpenBrace) ts
       >>= λ after. listed_to (sign signs.CloseBrace) attribute after
-      >>= λ x. Some (attributes_from x.0, x.1)
+      >>= λ x. Some (attribute_trees_from x.0, x.1)
 
   -- a type after its first word
   unfoldable pub type_of_word : Keyword → List Lexeme → ReadOf TypeTree

@@ -5,12 +5,12 @@ use Rattle.std.specs.Prelude.{cond, count_by, nat_eq, pos}
 use Rattle.td_algebra.specs.Operators.{restriction}
 use Rattle.td_eval.proofs.OpTuples.{truths_are}
 use Rattle.td_eval.proofs.OpValues.{relation_unpacked}
-use Rattle.td_eval.specs.OperatorValues.{is_true, measure_value, of_number, of_truth, relation_as_value, restricted_value, truth_value}
+use Rattle.td_eval.specs.OperatorValues.{is_true, measure_value, of_truth, restricted_value, truth_value}
 use Rattle.td_plan.specs.Counted.{number_measured}
 use Rattle.td_tree.specs.declared.operator.Measure.{Measure}
 use Rattle.td_tree.specs.declared.operator.Measure.TheVariants as measures
 use Rattle.td_tree.specs.Outcomes.{Outcome, Valued, gathered, with_value}
-use Rattle.td_value.specs.Values.{Relation, Tuple, Val}
+use Rattle.td_value.specs.Values.{Relation, Tuple, Val, of_number, relation_value}
 
 -- as many elements pass a test as its values are true
 kept_count : {X : Type 0} (q : X → Bool) (xs : List X) → length (filter q xs) ≡ length (filter (λ b. b) (map q xs))
@@ -23,7 +23,7 @@ kept_count {X} q (x ∷ xs) = by_test (q x) (kept_count q xs)
     by_test false rest = rest
 
 -- what is asked of a relation is asked of the number of its tuples
-measured_number : (op : Measure) (r : Relation) → measure_value op (relation_as_value r) ≡ number_measured op (length r.body)
+measured_number : (op : Measure) (r : Relation) → measure_value op (relation_value r) ≡ number_measured op (length r.body)
 measured_number measures.Count r = relation_unpacked r (λ r. of_number (pos (length r.body)))
 measured_number measures.IsEmpty r = relation_unpacked r (λ r. of_truth (nat_eq (length r.body) 0))
 

@@ -16,7 +16,7 @@ use Rattle.td_types.specs.Types.{Heading, Type', attribute_names}
 use Rattle.td_value.specs.Agreement.{agree_on}
 use Rattle.td_value.specs.Sets.{has}
 use Rattle.td_value.specs.ValueOrder.{order_total, value_Decides}
-use Rattle.td_value.specs.Values.{Val, boolean, integer, char, user, tuple, relation, Relation, Tuple, IsRelation, projected_tuple, tuple_cmp, type_of, value_cmp}
+use Rattle.td_value.specs.Values.{Val, boolean, integer, char, relation_value, user, tuple, relation, Relation, Tuple, IsRelation, projected_tuple, tuple_cmp, type_of, value_cmp}
 use Rattle.td_value.proofs.Members.{contained, joined_members}
 use Rattle.td_algebra.specs.Operators.{are_partners, difference, intersection, join, product, relation_names, restriction, semidifference, semijoin, union}
 use Rattle.td_algebra.proofs.JoinMembers.{IsRelation-join, join_members}
@@ -28,7 +28,7 @@ use Rattle.td_body.specs.Bodies.{agreeing}
 use Rattle.td_eval.proofs.OpValues.{relation_unpacked}
 use Rattle.td_plan.specs.Equalities.{AsksOnlyOf, has_values, is_at}
 use Rattle.td_plan.specs.EqualitiesOfValues.{AndIsOfBoth, AreTotalIn, EqualityIsOfOneValue, EqualityIsOfValue, Gives, IsAnsweredBy, IsHeadedAndAnswered, IsTotalIn, TotalConditionsRestrict, WhereAfterLookUp, WhereByAnd, WhereByAnds, WhereIsLookUp, WhereOfIntersectOnLeft, WhereOfIntersectOnRight, WhereOfJoinOnLeft, WhereOfJoinOnRight, WhereOfMatching, WhereOfMinus, WhereOfNotMatching, WhereOfTimesOnLeft, WhereOfTimesOnRight, WhereOfUnion, WheresCommute, conjoined, operated, where_value}
-use Rattle.td_eval.specs.OperatorValues.{comparison_value, is_true, of_relation, of_truth, on_relation, on_relations, relation_as_value, relation_where, restricted_value, truth_value}
+use Rattle.td_eval.specs.OperatorValues.{comparison_value, is_true, of_relation, of_truth, on_relation, on_relations, relation_where, restricted_value, truth_value}
 use Rattle.td_plan.proofs.EqualLookUps.{kept_same, restricted_after_look_up, restriction_looks_up}
 use Rattle.td_plan.proofs.EqualRestrictions.{intersection_restricted_right, join_restricted_left, join_restricted_right, product_restricted_left, product_restricted_right, restricted_by_both, restrictions_commute, semidifference_restricted, semijoin_restricted}
 
@@ -58,8 +58,8 @@ restricts_to p r q h e = total_restricts p r h ∙ ap of_relation e
 
 -- ---- relations as values
 
-both_unpacked : (r s : Relation) (f : Relation → Relation → Outcome Val) → on_relations (relation_as_value r) (relation_as_value s) f ≡ f r s
-both_unpacked r s f = relation_unpacked r (λ q. on_relation (relation_as_value s) (f q)) ∙ relation_unpacked s (f r)
+both_unpacked : (r s : Relation) (f : Relation → Relation → Outcome Val) → on_relations (relation_value r) (relation_value s) f ≡ f r s
+both_unpacked r s f = relation_unpacked r (λ q. on_relation (relation_value s) (f q)) ∙ relation_unpacked s (f r)
 
 where_given : (p : Tuple → Outcome Val) (r : Relation) → IsTotalIn p r → where_value p (of_relation r) ≡ of_relation (restriction (truth p) r)
 where_given p r h = relation_unpacked r (restricted_value p) ∙ total_restricts p r h
@@ -79,11 +79,11 @@ module _ (p : Tuple → Outcome Val) (fits : Relation → Relation → Bool) (ma
   op = made_where fits made
 
   where_made : (r s x : Relation) → (fits r s ≡ true → where_value p (of_relation (made r s)) ≡ of_relation x)
-      → where_value p (op (relation_as_value r) (relation_as_value s)) ≡ relation_where (fits r s) x
+      → where_value p (op (relation_value r) (relation_value s)) ≡ relation_where (fits r s) x
   where_made r s x h =
       ap (where_value p) (both_unpacked r s (λ r s. relation_where (fits r s) (made r s))) ∙ where_fits p (fits r s) (made r s) x h
 
-  made_of : (r s : Relation) → op (relation_as_value r) (relation_as_value s) ≡ relation_where (fits r s) (made r s)
+  made_of : (r s : Relation) → op (relation_value r) (relation_value s) ≡ relation_where (fits r s) (made r s)
   made_of r s = both_unpacked r s (λ r s. relation_where (fits r s) (made r s))
 
   -- the first operand is restricted
@@ -334,7 +334,7 @@ module _ (p q : Tuple → Outcome Val) (r : Relation) (h : IsTotalIn q r) where
       ∙ (λ i. with_value (gathered_alike i) (λ y. of_relation (kept_alike i)))
       ∙ sym (after_done truths (of_relation (restriction (truth q) kept)))
       ∙ (λ i. with_value truths (λ y. sym (where_given q kept (total_kept q (truth p) r h)) i))
-      ∙ sym (followed truths (relation_as_value kept) (λ v. on_relation v (restricted_value q)))
+      ∙ sym (followed truths (relation_value kept) (λ v. on_relation v (restricted_value q)))
 
 pub where_by_and : WhereByAnd
 where_by_and p q (Valued v) g =

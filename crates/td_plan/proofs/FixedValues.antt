@@ -13,8 +13,8 @@ use Rattle.td_check.specs.WrittenNames.{names_in}
 use Rattle.td_eval.proofs.UnfailingTrees.{unfailing_expressions_have_values}
 use Rattle.td_eval.specs.OperatorValues.{comparison_value, of_truth}
 use Rattle.td_eval.specs.TreeValues.{value_of}
-use Rattle.td_eval.specs.ValueTypes.{IsWritten, with_tuples}
-use Rattle.td_eval.specs.Worlds.{World, innermost_value, known_outcome}
+use Rattle.td_eval.specs.ValueTypes.{IsWritten}
+use Rattle.td_eval.specs.Worlds.{World, innermost_value, known_outcome, with_tuples}
 use Rattle.td_plan.proofs.EqualNames.{values_depend_on_names}
 use Rattle.td_plan.proofs.EqualValues.{and_of_both, equality_of_one}
 use Rattle.td_plan.specs.declared.fixed.FixedValue.{FixedValue}

@@ -7,7 +7,7 @@ use Rattle.std.specs.Prelude.{if◌then◌else◌, is_some}
 use Rattle.std.proofs.lemmas.List.Sorted.{IsPermutation-refl}
 use Rattle.td_algebra.proofs.Entries.{ascending_distinct, names-heading}
 use Rattle.td_check.specs.Scopes.{Scope}
-use Rattle.td_eval.specs.OperatorValues.{of_truth, tuple_as_value, tuple_from}
+use Rattle.td_eval.specs.OperatorValues.{of_truth, tuple_from}
 use Rattle.td_eval.specs.TreeValues.{value_of}
 use Rattle.td_eval.specs.UnfailingValues.{GivesValues}
 use Rattle.td_eval.specs.ValueTypes.{IsTypedTuple}
@@ -29,7 +29,7 @@ use Rattle.td_types.specs.Types.{Heading, IsHeading, Type', attribute_names, pac
 use Rattle.td_value.proofs.KnownValues.{has_its_type}
 use Rattle.td_value.proofs.Maps.{sorted_is_tuple_of}
 use Rattle.td_value.proofs.Zips.{IsTuple-from}
-use Rattle.td_value.specs.Values.{AreFields, IsTuple, IsValue, Tuple, Val, heading_of, pack_fields, tuple_names, type_of}
+use Rattle.td_value.specs.Values.{AreFields, IsTuple, IsValue, Tuple, Val, heading_of, pack_fields, tuple_names, tuple_value, type_of}
 
 -- the names of fixed attributes, and the plans of their values
 abbrev pub fixed_names : List FixedValue → List (List ℕ)
@@ -90,10 +90,10 @@ module _ (h : Heading) where
         ∙ twice (has_name n key) (type_at n h)
         ∙ sym (type_at-projection key n h))
 
-    pub entries_from : tuple_from es ≡ Valued (tuple_as_value es)
+    pub entries_from : tuple_from es ≡ Valued (tuple_value es)
     entries_from =
         rw (ascending_distinct (tuple_names es) ascends)
-        (ap (λ t. Valued (tuple_as_value t)) (sym (sorted_is_tuple_of es es (IsPermutation-refl es) ascends)))
+        (ap (λ t. Valued (tuple_value t)) (sym (sorted_is_tuple_of es es (IsPermutation-refl es) ascends)))
 
 -- ---- the values of fixed attributes
 
@@ -141,7 +141,7 @@ module _ (scope : Scope) (h : Heading) (c : Tree) (w : World) (s : List Tuple) (
   -- the plan of the tuple gives it
   pub part_value : (key : List (List ℕ)) (part : List FixedValue) (es : Tuple) → IsHeading (pack h) → IsPartIn part es
       → fixed_names part ≡ attribute_names (projection key h)
-      → plan_value w fs (plans.tuple (fixed_names part) (fixed_plans part)) ≡ Valued (tuple_as_value es)
+      → plan_value w fs (plans.tuple (fixed_names part) (fixed_plans part)) ≡ Valued (tuple_value es)
   part_value key part es p found names =
       ap (λ o. with_value o (λ vs. tuple_from (zip (fixed_names part) vs))) found.values
       ∙ ap (λ ns. tuple_from (zip ns (entry_values es))) (sym found.names)

@@ -11,13 +11,13 @@ use Rattle.td_eval.proofs.KeepsRelations.{typed_from_value, value_from_typed}
 use Rattle.td_eval.proofs.OpValues.{relation_unpacked, tuple_unpacked}
 use Rattle.td_eval.proofs.TypedRows.{parts_typed, rows_typed}
 use Rattle.td_eval.proofs.TypedTrees.{innermost_typed}
-use Rattle.td_eval.proofs.TypedValues.{pack_unpack_rows, rows_of, type_is}
-use Rattle.td_eval.specs.OperatorValues.{of_relation, on_relation, relation_as_value}
+use Rattle.td_eval.proofs.TypedValues.{rows_of, type_is}
+use Rattle.td_eval.specs.OperatorValues.{of_relation, on_relation}
 use Rattle.td_eval.specs.TreeNumbers.{HasNumbers}
 use Rattle.td_eval.specs.TreeValues.{value_of}
 use Rattle.td_eval.specs.UnfailingValues.{GivesValues}
-use Rattle.td_eval.specs.ValueTypes.{IsOfType, IsWritten, KeepsType, with_tuples}
-use Rattle.td_eval.specs.Worlds.{World, innermost_value, known_outcome}
+use Rattle.td_eval.specs.ValueTypes.{IsOfType, IsWritten, KeepsType}
+use Rattle.td_eval.specs.Worlds.{World, innermost_value, known_outcome, with_tuples}
 use Rattle.td_plan.proofs.EqualValues.{where_after_look_up}
 use Rattle.td_plan.proofs.LookUpParts.{entries_heading, entries_tuple, fixed_entries, fixed_names, fixed_plans, fixed_values_hold, part_found, part_value}
 use Rattle.td_plan.proofs.TotalConditions.{unfailing_conditions_are_total}
@@ -38,8 +38,9 @@ use Rattle.td_types.specs.TypeCode.{unpack_pack}
 use Rattle.td_types.specs.TypeLists.{DeclaredType}
 use Rattle.td_types.specs.Types as types
 use Rattle.td_types.specs.Types.{Heading, IsHeading, Type', attribute_names, pack, unpack}
+use Rattle.td_value.proofs.Packed.{pack_unpack_rows}
 use Rattle.td_value.specs.Agreement.{agree_on}
-use Rattle.td_value.specs.Values.{Relation, Tuple, Val, unpack_rows}
+use Rattle.td_value.specs.Values.{Relation, Tuple, Val, relation_value, unpack_rows}
 use Rattle.td_value.specs.Values as values
 use Rattle.td_value.specs.Views.{relation_view}
 
@@ -49,7 +50,7 @@ use Rattle.td_value.specs.Views.{relation_view}
 pub record IsTypedOf (ds : List DeclaredType) (h : Heading) (o : Outcome Val) (r : Relation) : Type 0 where
   pub is_value : o ≡ of_relation r
   pub headed : r.heading ≡ h
-  pub typed : IsOfType ds (relation_as_value r) (types.relation (pack r.heading))
+  pub typed : IsOfType ds (relation_value r) (types.relation (pack r.heading))
 
 pub relation_of_value : (ds : List DeclaredType) (h : Heading) (v : Val) → IsOfType ds v (types.relation (pack h)) → (r : Relation) × IsTypedOf ds h (Valued v) r
 relation_of_value ds h v p =
@@ -86,7 +87,7 @@ record IsFound (scope : Scope) (w : World) (s : List Tuple) (n : List ℕ) (d : 
   known : known_outcome (w.relvar n) ≡ of_relation r
   asked : value_of w s d ≡ of_relation r
   headed : r.heading ≡ h
-  typed : IsOfType scope.types (relation_as_value r) (types.relation (pack r.heading))
+  typed : IsOfType scope.types (relation_value r) (types.relation (pack r.heading))
 
 base_found : (scope : Scope) (n : List ℕ) (d : Tree) (h : Heading) → IsBase scope n → MeansName n d
     → type_of scope d ≡ Valued (types.relation (pack h)) → (w : World) (s : List Tuple) → GivesValues w (outermost scope) → AreInHand scope s
@@ -129,7 +130,7 @@ condition_type scope d c h t static is =
 -- it has one in each tuple where it cannot fail
 pub answers : (scope : Scope) (c : Tree) (h : Heading) (w : World) (s : List Tuple) → GivesValues w (outermost scope) → AreInHand scope s
     → IsWritten c → HasNumbers c → IsTrue (cannot_fail (entered_with h scope) c) → type_of (entered_with h scope) c ≡ Valued types.boolean
-    → (r : Relation) → r.heading ≡ h → IsOfType scope.types (relation_as_value r) (types.relation (pack r.heading))
+    → (r : Relation) → r.heading ≡ h → IsOfType scope.types (relation_value r) (types.relation (pack r.heading))
     → IsTotalIn (λ t. value_of w (t ∷ s) c) r
 answers scope c h w s k hand written numbers never is r headed typed =
     let here : with_tuples (outermost scope) s ≡ scope =
@@ -166,7 +167,7 @@ look_up_narrows scope n key part d c h base named static numbers never fixed nam
     record {
       kept =
           subst (KeepsType ds (Valued (types.relation (pack h)))) (sym value)
-          (subst (λ (g : Heading). IsOfType ds (relation_as_value (agreeing key es r)) (types.relation (pack g))) there.headed
+          (subst (λ (g : Heading). IsOfType ds (relation_value (agreeing key es r)) (types.relation (pack g))) there.headed
           (value_from_typed ds (agreeing key es r) agrees));
       same =
           ap (where_value asked) value

@@ -9,13 +9,13 @@ use Rattle.td_check.specs.StaticLaws.{ItemsGiveNames}
 use Rattle.td_check.specs.StaticTypes.{items_of, type_of, with_items}
 use Rattle.td_check.proofs.SummaryLaws.{HeadingItems, Items}
 use Rattle.td_eval.specs.AggregateValues.{summarized_value, summary_attributes, summary_value}
-use Rattle.td_eval.specs.OperatorValues.{on_relation, postfix_value, relation_as_value}
+use Rattle.td_eval.specs.OperatorValues.{on_relation, postfix_value}
 use Rattle.td_eval.specs.Totals.{asked_by}
 use Rattle.td_eval.specs.TreeTexts.{ItemsHaveTexts}
 use Rattle.td_eval.specs.TreeValues.{items_in_tuples, value_of}
 use Rattle.td_eval.specs.ValueTypes.{IsOfType, IsWritten, KeepsType}
 use Rattle.td_eval.specs.UnfailingValues.{GivesValues}
-use Rattle.td_eval.specs.Worlds.{World, scope_among}
+use Rattle.td_eval.specs.Worlds.{World, with_tuples}
 use Rattle.td_eval.proofs.AlikeOutcomes.{both_alike, over_same, with_alike}
 use Rattle.td_eval.proofs.AlikeSummaries.{SummandsAlikeIn, summarized_alike}
 use Rattle.td_eval.proofs.SummaryParts.{attributes_of_items, by_type, more_changes_no_items, per_type}
@@ -39,7 +39,7 @@ use Rattle.td_types.proofs.OutcomeLaws.{value_of_with, valued_is, values_of_both
 use Rattle.td_types.specs.TypeCode.{unpack_pack}
 use Rattle.td_types.specs.Types.{Attribute, Heading, Type', boolean, integer, pack, unpack}
 use Rattle.td_types.specs.Types as types
-use Rattle.td_value.specs.Values.{Relation, Tuple, Val}
+use Rattle.td_value.specs.Values.{Relation, Tuple, Val, relation_value}
 
 -- the aggregates of the items of the code
 pub aggregates_are : (xs : List Summary) → aggregates_in (summaries_view xs) ≡ map asked_by xs
@@ -156,7 +156,7 @@ module _ (scope : Scope) (w : World) (s : List Tuple) (fs : List Frame) (k : Giv
         ap length (sym (valued_is ((m, y.0) ∷ y.1) xs y.4)) ∙ ap suc (as_many_items inner ps rest y.1 all.1 y.3)
 
     -- each item is of the same in the tuples of the operand
-    module _ (r : Relation) (h : Heading) (head : r.heading ≡ h) (typed : IsOfType scope.types (relation_as_value r) (types.relation (pack r.heading))) where
+    module _ (r : Relation) (h : Heading) (head : r.heading ≡ h) (typed : IsOfType scope.types (relation_value r) (types.relation (pack r.heading))) where
       items_alike : (ps : PlanTrees) (items : Summaries) (xs : List Attribute) → ArePlansOfTyped (entered_with h scope) ps (in_summaries items)
           → ItemsGiveNames items → ItemsHaveTexts items → summary_attributes (entered_with h scope) items ≡ Valued xs
           → SummandsAlikeIn r (zip (aggregates_in items) (plan_columns w fs os ps)) (items_in_tuples w s items)
@@ -184,16 +184,16 @@ module _ (scope : Scope) (w : World) (s : List Tuple) (fs : List Frame) (k : Giv
       (xs : List Attribute) (known : summary_attributes (entered_with h scope) items ≡ Valued xs)
       (cs : PlanTrees) (all : ArePlansOfTyped (entered_with h scope) cs (in_summaries items)) (os : List (Outcome Val)) where
     -- the new attributes have the same types where more is known
-    same_attributes : Valued xs ≡ summary_attributes (entered_with h (scope_among w s)) items
+    same_attributes : Valued xs ≡ summary_attributes (entered_with h (with_tuples w.scope s)) items
     same_attributes =
-        let there = more_changes_no_items (entered_with h scope) (entered_with h (scope_among w s)) items have.0 (more_there scope w s fs k hand f h) have.1 in
+        let there = more_changes_no_items (entered_with h scope) (entered_with h (with_tuples w.scope s)) items have.0 (more_there scope w s fs k hand f h) have.1 in
         sym known ∙ attributes_of_items (entered_with h scope) items have.0 have.1
-        ∙ sym (attributes_of_items (entered_with h (scope_among w s)) items have.0 there)
+        ∙ sym (attributes_of_items (entered_with h (with_tuples w.scope s)) items have.0 there)
 
     -- what is given of the operand's value
     pub summary_alike : (v u : Val) → value_of w s d ≡ Valued v
         → summary_of xs (zip (aggregates_in items) (plan_columns w fs os cs)) v u
-        ≡ summary_value (λ g. summary_attributes (entered_with g (scope_among w s)) items) (items_in_tuples w s items) v u
+        ≡ summary_value (λ g. summary_attributes (entered_with g (with_tuples w.scope s)) items) (items_in_tuples w s items) v u
     summary_alike v u is =
         let summands = zip (aggregates_in items) (plan_columns w fs os cs) in
         let many : nat_eq (length xs) (length summands) ≡ true = eq-eqb (length xs) (length summands) (as_many_items os (entered_with h scope) cs items xs all known) in
@@ -201,14 +201,14 @@ module _ (scope : Scope) (w : World) (s : List Tuple) (fs : List Frame) (k : Giv
         rw many
         (over_same scope.types (types.relation (pack h)) (Valued v)
         (λ r. on_relation u (λ p. summarized_value (Valued xs) summands r p))
-        (λ r. on_relation u (λ p. summarized_value (summary_attributes (entered_with r.heading (scope_among w s)) items) (items_in_tuples w s items) r p))
+        (λ r. on_relation u (λ p. summarized_value (summary_attributes (entered_with r.heading (with_tuples w.scope s)) items) (items_in_tuples w s items) r p))
         keeps
         (λ g r same head typed.
         let at = heading_is h g r same head in
         let one = λ (p : Relation). summarized_alike r p (Valued xs) summands (items_in_tuples w s items)
         (items_alike os r h at typed cs items xs all names texts known)
         ∙ (λ j. summarized_value (same_attributes j) (items_in_tuples w s items) r p)
-        ∙ (λ j. summarized_value (summary_attributes (entered_with (sym at j) (scope_among w s)) items) (items_in_tuples w s items) r p) in
+        ∙ (λ j. summarized_value (summary_attributes (entered_with (sym at j) (with_tuples w.scope s)) items) (items_in_tuples w s items) r p) in
         λ j. on_relation u (λ p. one p j)))
 
 -- ---- SUMMARIZE
@@ -233,7 +233,7 @@ module _ (scope : Scope) (p : PlanTree) (xs : List Attribute) (gs : List Agg) (o
       ∙ (λ j. with_both (i own (types.relation (pack h)) static w s fs k hand f j)
       (m (written.0.1, written.1.1) found.0 found.1 w s fs k hand f j) (summary_of xs summands))
       ∙ both_alike (value_of w s d) (value_of w s q) (summary_of xs summands)
-      (summary_value (λ g. summary_attributes (entered_with g (scope_among w s)) items) (items_in_tuples w s items))
+      (summary_value (λ g. summary_attributes (entered_with g (with_tuples w.scope s)) items) (items_in_tuples w s items))
       (λ v u valued. summary_alike scope w s fs k hand f d own h static items written.0.2 written.1.2 found.2 xs known cs all os v u valued)
 
   pub summary_by_planned : (by : Attributes) → IsPlanOfTyped scope (plans.summarize_by p by xs gs parts qs) (trees.summarize_by d by items)
@@ -242,7 +242,7 @@ module _ (scope : Scope) (p : PlanTree) (xs : List Attribute) (gs : List Agg) (o
       let own : IsWritten d = (written.0.0, written.1.0) in
       let os = plan_values w fs parts in
       let summands = zip (aggregates_in items) (plan_columns w fs os cs) in
-      let meant = summary_value (λ g. summary_attributes (entered_with g (scope_among w s)) items) (items_in_tuples w s items) in
+      let meant = summary_value (λ g. summary_attributes (entered_with g (with_tuples w.scope s)) items) (items_in_tuples w s items) in
       (λ j. with_value (plan_value w fs p) (λ v. with_value (postfix_value (project by) v) (summary_of xs (summands_are w fs j) v)))
       ∙ (λ j. with_value (i own (types.relation (pack h)) static w s fs k hand f j) (λ v. with_value (postfix_value (project by) v) (summary_of xs summands v)))
       ∙ with_alike (value_of w s d) (λ v. with_value (postfix_value (project by) v) (summary_of xs summands v))

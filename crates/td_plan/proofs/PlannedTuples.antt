@@ -12,9 +12,9 @@ use Rattle.td_eval.specs.AggregateValues.{aggregated_value, asked_of}
 use Rattle.td_eval.specs.OperatorValues.{extended_value, on_relation, restricted_value}
 use Rattle.td_eval.specs.TreeTexts.{PartsHaveTexts}
 use Rattle.td_eval.specs.TreeValues.{value_of, values_in_tuples}
-use Rattle.td_eval.specs.ValueTypes.{IsTypedTuple, IsWritten, KeepsType, with_tuples}
+use Rattle.td_eval.specs.ValueTypes.{IsTypedTuple, IsWritten, KeepsType}
 use Rattle.td_eval.specs.UnfailingValues.{GivesValues}
-use Rattle.td_eval.specs.Worlds.{World, scope_among}
+use Rattle.td_eval.specs.Worlds.{World, with_tuples}
 use Rattle.td_eval.proofs.AlikeOutcomes.{over_same}
 use Rattle.td_eval.proofs.AlikeRows.{AlikeIn, AreAlikeIn, aggregated_alike, extended_alike, restricted_alike}
 use Rattle.td_eval.proofs.TypedRows.{rows_typed}
@@ -82,7 +82,7 @@ module _ (scope : Scope) (w : World) (s : List Tuple) (fs : List Frame) (k : Giv
       (values_keep_types w (outermost scope) s d k.keeps hand.0 written)
 
   -- more is known in the world
-  pub more_there : (h : Heading) → HasMore (entered_with h scope) (entered_with h (scope_among w s))
+  pub more_there : (h : Heading) → HasMore (entered_with h scope) (entered_with h (with_tuples w.scope s))
   more_there h =
       record { types = k.keeps.types; relvars = ([], k.keeps.known ∙ sym (append-nil scope.relvars)); entered = λ i. h ∷ hand.1 i }
 
@@ -173,13 +173,13 @@ module _ (scope : Scope) where
       ∙ ap (λ o. with_value o (λ v. on_relation v (extension_of xs columns)))
       (i (written.0.0, written.1.0) (types.relation (pack h)) static w s fs k hand f)
       ∙ over_same scope.types (types.relation (pack h)) (value_of w s d) (extension_of xs columns)
-      (λ r. extended_value (named_types (entered_with r.heading (scope_among w s)) es) (values_in_tuples w s es) r)
+      (λ r. extended_value (named_types (entered_with r.heading (with_tuples w.scope s)) es) (values_in_tuples w s es) r)
       (kept scope w s fs k hand f d (types.relation (pack h)) (written.0.0, written.1.0) static)
       (λ g r same head typed.
       let at = heading_is h g r same head in
-      let there = more_changes_no_parts (entered_with h scope) (entered_with h (scope_among w s)) es xs (more_there scope w s fs k hand f h) known in
+      let there = more_changes_no_parts (entered_with h scope) (entered_with h (with_tuples w.scope s)) es xs (more_there scope w s fs k hand f h) known in
       rw many
       (extended_alike r (Valued xs) columns (values_in_tuples w s es)
       (parts_alike scope w s fs k hand f r h at (rows_typed scope.types r typed) os cs es xs all written.0.1 written.1.1 known)
       ∙ (λ j. extended_value (sym there j) (values_in_tuples w s es) r)
-      ∙ (λ j. extended_value (named_types (entered_with (sym at j) (scope_among w s)) es) (values_in_tuples w s es) r)))
+      ∙ (λ j. extended_value (named_types (entered_with (sym at j) (with_tuples w.scope s)) es) (values_in_tuples w s es) r)))

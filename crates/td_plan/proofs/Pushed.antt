@@ -9,11 +9,11 @@ use Rattle.td_check.specs.Scopes.{Scope, entered_with}
 use Rattle.td_check.specs.StaticTypes.{type_of}
 use Rattle.td_check.specs.WrittenNames.{names_in}
 use Rattle.td_eval.proofs.TypedTrees.{values_keep_types}
-use Rattle.td_eval.specs.OperatorValues.{of_relation, relation_as_value}
+use Rattle.td_eval.specs.OperatorValues.{of_relation}
 use Rattle.td_eval.specs.TreeValues.{value_of}
 use Rattle.td_eval.specs.UnfailingValues.{GivesValues}
-use Rattle.td_eval.specs.ValueTypes.{IsOfType, IsWritten, KeepsType, with_tuples}
-use Rattle.td_eval.specs.Worlds.{World}
+use Rattle.td_eval.specs.ValueTypes.{IsOfType, IsWritten, KeepsType}
+use Rattle.td_eval.specs.Worlds.{World, with_tuples}
 use Rattle.td_plan.proofs.EqualNames.{names_are_asked}
 use Rattle.td_plan.proofs.EqualValues.{gives_more, where_of_intersect_left, where_of_join_left, where_of_join_right, where_of_minus, where_of_times_left, where_of_times_right, where_of_union}
 use Rattle.td_plan.proofs.FixedValues.{none_passes}
@@ -39,7 +39,7 @@ use Rattle.td_types.specs.TypeCode.{unpack_pack}
 use Rattle.td_types.specs.TypeLists.{DeclaredType}
 use Rattle.td_types.specs.Types as types
 use Rattle.td_types.specs.Types.{Heading, Type', attribute_names, pack, type_at, unpack}
-use Rattle.td_value.specs.Values.{IsRelation, Relation, Tuple, Val}
+use Rattle.td_value.specs.Values.{IsRelation, Relation, Tuple, Val, relation_value}
 
 -- a plan of what stands for an expression is one of the expression
 pub stands_planned : (scope : Scope) (p : PlanTree) (e d : Tree) → MayStandFor scope e d → IsPlanOfTyped scope p e → IsPlanOfTyped scope p d
@@ -51,12 +51,12 @@ stands_planned scope p e d stands plan = λ written t is w s fs k hand f.
 
 -- a relation of the heading, whose tuples' values are of their types
 abbrev IsTypedRelation : List DeclaredType → Heading → Relation → Type 0
-IsTypedRelation ds h r = (r.heading ≡ h) × IsOfType ds (relation_as_value r) (types.relation (pack r.heading))
+IsTypedRelation ds h r = (r.heading ≡ h) × IsOfType ds (relation_value r) (types.relation (pack r.heading))
 
 given_of : (ds : List DeclaredType) (h : Heading) (o : Outcome Val) → KeepsType ds (Valued (types.relation (pack h))) o → Gives (IsTypedRelation ds h) o
 given_of ds h (Valued v) p =
     let r = relation_of_value ds h v p in
-    (r.0, valued_is v (relation_as_value r.0) r.1.is_value, (r.1.headed, r.1.typed))
+    (r.0, valued_is v (relation_value r.0) r.1.is_value, (r.1.headed, r.1.typed))
 given_of ds h (Refused cs) p = tt
 
 module _ (scope : Scope) (w : World) (s : List Tuple) (k : GivesValues w (outermost scope)) (hand : AreInHand scope s) where
@@ -96,8 +96,8 @@ module _ (scope : Scope) (w : World) (s : List Tuple) (k : GivesValues w (outerm
       → (q : Relation) → value_of w s d ≡ of_relation q → AsksOnlyOf names q (λ t. value_of w (t ∷ s) e)
   asks_only d e names h written is only q gives =
       let value = subst (KeepsType scope.types (Valued (types.relation (pack h)))) gives (kept_here d (types.relation (pack h)) written is) in
-      let found = relation_of_value scope.types h (relation_as_value q) value in
-      let same : relation_as_value q ≡ relation_as_value found.0 = valued_is (relation_as_value q) (relation_as_value found.0) found.1.is_value in
+      let found = relation_of_value scope.types h (relation_value q) value in
+      let same : relation_value q ≡ relation_value found.0 = valued_is (relation_value q) (relation_value found.0) found.1.is_value in
       let packs : pack q.heading ≡ pack found.0.heading = cc in
       let headed : q.heading ≡ h = sym (unpack_pack q.heading) ∙ ap unpack packs ∙ unpack_pack found.0.heading ∙ found.1.headed in
       names_are_asked w s e names q value.0 (subst (λ g. NamesOnly names g e) (sym headed) only)

@@ -6,7 +6,7 @@ use Rattle.td_check.specs.StaticTypes.{type_of}
 use Rattle.td_eval.proofs.TypedRows.{rows_typed}
 use Rattle.td_eval.proofs.TypedValues.{truth_of}
 use Rattle.td_eval.proofs.UnfailingTrees.{unfailing_expressions_have_values}
-use Rattle.td_eval.specs.ValueTypes.{with_tuples}
+use Rattle.td_eval.specs.Worlds.{with_tuples}
 use Rattle.td_plan.specs.TotalConditions.{UnfailingConditionsAreTotal}
 use Rattle.td_tree.specs.Outcomes.{Valued}
 use Rattle.td_types.specs.Types as types

@@ -1,10 +1,10 @@
 -- What is asked of a relation alone, by the number of its tuples.
 use Rattle.std.specs.Prelude.{ℕ, nat_eq, pos}
-use Rattle.td_eval.specs.OperatorValues.{of_number, of_truth}
+use Rattle.td_eval.specs.OperatorValues.{of_truth}
 use Rattle.td_tree.specs.declared.operator.Measure.{Measure}
 use Rattle.td_tree.specs.declared.operator.Measure.TheVariants as measures
 use Rattle.td_tree.specs.Outcomes.{Outcome}
-use Rattle.td_value.specs.Values.{Val}
+use Rattle.td_value.specs.Values.{Val, of_number}
 
 -- the count of so many tuples, and whether there is none
 abbrev pub number_measured : Measure → ℕ → Outcome Val

@@ -7,11 +7,11 @@ use Rattle.td_tree.specs.declared.operator.Operator.{Operator}
 use Rattle.td_tree.specs.declared.operator.Operator.TheVariants as operators
 use Rattle.td_tree.specs.Outcomes.{Outcome, Valued, Refused, with_both, with_value}
 use Rattle.td_types.specs.Types.{Heading, attribute_names}
-use Rattle.td_value.specs.Values.{Val, Tuple, Relation, IsRelation, type_of, value_at}
+use Rattle.td_value.specs.Values.{Val, Tuple, Relation, IsRelation, relation_value, type_of, value_at}
 use Rattle.td_algebra.specs.Membership.{IsIn}
 use Rattle.td_algebra.specs.Operators.{restriction}
 use Rattle.td_body.specs.Bodies.{agreeing}
-use Rattle.td_eval.specs.OperatorValues.{comparison_value, is_true, of_relation, of_truth, on_relation, operator_value, relation_as_value, restricted_value}
+use Rattle.td_eval.specs.OperatorValues.{comparison_value, is_true, of_relation, of_truth, on_relation, operator_value, restricted_value}
 use Rattle.td_plan.specs.Equalities.{AsksOnlyOf, HasValues, IsPartOn, has_values, is_at}
 
 -- ---- conditions and operands
@@ -22,7 +22,7 @@ IsTotalIn p r = (t : Tuple) → IsIn t r → (b : Bool) × (p t ≡ of_truth b)
 
 -- an operand gives causes, or a relation of which that holds
 abbrev pub Gives : (Relation → Type 0) → Outcome Val → Type 0
-Gives P (Valued v) = (r : Relation) × (v ≡ relation_as_value r) × P r
+Gives P (Valued v) = (r : Relation) × (v ≡ relation_value r) × P r
 Gives P (Refused cs) = ⊤
 
 -- a relation in whose tuples the condition has a truth value

@@ -78,14 +78,14 @@ ArePartPlans scope h plans parts =
     × HoistsAll none (steps_view plans.once.items) ps (steps_view plans.values.items)
 
 -- the types are those of the new attributes, and of what they are of these are plans, with what is valued once
-abbrev pub AreColumns : Scope → NewColumns → Outcome (List Attribute) → List Tree → Type 0
-AreColumns inner columns types es =
+abbrev pub ArePlannedColumns : Scope → NewColumns → Outcome (List Attribute) → List Tree → Type 0
+ArePlannedColumns inner columns types es =
     (types ≡ Valued (pairs_view columns.attributes.items))
     × (ps : PlanTrees) × ArePlansOfTyped inner ps es × HoistsAll none (steps_view columns.once.items) ps (steps_view columns.values.items)
 
 -- where there are such types; else none
 abbrev pub AreFoundColumns : Scope → Option NewColumns → Outcome (List Attribute) → List Tree → Type 0
-AreFoundColumns inner (Some columns) types es = AreColumns inner columns types es
+AreFoundColumns inner (Some columns) types es = ArePlannedColumns inner columns types es
 AreFoundColumns inner None types es = (xs : List Attribute) → types ≡ Valued xs → ⊥
 
 -- a plan of what is asked of a further tuple in hand, with what is valued once for all such tuples

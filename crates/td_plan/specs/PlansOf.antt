@@ -9,9 +9,9 @@ use Rattle.td_eval.specs.declared.env.Env.{Env}
 use Rattle.td_eval.specs.Sights.{tuples_in_hand}
 use Rattle.td_eval.specs.TreeTexts.{PartsHaveTexts}
 use Rattle.td_eval.specs.TreeValues.{value_of}
-use Rattle.td_eval.specs.ValueTypes.{IsTypedTuple, IsWritten, with_tuples}
+use Rattle.td_eval.specs.ValueTypes.{IsTypedTuple, IsWritten}
 use Rattle.td_eval.specs.UnfailingValues.{GivesValues}
-use Rattle.td_eval.specs.Worlds.{World}
+use Rattle.td_eval.specs.Worlds.{World, with_tuples}
 use Rattle.td_plan.specs.Plans.{Frame, PlanTree, plan_value}
 use Rattle.td_tree.specs.Outcomes.{Valued}
 use Rattle.td_tree.specs.Trees.{NamedTrees, Tree}

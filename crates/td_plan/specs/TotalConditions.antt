@@ -4,24 +4,23 @@ use Rattle.std.specs.List.{AllByRecursion}
 use Rattle.td_check.specs.CannotFail.{cannot_fail}
 use Rattle.td_check.specs.Scopes.{Scope, entered_with}
 use Rattle.td_check.specs.StaticTypes.{type_of}
-use Rattle.td_eval.specs.OperatorValues.{relation_as_value}
 use Rattle.td_eval.specs.TreeNumbers.{HasNumbers}
 use Rattle.td_eval.specs.TreeValues.{value_of}
 use Rattle.td_eval.specs.UnfailingValues.{GivesValues}
-use Rattle.td_eval.specs.ValueTypes.{IsOfType, IsTypedTuple, IsWritten, with_tuples}
-use Rattle.td_eval.specs.Worlds.{World}
+use Rattle.td_eval.specs.ValueTypes.{IsOfType, IsTypedTuple, IsWritten}
+use Rattle.td_eval.specs.Worlds.{World, with_tuples}
 use Rattle.td_plan.specs.EqualitiesOfValues.{IsTotalIn}
 use Rattle.td_tree.specs.Outcomes.{Valued}
 use Rattle.td_tree.specs.Trees.{Tree}
 use Rattle.td_types.specs.Types.{pack}
 use Rattle.td_types.specs.Types as types
-use Rattle.td_value.specs.Values.{Relation, Tuple}
+use Rattle.td_value.specs.Values.{Relation, Tuple, relation_value}
 
 -- a condition that cannot fail in the tuples of a relation has a truth value in each of them
 abbrev pub UnfailingConditionsAreTotal : Type 0
 UnfailingConditionsAreTotal =
     (w : World) (scope : Scope) (s : List Tuple) (r : Relation) (condition : Tree) → GivesValues w scope
-    → AllByRecursion (IsTypedTuple scope.types) s → IsOfType scope.types (relation_as_value r) (types.relation (pack r.heading))
+    → AllByRecursion (IsTypedTuple scope.types) s → IsOfType scope.types (relation_value r) (types.relation (pack r.heading))
     → IsWritten condition → HasNumbers condition
     → type_of (entered_with r.heading (with_tuples scope s)) condition ≡ Valued types.boolean
     → IsTrue (cannot_fail (entered_with r.heading (with_tuples scope s)) condition)

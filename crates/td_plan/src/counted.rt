@@ -1,15 +1,12 @@
 //! What is asked of the tuples of an operand for which a condition is TRUE. They are counted, and
 //! no relation is made of them.
-ghost use Rattle.std.specs.Prelude.{◌≡◌, ℤ, FitsSigned, count_by, map};
-ghost use Rattle.std.specs.Int.{w64};
-ghost use Rattle.std.specs.Option.{SomeIff};
-ghost use Rattle.td_eval.specs.OperatorValues.{measure_value, of_number, restricted_value};
+ghost use Rattle.std.specs.Prelude.{◌≡◌, count_by, map};
+ghost use Rattle.td_eval.specs.OperatorValues.{measure_value, restricted_value};
 ghost use Rattle.td_eval.specs.OperatorValues.{truth_value};
 ghost use Rattle.td_plan.specs.Counted.{number_measured};
 ghost use Rattle.td_tree.specs.Outcomes.{Answers, Outcome, gathered, with_value};
 ghost use Rattle.td_value.specs.Values.{Relation, Tuple, Val};
 
-use td_tree::cause::Cause;
 use td_tree::fault::Fault;
 use td_tree::operator::Measure;
 use td_value::value::Value;
@@ -27,23 +24,12 @@ fn true_count(truths: &[bool]) -> usize
     count
 }
 
-/// The value of a number, if it is in range.
-fn in_range(found: Option<i64>) -> Result<Value, Fault>
-    ensures { (z : ℤ) → SomeIff found (FitsSigned w64 z) z
-        → Answers (λ v. v) result (of_number z) }
-{
-    match found {
-        Some(z) => Ok(Value::int(z)),
-        None => Err(Fault::Refused(Cause::Overflow)),
-    }
-}
-
 /// What is asked of so many tuples.
 fn number_measured(op: Measure, count: usize) -> Result<Value, Fault>
     ensures { Answers (λ v. v) result (number_measured op count) }
 {
     match op {
-        Measure::Count => in_range(i64::try_from(count).ok()),
+        Measure::Count => Value::in_range(i64::try_from(count).ok()),
         Measure::IsEmpty => Ok(Value::bool(count == 0)),
     }
 }

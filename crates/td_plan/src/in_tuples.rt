@@ -3,8 +3,8 @@
 ghost use Rattle.std.specs.Prelude.{◌≡◌, IfOk, List};
 ghost use Rattle.td_check.specs.Scopes.{Scope, entered_with};
 ghost use Rattle.td_check.specs.StaticTypes.{named_types, type_of};
-ghost use Rattle.td_plan.specs.PlannedParts.{AreColumns, ArePlanned, IsBoxPlanned, IsPlanned};
-ghost use Rattle.td_plan.specs.PlannedParts.{IsPulled, in_named};
+ghost use Rattle.td_plan.specs.PlannedParts.{ArePlanned, IsBoxPlanned, IsPlanned};
+ghost use Rattle.td_plan.specs.PlannedParts.{ArePlannedColumns, IsPulled, in_named};
 ghost use Rattle.td_tree.specs.Outcomes.{Outcome, Valued};
 ghost use Rattle.td_tree.specs.Trees as trees;
 ghost use Rattle.td_tree.specs.Trees.{Tree};
@@ -39,7 +39,7 @@ pub(crate) fn new_columns(
 ) -> Result<NewColumns, AllocError>
     ensures { (inner : Scope) (types : Outcome (List Attribute)) (es : List Tree)
         → types ≡ Valued (pairs_view attributes.items) → ArePlanned inner steps es
-        → IfOk result (λ columns. AreColumns inner columns types es) }
+        → IfOk result (λ columns. ArePlannedColumns inner columns types es) }
 {
     let mut once = Vec::new(alloc);
     let values = all_pulled(alloc, steps?, &mut once)?;
@@ -99,7 +99,7 @@ pub(crate) fn extension_step(
 ) -> Result<Step, AllocError>
     ensures { (scope : Scope) (d : Tree) (es : trees.NamedTrees) (h : Heading)
         → IsBoxPlanned scope operand d → type_of scope d ≡ Valued (types.relation (pack h))
-        → AreColumns (entered_with h scope) columns (named_types (entered_with h scope) es)
+        → ArePlannedColumns (entered_with h scope) columns (named_types (entered_with h scope) es)
         (in_named es)
         → IsPlanned scope result (trees.extend d es) }
 {

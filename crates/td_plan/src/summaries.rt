@@ -4,7 +4,8 @@ ghost use Rattle.td_check.specs.Scopes.{Scope, entered_with};
 ghost use Rattle.td_check.specs.StaticTypes.{type_of};
 ghost use Rattle.td_eval.specs.AggregateValues.{summary_attributes};
 ghost use Rattle.td_eval.specs.Totals.{asked_by};
-ghost use Rattle.td_plan.specs.PlannedParts.{AreColumns, IsBoxPlanned, IsPlanned, in_summaries};
+ghost use Rattle.td_plan.specs.PlannedParts.{ArePlannedColumns, IsBoxPlanned, IsPlanned};
+ghost use Rattle.td_plan.specs.PlannedParts.{in_summaries};
 ghost use Rattle.td_plan.specs.PlansOf.{IsPlanOfTyped};
 ghost use Rattle.td_plan.specs.StepViews.{step_view};
 ghost use Rattle.td_plan.specs.SummaryItems.{aggregates_in};
@@ -90,7 +91,7 @@ pub(crate) fn summary_step(
         → IsBoxPlanned scope operand d → IsBoxPlanned scope per q
         → type_of scope d ≡ Valued (types.relation (pack h))
         → IfOk aggregates (λ xs. xs.items ≡ aggregates_in items)
-        → AreColumns (entered_with h scope) columns
+        → ArePlannedColumns (entered_with h scope) columns
         (summary_attributes (entered_with h scope) items) (in_summaries items)
         → IsPlanned scope result (trees.summarize_per d q items) }
 {
@@ -116,7 +117,7 @@ pub(crate) fn summary_by_step(
     ensures { (scope : Scope) (d : Tree) (items : trees.Summaries) (h : Heading)
         → IsBoxPlanned scope operand d → type_of scope d ≡ Valued (types.relation (pack h))
         → IfOk aggregates (λ xs. xs.items ≡ aggregates_in items)
-        → AreColumns (entered_with h scope) columns
+        → ArePlannedColumns (entered_with h scope) columns
         (summary_attributes (entered_with h scope) items) (in_summaries items)
         → IsPlanned scope result (trees.summarize_by d (attributes_view by.now) items) }
 {

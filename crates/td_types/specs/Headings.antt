@@ -1,5 +1,5 @@
 -- Headings are finite maps from names to types (Tutorial D's), kept as the list of their attributes in name order.
-use Rattle.std.specs.Prelude.{◌≡◌, ℕ, Bool, true, not, ◌&&◌, List, [], ◌∷◌, filter, fold, map, option_map, Option, None, Some, is_some, if◌then◌else◌, IsTrue, ◌↔◌}
+use Rattle.std.specs.Prelude.{◌≡◌, ℕ, Bool, true, false, not, ◌&&◌, List, [], ◌∷◌, filter, fold, map, option_map, Option, None, Some, is_some, if◌then◌else◌, IsTrue, ◌↔◌}
 use Rattle.std.specs.List.{list_all, list_any, prefix_len, slice_get}
 use Rattle.std.specs.Cmp.Lexicographic.{slice_cmp}
 use Rattle.std.specs.Ordering.{eq_by_cmp, is_lt, nat_cmp}
@@ -66,6 +66,11 @@ have_no_common g h = list_all (λ a. not (has_attribute a.0 h)) g
 -- whether each attribute of a heading is one of another, with its type
 abbrev pub is_part : Heading → Heading → Bool
 is_part g h = list_all (λ a. has_attribute a.0 h && is_type_or_none a.1 (type_at a.0 h)) g
+
+-- whether there are two attributes, of one type
+abbrev pub is_closable : Heading → Bool
+is_closable (a ∷ b ∷ []) = eq_by_cmp type_cmp a.1 b.1
+is_closable _ = false
 
 -- ---- renaming, by pairs of an old and a new name
 

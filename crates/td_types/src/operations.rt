@@ -2,7 +2,8 @@
 ghost use Rattle.std.specs.Prelude.{◌≡◌, IfOk};
 ghost use Rattle.td_tree.specs.Outcomes.{Answers};
 ghost use Rattle.td_types.specs.Headings.{IsMap, agree, common_heading, has_attributes};
-ghost use Rattle.td_types.specs.Headings.{has_projection, have_no_common, is_part, outside};
+ghost use Rattle.td_types.specs.Headings.{has_projection, have_no_common, is_closable, is_part};
+ghost use Rattle.td_types.specs.Headings.{outside};
 ghost use Rattle.td_types.specs.Headings.{projected_heading, reduced_heading, types_among};
 ghost use Rattle.td_types.specs.Headings.{types_in_both, types_in_either, types_outside};
 ghost use Rattle.td_types.specs.Headings.{types_without, united_heading, without_attribute};
@@ -65,6 +66,16 @@ impl Heading {
             }
         }
         true
+    }
+
+    /// Whether there are two attributes, of one type.
+    pub fn is_closable(&self) -> bool
+        ensures { result ≡ is_closable self.now }
+    {
+        match (self.at(0), self.at(1)) {
+            (Some((_, first)), Some((_, second))) => self.len() == 2 && first == second,
+            _ => false,
+        }
     }
 
     /// The heading without the attribute of that name: refused where it has none.

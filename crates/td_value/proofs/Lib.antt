@@ -10,6 +10,7 @@ pub mod LiteralSpellings
 pub mod Maps
 pub mod Members
 pub mod Named
+pub mod Packed
 pub mod Places
 pub mod Rows
 pub mod SetLaws

@@ -11,10 +11,10 @@ use Rattle.std.specs.Bool.{Decides}
 use Rattle.td_value.specs.Hashes.{fed_value, fed_tuple, fed_relation}
 use Rattle.std.proofs.lemmas.Cmp.{on_total, then_total, nat_list_cmp_total, tied_itself}
 use Rattle.td_types.specs.Keys.{Key, key_cmp, keys_cmp, key_cmp_total, key_same, list_same, nat_same, then_equal}
-use Rattle.td_types.specs.Types.{Attrs, no_attrs, unpack, pack}
+use Rattle.td_types.specs.Types.{Attrs, no_attrs, unpack}
 use Rattle.td_types.specs.TypeCode.{unpack_pack}
 use Rattle.td_types.specs.TypeOrder.{attrs_cmp-keys}
-use Rattle.td_value.specs.Values.{Val, boolean, integer, char, user, tuple, relation, Parts, no_parts, part, Fields, no_fields, field, Rows, no_rows, row, Tuple, Relation, pack_fields, unpack_fields, pack_rows, unpack_rows, value_cmp, parts_cmp, fields_cmp, rows_cmp, tuple_cmp, relation_cmp, entry_cmp}
+use Rattle.td_value.specs.Values.{Val, boolean, integer, char, user, tuple, relation, Parts, no_parts, part, Fields, no_fields, field, Rows, no_rows, row, Tuple, Relation, unpack_fields, unpack_rows, value_cmp, parts_cmp, fields_cmp, rows_cmp, tuple_cmp, relation_cmp, relation_value, tuple_value, entry_cmp}
 use Rattle.td_value.specs.ValueCode.{val_key, parts_keys, fields_keys, rows_keys, bit, val_from, val_back, unpack_pack_fields, unpack_pack_rows}
 
 then_equal_right : (o : Ordering) → ordering_then o Equal ≡ o
@@ -72,26 +72,18 @@ order_total = total_by value_cmp val_key order-key
 pub order_same : (v w : Val) → value_cmp v w ≡ Equal → v ≡ w
 order_same v w e = sym (val_back v) ∙ ap val_from (key_same (val_key v) (val_key w) (sym (order-key v w) ∙ e)) ∙ val_back w
 
--- a tuple as a value
-abbrev pub entries_value : Tuple → Val
-entries_value t = tuple (pack_fields t)
-
-pub entries_value_same : (s t : Tuple) → entries_value s ≡ entries_value t → s ≡ t
-entries_value_same s t e = sym (unpack_pack_fields s) ∙ ap (λ v. unpack_fields (fields_in v)) e ∙ unpack_pack_fields t
+tuple_value_same : (s t : Tuple) → tuple_value s ≡ tuple_value t → s ≡ t
+tuple_value_same s t e = sym (unpack_pack_fields s) ∙ ap (λ v. unpack_fields (fields_in v)) e ∙ unpack_pack_fields t
   where
     fields_in : Val → Fields
     fields_in (tuple fs) = fs
     fields_in v = no_fields
 
 pub tuple_order_total : IsTotalOrder tuple_cmp
-tuple_order_total = on_total entries_value order_total
+tuple_order_total = on_total tuple_value order_total
 
 pub tuple_order_same : (s t : Tuple) → tuple_cmp s t ≡ Equal → s ≡ t
-tuple_order_same s t e = entries_value_same s t (order_same (entries_value s) (entries_value t) e)
-
--- a relation as a value
-abbrev pub relation_value : Relation → Val
-relation_value r = relation (pack r.heading) (pack_rows r.body)
+tuple_order_same s t e = tuple_value_same s t (order_same (tuple_value s) (tuple_value t) e)
 
 pub relation_order_total : IsTotalOrder relation_cmp
 relation_order_total = on_total relation_value order_total

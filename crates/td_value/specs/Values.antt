@@ -1,5 +1,5 @@
 -- Values, tuples and relations (a relation is a set of tuples, as in Tutorial D; the order of values is this project's own).
-use Rattle.std.specs.Prelude.{◌≡◌, ℕ, ◌-◌, ◌^◌, ℤ, pos, ◌≤ℤ◌, negsuc, Bool, List, [], ◌∷◌, filter, map, Option, Some, None, if◌then◌else◌, not, IsUtf8, ◌↔◌, ⊤}
+use Rattle.std.specs.Prelude.{◌≡◌, ℕ, ◌-◌, ◌^◌, ℤ, pos, ◌≤ℤ◌, negsuc, nat_lt, Bool, List, [], ◌∷◌, filter, map, Option, Some, None, if◌then◌else◌, not, IsUtf8, ◌↔◌, ⊤}
 use Rattle.std.specs.Ordering.{nat_cmp, int_cmp, bool_cmp, eq_by_cmp, ordering_then}
 use Rattle.std.specs.declared.cmp.Ordering.{Ordering}
 use Rattle.std.specs.declared.cmp.Ordering.TheVariants.{Less, Equal, Greater}
@@ -78,6 +78,13 @@ unpack_rows (row fs rs) = unpack_fields fs ∷ unpack_rows rs
 -- a user value as a value
 abbrev pub selected_value : UserValue → Val
 selected_value u = user u.name (pack_parts u.components)
+
+-- a tuple and a relation as values
+abbrev pub tuple_value : Tuple → Val
+tuple_value t = tuple (pack_fields t)
+
+abbrev pub relation_value : Relation → Val
+relation_value r = relation (pack r.heading) (pack_rows r.body)
 
 -- ---- the order of values (this project's own): FALSE before TRUE, numbers by size, texts by their bytes in UTF-8, user
 -- values by their components in declared order, tuples by their values in name order, relations by their ascending lists
@@ -168,6 +175,15 @@ HaveTypesOf vs components = map type_of vs ≡ map (λ a. a.1) components
 -- the numbers of INTEGER (this project's own range)
 abbrev pub IsInRange : ℤ → Type 0
 IsInRange z = (negsuc (2 ^ 63 - 1) ≤ℤ z) × (z ≤ℤ pos (2 ^ 63 - 1))
+
+-- whether a number is one of them
+abbrev pub is_in_range : ℤ → Bool
+is_in_range (pos n) = nat_lt n (2 ^ 63)
+is_in_range (negsuc n) = nat_lt n (2 ^ 63)
+
+-- the value of a number: one out of range is OVERFLOW
+abbrev pub of_number : ℤ → Outcome Val
+of_number z = value_if (is_in_range z) (integer z) causes.Overflow
 
 -- a tuple's names, in order
 abbrev pub tuple_names : Tuple → List (List ℕ)

@@ -1,9 +1,12 @@
 //! Values.
-ghost use Rattle.std.specs.Prelude.{◌≡◌, IfOk};
-ghost use Rattle.td_value.specs.Values.{boolean, integer, pack_fields, pack_rows, relation};
-ghost use Rattle.td_value.specs.Values.{selected_value, char, tuple};
+ghost use Rattle.std.specs.Prelude.{◌≡◌, ℤ, FitsSigned, IfOk};
+ghost use Rattle.std.specs.Int.{w64};
+ghost use Rattle.std.specs.Option.{SomeIff};
 ghost use Rattle.std.specs.Rc.{rc_str_bytes};
+ghost use Rattle.td_tree.specs.Outcomes.{Answers};
 ghost use Rattle.td_types.specs.Types.{pack};
+ghost use Rattle.td_value.specs.Values.{boolean, char, integer, of_number, pack_fields, pack_rows};
+ghost use Rattle.td_value.specs.Values.{relation, selected_value, tuple};
 
 use crate::relation::Rel;
 use crate::tuple::Tuple;
@@ -11,6 +14,8 @@ use crate::user::User;
 use std::alloc::{AllocError, Global};
 use std::marker::Model;
 use std::rc::{Rc, RcStr};
+use td_tree::cause::Cause;
+use td_tree::fault::Fault;
 
 /// A value of any type. A copy of it shares what it is made of.
 #[cycle(value)]
@@ -74,6 +79,17 @@ impl Value {
         ensures { result ≡ integer n }
     {
         Value { node: Node::Int(n) }
+    }
+
+    /// The value of a number, if it was found: one out of range is refused.
+    pub fn in_range(found: Option<i64>) -> Result<Value, Fault>
+        ensures { (z : ℤ) → SomeIff found (FitsSigned w64 z) z
+            → Answers (λ v. v) result (of_number z) }
+    {
+        match found {
+            Some(z) => Ok(Value::int(z)),
+            None => Err(Fault::Refused(Cause::Overflow)),
+        }
     }
 
     /// The value of the text.

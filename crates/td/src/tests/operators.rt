@@ -12,7 +12,7 @@ use td_algebra::projection::project;
 use td_algebra::renaming::rename;
 use td_algebra::restriction::restrict;
 use td_algebra::setting::set_all;
-use td_group::closure::{is_closable, tclose};
+use td_group::closure::tclose;
 use td_group::grouping::group;
 use td_group::nesting::{can_nest, can_unnest};
 use td_group::unnesting::{ungroup, unwrap};
@@ -136,7 +136,7 @@ fn projected(alloc: Global, rel: &Rel, names: &[Name]) -> Result<Rel, Fault> {
 
 /// The relation's closure.
 fn closed(alloc: Global, rel: &Rel) -> Result<Rel, Fault> {
-    if !is_closable(rel.heading()) {
+    if !rel.heading().is_closable() {
         return Err(MISFIT);
     }
     made(tclose(alloc, rel))

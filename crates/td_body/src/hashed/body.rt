@@ -4,7 +4,7 @@ ghost use Rattle.std.specs.List.{All};
 ghost use Rattle.td_value.specs.Values.{IsTupleOf};
 ghost use Rattle.td_value.specs.Views.{relation_view};
 ghost use Rattle.td_body.specs.Bodies.{after_change};
-ghost use Rattle.td_body.specs.HashBodies.{IsPlacedFor, kept_by};
+ghost use Rattle.td_body.specs.HashBodies.{IsPlacedFor, kept_with_aside};
 ghost use Rattle.td_body.specs.Histories.{changed_set};
 
 use super::look_ups::{found_by_key, holds_of};
@@ -35,7 +35,7 @@ impl Model for HashBody {
     ghost use Rattle.std.specs.Prelude.{map};
     ghost use Rattle.td_body.specs.Bodies.{BodyView};
     ghost use Rattle.td_body.specs.BodyCode.{body_code};
-    ghost use Rattle.td_body.specs.HashBodies.{IsHashBody, kept_by};
+    ghost use Rattle.td_body.specs.HashBodies.{IsHashBody, kept_with_aside};
 
     ghost Value = { BodyView };
 
@@ -44,7 +44,7 @@ impl Model for HashBody {
     ghost view = { λ b. record {
       relation = b.members.relation;
       keys = map (λ key. key.items) b.keys.value.items;
-      kept = kept_by b.aside.items b.members;
+      kept = kept_with_aside b.aside.items b.members;
     } };
 
     ghost invariant = { λ b.
@@ -170,10 +170,11 @@ fn change_members(
     requires placed_aside { All (IsPlacedFor (map (λ key. key.items) keys.now)) aside.old.items }
     ensures relation { OnOk result
         (members.new.relation ≡ after_change out.now add.now members.old.relation) }
-    ensures kept { OnOk result (kept_by aside.new.items members.new
-        ≡ kept_by aside.old.items members.old ++ members.old.relation ∷ []) }
+    ensures kept { OnOk result (kept_with_aside aside.new.items members.new
+        ≡ kept_with_aside aside.old.items members.old ++ members.old.relation ∷ []) }
     ensures same { OnErr result ((members.new.relation ≡ members.old.relation)
-        × (kept_by aside.new.items members.new ≡ kept_by aside.old.items members.old)) }
+        × (kept_with_aside aside.new.items members.new
+        ≡ kept_with_aside aside.old.items members.old)) }
     ensures placed { IsPlacedFor (map (λ key. key.items) keys.now) members.new }
     ensures placed_aside { All (IsPlacedFor (map (λ key. key.items) keys.now)) aside.new.items }
 {

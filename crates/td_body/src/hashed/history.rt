@@ -2,7 +2,7 @@
 ghost use Rattle.std.specs.Prelude.{◌≡◌, ◌∷◌, ◌++◌, [], ◌+◌, ◌<◌, ◌≤◌, IfOk, OnOk, length};
 ghost use Rattle.std.specs.Prelude.{vec_capacity, vec_len};
 ghost use Rattle.td_value.specs.Values.{IsAscendingBody};
-ghost use Rattle.td_body.specs.Histories.{changed_set, dropped_in, kept_sets, put_tuple};
+ghost use Rattle.td_body.specs.Histories.{changed_set, dropped_tuples_in, kept_sets, put_tuple};
 ghost use Rattle.td_body.specs.KeyIndexes.{without};
 
 use super::index::{KeyIndex, Piece};
@@ -23,7 +23,7 @@ pub(crate) struct KeyHistory {
     pub(crate) dropped: usize,
     /// The tuples that the change under way puts in.
     pub(crate) pending: Vec<Entry>,
-    ghost counted: { dropped ≡ dropped_in log.items },
+    ghost counted: { dropped ≡ dropped_tuples_in log.items },
     ghost fits: { dropped ≤ index.room },
 }
 

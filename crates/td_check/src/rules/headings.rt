@@ -22,7 +22,7 @@ pub(crate) fn attribute_type<'a>(heading: &'a Heading, name: &Name) -> Result<&'
 
 /// The attributes that are named, or those that are not: refused where a name is not there or
 /// comes twice.
-pub(crate) fn named_part(heading: &Heading, attributes: &Attributes) -> Result<Heading, Fault>
+pub fn named_part(heading: &Heading, attributes: &Attributes) -> Result<Heading, Fault>
     ensures { Answers (λ h. h) result (named_part (attributes_view attributes.now) heading.now) }
 {
     match attributes {

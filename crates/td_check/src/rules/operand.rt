@@ -1,7 +1,6 @@
 //! The rules of operators with one operand.
 ghost use Rattle.std.specs.Prelude.{◌≡◌, ◌||◌, option_map};
 ghost use Rattle.std.specs.Rc.{rc_str_bytes};
-ghost use Rattle.td_check.specs.Closures.{has_two_of_one_type};
 ghost use Rattle.td_check.specs.OperatorTypes.{aggregate_type, closure_type, component_type};
 ghost use Rattle.td_check.specs.OperatorTypes.{extracted_type, if_type, measure_type, prefix_type};
 ghost use Rattle.td_check.specs.OperatorTypes.{same_type};
@@ -64,20 +63,10 @@ pub(crate) fn prefix_type(op: Prefix, operand: &Ty) -> Result<Ty, Fault>
 fn closure_type(heading: &Heading) -> Result<Ty, Fault>
     ensures { Answers type_view result (closure_type heading.now) }
 {
-    if has_two_of_one_type(heading) {
+    if heading.is_closable() {
         Ok(Ty::Rel(heading.try_clone()?))
     } else {
         Err(Fault::Refused(Cause::Heading))
-    }
-}
-
-/// Whether there are two attributes, of one type.
-fn has_two_of_one_type(heading: &Heading) -> bool
-    ensures { result ≡ has_two_of_one_type heading.now }
-{
-    match (heading.at(0), heading.at(1)) {
-        (Some((_, first)), Some((_, second))) => heading.len() == 2 && first == second,
-        _ => false,
     }
 }
 

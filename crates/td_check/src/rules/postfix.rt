@@ -28,7 +28,10 @@ fn projected_type(heading: &Heading, attributes: &Attributes) -> Result<Ty, Faul
 }
 
 /// The renamings as pairs of an old and a new name.
-fn renaming_pairs(alloc: Global, renamings: &[Renaming]) -> Result<Vec<(Name, Name)>, AllocError>
+pub fn renaming_pairs(
+    alloc: Global,
+    renamings: &[Renaming],
+) -> Result<Vec<(Name, Name)>, AllocError>
     ensures { IfOk result (λ pairs.
         pairs.items ≡ renaming_pairs (map renaming_view renamings.now)) }
 {

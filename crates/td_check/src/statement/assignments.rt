@@ -5,8 +5,9 @@ ghost use Rattle.td_check.specs.ScopeCode.{seen_view};
 ghost use Rattle.td_check.specs.Scopes.{KnownRelvar, kind_and_heading, known_relvar};
 ghost use Rattle.td_check.specs.StaticTypes.{named_types, type_of};
 ghost use Rattle.td_check.specs.StatementTypes.{assignment_checked, both_hold, condition_fits};
-ghost use Rattle.td_check.specs.StatementTypes.{condition_type, in_target, is_target};
+ghost use Rattle.td_check.specs.StatementTypes.{in_target, is_target};
 ghost use Rattle.td_check.specs.StatementTypes.{setting_fits, settings_fit, source_fits};
+ghost use Rattle.td_check.specs.StatementTypes.{type_if_given};
 ghost use Rattle.td_tree.specs.Outcomes.{Answers, Valued, gathered, with_both, with_value};
 ghost use Rattle.td_tree.specs.TreeViews.{assignment_view, named_view, tree_view};
 ghost use Rattle.td_types.specs.Types.{Heading};
@@ -94,7 +95,7 @@ fn check_deletion(
     ensures { (target : Option KnownRelvar)
         → option_map seen_view known.entry ≡ option_map kind_and_heading target
         → Answers (λ u. u) result (in_target scope.now target (λ inside h. with_value
-        (condition_type inside (option_map (λ e. tree_view e.now) condition.entry))
+        (type_if_given inside (option_map (λ e. tree_view e.now) condition.entry))
         condition_fits)) }
 {
     match known {
@@ -112,7 +113,7 @@ fn check_delete(scope: &Scope<'_>, target: &Name, condition: Option<&Expr>) -> R
     ensures { Answers (λ u. u) result
         (both_hold (is_target (known_relvar scope.now target.now))
         (in_target scope.now (known_relvar scope.now target.now) (λ inside h. with_value
-        (condition_type inside (option_map (λ e. tree_view e.now) condition.entry))
+        (type_if_given inside (option_map (λ e. tree_view e.now) condition.entry))
         condition_fits))) }
 {
     let known = scope.relvar(target);
@@ -158,7 +159,7 @@ fn update_fits(
 ) -> Result<(), Fault>
     ensures { Answers (λ u. u) result
         (with_both
-        (condition_type (scope_at place.now) (option_map (λ e. tree_view e.now) condition.entry))
+        (type_if_given (scope_at place.now) (option_map (λ e. tree_view e.now) condition.entry))
         (named_types (scope_at place.now) (named_view settings.now))
         (λ c values. both_hold (condition_fits c) (settings_fit heading.now values))) }
 {
@@ -178,7 +179,7 @@ fn check_settings(
     ensures { (target : Option KnownRelvar)
         → option_map seen_view known.entry ≡ option_map kind_and_heading target
         → Answers (λ u. u) result (in_target scope.now target (λ inside h. with_both
-        (condition_type inside (option_map (λ e. tree_view e.now) condition.entry))
+        (type_if_given inside (option_map (λ e. tree_view e.now) condition.entry))
         (named_types inside (named_view settings.now))
         (λ c values. both_hold (condition_fits c) (settings_fit h values)))) }
 {
@@ -201,7 +202,7 @@ fn check_update(
     ensures { Answers (λ u. u) result
         (both_hold (is_target (known_relvar scope.now target.now))
         (in_target scope.now (known_relvar scope.now target.now) (λ inside h. with_both
-        (condition_type inside (option_map (λ e. tree_view e.now) condition.entry))
+        (type_if_given inside (option_map (λ e. tree_view e.now) condition.entry))
         (named_types inside (named_view settings.now))
         (λ c values. both_hold (condition_fits c) (settings_fit h values))))) }
 {

@@ -4,8 +4,8 @@ ghost use Rattle.td_check.specs.OperatorTypes.{over_relation};
 ghost use Rattle.td_check.specs.StaticTypes.{type_of};
 ghost use Rattle.td_check.specs.StatementTypes.{both_hold, components_meant, constraint_fits};
 ghost use Rattle.td_check.specs.StatementTypes.{has_key, heading_rank_fits, holds_or, init_fits};
-ghost use Rattle.td_check.specs.StatementTypes.{init_type, keys_asked, knows_relvar, rank_fits};
-ghost use Rattle.td_check.specs.StatementTypes.{statement_checked};
+ghost use Rattle.td_check.specs.StatementTypes.{keys_asked, knows_relvar, rank_fits};
+ghost use Rattle.td_check.specs.StatementTypes.{statement_checked, type_if_given};
 ghost use Rattle.td_tree.specs.Outcomes.{Answers, with_both, with_value};
 ghost use Rattle.td_tree.specs.TreeViews.{heading_tree_view, statement_view, tree_view};
 ghost use Rattle.td_tree.specs.declared.cause.Cause.TheVariants as causes;
@@ -93,7 +93,7 @@ pub(crate) fn define_type(scope: &Scope<'_>, definition: &TypeDefinition) -> Res
 /// What is asked of a new relvar's name: no relvar has it, base or virtual.
 fn relvar_is_new(scope: &Scope<'_>, name: &Name) -> Result<(), Fault>
     ensures { Answers (λ u. u) result
-        (holds_or causes.NameTaken (not (knows_relvar scope.now name.now))) }
+        (holds_or causes.NameTaken (not (knows_relvar name.now scope.now))) }
 {
     ask(!scope.knows_relvar(name), Cause::NameTaken)
 }
@@ -159,7 +159,7 @@ fn check_base(scope: &Scope<'_>, definition: &BaseDefinition) -> Result<(), Faul
     ensures { Answers (λ u. u) result
         (with_both
         (heading_meant scope.now.types (heading_tree_view definition.now.heading.items))
-        (init_type scope.now (option_map tree_view definition.now.init))
+        (type_if_given scope.now (option_map tree_view definition.now.init))
         (λ h t. both_hold (init_fits h t)
         (both_hold
         (both_hold (has_key (map (λ key. key.items) definition.now.keys.items))

@@ -4,8 +4,8 @@ ghost use Rattle.td_check.specs.OperatorTypes.{if_type};
 ghost use Rattle.td_check.specs.PlaceViews.{scope_at};
 ghost use Rattle.td_check.specs.Scopes.{entered_with};
 ghost use Rattle.td_check.specs.StaticTypes.{type_of};
-ghost use Rattle.td_check.specs.StatementTypes.{both_hold, condition_fits, condition_type};
-ghost use Rattle.td_check.specs.StatementTypes.{relation_fits};
+ghost use Rattle.td_check.specs.StatementTypes.{both_hold, condition_fits};
+ghost use Rattle.td_check.specs.StatementTypes.{relation_fits, type_if_given};
 ghost use Rattle.td_tree.specs.Outcomes.{Answers, Outcome, with_value};
 ghost use Rattle.td_tree.specs.TreeViews.{tree_view};
 ghost use Rattle.td_types.specs.Types.{boolean};
@@ -36,7 +36,7 @@ pub(crate) fn type_if_given(
     expression: Option<&Expr>,
     place: &Place<'_, '_, '_>,
 ) -> Result<Option<Ty>, Fault>
-    ensures { Answers (option_map type_view) result (condition_type (scope_at place.now)
+    ensures { Answers (option_map type_view) result (type_if_given (scope_at place.now)
         (option_map (λ e. tree_view e.now) expression.entry)) }
 {
     match expression {

@@ -1,25 +1,12 @@
 //! The values of operators between two numbers.
-ghost use Rattle.std.specs.Prelude.{ℤ, FitsSigned};
-ghost use Rattle.std.specs.Int.{w64};
-ghost use Rattle.std.specs.Option.{SomeIff};
-ghost use Rattle.td_eval.specs.OperatorValues.{of_number, on_number, operator_value};
+ghost use Rattle.std.specs.Prelude.{ℤ};
+ghost use Rattle.td_eval.specs.OperatorValues.{on_number, operator_value};
 ghost use Rattle.td_tree.specs.Outcomes.{Answers, Valued};
 ghost use Rattle.td_tree.specs.declared.operator.Operator.TheVariants as operators;
 
 use td_tree::cause::Cause;
 use td_tree::fault::Fault;
 use td_value::value::{Node, Value};
-
-/// The value of a number, if it was found: one out of range is refused.
-pub(crate) fn in_range(found: Option<i64>) -> Result<Value, Fault>
-    ensures { (z : ℤ) → SomeIff found (FitsSigned w64 z) z
-        → Answers (λ v. v) result (of_number z) }
-{
-    match found {
-        Some(z) => Ok(Value::int(z)),
-        None => Err(Fault::Refused(Cause::Overflow)),
-    }
-}
 
 /// The numbers of two values: others are refused.
 fn numbers(first: &Value, second: &Value) -> Result<(i64, i64), Fault>
@@ -37,7 +24,7 @@ pub(crate) fn sum(first: &Value, second: &Value) -> Result<Value, Fault>
     ensures { Answers (λ v. v) result (operator_value operators.Add first.now second.now) }
 {
     let (x, y) = numbers(first, second)?;
-    in_range(x.checked_add(y))
+    Value::in_range(x.checked_add(y))
 }
 
 /// The difference of two numbers.
@@ -45,7 +32,7 @@ pub(crate) fn difference(first: &Value, second: &Value) -> Result<Value, Fault>
     ensures { Answers (λ v. v) result (operator_value operators.Subtract first.now second.now) }
 {
     let (x, y) = numbers(first, second)?;
-    in_range(x.checked_sub(y))
+    Value::in_range(x.checked_sub(y))
 }
 
 /// The product of two numbers.
@@ -53,7 +40,7 @@ pub(crate) fn product(first: &Value, second: &Value) -> Result<Value, Fault>
     ensures { Answers (λ v. v) result (operator_value operators.Multiply first.now second.now) }
 {
     let (x, y) = numbers(first, second)?;
-    in_range(x.checked_mul(y))
+    Value::in_range(x.checked_mul(y))
 }
 
 /// The quotient of two numbers, truncated toward zero: a zero divisor is refused.
@@ -64,5 +51,5 @@ pub(crate) fn quotient(first: &Value, second: &Value) -> Result<Value, Fault>
     if y == 0 {
         return Err(Fault::Refused(Cause::ZeroDivisor));
     }
-    in_range(x.checked_div(y))
+    Value::in_range(x.checked_div(y))
 }

@@ -7,7 +7,6 @@ ghost use Rattle.td_tree.specs.Outcomes.{Answers};
 ghost use Rattle.td_tree.specs.TreeViews.{literal_view};
 ghost use Rattle.td_tree.specs.Trees.{table_dee, table_dum};
 
-use crate::operators::arithmetic::in_range;
 use crate::operators::relational::as_value;
 use std::alloc::Global;
 use td_tree::expression::{Literal, MAX_MAGNITUDE};
@@ -52,7 +51,7 @@ pub fn literal_value(alloc: Global, literal: &Literal) -> Result<Value, Fault>
     ensures { Answers (λ v. v) result (literal_value (literal_view literal.now)) }
 {
     match literal {
-        Literal::Number { minus, magnitude } => in_range(signed(*minus, *magnitude)),
+        Literal::Number { minus, magnitude } => Value::in_range(signed(*minus, *magnitude)),
         Literal::Text(content) => Ok(Value::shared_text(content.clone()?)),
         Literal::Truth(b) => Ok(Value::bool(*b)),
         Literal::TableDee => table_dee(alloc),

@@ -1,5 +1,4 @@
 //! The values of operators that put attributes into one.
-ghost use Rattle.td_check.specs.OperatorTypes.{named_part};
 ghost use Rattle.td_eval.specs.OperatorValues.{nested_names, of_relation};
 ghost use Rattle.td_group.specs.Nesting.{grouped_relation, wrapped_relation};
 ghost use Rattle.td_tree.specs.Outcomes.{Answers, with_value};
@@ -8,6 +7,7 @@ ghost use Rattle.td_tree.specs.TreeViews.{attributes_view};
 use crate::operators::postfix::names_in;
 use crate::operators::relational::{as_value, fit};
 use std::alloc::Global;
+use td_check::rules::headings::named_part;
 use td_group::grouping::group;
 use td_group::nesting::can_nest;
 use td_group::wrapping::wrap;
@@ -17,19 +17,6 @@ use td_tree::name::Name;
 use td_types::heading::Heading;
 use td_value::relation::Rel;
 use td_value::value::Value;
-
-/// Some of the attributes: refused where one that is listed is not there or comes twice.
-fn part_of(heading: &Heading, attributes: &Attributes) -> Result<Heading, Fault>
-    ensures { Answers (λ h. h) result (named_part (attributes_view attributes.now) heading.now) }
-{
-    match attributes {
-        Attributes::Only(names) => heading.project(names),
-        Attributes::AllBut(names) => {
-            let named = heading.project(names)?;
-            Ok(heading.lacking(&named)?)
-        }
-    }
-}
 
 /// The names of the attributes that are put into a new one: refused where that can't be done.
 fn nested_names(
@@ -41,7 +28,7 @@ fn nested_names(
     ensures { Answers (λ ns. ns.items) result
         (nested_names (attributes_view attributes.now) name.now heading.now) }
 {
-    let part = part_of(heading, attributes)?;
+    let part = named_part(heading, attributes)?;
     let names = names_in(alloc, &part)?;
     fit(can_nest(heading, &names, name))?;
     Ok(names)

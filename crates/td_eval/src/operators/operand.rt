@@ -10,7 +10,6 @@ ghost use Rattle.td_types.specs.Types.{attribute_names};
 ghost use Rattle.td_types.specs.Views.{pairs_view};
 ghost use Rattle.td_value.specs.Values.{selected_value, value_at};
 
-use crate::operators::arithmetic::in_range;
 use crate::operators::asked::{known, relation_in, truth, tuple_in};
 use crate::operators::unnesting::closed;
 use std::alloc::Global;
@@ -30,7 +29,7 @@ fn negated(operand: &Value) -> Result<Value, Fault>
     ensures { Answers (λ v. v) result (prefix_value prefixes.Negate operand.now) }
 {
     match &operand.node {
-        Node::Int(z) => in_range(z.checked_neg()),
+        Node::Int(z) => Value::in_range(z.checked_neg()),
         _ => Err(Fault::Refused(Cause::TypeMismatch)),
     }
 }
@@ -115,7 +114,7 @@ pub fn measure_value(op: Measure, operand: &Value) -> Result<Value, Fault>
 {
     let count = relation_in(operand)?.rows().len();
     match op {
-        Measure::Count => in_range(i64::try_from(count).ok()),
+        Measure::Count => Value::in_range(i64::try_from(count).ok()),
         Measure::IsEmpty => Ok(Value::bool(count == 0)),
     }
 }

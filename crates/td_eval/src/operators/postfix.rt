@@ -17,6 +17,7 @@ use crate::operators::unnesting::{ungrouped, unwrapped};
 use std::alloc::{AllocError, Global};
 use td_algebra::projection::project;
 use td_algebra::renaming::rename;
+use td_check::rules::postfix::renaming_pairs;
 use td_tree::expression::{Attributes, Postfix, Renaming};
 use td_tree::fault::Fault;
 use td_tree::name::Name;
@@ -78,20 +79,6 @@ pub fn projected_by(alloc: Global, operand: &Value, attributes: &Attributes) -> 
         (postfix_value (project (attributes_view attributes.now)) operand.now) }
 {
     projected(alloc, relation_in(operand)?, attributes)
-}
-
-/// The renamings as pairs of an old and a new name.
-fn renaming_pairs(alloc: Global, renamings: &[Renaming]) -> Result<Vec<(Name, Name)>, AllocError>
-    ensures { IfOk result (λ pairs.
-        pairs.items ≡ renaming_pairs (map renaming_view renamings.now)) }
-{
-    let mut pairs = Vec::with_capacity(alloc, renamings.len())?;
-    for renaming in renamings {
-        let old = renaming.old.try_clone()?;
-        let new = renaming.new.try_clone()?;
-        pairs.push((old, new))?;
-    }
-    Ok(pairs)
 }
 
 /// The relation with attributes renamed.

@@ -10,7 +10,7 @@ ghost use Rattle.td_eval.specs.Totals.{AreTotalsFor, asked_by, attribute_found, 
 ghost use Rattle.td_eval.specs.Totals.{total_of};
 ghost use Rattle.td_eval.specs.Totals.{total_values, total_view};
 ghost use Rattle.td_eval.specs.TreeValues.{items_in_tuples};
-ghost use Rattle.td_eval.specs.Worlds.{scope_among};
+ghost use Rattle.td_eval.specs.Worlds.{with_tuples};
 ghost use Rattle.td_group.specs.Groups.{groups};
 ghost use Rattle.td_tree.specs.Outcomes.{Answers, Outcome, Valued, gathered, value_if, with_value};
 ghost use Rattle.td_tree.specs.TreeViews.{summaries_view};
@@ -109,7 +109,7 @@ fn new_attributes<B: Body>(
     requires { IsSight sight.now }
     ensures { Answers (λ xs. pairs_view xs.items) result
         (summary_attributes (entered_with rel.now.heading
-        (scope_among (seen_by sight.now) (reverse tuples.now))) (summaries_view items.now)) }
+        (with_tuples (seen_by sight.now).scope (reverse tuples.now))) (summaries_view items.now)) }
 {
     let mut scope = sight.scope(tuples)?;
     scope.enter(rel.heading().try_clone()?)?;
@@ -221,7 +221,7 @@ pub(crate) fn summarized<B: Body>(
         ≡ Valued (map total_view totals.now) }
     ensures { Answers (λ v. v) result (extended_value
         (summary_attributes (entered_with rel.now.heading
-        (scope_among (seen_by sight.now) (reverse tuples.now))) (summaries_view items.now))
+        (with_tuples (seen_by sight.now).scope (reverse tuples.now))) (summaries_view items.now))
         (map (summary_in rel.now per.now)
         (items_in_tuples (seen_by sight.now) (reverse tuples.now) (summaries_view items.now)))
         per.now) }

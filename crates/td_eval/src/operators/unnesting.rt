@@ -1,13 +1,14 @@
 //! The values of operators that put what is inside an attribute in its place, and of closures.
 ghost use Rattle.td_check.specs.OperatorTypes.{attribute_type, over_relation, over_tuple};
 ghost use Rattle.td_eval.specs.OperatorValues.{relation_where};
-ghost use Rattle.td_group.specs.Closure.{closure, is_closable};
+ghost use Rattle.td_group.specs.Closure.{closure};
 ghost use Rattle.td_group.specs.Nesting.{can_unnest, unnested_relation};
 ghost use Rattle.td_tree.specs.Outcomes.{Answers, Valued, with_value};
+ghost use Rattle.td_types.specs.Headings.{is_closable};
 
 use crate::operators::relational::{as_value, fit};
 use std::alloc::Global;
-use td_group::closure::{is_closable, tclose};
+use td_group::closure::tclose;
 use td_group::nesting::can_unnest;
 use td_group::unnesting::{ungroup, unwrap};
 use td_tree::cause::Cause;
@@ -71,6 +72,6 @@ pub(crate) fn closed(alloc: Global, rel: &Rel) -> Result<Value, Fault>
     ensures { Answers (λ v. v) result
         (relation_where (is_closable rel.now.heading) (closure rel.now)) }
 {
-    fit(is_closable(rel.heading()))?;
+    fit(rel.heading().is_closable())?;
     as_value(alloc, tclose(alloc, rel))
 }

@@ -6,7 +6,7 @@ use Rattle.td_check.proofs.StatementAnswers.{given_is}
 use Rattle.td_engine.proofs.FirstGifts.{change_of_base, delete_first, first_given, insert_first, update_first}
 use Rattle.td_engine.proofs.PlannableAssignments.{assignment_plannable, base_gift, delete_plannable, insert_plannable, update_plannable, update_settings}
 use Rattle.td_engine.specs.Assignments.{chosen_for, setting_names, target_of, updated_relation}
-use Rattle.td_engine.specs.Changes.{after, gift_over}
+use Rattle.td_engine.specs.Changes.{changed_by, gift_over}
 use Rattle.td_engine.specs.Plannable.{ArePlannableSettings, IsAdmittedAssignment, IsPlannableIf}
 use Rattle.td_engine.specs.declared.change.Change.{Change}
 use Rattle.td_eval.specs.DatabaseWorlds.{world_of}
@@ -42,7 +42,7 @@ returns-in-Insert-clause-answer g c =
     let e : a ≡ trees.insert n source = ap assignment_view c.in-Insert.is in
     let there : base_named n db ≡ Some r = ap (λ m. base_named m db) (sym (ap target_of e)) ∙ is in
     first_given db a r c.put_in.result is
-    (subst (λ x. Answers (λ (d : Change). after d r.relation) c.put_in.result (gift_over db r.relation x)) (sym e)
+    (subst (λ x. Answers (λ (d : Change). changed_by d r.relation) c.put_in.result (gift_over db r.relation x)) (sym e)
     (insert_first db n source r c.put_in.result there (c.put_in.ensures.answer r.relation c.in-Some.ensures.entry.heading_is)))
 
 pub returns-in-Insert-clause-change : goal.returns-in-Insert-clause-change
@@ -119,9 +119,9 @@ returns-in-Delete-clause-answer g c =
     let there : base_named n db ≡ Some b = ap (λ m. base_named m db) (sym (ap target_of e)) ∙ is in
     let asked : option_map (λ e. tree_view e.now) c.as_ref.result ≡ condition = given_is tree_view c.as_ref.result c.in-Delete.condition c.as_ref.ensures.value in
     first_given db a b c.first_delete.result is
-    (subst (λ x. Answers (λ (d : Change). after d b.relation) c.first_delete.result (gift_over db b.relation x)) (sym e)
+    (subst (λ x. Answers (λ (d : Change). changed_by d b.relation) c.first_delete.result (gift_over db b.relation x)) (sym e)
     (delete_first db n condition b c.first_delete.result there (base_gift db c.requires.legal n b there).relation
-    (subst (λ o. Answers (λ (d : Change). after d b.relation) c.first_delete.result (with_value (chosen_for b.relation (world_of db) n o)
+    (subst (λ o. Answers (λ (d : Change). changed_by d b.relation) c.first_delete.result (with_value (chosen_for b.relation (world_of db) n o)
     (λ out. Valued (after_change out (relation_view out.heading []) b.relation)))) asked c.first_delete.ensures.answer)))
 
 pub returns-in-Delete-clause-change : goal.returns-in-Delete-clause-change
@@ -146,11 +146,11 @@ returns-in-Update-clause-answer g c =
     let asked : option_map (λ e. tree_view e.now) c.as_ref-condition.result ≡ condition =
     given_is tree_view c.as_ref-condition.result c.in-Update.condition c.as_ref-condition.ensures.value in
     first_given db a b c.first_update.result is
-    (subst (λ x. Answers (λ (d : Change). after d b.relation) c.first_update.result (gift_over db b.relation x)) (sym e)
+    (subst (λ x. Answers (λ (d : Change). changed_by d b.relation) c.first_update.result (gift_over db b.relation x)) (sym e)
     (update_first db n condition b c.first_update.result there settings
-    (subst (λ xs. Answers (λ (d : Change). after d b.relation) c.first_update.result (with_value (chosen_for b.relation (world_of db) n condition)
+    (subst (λ xs. Answers (λ (d : Change). changed_by d b.relation) c.first_update.result (with_value (chosen_for b.relation (world_of db) n condition)
     (updated_relation b.relation (setting_names (named_view xs)) (values_in_tuples (world_of db) [] (named_view xs))))) c.deref.ensures.value
-    (subst (λ o. Answers (λ (d : Change). after d b.relation) c.first_update.result (with_value (chosen_for b.relation (world_of db) n o)
+    (subst (λ o. Answers (λ (d : Change). changed_by d b.relation) c.first_update.result (with_value (chosen_for b.relation (world_of db) n o)
     (updated_relation b.relation (setting_names (named_view c.deref.result.now)) (values_in_tuples (world_of db) [] (named_view c.deref.result.now))))) asked
     c.first_update.ensures.answer))))
 

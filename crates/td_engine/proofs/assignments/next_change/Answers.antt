@@ -4,7 +4,7 @@ use Rattle.td_catalog.specs.Database.{base_named}
 use Rattle.td_engine.proofs.GivenChanges.{given_of}
 use Rattle.td_engine.proofs.PlannableAssignments.{assignment_plannable}
 use Rattle.td_engine.specs.Assignments.{target_of}
-use Rattle.td_engine.specs.Changes.{after, given_as}
+use Rattle.td_engine.specs.Changes.{changed_by, given_as}
 use Rattle.td_engine.specs.Plannable.{IsPlannableAssignment}
 use Rattle.td_tree.specs.TreeViews.{assignment_view}
 use Rattle.td_engine.proofs.assignments.next_change.Goals as goal
@@ -17,5 +17,5 @@ change_of-requires g c =
     let r = base_view g.B.Body.relation (c.target_of.result.now, c.in-Some.entry.now) in
     let at : base_named (target_of a) db ≡ Some r = ap (λ n. base_named n db) (sym c.target_of.ensures) ∙ sym c.in-Some.ensures.found in
     let there : given_as db (target_of a) d ≡ c.in_ok-so_far.so_far =
-    given_of db (target_of a) d r at ∙ sym (c.in_ok-so_far.ensures ∙ ap (after d) c.in_ok-earlier.ensures) in
+    given_of db (target_of a) d r at ∙ sym (c.in_ok-so_far.ensures ∙ ap (changed_by d) c.in_ok-earlier.ensures) in
     subst (λ q. IsPlannableAssignment db q a) there (assignment_plannable db c.requires.legal (given_as db (target_of a) d) a c.requires.gift c.requires.admitted)

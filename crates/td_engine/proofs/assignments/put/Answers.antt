@@ -8,7 +8,7 @@ use Rattle.td_engine.proofs.GivenChanges.{given_of}
 use Rattle.td_engine.proofs.PutGifts.{checked_there}
 use Rattle.td_engine.proofs.StageLaws.{goes_on}
 use Rattle.td_engine.specs.Carried.{Passes}
-use Rattle.td_engine.specs.Changes.{after, given_as}
+use Rattle.td_engine.specs.Changes.{changed_by, given_as}
 use Rattle.td_engine.specs.Checks.{base_check}
 use Rattle.td_engine.proofs.assignments.put.Goals as goal
 
@@ -23,11 +23,11 @@ returns-clause-check g c =
     let n = c.args.name.now in
     let d = c.args.change.now in
     let r = c.requires.is.target in
-    let q = after d r.relation in
+    let q = changed_by d r.relation in
     let made : w ≡ advanced (with_body n q v.database) v =
     subst (λ o. IfSome o (λ b. w ≡ advanced (with_body n (after_change d.out d.add b.relation) v.database) v)) c.requires.is.named c.in_ok-change.ensures.changed in
     let told = checked_there c.check_keys.result v.database w.database n q (ap (λ (x : CatalogView). x.database) made) c.check_keys.ensures in
-    subst (λ o. IfSome o (λ b. Passes c.check_keys.result (base_check (base_relvar b.name b.keys (after d b.relation))))) (sym c.requires.is.named)
+    subst (λ o. IfSome o (λ b. Passes c.check_keys.result (base_check (base_relvar b.name b.keys (changed_by d b.relation))))) (sym c.requires.is.named)
     (subst (λ o. IfSome o (λ b. Passes c.check_keys.result (base_check (base_relvar b.name b.keys q)))) c.requires.is.named told)
 
 pub returns-clause-put : goal.returns-clause-put
@@ -37,7 +37,7 @@ returns-clause-put g c =
     let n = c.args.name.now in
     let d = c.args.change.now in
     let r = c.requires.is.target in
-    let made : w ≡ advanced (with_body n (after d r.relation) v.database) v =
+    let made : w ≡ advanced (with_body n (changed_by d r.relation) v.database) v =
     subst (λ o. IfSome o (λ b. w ≡ advanced (with_body n (after_change d.out d.add b.relation) v.database) v)) c.requires.is.named c.in_ok-change.ensures.changed in
     always_ok c.check_keys.result (w.database ≡ with_body n (given_as v.database n d) v.database)
     (ap (λ (x : CatalogView). x.database) made ∙ ap (λ q. with_body n q v.database) (sym (given_of v.database n d r c.requires.is.named)))
@@ -49,6 +49,6 @@ returns-clause-on g c =
     let n = c.args.name.now in
     let d = c.args.change.now in
     let r = c.requires.is.target in
-    let made : w ≡ advanced (with_body n (after d r.relation) v.database) v =
+    let made : w ≡ advanced (with_body n (changed_by d r.relation) v.database) v =
     subst (λ o. IfSome o (λ b. w ≡ advanced (with_body n (after_change d.out d.add b.relation) v.database) v)) c.requires.is.named c.in_ok-change.ensures.changed in
-    goes_on v w (with_body n (after d r.relation) v.database) made
+    goes_on v w (with_body n (changed_by d r.relation) v.database) made

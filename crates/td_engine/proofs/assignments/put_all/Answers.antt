@@ -5,7 +5,7 @@ use Rattle.td_engine.proofs.GivenChanges.{given_of}
 use Rattle.td_engine.proofs.OneTarget.{alone_checked, alone_given}
 use Rattle.td_engine.specs.Assignments.{with_gifts}
 use Rattle.td_engine.specs.Carried.{Passes}
-use Rattle.td_engine.specs.Changes.{AreTypedChanges, IsTypedChange, after, given_as, given_in}
+use Rattle.td_engine.specs.Changes.{AreTypedChanges, IsTypedChange, changed_by, given_as, given_in}
 use Rattle.td_engine.specs.Checks.{base_check, first_refusal}
 use Rattle.td_engine.proofs.assignments.put_all.Goals as goal
 
@@ -23,9 +23,9 @@ returns-in-Some-clause-check g c =
     let d = c.in-Some.change.now in
     let only = subst (AreTypedChanges g.db) c.in-Some.ensures c.requires.1.1 in
     let r = only.0.is.target in
-    let told = subst (λ (x : Database). IfSome (base_named n x) (λ b. Passes c.put.result (base_check (base_relvar b.name b.keys (after d b.relation))))) (sym c.requires.1.0.0) c.put.ensures.check in
-    let there : Passes c.put.result (base_check (base_relvar r.name r.keys (after d r.relation))) =
-    subst (λ o. IfSome o (λ b. Passes c.put.result (base_check (base_relvar b.name b.keys (after d b.relation))))) only.0.is.named told in
+    let told = subst (λ (x : Database). IfSome (base_named n x) (λ b. Passes c.put.result (base_check (base_relvar b.name b.keys (changed_by d b.relation))))) (sym c.requires.1.0.0) c.put.ensures.check in
+    let there : Passes c.put.result (base_check (base_relvar r.name r.keys (changed_by d r.relation))) =
+    subst (λ o. IfSome o (λ b. Passes c.put.result (base_check (base_relvar b.name b.keys (changed_by d b.relation))))) only.0.is.named told in
     subst (λ es. Passes c.put.result (first_refusal base_check (with_gifts (given_in g.db es) g.db).bases)) (sym c.in-Some.ensures)
     (subst (Passes c.put.result)
     (sym (alone_checked n (given_as g.db n d) g.db r c.requires.1.0.1 c.requires.1.0.2 only.0.is.named

@@ -10,7 +10,7 @@ use Rattle.td_engine.proofs.GivenChanges.{found_in, given_found, given_of, still
 use Rattle.td_engine.proofs.PutGifts.{gifted_at}
 use Rattle.td_engine.specs.Assignments.{given_to}
 use Rattle.td_engine.specs.Carried.{Passes}
-use Rattle.td_engine.specs.Changes.{IsTypedChange, after, given_as, given_in}
+use Rattle.td_engine.specs.Changes.{IsTypedChange, changed_by, given_as, given_in}
 use Rattle.td_engine.specs.Checks.{base_check}
 use Rattle.td_engine.specs.Gifts.{gifted}
 use Rattle.td_types.specs.Types.{same_name}
@@ -49,7 +49,7 @@ put-requires g c =
     let d = c.in-Some-get.change.now in
     let looked : lookup (same_name n) es ≡ Some d = ap (λ m. lookup (same_name m) es) (sym c.in_ok-name.ensures) ∙ sym c.in-Some-get.ensures.value in
     let here = found g.db given c.requires.1.0.0 c.args.place r at in
-    let some : given_to n given ≡ Some (after d r.relation) = given_found g.db es n ∙ ap (option_map (given_as g.db n)) looked ∙ ap Some (given_of g.db n d r here) in
+    let some : given_to n given ≡ Some (changed_by d r.relation) = given_found g.db es n ∙ ap (option_map (given_as g.db n)) looked ∙ ap Some (given_of g.db n d r here) in
     let there : base_named n c.args.catalog.now.database ≡ Some r = ap (base_named n) c.requires.1.1.1.0 ∙ still_found g.db given c.requires.1.0.0 c.args.place r at in
     subst (λ m. IsTypedChange c.args.catalog.now.database (m, d)) (sym c.in_ok-name.ensures)
     (still_change g.db c.args.catalog.now.database n d r (ap (λ (x : Database). x.types) c.requires.1.1.1.0) here there (found_in (IsTypedChange g.db) es n d c.requires.1.1.0 looked))
@@ -65,11 +65,11 @@ returns-clause-check g c =
     let d = c.in-Some-get.change.now in
     let looked : lookup (same_name n) es ≡ Some d = ap (λ m. lookup (same_name m) es) (sym c.in_ok-name.ensures) ∙ sym c.in-Some-get.ensures.value in
     let here = found g.db given c.requires.1.0.0 c.args.place r at in
-    let some : given_to n given ≡ Some (after d r.relation) = given_found g.db es n ∙ ap (option_map (given_as g.db n)) looked ∙ ap Some (given_of g.db n d r here) in
+    let some : given_to n given ≡ Some (changed_by d r.relation) = given_found g.db es n ∙ ap (option_map (given_as g.db n)) looked ∙ ap Some (given_of g.db n d r here) in
     let there : base_named n c.args.catalog.now.database ≡ Some r = ap (base_named n) c.requires.1.1.1.0 ∙ still_found g.db given c.requires.1.0.0 c.args.place r at in
-    let told = subst (λ m. IfSome (base_named m c.args.catalog.now.database) (λ b. Passes c.put.result (base_check (base_relvar b.name b.keys (after d b.relation))))) c.in_ok-name.ensures c.put.ensures.check in
-    rw (at, put_check g.db given c.requires.1.0.0 c.args.place r at (after d r.relation) some)
-    (subst (λ o. IfSome o (λ b. Passes c.put.result (base_check (base_relvar b.name b.keys (after d b.relation))))) there told)
+    let told = subst (λ m. IfSome (base_named m c.args.catalog.now.database) (λ b. Passes c.put.result (base_check (base_relvar b.name b.keys (changed_by d b.relation))))) c.in_ok-name.ensures c.put.ensures.check in
+    rw (at, put_check g.db given c.requires.1.0.0 c.args.place r at (changed_by d r.relation) some)
+    (subst (λ o. IfSome o (λ b. Passes c.put.result (base_check (base_relvar b.name b.keys (changed_by d b.relation))))) there told)
 
 pub returns-clause-next : goal.returns-clause-next
 returns-clause-next g c =
@@ -82,10 +82,10 @@ returns-clause-next g c =
     let d = c.in-Some-get.change.now in
     let looked : lookup (same_name n) es ≡ Some d = ap (λ m. lookup (same_name m) es) (sym c.in_ok-name.ensures) ∙ sym c.in-Some-get.ensures.value in
     let here = found g.db given c.requires.1.0.0 c.args.place r at in
-    let some : given_to n given ≡ Some (after d r.relation) = given_found g.db es n ∙ ap (option_map (given_as g.db n)) looked ∙ ap Some (given_of g.db n d r here) in
+    let some : given_to n given ≡ Some (changed_by d r.relation) = given_found g.db es n ∙ ap (option_map (given_as g.db n)) looked ∙ ap Some (given_of g.db n d r here) in
     let there : base_named n c.args.catalog.now.database ≡ Some r = ap (base_named n) c.requires.1.1.1.0 ∙ still_found g.db given c.requires.1.0.0 c.args.place r at in
     let told = subst (λ m. OnOk c.put.result (c.put.new.catalog.database ≡ with_body m (given_as c.args.catalog.now.database m d) c.args.catalog.now.database)) c.in_ok-name.ensures c.put.ensures.put in
     subst (λ (new : Database). OnOk c.put.result (c.put.new.catalog.database ≡ new))
-    (ap (λ q. with_body n q c.args.catalog.now.database) (given_of c.args.catalog.now.database n d r there) ∙ ap (with_body n (after d r.relation)) c.requires.1.1.1.0
-    ∙ put g.db given c.requires.1.0.0 c.args.place r at (after d r.relation) some)
+    (ap (λ q. with_body n q c.args.catalog.now.database) (given_of c.args.catalog.now.database n d r there) ∙ ap (with_body n (changed_by d r.relation)) c.requires.1.1.1.0
+    ∙ put g.db given c.requires.1.0.0 c.args.place r at (changed_by d r.relation) some)
     told

@@ -3,7 +3,7 @@ use Rattle.std.proofs.lemmas.Result.{err_from_is_err_and}
 use Rattle.td_body.specs.Bodies.{after_change}
 use Rattle.td_engine.proofs.Admitted.{refused_on}
 use Rattle.td_engine.specs.Assignments.{chosen_for, setting_names, updated_relation}
-use Rattle.td_engine.specs.Changes.{after}
+use Rattle.td_engine.specs.Changes.{changed_by}
 use Rattle.td_engine.specs.Plannable.{ArePlannableSettings}
 use Rattle.td_engine.specs.declared.change.Change.{Change}
 use Rattle.td_eval.specs.DatabaseWorlds.{world_of}
@@ -31,7 +31,7 @@ returns-in_err-out-clause-answer g c =
     let chosen = chosen_for r (world_of c.args.catalog.now.database) c.args.target.now (option_map (λ e. tree_view e.now) c.args.condition) in
     let is = err_from_is_err_and c.from_residual.result c.from_residual.ensures.1 in
     rw (is.1, is.2)
-    (refused_on (λ (q : Relation). q) (λ (d : Change). after d r) c.in_err-out.field-0.0 chosen (updated_relation r (setting_names parts) (values_in_tuples w [] parts))
+    (refused_on (λ (q : Relation). q) (λ (d : Change). changed_by d r) c.in_err-out.field-0.0 chosen (updated_relation r (setting_names parts) (values_in_tuples w [] parts))
     c.in_err-out.ensures.answer)
 
 -- a refusal tells the same, whatever the answers are of
@@ -48,8 +48,8 @@ returns-in_err-add-clause-answer g c =
     let made = updated_relation r (setting_names parts) (values_in_tuples w [] parts) in
     let is = err_from_is_err_and c.from_residual-in_err-add.result c.from_residual-in_err-add.ensures.1 in
     rw (is.1, is.2)
-    (subst (λ o. Answers (λ (d : Change). after d r) (Err c.in_err-add.field-0.0) (with_value o made)) (sym c.in_ok-out.ensures.answer)
-    (refused_alike (λ (q : Relation). after_change out q r) (λ (d : Change). after d r) c.in_err-add.field-0.0 (made out)
+    (subst (λ o. Answers (λ (d : Change). changed_by d r) (Err c.in_err-add.field-0.0) (with_value o made)) (sym c.in_ok-out.ensures.answer)
+    (refused_alike (λ (q : Relation). after_change out q r) (λ (d : Change). changed_by d r) c.in_err-add.field-0.0 (made out)
     (c.in_err-add.ensures.answer r (sym c.in_ok-out.ensures.heading))))
 
 pub returns-clause-answer : goal.returns-clause-answer

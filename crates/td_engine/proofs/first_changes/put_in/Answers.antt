@@ -5,7 +5,7 @@ use Rattle.td_engine.proofs.Admitted.{refused_on}
 use Rattle.td_engine.proofs.FirstGifts.{for_heading}
 use Rattle.td_engine.proofs.LeftTuples.{nothing_out}
 use Rattle.td_engine.specs.Assignments.{relation_for}
-use Rattle.td_engine.specs.Changes.{after}
+use Rattle.td_engine.specs.Changes.{changed_by}
 use Rattle.td_engine.specs.declared.change.Change.{Change}
 use Rattle.td_eval.specs.DatabaseWorlds.{world_of}
 use Rattle.td_eval.specs.TreeValues.{value_of}
@@ -25,7 +25,7 @@ returns-in_err-add-clause-answer g c = λ r e.
     let told : Answers (λ (q : Relation). q) (Err c.in_err-add.field-0.0) (relation_for none w tree) = c.in_err-add.ensures.answer (value_of w [] tree) c.value.ensures in
     let is = err_from_is_err_and c.from_residual-in_err-add.result c.from_residual-in_err-add.ensures.1 in
     rw (is.1, is.2)
-    (refused_on (λ (q : Relation). q) (λ (d : Change). after d r) c.in_err-add.field-0.0 (relation_for r w tree) (λ s. Valued (union r s))
+    (refused_on (λ (q : Relation). q) (λ (d : Change). changed_by d r) c.in_err-add.field-0.0 (relation_for r w tree) (λ s. Valued (union r s))
     (subst (Answers (λ (q : Relation). q) (Err c.in_err-add.field-0.0)) (for_heading w tree none r headed) told))
 
 pub returns-clause-answer : goal.returns-clause-answer

@@ -5,7 +5,7 @@ use Rattle.td_body.specs.Bodies.{after_change}
 use Rattle.td_engine.proofs.Admitted.{refused_on}
 use Rattle.td_engine.proofs.DeletedTuples.{delete_is}
 use Rattle.td_engine.specs.Assignments.{assignment_value, chosen_for, source_world}
-use Rattle.td_engine.specs.Changes.{after}
+use Rattle.td_engine.specs.Changes.{changed_by}
 use Rattle.td_engine.specs.declared.change.Change.{Change}
 use Rattle.td_tree.specs.Outcomes.{Answers, Valued, with_value}
 use Rattle.td_tree.specs.TreeViews.{tree_view}
@@ -23,7 +23,7 @@ returns-in_err-out-clause-answer g c =
     let condition = option_map (λ e. tree_view e.now) c.args.condition in
     let headed : IsHeading (pack cur.heading) = subst (λ (k : Heading). IsHeading (pack k)) c.heading.ensures c.reveal.ensures.heading in
     let is : IsRelation cur = IsRelation-view cur.heading cur.body headed c.reveal-2.ensures.headed c.reveal-2.ensures.ascending in
-    let view = λ (d : Change). after d cur in
+    let view = λ (d : Change). changed_by d cur in
     let e = err_from_is_err_and c.from_residual.result c.from_residual.ensures.1 in
     subst (λ r. Answers view r (assignment_value (source_world db n cur) cur (delete n condition))) (sym (e.1 ∙ ap Err e.2))
     (subst (Answers view (Err c.in_err-out.field-0.0)) (sym (delete_is db n cur condition is))
@@ -40,7 +40,7 @@ returns-clause-answer g c =
     let is : IsRelation cur = IsRelation-view cur.heading cur.body headed c.reveal-2.ensures.headed c.reveal-2.ensures.ascending in
     let d = c.in_ok-taking.field-0 in
     let out = c.in_ok-out.out in
-    let there : after d cur ≡ after_change out (relation_view out.heading []) cur =
+    let there : changed_by d cur ≡ after_change out (relation_view out.heading []) cur =
     ap (λ o. after_change o d.add cur) c.in_ok-taking.ensures.out ∙ ap (λ a. after_change out a cur) c.in_ok-taking.ensures.add in
     delete_is db n cur condition is ∙ ap (λ o. with_value o (λ out. Valued (after_change out (relation_view out.heading []) cur))) c.in_ok-out.ensures.answer
     ∙ ap Valued (sym there)

@@ -5,7 +5,7 @@ use Rattle.td_engine.proofs.Admitted.{refused_on}
 use Rattle.td_engine.proofs.LeftTuples.{nothing_out}
 use Rattle.td_engine.proofs.Sources.{inserted_is}
 use Rattle.td_engine.specs.Assignments.{relation_for, source_world}
-use Rattle.td_engine.specs.Changes.{after}
+use Rattle.td_engine.specs.Changes.{changed_by}
 use Rattle.td_engine.specs.declared.change.Change.{Change}
 use Rattle.td_tree.specs.Outcomes.{Valued, with_value}
 use Rattle.td_tree.specs.TreeViews.{tree_view}
@@ -20,14 +20,14 @@ returns-in_err-add-clause-answer g c =
     let source = relation_for so_far (source_world c.args.catalog.now.database c.args.target.now so_far) (tree_view c.args.source.now) in
     let e = err_from_is_err_and c.from_residual.result c.from_residual.ensures.1 in
     rw (e.1, e.2, inserted_is c.args.catalog.now.database c.args.target.now so_far (tree_view c.args.source.now))
-    (refused_on (λ (r : Relation). r) (λ (d : Change). after d so_far) c.in_err-add.field-0.0 source made c.in_err-add.ensures.answer)
+    (refused_on (λ (r : Relation). r) (λ (d : Change). changed_by d so_far) c.in_err-add.field-0.0 source made c.in_err-add.ensures.answer)
 
 pub returns-clause-answer : goal.returns-clause-answer
 returns-clause-answer g c =
     let so_far = c.args.so_far.now in
     let d = c.in_ok-adding.field-0 in
     let add = c.in_ok-add.add in
-    let there : after d so_far ≡ union so_far add =
+    let there : changed_by d so_far ≡ union so_far add =
     ap (λ o. union (difference so_far o) d.add) c.in_ok-adding.ensures.out ∙ ap (union (difference so_far (relation_view add.heading []))) c.in_ok-adding.ensures.add
     ∙ ap (λ q. union q add) (nothing_out add.heading so_far) in
     inserted_is c.args.catalog.now.database c.args.target.now so_far (tree_view c.args.source.now)

@@ -34,7 +34,7 @@ use Rattle.td_eval.specs.Sights.{seen_by, virtuals_of}
 use Rattle.td_eval.specs.Totals.{term_in, total_of, total_view}
 use Rattle.td_eval.specs.TreeValues.{argument_values, entry_values, items_in_tuples, value_of, values_in_tuples}
 use Rattle.td_group.specs.declared.aggregates.Agg.{Agg}
-use Rattle.td_eval.specs.Worlds.{known_outcome, scope_among, selected}
+use Rattle.td_eval.specs.Worlds.{known_outcome, selected, with_tuples}
 use Rattle.td_tree.specs.Gatherings.{IsGathered}
 use Rattle.td_tree.specs.Heights.{height, highest, highest_named, highest_summary, type_height}
 use Rattle.td_tree.specs.Outcomes.{Answers, Valued, gathered, named_cause, with_value}
@@ -345,7 +345,7 @@ value_of-returns-in_ok-value_of-in-Extend g t c =
     let is = ap tree_view c.in-Extend.is ∙ extend_is c.in-Extend.operand c.in-Extend.parts ∙ (λ i. trees.extend (tree_view (sym c.deref-in-Extend.ensures i)) (named_view (sym c.deref-in-Extend-2.ensures.value i))) in
     rw is
     (answered_then (λ v. v) c.in_ok-value_of-in-Extend.field-0 (value_of (seen_by c.args.sight.now) (reverse c.args.tuples.now) (tree_view c.deref-in-Extend.result.now))
-    (λ v. on_relation v (λ r. extended_value (named_types (entered_with r.heading (scope_among (seen_by c.args.sight.now) (reverse c.args.tuples.now))) (named_view c.deref-in-Extend-2.result.now))
+    (λ v. on_relation v (λ r. extended_value (named_types (entered_with r.heading (with_tuples (seen_by c.args.sight.now).scope (reverse c.args.tuples.now))) (named_view c.deref-in-Extend-2.result.now))
     (values_in_tuples (seen_by c.args.sight.now) (reverse c.args.tuples.now) (named_view c.deref-in-Extend-2.result.now)) r)) (λ v. v) c.extension-in-Extend.result
     c.in_ok-value_of-in-Extend.ensures c.extension-in-Extend.ensures)
 
@@ -382,9 +382,9 @@ columns-returns g t c =
 pub extension-returns-in_err-attributes : goal.extension-returns-in_err-attributes
 extension-returns-in_err-attributes g t c =
     let p = err_from_is_err_and c.from_residual-in_err-attributes.result c.from_residual-in_err-attributes.ensures.1 in
-    answers_related (λ (v : Val). v) c.args.operand.now c.in_ok-rel.rel.now (λ r. extended_value (named_types (entered_with r.heading (scope_among (seen_by c.args.sight.now) (reverse c.args.tuples.now))) (named_view c.args.parts.now)) (values_in_tuples (seen_by c.args.sight.now) (reverse c.args.tuples.now) (named_view c.args.parts.now)) r) c.from_residual-in_err-attributes.result c.in_ok-rel.ensures
+    answers_related (λ (v : Val). v) c.args.operand.now c.in_ok-rel.rel.now (λ r. extended_value (named_types (entered_with r.heading (with_tuples (seen_by c.args.sight.now).scope (reverse c.args.tuples.now))) (named_view c.args.parts.now)) (values_in_tuples (seen_by c.args.sight.now) (reverse c.args.tuples.now) (named_view c.args.parts.now)) r) c.from_residual-in_err-attributes.result c.in_ok-rel.ensures
     (rw (p.1, p.2)
-    (types_refused (named_types (entered_with c.in_ok-rel.rel.now.heading (scope_among (seen_by c.args.sight.now) (reverse c.args.tuples.now))) (named_view c.args.parts.now)) (values_in_tuples (seen_by c.args.sight.now) (reverse c.args.tuples.now) (named_view c.args.parts.now)) c.in_ok-rel.rel.now (λ (ts : Vec (List ℕ × Ty)). pairs_view ts.items) _ c.in_err-attributes.ensures))
+    (types_refused (named_types (entered_with c.in_ok-rel.rel.now.heading (with_tuples (seen_by c.args.sight.now).scope (reverse c.args.tuples.now))) (named_view c.args.parts.now)) (values_in_tuples (seen_by c.args.sight.now) (reverse c.args.tuples.now) (named_view c.args.parts.now)) c.in_ok-rel.rel.now (λ (ts : Vec (List ℕ × Ty)). pairs_view ts.items) _ c.in_err-attributes.ensures))
 
 pub extension-columns-columns-requires : goal.extension-columns-columns-requires
 extension-columns-columns-requires g t c =
@@ -394,7 +394,7 @@ extension-columns-columns-requires g t c =
         o,
         (
           c.requires,
-          as_many_found (entered_with c.in_ok-rel.rel.now.heading (scope_among (seen_by c.args.sight.now) (reverse c.args.tuples.now))) c.args.parts.now
+          as_many_found (entered_with c.in_ok-rel.rel.now.heading (with_tuples (seen_by c.args.sight.now).scope (reverse c.args.tuples.now))) c.args.parts.now
               c.in_ok-attributes.attributes.items c.deref.result.now c.deref.ensures.value c.in_ok-attributes.ensures,
         ),
       ),
@@ -402,7 +402,7 @@ extension-columns-columns-requires g t c =
 
 pub extension-extension_by-requires : goal.extension-extension_by-requires
 extension-extension_by-requires g t c =
-    let scope = entered_with c.in_ok-rel.rel.now.heading (scope_among (seen_by c.args.sight.now) (reverse c.args.tuples.now)) in
+    let scope = entered_with c.in_ok-rel.rel.now.heading (with_tuples (seen_by c.args.sight.now).scope (reverse c.args.tuples.now)) in
     columns_for (values_in_tuples (seen_by c.args.sight.now) (reverse c.args.tuples.now) (named_view c.args.parts.now)) c.in_ok-rel.rel.now.body c.deref.result.now c.deref-2.result.now c.columns-columns.result
     (c.deref-2.ensures.value ∙ sym c.deref.ensures.value)
     (as_many_found scope c.args.parts.now c.in_ok-attributes.attributes.items c.deref.result.now c.deref.ensures.value c.in_ok-attributes.ensures
@@ -411,8 +411,8 @@ extension-extension_by-requires g t c =
 
 pub extension-returns : goal.extension-returns
 extension-returns g t c =
-    let scope = entered_with c.in_ok-rel.rel.now.heading (scope_among (seen_by c.args.sight.now) (reverse c.args.tuples.now)) in
-    answers_related (λ (v : Val). v) c.args.operand.now c.in_ok-rel.rel.now (λ r. extended_value (named_types (entered_with r.heading (scope_among (seen_by c.args.sight.now) (reverse c.args.tuples.now))) (named_view c.args.parts.now)) (values_in_tuples (seen_by c.args.sight.now) (reverse c.args.tuples.now) (named_view c.args.parts.now)) r) c.extension_by.result c.in_ok-rel.ensures
+    let scope = entered_with c.in_ok-rel.rel.now.heading (with_tuples (seen_by c.args.sight.now).scope (reverse c.args.tuples.now)) in
+    answers_related (λ (v : Val). v) c.args.operand.now c.in_ok-rel.rel.now (λ r. extended_value (named_types (entered_with r.heading (with_tuples (seen_by c.args.sight.now).scope (reverse c.args.tuples.now))) (named_view c.args.parts.now)) (values_in_tuples (seen_by c.args.sight.now) (reverse c.args.tuples.now) (named_view c.args.parts.now)) r) c.extension_by.result c.in_ok-rel.ensures
     (subst (λ o. Answers (λ (v : Val). v) c.extension_by.result (extended_value o (values_in_tuples (seen_by c.args.sight.now) (reverse c.args.tuples.now) (named_view c.args.parts.now)) c.in_ok-rel.rel.now))
     (ap Valued (ap pairs_view c.deref-2.ensures.value) ∙ sym c.in_ok-attributes.ensures)
     (c.extension_by.ensures (values_in_tuples (seen_by c.args.sight.now) (reverse c.args.tuples.now) (named_view c.args.parts.now))
@@ -528,7 +528,7 @@ summary-returns-in_err-totals g t c =
     let e = err_from_is_err_and c.from_residual-in_err-totals.result c.from_residual-in_err-totals.ensures.1 in
     let r = c.in_ok-rel.rel.now in
     let p = c.in_ok-rel.per.now in
-    let attributes = λ (h : Heading). summary_attributes (entered_with h (scope_among world tuples)) (summaries_view c.args.items.now) in
+    let attributes = λ (h : Heading). summary_attributes (entered_with h (with_tuples world.scope tuples)) (summaries_view c.args.items.now) in
     let items = items_in_tuples world tuples (summaries_view c.args.items.now) in
     let view = λ (ts : Vec (Agg × Vec (Vec Val))). map total_view ts.items in
     rw (e.1, e.2)
@@ -542,7 +542,7 @@ summary-returns g t c =
     let tuples = reverse c.args.tuples.now in
     let r = c.in_ok-rel.rel.now in
     let p = c.in_ok-rel.per.now in
-    let attributes = λ (h : Heading). summary_attributes (entered_with h (scope_among world tuples)) (summaries_view c.args.items.now) in
+    let attributes = λ (h : Heading). summary_attributes (entered_with h (with_tuples world.scope tuples)) (summaries_view c.args.items.now) in
     let items = items_in_tuples world tuples (summaries_view c.args.items.now) in
     let totals = map total_view c.in_ok-totals.totals.items in
     subst (Answers (λ (v : Val). v) c.summarized.result) (sym (both_related c.args.operand.now c.args.per.now r p (λ r p. summarized_value (attributes r.heading) items r p) c.in_ok-rel.ensures))
@@ -569,7 +569,7 @@ value_of-returns-in_err-operand-in-SummarizePer g t c =
     let is = ap tree_view c.in-SummarizePer.is ∙ summarize_per_is c.in-SummarizePer.operand c.in-SummarizePer.per c.in-SummarizePer.items
     ∙ (λ i. trees.summarize_per (tree_view (sym c.deref-in-SummarizePer.ensures i)) (tree_view (sym c.deref-in-SummarizePer-2.ensures i)) (summaries_view c.in-SummarizePer.items.items)) in
     rw (e.1, e.2, is)
-    (both_refused (λ (v : Val). v) (λ (v : Val). v) (λ (v : Val). v) (summary_value (λ h. summary_attributes (entered_with h (scope_among world tuples)) (summaries_view c.in-SummarizePer.items.items)) (items_in_tuples world tuples (summaries_view c.in-SummarizePer.items.items)))
+    (both_refused (λ (v : Val). v) (λ (v : Val). v) (λ (v : Val). v) (summary_value (λ h. summary_attributes (entered_with h (with_tuples world.scope tuples)) (summaries_view c.in-SummarizePer.items.items)) (items_in_tuples world tuples (summaries_view c.in-SummarizePer.items.items)))
     c.value_of-operand.result c.value_of-in-SummarizePer.result (value_of world tuples (tree_view c.deref-in-SummarizePer.result.now))
     (value_of world tuples (tree_view c.deref-in-SummarizePer-2.result.now)) _
     (sym c.both.ensures ∙ c.in_err-operand-in-SummarizePer.was) c.value_of-operand.ensures c.value_of-in-SummarizePer.ensures)
@@ -589,7 +589,7 @@ value_of-returns-in_ok-operand-in-SummarizePer g t c =
     ∙ (λ i. trees.summarize_per (tree_view (sym c.deref-in-SummarizePer.ensures i)) (tree_view (sym c.deref-in-SummarizePer-2.ensures i)) (summaries_view (sym c.deref-in-SummarizePer-3.ensures.value i))) in
     rw is
     (subst (Answers (λ (v : Val). v) c.summary.result)
-    (sym (both_given (λ (v : Val). v) (λ (v : Val). v) (summary_value (λ h. summary_attributes (entered_with h (scope_among world tuples)) (summaries_view c.deref-in-SummarizePer-3.result.now)) (items_in_tuples world tuples (summaries_view c.deref-in-SummarizePer-3.result.now)))
+    (sym (both_given (λ (v : Val). v) (λ (v : Val). v) (summary_value (λ h. summary_attributes (entered_with h (with_tuples world.scope tuples)) (summaries_view c.deref-in-SummarizePer-3.result.now)) (items_in_tuples world tuples (summaries_view c.deref-in-SummarizePer-3.result.now)))
     c.value_of-operand.result c.value_of-in-SummarizePer.result (value_of world tuples (tree_view c.deref-in-SummarizePer.result.now))
     (value_of world tuples (tree_view c.deref-in-SummarizePer-2.result.now)) (c.in_ok-operand-in-SummarizePer.operand, c.in_ok-operand-in-SummarizePer.per)
     (sym c.both.ensures ∙ c.in_ok-operand-in-SummarizePer.was) c.value_of-operand.ensures c.value_of-in-SummarizePer.ensures))
@@ -608,7 +608,7 @@ value_of-returns-in_ok-projected_by-in-SummarizeBy g t c =
     let tuples = reverse c.args.tuples.now in
     let is = ap tree_view c.in-SummarizeBy.is ∙ summarize_by_is c.in-SummarizeBy.operand c.in-SummarizeBy.by c.in-SummarizeBy.items
     ∙ (λ i. trees.summarize_by (tree_view (sym c.deref-in-SummarizeBy.ensures i)) (attributes_view c.in-SummarizeBy.by) (summaries_view (sym c.deref-in-SummarizeBy-2.ensures.value i))) in
-    let given = summary_value (λ h. summary_attributes (entered_with h (scope_among world tuples)) (summaries_view c.deref-in-SummarizeBy-2.result.now)) (items_in_tuples world tuples (summaries_view c.deref-in-SummarizeBy-2.result.now)) in
+    let given = summary_value (λ h. summary_attributes (entered_with h (with_tuples world.scope tuples)) (summaries_view c.deref-in-SummarizeBy-2.result.now)) (items_in_tuples world tuples (summaries_view c.deref-in-SummarizeBy-2.result.now)) in
     let by = postfix_value (trees.project (attributes_view c.in-SummarizeBy.by)) in
     rw is
     (answered_then (λ v. v) c.in_ok-operand-in-SummarizeBy.operand (value_of world tuples (tree_view c.deref-in-SummarizeBy.result.now)) (λ v. with_value (by v) (given v)) (λ v. v)

@@ -5,14 +5,14 @@ use Rattle.td_tree.specs.declared.cause.Cause.TheVariants as causes
 use Rattle.td_types.specs.Headings.{has_attribute, has_attributes, has_projection, outside, projection}
 use Rattle.td_types.specs.Types.{IsHeading, attribute_names, pack}
 use Rattle.td_types.specs.Types as types
-use Rattle.td_value.specs.Values.{Tuple, Val}
+use Rattle.td_value.specs.Values.{Tuple, Val, relation_value}
 use Rattle.td_algebra.specs.Columns.{new_attribute}
 use Rattle.td_algebra.specs.Operators.{extended_relation, projected_relation}
 use Rattle.td_algebra.proofs.Keys.{if_ok}
 use Rattle.td_algebra.proofs.Members.{first_true, second_true}
 use Rattle.td_algebra.proofs.Taken.{value_of_answer}
 use Rattle.td_group.specs.Groups.{groups_on}
-use Rattle.td_group.specs.Nesting.{group_of, grouped_relation, relation_value, rest_heading, rest_names}
+use Rattle.td_group.specs.Nesting.{group_of, grouped_relation, rest_heading, rest_names}
 use Rattle.td_group.proofs.Grouped.{column_fits, group_column, groups_fit, rest_lacks, rest_projects}
 use Rattle.td_algebra.proofs.OnNames.{projection_there}
 use Rattle.td_group.proofs.grouping.group.Goals as goal

@@ -7,7 +7,7 @@ use Rattle.td_value.specs.Values.{IsTupleOf, projected_tuple, tuple_of, value_at
 use Rattle.td_algebra.proofs.Taken.{relation_is, value_of_answer}
 use Rattle.td_tree.proofs.Unrefused.{unrefused_if}
 use Rattle.td_algebra.proofs.Joined.{apart_agree}
-use Rattle.td_group.specs.Nesting.{AreApart, inner_heading, other_names, tuples_inside, unnested_tuples}
+use Rattle.td_group.specs.Nesting.{HaveNoCommonName, inner_heading, other_names, tuples_inside, unnested_tuples}
 use Rattle.td_group.proofs.Nested.{unnested_apart, unnested_headed}
 use Rattle.td_group.proofs.unnesting.unnest.Goals as goal
 
@@ -17,9 +17,9 @@ unnested_rows-requires c =
     let r = c.args.rel.now in
     let rest : c.in_ok-rest.rest ≡ without_attribute name r.heading =
     value_of_answer c.without.result c.in_ok-rest.rest _ _ causes.Heading c.without.ensures.answer c.in_ok-rest.ensures ∙ ap (without_attribute name) c.heading-heading.ensures in
-    subst (λ names. All (λ u. All (AreApart (projected_tuple names u)) (tuples_inside (value_at name u))) c.rows.result.now)
+    subst (λ names. All (λ u. All (HaveNoCommonName (projected_tuple names u)) (tuples_inside (value_at name u))) c.rows.result.now)
     (sym (c.deref.ensures.value ∙ c.in_ok-attribute_names.ensures ∙ ap attribute_names rest))
-    (subst (All (λ u. All (AreApart (projected_tuple (other_names name r) u)) (tuples_inside (value_at name u)))) (sym c.rows.ensures.rows)
+    (subst (All (λ u. All (HaveNoCommonName (projected_tuple (other_names name r) u)) (tuples_inside (value_at name u)))) (sym c.rows.ensures.rows)
     (unnested_apart name r c.rows.ensures.headed c.requires.apart))
 
 pub unrefused-requires-2 : goal.unrefused-requires-2

@@ -4,12 +4,12 @@ use Rattle.td_tree.specs.declared.cause.Cause.TheVariants as causes
 use Rattle.td_types.specs.Headings.{has_attribute, has_projection, outside, projection, with_attribute}
 use Rattle.td_types.specs.Types.{Heading, IsHeading, attribute_names, pack}
 use Rattle.td_types.specs.Types as types
-use Rattle.td_value.specs.Values.{IsTupleOf, Tuple, projected_tuple, tuple_of}
+use Rattle.td_value.specs.Values.{IsTupleOf, Tuple, projected_tuple, tuple_of, tuple_value}
 use Rattle.td_algebra.proofs.Taken.{relation_is, value_of_answer}
 use Rattle.std.specs.Prelude.{not}
 use Rattle.td_tree.proofs.Unrefused.{unrefused_if}
 use Rattle.td_algebra.proofs.Members.{second_true}
-use Rattle.td_group.specs.Nesting.{AreApart, rest_heading, rest_names, tuple_value, wrapped_tuple}
+use Rattle.td_group.specs.Nesting.{HaveNoCommonName, rest_heading, rest_names, wrapped_tuple}
 use Rattle.td_group.proofs.Nested.{wrapped_apart, wrapped_headed}
 use Rattle.td_group.proofs.wrapping.wrap.Goals as goal
 
@@ -21,9 +21,9 @@ wrapped_rows-requires c =
     value_of_answer c.project.result c.in_ok-part.part _ _ causes.Heading c.project.ensures.answer c.in_ok-part.ensures ∙ ap (projection names) c.heading-heading.ensures in
     let rest : c.in_ok-rest.rest ≡ rest_heading names r.heading = c.in_ok-rest.ensures.heading ∙ (λ i. outside (part i) (c.heading-heading.ensures i)) in
     let new : Tuple → Tuple = λ t. (c.args.name, tuple_value (projected_tuple names t)) ∷ [] in
-    subst (λ ns. All (λ t. AreApart (projected_tuple ns t) (new t)) c.rows.result.now)
+    subst (λ ns. All (λ t. HaveNoCommonName (projected_tuple ns t) (new t)) c.rows.result.now)
     (sym (c.deref.ensures.value ∙ c.in_ok-attribute_names.ensures ∙ ap attribute_names rest))
-    (subst (All (λ t. AreApart (projected_tuple (rest_names names r) t) (new t))) (sym c.rows.ensures.rows)
+    (subst (All (λ t. HaveNoCommonName (projected_tuple (rest_names names r) t) (new t))) (sym c.rows.ensures.rows)
     (wrapped_apart names c.args.name r c.rows.ensures.headed c.requires))
 
 pub unrefused-requires-2 : goal.unrefused-requires-2

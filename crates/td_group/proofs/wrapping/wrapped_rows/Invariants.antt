@@ -1,6 +1,5 @@
 use Rattle.std.proofs.Common.{◌≡◌, ◌∷◌, ◌++◌, [], map, take}
-use Rattle.td_group.specs.Nesting.{tuple_value}
-use Rattle.td_value.specs.Values.{projected_tuple, tuple_of}
+use Rattle.td_value.specs.Values.{projected_tuple, tuple_of, tuple_value}
 use Rattle.td_group.proofs.wrapping.wrapped_rows.Given as goal
 
 abbrev pub invariant-loop-row : goal.invariant-loop-row

@@ -2,7 +2,7 @@ use Rattle.std.proofs.Common.{◌∙◌, ◌<◌, ap, length, map, rules, sym}
 use Rattle.std.specs.Borrow.{Bor}
 use Rattle.td_catalog.specs.Database.{database_scope}
 use Rattle.td_check.specs.Scopes.{entered_with}
-use Rattle.td_eval.specs.ValueTypes.{with_tuples}
+use Rattle.td_eval.specs.Worlds.{with_tuples}
 use Rattle.td_plan.proofs.Places.{one_more_of}
 use Rattle.td_value.specs.Values.{Tuple}
 use Rattle.td_plan.proofs.plan.planner_in.Goals as goal

@@ -12,7 +12,7 @@ pub returns : goal.returns
 returns c =
     let inside = c.scope.inside in
     let free : not (has_name c.args.name (lent_constraints inside.lent ++ inside.constraints.keys)) ≡ true =
-    ap (λ (s : Scope). not (knows_constraint s c.args.name)) c.scope.view_is ∙ c.requires.new in
+    ap (λ (s : Scope). not (knows_constraint c.args.name s)) c.scope.view_is ∙ c.requires.new in
     let added = name_added inside.constraints.keys c.args.name (unnamed_behind c.args.name (lent_constraints inside.lent) inside.constraints.keys free) in
     ap (λ ns. record { types = inside.types.now; relvars = lent_relvars inside.lent ++ relvars_view inside.relvars.entries; constraints = ns; entered = reverse inside.entered.items })
     (ap (λ ns. lent_constraints inside.lent ++ ns) (c.in_ok-insert.ensures.keys ∙ added)

@@ -7,7 +7,7 @@ use Rattle.td_eval.specs.OperatorValues.{extended_value}
 use Rattle.td_eval.specs.Sights.{seen_by}
 use Rattle.td_eval.specs.Totals.{total_view}
 use Rattle.td_eval.specs.TreeValues.{items_in_tuples}
-use Rattle.td_eval.specs.Worlds.{scope_among}
+use Rattle.td_eval.specs.Worlds.{with_tuples}
 use Rattle.td_group.specs.Groups.{groups}
 use Rattle.td_tree.specs.Outcomes.{Answers, Valued}
 use Rattle.td_tree.specs.TreeViews.{summaries_view}
@@ -18,7 +18,7 @@ use Rattle.td_eval.proofs.operators.summaries.summarized.Goals as goal
 
 pub summary_by-requires-clause-lengths : goal.summary_by-requires-clause-lengths
 summary_by-requires-clause-lengths g c =
-    let scope = entered_with c.args.rel.now.heading (scope_among (seen_by c.args.sight.now) (reverse c.args.tuples.now)) in
+    let scope = entered_with c.args.rel.now.heading (with_tuples (seen_by c.args.sight.now).scope (reverse c.args.tuples.now)) in
     let items = items_in_tuples (seen_by c.args.sight.now) (reverse c.args.tuples.now) (summaries_view c.args.items.now) in
     let attributes = pairs_view c.in_ok-attributes.attributes.items in
     ap length c.deref.ensures.value ∙ sym (length-map c.in_ok-attributes.attributes.items pair_view)

@@ -3,9 +3,9 @@ use Rattle.td_catalog.specs.Database.{Database, database_scope}
 use Rattle.td_check.specs.Scopes.{Scope, scope_of}
 use Rattle.td_eval.specs.DatabaseWorlds.{with_other, world_of}
 use Rattle.td_eval.specs.Sights.{other_seen, seen_by, with_first_virtuals}
-use Rattle.td_eval.specs.Worlds.{scope_among}
 use Rattle.td_eval.proofs.Selectors.{other_scope}
 use Rattle.td_eval.proofs.WorldParts.{world_scope}
+use Rattle.td_eval.specs.Worlds.{with_tuples}
 use Rattle.td_value.specs.Values.{Relation}
 use Rattle.td_eval.proofs.sight.Sight.outer_scope.Goals as goal
 
@@ -13,19 +13,19 @@ use Rattle.td_eval.proofs.sight.Sight.outer_scope.Goals as goal
 abbrev with_none_entered : Scope → Scope
 with_none_entered scope = record { types = scope.types; relvars = scope.relvars; constraints = scope.constraints; entered = [] }
 
-same_scope : (o : Option (List ℕ × Relation)) (db : Database) → database_scope db ≡ scope_among (with_other o (world_of db)) []
+same_scope : (o : Option (List ℕ × Relation)) (db : Database) → database_scope db ≡ with_tuples (with_other o (world_of db)).scope []
 same_scope o db = ap with_none_entered (sym (other_scope o (world_of db) ∙ world_scope db))
 
 pub returns-in-Some : goal.returns-in-Some
 returns-in-Some g c =
     let sight = c.args.self.now in
     let catalog = c.in-Some.catalog in
-    let seen : database_scope (with_first_virtuals sight.virtuals catalog.now.database) ≡ scope_among (seen_by sight) [] =
+    let seen : database_scope (with_first_virtuals sight.virtuals catalog.now.database) ≡ with_tuples (seen_by sight).scope [] =
     rw c.in-Some.is (same_scope (other_seen sight) (with_first_virtuals sight.virtuals catalog.now.database)) in
     c.scope_before.ensures ∙ seen
 
 pub returns-in-None : goal.returns-in-None
 returns-in-None g c =
     let sight = c.args.self.now in
-    let seen : scope_of sight.types.now ≡ scope_among (seen_by sight) [] = rw c.in-None.is refl in
+    let seen : scope_of sight.types.now ≡ with_tuples (seen_by sight).scope [] = rw c.in-None.is refl in
     c.new.ensures ∙ seen

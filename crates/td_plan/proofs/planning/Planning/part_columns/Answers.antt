@@ -2,7 +2,7 @@ use Rattle.std.proofs.Common.{◌≡◌, List, subst, sym}
 use Rattle.std.specs.Prelude.{IfNone, IfOk, IfSome}
 use Rattle.td_check.specs.StaticTypes.{named_types}
 use Rattle.td_plan.proofs.PlannedLists.{parts_are}
-use Rattle.td_plan.specs.PlannedParts.{AreColumns, ArePlanned, in_named}
+use Rattle.td_plan.specs.PlannedParts.{ArePlanned, ArePlannedColumns, in_named}
 use Rattle.td_tree.specs.Outcomes.{Valued}
 use Rattle.td_tree.specs.TreeViews.{named_view}
 use Rattle.td_types.specs.Types.{Attribute}
@@ -14,7 +14,7 @@ returns g c =
     let scope = c.args.self.now.planner.now.scope in
     let es = named_view c.args.parts.now in
     let types = named_types scope es in
-    subst (λ o. IfOk o (λ columns. AreColumns scope columns types (in_named es))) c.in_ok-columns.was
+    subst (λ o. IfOk o (λ columns. ArePlannedColumns scope columns types (in_named es))) c.in_ok-columns.was
     (c.new_columns.ensures scope types (in_named es)
     (subst (λ o. IfSome o (λ xs. types ≡ Valued (pairs_view xs.items))) c.in-Some.is c.in_ok-attributes.ensures.some)
     (subst (ArePlanned scope c.part_steps.result) (sym (parts_are c.args.parts.now)) c.part_steps.ensures))

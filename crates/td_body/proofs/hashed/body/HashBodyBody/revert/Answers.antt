@@ -1,7 +1,7 @@
 use Rattle.std.proofs.Common.{◌≡◌, ◌∙◌, ◌++◌, ◌-◌, ◌∷◌, [], ℕ, List, ap, arith, length, map, subst}
 use Rattle.std.specs.List.{All}
 use Rattle.td_body.specs.Bodies.{HaveOneHeading}
-use Rattle.td_body.specs.HashBodies.{IsHashBody, IsPlacedFor, kept_by}
+use Rattle.td_body.specs.HashBodies.{IsHashBody, IsPlacedFor, kept_with_aside}
 use Rattle.td_body.specs.Members.{Members}
 use Rattle.td_body.proofs.HashBodyLaws.{body_back, kept_aside, kept_more, last_headed, placed_same}
 use Rattle.td_body.proofs.MembersLaws.{front_holds, last_holds, none_there}
@@ -17,8 +17,8 @@ invariant_of-self c =
 
 -- what was put aside last is put back
 module _ (keys : List (List (List ℕ))) (m before : Members) (aside rest : List Members) (count : ℕ) where
-  kept_before : aside ≡ rest ++ before ∷ [] → length m.kept ≡ 0 → kept_by aside m ≡ kept_by rest before ++ before.relation ∷ []
-  kept_before e none = ap (λ l. kept_by l m) e ∙ kept_aside rest before m (none_there m.kept none)
+  kept_before : aside ≡ rest ++ before ∷ [] → length m.kept ≡ 0 → kept_with_aside aside m ≡ kept_with_aside rest before ++ before.relation ∷ []
+  kept_before e none = ap (λ l. kept_with_aside l m) e ∙ kept_aside rest before m (none_there m.kept none)
 
   put_back : IsHashBody keys m aside count → aside ≡ rest ++ before ∷ [] → length m.kept ≡ 0 → IsHashBody keys before rest (count - 1)
   put_back b e none =
@@ -26,7 +26,7 @@ module _ (keys : List (List (List ℕ))) (m before : Members) (aside rest : List
       body_back keys m before aside rest count b (kept_before e none) (last_holds (IsPlacedFor keys) rest before all) (front_holds (IsPlacedFor keys) rest before all)
 
   same_heading : IsHashBody keys m aside count → aside ≡ rest ++ before ∷ [] → length m.kept ≡ 0 → before.relation.heading ≡ m.relation.heading
-  same_heading b e none = last_headed m.relation (kept_by rest before) before.relation (subst (HaveOneHeading m.relation) (kept_before e none) b.headings)
+  same_heading b e none = last_headed m.relation (kept_with_aside rest before) before.relation (subst (HaveOneHeading m.relation) (kept_before e none) b.headings)
 
 pub invariant_of-self-in-Some : goal.invariant_of-self-in-Some
 invariant_of-self-in-Some c =

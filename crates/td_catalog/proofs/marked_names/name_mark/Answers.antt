@@ -3,7 +3,7 @@ use Rattle.std.proofs.lemmas.Nat.{one_shl}
 use Rattle.std.specs.Hash as fed
 use Rattle.std.specs.Hash.FoldHasher.{write}
 use Rattle.td_catalog.specs.NameMarks.{hash_of}
-use Rattle.td_catalog.proofs.marked_names.mark_of.Goals as goal
+use Rattle.td_catalog.proofs.marked_names.name_mark.Goals as goal
 
 pub returns : goal.returns
 unfolding hash_of
