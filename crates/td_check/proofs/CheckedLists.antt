@@ -4,13 +4,12 @@ use Rattle.std.proofs.lemmas.List.{append-nil, append_assoc, take_all, take_more
 use Rattle.std.specs.Prelude.{OnOk}
 use Rattle.td_check.specs.CheckViews.{Names, with_names}
 use Rattle.td_check.proofs.CheckedNames.{names_after, no_names}
-use Rattle.td_check.proofs.GatheredAnswers.{refusal_gathered, value_gathered}
 use Rattle.td_tree.specs.declared.cause.Cause.{Cause}
 use Rattle.td_tree.specs.declared.fault.Fault.{Fault}
 use Rattle.td_tree.specs.declared.fault.Fault.TheVariants as faults
-use Rattle.td_tree.specs.Gatherings.{IsGathered, IsRest, answer_of, cause_of, lesser_cause}
-use Rattle.td_tree.specs.Outcomes.{Answers, Outcome, gathered}
-use Rattle.td_tree.proofs.Gatherings.{answers_gathered}
+use Rattle.td_tree.specs.Gatherings.{IsCollected, IsGathered, answer_of}
+use Rattle.td_tree.specs.Outcomes.{Answers, Outcome, gathered, lesser}
+use Rattle.td_tree.proofs.Gatherings.{answers_gathered, collected_next}
 
 -- what the elements mention, one after another
 abbrev pub of_each : {X : Type 0} → (X → List (List ℕ)) → List X → List (List ℕ)
@@ -31,35 +30,30 @@ pub none_checked : {X A : Type 0} (outcome : X → Outcome A) (relvars types : X
     → AreChecked outcome relvars types None [] n n []
 none_checked outcome relvars types n = (refl, λ _. no_names n)
 
-module _ {X Y A E : Type 0} (view : Y → A) (outcome : X → Outcome A) (relvars types : X → List (List ℕ)) where
-  -- where no cause is left, there was none before, and the answer is none
-  no_cause : (least : Option Cause) (r : Result Y Fault) (rest : Result (Option Y) E) (given : Option Y) → rest ≡ Ok given → IsRest r rest
-      → lesser_cause least (cause_of r) ≡ None → (least ≡ None) × ((P : Type 0) → OnOk r P → P)
-  no_cause None (Ok y) rest given is e h = (refl, λ P p. p)
-  no_cause (Some c) (Ok y) rest given is e h = absurd (cc)
-  no_cause None (Err (faults.Refused d)) rest given is e h = absurd (cc)
-  no_cause (Some c) (Err (faults.Refused d)) rest given is e h = absurd (cc)
-  no_cause least (Err faults.Memory) rest given is e h = absurd (subst (IsRest (Err faults.Memory)) is e)
+-- where no cause is left, there was none before, and the answer is none
+no_cause : {Y : Type 0} {least new : Option Cause} {ys more : List Y} (r : Result Y Fault) → IsCollected r least ys new more → new ≡ None
+    → (least ≡ None) × ((P : Type 0) → OnOk r P → P)
+no_cause {least = None} (Ok y) e h = (refl, λ P p. p)
+no_cause {least = Some c} (Ok y) e h = absurd (let left : Some c ≡ None = sym e.cause ∙ h in cc)
+no_cause {least = None} (Err (faults.Refused d)) e h = absurd (let left : Some d ≡ None = sym e.cause ∙ h in cc)
+no_cause {least = Some c} (Err (faults.Refused d)) e h = absurd (let left : Some (lesser c d) ≡ None = sym e.cause ∙ h in cc)
+no_cause (Err faults.Memory) e h = absurd e.values
 
-  module _ (xs : List X) (x : X) (least : Option Cause) (ys : List Y) (r : Result Y Fault) (new : Option Cause) (before now later : Names)
-      (so_far : AreChecked outcome relvars types least (map view ys) before now xs) (answers : Answers view r (outcome x))
-      (names : OnOk r (later ≡ with_names now (relvars x) (types x))) (cause : new ≡ lesser_cause least (cause_of r))
-      (rest : Result (Option Y) E) (e : IsRest r rest) where
-    names_more : (given : Option Y) → rest ≡ Ok given → new ≡ None → later ≡ with_names before (of_each relvars (xs ++ (x ∷ []))) (of_each types (xs ++ (x ∷ [])))
-    names_more given is none =
-        let free = no_cause least r rest given is e (sym cause ∙ none) in
-        names_after before now later (of_each relvars xs) (of_each types xs) (relvars x) (types x) (so_far.1 free.0) (free.1 _ names)
-        ∙ (λ i. with_names before (sym (of_each_last relvars xs x) i) (sym (of_each_last types xs x) i))
-
-    -- one more element with its value
-    pub checked_some : (y : Y) → rest ≡ Ok (Some y) → (more : List Y) → more ≡ ys ++ (y ∷ [])
-        → AreChecked outcome relvars types new (map view more) before later (xs ++ (x ∷ []))
-    checked_some y given more pushed =
-        (value_gathered E view outcome xs x least ys r new so_far.0 answers cause y rest given e more pushed, names_more (Some y) given)
-
-    -- one more that is refused
-    pub checked_none : rest ≡ Ok None → AreChecked outcome relvars types new (map view ys) before later (xs ++ (x ∷ []))
-    checked_none given = (refusal_gathered E view outcome xs x least ys r new so_far.0 answers cause rest given e, names_more None given)
+-- one more element
+pub checked_next : {X Y A : Type 0} (view : Y → A) (outcome : X → Outcome A) (relvars types : X → List (List ℕ)) (xs : List X) (i : ℕ) {x : X} → i < length xs → x ≡ get_or xs i x
+    → (before now later : Names) {least new : Option Cause} {ys more : List Y} (r : Result Y Fault)
+    → AreChecked outcome relvars types least (map view ys) before now (take i xs) → Answers view r (outcome x)
+    → OnOk r (later ≡ with_names now (relvars x) (types x)) → IsCollected r least ys new more
+    → AreChecked outcome relvars types new (map view more) before later (take (i + 1) xs)
+checked_next {X = X} view outcome relvars types xs i {x = x} inside is before now later {new = new} r so_far answers names e =
+    (collected_next view outcome xs i inside is so_far.0 answers e, names_more)
+  where
+    names_more : new ≡ None → later ≡ with_names before (of_each relvars (take (i + 1) xs)) (of_each types (take (i + 1) xs))
+    names_more none =
+        let free = no_cause r e none in
+        let mentioned = λ (f : X → List (List ℕ)). sym (of_each_last f (take i xs) x) ∙ ap (of_each f) (ap (λ z. take i xs ++ z ∷ []) is ∙ sym (take_more xs i x inside)) in
+        names_after before now later (of_each relvars (take i xs)) (of_each types (take i xs)) (relvars x) (types x) (so_far.1 free.0) (free.1 _ names)
+        ∙ (λ j. with_names before (mentioned relvars j) (mentioned types j))
 
 -- the elements so far and the next are those of the next step
 pub step_taken : {X : Type 0} (P : List X → Type 0) (xs : List X) (i : ℕ) (x : X) → i < length xs → x ≡ get_or xs i x

@@ -163,9 +163,7 @@ fn check_all(
     let mut causes = Gathering::new();
     let mut types = Vec::with_capacity(place.allocator(), exprs.len())?;
     for expr in exprs {
-        if let Some(ty) = causes.add(check(expr, place, seen))? {
-            types.push(ty)?;
-        }
+        causes.collect(&mut types, check(expr, place, seen))?;
     }
     causes.finish(types)
 }
@@ -203,9 +201,7 @@ fn check_named(
     let mut causes = Gathering::new();
     let mut attributes = Vec::with_capacity(place.allocator(), parts.len())?;
     for part in parts {
-        if let Some(attribute) = causes.add(check_part(part, place, seen))? {
-            attributes.push(attribute)?;
-        }
+        causes.collect(&mut attributes, check_part(part, place, seen))?;
     }
     causes.finish(attributes)
 }
@@ -268,9 +264,7 @@ fn check_items(
     let mut causes = Gathering::new();
     let mut added = Vec::with_capacity(place.allocator(), items.len())?;
     for item in items {
-        if let Some(checked) = causes.add(check_item(item, place, seen))? {
-            added.push(checked)?;
-        }
+        causes.collect(&mut added, check_item(item, place, seen))?;
     }
     causes.finish(added)
 }

@@ -1,9 +1,12 @@
 -- What is gathered of answers, one after another.
-use Rattle.std.proofs.Common.{◌≡◌, ◌≤◌, ◌<◌, ◌⊎◌, inl, inr, ◌∙◌, ap, sym, true, false, List, [], ◌∷◌, ◌++◌, Option, Some, None, Result, Ok, Err, IfOk, refl, if◌then◌else◌, arith}
+use Rattle.std.proofs.Common.{◌≡◌, ◌≤◌, ◌<◌, ◌⊎◌, inl, inr, ◌∙◌, ◌+◌, ap, sym, true, false, ℕ, List, [], ◌∷◌, ◌++◌, Option, Some, None, Result, Ok, Err, IfOk, refl, if◌then◌else◌, arith, get_or, length, map, subst, take}
+use Rattle.std.proofs.lemmas.List.{append-nil, map-append, take_more}
+use Rattle.std.proofs.lemmas.List.Elements.{All-push}
+use Rattle.std.specs.List.{All}
 use Rattle.std.specs.Prelude.{nat_le}
 use Rattle.std.proofs.lemmas.Bool.Decides.{leb_tells}
 use Rattle.td_tree.specs.Causes.{number_of}
-use Rattle.td_tree.specs.Gatherings.{IsGathered, IsRest, answer_of, cause_of, lesser_cause}
+use Rattle.td_tree.specs.Gatherings.{HasValue, IsCollected, IsGathered, IsRest, answer_of, cause_of, lesser_cause}
 use Rattle.td_tree.specs.Outcomes.{Answers, Outcome, Valued, Refused, gathered, lesser, named_cause, with_both}
 use Rattle.td_tree.specs.declared.cause.Cause.{Cause}
 use Rattle.td_tree.specs.declared.fault.Fault.{Fault}
@@ -133,6 +136,59 @@ gathered_more view least xs os (Err (faults.Refused d)) (Ok None) o h a e = of_l
 gathered_more view least xs os (Err (faults.Refused d)) (Err f) o h a e = absurd (cc)
 gathered_more view least xs os (Err faults.Memory) (Ok x) o h a e = absurd e
 gathered_more view least xs os (Err faults.Memory) (Err f) o h a e = tt
+
+-- the value that is left of an answer is put to the values
+module _ {X : Type 0} (E : Type 0) (xs : List X) where
+  pub value_put : (r : Result X Fault) (given : Option X) (x : X) (more : List X) → IsRest {E = E} r (Ok given) → given ≡ Some x → more ≡ xs ++ x ∷ []
+      → HasValue r xs more
+  value_put (Ok y) given x more rest is pushed =
+      let same : x ≡ y = cc in
+      pushed ∙ ap (λ z. xs ++ z ∷ []) same
+  value_put (Err (faults.Refused d)) given x more rest is pushed = absurd (cc)
+  value_put (Err faults.Memory) given x more rest is pushed = absurd rest
+
+  pub none_put : (r : Result X Fault) (given : Option X) → IsRest {E = E} r (Ok given) → given ≡ None → HasValue r xs xs
+  none_put (Ok y) given rest is = absurd (cc)
+  none_put (Err (faults.Refused d)) given rest is = refl
+  none_put (Err faults.Memory) given rest is = absurd rest
+
+-- what is gathered once one more answer is collected
+pub collected : {X A : Type 0} (view : X → A) {least new : Option Cause} {xs more : List X} {r : Result X Fault} (os : List (Outcome A)) (o : Outcome A)
+    → IsGathered least (map view xs) os → Answers view r o → IsCollected r least xs new more → IsGathered new (map view more) (os ++ o ∷ [])
+collected {X = X} {A = A} view {least = least} {new = new} {xs = xs} {more = more} {r = r} os o h a e =
+    rw e.cause (by_answer r more a e.values)
+  where
+    by_answer : (s : Result X Fault) (ys : List X) → Answers view s o → HasValue s xs ys → IsGathered (lesser_cause least (cause_of s)) (map view ys) (os ++ o ∷ [])
+    by_answer (Ok x) ys b v =
+        rw (v, map-append view xs (x ∷ [])) (gathered_more {E = Unit} view least (map view xs) os (Ok x) (Ok (Some x)) o h b refl)
+    by_answer (Err (faults.Refused d)) ys b v =
+        rw (v, ← append-nil (map view xs)) (gathered_more {E = Unit} view least (map view xs) os (Err (faults.Refused d)) (Ok None) o h b refl)
+    by_answer (Err faults.Memory) ys b v = absurd v
+
+-- the same, of the answer for one more element after a list
+pub collected_last : {X Y A : Type 0} (view : Y → A) (f : X → Outcome A) (xs : List X) (x : X) {least new : Option Cause} {ys more : List Y} {r : Result Y Fault}
+    → IsGathered least (map view ys) (map f xs) → Answers view r (f x) → IsCollected r least ys new more
+    → IsGathered new (map view more) (map f (xs ++ x ∷ []))
+collected_last view f xs x h a e = rw (map-append f xs (x ∷ [])) (collected view (map f xs) (f x) h a e)
+
+-- the same, of the answer for the next element of a list
+pub collected_next : {X Y A : Type 0} (view : Y → A) (f : X → Outcome A) (xs : List X) (i : ℕ) {x : X} → i < length xs → x ≡ get_or xs i x
+    → {least new : Option Cause} {ys more : List Y} {r : Result Y Fault}
+    → IsGathered least (map view ys) (map f (take i xs)) → Answers view r (f x) → IsCollected r least ys new more
+    → IsGathered new (map view more) (map f (take (i + 1) xs))
+collected_next view f xs i {x = x} inside is {new = new} {more = more} h a e =
+    subst (λ zs. IsGathered new (map view more) (map f zs)) (ap (λ z. take i xs ++ z ∷ []) is ∙ sym (take_more xs i x inside))
+    (collected_last view f (take i xs) x h a e)
+
+-- what holds of the values before and of the answer's holds of the values
+pub collected_hold : {X : Type 0} (P : X → Type 0) {least new : Option Cause} {xs more : List X} {r : Result X Fault}
+    → All P xs → IfOk r P → IsCollected r least xs new more → All P more
+collected_hold {X = X} P {xs = xs} {more = more} {r = r} h p e = by_answer r p e.values
+  where
+    by_answer : (s : Result X Fault) → IfOk s P → HasValue s xs more → All P more
+    by_answer (Ok x) q v = subst (All P) (sym v) (All-push P xs x h q)
+    by_answer (Err (faults.Refused d)) q v = subst (All P) (sym v) h
+    by_answer (Err faults.Memory) q v = absurd v
 
 -- what is answered at the end is what the outcomes are together
 pub answers_gathered : {X A : Type 0} (view : X → List A) (least : Option Cause) (value : X) (os : List (Outcome A))

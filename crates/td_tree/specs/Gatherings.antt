@@ -1,5 +1,5 @@
 -- The causes of several answers, gathered one answer after another (this project's own).
-use Rattle.std.specs.Prelude.{◌≡◌, List, Option, Some, None, Result, Ok, Err, ⊤}
+use Rattle.std.specs.Prelude.{◌≡◌, ◌++◌, ◌∷◌, List, [], Option, Some, None, Result, Ok, Err, ⊤}
 use Rattle.td_tree.specs.Outcomes.{Outcome, Valued, gathered, lesser, named_cause}
 use Rattle.td_tree.specs.declared.cause.Cause.{Cause}
 use Rattle.td_tree.specs.declared.fault.Fault.{Fault}
@@ -23,6 +23,17 @@ IsRest (Ok x) rest = rest ≡ Ok (Some x)
 IsRest (Err (faults.Refused cause)) rest = rest ≡ Ok None
 IsRest (Err faults.Memory) (Ok x) = ⊥
 IsRest (Err faults.Memory) (Err e) = ⊤
+
+-- what the values are where an answer's, if it has one, is put to them
+abbrev pub HasValue : {X : Type 0} → Result X Fault → List X → List X → Type 0
+HasValue (Ok x) xs more = more ≡ xs ++ x ∷ []
+HasValue (Err (faults.Refused cause)) xs more = more ≡ xs
+HasValue (Err faults.Memory) xs more = ⊥
+
+-- an answer is collected: its cause counts with the least one before, its value stands after the values before
+pub record IsCollected {X : Type 0} (r : Result X Fault) (least : Option Cause) (xs : List X) (new : Option Cause) (more : List X) : Type 0 where
+  pub cause : new ≡ lesser_cause least (cause_of r)
+  pub values : HasValue r xs more
 
 -- what is answered at the end: the value, where no cause was gathered
 abbrev pub answer_of : {X : Type 0} → Option Cause → X → Result X Fault

@@ -1,6 +1,6 @@
 //! The causes of several answers, of which the least is named.
-ghost use Rattle.std.specs.Prelude.{◌≡◌, None, Some};
-ghost use Rattle.td_tree.specs.Gatherings.{IsRest, answer_of, cause_of, lesser_cause};
+ghost use Rattle.std.specs.Prelude.{◌≡◌, IfOk, None, Some};
+ghost use Rattle.td_tree.specs.Gatherings.{IsCollected, IsRest, answer_of, cause_of, lesser_cause};
 
 use crate::cause::Cause;
 use crate::fault::Fault;
@@ -61,6 +61,22 @@ impl Gathering {
             }
             Err(Fault::Memory) => Err(AllocError),
         }
+    }
+
+    /// The answer's value is put to the values. Where it is refused there is none, and its cause is
+    /// gathered.
+    pub fn collect<T: Drop>(
+        &mut self,
+        values: &mut Vec<T>,
+        answer: Result<T, Fault>,
+    ) -> Result<(), AllocError>
+        ensures { IfOk result (λ _. IsCollected answer
+            self.old values.old.items self.new values.new.items) }
+    {
+        if let Some(value) = self.add(answer)? {
+            values.push(value)?;
+        }
+        Ok(())
     }
 
     /// The least cause with one more.

@@ -1,14 +1,14 @@
 -- What is answered of type trees: attribute by attribute, and of their headings.
-use Rattle.std.proofs.Common.{◌≡◌, ◌∙◌, ◌∷◌, ◌++◌, ◌+◌, ◌<◌, ◌≤◌, ℕ, List, [], Option, Some, None, Result, Ok, Err, ap, get_or, length, map, refl, subst, sym, take}
-use Rattle.std.proofs.lemmas.List.{append-nil, map-append, take_all, take_more}
+use Rattle.std.proofs.Common.{◌≡◌, ◌∙◌, ◌∷◌, ◌≤◌, ℕ, List, [], Option, Result, Err, ap, length, map, refl, subst, sym, take}
+use Rattle.std.proofs.lemmas.List.{take_all}
 use Rattle.td_tree.specs.declared.cause.Cause.{Cause}
 use Rattle.td_tree.specs.declared.fault.Fault.{Fault}
 use Rattle.td_tree.specs.declared.fault.Fault.TheVariants as faults
 use Rattle.td_tree.specs.declared.type_tree.AttributeTree.{AttributeTree}
-use Rattle.td_tree.specs.Gatherings.{IsGathered, IsRest, answer_of, cause_of, lesser_cause}
+use Rattle.td_tree.specs.Gatherings.{IsGathered, answer_of}
 use Rattle.td_tree.specs.Outcomes.{Answers, Outcome, Valued, Refused, gathered, with_both, with_value}
 use Rattle.td_tree.specs.TreeViews.{heading_tree_view, type_tree_view}
-use Rattle.td_tree.proofs.Gatherings.{answers_gathered, gathered_more}
+use Rattle.td_tree.proofs.Gatherings.{answers_gathered}
 use Rattle.td_tree.proofs.Rows.{relation_type_is, tuple_type_is}
 use Rattle.td_tree.specs.declared.type_tree.TypeTree.{TypeTree}
 use Rattle.td_tree.specs.declared.type_tree.TypeTree.TheVariants as t
@@ -37,29 +37,6 @@ attributes_gathered ds (x ∷ xs) =
     by_outcome (Valued ty) (Refused cs2) = refl
     by_outcome (Refused cs) (Valued rest) = refl
     by_outcome (Refused cs) (Refused cs2) = refl
-
-outcomes_more : (ds : List DeclaredType) (xs : List AttributeTree) (i : ℕ) (x : AttributeTree) → i < length xs → x ≡ get_or xs i x
-    → map (outcome_of ds) (take i xs) ++ (outcome_of ds x ∷ []) ≡ map (outcome_of ds) (take (i + 1) xs)
-outcomes_more ds xs i x inside is =
-    sym (ap (map (outcome_of ds)) (take_more xs i x inside) ∙ map-append (outcome_of ds) (take i xs) (get_or xs i x ∷ [])
-    ∙ ap (λ z. map (outcome_of ds) (take i xs) ++ (outcome_of ds z ∷ [])) (sym is))
-
--- one more attribute, with its answer
-module _ {E : Type 0} (ds : List DeclaredType) (xs : List AttributeTree) (i : ℕ) (x : AttributeTree) (inside : i < length xs) (is : x ≡ get_or xs i x)
-    (least : Option Cause) (attributes : List (List ℕ × Ty)) (r : Result (List ℕ × Ty) Fault) (new : Option Cause)
-    (so_far : IsGathered least (pairs_view attributes) (map (outcome_of ds) (take i xs))) (answers : Answers pair_view r (outcome_of ds x))
-    (cause : new ≡ lesser_cause least (cause_of r)) where
-  pub resolved_some : (y : List ℕ × Ty) (rest : Result (Option (List ℕ × Ty)) E) → rest ≡ Ok (Some y) → IsRest r rest → (more : List (List ℕ × Ty)) → more ≡ attributes ++ (y ∷ [])
-      → IsGathered new (pairs_view more) (map (outcome_of ds) (take (i + 1) xs))
-  resolved_some y rest given e more pushed =
-      rw (cause, pushed, map-append pair_view attributes (y ∷ []), ← outcomes_more ds xs i x inside is)
-      (gathered_more pair_view least (pairs_view attributes) (map (outcome_of ds) (take i xs)) r (Ok (Some y)) (outcome_of ds x) so_far answers (subst (IsRest r) given e))
-
-  pub resolved_none : (rest : Result (Option (List ℕ × Ty)) E) → rest ≡ Ok None → IsRest r rest
-      → IsGathered new (pairs_view attributes) (map (outcome_of ds) (take (i + 1) xs))
-  resolved_none rest given e =
-      rw (cause, ← append-nil (pairs_view attributes), ← outcomes_more ds xs i x inside is)
-      (gathered_more pair_view least (pairs_view attributes) (map (outcome_of ds) (take i xs)) r (Ok None) (outcome_of ds x) so_far answers (subst (IsRest r) given e))
 
 -- once past the last attribute
 pub resolved_all : {X : Type 0} (view : X → List Attribute) (ds : List DeclaredType) (xs : List AttributeTree) (i : ℕ) → length xs ≤ i → (least : Option Cause) (v : X) (r : Result X Fault)

@@ -66,9 +66,7 @@ pub fn resolve_attributes(
     let mut causes = Gathering::new();
     let mut attributes = Vec::with_capacity(table.allocator(), heading.len())?;
     for attribute in heading {
-        if let Some(resolved) = causes.add(resolve_attribute(table, attribute))? {
-            attributes.push(resolved)?;
-        }
+        causes.collect(&mut attributes, resolve_attribute(table, attribute))?;
     }
     causes.finish(attributes)
 }

@@ -127,10 +127,7 @@ fn item_types(items: Vec<(Name, Item)>) -> Result<Vec<(Name, Ty)>, Fault>
     let mut causes = Gathering::new();
     let mut attributes = Vec::with_capacity(*items.allocator(), items.len())?;
     for (name, item) in items {
-        let Some(attribute) = causes.add(item_type(name, item))? else {
-            continue;
-        };
-        attributes.push(attribute)?;
+        causes.collect(&mut attributes, item_type(name, item))?;
     }
     causes.finish(attributes)
 }

@@ -1,4 +1,4 @@
-use Rattle.std.proofs.Common.{◌≡◌, ◌∙◌, ◌∷◌, ◌++◌, ◌+◌, [], ℕ, List, Ok, Err, ap, map, refl, subst, sym, take}
+use Rattle.std.proofs.Common.{◌≡◌, ◌∙◌, ◌∷◌, ◌++◌, [], ℕ, List, Err, ap, map, refl, subst, sym}
 use Rattle.std.proofs.lemmas.List.{append-nil}
 use Rattle.std.proofs.lemmas.Result.{err_from_is_err_and}
 use Rattle.std.specs.Global.{Vec}
@@ -12,13 +12,13 @@ use Rattle.td_check.specs.PlaceViews.{scope_at}
 use Rattle.td_check.specs.Scopes.{entered_with}
 use Rattle.td_check.specs.StaticTypes.{items_of, named_types, type_of, types_of, with_items}
 use Rattle.td_check.proofs.CheckedItems.{held_of_added, held_of_per, in_tuples_of, items_given, items_left, items_refused, nothing_added, operand_and_items, per_after}
-use Rattle.td_check.proofs.CheckedLists.{AreChecked, all_answered, all_named, checked_none, checked_some, none_checked, step_taken}
+use Rattle.td_check.proofs.CheckedLists.{all_answered, all_named, checked_next, none_checked}
 use Rattle.td_check.proofs.CheckedNames.{known_names, names_after, names_are, names_held, names_of_both, names_of_second}
 use Rattle.td_check.proofs.CheckedRows.{items_are, mentioned_types, parts_are, relvars_are, relvars_of, relvars_of_item, relvars_of_items, relvars_of_part, relvars_of_parts, type_found, types_are, types_of_item, types_of_items, types_of_one, types_of_part, types_of_parts}
 use Rattle.td_check.proofs.CheckedTypes.{choice_typed, headed_typed, inside_extended, inside_typed, per_typed, summary_by_typed, two_typed}
 use Rattle.td_check.proofs.Gives.{Gives, answered_then}
 use Rattle.td_check.proofs.expression.+check.Goals as goal
-use Rattle.td_check.proofs.expression.+check.Goals.{check_all-in-Some+in_ok-push, check_all-in_default, check_items-in-Some+in_ok-push, check_items-in_default, check_items_inside-in-Rel+in_ok-inside-in-Rel+in_ok-items-in-Rel, check_items_inside-in_default, check_named-in-Some+in_ok-push, check_named-in_default}
+use Rattle.td_check.proofs.expression.+check.Goals.{check_items_inside-in-Rel+in_ok-inside-in-Rel+in_ok-items-in-Rel, check_items_inside-in_default}
 use Rattle.td_tree.specs.Outcomes.{Answers, Valued, with_value}
 use Rattle.td_tree.specs.TreeViews.{attributes_view, heading_tree_view, named_view, summaries_view, tree_view, trees_view}
 use Rattle.td_tree.specs.Trees as trees
@@ -282,20 +282,10 @@ check-returns-in-If-clause-names t c =
 
 pub check_all-loop-expr-preserved : goal.check_all-loop-expr-preserved
 check_all-loop-expr-preserved t c =
-    let l = c.loop-expr in
-    let n = names_view c.args.seen.now in
-    elim c.match-branch-3.branch [
-      | check_all-in-Some+in_ok-push w ↦
-          step_taken (AreChecked (type_found (scope_at c.args.place.now)) (relvars_of (scope_at c.args.place.now)) types_of_one c.add.new.self (map type_view c.match-branch-3.types.items) n (names_view c.check.new.seen)) c.args.exprs.now l.expr-index c.expr-item.result c.loop-expr-test.true c.expr-item.is
-          (checked_some type_view (type_found (scope_at c.args.place.now)) (relvars_of (scope_at c.args.place.now)) types_of_one (take l.expr-index c.args.exprs.now) c.expr-item.result l.causes l.types.items c.check.result c.add.new.self n (names_view l.seen) (names_view c.check.new.seen)
-          l.invariant c.check.ensures.ty c.check.ensures.names c.in_ok-ty.ensures.cause (Ok c.in_ok-ty.field-0) c.in_ok-ty.ensures.rest w.in-Some.ty (ap Ok w.in-Some.is)
-          c.match-branch-3.types.items (ap (λ v. v.items) w.types-is ∙ w.in_ok-push.ensures.items))
-      | check_all-in_default w ↦
-          subst (λ items. AreChecked (type_found (scope_at c.args.place.now)) (relvars_of (scope_at c.args.place.now)) types_of_one c.add.new.self (map type_view items) n (names_view c.check.new.seen) (take (l.expr-index + 1) c.args.exprs.now)) (sym (ap (λ v. v.items) w.types-is))
-          (step_taken (AreChecked (type_found (scope_at c.args.place.now)) (relvars_of (scope_at c.args.place.now)) types_of_one c.add.new.self (map type_view l.types.items) n (names_view c.check.new.seen)) c.args.exprs.now l.expr-index c.expr-item.result c.loop-expr-test.true c.expr-item.is
-          (checked_none type_view (type_found (scope_at c.args.place.now)) (relvars_of (scope_at c.args.place.now)) types_of_one (take l.expr-index c.args.exprs.now) c.expr-item.result l.causes l.types.items c.check.result c.add.new.self n (names_view l.seen) (names_view c.check.new.seen)
-          l.invariant c.check.ensures.ty c.check.ensures.names c.in_ok-ty.ensures.cause (Ok c.in_ok-ty.field-0) c.in_ok-ty.ensures.rest (ap Ok w.in_default.is)))
-    ]
+    let scope = scope_at c.args.place.now in
+    checked_next type_view (type_found scope) (relvars_of scope) types_of_one c.args.exprs.now c.loop-expr.expr-index c.loop-expr-test.true c.expr-item.is
+    (names_view c.args.seen.now) (names_view c.loop-expr.seen) (names_view c.check.new.seen) c.check.result c.loop-expr.invariant c.check.ensures.ty c.check.ensures.names
+    c.in_ok-collect.ensures
 
 pub check_all-returns-clause-types : goal.check_all-returns-clause-types
 check_all-returns-clause-types t c =
@@ -309,20 +299,10 @@ check_all-returns-clause-names t c =
 
 pub check_named-loop-part-preserved : goal.check_named-loop-part-preserved
 check_named-loop-part-preserved t c =
-    let l = c.loop-part in
-    let n = names_view c.args.seen.now in
-    elim c.match-branch-3.branch [
-      | check_named-in-Some+in_ok-push w ↦
-          step_taken (AreChecked (part_found (scope_at c.args.place.now)) (relvars_of_part (scope_at c.args.place.now)) types_of_part c.add.new.self (map pair_view c.match-branch-3.attributes.items) n (names_view c.check_part.new.seen)) c.args.parts.now l.part-index c.part-item.result c.loop-part-test.true c.part-item.is
-          (checked_some pair_view (part_found (scope_at c.args.place.now)) (relvars_of_part (scope_at c.args.place.now)) types_of_part (take l.part-index c.args.parts.now) c.part-item.result l.causes l.attributes.items c.check_part.result c.add.new.self n (names_view l.seen) (names_view c.check_part.new.seen)
-          l.invariant c.check_part.ensures.part c.check_part.ensures.names c.in_ok-attribute.ensures.cause (Ok c.in_ok-attribute.field-0) c.in_ok-attribute.ensures.rest w.in-Some.attribute (ap Ok w.in-Some.is)
-          c.match-branch-3.attributes.items (ap (λ v. v.items) w.attributes-is ∙ w.in_ok-push.ensures.items))
-      | check_named-in_default w ↦
-          subst (λ items. AreChecked (part_found (scope_at c.args.place.now)) (relvars_of_part (scope_at c.args.place.now)) types_of_part c.add.new.self (map pair_view items) n (names_view c.check_part.new.seen) (take (l.part-index + 1) c.args.parts.now)) (sym (ap (λ v. v.items) w.attributes-is))
-          (step_taken (AreChecked (part_found (scope_at c.args.place.now)) (relvars_of_part (scope_at c.args.place.now)) types_of_part c.add.new.self (map pair_view l.attributes.items) n (names_view c.check_part.new.seen)) c.args.parts.now l.part-index c.part-item.result c.loop-part-test.true c.part-item.is
-          (checked_none pair_view (part_found (scope_at c.args.place.now)) (relvars_of_part (scope_at c.args.place.now)) types_of_part (take l.part-index c.args.parts.now) c.part-item.result l.causes l.attributes.items c.check_part.result c.add.new.self n (names_view l.seen) (names_view c.check_part.new.seen)
-          l.invariant c.check_part.ensures.part c.check_part.ensures.names c.in_ok-attribute.ensures.cause (Ok c.in_ok-attribute.field-0) c.in_ok-attribute.ensures.rest (ap Ok w.in_default.is)))
-    ]
+    let scope = scope_at c.args.place.now in
+    checked_next pair_view (part_found scope) (relvars_of_part scope) types_of_part c.args.parts.now c.loop-part.part-index c.loop-part-test.true c.part-item.is
+    (names_view c.args.seen.now) (names_view c.loop-part.seen) (names_view c.check_part.new.seen) c.check_part.result c.loop-part.invariant c.check_part.ensures.part c.check_part.ensures.names
+    c.in_ok-collect.ensures
 
 pub check_named-returns-clause-types : goal.check_named-returns-clause-types
 check_named-returns-clause-types t c =
@@ -336,20 +316,10 @@ check_named-returns-clause-names t c =
 
 pub check_items-loop-item-preserved : goal.check_items-loop-item-preserved
 check_items-loop-item-preserved t c =
-    let l = c.loop-item in
-    let n = names_view c.args.seen.now in
-    elim c.match-branch-3.branch [
-      | check_items-in-Some+in_ok-push w ↦
-          step_taken (AreChecked (item_found (scope_at c.args.place.now)) (relvars_of_item (scope_at c.args.place.now)) types_of_item c.add.new.self (map named_item_view c.match-branch-3.added.items) n (names_view c.check_item.new.seen)) c.args.items.now l.item-index c.item-item.result c.loop-item-test.true c.item-item.is
-          (checked_some named_item_view (item_found (scope_at c.args.place.now)) (relvars_of_item (scope_at c.args.place.now)) types_of_item (take l.item-index c.args.items.now) c.item-item.result l.causes l.added.items c.check_item.result c.add.new.self n (names_view l.seen) (names_view c.check_item.new.seen)
-          l.invariant c.check_item.ensures.item c.check_item.ensures.names c.in_ok-checked.ensures.cause (Ok c.in_ok-checked.field-0) c.in_ok-checked.ensures.rest w.in-Some.checked (ap Ok w.in-Some.is)
-          c.match-branch-3.added.items (ap (λ v. v.items) w.added-is ∙ w.in_ok-push.ensures.items))
-      | check_items-in_default w ↦
-          subst (λ items. AreChecked (item_found (scope_at c.args.place.now)) (relvars_of_item (scope_at c.args.place.now)) types_of_item c.add.new.self (map named_item_view items) n (names_view c.check_item.new.seen) (take (l.item-index + 1) c.args.items.now)) (sym (ap (λ v. v.items) w.added-is))
-          (step_taken (AreChecked (item_found (scope_at c.args.place.now)) (relvars_of_item (scope_at c.args.place.now)) types_of_item c.add.new.self (map named_item_view l.added.items) n (names_view c.check_item.new.seen)) c.args.items.now l.item-index c.item-item.result c.loop-item-test.true c.item-item.is
-          (checked_none named_item_view (item_found (scope_at c.args.place.now)) (relvars_of_item (scope_at c.args.place.now)) types_of_item (take l.item-index c.args.items.now) c.item-item.result l.causes l.added.items c.check_item.result c.add.new.self n (names_view l.seen) (names_view c.check_item.new.seen)
-          l.invariant c.check_item.ensures.item c.check_item.ensures.names c.in_ok-checked.ensures.cause (Ok c.in_ok-checked.field-0) c.in_ok-checked.ensures.rest (ap Ok w.in_default.is)))
-    ]
+    let scope = scope_at c.args.place.now in
+    checked_next named_item_view (item_found scope) (relvars_of_item scope) types_of_item c.args.items.now c.loop-item.item-index c.loop-item-test.true c.item-item.is
+    (names_view c.args.seen.now) (names_view c.loop-item.seen) (names_view c.check_item.new.seen) c.check_item.result c.loop-item.invariant c.check_item.ensures.item c.check_item.ensures.names
+    c.in_ok-collect.ensures
 
 pub check_items-returns-clause-types : goal.check_items-returns-clause-types
 check_items-returns-clause-types t c =

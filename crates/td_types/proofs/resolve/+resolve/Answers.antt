@@ -1,14 +1,14 @@
-use Rattle.std.proofs.Common.{◌∙◌, ◌+◌, Ok, ap, map, subst, sym, take}
+use Rattle.std.proofs.Common.{◌∙◌, ap, sym}
 use Rattle.std.proofs.lemmas.Result.{err_from_is_err_and}
-use Rattle.td_tree.specs.Gatherings.{IsGathered}
+use Rattle.td_tree.proofs.Gatherings.{collected_next}
 use Rattle.td_tree.specs.Outcomes.{with_value}
 use Rattle.td_tree.specs.TreeViews.{heading_tree_view}
 use Rattle.td_types.specs.TypeLists.{heading_meant}
 use Rattle.td_types.specs.Types.{Heading}
+use Rattle.td_types.specs.Pairs.{pair_view}
 use Rattle.td_types.specs.Views.{pairs_view, type_view}
-use Rattle.td_types.proofs.Resolutions.{answers_still, outcome_of, relation_meant, relation_of, resolved_all, resolved_none, resolved_some, tuple_meant, tuple_of}
+use Rattle.td_types.proofs.Resolutions.{answers_still, outcome_of, relation_meant, relation_of, resolved_all, tuple_meant, tuple_of}
 use Rattle.td_types.proofs.resolve.+resolve.Goals as goal
-use Rattle.td_types.proofs.resolve.+resolve.Goals.{resolve_attributes-in-Some+in_ok-push, resolve_attributes-in_default}
 
 pub resolve-returns-in_err-resolve_heading-in-Tuple : goal.resolve-returns-in_err-resolve_heading-in-Tuple
 resolve-returns-in_err-resolve_heading-in-Tuple t c =
@@ -34,19 +34,8 @@ resolve-returns-in_ok-resolve_heading-in-Relation t c =
 
 pub resolve_attributes-loop-attribute-preserved : goal.resolve_attributes-loop-attribute-preserved
 resolve_attributes-loop-attribute-preserved t c =
-    let l = c.loop-attribute in
-    elim c.match-branch-3.branch [
-      | resolve_attributes-in-Some+in_ok-push w ↦
-          resolved_some c.args.table.now c.args.heading.now l.attribute-index c.attribute-item.result c.loop-attribute-test.true c.attribute-item.is
-          l.causes l.attributes.items c.resolve_attribute.result c.add.new.self l.invariant c.resolve_attribute.ensures c.in_ok-resolved.ensures.cause
-          w.in-Some.resolved (Ok c.in_ok-resolved.field-0) (ap Ok w.in-Some.is) c.in_ok-resolved.ensures.rest c.match-branch-3.attributes.items (ap (λ v. v.items) w.attributes-is ∙ w.in_ok-push.ensures.items)
-      | resolve_attributes-in_default w ↦
-          subst (λ items. IsGathered c.add.new.self (pairs_view items) (map (outcome_of c.args.table.now) (take (l.attribute-index + 1) c.args.heading.now)))
-          (sym (ap (λ v. v.items) w.attributes-is))
-          (resolved_none c.args.table.now c.args.heading.now l.attribute-index c.attribute-item.result c.loop-attribute-test.true c.attribute-item.is
-          l.causes l.attributes.items c.resolve_attribute.result c.add.new.self l.invariant c.resolve_attribute.ensures c.in_ok-resolved.ensures.cause
-          (Ok c.in_ok-resolved.field-0) (ap Ok w.in_default.is) c.in_ok-resolved.ensures.rest)
-    ]
+    collected_next pair_view (outcome_of c.args.table.now) c.args.heading.now c.loop-attribute.attribute-index c.loop-attribute-test.true c.attribute-item.is
+    c.loop-attribute.invariant c.resolve_attribute.ensures c.in_ok-collect.ensures
 
 pub resolve_attributes-returns : goal.resolve_attributes-returns
 resolve_attributes-returns t c =
