@@ -1,6 +1,6 @@
 -- What follows of two answers, by what they give together.
 use Rattle.std.proofs.Common.{◌≡◌, Some, Result, Ok, Err, refl, subst}
-use Rattle.td_check.specs.Both.{both_answers, lesser_fault}
+use Rattle.td_tree.specs.Gatherings.{both_answers, lesser_fault}
 use Rattle.td_tree.specs.declared.cause.Cause.{Cause}
 use Rattle.td_tree.specs.declared.fault.Fault.{Fault}
 use Rattle.td_tree.specs.declared.fault.Fault.TheVariants as faults

@@ -3,7 +3,6 @@ use Rattle.std.proofs.Common.{◌≡◌, ◌∙◌, ◌++◌, ℕ, List, Option,
 use Rattle.std.specs.Global.{Vec}
 use Rattle.std.proofs.lemmas.List.{append_assoc}
 use Rattle.std.specs.Prelude.{OnOk, is_some}
-use Rattle.td_check.specs.Both.{both_answers}
 use Rattle.td_check.specs.CheckViews.{Added, Names, added_view, per_view, per_summary, with_names}
 use Rattle.td_check.specs.declared.rules.lists.Item.{Item}
 use Rattle.td_check.specs.ItemViews.{items_view}
@@ -14,6 +13,7 @@ use Rattle.td_check.specs.Scopes.{Scope, entered_with}
 use Rattle.td_check.specs.StaticTypes.{type_of, with_items}
 use Rattle.td_check.proofs.CheckedNames.{names_after}
 use Rattle.td_check.proofs.Gives.{Gives, parts_given}
+use Rattle.td_tree.specs.Gatherings.{both_answers}
 use Rattle.td_tree.specs.declared.fault.Fault.{Fault}
 use Rattle.td_tree.specs.Outcomes.{Answers, Outcome, Valued, with_value}
 use Rattle.td_tree.specs.Trees.{Summaries, Tree}

@@ -2,11 +2,11 @@
 use Rattle.std.proofs.Common.{◌≡◌, ◌∙◌, ◌++◌, ℕ, List, [], Result, Ok, Err, ap, sym}
 use Rattle.std.proofs.lemmas.List.{append-nil, append_assoc}
 use Rattle.std.specs.Prelude.{OnOk}
-use Rattle.td_check.specs.Both.{both_answers}
 use Rattle.td_check.specs.CheckViews.{Names, with_names}
 use Rattle.td_check.specs.Mentions.{relvars_in, types_in}
 use Rattle.td_check.specs.Scopes.{Scope}
 use Rattle.td_check.proofs.Gives.{Gives, both_there, held_of_parts, weaker}
+use Rattle.td_tree.specs.Gatherings.{both_answers}
 use Rattle.td_tree.specs.declared.fault.Fault.{Fault}
 use Rattle.td_tree.specs.Outcomes.{Outcome}
 use Rattle.td_tree.specs.Trees.{Tree}

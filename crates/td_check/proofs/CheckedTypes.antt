@@ -1,12 +1,12 @@
 -- The type of an expression by the answers for its parts, node by node.
 use Rattle.std.proofs.Common.{◌≡◌, ◌∙◌, List, Option, Some, None, Result, map, refl, subst, sym}
 use Rattle.std.specs.Global.{Vec}
-use Rattle.td_check.specs.Both.{both_answers}
 use Rattle.td_check.specs.CheckViews.{Added, choice_of, headed_view, by_summary, per_summary, three_types_view, types_view}
 use Rattle.td_check.specs.OperatorTypes as own
 use Rattle.td_check.specs.OperatorTypes.{comparison_type, extension_type, headed_type, operator_type, over_relation}
 use Rattle.td_check.specs.StaticTypes.{paired}
 use Rattle.td_check.proofs.Gives.{Gives, answers_paired, paired_first, with_pair}
+use Rattle.td_tree.specs.Gatherings.{both_answers}
 use Rattle.td_tree.specs.declared.fault.Fault.{Fault}
 use Rattle.td_tree.specs.Outcomes.{Answers, Outcome, Valued, Refused, with_both, with_value}
 use Rattle.td_tree.specs.Trees.{Attributes}

@@ -1,8 +1,8 @@
 -- What is answered of parts, where a call says what it gives of whatever they stand for.
 use Rattle.std.proofs.Common.{◌≡◌, Result, Ok, Err, refl, subst}
 use Rattle.std.specs.Prelude.{OnOk}
-use Rattle.td_check.specs.Both.{both_answers}
 use Rattle.td_check.proofs.BothAnswers.{both_given, both_refused}
+use Rattle.td_tree.specs.Gatherings.{both_answers}
 use Rattle.td_tree.specs.declared.cause.Cause.TheVariants as causes
 use Rattle.td_tree.specs.declared.fault.Fault.{Fault}
 use Rattle.td_tree.specs.declared.fault.Fault.TheVariants as faults

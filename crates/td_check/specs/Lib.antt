@@ -1,4 +1,3 @@
-pub mod Both
 pub mod CannotFail
 pub mod CheckViews
 pub mod ItemViews

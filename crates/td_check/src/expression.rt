@@ -17,7 +17,6 @@ ghost use Rattle.td_types.specs.Pairs.{pair_view};
 ghost use Rattle.td_types.specs.Types.{IsType, Type'};
 ghost use Rattle.td_types.specs.Views.{pairs_view, type_view};
 
-use crate::both::both;
 use crate::mentioned::{Mentions, add_types_in};
 use crate::place::Place;
 use crate::rules::asked::relation_heading;
@@ -33,7 +32,7 @@ use crate::together::{
 use td_tree::cause::Cause;
 use td_tree::expression::{Expr, NamedExpr, Summary};
 use td_tree::fault::Fault;
-use td_tree::gathering::Gathering;
+use td_tree::gathering::{Gathering, both};
 use td_tree::name::Name;
 use td_tree::operator::Operator;
 use td_types::resolve::resolve_heading;

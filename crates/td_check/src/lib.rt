@@ -1,7 +1,6 @@
 //! The static checker.
 #![tactic(auto)]
 
-pub mod both;
 pub mod cannot_fail;
 pub mod declared;
 pub mod expression;

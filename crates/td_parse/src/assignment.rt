@@ -10,7 +10,7 @@ use crate::cursor::{Cursor, SYNTAX};
 use crate::grammar::{LOOSEST, MAX_HEIGHT};
 use crate::levels;
 use crate::names::name;
-use crate::steps::{both, closed};
+use crate::steps::{closed, pair_of};
 use std::alloc::Global;
 use td_tree::expression::{Expr, NamedExpr};
 use td_tree::fault::Fault;
@@ -113,7 +113,7 @@ fn changing(alloc: Global, tokens: &mut Cursor<'_, '_>) -> Result<Assignment, Fa
 {
     let target = name(alloc, tokens)?;
     let condition = condition(alloc, tokens)?;
-    let (condition, settings) = both(condition, enclosed_settings(alloc, tokens))?;
+    let (condition, settings) = pair_of(condition, enclosed_settings(alloc, tokens))?;
     Ok(Assignment::Update(target, condition, settings))
 }
 

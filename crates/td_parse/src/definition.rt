@@ -10,7 +10,7 @@ use crate::assignment::expression;
 use crate::cursor::{Cursor, SYNTAX};
 use crate::grammar::MAX_HEIGHT;
 use crate::names::{name, names};
-use crate::steps::{both, closed};
+use crate::steps::{closed, pair_of};
 use crate::types::{attributes, relation_heading};
 use std::alloc::Global;
 use td_tree::expression::Expr;
@@ -108,8 +108,8 @@ fn base_definition(
 {
     tokens.expect_keyword(Keyword::Relation)?;
     let heading = relation_heading(alloc, MAX_HEIGHT, tokens)?;
-    let parts = both(heading, init(alloc, tokens))?;
-    let ((heading, init), keys) = both(parts, keys(alloc, tokens))?;
+    let parts = pair_of(heading, init(alloc, tokens))?;
+    let ((heading, init), keys) = pair_of(parts, keys(alloc, tokens))?;
     Ok(Statement::DefineBase(BaseDefinition {
         name,
         heading,
@@ -128,7 +128,7 @@ fn virtual_definition(
     ensures { Moves statement_view result tokens.new (reading.virtual_definition name tokens.old) }
 {
     let expression = enclosed_expression(alloc, tokens)?;
-    let (expression, keys) = both(expression, keys(alloc, tokens))?;
+    let (expression, keys) = pair_of(expression, keys(alloc, tokens))?;
     Ok(Statement::DefineVirtual(VirtualDefinition {
         name,
         expression,

@@ -12,7 +12,7 @@ use crate::found::Found;
 use crate::grammar::Grammar;
 use crate::operators::{extraction, negation, next_infix, prefix, tighter};
 use crate::postfix::{begins_postfix, postfix};
-use crate::steps::{both, kept};
+use crate::steps::{kept, pair_of};
 use std::alloc::Global;
 use td_tree::fault::Fault;
 use td_tree::operator::{Level, Prefix};
@@ -32,7 +32,7 @@ impl<F: Fn(Global, u8, Level, &mut Cursor<'_, '_>) -> Result<Found, Fault>> Gram
                 return Ok(left);
             }
             let op = postfix(self.alloc, tokens);
-            let (operand, op) = both(left, op)?;
+            let (operand, op) = pair_of(left, op)?;
             left = self.low(Found::postfix(self.alloc, operand, op)?)?;
         }
         kept(left, false)
@@ -98,7 +98,7 @@ impl<F: Fn(Global, u8, Level, &mut Cursor<'_, '_>) -> Result<Found, Fault>> Gram
                 return Ok(left);
             };
             let right = self.inner(tighter(op.level()), tokens);
-            let (operand, right) = both(left, right)?;
+            let (operand, right) = pair_of(left, right)?;
             left = self.low(Found::of_infix(self.alloc, operand, op, right)?)?;
             tightest = op.tightest_after();
         }

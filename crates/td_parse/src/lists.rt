@@ -15,7 +15,7 @@ use crate::found::Found;
 use crate::grammar::Grammar;
 use crate::names::{alias, name};
 use crate::parts::{Elements, NamedParts};
-use crate::steps::{both, closed};
+use crate::steps::{closed, pair_of};
 use std::alloc::Global;
 use td_tree::fault::Fault;
 use td_tree::name::Name;
@@ -110,7 +110,7 @@ impl<F: Fn(Global, u8, Level, &mut Cursor<'_, '_>) -> Result<Found, Fault>> Gram
             (reading.addition (read self.now.depth) self.now.depth tokens.old) }
     {
         let value = self.expression(tokens)?;
-        let (value, name) = both(value, alias(self.alloc, tokens))?;
+        let (value, name) = pair_of(value, alias(self.alloc, tokens))?;
         Ok((name, value))
     }
 

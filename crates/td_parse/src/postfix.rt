@@ -8,7 +8,7 @@ ghost use Rattle.td_tree.specs.TreeViews.{attributes_view, postfix_view, renamin
 
 use crate::cursor::{Cursor, SYNTAX};
 use crate::names::{alias, attributes, name, renamings};
-use crate::steps::{both, closed};
+use crate::steps::{closed, pair_of};
 use std::alloc::Global;
 use td_tree::expression::{Attributes, Postfix, Renaming};
 use td_tree::fault::Fault;
@@ -63,7 +63,7 @@ fn enclosed_attributes(
 {
     tokens.expect_sign(Sign::OpenParenthesis)?;
     let attributes = attributes(alloc, tokens)?;
-    let named = both(attributes, alias(alloc, tokens))?;
+    let named = pair_of(attributes, alias(alloc, tokens))?;
     closed(named, Sign::CloseParenthesis, tokens)
 }
 

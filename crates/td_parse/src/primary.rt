@@ -18,7 +18,7 @@ use crate::cursor::{Cursor, SYNTAX};
 use crate::found::Found;
 use crate::grammar::Grammar;
 use crate::operators::{begins_heading, call};
-use crate::steps::{both, closed, ended};
+use crate::steps::{closed, ended, pair_of};
 use crate::types::relation_heading;
 use crate::word::{component_of, number_of, text_of};
 use std::alloc::Global;
@@ -137,7 +137,7 @@ impl<F: Fn(Global, u8, Level, &mut Cursor<'_, '_>) -> Result<Found, Fault>> Gram
         tokens.expect_sign(Sign::OpenParenthesis)?;
         let operand = self.up_to_sign(Sign::Comma, tokens)?;
         let value = self.up_to_sign(Sign::CloseParenthesis, tokens);
-        let (operand, value) = both(operand, value)?;
+        let (operand, value) = pair_of(operand, value)?;
         Ok(Found::aggregate(self.alloc, op, operand, value)?)
     }
 
@@ -200,7 +200,7 @@ impl<F: Fn(Global, u8, Level, &mut Cursor<'_, '_>) -> Result<Found, Fault>> Gram
             (reading.extension (read self.now.depth) self.now.depth tokens.old) }
     {
         let operand = self.up_to_word(Keyword::Add, tokens)?;
-        let (operand, additions) = both(operand, self.enclosed_additions(tokens))?;
+        let (operand, additions) = pair_of(operand, self.enclosed_additions(tokens))?;
         Ok(Found::extend(self.alloc, operand, additions)?)
     }
 
@@ -213,8 +213,8 @@ impl<F: Fn(Global, u8, Level, &mut Cursor<'_, '_>) -> Result<Found, Fault>> Gram
     {
         let condition = self.up_to_word(Keyword::Then, tokens)?;
         let consequent = self.up_to_word(Keyword::Else, tokens);
-        let parts = both(condition, consequent)?;
-        let parts = both(parts, self.up_to_word(Keyword::End, tokens))?;
+        let parts = pair_of(condition, consequent)?;
+        let parts = pair_of(parts, self.up_to_word(Keyword::End, tokens))?;
         let ((condition, consequent), alternative) = ended(parts, Keyword::If, tokens)?;
         Ok(Found::choice(self.alloc, condition, consequent, alternative)?)
     }

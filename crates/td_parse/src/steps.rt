@@ -32,7 +32,7 @@ pub fn kept<T: Drop>(item: T, fits: bool) -> Result<T, Fault>
 }
 
 /// What was read first, and what was read next.
-pub fn both<T: Drop, U: Drop>(first: T, next: Result<U, Fault>) -> Result<(T, U), Fault>
+pub fn pair_of<T: Drop, U: Drop>(first: T, next: Result<U, Fault>) -> Result<(T, U), Fault>
     ensures { Both first next result }
 {
     Ok((first, next?))

@@ -15,7 +15,7 @@ use crate::found::Found;
 use crate::grammar::Grammar;
 use crate::names::{alias, attributes};
 use crate::parts::{FoundSummary, Summaries};
-use crate::steps::{both, closed, ended};
+use crate::steps::{closed, ended, pair_of};
 use std::alloc::Global;
 use td_tree::fault::Fault;
 use td_tree::keyword::Keyword;
@@ -53,7 +53,7 @@ impl<F: Fn(Global, u8, Level, &mut Cursor<'_, '_>) -> Result<Found, Fault>> Gram
             (reading.sum_summary (read self.now.depth) self.now.depth op tokens.old) }
     {
         let value = self.enclosed_expression(tokens)?;
-        let (value, name) = both(value, alias(self.alloc, tokens))?;
+        let (value, name) = pair_of(value, alias(self.alloc, tokens))?;
         Ok(FoundSummary::Of(op, value, name))
     }
 
@@ -130,8 +130,8 @@ impl<F: Fn(Global, u8, Level, &mut Cursor<'_, '_>) -> Result<Found, Fault>> Gram
             (tree_view operand) tokens.old) }
     {
         let per = self.enclosed_expression(tokens);
-        let operands = both(operand, per)?;
-        let ((operand, per), items) = both(operands, self.summaries(tokens))?;
+        let operands = pair_of(operand, per)?;
+        let ((operand, per), items) = pair_of(operands, self.summaries(tokens))?;
         Ok(Found::summarize_per(self.alloc, operand, per, items)?)
     }
 
@@ -143,8 +143,8 @@ impl<F: Fn(Global, u8, Level, &mut Cursor<'_, '_>) -> Result<Found, Fault>> Gram
             (reading.summary_by (read self.now.depth) self.now.depth
             (tree_view operand) tokens.old) }
     {
-        let operands = both(operand, attributes(self.alloc, tokens))?;
-        let ((operand, by), items) = both(operands, self.summaries(tokens))?;
+        let operands = pair_of(operand, attributes(self.alloc, tokens))?;
+        let ((operand, by), items) = pair_of(operands, self.summaries(tokens))?;
         Ok(Found::summarize_by(self.alloc, operand, by, items)?)
     }
 

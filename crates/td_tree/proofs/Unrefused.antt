@@ -1,5 +1,5 @@
 -- A call whose outcome has a value is not refused.
-use Rattle.std.proofs.Common.{◌≡◌, ◌∙◌, Bool, true, Result, Ok, Err, Some, None, Option, ap, refl, sym}
+use Rattle.std.proofs.Common.{◌≡◌, ◌∙◌, Bool, true, Result, Ok, Err, Some, None, ap, refl, sym}
 use Rattle.td_tree.specs.declared.cause.Cause.{Cause}
 use Rattle.td_tree.specs.declared.fault.Fault.{Fault}
 use Rattle.td_tree.specs.declared.fault.Fault.TheVariants as faults

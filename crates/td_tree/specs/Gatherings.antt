@@ -44,3 +44,19 @@ answer_of (Some cause) x = Err (faults.Refused cause)
 abbrev pub IsGathered : {A : Type 0} → Option Cause → List A → List (Outcome A) → Type 0
 IsGathered None xs os = gathered os ≡ Valued xs
 IsGathered (Some cause) xs os = named_cause (gathered os) ≡ Some cause
+
+-- ---- two answers
+
+-- of two faults; want of memory says nothing of causes
+abbrev pub lesser_fault : Fault → Fault → Fault
+lesser_fault (faults.Refused c) (faults.Refused d) = faults.Refused (lesser c d)
+lesser_fault (faults.Refused c) faults.Memory = faults.Memory
+lesser_fault faults.Memory (faults.Refused d) = faults.Memory
+lesser_fault faults.Memory faults.Memory = faults.Memory
+
+-- what is answered of two answers: both values, or the least of the causes
+abbrev pub both_answers : {X Y : Type 0} → Result X Fault → Result Y Fault → Result (X × Y) Fault
+both_answers (Ok x) (Ok y) = Ok (x, y)
+both_answers (Ok x) (Err e) = Err e
+both_answers (Err e) (Ok y) = Err e
+both_answers (Err e) (Err f) = Err (lesser_fault e f)

@@ -1,6 +1,7 @@
 //! The causes of several answers, of which the least is named.
 ghost use Rattle.std.specs.Prelude.{◌≡◌, IfOk, None, Some};
-ghost use Rattle.td_tree.specs.Gatherings.{IsCollected, IsRest, answer_of, cause_of, lesser_cause};
+ghost use Rattle.td_tree.specs.Gatherings.{IsCollected, IsRest, answer_of, both_answers};
+ghost use Rattle.td_tree.specs.Gatherings.{cause_of, lesser_cause};
 
 use crate::cause::Cause;
 use crate::fault::Fault;
@@ -97,5 +98,20 @@ impl Gathering {
             Some(cause) => Err(Fault::Refused(cause)),
             None => Ok(value),
         }
+    }
+}
+
+/// Both values, or the least of the causes.
+pub fn both<A: Drop, B: Drop>(
+    first: Result<A, Fault>,
+    second: Result<B, Fault>,
+) -> Result<(A, B), Fault>
+    ensures { result ≡ both_answers first second }
+{
+    match (first, second) {
+        (Ok(a), Ok(b)) => Ok((a, b)),
+        (Err(Fault::Refused(c)), Err(Fault::Refused(d))) => Err(Fault::Refused(c.lesser(d))),
+        (Err(Fault::Memory), _) | (_, Err(Fault::Memory)) => Err(Fault::Memory),
+        (Err(refused), Ok(_)) | (Ok(_), Err(refused)) => Err(refused),
     }
 }

@@ -10,13 +10,12 @@ ghost use Rattle.td_types.specs.Pairs.{pair_view};
 ghost use Rattle.td_types.specs.Types.{Heading};
 ghost use Rattle.td_types.specs.Views.{pairs_view, type_view};
 
-use crate::both::both;
 use crate::rules::asked::{relation_heading, tuple_heading};
 use crate::rules::headings::extended_by;
 use crate::rules::operand::aggregate_type;
 use td_tree::cause::Cause;
 use td_tree::fault::Fault;
-use td_tree::gathering::Gathering;
+use td_tree::gathering::{Gathering, both};
 use td_tree::name::Name;
 use td_tree::operator::Aggregate;
 use td_types::heading::Heading;

@@ -14,7 +14,6 @@ ghost use Rattle.td_types.specs.Types.{Heading};
 ghost use Rattle.td_types.specs.Views.{pairs_view, type_view};
 
 use super::parts::{both_hold, condition_fits, relation_fits, type_if_given};
-use crate::both::both;
 use crate::expression::{check_at, check_named_at};
 use crate::place::Place;
 use crate::rules::asked::{ask, relation_heading};
@@ -23,7 +22,7 @@ use crate::scope::{Kind, Scope};
 use td_tree::cause::Cause;
 use td_tree::expression::{Expr, NamedExpr};
 use td_tree::fault::Fault;
-use td_tree::gathering::Gathering;
+use td_tree::gathering::{Gathering, both};
 use td_tree::name::Name;
 use td_tree::statement::Assignment;
 use td_types::heading::Heading;

@@ -15,7 +15,6 @@ ghost use Rattle.td_types.specs.Types.{Attribute};
 ghost use Rattle.td_types.specs.Views.{pairs_view, type_view};
 
 use super::parts::{both_hold, check_condition, check_inside, relation_fits, type_if_given};
-use crate::both::both;
 use crate::expression::check_at;
 use crate::place::Place;
 use crate::rules::asked::ask;
@@ -24,6 +23,7 @@ use crate::scope::Scope;
 use td_tree::cause::Cause;
 use td_tree::expression::Expr;
 use td_tree::fault::Fault;
+use td_tree::gathering::both;
 use td_tree::name::Name;
 use td_tree::statement::{BaseDefinition, Statement, TypeDefinition, VirtualDefinition};
 use td_types::heading::Heading;

@@ -11,7 +11,6 @@ ghost use Rattle.td_tree.specs.TreeViews.{tree_view};
 ghost use Rattle.td_types.specs.Types.{boolean};
 ghost use Rattle.td_types.specs.Views.{type_view};
 
-use crate::both::both;
 use crate::expression::check_at;
 use crate::place::Place;
 use crate::rules::asked::{ask, relation_heading};
@@ -19,6 +18,7 @@ use crate::scope::Scope;
 use td_tree::cause::Cause;
 use td_tree::expression::Expr;
 use td_tree::fault::Fault;
+use td_tree::gathering::both;
 use td_types::heading::Heading;
 use td_types::ty::Ty;
 

@@ -9,8 +9,8 @@ use crate::operators::relational::{
 };
 use crate::operators::simple::{concatenation, conjunction, disjunction};
 use std::alloc::Global;
-use td_check::both::both;
 use td_tree::fault::Fault;
+use td_tree::gathering::both;
 use td_tree::operator::Operator;
 use td_value::value::Value;
 

@@ -14,9 +14,9 @@ ghost use Rattle.td_value.specs.Values.{Val, boolean, heading_of, tuple_cmp, typ
 use crate::operators::relational::fit;
 use std::alloc::{AllocError, Global};
 use td_algebra::sets::subset;
-use td_check::both::both;
 use td_tree::cause::Cause;
 use td_tree::fault::Fault;
+use td_tree::gathering::both;
 use td_tree::operator::Comparison;
 use td_value::relation::Rel;
 use td_value::tuple::Tuple;

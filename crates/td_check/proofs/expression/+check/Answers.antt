@@ -2,7 +2,6 @@ use Rattle.std.proofs.Common.{◌≡◌, ◌∙◌, ◌∷◌, ◌++◌, [], ℕ
 use Rattle.std.proofs.lemmas.List.{append-nil}
 use Rattle.std.proofs.lemmas.Result.{err_from_is_err_and}
 use Rattle.std.specs.Global.{Vec}
-use Rattle.td_check.specs.Both.{both_answers}
 use Rattle.td_check.specs.CheckViews.{added_view, choice_of, headed_view, item_found, names_view, part_found, per_view, by_summary, per_summary, three_types_view, types_view, with_names}
 use Rattle.td_check.specs.declared.rules.lists.Item.{Item}
 use Rattle.td_check.specs.ItemViews.{items_view, named_item_view}
@@ -19,6 +18,7 @@ use Rattle.td_check.proofs.CheckedTypes.{choice_typed, headed_typed, inside_exte
 use Rattle.td_check.proofs.Gives.{Gives, answered_then}
 use Rattle.td_check.proofs.expression.+check.Goals as goal
 use Rattle.td_check.proofs.expression.+check.Goals.{check_items_inside-in-Rel+in_ok-inside-in-Rel+in_ok-items-in-Rel, check_items_inside-in_default}
+use Rattle.td_tree.specs.Gatherings.{both_answers}
 use Rattle.td_tree.specs.Outcomes.{Answers, Valued, with_value}
 use Rattle.td_tree.specs.TreeViews.{attributes_view, heading_tree_view, named_view, summaries_view, tree_view, trees_view}
 use Rattle.td_tree.specs.Trees as trees
