@@ -1,6 +1,6 @@
 -- What is gathered of the answers for the elements of a list, and what is answered at the end.
-use Rattle.std.proofs.Common.{◌≡◌, ◌∙◌, ◌∷◌, ◌++◌, ◌+◌, ◌<◌, ℕ, List, [], Option, Some, None, Result, Ok, Err, ap, get_or, length, map, refl, subst, sym, take}
-use Rattle.std.proofs.lemmas.List.{append-nil, map-append, take_more}
+use Rattle.std.proofs.Common.{◌≡◌, ◌∙◌, ◌∷◌, ◌++◌, ◌+◌, ◌<◌, ℕ, List, [], Option, Some, None, Result, Ok, Err, ap, get_or, length, map, refl, sym, take}
+use Rattle.std.proofs.lemmas.List.{map-append, take_more}
 use Rattle.td_tree.specs.declared.cause.Cause.{Cause}
 use Rattle.td_tree.specs.declared.fault.Fault.{Fault}
 use Rattle.td_tree.specs.declared.fault.Fault.TheVariants as faults
@@ -40,20 +40,6 @@ test_gathered {A = A} E value f xs i x inside is least (Err (faults.Refused d)) 
     of_least None g = g
     of_least (Some c) g = g
 test_gathered E value f xs i x inside is least (Err faults.Memory) given new so_far answers rest cause = absurd rest
-
--- one more answer, with its value
-module _ {X Y A : Type 0} (E : Type 0) (view : Y → A) (f : X → Outcome A) (xs : List X) (x : X) (least : Option Cause) (ys : List Y) (r : Result Y Fault) (new : Option Cause)
-    (so_far : IsGathered least (map view ys) (map f xs)) (answers : Answers view r (f x)) (cause : new ≡ lesser_cause least (cause_of r)) where
-  pub value_gathered : (y : Y) (rest : Result (Option Y) E) → rest ≡ Ok (Some y) → IsRest r rest → (more : List Y) → more ≡ ys ++ (y ∷ [])
-      → IsGathered new (map view more) (map f (xs ++ (x ∷ [])))
-  value_gathered y rest given e more pushed =
-      rw (cause, pushed, map-append view ys (y ∷ []), map-append f xs (x ∷ []))
-      (gathered_more view least (map view ys) (map f xs) r (Ok (Some y)) (f x) so_far answers (subst (IsRest r) given e))
-
-  pub refusal_gathered : (rest : Result (Option Y) E) → rest ≡ Ok None → IsRest r rest → IsGathered new (map view ys) (map f (xs ++ (x ∷ [])))
-  refusal_gathered rest given e =
-      rw (cause, ← append-nil (map view ys), map-append f xs (x ∷ []))
-      (gathered_more view least (map view ys) (map f xs) r (Ok None) (f x) so_far answers (subst (IsRest r) given e))
 
 -- what is answered at the end, where something follows of the values
 pub answered_with : {X A B : Type 0} (view : X → B) (least : Option Cause) (x : X) (values : List A) (os : List (Outcome A)) (f : List A → Outcome B)

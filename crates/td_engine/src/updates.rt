@@ -237,10 +237,7 @@ fn known_attributes(
     let mut causes = Gathering::new();
     let mut attributes = Vec::with_capacity(alloc, settings.len())?;
     for setting in settings {
-        let Some(attribute) = causes.add(setting_attribute(heading, &setting.name))? else {
-            continue;
-        };
-        attributes.push(attribute)?;
+        causes.collect(&mut attributes, setting_attribute(heading, &setting.name))?;
     }
     causes.finish(attributes)
 }

@@ -188,10 +188,7 @@ fn values_of<B: Body>(
     let mut causes = Gathering::new();
     let mut values = Vec::with_capacity(sight.alloc, exprs.len())?;
     for expr in exprs {
-        let Some(value) = causes.add(value_of(sight, tuples, expr))? else {
-            continue;
-        };
-        values.push(value)?;
+        causes.collect(&mut values, value_of(sight, tuples, expr))?;
     }
     causes.finish(values)
 }
@@ -211,10 +208,7 @@ fn entries<B: Body>(
     let mut entries = Vec::with_capacity(sight.alloc, parts.len())?;
     for part in parts {
         let entry = named(&part.name, value_of(sight, tuples, &part.value));
-        let Some(entry) = causes.add(entry)? else {
-            continue;
-        };
-        entries.push(entry)?;
+        causes.collect(&mut entries, entry)?;
     }
     causes.finish(entries)
 }
@@ -303,10 +297,7 @@ pub(crate) fn truths<B: Body>(
     let mut truths = Vec::with_capacity(sight.alloc, rows.len())?;
     for row in rows {
         let truth = truth_of(value_in_row(sight, &mut inner, row, condition));
-        let Some(truth) = causes.add(truth)? else {
-            continue;
-        };
-        truths.push(truth)?;
+        causes.collect(&mut truths, truth)?;
     }
     causes.finish(truths)
 }
@@ -347,10 +338,7 @@ fn column<B: Body>(
     let mut values = Vec::with_capacity(sight.alloc, rows.len())?;
     for row in rows {
         let value = typed(ty, value_in_row(sight, &mut inner, row, expr));
-        let Some(value) = causes.add(value)? else {
-            continue;
-        };
-        values.push(value)?;
+        causes.collect(&mut values, value)?;
     }
     causes.finish(values)
 }
@@ -376,10 +364,7 @@ pub(crate) fn columns<B: Body>(
     for (place, part) in parts.iter().enumerate() {
         let (name, ty) = &attributes[place];
         let values = column(sight, tuples, operand, ty, &part.value);
-        let Some(column) = causes.add(named_column(name, ty, values))? else {
-            continue;
-        };
-        columns.push(column)?;
+        causes.collect(&mut columns, named_column(name, ty, values))?;
     }
     causes.finish(columns)
 }
@@ -423,10 +408,7 @@ fn values_in_rows<B: Body>(
     let mut values = Vec::with_capacity(sight.alloc, rows.len())?;
     for row in rows {
         let value = value_in_row(sight, &mut inner, row, expr);
-        let Some(value) = causes.add(value)? else {
-            continue;
-        };
-        values.push(value)?;
+        causes.collect(&mut values, value)?;
     }
     causes.finish(values)
 }
@@ -484,10 +466,7 @@ fn item_in_groups<B: Body>(
     let mut values = Vec::with_capacity(sight.alloc, groups.len())?;
     for (_, group) in groups {
         let found = item_in_group(sight, tuples, group, item);
-        let Some(found) = causes.add(found)? else {
-            continue;
-        };
-        values.push(found)?;
+        causes.collect(&mut values, found)?;
     }
     causes.finish(values)
 }
@@ -509,10 +488,7 @@ fn totals<B: Body>(
     let mut totals = Vec::with_capacity(sight.alloc, items.len())?;
     for item in items {
         let total = with_aggregate(item, item_in_groups(sight, tuples, groups, item));
-        let Some(total) = causes.add(total)? else {
-            continue;
-        };
-        totals.push(total)?;
+        causes.collect(&mut totals, total)?;
     }
     causes.finish(totals)
 }

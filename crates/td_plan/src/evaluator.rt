@@ -76,10 +76,7 @@ where
         let mut causes = Gathering::new();
         let mut values = Vec::with_capacity(self.alloc, steps.len())?;
         for step in steps {
-            let Some(value) = causes.add(self.run(hand, step))? else {
-                continue;
-            };
-            values.push(value)?;
+            causes.collect(&mut values, self.run(hand, step))?;
         }
         causes.finish(values)
     }

@@ -87,10 +87,7 @@ where
         let mut causes = Gathering::new();
         let mut truths = Vec::with_capacity(self.alloc, rows.len())?;
         for row in rows {
-            let Some(truth) = causes.add(self.truth_in_row(inside, row, condition))? else {
-                continue;
-            };
-            truths.push(truth)?;
+            causes.collect(&mut truths, self.truth_in_row(inside, row, condition))?;
         }
         causes.finish(truths)
     }
@@ -130,10 +127,7 @@ where
         let mut causes = Gathering::new();
         let mut values = Vec::with_capacity(self.alloc, rows.len())?;
         for row in rows {
-            let Some(value) = causes.add(self.value_in_row(inside, row, step))? else {
-                continue;
-            };
-            values.push(value)?;
+            causes.collect(&mut values, self.value_in_row(inside, row, step))?;
         }
         causes.finish(values)
     }
@@ -158,10 +152,7 @@ where
         let mut values = Vec::with_capacity(self.alloc, rows.len())?;
         for row in rows {
             let value = typed(ty, self.value_in_row(inside, row, step));
-            let Some(value) = causes.add(value)? else {
-                continue;
-            };
-            values.push(value)?;
+            causes.collect(&mut values, value)?;
         }
         causes.finish(values)
     }
@@ -188,10 +179,7 @@ where
         for (place, step) in steps.iter().enumerate() {
             let (name, ty) = &attributes[place];
             let values = self.column(inside, rows, ty, step);
-            let Some(column) = causes.add(named_column(name, ty, values))? else {
-                continue;
-            };
-            columns.push(column)?;
+            causes.collect(&mut columns, named_column(name, ty, values))?;
         }
         causes.finish(columns)
     }
@@ -216,10 +204,7 @@ where
         let mut values = Vec::with_capacity(self.alloc, groups.len())?;
         for (_, group) in groups {
             let found = self.values_in_rows(inside, group.rows(), step);
-            let Some(found) = causes.add(found)? else {
-                continue;
-            };
-            values.push(found)?;
+            causes.collect(&mut values, found)?;
         }
         causes.finish(values)
     }
@@ -245,10 +230,7 @@ where
             let asked = aggregate_at(aggregates, place);
             let values = self.values_in_groups(inside, groups, &steps[place]);
             let total = with_aggregate(asked, values);
-            let Some(total) = causes.add(total)? else {
-                continue;
-            };
-            totals.push(total)?;
+            causes.collect(&mut totals, total)?;
         }
         causes.finish(totals)
     }

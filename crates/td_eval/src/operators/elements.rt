@@ -45,10 +45,7 @@ fn elements_of(alloc: Global, heading: &Heading, elements: &[Value]) -> Result<V
     let mut causes = Gathering::new();
     let mut tuples = Vec::with_capacity(alloc, elements.len())?;
     for element in elements {
-        let Some(tuple) = causes.add(element_of(heading, element))? else {
-            continue;
-        };
-        tuples.push(tuple)?;
+        causes.collect(&mut tuples, element_of(heading, element))?;
     }
     causes.finish(tuples)
 }

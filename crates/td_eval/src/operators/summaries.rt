@@ -91,10 +91,7 @@ pub fn item_attributes(
     let mut causes = Gathering::new();
     let mut attributes = Vec::with_capacity(alloc, items.len())?;
     for item in items {
-        let Some(attribute) = causes.add(item_attribute(scope, item))? else {
-            continue;
-        };
-        attributes.push(attribute)?;
+        causes.collect(&mut attributes, item_attribute(scope, item))?;
     }
     causes.finish(attributes)
 }
@@ -154,10 +151,7 @@ fn total_values(
     let mut values = Vec::with_capacity(alloc, groups.len())?;
     for group in groups {
         let value = typed(ty, aggregate_of(asked, group));
-        let Some(value) = causes.add(value)? else {
-            continue;
-        };
-        values.push(value)?;
+        causes.collect(&mut values, value)?;
     }
     causes.finish(values)
 }
@@ -177,10 +171,7 @@ fn total_columns(
     for (place, total) in totals.iter().enumerate() {
         let (name, ty) = &attributes[place];
         let values = total_values(alloc, ty, total.0, &total.1);
-        let Some(column) = causes.add(named_column(name, ty, values))? else {
-            continue;
-        };
-        columns.push(column)?;
+        causes.collect(&mut columns, named_column(name, ty, values))?;
     }
     causes.finish(columns)
 }

@@ -1,6 +1,5 @@
 use Rattle.std.specs.Prelude.{max, true}
-use Rattle.std.proofs.Common.{◌≡◌, ◌∙◌, [], ◌∷◌, ℕ, Err, List, Ok, ap, arith, length, map, option_map, refl, reverse, subst, sym, take}
-use Rattle.std.proofs.lemmas.List.{length-map}
+use Rattle.std.proofs.Common.{◌≡◌, ◌∙◌, [], ◌∷◌, ℕ, Err, List, ap, arith, map, option_map, refl, reverse, subst, sym, take}
 use Rattle.std.proofs.lemmas.Result.{err_from_is_err_and}
 use Rattle.std.proofs.Math.Nat.{le-max_right}
 use Rattle.std.specs.Global.{Vec}
@@ -8,14 +7,11 @@ use Rattle.std.specs.List.{zip}
 use Rattle.std.specs.Rc.{rc_str_bytes}
 use Rattle.td_algebra.specs.Columns.{columns_view}
 use Rattle.td_algebra.specs.declared.extension.Column.{Column}
-use Rattle.td_check.proofs.CheckedLists.{step_taken}
-use Rattle.td_check.proofs.GatheredAnswers.{refusal_gathered, value_gathered}
 use Rattle.td_check.proofs.Gives.{answered_then}
 use Rattle.td_check.specs.OperatorTypes.{are_types_of}
 use Rattle.td_check.specs.Scopes.{entered_with}
 use Rattle.td_check.specs.StaticTypes.{named_types}
 use Rattle.td_eval.proofs.Measures.{constraint_height, height_if, height_item, height_listed, height_named, weight, weight_before, tree_before}
-use Rattle.td_eval.proofs.OpElements.{element_gathered, element_refused}
 use Rattle.td_eval.proofs.Selectors.{is_selector, never_missing, types_seen}
 use Rattle.td_eval.proofs.VirtualValues.{held_seen}
 use Rattle.td_eval.proofs.WalkedAttributes.{as_many_found, columns_for}
@@ -29,20 +25,19 @@ use Rattle.td_check.proofs.BothAnswers.{both_given, both_refused}
 use Rattle.td_eval.specs.AggregateValues.{aggregated_value, asked_of, summarized_value, summary_attributes, summary_value}
 use Rattle.td_eval.specs.DatabaseWorlds.{constraint_value, world_of_types}
 use Rattle.td_eval.specs.NewColumns.{column_view, named_columns}
-use Rattle.td_eval.specs.OperatorValues.{additions_of, column_values, component_value, extended_value, listed_value, on_relation, postfix_value, restricted_value, truth_value, tuple_from, value_of_type}
+use Rattle.td_eval.specs.OperatorValues.{column_values, component_value, extended_value, listed_value, on_relation, postfix_value, restricted_value, truth_value, tuple_from, value_of_type}
 use Rattle.td_eval.specs.Sights.{seen_by, virtuals_of}
 use Rattle.td_eval.specs.Totals.{term_in, total_of, total_view}
 use Rattle.td_eval.specs.TreeValues.{argument_values, entry_values, items_in_tuples, value_of, values_in_tuples}
 use Rattle.td_group.specs.declared.aggregates.Agg.{Agg}
 use Rattle.td_eval.specs.Worlds.{known_outcome, selected, with_tuples}
-use Rattle.td_tree.specs.Gatherings.{IsGathered}
+use Rattle.td_tree.proofs.Gatherings.{collected_next}
 use Rattle.td_tree.specs.Heights.{height, highest, highest_named, highest_summary, type_height}
 use Rattle.td_tree.specs.Outcomes.{Answers, Valued, gathered, named_cause, with_value}
 use Rattle.td_tree.specs.TreeViews.{attributes_view, heading_tree_view, named_view, summaries_view, tree_view, trees_view}
 use Rattle.td_tree.specs.Trees as trees
 use Rattle.td_tree.proofs.Rows.{extend_is, headed_relation_is, relation_is, select_is, summarize_by_is, summarize_per_is, tuple_is}
 use Rattle.td_types.specs.declared.ty.Ty.{Ty}
-use Rattle.td_types.specs.Pairs.{pair_view}
 use Rattle.td_types.specs.TypeLists.{heading_meant}
 use Rattle.td_types.specs.Types.{Heading}
 use Rattle.td_types.specs.Views.{pairs_view, type_view}
@@ -54,15 +49,8 @@ use Rattle.td_eval.proofs.value.+value.Goals as goal
 
 pub values_of-loop-expr-preserved : goal.values_of-loop-expr-preserved
 values_of-loop-expr-preserved g t c =
-    element_gathered _ (value_found (seen_by c.args.sight.now) (reverse c.args.tuples.now)) c.args.exprs.now c.loop-expr.expr-index c.expr-item.result c.loop-expr-test.true c.expr-item.is
-    c.loop-expr.causes c.loop-expr.values.items c.value_of.result c.add.new.self c.loop-expr.invariant c.value_of.ensures c.add.ensures.cause
-    c.in-Some.value (Ok c.in_ok-value.field-0) (ap Ok c.in-Some.is) c.in_ok-value.ensures.rest c.push.new.self.items c.in_ok-push.ensures.items
-
-pub values_of-loop-expr-preserved-in_default : goal.values_of-loop-expr-preserved-in_default
-values_of-loop-expr-preserved-in_default g t c =
-    element_refused _ (value_found (seen_by c.args.sight.now) (reverse c.args.tuples.now)) c.args.exprs.now c.loop-expr.expr-index c.expr-item.result c.loop-expr-test.true c.expr-item.is
-    c.loop-expr.causes c.loop-expr.values.items c.value_of.result c.add.new.self c.loop-expr.invariant c.value_of.ensures c.add.ensures.cause
-    (Ok c.in_ok-value.field-0) (ap Ok c.in_default.is) c.in_ok-value.ensures.rest
+    collected_next (λ v. v) (value_found (seen_by c.args.sight.now) (reverse c.args.tuples.now)) c.args.exprs.now c.loop-expr.expr-index c.loop-expr-test.true c.expr-item.is
+    c.loop-expr.invariant c.value_of.ensures c.in_ok-collect.ensures
 
 pub values_of-returns : goal.values_of-returns
 values_of-returns g t c =
@@ -71,15 +59,8 @@ values_of-returns g t c =
 
 pub entries-loop-part-preserved : goal.entries-loop-part-preserved
 entries-loop-part-preserved g t c =
-    element_gathered _ (entry_found (seen_by c.args.sight.now) (reverse c.args.tuples.now)) c.args.parts.now c.loop-part.part-index c.part-item.result c.loop-part-test.true c.part-item.is
-    c.loop-part.causes c.loop-part.entries.items c.named-entry.result c.add.new.self c.loop-part.invariant (c.named-entry.ensures (value_of (seen_by c.args.sight.now) (reverse c.args.tuples.now) (tree_view c.part-item.result.value)) c.value_of.ensures) c.add.ensures.cause
-    c.in-Some.entry (Ok c.in_ok-entry.field-0) (ap Ok c.in-Some.is) c.in_ok-entry.ensures.rest c.push.new.self.items c.in_ok-push.ensures.items
-
-pub entries-loop-part-preserved-in_default : goal.entries-loop-part-preserved-in_default
-entries-loop-part-preserved-in_default g t c =
-    element_refused _ (entry_found (seen_by c.args.sight.now) (reverse c.args.tuples.now)) c.args.parts.now c.loop-part.part-index c.part-item.result c.loop-part-test.true c.part-item.is
-    c.loop-part.causes c.loop-part.entries.items c.named-entry.result c.add.new.self c.loop-part.invariant (c.named-entry.ensures (value_of (seen_by c.args.sight.now) (reverse c.args.tuples.now) (tree_view c.part-item.result.value)) c.value_of.ensures) c.add.ensures.cause
-    (Ok c.in_ok-entry.field-0) (ap Ok c.in_default.is) c.in_ok-entry.ensures.rest
+    collected_next (λ e. e) (entry_found (seen_by c.args.sight.now) (reverse c.args.tuples.now)) c.args.parts.now c.loop-part.part-index c.loop-part-test.true c.part-item.is
+    c.loop-part.invariant (c.named-entry.ensures (value_of (seen_by c.args.sight.now) (reverse c.args.tuples.now) (tree_view c.part-item.result.value)) c.value_of.ensures) c.in_ok-collect.ensures
 
 pub entries-returns : goal.entries-returns
 entries-returns g t c =
@@ -87,20 +68,13 @@ entries-returns g t c =
     c.loop-part.invariant _ (entries_are (seen_by c.args.sight.now) (reverse c.args.tuples.now) c.args.parts.now)
 
 pub truths-loop-row-preserved : goal.truths-loop-row-preserved
-truths-loop-row-preserved g t c = (
-  element_gathered _ (λ t. truth_value (value_of (seen_by c.args.sight.now) (t ∷ reverse c.args.tuples.now) (tree_view c.args.condition.now))) c.rows-rows.result.now c.loop-row.row-index c.row-item.result c.loop-row-test.true c.row-item.is
-      c.loop-row.causes c.loop-row.truths.items c.truth_of-truth.result c.add.new.self c.loop-row.invariant.0 (c.truth_of-truth.ensures _ (subst (λ s. Answers (λ v. v) c.value_in_row.result (value_of (seen_by c.args.sight.now) (c.row-item.result ∷ reverse s) (tree_view c.args.condition.now))) c.loop-row.invariant.1 c.value_in_row.ensures.value)) c.add.ensures.cause
-      c.in-Some.truth (Ok c.in_ok-truth.field-0) (ap Ok c.in-Some.is) c.in_ok-truth.ensures.rest c.push.new.self.items c.in_ok-push.ensures.items,
-  c.value_in_row.ensures.tuples ∙ c.loop-row.invariant.1,
-)
-
-pub truths-loop-row-preserved-in_default : goal.truths-loop-row-preserved-in_default
-truths-loop-row-preserved-in_default g t c = (
-  element_refused _ (λ t. truth_value (value_of (seen_by c.args.sight.now) (t ∷ reverse c.args.tuples.now) (tree_view c.args.condition.now))) c.rows-rows.result.now c.loop-row.row-index c.row-item.result c.loop-row-test.true c.row-item.is
-      c.loop-row.causes c.loop-row.truths.items c.truth_of-truth.result c.add.new.self c.loop-row.invariant.0 (c.truth_of-truth.ensures _ (subst (λ s. Answers (λ v. v) c.value_in_row.result (value_of (seen_by c.args.sight.now) (c.row-item.result ∷ reverse s) (tree_view c.args.condition.now))) c.loop-row.invariant.1 c.value_in_row.ensures.value)) c.add.ensures.cause
-      (Ok c.in_ok-truth.field-0) (ap Ok c.in_default.is) c.in_ok-truth.ensures.rest,
-  c.value_in_row.ensures.tuples ∙ c.loop-row.invariant.1,
-)
+truths-loop-row-preserved g t c =
+    let found = λ (u : Tuple). value_of (seen_by c.args.sight.now) (u ∷ reverse c.args.tuples.now) (tree_view c.args.condition.now) in
+    let answers = subst (λ (s : List Tuple). Answers (λ (v : Val). v) c.value_in_row.result (value_of (seen_by c.args.sight.now) (c.row-item.result ∷ reverse s) (tree_view c.args.condition.now))) c.loop-row.invariant.1 c.value_in_row.ensures.value in (
+      collected_next (λ b. b) (λ u. truth_value (found u)) c.rows-rows.result.now c.loop-row.row-index c.loop-row-test.true c.row-item.is
+          c.loop-row.invariant.0 (c.truth_of-truth.ensures (found c.row-item.result) answers) c.in_ok-collect.ensures,
+      c.value_in_row.ensures.tuples ∙ c.loop-row.invariant.1,
+    )
 
 pub truths-returns : goal.truths-returns
 truths-returns g t c =
@@ -108,20 +82,13 @@ truths-returns g t c =
     c.loop-row.invariant.0 _ (ap (λ ts. gathered (map (λ t. truth_value (value_of (seen_by c.args.sight.now) (t ∷ reverse c.args.tuples.now) (tree_view c.args.condition.now))) ts)) c.rows-rows.ensures.rows)
 
 pub column-loop-row-preserved : goal.column-loop-row-preserved
-column-loop-row-preserved g t c = (
-  element_gathered _ (λ t. with_value (value_of (seen_by c.args.sight.now) (t ∷ reverse c.args.tuples.now) (tree_view c.args.expr.now)) (value_of_type (type_view c.args.ty.now))) c.rows-rows.result.now c.loop-row.row-index c.row-item.result c.loop-row-test.true c.row-item.is
-      c.loop-row.causes c.loop-row.values.items c.typed-value.result c.add.new.self c.loop-row.invariant.0 (c.typed-value.ensures _ (subst (λ s. Answers (λ v. v) c.value_in_row.result (value_of (seen_by c.args.sight.now) (c.row-item.result ∷ reverse s) (tree_view c.args.expr.now))) c.loop-row.invariant.1 c.value_in_row.ensures.value)) c.add.ensures.cause
-      c.in-Some.value (Ok c.in_ok-value.field-0) (ap Ok c.in-Some.is) c.in_ok-value.ensures.rest c.push.new.self.items c.in_ok-push.ensures.items,
-  c.value_in_row.ensures.tuples ∙ c.loop-row.invariant.1,
-)
-
-pub column-loop-row-preserved-in_default : goal.column-loop-row-preserved-in_default
-column-loop-row-preserved-in_default g t c = (
-  element_refused _ (λ t. with_value (value_of (seen_by c.args.sight.now) (t ∷ reverse c.args.tuples.now) (tree_view c.args.expr.now)) (value_of_type (type_view c.args.ty.now))) c.rows-rows.result.now c.loop-row.row-index c.row-item.result c.loop-row-test.true c.row-item.is
-      c.loop-row.causes c.loop-row.values.items c.typed-value.result c.add.new.self c.loop-row.invariant.0 (c.typed-value.ensures _ (subst (λ s. Answers (λ v. v) c.value_in_row.result (value_of (seen_by c.args.sight.now) (c.row-item.result ∷ reverse s) (tree_view c.args.expr.now))) c.loop-row.invariant.1 c.value_in_row.ensures.value)) c.add.ensures.cause
-      (Ok c.in_ok-value.field-0) (ap Ok c.in_default.is) c.in_ok-value.ensures.rest,
-  c.value_in_row.ensures.tuples ∙ c.loop-row.invariant.1,
-)
+column-loop-row-preserved g t c =
+    let found = λ (u : Tuple). value_of (seen_by c.args.sight.now) (u ∷ reverse c.args.tuples.now) (tree_view c.args.expr.now) in
+    let answers = subst (λ (s : List Tuple). Answers (λ (v : Val). v) c.value_in_row.result (value_of (seen_by c.args.sight.now) (c.row-item.result ∷ reverse s) (tree_view c.args.expr.now))) c.loop-row.invariant.1 c.value_in_row.ensures.value in (
+      collected_next (λ v. v) (λ u. with_value (found u) (value_of_type (type_view c.args.ty.now))) c.rows-rows.result.now c.loop-row.row-index c.loop-row-test.true c.row-item.is
+          c.loop-row.invariant.0 (c.typed-value.ensures (found c.row-item.result) answers) c.in_ok-collect.ensures,
+      c.value_in_row.ensures.tuples ∙ c.loop-row.invariant.1,
+    )
 
 pub column-returns : goal.column-returns
 column-returns g t c =
@@ -358,20 +325,11 @@ restriction-restricted-requires g t c =
 pub columns-loop-place-preserved : goal.columns-loop-place-preserved
 columns-loop-place-preserved g t c =
     let l = c.loop-place in
-    step_taken (λ zs. IsGathered c.add.new.self (columns_view c.push.new.self.items) (map (column_found (seen_by c.args.sight.now) (reverse c.args.tuples.now) c.args.operand.now.body) zs)) (zip c.args.attributes.now c.args.parts.now) l.place (c.index-attributes-place.result, c.index-parts-place.result)
+    collected_next column_view (column_found (seen_by c.args.sight.now) (reverse c.args.tuples.now) c.args.operand.now.body) (zip c.args.attributes.now c.args.parts.now) l.place
     (beside_within c.args.attributes.now c.args.parts.now l.place c.requires.lengths c.loop-place-test.true)
     (beside_at c.args.attributes.now c.args.parts.now l.place c.index-attributes-place.result c.index-parts-place.result c.requires.lengths c.loop-place-test.true c.index-attributes-place.is c.index-parts-place.is)
-    (value_gathered _ column_view (column_found (seen_by c.args.sight.now) (reverse c.args.tuples.now) c.args.operand.now.body) (take l.place (zip c.args.attributes.now c.args.parts.now)) (c.index-attributes-place.result, c.index-parts-place.result) l.causes l.columns.items c.named_column.result c.add.new.self l.invariant
-    (c.named_column.ensures (column_values (type_view c.index-attributes-place.result.1) (λ t. value_of (seen_by c.args.sight.now) (t ∷ (reverse c.args.tuples.now)) (tree_view c.index-parts-place.result.value)) c.args.operand.now.body) c.column-values.ensures) c.add.ensures.cause c.in-Some.column (Ok c.in_ok-column.field-0) (ap Ok c.in-Some.is) c.in_ok-column.ensures.rest c.push.new.self.items c.in_ok-push.ensures.items)
-
-pub columns-loop-place-preserved-in_default : goal.columns-loop-place-preserved-in_default
-columns-loop-place-preserved-in_default g t c =
-    let l = c.loop-place in
-    step_taken (λ zs. IsGathered c.add.new.self (columns_view l.columns.items) (map (column_found (seen_by c.args.sight.now) (reverse c.args.tuples.now) c.args.operand.now.body) zs)) (zip c.args.attributes.now c.args.parts.now) l.place (c.index-attributes-place.result, c.index-parts-place.result)
-    (beside_within c.args.attributes.now c.args.parts.now l.place c.requires.lengths c.loop-place-test.true)
-    (beside_at c.args.attributes.now c.args.parts.now l.place c.index-attributes-place.result c.index-parts-place.result c.requires.lengths c.loop-place-test.true c.index-attributes-place.is c.index-parts-place.is)
-    (refusal_gathered _ column_view (column_found (seen_by c.args.sight.now) (reverse c.args.tuples.now) c.args.operand.now.body) (take l.place (zip c.args.attributes.now c.args.parts.now)) (c.index-attributes-place.result, c.index-parts-place.result) l.causes l.columns.items c.named_column.result c.add.new.self l.invariant
-    (c.named_column.ensures (column_values (type_view c.index-attributes-place.result.1) (λ t. value_of (seen_by c.args.sight.now) (t ∷ (reverse c.args.tuples.now)) (tree_view c.index-parts-place.result.value)) c.args.operand.now.body) c.column-values.ensures) c.add.ensures.cause (Ok c.in_ok-column.field-0) (ap Ok c.in_default.is) c.in_ok-column.ensures.rest)
+    l.invariant (c.named_column.ensures (column_values (type_view c.index-attributes-place.result.1) (λ t. value_of (seen_by c.args.sight.now) (t ∷ (reverse c.args.tuples.now)) (tree_view c.index-parts-place.result.value)) c.args.operand.now.body) c.column-values.ensures)
+    c.in_ok-collect.ensures
 
 pub columns-returns : goal.columns-returns
 columns-returns g t c =
@@ -428,20 +386,13 @@ values_in_rows-loop-row-init g t c =
     (rw (c.new-causes.ensures, c.in_ok-values.ensures.items) refl, c.in_ok-inner.ensures)
 
 pub values_in_rows-loop-row-preserved : goal.values_in_rows-loop-row-preserved
-values_in_rows-loop-row-preserved g t c = (
-  element_gathered _ (λ t. value_of (seen_by c.args.sight.now) (t ∷ reverse c.args.tuples.now) (tree_view c.args.expr.now)) c.rows-rows.result.now c.loop-row.row-index c.row-item.result c.loop-row-test.true c.row-item.is
-      c.loop-row.causes c.loop-row.values.items c.value_in_row-value.result c.add.new.self c.loop-row.invariant.0 (subst (λ s. Answers (λ v. v) c.value_in_row-value.result (value_of (seen_by c.args.sight.now) (c.row-item.result ∷ reverse s) (tree_view c.args.expr.now))) c.loop-row.invariant.1 c.value_in_row-value.ensures.value) c.add.ensures.cause
-      c.in-Some.value (Ok c.in_ok-value.field-0) (ap Ok c.in-Some.is) c.in_ok-value.ensures.rest c.push.new.self.items c.in_ok-push.ensures.items,
-  c.value_in_row-value.ensures.tuples ∙ c.loop-row.invariant.1,
-)
-
-pub values_in_rows-loop-row-preserved-in_default : goal.values_in_rows-loop-row-preserved-in_default
-values_in_rows-loop-row-preserved-in_default g t c = (
-  element_refused _ (λ t. value_of (seen_by c.args.sight.now) (t ∷ reverse c.args.tuples.now) (tree_view c.args.expr.now)) c.rows-rows.result.now c.loop-row.row-index c.row-item.result c.loop-row-test.true c.row-item.is
-      c.loop-row.causes c.loop-row.values.items c.value_in_row-value.result c.add.new.self c.loop-row.invariant.0 (subst (λ s. Answers (λ v. v) c.value_in_row-value.result (value_of (seen_by c.args.sight.now) (c.row-item.result ∷ reverse s) (tree_view c.args.expr.now))) c.loop-row.invariant.1 c.value_in_row-value.ensures.value) c.add.ensures.cause
-      (Ok c.in_ok-value.field-0) (ap Ok c.in_default.is) c.in_ok-value.ensures.rest,
-  c.value_in_row-value.ensures.tuples ∙ c.loop-row.invariant.1,
-)
+values_in_rows-loop-row-preserved g t c =
+    let found = λ (u : Tuple). value_of (seen_by c.args.sight.now) (u ∷ reverse c.args.tuples.now) (tree_view c.args.expr.now) in
+    let answers = subst (λ (s : List Tuple). Answers (λ (v : Val). v) c.value_in_row-value.result (value_of (seen_by c.args.sight.now) (c.row-item.result ∷ reverse s) (tree_view c.args.expr.now))) c.loop-row.invariant.1 c.value_in_row-value.ensures.value in (
+      collected_next (λ v. v) found c.rows-rows.result.now c.loop-row.row-index c.loop-row-test.true c.row-item.is
+          c.loop-row.invariant.0 answers c.in_ok-collect.ensures,
+      c.value_in_row-value.ensures.tuples ∙ c.loop-row.invariant.1,
+    )
 
 pub values_in_rows-returns : goal.values_in_rows-returns
 values_in_rows-returns g t c =
@@ -452,22 +403,8 @@ values_in_rows-returns g t c =
 
 pub item_in_groups-loop-group-preserved : goal.item_in_groups-loop-group-preserved
 item_in_groups-loop-group-preserved g t c =
-    let l = c.loop-group in
-    let found = group_found (seen_by c.args.sight.now) (reverse c.args.tuples.now) c.args.item.now in
-    step_taken (λ zs. IsGathered c.add.new.self (map (λ vs. vs.items) c.push.new.self.items) (map found zs)) c.args.groups.now l.group-index c.loop-group-item.result
-    c.loop-group-test.true c.loop-group-item.is
-    (value_gathered _ (λ (vs : Vec Val). vs.items) found (take l.group-index c.args.groups.now) c.loop-group-item.result l.causes l.values.items c.item_in_group-found.result c.add.new.self
-    l.invariant c.item_in_group-found.ensures c.add.ensures.cause c.in-Some.found (Ok c.in_ok-found.field-0) (ap Ok c.in-Some.is) c.in_ok-found.ensures.rest
-    c.push.new.self.items c.in_ok-push.ensures.items)
-
-pub item_in_groups-loop-group-preserved-in_default : goal.item_in_groups-loop-group-preserved-in_default
-item_in_groups-loop-group-preserved-in_default g t c =
-    let l = c.loop-group in
-    let found = group_found (seen_by c.args.sight.now) (reverse c.args.tuples.now) c.args.item.now in
-    step_taken (λ zs. IsGathered c.add.new.self (map (λ vs. vs.items) l.values.items) (map found zs)) c.args.groups.now l.group-index c.loop-group-item.result
-    c.loop-group-test.true c.loop-group-item.is
-    (refusal_gathered _ (λ (vs : Vec Val). vs.items) found (take l.group-index c.args.groups.now) c.loop-group-item.result l.causes l.values.items c.item_in_group-found.result c.add.new.self
-    l.invariant c.item_in_group-found.ensures c.add.ensures.cause (Ok c.in_ok-found.field-0) (ap Ok c.in_default.is) c.in_ok-found.ensures.rest)
+    collected_next (λ (vs : Vec Val). vs.items) (group_found (seen_by c.args.sight.now) (reverse c.args.tuples.now) c.args.item.now) c.args.groups.now c.loop-group.group-index c.loop-group-test.true c.loop-group-item.is
+    c.loop-group.invariant c.item_in_group-found.ensures c.in_ok-collect.ensures
 
 pub item_in_groups-returns : goal.item_in_groups-returns
 item_in_groups-returns g t c =
@@ -476,24 +413,9 @@ item_in_groups-returns g t c =
 
 pub totals-loop-item-preserved : goal.totals-loop-item-preserved
 totals-loop-item-preserved g t c =
-    let l = c.loop-item in
-    let found = total_found (seen_by c.args.sight.now) (reverse c.args.tuples.now) c.args.groups.now in
     let values = gathered (map (group_found (seen_by c.args.sight.now) (reverse c.args.tuples.now) c.item-item.result) c.args.groups.now) in
-    step_taken (λ zs. IsGathered c.add.new.self (map total_view c.push.new.self.items) (map found zs)) c.args.items.now l.item-index c.item-item.result
-    c.loop-item-test.true c.item-item.is
-    (value_gathered _ total_view found (take l.item-index c.args.items.now) c.item-item.result l.causes l.totals.items c.with_aggregate-total.result c.add.new.self
-    l.invariant (c.with_aggregate-total.ensures values c.item_in_groups.ensures) c.add.ensures.cause c.in-Some.total (Ok c.in_ok-total.field-0) (ap Ok c.in-Some.is) c.in_ok-total.ensures.rest
-    c.push.new.self.items c.in_ok-push.ensures.items)
-
-pub totals-loop-item-preserved-in_default : goal.totals-loop-item-preserved-in_default
-totals-loop-item-preserved-in_default g t c =
-    let l = c.loop-item in
-    let found = total_found (seen_by c.args.sight.now) (reverse c.args.tuples.now) c.args.groups.now in
-    let values = gathered (map (group_found (seen_by c.args.sight.now) (reverse c.args.tuples.now) c.item-item.result) c.args.groups.now) in
-    step_taken (λ zs. IsGathered c.add.new.self (map total_view l.totals.items) (map found zs)) c.args.items.now l.item-index c.item-item.result
-    c.loop-item-test.true c.item-item.is
-    (refusal_gathered _ total_view found (take l.item-index c.args.items.now) c.item-item.result l.causes l.totals.items c.with_aggregate-total.result c.add.new.self
-    l.invariant (c.with_aggregate-total.ensures values c.item_in_groups.ensures) c.add.ensures.cause (Ok c.in_ok-total.field-0) (ap Ok c.in_default.is) c.in_ok-total.ensures.rest)
+    collected_next total_view (total_found (seen_by c.args.sight.now) (reverse c.args.tuples.now) c.args.groups.now) c.args.items.now c.loop-item.item-index c.loop-item-test.true c.item-item.is
+    c.loop-item.invariant (c.with_aggregate-total.ensures values c.item_in_groups.ensures) c.in_ok-collect.ensures
 
 pub totals-returns : goal.totals-returns
 totals-returns g t c =

@@ -1,16 +1,14 @@
-use Rattle.std.proofs.Common.{ℕ, List, Ok, ap, map, subst, take}
+use Rattle.std.proofs.Common.{ℕ, List, ap, map, subst}
 use Rattle.std.specs.Global.{Vec}
 use Rattle.std.specs.List.{zip}
 use Rattle.td_algebra.specs.Columns.{columns_view}
 use Rattle.td_algebra.specs.declared.extension.Column.{Column}
-use Rattle.td_check.proofs.CheckedLists.{step_taken}
-use Rattle.td_check.proofs.GatheredAnswers.{refusal_gathered, value_gathered}
 use Rattle.td_eval.proofs.WalkedColumns.{beside_at, beside_past, beside_within}
 use Rattle.td_eval.proofs.WalkedLists.{walked}
 use Rattle.td_eval.proofs.WalkedTotals.{total_column, total_columns_are}
 use Rattle.td_eval.specs.NewColumns.{column_view}
 use Rattle.td_eval.specs.Totals.{total_values, total_view}
-use Rattle.td_tree.specs.Gatherings.{IsGathered}
+use Rattle.td_tree.proofs.Gatherings.{collected_next}
 use Rattle.td_tree.specs.Outcomes.{Answers, gathered}
 use Rattle.td_types.specs.Views.{type_view}
 use Rattle.td_value.specs.Values.{Val}
@@ -23,26 +21,10 @@ loop-place-preserved c =
     let attribute = c.index-attributes-place.result in
     let values = subst (λ vss. Answers (λ (vs : Vec Val). vs.items) c.total_values-values.result (total_values (type_view attribute.1) (total.0, map (λ vs. vs.items) vss)))
     c.deref.ensures.value c.total_values-values.ensures in
-    step_taken (λ zs. IsGathered c.add.new.self (columns_view c.push.new.self.items) (map total_column zs)) (zip c.args.attributes.now c.args.totals.now) l.place (attribute, total)
+    collected_next column_view total_column (zip c.args.attributes.now c.args.totals.now) l.place
     (beside_within c.args.attributes.now c.args.totals.now l.place c.requires c.loop-place-test.true)
     (beside_at c.args.attributes.now c.args.totals.now l.place attribute total c.requires c.loop-place-test.true c.index-attributes-place.is c.index-totals-place.is)
-    (value_gathered _ column_view total_column (take l.place (zip c.args.attributes.now c.args.totals.now)) (attribute, total) l.causes l.columns.items c.named_column.result
-    c.add.new.self l.invariant (c.named_column.ensures (total_values (type_view attribute.1) (total_view total)) values) c.add.ensures.cause
-    c.in-Some.column (Ok c.in_ok-column.field-0) (ap Ok c.in-Some.is) c.in_ok-column.ensures.rest c.push.new.self.items c.in_ok-push.ensures.items)
-
-pub loop-place-preserved-in_default : goal.loop-place-preserved-in_default
-loop-place-preserved-in_default c =
-    let l = c.loop-place in
-    let total = c.index-totals-place.result in
-    let attribute = c.index-attributes-place.result in
-    let values = subst (λ vss. Answers (λ (vs : Vec Val). vs.items) c.total_values-values.result (total_values (type_view attribute.1) (total.0, map (λ vs. vs.items) vss)))
-    c.deref.ensures.value c.total_values-values.ensures in
-    step_taken (λ zs. IsGathered c.add.new.self (columns_view l.columns.items) (map total_column zs)) (zip c.args.attributes.now c.args.totals.now) l.place (attribute, total)
-    (beside_within c.args.attributes.now c.args.totals.now l.place c.requires c.loop-place-test.true)
-    (beside_at c.args.attributes.now c.args.totals.now l.place attribute total c.requires c.loop-place-test.true c.index-attributes-place.is c.index-totals-place.is)
-    (refusal_gathered _ column_view total_column (take l.place (zip c.args.attributes.now c.args.totals.now)) (attribute, total) l.causes l.columns.items c.named_column.result
-    c.add.new.self l.invariant (c.named_column.ensures (total_values (type_view attribute.1) (total_view total)) values) c.add.ensures.cause
-    (Ok c.in_ok-column.field-0) (ap Ok c.in_default.is) c.in_ok-column.ensures.rest)
+    l.invariant (c.named_column.ensures (total_values (type_view attribute.1) (total_view total)) values) c.in_ok-collect.ensures
 
 pub returns : goal.returns
 returns c =

@@ -1,10 +1,10 @@
-use Rattle.std.proofs.Common.{Ok, ap, subst, sym}
+use Rattle.std.proofs.Common.{ap, subst, sym}
 use Rattle.std.specs.Global.{Vec}
 use Rattle.td_check.proofs.GatheredAnswers.{map_twice}
-use Rattle.td_eval.proofs.OpElements.{element_gathered, element_refused}
 use Rattle.td_eval.proofs.WalkedLists.{walked_values}
 use Rattle.td_eval.specs.AggregateValues.{aggregate_of}
 use Rattle.td_eval.specs.OperatorValues.{value_of_type}
+use Rattle.td_tree.proofs.Gatherings.{collected_next}
 use Rattle.td_tree.specs.Outcomes.{Answers, gathered, with_value}
 use Rattle.td_types.specs.Views.{type_view}
 use Rattle.td_value.specs.Values.{Val}
@@ -12,17 +12,11 @@ use Rattle.td_eval.proofs.operators.summaries.total_values.Goals as goal
 
 pub loop-group-preserved : goal.loop-group-preserved
 loop-group-preserved c =
-    element_gathered _ (λ (vs : Vec Val). with_value (aggregate_of c.args.asked vs.items) (value_of_type (type_view c.args.ty.now))) c.args.groups.now c.loop-group.group-index
-    c.group-item.result c.loop-group-test.true c.group-item.is c.loop-group.causes c.loop-group.values.items c.typed-value.result c.add.new.self c.loop-group.invariant
-    (c.typed-value.ensures _ (subst (λ vs. Answers (λ (v : Val). v) c.aggregate_of.result (aggregate_of c.args.asked vs)) c.deref.ensures.value c.aggregate_of.ensures))
-    c.add.ensures.cause c.in-Some.value (Ok c.in_ok-value.field-0) (ap Ok c.in-Some.is) c.in_ok-value.ensures.rest c.push.new.self.items c.in_ok-push.ensures.items
-
-pub loop-group-preserved-in_default : goal.loop-group-preserved-in_default
-loop-group-preserved-in_default c =
-    element_refused _ (λ (vs : Vec Val). with_value (aggregate_of c.args.asked vs.items) (value_of_type (type_view c.args.ty.now))) c.args.groups.now c.loop-group.group-index
-    c.group-item.result c.loop-group-test.true c.group-item.is c.loop-group.causes c.loop-group.values.items c.typed-value.result c.add.new.self c.loop-group.invariant
-    (c.typed-value.ensures _ (subst (λ vs. Answers (λ (v : Val). v) c.aggregate_of.result (aggregate_of c.args.asked vs)) c.deref.ensures.value c.aggregate_of.ensures))
-    c.add.ensures.cause (Ok c.in_ok-value.field-0) (ap Ok c.in_default.is) c.in_ok-value.ensures.rest
+    collected_next (λ v. v) (λ (vs : Vec Val). with_value (aggregate_of c.args.asked vs.items) (value_of_type (type_view c.args.ty.now))) c.args.groups.now c.loop-group.group-index
+    c.loop-group-test.true c.group-item.is c.loop-group.invariant
+    (c.typed-value.ensures (aggregate_of c.args.asked c.group-item.result.items)
+    (subst (λ vs. Answers (λ (v : Val). v) c.aggregate_of.result (aggregate_of c.args.asked vs)) c.deref.ensures.value c.aggregate_of.ensures))
+    c.in_ok-collect.ensures
 
 pub returns : goal.returns
 returns c =

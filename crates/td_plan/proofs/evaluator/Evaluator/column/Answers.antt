@@ -1,7 +1,7 @@
-use Rattle.std.proofs.Common.{Ok, ap, refl}
-use Rattle.td_eval.proofs.OpElements.{element_gathered, element_refused}
+use Rattle.std.proofs.Common.{refl}
 use Rattle.td_eval.proofs.WalkedLists.{walked_values}
 use Rattle.td_plan.specs.Runs.{value_in}
+use Rattle.td_tree.proofs.Gatherings.{collected_next}
 use Rattle.td_tree.specs.Outcomes.{with_value}
 use Rattle.td_eval.specs.OperatorValues.{value_of_type}
 use Rattle.td_types.specs.Views.{type_view}
@@ -10,16 +10,8 @@ use Rattle.td_plan.proofs.evaluator.Evaluator.column.Goals as goal
 pub loop-row-preserved : goal.loop-row-preserved
 loop-row-preserved g c = λ fs os h.
     let found = value_in (g.A.InWorld.world c.args.self.now.around.now) fs os c.args.step.now in
-    element_gathered _ (λ t. with_value (found t) (value_of_type (type_view c.args.ty.now))) c.args.rows.now c.loop-row.row-index c.row-item.result c.loop-row-test.true c.row-item.is
-    c.loop-row.causes c.loop-row.values.items c.typed-value.result c.add.new.self (c.loop-row.invariant fs os h) (c.typed-value.ensures (found c.row-item.result) (c.value_in_row.ensures fs os h)) c.add.ensures.cause
-    c.in-Some.value (Ok c.in_ok-value.field-0) (ap Ok c.in-Some.is) c.in_ok-value.ensures.rest c.push.new.self.items c.in_ok-push.ensures.items
-
-pub loop-row-preserved-in_default : goal.loop-row-preserved-in_default
-loop-row-preserved-in_default g c = λ fs os h.
-    let found = value_in (g.A.InWorld.world c.args.self.now.around.now) fs os c.args.step.now in
-    element_refused _ (λ t. with_value (found t) (value_of_type (type_view c.args.ty.now))) c.args.rows.now c.loop-row.row-index c.row-item.result c.loop-row-test.true c.row-item.is
-    c.loop-row.causes c.loop-row.values.items c.typed-value.result c.add.new.self (c.loop-row.invariant fs os h) (c.typed-value.ensures (found c.row-item.result) (c.value_in_row.ensures fs os h)) c.add.ensures.cause
-    (Ok c.in_ok-value.field-0) (ap Ok c.in_default.is) c.in_ok-value.ensures.rest
+    collected_next (λ v. v) (λ t. with_value (found t) (value_of_type (type_view c.args.ty.now))) c.args.rows.now c.loop-row.row-index c.loop-row-test.true c.row-item.is
+    (c.loop-row.invariant fs os h) (c.typed-value.ensures (found c.row-item.result) (c.value_in_row.ensures fs os h)) c.in_ok-collect.ensures
 
 pub returns : goal.returns
 returns g c = λ fs os h.

@@ -1,20 +1,18 @@
-use Rattle.std.proofs.Common.{List, Ok, ap, map, take, ℕ}
+use Rattle.std.proofs.Common.{List, ap, ℕ}
 use Rattle.td_algebra.specs.Columns.{columns_view}
-use Rattle.td_check.proofs.CheckedLists.{step_taken}
 use Rattle.td_plan.proofs.StepHeights.{height_part}
 use Rattle.td_plan.specs.Runs.{value_in}
+use Rattle.td_tree.proofs.Gatherings.{collected_next}
 use Rattle.td_tree.specs.Outcomes.{gathered}
 use Rattle.std.specs.Global.{Vec}
 use Rattle.std.specs.List.{zip}
 use Rattle.td_algebra.specs.declared.extension.Column.{Column}
-use Rattle.td_check.proofs.GatheredAnswers.{refusal_gathered, value_gathered}
 use Rattle.td_eval.proofs.WalkedColumns.{beside_at, beside_past, beside_within}
 use Rattle.td_eval.proofs.WalkedLists.{walked}
 use Rattle.td_eval.specs.NewColumns.{column_view}
 use Rattle.td_eval.specs.OperatorValues.{column_values}
 use Rattle.td_plan.proofs.RunLaws.{column_found, columns_are}
 use Rattle.td_plan.specs.declared.step.Step.{Step}
-use Rattle.td_tree.specs.Gatherings.{IsGathered}
 use Rattle.td_types.specs.declared.ty.Ty.{Ty}
 use Rattle.td_types.specs.Views.{type_view}
 use Rattle.td_plan.proofs.ValuedBelow.{lower}
@@ -27,25 +25,11 @@ pub loop-place-preserved : goal.loop-place-preserved
 loop-place-preserved g c = λ fs os h.
     let l = c.loop-place in
     let w = g.A.InWorld.world c.args.self.now.around.now in
-    let found = column_found w fs os c.args.rows.now in
     let z : (List ℕ × Ty) × Step = (c.index-attributes-place.result, c.index-steps-place.result) in
-    step_taken (λ zs. IsGathered c.add.new.self (columns_view c.push.new.self.items) (map found zs)) (zip c.args.attributes.now c.args.steps.now) l.place z
+    collected_next column_view (column_found w fs os c.args.rows.now) (zip c.args.attributes.now c.args.steps.now) l.place
     (beside_within c.args.attributes.now c.args.steps.now l.place c.requires.lengths c.loop-place-test.true)
     (beside_at c.args.attributes.now c.args.steps.now l.place z.0 z.1 c.requires.lengths c.loop-place-test.true c.index-attributes-place.is c.index-steps-place.is)
-    (value_gathered _ column_view found (take l.place (zip c.args.attributes.now c.args.steps.now)) z l.causes l.columns.items c.named_column.result c.add.new.self (l.invariant fs os h)
-    (c.named_column.ensures (column_values (type_view z.0.1) (value_in w fs os z.1) c.args.rows.now) (c.column-values.ensures fs os h)) c.add.ensures.cause c.in-Some.column (Ok c.in_ok-column.field-0) (ap Ok c.in-Some.is) c.in_ok-column.ensures.rest c.push.new.self.items c.in_ok-push.ensures.items)
-
-pub loop-place-preserved-in_default : goal.loop-place-preserved-in_default
-loop-place-preserved-in_default g c = λ fs os h.
-    let l = c.loop-place in
-    let w = g.A.InWorld.world c.args.self.now.around.now in
-    let found = column_found w fs os c.args.rows.now in
-    let z : (List ℕ × Ty) × Step = (c.index-attributes-place.result, c.index-steps-place.result) in
-    step_taken (λ zs. IsGathered c.add.new.self (columns_view l.columns.items) (map found zs)) (zip c.args.attributes.now c.args.steps.now) l.place z
-    (beside_within c.args.attributes.now c.args.steps.now l.place c.requires.lengths c.loop-place-test.true)
-    (beside_at c.args.attributes.now c.args.steps.now l.place z.0 z.1 c.requires.lengths c.loop-place-test.true c.index-attributes-place.is c.index-steps-place.is)
-    (refusal_gathered _ column_view found (take l.place (zip c.args.attributes.now c.args.steps.now)) z l.causes l.columns.items c.named_column.result c.add.new.self (l.invariant fs os h)
-    (c.named_column.ensures (column_values (type_view z.0.1) (value_in w fs os z.1) c.args.rows.now) (c.column-values.ensures fs os h)) c.add.ensures.cause (Ok c.in_ok-column.field-0) (ap Ok c.in_default.is) c.in_ok-column.ensures.rest)
+    (l.invariant fs os h) (c.named_column.ensures (column_values (type_view z.0.1) (value_in w fs os z.1) c.args.rows.now) (c.column-values.ensures fs os h)) c.in_ok-collect.ensures
 
 pub returns : goal.returns
 returns g c = λ fs os h.

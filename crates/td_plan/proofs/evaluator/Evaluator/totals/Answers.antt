@@ -1,19 +1,17 @@
-use Rattle.std.proofs.Common.{Ok, ap, arith, length, map, refl, sym, take, ◌<◌}
-use Rattle.td_check.proofs.CheckedLists.{step_taken}
+use Rattle.std.proofs.Common.{arith, length, map, refl, sym, ◌<◌}
 use Rattle.td_plan.proofs.StepHeights.{height_part}
 use Rattle.td_plan.specs.Runs.{value_in, values_in}
 use Rattle.td_value.specs.Values.{Val}
 use Rattle.std.proofs.lemmas.Option.{get_or_from_slice_get}
 use Rattle.std.specs.Global.{Vec}
 use Rattle.std.specs.List.{zip}
-use Rattle.td_check.proofs.GatheredAnswers.{refusal_gathered, value_gathered}
 use Rattle.td_eval.proofs.WalkedLists.{walked}
 use Rattle.td_eval.specs.AggregateValues.{Summand, group_values}
 use Rattle.td_eval.specs.Totals.{total_of, total_view}
 use Rattle.td_group.specs.declared.aggregates.Agg.{Agg}
 use Rattle.td_plan.proofs.SummaryLaws.{as_many_items, item_at}
-use Rattle.td_tree.specs.Gatherings.{IsGathered}
 use Rattle.td_plan.proofs.ValuedBelow.{lower}
+use Rattle.td_tree.proofs.Gatherings.{collected_next}
 use Rattle.td_plan.proofs.evaluator.Evaluator.totals.Goals as goal
 
 pub values_in_groups-values-requires : goal.values_in_groups-values-requires
@@ -27,26 +25,10 @@ loop-place-preserved g c = λ fs os h.
     let z : Summand = (c.aggregate_at-asked.result, value_in w fs os c.index-steps-place.result) in
     let count = as_many_items w c.args.aggregates.now c.args.steps.now fs os in
     let inside : l.place < length (zip c.args.aggregates.now c.args.steps.now) = omega (arith, c.item_count-count.ensures.count) in
-    step_taken (λ zs. IsGathered c.add.new.self (map total_view c.push.new.self.items) (map (total_of c.args.groups.now) zs)) items l.place z
+    collected_next total_view (total_of c.args.groups.now) items l.place
     (omega (arith, count, inside))
     (item_at w c.args.aggregates.now c.args.steps.now fs os l.place c.aggregate_at-asked.result c.index-steps-place.result inside (sym (get_or_from_slice_get c.args.aggregates.now l.place c.aggregate_at-asked.result c.aggregate_at-asked.result c.aggregate_at-asked.ensures)) c.index-steps-place.is)
-    (value_gathered _ total_view (total_of c.args.groups.now) (take l.place items) z l.causes l.totals.items c.with_aggregate-total.result c.add.new.self
-    (l.invariant fs os h) (c.with_aggregate-total.ensures (group_values c.args.groups.now z) (c.values_in_groups-values.ensures fs os h)) c.add.ensures.cause c.in-Some.total (Ok c.in_ok-total.field-0) (ap Ok c.in-Some.is) c.in_ok-total.ensures.rest
-    c.push.new.self.items c.in_ok-push.ensures.items)
-
-pub loop-place-preserved-in_default : goal.loop-place-preserved-in_default
-loop-place-preserved-in_default g c = λ fs os h.
-    let l = c.loop-place in
-    let w = g.A.InWorld.world c.args.self.now.around.now in
-    let items = zip c.args.aggregates.now (values_in w fs os c.args.steps.now) in
-    let z : Summand = (c.aggregate_at-asked.result, value_in w fs os c.index-steps-place.result) in
-    let count = as_many_items w c.args.aggregates.now c.args.steps.now fs os in
-    let inside : l.place < length (zip c.args.aggregates.now c.args.steps.now) = omega (arith, c.item_count-count.ensures.count) in
-    step_taken (λ zs. IsGathered c.add.new.self (map total_view l.totals.items) (map (total_of c.args.groups.now) zs)) items l.place z
-    (omega (arith, count, inside))
-    (item_at w c.args.aggregates.now c.args.steps.now fs os l.place c.aggregate_at-asked.result c.index-steps-place.result inside (sym (get_or_from_slice_get c.args.aggregates.now l.place c.aggregate_at-asked.result c.aggregate_at-asked.result c.aggregate_at-asked.ensures)) c.index-steps-place.is)
-    (refusal_gathered _ total_view (total_of c.args.groups.now) (take l.place items) z l.causes l.totals.items c.with_aggregate-total.result c.add.new.self
-    (l.invariant fs os h) (c.with_aggregate-total.ensures (group_values c.args.groups.now z) (c.values_in_groups-values.ensures fs os h)) c.add.ensures.cause (Ok c.in_ok-total.field-0) (ap Ok c.in_default.is) c.in_ok-total.ensures.rest)
+    (l.invariant fs os h) (c.with_aggregate-total.ensures (group_values c.args.groups.now z) (c.values_in_groups-values.ensures fs os h)) c.in_ok-collect.ensures
 
 pub returns : goal.returns
 returns g c = λ fs os h.

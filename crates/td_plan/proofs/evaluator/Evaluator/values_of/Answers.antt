@@ -1,24 +1,17 @@
-use Rattle.std.proofs.Common.{Ok, ap, sym}
-use Rattle.td_eval.proofs.OpElements.{element_gathered, element_refused}
+use Rattle.std.proofs.Common.{ap, sym}
 use Rattle.td_eval.proofs.WalkedLists.{walked_values}
 use Rattle.td_plan.proofs.RunLaws.{values_found}
 use Rattle.td_plan.proofs.StepHeights.{height_part}
 use Rattle.td_plan.specs.Runs.{step_value}
+use Rattle.td_tree.proofs.Gatherings.{collected_next}
 use Rattle.td_tree.specs.Outcomes.{gathered}
 use Rattle.td_plan.proofs.ValuedBelow.{lower}
 use Rattle.td_plan.proofs.evaluator.Evaluator.values_of.Goals as goal
 
 pub loop-step-preserved : goal.loop-step-preserved
 loop-step-preserved g c = λ fs h.
-    element_gathered _ (step_value (g.A.InWorld.world c.args.self.now.around.now) fs) c.args.steps.now c.loop-step.step-index c.step-item.result c.loop-step-test.true c.step-item.is
-    c.loop-step.causes c.loop-step.values.items c.run.result c.add.new.self (c.loop-step.invariant fs h) (c.run.ensures fs h) c.add.ensures.cause
-    c.in-Some.value (Ok c.in_ok-value.field-0) (ap Ok c.in-Some.is) c.in_ok-value.ensures.rest c.push.new.self.items c.in_ok-push.ensures.items
-
-pub loop-step-preserved-in_default : goal.loop-step-preserved-in_default
-loop-step-preserved-in_default g c = λ fs h.
-    element_refused _ (step_value (g.A.InWorld.world c.args.self.now.around.now) fs) c.args.steps.now c.loop-step.step-index c.step-item.result c.loop-step-test.true c.step-item.is
-    c.loop-step.causes c.loop-step.values.items c.run.result c.add.new.self (c.loop-step.invariant fs h) (c.run.ensures fs h) c.add.ensures.cause
-    (Ok c.in_ok-value.field-0) (ap Ok c.in_default.is) c.in_ok-value.ensures.rest
+    collected_next (λ v. v) (step_value (g.A.InWorld.world c.args.self.now.around.now) fs) c.args.steps.now c.loop-step.step-index c.loop-step-test.true c.step-item.is
+    (c.loop-step.invariant fs h) (c.run.ensures fs h) c.in_ok-collect.ensures
 
 pub returns : goal.returns
 returns g c = λ fs h.
