@@ -5,8 +5,8 @@ use Rattle.std.specs.Io.KnownBytes.{Appends}
 use Rattle.td.specs.Sessions.{HasAnswered, HasBegun, HasBegunCut, HasDumpedCut, OfSession, status_of}
 use Rattle.td.specs.declared.line.Mode.TheVariants.{Dump, Run}
 use Rattle.td_catalog.specs.Dumps.{dump_text}
-use Rattle.td_engine.proofs.Runs.{runs_front}
-use Rattle.td_engine.proofs.Turning.{limit_map, memory_map, ok_map, read_map, write_map}
+use Rattle.td_engine.proofs.law_lemmas.Runs.{runs_front}
+use Rattle.td_engine.proofs.code_lemmas.Turning.{limit_map, memory_map, ok_map, read_map, write_map}
 use Rattle.td_engine.specs.Faults.{IfMemory, IfNotMemory, IfRead, IfReadLimit, IfWrite}
 use Rattle.td_engine.specs.Machine.{State, begun}
 use Rattle.td_engine.specs.Scripts.{IsFront, IsRead, OfBroken, OfFront, OfScript, OfTooMuch, script_limit}

@@ -2,10 +2,12 @@
 ghost use Rattle.std.specs.Prelude.{◌≡◌, IfNone, IfOk, IfSome, codes, map, IsFalse};
 ghost use Rattle.clap.specs.Faults.{fault_of};
 ghost use Rattle.clap.specs.Kinds.{FailsBy};
-ghost use Rattle.clap.specs.Words.{IsPlainArg, app_of, found_of, new_rule, rows_of, rule_of, subcommand_of};
+ghost use Rattle.clap.specs.Words.{IsPlainArg, app_of, found_of, new_rule, rows_of, rule_of};
+ghost use Rattle.clap.specs.Words.{subcommand_of};
 ghost use Rattle.clap.specs.Words.{subcommand_rows_of};
 ghost use Rattle.clap.specs.declared.builder.command.Command.TheViews.{out-Command};
-ghost use Rattle.td.specs.CommandLine.{IsOfMode, IsSaidBy, Stops, dump_app, mode_word, run_app, stop_rule};
+ghost use Rattle.td.specs.CommandLine.{IsOfMode, IsSaidBy, Stops, dump_app, mode_word, run_app};
+ghost use Rattle.td.specs.CommandLine.{stop_rule};
 ghost use Rattle.td.specs.CommandLine.{td_app};
 ghost use Rattle.td.specs.declared.line.Mode.{Mode};
 

@@ -1,5 +1,6 @@
 //! Sessions: a script on an engine of its own.
-ghost use Rattle.std.specs.Prelude.{◌≡◌, None, IfErr, IfNone, IfOk, IfSome, IsFalse, IsOk, IsTrue, OnOk};
+ghost use Rattle.std.specs.Prelude.{◌≡◌, None, IfErr, IfNone, IfOk, IfSome, IsFalse, IsOk, IsTrue};
+ghost use Rattle.std.specs.Prelude.{OnOk};
 ghost use Rattle.td.specs.Sessions.{HasAnswered, HasBegun, HasBegunCut, IsStatus, OfSession};
 ghost use Rattle.td.specs.Sessions.{UnlessMemory, status_of};
 ghost use Rattle.td_engine.specs.Faults.{IfMemory, IfNotMemory, IfRead, IfReadLimit, IfWrite};

@@ -14,7 +14,7 @@ use Rattle.td_types.specs.Types.{Attribute, Heading, IsAscending, Type', attribu
 use Rattle.td_types.proofs.HeadingLaws.{has_attribute-names, name_cmp, same_name-itself}
 use Rattle.td_value.specs.Values.{IsTupleOf, Tuple, relation_of, tuple_cmp, tuple_names, tuple_of, value_at, value_cmp}
 use Rattle.td_value.specs.ValueOrder.{tuple_order_same, tuple_order_total}
-use Rattle.td_value.specs.Views.{relation_view}
+use Rattle.td_value.specs.code.Views.{relation_view}
 use Rattle.td_value.proofs.Agreement.{entries_of_values, names_ascend}
 use Rattle.td_value.proofs.Maps.{value_at-tuple_of}
 use Rattle.td_value.proofs.SetLaws.{is_set_of}

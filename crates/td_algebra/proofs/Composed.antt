@@ -14,7 +14,7 @@ use Rattle.td_value.proofs.Kept.{IsTuple-filter}
 use Rattle.td_value.proofs.Maps.{value_at-tuple_of}
 use Rattle.td_value.proofs.Members.{set_members}
 use Rattle.td_algebra.specs.Operators.{are_partners, composition, join, own_names, united_tuple}
-use Rattle.td_algebra.specs.Pairs.{paired_tuple, pairs_with, partners_paired}
+use Rattle.td_algebra.specs.code.Pairs.{paired_tuple, pairs_with, partners_paired}
 use Rattle.td_algebra.proofs.Entries.{IsTuple-tuple_of, distinct_append, fields_append, has_name-heading, has_value, no_value_outside, tuple_distinct, value_at-append}
 use Rattle.td_algebra.proofs.Joined.{apart_agree, pair_members, sets_alike}
 use Rattle.td_algebra.proofs.Lists.{contains_map}

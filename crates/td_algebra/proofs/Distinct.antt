@@ -7,8 +7,8 @@ use Rattle.std.proofs.lemmas.List.Elements.{All-contains, Contains-append_left, 
 use Rattle.td_types.specs.Headings.{outside, projection}
 use Rattle.td_types.specs.Types.{Heading}
 use Rattle.td_value.specs.Values.{HaveSameMembers, IsTupleOf, Tuple, projected_tuple}
-use Rattle.td_value.specs.Views.{values_of}
-use Rattle.td_algebra.specs.Layouts.{Sources, placed_tuple, sources_outside}
+use Rattle.td_value.specs.code.Views.{values_of}
+use Rattle.td_algebra.specs.code.Layouts.{Sources, placed_tuple, sources_outside}
 use Rattle.td_algebra.proofs.Relations.{All-from_members}
 use Rattle.td_algebra.proofs.Taken.{map_alike, placed_projection}
 

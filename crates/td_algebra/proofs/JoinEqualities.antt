@@ -11,7 +11,7 @@ use Rattle.std.proofs.lemmas.Cmp.{eq_by_cmp_equiv}
 use Rattle.std.proofs.lemmas.Map.Views.{Contains-from_any, list_any-from_Contains}
 use Rattle.td_value.specs.Sets.{has}
 use Rattle.td_value.specs.ValueOrder.{tuple_Decides, tuple_order_total}
-use Rattle.td_value.specs.Views.{relation_view}
+use Rattle.td_value.specs.code.Views.{relation_view}
 use Rattle.td_value.specs.Values.{Val, IsRelation, IsTuple, IsTupleOf, Relation, Tuple, projected_tuple, tuple_cmp, value_at}
 use Rattle.td_value.proofs.Agreement.{tuples_of_values, value_of_projection}
 use Rattle.td_value.proofs.Kept.{IsTuple-filter}

@@ -13,7 +13,7 @@ use Rattle.td_value.proofs.Kept.{IsTuple-filter}
 use Rattle.td_value.proofs.Members.{set_members}
 use Rattle.td_algebra.specs.Membership.{CompositionByMembership, IsComposed, IsIn, IsInBoth, JoinByMembership, ProductByMembership, SemidifferenceByMembership, SemijoinByMembership}
 use Rattle.td_algebra.specs.Operators.{are_partners, common_names, composition, join, own_names, relation_names, semidifference, semijoin, united_tuple}
-use Rattle.td_algebra.specs.Pairs.{pairs_with, partners_paired}
+use Rattle.td_algebra.specs.code.Pairs.{pairs_with, partners_paired}
 use Rattle.td_algebra.proofs.Entries.{has_name-heading, no_value_outside}
 use Rattle.td_algebra.proofs.Joined.{IsOfPair, apart_agree, join_pairs, joined_headed, pair_members, product_join}
 use Rattle.td_algebra.proofs.Lists.{contains_any, contains_filter}

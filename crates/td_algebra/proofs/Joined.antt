@@ -16,9 +16,9 @@ use Rattle.td_value.specs.Sets.{has, set_of}
 use Rattle.td_value.specs.ValueOrder.{tuple_Decides, tuple_order_same, tuple_order_total}
 use Rattle.td_value.specs.Values.{HaveSameMembers, IsTupleOf, Relation, Tuple, projected_tuple, tuple_cmp}
 use Rattle.td_value.proofs.SetLaws.{has-set_of, is_set_of, set_of-ascends}
-use Rattle.td_algebra.specs.Layouts.{Sources}
+use Rattle.td_algebra.specs.code.Layouts.{Sources}
 use Rattle.td_algebra.specs.Operators.{are_partners, common_names, join, product, united_tuple}
-use Rattle.td_algebra.specs.Pairs.{IsPaired, paired_tuple, pair_sources, pair_tuple, pairs_with, partners_paired}
+use Rattle.td_algebra.specs.code.Pairs.{IsPaired, paired_tuple, pair_sources, pair_tuple, pairs_with, partners_paired}
 use Rattle.td_algebra.proofs.Lists.{all_kept, contains_filter, contains_flat_map, contains_map}
 use Rattle.td_algebra.proofs.Members.{second_true}
 use Rattle.td_algebra.proofs.Taken.{value_of_answer}

@@ -10,10 +10,10 @@ use Rattle.td_types.specs.Headings.{has_attribute}
 use Rattle.td_types.specs.Types.{Attribute, Heading}
 use Rattle.td_types.proofs.HeadingLaws.{name_cmp}
 use Rattle.td_value.specs.Values.{Tuple, Val, boolean, tuple_of}
-use Rattle.td_value.specs.Views.{values_of}
+use Rattle.td_value.specs.code.Views.{values_of}
 use Rattle.td_value.proofs.Maps.{sorted_is_tuple_of}
 use Rattle.td_value.proofs.Zips.{zip_names, zip_values}
-use Rattle.td_algebra.specs.Layouts.{AreInRange, IsMade, Sources, source_unless, sources_outside, taken}
+use Rattle.td_algebra.specs.code.Layouts.{AreInRange, IsMade, Sources, source_unless, sources_outside, taken}
 
 -- names with their places, taken apart and put together again
 pub zipped_sources : (ss : Sources) → zip (map (λ s. s.0) ss) (map (λ s. s.1) ss) ≡ ss

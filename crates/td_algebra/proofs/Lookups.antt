@@ -8,7 +8,7 @@ use Rattle.std.proofs.lemmas.List.{drop_more, length-drop}
 use Rattle.std.proofs.lemmas.Option.{slice_get_read}
 use Rattle.td_value.specs.Values.{Val, Tuple}
 use Rattle.td_algebra.specs.Lookups.{HasFirsts, RowsByParts, are_same, first_place, has_part, like_first, like_row_at, next_places, part_of}
-use Rattle.td_algebra.specs.Parts.{same_Decides, same_equiv}
+use Rattle.td_algebra.specs.code.Parts.{same_Decides, same_equiv}
 
 -- one more is left out
 dropped_suc : (all : List Tuple) (i : ℕ) (t : Tuple) (ts : List Tuple) → drop i all ≡ t ∷ ts → drop (suc i) all ≡ ts

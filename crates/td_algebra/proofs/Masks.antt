@@ -4,7 +4,7 @@ use Rattle.std.specs.declared.cmp.Ordering.{Ordering}
 use Rattle.std.specs.declared.cmp.Ordering.TheVariants.{Less}
 use Rattle.std.specs.List.{AllByRecursion}
 use Rattle.std.specs.List.Sorted.{IsStrictlySortedBy}
-use Rattle.td_algebra.specs.Masks.{kept_by}
+use Rattle.td_algebra.specs.code.Masks.{kept_by}
 
 -- the mask of a test keeps what the test passes
 pub kept_by_test : {X : Type 0} (p : X → Bool) (xs : List X) → kept_by (map p xs) xs ≡ filter p xs

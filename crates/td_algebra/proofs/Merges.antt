@@ -13,7 +13,7 @@ use Rattle.td_value.specs.Sets.{has, set_of}
 use Rattle.td_value.specs.Values.{Tuple, IsAscendingBody, tuple_cmp}
 use Rattle.td_value.specs.ValueOrder.{tuple_Decides, tuple_order_same, tuple_order_total}
 use Rattle.td_value.proofs.SetLaws.{is_set_of, same_members}
-use Rattle.td_algebra.specs.Merges.{IsAbreast, without_first, begins_with, below, merged, not_below}
+use Rattle.td_algebra.specs.code.Merges.{IsAbreast, without_first, begins_with, below, merged, not_below}
 
 -- ---- the order of two tuples
 

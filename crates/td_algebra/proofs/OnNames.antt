@@ -16,7 +16,7 @@ use Rattle.td_value.specs.Agreement.{agree_on}
 use Rattle.td_value.specs.Sets.{has}
 use Rattle.td_value.specs.ValueOrder.{tuple_Decides, value_Decides}
 use Rattle.td_value.specs.Values.{Val, boolean, IsTupleOf, Tuple, projected_tuple, tuple_names, type_of, value_at}
-use Rattle.td_value.specs.Views.{tuple_view, values_of}
+use Rattle.td_value.specs.code.Views.{tuple_view, values_of}
 use Rattle.td_value.proofs.Agreement.{names_ascend, value_of_projection}
 use Rattle.td_value.proofs.Kept.{IsTuple-filter}
 use Rattle.td_value.proofs.SetLaws.{same_members}

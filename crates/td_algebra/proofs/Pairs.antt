@@ -13,11 +13,11 @@ use Rattle.td_types.proofs.HeadingLaws.{IsHeading-filter, has_attribute-names}
 use Rattle.td_value.specs.Sets.{set_of}
 use Rattle.td_value.specs.ValueOrder.{entry_order_same, entry_order_total}
 use Rattle.td_value.specs.Values.{Val, IsTupleOf, Tuple, entry_cmp, tuple_names, tuple_of}
-use Rattle.td_value.specs.Views.{values_of}
+use Rattle.td_value.specs.code.Views.{values_of}
 use Rattle.td_value.proofs.SetLaws.{has-set_of, is_set_of, set_of-ascends}
-use Rattle.td_algebra.specs.Layouts.{AreInRange, Sources, source_names, sources_outside, taken}
+use Rattle.td_algebra.specs.code.Layouts.{AreInRange, Sources, source_names, sources_outside, taken}
 use Rattle.td_algebra.specs.Operators.{united_tuple}
-use Rattle.td_algebra.specs.Pairs.{IsPaired, paired_tuple, pair_sources, pair_tuple}
+use Rattle.td_algebra.specs.code.Pairs.{IsPaired, paired_tuple, pair_sources, pair_tuple}
 use Rattle.td_algebra.proofs.Entries.{as_many, has_name-heading, heading_distinct, names_apart, names_of_heading}
 use Rattle.td_algebra.proofs.Lists.{all_kept}
 use Rattle.td_algebra.proofs.Members.{first_true}

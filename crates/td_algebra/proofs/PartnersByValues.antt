@@ -7,11 +7,11 @@ use Rattle.td_types.specs.Headings.{has_attribute, has_name}
 use Rattle.td_types.specs.Types.{type_at}
 use Rattle.td_types.proofs.HeadingLaws.{has_attribute-names, type_at-common}
 use Rattle.td_value.specs.Values.{IsTupleOf, Relation, Tuple, projected_tuple}
-use Rattle.td_value.specs.Views.{values_of}
+use Rattle.td_value.specs.code.Views.{values_of}
 use Rattle.td_algebra.specs.Lookups.{ArePlacesOf, are_same, has_part, part_of, partners_in, values_on, wanted}
 use Rattle.td_algebra.specs.Operators.{are_partners, common_names, relation_names}
-use Rattle.td_algebra.specs.Pairs.{IsPaired, pairs_with}
-use Rattle.td_algebra.specs.Layouts.{Sources}
+use Rattle.td_algebra.specs.code.Pairs.{IsPaired, pairs_with}
+use Rattle.td_algebra.specs.code.Layouts.{Sources}
 use Rattle.td_algebra.proofs.Entries.{has_name-heading}
 use Rattle.td_algebra.proofs.Keys.{kept_alike}
 use Rattle.td_algebra.proofs.OnNames.{agree_by_values, common_there, kept_same, same_names, stand_part}

@@ -6,10 +6,10 @@ use Rattle.std.proofs.lemmas.List.Elements.{All-contains, All-contains_itself, A
 use Rattle.std.proofs.lemmas.List.Kept.{IsStrictlySortedBy-filter}
 use Rattle.td_types.specs.Types.{Heading, IsHeading, pack}
 use Rattle.td_value.specs.Sets.{set_of}
-use Rattle.td_value.specs.ValueCode.{unpack_pack_rows}
+use Rattle.td_value.specs.code.ValueCode.{unpack_pack_rows}
 use Rattle.td_value.specs.ValueOrder.{tuple_order_same, tuple_order_total}
 use Rattle.td_value.specs.Values.{IsAscendingBody, IsRelation, IsTupleOf, Relation, Tuple, relation_of, tuple_cmp}
-use Rattle.td_value.specs.Views.{relation_view}
+use Rattle.td_value.specs.code.Views.{relation_view}
 use Rattle.td_value.proofs.Members.{set_members}
 use Rattle.td_value.proofs.Rows.{All-from_rows, AreRows-from}
 use Rattle.td_value.proofs.SetLaws.{set_of-ascends}

@@ -16,7 +16,7 @@ use Rattle.td_value.proofs.Maps.{value_at-tuple_of}
 use Rattle.td_value.proofs.Members.{set_members}
 use Rattle.td_algebra.specs.Columns.{AreColumns, AreColumnsOf, IsColumn, NamedColumn, column_attributes, columns_view}
 use Rattle.td_algebra.specs.declared.extension.Column.{Column}
-use Rattle.td_algebra.specs.Layouts.{Sources, sources_with}
+use Rattle.td_algebra.specs.code.Layouts.{Sources, sources_with}
 use Rattle.td_algebra.specs.Membership.{IsIn, IsSet, SettingByMembership, other_names, set_heading_of}
 use Rattle.td_algebra.specs.Operators.{Addition, added_attributes, added_values, set_relation, set_tuple}
 use Rattle.td_algebra.proofs.Entries.{distinct_append, has_value, no_value, no_value_outside, tuple_distinct, tuple_heading, tuple_of-ascends, typed_values, value_at-append}

@@ -7,8 +7,8 @@ use Rattle.td_types.specs.Headings.{are_distinct, has_attribute, outside}
 use Rattle.td_types.specs.Types.{Heading, IsHeading, attribute_names, pack, type_at}
 use Rattle.td_types.proofs.HeadingLaws.{IsHeading-filter, type_at-outside}
 use Rattle.td_value.specs.Values.{Val, Tuple, tuple_names}
-use Rattle.td_value.specs.Views.{values_of}
-use Rattle.td_algebra.specs.Layouts.{Sources, sources_outside, taken, with_entry}
+use Rattle.td_value.specs.code.Views.{values_of}
+use Rattle.td_algebra.specs.code.Layouts.{Sources, sources_outside, taken, with_entry}
 use Rattle.td_algebra.proofs.Entries.{heading_distinct}
 
 -- the first of what is left after a place, and the rest

@@ -16,11 +16,11 @@ use Rattle.td_types.specs.Types.{Heading, type_at}
 use Rattle.td_types.proofs.HeadingLaws.{type_at-outside, type_at-projection}
 use Rattle.td_types.proofs.Valued.{value_is}
 use Rattle.td_value.specs.Values.{IsTupleOf, Relation, Tuple, Val, projected_tuple, relation_of, tuple_names, tuple_of, value_at}
-use Rattle.td_value.specs.Views.{values_of}
+use Rattle.td_value.specs.code.Views.{values_of}
 use Rattle.td_value.proofs.Agreement.{entries_of_values, names_ascend, value_at-filter, value_of_projection}
 use Rattle.td_value.proofs.Kept.{IsTuple-filter}
 use Rattle.td_value.proofs.Maps.{value_at-tuple_of}
-use Rattle.td_algebra.specs.Layouts.{AreInRange, Sources, numbered_sources, placed_tuple, sources_outside, taken}
+use Rattle.td_algebra.specs.code.Layouts.{AreInRange, Sources, numbered_sources, placed_tuple, sources_outside, taken}
 use Rattle.td_algebra.proofs.Sources.{taken_outside}
 use Rattle.td_algebra.proofs.Entries.{as_many, names_of_heading, no_value_outside, tuple_distinct, tuple_of-ascends}
 

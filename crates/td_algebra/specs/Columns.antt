@@ -6,7 +6,7 @@ use Rattle.std.specs.Ordering.{nat_cmp}
 use Rattle.std.specs.declared.cmp.Ordering.TheVariants.{Less}
 use Rattle.td_types.specs.Headings.{has_attribute, has_name}
 use Rattle.td_types.specs.Types.{Type', Heading}
-use Rattle.td_types.specs.Views.{type_view}
+use Rattle.td_types.specs.code.Views.{type_view}
 use Rattle.td_value.specs.Values.{Val, boolean, Tuple, type_of}
 use Rattle.td_algebra.specs.declared.extension.Column.{Column}
 use Rattle.td_algebra.specs.Operators.{Addition}

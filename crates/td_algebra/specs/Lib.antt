@@ -1,11 +1,7 @@
 pub mod Columns
 pub mod Equalities
-pub mod Layouts
 pub mod Lookups
-pub mod Masks
 pub mod Membership
-pub mod Merges
 pub mod Operators
-pub mod Pairs
-pub mod Parts
 pub mod Results
+pub mod code

@@ -6,7 +6,7 @@ use Rattle.std.specs.List.{All, list_any, slice_get}
 use Rattle.std.specs.Ordering.{eq_by_cmp}
 use Rattle.td_types.specs.Types.{Heading}
 use Rattle.td_value.specs.Values.{Val, boolean, IsTupleOf, Tuple, projected_tuple, value_cmp}
-use Rattle.td_value.specs.Views.{values_of}
+use Rattle.td_value.specs.code.Views.{values_of}
 
 -- ---- values at places
 

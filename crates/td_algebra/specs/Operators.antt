@@ -6,7 +6,7 @@ use Rattle.td_types.specs.Types.{Type', Heading, attribute_names}
 use Rattle.td_value.specs.Agreement.{agree_on}
 use Rattle.td_value.specs.Sets.{has}
 use Rattle.td_value.specs.Values.{Val, Tuple, Relation, projected_tuple, relation_of, tuple_cmp, tuple_names, tuple_of}
-use Rattle.td_value.specs.Views.{relation_view}
+use Rattle.td_value.specs.code.Views.{relation_view}
 
 -- ---- names
 

@@ -8,15 +8,15 @@ ghost use Rattle.std.specs.Ordering.{is_lt, nat_cmp};
 ghost use Rattle.td_algebra.specs.Columns.{AreAfter, AreColumns, AreColumnsOf, IsColumn};
 ghost use Rattle.td_algebra.specs.Columns.{column_attributes};
 ghost use Rattle.td_algebra.specs.Columns.{cells_at, columns_view, new_attribute};
-ghost use Rattle.td_algebra.specs.Layouts.{Sources, placed_tuple, sources_with};
+ghost use Rattle.td_algebra.specs.code.Layouts.{Sources, placed_tuple, sources_with};
 ghost use Rattle.td_algebra.specs.Operators.{Addition, extended_relation};
 ghost use Rattle.td_types.specs.Headings.{are_distinct, has_attribute, have_no_common};
 ghost use Rattle.td_types.specs.Headings.{heading_union, outside};
 ghost use Rattle.td_types.specs.Types.{attribute_names};
-ghost use Rattle.td_types.specs.Views.{type_view};
+ghost use Rattle.td_types.specs.code.Views.{type_view};
 ghost use Rattle.td_value.specs.Values.{IsAscendingBody, IsTuple, IsTupleOf, Tuple, Val};
 ghost use Rattle.td_value.specs.Values.{relation_of};
-ghost use Rattle.td_value.specs.Views.{values_of};
+ghost use Rattle.td_value.specs.code.Views.{values_of};
 
 use crate::layout::{Layout, put_names, put_sources};
 use std::alloc::{AllocError, Global};

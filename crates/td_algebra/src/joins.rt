@@ -1,15 +1,16 @@
 //! JOIN, TIMES and COMPOSE.
-ghost use Rattle.std.specs.Prelude.{◌≡◌, ◌+◌, ◌<◌, ◌^◌, ◌++◌, IfOk, IsTrue, OnOk, filter, length, map};
+ghost use Rattle.std.specs.Prelude.{◌≡◌, ◌+◌, ◌<◌, ◌^◌, ◌++◌, IfOk, IsTrue, OnOk, filter, length};
+ghost use Rattle.std.specs.Prelude.{map};
 ghost use Rattle.std.specs.List.{All};
 ghost use Rattle.std.specs.List.Sorted.{IsPermutation};
 ghost use Rattle.td_types.specs.Headings.{agree, have_no_common};
 ghost use Rattle.td_types.specs.Types.{IsHeading, pack};
 ghost use Rattle.td_value.specs.Values.{Tuple, HaveSameMembers, IsTupleOf};
-ghost use Rattle.td_value.specs.Views.{values_of};
+ghost use Rattle.td_value.specs.code.Views.{values_of};
 ghost use Rattle.td_algebra.specs.Lookups.{AreWithin, partners_in};
 ghost use Rattle.td_algebra.specs.Operators.{are_partners, composition, join, product};
-ghost use Rattle.td_algebra.specs.Pairs.{IsPaired, pair_sources, pair_tuple, pairs_with};
-ghost use Rattle.td_algebra.specs.Pairs.{partners_paired};
+ghost use Rattle.td_algebra.specs.code.Pairs.{IsPaired, pair_sources, pair_tuple, pairs_with};
+ghost use Rattle.td_algebra.specs.code.Pairs.{partners_paired};
 
 use crate::layout::{Layout, put_sources};
 use crate::lookup::{Lookup, common_places};

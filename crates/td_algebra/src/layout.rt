@@ -1,12 +1,13 @@
 //! Where the values of a result's tuples come from.
-ghost use Rattle.std.specs.Prelude.{◌≡◌, ◌↔◌, ◌+◌, ◌<◌, ◌^◌, ◌++◌, IfOk, IsTrue, OnOk, Some, length};
+ghost use Rattle.std.specs.Prelude.{◌≡◌, ◌↔◌, ◌+◌, ◌<◌, ◌^◌, ◌++◌, IfOk, IsTrue, OnOk, Some};
+ghost use Rattle.std.specs.Prelude.{length};
 ghost use Rattle.std.specs.Prelude.{map};
 ghost use Rattle.std.specs.List.{All, slice_get};
 ghost use Rattle.std.specs.List.Sorted.{IsPermutation};
-ghost use Rattle.td_algebra.specs.Layouts.{AreInRange, IsMade, Sources, numbered_sources};
-ghost use Rattle.td_algebra.specs.Layouts.{placed_tuple, source_unless, sources_outside};
+ghost use Rattle.td_algebra.specs.code.Layouts.{AreInRange, IsMade, Sources, numbered_sources};
+ghost use Rattle.td_algebra.specs.code.Layouts.{placed_tuple, source_unless, sources_outside};
 ghost use Rattle.td_types.specs.Headings.{are_distinct, outside};
-ghost use Rattle.td_value.specs.Views.{values_of};
+ghost use Rattle.td_value.specs.code.Views.{values_of};
 
 use std::alloc::{AllocError, Global};
 use std::hash::{FoldHasher, Hash, Hasher};
@@ -29,7 +30,7 @@ pub(crate) struct Layout {
 impl Model for Layout {
     ghost use Rattle.std.specs.Prelude.{◌≡◌, length};
     ghost use Rattle.std.specs.List.{zip};
-    ghost use Rattle.td_algebra.specs.Layouts.{Sources};
+    ghost use Rattle.td_algebra.specs.code.Layouts.{Sources};
 
     ghost Value = { Sources };
 

@@ -5,7 +5,7 @@ ghost use Rattle.td_algebra.specs.Lookups.{ArePlacesOf, AreWithin, first_place, 
 ghost use Rattle.td_algebra.specs.Lookups.{has_partner_in, part_of, partners_in};
 ghost use Rattle.td_types.specs.Headings.{has_attribute};
 ghost use Rattle.td_types.specs.Types.{Attribute, attribute_names};
-ghost use Rattle.td_value.specs.Views.{values_of};
+ghost use Rattle.td_value.specs.code.Views.{values_of};
 
 use crate::part::Part;
 use std::alloc::{AllocError, Global};
@@ -56,7 +56,7 @@ pub struct Lookup<'a> {
 impl<'a> Model for Lookup<'a> {
     ghost use Rattle.std.specs.Prelude.{◌≡◌, ℕ, List};
     ghost use Rattle.std.specs.Coded.{coded×, coded_list, coded_ℕ};
-    ghost use Rattle.td_value.specs.ValueCode.{tuple_code};
+    ghost use Rattle.td_value.specs.code.ValueCode.{tuple_code};
     ghost use Rattle.td_value.specs.Values.{Tuple};
 
     ghost Value = { List ℕ × List Tuple };
@@ -141,7 +141,7 @@ pub struct Partners<'a> {
 impl<'a> Model for Partners<'a> {
     ghost use Rattle.std.specs.Prelude.{◌<◌, List, IfSome, length};
     ghost use Rattle.std.specs.Coded.{coded_list};
-    ghost use Rattle.td_value.specs.ValueCode.{tuple_code};
+    ghost use Rattle.td_value.specs.code.ValueCode.{tuple_code};
     ghost use Rattle.td_value.specs.Values.{Tuple};
 
     ghost Value = { List Tuple };

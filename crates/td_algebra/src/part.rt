@@ -17,7 +17,7 @@ impl<'a> Model for Part<'a> {
     ghost use Rattle.std.specs.Prelude.{List};
     ghost use Rattle.std.specs.Coded.{coded_list};
     ghost use Rattle.td_algebra.specs.Lookups.{AreWithin, values_at};
-    ghost use Rattle.td_value.specs.ValueCode.{val_code};
+    ghost use Rattle.td_value.specs.code.ValueCode.{val_code};
     ghost use Rattle.td_value.specs.Values.{Val};
 
     ghost Value = { List Val };
@@ -60,7 +60,7 @@ impl<'a> Part<'a> {
 impl<'a> PartialEq for Part<'a> {
     ghost use Rattle.std.specs.Cmp.{partial_equiv_from_equiv};
     ghost use Rattle.td_algebra.specs.Lookups.{are_same};
-    ghost use Rattle.td_algebra.specs.Parts.{same_equiv};
+    ghost use Rattle.td_algebra.specs.code.Parts.{same_equiv};
 
     ghost eq = { are_same };
 
@@ -72,13 +72,13 @@ impl<'a> PartialEq for Part<'a> {
 }
 
 impl<'a> Eq for Part<'a> {
-    ghost use Rattle.td_algebra.specs.Parts.{same_equiv};
+    ghost use Rattle.td_algebra.specs.code.Parts.{same_equiv};
 
     ghost laws = { same_equiv };
 }
 
 impl<'a> Hash for Part<'a> {
-    ghost use Rattle.td_algebra.specs.Parts.{fed_values, same_fed_alike};
+    ghost use Rattle.td_algebra.specs.code.Parts.{fed_values, same_fed_alike};
 
     ghost hash_input = { fed_values };
 

@@ -2,11 +2,11 @@
 ghost use Rattle.std.specs.Prelude.{◌≡◌, ◌∷◌, ◌++◌, [], IfOk, IsTrue, OnOk, map};
 ghost use Rattle.std.specs.List.{All, Contains};
 ghost use Rattle.std.specs.List.Sorted.{IsPermutation};
-ghost use Rattle.td_algebra.specs.Layouts.{AreInRange, IsMade, Sources, placed_tuple};
+ghost use Rattle.td_algebra.specs.code.Layouts.{AreInRange, IsMade, Sources, placed_tuple};
 ghost use Rattle.td_algebra.specs.Operators.{projected_relation};
 ghost use Rattle.td_types.specs.Headings.{has_projection};
 ghost use Rattle.td_value.specs.Values.{HaveSameMembers};
-ghost use Rattle.td_value.specs.Views.{values_of};
+ghost use Rattle.td_value.specs.code.Views.{values_of};
 
 use crate::layout::{Layout, kept_layout};
 use std::alloc::{AllocError, Global};

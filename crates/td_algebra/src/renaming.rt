@@ -1,7 +1,7 @@
 //! RENAME: the tuples with their names changed, all at once.
 ghost use Rattle.std.specs.Prelude.{◌≡◌, IfOk, IsTrue};
 ghost use Rattle.std.specs.List.Sorted.{IsPermutation};
-ghost use Rattle.td_algebra.specs.Layouts.{numbered_sources};
+ghost use Rattle.td_algebra.specs.code.Layouts.{numbered_sources};
 ghost use Rattle.td_algebra.specs.Operators.{renamed_relation};
 ghost use Rattle.td_types.specs.Headings.{can_rename, new_names};
 

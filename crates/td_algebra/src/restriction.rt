@@ -1,6 +1,6 @@
 //! WHERE.
 ghost use Rattle.std.specs.Prelude.{◌≡◌, Bool, IfOk, length, map};
-ghost use Rattle.td_algebra.specs.Masks.{kept_by};
+ghost use Rattle.td_algebra.specs.code.Masks.{kept_by};
 ghost use Rattle.td_algebra.specs.Operators.{restriction};
 ghost use Rattle.td_value.specs.Values.{Tuple};
 

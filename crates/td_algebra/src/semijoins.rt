@@ -3,7 +3,7 @@ ghost use Rattle.std.specs.Prelude.{◌≡◌, IfOk, filter};
 ghost use Rattle.std.specs.List.{All, list_any};
 ghost use Rattle.td_algebra.specs.Lookups.{AreWithin, has_partner_in, wanted};
 ghost use Rattle.td_algebra.specs.Operators.{are_partners, restriction, semidifference, semijoin};
-ghost use Rattle.td_value.specs.Views.{values_of};
+ghost use Rattle.td_value.specs.code.Views.{values_of};
 
 use crate::lookup::{Lookup, common_places};
 use std::alloc::{AllocError, Global};

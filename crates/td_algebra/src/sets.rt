@@ -2,13 +2,13 @@
 //! by side, or by a search for each tuple of one that is far shorter. Both have one heading.
 ghost use Rattle.std.specs.Prelude.{◌≡◌, ◌++◌, IfOk, OnOk, filter};
 ghost use Rattle.std.specs.List.{All, list_all};
-ghost use Rattle.td_algebra.specs.Merges.{begins_with, below, is_wanted, merged, not_below};
-ghost use Rattle.td_algebra.specs.Merges.{without_first};
+ghost use Rattle.td_algebra.specs.code.Merges.{begins_with, below, is_wanted, merged, not_below};
+ghost use Rattle.td_algebra.specs.code.Merges.{without_first};
 ghost use Rattle.td_algebra.specs.Operators.{difference, intersection, is_subset, restriction};
 ghost use Rattle.td_algebra.specs.Operators.{union};
 ghost use Rattle.td_value.specs.Sets.{has};
 ghost use Rattle.td_value.specs.Values.{IsAscendingBody, IsTupleOf, tuple_cmp};
-ghost use Rattle.td_value.specs.Views.{relation_view};
+ghost use Rattle.td_value.specs.code.Views.{relation_view};
 
 use std::alloc::{AllocError, Global};
 use td_value::relation::Rel;

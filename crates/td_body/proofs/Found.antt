@@ -17,8 +17,8 @@ use Rattle.td_value.specs.Values.{HaveSameMembers, IsAscendingBody, Tuple, Val, 
 use Rattle.td_value.specs.ValueOrder.{equal_from, order_same}
 use Rattle.td_value.proofs.Members.{contained, found}
 use Rattle.td_body.specs.declared.hashed.tables.Slot.{Slot}
-use Rattle.td_body.specs.KeyIndexes.{IsIndexed, IsNumbered, count_by, count_in, found_hash, ordinal_of, part_hash, tuple_at, with_part}
-use Rattle.td_body.specs.KeyParts.{apart_at, by_places, values_at, values_cmp}
+use Rattle.td_body.specs.code.KeyIndexes.{IsIndexed, IsNumbered, count_by, count_in, found_hash, ordinal_of, part_hash, tuple_at, with_part}
+use Rattle.td_body.specs.code.KeyParts.{apart_at, by_places, values_at, values_cmp}
 use Rattle.td_body.proofs.KeyParts.{found_order, found_order_total}
 use Rattle.td_body.proofs.Numbered.{some_of, some_same, split_nat}
 use Rattle.td_body.proofs.Ordinals.{has_table, same}

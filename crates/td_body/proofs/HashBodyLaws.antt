@@ -6,8 +6,8 @@ use Rattle.std.proofs.lemmas.List.Elements.{All-append, All-contains, Contains-p
 use Rattle.td_types.specs.Types.{attribute_names}
 use Rattle.td_value.specs.Values.{Relation}
 use Rattle.td_body.specs.Bodies.{HaveOneHeading}
-use Rattle.td_body.specs.HashBodies.{IsHashBody, IsPlacedFor, held_by, kept_with_aside}
-use Rattle.td_body.specs.Members.{ArePlaced, Members}
+use Rattle.td_body.specs.code.HashBodies.{IsHashBody, IsPlacedFor, held_by, kept_with_aside}
+use Rattle.td_body.specs.code.Members.{ArePlaced, Members}
 use Rattle.td_body.proofs.MembersLaws.{one}
 
 -- what was held by members, and by others after them

@@ -11,11 +11,11 @@ use Rattle.std.proofs.lemmas.Cmp.{lists_total}
 use Rattle.td_types.specs.Headings.{has_name}
 use Rattle.td_value.specs.Values.{Tuple, Val, projected_tuple, tuple_names, value_cmp, tuple_cmp}
 use Rattle.td_value.specs.ValueOrder.{order_total}
-use Rattle.td_value.specs.Views.{values_of}
+use Rattle.td_value.specs.code.Views.{values_of}
 use Rattle.td_value.proofs.Rows.{parts_order-lists, tuple_order-by_values}
 use Rattle.td_value.specs.Agreement.{agree_on}
 use Rattle.td_body.specs.Bodies.{key_holds}
-use Rattle.td_body.specs.KeyParts.{apart_at, by_places, places_from, values_at}
+use Rattle.td_body.specs.code.KeyParts.{apart_at, by_places, places_from, values_at}
 use Rattle.td_body.proofs.Apart.{apart, ties}
 
 abbrev pub found_order : List (Option Val) → List (Option Val) → Ordering

@@ -10,13 +10,13 @@ use Rattle.td_types.specs.Types.{Heading, attribute_names}
 use Rattle.td_value.specs.Agreement.{agree_on}
 use Rattle.td_value.specs.Sets.{has, set_of}
 use Rattle.td_value.specs.Values.{HaveSameMembers, IsRelation, IsTupleOf, Relation, Tuple, heading_of, tuple_cmp, tuple_names}
-use Rattle.td_value.specs.Views.{values_of}
+use Rattle.td_value.specs.code.Views.{values_of}
 use Rattle.td_value.proofs.Members.{contained, found}
 use Rattle.td_algebra.proofs.Lists.{contains_filter}
 use Rattle.td_algebra.proofs.Relations.{All-from_members, rows_ascend, rows_headed}
 use Rattle.td_body.specs.Bodies.{key_holds}
-use Rattle.td_body.specs.KeyIndexes.{with_part}
-use Rattle.td_body.specs.KeyParts.{apart_at, places_from}
+use Rattle.td_body.specs.code.KeyIndexes.{with_part}
+use Rattle.td_body.specs.code.KeyParts.{apart_at, places_from}
 use Rattle.td_body.proofs.KeyParts.{apart_at-key}
 use Rattle.td_body.proofs.Parts.{filter-agreeing, names-heading}
 use Rattle.td_body.proofs.TupleSets.{ascends-set, has-set, same_tuples}

@@ -12,13 +12,13 @@ use Rattle.std.proofs.lemmas.List.Elements.{All-append, All-contains, All-filter
 use Rattle.td_types.specs.Types.{Heading, attribute_names}
 use Rattle.td_value.specs.Sets.{has, set_of}
 use Rattle.td_value.specs.Values.{IsAscendingBody, IsRelation, IsTupleOf, Tuple, relation_of, tuple_cmp}
-use Rattle.td_value.specs.Views.{relation_view}
+use Rattle.td_value.specs.code.Views.{relation_view}
 use Rattle.td_algebra.specs.Operators.{restriction}
 use Rattle.td_algebra.proofs.Relations.{IsRelation-relation_of, rows_headed}
 use Rattle.td_body.specs.Bodies.{after_change}
-use Rattle.td_body.specs.Histories.{changed_set}
-use Rattle.td_body.specs.KeyParts.{places_from}
-use Rattle.td_body.specs.Members.{AreMembers, ArePlaced, Covers, IsAt, kept_in, places_in, set_in, versions_in}
+use Rattle.td_body.specs.code.Histories.{changed_set}
+use Rattle.td_body.specs.code.KeyParts.{places_from}
+use Rattle.td_body.specs.code.Members.{AreMembers, ArePlaced, Covers, IsAt, kept_in, places_in, set_in, versions_in}
 use Rattle.td_body.specs.declared.hashed.history.KeyHistory.{KeyHistory}
 use Rattle.td_body.proofs.TupleSets.{ascends-set, has-append, has-changed, has-filter, has-set, same_tuples}
 

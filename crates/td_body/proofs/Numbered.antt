@@ -3,7 +3,7 @@ use Rattle.std.proofs.Common.{◌≡◌, ℕ, ◌+◌, ◌<◌, ◌≤◌, Bool,
 use Rattle.std.specs.Bool.{Decides}
 use Rattle.std.proofs.lemmas.Bool.{eqb-true, eqb-false}
 use Rattle.std.proofs.lemmas.Bool.Decides.{nat_tests}
-use Rattle.td_body.specs.KeyIndexes.{IsNumbered, count_by, several}
+use Rattle.td_body.specs.code.KeyIndexes.{IsNumbered, count_by, several}
 
 pub split_nat : (a b : ℕ) {G : Type 0} → (a ≡ b → nat_eq a b ≡ true → G) → ((a ≡ b → ⊥) → nat_eq a b ≡ false → G) → G
 split_nat a b {G} if_same if_other = by (nat_eq a b) refl

@@ -14,7 +14,7 @@ use Rattle.td_value.specs.Sets.{has, put_in, set_of}
 use Rattle.td_value.specs.Values.{Tuple, tuple_cmp}
 use Rattle.td_value.specs.ValueOrder.{tuple_Decides}
 use Rattle.td_body.specs.declared.hashed.tables.Slot.{Slot}
-use Rattle.td_body.specs.KeyIndexes.{IsIndexed, IsNumbered, count_by, count_in, ordinal_of, part_hash, several, slot_eq, tuple_at, without}
+use Rattle.td_body.specs.code.KeyIndexes.{IsIndexed, IsNumbered, count_by, count_in, ordinal_of, part_hash, several, slot_eq, tuple_at, without}
 use Rattle.td_body.proofs.Numbered.{count_is, some_same, split_nat}
 use Rattle.td_body.proofs.TupleSets.{ascends-put, ascends-set, ascends-without, has-filter, has-put, has-set, same_tuples, split_tuple}
 

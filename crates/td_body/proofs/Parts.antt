@@ -11,9 +11,9 @@ use Rattle.td_types.specs.Types.{Heading, attribute_names}
 use Rattle.td_value.specs.Agreement.{agree_on}
 use Rattle.td_value.specs.Values.{Tuple, IsTupleOf, heading_of, projected_tuple, tuple_cmp, tuple_names, type_of}
 use Rattle.td_value.specs.ValueOrder.{tuple_order_total}
-use Rattle.td_value.specs.Views.{values_of}
+use Rattle.td_value.specs.code.Views.{values_of}
 use Rattle.td_value.proofs.Rows.{parts_order-lists, tuple_order-by_values}
-use Rattle.td_body.specs.KeyParts.{places_from, values_at, values_cmp}
+use Rattle.td_body.specs.code.KeyParts.{places_from, values_at, values_cmp}
 use Rattle.td_body.proofs.KeyParts.{all_found, found_order, values_at-part}
 
 pub names-heading : (t : Tuple) → attribute_names (heading_of t) ≡ tuple_names t

@@ -6,8 +6,8 @@ use Rattle.td_value.specs.Sets.{has}
 use Rattle.td_value.specs.Values.{Tuple, IsAscendingBody, tuple_cmp}
 use Rattle.td_body.specs.declared.hashed.step.Step.{Step}
 use Rattle.td_body.specs.declared.hashed.step.Step.TheVariants.{Added, Dropped}
-use Rattle.td_body.specs.Histories.{kept_sets, put_tuple, step_back}
-use Rattle.td_body.specs.KeyIndexes.{without}
+use Rattle.td_body.specs.code.Histories.{kept_sets, put_tuple, step_back}
+use Rattle.td_body.specs.code.KeyIndexes.{without}
 use Rattle.td_body.proofs.TupleSets.{put_back, taken_back}
 
 pub kept_push : (log : List Step) (x : Step) (ts : List Tuple) → kept_sets (log ++ x ∷ []) ts ≡ step_back (kept_sets log) x ts

@@ -3,7 +3,7 @@ use Rattle.std.specs.Prelude.{◌≡◌, ℕ, Bool, true, not, ◌&&◌, List, [
 use Rattle.std.specs.List.{All, Contains, list_any}
 use Rattle.td_value.specs.Agreement.{agree_on, AgreeOn}
 use Rattle.td_value.specs.Values.{Tuple, Relation, IsRelation}
-use Rattle.td_value.specs.Views.{relation_view}
+use Rattle.td_value.specs.code.Views.{relation_view}
 use Rattle.td_algebra.specs.Equalities.{AreAlike}
 use Rattle.td_algebra.specs.Operators.{difference, union}
 

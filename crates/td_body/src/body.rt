@@ -6,7 +6,7 @@ ghost use Rattle.td_types.specs.Headings.{has_attributes, projection};
 ghost use Rattle.td_value.specs.Sets.{has};
 ghost use Rattle.td_value.specs.Values.{IsRelation, IsTupleOf, Relation, heading_of, tuple_cmp};
 ghost use Rattle.td_value.specs.Values.{with_tuple, without_tuple};
-ghost use Rattle.td_value.specs.Views.{relation_view};
+ghost use Rattle.td_value.specs.code.Views.{relation_view};
 ghost use Rattle.td_body.specs.Bodies.{after_change, agreeing, key_holds};
 
 use std::alloc::{AllocError, Global};

@@ -5,7 +5,7 @@ use Rattle.std.specs.List.{position, prefix_len, slice_get}
 use Rattle.std.specs.Map.{keys_of}
 use Rattle.std.proofs.lemmas.Option.{slice_get-map}
 use Rattle.std.proofs.lemmas.List.{length-map}
-use Rattle.td_catalog.specs.CatalogViews.{virtual_view}
+use Rattle.td_catalog.specs.code.CatalogViews.{virtual_view}
 use Rattle.td_catalog.specs.Database.{Database, VirtualRelvar}
 use Rattle.td_catalog.specs.declared.entry.VirtualEntry.{VirtualEntry}
 use Rattle.td_catalog.proofs.Lists.{both, not_true}

@@ -5,7 +5,7 @@ use Rattle.std.specs.List.{prefix_len, slice_get}
 use Rattle.std.specs.Map.{keys_of}
 use Rattle.indexmap.specs.Layout.{set_value_at}
 use Rattle.td_body.specs.Bodies.{after_change}
-use Rattle.td_catalog.specs.CatalogViews.{IsBodyOf, IsCatalog, IsEntry, Rows, base_view, database_view, entry_keys}
+use Rattle.td_catalog.specs.code.CatalogViews.{IsBodyOf, IsCatalog, IsEntry, Rows, base_view, database_view, entry_keys}
 use Rattle.td_catalog.specs.Database.{BaseRelvar, Database, base_among, base_named, base_relvar, with_bases, with_body, with_relation}
 use Rattle.td_catalog.specs.TypedDatabases.{AreTyped, IsTypedBase}
 use Rattle.td_catalog.specs.declared.entry.BaseEntry.{BaseEntry}

@@ -5,7 +5,7 @@ use Rattle.std.specs.List.{prefix_len, slice_get}
 use Rattle.std.specs.Map.{keys_of, lookup}
 use Rattle.indexmap.specs.IndexMap.{IndexMap, insert_entry}
 use Rattle.indexmap.specs.Layout.{set_value_at}
-use Rattle.td_catalog.specs.CatalogViews.{AreEntries, IsBodyOf, IsCatalog, IsEntry, Rows, base_view, constraint_view, database_view, entry_keys, virtual_view}
+use Rattle.td_catalog.specs.code.CatalogViews.{AreEntries, IsBodyOf, IsCatalog, IsEntry, Rows, base_view, constraint_view, database_view, entry_keys, virtual_view}
 use Rattle.td_catalog.specs.Database.{BaseRelvar, NamedConstraint, VirtualRelvar, base_relvar, base_named, database_scope, knows_constraint, knows_relvar, with_base, with_body, with_constraint, with_virtual}
 use Rattle.td_catalog.specs.TypedDatabases.{AreTyped, IsConstrained, IsTyped, IsTypedBase, IsTypedConstraint, IsTypedVirtual}
 use Rattle.td_catalog.specs.declared.entry.BaseEntry.{BaseEntry}

@@ -5,7 +5,7 @@ use Rattle.std.specs.List.{AllByRecursion}
 use Rattle.std.specs.Map.{lookup}
 use Rattle.std.proofs.lemmas.List.{append-nil, append_assoc, map-append}
 use Rattle.indexmap.specs.IndexMap.{IndexMap, insert_entry}
-use Rattle.td_catalog.specs.CatalogViews.{AreEntries, IsBodyOf, base_view, entry_keys}
+use Rattle.td_catalog.specs.code.CatalogViews.{AreEntries, IsBodyOf, base_view, entry_keys}
 use Rattle.td_catalog.specs.Database.{BaseRelvar}
 use Rattle.td_catalog.specs.declared.entry.BaseEntry.{BaseEntry}
 use Rattle.td_catalog.proofs.ByPlace.{apart}

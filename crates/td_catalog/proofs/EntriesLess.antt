@@ -3,7 +3,7 @@ use Rattle.std.proofs.Common.{◌≡◌, ◌∙◌, ◌++◌, ℕ, Bool, true, f
 use Rattle.std.specs.Prelude.{is_some, not}
 use Rattle.std.specs.Cmp.Lexicographic.{same_text}
 use Rattle.std.specs.Map.{lookup, remove_entry}
-use Rattle.td_catalog.specs.CatalogViews.{AreEntries, IsCatalog, Rows, base_view, constraint_view, database_view, virtual_view}
+use Rattle.td_catalog.specs.code.CatalogViews.{AreEntries, IsCatalog, Rows, base_view, constraint_view, database_view, virtual_view}
 use Rattle.td_catalog.specs.Database.{BaseRelvar, NamedConstraint, VirtualRelvar, without_constraint, without_relvar}
 use Rattle.td_catalog.specs.TypedDatabases.{IsTyped}
 use Rattle.td_catalog.specs.TypedDatabaseLaws.{DropsKeepTyped}

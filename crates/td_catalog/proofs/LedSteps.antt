@@ -5,8 +5,8 @@ use Rattle.std.specs.List.{position_or_len, prefix_len}
 use Rattle.std.specs.Map.{keys_of, lookup, lookup_key, remove_entry}
 use Rattle.std.proofs.lemmas.List.{length-append, map-append, take-append-le, take_all}
 use Rattle.indexmap.specs.Layout.{set_value_at}
-use Rattle.td_catalog.specs.CatalogViews.{Rows, constraint_view, virtual_view}
-use Rattle.td_catalog.specs.Histories.{Held, HeldBase, held_base, held_view, latest, went_back, with_body_back, with_held_bases, with_held_constraints, with_held_types, with_held_virtuals, without_last}
+use Rattle.td_catalog.specs.code.CatalogViews.{Rows, constraint_view, virtual_view}
+use Rattle.td_catalog.specs.code.Histories.{Held, HeldBase, held_base, held_view, latest, went_back, with_body_back, with_held_bases, with_held_constraints, with_held_types, with_held_virtuals, without_last}
 use Rattle.td_catalog.specs.declared.entry.BaseEntry.{BaseEntry}
 use Rattle.td_catalog.specs.declared.entry.ConstraintEntry.{ConstraintEntry}
 use Rattle.td_catalog.specs.declared.entry.VirtualEntry.{VirtualEntry}

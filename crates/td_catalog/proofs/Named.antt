@@ -6,13 +6,13 @@ use Rattle.std.specs.Map.{lookup, lookup_key, remove_entry}
 use Rattle.std.specs.Option.{option_to_list}
 use Rattle.std.specs.Set.{remove_key}
 use Rattle.std.proofs.lemmas.List.{map-append}
-use Rattle.td_catalog.specs.CatalogViews.{AreEntries, Known, Rows, base_heading, base_view, constraint_view, database_view, known_rows, virtual_heading, virtual_view}
+use Rattle.td_catalog.specs.code.CatalogViews.{AreEntries, Known, Rows, base_heading, base_view, constraint_view, database_view, known_rows, virtual_heading, virtual_view}
 use Rattle.td_catalog.specs.Database.{BaseRelvar, Database, NamedConstraint, VirtualRelvar, database_scope, known_base, known_virtual, with_virtuals}
-use Rattle.td_check.specs.LentScopes.{known_as}
+use Rattle.td_check.specs.code.LentScopes.{known_as}
 use Rattle.td_check.specs.Scopes.{KnownRelvar, Scope}
 use Rattle.td_check.specs.declared.scope.Kind.TheVariants as kinds
 use Rattle.td_value.specs.Values.{Relation}
-use Rattle.td_catalog.specs.Histories.{IsOwnStep, without_last}
+use Rattle.td_catalog.specs.code.Histories.{IsOwnStep, without_last}
 use Rattle.td_catalog.specs.declared.entry.BaseEntry.{BaseEntry}
 use Rattle.td_catalog.specs.declared.entry.ConstraintEntry.{ConstraintEntry}
 use Rattle.td_catalog.specs.declared.entry.VirtualEntry.{VirtualEntry}

@@ -4,7 +4,7 @@ use Rattle.std.specs.Prelude.{not, position, nat_lt, length}
 use Rattle.std.specs.List.{position_or_len, prefix_len, slice_get}
 use Rattle.std.specs.Map.{keys_of}
 use Rattle.indexmap.specs.Layout.{set_value_at}
-use Rattle.td_catalog.specs.CatalogViews.{AreEntries, IsEntry, base_view}
+use Rattle.td_catalog.specs.code.CatalogViews.{AreEntries, IsEntry, base_view}
 use Rattle.td_catalog.specs.Database.{base_among, with_relation}
 use Rattle.td_catalog.specs.declared.entry.BaseEntry.{BaseEntry}
 use Rattle.td_types.specs.Types.{same_name}

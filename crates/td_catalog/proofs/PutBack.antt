@@ -9,9 +9,9 @@ use Rattle.std.proofs.lemmas.Bool.{ltb-false, ltb-true}
 use Rattle.std.proofs.lemmas.List.{drop_all, take_all}
 use Rattle.indexmap.specs.IndexMap.{IndexMap, insert_entry, insert_index, move_index}
 use Rattle.indexmap.proofs.MoveLemmas.{push_moved}
-use Rattle.td_catalog.specs.CatalogViews.{Rows, constraint_view, virtual_view}
+use Rattle.td_catalog.specs.code.CatalogViews.{Rows, constraint_view, virtual_view}
 use Rattle.td_catalog.specs.Database.{BaseRelvar, NamedConstraint, VirtualRelvar}
-use Rattle.td_catalog.specs.Histories.{HeldBase, IsStage, held_base, held_view, with_held_bases, with_held_constraints, with_held_virtuals}
+use Rattle.td_catalog.specs.code.Histories.{HeldBase, IsStage, held_base, held_view, with_held_bases, with_held_constraints, with_held_virtuals}
 use Rattle.td_catalog.specs.declared.entry.BaseEntry.{BaseEntry}
 use Rattle.td_catalog.specs.declared.entry.ConstraintEntry.{ConstraintEntry}
 use Rattle.td_catalog.specs.declared.entry.VirtualEntry.{VirtualEntry}

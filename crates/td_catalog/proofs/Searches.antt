@@ -2,7 +2,7 @@
 use Rattle.std.proofs.Common.{◌≡◌, ◌∙◌, ℕ, Bool, true, false, List, None, Some, Result, ap, refl, subst, sym, true≢false}
 use Rattle.std.specs.Result.{IfOk}
 use Rattle.td_catalog.specs.Mentioned.{condition_mentions_type, tree_mentions_relvar, tree_mentions_type}
-use Rattle.td_check.specs.CheckViews.{Names}
+use Rattle.td_check.specs.code.CheckViews.{Names}
 use Rattle.td_check.specs.Mentions.{mentions_of, name_set, relvars_in, types_in}
 use Rattle.td_check.specs.Scopes.{Scope, alone_with, entered_with, scope_of}
 use Rattle.td_check.specs.StaticTypes.{type_of}

@@ -5,7 +5,7 @@ use Rattle.std.specs.Cmp.Lexicographic.{same_text}
 use Rattle.std.specs.Int.{bit_at}
 use Rattle.std.specs.List.{list_any}
 use Rattle.td_catalog.proofs.SameAny.{any_found}
-use Rattle.td_catalog.specs.NameMarks.{bit_of, name_mark, name_marks}
+use Rattle.td_catalog.specs.code.NameMarks.{bit_of, name_mark, name_marks}
 use Rattle.td_types.specs.Headings.{has_name}
 use Rattle.td_types.specs.Types.{same_name}
 

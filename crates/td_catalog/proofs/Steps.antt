@@ -4,9 +4,9 @@ use Rattle.std.specs.Prelude.{fold}
 use Rattle.std.specs.List.{AllByRecursion}
 use Rattle.std.proofs.lemmas.List.{length-append, length-map, map-append, nil_from_length}
 use Rattle.std.proofs.lemmas.List.Sums.{fold_push, sum_by-append}
-use Rattle.td_catalog.specs.CatalogViews.{AreEntries, IsBodyOf, IsCatalog, Rows, base_view, database_view, known_of, known_rows, rows_of}
+use Rattle.td_catalog.specs.code.CatalogViews.{AreEntries, IsBodyOf, IsCatalog, Rows, base_view, database_view, known_of, known_rows, rows_of}
 use Rattle.td_catalog.specs.Database.{Database}
-use Rattle.td_catalog.specs.Histories.{AreKept, HasRoom, Held, HeldBase, IsHistory, IsStage, UsesRoomOf, before, database_of, dropped_in, held_base, held_view, history_view, is_dropped, kept_before, kept_with}
+use Rattle.td_catalog.specs.code.Histories.{AreKept, HasRoom, Held, HeldBase, IsHistory, IsStage, UsesRoomOf, before, database_of, dropped_in, held_base, held_view, history_view, is_dropped, kept_before, kept_with}
 use Rattle.td_catalog.specs.KeptDatabases.{CatalogView, advanced, settled, stages}
 use Rattle.td_catalog.specs.TypedDatabases.{IsTyped}
 use Rattle.td_catalog.specs.declared.entry.BaseEntry.{BaseEntry}

@@ -3,7 +3,7 @@ use Rattle.std.proofs.Common.{◌≡◌, ◌∙◌, ◌∷◌, ◌+◌, ℕ, Boo
 use Rattle.std.specs.Prelude.{◌||◌, ⊤}
 use Rattle.std.specs.List.{AllByRecursion, list_any, slice_get}
 use Rattle.std.proofs.lemmas.List.Folds.{list_any-append}
-use Rattle.td_catalog.specs.CatalogViews.{AreEntries, base_view, constraint_view, virtual_view}
+use Rattle.td_catalog.specs.code.CatalogViews.{AreEntries, base_view, constraint_view, virtual_view}
 use Rattle.td_catalog.specs.Database.{Database, NamedConstraint, VirtualRelvar, database_scope, with_virtuals}
 use Rattle.td_catalog.specs.TypedDatabases.{IsTypedConstraint, IsTyped}
 use Rattle.td_catalog.specs.Mentioned.{base_mentions_type}

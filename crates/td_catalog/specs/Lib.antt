@@ -1,12 +1,8 @@
-pub mod CatalogViews
 pub mod Database
-pub mod DatabaseCode
 pub mod Dumps
-pub mod Histories
 pub mod KeptDatabases
 pub mod TypedDatabases
 pub mod TypedDatabaseLaws
 pub mod Mentioned
 pub mod NamedRelvars
-pub mod NameMarks
-pub mod Sought
+pub mod code

@@ -1,11 +1,11 @@
 //! Declared types, relvars and constraints, looked up by name, with what they were before changes.
 ghost use Rattle.std.specs.Prelude.{◌≡◌, IfSome, option_map, slice_get};
-ghost use Rattle.td_catalog.specs.CatalogViews.{IsEntry, base_view, virtual_view};
+ghost use Rattle.td_catalog.specs.code.CatalogViews.{IsEntry, base_view, virtual_view};
 ghost use Rattle.td_catalog.specs.Database.{base_named, constraint_named, empty_database};
 ghost use Rattle.td_catalog.specs.Database.{virtual_named};
 ghost use Rattle.td_catalog.specs.KeptDatabases.{settled};
 ghost use Rattle.td_catalog.specs.TypedDatabases.{IsTyped};
-ghost use Rattle.td_tree.specs.TreeViews.{tree_view};
+ghost use Rattle.td_tree.specs.code.TreeViews.{tree_view};
 ghost use Rattle.td_types.specs.TypeLists.{declared_at};
 
 use crate::entry::{BaseEntry, VirtualEntry};
@@ -30,15 +30,15 @@ pub struct Catalog<B: Body> {
 }
 
 impl<B: Body> Model for Catalog<B> {
-    ghost use Rattle.td_catalog.specs.DatabaseCode.{catalog_code};
+    ghost use Rattle.td_catalog.specs.code.DatabaseCode.{catalog_code};
     ghost use Rattle.td_catalog.specs.KeptDatabases.{CatalogView};
 
     ghost Value = { CatalogView };
 
     ghost coded = { catalog_code };
 
-    ghost use Rattle.td_catalog.specs.CatalogViews.{rows_of};
-    ghost use Rattle.td_catalog.specs.Histories.{AreKept, history_view};
+    ghost use Rattle.td_catalog.specs.code.CatalogViews.{rows_of};
+    ghost use Rattle.td_catalog.specs.code.Histories.{AreKept, history_view};
 
     ghost view = { λ a.
         history_view B.relation B.keys B.kept (rows_of a.tables) a.log.steps.items };

@@ -2,8 +2,8 @@
 //! expressions.
 ghost use Rattle.std.specs.Prelude.{◌≡◌, ℕ, IfOk, IsTrue, List, map};
 ghost use Rattle.td_types.specs.Headings.{are_distinct};
-ghost use Rattle.td_catalog.specs.CatalogViews.{AreEntries, base_view, constraint_view};
-ghost use Rattle.td_catalog.specs.CatalogViews.{entry_keys, virtual_view};
+ghost use Rattle.td_catalog.specs.code.CatalogViews.{AreEntries, base_view, constraint_view};
+ghost use Rattle.td_catalog.specs.code.CatalogViews.{entry_keys, virtual_view};
 ghost use Rattle.td_catalog.specs.KeptDatabases.{settled};
 
 use crate::catalog::Catalog;

@@ -2,7 +2,7 @@
 ghost use Rattle.std.specs.Prelude.{◌≡◌, IfOk};
 ghost use Rattle.td_catalog.specs.NamedRelvars.{names_any};
 ghost use Rattle.td_check.specs.WrittenNames.{names_in};
-ghost use Rattle.td_tree.specs.TreeViews.{tree_view};
+ghost use Rattle.td_tree.specs.code.TreeViews.{tree_view};
 ghost use Rattle.td_types.specs.Headings.{has_name};
 
 use crate::marked_names::MarkedNames;
@@ -25,8 +25,8 @@ impl Model for DefiningExpression {
     ghost use Rattle.std.specs.Prelude.{◌≡◌};
     ghost use Rattle.td_check.specs.Mentions.{name_set};
     ghost use Rattle.td_check.specs.WrittenNames.{names_in};
-    ghost use Rattle.td_tree.specs.TreeCode.{tree_code};
-    ghost use Rattle.td_tree.specs.TreeViews.{tree_view};
+    ghost use Rattle.td_tree.specs.code.TreeCode.{tree_code};
+    ghost use Rattle.td_tree.specs.code.TreeViews.{tree_view};
     ghost use Rattle.td_tree.specs.Trees.{Tree};
 
     ghost Value = { Tree };

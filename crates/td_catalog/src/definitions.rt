@@ -1,22 +1,22 @@
 //! Entries that are added: each last in its list.
 ghost use Rattle.std.specs.Prelude.{◌≡◌, ◌+◌, ◌<◌, [], OnErr, OnOk, map, not, option_map};
 ghost use Rattle.std.specs.Prelude.{vec_capacity, vec_len};
-ghost use Rattle.td_catalog.specs.CatalogViews.{IsBodyOf, known_of, rows_of};
+ghost use Rattle.td_catalog.specs.code.CatalogViews.{IsBodyOf, known_of, rows_of};
 ghost use Rattle.td_catalog.specs.Database.{base_relvar, database_scope};
 ghost use Rattle.td_catalog.specs.Database.{knows_constraint, knows_relvar, named_constraint};
 ghost use Rattle.td_catalog.specs.Database.{virtual_relvar, with_base};
 ghost use Rattle.td_catalog.specs.Database.{with_constraint, with_declared, with_virtual};
-ghost use Rattle.td_catalog.specs.Histories.{HasRoom, UsesRoomOf, dropped_in};
+ghost use Rattle.td_catalog.specs.code.Histories.{HasRoom, UsesRoomOf, dropped_in};
 ghost use Rattle.td_catalog.specs.KeptDatabases.{advanced};
 ghost use Rattle.td_catalog.specs.TypedDatabases.{AreComponents, AreTyped, IsConstrained};
 ghost use Rattle.td_catalog.specs.TypedDatabases.{IsTypedConstraint, IsTypedVirtual};
 ghost use Rattle.td_check.specs.StatementTypes.{holds_or};
 ghost use Rattle.td_tree.specs.Outcomes.{Answers};
-ghost use Rattle.td_tree.specs.TreeViews.{tree_view};
+ghost use Rattle.td_tree.specs.code.TreeViews.{tree_view};
 ghost use Rattle.td_tree.specs.declared.cause.Cause.TheVariants as causes;
 ghost use Rattle.td_types.specs.TypeLists.{AreKnown, declared_type, is_declared};
 ghost use Rattle.td_types.specs.Types.{pack};
-ghost use Rattle.td_types.specs.Views.{pairs_view};
+ghost use Rattle.td_types.specs.code.Views.{pairs_view};
 
 use crate::catalog::Catalog;
 use crate::defining::DefiningExpression;

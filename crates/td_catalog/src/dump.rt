@@ -3,17 +3,17 @@
 ghost use Rattle.std.specs.Prelude.{◌≡◌, ◌++◌, IfOk, OnOk, codes, false, map, option_map};
 ghost use Rattle.std.specs.List.{flat_map};
 ghost use Rattle.std.specs.String.{string_bytes};
-ghost use Rattle.td_catalog.specs.CatalogViews.{virtual_view};
+ghost use Rattle.td_catalog.specs.code.CatalogViews.{virtual_view};
 ghost use Rattle.td_catalog.specs.Database.{base_relvar, named_constraint};
 ghost use Rattle.td_catalog.specs.Dumps.{base_line, condition_text, constraint_line, dump_text};
 ghost use Rattle.td_catalog.specs.Dumps.{key_text, keys_text, line_end, names_text, type_line};
 ghost use Rattle.td_catalog.specs.Dumps.{virtual_line};
 ghost use Rattle.td_tree.specs.Prints.{print};
-ghost use Rattle.td_tree.specs.TreeViews.{tree_view};
+ghost use Rattle.td_tree.specs.code.TreeViews.{tree_view};
 ghost use Rattle.td_types.specs.Texts.{attributes_text, type_text};
 ghost use Rattle.td_types.specs.TypeLists.{declared_type};
 ghost use Rattle.td_types.specs.Types.{pack, relation};
-ghost use Rattle.td_types.specs.Views.{pairs_view};
+ghost use Rattle.td_types.specs.code.Views.{pairs_view};
 ghost use Rattle.td_value.specs.Literal.{relation_literal};
 
 use crate::catalog::Catalog;

@@ -1,7 +1,7 @@
 //! The steps that led to the tables of a catalogue, by which they go back.
 ghost use Rattle.std.specs.Prelude.{◌≡◌, ◌∷◌, ◌++◌, [], ◌<◌, IfNone, IfSome, OnOk};
 ghost use Rattle.std.specs.Prelude.{vec_capacity, vec_len};
-ghost use Rattle.td_catalog.specs.Histories.{dropped_in};
+ghost use Rattle.td_catalog.specs.code.Histories.{dropped_in};
 
 use crate::entry::{BaseEntry, ConstraintEntry, VirtualEntry};
 use std::alloc::{AllocError, Global};

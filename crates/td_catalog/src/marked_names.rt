@@ -1,7 +1,7 @@
 //! Names with marks by which lists that have none in common are mostly told apart at once.
 ghost use Rattle.std.specs.Prelude.{◌≡◌, ◌∷◌, ◌++◌, [], OnErr, OnOk, bit_and};
 ghost use Rattle.std.specs.List.{list_any};
-ghost use Rattle.td_catalog.specs.NameMarks.{name_mark, name_marks};
+ghost use Rattle.td_catalog.specs.code.NameMarks.{name_mark, name_marks};
 ghost use Rattle.td_types.specs.Headings.{has_name};
 
 use std::alloc::AllocError;
@@ -53,7 +53,7 @@ pub struct MarkedNames {
 impl Model for MarkedNames {
     ghost use Rattle.std.specs.Prelude.{ℕ, List, ◌≡◌};
     ghost use Rattle.std.specs.Coded.{coded_list, coded_ℕ};
-    ghost use Rattle.td_catalog.specs.NameMarks.{name_marks};
+    ghost use Rattle.td_catalog.specs.code.NameMarks.{name_marks};
 
     ghost Value = { List (List ℕ) };
 

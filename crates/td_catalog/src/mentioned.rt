@@ -5,15 +5,15 @@ ghost use Rattle.td_catalog.specs.Database.{database_scope};
 ghost use Rattle.td_catalog.specs.Mentioned.{base_mentions_type, condition_mentions_type};
 ghost use Rattle.td_catalog.specs.Mentioned.{is_relvar_in_use, is_type_in_use};
 ghost use Rattle.td_catalog.specs.Mentioned.{type_mentions_type};
-ghost use Rattle.td_catalog.specs.Sought.{tree_mentions};
+ghost use Rattle.td_catalog.specs.code.Sought.{tree_mentions};
 ghost use Rattle.td_check.specs.Scopes.{alone_with, scope_of};
 ghost use Rattle.td_check.specs.StaticTypes.{type_of};
 ghost use Rattle.td_tree.specs.Outcomes.{Valued};
-ghost use Rattle.td_tree.specs.TreeViews.{tree_view};
+ghost use Rattle.td_tree.specs.code.TreeViews.{tree_view};
 ghost use Rattle.td_tree.specs.Trees.{Tree};
 ghost use Rattle.td_types.specs.Headings.{are_distinct, heading_from};
 ghost use Rattle.td_types.specs.Types.{Type', attribute_names};
-ghost use Rattle.td_types.specs.Views.{pairs_view};
+ghost use Rattle.td_types.specs.code.Views.{pairs_view};
 
 use crate::catalog::Catalog;
 use crate::defining::DefiningExpression;

@@ -5,10 +5,11 @@ ghost use Rattle.std.specs.Map.{lookup};
 ghost use Rattle.std.specs.List.{list_any};
 ghost use Rattle.indexmap.specs.IndexMap.{spare};
 ghost use Rattle.indexmap.specs.IndexSet.{spare as names_spare};
-ghost use Rattle.td_catalog.specs.CatalogViews.{AreEntries, database_view, known_of, known_rows};
-ghost use Rattle.td_catalog.specs.CatalogViews.{rows_of};
-ghost use Rattle.td_catalog.specs.Histories.{HasRoom, IsOwnStep, IsStage, UsesRoomOf, before};
-ghost use Rattle.td_catalog.specs.Histories.{dropped_in, held_view};
+ghost use Rattle.td_catalog.specs.code.CatalogViews.{AreEntries, database_view, known_of};
+ghost use Rattle.td_catalog.specs.code.CatalogViews.{known_rows};
+ghost use Rattle.td_catalog.specs.code.CatalogViews.{rows_of};
+ghost use Rattle.td_catalog.specs.code.Histories.{HasRoom, IsOwnStep, IsStage, UsesRoomOf, before};
+ghost use Rattle.td_catalog.specs.code.Histories.{dropped_in, held_view};
 ghost use Rattle.td_catalog.specs.declared.history.Step.TheVariants as steps;
 ghost use Rattle.td_types.specs.Types.{same_name};
 

@@ -3,9 +3,9 @@ use Rattle.std.proofs.Common.{◌≡◌, ◌∙◌, ◌++◌, ℕ, List, Option,
 use Rattle.std.specs.Global.{Vec}
 use Rattle.std.proofs.lemmas.List.{append_assoc}
 use Rattle.std.specs.Prelude.{OnOk, is_some}
-use Rattle.td_check.specs.CheckViews.{Added, Names, added_view, per_view, per_summary, with_names}
+use Rattle.td_check.specs.code.CheckViews.{Added, Names, added_view, per_view, per_summary, with_names}
 use Rattle.td_check.specs.declared.rules.lists.Item.{Item}
-use Rattle.td_check.specs.ItemViews.{items_view}
+use Rattle.td_check.specs.code.ItemViews.{items_view}
 use Rattle.td_check.specs.Mentions.{in_tuples, relvars_in, relvars_in_items, types_in, types_in_items}
 use Rattle.td_check.specs.OperatorTypes as own
 use Rattle.td_check.specs.OperatorTypes.{over_relation}
@@ -17,9 +17,9 @@ use Rattle.td_tree.specs.Gatherings.{both_answers}
 use Rattle.td_tree.specs.declared.fault.Fault.{Fault}
 use Rattle.td_tree.specs.Outcomes.{Answers, Outcome, Valued, with_value}
 use Rattle.td_tree.specs.Trees.{Summaries, Tree}
-use Rattle.td_types.specs.TypeCode.{unpack_pack}
+use Rattle.td_types.specs.code.TypeCode.{unpack_pack}
 use Rattle.td_types.specs.Types.{Type', Heading}
-use Rattle.td_types.specs.Views.{type_view}
+use Rattle.td_types.specs.code.Views.{type_view}
 use Rattle.td_types.specs.declared.ty.Ty.{Ty}
 use Rattle.td_types.specs.declared.ty.Ty.TheVariants as ty
 use Rattle.td_types.proofs.Resolutions.{answers_still}

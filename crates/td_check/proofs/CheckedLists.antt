@@ -2,14 +2,14 @@
 use Rattle.std.proofs.Common.{◌≡◌, ◌∙◌, ◌∷◌, ◌++◌, ◌+◌, ◌<◌, ◌≤◌, ℕ, List, [], Option, Some, None, Result, Ok, Err, ap, get_or, length, map, refl, subst, sym, take}
 use Rattle.std.proofs.lemmas.List.{append-nil, append_assoc, take_all, take_more}
 use Rattle.std.specs.Prelude.{OnOk}
-use Rattle.td_check.specs.CheckViews.{Names, with_names}
+use Rattle.td_check.specs.code.CheckViews.{Names, with_names}
 use Rattle.td_check.proofs.CheckedNames.{names_after, no_names}
 use Rattle.td_tree.specs.declared.cause.Cause.{Cause}
 use Rattle.td_tree.specs.declared.fault.Fault.{Fault}
 use Rattle.td_tree.specs.declared.fault.Fault.TheVariants as faults
 use Rattle.td_tree.specs.Gatherings.{IsCollected, IsGathered, answer_of}
 use Rattle.td_tree.specs.Outcomes.{Answers, Outcome, gathered, lesser}
-use Rattle.td_tree.proofs.Gatherings.{answers_gathered, collected_next}
+use Rattle.td_tree.proofs.code_lemmas.Gatherings.{answers_gathered, collected_next}
 
 -- what the elements mention, one after another
 abbrev pub of_each : {X : Type 0} → (X → List (List ℕ)) → List X → List (List ℕ)

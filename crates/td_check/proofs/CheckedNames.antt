@@ -2,7 +2,7 @@
 use Rattle.std.proofs.Common.{◌≡◌, ◌∙◌, ◌++◌, ℕ, List, [], Result, Ok, Err, ap, sym}
 use Rattle.std.proofs.lemmas.List.{append-nil, append_assoc}
 use Rattle.std.specs.Prelude.{OnOk}
-use Rattle.td_check.specs.CheckViews.{Names, with_names}
+use Rattle.td_check.specs.code.CheckViews.{Names, with_names}
 use Rattle.td_check.specs.Mentions.{relvars_in, types_in}
 use Rattle.td_check.specs.Scopes.{Scope}
 use Rattle.td_check.proofs.Gives.{Gives, both_there, held_of_parts, weaker}

@@ -1,7 +1,7 @@
 -- The lists of expressions in a tree are lists: what is said of their elements is said of them.
 use Rattle.std.proofs.Common.{◌≡◌, ◌∙◌, ◌∷◌, ◌++◌, ℕ, List, [], ap, map, refl}
 use Rattle.std.proofs.lemmas.List.{append-nil}
-use Rattle.td_check.specs.CheckViews.{item_found, part_found}
+use Rattle.td_check.specs.code.CheckViews.{item_found, part_found}
 use Rattle.td_check.specs.Mentions.{relvars_in, relvars_in_all, relvars_in_items, relvars_in_named, types_in, types_in_all, types_in_items, types_in_named}
 use Rattle.td_check.specs.OperatorTypes.{Item, aggregate_item, count_item}
 use Rattle.td_check.specs.Scopes.{Scope}
@@ -13,7 +13,7 @@ use Rattle.td_tree.specs.declared.expression.Summary.{Summary}
 use Rattle.td_tree.specs.declared.expression.Summary.TheVariants as s
 use Rattle.td_tree.specs.declared.operator.Aggregate.{Aggregate}
 use Rattle.td_tree.specs.Outcomes.{Outcome, Valued, Refused, gathered, with_both, with_value}
-use Rattle.td_tree.specs.TreeViews.{named_view, summaries_view, tree_view, trees_view}
+use Rattle.td_tree.specs.code.TreeViews.{named_view, summaries_view, tree_view, trees_view}
 use Rattle.td_types.specs.Types.{Type', Attribute}
 
 module _ (scope : Scope) where

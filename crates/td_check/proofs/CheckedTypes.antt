@@ -1,7 +1,7 @@
 -- The type of an expression by the answers for its parts, node by node.
 use Rattle.std.proofs.Common.{◌≡◌, ◌∙◌, List, Option, Some, None, Result, map, refl, subst, sym}
 use Rattle.std.specs.Global.{Vec}
-use Rattle.td_check.specs.CheckViews.{Added, choice_of, headed_view, by_summary, per_summary, three_types_view, types_view}
+use Rattle.td_check.specs.code.CheckViews.{Added, choice_of, headed_view, by_summary, per_summary, three_types_view, types_view}
 use Rattle.td_check.specs.OperatorTypes as own
 use Rattle.td_check.specs.OperatorTypes.{comparison_type, extension_type, headed_type, operator_type, over_relation}
 use Rattle.td_check.specs.StaticTypes.{paired}
@@ -11,7 +11,7 @@ use Rattle.td_tree.specs.declared.fault.Fault.{Fault}
 use Rattle.td_tree.specs.Outcomes.{Answers, Outcome, Valued, Refused, with_both, with_value}
 use Rattle.td_tree.specs.Trees.{Attributes}
 use Rattle.td_types.specs.Types.{Type', boolean, integer, char, user, tuple, relation, Attribute, Heading}
-use Rattle.td_types.specs.Views.{type_view}
+use Rattle.td_types.specs.code.Views.{type_view}
 use Rattle.td_types.specs.declared.ty.Ty.{Ty}
 
 -- ---- two parts, and three

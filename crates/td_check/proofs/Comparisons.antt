@@ -6,7 +6,7 @@ use Rattle.td_tree.specs.declared.cause.Cause.TheVariants as causes
 use Rattle.td_tree.specs.Outcomes.{Valued, named_cause}
 use Rattle.td_types.specs.TypeOrder.{type_cmp_total}
 use Rattle.td_types.specs.Types.{Type', Heading, boolean, integer, char, user, tuple, relation, pack}
-use Rattle.td_types.specs.Views.{type_view}
+use Rattle.td_types.specs.code.Views.{type_view}
 use Rattle.td_types.specs.declared.ty.Ty.{Ty}
 use Rattle.td_types.specs.declared.ty.Ty.TheVariants as t
 

@@ -4,7 +4,7 @@ use Rattle.std.specs.List.{push}
 use Rattle.std.proofs.lemmas.List.{reverse-append}
 use Rattle.td_check.specs.Scopes.{innermost}
 use Rattle.td_types.specs.Types.{Type', Heading, type_at}
-use Rattle.td_types.specs.Views.{type_view}
+use Rattle.td_types.specs.code.Views.{type_view}
 use Rattle.td_types.specs.declared.ty.Ty.{Ty}
 
 -- the last is passed over first

@@ -6,7 +6,7 @@ use Rattle.td_tree.specs.declared.fault.Fault.{Fault}
 use Rattle.td_tree.specs.declared.fault.Fault.TheVariants as faults
 use Rattle.td_tree.specs.Gatherings.{IsGathered, IsRest, answer_of, cause_of, lesser_cause}
 use Rattle.td_tree.specs.Outcomes.{Answers, Outcome, Valued, Refused, gathered, named_cause, with_value}
-use Rattle.td_tree.proofs.Gatherings.{gathered_more}
+use Rattle.td_tree.proofs.code_lemmas.Gatherings.{gathered_more}
 
 -- what is said of elements that stand for others
 pub map_twice : {X Y Z : Type 0} (g : Y → Z) (f : X → Y) (xs : List X) → map g (map f xs) ≡ map (λ x. g (f x)) xs

@@ -3,7 +3,7 @@ use Rattle.std.proofs.Common.{◌≡◌, ◌∙◌, ◌∷◌, ◌++◌, ◌+◌
 use Rattle.std.specs.Prelude.{if◌then◌else◌, is_some, length, not, ◌||◌}
 use Rattle.std.specs.List.{position, position_or_len}
 use Rattle.std.specs.Map.{keys_of, lookup}
-use Rattle.td_check.specs.LentScopes.{declared_relvars, known_as}
+use Rattle.td_check.specs.code.LentScopes.{declared_relvars, known_as}
 use Rattle.td_check.specs.Scopes.{KnownRelvar, kind_and_heading, relvar_in}
 use Rattle.td_check.specs.declared.declared.Declared.{Declared}
 use Rattle.td_check.specs.declared.scope.Kind.{Kind}

@@ -6,8 +6,8 @@ use Rattle.td_check.specs.Mentions.{types_named, types_named_in}
 use Rattle.td_tree.specs.declared.type_tree.AttributeTree.{AttributeTree}
 use Rattle.td_tree.specs.declared.type_tree.TypeTree.{TypeTree}
 use Rattle.td_tree.specs.declared.type_tree.TypeTree.TheVariants as t
-use Rattle.td_tree.specs.TreeViews.{heading_tree_view, type_tree_view}
-use Rattle.td_tree.proofs.Rows.{relation_type_is, tuple_type_is}
+use Rattle.td_tree.specs.code.TreeViews.{heading_tree_view, type_tree_view}
+use Rattle.td_tree.proofs.code_lemmas.Rows.{relation_type_is, tuple_type_is}
 
 named_of_tuple : (tree : TypeTree) (v : Vec AttributeTree) (xs : List AttributeTree) → tree ≡ t.Tuple v → xs ≡ v.items
     → types_named_in (heading_tree_view xs) ≡ types_named (type_tree_view tree)

@@ -9,7 +9,7 @@ use Rattle.indexmap.specs.IndexSet.{insert_key}
 use Rattle.indexmap.proofs.CallerLemmas.{insert_entry-new}
 use Rattle.td_types.specs.Headings.{has_name}
 use Rattle.std.specs.Map.{lookup}
-use Rattle.td_check.specs.ScopeCode.{known_view, known_relvar_view, relvars_view}
+use Rattle.td_check.specs.code.ScopeCode.{known_view, known_relvar_view, relvars_view}
 use Rattle.td_check.specs.Scopes.{kind_and_heading, relvar_in}
 use Rattle.td_check.specs.declared.scope.Known.{Known}
 use Rattle.td_types.specs.Types.{same_name}

@@ -15,16 +15,16 @@ use Rattle.td_tree.specs.Gatherings.{IsGathered, IsRest, answer_of, both_answers
 use Rattle.td_tree.specs.Outcomes.{Answers, Outcome, Valued, Refused, gathered, lesser, named_cause, value_if, with_both, with_value}
 use Rattle.td_tree.specs.Outcomes as outcomes
 use Rattle.td_tree.specs.Trees.{AttributeTrees, Tree}
-use Rattle.td_tree.specs.TreeViews.{tree_view}
+use Rattle.td_tree.specs.code.TreeViews.{tree_view}
 use Rattle.td_tree.specs.declared.expression.Expr.{Expr}
 use Rattle.td_types.specs.Headings.{are_distinct, heading_from, made_heading}
 use Rattle.td_types.specs.TypeLists.{DeclaredType, attributes_meant}
 use Rattle.td_types.specs.Types.{Attribute, Heading, Type', attribute_names}
-use Rattle.td_types.specs.Views.{type_view}
+use Rattle.td_types.specs.code.Views.{type_view}
 use Rattle.td_types.specs.declared.ty.Ty.{Ty}
 use Rattle.td_types.proofs.OutcomeLaws.{value_of_test}
 use Rattle.td_types.proofs.Resolutions.{answers_still}
-use Rattle.td_tree.proofs.Gatherings.{gathered_more}
+use Rattle.td_tree.proofs.code_lemmas.Gatherings.{gathered_more}
 
 -- ---- two parts
 

@@ -17,9 +17,9 @@ use Rattle.td_tree.specs.declared.expression.NamedExpr.{NamedExpr}
 use Rattle.td_tree.specs.declared.expression.Summary.{Summary}
 use Rattle.td_tree.specs.declared.expression.Summary.TheVariants as s
 use Rattle.td_tree.specs.declared.type_tree.AttributeTree.{AttributeTree}
-use Rattle.td_tree.specs.TreeViews.{named_view, summaries_view, tree_view, trees_view}
+use Rattle.td_tree.specs.code.TreeViews.{named_view, summaries_view, tree_view, trees_view}
 use Rattle.td_tree.specs.Trees.{Tree, literal, name, parentheses, prefix, extract, restriction, binary, compare, postfix, select, component, measure, aggregate, relation, headed_relation, tuple, extend, summarize_per, summarize_by, choice, Trees, none, more, NamedTrees, none_named, more_named, Summaries, no_summaries, counted, summed}
-use Rattle.td_tree.proofs.Rows.{headed_relation_is, relation_is, select_is}
+use Rattle.td_tree.proofs.code_lemmas.Rows.{headed_relation_is, relation_is, select_is}
 
 -- ---- one part after another
 

@@ -1,14 +1,10 @@
 pub mod CannotFail
-pub mod CheckViews
-pub mod ItemViews
-pub mod LentScopes
 pub mod Mentions
 pub mod OperatorTypes
-pub mod PlaceViews
-pub mod ScopeCode
 pub mod Scopes
 pub mod StatementTypes
 pub mod StaticCauses
 pub mod StaticLaws
 pub mod StaticTypes
 pub mod WrittenNames
+pub mod code

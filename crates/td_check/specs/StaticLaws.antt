@@ -1,7 +1,7 @@
 -- What holds of the type of an expression: laws.
 use Rattle.std.specs.Prelude.{◌≡◌, ◌++◌, ℕ, Bool, not, List, Some, is_some, take, IsTrue, ⊤}
 use Rattle.std.specs.List.{AllByRecursion, Contains}
-use Rattle.td_check.specs.LentScopes.{lent_scope}
+use Rattle.td_check.specs.code.LentScopes.{lent_scope}
 use Rattle.td_check.specs.Mentions.{name_set, relvars_in, relvars_in_all, relvars_in_items, relvars_in_named, types_in, types_in_all, types_in_items, types_in_named}
 use Rattle.td_check.specs.declared.declared.Declared.{Declared}
 use Rattle.td_check.specs.declared.scope.Kind.{Kind}

@@ -7,7 +7,7 @@ ghost use Rattle.td_check.specs.CannotFail.{operator_cannot_fail, parts_unfailin
 ghost use Rattle.td_check.specs.CannotFail.{prefix_cannot_fail, relvar_cannot_fail};
 ghost use Rattle.td_check.specs.CannotFail.{relvars_cannot_fail, selector_cannot_fail};
 ghost use Rattle.td_tree.specs.Outcomes.{Answers};
-ghost use Rattle.td_tree.specs.TreeViews.{named_view, summaries_view, tree_view, trees_view};
+ghost use Rattle.td_tree.specs.code.TreeViews.{named_view, summaries_view, tree_view, trees_view};
 
 use crate::expression::names_seen;
 use crate::mentioned::Mentions;

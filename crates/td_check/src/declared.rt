@@ -1,8 +1,8 @@
 //! What a database declares beside types.
 ghost use Rattle.std.specs.Map.{lookup};
 ghost use Rattle.std.specs.Prelude.{◌≡◌, [], option_map, take};
-ghost use Rattle.td_check.specs.LentScopes.{declared_relvars};
-ghost use Rattle.td_check.specs.ScopeCode.{seen_view};
+ghost use Rattle.td_check.specs.code.LentScopes.{declared_relvars};
+ghost use Rattle.td_check.specs.code.ScopeCode.{seen_view};
 ghost use Rattle.td_check.specs.Scopes.{kind_and_heading, relvar_in};
 ghost use Rattle.td_types.specs.Types.{same_name};
 

@@ -1,21 +1,21 @@
 //! The type of an expression.
 ghost use Rattle.std.specs.Prelude.{◌≡◌, ◌∷◌, [], IfOk, IsTrue, OnOk, Ok, is_some, map};
-ghost use Rattle.td_check.specs.CheckViews.{added_view, item_found, names_view, part_found};
-ghost use Rattle.td_check.specs.CheckViews.{with_names};
-ghost use Rattle.td_check.specs.ItemViews.{items_view, named_item_view};
+ghost use Rattle.td_check.specs.code.CheckViews.{added_view, item_found, names_view, part_found};
+ghost use Rattle.td_check.specs.code.CheckViews.{with_names};
+ghost use Rattle.td_check.specs.code.ItemViews.{items_view, named_item_view};
 ghost use Rattle.td_check.specs.Mentions.{in_tuples, mentioned_by_name, relvars_in, relvars_in_all};
 ghost use Rattle.td_check.specs.Mentions.{relvars_in_items, relvars_in_named, types_in};
 ghost use Rattle.td_check.specs.Mentions.{types_in_all, types_in_items, types_in_named};
 ghost use Rattle.td_check.specs.OperatorTypes.{over_relation};
-ghost use Rattle.td_check.specs.PlaceViews.{scope_at};
+ghost use Rattle.td_check.specs.code.PlaceViews.{scope_at};
 ghost use Rattle.td_check.specs.Scopes.{entered_with};
 ghost use Rattle.td_check.specs.StaticTypes.{items_of, name_type, named_types, type_of, types_of};
 ghost use Rattle.td_check.specs.StaticTypes.{with_items};
 ghost use Rattle.td_tree.specs.Outcomes.{Answers, Outcome, Valued, with_value};
-ghost use Rattle.td_tree.specs.TreeViews.{named_view, summaries_view, tree_view, trees_view};
-ghost use Rattle.td_types.specs.Pairs.{pair_view};
+ghost use Rattle.td_tree.specs.code.TreeViews.{named_view, summaries_view, tree_view, trees_view};
+ghost use Rattle.td_types.specs.code.Pairs.{pair_view};
 ghost use Rattle.td_types.specs.Types.{IsType, Type'};
-ghost use Rattle.td_types.specs.Views.{pairs_view, type_view};
+ghost use Rattle.td_types.specs.code.Views.{pairs_view, type_view};
 
 use crate::mentioned::{Mentions, add_types_in};
 use crate::place::Place;

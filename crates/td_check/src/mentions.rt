@@ -3,10 +3,10 @@ ghost use Rattle.std.specs.Prelude.{◌≡◌, IfOk};
 ghost use Rattle.std.specs.Cmp.Lexicographic.{slice_cmp};
 ghost use Rattle.std.specs.List.Sorted.{IsStrictlySortedBy};
 ghost use Rattle.std.specs.Ordering.{nat_cmp};
-ghost use Rattle.td_check.specs.CheckViews.{names_view};
+ghost use Rattle.td_check.specs.code.CheckViews.{names_view};
 ghost use Rattle.td_check.specs.Mentions.{mentions_of, name_set};
 ghost use Rattle.td_tree.specs.Outcomes.{Answers};
-ghost use Rattle.td_tree.specs.TreeViews.{tree_view};
+ghost use Rattle.td_tree.specs.code.TreeViews.{tree_view};
 
 use crate::expression::names_seen;
 use crate::mentioned::Mentions;

@@ -6,7 +6,7 @@ ghost use Rattle.std.specs.Prelude.{◌≡◌, ◌∷◌, ◌++◌, [], IfOk, On
 ghost use Rattle.td_check.specs.Mentions.{name_set};
 ghost use Rattle.td_check.specs.WrittenNames.{names_in, names_in_all, names_in_items};
 ghost use Rattle.td_check.specs.WrittenNames.{names_in_named};
-ghost use Rattle.td_tree.specs.TreeViews.{named_view, summaries_view, tree_view, trees_view};
+ghost use Rattle.td_tree.specs.code.TreeViews.{named_view, summaries_view, tree_view, trees_view};
 
 use crate::mentions::name_set;
 use std::alloc::{AllocError, Global};

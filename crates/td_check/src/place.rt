@@ -1,9 +1,9 @@
 //! Where an expression stands.
 ghost use Rattle.std.specs.Prelude.{◌≡◌, IfOk, option_map};
-ghost use Rattle.td_check.specs.PlaceViews.{scope_at};
-ghost use Rattle.td_check.specs.ScopeCode.{seen_view};
+ghost use Rattle.td_check.specs.code.PlaceViews.{scope_at};
+ghost use Rattle.td_check.specs.code.ScopeCode.{seen_view};
 ghost use Rattle.td_check.specs.Scopes.{entered_with, innermost, kind_and_heading, known_relvar};
-ghost use Rattle.td_types.specs.Views.{type_view};
+ghost use Rattle.td_types.specs.code.Views.{type_view};
 
 use crate::scope::{Kind, Scope};
 use std::alloc::{AllocError, Global};

@@ -1,13 +1,13 @@
 //! What is known where an expression stands.
 ghost use Rattle.std.specs.Prelude.{◌≡◌, ◌↔◌, [], IfOk, IsTrue, OnErr, OnOk, is_some, not};
 ghost use Rattle.std.specs.Prelude.{option_map};
-ghost use Rattle.td_check.specs.LentScopes.{lent_scope};
-ghost use Rattle.td_check.specs.ScopeCode.{lent_constraints, lent_relvars, seen_view};
+ghost use Rattle.td_check.specs.code.LentScopes.{lent_scope};
+ghost use Rattle.td_check.specs.code.ScopeCode.{lent_constraints, lent_relvars, seen_view};
 ghost use Rattle.td_check.specs.Scopes.{entered_with, innermost, kind_and_heading, known_relvar};
 ghost use Rattle.td_check.specs.Scopes.{knows_constraint, left, relvar_in, scope_of};
 ghost use Rattle.td_check.specs.Scopes.{with_known_constraint, with_known_relvar};
 ghost use Rattle.td_types.specs.Headings.{has_name};
-ghost use Rattle.td_types.specs.Views.{type_view};
+ghost use Rattle.td_types.specs.code.Views.{type_view};
 
 use crate::declared::Declared;
 use indexmap::{IndexMap, IndexSet};
@@ -49,8 +49,8 @@ pub struct Scope<'a> {
 
 impl<'a> Model for Scope<'a> {
     ghost use Rattle.std.specs.Prelude.{◌++◌, reverse};
-    ghost use Rattle.td_check.specs.ScopeCode.{lent_constraints, lent_relvars};
-    ghost use Rattle.td_check.specs.ScopeCode.{relvars_view, scope_code};
+    ghost use Rattle.td_check.specs.code.ScopeCode.{lent_constraints, lent_relvars};
+    ghost use Rattle.td_check.specs.code.ScopeCode.{relvars_view, scope_code};
     ghost use Rattle.td_check.specs.Scopes.{Scope};
 
     ghost Value = { Scope };

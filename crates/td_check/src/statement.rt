@@ -2,7 +2,7 @@
 ghost use Rattle.td_check.specs.StaticTypes.{type_of};
 ghost use Rattle.td_check.specs.StatementTypes.{statement_checked};
 ghost use Rattle.td_tree.specs.Outcomes.{Answers, Valued, with_value};
-ghost use Rattle.td_tree.specs.TreeViews.{statement_view, tree_view};
+ghost use Rattle.td_tree.specs.code.TreeViews.{statement_view, tree_view};
 
 mod assignments;
 mod definitions;

@@ -1,13 +1,14 @@
 //! What the parts of an expression give together.
 ghost use Rattle.std.specs.Prelude.{List, Option};
-ghost use Rattle.td_check.specs.CheckViews.{Added, added_view, choice_of, headed_view, per_view, by_summary};
-ghost use Rattle.td_check.specs.CheckViews.{per_summary, three_types_view, types_view};
+ghost use Rattle.td_check.specs.code.CheckViews.{Added, added_view, choice_of, headed_view};
+ghost use Rattle.td_check.specs.code.CheckViews.{per_view, by_summary};
+ghost use Rattle.td_check.specs.code.CheckViews.{per_summary, three_types_view, types_view};
 ghost use Rattle.td_check.specs.OperatorTypes.{comparison_type, extension_type, headed_type};
 ghost use Rattle.td_check.specs.OperatorTypes.{operator_type, over_relation, restriction_type};
 ghost use Rattle.td_tree.specs.Outcomes.{Answers, Outcome, with_value};
-ghost use Rattle.td_tree.specs.TreeViews.{attributes_view};
+ghost use Rattle.td_tree.specs.code.TreeViews.{attributes_view};
 ghost use Rattle.td_types.specs.Types.{Attribute, Heading, Type'};
-ghost use Rattle.td_types.specs.Views.{pairs_view, type_view};
+ghost use Rattle.td_types.specs.code.Views.{pairs_view, type_view};
 
 use crate::rules::asked::relation_heading;
 use crate::rules::headings::named_part;

@@ -19,7 +19,7 @@ use Rattle.td_tree.specs.declared.operator.Prefix.TheVariants as prefixes
 use Rattle.td_types.specs.Headings.{are_distinct}
 use Rattle.td_types.specs.Types.{Attribute, Heading, same_name}
 use Rattle.td_value.specs.Values.{Val, Relation, Tuple}
-use Rattle.td_value.specs.Views.{relation_view}
+use Rattle.td_value.specs.code.Views.{relation_view}
 
 -- ---- what a target was given so far
 

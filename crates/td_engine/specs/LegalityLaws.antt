@@ -1,7 +1,7 @@
 -- What keeps a database legal: laws (Tutorial D's; what names and texts may be is this project's own).
 use Rattle.std.specs.Prelude.{◌≡◌, ℕ, Bool, List}
 use Rattle.td_catalog.specs.Database.{Database}
-use Rattle.td_engine.specs.Carried.{IsSpelledStatement}
+use Rattle.td_engine.specs.code.Carried.{IsSpelledStatement}
 use Rattle.td_engine.specs.Machine.{Accepted, Progress, Runs, State, begun, effect}
 use Rattle.td_engine.specs.Legality.{IsLegal, IsLegalState}
 use Rattle.td_eval.specs.ValueTypes.{IsWritten}

@@ -12,7 +12,7 @@ use Rattle.td_engine.specs.Checks.{database_check}
 use Rattle.td_engine.specs.Refusals.{Refusal, by_cause, cause_of_refusal, line, refusal_text}
 use Rattle.td_eval.specs.DatabaseWorlds.{world_of}
 use Rattle.td_eval.specs.TreeValues.{value_of}
-use Rattle.td_parse.specs.Parsing.{Parsed}
+use Rattle.td_parse.specs.code.Parsing.{Parsed}
 use Rattle.td_tree.specs.Outcomes.{Outcome, Valued, Refused, least, with_value}
 use Rattle.td_tree.specs.Statements.{PlacedToken}
 use Rattle.td_tree.specs.Trees.{AttributeTrees, Text, Tree, Statement, empty, define_type, drop_type, define_base, define_virtual, drop_var, define_constraint, drop_constraint, assign_all, begin_transaction, commit, rollback, write, dump}
@@ -22,7 +22,7 @@ use Rattle.td_types.specs.TypeLists.{declared_type, heading_meant}
 use Rattle.td_types.specs.Types.{Heading}
 use Rattle.td_value.specs.Literal.{literal}
 use Rattle.td_value.specs.Values.{Relation}
-use Rattle.td_value.specs.Views.{relation_view}
+use Rattle.td_value.specs.code.Views.{relation_view}
 
 -- what a statement comes to: what stands after it, with the text of its answer, or why it is refused
 pub data Effect (S : Type 0) : Type 0 where

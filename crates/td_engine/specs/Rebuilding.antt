@@ -4,7 +4,7 @@ use Rattle.td_catalog.specs.Database.{BaseRelvar, Database, NamedConstraint, Vir
 use Rattle.td_catalog.specs.Dumps.{dump_text, ordered_names}
 use Rattle.td_engine.specs.Machine.{Accepted, Progress, Runs, begun, effect, empty_state, ok_text, state_of}
 use Rattle.td_engine.specs.Legality.{IsLegal}
-use Rattle.td_parse.specs.Parsing.{has_bad}
+use Rattle.td_parse.specs.code.Parsing.{has_bad}
 use Rattle.td_tree.specs.StatementGrammar.{StatementSpelling}
 use Rattle.td_tree.specs.Statements.{PlacedToken, statements}
 use Rattle.td_tree.specs.TokenLexemes.{lexemes}

@@ -5,20 +5,20 @@ ghost use Rattle.td_catalog.specs.Database.{base_relvar, knows_relvar, with_base
 ghost use Rattle.td_catalog.specs.Dumps.{ordered_names};
 ghost use Rattle.td_catalog.specs.TypedDatabases.{AreTyped};
 ghost use Rattle.td_engine.specs.Assignments.{of_heading, relation_for};
-ghost use Rattle.td_engine.specs.Carried.{Changes, IsAdmitted};
+ghost use Rattle.td_engine.specs.code.Carried.{Changes, IsAdmitted};
 ghost use Rattle.td_engine.specs.Machine.{base_defined, by_outcome, changed, init_relation};
 ghost use Rattle.td_engine.specs.Legality.{AreBaseKeys, IsLegal};
-ghost use Rattle.td_engine.specs.Plannable.{IsPlannableIf};
-ghost use Rattle.td_engine.specs.Stages.{GoesOn};
+ghost use Rattle.td_engine.specs.code.Plannable.{IsPlannableIf};
+ghost use Rattle.td_engine.specs.code.Stages.{GoesOn};
 ghost use Rattle.td_eval.specs.DatabaseWorlds.{world_of};
 ghost use Rattle.td_eval.specs.OperatorValues.{on_relation};
 ghost use Rattle.td_tree.specs.Outcomes.{Answers, Outcome, Valued, with_value};
-ghost use Rattle.td_tree.specs.TreeViews.{heading_tree_view, statement_view, tree_view};
+ghost use Rattle.td_tree.specs.code.TreeViews.{heading_tree_view, statement_view, tree_view};
 ghost use Rattle.td_tree.specs.declared.cause.Cause.TheVariants as causes;
 ghost use Rattle.td_types.specs.TypeLists.{AreKnown, heading_meant};
 ghost use Rattle.td_types.specs.Types.{pack};
 ghost use Rattle.td_value.specs.Values.{Val};
-ghost use Rattle.td_value.specs.Views.{relation_view};
+ghost use Rattle.td_value.specs.code.Views.{relation_view};
 
 use crate::beside::beside;
 use crate::checks::{keys_hold, value};

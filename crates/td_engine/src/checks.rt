@@ -2,10 +2,10 @@
 //! assignment.
 ghost use Rattle.std.specs.Prelude.{◌≡◌, [], IfOk, OnOk, map};
 ghost use Rattle.std.specs.List.{AllByRecursion};
-ghost use Rattle.td_catalog.specs.CatalogViews.{IsEntry, entry_keys, virtual_view};
+ghost use Rattle.td_catalog.specs.code.CatalogViews.{IsEntry, entry_keys, virtual_view};
 ghost use Rattle.td_catalog.specs.Database.{Database, NamedConstraint, VirtualRelvar};
 ghost use Rattle.td_catalog.specs.Database.{named_constraint, with_constraint, with_virtual};
-ghost use Rattle.td_engine.specs.Carried.{Changes, Passes};
+ghost use Rattle.td_engine.specs.code.Carried.{Changes, Passes};
 ghost use Rattle.td_engine.specs.Checks.{BasesHold, constraint_check, derived_check};
 ghost use Rattle.td_engine.specs.Checks.{first_refusal};
 ghost use Rattle.td_engine.specs.Checks.{keys_hold, unpassed, virtual_check, virtual_test};
@@ -13,7 +13,7 @@ ghost use Rattle.td_engine.specs.LeftOut.{PassesElsewhere, PassesUnlessNamed};
 ghost use Rattle.td_engine.specs.LeftOut.{PassesUnlessReached};
 ghost use Rattle.td_engine.specs.Legality.{AreSpelled};
 ghost use Rattle.td_engine.specs.Machine.{changed};
-ghost use Rattle.td_engine.specs.Plannable.{IsPlannable};
+ghost use Rattle.td_engine.specs.code.Plannable.{IsPlannable};
 ghost use Rattle.td_engine.specs.Refusals.{by_constraint, by_key};
 ghost use Rattle.td_eval.specs.DatabaseWorlds.{world_of};
 ghost use Rattle.td_eval.specs.OperatorValues.{on_relation, truth_value};
@@ -21,7 +21,7 @@ ghost use Rattle.td_eval.specs.ReachedRelvars.{reached_from, with_dependent};
 ghost use Rattle.td_eval.specs.TreeValues.{value_of};
 ghost use Rattle.td_eval.specs.Worlds.{name_value};
 ghost use Rattle.td_tree.specs.Outcomes.{Answers, Outcome, Valued, with_value};
-ghost use Rattle.td_tree.specs.TreeViews.{tree_view};
+ghost use Rattle.td_tree.specs.code.TreeViews.{tree_view};
 ghost use Rattle.td_tree.specs.Trees as trees;
 ghost use Rattle.td_value.specs.Values.{Val};
 

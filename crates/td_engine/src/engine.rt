@@ -2,15 +2,15 @@
 ghost use Rattle.std.specs.Prelude.{◌≡◌, Bool, IfOk, List, OnErr, length};
 ghost use Rattle.std.specs.String.{string_bytes};
 ghost use Rattle.td_catalog.specs.Dumps.{dump_text};
-ghost use Rattle.td_engine.specs.Carried.{IsOfDatabase, IsSpelledStatement};
+ghost use Rattle.td_engine.specs.code.Carried.{IsOfDatabase, IsSpelledStatement};
 ghost use Rattle.td_engine.specs.Machine.{begun_transaction, committed, effect_in, empty_state};
 ghost use Rattle.td_engine.specs.Machine.{rolled_back, step_of};
 ghost use Rattle.td_engine.specs.Rebuilding.{Rebuilds};
 ghost use Rattle.td_engine.specs.Legality.{IsLegalState};
-ghost use Rattle.td_engine.specs.Steps.{Does, IsParsed, IsStep};
-ghost use Rattle.td_engine.specs.Transactions.{transaction_view};
+ghost use Rattle.td_engine.specs.code.Steps.{Does, IsParsed, IsStep};
+ghost use Rattle.td_engine.specs.code.Transactions.{transaction_view};
 ghost use Rattle.td_tree.specs.Statements.{PlacedToken};
-ghost use Rattle.td_tree.specs.TreeViews.{statement_view};
+ghost use Rattle.td_tree.specs.code.TreeViews.{statement_view};
 
 use crate::answer::Answer;
 use crate::present::{Present, refused};
@@ -41,8 +41,8 @@ pub struct Engine<B: Body> {
 impl<B: Body> Model for Engine<B> {
     ghost use Rattle.std.specs.Prelude.{reverse};
     ghost use Rattle.td_engine.specs.Machine.{State};
-    ghost use Rattle.td_engine.specs.Stages.{IsEngine, state_at};
-    ghost use Rattle.td_engine.specs.Transactions.{state_code};
+    ghost use Rattle.td_engine.specs.code.Stages.{IsEngine, state_at};
+    ghost use Rattle.td_engine.specs.code.Transactions.{state_code};
 
     ghost Value = { State };
 

@@ -5,14 +5,14 @@ ghost use Rattle.td_body.specs.Bodies.{after_change};
 ghost use Rattle.td_engine.specs.Assignments.{chosen_for, relation_for, setting_names};
 ghost use Rattle.td_engine.specs.Assignments.{updated_relation};
 ghost use Rattle.td_engine.specs.Changes.{IsOfHeading, changed_by};
-ghost use Rattle.td_engine.specs.Plannable.{ArePlannableSettings, IsPlannable, IsPlannableIf};
+ghost use Rattle.td_engine.specs.code.Plannable.{ArePlannableSettings, IsPlannable, IsPlannableIf};
 ghost use Rattle.td_eval.specs.DatabaseWorlds.{world_of};
 ghost use Rattle.td_eval.specs.TreeValues.{values_in_tuples};
 ghost use Rattle.td_tree.specs.Outcomes.{Answers, Valued, with_value};
-ghost use Rattle.td_tree.specs.TreeViews.{named_view, tree_view};
+ghost use Rattle.td_tree.specs.code.TreeViews.{named_view, tree_view};
 ghost use Rattle.td_tree.specs.Trees.{name, restriction};
 ghost use Rattle.td_value.specs.Values.{Relation};
-ghost use Rattle.td_value.specs.Views.{relation_view};
+ghost use Rattle.td_value.specs.code.Views.{relation_view};
 
 use crate::change::Change;
 use crate::checks::value;

@@ -7,21 +7,21 @@ ghost use Rattle.td_engine.specs.LegalityLaws.{SpelledExpressionsAreWritten};
 ghost use Rattle.td_tree.specs.Statements.{PlacedToken};
 
 /// Every list of statements has an outcome.
-#[tactic(auto, using(crate::proofs::Runs::some_outcome))]
+#[tactic(auto, using(crate::proofs::law_lemmas::Runs::some_outcome))]
 pub fn statements_have_an_outcome()
     ensures { (stop : Bool) (so_far : Progress) (script : List (List PlacedToken))
         → (p : Progress) × Runs stop so_far script p }
 {}
 
 /// No list of statements has two outcomes.
-#[tactic(auto, using(crate::proofs::Runs::one_outcome))]
+#[tactic(auto, using(crate::proofs::law_lemmas::Runs::one_outcome))]
 pub fn statements_have_one_outcome()
     ensures { (stop : Bool) (so_far : Progress) (script : List (List PlacedToken)) (p q : Progress)
         → Runs stop so_far script p → Runs stop so_far script q → p ≡ q }
 {}
 
 /// A refused statement changes nothing.
-#[tactic(auto, using(crate::proofs::Kept::refused_keeps))]
+#[tactic(auto, using(crate::proofs::law_lemmas::Kept::refused_keeps))]
 pub fn refused_statements_change_nothing()
     ensures { (old : State) (tokens : List PlacedToken) (s : Step State)
         → Steps old tokens s → s.cause ≢ None → s.after ≡ old }

@@ -4,15 +4,15 @@ ghost use Rattle.std.specs.String.{string_bytes};
 ghost use Rattle.td_catalog.specs.Database.{Database, empty_database};
 ghost use Rattle.td_catalog.specs.Dumps.{dump_text};
 ghost use Rattle.td_catalog.specs.KeptDatabases.{settled, stages};
-ghost use Rattle.td_engine.specs.Carried.{IsAdmitted, IsChange, IsDenied, IsRefusedBy};
-ghost use Rattle.td_engine.specs.Carried.{AnswersText, IsSpelledStatement, Prints};
+ghost use Rattle.td_engine.specs.code.Carried.{IsAdmitted, IsChange, IsDenied, IsRefusedBy};
+ghost use Rattle.td_engine.specs.code.Carried.{AnswersText, IsSpelledStatement, Prints};
 ghost use Rattle.td_engine.specs.Machine.{State, effect, step_of};
 ghost use Rattle.td_engine.specs.Refusals.{line};
 ghost use Rattle.td_engine.specs.Legality.{IsLegal};
-ghost use Rattle.td_engine.specs.Stages.{GoesOn, stage};
-ghost use Rattle.td_engine.specs.Steps.{Does};
+ghost use Rattle.td_engine.specs.code.Stages.{GoesOn, stage};
+ghost use Rattle.td_engine.specs.code.Steps.{Does};
 ghost use Rattle.td_tree.specs.Outcomes.{Answers, Outcome, Valued, with_value};
-ghost use Rattle.td_tree.specs.TreeViews.{statement_view};
+ghost use Rattle.td_tree.specs.code.TreeViews.{statement_view};
 ghost use Rattle.td_value.specs.Literal.{literal};
 ghost use Rattle.td_value.specs.Values.{Val};
 
@@ -37,7 +37,7 @@ pub(crate) struct Present<B: Body> {
 }
 
 impl<B: Body> Model for Present<B> {
-    ghost use Rattle.td_catalog.specs.DatabaseCode.{catalog_code};
+    ghost use Rattle.td_catalog.specs.code.DatabaseCode.{catalog_code};
     ghost use Rattle.td_catalog.specs.KeptDatabases.{CatalogView};
 
     ghost Value = { CatalogView };

@@ -34,7 +34,7 @@ impl From<AllocError> for Failure {
 
 impl From<Fault> for Failure {
     ghost use Rattle.std.specs.Prelude.{◌≡◌};
-    ghost use Rattle.td_engine.specs.Carried.{failure_of};
+    ghost use Rattle.td_engine.specs.code.Carried.{failure_of};
 
     ghost from_gives = { λ fault f. f ≡ failure_of fault };
 

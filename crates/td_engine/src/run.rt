@@ -1,6 +1,8 @@
 //! Whole runs: a script is read, each statement is run, each answer is written.
-ghost use Rattle.std.specs.Prelude.{◌≡◌, ℕ, ◌+◌, ◌<◌, ◌≤◌, ◌^◌, ◌&&◌, Bool, nat_lt, if◌then◌else◌, List};
-ghost use Rattle.std.specs.Prelude.{length, None, IfOk, IfErr, IfNone, IfSome, IsOk, OnOk, IsTrue, IsFalse};
+ghost use Rattle.std.specs.Prelude.{◌≡◌, ℕ, ◌+◌, ◌<◌, ◌≤◌, ◌^◌, ◌&&◌, Bool, nat_lt, if◌then◌else◌};
+ghost use Rattle.std.specs.Prelude.{List};
+ghost use Rattle.std.specs.Prelude.{length, None, IfOk, IfErr, IfNone, IfSome, IsOk, OnOk, IsTrue};
+ghost use Rattle.std.specs.Prelude.{IsFalse};
 ghost use Rattle.std.specs.Io.KnownBytes.{Consumes};
 ghost use Rattle.td_engine.specs.Faults.{IfMemory, IfNotMemory, IfRead, IfReadLimit, IfWrite};
 ghost use Rattle.td_engine.specs.Scripts.{OfBroken, OfFront, OfScript, OfTooMuch, script_limit};
@@ -8,8 +10,9 @@ ghost use Rattle.td_engine.specs.Legality.{IsLegalState};
 ghost use Rattle.td_engine.specs.LegalityLaws.{IsLegalThroughout};
 ghost use Rattle.td_engine.specs.Standing.{HasRun, HasRunCut, IsLeft, IsOngoing, run_of, standing};
 ghost use Rattle.td_engine.specs.Told.{GaveAtMost, KeepsIfTold, StaysWhole};
-ghost use Rattle.td_engine.specs.Turns.{Advanced, EndedAt, EndedIn, HasTurnedCut, IsFed, IsReading};
-ghost use Rattle.td_engine.specs.Turns.{Turned, place_at};
+ghost use Rattle.td_engine.specs.code.Turns.{Advanced, EndedAt, EndedIn, HasTurnedCut, IsFed};
+ghost use Rattle.td_engine.specs.code.Turns.{IsReading};
+ghost use Rattle.td_engine.specs.code.Turns.{Turned, place_at};
 ghost use Rattle.td_tree.specs.Statements.{first_statement};
 
 use crate::engine::Engine;

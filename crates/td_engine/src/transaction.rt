@@ -1,8 +1,8 @@
 //! Which statements are of transactions.
 ghost use Rattle.std.specs.Prelude.{◌≡◌, IfNone, IfSome};
-ghost use Rattle.td_engine.specs.Carried.{IsOfDatabase};
-ghost use Rattle.td_engine.specs.Transactions.{transaction_view};
-ghost use Rattle.td_tree.specs.TreeViews.{statement_view};
+ghost use Rattle.td_engine.specs.code.Carried.{IsOfDatabase};
+ghost use Rattle.td_engine.specs.code.Transactions.{transaction_view};
+ghost use Rattle.td_tree.specs.code.TreeViews.{statement_view};
 
 use td_tree::statement::Statement;
 

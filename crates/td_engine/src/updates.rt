@@ -8,21 +8,21 @@ ghost use Rattle.td_engine.specs.Assignments.{relation_for, setting_attributes, 
 ghost use Rattle.td_engine.specs.Assignments.{source_world, target_of, updated_relation};
 ghost use Rattle.td_engine.specs.Assignments.{with_inserted};
 ghost use Rattle.td_engine.specs.Changes.{IsOfHeading, changed_by};
-ghost use Rattle.td_engine.specs.Gifts.{restricted_relation, setting_attribute};
-ghost use Rattle.td_engine.specs.Plannable.{ArePlannableSettings, IsPlannableAssignment};
-ghost use Rattle.td_engine.specs.Plannable.{IsPlannableCondition, IsPlannableConditionIf};
-ghost use Rattle.td_engine.specs.Plannable.{IsPlannableSource};
+ghost use Rattle.td_engine.specs.code.Gifts.{restricted_relation, setting_attribute};
+ghost use Rattle.td_engine.specs.code.Plannable.{ArePlannableSettings, IsPlannableAssignment};
+ghost use Rattle.td_engine.specs.code.Plannable.{IsPlannableCondition, IsPlannableConditionIf};
+ghost use Rattle.td_engine.specs.code.Plannable.{IsPlannableSource};
 ghost use Rattle.td_eval.specs.OperatorValues.{on_relation, truth_value};
-ghost use Rattle.td_eval.specs.Sights.{tuples_in_hand, world_in};
+ghost use Rattle.td_eval.specs.code.Sights.{tuples_in_hand, world_in};
 ghost use Rattle.td_eval.specs.TreeValues.{value_of, values_in_tuples};
 ghost use Rattle.td_eval.specs.ValueTypes.{DefinitionsAreWritten};
 ghost use Rattle.td_plan.specs.PlansOf.{PartsMeetRulesIn, scope_in};
 ghost use Rattle.td_tree.specs.Outcomes.{Answers, Outcome, Valued, gathered, with_value};
-ghost use Rattle.td_tree.specs.TreeViews.{assignment_view, named_view, tree_view};
+ghost use Rattle.td_tree.specs.code.TreeViews.{assignment_view, named_view, tree_view};
 ghost use Rattle.td_tree.specs.Trees.{delete};
 ghost use Rattle.td_types.specs.Headings.{are_distinct};
 ghost use Rattle.td_types.specs.Types.{Type', attribute_names};
-ghost use Rattle.td_types.specs.Views.{pairs_view, type_view};
+ghost use Rattle.td_types.specs.code.Views.{pairs_view, type_view};
 ghost use Rattle.td_value.specs.Values.{Relation, Tuple, Val};
 
 use crate::change::Change;

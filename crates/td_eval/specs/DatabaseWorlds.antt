@@ -16,7 +16,7 @@ use Rattle.td_tree.specs.Outcomes.{Outcome, Valued, value_if, with_value}
 use Rattle.td_types.specs.TypeLists.{DeclaredType}
 use Rattle.td_types.specs.Types.{attribute_names, same_name}
 use Rattle.td_value.specs.Values.{Val, Relation, made_tuple, relation_value, selected_value, type_of}
-use Rattle.td_value.specs.Views.{user_view}
+use Rattle.td_value.specs.code.Views.{user_view}
 
 -- ---- types
 

@@ -2,11 +2,8 @@ pub mod AggregateValues
 pub mod DatabaseWorlds
 pub mod LiteralValues
 pub mod MetConstraints
-pub mod NewColumns
 pub mod OperatorValues
 pub mod ReachedRelvars
-pub mod Sights
-pub mod Totals
 pub mod TreeNumbers
 pub mod TreeTexts
 pub mod TreeValues
@@ -14,3 +11,4 @@ pub mod UnfailingValues
 pub mod ValueLaws
 pub mod ValueTypes
 pub mod Worlds
+pub mod code

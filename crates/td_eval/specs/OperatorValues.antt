@@ -25,7 +25,7 @@ use Rattle.td_types.specs.TypeLists.{DeclaredType, declared_at}
 use Rattle.td_types.specs.Types.{Type', Attribute, Heading, attribute_names, unpack}
 use Rattle.td_value.specs.Sets.{has}
 use Rattle.td_value.specs.Values.{Val, boolean, integer, char, user, tuple, relation, Parts, no_parts, part, Tuple, Relation, heading_of, made_tuple, of_number, relation_of, relation_value, tuple_cmp, tuple_value, type_of, unpack_fields, unpack_rows, value_at, value_cmp}
-use Rattle.td_value.specs.Views.{relation_view}
+use Rattle.td_value.specs.code.Views.{relation_view}
 
 -- ---- what an operator asks of a value
 

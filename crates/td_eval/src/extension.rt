@@ -5,14 +5,14 @@ ghost use Rattle.td_algebra.specs.Columns.{columns_view};
 ghost use Rattle.td_check.specs.OperatorTypes.{extended_by};
 ghost use Rattle.td_check.specs.Scopes.{entered_with};
 ghost use Rattle.td_check.specs.StaticTypes.{named_types};
-ghost use Rattle.td_eval.specs.NewColumns.{AreColumnsFor, named_columns};
+ghost use Rattle.td_eval.specs.code.NewColumns.{AreColumnsFor, named_columns};
 ghost use Rattle.td_eval.specs.OperatorValues.{extended_value};
-ghost use Rattle.td_eval.specs.Sights.{IsSight, seen_by};
+ghost use Rattle.td_eval.specs.code.Sights.{IsSight, seen_by};
 ghost use Rattle.td_eval.specs.Worlds.{with_tuples};
 ghost use Rattle.td_tree.specs.Outcomes.{Answers, Outcome, Valued, gathered, with_value};
-ghost use Rattle.td_tree.specs.TreeViews.{named_view};
+ghost use Rattle.td_tree.specs.code.TreeViews.{named_view};
 ghost use Rattle.td_types.specs.Headings.{has_attribute};
-ghost use Rattle.td_types.specs.Views.{pairs_view};
+ghost use Rattle.td_types.specs.code.Views.{pairs_view};
 ghost use Rattle.td_value.specs.Values.{Tuple, Val};
 
 use crate::operators::tuplewise::extended;

@@ -1,13 +1,13 @@
 //! What expressions are in each tuple of a relation.
 ghost use Rattle.std.specs.Prelude.{◌≡◌, ◌∷◌, IsTrue, length, map};
 ghost use Rattle.td_eval.specs.OperatorValues.{set_value, truth_value};
-ghost use Rattle.td_eval.specs.Sights.{tuples_in_hand, world_in};
+ghost use Rattle.td_eval.specs.code.Sights.{tuples_in_hand, world_in};
 ghost use Rattle.td_eval.specs.TreeValues.{value_of, values_in_tuples};
 ghost use Rattle.td_tree.specs.Outcomes.{Answers, gathered};
-ghost use Rattle.td_tree.specs.TreeViews.{named_view, tree_view};
+ghost use Rattle.td_tree.specs.code.TreeViews.{named_view, tree_view};
 ghost use Rattle.td_types.specs.Headings.{are_distinct};
 ghost use Rattle.td_types.specs.Types.{attribute_names};
-ghost use Rattle.td_types.specs.Views.{pairs_view};
+ghost use Rattle.td_types.specs.code.Views.{pairs_view};
 
 use crate::env::Env;
 use crate::rows::shared;

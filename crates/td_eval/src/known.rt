@@ -1,5 +1,5 @@
 //! What the names of relvars and selectors mean in what an expression is evaluated in.
-ghost use Rattle.td_eval.specs.Sights.{world_in};
+ghost use Rattle.td_eval.specs.code.Sights.{world_in};
 ghost use Rattle.td_eval.specs.Worlds.{known_outcome, selected};
 ghost use Rattle.td_tree.specs.Outcomes.{Answers};
 

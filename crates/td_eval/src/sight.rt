@@ -1,10 +1,10 @@
 //! What an expression may look at.
 ghost use Rattle.std.specs.Prelude.{◌≡◌, [], ◌<◌, IfNone, IfOk, IfSome, None, option_map, reverse};
-ghost use Rattle.td_eval.specs.Sights.{IsNoVirtualRelvar, IsPlaced, IsSight, IsVirtualRelvar};
-ghost use Rattle.td_eval.specs.Sights.{constraint_sight, other_named, other_seen, seen_by};
-ghost use Rattle.td_eval.specs.Sights.{held_relation, virtual_sight, world_in};
+ghost use Rattle.td_eval.specs.code.Sights.{IsNoVirtualRelvar, IsPlaced, IsSight, IsVirtualRelvar};
+ghost use Rattle.td_eval.specs.code.Sights.{constraint_sight, other_named, other_seen, seen_by};
+ghost use Rattle.td_eval.specs.code.Sights.{held_relation, virtual_sight, world_in};
 ghost use Rattle.td_eval.specs.Worlds.{with_tuples};
-ghost use Rattle.td_tree.specs.TreeViews.{tree_view};
+ghost use Rattle.td_tree.specs.code.TreeViews.{tree_view};
 
 use crate::env::Env;
 use std::alloc::{AllocError, Global};

@@ -9,7 +9,7 @@ use Rattle.td_types.specs.Types.{Heading, IsHeading, Type', pack, same_name, typ
 use Rattle.td_types.proofs.DistinctNames.{first_of, second_of}
 use Rattle.td_types.proofs.HeadingLaws.{type_at-union, type_at-with}
 use Rattle.td_value.specs.Values.{IsTupleOf, IsValue, Tuple, Val, tuple_names, tuple_of, type_of, value_at}
-use Rattle.td_value.specs.Views.{values_of}
+use Rattle.td_value.specs.code.Views.{values_of}
 use Rattle.td_algebra.proofs.Entries.{HaveValues, IsTupleOf-made, distinct_append, has_name-heading, tuple_distinct, typed_values, value_at-append, values_of_fields}
 use Rattle.td_algebra.proofs.United.{IsHeading-union}
 

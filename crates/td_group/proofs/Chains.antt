@@ -14,7 +14,7 @@ use Rattle.td_value.specs.ValueOrder.{order_total, value_Decides}
 use Rattle.td_algebra.proofs.Lists.{contains_cases, contains_filter, contains_first, contains_flat_map, contains_later, contains_map, contains_none}
 use Rattle.td_algebra.proofs.Relations.{All-from_members}
 use Rattle.td_group.specs.Closure.{chained_tuple, chained_tuples, is_followed_by}
-use Rattle.td_group.specs.Successors.{ArePairsFrom, HaveSameValues, Leads, led_to, ends_of, pair_of, starts_in, start_of, successors}
+use Rattle.td_group.specs.code.Successors.{ArePairsFrom, HaveSameValues, Leads, led_to, ends_of, pair_of, starts_in, start_of, successors}
 use Rattle.td_group.proofs.Graphs.{fewer_left, left_of, leads_more, nothing_left}
 
 -- ---- ways without repetition

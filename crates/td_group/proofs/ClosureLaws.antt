@@ -13,7 +13,7 @@ use Rattle.td_algebra.proofs.Lists.{contains_cases, contains_first, contains_lat
 use Rattle.td_algebra.proofs.Relations.{All-from_members, IsRelation-relation_of, rows_headed}
 use Rattle.td_group.specs.Closure.{IsChain, chained_tuple, chained_tuples, closure, first_value, is_followed_by, second_value}
 use Rattle.td_group.specs.Membership.{ClosureByChains, ClosureIsIdempotent, ClosureIsLeast, IsTransitive}
-use Rattle.td_group.specs.Successors.{Leads, pair_of, successors}
+use Rattle.td_group.specs.code.Successors.{Leads, pair_of, successors}
 use Rattle.td_group.proofs.Chains.{chained_lead, closable_two, from_successor, itself, led_chained, led_headed, shaped, to_successor}
 
 some_is : {A : Type 0} (x y : A) → Some x ≡ Some y → x ≡ y

@@ -12,7 +12,7 @@ use Rattle.td_value.specs.Sets.{has}
 use Rattle.td_value.specs.Values.{Val, value_cmp}
 use Rattle.td_value.specs.ValueOrder.{order_total, value_Decides}
 use Rattle.td_algebra.proofs.Lists.{contains_cases, contains_first, contains_later, contains_none}
-use Rattle.td_group.specs.Successors.{AreReached, Leads, added, all_added}
+use Rattle.td_group.specs.code.Successors.{AreReached, Leads, added, all_added}
 
 -- a list contains what the test finds, and the test finds what a list contains
 pub value_there : (v : Val) (vs : List Val) → has value_cmp v vs ≡ true → Contains vs v

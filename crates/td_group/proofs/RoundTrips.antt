@@ -4,12 +4,12 @@ use Rattle.std.specs.Prelude.{◌&&◌, ◌||◌, if◌then◌else◌, is_some, 
 use Rattle.std.specs.Cmp.Lexicographic.{same_text}
 use Rattle.std.specs.List.{Contains, flat_map}
 use Rattle.td_types.specs.Headings.{has_attribute, has_name, has_projection, have_no_common, heading_union, projection, without_attribute}
-use Rattle.td_types.specs.TypeCode.{unpack_pack}
+use Rattle.td_types.specs.code.TypeCode.{unpack_pack}
 use Rattle.td_types.specs.Types.{Heading, IsAscending, IsHeading, Type', attribute_names, pack, same_name, type_at}
 use Rattle.td_types.specs.Types as types
 use Rattle.td_types.proofs.HeadingLaws.{IsAscending-union, IsAscending-without, IsHeading-filter, IsHeading-with, ascending_from_heading, has_attribute-names, same_name-itself, type_at-outside, type_at-projection, type_at-union, type_at-with, type_at-without, types_determine_heading}
 use Rattle.td_value.specs.Agreement.{AgreeOn, agree_on}
-use Rattle.td_value.specs.ValueCode.{unpack_pack_fields, unpack_pack_rows}
+use Rattle.td_value.specs.code.ValueCode.{unpack_pack_fields, unpack_pack_rows}
 use Rattle.td_value.specs.Values.{IsRelation, IsTupleOf, Relation, Tuple, pack_fields, projected_tuple, relation_value, tuple_names, tuple_value, unpack_fields, value_at}
 use Rattle.td_value.proofs.Agreement.{value_of_projection}
 use Rattle.td_value.proofs.Members.{by_members, set_members}

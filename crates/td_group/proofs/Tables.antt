@@ -14,7 +14,7 @@ use Rattle.td_value.specs.Values.{Val, Tuple, value_cmp}
 use Rattle.td_value.specs.ValueOrder.{order_total}
 use Rattle.td_algebra.proofs.Lists.{contains_cases, contains_first, contains_later, contains_map, contains_none}
 use Rattle.td_group.specs.Groups.{items_there}
-use Rattle.td_group.specs.Successors.{ArePairsFrom, AreReached, AreSeen, HaveSameValues, Leads, pair_of, start_of, successors_at}
+use Rattle.td_group.specs.code.Successors.{ArePairsFrom, AreReached, AreSeen, HaveSameValues, Leads, pair_of, start_of, successors_at}
 use Rattle.td_group.proofs.Graphs.{has-pushed}
 
 -- the item at a place of a list of references

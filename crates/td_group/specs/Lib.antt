@@ -3,4 +3,4 @@ pub mod Closure
 pub mod Groups
 pub mod Membership
 pub mod Nesting
-pub mod Successors
+pub mod code

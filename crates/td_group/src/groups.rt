@@ -5,7 +5,7 @@ ghost use Rattle.td_algebra.specs.Lookups.{AreWithin, partners_in};
 ghost use Rattle.td_group.specs.Groups.{groups, groups_on};
 ghost use Rattle.td_types.specs.Headings.{agree, has_attributes};
 ghost use Rattle.td_types.specs.Types.{attribute_names};
-ghost use Rattle.td_value.specs.Views.{relation_view, values_of};
+ghost use Rattle.td_value.specs.code.Views.{relation_view, values_of};
 
 use std::alloc::{AllocError, Global};
 use td_algebra::lookup::{Lookup, common_places};

@@ -6,7 +6,7 @@ use Rattle.td_parse.specs.Reading.{read_postfix}
 use Rattle.td_parse.specs.ReadingStatements.{assignments, body}
 use Rattle.td_parse.specs.ReadingSteps.{◌>>=◌, attribute_list}
 use Rattle.td_tree.specs.Trees as tree
-use Rattle.td_parse.specs.Parsing.{begins_otherwise}
+use Rattle.td_parse.specs.code.Parsing.{begins_otherwise}
 
 pub projection : (ts : List Lexeme) → begins_otherwise ts ≡ true → read_postfix ts ≡ attribute_list ts >>= λ x. Some (tree.project x.0, x.1)
 unfolding read_postfix

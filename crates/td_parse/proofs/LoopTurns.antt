@@ -12,13 +12,13 @@ use Rattle.td_tree.specs.Lexemes.{Lexeme}
 use Rattle.td_tree.specs.Outcomes.{Valued}
 use Rattle.td_tree.specs.Trees as tree
 use Rattle.td_tree.specs.Trees.{Tree}
-use Rattle.td_tree.specs.TreeViews.{postfix_view, tree_view}
+use Rattle.td_tree.specs.code.TreeViews.{postfix_view, tree_view}
 use Rattle.td_parse.specs.declared.operators.Infix.{Infix}
-use Rattle.td_parse.specs.Parsing.{Fits, Moves}
+use Rattle.td_parse.specs.code.Parsing.{Fits, Moves}
 use Rattle.td_parse.specs.Reading.{Read, postfixes, read_postfix}
 use Rattle.td_parse.specs.ReadingOperators.{postfix_at}
 use Rattle.td_parse.specs.ReadingSteps.{ReadOf}
-use Rattle.td_parse.specs.Walking.{infix_at, infix_level, infix_tree, tightest_after, tightness, walk}
+use Rattle.td_parse.specs.code.Walking.{infix_at, infix_level, infix_tree, tightest_after, tightness, walk}
 use Rattle.td_parse.proofs.Separated.{read_is}
 use Rattle.td_parse.proofs.Turns.{one_more}
 

@@ -9,8 +9,8 @@ use Rattle.td_tree.specs.Outcomes.{Answers, Only, Outcome, Refused, Valued}
 use Rattle.td_tree.specs.Statements.{PlacedToken}
 use Rattle.td_tree.specs.TokenLexemes.{lexemes}
 use Rattle.td_tree.specs.Trees as trees
-use Rattle.td_tree.specs.TreeViews.{statement_view}
-use Rattle.td_parse.specs.Parsing.{Parsed, SpellsNone, SpellsOnly, TokensHaveOneMeaning, bad_token, has_bad, nothing_spelled, or_syntax, statement_spelled}
+use Rattle.td_tree.specs.code.TreeViews.{statement_view}
+use Rattle.td_parse.specs.code.Parsing.{Parsed, SpellsNone, SpellsOnly, TokensHaveOneMeaning, bad_token, has_bad, nothing_spelled, or_syntax, statement_spelled}
 use Rattle.td_parse.specs.ReadingStatements.{read_statement}
 use Rattle.td_parse.proofs.OneTree.{one_statement}
 use Rattle.td_parse.proofs.ReadingLaws.{reads_statements}

@@ -15,11 +15,11 @@ use Rattle.td_tree.specs.Pieces.{kind_of}
 use Rattle.td_tree.specs.Symbols.{symbols}
 use Rattle.td_tree.specs.TextTokens.{IsQuotedText, content, doubled, quoted}
 use Rattle.td_tree.specs.TokenLexemes.{is_the_word, is_quoted_text, lexeme_of}
-use Rattle.td_tree.proofs.BadTokens.{bad_where_seen}
-use Rattle.td_tree.proofs.CharacterLaws.{both}
-use Rattle.td_tree.proofs.QuotedLaws.{are_quoted}
-use Rattle.td_tree.proofs.TheWords.{behind_the, is_long}
-use Rattle.td_parse.specs.Parsing.{seen_as}
+use Rattle.td_tree.proofs.law_lemmas.BadTokens.{bad_where_seen}
+use Rattle.td_tree.proofs.law_lemmas.CharacterLaws.{both}
+use Rattle.td_tree.proofs.law_lemmas.QuotedLaws.{are_quoted}
+use Rattle.td_tree.proofs.law_lemmas.TheWords.{behind_the, is_long}
+use Rattle.td_parse.specs.code.Parsing.{seen_as}
 
 -- a test that is passed where its failure would make a good kind bad
 passed : (b : Bool) (x : Lexeme) (kind : Kind) → ((if b then x else bad) ≡ bad → kind ≡ kinds.Bad) → (kind ≡ kinds.Bad → ⊥) → b ≡ true

@@ -5,7 +5,7 @@ use Rattle.td_tree.specs.declared.cause.Cause.TheVariants as causes
 use Rattle.td_tree.specs.declared.token.Sign.TheVariants as signs
 use Rattle.td_tree.specs.Lexemes.{Lexeme, sign}
 use Rattle.td_tree.specs.Outcomes.{Valued, named_cause}
-use Rattle.td_parse.specs.Parsing.{or_syntax}
+use Rattle.td_parse.specs.code.Parsing.{or_syntax}
 use Rattle.td_parse.specs.ReadingSteps.{ReadOf, expect, separated, separated_from}
 use Rattle.td_parse.proofs.Turns.{no_more, one_more}
 

@@ -8,8 +8,8 @@ use Rattle.td_tree.specs.declared.expression.Summary.TheVariants as s
 use Rattle.td_tree.specs.declared.type_tree.AttributeTree.{AttributeTree}
 use Rattle.td_parse.specs.Reading.{named_from, summaries_from, trees_from}
 use Rattle.td_tree.specs.Trees as tree
-use Rattle.td_tree.specs.TreeViews.{heading_tree_view, named_view, summaries_view, tree_view, trees_view, type_tree_view}
-use Rattle.td_parse.specs.Views.{attribute_trees_view, item_view, named_part_view}
+use Rattle.td_tree.specs.code.TreeViews.{heading_tree_view, named_view, summaries_view, tree_view, trees_view, type_tree_view}
+use Rattle.td_parse.specs.code.Views.{attribute_trees_view, item_view, named_part_view}
 
 pub attributes_from_of : (all : List AttributeTree) → attribute_trees_from (attribute_trees_view all) ≡ heading_tree_view all
 attributes_from_of [] = refl

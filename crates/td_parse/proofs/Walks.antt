@@ -25,7 +25,7 @@ use Rattle.td_parse.specs.declared.operators.Infix.TheVariants as infixes
 use Rattle.td_parse.specs.Reading.{Read, additive, applied, by_level, chain, compared, compared_to, conjunction, disjunction, multiplicative, negated, operations, prefixed, relational, restriction}
 use Rattle.td_parse.specs.ReadingOperators.{link_level, any_link, comparison_at, comparison_of_sign, comparison_of_word, link_at, link_of_sign, link_of_word, same_level, with_rest}
 use Rattle.td_parse.specs.ReadingSteps.{◌>>=◌, either, ReadOf, expect}
-use Rattle.td_parse.specs.Walking.{any_infix, infix_at, infix_level, is_between, infix_tree, not_at, tightest_after, tightness, walk, walked}
+use Rattle.td_parse.specs.code.Walking.{any_infix, infix_at, infix_level, is_between, infix_tree, not_at, tightest_after, tightness, walk, walked}
 use Rattle.td_parse.proofs.Again.{height_pos}
 
 -- ---- what stands at the front

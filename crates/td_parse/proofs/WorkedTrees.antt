@@ -23,7 +23,7 @@ use Rattle.td_parse.specs.ReadingOperators.{link_at, comparison_at, prefix_at, e
 use Rattle.td_parse.specs.ReadingSteps.{expect}
 use Rattle.td_tree.specs.Trees as tree
 use Rattle.td_tree.specs.Trees.{Tree}
-use Rattle.td_tree.proofs.Letters.{letters}
+use Rattle.td_tree.proofs.law_lemmas.Letters.{letters}
 use Rattle.td_parse.proofs.OneTree.{expression_again}
 
 -- `unfolding computing` lets `refl` compute the lexemes of a text

@@ -1,6 +1,6 @@
 //! The tokens that come next, looked at before they are taken.
 ghost use Rattle.std.specs.Prelude.{◌≡◌, Some, IfSome, eqb, length, option_map, suc};
-ghost use Rattle.td_parse.specs.Parsing.{Eats, Takes};
+ghost use Rattle.td_parse.specs.code.Parsing.{Eats, Takes};
 ghost use Rattle.td_tree.specs.Lexemes as lexeme;
 ghost use Rattle.td_tree.specs.Pieces.{kind_of};
 ghost use Rattle.td_parse.specs.ReadingSteps.{expect};

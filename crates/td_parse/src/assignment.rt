@@ -1,10 +1,10 @@
 //! Assignments.
 ghost use Rattle.std.specs.Prelude.{map, option_map};
-ghost use Rattle.td_parse.specs.Parsing.{Moves};
-ghost use Rattle.td_parse.specs.Views.{named_part_view};
+ghost use Rattle.td_parse.specs.code.Parsing.{Moves};
+ghost use Rattle.td_parse.specs.code.Views.{named_part_view};
 ghost use Rattle.td_parse.specs.ReadingStatements as reading;
 ghost use Rattle.td_parse.specs.ReadingSteps.{enclosed, separated};
-ghost use Rattle.td_tree.specs.TreeViews.{assignment_view, statement_view, tree_view};
+ghost use Rattle.td_tree.specs.code.TreeViews.{assignment_view, statement_view, tree_view};
 
 use crate::cursor::{Cursor, SYNTAX};
 use crate::grammar::{LOOSEST, MAX_HEIGHT};

@@ -1,6 +1,6 @@
 //! The tokens that are left to read.
 ghost use Rattle.std.specs.Prelude.{◌≡◌, Some, suc, length, IfOk, IfSome, eqb, option_map};
-ghost use Rattle.td_parse.specs.Parsing.{Eats, Expects, Takes, TakesWord};
+ghost use Rattle.td_parse.specs.code.Parsing.{Eats, Expects, Takes, TakesWord};
 ghost use Rattle.td_tree.specs.Lexemes as lexeme;
 ghost use Rattle.td_tree.specs.Pieces.{kind_of};
 ghost use Rattle.td_parse.specs.ReadingSteps.{expect};

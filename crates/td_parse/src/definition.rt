@@ -1,10 +1,10 @@
 //! Definitions of types, relvars and constraints, and their ends.
 ghost use Rattle.std.specs.Prelude.{map, option_map};
-ghost use Rattle.td_parse.specs.Parsing.{Moves};
+ghost use Rattle.td_parse.specs.code.Parsing.{Moves};
 ghost use Rattle.td_tree.specs.Lexemes as lexeme;
 ghost use Rattle.td_parse.specs.ReadingStatements as reading;
 ghost use Rattle.td_parse.specs.ReadingSteps.{enclosed, optional};
-ghost use Rattle.td_tree.specs.TreeViews.{statement_view, tree_view};
+ghost use Rattle.td_tree.specs.code.TreeViews.{statement_view, tree_view};
 
 use crate::assignment::expression;
 use crate::cursor::{Cursor, SYNTAX};

@@ -1,13 +1,13 @@
 //! Expressions that were read, with their heights.
 ghost use Rattle.std.specs.Prelude.{◌≡◌, ◌<◌, ◌-◌, ◌^◌, map, min, nat_le, IfOk};
 ghost use Rattle.std.specs.Rc.{rc_str_bytes};
-ghost use Rattle.td_parse.specs.Views.{item_view, named_part_view};
+ghost use Rattle.td_parse.specs.code.Views.{item_view, named_part_view};
 ghost use Rattle.td_tree.specs.Heights as heights;
 ghost use Rattle.td_parse.specs.Reading.{named_from, summaries_from, trees_from};
 ghost use Rattle.td_tree.specs.Trees as trees;
-ghost use Rattle.td_parse.specs.Walking.{infix_tree};
-ghost use Rattle.td_tree.specs.TreeViews.{attributes_view, heading_tree_view, literal_view};
-ghost use Rattle.td_tree.specs.TreeViews.{postfix_view, summaries_view, tree_view, trees_view};
+ghost use Rattle.td_parse.specs.code.Walking.{infix_tree};
+ghost use Rattle.td_tree.specs.code.TreeViews.{attributes_view, heading_tree_view, literal_view};
+ghost use Rattle.td_tree.specs.code.TreeViews.{postfix_view, summaries_view, tree_view, trees_view};
 
 use crate::operators::{Infix, Link};
 use crate::parts::{Elements, NamedParts, Summaries};
@@ -33,7 +33,7 @@ impl Model for Found {
     ghost use Rattle.td_tree.specs.contracts.expression.Expr as expr;
     ghost use Rattle.td_tree.specs.declared.expression.Expr.{Expr};
     ghost use Rattle.td_tree.specs.Heights as heights;
-    ghost use Rattle.td_tree.specs.TreeViews.{tree_view};
+    ghost use Rattle.td_tree.specs.code.TreeViews.{tree_view};
 
     ghost Value = { Expr };
 
@@ -276,7 +276,7 @@ impl Found {
     }
 
     /// `RELATION {t, ..}`
-    #[tactic(auto, using(crate::proofs::Views::trees_from_of, td_tree::proofs::Rows::relation_is))]
+    #[tactic(auto, using(crate::proofs::Views::trees_from_of, td_tree::proofs::code_lemmas::Rows::relation_is))]
     pub fn relation(elements: Elements) -> Found
         ensures { tree_view result ≡ trees.relation (trees_from (map tree_view elements)) }
     {
@@ -286,7 +286,7 @@ impl Found {
     }
 
     /// `RELATION {A INTEGER, ..} {t, ..}`
-    #[tactic(auto, using(crate::proofs::Views::trees_from_of, td_tree::proofs::Rows::headed_relation_is))]
+    #[tactic(auto, using(crate::proofs::Views::trees_from_of, td_tree::proofs::code_lemmas::Rows::headed_relation_is))]
     pub fn headed_relation(heading: Vec<AttributeTree>, elements: Elements) -> Found
         ensures { tree_view result
             ≡ trees.headed_relation (heading_tree_view heading.items) (trees_from
@@ -299,7 +299,7 @@ impl Found {
     }
 
     /// `TUPLE {A e, ..}`
-    #[tactic(auto, using(crate::proofs::Views::named_from_of, td_tree::proofs::Rows::tuple_is))]
+    #[tactic(auto, using(crate::proofs::Views::named_from_of, td_tree::proofs::code_lemmas::Rows::tuple_is))]
     pub fn tuple(parts: NamedParts) -> Found
         ensures { tree_view result ≡ trees.tuple (named_from (map named_part_view parts)) }
     {
@@ -309,7 +309,7 @@ impl Found {
     }
 
     /// `EXTEND e ADD (v AS A, ..)`
-    #[tactic(auto, using(crate::proofs::Views::named_from_of, td_tree::proofs::Rows::extend_is))]
+    #[tactic(auto, using(crate::proofs::Views::named_from_of, td_tree::proofs::code_lemmas::Rows::extend_is))]
     pub fn extend(alloc: Global, operand: Found, parts: NamedParts) -> Result<Found, AllocError>
         ensures { IfOk result
             (λ e. tree_view e
@@ -322,7 +322,7 @@ impl Found {
     }
 
     /// `SUMMARIZE e PER (p) ADD (..)`
-    #[tactic(auto, using(crate::proofs::Views::summaries_from_of, td_tree::proofs::Rows::summarize_per_is))]
+    #[tactic(auto, using(crate::proofs::Views::summaries_from_of, td_tree::proofs::code_lemmas::Rows::summarize_per_is))]
     pub fn summarize_per(
         alloc: Global,
         operand: Found,

@@ -1,9 +1,10 @@
 //! Laws of what tokens spell: one tree for each list of lexemes, and reading finds it.
 ghost use Rattle.std.specs.Prelude.{◌≡◌, ◌≤◌, ◌↔◌, List, Some};
-ghost use Rattle.td_parse.specs.Parsing.{TokensHaveOneMeaning};
+ghost use Rattle.td_parse.specs.code.Parsing.{TokensHaveOneMeaning};
 ghost use Rattle.td_parse.specs.ReadingStatements.{read_expression, read_statement};
 ghost use Rattle.td_tree.specs.declared.operator.Level.{Level};
-ghost use Rattle.td_tree.specs.Grammar.{IsExpression, Spelling, TypeSpelling, height_limit, loosest};
+ghost use Rattle.td_tree.specs.Grammar.{IsExpression, Spelling, TypeSpelling, height_limit};
+ghost use Rattle.td_tree.specs.Grammar.{loosest};
 ghost use Rattle.td_tree.specs.Heights.{height};
 ghost use Rattle.td_tree.specs.Lexemes.{Lexeme};
 ghost use Rattle.td_tree.specs.StatementGrammar.{StatementSpelling};

@@ -1,11 +1,11 @@
 //! Expressions by precedence: an operand, and what stands between operands, the tightest first.
 ghost use Rattle.std.specs.Prelude.{suc};
-ghost use Rattle.td_parse.specs.Nests.{Nests};
-ghost use Rattle.td_parse.specs.Parsing.{Moves};
+ghost use Rattle.td_parse.specs.code.Nests.{Nests};
+ghost use Rattle.td_parse.specs.code.Parsing.{Moves};
 ghost use Rattle.td_parse.specs.Reading as reading;
 ghost use Rattle.td_parse.specs.Reading.{read};
-ghost use Rattle.td_parse.specs.Walking.{tightness, walk, walked};
-ghost use Rattle.td_tree.specs.TreeViews.{tree_view};
+ghost use Rattle.td_parse.specs.code.Walking.{tightness, walk, walked};
+ghost use Rattle.td_tree.specs.code.TreeViews.{tree_view};
 
 use crate::cursor::{Cursor, SYNTAX};
 use crate::found::Found;
@@ -78,7 +78,7 @@ impl<F: Fn(Global, u8, Level, &mut Cursor<'_, '_>) -> Result<Found, Fault>> Gram
     }
 
     /// Goes on with what stands between operands at these levels, the tightest first.
-    #[tactic(auto, unfolding(crate::specs::Walking::walk))]
+    #[tactic(auto, unfolding(crate::specs::code::Walking::walk))]
     fn walk(
         &self,
         loosest: Level,
@@ -106,7 +106,7 @@ impl<F: Fn(Global, u8, Level, &mut Cursor<'_, '_>) -> Result<Found, Fault>> Gram
     }
 
     /// An expression with operators between operands: its first operand, and then the walk.
-    #[tactic(auto, unfolding(crate::specs::Walking::walked))]
+    #[tactic(auto, unfolding(crate::specs::code::Walking::walked))]
     fn walked(&self, level: Level, tokens: &mut Cursor<'_, '_>) -> Result<Found, Fault>
         requires { Nests self.now.depth (F.pre self.now.inner) (F.post self.now.inner) }
         ensures { Moves tree_view result tokens.new

@@ -1,14 +1,14 @@
 //! Lists of expressions.
 ghost use Rattle.std.specs.Prelude.{map};
 ghost use Rattle.td_tree.specs.Grammar.{loosest};
-ghost use Rattle.td_parse.specs.Nests.{Nests};
-ghost use Rattle.td_parse.specs.Parsing.{Moves};
-ghost use Rattle.td_parse.specs.Views.{named_part_view};
+ghost use Rattle.td_parse.specs.code.Nests.{Nests};
+ghost use Rattle.td_parse.specs.code.Parsing.{Moves};
+ghost use Rattle.td_parse.specs.code.Views.{named_part_view};
 ghost use Rattle.td_tree.specs.Lexemes as lexeme;
 ghost use Rattle.td_parse.specs.Reading as reading;
 ghost use Rattle.td_parse.specs.Reading.{read};
 ghost use Rattle.td_parse.specs.ReadingSteps.{enclosed, listed_to, separated};
-ghost use Rattle.td_tree.specs.TreeViews.{tree_view};
+ghost use Rattle.td_tree.specs.code.TreeViews.{tree_view};
 
 use crate::cursor::{Cursor, SYNTAX};
 use crate::found::Found;

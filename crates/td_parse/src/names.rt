@@ -1,9 +1,9 @@
 //! Names, and the lists of them.
 ghost use Rattle.std.specs.Prelude.{map};
-ghost use Rattle.td_parse.specs.Parsing.{Moves};
+ghost use Rattle.td_parse.specs.code.Parsing.{Moves};
 ghost use Rattle.td_parse.specs.ReadingSteps as reading;
 ghost use Rattle.td_parse.specs.ReadingSteps.{read_name, separated};
-ghost use Rattle.td_tree.specs.TreeViews.{attributes_view, renaming_view};
+ghost use Rattle.td_tree.specs.code.TreeViews.{attributes_view, renaming_view};
 
 use crate::cursor::{Cursor, SYNTAX};
 use crate::steps::closed;

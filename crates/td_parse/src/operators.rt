@@ -1,9 +1,9 @@
 //! What the next tokens begin: an operator, a comparison, a call and so on.
 ghost use Rattle.std.specs.Prelude.{◌≡◌, IfOk};
-ghost use Rattle.td_parse.specs.Parsing.{Eats, Finds, Tries};
+ghost use Rattle.td_parse.specs.code.Parsing.{Eats, Finds, Tries};
 ghost use Rattle.td_tree.specs.Grammar as grammar;
 ghost use Rattle.td_parse.specs.ReadingOperators as reading;
-ghost use Rattle.td_parse.specs.Walking as walking;
+ghost use Rattle.td_parse.specs.code.Walking as walking;
 
 use crate::ahead::Ahead;
 use crate::cursor::Cursor;
@@ -202,7 +202,7 @@ impl Infix {
 }
 
 /// Takes what stands between operands, whatever its level.
-#[tactic(auto, unfolding(crate::specs::Walking::any_infix))]
+#[tactic(auto, unfolding(crate::specs::code::Walking::any_infix))]
 fn any_infix(tokens: &mut Ahead<'_, '_>) -> Option<Infix>
     ensures { Finds result tokens.new (walking.any_infix tokens.old) }
 {
@@ -221,7 +221,7 @@ fn any_infix(tokens: &mut Ahead<'_, '_>) -> Option<Infix>
 }
 
 /// Takes what stands between operands at one of these levels, if it comes next.
-#[tactic(auto, unfolding(crate::specs::Walking::infix_at))]
+#[tactic(auto, unfolding(crate::specs::code::Walking::infix_at))]
 pub fn next_infix(loosest: Level, tightest: Level, tokens: &mut Cursor<'_, '_>) -> Option<Infix>
     ensures { Tries result tokens.old tokens.new
         (walking.infix_at (walking.tightness loosest) (walking.tightness tightest) tokens.old) }
@@ -236,7 +236,7 @@ pub fn next_infix(loosest: Level, tightest: Level, tokens: &mut Cursor<'_, '_>) 
 }
 
 /// Takes `NOT`, if it comes next and a negation may stand at this level.
-#[tactic(auto, unfolding(crate::specs::Walking::not_at))]
+#[tactic(auto, unfolding(crate::specs::code::Walking::not_at))]
 pub fn negation(level: Level, tokens: &mut Cursor<'_, '_>) -> bool
     ensures { Eats (walking.not_at level tokens.old) result tokens.old tokens.new }
 {

@@ -1,6 +1,6 @@
 //! Lists of expressions that were read, each with the height of its highest.
 ghost use Rattle.std.specs.Prelude.{◌≡◌, ◌∷◌, ◌++◌, [], length, IfOk, OnOk};
-ghost use Rattle.td_parse.specs.FoundSummaries.{summary_view};
+ghost use Rattle.td_parse.specs.code.FoundSummaries.{summary_view};
 
 use crate::found::Found;
 use std::alloc::{AllocError, Global};
@@ -22,7 +22,7 @@ impl Model for Elements {
     ghost use Rattle.td_tree.specs.contracts.expression.Expr as expr;
     ghost use Rattle.td_tree.specs.declared.expression.Expr.{Expr};
     ghost use Rattle.td_tree.specs.Heights.{highest};
-    ghost use Rattle.td_tree.specs.TreeViews.{trees_view};
+    ghost use Rattle.td_tree.specs.code.TreeViews.{trees_view};
 
     ghost Value = { List Expr };
 
@@ -69,7 +69,7 @@ impl Model for NamedParts {
     ghost use Rattle.td_tree.specs.contracts.expression.NamedExpr as named_expr;
     ghost use Rattle.td_tree.specs.declared.expression.NamedExpr.{NamedExpr};
     ghost use Rattle.td_tree.specs.Heights.{highest_named};
-    ghost use Rattle.td_tree.specs.TreeViews.{named_view};
+    ghost use Rattle.td_tree.specs.code.TreeViews.{named_view};
 
     ghost Value = { List NamedExpr };
 
@@ -143,7 +143,7 @@ impl Model for Summaries {
     ghost use Rattle.td_tree.specs.contracts.expression.Summary as summary;
     ghost use Rattle.td_tree.specs.declared.expression.Summary.{Summary};
     ghost use Rattle.td_tree.specs.Heights.{highest_summary};
-    ghost use Rattle.td_tree.specs.TreeViews.{summaries_view};
+    ghost use Rattle.td_tree.specs.code.TreeViews.{summaries_view};
 
     ghost Value = { List Summary };
 

@@ -1,10 +1,10 @@
 //! Operators behind their operand.
 ghost use Rattle.std.specs.Prelude.{◌≡◌, map};
-ghost use Rattle.td_parse.specs.Parsing.{Moves};
+ghost use Rattle.td_parse.specs.code.Parsing.{Moves};
 ghost use Rattle.td_parse.specs.Reading as reading;
 ghost use Rattle.td_parse.specs.ReadingOperators.{postfix_at};
 ghost use Rattle.td_parse.specs.ReadingSteps.{enclosed, read_name, read_renaming, separated};
-ghost use Rattle.td_tree.specs.TreeViews.{attributes_view, postfix_view, renaming_view};
+ghost use Rattle.td_tree.specs.code.TreeViews.{attributes_view, postfix_view, renaming_view};
 
 use crate::cursor::{Cursor, SYNTAX};
 use crate::names::{alias, attributes, name, renamings};

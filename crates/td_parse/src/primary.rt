@@ -1,8 +1,8 @@
 //! Primary expressions.
 ghost use Rattle.std.specs.Prelude.{◌≡◌, Some, None, nat_le, option_map, if◌then◌else◌};
 ghost use Rattle.td_tree.specs.Grammar.{loosest};
-ghost use Rattle.td_parse.specs.Nests.{Nests};
-ghost use Rattle.td_parse.specs.Parsing.{Moves};
+ghost use Rattle.td_parse.specs.code.Nests.{Nests};
+ghost use Rattle.td_parse.specs.code.Parsing.{Moves};
 ghost use Rattle.td_tree.specs.Lexemes as lexeme;
 ghost use Rattle.td_tree.specs.Numbers.{decimal_value, numeral_limit};
 ghost use Rattle.td_tree.specs.Pieces.{kind_of};
@@ -12,7 +12,7 @@ ghost use Rattle.td_parse.specs.ReadingSteps.{read_up_to};
 ghost use Rattle.std.specs.Rc.{rc_str_bytes};
 ghost use Rattle.td_tree.specs.Symbols.{symbols};
 ghost use Rattle.td_tree.specs.Trees as trees;
-ghost use Rattle.td_tree.specs.TreeViews.{tree_view};
+ghost use Rattle.td_tree.specs.code.TreeViews.{tree_view};
 
 use crate::cursor::{Cursor, SYNTAX};
 use crate::found::Found;

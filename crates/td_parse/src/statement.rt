@@ -1,12 +1,12 @@
 //! Statements.
 ghost use Rattle.std.specs.Prelude.{◌≡◌};
-ghost use Rattle.td_parse.specs.Parsing.{Moves, Parsed, has_bad, is_bad, or_syntax};
+ghost use Rattle.td_parse.specs.code.Parsing.{Moves, Parsed, has_bad, is_bad, or_syntax};
 ghost use Rattle.td_parse.specs.ReadingStatements as reading;
 ghost use Rattle.td_parse.specs.ReadingStatements.{read_statement};
 ghost use Rattle.td_tree.specs.Outcomes.{Answers, Outcome};
 ghost use Rattle.td_tree.specs.TokenLexemes.{lexemes};
 ghost use Rattle.td_tree.specs.Trees as trees;
-ghost use Rattle.td_tree.specs.TreeViews.{statement_view};
+ghost use Rattle.td_tree.specs.code.TreeViews.{statement_view};
 
 use crate::assignment::{assignments, expression};
 use crate::cursor::Cursor;

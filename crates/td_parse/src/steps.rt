@@ -1,5 +1,5 @@
 //! What was read, and what has to follow it.
-ghost use Rattle.td_parse.specs.Parsing.{Both, Fits, Keeps};
+ghost use Rattle.td_parse.specs.code.Parsing.{Both, Fits, Keeps};
 ghost use Rattle.td_tree.specs.Lexemes as lexeme;
 ghost use Rattle.td_parse.specs.ReadingSteps.{expect};
 

@@ -1,14 +1,14 @@
 //! `SUMMARIZE`.
 ghost use Rattle.std.specs.Prelude.{map};
 ghost use Rattle.td_tree.specs.Grammar.{loosest};
-ghost use Rattle.td_parse.specs.FoundSummaries.{summary_view};
-ghost use Rattle.td_parse.specs.Nests.{Nests};
-ghost use Rattle.td_parse.specs.Parsing.{Moves};
-ghost use Rattle.td_parse.specs.Views.{item_view};
+ghost use Rattle.td_parse.specs.code.FoundSummaries.{summary_view};
+ghost use Rattle.td_parse.specs.code.Nests.{Nests};
+ghost use Rattle.td_parse.specs.code.Parsing.{Moves};
+ghost use Rattle.td_parse.specs.code.Views.{item_view};
 ghost use Rattle.td_parse.specs.Reading as reading;
 ghost use Rattle.td_parse.specs.Reading.{read, summaries_from};
 ghost use Rattle.td_parse.specs.ReadingSteps.{enclosed, separated};
-ghost use Rattle.td_tree.specs.TreeViews.{tree_view};
+ghost use Rattle.td_tree.specs.code.TreeViews.{tree_view};
 
 use crate::cursor::{Cursor, SYNTAX};
 use crate::found::Found;

@@ -1,12 +1,12 @@
 //! Types and headings.
 ghost use Rattle.std.specs.Prelude.{◌≡◌};
-ghost use Rattle.td_parse.specs.Parsing.{Moves};
+ghost use Rattle.td_parse.specs.code.Parsing.{Moves};
 ghost use Rattle.td_parse.specs.ReadingSteps.{listed_to, separated};
 ghost use Rattle.td_parse.specs.ReadingTypes as reading;
 ghost use Rattle.td_parse.specs.ReadingTypes.{read_type};
 ghost use Rattle.td_tree.specs.Trees as trees;
-ghost use Rattle.td_tree.specs.TreeViews.{heading_tree_view, type_tree_view};
-ghost use Rattle.td_parse.specs.Views.{attribute_tree_view, attribute_trees_view};
+ghost use Rattle.td_tree.specs.code.TreeViews.{heading_tree_view, type_tree_view};
+ghost use Rattle.td_parse.specs.code.Views.{attribute_tree_view, attribute_trees_view};
 ghost use Rattle.td_tree.specs.Lexemes.{sign};
 
 use crate::cursor::{Cursor, SYNTAX};
@@ -19,7 +19,7 @@ use td_tree::token::{Kind, Sign};
 use td_tree::type_tree::{AttributeTree, TypeTree};
 
 /// `TUPLE {A INTEGER, ..}`
-#[tactic(auto, using(td_tree::proofs::Rows::tuple_type_is))]
+#[tactic(auto, using(td_tree::proofs::code_lemmas::Rows::tuple_type_is))]
 fn tuple_type(heading: Vec<AttributeTree>) -> TypeTree
     ensures { type_tree_view result ≡ trees.tuple_type (heading_tree_view heading.items) }
 {
@@ -27,7 +27,7 @@ fn tuple_type(heading: Vec<AttributeTree>) -> TypeTree
 }
 
 /// `RELATION {A INTEGER, ..}`
-#[tactic(auto, using(td_tree::proofs::Rows::relation_type_is))]
+#[tactic(auto, using(td_tree::proofs::code_lemmas::Rows::relation_type_is))]
 fn relation_type(heading: Vec<AttributeTree>) -> TypeTree
     ensures { type_tree_view result ≡ trees.relation_type (heading_tree_view heading.items) }
 {

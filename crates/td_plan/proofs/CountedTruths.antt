@@ -3,8 +3,8 @@ use Rattle.std.proofs.Common.{◌≡◌, ◌∙◌, ℕ, Bool, true, false, List
 use Rattle.std.proofs.lemmas.List.Sums.{length-filter}
 use Rattle.std.specs.Prelude.{cond, count_by, nat_eq, pos}
 use Rattle.td_algebra.specs.Operators.{restriction}
-use Rattle.td_eval.proofs.OpTuples.{truths_are}
-use Rattle.td_eval.proofs.OpValues.{relation_unpacked}
+use Rattle.td_eval.proofs.code_lemmas.OpTuples.{truths_are}
+use Rattle.td_eval.proofs.code_lemmas.OpValues.{relation_unpacked}
 use Rattle.td_eval.specs.OperatorValues.{is_true, measure_value, of_truth, restricted_value, truth_value}
 use Rattle.td_plan.specs.Counted.{number_measured}
 use Rattle.td_tree.specs.declared.operator.Measure.{Measure}

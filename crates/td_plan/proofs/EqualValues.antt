@@ -25,7 +25,7 @@ use Rattle.td_algebra.proofs.Lists.{contains_filter, contains_first, contains_la
 use Rattle.td_algebra.proofs.Relations.{member_headed}
 use Rattle.td_algebra.proofs.SetEqualities.{restriction_of_difference, restriction_of_intersection, restriction_of_union}
 use Rattle.td_body.specs.Bodies.{agreeing}
-use Rattle.td_eval.proofs.OpValues.{relation_unpacked}
+use Rattle.td_eval.proofs.code_lemmas.OpValues.{relation_unpacked}
 use Rattle.td_plan.specs.Equalities.{AsksOnlyOf, has_values, is_at}
 use Rattle.td_plan.specs.EqualitiesOfValues.{AndIsOfBoth, AreTotalIn, EqualityIsOfOneValue, EqualityIsOfValue, Gives, IsAnsweredBy, IsHeadedAndAnswered, IsTotalIn, TotalConditionsRestrict, WhereAfterLookUp, WhereByAnd, WhereByAnds, WhereIsLookUp, WhereOfIntersectOnLeft, WhereOfIntersectOnRight, WhereOfJoinOnLeft, WhereOfJoinOnRight, WhereOfMatching, WhereOfMinus, WhereOfNotMatching, WhereOfTimesOnLeft, WhereOfTimesOnRight, WhereOfUnion, WheresCommute, conjoined, operated, where_value}
 use Rattle.td_eval.specs.OperatorValues.{comparison_value, is_true, of_relation, of_truth, on_relation, on_relations, relation_where, restricted_value, truth_value}

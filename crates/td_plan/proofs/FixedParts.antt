@@ -5,7 +5,7 @@ use Rattle.std.proofs.lemmas.List.Sorted.{Contains-permutation, IsPermutation-sw
 use Rattle.std.proofs.lemmas.List.{map-append}
 use Rattle.std.specs.List.{AllByRecursion, Contains, slice_get, swap_remove}
 use Rattle.td_algebra.proofs.Lists.{contains_cases, contains_later, contains_none}
-use Rattle.td_eval.proofs.KeepsGathered.{all_from_members, member_from_all}
+use Rattle.td_eval.proofs.code_lemmas.KeepsGathered.{all_from_members, member_from_all}
 use Rattle.td_types.specs.Types.{Heading, Type', attribute_names}
 
 -- the others are of the list

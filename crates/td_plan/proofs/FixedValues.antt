@@ -10,7 +10,7 @@ use Rattle.td_check.specs.Mentions.{name_set}
 use Rattle.td_check.specs.Scopes.{Scope}
 use Rattle.td_check.specs.StaticTypes.{type_of}
 use Rattle.td_check.specs.WrittenNames.{names_in}
-use Rattle.td_eval.proofs.UnfailingTrees.{unfailing_expressions_have_values}
+use Rattle.td_eval.proofs.law_lemmas.UnfailingTrees.{unfailing_expressions_have_values}
 use Rattle.td_eval.specs.OperatorValues.{comparison_value, of_truth}
 use Rattle.td_eval.specs.TreeValues.{value_of}
 use Rattle.td_eval.specs.ValueTypes.{IsWritten}
@@ -22,7 +22,7 @@ use Rattle.td_plan.specs.Fixing.{AreOneWhere, IsNamedApart, MayFix}
 use Rattle.td_plan.specs.Narrowing.{AreFixed, Implies, IsFixedTo}
 use Rattle.td_plan.specs.Plans.{PlanTree}
 use Rattle.td_plan.specs.PlansOf.{IsPlanOfTyped, outermost}
-use Rattle.td_plan.specs.StepViews.{step_view}
+use Rattle.td_plan.specs.code.StepViews.{step_view}
 use Rattle.td_tree.specs.declared.operator.Comparison.TheVariants as comparisons
 use Rattle.td_tree.specs.declared.operator.Operator.TheVariants as operators
 use Rattle.td_tree.specs.Outcomes.{Outcome, Valued, Refused, with_both}

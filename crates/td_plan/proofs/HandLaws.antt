@@ -8,7 +8,7 @@ use Rattle.td_tree.specs.declared.fault.Fault.TheVariants as faults
 use Rattle.td_tree.specs.Outcomes.{Answers, Outcome, Valued, Refused, Only}
 use Rattle.td_plan.specs.declared.hand.Hand.{Hand}
 use Rattle.td_plan.specs.declared.hand.Held.{Held}
-use Rattle.td_plan.specs.Hands.{AreAnswers, AreHeld, IsAnswer, IsHand, IsHeld}
+use Rattle.td_plan.specs.code.Hands.{AreAnswers, AreHeld, IsAnswer, IsHand, IsHeld}
 use Rattle.td_plan.specs.Plans.{Frame, fixed_at, frame_of, outcome_or, unknown}
 use Rattle.td_value.specs.Values.{Val}
 

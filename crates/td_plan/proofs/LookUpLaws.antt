@@ -3,8 +3,8 @@ use Rattle.std.proofs.Common.{◌≡◌, ◌∙◌, ℕ, List, Option, Some, Non
 use Rattle.std.specs.Prelude.{IfSome}
 use Rattle.td_body.specs.Bodies.{agreeing}
 use Rattle.td_catalog.specs.Database.{BaseRelvar, Database, base_named}
-use Rattle.td_eval.proofs.OpValues.{relation_unpacked}
-use Rattle.td_eval.proofs.WorldParts.{base_value}
+use Rattle.td_eval.proofs.code_lemmas.OpValues.{relation_unpacked}
+use Rattle.td_eval.proofs.code_lemmas.WorldParts.{base_value}
 use Rattle.td_eval.specs.DatabaseWorlds.{world_of}
 use Rattle.td_eval.specs.OperatorValues.{of_relation, on_tuple}
 use Rattle.td_eval.specs.Worlds.{World, known_outcome}

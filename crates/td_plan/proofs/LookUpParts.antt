@@ -19,7 +19,7 @@ use Rattle.td_plan.specs.Narrowing.{AreFixed, IsFixedAt}
 use Rattle.td_plan.specs.Plans as plans
 use Rattle.td_plan.specs.Plans.{Frame, PlanTrees, plan_value, plan_values}
 use Rattle.td_plan.specs.PlansOf.{AreFramesOf, AreInHand, outermost}
-use Rattle.td_plan.specs.StepViews.{steps_view}
+use Rattle.td_plan.specs.code.StepViews.{steps_view}
 use Rattle.td_tree.specs.Names.{IsName}
 use Rattle.td_tree.specs.Outcomes.{Valued, gathered, with_both, with_value}
 use Rattle.td_tree.specs.Trees.{Tree}

@@ -6,12 +6,12 @@ use Rattle.td_check.specs.CannotFail.{cannot_fail}
 use Rattle.td_check.specs.OperatorTypes.{known_or, over_relation, restriction_type, same_type}
 use Rattle.td_check.specs.Scopes.{KnownRelvar, Scope, entered_with, innermost, known_relvar}
 use Rattle.td_check.specs.StaticTypes.{name_type, type_of}
-use Rattle.td_eval.proofs.KeepsOperators.{typed_restriction}
-use Rattle.td_eval.proofs.KeepsRelations.{typed_from_value, value_from_typed}
-use Rattle.td_eval.proofs.OpValues.{relation_unpacked, tuple_unpacked}
-use Rattle.td_eval.proofs.TypedRows.{parts_typed, rows_typed}
-use Rattle.td_eval.proofs.TypedTrees.{innermost_typed}
-use Rattle.td_eval.proofs.TypedValues.{rows_of, type_is}
+use Rattle.td_eval.proofs.code_lemmas.KeepsOperators.{typed_restriction}
+use Rattle.td_eval.proofs.code_lemmas.KeepsRelations.{typed_from_value, value_from_typed}
+use Rattle.td_eval.proofs.code_lemmas.OpValues.{relation_unpacked, tuple_unpacked}
+use Rattle.td_eval.proofs.code_lemmas.TypedRows.{parts_typed, rows_typed}
+use Rattle.td_eval.proofs.code_lemmas.TypedTrees.{innermost_typed}
+use Rattle.td_eval.proofs.code_lemmas.TypedValues.{rows_of, type_is}
 use Rattle.td_eval.specs.OperatorValues.{of_relation, on_relation}
 use Rattle.td_eval.specs.TreeNumbers.{HasNumbers}
 use Rattle.td_eval.specs.TreeValues.{value_of}
@@ -34,7 +34,7 @@ use Rattle.td_tree.specs.Trees as trees
 use Rattle.td_tree.specs.Trees.{Tree}
 use Rattle.td_types.proofs.OutcomeLaws.{value_of_test, value_of_with, valued_is}
 use Rattle.td_types.specs.Headings.{projection}
-use Rattle.td_types.specs.TypeCode.{unpack_pack}
+use Rattle.td_types.specs.code.TypeCode.{unpack_pack}
 use Rattle.td_types.specs.TypeLists.{DeclaredType}
 use Rattle.td_types.specs.Types as types
 use Rattle.td_types.specs.Types.{Heading, IsHeading, Type', attribute_names, pack, unpack}
@@ -42,7 +42,7 @@ use Rattle.td_value.proofs.Packed.{pack_unpack_rows}
 use Rattle.td_value.specs.Agreement.{agree_on}
 use Rattle.td_value.specs.Values.{Relation, Tuple, Val, relation_value, unpack_rows}
 use Rattle.td_value.specs.Values as values
-use Rattle.td_value.specs.Views.{relation_view}
+use Rattle.td_value.specs.code.Views.{relation_view}
 
 -- ---- the value of a base relvar
 

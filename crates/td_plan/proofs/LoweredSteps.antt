@@ -3,7 +3,7 @@ use Rattle.std.proofs.Common.{◌≡◌, ℕ, List, [], ◌∷◌, ◌++◌, ap}
 use Rattle.td_plan.specs.declared.step.Step.{Step}
 use Rattle.td_plan.specs.Hoisting.{all_lowered, lowered}
 use Rattle.td_plan.specs.Plans.{none, more}
-use Rattle.td_plan.specs.StepViews.{step_view, steps_view}
+use Rattle.td_plan.specs.code.StepViews.{step_view, steps_view}
 
 pub lowered_push : (k : ℕ) (xs ys : List Step) (x y : Step) → steps_view ys ≡ all_lowered k (steps_view xs) → step_view y ≡ lowered k (step_view x)
     → steps_view (ys ++ (y ∷ [])) ≡ all_lowered k (steps_view (xs ++ (x ∷ [])))

@@ -7,7 +7,7 @@ use Rattle.td_catalog.specs.Database.{Database}
 use Rattle.td_plan.specs.declared.planner.Planner.{Planner}
 use Rattle.td_plan.specs.declared.planning.Planning.{Planning}
 use Rattle.td_plan.specs.declared.step.Step.{Step}
-use Rattle.td_plan.specs.PlansBelow.{PlansBelow}
+use Rattle.td_plan.specs.code.PlansBelow.{PlansBelow}
 use Rattle.td_tree.specs.declared.expression.Expr.{Expr}
 
 module _ {C F : Type 0} {database : C → Database} {p : Planning C F}

@@ -3,7 +3,7 @@ use Rattle.std.proofs.Common.{◌≡◌, ◌∙◌, ℕ, suc, Bool, true, false,
 use Rattle.std.specs.List.{slice_get}
 use Rattle.td_check.specs.Scopes.{Scope}
 use Rattle.td_eval.specs.Worlds.{World, innermost_value, known_outcome, name_value}
-use Rattle.td_plan.specs.Planners.{attribute_place, place_in}
+use Rattle.td_plan.specs.code.Planners.{attribute_place, place_in}
 use Rattle.td_plan.specs.Plans as plans
 use Rattle.td_plan.specs.Plans.{Frame, attribute_at, value_or}
 use Rattle.td_plan.specs.PlansOf.{AreFramesOf, IsPlanOfTyped}
@@ -11,7 +11,7 @@ use Rattle.td_tree.specs.Outcomes.{Outcome, Valued}
 use Rattle.td_tree.specs.Trees as trees
 use Rattle.td_types.specs.Types.{same_name}
 use Rattle.td_value.specs.Values.{Tuple, Val, heading_of, value_at}
-use Rattle.td_value.specs.Views.{values_of}
+use Rattle.td_value.specs.code.Views.{values_of}
 
 -- the value of a name in a tuple stands at its place
 abbrev FoundIn : List ℕ → Tuple → Option ℕ → Type 0

@@ -11,7 +11,7 @@ use Rattle.td_eval.specs.TreeTexts.{HaveTexts, PartsHaveTexts}
 use Rattle.td_eval.specs.TreeValues.{argument_values, entry_values, value_of}
 use Rattle.td_eval.specs.UnfailingValues.{GivesValues}
 use Rattle.td_eval.specs.Worlds.{World, selected}
-use Rattle.td_plan.specs.PlannedParts.{ArePlansOfTyped, in_named, in_trees, names_in}
+use Rattle.td_plan.specs.code.PlannedParts.{ArePlansOfTyped, in_named, in_trees, names_in}
 use Rattle.td_plan.specs.Plans as plans
 use Rattle.td_plan.specs.Plans.{Frame, PlanTree, PlanTrees, plan_value, plan_values}
 use Rattle.td_plan.specs.PlansOf.{AreFramesOf, AreInHand, IsPlanOfTyped, outermost}

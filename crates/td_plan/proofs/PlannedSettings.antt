@@ -5,9 +5,9 @@ use Rattle.td_algebra.proofs.Relations.{member_headed}
 use Rattle.td_algebra.specs.Columns.{columns_view}
 use Rattle.td_algebra.specs.declared.extension.Column.{Column}
 use Rattle.td_check.specs.Scopes.{Scope, entered_with}
-use Rattle.td_eval.proofs.AlikeRows.{AreAlikeIn, map_alike}
-use Rattle.td_eval.proofs.KeepsGathered.{member_from_all}
-use Rattle.td_eval.specs.NewColumns.{named_columns, with_values}
+use Rattle.td_eval.proofs.law_lemmas.AlikeRows.{AreAlikeIn, map_alike}
+use Rattle.td_eval.proofs.code_lemmas.KeepsGathered.{member_from_all}
+use Rattle.td_eval.specs.code.NewColumns.{named_columns, with_values}
 use Rattle.td_eval.specs.OperatorValues.{value_of_type}
 use Rattle.td_eval.specs.TreeValues.{values_in_tuples}
 use Rattle.td_eval.specs.ValueTypes.{IsTypedTuple}
@@ -15,11 +15,11 @@ use Rattle.td_eval.specs.Worlds.{World}
 use Rattle.td_plan.proofs.PlannedTuples.{all_pulled, parts_alike}
 use Rattle.td_plan.proofs.RunLaws.{as_many_columns}
 use Rattle.td_plan.specs.declared.plan.PartPlans.{PartPlans}
-use Rattle.td_plan.specs.PlannedParts.{ArePartPlans, ArePlansOfTyped, in_named}
+use Rattle.td_plan.specs.code.PlannedParts.{ArePartPlans, ArePlansOfTyped, in_named}
 use Rattle.td_plan.specs.Plans.{Frame, PlanTrees, more, none, plan_columns, plan_values}
 use Rattle.td_plan.specs.PlansOf.{AreFramesOf, PartsMeetRulesIn}
-use Rattle.td_plan.specs.Runs.{values_planned}
-use Rattle.td_plan.specs.StepViews.{steps_view}
+use Rattle.td_plan.specs.code.Runs.{values_planned}
+use Rattle.td_plan.specs.code.StepViews.{steps_view}
 use Rattle.td_tree.specs.declared.fault.Fault.{Fault}
 use Rattle.td_tree.specs.Outcomes.{Answers, Outcome, gathered, with_value}
 use Rattle.td_tree.specs.Trees.{NamedTrees, Tree}

@@ -10,18 +10,18 @@ use Rattle.td_check.specs.StaticTypes.{items_of, type_of, with_items}
 use Rattle.td_check.proofs.SummaryLaws.{HeadingItems, Items}
 use Rattle.td_eval.specs.AggregateValues.{summarized_value, summary_attributes, summary_value}
 use Rattle.td_eval.specs.OperatorValues.{on_relation, postfix_value}
-use Rattle.td_eval.specs.Totals.{asked_by}
+use Rattle.td_eval.specs.code.Totals.{asked_by}
 use Rattle.td_eval.specs.TreeTexts.{ItemsHaveTexts}
 use Rattle.td_eval.specs.TreeValues.{items_in_tuples, value_of}
 use Rattle.td_eval.specs.ValueTypes.{IsOfType, IsWritten, KeepsType}
 use Rattle.td_eval.specs.UnfailingValues.{GivesValues}
 use Rattle.td_eval.specs.Worlds.{World, with_tuples}
-use Rattle.td_eval.proofs.AlikeOutcomes.{both_alike, over_same, with_alike}
-use Rattle.td_eval.proofs.AlikeSummaries.{SummandsAlikeIn, summarized_alike}
-use Rattle.td_eval.proofs.SummaryParts.{attributes_of_items, by_type, more_changes_no_items, per_type}
-use Rattle.td_eval.proofs.TypedRows.{rows_typed}
+use Rattle.td_eval.proofs.law_lemmas.AlikeOutcomes.{both_alike, over_same, with_alike}
+use Rattle.td_eval.proofs.law_lemmas.AlikeSummaries.{SummandsAlikeIn, summarized_alike}
+use Rattle.td_eval.proofs.code_lemmas.SummaryParts.{attributes_of_items, by_type, more_changes_no_items, per_type}
+use Rattle.td_eval.proofs.code_lemmas.TypedRows.{rows_typed}
 use Rattle.td_plan.specs.Hoisting.{HoistsAll}
-use Rattle.td_plan.specs.PlannedParts.{ArePlansOfTyped, in_summaries}
+use Rattle.td_plan.specs.code.PlannedParts.{ArePlansOfTyped, in_summaries}
 use Rattle.td_plan.specs.Plans as plans
 use Rattle.td_plan.specs.Plans.{Frame, PlanTree, PlanTrees, plan_columns, plan_value, plan_values, summary_of}
 use Rattle.td_plan.specs.PlansOf.{AreFramesOf, AreInHand, IsPlanOfTyped, outermost}
@@ -31,12 +31,12 @@ use Rattle.td_group.specs.declared.aggregates.Agg.{Agg}
 use Rattle.td_tree.specs.declared.expression.Summary.{Summary}
 use Rattle.td_tree.specs.declared.expression.Summary.TheVariants as summaries
 use Rattle.td_tree.specs.Outcomes.{Outcome, Valued, gathered, with_both, with_value}
-use Rattle.td_tree.specs.TreeViews.{summaries_view}
+use Rattle.td_tree.specs.code.TreeViews.{summaries_view}
 use Rattle.td_tree.specs.Trees as trees
 use Rattle.td_tree.specs.Trees.{Attributes, Summaries, Tree, project}
 use Rattle.td_types.proofs.Meanings.{pack_unpack}
 use Rattle.td_types.proofs.OutcomeLaws.{value_of_with, valued_is, values_of_both}
-use Rattle.td_types.specs.TypeCode.{unpack_pack}
+use Rattle.td_types.specs.code.TypeCode.{unpack_pack}
 use Rattle.td_types.specs.Types.{Attribute, Heading, Type', boolean, integer, pack, unpack}
 use Rattle.td_types.specs.Types as types
 use Rattle.td_value.specs.Values.{Relation, Tuple, Val, relation_value}

@@ -15,13 +15,13 @@ use Rattle.td_eval.specs.TreeValues.{value_of, values_in_tuples}
 use Rattle.td_eval.specs.ValueTypes.{IsTypedTuple, IsWritten, KeepsType}
 use Rattle.td_eval.specs.UnfailingValues.{GivesValues}
 use Rattle.td_eval.specs.Worlds.{World, with_tuples}
-use Rattle.td_eval.proofs.AlikeOutcomes.{over_same}
-use Rattle.td_eval.proofs.AlikeRows.{AlikeIn, AreAlikeIn, aggregated_alike, extended_alike, restricted_alike}
-use Rattle.td_eval.proofs.TypedRows.{rows_typed}
-use Rattle.td_eval.proofs.TypedTrees.{values_keep_types}
+use Rattle.td_eval.proofs.law_lemmas.AlikeOutcomes.{over_same}
+use Rattle.td_eval.proofs.law_lemmas.AlikeRows.{AlikeIn, AreAlikeIn, aggregated_alike, extended_alike, restricted_alike}
+use Rattle.td_eval.proofs.code_lemmas.TypedRows.{rows_typed}
+use Rattle.td_eval.proofs.code_lemmas.TypedTrees.{values_keep_types}
 use Rattle.td_plan.specs.Hoisting.{BeginsWith, Hoists, HoistsAll}
 use Rattle.td_plan.specs.Narrowing.{Narrows}
-use Rattle.td_plan.specs.PlannedParts.{ArePlansOfTyped, in_named}
+use Rattle.td_plan.specs.code.PlannedParts.{ArePlansOfTyped, in_named}
 use Rattle.td_plan.specs.Plans as plans
 use Rattle.td_plan.specs.Plans.{Frame, PlanTree, PlanTrees, extension_of, frame_of, plan_columns, plan_value, plan_values, where_as_many}
 use Rattle.td_plan.specs.PlansOf.{AreFramesOf, AreInHand, IsPlanOfTyped, outermost}
@@ -30,7 +30,7 @@ use Rattle.td_tree.specs.Outcomes.{Outcome, Valued, with_value}
 use Rattle.td_tree.specs.Trees as trees
 use Rattle.td_tree.specs.Trees.{NamedTrees, Tree}
 use Rattle.td_types.proofs.OutcomeLaws.{value_of_with, valued_is, values_of_both}
-use Rattle.td_types.specs.TypeCode.{unpack_pack}
+use Rattle.td_types.specs.code.TypeCode.{unpack_pack}
 use Rattle.td_types.specs.Types.{Attribute, Attrs, Heading, Type', pack, unpack}
 use Rattle.td_types.specs.Types as types
 use Rattle.td_value.specs.Values.{Relation, Tuple, Val, heading_of}

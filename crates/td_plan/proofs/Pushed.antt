@@ -8,7 +8,7 @@ use Rattle.td_check.specs.OperatorTypes.{joined_apart, operator_type, over_relat
 use Rattle.td_check.specs.Scopes.{Scope, entered_with}
 use Rattle.td_check.specs.StaticTypes.{type_of}
 use Rattle.td_check.specs.WrittenNames.{names_in}
-use Rattle.td_eval.proofs.TypedTrees.{values_keep_types}
+use Rattle.td_eval.proofs.code_lemmas.TypedTrees.{values_keep_types}
 use Rattle.td_eval.specs.OperatorValues.{of_relation}
 use Rattle.td_eval.specs.TreeValues.{value_of}
 use Rattle.td_eval.specs.UnfailingValues.{GivesValues}
@@ -35,7 +35,7 @@ use Rattle.td_types.proofs.HeadingLaws.{has_attribute-names, type_at-union}
 use Rattle.td_types.proofs.NameTests.{name_tests_tell}
 use Rattle.td_types.proofs.OutcomeLaws.{value_of_test, value_of_with, valued_is, values_of_both}
 use Rattle.td_types.specs.Headings.{agree, has_attribute, has_name, have_no_common, heading_union, united_heading}
-use Rattle.td_types.specs.TypeCode.{unpack_pack}
+use Rattle.td_types.specs.code.TypeCode.{unpack_pack}
 use Rattle.td_types.specs.TypeLists.{DeclaredType}
 use Rattle.td_types.specs.Types as types
 use Rattle.td_types.specs.Types.{Heading, Type', attribute_names, pack, type_at, unpack}

@@ -10,9 +10,9 @@ use Rattle.td_eval.specs.OperatorValues.{prefix_value, truth_value}
 use Rattle.td_eval.specs.Worlds.{World}
 use Rattle.td_plan.specs.declared.step.Step.{Step}
 use Rattle.td_plan.specs.Plans.{Frame, PlanTree, frame_of, plan_value}
-use Rattle.td_plan.specs.Quick.{AreInRows, AreQuick}
-use Rattle.td_plan.specs.Runs.{value_in}
-use Rattle.td_plan.specs.StepViews.{step_view}
+use Rattle.td_plan.specs.code.Quick.{AreInRows, AreQuick}
+use Rattle.td_plan.specs.code.Runs.{value_in}
+use Rattle.td_plan.specs.code.StepViews.{step_view}
 use Rattle.td_tree.specs.declared.operator.Prefix.TheVariants as prefixes
 use Rattle.td_tree.specs.Outcomes.{Outcome, Valued, gathered, with_both, with_value}
 use Rattle.td_value.specs.Values.{Tuple, Val, boolean}

@@ -6,28 +6,28 @@ use Rattle.std.specs.List.{zip}
 use Rattle.std.specs.Prelude.{IfOk, nat_eq}
 use Rattle.td_algebra.specs.Columns.{NamedColumn, columns_view}
 use Rattle.td_algebra.specs.declared.extension.Column.{Column}
-use Rattle.td_eval.proofs.Selectors.{other_scope}
-use Rattle.td_eval.proofs.WorldParts.{world_scope}
+use Rattle.td_eval.proofs.code_lemmas.Selectors.{other_scope}
+use Rattle.td_eval.proofs.code_lemmas.WorldParts.{world_scope}
 use Rattle.td_eval.specs.declared.env.Env.{Env}
 use Rattle.td_eval.specs.DatabaseWorlds.{world_of}
-use Rattle.td_eval.specs.NewColumns.{AreColumnsFor, named_columns, with_values}
+use Rattle.td_eval.specs.code.NewColumns.{AreColumnsFor, named_columns, with_values}
 use Rattle.td_eval.specs.OperatorValues.{column_values, on_truth, truth_value}
-use Rattle.td_eval.specs.Sights.{other_in, world_in}
+use Rattle.td_eval.specs.code.Sights.{other_in, world_in}
 use Rattle.td_eval.specs.Worlds.{World}
 use Rattle.td_plan.proofs.HandLaws.{are_told, frame_told, held_told, told}
 use Rattle.td_plan.specs.declared.hand.Entered.{Entered}
 use Rattle.td_plan.specs.declared.step.Step.{Step}
 use Rattle.td_plan.specs.declared.surroundings.ValuedRelvar.{ValuedRelvar}
-use Rattle.td_plan.specs.Hands.{AreValued, IsValued}
+use Rattle.td_plan.specs.code.Hands.{AreValued, IsValued}
 use Rattle.td_plan.specs.Plans.{Frame, where_as_many}
-use Rattle.td_plan.specs.Runs.{IsEntered, IsInside, step_value, step_values, value_in, values_in}
+use Rattle.td_plan.specs.code.Runs.{IsEntered, IsInside, step_value, step_values, value_in, values_in}
 use Rattle.td_tree.specs.declared.cause.Cause.TheVariants as causes
 use Rattle.td_tree.specs.declared.fault.Fault.{Fault}
 use Rattle.td_tree.specs.declared.fault.Fault.TheVariants as faults
 use Rattle.td_tree.specs.Outcomes.{Answers, Outcome, Valued, Refused, Only, gathered, with_both, with_value}
 use Rattle.td_types.specs.declared.ty.Ty.{Ty}
 use Rattle.td_types.specs.Types.{Attribute}
-use Rattle.td_types.specs.Views.{pairs_view, type_view}
+use Rattle.td_types.specs.code.Views.{pairs_view, type_view}
 use Rattle.td_value.specs.Values.{Tuple, Val, boolean, char, integer, relation, tuple, user}
 
 -- the values of steps are those of each

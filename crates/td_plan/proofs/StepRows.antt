@@ -6,13 +6,13 @@ use Rattle.td_plan.specs.declared.step.Step.{Step, Row_of-Step, end_of-Step, mor
 use Rattle.td_plan.specs.declared.step.Step.TheVariants as p
 use Rattle.td_plan.specs.declared.step.Origin.{Origin}
 use Rattle.td_plan.specs.Plans.{PlanTrees, more, restriction, select, relation, headed_relation, tuple, extend, aggregate, summarize_per, summarize_by}
-use Rattle.td_plan.specs.StepViews.{step_view, steps_row, steps_view}
+use Rattle.td_plan.specs.code.StepViews.{step_view, steps_row, steps_view}
 use Rattle.td_tree.specs.declared.expression.Attributes.{Attributes}
 use Rattle.td_tree.specs.declared.operator.Aggregate.{Aggregate}
-use Rattle.td_tree.specs.TreeViews.{attributes_view}
+use Rattle.td_tree.specs.code.TreeViews.{attributes_view}
 use Rattle.td_types.specs.declared.ty.Ty.{Ty}
 use Rattle.td_types.specs.Types.{Heading}
-use Rattle.td_types.specs.Views.{pairs_view}
+use Rattle.td_types.specs.code.Views.{pairs_view}
 
 step_rows : (n : _) (row : Row_of-Step n) → steps_row row ≡ steps_view (items-the_row-Step n row)
 step_rows n end_of-Step = refl

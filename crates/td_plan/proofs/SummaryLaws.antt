@@ -2,12 +2,12 @@
 use Rattle.std.proofs.Common.{◌≡◌, ◌<◌, ℕ, zero, suc, List, [], ◌∷◌, Err, ap, arith, get_or, length, map, refl}
 use Rattle.std.specs.List.{zip}
 use Rattle.td_eval.specs.OperatorValues.{on_relation, on_relations}
-use Rattle.td_eval.specs.Totals.{Total, total_of}
+use Rattle.td_eval.specs.code.Totals.{Total, total_of}
 use Rattle.td_eval.specs.Worlds.{World}
 use Rattle.td_group.specs.declared.aggregates.Agg.{Agg}
 use Rattle.td_plan.specs.declared.step.Step.{Step}
 use Rattle.td_plan.specs.Plans.{Frame}
-use Rattle.td_plan.specs.Runs.{value_in, values_in}
+use Rattle.td_plan.specs.code.Runs.{value_in, values_in}
 use Rattle.td_tree.specs.declared.fault.Fault.{Fault}
 use Rattle.td_tree.specs.declared.fault.Fault.TheVariants as faults
 use Rattle.td_tree.specs.Outcomes.{Answers, Outcome, Valued, gathered, with_both}

@@ -3,9 +3,9 @@ use Rattle.std.proofs.Common.{◌≡◌, ◌∙◌, ◌∷◌, true, ap, subst, 
 use Rattle.td_check.specs.CannotFail.{cannot_fail}
 use Rattle.td_check.specs.Scopes.{entered_with}
 use Rattle.td_check.specs.StaticTypes.{type_of}
-use Rattle.td_eval.proofs.TypedRows.{rows_typed}
-use Rattle.td_eval.proofs.TypedValues.{truth_of}
-use Rattle.td_eval.proofs.UnfailingTrees.{unfailing_expressions_have_values}
+use Rattle.td_eval.proofs.code_lemmas.TypedRows.{rows_typed}
+use Rattle.td_eval.proofs.code_lemmas.TypedValues.{truth_of}
+use Rattle.td_eval.proofs.law_lemmas.UnfailingTrees.{unfailing_expressions_have_values}
 use Rattle.td_eval.specs.Worlds.{with_tuples}
 use Rattle.td_plan.specs.TotalConditions.{UnfailingConditionsAreTotal}
 use Rattle.td_tree.specs.Outcomes.{Valued}

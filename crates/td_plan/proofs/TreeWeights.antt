@@ -1,11 +1,11 @@
 -- None of several expressions has more nodes than all together.
 use Rattle.std.proofs.Common.{◌≡◌, ◌<◌, ◌≤◌, ℕ, zero, suc, List, [], ◌∷◌, arith, ap, get_or, length}
-use Rattle.td_plan.specs.TreeWeights.{expr_weight, item_weight, named_weight, summaries_weight, weights}
+use Rattle.td_plan.specs.code.TreeWeights.{expr_weight, item_weight, named_weight, summaries_weight, weights}
 use Rattle.td_tree.specs.declared.expression.Expr.{Expr}
 use Rattle.td_tree.specs.declared.expression.NamedExpr.{NamedExpr}
 use Rattle.td_tree.specs.declared.expression.Summary.{Summary}
 use Rattle.td_tree.specs.declared.expression.Summary.TheVariants as items
-use Rattle.td_tree.specs.TreeViews.{named_view, summaries_view, trees_view}
+use Rattle.td_tree.specs.code.TreeViews.{named_view, summaries_view, trees_view}
 
 pub weight_part : (xs : List Expr) (i : ℕ) (x : Expr) → i < length xs → x ≡ get_or xs i x → expr_weight x ≤ weights (trees_view xs)
 weight_part [] i x l e = absurd (omega arith)

@@ -6,7 +6,7 @@ use Rattle.td_eval.specs.Worlds.{World}
 use Rattle.td_plan.specs.declared.evaluator.Evaluator.{Evaluator}
 use Rattle.td_plan.specs.declared.hand.Hand.{Hand}
 use Rattle.td_plan.specs.declared.step.Step.{Step}
-use Rattle.td_plan.specs.ValuesBelow.{ValuesBelow}
+use Rattle.td_plan.specs.code.ValuesBelow.{ValuesBelow}
 use Rattle.td_tree.specs.declared.fault.Fault.{Fault}
 use Rattle.td_value.specs.Values.{Val}
 

@@ -13,14 +13,14 @@ use Rattle.td_eval.specs.UnfailingValues.{GivesValues}
 use Rattle.td_eval.specs.ValueLaws.{IsChecked}
 use Rattle.td_eval.specs.ValueTypes.{DefinitionsAreWritten, IsWritten}
 use Rattle.td_eval.specs.Worlds.{World, known_outcome, selected}
-use Rattle.td_eval.proofs.KnownRelvars.{NamedAt, front_has_more, fronted, known_in_more, named_at, no_base, stays_behind, virtual_at}
-use Rattle.td_eval.proofs.LaterTypes.{selected_by}
-use Rattle.td_eval.proofs.MoreWorlds.{HasMoreThan, same_in_more}
-use Rattle.td_eval.proofs.TypedDatabases.{all_at, fronts_keep}
-use Rattle.td_eval.proofs.ValuedWorlds.{typed_databases_give_values}
-use Rattle.td_eval.proofs.WorldParts.{virtual_name, world_scope, world_selectors}
+use Rattle.td_eval.proofs.law_lemmas.KnownRelvars.{NamedAt, front_has_more, fronted, known_in_more, named_at, no_base, stays_behind, virtual_at}
+use Rattle.td_eval.proofs.law_lemmas.LaterTypes.{selected_by}
+use Rattle.td_eval.proofs.law_lemmas.MoreWorlds.{HasMoreThan, same_in_more}
+use Rattle.td_eval.proofs.law_lemmas.TypedDatabases.{all_at, fronts_keep}
+use Rattle.td_eval.proofs.law_lemmas.ValuedWorlds.{typed_databases_give_values}
+use Rattle.td_eval.proofs.code_lemmas.WorldParts.{virtual_name, world_scope, world_selectors}
 use Rattle.td_plan.specs.declared.surroundings.ValuedRelvar.{ValuedRelvar}
-use Rattle.td_plan.specs.Hands.{AreValued, IsValued}
+use Rattle.td_plan.specs.code.Hands.{AreValued, IsValued}
 use Rattle.td_plan.specs.Plans.{PlanTree}
 use Rattle.td_plan.specs.PlansOf.{AreInHand, IsPlanOf, IsPlanOfTyped, outermost}
 use Rattle.td_plan.specs.VirtualRelvars.{VirtualRelvarsAreTheirExpressions}

@@ -15,7 +15,7 @@ use Rattle.td_plan.specs.declared.step.Step.{Step}
 use Rattle.td_plan.specs.EqualitiesOfValues.{where_value}
 use Rattle.td_plan.specs.Plans.{Frame, PlanTree, plan_value}
 use Rattle.td_plan.specs.PlansOf.{AreFramesOf, AreInHand, outermost}
-use Rattle.td_plan.specs.StepViews.{step_view}
+use Rattle.td_plan.specs.code.StepViews.{step_view}
 use Rattle.td_tree.specs.Outcomes.{Outcome, Valued}
 use Rattle.td_tree.specs.Trees.{Tree, restriction}
 use Rattle.td_types.specs.Types.{Type', Heading, pack, type_at}

@@ -16,7 +16,7 @@ use Rattle.td_tree.specs.declared.operator.Prefix.{Prefix}
 use Rattle.td_tree.specs.Outcomes.{Outcome, Valued, Refused, Only, gathered, with_both, with_value}
 use Rattle.td_tree.specs.Trees.{Attributes, Postfix, project}
 use Rattle.td_types.specs.Types.{Attribute, Heading}
-use Rattle.td_value.specs.Views.{values_of}
+use Rattle.td_value.specs.code.Views.{values_of}
 use Rattle.td_value.specs.Values.{Val, Relation, Tuple}
 
 mutual

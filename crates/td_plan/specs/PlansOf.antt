@@ -6,7 +6,7 @@ use Rattle.td_check.specs.Scopes.{Scope, entered_with}
 use Rattle.td_check.specs.StaticLaws.{PartsGiveNames}
 use Rattle.td_check.specs.StaticTypes.{named_types, type_of}
 use Rattle.td_eval.specs.declared.env.Env.{Env}
-use Rattle.td_eval.specs.Sights.{tuples_in_hand}
+use Rattle.td_eval.specs.code.Sights.{tuples_in_hand}
 use Rattle.td_eval.specs.TreeTexts.{PartsHaveTexts}
 use Rattle.td_eval.specs.TreeValues.{value_of}
 use Rattle.td_eval.specs.ValueTypes.{IsTypedTuple, IsWritten}

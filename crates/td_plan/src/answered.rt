@@ -6,9 +6,9 @@ ghost use Rattle.td_eval.specs.OperatorValues.{component_value, extracted_value,
 ghost use Rattle.td_eval.specs.OperatorValues.{listed_value, measure_value, postfix_value};
 ghost use Rattle.td_eval.specs.OperatorValues.{prefix_value, tuple_from};
 ghost use Rattle.td_eval.specs.Worlds.{selected};
-ghost use Rattle.td_plan.specs.Hands.{world_around};
+ghost use Rattle.td_plan.specs.code.Hands.{world_around};
 ghost use Rattle.td_tree.specs.Outcomes.{Answers, Outcome, with_value};
-ghost use Rattle.td_tree.specs.TreeViews.{postfix_view};
+ghost use Rattle.td_tree.specs.code.TreeViews.{postfix_view};
 ghost use Rattle.td_value.specs.Values.{Val};
 
 use crate::surroundings::Surroundings;

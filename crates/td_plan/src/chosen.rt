@@ -1,15 +1,15 @@
 //! The tuples of a relvar for which a condition is TRUE.
 ghost use Rattle.std.specs.Prelude.{IfOk};
 ghost use Rattle.td_check.specs.Scopes.{Scope};
-ghost use Rattle.td_eval.specs.Sights.{tuples_in_hand, world_in};
+ghost use Rattle.td_eval.specs.code.Sights.{tuples_in_hand, world_in};
 ghost use Rattle.td_eval.specs.TreeValues.{value_of};
 ghost use Rattle.td_eval.specs.UnfailingValues.{GivesValues};
 ghost use Rattle.td_eval.specs.ValueTypes.{DefinitionsAreWritten};
 ghost use Rattle.td_plan.specs.PlansOf.{AreInHand, IsPlanOf, IsPlanOfTyped, MeetsRules};
 ghost use Rattle.td_plan.specs.PlansOf.{outermost, scope_in};
-ghost use Rattle.td_plan.specs.PlanViews.{plan_view};
+ghost use Rattle.td_plan.specs.code.PlanViews.{plan_view};
 ghost use Rattle.td_tree.specs.Outcomes.{Answers};
-ghost use Rattle.td_tree.specs.TreeViews.{tree_view};
+ghost use Rattle.td_tree.specs.code.TreeViews.{tree_view};
 ghost use Rattle.td_tree.specs.Trees.{Tree, name, restriction};
 
 use crate::plan::{Plan, plan_where};

@@ -8,14 +8,17 @@ ghost use Rattle.td_plan.specs.Equalities.{RestrictionOfProductOnRight};
 ghost use Rattle.td_plan.specs.Equalities.{RestrictionOfSemidifference, RestrictionOfSemijoin};
 ghost use Rattle.td_plan.specs.Equalities.{RestrictionsCommute, ValuesAreTold};
 ghost use Rattle.td_plan.specs.EqualitiesOfNames.{NamesAreWhatIsAsked, ValuesDependOnNames};
-ghost use Rattle.td_plan.specs.EqualitiesOfValues.{AndIsOfBoth, EqualityIsOfOneValue, EqualityIsOfValue};
+ghost use Rattle.td_plan.specs.EqualitiesOfValues.{AndIsOfBoth, EqualityIsOfOneValue};
+ghost use Rattle.td_plan.specs.EqualitiesOfValues.{EqualityIsOfValue};
 ghost use Rattle.td_plan.specs.EqualitiesOfValues.{TotalConditionsRestrict};
 ghost use Rattle.td_plan.specs.EqualitiesOfValues.{WhereAfterLookUp, WhereByAnd, WhereByAnds};
 ghost use Rattle.td_plan.specs.EqualitiesOfValues.{WhereIsLookUp, WhereOfIntersectOnLeft};
 ghost use Rattle.td_plan.specs.EqualitiesOfValues.{WhereOfIntersectOnRight, WhereOfJoinOnLeft};
-ghost use Rattle.td_plan.specs.EqualitiesOfValues.{WhereOfJoinOnRight, WhereOfMatching, WhereOfMinus};
+ghost use Rattle.td_plan.specs.EqualitiesOfValues.{WhereOfJoinOnRight, WhereOfMatching};
+ghost use Rattle.td_plan.specs.EqualitiesOfValues.{WhereOfMinus};
 ghost use Rattle.td_plan.specs.EqualitiesOfValues.{WhereOfNotMatching, WhereOfTimesOnLeft};
-ghost use Rattle.td_plan.specs.EqualitiesOfValues.{WhereOfTimesOnRight, WhereOfUnion, WheresCommute};
+ghost use Rattle.td_plan.specs.EqualitiesOfValues.{WhereOfTimesOnRight, WhereOfUnion};
+ghost use Rattle.td_plan.specs.EqualitiesOfValues.{WheresCommute};
 
 /// A restriction of an intersection is the intersection with the second operand restricted; the
 /// first may be restricted in its place.

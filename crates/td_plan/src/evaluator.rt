@@ -2,12 +2,12 @@
 //! it is proved by itself.
 ghost use Rattle.std.specs.Prelude.{◌≡◌, IfOk, List, suc};
 ghost use Rattle.td_eval.specs.Worlds.{World};
-ghost use Rattle.td_plan.specs.Hands.{AreAnswers, IsHand};
+ghost use Rattle.td_plan.specs.code.Hands.{AreAnswers, IsHand};
 ghost use Rattle.td_plan.specs.Plans.{Frame, plan_value};
-ghost use Rattle.td_plan.specs.Runs.{IsInside, step_values};
-ghost use Rattle.td_plan.specs.StepHeights.{step_height, steps_height};
-ghost use Rattle.td_plan.specs.StepViews.{step_view};
-ghost use Rattle.td_plan.specs.ValuesBelow.{ValuesBelow};
+ghost use Rattle.td_plan.specs.code.Runs.{IsInside, step_values};
+ghost use Rattle.td_plan.specs.code.StepHeights.{step_height, steps_height};
+ghost use Rattle.td_plan.specs.code.StepViews.{step_view};
+ghost use Rattle.td_plan.specs.code.ValuesBelow.{ValuesBelow};
 ghost use Rattle.td_tree.specs.Outcomes.{Answers, gathered};
 
 use crate::hand::{Entered, Hand, all_held};

@@ -1,11 +1,11 @@
 //! The tuples in hand.
 ghost use Rattle.std.specs.Prelude.{◌≡◌, IfOk, List, option_map};
 ghost use Rattle.std.specs.List.{slice_get};
-ghost use Rattle.td_plan.specs.Hands.{AreHeld, IsAnswer, IsHand};
+ghost use Rattle.td_plan.specs.code.Hands.{AreHeld, IsAnswer, IsHand};
 ghost use Rattle.td_plan.specs.Plans.{Frame, attribute_at, fixed_at, value_or};
 ghost use Rattle.td_tree.specs.Outcomes.{Answers, Outcome};
 ghost use Rattle.td_value.specs.Values.{Val};
-ghost use Rattle.td_value.specs.Views.{values_of};
+ghost use Rattle.td_value.specs.code.Views.{values_of};
 
 use std::alloc::{AllocError, Global};
 use std::rc::Rc;

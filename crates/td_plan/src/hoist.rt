@@ -1,7 +1,7 @@
 //! What is valued once for the tuples of an operand.
 ghost use Rattle.std.specs.Prelude.{◌≡◌, false, true, IfOk, length};
 ghost use Rattle.td_plan.specs.Hoisting.{Hoists, HoistsAll, reaches};
-ghost use Rattle.td_plan.specs.StepViews.{step_view, steps_view};
+ghost use Rattle.td_plan.specs.code.StepViews.{step_view, steps_view};
 
 mod lowering;
 mod made;

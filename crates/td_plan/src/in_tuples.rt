@@ -3,14 +3,14 @@
 ghost use Rattle.std.specs.Prelude.{◌≡◌, IfOk, List};
 ghost use Rattle.td_check.specs.Scopes.{Scope, entered_with};
 ghost use Rattle.td_check.specs.StaticTypes.{named_types, type_of};
-ghost use Rattle.td_plan.specs.PlannedParts.{ArePlanned, IsBoxPlanned, IsPlanned};
-ghost use Rattle.td_plan.specs.PlannedParts.{ArePlannedColumns, IsPulled, in_named};
+ghost use Rattle.td_plan.specs.code.PlannedParts.{ArePlanned, IsBoxPlanned, IsPlanned};
+ghost use Rattle.td_plan.specs.code.PlannedParts.{ArePlannedColumns, IsPulled, in_named};
 ghost use Rattle.td_tree.specs.Outcomes.{Outcome, Valued};
 ghost use Rattle.td_tree.specs.Trees as trees;
 ghost use Rattle.td_tree.specs.Trees.{Tree};
 ghost use Rattle.td_types.specs.Types as types;
 ghost use Rattle.td_types.specs.Types.{Attribute, Heading, pack};
-ghost use Rattle.td_types.specs.Views.{pairs_view};
+ghost use Rattle.td_types.specs.code.Views.{pairs_view};
 
 use crate::hoist::{all_pulled, pulled};
 use crate::step::Step;

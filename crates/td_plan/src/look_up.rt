@@ -2,12 +2,12 @@
 ghost use Rattle.std.specs.Prelude.{◌≡◌, IfOk, IfSome, IsTrue, Some, false, map};
 ghost use Rattle.std.specs.List.{slice_get};
 ghost use Rattle.td_body.specs.Bodies.{agreeing};
-ghost use Rattle.td_catalog.specs.CatalogViews.{IsEntry};
+ghost use Rattle.td_catalog.specs.code.CatalogViews.{IsEntry};
 ghost use Rattle.td_eval.specs.DatabaseWorlds.{world_of};
 ghost use Rattle.td_eval.specs.OperatorValues.{of_relation};
-ghost use Rattle.td_eval.specs.Sights.{world_in};
+ghost use Rattle.td_eval.specs.code.Sights.{world_in};
 ghost use Rattle.td_eval.specs.Worlds.{known_outcome};
-ghost use Rattle.td_plan.specs.Hands.{AreSurroundings, world_around};
+ghost use Rattle.td_plan.specs.code.Hands.{AreSurroundings, world_around};
 ghost use Rattle.td_plan.specs.Plans.{agreeing_value, looked_up};
 ghost use Rattle.td_tree.specs.Outcomes.{Answers, Outcome, with_value};
 ghost use Rattle.td_types.specs.Headings.{projection};

@@ -2,11 +2,11 @@
 ghost use Rattle.std.specs.Prelude.{◌≡◌, IfOk, map};
 ghost use Rattle.std.specs.Rc.{rc_str_bytes};
 ghost use Rattle.td_check.specs.Scopes.{Scope};
-ghost use Rattle.td_plan.specs.PlannedParts.{ArePlanned, IsBoxPlanned, IsPlanned};
-ghost use Rattle.td_plan.specs.PlannedParts.{in_trees, part_tree};
-ghost use Rattle.td_plan.specs.Planners.{IsPlanner};
-ghost use Rattle.td_tree.specs.TreeViews.{heading_tree_view, literal_view, named_view};
-ghost use Rattle.td_tree.specs.TreeViews.{postfix_view};
+ghost use Rattle.td_plan.specs.code.PlannedParts.{ArePlanned, IsBoxPlanned, IsPlanned};
+ghost use Rattle.td_plan.specs.code.PlannedParts.{in_trees, part_tree};
+ghost use Rattle.td_plan.specs.code.Planners.{IsPlanner};
+ghost use Rattle.td_tree.specs.code.TreeViews.{heading_tree_view, literal_view, named_view};
+ghost use Rattle.td_tree.specs.code.TreeViews.{postfix_view};
 ghost use Rattle.td_tree.specs.Trees as trees;
 ghost use Rattle.td_tree.specs.Trees.{Tree};
 

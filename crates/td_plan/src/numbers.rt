@@ -2,8 +2,8 @@
 ghost use Rattle.std.specs.Prelude.{IsTrue};
 ghost use Rattle.td_eval.specs.TreeNumbers.{HasNumbers, HaveNumbers, IsInRangeLiteral};
 ghost use Rattle.td_eval.specs.TreeNumbers.{ItemsHaveNumbers, PartsHaveNumbers};
-ghost use Rattle.td_tree.specs.TreeViews.{literal_view, named_view, summaries_view, tree_view};
-ghost use Rattle.td_tree.specs.TreeViews.{trees_view, with_summary};
+ghost use Rattle.td_tree.specs.code.TreeViews.{literal_view, named_view, summaries_view, tree_view};
+ghost use Rattle.td_tree.specs.code.TreeViews.{trees_view, with_summary};
 ghost use Rattle.td_tree.specs.Trees.{Summaries};
 
 use td_tree::expression::{Expr, Literal, MAX_MAGNITUDE, NamedExpr, Summary};

@@ -1,11 +1,11 @@
 //! Plans, made once for all of the worlds that keep a scope.
 ghost use Rattle.std.specs.Prelude.{◌≡◌, IfOk, length};
 ghost use Rattle.td_check.specs.Scopes.{Scope, entered_with};
-ghost use Rattle.td_plan.specs.PlannedParts.{ArePartPlans, ArePlanned, IsPlanned, in_named};
-ghost use Rattle.td_plan.specs.Planners.{IsPlanner, catalog_database};
+ghost use Rattle.td_plan.specs.code.PlannedParts.{ArePartPlans, ArePlanned, IsPlanned, in_named};
+ghost use Rattle.td_plan.specs.code.Planners.{IsPlanner, catalog_database};
 ghost use Rattle.td_plan.specs.PlansOf.{IsPlanOfTyped, scope_in};
-ghost use Rattle.td_plan.specs.PlanViews.{plan_view};
-ghost use Rattle.td_tree.specs.TreeViews.{named_view, tree_view};
+ghost use Rattle.td_plan.specs.code.PlanViews.{plan_view};
+ghost use Rattle.td_tree.specs.code.TreeViews.{named_view, tree_view};
 ghost use Rattle.td_tree.specs.Trees as trees;
 ghost use Rattle.td_tree.specs.Trees.{NamedTrees, Tree};
 ghost use Rattle.td_types.specs.Types.{Heading};

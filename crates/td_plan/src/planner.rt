@@ -5,13 +5,13 @@ ghost use Rattle.std.specs.List.{slice_get};
 ghost use Rattle.td_catalog.specs.Database.{Database, database_scope};
 ghost use Rattle.td_check.specs.Scopes.{entered_with};
 ghost use Rattle.td_check.specs.StaticTypes.{named_types, type_of};
-ghost use Rattle.td_plan.specs.Planners.{IsPlanner, attribute_place, catalog_database};
-ghost use Rattle.td_plan.specs.Planners.{is_named, place_in};
+ghost use Rattle.td_plan.specs.code.Planners.{IsPlanner, attribute_place, catalog_database};
+ghost use Rattle.td_plan.specs.code.Planners.{is_named, place_in};
 ghost use Rattle.td_tree.specs.Outcomes.{Valued};
-ghost use Rattle.td_tree.specs.TreeViews.{named_view, tree_view};
+ghost use Rattle.td_tree.specs.code.TreeViews.{named_view, tree_view};
 ghost use Rattle.td_types.specs.Types as types;
 ghost use Rattle.td_types.specs.Types.{Attribute, Heading, pack};
-ghost use Rattle.td_types.specs.Views.{pairs_view};
+ghost use Rattle.td_types.specs.code.Views.{pairs_view};
 
 use std::alloc::{AllocError, Global};
 use td_body::body::Body;

@@ -5,12 +5,12 @@ ghost use Rattle.std.specs.List.{slice_get};
 ghost use Rattle.td_eval.specs.OperatorValues.{comparison_value, operator_value, prefix_value};
 ghost use Rattle.td_eval.specs.Worlds.{World};
 ghost use Rattle.td_plan.specs.Plans.{Frame, value_or};
-ghost use Rattle.td_plan.specs.Quick.{AreInRows, AreQuick, IsQuick};
-ghost use Rattle.td_plan.specs.Runs.{IsEntered, value_in};
+ghost use Rattle.td_plan.specs.code.Quick.{AreInRows, AreQuick, IsQuick};
+ghost use Rattle.td_plan.specs.code.Runs.{IsEntered, value_in};
 ghost use Rattle.td_tree.specs.Outcomes.{Outcome, Valued, with_both, with_value};
 ghost use Rattle.td_tree.specs.declared.operator.Prefix.TheVariants as prefixes;
 ghost use Rattle.td_value.specs.Values.{Tuple, Val, boolean, integer};
-ghost use Rattle.td_value.specs.Views.{values_of};
+ghost use Rattle.td_value.specs.code.Views.{values_of};
 
 use crate::hand::{Entered, Hand};
 use crate::quick::{

@@ -1,13 +1,13 @@
 //! The value of a plan.
 ghost use Rattle.std.specs.Prelude.{◌≡◌, IfOk, List, length};
 ghost use Rattle.td_algebra.specs.Columns.{columns_view};
-ghost use Rattle.td_eval.specs.NewColumns.{named_columns};
-ghost use Rattle.td_plan.specs.Hands.{AreSurroundings, IsHand, world_around};
+ghost use Rattle.td_eval.specs.code.NewColumns.{named_columns};
+ghost use Rattle.td_plan.specs.code.Hands.{AreSurroundings, IsHand, world_around};
 ghost use Rattle.td_plan.specs.Plans.{Frame, plan_value};
-ghost use Rattle.td_plan.specs.Runs.{IsEntered, IsInside, truths_in, values_in};
-ghost use Rattle.td_plan.specs.StepViews.{step_view};
+ghost use Rattle.td_plan.specs.code.Runs.{IsEntered, IsInside, truths_in, values_in};
+ghost use Rattle.td_plan.specs.code.StepViews.{step_view};
 ghost use Rattle.td_tree.specs.Outcomes.{Answers, Outcome, gathered};
-ghost use Rattle.td_types.specs.Views.{pairs_view};
+ghost use Rattle.td_types.specs.code.Views.{pairs_view};
 ghost use Rattle.td_value.specs.Values.{Val};
 
 use crate::answered::{component, selected_by};

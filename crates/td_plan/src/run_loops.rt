@@ -1,16 +1,16 @@
 //! What is asked of the tuples of an operand, which is valued first.
 ghost use Rattle.std.specs.Prelude.{◌≡◌, List, max, suc};
 ghost use Rattle.std.specs.List.{zip};
-ghost use Rattle.td_plan.specs.Hands.{IsHand};
+ghost use Rattle.td_plan.specs.code.Hands.{IsHand};
 ghost use Rattle.td_plan.specs.Plans.{Frame, aggregate, extend, measure, plan_value, restriction};
 ghost use Rattle.td_plan.specs.Plans.{summarize_by, summarize_per, summary_of};
-ghost use Rattle.td_plan.specs.Runs.{step_values, values_in};
-ghost use Rattle.td_plan.specs.StepHeights.{step_height, steps_height};
-ghost use Rattle.td_plan.specs.StepViews.{step_view, steps_view};
-ghost use Rattle.td_plan.specs.ValuesBelow.{ValuesBelow};
+ghost use Rattle.td_plan.specs.code.Runs.{step_values, values_in};
+ghost use Rattle.td_plan.specs.code.StepHeights.{step_height, steps_height};
+ghost use Rattle.td_plan.specs.code.StepViews.{step_view, steps_view};
+ghost use Rattle.td_plan.specs.code.ValuesBelow.{ValuesBelow};
 ghost use Rattle.td_tree.specs.Outcomes.{Answers};
-ghost use Rattle.td_tree.specs.TreeViews.{attributes_view};
-ghost use Rattle.td_types.specs.Views.{pairs_view};
+ghost use Rattle.td_tree.specs.code.TreeViews.{attributes_view};
+ghost use Rattle.td_types.specs.code.Views.{pairs_view};
 
 use crate::counted::truths_measured;
 use crate::evaluator::{Evaluator, InWorld};

@@ -1,13 +1,13 @@
 //! The values of operators, whose operands are valued first.
 ghost use Rattle.std.specs.Prelude.{List, max, suc};
-ghost use Rattle.td_plan.specs.Hands.{IsHand};
+ghost use Rattle.td_plan.specs.code.Hands.{IsHand};
 ghost use Rattle.td_plan.specs.Plans.{Frame, binary, choice, compare, extract, headed_relation};
 ghost use Rattle.td_plan.specs.Plans.{measure, plan_value, postfix, prefix, relation, tuple};
-ghost use Rattle.td_plan.specs.StepHeights.{step_height, steps_height};
-ghost use Rattle.td_plan.specs.StepViews.{step_view, steps_view};
-ghost use Rattle.td_plan.specs.ValuesBelow.{ValuesBelow};
+ghost use Rattle.td_plan.specs.code.StepHeights.{step_height, steps_height};
+ghost use Rattle.td_plan.specs.code.StepViews.{step_view, steps_view};
+ghost use Rattle.td_plan.specs.code.ValuesBelow.{ValuesBelow};
 ghost use Rattle.td_tree.specs.Outcomes.{Answers};
-ghost use Rattle.td_tree.specs.TreeViews.{postfix_view};
+ghost use Rattle.td_tree.specs.code.TreeViews.{postfix_view};
 
 use crate::answered::{extracted, headed_by, listed, measured, postfixed, prefixed, tuple_of};
 use crate::evaluator::{Evaluator, InWorld};

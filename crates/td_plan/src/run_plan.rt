@@ -3,12 +3,12 @@ ghost use Rattle.std.specs.Prelude.{◌≡◌, ◌∷◌, [], IfOk, map, reverse
 ghost use Rattle.std.specs.List.{AllByRecursion};
 ghost use Rattle.td_check.specs.Scopes.{Scope, entered_with};
 ghost use Rattle.td_eval.specs.OperatorValues.{truth_value};
-ghost use Rattle.td_eval.specs.Sights.{tuples_in_hand, world_in};
+ghost use Rattle.td_eval.specs.code.Sights.{tuples_in_hand, world_in};
 ghost use Rattle.td_eval.specs.TreeValues.{value_of};
 ghost use Rattle.td_eval.specs.UnfailingValues.{GivesValues};
 ghost use Rattle.td_eval.specs.ValueTypes.{IsTypedTuple};
-ghost use Rattle.td_plan.specs.Hands.{AreHeld, AreSurroundings, world_around};
-ghost use Rattle.td_plan.specs.PlanViews.{plan_view};
+ghost use Rattle.td_plan.specs.code.Hands.{AreHeld, AreSurroundings, world_around};
+ghost use Rattle.td_plan.specs.code.PlanViews.{plan_view};
 ghost use Rattle.td_plan.specs.Plans.{frame_of, plan_value};
 ghost use Rattle.td_plan.specs.PlansOf.{AreInHand, IsPlanOf, outermost};
 ghost use Rattle.td_tree.specs.Outcomes.{Answers, gathered};

@@ -2,15 +2,15 @@
 ghost use Rattle.std.specs.Prelude.{◌≡◌, ◌<◌, ◌≤◌, List, Some, length, map, suc};
 ghost use Rattle.std.specs.List.{slice_get, zip};
 ghost use Rattle.td_algebra.specs.Columns.{columns_view};
-ghost use Rattle.td_eval.specs.NewColumns.{named_columns};
+ghost use Rattle.td_eval.specs.code.NewColumns.{named_columns};
 ghost use Rattle.td_eval.specs.OperatorValues.{column_values, truth_value};
-ghost use Rattle.td_eval.specs.Totals.{total_of, total_view};
+ghost use Rattle.td_eval.specs.code.Totals.{total_of, total_view};
 ghost use Rattle.td_plan.specs.Plans.{Frame};
-ghost use Rattle.td_plan.specs.Runs.{IsEntered, truths_in, value_in, values_in};
-ghost use Rattle.td_plan.specs.StepHeights.{step_height, steps_height};
-ghost use Rattle.td_plan.specs.ValuesBelow.{ValuesBelow};
+ghost use Rattle.td_plan.specs.code.Runs.{IsEntered, truths_in, value_in, values_in};
+ghost use Rattle.td_plan.specs.code.StepHeights.{step_height, steps_height};
+ghost use Rattle.td_plan.specs.code.ValuesBelow.{ValuesBelow};
 ghost use Rattle.td_tree.specs.Outcomes.{Answers, Outcome, Valued, gathered, with_value};
-ghost use Rattle.td_types.specs.Views.{pairs_view, type_view};
+ghost use Rattle.td_types.specs.code.Views.{pairs_view, type_view};
 ghost use Rattle.td_value.specs.Values.{Val};
 
 use crate::evaluator::{Evaluator, InWorld};

@@ -3,19 +3,19 @@ ghost use Rattle.std.specs.Prelude.{◌≡◌, IfNone, IfOk, IfSome, List, map, 
 ghost use Rattle.td_check.specs.Scopes.{Scope, entered_with};
 ghost use Rattle.td_check.specs.StaticTypes.{type_of};
 ghost use Rattle.td_eval.specs.AggregateValues.{summary_attributes};
-ghost use Rattle.td_eval.specs.Totals.{asked_by};
-ghost use Rattle.td_plan.specs.PlannedParts.{ArePlannedColumns, IsBoxPlanned, IsPlanned};
-ghost use Rattle.td_plan.specs.PlannedParts.{in_summaries};
+ghost use Rattle.td_eval.specs.code.Totals.{asked_by};
+ghost use Rattle.td_plan.specs.code.PlannedParts.{ArePlannedColumns, IsBoxPlanned, IsPlanned};
+ghost use Rattle.td_plan.specs.code.PlannedParts.{in_summaries};
 ghost use Rattle.td_plan.specs.PlansOf.{IsPlanOfTyped};
-ghost use Rattle.td_plan.specs.StepViews.{step_view};
+ghost use Rattle.td_plan.specs.code.StepViews.{step_view};
 ghost use Rattle.td_plan.specs.SummaryItems.{aggregates_in};
 ghost use Rattle.td_tree.specs.Outcomes.{Valued};
-ghost use Rattle.td_tree.specs.TreeViews.{attributes_view, summaries_view};
+ghost use Rattle.td_tree.specs.code.TreeViews.{attributes_view, summaries_view};
 ghost use Rattle.td_tree.specs.Trees as trees;
 ghost use Rattle.td_tree.specs.Trees.{Tree};
 ghost use Rattle.td_types.specs.Types as types;
 ghost use Rattle.td_types.specs.Types.{Attribute, Heading, pack};
-ghost use Rattle.td_types.specs.Views.{pairs_view};
+ghost use Rattle.td_types.specs.code.Views.{pairs_view};
 
 use crate::in_tuples::NewColumns;
 use crate::step::Step;

@@ -1,6 +1,6 @@
 //! What a plan is run in.
 ghost use Rattle.td_eval.specs.Worlds.{known_outcome};
-ghost use Rattle.td_plan.specs.Hands.{AreSurroundings, world_around};
+ghost use Rattle.td_plan.specs.code.Hands.{AreSurroundings, world_around};
 ghost use Rattle.td_tree.specs.Outcomes.{Answers};
 
 use crate::evaluator::InWorld;

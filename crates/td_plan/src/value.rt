@@ -1,12 +1,12 @@
 //! The value of an expression, by a plan that is made of it and run.
 ghost use Rattle.std.specs.Prelude.{◌∷◌, map};
 ghost use Rattle.td_eval.specs.OperatorValues.{truth_value};
-ghost use Rattle.td_eval.specs.Sights.{tuples_in_hand, world_in};
+ghost use Rattle.td_eval.specs.code.Sights.{tuples_in_hand, world_in};
 ghost use Rattle.td_eval.specs.TreeValues.{value_of};
 ghost use Rattle.td_eval.specs.ValueTypes.{DefinitionsAreWritten};
 ghost use Rattle.td_plan.specs.PlansOf.{MeetsRules, MeetsRulesIn, scope_in};
 ghost use Rattle.td_tree.specs.Outcomes.{Answers, gathered};
-ghost use Rattle.td_tree.specs.TreeViews.{tree_view};
+ghost use Rattle.td_tree.specs.code.TreeViews.{tree_view};
 
 use crate::loops::goes_over_tuples;
 use crate::plan::{plan_in_tuples, plan_of};

@@ -1,10 +1,10 @@
 //! The virtual relvars that expressions may ask, each of them valued once.
 ghost use Rattle.std.specs.Prelude.{◌≡◌, IfOk, IfSome};
 ghost use Rattle.td_eval.specs.DatabaseWorlds.{world_of};
-ghost use Rattle.td_eval.specs.Sights.{world_in};
+ghost use Rattle.td_eval.specs.code.Sights.{world_in};
 ghost use Rattle.td_eval.specs.ValueTypes.{DefinitionsAreWritten};
 ghost use Rattle.td_eval.specs.Worlds.{known_outcome};
-ghost use Rattle.td_plan.specs.Hands.{AreValued};
+ghost use Rattle.td_plan.specs.code.Hands.{AreValued};
 ghost use Rattle.td_tree.specs.Outcomes.{Answers};
 
 use crate::plan::plan_of;

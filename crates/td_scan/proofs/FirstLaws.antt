@@ -10,10 +10,10 @@ use Rattle.td_tree.specs.Pieces.{begins, continues, pieces, kind_after, kind_of,
 use Rattle.td_tree.specs.Spans.{AreOfTheirKind}
 use Rattle.td_tree.specs.Statements.{PlacedToken, token_of, tokens, tokens_from}
 use Rattle.td_tree.specs.Symbols.{Symbol, symbols, spell}
-use Rattle.td_tree.proofs.DivisionLaws.{state-append}
-use Rattle.td_tree.proofs.PieceLaws.{size, taken_off}
-use Rattle.td_tree.proofs.SliceLaws.{kinds}
-use Rattle.td_scan.specs.Fronts.{end_from, first_end}
+use Rattle.td_tree.proofs.law_lemmas.DivisionLaws.{state-append}
+use Rattle.td_tree.proofs.law_lemmas.PieceLaws.{size, taken_off}
+use Rattle.td_tree.proofs.law_lemmas.SliceLaws.{kinds}
+use Rattle.td_scan.specs.code.Fronts.{end_from, first_end}
 
 -- the first piece, and the pieces of the rest
 record Found (cut : List (List Symbol)) (all : List Symbol) (f : ℕ × Piece) : Type 0 where

@@ -11,15 +11,15 @@ use Rattle.td_tree.specs.Pieces.{kind_of, pieces}
 use Rattle.td_tree.specs.Spans.{AreOfTheirKind, Ascends}
 use Rattle.td_tree.specs.Statements.{Held, PlacedToken, after, behind, chosen, end_of, ends, first_statement, token_of, tokens, tokens_from}
 use Rattle.td_tree.specs.Symbols.{Symbol, spell, symbols}
-use Rattle.td_tree.proofs.HeldLaws.{follows_later}
-use Rattle.td_tree.proofs.PieceLaws.{joined}
-use Rattle.td_tree.proofs.SliceLaws.{kinds}
-use Rattle.td_tree.proofs.TokenLaws.{ascends, pieces_spell}
+use Rattle.td_tree.proofs.law_lemmas.HeldLaws.{follows_later}
+use Rattle.td_tree.proofs.law_lemmas.PieceLaws.{joined}
+use Rattle.td_tree.proofs.law_lemmas.SliceLaws.{kinds}
+use Rattle.td_tree.proofs.law_lemmas.TokenLaws.{ascends, pieces_spell}
 use Rattle.td_scan.specs.declared.piece.First.{First}
 use Rattle.td_scan.specs.declared.reading.Place.{Place}
 use Rattle.td_scan.specs.declared.token.Mark.{Mark}
-use Rattle.td_scan.specs.Marks.{IsBegun, IsMark, IsRead, Keeps, count_to_end, end_after, end_of_marks, mark_of, marks_of, reached, read_of, token_at}
-use Rattle.td_scan.specs.Fronts.{first_end}
+use Rattle.td_scan.specs.code.Marks.{IsBegun, IsMark, IsRead, Keeps, count_to_end, end_after, end_of_marks, mark_of, marks_of, reached, read_of, token_at}
+use Rattle.td_scan.specs.code.Fronts.{first_end}
 use Rattle.td_scan.proofs.MarkLaws.{none_begun}
 use Rattle.td_scan.proofs.MarkLists.{counted_none, counted_some, end_at, end_parts, ends_at, found_more, none_both, none_cases}
 use Rattle.td_scan.proofs.ScanLaws.{reaches}

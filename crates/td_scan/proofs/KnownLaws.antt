@@ -5,9 +5,9 @@ use Rattle.std.specs.List.{list_any}
 use Rattle.std.specs.Str.{chars, is_utf8}
 use Rattle.std.proofs.lemmas.Bool.Decides.{nat_tests}
 use Rattle.td_tree.specs.Symbols.{symbol_at, symbol_of}
-use Rattle.td_tree.proofs.FrontLaws.{ascii_bytes}
-use Rattle.td_tree.proofs.SymbolLaws.{same_symbol}
-use Rattle.td_scan.specs.Fronts.{IsKnown}
+use Rattle.td_tree.proofs.law_lemmas.FrontLaws.{ascii_bytes}
+use Rattle.td_tree.proofs.law_lemmas.SymbolLaws.{same_symbol}
+use Rattle.td_scan.specs.code.Fronts.{IsKnown}
 
 -- an ASCII byte is a symbol
 known_lead : (b : ℕ) (bs : List ℕ) → b < 128 → IsKnown (b ∷ bs)

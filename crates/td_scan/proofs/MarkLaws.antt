@@ -6,7 +6,7 @@ use Rattle.td_tree.specs.Pieces.{kind_after}
 use Rattle.td_tree.specs.Statements.{token_of, tokens}
 use Rattle.td_scan.specs.declared.piece.First.{First}
 use Rattle.td_scan.specs.declared.token.Mark.{Mark}
-use Rattle.td_scan.specs.Marks.{IsBegun, IsFirst, end_of_marks, mark_of, marks_of}
+use Rattle.td_scan.specs.code.Marks.{IsBegun, IsFirst, end_of_marks, mark_of, marks_of}
 use Rattle.td_scan.proofs.FirstLaws.{tokens_of_first}
 
 -- of a piece nothing was read

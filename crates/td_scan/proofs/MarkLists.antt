@@ -4,9 +4,9 @@ use Rattle.std.proofs.lemmas.List.{take-append-drop}
 use Rattle.std.specs.Prelude.{is_some, option_map}
 use Rattle.td_tree.specs.Division.{up_to}
 use Rattle.td_tree.specs.Statements.{end_of, ends}
-use Rattle.td_tree.proofs.EndLaws.{up_to_cases}
+use Rattle.td_tree.proofs.law_lemmas.EndLaws.{up_to_cases}
 use Rattle.td_scan.specs.declared.token.Mark.{Mark}
-use Rattle.td_scan.specs.Marks.{count_to_end, end_of_marks, ends_mark, token_at}
+use Rattle.td_scan.specs.code.Marks.{count_to_end, end_of_marks, ends_mark, token_at}
 
 -- ---- up to an end
 

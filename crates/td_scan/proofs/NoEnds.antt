@@ -17,12 +17,12 @@ use Rattle.td_tree.specs.Names.{begins_the, is_word_more}
 use Rattle.td_tree.specs.Pieces.{begins, continues, goes_on, is_character, kind_after, passes, sign_goes_on, text_kind, word_kind, word_kind_of}
 use Rattle.td_tree.specs.Statements.{PlacedToken, ends, is_end, token_of, tokens}
 use Rattle.td_tree.specs.Symbols.{Symbol, front_bytes, front_char, symbol_at, symbol_of, symbols, symbols_from}
-use Rattle.td_tree.proofs.FrontLaws.{ascii_byte}
-use Rattle.td_tree.proofs.KindLaws.{as_spelled}
-use Rattle.td_tree.proofs.StableBytes.{cuts}
-use Rattle.td_tree.proofs.StatementLaws.{is_end_of}
-use Rattle.td_scan.specs.Fronts.{end_from, first_end}
-use Rattle.td_scan.specs.Marks.{IsBegun, is_end_piece}
+use Rattle.td_tree.proofs.law_lemmas.FrontLaws.{ascii_byte}
+use Rattle.td_tree.proofs.law_lemmas.KindLaws.{as_spelled}
+use Rattle.td_tree.proofs.code_lemmas.StableBytes.{cuts}
+use Rattle.td_tree.proofs.law_lemmas.StatementLaws.{is_end_of}
+use Rattle.td_scan.specs.code.Fronts.{end_from, first_end}
+use Rattle.td_scan.specs.code.Marks.{IsBegun, is_end_piece}
 use Rattle.td_scan.specs.declared.piece.First.{First}
 use Rattle.td_scan.proofs.FirstLaws.{first_within, no_bytes, tokens_of_first}
 

@@ -2,7 +2,7 @@
 use Rattle.std.proofs.Common.{◌≡◌, ℕ, List, [], ◌∷◌, ◌++◌, refl, sym, ap, ◌∙◌, Bool, true, false, Option, Some, None, if◌then◌else◌, append_assoc, append-nil}
 use Rattle.std.specs.Prelude.{option_map}
 use Rattle.td_tree.specs.Division.{up_to}
-use Rattle.td_scan.specs.Marks.{reached}
+use Rattle.td_scan.specs.code.Marks.{reached}
 use Rattle.td_scan.proofs.MarkLists.{past_none}
 use Rattle.td_tree.specs.Statements.{PlacedToken, Held, tokens, ends, chosen, first_statement, end_of, end_of_first, behind}
 

@@ -1,3 +1,2 @@
 pub mod Calls
-pub mod Fronts
-pub mod Marks
+pub mod code

@@ -3,9 +3,9 @@ ghost use Rattle.std.specs.Prelude.{◌≡◌, ◌+◌, ◌-◌, ◌<◌, ◌≤
 ghost use Rattle.std.specs.Prelude.{OnOk, OnErr, IsFalse, IsTrue, None, Some, drop, false, map};
 ghost use Rattle.std.specs.Prelude.{option_map, take, true};
 ghost use Rattle.std.specs.List.{All};
-ghost use Rattle.td_scan.specs.Fronts.{end_of_last};
-ghost use Rattle.td_scan.specs.Marks.{IsMark, count_to_end, end_of_marks, ends_mark, reached};
-ghost use Rattle.td_scan.specs.Marks.{token_at};
+ghost use Rattle.td_scan.specs.code.Fronts.{end_of_last};
+ghost use Rattle.td_scan.specs.code.Marks.{IsMark, count_to_end, end_of_marks, ends_mark, reached};
+ghost use Rattle.td_scan.specs.code.Marks.{token_at};
 ghost use Rattle.td_tree.specs.Division.{up_to};
 ghost use Rattle.td_tree.specs.Statements.{Held, after, behind, chosen, ends, first_statement};
 ghost use Rattle.td_tree.specs.Statements.{is_end, tokens};
@@ -141,7 +141,7 @@ pub struct Cutter {
 }
 
 impl Model for Cutter {
-    ghost use Rattle.td_scan.specs.Marks.{Keeps};
+    ghost use Rattle.td_scan.specs.code.Marks.{Keeps};
     ghost use Rattle.td_tree.specs.Statements.{Held};
 
     ghost Value = { Held };

@@ -1,8 +1,9 @@
 //! Reading bytes behind which others may come: what is known stays.
 ghost use Rattle.std.specs.Prelude.{◌≡◌, ◌+◌, ◌-◌, ◌<◌, ◌≤◌, ◌^◌, ◌++◌, ℕ, List, IfOk};
-ghost use Rattle.std.specs.Prelude.{IfErr, IfNone, IsFalse, IsTrue, None, OnErr, drop, length, take};
-ghost use Rattle.td_scan.specs.Fronts.{end_from};
-ghost use Rattle.td_scan.specs.Marks.{IsBegun, IsFirst, IsRead, is_end_piece, read_of};
+ghost use Rattle.std.specs.Prelude.{IfErr, IfNone, IsFalse, IsTrue, None, OnErr, drop, length};
+ghost use Rattle.std.specs.Prelude.{take};
+ghost use Rattle.td_scan.specs.code.Fronts.{end_from};
+ghost use Rattle.td_scan.specs.code.Marks.{IsBegun, IsFirst, IsRead, is_end_piece, read_of};
 ghost use Rattle.td_tree.specs.Division.{up_to};
 ghost use Rattle.td_tree.specs.Statements.{ends, tokens};
 ghost use Rattle.td_tree.specs.Symbols.{symbols};

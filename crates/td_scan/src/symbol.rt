@@ -2,7 +2,7 @@
 ghost use Rattle.std.specs.Prelude.{◌≡◌, ◌<◌, ◌≤◌, ◌∷◌, ◌++◌, ℕ, List, IfNone, IfSome};
 ghost use Rattle.std.specs.Prelude.{IsFalse, IsTrue, drop, length, nat_lt, take};
 ghost use Rattle.std.specs.List.{list_any};
-ghost use Rattle.td_scan.specs.Fronts.{IsKnown, char_size};
+ghost use Rattle.td_scan.specs.code.Fronts.{IsKnown, char_size};
 ghost use Rattle.td_tree.specs.Symbols.{front_bytes, front_char, symbols};
 
 /// What stands at the front: its character, if it is one, and how many bytes it takes.
@@ -29,7 +29,7 @@ fn char_size(lead: u8) -> usize
 }
 
 /// The bytes that a character at the front takes, or fewer where there are fewer.
-#[tactic(auto, using(td_tree::proofs::FrontLaws::all_taken))]
+#[tactic(auto, using(td_tree::proofs::law_lemmas::FrontLaws::all_taken))]
 fn front_bytes(bytes: &[u8]) -> &[u8]
     requires { 0 < length bytes.now }
     ensures { result.now ≡ front_bytes bytes.now }
@@ -42,7 +42,7 @@ fn front_bytes(bytes: &[u8]) -> &[u8]
 }
 
 /// The character at the front, or `None` where no UTF-8 character begins there.
-#[tactic(auto, using(td_tree::proofs::FrontLaws::invalid))]
+#[tactic(auto, using(td_tree::proofs::law_lemmas::FrontLaws::invalid))]
 fn front_char(bytes: &[u8]) -> Option<char>
     requires { 0 < length bytes.now }
     ensures { result ≡ front_char bytes.now }

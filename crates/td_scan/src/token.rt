@@ -1,6 +1,6 @@
 //! Tokens.
 ghost use Rattle.std.specs.Prelude.{Some, ◌≡◌, ◌+◌, ◌<◌, ◌^◌, ◌∷◌, [], length, IfSome, IfNone};
-ghost use Rattle.td_scan.specs.Marks.{IsMark, token_at};
+ghost use Rattle.td_scan.specs.code.Marks.{IsMark, token_at};
 ghost use Rattle.td_tree.specs.Pieces.{kind_of};
 ghost use Rattle.td_tree.specs.Statements.{tokens};
 ghost use Rattle.td_tree.specs.Symbols.{symbols};

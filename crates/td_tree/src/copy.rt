@@ -1,10 +1,11 @@
 //! Copies of types and expressions. A text and a name share their bytes with their copies.
 ghost use Rattle.std.specs.Prelude.{◌≡◌, IfOk, map};
-ghost use Rattle.td_tree.specs.Copies.{Boxed};
+ghost use Rattle.td_tree.specs.code.Copies.{Boxed};
 ghost use Rattle.td_tree.specs.Trees as trees;
-ghost use Rattle.td_tree.specs.TreeViews.{attributes_view, heading_tree_view, literal_view};
-ghost use Rattle.td_tree.specs.TreeViews.{named_view, postfix_view, renaming_view, summaries_view};
-ghost use Rattle.td_tree.specs.TreeViews.{tree_view, trees_view, type_tree_view, with_summary};
+ghost use Rattle.td_tree.specs.code.TreeViews.{attributes_view, heading_tree_view, literal_view};
+ghost use Rattle.td_tree.specs.code.TreeViews.{named_view, postfix_view, renaming_view};
+ghost use Rattle.td_tree.specs.code.TreeViews.{summaries_view};
+ghost use Rattle.td_tree.specs.code.TreeViews.{tree_view, trees_view, type_tree_view, with_summary};
 
 use crate::both::both;
 use crate::expression::{Attributes, Expr, Literal, NamedExpr, Postfix, Renaming, Summary};

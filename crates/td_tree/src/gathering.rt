@@ -16,7 +16,7 @@ pub struct Gathering {
 
 impl Model for Gathering {
     ghost use Rattle.std.specs.Prelude.{Option};
-    ghost use Rattle.td_tree.specs.CauseCode.{cause_if_any_code};
+    ghost use Rattle.td_tree.specs.code.CauseCode.{cause_if_any_code};
     ghost use Rattle.td_tree.specs.declared.cause.Cause.{Cause};
 
     ghost Value = { Option Cause };

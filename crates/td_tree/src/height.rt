@@ -2,8 +2,9 @@
 ghost use Rattle.std.specs.Prelude.{◌≡◌, ◌+◌, ◌-◌, ◌^◌, min};
 ghost use Rattle.td_tree.specs.Heights.{attributes_height, height, highest, highest_named};
 ghost use Rattle.td_tree.specs.Heights.{highest_summary, type_height};
-ghost use Rattle.td_tree.specs.TreeViews.{heading_tree_view, named_view, summaries_view, tree_view};
-ghost use Rattle.td_tree.specs.TreeViews.{trees_view, type_tree_view};
+ghost use Rattle.td_tree.specs.code.TreeViews.{heading_tree_view, named_view, summaries_view};
+ghost use Rattle.td_tree.specs.code.TreeViews.{tree_view};
+ghost use Rattle.td_tree.specs.code.TreeViews.{trees_view, type_tree_view};
 
 use crate::expression::{Expr, NamedExpr, Summary};
 use crate::type_tree::{AttributeTree, TypeTree};

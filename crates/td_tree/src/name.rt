@@ -3,7 +3,8 @@ ghost use Rattle.std.specs.Prelude.{◌≡◌, IfOk, IsTrue};
 ghost use Rattle.std.proofs.Common.{rules};
 ghost use Rattle.std.specs.List.{list_all};
 ghost use Rattle.std.specs.Str.{chars};
-ghost use Rattle.td_tree.specs.Names.{IsName, begins_the, is_name, is_word, is_word_more, is_word_start};
+ghost use Rattle.td_tree.specs.Names.{IsName, begins_the, is_name, is_word, is_word_more};
+ghost use Rattle.td_tree.specs.Names.{is_word_start};
 
 use crate::keyword::Keyword;
 use std::alloc::{AllocError, Global};

@@ -9,9 +9,10 @@ ghost use Rattle.td_tree.specs.Lists.{braced, parenthesized};
 ghost use Rattle.td_tree.specs.Prints.{addition_lexemes, all_lexemes, commas, heading_lexemes};
 ghost use Rattle.td_tree.specs.Prints.{lexemes_of, part_lexemes, print, summary_lexemes};
 ghost use Rattle.td_tree.specs.Prints.{type_lexemes, type_print};
-ghost use Rattle.td_tree.specs.TreeViews.{heading_tree_view, named_view, summaries_view, tree_view};
-ghost use Rattle.td_tree.specs.TreeViews.{trees_view, type_tree_view};
-ghost use Rattle.td_tree.specs.Written.{Writes};
+ghost use Rattle.td_tree.specs.code.TreeViews.{heading_tree_view, named_view, summaries_view};
+ghost use Rattle.td_tree.specs.code.TreeViews.{tree_view};
+ghost use Rattle.td_tree.specs.code.TreeViews.{trees_view, type_tree_view};
+ghost use Rattle.td_tree.specs.code.Written.{Writes};
 
 mod words;
 

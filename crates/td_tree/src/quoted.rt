@@ -1,9 +1,9 @@
 //! Texts in quotes.
 ghost use Rattle.std.specs.Prelude.{◌≡◌, ◌++◌, OnErr, OnOk};
 ghost use Rattle.std.specs.String.{string_bytes};
-ghost use Rattle.td_tree.specs.Fronts.{PutsFront};
+ghost use Rattle.td_tree.specs.code.Fronts.{PutsFront};
 ghost use Rattle.td_tree.specs.TextTokens.{doubled, quoted};
-ghost use Rattle.td_tree.specs.Written.{quotes_if};
+ghost use Rattle.td_tree.specs.code.Written.{quotes_if};
 
 use std::alloc::AllocError;
 

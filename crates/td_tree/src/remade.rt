@@ -1,11 +1,11 @@
 //! Expressions made again, of what copies of their parts gave.
 ghost use Rattle.std.specs.Prelude.{◌≡◌, IfOk};
 ghost use Rattle.std.specs.Rc.{rc_str_bytes};
-ghost use Rattle.td_tree.specs.Copies.{Boxed, Copied};
+ghost use Rattle.td_tree.specs.code.Copies.{Boxed, Copied};
 ghost use Rattle.td_tree.specs.Trees as trees;
-ghost use Rattle.td_tree.specs.TreeViews.{attributes_view, heading_tree_view, literal_view};
-ghost use Rattle.td_tree.specs.TreeViews.{named_view, postfix_view, summaries_view, tree_view};
-ghost use Rattle.td_tree.specs.TreeViews.{trees_view};
+ghost use Rattle.td_tree.specs.code.TreeViews.{attributes_view, heading_tree_view, literal_view};
+ghost use Rattle.td_tree.specs.code.TreeViews.{named_view, postfix_view, summaries_view, tree_view};
+ghost use Rattle.td_tree.specs.code.TreeViews.{trees_view};
 
 use crate::both::both;
 use crate::expression::{Attributes, Expr, Literal, NamedExpr, Postfix, Summary};
@@ -174,7 +174,7 @@ pub fn aggregate(
 }
 
 /// `RELATION {t, ..}`
-#[tactic(auto, using(crate::proofs::Rows::relation_is))]
+#[tactic(auto, using(crate::proofs::code_lemmas::Rows::relation_is))]
 pub fn relation(elements: Result<Vec<Expr>, AllocError>) -> Result<Expr, AllocError>
     ensures { (es : trees.Trees) → IfOk elements (λ x. trees_view x.items ≡ es)
         → Copied result (trees.relation es) }
@@ -183,7 +183,7 @@ pub fn relation(elements: Result<Vec<Expr>, AllocError>) -> Result<Expr, AllocEr
 }
 
 /// `RELATION {A INTEGER, ..} {t, ..}`
-#[tactic(auto, using(crate::proofs::Rows::headed_relation_is))]
+#[tactic(auto, using(crate::proofs::code_lemmas::Rows::headed_relation_is))]
 pub fn headed_relation(
     heading: Result<Vec<AttributeTree>, AllocError>,
     elements: Result<Vec<Expr>, AllocError>,
@@ -200,7 +200,7 @@ pub fn headed_relation(
 }
 
 /// `TUPLE {A e, ..}`
-#[tactic(auto, using(crate::proofs::Rows::tuple_is))]
+#[tactic(auto, using(crate::proofs::code_lemmas::Rows::tuple_is))]
 pub fn tuple(parts: Result<Vec<NamedExpr>, AllocError>) -> Result<Expr, AllocError>
     ensures { (ps : trees.NamedTrees) → IfOk parts (λ x. named_view x.items ≡ ps)
         → Copied result (trees.tuple ps) }
@@ -209,7 +209,7 @@ pub fn tuple(parts: Result<Vec<NamedExpr>, AllocError>) -> Result<Expr, AllocErr
 }
 
 /// `EXTEND e ADD (v AS A, ..)`
-#[tactic(auto, using(crate::proofs::Rows::extend_is))]
+#[tactic(auto, using(crate::proofs::code_lemmas::Rows::extend_is))]
 pub fn extend(
     operand: Result<Box<Expr>, AllocError>,
     parts: Result<Vec<NamedExpr>, AllocError>,
@@ -224,7 +224,7 @@ pub fn extend(
 }
 
 /// `SUMMARIZE e PER (p) ADD (..)`
-#[tactic(auto, using(crate::proofs::Rows::summarize_per_is))]
+#[tactic(auto, using(crate::proofs::code_lemmas::Rows::summarize_per_is))]
 pub fn summarize_per(
     operand: Result<Box<Expr>, AllocError>,
     per: Result<Box<Expr>, AllocError>,

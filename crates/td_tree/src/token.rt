@@ -90,7 +90,7 @@ impl Kind {
         }
     }
     /// What a text in quotes with these bytes is.
-    #[tactic(auto, using(crate::proofs::FrontLaws::valid, crate::proofs::FrontLaws::invalid))]
+    #[tactic(auto, using(crate::proofs::law_lemmas::FrontLaws::valid, crate::proofs::law_lemmas::FrontLaws::invalid))]
     pub fn of_text(text: &[u8]) -> Kind
         ensures { result ≡ text_kind text.now }
     {

@@ -11,11 +11,11 @@ use Rattle.indexmap.proofs.CallerLemmas.{insert_entry-new}
 use Rattle.td_tree.specs.Names.{IsName}
 use Rattle.td_tree.specs.Trees.{Tree}
 use Rattle.td_types.specs.Headings.{are_distinct}
-use Rattle.td_types.specs.Pairs.{ArePairs}
-use Rattle.td_types.specs.Tables.{IsTable, kept_rank, rows_view}
+use Rattle.td_types.specs.code.Pairs.{ArePairs}
+use Rattle.td_types.specs.code.Tables.{IsTable, kept_rank, rows_view}
 use Rattle.td_types.specs.TypeLists.{AreKnown, DeclaredType, IsDeclarable, IsKnown, declared_type, is_declared, rank_of, user_ranks}
 use Rattle.td_types.specs.Types.{Attribute, Heading, IsType, pack, same_name, tuple}
-use Rattle.td_types.specs.Views.{pairs_view}
+use Rattle.td_types.specs.code.Views.{pairs_view}
 use Rattle.td_types.specs.declared.table.Row.{Row}
 use Rattle.td_types.specs.declared.ty.Ty.{Ty}
 use Rattle.td_types.proofs.Made.{names_of_pairs}

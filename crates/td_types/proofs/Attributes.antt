@@ -8,7 +8,7 @@ use Rattle.std.proofs.lemmas.List.Sums.{prefix_len-le-length}
 use Rattle.td_types.specs.declared.heading.Attribute as Ty
 use Rattle.td_types.specs.Headings.{add_missing, with_attribute}
 use Rattle.td_types.proofs.HeadingLaws.{name_cmp, insert-with}
-use Rattle.td_types.specs.Views.{attribute_view, heading_view, type_view}
+use Rattle.td_types.specs.code.Views.{attribute_view, heading_view, type_view}
 use Rattle.td_types.specs.Types.{Type', Attribute, Heading, type_at}
 
 -- an attribute of the code inserted at the place of its name is put in its place

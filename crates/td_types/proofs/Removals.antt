@@ -3,7 +3,7 @@ use Rattle.std.proofs.Common.{◌≡◌, ◌∙◌, ◌∷◌, ℕ, Bool, true, 
 use Rattle.std.specs.List.{AllByRecursion}
 use Rattle.std.specs.Map.{remove_entry}
 use Rattle.td_types.specs.NamedTypes.{is_component, without_declared}
-use Rattle.td_types.specs.Tables.{IsTable, kept_rank, rows_view}
+use Rattle.td_types.specs.code.Tables.{IsTable, kept_rank, rows_view}
 use Rattle.td_types.specs.TypeLists.{AreDeclared, is_declared, user_ranks}
 use Rattle.td_types.specs.Types.{same_name}
 use Rattle.td_types.specs.declared.table.Row.{Row}

@@ -12,7 +12,7 @@ use Rattle.td_types.specs.declared.heading.Attribute as Ty
 use Rattle.td_types.specs.Headings.{IsFound, IsMissing}
 use Rattle.td_types.proofs.HeadingLaws.{name_cmp}
 use Rattle.td_types.specs.Types.{IsAscending, attribute_names, same_name}
-use Rattle.td_types.specs.Views.{heading_view}
+use Rattle.td_types.specs.code.Views.{heading_view}
 
 less_than : (m n : List ℕ) (xs : List Ty.Attribute) (i : ℕ) (d : Ty.Attribute) → AllByRecursion (λ k. name_cmp m k ≡ Less) (attribute_names (heading_view xs)) → i < length xs
     → name_cmp (get_or xs i d).name n ≡ Equal → name_cmp m n ≡ Less

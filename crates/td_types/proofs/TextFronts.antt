@@ -1,11 +1,11 @@
 -- The texts of headings, part by part.
 use Rattle.std.proofs.Common.{◌≡◌, ◌∙◌, ℕ, ◌+◌, ◌<◌, Bool, true, Result, Ok, Err, OnErr, is_ok, if◌then◌else◌, List, ◌∷◌, ◌++◌, codes, length, get_or, drop, ap, sym, append_assoc}
 use Rattle.std.proofs.lemmas.List.{at_drop_more}
-use Rattle.td_tree.specs.Fronts.{IsBegun, PutsFront}
+use Rattle.td_tree.specs.code.Fronts.{IsBegun, PutsFront}
 use Rattle.td_types.specs.declared.heading.Attribute.{Attribute}
 use Rattle.td_types.specs.Texts.{attributes_text, comma_if, type_text}
 use Rattle.td_types.specs.Types.{pack}
-use Rattle.td_types.specs.Views.{heading_view, type_view}
+use Rattle.td_types.specs.code.Views.{heading_view, type_view}
 
 -- the text of the attributes from one place on
 abbrev pub text_from : Bool → ℕ → List Attribute → List ℕ

@@ -6,10 +6,10 @@ use Rattle.td_tree.specs.Grammar.{TypeSpelling}
 use Rattle.td_tree.specs.Lexemes.{Lexeme, keyword, sign}
 use Rattle.td_tree.specs.Lexemes as lexeme
 use Rattle.td_tree.specs.Prints.{attribute_lexemes, commas, following, heading_lexemes, type_lexemes}
-use Rattle.td_tree.specs.Written.{comma_lexeme_if}
-use Rattle.td_tree.proofs.Boundaries.{IsBounded}
-use Rattle.td_tree.proofs.OwnSpellings.{items_after, items_first, items_follow, type_spelled}
-use Rattle.td_tree.proofs.SeenLaws.{IsSeen, between_braces, close_brace_seen, comma_seen, lexeme_seen, nothing_seen, seen_same, space_seen}
+use Rattle.td_tree.specs.code.Written.{comma_lexeme_if}
+use Rattle.td_tree.proofs.law_lemmas.Boundaries.{IsBounded}
+use Rattle.td_tree.proofs.law_lemmas.OwnSpellings.{items_after, items_first, items_follow, type_spelled}
+use Rattle.td_tree.proofs.law_lemmas.SeenLaws.{IsSeen, between_braces, close_brace_seen, comma_seen, lexeme_seen, nothing_seen, seen_same, space_seen}
 use Rattle.td_types.specs.Texts.{attributes_text, comma_if, heading_text, type_text}
 use Rattle.td_types.specs.Types.{Type', boolean, integer, char, user, tuple, relation, Attrs, no_attrs, attr, IsHeading, IsType}
 use Rattle.td_types.specs.TypeTrees.{TypeTextsSpellTheirTrees, attribute_trees, type_tree}

@@ -6,7 +6,7 @@ use Rattle.std.proofs.Common.{ap}
 use Rattle.td_types.specs.declared.ty.Ty.{Ty}
 use Rattle.td_types.specs.Types.{Type', boolean, integer, char, user, tuple, relation, Attrs, no_attrs, attr, Heading, pack}
 use Rattle.td_types.specs.TypeOrder.{heading_cmp, heading_eq-Decides, ty_cmp, type_eq-Decides}
-use Rattle.td_types.specs.Views.{type_view}
+use Rattle.td_types.specs.code.Views.{type_view}
 
 abbrev mutual
   -- the place of the kind, and then the name or the heading

@@ -9,10 +9,10 @@ use Rattle.std.specs.Cmp.Lexicographic.{slice_cmp}
 use Rattle.std.proofs.Common.{ap, sym, ◌∙◌, subst}
 use Rattle.std.proofs.lemmas.Cmp.{on_total, eq_by_cmp_equiv}
 use Rattle.td_types.specs.declared.ty.Ty.{Ty}
-use Rattle.td_types.specs.Views.{type_view}
+use Rattle.td_types.specs.code.Views.{type_view}
 use Rattle.td_types.specs.Keys.{Key, key, Keys, no_keys, more, key_cmp, keys_cmp, key_cmp_total, key_same}
 use Rattle.td_types.specs.Types.{Type', boolean, integer, char, user, tuple, relation, Attrs, no_attrs, attr, Heading, pack, unpack, type_cmp, attrs_cmp}
-use Rattle.td_types.specs.TypeCode.{attrs_keys, type_key, unpack_pack}
+use Rattle.td_types.specs.code.TypeCode.{attrs_keys, type_key, unpack_pack}
 
 then_equal_right : (o : Ordering) → ordering_then o Equal ≡ o
 then_equal_right Less = refl

@@ -1,6 +1,6 @@
 //! Copies of types and headings.
 ghost use Rattle.std.specs.Prelude.{◌≡◌, IfOk};
-ghost use Rattle.td_types.specs.Views.{attribute_view, type_view};
+ghost use Rattle.td_types.specs.code.Views.{attribute_view, type_view};
 
 use crate::heading::{Attribute, Heading};
 use crate::ty::Ty;

@@ -2,7 +2,7 @@
 ghost use Rattle.std.specs.Prelude.{◌≡◌, ◌++◌, fold};
 ghost use Rattle.td_types.specs.Hashes.{fed_heading, fed_type};
 ghost use Rattle.td_types.specs.Types.{pack};
-ghost use Rattle.td_types.specs.Views.{type_view};
+ghost use Rattle.td_types.specs.code.Views.{type_view};
 
 use crate::heading::Heading;
 use crate::ty::Ty;
@@ -33,7 +33,7 @@ fn feed_heading<H: Hasher>(heading: &Heading, state: &mut H)
 
 impl Hash for Ty {
     ghost use Rattle.td_types.specs.Hashes.{fed_type, types_fed_alike};
-    ghost use Rattle.td_types.specs.Views.{type_view};
+    ghost use Rattle.td_types.specs.code.Views.{type_view};
 
     ghost hash_input = { λ t. fed_type (type_view t) };
 

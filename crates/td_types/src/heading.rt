@@ -1,11 +1,12 @@
 //! Headings as finite maps from names to types.
-ghost use Rattle.std.specs.Prelude.{◌≡◌, ◌↔◌, ◌<◌, ◌^◌, IfErr, IfOk, IsTrue, [], length, option_map};
+ghost use Rattle.std.specs.Prelude.{◌≡◌, ◌↔◌, ◌<◌, ◌^◌, IfErr, IfOk, IsTrue, [], length};
+ghost use Rattle.std.specs.Prelude.{option_map};
 ghost use Rattle.std.specs.Prelude.{slice_get};
 ghost use Rattle.td_tree.specs.Outcomes.{Answers};
 ghost use Rattle.td_types.specs.Headings.{IsFound, IsMap, IsMissing, add_missing, extended_heading};
 ghost use Rattle.td_types.specs.Headings.{made_heading, place_of, types_with};
 ghost use Rattle.td_types.specs.Types.{IsAscending, IsHeading, pack, type_at};
-ghost use Rattle.td_types.specs.Views.{pairs_view, type_view};
+ghost use Rattle.td_types.specs.code.Views.{pairs_view, type_view};
 
 use crate::names::repeats_a_name;
 use crate::ty::Ty;
@@ -32,15 +33,15 @@ pub struct Heading {
 
 impl Model for Heading {
     ghost use Rattle.std.specs.Prelude.{List, ℕ, map, length};
-    ghost use Rattle.td_types.specs.Depths.{heading_depth};
-    ghost use Rattle.td_types.specs.TypeCode.{heading_code};
+    ghost use Rattle.td_types.specs.code.Depths.{heading_depth};
+    ghost use Rattle.td_types.specs.code.TypeCode.{heading_code};
     ghost use Rattle.td_types.specs.Types.{Heading, IsHeading, pack};
 
     ghost Value = { Heading };
 
     ghost coded = { heading_code };
 
-    ghost use Rattle.td_types.specs.Views.{heading_view};
+    ghost use Rattle.td_types.specs.code.Views.{heading_view};
 
     ghost view = { λ a. heading_view a.attributes.items };
 
@@ -48,7 +49,7 @@ impl Model for Heading {
 
     ghost size = { heading_depth };
 
-    ghost use Rattle.td_types.specs.Falls.{attributes_fall};
+    ghost use Rattle.td_types.specs.code.Falls.{attributes_fall};
 
     ghost size_decreases = { λ a h. attributes_fall a.attributes.items };
 }

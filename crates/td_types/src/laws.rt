@@ -1,7 +1,7 @@
 //! What types and headings are to their callers: each function has its contract alone.
 ghost use Rattle.td_types.specs.Headings.{AgreementIsOneType, RenamingKeepsTypes};
 ghost use Rattle.td_types.specs.Headings.{TypesDetermineHeading};
-ghost use Rattle.td_types.specs.NameTests.{NameTestsTell};
+ghost use Rattle.td_types.specs.code.NameTests.{NameTestsTell};
 ghost use Rattle.td_types.specs.Texts.{TextsTellTypesApart};
 ghost use Rattle.td_types.specs.TypeListLaws.{ComponentsHaveLesserRanks, KnownTypesHaveRanks};
 ghost use Rattle.td_types.specs.TypeListLaws.{LaterTypesKeepMeanings, LaterTypesKeepNames};

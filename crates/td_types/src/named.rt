@@ -2,7 +2,7 @@
 ghost use Rattle.std.specs.Prelude.{◌≡◌};
 ghost use Rattle.td_types.specs.NamedTypes.{any_names_user, names_user};
 ghost use Rattle.td_types.specs.Types.{pack};
-ghost use Rattle.td_types.specs.Views.{pairs_view, type_view};
+ghost use Rattle.td_types.specs.code.Views.{pairs_view, type_view};
 
 use crate::heading::Heading;
 use crate::ty::Ty;

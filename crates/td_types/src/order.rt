@@ -3,7 +3,7 @@ ghost use Rattle.std.specs.Prelude.{◌≡◌, ◌↔◌, IsTrue};
 ghost use Rattle.std.specs.Ordering.{eq_by_cmp};
 ghost use Rattle.td_types.specs.TypeOrder.{heading_cmp, ty_cmp};
 ghost use Rattle.td_types.specs.Types.{attrs_cmp, pack, type_cmp, type_kind};
-ghost use Rattle.td_types.specs.Views.{heading_view, type_view};
+ghost use Rattle.td_types.specs.code.Views.{heading_view, type_view};
 
 use crate::heading::{Attribute, Heading};
 use crate::ty::Ty;

@@ -1,15 +1,15 @@
 //! Declared types in their order, looked up by name.
 ghost use Rattle.std.specs.Prelude.{◌≡◌, ◌↔◌, ◌++◌, ◌∷◌, [], IfOk, IsTrue, OnErr, OnOk, map, not};
 ghost use Rattle.std.specs.Prelude.{length, option_map, slice_get};
-ghost use Rattle.td_tree.specs.TreeViews.{tree_view};
+ghost use Rattle.td_tree.specs.code.TreeViews.{tree_view};
 ghost use Rattle.td_types.specs.Headings.{are_distinct};
 ghost use Rattle.td_types.specs.NamedTypes.{is_component, without_declared};
-ghost use Rattle.td_types.specs.Pairs.{ArePairs};
-ghost use Rattle.td_types.specs.Tables.{kept_rank};
+ghost use Rattle.td_types.specs.code.Pairs.{ArePairs};
+ghost use Rattle.td_types.specs.code.Tables.{kept_rank};
 ghost use Rattle.td_types.specs.TypeLists.{AreDeclared, AreKnown, IsKnown, declared_at};
 ghost use Rattle.td_types.specs.TypeLists.{declared_place, declared_type, is_declared, user_ranks};
 ghost use Rattle.td_types.specs.Types.{attribute_names, pack};
-ghost use Rattle.td_types.specs.Views.{pairs_view, type_view};
+ghost use Rattle.td_types.specs.code.Views.{pairs_view, type_view};
 
 use crate::rank::{components_rank, type_rank};
 use crate::ty::Ty;
@@ -30,10 +30,10 @@ pub struct TypeEntry {
 
 impl Model for TypeEntry {
     ghost use Rattle.std.specs.Prelude.{option_map};
-    ghost use Rattle.td_tree.specs.TreeViews.{tree_view};
-    ghost use Rattle.td_types.specs.TypeListCode.{declared_code};
+    ghost use Rattle.td_tree.specs.code.TreeViews.{tree_view};
+    ghost use Rattle.td_types.specs.code.TypeListCode.{declared_code};
     ghost use Rattle.td_types.specs.TypeLists.{DeclaredType, declared_type};
-    ghost use Rattle.td_types.specs.Views.{pairs_view};
+    ghost use Rattle.td_types.specs.code.Views.{pairs_view};
 
     ghost Value = { DeclaredType };
 
@@ -75,14 +75,14 @@ pub struct TypeTable {
 
 impl Model for TypeTable {
     ghost use Rattle.std.specs.Prelude.{List};
-    ghost use Rattle.td_types.specs.TypeListCode.{declared_list_code};
+    ghost use Rattle.td_types.specs.code.TypeListCode.{declared_list_code};
     ghost use Rattle.td_types.specs.TypeLists.{DeclaredType};
 
     ghost Value = { List DeclaredType };
 
     ghost coded = { declared_list_code };
 
-    ghost use Rattle.td_types.specs.Tables.{IsTable, rows_view};
+    ghost use Rattle.td_types.specs.code.Tables.{IsTable, rows_view};
 
     ghost view = { λ a. rows_view a.rows.entries };
 

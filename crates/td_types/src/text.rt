@@ -1,10 +1,10 @@
 //! The text of a type.
 ghost use Rattle.std.specs.Prelude.{◌≡◌, ◌++◌, IfOk, OnErr, OnOk};
 ghost use Rattle.std.specs.String.{string_bytes};
-ghost use Rattle.td_tree.specs.Fronts.{PutsFront};
+ghost use Rattle.td_tree.specs.code.Fronts.{PutsFront};
 ghost use Rattle.td_types.specs.Texts.{comma_if, heading_text, type_text};
 ghost use Rattle.td_types.specs.Types.{pack, relation};
-ghost use Rattle.td_types.specs.Views.{type_view};
+ghost use Rattle.td_types.specs.code.Views.{type_view};
 
 use crate::heading::Heading;
 use crate::ty::Ty;

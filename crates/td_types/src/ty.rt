@@ -1,6 +1,6 @@
 //! Types.
 ghost use Rattle.td_types.specs.Types.{IsType};
-ghost use Rattle.td_types.specs.Views.{type_view};
+ghost use Rattle.td_types.specs.code.Views.{type_view};
 
 use crate::heading::Heading;
 use td_tree::name::Name;

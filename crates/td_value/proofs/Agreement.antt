@@ -12,7 +12,7 @@ use Rattle.std.proofs.lemmas.Map.Lookups.{exact_bytes}
 use Rattle.td_types.specs.Headings.{has_name}
 use Rattle.td_types.proofs.HeadingLaws.{name_cmp, same_name-ties}
 use Rattle.td_value.specs.Agreement.{AgreeOn, AgreementIsOfValues, ProjectionsKeepValues, TuplesAreTheirValues, agree_on}
-use Rattle.td_value.specs.ValueCode.{unpack_pack_fields}
+use Rattle.td_value.specs.code.ValueCode.{unpack_pack_fields}
 use Rattle.td_value.specs.ValueOrder.{tuple_Decides}
 use Rattle.td_value.specs.Values.{Tuple, IsTuple, projected_tuple, tuple_names, value_at}
 use Rattle.td_value.proofs.Kept.{IsTuple-filter}

@@ -13,7 +13,7 @@ use Rattle.std.proofs.lemmas.Cmp.{tied_itself}
 use Rattle.td_types.specs.TypeOrder.{type_cmp_total, type_same}
 use Rattle.td_value.specs.ValueOrder.{equal_from}
 use Rattle.td_value.specs.Values.{Val, type_of}
-use Rattle.td_value.specs.Zipped.{entries_fit}
+use Rattle.td_value.specs.code.Zipped.{entries_fit}
 
 eq_then : (o p : Ordering) → is_eq (ordering_then o p) ≡ (is_eq o && is_eq p)
 eq_then Less p = refl

@@ -10,7 +10,7 @@ use Rattle.std.proofs.lemmas.List.{at_drop_more, length-take, map-append, take-a
 use Rattle.td_types.specs.Types.{Type', attr, pack}
 use Rattle.td_types.specs.Headings.{with_attribute}
 use Rattle.td_value.specs.Values.{Val, Tuple, fields_type, heading_of, pack_fields, type_of}
-use Rattle.td_value.specs.Views.{tuple_view}
+use Rattle.td_value.specs.code.Views.{tuple_view}
 use Rattle.td_types.proofs.DistinctNames.{name_cmp}
 
 pub fields_type-heading : (es : Tuple) → fields_type (pack_fields es) ≡ pack (heading_of es)

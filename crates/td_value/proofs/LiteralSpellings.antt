@@ -12,10 +12,10 @@ use Rattle.td_tree.specs.Numbers.{numeral_limit}
 use Rattle.td_tree.specs.Prints.{all_lexemes, commas, following, heading_lexemes, lexemes_of, part_lexemes}
 use Rattle.td_tree.specs.Trees as trees
 use Rattle.td_tree.specs.Lists.{braced, parenthesized}
-use Rattle.td_tree.specs.Written.{comma_lexeme_if}
-use Rattle.td_tree.proofs.Boundaries.{IsBounded}
-use Rattle.td_tree.proofs.OwnSpellings.{AllNamedSpelled, AllSpelled, IsSpelled, at_level, heading_spelled, items_after, items_first, items_follow, list_spelled, tuple_spelled}
-use Rattle.td_tree.proofs.SeenLaws.{IsSeen, between_braces, between_parentheses, close_brace_seen, close_parenthesis_seen, lexeme_seen, minus_seen, nothing_seen, seen_same, space_seen}
+use Rattle.td_tree.specs.code.Written.{comma_lexeme_if}
+use Rattle.td_tree.proofs.law_lemmas.Boundaries.{IsBounded}
+use Rattle.td_tree.proofs.law_lemmas.OwnSpellings.{AllNamedSpelled, AllSpelled, IsSpelled, at_level, heading_spelled, items_after, items_first, items_follow, list_spelled, tuple_spelled}
+use Rattle.td_tree.proofs.law_lemmas.SeenLaws.{IsSeen, between_braces, between_parentheses, close_brace_seen, close_parenthesis_seen, lexeme_seen, minus_seen, nothing_seen, seen_same, space_seen}
 use Rattle.td_types.specs.Texts.{comma_if, type_text}
 use Rattle.td_types.specs.Types.{Attrs, Type'}
 use Rattle.td_types.specs.Types as types

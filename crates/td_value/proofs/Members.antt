@@ -8,7 +8,7 @@ use Rattle.std.proofs.lemmas.Map.Views.{Contains-from_any, list_any-from_Contain
 use Rattle.td_value.specs.Laws.{RelationsAreTheirMembers, SetsHaveTheMembersOfTheirLists, SetsOfJoinedLists}
 use Rattle.td_value.specs.Sets.{has, set_of}
 use Rattle.td_value.proofs.SetLaws.{has-set_of, same_members}
-use Rattle.td_value.specs.ValueCode.{unpack_pack_rows}
+use Rattle.td_value.specs.code.ValueCode.{unpack_pack_rows}
 use Rattle.td_value.specs.Values.{Tuple, IsRelation, Relation, tuple_cmp}
 use Rattle.td_value.specs.ValueOrder.{tuple_Decides, tuple_order_same, tuple_order_total}
 

@@ -10,10 +10,10 @@ use Rattle.std.proofs.lemmas.Cmp.{alike_right, nat_list_cmp_total}
 use Rattle.std.proofs.lemmas.List.Sorted.{searchable_from_sorted}
 use Rattle.td_types.specs.Types.{same_name}
 use Rattle.td_types.proofs.DistinctNames.{name_cmp}
-use Rattle.td_value.specs.ValueCode.{unpack_pack_fields}
+use Rattle.td_value.specs.code.ValueCode.{unpack_pack_fields}
 use Rattle.td_value.specs.Values.{Val, IsTuple, tuple_names, value_at}
-use Rattle.td_value.specs.Views.{tuple_view}
-use Rattle.td_value.specs.Zipped.{AreTuple}
+use Rattle.td_value.specs.code.Views.{tuple_view}
+use Rattle.td_value.specs.code.Zipped.{AreTuple}
 use Rattle.td_value.proofs.Places.{in_order}
 use Rattle.td_value.proofs.Zips.{zip_names}
 

@@ -2,11 +2,11 @@ use Rattle.std.specs.Prelude.{ℕ, suc, List, [], ◌∷◌, length, ◌≡◌, 
 use Rattle.std.proofs.Common.{arith, ap}
 use Rattle.std.specs.List.{All}
 use Rattle.std.specs.List.Sorted.{IsStrictlySortedBy}
-use Rattle.td_value.specs.Zipped.{AreNames, AreTuple}
+use Rattle.td_value.specs.code.Zipped.{AreNames, AreTuple}
 use Rattle.td_tree.specs.Names.{IsName}
-use Rattle.td_value.specs.ValueCode.{unpack_pack_fields}
+use Rattle.td_value.specs.code.ValueCode.{unpack_pack_fields}
 use Rattle.td_value.specs.Hashes.{fed_value, fed_parts, fed_tuple}
-use Rattle.td_value.specs.Views.{tuple_view, values_of}
+use Rattle.td_value.specs.code.Views.{tuple_view, values_of}
 use Rattle.std.specs.Ordering.{nat_cmp, ordering_reverse}
 use Rattle.std.specs.declared.cmp.Ordering.{Ordering}
 use Rattle.std.specs.declared.cmp.Ordering.TheVariants.{Less, Equal, Greater}

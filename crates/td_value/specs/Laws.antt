@@ -7,7 +7,7 @@ use Rattle.td_types.specs.Types.{IsType}
 use Rattle.td_value.specs.Literal.{literal}
 use Rattle.td_value.specs.Sets.{set_of}
 use Rattle.td_value.specs.Values.{Val, user, Tuple, Relation, HaveSameMembers, IsRelation, IsValue, tuple_names, value_cmp, pack_parts, relation_cmp, tuple_cmp, type_of}
-use Rattle.td_value.specs.Views.{values_of}
+use Rattle.td_value.specs.code.Views.{values_of}
 
 -- values, tuples and relations are equal as the code compares them exactly where they are the same
 abbrev pub EqualityIsSameness : Type 0

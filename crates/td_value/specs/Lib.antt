@@ -1,6 +1,4 @@
 pub mod Agreement
-pub mod Depths
-pub mod Falls
 pub mod Hashes
 pub mod KnownValues
 pub mod Laws
@@ -8,8 +6,6 @@ pub mod Literal
 pub mod LiteralTrees
 pub mod Places
 pub mod Sets
-pub mod ValueCode
 pub mod ValueOrder
 pub mod Values
-pub mod Views
-pub mod Zipped
+pub mod code

@@ -12,10 +12,10 @@ use Rattle.td_value.specs.Hashes.{fed_value, fed_tuple, fed_relation}
 use Rattle.std.proofs.lemmas.Cmp.{on_total, then_total, nat_list_cmp_total, tied_itself}
 use Rattle.td_types.specs.Keys.{Key, key_cmp, keys_cmp, key_cmp_total, key_same, list_same, nat_same, then_equal}
 use Rattle.td_types.specs.Types.{Attrs, no_attrs, unpack}
-use Rattle.td_types.specs.TypeCode.{unpack_pack}
+use Rattle.td_types.specs.code.TypeCode.{unpack_pack}
 use Rattle.td_types.specs.TypeOrder.{attrs_cmp-keys}
 use Rattle.td_value.specs.Values.{Val, boolean, integer, char, user, tuple, relation, Parts, no_parts, part, Fields, no_fields, field, Rows, no_rows, row, Tuple, Relation, unpack_fields, unpack_rows, value_cmp, parts_cmp, fields_cmp, rows_cmp, tuple_cmp, relation_cmp, relation_value, tuple_value, entry_cmp}
-use Rattle.td_value.specs.ValueCode.{val_key, parts_keys, fields_keys, rows_keys, bit, val_from, val_back, unpack_pack_fields, unpack_pack_rows}
+use Rattle.td_value.specs.code.ValueCode.{val_key, parts_keys, fields_keys, rows_keys, bit, val_from, val_back, unpack_pack_fields, unpack_pack_rows}
 
 then_equal_right : (o : Ordering) → ordering_then o Equal ≡ o
 then_equal_right Less = refl

@@ -1,6 +1,6 @@
 //! Copies of values, which can fail for want of memory.
 ghost use Rattle.std.specs.Prelude.{◌≡◌, IfOk};
-ghost use Rattle.td_value.specs.Views.{node_view};
+ghost use Rattle.td_value.specs.code.Views.{node_view};
 
 use crate::relation::Rel;
 use crate::tuple::Tuple;

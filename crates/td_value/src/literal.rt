@@ -8,7 +8,7 @@ ghost use Rattle.td_types.specs.Types as types;
 ghost use Rattle.td_value.specs.Literal.{fields_literal, literal, relation_literal};
 ghost use Rattle.td_value.specs.Literal.{rows_literal, tuple_literal};
 ghost use Rattle.td_value.specs.Values.{pack_fields, pack_rows, selected_value};
-ghost use Rattle.td_value.specs.Views.{tuple_view};
+ghost use Rattle.td_value.specs.code.Views.{tuple_view};
 
 use crate::relation::Rel;
 use crate::tuple::Tuple;

@@ -22,7 +22,7 @@ impl Model for NameList {
     ghost use Rattle.std.specs.Ordering.{nat_cmp};
     ghost use Rattle.std.specs.Cmp.Lexicographic.{slice_cmp};
     ghost use Rattle.std.specs.List.Sorted.{IsStrictlySortedBy};
-    ghost use Rattle.td_value.specs.Zipped.{AreNames};
+    ghost use Rattle.td_value.specs.code.Zipped.{AreNames};
 
     ghost Value = { List (List ℕ) };
 

@@ -3,7 +3,7 @@ ghost use Rattle.std.specs.Prelude.{◌≡◌, length};
 ghost use Rattle.td_value.specs.Values.{value_cmp, pack_parts, pack_rows, parts_cmp, value_kind};
 ghost use Rattle.td_value.specs.Values.{relation_cmp, rows_cmp, selected_value, tuple_cmp};
 ghost use Rattle.td_value.specs.Values.{tuple_names};
-ghost use Rattle.td_value.specs.Views.{tuple_view, values_of};
+ghost use Rattle.td_value.specs.code.Views.{tuple_view, values_of};
 
 use crate::relation::Rel;
 use crate::tuple::Tuple;

@@ -6,7 +6,7 @@ ghost use Rattle.td_value.specs.Sets.{has, set_of};
 ghost use Rattle.td_value.specs.Values.{Tuple, HaveSameMembers, HaveSameNames};
 ghost use Rattle.td_value.specs.Values.{IsAscendingBody, IsTupleOf, tuple_names, tuple_cmp};
 ghost use Rattle.td_value.specs.Values.{with_tuple, without_tuple};
-ghost use Rattle.td_value.specs.Views.{relation_view};
+ghost use Rattle.td_value.specs.code.Views.{relation_view};
 
 use crate::lists::put;
 use crate::order::compare_by_values;
@@ -27,15 +27,15 @@ pub struct Rel {
 }
 
 impl Model for Rel {
-    ghost use Rattle.td_value.specs.Depths.{relation_depth};
+    ghost use Rattle.td_value.specs.code.Depths.{relation_depth};
     ghost use Rattle.td_value.specs.Values.{IsRelation, Relation};
-    ghost use Rattle.td_value.specs.ValueCode.{relation_code};
+    ghost use Rattle.td_value.specs.code.ValueCode.{relation_code};
 
     ghost Value = { Relation };
 
     ghost coded = { relation_code };
 
-    ghost use Rattle.td_value.specs.Views.{relation_view};
+    ghost use Rattle.td_value.specs.code.Views.{relation_view};
 
     ghost view = { λ a. relation_view a.heading.value a.rows.value.items };
 
@@ -43,7 +43,7 @@ impl Model for Rel {
 
     ghost size = { relation_depth };
 
-    ghost use Rattle.td_value.specs.Falls.{relation_falls};
+    ghost use Rattle.td_value.specs.code.Falls.{relation_falls};
 
     ghost size_decreases = { λ a h. relation_falls a.rows.value.items };
 }

@@ -6,9 +6,10 @@ ghost use Rattle.std.specs.Cmp.Lexicographic.{slice_cmp};
 ghost use Rattle.std.specs.List.{All};
 ghost use Rattle.std.specs.List.Sorted.{IsSortedBy, IsStrictlySortedBy};
 ghost use Rattle.td_tree.specs.Outcomes.{Answers};
-ghost use Rattle.td_value.specs.Values.{AreFields, HasValuesOf, IsTuple, IsTupleOf, made_tuple, tuple_names};
+ghost use Rattle.td_value.specs.Values.{AreFields, HasValuesOf, IsTuple, IsTupleOf, made_tuple};
+ghost use Rattle.td_value.specs.Values.{tuple_names};
 ghost use Rattle.td_value.specs.Values.{pack_fields, projected_tuple, value_at};
-ghost use Rattle.td_value.specs.Views.{tuple_view, values_of};
+ghost use Rattle.td_value.specs.code.Views.{tuple_view, values_of};
 
 use crate::lists::put;
 use crate::names::NameList;
@@ -33,16 +34,16 @@ pub struct Tuple {
 }
 
 impl Model for Tuple {
-    ghost use Rattle.td_value.specs.Depths.{tuple_depth};
+    ghost use Rattle.td_value.specs.code.Depths.{tuple_depth};
     ghost use Rattle.td_value.specs.Values.{Tuple};
-    ghost use Rattle.td_value.specs.ValueCode.{tuple_code};
+    ghost use Rattle.td_value.specs.code.ValueCode.{tuple_code};
 
     ghost Value = { Tuple };
 
     ghost coded = { tuple_code };
 
-    ghost use Rattle.td_value.specs.Views.{tuple_view};
-    ghost use Rattle.td_value.specs.Zipped.{AreTuple};
+    ghost use Rattle.td_value.specs.code.Views.{tuple_view};
+    ghost use Rattle.td_value.specs.code.Zipped.{AreTuple};
 
     ghost view = { λ a. tuple_view a.names.value.items a.values.value.items };
 
@@ -50,7 +51,7 @@ impl Model for Tuple {
 
     ghost size = { tuple_depth };
 
-    ghost use Rattle.td_value.specs.Falls.{fields_fall};
+    ghost use Rattle.td_value.specs.code.Falls.{fields_fall};
 
     ghost size_decreases = { λ a h. fields_fall a.names.value.items a.values.value.items h.0 };
 }
@@ -233,7 +234,7 @@ impl Tuple {
 
 impl Tuple {
     ghost use Rattle.td_value.specs.Values.{IsTuple, tuple_names};
-    ghost use Rattle.td_value.specs.Views.{values_of};
+    ghost use Rattle.td_value.specs.code.Views.{values_of};
 
     /// How many attributes it has.
     pub fn len(&self) -> usize

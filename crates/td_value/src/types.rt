@@ -5,11 +5,11 @@ ghost use Rattle.td_types.specs.Headings.{with_attribute};
 ghost use Rattle.td_types.specs.TypeOrder.{heading_cmp};
 ghost use Rattle.td_types.specs.Types.{attrs_cmp, pack, type_cmp};
 ghost use Rattle.td_types.specs.Types as types;
-ghost use Rattle.td_types.specs.Views as heads;
+ghost use Rattle.td_types.specs.code.Views as heads;
 ghost use Rattle.td_value.specs.Values.{IsTuple, IsTupleOf, fields_type, heading_of, pack_fields};
 ghost use Rattle.td_value.specs.Values.{type_of};
-ghost use Rattle.td_value.specs.Views.{tuple_view};
-ghost use Rattle.td_value.specs.Zipped.{entries_fit};
+ghost use Rattle.td_value.specs.code.Views.{tuple_view};
+ghost use Rattle.td_value.specs.code.Zipped.{entries_fit};
 
 use crate::relation::Rel;
 use crate::tuple::Tuple;

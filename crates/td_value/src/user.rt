@@ -1,8 +1,8 @@
 //! User values.
 ghost use Rattle.std.specs.Prelude.{◌≡◌, ◌↔◌, IsTrue};
-ghost use Rattle.td_types.specs.Views.{pairs_view};
+ghost use Rattle.td_types.specs.code.Views.{pairs_view};
 ghost use Rattle.td_value.specs.Values.{AreValues, HaveTypesOf, pack_parts};
-ghost use Rattle.td_value.specs.Views.{user_view};
+ghost use Rattle.td_value.specs.code.Views.{user_view};
 
 use crate::value::Value;
 use std::marker::Model;
@@ -18,15 +18,15 @@ pub struct User {
 }
 
 impl Model for User {
-    ghost use Rattle.td_value.specs.Depths.{user_depth};
+    ghost use Rattle.td_value.specs.code.Depths.{user_depth};
     ghost use Rattle.td_value.specs.Values.{IsUserValue, UserValue};
-    ghost use Rattle.td_value.specs.ValueCode.{user_value_code};
+    ghost use Rattle.td_value.specs.code.ValueCode.{user_value_code};
 
     ghost Value = { UserValue };
 
     ghost coded = { user_value_code };
 
-    ghost use Rattle.td_value.specs.Views.{user_view};
+    ghost use Rattle.td_value.specs.code.Views.{user_view};
 
     ghost view = { λ a. user_view a.name a.components.items };
 
@@ -34,7 +34,7 @@ impl Model for User {
 
     ghost size = { user_depth };
 
-    ghost use Rattle.td_value.specs.Falls.{parts_fall};
+    ghost use Rattle.td_value.specs.code.Falls.{parts_fall};
 
     ghost size_decreases = { λ a h. parts_fall a.components.items };
 }

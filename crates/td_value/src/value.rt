@@ -43,15 +43,15 @@ pub enum Node {
 }
 
 impl Model for Value {
-    ghost use Rattle.td_value.specs.Depths.{depth};
+    ghost use Rattle.td_value.specs.code.Depths.{depth};
     ghost use Rattle.td_value.specs.Values.{IsValue, Val};
-    ghost use Rattle.td_value.specs.ValueCode.{val_code};
+    ghost use Rattle.td_value.specs.code.ValueCode.{val_code};
 
     ghost Value = { Val };
 
     ghost coded = { val_code };
 
-    ghost use Rattle.td_value.specs.Views.{node_view};
+    ghost use Rattle.td_value.specs.code.Views.{node_view};
 
     ghost view = { λ a. node_view a.node };
 
@@ -59,7 +59,7 @@ impl Model for Value {
 
     ghost size = { depth };
 
-    ghost use Rattle.td_value.specs.Falls.{node_falls};
+    ghost use Rattle.td_value.specs.code.Falls.{node_falls};
 
     ghost size_decreases = { λ a h. node_falls a.node };
 }

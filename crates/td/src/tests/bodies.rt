@@ -3,7 +3,7 @@ ghost use Rattle.std.specs.Prelude.{◌≡◌, ◌∷◌, ◌<◌, IfOk, IfSome,
 ghost use Rattle.std.specs.List.{slice_get};
 ghost use Rattle.td_types.specs.Headings.{projection};
 ghost use Rattle.td_value.specs.Values.{IsTupleOf, heading_of};
-ghost use Rattle.td_value.specs.Views.{relation_view};
+ghost use Rattle.td_value.specs.code.Views.{relation_view};
 
 mod outer;
 mod steps;

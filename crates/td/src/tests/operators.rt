@@ -2,7 +2,7 @@
 ghost use Rattle.std.specs.Prelude.{IsTrue, not};
 ghost use Rattle.td_algebra.specs.Columns.{IsColumn};
 ghost use Rattle.td_types.specs.Headings.{has_attribute};
-ghost use Rattle.td_types.specs.Views.{type_view};
+ghost use Rattle.td_types.specs.code.Views.{type_view};
 
 use super::given::{both, kept, list_of, made};
 use super::texts::{Want, is_answer, literal, names, relation};

@@ -2,10 +2,10 @@
 ghost use Rattle.std.specs.Prelude.{◌≡◌, ◌∷◌, ◌++◌, [], ◌<◌, IfOk, OnErr, OnOk, length, map};
 ghost use Rattle.std.specs.List.{All};
 ghost use Rattle.td_value.specs.Values.{IsTupleOf};
-ghost use Rattle.td_value.specs.Views.{relation_view};
+ghost use Rattle.td_value.specs.code.Views.{relation_view};
 ghost use Rattle.td_body.specs.Bodies.{after_change};
-ghost use Rattle.td_body.specs.HashBodies.{IsPlacedFor, kept_with_aside};
-ghost use Rattle.td_body.specs.Histories.{changed_set};
+ghost use Rattle.td_body.specs.code.HashBodies.{IsPlacedFor, kept_with_aside};
+ghost use Rattle.td_body.specs.code.Histories.{changed_set};
 
 use super::look_ups::{found_by_key, holds_of};
 use super::members::Members;
@@ -34,8 +34,8 @@ pub struct HashBody {
 impl Model for HashBody {
     ghost use Rattle.std.specs.Prelude.{map};
     ghost use Rattle.td_body.specs.Bodies.{BodyView};
-    ghost use Rattle.td_body.specs.BodyCode.{body_code};
-    ghost use Rattle.td_body.specs.HashBodies.{IsHashBody, kept_with_aside};
+    ghost use Rattle.td_body.specs.code.BodyCode.{body_code};
+    ghost use Rattle.td_body.specs.code.HashBodies.{IsHashBody, kept_with_aside};
 
     ghost Value = { BodyView };
 

@@ -3,8 +3,8 @@ ghost use Rattle.std.specs.Prelude.{◌≡◌, [], ◌<◌, IfOk, length, map};
 ghost use Rattle.std.specs.List.{All};
 ghost use Rattle.td_types.specs.Types.{attribute_names};
 ghost use Rattle.td_value.specs.Values.{IsAscendingBody};
-ghost use Rattle.td_body.specs.KeyParts.{places_from};
-ghost use Rattle.td_body.specs.Members.{ArePlaced, IsAt, places_in};
+ghost use Rattle.td_body.specs.code.KeyParts.{places_from};
+ghost use Rattle.td_body.specs.code.Members.{ArePlaced, IsAt, places_in};
 
 use super::history::KeyHistory;
 use crate::keys::places_of;

@@ -2,8 +2,9 @@
 ghost use Rattle.std.specs.Prelude.{◌≡◌, ◌∷◌, ◌++◌, [], ◌+◌, ◌<◌, ◌≤◌, IfOk, OnOk, length};
 ghost use Rattle.std.specs.Prelude.{vec_capacity, vec_len};
 ghost use Rattle.td_value.specs.Values.{IsAscendingBody};
-ghost use Rattle.td_body.specs.Histories.{changed_set, dropped_tuples_in, kept_sets, put_tuple};
-ghost use Rattle.td_body.specs.KeyIndexes.{without};
+ghost use Rattle.td_body.specs.code.Histories.{changed_set, dropped_tuples_in, kept_sets};
+ghost use Rattle.td_body.specs.code.Histories.{put_tuple};
+ghost use Rattle.td_body.specs.code.KeyIndexes.{without};
 
 use super::index::{KeyIndex, Piece};
 use super::step::{Entry, Step};

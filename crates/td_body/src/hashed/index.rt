@@ -4,8 +4,8 @@ ghost use Rattle.std.specs.Prelude.{if◌then◌else◌, is_some, length, not};
 ghost use Rattle.std.specs.Ordering.{is_eq};
 ghost use Rattle.td_value.specs.Sets.{has, put_in};
 ghost use Rattle.td_value.specs.Values.{HaveSameMembers, IsAscendingBody, tuple_cmp};
-ghost use Rattle.td_body.specs.KeyIndexes.{with_part, without};
-ghost use Rattle.td_body.specs.KeyParts.{apart_at, values_cmp};
+ghost use Rattle.td_body.specs.code.KeyIndexes.{with_part, without};
+ghost use Rattle.td_body.specs.code.KeyParts.{apart_at, values_cmp};
 
 use super::hashes::{hash_at, hash_of};
 use super::tables::{
@@ -28,7 +28,7 @@ pub(crate) struct Piece {
 impl Model for Piece {
     ghost use Rattle.std.specs.Prelude.{◌≡◌};
     ghost use Rattle.td_value.specs.Values.{Tuple};
-    ghost use Rattle.td_value.specs.ValueCode.{tuple_code};
+    ghost use Rattle.td_value.specs.code.ValueCode.{tuple_code};
 
     ghost Value = { Tuple };
 
@@ -69,7 +69,7 @@ impl Model for KeyIndex {
     ghost use Rattle.indexmap.specs.IndexMap.{keys, spare};
     ghost use Rattle.td_value.specs.Sets.{set_of};
     ghost use Rattle.td_value.specs.Values.{tuple_cmp};
-    ghost use Rattle.td_body.specs.KeyIndexes.{IsIndexed, KeyIndex, key_index_code};
+    ghost use Rattle.td_body.specs.code.KeyIndexes.{IsIndexed, KeyIndex, key_index_code};
 
     ghost Value = { KeyIndex };
 

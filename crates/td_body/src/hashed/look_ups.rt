@@ -5,7 +5,7 @@ ghost use Rattle.td_types.specs.Headings.{projection};
 ghost use Rattle.td_types.specs.Types.{attribute_names};
 ghost use Rattle.td_value.specs.Values.{heading_of};
 ghost use Rattle.td_body.specs.Bodies.{agreeing, key_holds};
-ghost use Rattle.td_body.specs.KeyParts.{places_from};
+ghost use Rattle.td_body.specs.code.KeyParts.{places_from};
 
 use super::members::Members;
 use crate::keys::{agreeing, key_holds};

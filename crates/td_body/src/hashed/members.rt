@@ -6,11 +6,11 @@ ghost use Rattle.td_types.specs.Types.{Heading, attribute_names};
 ghost use Rattle.td_value.specs.Sets.{has};
 ghost use Rattle.td_value.specs.Values.{Tuple, HaveSameMembers, IsAscendingBody, IsRelation};
 ghost use Rattle.td_value.specs.Values.{IsTupleOf, tuple_cmp};
-ghost use Rattle.td_value.specs.Views.{relation_view};
-ghost use Rattle.td_body.specs.Histories.{changed_set, kept_sets};
-ghost use Rattle.td_body.specs.KeyIndexes.{with_part};
-ghost use Rattle.td_body.specs.KeyParts.{apart_at};
-ghost use Rattle.td_body.specs.Members.{ArePlaced, Covers, HasReady, HasRoom, IsAt, places_in};
+ghost use Rattle.td_value.specs.code.Views.{relation_view};
+ghost use Rattle.td_body.specs.code.Histories.{changed_set, kept_sets};
+ghost use Rattle.td_body.specs.code.KeyIndexes.{with_part};
+ghost use Rattle.td_body.specs.code.KeyParts.{apart_at};
+ghost use Rattle.td_body.specs.code.Members.{ArePlaced, Covers, HasReady, HasRoom, IsAt, places_in};
 
 use super::filled::histories_of;
 use super::history::KeyHistory;
@@ -37,9 +37,9 @@ pub(crate) struct Members {
 
 impl Model for Members {
     ghost use Rattle.std.specs.Prelude.{map};
-    ghost use Rattle.td_value.specs.Views.{relation_view};
-    ghost use Rattle.td_body.specs.Members.{AreMembers, Members, kept_in, places_in, set_in};
-    ghost use Rattle.td_body.specs.MembersCode.{members_code};
+    ghost use Rattle.td_value.specs.code.Views.{relation_view};
+    ghost use Rattle.td_body.specs.code.Members.{AreMembers, Members, kept_in, places_in, set_in};
+    ghost use Rattle.td_body.specs.code.MembersCode.{members_code};
 
     ghost Value = { Members };
 

@@ -26,7 +26,7 @@ pub(crate) struct Entry {
 
 impl Model for Entry {
     ghost use Rattle.std.specs.Prelude.{◌≡◌};
-    ghost use Rattle.td_value.specs.ValueCode.{tuple_code};
+    ghost use Rattle.td_value.specs.code.ValueCode.{tuple_code};
     ghost use Rattle.td_value.specs.Values.{Tuple};
 
     ghost Value = { Tuple };

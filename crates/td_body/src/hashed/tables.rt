@@ -4,7 +4,7 @@ ghost use Rattle.std.specs.Prelude.{cond, nat_eq};
 ghost use Rattle.std.specs.Ordering.{eq_by_cmp};
 ghost use Rattle.indexmap.specs.IndexMap.{Updates, get, keys, spare};
 ghost use Rattle.td_value.specs.Values.{Tuple, tuple_cmp};
-ghost use Rattle.td_body.specs.KeyIndexes.{count_in, ordinal_of, several, slot_eq, tuple_at};
+ghost use Rattle.td_body.specs.code.KeyIndexes.{count_in, ordinal_of, several, slot_eq, tuple_at};
 ghost use Rattle.td_body.specs.declared.hashed.tables.Slot.{Slot};
 
 use indexmap::IndexMap;

@@ -1,7 +1,7 @@
 //! What the rules ask of types.
 ghost use Rattle.td_check.specs.OperatorTypes.{over_relation, over_tuple};
 ghost use Rattle.td_tree.specs.Outcomes.{Answers, Valued, value_if};
-ghost use Rattle.td_types.specs.Views.{type_view};
+ghost use Rattle.td_types.specs.code.Views.{type_view};
 
 use td_tree::cause::Cause;
 use td_tree::fault::Fault;

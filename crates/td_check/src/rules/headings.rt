@@ -2,8 +2,8 @@
 ghost use Rattle.td_check.specs.OperatorTypes.{attribute_type, composed_heading, extended_by};
 ghost use Rattle.td_check.specs.OperatorTypes.{joined_apart, named_part};
 ghost use Rattle.td_tree.specs.Outcomes.{Answers};
-ghost use Rattle.td_tree.specs.TreeViews.{attributes_view};
-ghost use Rattle.td_types.specs.Views.{pairs_view, type_view};
+ghost use Rattle.td_tree.specs.code.TreeViews.{attributes_view};
+ghost use Rattle.td_types.specs.code.Views.{pairs_view, type_view};
 
 use crate::rules::asked::ask;
 use td_tree::cause::Cause;

@@ -1,14 +1,14 @@
 //! The rules of selectors, relations and tuples by their parts, and of what EXTEND and SUMMARIZE add.
 ghost use Rattle.std.specs.Prelude.{◌≡◌, map};
-ghost use Rattle.td_check.specs.ItemViews.{summary_item_view, items_view};
+ghost use Rattle.td_check.specs.code.ItemViews.{summary_item_view, items_view};
 ghost use Rattle.td_check.specs.OperatorTypes.{are_types_of, element_type, extension_type};
 ghost use Rattle.td_check.specs.OperatorTypes.{headed_type, item_type, listed_type};
 ghost use Rattle.td_check.specs.OperatorTypes.{per_heading, selector_type, summary_type};
 ghost use Rattle.td_check.specs.OperatorTypes.{tuple_type};
 ghost use Rattle.td_tree.specs.Outcomes.{Answers, Outcome, gathered};
-ghost use Rattle.td_types.specs.Pairs.{pair_view};
+ghost use Rattle.td_types.specs.code.Pairs.{pair_view};
 ghost use Rattle.td_types.specs.Types.{Heading};
-ghost use Rattle.td_types.specs.Views.{pairs_view, type_view};
+ghost use Rattle.td_types.specs.code.Views.{pairs_view, type_view};
 
 use crate::rules::asked::{relation_heading, tuple_heading};
 use crate::rules::headings::extended_by;

@@ -6,10 +6,10 @@ ghost use Rattle.td_check.specs.OperatorTypes.{extracted_type, if_type, measure_
 ghost use Rattle.td_check.specs.OperatorTypes.{same_type};
 ghost use Rattle.td_check.specs.StaticTypes.{literal_type};
 ghost use Rattle.td_tree.specs.Outcomes.{Answers, value_if};
-ghost use Rattle.td_tree.specs.TreeViews.{literal_view};
+ghost use Rattle.td_tree.specs.code.TreeViews.{literal_view};
 ghost use Rattle.td_tree.specs.declared.cause.Cause.TheVariants as causes;
 ghost use Rattle.td_types.specs.Types.{char, integer, type_at, user};
-ghost use Rattle.td_types.specs.Views.{pairs_view, type_view};
+ghost use Rattle.td_types.specs.code.Views.{pairs_view, type_view};
 
 use crate::rules::asked::{relation_heading, tuple_heading};
 use std::alloc::Global;

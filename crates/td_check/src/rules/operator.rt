@@ -8,7 +8,7 @@ ghost use Rattle.td_check.specs.OperatorTypes.{relation_if};
 ghost use Rattle.td_tree.specs.Outcomes.{Answers, Valued};
 ghost use Rattle.td_types.specs.Headings.{united_heading};
 ghost use Rattle.td_types.specs.Types.{Heading};
-ghost use Rattle.td_types.specs.Views.{type_view};
+ghost use Rattle.td_types.specs.code.Views.{type_view};
 
 use crate::rules::asked::relation_heading;
 use crate::rules::headings::{composed_heading, joined_apart};

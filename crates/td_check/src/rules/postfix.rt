@@ -4,11 +4,11 @@ ghost use Rattle.td_check.specs.OperatorTypes.{attribute_type, joined_apart, nam
 ghost use Rattle.td_check.specs.OperatorTypes.{over_relation, over_tuple, postfix_type};
 ghost use Rattle.td_check.specs.OperatorTypes.{relation_if, renaming_pairs};
 ghost use Rattle.td_tree.specs.Outcomes.{Answers, with_value};
-ghost use Rattle.td_tree.specs.TreeViews.{attributes_view, postfix_view, renaming_view};
+ghost use Rattle.td_tree.specs.code.TreeViews.{attributes_view, postfix_view, renaming_view};
 ghost use Rattle.td_types.specs.Headings.{extended_heading, outside, renamed_heading};
 ghost use Rattle.td_types.specs.Headings.{without_attribute};
 ghost use Rattle.td_types.specs.Types.{pack, relation, tuple};
-ghost use Rattle.td_types.specs.Views.{type_view};
+ghost use Rattle.td_types.specs.code.Views.{type_view};
 
 use crate::rules::asked::{relation_heading, tuple_heading};
 use crate::rules::headings::{attribute_type, joined_apart, named_part};

@@ -1,7 +1,7 @@
 //! What is asked of assignments.
 ghost use Rattle.std.specs.Prelude.{◌≡◌, List, Option, map, option_map};
-ghost use Rattle.td_check.specs.PlaceViews.{scope_at};
-ghost use Rattle.td_check.specs.ScopeCode.{seen_view};
+ghost use Rattle.td_check.specs.code.PlaceViews.{scope_at};
+ghost use Rattle.td_check.specs.code.ScopeCode.{seen_view};
 ghost use Rattle.td_check.specs.Scopes.{KnownRelvar, kind_and_heading, known_relvar};
 ghost use Rattle.td_check.specs.StaticTypes.{named_types, type_of};
 ghost use Rattle.td_check.specs.StatementTypes.{assignment_checked, both_hold, condition_fits};
@@ -9,9 +9,9 @@ ghost use Rattle.td_check.specs.StatementTypes.{in_target, is_target};
 ghost use Rattle.td_check.specs.StatementTypes.{setting_fits, settings_fit, source_fits};
 ghost use Rattle.td_check.specs.StatementTypes.{type_if_given};
 ghost use Rattle.td_tree.specs.Outcomes.{Answers, Valued, gathered, with_both, with_value};
-ghost use Rattle.td_tree.specs.TreeViews.{assignment_view, named_view, tree_view};
+ghost use Rattle.td_tree.specs.code.TreeViews.{assignment_view, named_view, tree_view};
 ghost use Rattle.td_types.specs.Types.{Heading};
-ghost use Rattle.td_types.specs.Views.{pairs_view, type_view};
+ghost use Rattle.td_types.specs.code.Views.{pairs_view, type_view};
 
 use super::parts::{both_hold, condition_fits, relation_fits, type_if_given};
 use crate::expression::{check_at, check_named_at};

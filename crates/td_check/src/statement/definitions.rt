@@ -7,12 +7,12 @@ ghost use Rattle.td_check.specs.StatementTypes.{has_key, heading_rank_fits, hold
 ghost use Rattle.td_check.specs.StatementTypes.{keys_asked, knows_relvar, rank_fits};
 ghost use Rattle.td_check.specs.StatementTypes.{statement_checked, type_if_given};
 ghost use Rattle.td_tree.specs.Outcomes.{Answers, with_both, with_value};
-ghost use Rattle.td_tree.specs.TreeViews.{heading_tree_view, statement_view, tree_view};
+ghost use Rattle.td_tree.specs.code.TreeViews.{heading_tree_view, statement_view, tree_view};
 ghost use Rattle.td_tree.specs.declared.cause.Cause.TheVariants as causes;
 ghost use Rattle.td_types.specs.Headings.{heading_from};
 ghost use Rattle.td_types.specs.TypeLists.{heading_meant};
 ghost use Rattle.td_types.specs.Types.{Attribute};
-ghost use Rattle.td_types.specs.Views.{pairs_view, type_view};
+ghost use Rattle.td_types.specs.code.Views.{pairs_view, type_view};
 
 use super::parts::{both_hold, check_condition, check_inside, relation_fits, type_if_given};
 use crate::expression::check_at;

@@ -1,15 +1,15 @@
 //! What is asked of the parts of statements.
 ghost use Rattle.std.specs.Prelude.{option_map, ⊤};
 ghost use Rattle.td_check.specs.OperatorTypes.{if_type};
-ghost use Rattle.td_check.specs.PlaceViews.{scope_at};
+ghost use Rattle.td_check.specs.code.PlaceViews.{scope_at};
 ghost use Rattle.td_check.specs.Scopes.{entered_with};
 ghost use Rattle.td_check.specs.StaticTypes.{type_of};
 ghost use Rattle.td_check.specs.StatementTypes.{both_hold, condition_fits};
 ghost use Rattle.td_check.specs.StatementTypes.{relation_fits, type_if_given};
 ghost use Rattle.td_tree.specs.Outcomes.{Answers, Outcome, with_value};
-ghost use Rattle.td_tree.specs.TreeViews.{tree_view};
+ghost use Rattle.td_tree.specs.code.TreeViews.{tree_view};
 ghost use Rattle.td_types.specs.Types.{boolean};
-ghost use Rattle.td_types.specs.Views.{type_view};
+ghost use Rattle.td_types.specs.code.Views.{type_view};
 
 use crate::expression::check_at;
 use crate::place::Place;

@@ -5,7 +5,7 @@ ghost use Rattle.td_eval.specs.OperatorValues.{on_relation, on_truth, on_tuple};
 ghost use Rattle.td_eval.specs.OperatorValues.{value_of_type};
 ghost use Rattle.td_eval.specs.Worlds.{innermost_value};
 ghost use Rattle.td_tree.specs.Outcomes.{Answers, Valued};
-ghost use Rattle.td_types.specs.Views.{pairs_view, type_view};
+ghost use Rattle.td_types.specs.code.Views.{pairs_view, type_view};
 ghost use Rattle.td_value.specs.Values.{Val, type_of};
 
 use td_tree::cause::Cause;

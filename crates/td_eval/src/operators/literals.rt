@@ -4,7 +4,7 @@ ghost use Rattle.std.specs.Int.{w64};
 ghost use Rattle.std.specs.Option.{SomeIff};
 ghost use Rattle.td_eval.specs.OperatorValues.{literal_value, signed};
 ghost use Rattle.td_tree.specs.Outcomes.{Answers};
-ghost use Rattle.td_tree.specs.TreeViews.{literal_view};
+ghost use Rattle.td_tree.specs.code.TreeViews.{literal_view};
 ghost use Rattle.td_tree.specs.Trees.{table_dee, table_dum};
 
 use crate::operators::relational::as_value;

@@ -2,7 +2,7 @@
 ghost use Rattle.td_eval.specs.OperatorValues.{nested_names, of_relation};
 ghost use Rattle.td_group.specs.Nesting.{grouped_relation, wrapped_relation};
 ghost use Rattle.td_tree.specs.Outcomes.{Answers, with_value};
-ghost use Rattle.td_tree.specs.TreeViews.{attributes_view};
+ghost use Rattle.td_tree.specs.code.TreeViews.{attributes_view};
 
 use crate::operators::postfix::names_in;
 use crate::operators::relational::{as_value, fit};

@@ -7,7 +7,7 @@ ghost use Rattle.td_eval.specs.OperatorValues.{only_tuple, prefix_value};
 ghost use Rattle.td_tree.specs.Outcomes.{Answers};
 ghost use Rattle.td_tree.specs.declared.operator.Prefix.TheVariants as prefixes;
 ghost use Rattle.td_types.specs.Types.{attribute_names};
-ghost use Rattle.td_types.specs.Views.{pairs_view};
+ghost use Rattle.td_types.specs.code.Views.{pairs_view};
 ghost use Rattle.td_value.specs.Values.{selected_value, value_at};
 
 use crate::operators::asked::{known, relation_in, truth, tuple_in};

@@ -5,7 +5,7 @@ ghost use Rattle.td_check.specs.OperatorTypes.{renaming_pairs};
 ghost use Rattle.td_eval.specs.OperatorValues.{listed_names, postfix_value, projected_names};
 ghost use Rattle.td_eval.specs.OperatorValues.{relation_where};
 ghost use Rattle.td_tree.specs.Outcomes.{Answers};
-ghost use Rattle.td_tree.specs.TreeViews.{attributes_view, postfix_view, renaming_view};
+ghost use Rattle.td_tree.specs.code.TreeViews.{attributes_view, postfix_view, renaming_view};
 ghost use Rattle.td_tree.specs.Trees.{all_but, project};
 ghost use Rattle.td_types.specs.Headings.{can_rename, has_projection};
 ghost use Rattle.td_types.specs.Types.{attribute_names};

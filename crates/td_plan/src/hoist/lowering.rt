@@ -2,7 +2,7 @@
 ghost use Rattle.std.specs.Prelude.{◌≡◌, IfOk, suc};
 ghost use Rattle.td_plan.specs.Hoisting.{all_lowered, lowered, shifted};
 ghost use Rattle.td_plan.specs.Plans as plans;
-ghost use Rattle.td_plan.specs.StepViews.{step_view, steps_view};
+ghost use Rattle.td_plan.specs.code.StepViews.{step_view, steps_view};
 
 use crate::hoist::made;
 use crate::step::Step;

@@ -1,10 +1,10 @@
 //! Steps made again, of what was made of their parts.
 ghost use Rattle.std.specs.Rc.{rc_str_bytes};
-ghost use Rattle.td_plan.specs.MadeSteps.{IsMadeOf, IsMadeOfBoth, IsMadeOfThree};
+ghost use Rattle.td_plan.specs.code.MadeSteps.{IsMadeOf, IsMadeOfBoth, IsMadeOfThree};
 ghost use Rattle.td_plan.specs.Plans as plans;
-ghost use Rattle.td_plan.specs.StepViews.{step_view, steps_view};
-ghost use Rattle.td_tree.specs.TreeViews.{attributes_view, postfix_view};
-ghost use Rattle.td_types.specs.Views.{pairs_view};
+ghost use Rattle.td_plan.specs.code.StepViews.{step_view, steps_view};
+ghost use Rattle.td_tree.specs.code.TreeViews.{attributes_view, postfix_view};
+ghost use Rattle.td_types.specs.code.Views.{pairs_view};
 
 use crate::step::{Origin, Step};
 use std::alloc::AllocError;

@@ -1,7 +1,7 @@
 //! Which tuples in hand a step names.
 ghost use Rattle.std.specs.Prelude.{◌≡◌, ◌||◌, false, suc};
 ghost use Rattle.td_plan.specs.Hoisting.{any_reaches, reaches};
-ghost use Rattle.td_plan.specs.StepViews.{step_view, steps_view};
+ghost use Rattle.td_plan.specs.code.StepViews.{step_view, steps_view};
 
 use crate::step::Step;
 

@@ -1,5 +1,5 @@
 use Rattle.std.proofs.Common.{◌≡◌, take}
-use Rattle.td_tree.specs.TreeViews.{named_view, summaries_view, trees_view}
+use Rattle.td_tree.specs.code.TreeViews.{named_view, summaries_view, trees_view}
 use Rattle.td_tree.proofs.+copy.Given as goal
 
 abbrev pub invariant-copy::copy_list-loop-expression : goal.invariant-copy::copy_list-loop-expression

@@ -1,11 +1,11 @@
 use Rattle.std.proofs.Common.{◌≡◌, ◌⊎◌, inl, inr, ◌+◌, ◌∙◌, ap, arith}
 use Rattle.std.specs.Global.{Vec}
-use Rattle.td_tree.proofs.Rows.{extend_is, headed_relation_is, relation_is, select_is, summarize_by_is, summarize_per_is, tuple_is}
+use Rattle.td_tree.proofs.code_lemmas.Rows.{extend_is, headed_relation_is, relation_is, select_is, summarize_by_is, summarize_per_is, tuple_is}
 use Rattle.td_tree.specs.declared.expression.Expr.{Expr}
 use Rattle.td_tree.specs.declared.expression.Expr.TheVariants as e
 use Rattle.td_tree.specs.Heights.{attributes_height, height, highest, highest_named, highest_summary}
 use Rattle.td_tree.specs.Trees.{Text}
-use Rattle.td_tree.specs.TreeViews.{heading_tree_view, named_view, summaries_view, tree_view, trees_view}
+use Rattle.td_tree.specs.code.TreeViews.{heading_tree_view, named_view, summaries_view, tree_view, trees_view}
 use Rattle.td_tree.proofs.+height.Goals as goal
 
 with_elements : (a : Expr) (v : Vec Expr) → ((ty : Text) × a ≡ e.Select ty v) ⊎ (a ≡ e.Relation v)

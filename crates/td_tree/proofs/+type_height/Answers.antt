@@ -1,11 +1,11 @@
 use Rattle.std.proofs.Common.{◌≡◌, ◌⊎◌, inl, inr, ◌+◌, ◌∙◌, ap, arith}
 use Rattle.std.specs.Global.{Vec}
-use Rattle.td_tree.proofs.Rows.{relation_type_is, tuple_type_is}
+use Rattle.td_tree.proofs.code_lemmas.Rows.{relation_type_is, tuple_type_is}
 use Rattle.td_tree.specs.declared.type_tree.AttributeTree.{AttributeTree}
 use Rattle.td_tree.specs.declared.type_tree.TypeTree.{TypeTree}
 use Rattle.td_tree.specs.declared.type_tree.TypeTree.TheVariants as t
 use Rattle.td_tree.specs.Heights.{attributes_height, type_height}
-use Rattle.td_tree.specs.TreeViews.{heading_tree_view, type_tree_view}
+use Rattle.td_tree.specs.code.TreeViews.{heading_tree_view, type_tree_view}
 use Rattle.td_tree.proofs.+type_height.Goals as goal
 
 with_heading : (a : TypeTree) (v : Vec AttributeTree) → (a ≡ t.Tuple v) ⊎ (a ≡ t.Relation v)

@@ -10,8 +10,9 @@ ghost use Rattle.td_tree.specs.Lists.{parenthesized};
 ghost use Rattle.td_tree.specs.Prints.{as_lexemes, attributes_lexemes, commas, literal_lexemes};
 ghost use Rattle.td_tree.specs.Prints.{name_lexemes, postfix_lexemes, prefix_words};
 ghost use Rattle.td_tree.specs.Prints.{renaming_lexemes};
-ghost use Rattle.td_tree.specs.TreeViews.{attributes_view, literal_view, postfix_view, renaming_view};
-ghost use Rattle.td_tree.specs.Written.{Writes, comma_lexeme_if, written};
+ghost use Rattle.td_tree.specs.code.TreeViews.{attributes_view, literal_view, postfix_view};
+ghost use Rattle.td_tree.specs.code.TreeViews.{renaming_view};
+ghost use Rattle.td_tree.specs.code.Written.{Writes, comma_lexeme_if, written};
 
 use crate::expression::{Attributes, Literal, Postfix, Renaming};
 use crate::keyword::Keyword;

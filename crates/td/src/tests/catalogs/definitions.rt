@@ -6,12 +6,12 @@ ghost use Rattle.td_check.specs.Scopes.{entered_with, scope_of};
 ghost use Rattle.td_check.specs.StaticTypes.{type_of};
 ghost use Rattle.td_check.specs.StatementTypes.{constraint_fits};
 ghost use Rattle.td_tree.specs.Outcomes.{Valued};
-ghost use Rattle.td_tree.specs.TreeViews.{tree_view};
+ghost use Rattle.td_tree.specs.code.TreeViews.{tree_view};
 ghost use Rattle.td_types.specs.Headings.{has_attributes, has_projection};
 ghost use Rattle.td_types.specs.TypeLists.{AreKnown};
 ghost use Rattle.td_types.specs.Types.{boolean, integer, pack, relation};
-ghost use Rattle.td_types.specs.Views.{type_view};
-ghost use Rattle.td_value.specs.Views.{relation_view};
+ghost use Rattle.td_types.specs.code.Views.{type_view};
+ghost use Rattle.td_value.specs.code.Views.{relation_view};
 
 use super::super::given::{both, kept, list_of, made};
 use super::super::texts::{expression, name, names};

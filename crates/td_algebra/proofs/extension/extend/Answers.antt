@@ -3,7 +3,7 @@ use Rattle.std.specs.Prelude.{◌&&◌, not}
 use Rattle.std.proofs.lemmas.List.Elements.{All-from_recursion}
 use Rattle.td_types.specs.Headings.{are_distinct, has_attribute, have_no_common}
 use Rattle.td_types.specs.Types.{Heading, attribute_names}
-use Rattle.td_types.specs.Views.{type_view}
+use Rattle.td_types.specs.code.Views.{type_view}
 use Rattle.td_value.specs.Values.{Tuple}
 use Rattle.td_algebra.specs.Columns.{AreColumns, IsColumn, column_attributes, columns_view, new_attribute}
 use Rattle.td_algebra.specs.declared.extension.Column.{Column}

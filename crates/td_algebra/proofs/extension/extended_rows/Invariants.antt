@@ -3,8 +3,8 @@ use Rattle.std.specs.List.{All}
 use Rattle.std.specs.List.Sorted.{IsPermutation}
 use Rattle.td_value.specs.Values.{IsTuple}
 use Rattle.td_algebra.specs.Columns.{AreColumnsOf, columns_view}
-use Rattle.td_value.specs.Views.{values_of}
-use Rattle.td_algebra.specs.Layouts.{Sources, placed_tuple}
+use Rattle.td_value.specs.code.Views.{values_of}
+use Rattle.td_algebra.specs.code.Layouts.{Sources, placed_tuple}
 use Rattle.td_algebra.specs.Operators.{Addition}
 use Rattle.td_algebra.proofs.extension.extended_rows.Given as goal
 

@@ -1,6 +1,6 @@
 use Rattle.std.proofs.Common.{◌≡◌, ◌∙◌, refl, filter, length}
 use Rattle.td_algebra.specs.Operators.{are_partners}
-use Rattle.td_algebra.specs.Pairs.{pair_tuple, pairs_with, partners_paired}
+use Rattle.td_algebra.specs.code.Pairs.{pair_tuple, pairs_with, partners_paired}
 use Rattle.td_algebra.proofs.Joined.{first_paired, from_first}
 use Rattle.td_algebra.proofs.Keys.{if_ok}
 use Rattle.td_algebra.proofs.joins.pairs_from_first.Goals as goal

@@ -1,7 +1,7 @@
 use Rattle.std.proofs.Common.{◌≡◌, refl, filter, length, subst, sym}
 use Rattle.td_value.specs.Values.{HaveSameMembers}
 use Rattle.td_algebra.specs.Operators.{are_partners}
-use Rattle.td_algebra.specs.Pairs.{pair_tuple, pairs_with, partners_paired}
+use Rattle.td_algebra.specs.code.Pairs.{pair_tuple, pairs_with, partners_paired}
 use Rattle.td_algebra.proofs.Joined.{from_second, second_paired}
 use Rattle.td_algebra.proofs.Keys.{if_ok}
 use Rattle.td_algebra.proofs.joins.pairs_from_second.Goals as goal

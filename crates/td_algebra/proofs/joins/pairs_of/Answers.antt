@@ -2,7 +2,7 @@ use Rattle.std.proofs.Common.{arith, subst, sym}
 use Rattle.std.specs.List.{All}
 use Rattle.std.proofs.lemmas.List.Elements.{All-get_or}
 use Rattle.td_algebra.specs.Lookups.{partners_in}
-use Rattle.td_algebra.specs.Pairs.{IsPaired}
+use Rattle.td_algebra.specs.code.Pairs.{IsPaired}
 use Rattle.td_algebra.proofs.joins.pairs_of.Goals as goal
 
 pub put_pairs-requires-clause-paired : goal.put_pairs-requires-clause-paired

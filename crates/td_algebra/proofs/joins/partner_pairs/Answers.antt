@@ -3,7 +3,7 @@ use Rattle.std.specs.List.{All}
 use Rattle.td_value.specs.Values.{IsTupleOf}
 use Rattle.td_algebra.specs.Lookups.{partners_in}
 use Rattle.td_algebra.specs.Operators.{are_partners, relation_names}
-use Rattle.td_algebra.specs.Pairs.{IsPaired, pair_tuple, pairs_with}
+use Rattle.td_algebra.specs.code.Pairs.{IsPaired, pair_tuple, pairs_with}
 use Rattle.td_algebra.proofs.Keys.{if_ok}
 use Rattle.td_algebra.proofs.OnNames.{rows_within, same_places}
 use Rattle.td_algebra.proofs.PartnersByValues.{all_paired, pairs_by_values}

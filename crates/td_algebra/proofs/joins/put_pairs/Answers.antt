@@ -3,8 +3,8 @@ use Rattle.std.specs.List.{All}
 use Rattle.std.proofs.lemmas.List.Elements.{All-tail}
 use Rattle.std.proofs.lemmas.List.Sorted.{IsPermutation-refl}
 use Rattle.td_value.specs.Values.{tuple_of}
-use Rattle.td_algebra.specs.Layouts.{taken}
-use Rattle.td_algebra.specs.Pairs.{IsPaired, pair_tuple}
+use Rattle.td_algebra.specs.code.Layouts.{taken}
+use Rattle.td_algebra.specs.code.Pairs.{IsPaired, pair_tuple}
 use Rattle.td_algebra.proofs.Pairs.{put_first}
 use Rattle.td_algebra.proofs.joins.put_pairs.Goals as goal
 

@@ -1,5 +1,5 @@
 use Rattle.std.proofs.Common.{◌≡◌, ◌+◌, ◌++◌, drop}
-use Rattle.td_algebra.specs.Layouts.{numbered_sources}
+use Rattle.td_algebra.specs.code.Layouts.{numbered_sources}
 use Rattle.td_algebra.proofs.layout.put_names.Given as goal
 
 abbrev pub invariant-loop-index : goal.invariant-loop-index

@@ -1,5 +1,5 @@
 use Rattle.std.proofs.Common.{◌≡◌, ◌+◌, ◌++◌, drop}
-use Rattle.td_algebra.specs.Layouts.{sources_outside}
+use Rattle.td_algebra.specs.code.Layouts.{sources_outside}
 use Rattle.td_algebra.proofs.layout.put_sources.Given as goal
 
 abbrev pub invariant-loop-index : goal.invariant-loop-index

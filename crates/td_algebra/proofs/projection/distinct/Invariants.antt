@@ -2,8 +2,8 @@ use Rattle.std.proofs.Common.{map, take}
 use Rattle.std.specs.List.{All}
 use Rattle.std.specs.List.Sorted.{IsPermutation}
 use Rattle.td_value.specs.Values.{HaveSameMembers}
-use Rattle.td_value.specs.Views.{values_of}
-use Rattle.td_algebra.specs.Layouts.{IsMade, Sources, placed_tuple}
+use Rattle.td_value.specs.code.Views.{values_of}
+use Rattle.td_algebra.specs.code.Layouts.{IsMade, Sources, placed_tuple}
 use Rattle.td_algebra.proofs.projection.distinct.Given as goal
 
 abbrev pub invariant-loop-row : goal.invariant-loop-row

@@ -5,7 +5,7 @@ use Rattle.td_tree.specs.declared.cause.Cause.TheVariants as causes
 use Rattle.td_types.specs.Headings.{projection}
 use Rattle.td_value.specs.Sets.{set_of}
 use Rattle.td_value.specs.Values.{IsTupleOf, projected_tuple, tuple_cmp}
-use Rattle.td_value.specs.Views.{relation_view}
+use Rattle.td_value.specs.code.Views.{relation_view}
 use Rattle.td_algebra.specs.Operators.{projected_relation}
 use Rattle.td_algebra.proofs.Distinct.{All-same_members, projected_members}
 use Rattle.td_algebra.proofs.Joined.{sets_alike}

@@ -4,7 +4,7 @@ use Rattle.std.proofs.lemmas.List.{append-nil}
 use Rattle.std.proofs.lemmas.List.Elements.{All-push}
 use Rattle.std.proofs.lemmas.List.Sorted.{IsPermutation-refl}
 use Rattle.td_value.specs.Values.{HaveSameMembers, tuple_of}
-use Rattle.td_algebra.specs.Layouts.{AreInRange, IsMade, placed_tuple, taken}
+use Rattle.td_algebra.specs.code.Layouts.{AreInRange, IsMade, placed_tuple, taken}
 use Rattle.td_algebra.proofs.Distinct.{members_again}
 use Rattle.td_algebra.proofs.projection.put_unseen.Goals as goal
 

@@ -1,6 +1,6 @@
 use Rattle.std.proofs.Common.{subst, sym}
 use Rattle.std.specs.List.{Contains}
-use Rattle.td_algebra.specs.Layouts.{IsMade}
+use Rattle.td_algebra.specs.code.Layouts.{IsMade}
 use Rattle.td_algebra.proofs.projection.stands_at.Goals as goal
 
 pub makes-requires-clause-made : goal.makes-requires-clause-made

@@ -1,5 +1,5 @@
 use Rattle.std.proofs.Common.{◌≡◌, ◌++◌, drop}
-use Rattle.td_algebra.specs.Masks.{kept_by}
+use Rattle.td_algebra.specs.code.Masks.{kept_by}
 use Rattle.td_algebra.proofs.restriction.kept_rows.Given as goal
 
 abbrev pub invariant-loop-row : goal.invariant-loop-row

@@ -3,7 +3,7 @@ use Rattle.std.specs.List.{All, list_any}
 use Rattle.std.proofs.lemmas.List.Elements.{All-filter}
 use Rattle.std.proofs.lemmas.List.Kept.{IsStrictlySortedBy-filter}
 use Rattle.td_value.specs.Values.{IsAscendingBody, IsTupleOf, Tuple, tuple_cmp}
-use Rattle.td_value.specs.Views.{relation_view}
+use Rattle.td_value.specs.code.Views.{relation_view}
 use Rattle.td_algebra.specs.Lookups.{has_partner_in, wanted}
 use Rattle.td_algebra.specs.Operators.{are_partners, relation_names, restriction}
 use Rattle.td_algebra.proofs.Keys.{if_ok}

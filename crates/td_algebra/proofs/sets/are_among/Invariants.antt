@@ -1,6 +1,6 @@
 use Rattle.std.proofs.Common.{◌≡◌, drop}
 use Rattle.std.specs.List.{list_all}
-use Rattle.td_algebra.specs.Merges.{IsAbreast}
+use Rattle.td_algebra.specs.code.Merges.{IsAbreast}
 use Rattle.td_value.specs.Sets.{has}
 use Rattle.td_value.specs.Values.{IsAscendingBody, tuple_cmp}
 use Rattle.td_algebra.proofs.sets.are_among.Given as goal

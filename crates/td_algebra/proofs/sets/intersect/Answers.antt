@@ -1,6 +1,6 @@
 use Rattle.std.proofs.Common.{◌≡◌, ◌∙◌, sym, true}
-use Rattle.td_value.specs.Views.{relation_view}
-use Rattle.td_algebra.specs.Merges.{is_wanted}
+use Rattle.td_value.specs.code.Views.{relation_view}
+use Rattle.td_algebra.specs.code.Merges.{is_wanted}
 use Rattle.td_algebra.specs.Operators.{intersection, restriction}
 use Rattle.td_algebra.proofs.Keys.{if_ok}
 use Rattle.td_algebra.proofs.Merges.{common_turned}

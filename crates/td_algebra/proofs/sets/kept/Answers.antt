@@ -3,7 +3,7 @@ use Rattle.std.specs.List.{All}
 use Rattle.std.proofs.lemmas.List.Elements.{All-filter}
 use Rattle.std.proofs.lemmas.List.Kept.{IsStrictlySortedBy-filter}
 use Rattle.td_value.specs.Values.{IsAscendingBody, IsTupleOf, tuple_cmp}
-use Rattle.td_algebra.specs.Merges.{is_wanted}
+use Rattle.td_algebra.specs.code.Merges.{is_wanted}
 use Rattle.td_algebra.proofs.sets.kept.Goals as goal
 
 pub with_rows-requires-clause-headed : goal.with_rows-requires-clause-headed

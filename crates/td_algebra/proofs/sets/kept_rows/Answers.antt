@@ -2,7 +2,7 @@ use Rattle.std.proofs.Common.{◌≡◌, ◌∙◌, ◌++◌, ◌∷◌, [], ap,
 use Rattle.std.proofs.Math.Bool.{beq}
 use Rattle.td_value.specs.Sets.{has}
 use Rattle.td_value.specs.Values.{Tuple, tuple_cmp}
-use Rattle.td_algebra.specs.Merges.{is_wanted}
+use Rattle.td_algebra.specs.code.Merges.{is_wanted}
 use Rattle.td_algebra.proofs.Merges.{left-ascends, step_abreast, step_dropped, step_finds, step_kept}
 use Rattle.td_algebra.proofs.sets.kept_rows.Goals.{then-begins_with-wanted+in_ok-try_clone+in_ok-push, else-begins_with-wanted}
 use Rattle.td_algebra.proofs.sets.kept_rows.Goals as goal

@@ -1,5 +1,5 @@
 use Rattle.std.proofs.Common.{◌≡◌, ◌++◌, drop, filter}
-use Rattle.td_algebra.specs.Merges.{IsAbreast, is_wanted}
+use Rattle.td_algebra.specs.code.Merges.{IsAbreast, is_wanted}
 use Rattle.td_value.specs.Values.{IsAscendingBody}
 use Rattle.td_algebra.proofs.sets.kept_rows.Given as goal
 

@@ -1,5 +1,5 @@
 use Rattle.std.proofs.Common.{◌≡◌, ◌++◌, drop}
-use Rattle.td_algebra.specs.Merges.{merged}
+use Rattle.td_algebra.specs.code.Merges.{merged}
 use Rattle.td_algebra.proofs.sets.merged.Given as goal
 
 abbrev pub invariant-loop-row : goal.invariant-loop-row

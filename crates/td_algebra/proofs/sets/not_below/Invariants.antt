@@ -1,5 +1,5 @@
 use Rattle.std.proofs.Common.{◌≡◌, length}
-use Rattle.td_algebra.specs.Merges.{not_below}
+use Rattle.td_algebra.specs.code.Merges.{not_below}
 use Rattle.td_algebra.proofs.sets.not_below.Given as goal
 
 abbrev pub invariant-loop-rest : goal.invariant-loop-rest

@@ -1,5 +1,5 @@
 use Rattle.std.proofs.Common.{◌≡◌, ◌++◌, length}
-use Rattle.td_algebra.specs.Merges.{below, not_below}
+use Rattle.td_algebra.specs.code.Merges.{below, not_below}
 use Rattle.td_algebra.proofs.sets.put_below.Given as goal
 
 abbrev pub invariant-loop-rest : goal.invariant-loop-rest

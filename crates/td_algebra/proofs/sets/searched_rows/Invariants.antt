@@ -1,5 +1,5 @@
 use Rattle.std.proofs.Common.{◌≡◌, filter, take}
-use Rattle.td_algebra.specs.Merges.{is_wanted}
+use Rattle.td_algebra.specs.code.Merges.{is_wanted}
 use Rattle.td_algebra.proofs.sets.searched_rows.Given as goal
 
 abbrev pub invariant-loop-row : goal.invariant-loop-row

@@ -3,7 +3,7 @@ use Rattle.std.specs.List.{All}
 use Rattle.std.proofs.lemmas.List.Elements.{All-from_recursion, recursion_from_All}
 use Rattle.td_types.specs.Types.{Heading}
 use Rattle.td_value.specs.Values.{Tuple, IsAscendingBody, IsTupleOf}
-use Rattle.td_algebra.specs.Merges.{merged}
+use Rattle.td_algebra.specs.code.Merges.{merged}
 use Rattle.td_algebra.proofs.Merges.{merged-ascends, merged-is-set, merged_all}
 use Rattle.td_algebra.proofs.sets.union.Goals as goal
 

@@ -1,7 +1,7 @@
 use Rattle.std.proofs.Common.{rules}
 use Rattle.std.specs.Ordering.{is_lt}
 use Rattle.std.proofs.lemmas.Fn.{always_returns_same}
-use Rattle.td_body.specs.KeyParts.{by_places}
+use Rattle.td_body.specs.code.KeyParts.{by_places}
 use Rattle.td_body.proofs.keys.ascend_at.Goals as goal
 
 pub returns : goal.returns

@@ -6,8 +6,8 @@ use Rattle.std.specs.Option.{option_cmp}
 use Rattle.std.specs.Ordering.{ordering_then}
 use Rattle.std.proofs.lemmas.List.{at_drop_more}
 use Rattle.td_value.specs.Values.{Tuple, value_cmp}
-use Rattle.td_value.specs.Views.{values_of}
-use Rattle.td_body.specs.KeyParts.{by_places}
+use Rattle.td_value.specs.code.Views.{values_of}
+use Rattle.td_body.specs.code.KeyParts.{by_places}
 use Rattle.td_body.proofs.keys.compare_at.Goals as goal
 
 -- by the values at the next place, and then at the others

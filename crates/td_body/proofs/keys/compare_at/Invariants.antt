@@ -1,5 +1,5 @@
 use Rattle.std.proofs.Common.{◌≡◌, drop}
-use Rattle.td_body.specs.KeyParts.{by_places}
+use Rattle.td_body.specs.code.KeyParts.{by_places}
 use Rattle.td_body.proofs.keys.compare_at.Given as goal
 
 abbrev pub invariant-loop-place : goal.invariant-loop-place

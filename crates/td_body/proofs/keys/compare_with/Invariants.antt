@@ -1,5 +1,5 @@
 use Rattle.std.proofs.Common.{◌≡◌, drop}
-use Rattle.td_body.specs.KeyParts.{values_cmp}
+use Rattle.td_body.specs.code.KeyParts.{values_cmp}
 use Rattle.td_body.proofs.keys.compare_with.Given as goal
 
 abbrev pub invariant-loop-index : goal.invariant-loop-index

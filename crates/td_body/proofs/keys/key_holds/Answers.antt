@@ -5,7 +5,7 @@ use Rattle.std.specs.Ordering.{is_lt}
 use Rattle.std.specs.Prelude.{Some}
 use Rattle.td_value.specs.Values.{Tuple, tuple_names}
 use Rattle.td_body.specs.Bodies.{key_holds}
-use Rattle.td_body.specs.KeyParts.{apart_at, by_places, places_from, values_at}
+use Rattle.td_body.specs.code.KeyParts.{apart_at, by_places, places_from, values_at}
 use Rattle.td_body.proofs.FirstNames.{names_all}
 use Rattle.td_body.proofs.Apart.{apart_falling, apart_permuted, apart_rising}
 use Rattle.td_body.proofs.KeyParts.{apart-at, apart_at-key, found_order, found_order_total}

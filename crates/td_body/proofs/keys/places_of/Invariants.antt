@@ -1,5 +1,5 @@
 use Rattle.std.proofs.Common.{◌≡◌, ◌++◌, drop}
-use Rattle.td_body.specs.KeyParts.{places_from}
+use Rattle.td_body.specs.code.KeyParts.{places_from}
 use Rattle.td_body.proofs.keys.places_of.Given as goal
 
 abbrev pub invariant-loop-name : goal.invariant-loop-name

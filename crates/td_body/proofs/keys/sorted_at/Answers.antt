@@ -4,7 +4,7 @@ use Rattle.std.specs.Ordering.{is_lt}
 use Rattle.std.proofs.lemmas.Fn.{always_returns_same}
 use Rattle.std.proofs.lemmas.List.Sorted.{ranks_by}
 use Rattle.td_value.specs.Values.{Relation}
-use Rattle.td_body.specs.KeyParts.{by_places, values_at}
+use Rattle.td_body.specs.code.KeyParts.{by_places, values_at}
 use Rattle.td_body.proofs.KeyParts.{found_order_total}
 use Rattle.td_body.proofs.keys.sorted_at.Goals as goal
 

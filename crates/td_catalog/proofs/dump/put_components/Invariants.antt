@@ -1,7 +1,7 @@
 use Rattle.std.proofs.Common.{◌≡◌, ◌++◌, drop, false, string_bytes}
 use Rattle.td_types.specs.Texts.{attributes_text}
 use Rattle.td_types.specs.Types.{pack}
-use Rattle.td_types.specs.Views.{pairs_view}
+use Rattle.td_types.specs.code.Views.{pairs_view}
 use Rattle.td_catalog.proofs.dump.put_components.Given as goal
 
 abbrev pub invariant-loop-name : goal.invariant-loop-name

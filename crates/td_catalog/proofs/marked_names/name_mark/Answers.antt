@@ -2,7 +2,7 @@ use Rattle.std.proofs.Common.{◌∙◌, ◌%◌, ◌^◌, FoldHasher, ap, arith
 use Rattle.std.proofs.lemmas.Nat.{one_shl}
 use Rattle.std.specs.Hash as fed
 use Rattle.std.specs.Hash.FoldHasher.{write}
-use Rattle.td_catalog.specs.NameMarks.{hash_of}
+use Rattle.td_catalog.specs.code.NameMarks.{hash_of}
 use Rattle.td_catalog.proofs.marked_names.name_mark.Goals as goal
 
 pub returns : goal.returns

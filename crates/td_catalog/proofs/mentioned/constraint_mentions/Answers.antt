@@ -3,7 +3,7 @@ use Rattle.td_catalog.specs.Mentioned.{condition_mentions_type}
 use Rattle.td_catalog.proofs.Searches.{condition_answered}
 use Rattle.td_catalog.proofs.mentioned.constraint_mentions.Goals as goal
 use Rattle.td_check.specs.Scopes.{entered_with}
-use Rattle.td_tree.specs.TreeViews.{tree_view}
+use Rattle.td_tree.specs.code.TreeViews.{tree_view}
 use Rattle.td_types.specs.Headings.{are_distinct, heading_from}
 use Rattle.td_types.specs.Types.{attribute_names}
 

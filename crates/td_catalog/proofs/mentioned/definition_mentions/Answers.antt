@@ -1,5 +1,5 @@
 use Rattle.std.proofs.Common.{◌∙◌, ap, sym}
-use Rattle.td_catalog.specs.Sought.{tree_mentions}
+use Rattle.td_catalog.specs.code.Sought.{tree_mentions}
 use Rattle.td_catalog.proofs.Searches.{unwritten}
 use Rattle.td_catalog.proofs.mentioned.definition_mentions.Goals as goal
 

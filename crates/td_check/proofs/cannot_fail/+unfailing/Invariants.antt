@@ -1,7 +1,7 @@
 use Rattle.std.proofs.Common.{◌≡◌, drop}
 use Rattle.td_check.specs.CannotFail.{all_unfailing, parts_unfailing}
 use Rattle.td_check.proofs.cannot_fail.+unfailing.Given as goal
-use Rattle.td_tree.specs.TreeViews.{named_view, trees_view}
+use Rattle.td_tree.specs.code.TreeViews.{named_view, trees_view}
 
 abbrev pub invariant-all_unfailing-loop-expr : goal.invariant-all_unfailing-loop-expr
 invariant-all_unfailing-loop-expr l =

@@ -3,8 +3,8 @@ use Rattle.td_check.proofs.CannotFail.{answered, when_false, when_true}
 use Rattle.td_check.proofs.cannot_fail.cannot_fail.Goals as goal
 use Rattle.td_check.proofs.cannot_fail.cannot_fail.Goals.{else-unfailing, then-unfailing}
 use Rattle.td_check.specs.CannotFail.{relvars_cannot_fail, unfailing}
-use Rattle.td_check.specs.CheckViews.{names_view}
-use Rattle.td_tree.specs.TreeViews.{tree_view}
+use Rattle.td_check.specs.code.CheckViews.{names_view}
+use Rattle.td_tree.specs.code.TreeViews.{tree_view}
 
 pub returns : goal.returns
 returns c =

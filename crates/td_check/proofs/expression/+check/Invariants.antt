@@ -1,10 +1,10 @@
 use Rattle.std.proofs.Common.{map, take}
-use Rattle.td_check.specs.CheckViews.{item_found, names_view, part_found}
-use Rattle.td_check.specs.ItemViews.{items_view}
-use Rattle.td_check.specs.PlaceViews.{scope_at}
+use Rattle.td_check.specs.code.CheckViews.{item_found, names_view, part_found}
+use Rattle.td_check.specs.code.ItemViews.{items_view}
+use Rattle.td_check.specs.code.PlaceViews.{scope_at}
 use Rattle.td_check.proofs.CheckedLists.{AreChecked}
 use Rattle.td_check.proofs.CheckedRows.{relvars_of, relvars_of_item, relvars_of_part, type_found, types_of_item, types_of_one, types_of_part}
-use Rattle.td_types.specs.Views.{pairs_view, type_view}
+use Rattle.td_types.specs.code.Views.{pairs_view, type_view}
 use Rattle.td_check.proofs.expression.+check.Given as goal
 
 abbrev pub invariant-check_all-loop-expr : goal.invariant-check_all-loop-expr

@@ -1,6 +1,6 @@
 use Rattle.std.proofs.Common.{◌≡◌, ◌++◌, take}
 use Rattle.td_check.specs.Mentions.{types_named_in}
-use Rattle.td_tree.specs.TreeViews.{heading_tree_view}
+use Rattle.td_tree.specs.code.TreeViews.{heading_tree_view}
 use Rattle.td_check.proofs.mentioned.+named.Given as goal
 
 abbrev pub invariant-add_types_in-loop-attribute : goal.invariant-add_types_in-loop-attribute

@@ -1,10 +1,10 @@
 use Rattle.std.proofs.Common.{◌≡◌, refl, subst}
 use Rattle.std.proofs.lemmas.Result.{err_from_is_err_and}
-use Rattle.td_check.specs.CheckViews.{added_view, by_summary}
+use Rattle.td_check.specs.code.CheckViews.{added_view, by_summary}
 use Rattle.td_check.specs.OperatorTypes.{named_part}
 use Rattle.td_check.proofs.Added.{added_of, refused_added}
 use Rattle.td_tree.specs.Outcomes.{Answers, Valued}
-use Rattle.td_tree.specs.TreeViews.{attributes_view}
+use Rattle.td_tree.specs.code.TreeViews.{attributes_view}
 use Rattle.td_check.proofs.together.by_attributes.Goals as goal
 
 pub returns-in_err-heading : goal.returns-in_err-heading

@@ -2,7 +2,7 @@ use Rattle.std.proofs.Common.{◌≡◌, subst}
 use Rattle.td_check.specs.OperatorTypes.{extension_type}
 use Rattle.td_check.proofs.CheckedItems.{over_heading}
 use Rattle.td_tree.specs.Outcomes.{Answers, Valued}
-use Rattle.td_types.specs.Views.{pairs_view}
+use Rattle.td_types.specs.code.Views.{pairs_view}
 use Rattle.td_check.proofs.together.extended.Goals as goal
 
 pub returns-in-Rel : goal.returns-in-Rel

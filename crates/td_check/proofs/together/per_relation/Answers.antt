@@ -1,9 +1,9 @@
 use Rattle.std.proofs.Common.{◌≡◌, subst}
-use Rattle.td_check.specs.CheckViews.{per_view}
+use Rattle.td_check.specs.code.CheckViews.{per_view}
 use Rattle.td_check.specs.OperatorTypes.{per_heading}
 use Rattle.td_check.proofs.Added.{added_of}
 use Rattle.td_tree.specs.Outcomes.{Answers, Valued}
-use Rattle.td_types.specs.Views.{type_view}
+use Rattle.td_types.specs.code.Views.{type_view}
 use Rattle.td_check.proofs.together.per_relation.Goals as goal
 
 pub returns : goal.returns

@@ -1,12 +1,12 @@
 use Rattle.std.proofs.Common.{[], ◌≡◌, map, subst, sym}
-use Rattle.td_engine.proofs.GivenChanges.{all_typed}
-use Rattle.td_engine.proofs.TypedGifts.{given_typed}
-use Rattle.td_engine.proofs.WrittenStatements.{definitions_written, statement_written}
+use Rattle.td_engine.proofs.code_lemmas.GivenChanges.{all_typed}
+use Rattle.td_engine.proofs.law_lemmas.TypedGifts.{given_typed}
+use Rattle.td_engine.proofs.law_lemmas.WrittenStatements.{definitions_written, statement_written}
 use Rattle.td_engine.specs.Assignments.{given_by}
-use Rattle.td_engine.specs.Carried.{IsAdmitted}
+use Rattle.td_engine.specs.code.Carried.{IsAdmitted}
 use Rattle.td_engine.specs.Changes.{given_in}
 use Rattle.td_tree.specs.Outcomes.{Valued}
-use Rattle.td_tree.specs.TreeViews.{assignment_view}
+use Rattle.td_tree.specs.code.TreeViews.{assignment_view}
 use Rattle.td_tree.specs.Trees.{assign_all}
 use Rattle.td_engine.proofs.assignments.assign.Goals as goal
 

@@ -1,6 +1,6 @@
 use Rattle.std.proofs.Common.{subst, sym}
-use Rattle.td_engine.specs.Plannable.{IsPlannableAssignment}
-use Rattle.td_tree.specs.TreeViews.{assignment_view}
+use Rattle.td_engine.specs.code.Plannable.{IsPlannableAssignment}
+use Rattle.td_tree.specs.code.TreeViews.{assignment_view}
 use Rattle.td_engine.proofs.assignments.change_over.Goals as goal
 
 pub change_of-requires : goal.change_of-requires

@@ -1,20 +1,20 @@
 use Rattle.std.proofs.Common.{◌≡◌, ◌∙◌, Some, [], ap, option_map, refl, subst, sym}
-use Rattle.td_catalog.specs.CatalogViews.{base_view}
+use Rattle.td_catalog.specs.code.CatalogViews.{base_view}
 use Rattle.td_catalog.specs.Database.{base_named}
 use Rattle.td_body.specs.Bodies.{after_change}
 use Rattle.td_check.proofs.StatementAnswers.{given_is}
-use Rattle.td_engine.proofs.FirstGifts.{change_of_base, delete_first, first_given, insert_first, update_first}
-use Rattle.td_engine.proofs.PlannableAssignments.{assignment_plannable, base_gift, delete_plannable, insert_plannable, update_plannable, update_settings}
+use Rattle.td_engine.proofs.code_lemmas.FirstGifts.{change_of_base, delete_first, first_given, insert_first, update_first}
+use Rattle.td_engine.proofs.code_lemmas.PlannableAssignments.{assignment_plannable, base_gift, delete_plannable, insert_plannable, update_plannable, update_settings}
 use Rattle.td_engine.specs.Assignments.{chosen_for, setting_names, target_of, updated_relation}
 use Rattle.td_engine.specs.Changes.{changed_by, gift_over}
-use Rattle.td_engine.specs.Plannable.{ArePlannableSettings, IsAdmittedAssignment, IsPlannableIf}
+use Rattle.td_engine.specs.code.Plannable.{ArePlannableSettings, IsAdmittedAssignment, IsPlannableIf}
 use Rattle.td_engine.specs.declared.change.Change.{Change}
 use Rattle.td_eval.specs.DatabaseWorlds.{world_of}
 use Rattle.td_eval.specs.TreeValues.{values_in_tuples}
 use Rattle.td_tree.specs.Outcomes.{Answers, Valued, with_value}
-use Rattle.td_tree.specs.TreeViews.{assignment_view, named_view, tree_view}
+use Rattle.td_tree.specs.code.TreeViews.{assignment_view, named_view, tree_view}
 use Rattle.td_tree.specs.Trees as trees
-use Rattle.td_value.specs.Views.{relation_view}
+use Rattle.td_value.specs.code.Views.{relation_view}
 use Rattle.td_engine.proofs.assignments.first_change.Goals as goal
 
 pub put_in-requires : goal.put_in-requires

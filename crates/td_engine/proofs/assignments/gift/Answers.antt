@@ -1,11 +1,11 @@
 use Rattle.std.proofs.Common.{◌≡◌, ◌∙◌, Some, None, ap, option_map, sym}
 use Rattle.std.specs.Map.{lookup}
-use Rattle.td_engine.proofs.FirstGifts.{none_given, this_given}
-use Rattle.td_engine.proofs.Gifted.{gift_to}
-use Rattle.td_engine.proofs.GivenChanges.{found_in, given_found}
+use Rattle.td_engine.proofs.code_lemmas.FirstGifts.{none_given, this_given}
+use Rattle.td_engine.proofs.law_lemmas.Gifted.{gift_to}
+use Rattle.td_engine.proofs.code_lemmas.GivenChanges.{found_in, given_found}
 use Rattle.td_engine.specs.Assignments.{target_of}
 use Rattle.td_engine.specs.Changes.{IsChangeOf, given_as, given_in}
-use Rattle.td_tree.specs.TreeViews.{assignment_view}
+use Rattle.td_tree.specs.code.TreeViews.{assignment_view}
 use Rattle.td_types.specs.Types.{same_name}
 use Rattle.td_engine.proofs.assignments.gift.Goals as goal
 

@@ -1,11 +1,11 @@
 use Rattle.std.proofs.Common.{◌≡◌, ◌∙◌, ap, subst, sym}
 use Rattle.indexmap.specs.IndexMap.{insert_entry}
-use Rattle.td_engine.proofs.FirstGifts.{given_next}
-use Rattle.td_engine.proofs.GivenChanges.{all_with, given_with}
+use Rattle.td_engine.proofs.code_lemmas.FirstGifts.{given_next}
+use Rattle.td_engine.proofs.code_lemmas.GivenChanges.{all_with, given_with}
 use Rattle.td_engine.specs.Assignments.{target_of}
 use Rattle.td_engine.specs.Changes.{AreChanges, IsChangeOf, given_as, given_in}
 use Rattle.td_tree.specs.Outcomes.{Valued}
-use Rattle.td_tree.specs.TreeViews.{assignment_view}
+use Rattle.td_tree.specs.code.TreeViews.{assignment_view}
 use Rattle.td_types.specs.Types.{same_name}
 use Rattle.td_engine.proofs.assignments.give.Goals as goal
 

@@ -1,16 +1,16 @@
 use Rattle.std.proofs.Common.{refl, subst, sym}
 use Rattle.td_catalog.specs.Database.{Database}
-use Rattle.td_engine.proofs.GiftsInTurn.{bases_refused}
-use Rattle.td_engine.proofs.Settled.{bases_hold}
-use Rattle.td_engine.proofs.SpelledDefinitions.{gifts_spelled}
+use Rattle.td_engine.proofs.law_lemmas.GiftsInTurn.{bases_refused}
+use Rattle.td_engine.proofs.law_lemmas.Settled.{bases_hold}
+use Rattle.td_engine.proofs.code_lemmas.SpelledDefinitions.{gifts_spelled}
 use Rattle.td_engine.specs.Assignments.{with_gifts}
-use Rattle.td_engine.specs.Carried.{Changes}
+use Rattle.td_engine.specs.code.Carried.{Changes}
 use Rattle.td_engine.specs.Changes.{given_in}
 use Rattle.td_engine.specs.Checks.{BasesHold}
 use Rattle.td_engine.specs.Legality.{AreSpelled}
 use Rattle.std.specs.Map.{keys_of}
-use Rattle.td_engine.proofs.TypedAfter.{gifts_typed}
-use Rattle.td_engine.proofs.UnreachedChecks.{gifts_pass_elsewhere, same_targets}
+use Rattle.td_engine.proofs.law_lemmas.TypedAfter.{gifts_typed}
+use Rattle.td_engine.proofs.code_lemmas.UnreachedChecks.{gifts_pass_elsewhere, same_targets}
 use Rattle.td_engine.specs.LeftOut.{PassesElsewhere}
 use Rattle.td_eval.specs.ReachedRelvars.{reached_from}
 use Rattle.td_engine.specs.Machine.{changed}

@@ -1,18 +1,18 @@
 use Rattle.std.proofs.Common.{◌≡◌, ◌∙◌, ◌+◌, Some, ap, drop, map, sym}
 use Rattle.std.specs.List.{slice_get}
 use Rattle.std.proofs.lemmas.Option.{slice_get-get_or}
-use Rattle.td_engine.proofs.EachOf.{of_place}
-use Rattle.td_engine.proofs.GiftsInTurn.{given_refused}
-use Rattle.td_engine.proofs.InOrder.{drop_next}
-use Rattle.td_engine.proofs.PlannableAssignments.{all_admitted}
-use Rattle.td_engine.proofs.TypedGifts.{given_more}
-use Rattle.td_engine.proofs.WrittenStatements.{definitions_written}
+use Rattle.td_engine.proofs.law_lemmas.EachOf.{of_place}
+use Rattle.td_engine.proofs.law_lemmas.GiftsInTurn.{given_refused}
+use Rattle.td_engine.proofs.law_lemmas.InOrder.{drop_next}
+use Rattle.td_engine.proofs.code_lemmas.PlannableAssignments.{all_admitted}
+use Rattle.td_engine.proofs.law_lemmas.TypedGifts.{given_more}
+use Rattle.td_engine.proofs.law_lemmas.WrittenStatements.{definitions_written}
 use Rattle.td_engine.specs.Assignments.{given_by, with_assignment}
 use Rattle.td_engine.specs.Changes.{given_in}
-use Rattle.td_engine.specs.Plannable.{IsAdmittedAssignment}
+use Rattle.td_engine.specs.code.Plannable.{IsAdmittedAssignment}
 use Rattle.td_tree.specs.declared.statement.Assignment.{Assignment}
 use Rattle.td_tree.specs.Outcomes.{Valued, with_value}
-use Rattle.td_tree.specs.TreeViews.{assignment_view}
+use Rattle.td_tree.specs.code.TreeViews.{assignment_view}
 use Rattle.td_engine.proofs.assignments.given_by.Goals as goal
 
 pub returns-in-Err-clause-answer : goal.returns-in-Err-clause-answer

@@ -1,8 +1,8 @@
 use Rattle.std.proofs.Common.{◌≡◌, [], drop, map}
 use Rattle.td_engine.specs.Assignments.{given_by}
 use Rattle.td_engine.specs.Changes.{AreChanges, given_in}
-use Rattle.td_engine.specs.Gifts.{AreGifts}
-use Rattle.td_tree.specs.TreeViews.{assignment_view}
+use Rattle.td_engine.specs.code.Gifts.{AreGifts}
+use Rattle.td_tree.specs.code.TreeViews.{assignment_view}
 use Rattle.td_engine.proofs.assignments.given_by.Given as goal
 
 abbrev pub invariant-loop-assignment : goal.invariant-loop-assignment

@@ -1,6 +1,6 @@
 use Rattle.std.proofs.Common.{◌∙◌, ◌∷◌, ◌++◌, ◌+◌, [], ap, append_assoc, drop, sym}
 use Rattle.std.specs.Map.{keys_of}
-use Rattle.td_engine.proofs.InOrder.{drop_next}
+use Rattle.td_engine.proofs.law_lemmas.InOrder.{drop_next}
 use Rattle.td_engine.proofs.assignments.names_of_all.Goals as goal
 
 pub loop-place-preserved : goal.loop-place-preserved

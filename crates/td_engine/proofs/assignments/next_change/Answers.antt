@@ -1,12 +1,12 @@
 use Rattle.std.proofs.Common.{◌≡◌, ◌∙◌, Some, ap, subst, sym}
-use Rattle.td_catalog.specs.CatalogViews.{base_view}
+use Rattle.td_catalog.specs.code.CatalogViews.{base_view}
 use Rattle.td_catalog.specs.Database.{base_named}
-use Rattle.td_engine.proofs.GivenChanges.{given_of}
-use Rattle.td_engine.proofs.PlannableAssignments.{assignment_plannable}
+use Rattle.td_engine.proofs.code_lemmas.GivenChanges.{given_of}
+use Rattle.td_engine.proofs.code_lemmas.PlannableAssignments.{assignment_plannable}
 use Rattle.td_engine.specs.Assignments.{target_of}
 use Rattle.td_engine.specs.Changes.{changed_by, given_as}
-use Rattle.td_engine.specs.Plannable.{IsPlannableAssignment}
-use Rattle.td_tree.specs.TreeViews.{assignment_view}
+use Rattle.td_engine.specs.code.Plannable.{IsPlannableAssignment}
+use Rattle.td_tree.specs.code.TreeViews.{assignment_view}
 use Rattle.td_engine.proofs.assignments.next_change.Goals as goal
 
 pub change_of-requires : goal.change_of-requires

@@ -1,5 +1,5 @@
 use Rattle.std.proofs.Common.{arith}
-use Rattle.td_engine.proofs.GivenChanges.{one_entry}
+use Rattle.td_engine.proofs.code_lemmas.GivenChanges.{one_entry}
 use Rattle.td_engine.proofs.assignments.only_one.Goals as goal
 
 pub returns-then-len-eq1 : goal.returns-then-len-eq1

@@ -3,11 +3,11 @@ use Rattle.std.specs.Prelude.{IfSome}
 use Rattle.td_body.specs.Bodies.{after_change}
 use Rattle.td_catalog.specs.Database.{base_named, base_relvar, with_body}
 use Rattle.td_catalog.specs.KeptDatabases.{CatalogView, advanced}
-use Rattle.td_engine.proofs.Done.{always_ok}
-use Rattle.td_engine.proofs.GivenChanges.{given_of}
-use Rattle.td_engine.proofs.PutGifts.{checked_there}
-use Rattle.td_engine.proofs.StageLaws.{goes_on}
-use Rattle.td_engine.specs.Carried.{Passes}
+use Rattle.td_engine.proofs.code_lemmas.Done.{always_ok}
+use Rattle.td_engine.proofs.code_lemmas.GivenChanges.{given_of}
+use Rattle.td_engine.proofs.code_lemmas.PutGifts.{checked_there}
+use Rattle.td_engine.proofs.code_lemmas.StageLaws.{goes_on}
+use Rattle.td_engine.specs.code.Carried.{Passes}
 use Rattle.td_engine.specs.Changes.{changed_by, given_as}
 use Rattle.td_engine.specs.Checks.{base_check}
 use Rattle.td_engine.proofs.assignments.put.Goals as goal

@@ -1,10 +1,10 @@
 use Rattle.std.proofs.Common.{◌≡◌, ◌∙◌, ◌∷◌, [], ap, subst, sym}
 use Rattle.std.specs.Prelude.{IfSome, OnOk}
 use Rattle.td_catalog.specs.Database.{BaseRelvar, Database, base_named, base_relvar, with_body}
-use Rattle.td_engine.proofs.GivenChanges.{given_of}
-use Rattle.td_engine.proofs.OneTarget.{alone_checked, alone_given}
+use Rattle.td_engine.proofs.code_lemmas.GivenChanges.{given_of}
+use Rattle.td_engine.proofs.code_lemmas.OneTarget.{alone_checked, alone_given}
 use Rattle.td_engine.specs.Assignments.{with_gifts}
-use Rattle.td_engine.specs.Carried.{Passes}
+use Rattle.td_engine.specs.code.Carried.{Passes}
 use Rattle.td_engine.specs.Changes.{AreTypedChanges, IsTypedChange, changed_by, given_as, given_in}
 use Rattle.td_engine.specs.Checks.{base_check, first_refusal}
 use Rattle.td_engine.proofs.assignments.put_all.Goals as goal

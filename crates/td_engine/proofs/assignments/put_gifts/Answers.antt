@@ -1,7 +1,7 @@
 use Rattle.std.proofs.Common.{◌≡◌, ◌∙◌, ◌<◌, ap, length, subst, sym}
 use Rattle.td_catalog.specs.Database.{Database}
-use Rattle.td_engine.proofs.GiftsInTurn.{gift_passed, gift_refused}
-use Rattle.td_engine.proofs.StageLaws.{on_and_on}
+use Rattle.td_engine.proofs.law_lemmas.GiftsInTurn.{gift_passed, gift_refused}
+use Rattle.td_engine.proofs.code_lemmas.StageLaws.{on_and_on}
 use Rattle.td_engine.specs.Changes.{given_in}
 use Rattle.td_engine.proofs.assignments.put_gifts.Goals as goal
 

@@ -1,10 +1,10 @@
 use Rattle.std.proofs.Common.{◌≡◌, map}
 use Rattle.td_catalog.specs.Database.{with_bases}
-use Rattle.td_engine.proofs.InOrder.{IsLeft}
+use Rattle.td_engine.proofs.law_lemmas.InOrder.{IsLeft}
 use Rattle.td_engine.specs.Assignments.{with_gift}
 use Rattle.td_engine.specs.Checks.{base_check}
-use Rattle.td_engine.specs.Gifts.{gifted}
-use Rattle.td_engine.specs.Stages.{GoesOn}
+use Rattle.td_engine.specs.code.Gifts.{gifted}
+use Rattle.td_engine.specs.code.Stages.{GoesOn}
 use Rattle.td_engine.specs.Changes.{given_in}
 use Rattle.td_engine.proofs.assignments.put_gifts.Given as goal
 

@@ -1,7 +1,7 @@
 use Rattle.std.proofs.Common.{◌≡◌, ◌∙◌, ap, false, map, subst, sym, true}
 use Rattle.td_catalog.specs.Database.{Database, base_relvar, with_base}
-use Rattle.td_engine.proofs.NewChecks.{base_changed}
-use Rattle.td_engine.proofs.Settled.{bases_hold, broken_base}
+use Rattle.td_engine.proofs.code_lemmas.NewChecks.{base_changed}
+use Rattle.td_engine.proofs.law_lemmas.Settled.{bases_hold, broken_base}
 use Rattle.td_engine.specs.Checks.{keys_hold}
 use Rattle.td_engine.specs.Machine.{Accepted, changed, ok_text}
 use Rattle.td_engine.proofs.bases.add_checked.Goals as goal

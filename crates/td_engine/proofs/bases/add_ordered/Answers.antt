@@ -1,7 +1,7 @@
 use Rattle.std.proofs.Common.{◌≡◌, ◌∙◌, ap, map, subst, sym}
 use Rattle.td_catalog.specs.Dumps.{ordered_names}
 use Rattle.td_engine.specs.Legality.{AreBaseKeys}
-use Rattle.td_engine.proofs.OrderedKeys.{base_keys_stay}
+use Rattle.td_engine.proofs.law_lemmas.OrderedKeys.{base_keys_stay}
 use Rattle.td_types.specs.Types.{Heading, IsHeading, pack}
 use Rattle.td_engine.proofs.bases.add_ordered.Goals as goal
 

@@ -1,13 +1,13 @@
 use Rattle.std.proofs.Common.{[], ◌∙◌, ap, option_map, subst}
 use Rattle.td_engine.specs.Assignments.{relation_for}
-use Rattle.td_engine.specs.Plannable.{IsPlannableIf}
+use Rattle.td_engine.specs.code.Plannable.{IsPlannableIf}
 use Rattle.td_eval.specs.DatabaseWorlds.{world_of}
 use Rattle.td_eval.specs.TreeValues.{value_of}
 use Rattle.td_tree.specs.Outcomes.{Answers}
-use Rattle.td_tree.specs.TreeViews.{tree_view}
+use Rattle.td_tree.specs.code.TreeViews.{tree_view}
 use Rattle.td_value.specs.Sets.{set_of}
 use Rattle.td_value.specs.Values.{Relation, tuple_cmp}
-use Rattle.td_value.specs.Views.{relation_view}
+use Rattle.td_value.specs.code.Views.{relation_view}
 use Rattle.td_engine.proofs.bases.init_relation.Goals as goal
 
 pub value-requires : goal.value-requires

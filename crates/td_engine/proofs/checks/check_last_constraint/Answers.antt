@@ -1,6 +1,6 @@
 use Rattle.std.proofs.Common.{sym}
 use Rattle.td_catalog.specs.Database.{named_constraint}
-use Rattle.td_engine.proofs.Plannables.{constraint_plannable}
+use Rattle.td_engine.proofs.code_lemmas.Plannables.{constraint_plannable}
 use Rattle.td_engine.proofs.checks.check_last_constraint.Goals as goal
 
 pub test_constraint-requires : goal.test_constraint-requires

@@ -1,6 +1,6 @@
 use Rattle.std.proofs.Common.{sym}
-use Rattle.td_catalog.specs.CatalogViews.{virtual_view}
-use Rattle.td_engine.proofs.Plannables.{virtual_plannable}
+use Rattle.td_catalog.specs.code.CatalogViews.{virtual_view}
+use Rattle.td_engine.proofs.code_lemmas.Plannables.{virtual_plannable}
 use Rattle.td_engine.proofs.checks.check_last_virtual.Goals as goal
 
 pub test_virtual-requires : goal.test_virtual-requires

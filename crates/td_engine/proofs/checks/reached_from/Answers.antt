@@ -1,7 +1,7 @@
 use Rattle.std.proofs.Common.{◌∙◌, ◌+◌, ◌≤◌, ap, drop, length, subst, sym}
 use Rattle.std.proofs.lemmas.List.{drop_all}
-use Rattle.td_catalog.specs.CatalogViews.{virtual_view}
-use Rattle.td_engine.proofs.InOrder.{drop_next, none_left}
+use Rattle.td_catalog.specs.code.CatalogViews.{virtual_view}
+use Rattle.td_engine.proofs.law_lemmas.InOrder.{drop_next, none_left}
 use Rattle.td_eval.specs.ReachedRelvars.{reached_from}
 use Rattle.td_engine.proofs.checks.reached_from.Goals as goal
 

@@ -1,4 +1,4 @@
-use Rattle.td_engine.proofs.Settled.{settled_or}
+use Rattle.td_engine.proofs.law_lemmas.Settled.{settled_or}
 use Rattle.td_engine.proofs.checks.settled.Goals as goal
 
 pub returns : goal.returns

@@ -1,5 +1,5 @@
 use Rattle.std.proofs.Common.{subst, sym}
-use Rattle.td_engine.specs.Plannable.{IsPlannable}
+use Rattle.td_engine.specs.code.Plannable.{IsPlannable}
 use Rattle.td_engine.proofs.checks.test_constraint.Goals as goal
 
 pub value-requires : goal.value-requires

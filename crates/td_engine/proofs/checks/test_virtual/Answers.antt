@@ -1,6 +1,6 @@
 use Rattle.std.proofs.Common.{[], ◌∙◌, ap, map, subst, sym}
-use Rattle.td_catalog.specs.CatalogViews.{virtual_view}
-use Rattle.td_engine.proofs.VirtualTests.{keys_test, some_key, tested}
+use Rattle.td_catalog.specs.code.CatalogViews.{virtual_view}
+use Rattle.td_engine.proofs.code_lemmas.VirtualTests.{keys_test, some_key, tested}
 use Rattle.td_eval.specs.DatabaseWorlds.{world_of}
 use Rattle.td_eval.specs.Worlds.{name_value}
 use Rattle.td_tree.specs.Outcomes.{Answers}

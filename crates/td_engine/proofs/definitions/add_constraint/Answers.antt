@@ -1,9 +1,9 @@
 use Rattle.std.proofs.Common.{refl}
 use Rattle.td_catalog.specs.Database.{named_constraint, with_constraint}
-use Rattle.td_engine.proofs.Admitted.{constraint_admitted}
-use Rattle.td_engine.proofs.Done.{defined, goes, held_there}
-use Rattle.td_engine.proofs.Settled.{bases_hold}
-use Rattle.td_tree.specs.TreeViews.{tree_view}
+use Rattle.td_engine.proofs.law_lemmas.Admitted.{constraint_admitted}
+use Rattle.td_engine.proofs.code_lemmas.Done.{defined, goes, held_there}
+use Rattle.td_engine.proofs.law_lemmas.Settled.{bases_hold}
+use Rattle.td_tree.specs.code.TreeViews.{tree_view}
 use Rattle.td_engine.proofs.definitions.add_constraint.Goals as goal
 
 pub add_constraint-requires : goal.add_constraint-requires

@@ -3,17 +3,17 @@ use Rattle.std.specs.Prelude.{not}
 use Rattle.td_catalog.specs.Database.{with_declared}
 use Rattle.td_catalog.specs.TypedDatabases.{AreComponents, IsConstrained}
 use Rattle.td_check.specs.StatementTypes.{holds_or}
-use Rattle.td_engine.proofs.Admitted.{TypeAdmitted, type_admitted}
-use Rattle.td_engine.proofs.Done.{defined, goes, held_there}
-use Rattle.td_engine.proofs.Settled.{bases_hold}
-use Rattle.td_engine.proofs.StageLaws.{stays}
-use Rattle.td_engine.proofs.WrittenStatements.{statement_written}
+use Rattle.td_engine.proofs.law_lemmas.Admitted.{TypeAdmitted, type_admitted}
+use Rattle.td_engine.proofs.code_lemmas.Done.{defined, goes, held_there}
+use Rattle.td_engine.proofs.law_lemmas.Settled.{bases_hold}
+use Rattle.td_engine.proofs.code_lemmas.StageLaws.{stays}
+use Rattle.td_engine.proofs.law_lemmas.WrittenStatements.{statement_written}
 use Rattle.td_tree.specs.Outcomes.{Answers, Valued, with_value}
-use Rattle.td_tree.specs.TreeViews.{heading_tree_view, tree_view}
+use Rattle.td_tree.specs.code.TreeViews.{heading_tree_view, tree_view}
 use Rattle.td_tree.specs.Trees.{define_type}
 use Rattle.td_tree.specs.declared.cause.Cause.TheVariants as causes
 use Rattle.td_types.specs.TypeLists.{attributes_meant, declared_type, is_declared}
-use Rattle.td_types.specs.Views.{pairs_view}
+use Rattle.td_types.specs.code.Views.{pairs_view}
 use Rattle.td_engine.proofs.definitions.add_type.Goals as goal
 
 pub add_type-requires-clause-components : goal.add_type-requires-clause-components

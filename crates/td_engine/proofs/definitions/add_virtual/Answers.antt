@@ -6,11 +6,11 @@ use Rattle.td_catalog.specs.TypedDatabases.{IsTypedVirtual}
 use Rattle.td_check.specs.OperatorTypes.{over_relation}
 use Rattle.td_check.specs.StatementTypes.{holds_or}
 use Rattle.td_check.specs.StaticTypes.{type_of}
-use Rattle.td_engine.proofs.Admitted.{over_typed, virtual_admitted}
-use Rattle.td_engine.proofs.Done.{defined, goes, held_there}
-use Rattle.td_engine.proofs.Settled.{bases_hold}
+use Rattle.td_engine.proofs.law_lemmas.Admitted.{over_typed, virtual_admitted}
+use Rattle.td_engine.proofs.code_lemmas.Done.{defined, goes, held_there}
+use Rattle.td_engine.proofs.law_lemmas.Settled.{bases_hold}
 use Rattle.td_tree.specs.Outcomes.{Answers, Valued, with_value}
-use Rattle.td_tree.specs.TreeViews.{tree_view}
+use Rattle.td_tree.specs.code.TreeViews.{tree_view}
 use Rattle.td_tree.specs.declared.cause.Cause.TheVariants as causes
 use Rattle.td_types.specs.Types.{IsHeading, pack}
 use Rattle.td_engine.proofs.definitions.add_virtual.Goals as goal

@@ -1,9 +1,9 @@
 use Rattle.std.proofs.Common.{subst}
 use Rattle.td_catalog.specs.Database.{named_constraint, with_constraint}
-use Rattle.td_engine.proofs.NewChecks.{constraint_changed}
-use Rattle.td_engine.proofs.SpelledDefinitions.{with_constraint_spelled}
+use Rattle.td_engine.proofs.code_lemmas.NewChecks.{constraint_changed}
+use Rattle.td_engine.proofs.code_lemmas.SpelledDefinitions.{with_constraint_spelled}
 use Rattle.td_engine.specs.Legality.{AreSpelled}
-use Rattle.td_tree.specs.TreeViews.{tree_view}
+use Rattle.td_tree.specs.code.TreeViews.{tree_view}
 use Rattle.td_types.proofs.OutcomeLaws.{valued_is}
 use Rattle.td_engine.proofs.definitions.define_constraint.Goals as goal
 

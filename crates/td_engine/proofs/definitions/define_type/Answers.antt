@@ -1,6 +1,6 @@
 use Rattle.std.proofs.Common.{option_map}
-use Rattle.td_engine.proofs.NewChecks.{type_changed}
-use Rattle.td_tree.specs.TreeViews.{heading_tree_view, tree_view}
+use Rattle.td_engine.proofs.code_lemmas.NewChecks.{type_changed}
+use Rattle.td_tree.specs.code.TreeViews.{heading_tree_view, tree_view}
 use Rattle.td_engine.proofs.definitions.define_type.Goals as goal
 
 pub returns-in-Ok-clause-change : goal.returns-in-Ok-clause-change

@@ -1,7 +1,7 @@
 use Rattle.std.proofs.Common.{map}
-use Rattle.td_engine.proofs.NewChecks.{virtual_changed}
-use Rattle.td_engine.proofs.SpelledDefinitions.{with_virtual_spelled}
-use Rattle.td_tree.specs.TreeViews.{tree_view}
+use Rattle.td_engine.proofs.code_lemmas.NewChecks.{virtual_changed}
+use Rattle.td_engine.proofs.code_lemmas.SpelledDefinitions.{with_virtual_spelled}
+use Rattle.td_tree.specs.code.TreeViews.{tree_view}
 use Rattle.td_engine.proofs.definitions.define_virtual.Goals as goal
 
 pub check_last_virtual-requires : goal.check_last_virtual-requires

@@ -1,6 +1,6 @@
 use Rattle.td_catalog.specs.Database.{without_type}
 use Rattle.td_catalog.specs.Mentioned.{type_droppable}
-use Rattle.td_engine.proofs.Done.{dropped, goes}
+use Rattle.td_engine.proofs.code_lemmas.Done.{dropped, goes}
 use Rattle.td_engine.proofs.definitions.drop_type.Goals as goal
 
 pub returns-clause-answer : goal.returns-clause-answer

@@ -1,8 +1,8 @@
 use Rattle.std.proofs.Common.{Ok, ◌∙◌, ap, subst}
 use Rattle.td_check.specs.OperatorTypes.{over_relation}
-use Rattle.td_engine.proofs.Admitted.{unpacked}
+use Rattle.td_engine.proofs.law_lemmas.Admitted.{unpacked}
 use Rattle.td_tree.specs.Outcomes.{Answers, Valued, with_value}
-use Rattle.td_types.specs.Views.{type_view}
+use Rattle.td_types.specs.code.Views.{type_view}
 use Rattle.td_engine.proofs.definitions.over_relation.Goals as goal
 
 pub returns-in-Ok-Rel : goal.returns-in-Ok-Rel

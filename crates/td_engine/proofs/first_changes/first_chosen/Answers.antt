@@ -1,12 +1,12 @@
 use Rattle.std.proofs.Common.{◌≡◌, ◌∙◌, [], ap, option_map, refl, subst, sym}
 use Rattle.std.proofs.lemmas.Result.{IfOk-weaker}
-use Rattle.td_engine.proofs.FirstGifts.{for_heading}
+use Rattle.td_engine.proofs.code_lemmas.FirstGifts.{for_heading}
 use Rattle.td_engine.specs.Assignments.{chosen_for}
-use Rattle.td_engine.specs.Plannable.{IsPlannable, IsPlannableIf}
+use Rattle.td_engine.specs.code.Plannable.{IsPlannable, IsPlannableIf}
 use Rattle.td_eval.specs.DatabaseWorlds.{world_of}
 use Rattle.td_eval.specs.TreeValues.{value_of}
 use Rattle.td_tree.specs.Outcomes.{Answers}
-use Rattle.td_tree.specs.TreeViews.{tree_view}
+use Rattle.td_tree.specs.code.TreeViews.{tree_view}
 use Rattle.td_tree.specs.Trees.{name, parentheses, restriction}
 use Rattle.td_value.specs.Values.{Relation}
 use Rattle.td_engine.proofs.first_changes.first_chosen.Goals as goal

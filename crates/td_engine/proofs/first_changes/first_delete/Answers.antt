@@ -1,15 +1,15 @@
 use Rattle.std.proofs.Common.{◌≡◌, ◌∙◌, [], ap, option_map, sym}
 use Rattle.std.proofs.lemmas.Result.{err_from_is_err_and}
 use Rattle.td_body.specs.Bodies.{after_change}
-use Rattle.td_engine.proofs.Admitted.{refused_on}
+use Rattle.td_engine.proofs.law_lemmas.Admitted.{refused_on}
 use Rattle.td_engine.specs.Assignments.{chosen_for}
 use Rattle.td_engine.specs.Changes.{changed_by}
 use Rattle.td_engine.specs.declared.change.Change.{Change}
 use Rattle.td_eval.specs.DatabaseWorlds.{world_of}
 use Rattle.td_tree.specs.Outcomes.{Valued, with_value}
-use Rattle.td_tree.specs.TreeViews.{tree_view}
+use Rattle.td_tree.specs.code.TreeViews.{tree_view}
 use Rattle.td_value.specs.Values.{Relation}
-use Rattle.td_value.specs.Views.{relation_view}
+use Rattle.td_value.specs.code.Views.{relation_view}
 use Rattle.td_engine.proofs.first_changes.first_delete.Goals as goal
 
 pub first_chosen-requires : goal.first_chosen-requires

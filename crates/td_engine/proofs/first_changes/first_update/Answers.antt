@@ -1,17 +1,17 @@
 use Rattle.std.proofs.Common.{◌∙◌, Err, [], ap, option_map, subst, sym}
 use Rattle.std.proofs.lemmas.Result.{err_from_is_err_and}
 use Rattle.td_body.specs.Bodies.{after_change}
-use Rattle.td_engine.proofs.Admitted.{refused_on}
+use Rattle.td_engine.proofs.law_lemmas.Admitted.{refused_on}
 use Rattle.td_engine.specs.Assignments.{chosen_for, setting_names, updated_relation}
 use Rattle.td_engine.specs.Changes.{changed_by}
-use Rattle.td_engine.specs.Plannable.{ArePlannableSettings}
+use Rattle.td_engine.specs.code.Plannable.{ArePlannableSettings}
 use Rattle.td_engine.specs.declared.change.Change.{Change}
 use Rattle.td_eval.specs.DatabaseWorlds.{world_of}
 use Rattle.td_eval.specs.TreeValues.{values_in_tuples}
 use Rattle.td_tree.specs.declared.fault.Fault.{Fault}
 use Rattle.td_tree.specs.declared.fault.Fault.TheVariants as faults
 use Rattle.td_tree.specs.Outcomes.{Answers, Outcome, with_value}
-use Rattle.td_tree.specs.TreeViews.{named_view, tree_view}
+use Rattle.td_tree.specs.code.TreeViews.{named_view, tree_view}
 use Rattle.td_value.specs.Values.{Relation}
 use Rattle.td_engine.proofs.first_changes.first_update.Goals as goal
 

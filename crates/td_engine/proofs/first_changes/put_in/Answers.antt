@@ -1,19 +1,19 @@
 use Rattle.std.proofs.Common.{◌≡◌, ◌∙◌, Err, [], ap, subst, sym}
 use Rattle.std.proofs.lemmas.Result.{err_from_is_err_and}
 use Rattle.td_algebra.specs.Operators.{difference, union}
-use Rattle.td_engine.proofs.Admitted.{refused_on}
-use Rattle.td_engine.proofs.FirstGifts.{for_heading}
-use Rattle.td_engine.proofs.LeftTuples.{nothing_out}
+use Rattle.td_engine.proofs.law_lemmas.Admitted.{refused_on}
+use Rattle.td_engine.proofs.code_lemmas.FirstGifts.{for_heading}
+use Rattle.td_engine.proofs.code_lemmas.LeftTuples.{nothing_out}
 use Rattle.td_engine.specs.Assignments.{relation_for}
 use Rattle.td_engine.specs.Changes.{changed_by}
 use Rattle.td_engine.specs.declared.change.Change.{Change}
 use Rattle.td_eval.specs.DatabaseWorlds.{world_of}
 use Rattle.td_eval.specs.TreeValues.{value_of}
 use Rattle.td_tree.specs.Outcomes.{Answers, Valued, with_value}
-use Rattle.td_tree.specs.TreeViews.{tree_view}
+use Rattle.td_tree.specs.code.TreeViews.{tree_view}
 use Rattle.td_value.specs.Sets.{set_of}
 use Rattle.td_value.specs.Values.{Relation, tuple_cmp}
-use Rattle.td_value.specs.Views.{relation_view}
+use Rattle.td_value.specs.code.Views.{relation_view}
 use Rattle.td_engine.proofs.first_changes.put_in.Goals as goal
 
 pub returns-in_err-add-clause-answer : goal.returns-in_err-add-clause-answer

@@ -1,4 +1,4 @@
-use Rattle.td_engine.proofs.LegalRuns.{runs_keep_legal}
+use Rattle.td_engine.proofs.law_lemmas.LegalRuns.{runs_keep_legal}
 use Rattle.td_engine.proofs.laws.runs_keep_legality.Goals as goal
 
 pub returns : goal.returns

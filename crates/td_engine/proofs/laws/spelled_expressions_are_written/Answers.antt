@@ -1,4 +1,4 @@
-use Rattle.td_engine.proofs.WrittenSpellings.{of_tokens, written}
+use Rattle.td_engine.proofs.law_lemmas.WrittenSpellings.{of_tokens, written}
 use Rattle.td_engine.proofs.laws.spelled_expressions_are_written.Goals as goal
 
 pub returns : goal.returns

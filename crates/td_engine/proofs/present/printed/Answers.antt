@@ -1,7 +1,7 @@
 use Rattle.std.proofs.Common.{subst}
-use Rattle.td_engine.proofs.Plannables.{write_plannable}
-use Rattle.td_engine.specs.Carried.{IsAdmitted}
-use Rattle.td_tree.specs.TreeViews.{statement_view, tree_view}
+use Rattle.td_engine.proofs.code_lemmas.Plannables.{write_plannable}
+use Rattle.td_engine.specs.code.Carried.{IsAdmitted}
+use Rattle.td_tree.specs.code.TreeViews.{statement_view, tree_view}
 use Rattle.td_engine.proofs.present.printed.Goals as goal
 
 pub value-requires : goal.value-requires

@@ -1,4 +1,4 @@
-use Rattle.td_engine.proofs.Answered.{text_refused}
+use Rattle.td_engine.proofs.law_lemmas.Answered.{text_refused}
 use Rattle.td_engine.proofs.present.write.Goals as goal
 
 pub returns-in-Err : goal.returns-in-Err

@@ -1,9 +1,9 @@
 use Rattle.std.proofs.Common.{◌∙◌, sym, arith}
-use Rattle.td_engine.proofs.Advances.{advances, stays}
-use Rattle.td_engine.proofs.Turning.{turned_fewer, turned_refused, was_turned}
+use Rattle.td_engine.proofs.code_lemmas.Advances.{advances, stays}
+use Rattle.td_engine.proofs.code_lemmas.Turning.{turned_fewer, turned_refused, was_turned}
 use Rattle.td_engine.proofs.run.run_held.Goals as goal
 use Rattle.td_engine.specs.Standing.{standing}
-use Rattle.td_engine.specs.Turns.{Place, place_at}
+use Rattle.td_engine.specs.code.Turns.{Place, place_at}
 
 pub statements-init : goal.statements-init
 statements-init g c = (

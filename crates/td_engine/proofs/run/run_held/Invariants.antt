@@ -3,7 +3,7 @@ use Rattle.td_engine.proofs.run.run_held.Given as goal
 use Rattle.td_engine.specs.Legality.{IsLegalState}
 use Rattle.td_engine.specs.Scripts.{script_limit}
 use Rattle.td_engine.specs.Standing.{standing}
-use Rattle.td_engine.specs.Turns.{Advanced, place_at}
+use Rattle.td_engine.specs.code.Turns.{Advanced, place_at}
 
 -- statements were run up to here
 abbrev pub invariant-statements : goal.invariant-statements

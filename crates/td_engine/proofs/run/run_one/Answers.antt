@@ -1,11 +1,11 @@
 use Rattle.std.proofs.Common.{◌≡◌, ℕ, List, None, Option, take, refl, subst}
 use Rattle.std.specs.Prelude.{IfNone, IfSome}
 use Rattle.std.specs.Io.KnownBytes.{Appends}
-use Rattle.td_engine.proofs.Answered.{parsed_spelled}
-use Rattle.td_engine.proofs.Turning.{turned, turned_cut}
+use Rattle.td_engine.proofs.law_lemmas.Answered.{parsed_spelled}
+use Rattle.td_engine.proofs.code_lemmas.Turning.{turned, turned_cut}
 use Rattle.td_engine.proofs.run.run_one.Goals as goal
 use Rattle.td_engine.specs.Told.{AppendsIfTold}
-use Rattle.td_engine.specs.Turns.{IsReading}
+use Rattle.td_engine.specs.code.Turns.{IsReading}
 use Rattle.td_engine.specs.declared.run.Reading.{Reading}
 use Rattle.td_tree.specs.Statements.{first_statement}
 

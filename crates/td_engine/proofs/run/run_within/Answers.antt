@@ -1,10 +1,10 @@
 use Rattle.std.proofs.Common.{rules, ◌≡◌, ◌∙◌, ◌-◌, ℕ, List, [], Option, ap, false, true, refl, sym, subst}
-use Rattle.td_engine.proofs.Advances.{none_at_first}
-use Rattle.td_engine.proofs.Endings.{Streamed, at_limit, at_memory, at_piece, at_read, at_refusal, at_the_end, at_write, fed_end, piece_headline, some_of, streamed_fed, streamed_first, streamed_on, write_both}
-use Rattle.td_engine.proofs.Turning.{limit_map, memory_map, read_map}
+use Rattle.td_engine.proofs.code_lemmas.Advances.{none_at_first}
+use Rattle.td_engine.proofs.code_lemmas.Endings.{Streamed, at_limit, at_memory, at_piece, at_read, at_refusal, at_the_end, at_write, fed_end, piece_headline, some_of, streamed_fed, streamed_first, streamed_on, write_both}
+use Rattle.td_engine.proofs.code_lemmas.Turning.{limit_map, memory_map, read_map}
 use Rattle.td_engine.proofs.run.run_within.Goals as goal
 use Rattle.td_engine.specs.Standing.{Standing, standing}
-use Rattle.td_engine.specs.Turns.{Place, place_at}
+use Rattle.td_engine.specs.code.Turns.{Place, place_at}
 use Rattle.td_engine.specs.declared.run.Report.{Report}
 use Rattle.td_tree.specs.Statements.{Held, first_statement}
 

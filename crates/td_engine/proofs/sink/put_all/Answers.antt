@@ -2,7 +2,7 @@ use Rattle.std.proofs.Common.{◌≡◌, ℕ, ◌-◌, length-drop, ◌≤◌, L
 use Rattle.std.proofs.lemmas.List.{take-append-drop, take_all}
 use Rattle.std.proofs.Math.Seq.{take-append_seam}
 use Rattle.std.proofs.KnownBytes.{Appends-trans}
-use Rattle.td_engine.proofs.ToldLaws.{kept_after}
+use Rattle.td_engine.proofs.code_lemmas.ToldLaws.{kept_after}
 use Rattle.td_engine.proofs.sink.put_all.Goals as goal
 use Rattle.td_engine.specs.Told.{AppendsIfTold}
 

@@ -1,8 +1,8 @@
 use Rattle.std.proofs.Common.{option_map, subst, sym}
 use Rattle.td_check.proofs.StatementAnswers.{given_is}
 use Rattle.td_engine.specs.Assignments.{chosen_for, source_world}
-use Rattle.td_engine.specs.Plannable.{ArePlannableSettings, IsPlannableAssignment, IsPlannableConditionIf}
-use Rattle.td_tree.specs.TreeViews.{assignment_view, named_view, tree_view}
+use Rattle.td_engine.specs.code.Plannable.{ArePlannableSettings, IsPlannableAssignment, IsPlannableConditionIf}
+use Rattle.td_tree.specs.code.TreeViews.{assignment_view, named_view, tree_view}
 use Rattle.td_engine.proofs.updates.change_of.Goals as goal
 
 pub replaced-requires : goal.replaced-requires

@@ -1,11 +1,11 @@
 use Rattle.std.proofs.Common.{◌∷◌, [], option_map, subst}
-use Rattle.td_engine.proofs.Sources.{restricted_headed, restricted_is}
+use Rattle.td_engine.proofs.law_lemmas.Sources.{restricted_headed, restricted_is}
 use Rattle.td_engine.specs.Assignments.{source_world}
-use Rattle.td_engine.specs.Plannable.{IsPlannableConditionIf}
-use Rattle.td_eval.proofs.WalkedLists.{of_as_many}
+use Rattle.td_engine.specs.code.Plannable.{IsPlannableConditionIf}
+use Rattle.td_eval.proofs.code_lemmas.WalkedLists.{of_as_many}
 use Rattle.td_eval.specs.OperatorValues.{truth_value}
 use Rattle.td_eval.specs.TreeValues.{value_of}
-use Rattle.td_tree.specs.TreeViews.{tree_view}
+use Rattle.td_tree.specs.code.TreeViews.{tree_view}
 use Rattle.td_tree.specs.Trees.{parentheses}
 use Rattle.td_value.specs.Values.{Tuple}
 use Rattle.td_engine.proofs.updates.chosen.Goals as goal

@@ -2,17 +2,17 @@ use Rattle.std.proofs.Common.{◌≡◌, ◌∙◌, Err, [], ap, option_map, sub
 use Rattle.std.proofs.lemmas.Result.{err_from_is_err_and}
 use Rattle.td_algebra.proofs.Relations.{IsRelation-view}
 use Rattle.td_body.specs.Bodies.{after_change}
-use Rattle.td_engine.proofs.Admitted.{refused_on}
-use Rattle.td_engine.proofs.DeletedTuples.{delete_is}
+use Rattle.td_engine.proofs.law_lemmas.Admitted.{refused_on}
+use Rattle.td_engine.proofs.code_lemmas.DeletedTuples.{delete_is}
 use Rattle.td_engine.specs.Assignments.{assignment_value, chosen_for, source_world}
 use Rattle.td_engine.specs.Changes.{changed_by}
 use Rattle.td_engine.specs.declared.change.Change.{Change}
 use Rattle.td_tree.specs.Outcomes.{Answers, Valued, with_value}
-use Rattle.td_tree.specs.TreeViews.{tree_view}
+use Rattle.td_tree.specs.code.TreeViews.{tree_view}
 use Rattle.td_tree.specs.Trees.{delete}
 use Rattle.td_types.specs.Types.{Heading, IsHeading, pack}
 use Rattle.td_value.specs.Values.{IsRelation, Relation}
-use Rattle.td_value.specs.Views.{relation_view}
+use Rattle.td_value.specs.code.Views.{relation_view}
 use Rattle.td_engine.proofs.updates.delete.Goals as goal
 
 pub returns-in_err-out-clause-answer : goal.returns-in_err-out-clause-answer

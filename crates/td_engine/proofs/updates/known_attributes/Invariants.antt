@@ -1,8 +1,8 @@
 use Rattle.std.proofs.Common.{map, take}
-use Rattle.td_engine.specs.Gifts.{setting_attribute}
+use Rattle.td_engine.specs.code.Gifts.{setting_attribute}
 use Rattle.td_tree.specs.declared.expression.NamedExpr.{NamedExpr}
 use Rattle.td_tree.specs.Gatherings.{IsGathered}
-use Rattle.td_types.specs.Pairs.{pair_view}
+use Rattle.td_types.specs.code.Pairs.{pair_view}
 use Rattle.td_engine.proofs.updates.known_attributes.Given as goal
 
 abbrev pub invariant-loop-setting : goal.invariant-loop-setting

@@ -1,5 +1,5 @@
 use Rattle.td_engine.specs.Assignments.{of_heading}
-use Rattle.td_eval.proofs.OpValues.{relation_unpacked}
+use Rattle.td_eval.proofs.code_lemmas.OpValues.{relation_unpacked}
 use Rattle.td_engine.proofs.updates.relation_in.Goals as goal
 
 pub returns-in-Rel-clause-answer : goal.returns-in-Rel-clause-answer

@@ -1,6 +1,6 @@
 use Rattle.std.proofs.Common.{◌≡◌, ◌∙◌, ap, map, subst, sym}
 use Rattle.td_algebra.specs.Operators.{restriction}
-use Rattle.td_eval.proofs.OpTuples.{truths_are}
+use Rattle.td_eval.proofs.code_lemmas.OpTuples.{truths_are}
 use Rattle.td_eval.specs.OperatorValues.{is_true, truth_value}
 use Rattle.td_tree.specs.Outcomes.{Answers, Valued, gathered, with_value}
 use Rattle.td_engine.proofs.updates.restricted.Goals as goal

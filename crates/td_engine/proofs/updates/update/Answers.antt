@@ -1,7 +1,7 @@
 use Rattle.std.proofs.Common.{subst}
 use Rattle.td_engine.specs.Assignments.{source_world}
-use Rattle.td_engine.specs.Plannable.{ArePlannableSettings}
-use Rattle.td_tree.specs.TreeViews.{named_view}
+use Rattle.td_engine.specs.code.Plannable.{ArePlannableSettings}
+use Rattle.td_tree.specs.code.TreeViews.{named_view}
 use Rattle.td_engine.proofs.updates.update.Goals as goal
 
 pub updated-requires-clause-settings : goal.updated-requires-clause-settings

@@ -3,8 +3,8 @@ use Rattle.std.specs.Prelude.{◌&&◌, not}
 use Rattle.std.specs.List.{list_all}
 use Rattle.td_types.specs.Headings.{are_distinct, has_attribute}
 use Rattle.td_types.specs.Types.{attribute_names}
-use Rattle.td_types.specs.Views.{pairs_view}
-use Rattle.td_eval.proofs.NewAttributes.{are_new, names_of_pairs, new_given, not_new, old_refused}
+use Rattle.td_types.specs.code.Views.{pairs_view}
+use Rattle.td_eval.proofs.code_lemmas.NewAttributes.{are_new, names_of_pairs, new_given, not_new, old_refused}
 use Rattle.td_eval.proofs.extension.ask_new.Goals as goal
 use Rattle.td_eval.proofs.extension.ask_new.Goals.{else-are_distinct-via-then-are_distinct+else-are_apart, else-are_distinct-via-else-are_distinct}
 

@@ -4,13 +4,13 @@ use Rattle.std.specs.Global.{Vec}
 use Rattle.std.specs.Prelude.{IfOk}
 use Rattle.td_algebra.specs.Columns.{columns_view}
 use Rattle.td_algebra.specs.declared.extension.Column.{Column}
-use Rattle.td_eval.proofs.WalkedExtension.{apart_given, checked_of, columns_fit, columns_of_additions, columns_refused, distinct_given, extended_given, same_attributes}
-use Rattle.td_eval.specs.NewColumns.{AreColumnsFor, named_columns}
+use Rattle.td_eval.proofs.code_lemmas.WalkedExtension.{apart_given, checked_of, columns_fit, columns_of_additions, columns_refused, distinct_given, extended_given, same_attributes}
+use Rattle.td_eval.specs.code.NewColumns.{AreColumnsFor, named_columns}
 use Rattle.td_eval.specs.OperatorValues.{additions_of}
 use Rattle.td_tree.specs.Outcomes.{Answers, Valued, gathered}
 use Rattle.td_types.specs.Headings.{are_distinct, have_no_common}
 use Rattle.td_types.specs.Types.{attribute_names}
-use Rattle.td_types.specs.Views.{pairs_view}
+use Rattle.td_types.specs.code.Views.{pairs_view}
 use Rattle.td_eval.proofs.extension.extension_by.Goals as goal
 
 pub returns-in_err-columns : goal.returns-in_err-columns

@@ -4,17 +4,17 @@ use Rattle.std.proofs.lemmas.Result.{err_from_is_err_and}
 use Rattle.std.specs.Global.{Vec}
 use Rattle.td_algebra.specs.Columns.{columns_view}
 use Rattle.td_algebra.specs.declared.extension.Column.{Column}
-use Rattle.td_eval.proofs.WalkedLists.{as_many_parts}
-use Rattle.td_eval.proofs.WalkedSettings.{set_columns, set_columns_fit, set_names, setting_given, setting_refused}
-use Rattle.td_eval.specs.NewColumns.{named_columns}
+use Rattle.td_eval.proofs.code_lemmas.WalkedLists.{as_many_parts}
+use Rattle.td_eval.proofs.code_lemmas.WalkedSettings.{set_columns, set_columns_fit, set_names, setting_given, setting_refused}
+use Rattle.td_eval.specs.code.NewColumns.{named_columns}
 use Rattle.td_eval.specs.OperatorValues.{additions_of}
-use Rattle.td_eval.specs.Sights.{seen_by, tuples_in_hand, world_in}
+use Rattle.td_eval.specs.code.Sights.{seen_by, tuples_in_hand, world_in}
 use Rattle.td_eval.specs.TreeValues.{values_in_tuples}
 use Rattle.td_tree.specs.Outcomes.{Answers, Valued, gathered}
-use Rattle.td_tree.specs.TreeViews.{named_view}
+use Rattle.td_tree.specs.code.TreeViews.{named_view}
 use Rattle.td_types.specs.Headings.{are_distinct}
 use Rattle.td_types.specs.Types.{attribute_names}
-use Rattle.td_types.specs.Views.{pairs_view}
+use Rattle.td_types.specs.code.Views.{pairs_view}
 use Rattle.td_eval.proofs.in_tuples.set_in_tuples.Goals as goal
 
 pub returns-in_err-columns : goal.returns-in_err-columns

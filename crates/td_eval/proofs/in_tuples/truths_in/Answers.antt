@@ -1,10 +1,10 @@
 use Rattle.std.proofs.Common.{◌∙◌, ◌∷◌, Bool, map, reverse, subst}
 use Rattle.std.specs.Global.{Vec}
 use Rattle.td_eval.specs.OperatorValues.{truth_value}
-use Rattle.td_eval.specs.Sights.{seen_by, tuples_in_hand}
+use Rattle.td_eval.specs.code.Sights.{seen_by, tuples_in_hand}
 use Rattle.td_eval.specs.TreeValues.{value_of}
 use Rattle.td_tree.specs.Outcomes.{Answers, gathered}
-use Rattle.td_tree.specs.TreeViews.{tree_view}
+use Rattle.td_tree.specs.code.TreeViews.{tree_view}
 use Rattle.td_eval.proofs.in_tuples.truths_in.Goals as goal
 
 pub returns : goal.returns

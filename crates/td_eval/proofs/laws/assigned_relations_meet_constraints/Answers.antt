@@ -1,4 +1,4 @@
-use Rattle.td_eval.proofs.MetAssignments.{assigned_relations_meet_constraints}
+use Rattle.td_eval.proofs.law_lemmas.MetAssignments.{assigned_relations_meet_constraints}
 use Rattle.td_eval.proofs.laws.assigned_relations_meet_constraints.Goals as goal
 
 pub returns : goal.returns

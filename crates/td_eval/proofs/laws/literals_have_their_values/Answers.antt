@@ -1,5 +1,5 @@
-use Rattle.td_eval.proofs.LiteralTypes.{literals_have_their_types}
-use Rattle.td_eval.proofs.LiteralValues.{literals_have_their_values}
+use Rattle.td_eval.proofs.law_lemmas.LiteralTypes.{literals_have_their_types}
+use Rattle.td_eval.proofs.law_lemmas.LiteralValues.{literals_have_their_values}
 use Rattle.td_eval.proofs.laws.literals_have_their_values.Goals as goal
 
 pub returns-clause-types : goal.returns-clause-types

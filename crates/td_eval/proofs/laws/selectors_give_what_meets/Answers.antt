@@ -1,6 +1,6 @@
-use Rattle.td_eval.proofs.DroppedTypes.{drops_keep_what_meets}
-use Rattle.td_eval.proofs.LiteralValues.{selectors_give_what_meets}
-use Rattle.td_eval.proofs.MetConstraints.{later_types_keep_what_meets, what_selectors_give_meets}
+use Rattle.td_eval.proofs.law_lemmas.DroppedTypes.{drops_keep_what_meets}
+use Rattle.td_eval.proofs.law_lemmas.LiteralValues.{selectors_give_what_meets}
+use Rattle.td_eval.proofs.law_lemmas.MetConstraints.{later_types_keep_what_meets, what_selectors_give_meets}
 use Rattle.td_eval.proofs.laws.selectors_give_what_meets.Goals as goal
 
 pub returns-clause-values : goal.returns-clause-values

@@ -1,4 +1,4 @@
-use Rattle.td_eval.proofs.ProjectedSummaries.{summarize_by_is_per_of_the_projection}
+use Rattle.td_eval.proofs.law_lemmas.ProjectedSummaries.{summarize_by_is_per_of_the_projection}
 use Rattle.td_eval.proofs.laws.summarize_by_is_per_of_the_projection.Goals as goal
 
 pub returns : goal.returns

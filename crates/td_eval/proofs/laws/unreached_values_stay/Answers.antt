@@ -1,4 +1,4 @@
-use Rattle.td_eval.proofs.UnreachedValues.{unreached_values_stay}
+use Rattle.td_eval.proofs.law_lemmas.UnreachedValues.{unreached_values_stay}
 use Rattle.td_eval.proofs.laws.unreached_values_stay.Goals as goal
 
 pub returns : goal.returns

@@ -1,4 +1,4 @@
-use Rattle.td_eval.proofs.TypedTrees.{values_keep_types}
+use Rattle.td_eval.proofs.code_lemmas.TypedTrees.{values_keep_types}
 use Rattle.td_eval.proofs.laws.values_keep_types.Goals as goal
 
 pub returns : goal.returns

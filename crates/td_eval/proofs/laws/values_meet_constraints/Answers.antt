@@ -1,4 +1,4 @@
-use Rattle.td_eval.proofs.MetWorlds.{values_meet_constraints}
+use Rattle.td_eval.proofs.law_lemmas.MetWorlds.{values_meet_constraints}
 use Rattle.td_eval.proofs.laws.values_meet_constraints.Goals as goal
 
 pub returns : goal.returns

@@ -11,36 +11,36 @@ use Rattle.td_check.proofs.Gives.{answered_then}
 use Rattle.td_check.specs.OperatorTypes.{are_types_of}
 use Rattle.td_check.specs.Scopes.{entered_with}
 use Rattle.td_check.specs.StaticTypes.{named_types}
-use Rattle.td_eval.proofs.Measures.{constraint_height, height_if, height_item, height_listed, height_named, weight, weight_before, tree_before}
-use Rattle.td_eval.proofs.Selectors.{is_selector, never_missing, types_seen}
-use Rattle.td_eval.proofs.VirtualValues.{held_seen}
-use Rattle.td_eval.proofs.WalkedAttributes.{as_many_found, columns_for}
-use Rattle.td_eval.proofs.WalkedColumns.{beside_at, beside_past, beside_within, column_found, columns_are}
-use Rattle.td_eval.proofs.WalkedExtension.{answers_related, types_refused}
-use Rattle.td_eval.proofs.WalkedLists.{arguments_are, as_many_parts, entries_are, entry_found, of_as_many, value_found, walked, walked_values}
-use Rattle.td_eval.proofs.WalkedSelections.{constructed_of, mismatched}
-use Rattle.td_eval.proofs.OpValues.{related as both_related}
-use Rattle.td_eval.proofs.WalkedTotals.{group_found, terms_given, total_found, totals_are, totals_given, totals_refused}
+use Rattle.td_eval.proofs.code_lemmas.Measures.{constraint_height, height_if, height_item, height_listed, height_named, weight, weight_before, tree_before}
+use Rattle.td_eval.proofs.code_lemmas.Selectors.{is_selector, never_missing, types_seen}
+use Rattle.td_eval.proofs.code_lemmas.VirtualValues.{held_seen}
+use Rattle.td_eval.proofs.code_lemmas.WalkedAttributes.{as_many_found, columns_for}
+use Rattle.td_eval.proofs.code_lemmas.WalkedColumns.{beside_at, beside_past, beside_within, column_found, columns_are}
+use Rattle.td_eval.proofs.code_lemmas.WalkedExtension.{answers_related, types_refused}
+use Rattle.td_eval.proofs.code_lemmas.WalkedLists.{arguments_are, as_many_parts, entries_are, entry_found, of_as_many, value_found, walked, walked_values}
+use Rattle.td_eval.proofs.code_lemmas.WalkedSelections.{constructed_of, mismatched}
+use Rattle.td_eval.proofs.code_lemmas.OpValues.{related as both_related}
+use Rattle.td_eval.proofs.code_lemmas.WalkedTotals.{group_found, terms_given, total_found, totals_are, totals_given, totals_refused}
 use Rattle.td_check.proofs.BothAnswers.{both_given, both_refused}
 use Rattle.td_eval.specs.AggregateValues.{aggregated_value, asked_of, summarized_value, summary_attributes, summary_value}
 use Rattle.td_eval.specs.DatabaseWorlds.{constraint_value, world_of_types}
-use Rattle.td_eval.specs.NewColumns.{column_view, named_columns}
+use Rattle.td_eval.specs.code.NewColumns.{column_view, named_columns}
 use Rattle.td_eval.specs.OperatorValues.{column_values, component_value, extended_value, listed_value, on_relation, postfix_value, restricted_value, truth_value, tuple_from, value_of_type}
-use Rattle.td_eval.specs.Sights.{seen_by, virtuals_of}
-use Rattle.td_eval.specs.Totals.{term_in, total_of, total_view}
+use Rattle.td_eval.specs.code.Sights.{seen_by, virtuals_of}
+use Rattle.td_eval.specs.code.Totals.{term_in, total_of, total_view}
 use Rattle.td_eval.specs.TreeValues.{argument_values, entry_values, items_in_tuples, value_of, values_in_tuples}
 use Rattle.td_group.specs.declared.aggregates.Agg.{Agg}
 use Rattle.td_eval.specs.Worlds.{known_outcome, selected, with_tuples}
-use Rattle.td_tree.proofs.Gatherings.{collected_next}
+use Rattle.td_tree.proofs.code_lemmas.Gatherings.{collected_next}
 use Rattle.td_tree.specs.Heights.{height, highest, highest_named, highest_summary, type_height}
 use Rattle.td_tree.specs.Outcomes.{Answers, Valued, gathered, named_cause, with_value}
-use Rattle.td_tree.specs.TreeViews.{attributes_view, heading_tree_view, named_view, summaries_view, tree_view, trees_view}
+use Rattle.td_tree.specs.code.TreeViews.{attributes_view, heading_tree_view, named_view, summaries_view, tree_view, trees_view}
 use Rattle.td_tree.specs.Trees as trees
-use Rattle.td_tree.proofs.Rows.{extend_is, headed_relation_is, relation_is, select_is, summarize_by_is, summarize_per_is, tuple_is}
+use Rattle.td_tree.proofs.code_lemmas.Rows.{extend_is, headed_relation_is, relation_is, select_is, summarize_by_is, summarize_per_is, tuple_is}
 use Rattle.td_types.specs.declared.ty.Ty.{Ty}
 use Rattle.td_types.specs.TypeLists.{heading_meant}
 use Rattle.td_types.specs.Types.{Heading}
-use Rattle.td_types.specs.Views.{pairs_view, type_view}
+use Rattle.td_types.specs.code.Views.{pairs_view, type_view}
 use Rattle.td_types.proofs.Resolutions.{answers_still}
 use Rattle.td_value.specs.Values.{Tuple, Val, boolean, type_of}
 use Rattle.td_eval.proofs.value.+value.Goals as goal

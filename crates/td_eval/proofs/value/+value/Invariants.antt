@@ -2,19 +2,19 @@ use Rattle.std.proofs.Common.{◌≡◌, ◌∷◌, ◌+◌, ◌*◌, map, rever
 use Rattle.std.specs.List.{zip}
 use Rattle.std.specs.Prelude.{max}
 use Rattle.td_algebra.specs.Columns.{columns_view}
-use Rattle.td_eval.proofs.Measures.{constraint_height, item_height, weight, weights}
-use Rattle.td_eval.proofs.WalkedColumns.{column_found}
-use Rattle.td_eval.proofs.WalkedLists.{entry_found, value_found}
-use Rattle.td_eval.proofs.WalkedTotals.{group_found, total_found}
+use Rattle.td_eval.proofs.code_lemmas.Measures.{constraint_height, item_height, weight, weights}
+use Rattle.td_eval.proofs.code_lemmas.WalkedColumns.{column_found}
+use Rattle.td_eval.proofs.code_lemmas.WalkedLists.{entry_found, value_found}
+use Rattle.td_eval.proofs.code_lemmas.WalkedTotals.{group_found, total_found}
 use Rattle.td_eval.specs.OperatorValues.{truth_value, value_of_type}
-use Rattle.td_eval.specs.Sights.{seen_by}
-use Rattle.td_eval.specs.Totals.{total_view}
+use Rattle.td_eval.specs.code.Sights.{seen_by}
+use Rattle.td_eval.specs.code.Totals.{total_view}
 use Rattle.td_eval.specs.TreeValues.{value_of}
 use Rattle.td_tree.specs.Gatherings.{IsGathered}
 use Rattle.td_tree.specs.Heights.{height, highest, highest_named, highest_summary}
 use Rattle.td_tree.specs.Outcomes.{with_value}
-use Rattle.td_tree.specs.TreeViews.{named_view, summaries_view, tree_view, trees_view}
-use Rattle.td_types.specs.Views.{type_view}
+use Rattle.td_tree.specs.code.TreeViews.{named_view, summaries_view, tree_view, trees_view}
+use Rattle.td_types.specs.code.Views.{type_view}
 use Rattle.td_eval.proofs.value.+value.Given as goal
 
 -- ---- loops

@@ -1,11 +1,11 @@
 use Rattle.std.proofs.Common.{◌∙◌, reverse, subst}
-use Rattle.td_eval.proofs.TypedAnswers.{answers_type}
-use Rattle.td_eval.proofs.TypedTrees.{values_keep_types}
-use Rattle.td_eval.specs.Sights.{seen_by, tuples_in_hand, world_in}
+use Rattle.td_eval.proofs.code_lemmas.TypedAnswers.{answers_type}
+use Rattle.td_eval.proofs.code_lemmas.TypedTrees.{values_keep_types}
+use Rattle.td_eval.specs.code.Sights.{seen_by, tuples_in_hand, world_in}
 use Rattle.td_eval.specs.TreeValues.{value_of}
 use Rattle.td_eval.specs.ValueTypes.{KeepsType}
 use Rattle.td_tree.specs.Outcomes.{Answers}
-use Rattle.td_tree.specs.TreeViews.{tree_view}
+use Rattle.td_tree.specs.code.TreeViews.{tree_view}
 use Rattle.td_value.specs.Values.{Val}
 use Rattle.td_eval.proofs.value.eval.Goals as goal
 

@@ -1,7 +1,7 @@
 use Rattle.std.proofs.Common.{◌∙◌, ◌++◌, ◌<◌, ◌≤◌, ap, arith, length, map, subst, Bor}
 use Rattle.std.proofs.lemmas.List.{length-map, take_all}
 use Rattle.td_value.specs.Values.{Val}
-use Rattle.td_group.specs.Successors.{ArePairsFrom, pair_of, successors_at}
+use Rattle.td_group.specs.code.Successors.{ArePairsFrom, pair_of, successors_at}
 use Rattle.td_group.proofs.Tables.{at_reference, pairs_more}
 use Rattle.td_group.proofs.closure.pairs_from.Goals as goal
 

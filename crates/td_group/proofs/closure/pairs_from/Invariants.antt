@@ -1,5 +1,5 @@
 use Rattle.std.proofs.Common.{map, take}
-use Rattle.td_group.specs.Successors.{ArePairsFrom, successors_at}
+use Rattle.td_group.specs.code.Successors.{ArePairsFrom, successors_at}
 use Rattle.td_group.proofs.closure.pairs_from.Given as goal
 
 abbrev pub invariant-loop-start : goal.invariant-loop-start

@@ -1,7 +1,7 @@
 use Rattle.std.proofs.Common.{◌∙◌, ◌<◌, ap, arith, length, map, sym, Bor}
 use Rattle.std.proofs.lemmas.List.{length-map}
 use Rattle.td_value.specs.Values.{Val}
-use Rattle.td_group.specs.Successors.{added}
+use Rattle.td_group.specs.code.Successors.{added}
 use Rattle.td_group.proofs.Graphs.{all_more}
 use Rattle.td_group.proofs.Tables.{at_reference}
 use Rattle.td_group.proofs.closure.put_all_unseen.Goals as goal

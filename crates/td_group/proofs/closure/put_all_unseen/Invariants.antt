@@ -1,5 +1,5 @@
 use Rattle.std.proofs.Common.{◌≡◌, map, take}
-use Rattle.td_group.specs.Successors.{AreSeen, all_added}
+use Rattle.td_group.specs.code.Successors.{AreSeen, all_added}
 use Rattle.td_group.proofs.closure.put_all_unseen.Given as goal
 
 abbrev pub invariant-loop-value : goal.invariant-loop-value

@@ -1,7 +1,7 @@
 use Rattle.std.proofs.Common.{◌∙◌, ◌++◌, ◌∷◌, [], ◌<◌, ap, append_assoc, arith, length, map, sym, take, Bor}
 use Rattle.std.proofs.lemmas.List.{length-map}
 use Rattle.td_value.specs.Values.{Val}
-use Rattle.td_group.specs.Successors.{pair_of}
+use Rattle.td_group.specs.code.Successors.{pair_of}
 use Rattle.td_group.proofs.Tables.{at_reference, map_more}
 use Rattle.td_group.proofs.closure.put_pairs.Goals as goal
 

@@ -1,5 +1,5 @@
 use Rattle.std.proofs.Common.{◌≡◌, ◌++◌, map, take}
-use Rattle.td_group.specs.Successors.{pair_of}
+use Rattle.td_group.specs.code.Successors.{pair_of}
 use Rattle.td_group.proofs.closure.put_pairs.Given as goal
 
 abbrev pub invariant-loop-value : goal.invariant-loop-value

@@ -1,5 +1,5 @@
 use Rattle.std.proofs.Common.{◌-◌, length, map}
-use Rattle.td_group.specs.Successors.{AreSeen, successors_at}
+use Rattle.td_group.specs.code.Successors.{AreSeen, successors_at}
 use Rattle.td_group.proofs.Graphs.{AreFound}
 use Rattle.td_group.proofs.Tables.{all_successors}
 use Rattle.td_group.proofs.closure.reached.Given as goal

@@ -1,5 +1,5 @@
 use Rattle.std.proofs.Common.{map, take}
-use Rattle.td_group.specs.Successors.{HaveSameValues, starts_in}
+use Rattle.td_group.specs.code.Successors.{HaveSameValues, starts_in}
 use Rattle.td_group.proofs.closure.starts_of.Given as goal
 
 abbrev pub invariant-loop-row : goal.invariant-loop-row

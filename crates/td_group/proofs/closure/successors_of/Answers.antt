@@ -1,6 +1,6 @@
 use Rattle.std.proofs.Common.{◌∙◌, ◌++◌, ap, arith, subst}
 use Rattle.std.proofs.lemmas.List.{take_all}
-use Rattle.td_group.specs.Successors.{AreSuccessors, led_to, ends_of}
+use Rattle.td_group.specs.code.Successors.{AreSuccessors, led_to, ends_of}
 use Rattle.td_group.proofs.Tables.{flat_more}
 use Rattle.td_group.proofs.closure.successors_of.Goals as goal
 

@@ -1,5 +1,5 @@
 use Rattle.std.proofs.Common.{take}
-use Rattle.td_group.specs.Successors.{AreSuccessors}
+use Rattle.td_group.specs.code.Successors.{AreSuccessors}
 use Rattle.td_group.proofs.closure.successors_of.Given as goal
 
 abbrev pub invariant-loop-row : goal.invariant-loop-row

@@ -6,7 +6,7 @@ use Rattle.td_algebra.specs.Operators.{restriction}
 use Rattle.td_algebra.proofs.OnNames.{found_on, places_within, row_headed, rows_within, same_places}
 use Rattle.td_value.specs.Agreement.{agree_on}
 use Rattle.td_value.specs.Values.{IsTupleOf}
-use Rattle.td_value.specs.Views.{relation_view}
+use Rattle.td_value.specs.code.Views.{relation_view}
 use Rattle.td_group.specs.Groups.{groups_on}
 use Rattle.td_group.proofs.Tables.{map_more}
 use Rattle.td_group.proofs.groups.groups_on.Goals as goal

@@ -1,7 +1,7 @@
 use Rattle.std.proofs.Common.{◌≡◌, ◌∙◌, ◌∷◌, ◌++◌, ◌<◌, ◌+◌, [], ap, append_assoc, arith, length, sym, take, get_or}
 use Rattle.std.proofs.lemmas.List.{length-map}
 use Rattle.td_value.specs.Values.{tuple_names}
-use Rattle.td_value.specs.Views.{values_of}
+use Rattle.td_value.specs.code.Views.{values_of}
 use Rattle.td_group.proofs.Apart.{entry_more}
 use Rattle.td_group.proofs.tuples.put_entries.Goals as goal
 

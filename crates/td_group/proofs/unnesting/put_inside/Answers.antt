@@ -5,8 +5,8 @@ use Rattle.std.proofs.lemmas.List.Elements.{All-contains}
 use Rattle.td_algebra.proofs.Lists.{contains_first}
 use Rattle.td_group.specs.Nesting.{HaveNoCommonName, tuples_inside}
 use Rattle.td_value.specs.Values.{Relation, tuple_of}
-use Rattle.td_value.specs.Views.{node_view}
-use Rattle.td_value.specs.ValueCode.{unpack_pack_fields, unpack_pack_rows}
+use Rattle.td_value.specs.code.Views.{node_view}
+use Rattle.td_value.specs.code.ValueCode.{unpack_pack_fields, unpack_pack_rows}
 use Rattle.td_group.proofs.unnesting.put_inside.Goals as goal
 
 pub joined-requires : goal.joined-requires

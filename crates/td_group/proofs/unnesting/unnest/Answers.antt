@@ -5,7 +5,7 @@ use Rattle.td_types.specs.Headings.{agree, heading_union, without_attribute}
 use Rattle.td_types.specs.Types.{attribute_names}
 use Rattle.td_value.specs.Values.{IsTupleOf, projected_tuple, tuple_of, value_at}
 use Rattle.td_algebra.proofs.Taken.{relation_is, value_of_answer}
-use Rattle.td_tree.proofs.Unrefused.{unrefused_if}
+use Rattle.td_tree.proofs.code_lemmas.Unrefused.{unrefused_if}
 use Rattle.td_algebra.proofs.Joined.{apart_agree}
 use Rattle.td_group.specs.Nesting.{HaveNoCommonName, inner_heading, other_names, tuples_inside, unnested_tuples}
 use Rattle.td_group.proofs.Nested.{unnested_apart, unnested_headed}

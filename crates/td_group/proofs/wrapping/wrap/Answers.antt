@@ -7,7 +7,7 @@ use Rattle.td_types.specs.Types as types
 use Rattle.td_value.specs.Values.{IsTupleOf, Tuple, projected_tuple, tuple_of, tuple_value}
 use Rattle.td_algebra.proofs.Taken.{relation_is, value_of_answer}
 use Rattle.std.specs.Prelude.{not}
-use Rattle.td_tree.proofs.Unrefused.{unrefused_if}
+use Rattle.td_tree.proofs.code_lemmas.Unrefused.{unrefused_if}
 use Rattle.td_algebra.proofs.Members.{second_true}
 use Rattle.td_group.specs.Nesting.{HaveNoCommonName, rest_heading, rest_names, wrapped_tuple}
 use Rattle.td_group.proofs.Nested.{wrapped_apart, wrapped_headed}

@@ -1,4 +1,4 @@
-use Rattle.td_parse.specs.Views.{named_part_view}
+use Rattle.td_parse.specs.code.Views.{named_part_view}
 use Rattle.td_parse.proofs.Separated.{begins, ends, goes_on, ran_out}
 use Rattle.td_parse.proofs.assignment.settings.Goals as goal
 

@@ -1,4 +1,4 @@
-use Rattle.td_tree.specs.TreeViews.{assignment_view}
+use Rattle.td_tree.specs.code.TreeViews.{assignment_view}
 use Rattle.td_parse.proofs.Separated.{begins, ends, goes_on, ran_out}
 use Rattle.td_parse.proofs.assignment.some_assignments.Goals as goal
 

@@ -1,7 +1,7 @@
 use Rattle.std.proofs.Common.{◌≡◌, ◌-◌, map}
 use Rattle.td_parse.specs.ReadingSteps.{separated, separated_from}
 use Rattle.td_parse.specs.ReadingStatements.{assignment}
-use Rattle.td_tree.specs.TreeViews.{assignment_view}
+use Rattle.td_tree.specs.code.TreeViews.{assignment_view}
 use Rattle.td_parse.proofs.assignment.some_assignments.Given as goal
 
 -- what is left goes on from the assignments so far

@@ -1,4 +1,4 @@
-use Rattle.td_tree.specs.TreeViews.{renaming_view}
+use Rattle.td_tree.specs.code.TreeViews.{renaming_view}
 use Rattle.td_parse.proofs.Separated.{begins, ends, goes_on, ran_out}
 use Rattle.td_parse.proofs.names.renamings.Goals as goal
 

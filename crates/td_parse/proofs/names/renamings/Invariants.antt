@@ -1,7 +1,7 @@
 use Rattle.std.proofs.Common.{◌≡◌, ◌-◌}
 use Rattle.std.specs.Prelude.{map}
 use Rattle.td_parse.specs.ReadingSteps.{read_renaming, separated, separated_from}
-use Rattle.td_tree.specs.TreeViews.{renaming_view}
+use Rattle.td_tree.specs.code.TreeViews.{renaming_view}
 use Rattle.td_parse.proofs.names.renamings.Given as goal
 
 -- what is left goes on from the renamings so far

@@ -1,4 +1,4 @@
-use Rattle.td_parse.specs.Views.{attribute_tree_view}
+use Rattle.td_parse.specs.code.Views.{attribute_tree_view}
 use Rattle.td_parse.proofs.Separated.{begins, ends, goes_on, ran_out}
 use Rattle.td_parse.proofs.types.+types.Goals as goal
 

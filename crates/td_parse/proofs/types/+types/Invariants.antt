@@ -1,7 +1,7 @@
 use Rattle.std.proofs.Common.{◌≡◌, ◌-◌, ◌+◌, ◌*◌}
 use Rattle.td_parse.specs.ReadingSteps.{separated, separated_from}
 use Rattle.td_parse.specs.ReadingTypes.{attribute, read_type}
-use Rattle.td_parse.specs.Views.{attribute_trees_view}
+use Rattle.td_parse.specs.code.Views.{attribute_trees_view}
 use Rattle.td_parse.proofs.types.+types.Given as goal
 
 abbrev pub decreases-type_tree : goal.decreases-type_tree

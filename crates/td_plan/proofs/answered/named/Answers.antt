@@ -1,6 +1,6 @@
 use Rattle.std.proofs.Common.{◌∙◌, ◌++◌, ap, sym}
 use Rattle.std.proofs.lemmas.List.{append-nil}
-use Rattle.td_eval.proofs.OpElements.{zip_past}
+use Rattle.td_eval.proofs.code_lemmas.OpElements.{zip_past}
 use Rattle.td_plan.proofs.answered.named.Goals as goal
 
 pub returns : goal.returns

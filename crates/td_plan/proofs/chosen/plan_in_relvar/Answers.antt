@@ -1,8 +1,8 @@
 use Rattle.std.proofs.Common.{◌∙◌, ap, subst}
 use Rattle.std.proofs.lemmas.Result.{IfOk-weaker}
 use Rattle.td_plan.specs.PlansOf.{IsPlanOfTyped, scope_in}
-use Rattle.td_plan.specs.PlanViews.{plan_view}
-use Rattle.td_tree.specs.TreeViews.{tree_view}
+use Rattle.td_plan.specs.code.PlanViews.{plan_view}
+use Rattle.td_tree.specs.code.TreeViews.{tree_view}
 use Rattle.td_tree.specs.Trees.{name, restriction}
 use Rattle.td_plan.proofs.chosen.plan_in_relvar.Goals as goal
 

@@ -1,7 +1,7 @@
 use Rattle.std.proofs.Common.{subst, sym}
 use Rattle.td_plan.specs.PlansOf.{IsPlanOfTyped, scope_in}
-use Rattle.td_plan.specs.PlanViews.{plan_view}
-use Rattle.td_tree.specs.TreeViews.{tree_view}
+use Rattle.td_plan.specs.code.PlanViews.{plan_view}
+use Rattle.td_tree.specs.code.TreeViews.{tree_view}
 use Rattle.td_tree.specs.Trees.{name, restriction}
 use Rattle.td_plan.proofs.chosen.tuples_where.Goals as goal
 

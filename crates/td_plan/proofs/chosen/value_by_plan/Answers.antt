@@ -1,6 +1,6 @@
 use Rattle.std.proofs.Common.{subst, sym}
-use Rattle.td_eval.specs.Sights.{world_in}
-use Rattle.td_plan.specs.Hands.{AreValued}
+use Rattle.td_eval.specs.code.Sights.{world_in}
+use Rattle.td_plan.specs.code.Hands.{AreValued}
 use Rattle.td_plan.proofs.chosen.value_by_plan.Goals as goal
 
 pub returns : goal.returns

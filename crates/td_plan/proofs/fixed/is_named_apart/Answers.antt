@@ -1,7 +1,7 @@
 use Rattle.std.proofs.Common.{◌∙◌, ap, not, sym}
 use Rattle.td_plan.proofs.FixedValues.{named_apart}
 use Rattle.td_plan.proofs.fixed.is_named_apart.Goals as goal
-use Rattle.td_tree.specs.TreeViews.{tree_view}
+use Rattle.td_tree.specs.code.TreeViews.{tree_view}
 
 pub returns : goal.returns
 returns c = λ e.

@@ -2,7 +2,7 @@ use Rattle.std.proofs.Common.{subst, sym}
 use Rattle.std.specs.Prelude.{IfOk}
 use Rattle.td_plan.proofs.FixedValues.{one_more_fixed}
 use Rattle.td_plan.specs.Narrowing.{AreFixed, IsFixedTo}
-use Rattle.td_plan.specs.StepViews.{step_view}
+use Rattle.td_plan.specs.code.StepViews.{step_view}
 use Rattle.td_plan.proofs.fixed.put.Goals as goal
 
 pub returns : goal.returns

@@ -1,5 +1,5 @@
 use Rattle.std.proofs.Common.{◌+◌, List, take}
-use Rattle.td_plan.specs.Hands.{AreHeld, IsHand}
+use Rattle.td_plan.specs.code.Hands.{AreHeld, IsHand}
 use Rattle.td_plan.specs.Plans.{Frame}
 use Rattle.td_plan.proofs.hand.all_held.Given as goal
 

@@ -2,7 +2,7 @@ use Rattle.std.proofs.Common.{ap, ◌∙◌, sym, subst, option_map}
 use Rattle.td_tree.specs.Outcomes.{Answers, named_cause}
 use Rattle.td_plan.proofs.HandLaws.{answer_found, hand_at, inner_answer, none_hand_at}
 use Rattle.std.specs.List.{slice_get}
-use Rattle.td_plan.specs.Hands.{IsAnswer}
+use Rattle.td_plan.specs.code.Hands.{IsAnswer}
 use Rattle.td_plan.specs.Plans.{fixed_at, outcome_or}
 use Rattle.td_plan.proofs.hand.fixed_part.Goals as goal
 

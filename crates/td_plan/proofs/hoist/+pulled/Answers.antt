@@ -11,9 +11,9 @@ use Rattle.td_plan.proofs.StepWeights.{weight, weight_within, weights}
 use Rattle.td_plan.specs.declared.step.Step.{Step}
 use Rattle.td_plan.specs.Hoisting.{Hoists, HoistsAll}
 use Rattle.td_plan.specs.Plans.{aggregate, binary, choice, compare, component, extend, extract, headed_relation, look_up, measure, postfix, prefix, relation, restriction, select, summarize_by, summarize_per, tuple}
-use Rattle.td_plan.specs.StepViews.{step_view, steps_view}
-use Rattle.td_tree.specs.TreeViews.{attributes_view, postfix_view}
-use Rattle.td_types.specs.Views.{pairs_view}
+use Rattle.td_plan.specs.code.StepViews.{step_view, steps_view}
+use Rattle.td_tree.specs.code.TreeViews.{attributes_view, postfix_view}
+use Rattle.td_types.specs.code.Views.{pairs_view}
 use Rattle.td_plan.proofs.hoist.+pulled.Goals as goal
 
 -- ---- arms of one operand

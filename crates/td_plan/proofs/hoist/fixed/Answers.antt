@@ -1,5 +1,5 @@
 use Rattle.td_plan.proofs.PulledParts.{pulls_fixed}
-use Rattle.td_plan.specs.StepViews.{step_view}
+use Rattle.td_plan.specs.code.StepViews.{step_view}
 use Rattle.td_plan.proofs.hoist.fixed.Goals as goal
 
 pub returns : goal.returns

@@ -1,10 +1,10 @@
 use Rattle.std.proofs.Common.{subst, sym}
 use Rattle.std.specs.Prelude.{IfOk}
 use Rattle.td_check.specs.Scopes.{entered_with}
-use Rattle.td_plan.specs.PlannedParts.{IsBoxPlanned, IsPulled}
+use Rattle.td_plan.specs.code.PlannedParts.{IsBoxPlanned, IsPulled}
 use Rattle.td_plan.specs.Plans.{none}
 use Rattle.td_plan.specs.PlansOf.{IsPlanOfTyped}
-use Rattle.td_plan.specs.StepViews.{step_view, steps_view}
+use Rattle.td_plan.specs.code.StepViews.{step_view, steps_view}
 use Rattle.td_plan.proofs.PlannedTuples.{aggregation_planned}
 use Rattle.td_plan.proofs.StepRows.{aggregate_is}
 use Rattle.td_tree.specs.Trees as trees

@@ -1,7 +1,7 @@
 use Rattle.std.proofs.Common.{subst}
 use Rattle.td_plan.specs.Hoisting.{HoistsAll}
-use Rattle.td_plan.specs.PlannedParts.{ArePlanned}
-use Rattle.td_plan.specs.StepViews.{steps_view}
+use Rattle.td_plan.specs.code.PlannedParts.{ArePlanned}
+use Rattle.td_plan.specs.code.StepViews.{steps_view}
 use Rattle.td_plan.proofs.in_tuples.new_columns.Goals as goal
 
 pub returns : goal.returns

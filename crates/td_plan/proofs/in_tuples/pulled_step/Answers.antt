@@ -1,8 +1,8 @@
 use Rattle.std.proofs.Common.{subst, sym}
 use Rattle.td_plan.specs.Hoisting.{Hoists}
-use Rattle.td_plan.specs.PlannedParts.{IsPlanned}
+use Rattle.td_plan.specs.code.PlannedParts.{IsPlanned}
 use Rattle.td_plan.specs.Plans.{none}
-use Rattle.td_plan.specs.StepViews.{step_view, steps_view}
+use Rattle.td_plan.specs.code.StepViews.{step_view, steps_view}
 use Rattle.td_plan.proofs.in_tuples.pulled_step.Goals as goal
 
 pub returns : goal.returns

@@ -1,6 +1,6 @@
 use Rattle.std.proofs.Common.{◌≡◌, subst}
 use Rattle.td_body.specs.Bodies.{agreeing}
-use Rattle.td_eval.proofs.WalkedExtension.{related}
+use Rattle.td_eval.proofs.code_lemmas.WalkedExtension.{related}
 use Rattle.td_eval.specs.OperatorValues.{of_relation}
 use Rattle.td_tree.specs.Outcomes.{Answers, Valued}
 use Rattle.td_plan.proofs.look_up.agreeing_in_answer.Goals as goal

@@ -3,7 +3,7 @@ use Rattle.std.specs.Prelude.{IfSome}
 use Rattle.td_body.specs.Bodies.{agreeing}
 use Rattle.td_eval.specs.Worlds.{known_outcome}
 use Rattle.td_plan.proofs.LookUpLaws.{agreeing_found}
-use Rattle.td_plan.specs.Hands.{world_around}
+use Rattle.td_plan.specs.code.Hands.{world_around}
 use Rattle.td_tree.specs.Outcomes.{Answers}
 use Rattle.td_plan.proofs.look_up.agreeing_value.Goals as goal
 

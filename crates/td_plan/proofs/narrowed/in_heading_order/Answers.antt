@@ -1,7 +1,7 @@
 use Rattle.std.proofs.Common.{sym}
 use Rattle.td_plan.proofs.FixedParts.{one_more_among, one_more_named}
 use Rattle.td_plan.specs.declared.fixed.FixedValue.{FixedValue}
-use Rattle.td_types.specs.Views.{type_view}
+use Rattle.td_types.specs.code.Views.{type_view}
 use Rattle.td_plan.proofs.narrowed.in_heading_order.Goals as goal
 
 pub loop-place-preserved : goal.loop-place-preserved

@@ -9,8 +9,8 @@ use Rattle.td_plan.proofs.FixedParts.{all_among}
 use Rattle.td_plan.proofs.LookUpValues.{look_up_narrows}
 use Rattle.td_plan.specs.declared.fixed.FixedValue.{FixedValue}
 use Rattle.td_plan.specs.Narrowing.{AreFixed, IsFixedTo, Narrows}
-use Rattle.td_plan.specs.StepViews.{step_view}
-use Rattle.td_tree.specs.TreeViews.{tree_view}
+use Rattle.td_plan.specs.code.StepViews.{step_view}
+use Rattle.td_tree.specs.code.TreeViews.{tree_view}
 use Rattle.td_types.specs.Headings.{projection}
 use Rattle.td_types.specs.Types.{attribute_names}
 use Rattle.td_plan.proofs.narrowed.look_up_by_key.Goals as goal

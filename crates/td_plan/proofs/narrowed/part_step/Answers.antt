@@ -5,7 +5,7 @@ use Rattle.std.proofs.lemmas.List.{map-id}
 use Rattle.td_plan.proofs.StepRows.{tuple_is}
 use Rattle.td_plan.specs.declared.fixed.FixedValue.{FixedValue}
 use Rattle.td_plan.specs.Plans as plans
-use Rattle.td_plan.specs.StepViews.{steps_view}
+use Rattle.td_plan.specs.code.StepViews.{steps_view}
 use Rattle.td_plan.proofs.narrowed.part_step.Goals as goal
 
 pub returns : goal.returns

@@ -1,6 +1,6 @@
 use Rattle.std.proofs.Common.{subst}
-use Rattle.td_plan.specs.PlannedParts.{IsBoxPlanned}
-use Rattle.td_plan.specs.StepViews.{step_view}
+use Rattle.td_plan.specs.code.PlannedParts.{IsBoxPlanned}
+use Rattle.td_plan.specs.code.StepViews.{step_view}
 use Rattle.td_plan.proofs.PlannedNodes.{compare_planned}
 use Rattle.td_plan.proofs.nodes.compare_step.Goals as goal
 

@@ -1,9 +1,9 @@
 use Rattle.std.proofs.Common.{subst, sym}
 use Rattle.std.specs.Rc.{rc_str_bytes}
-use Rattle.td_plan.specs.PlannedParts.{IsBoxPlanned}
+use Rattle.td_plan.specs.code.PlannedParts.{IsBoxPlanned}
 use Rattle.td_plan.specs.Plans as plans
 use Rattle.td_plan.specs.PlansOf.{IsPlanOfTyped}
-use Rattle.td_plan.specs.StepViews.{step_view}
+use Rattle.td_plan.specs.code.StepViews.{step_view}
 use Rattle.td_plan.proofs.PlannedNodes.{component_planned}
 use Rattle.td_tree.specs.Trees as trees
 use Rattle.td_plan.proofs.nodes.component_step.Goals as goal

@@ -1,8 +1,8 @@
 use Rattle.std.proofs.Common.{subst, sym}
-use Rattle.td_plan.specs.PlannedParts.{IsBoxPlanned}
+use Rattle.td_plan.specs.code.PlannedParts.{IsBoxPlanned}
 use Rattle.td_plan.specs.Plans as plans
 use Rattle.td_plan.specs.PlansOf.{IsPlanOfTyped}
-use Rattle.td_plan.specs.StepViews.{step_view}
+use Rattle.td_plan.specs.code.StepViews.{step_view}
 use Rattle.td_plan.proofs.PlannedNodes.{extract_planned}
 use Rattle.td_tree.specs.Trees as trees
 use Rattle.td_plan.proofs.nodes.extract_step.Goals as goal

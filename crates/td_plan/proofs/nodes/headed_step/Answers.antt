@@ -1,10 +1,10 @@
 use Rattle.std.proofs.Common.{◌∙◌, ap, subst, sym}
-use Rattle.td_plan.specs.PlannedParts.{ArePlanned, in_trees}
+use Rattle.td_plan.specs.code.PlannedParts.{ArePlanned, in_trees}
 use Rattle.td_plan.specs.PlansOf.{IsPlanOfTyped}
-use Rattle.td_plan.specs.StepViews.{steps_view}
+use Rattle.td_plan.specs.code.StepViews.{steps_view}
 use Rattle.td_plan.proofs.PlannedNodes.{headed_planned}
 use Rattle.td_plan.proofs.StepRows.{headed_relation_is}
-use Rattle.td_tree.specs.TreeViews.{heading_tree_view}
+use Rattle.td_tree.specs.code.TreeViews.{heading_tree_view}
 use Rattle.td_tree.specs.Trees as trees
 use Rattle.td_types.specs.TypeLists.{heading_meant}
 use Rattle.td_plan.proofs.nodes.headed_step.Goals as goal

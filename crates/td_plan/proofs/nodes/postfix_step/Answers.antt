@@ -1,11 +1,11 @@
 use Rattle.std.proofs.Common.{subst, sym}
-use Rattle.td_plan.specs.PlannedParts.{IsBoxPlanned}
+use Rattle.td_plan.specs.code.PlannedParts.{IsBoxPlanned}
 use Rattle.td_plan.specs.Plans as plans
 use Rattle.td_plan.specs.PlansOf.{IsPlanOfTyped}
-use Rattle.td_plan.specs.StepViews.{step_view}
+use Rattle.td_plan.specs.code.StepViews.{step_view}
 use Rattle.td_plan.proofs.PlannedNodes.{postfix_planned}
 use Rattle.td_tree.specs.Trees as trees
-use Rattle.td_tree.specs.TreeViews.{postfix_view}
+use Rattle.td_tree.specs.code.TreeViews.{postfix_view}
 use Rattle.td_plan.proofs.nodes.postfix_step.Goals as goal
 
 pub returns : goal.returns

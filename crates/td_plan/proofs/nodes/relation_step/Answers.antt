@@ -1,7 +1,7 @@
 use Rattle.std.proofs.Common.{subst, sym}
-use Rattle.td_plan.specs.PlannedParts.{ArePlanned, in_trees}
+use Rattle.td_plan.specs.code.PlannedParts.{ArePlanned, in_trees}
 use Rattle.td_plan.specs.PlansOf.{IsPlanOfTyped}
-use Rattle.td_plan.specs.StepViews.{steps_view}
+use Rattle.td_plan.specs.code.StepViews.{steps_view}
 use Rattle.td_plan.proofs.PlannedNodes.{relation_planned}
 use Rattle.td_plan.proofs.StepRows.{relation_is}
 use Rattle.td_tree.specs.Trees as trees

@@ -2,8 +2,8 @@ use Rattle.std.proofs.Common.{◌∙◌, ap, subst, sym, true≢false}
 use Rattle.td_eval.specs.TreeNumbers.{HasNumbers}
 use Rattle.td_plan.proofs.numbers.+numbers.Goals.{has_numbers-else-has_numbers-2, has_numbers-then-has_numbers-2}
 use Rattle.td_plan.proofs.numbers.+numbers.Goals as goal
-use Rattle.td_tree.proofs.Rows.{extend_is, headed_relation_is, relation_is, select_is, summarize_by_is, summarize_per_is, tuple_is}
-use Rattle.td_tree.specs.TreeViews.{attributes_view, heading_tree_view, named_view, summaries_view, tree_view, trees_view}
+use Rattle.td_tree.proofs.code_lemmas.Rows.{extend_is, headed_relation_is, relation_is, select_is, summarize_by_is, summarize_per_is, tuple_is}
+use Rattle.td_tree.specs.code.TreeViews.{attributes_view, heading_tree_view, named_view, summaries_view, tree_view, trees_view}
 use Rattle.td_tree.specs.Trees as trees
 
 pub has_numbers-returns-in-Select : goal.has_numbers-returns-in-Select

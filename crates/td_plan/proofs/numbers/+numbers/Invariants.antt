@@ -1,7 +1,7 @@
 use Rattle.std.proofs.Common.{drop}
 use Rattle.td_eval.specs.TreeNumbers.{HaveNumbers, ItemsHaveNumbers, PartsHaveNumbers}
 use Rattle.td_plan.proofs.numbers.+numbers.Given as goal
-use Rattle.td_tree.specs.TreeViews.{named_view, summaries_view, trees_view}
+use Rattle.td_tree.specs.code.TreeViews.{named_view, summaries_view, trees_view}
 
 -- where the rest have such numbers, all have
 abbrev pub invariant-have_numbers-loop-expr : goal.invariant-have_numbers-loop-expr

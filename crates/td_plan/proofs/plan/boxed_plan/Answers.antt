@@ -1,7 +1,7 @@
 use Rattle.std.proofs.Common.{subst, sym}
-use Rattle.td_plan.specs.PlannedParts.{IsPlanned}
+use Rattle.td_plan.specs.code.PlannedParts.{IsPlanned}
 use Rattle.td_plan.specs.PlansOf.{IsPlanOfTyped}
-use Rattle.td_plan.specs.PlanViews.{plan_view}
+use Rattle.td_plan.specs.code.PlanViews.{plan_view}
 use Rattle.td_plan.proofs.plan.boxed_plan.Goals as goal
 
 pub returns : goal.returns

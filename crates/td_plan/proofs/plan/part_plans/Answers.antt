@@ -1,8 +1,8 @@
 use Rattle.std.proofs.Common.{subst}
 use Rattle.td_check.specs.Scopes.{entered_with}
 use Rattle.td_plan.specs.Hoisting.{HoistsAll}
-use Rattle.td_plan.specs.PlannedParts.{ArePlanned, in_named}
-use Rattle.td_plan.specs.StepViews.{steps_view}
+use Rattle.td_plan.specs.code.PlannedParts.{ArePlanned, in_named}
+use Rattle.td_plan.specs.code.StepViews.{steps_view}
 use Rattle.td_plan.proofs.plan.part_plans.Goals as goal
 
 pub returns : goal.returns

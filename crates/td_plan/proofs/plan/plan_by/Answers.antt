@@ -1,5 +1,5 @@
 use Rattle.std.proofs.Common.{subst}
-use Rattle.td_plan.specs.PlannedParts.{IsPlanned}
+use Rattle.td_plan.specs.code.PlannedParts.{IsPlanned}
 use Rattle.td_plan.proofs.plan.plan_by.Goals as goal
 
 pub returns : goal.returns

@@ -3,12 +3,12 @@ use Rattle.std.proofs.lemmas.List.{length-map}
 use Rattle.std.proofs.lemmas.Result.{IfOk-weaker}
 use Rattle.std.specs.Prelude.{IfOk}
 use Rattle.td_check.specs.Scopes.{entered_with}
-use Rattle.td_eval.specs.Sights.{world_in}
+use Rattle.td_eval.specs.code.Sights.{world_in}
 use Rattle.td_plan.proofs.PlannedLists.{parts_are}
 use Rattle.td_plan.proofs.PlannedSettings.{as_many_values}
-use Rattle.td_plan.specs.PlannedParts.{ArePartPlans, ArePlanned, part_tree}
+use Rattle.td_plan.specs.code.PlannedParts.{ArePartPlans, ArePlanned, part_tree}
 use Rattle.td_plan.specs.PlansOf.{scope_in}
-use Rattle.td_tree.specs.TreeViews.{named_view}
+use Rattle.td_tree.specs.code.TreeViews.{named_view}
 use Rattle.td_plan.proofs.plan.plan_parts.Goals as goal
 
 pub returns : goal.returns

@@ -1,7 +1,7 @@
 use Rattle.std.proofs.Common.{◌≡◌, map, reverse, take}
 use Rattle.td_catalog.specs.Database.{database_scope}
 use Rattle.td_eval.specs.Worlds.{with_tuples}
-use Rattle.td_plan.specs.Planners.{IsPlanner, catalog_database}
+use Rattle.td_plan.specs.code.Planners.{IsPlanner, catalog_database}
 use Rattle.td_plan.proofs.plan.planner_in.Given as goal
 
 abbrev pub invariant-loop-tuple : goal.invariant-loop-tuple

@@ -1,5 +1,5 @@
 use Rattle.std.proofs.Common.{◌≡◌, None, take}
-use Rattle.td_plan.specs.Planners.{place_in}
+use Rattle.td_plan.specs.code.Planners.{place_in}
 use Rattle.td_plan.proofs.planner.place_in.Given as goal
 
 abbrev pub invariant-loop-place : goal.invariant-loop-place

@@ -2,7 +2,7 @@ use Rattle.std.proofs.Common.{◌≡◌, subst}
 use Rattle.std.specs.Prelude.{IfSome}
 use Rattle.td_check.specs.StaticTypes.{type_of}
 use Rattle.td_tree.specs.Outcomes.{Valued}
-use Rattle.td_tree.specs.TreeViews.{tree_view}
+use Rattle.td_tree.specs.code.TreeViews.{tree_view}
 use Rattle.td_types.specs.Types.{pack}
 use Rattle.td_types.specs.Types as types
 use Rattle.td_plan.proofs.push.asked_operand_before.Goals as goal

@@ -1,6 +1,6 @@
 use Rattle.std.proofs.Common.{◌∙◌, ap, not, sym}
 use Rattle.td_plan.proofs.Pushed.{names_kept}
-use Rattle.td_tree.specs.TreeViews.{tree_view}
+use Rattle.td_tree.specs.code.TreeViews.{tree_view}
 use Rattle.td_plan.proofs.push.names_only.Goals as goal
 
 pub returns : goal.returns

@@ -1,5 +1,5 @@
 use Rattle.td_plan.proofs.Pushed.{union_stands}
-use Rattle.td_tree.specs.TreeViews.{tree_view}
+use Rattle.td_tree.specs.code.TreeViews.{tree_view}
 use Rattle.td_plan.proofs.push.restricted_of_union.Goals as goal
 
 pub returns-then-branch : goal.returns-then-branch

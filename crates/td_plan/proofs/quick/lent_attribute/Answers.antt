@@ -1,7 +1,7 @@
 use Rattle.std.proofs.Common.{◌∙◌, ap, option_map, subst, sym}
 use Rattle.td_plan.proofs.HandLaws.{hand_at}
 use Rattle.td_plan.specs.Plans.{attribute_at}
-use Rattle.td_plan.specs.Quick.{IsQuick}
+use Rattle.td_plan.specs.code.Quick.{IsQuick}
 use Rattle.td_plan.proofs.quick.lent_attribute.Goals as goal
 
 pub returns-in-Some : goal.returns-in-Some

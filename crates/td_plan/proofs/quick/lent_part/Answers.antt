@@ -1,9 +1,9 @@
 use Rattle.std.proofs.Common.{◌∙◌, ap, option_map, subst, sym}
 use Rattle.std.specs.List.{slice_get}
 use Rattle.td_plan.proofs.HandLaws.{answer_found, hand_at, inner_answer}
-use Rattle.td_plan.specs.Hands.{IsAnswer}
+use Rattle.td_plan.specs.code.Hands.{IsAnswer}
 use Rattle.td_plan.specs.Plans.{fixed_at, outcome_or}
-use Rattle.td_plan.specs.Quick.{IsQuick}
+use Rattle.td_plan.specs.code.Quick.{IsQuick}
 use Rattle.td_plan.proofs.quick.lent_part.Goals as goal
 
 pub returns-then-depth-eq0 : goal.returns-then-depth-eq0

@@ -2,8 +2,8 @@ use Rattle.std.proofs.Common.{◌∙◌, ap, refl, sym}
 use Rattle.std.proofs.lemmas.Result.{IfOk-weaker}
 use Rattle.td_plan.proofs.QuickRows.{found_in, of_plan}
 use Rattle.td_plan.specs.Plans as plans
-use Rattle.td_plan.specs.Runs.{value_in}
-use Rattle.td_plan.specs.StepViews.{step_view}
+use Rattle.td_plan.specs.code.Runs.{value_in}
+use Rattle.td_plan.specs.code.StepViews.{step_view}
 use Rattle.td_value.specs.Values.{integer}
 use Rattle.td_plan.proofs.quick_rows.+quick_numbers.Goals as goal
 

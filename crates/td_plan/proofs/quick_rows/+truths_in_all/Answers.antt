@@ -3,9 +3,9 @@ use Rattle.std.proofs.lemmas.Result.{IfOk-weaker}
 use Rattle.td_eval.specs.OperatorValues.{comparison_value}
 use Rattle.td_plan.proofs.QuickRows.{found_in, of_plan}
 use Rattle.td_plan.specs.Plans as plans
-use Rattle.td_plan.specs.Quick.{AreQuick}
-use Rattle.td_plan.specs.Runs.{value_in}
-use Rattle.td_plan.specs.StepViews.{step_view}
+use Rattle.td_plan.specs.code.Quick.{AreQuick}
+use Rattle.td_plan.specs.code.Runs.{value_in}
+use Rattle.td_plan.specs.code.StepViews.{step_view}
 use Rattle.td_tree.specs.Outcomes.{with_both}
 use Rattle.td_value.specs.Values.{Tuple, boolean}
 use Rattle.td_plan.proofs.quick_rows.+truths_in_all.Goals as goal

@@ -5,9 +5,9 @@ use mir.Syntax.{w64}
 use Rattle.std.specs.List.{slice_get}
 use Rattle.td_plan.proofs.QuickRows.{one_more}
 use Rattle.td_plan.specs.Plans.{value_or}
-use Rattle.td_plan.specs.Quick.{IsQuick}
+use Rattle.td_plan.specs.code.Quick.{IsQuick}
 use Rattle.td_value.specs.Values.{Tuple, integer}
-use Rattle.td_value.specs.Views.{values_of}
+use Rattle.td_value.specs.code.Views.{values_of}
 use Rattle.td_plan.proofs.quick_rows.attribute_numbers.Goals as goal
 
 pub loop-row-preserved : goal.loop-row-preserved

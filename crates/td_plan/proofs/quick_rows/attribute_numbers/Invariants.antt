@@ -1,9 +1,9 @@
 use Rattle.std.proofs.Common.{take}
 use Rattle.std.specs.List.{slice_get}
 use Rattle.td_plan.specs.Plans.{value_or}
-use Rattle.td_plan.specs.Quick.{AreInRows}
+use Rattle.td_plan.specs.code.Quick.{AreInRows}
 use Rattle.td_value.specs.Values.{integer}
-use Rattle.td_value.specs.Views.{values_of}
+use Rattle.td_value.specs.code.Views.{values_of}
 use Rattle.td_plan.proofs.quick_rows.attribute_numbers.Given as goal
 
 abbrev pub invariant-loop-row : goal.invariant-loop-row

@@ -2,7 +2,7 @@ use Rattle.std.proofs.Common.{FitsSigned, refl, rules, subst}
 use Rattle.std.proofs.lemmas.Int.{to_z-of_z}
 use mir.Syntax.{w64}
 use Rattle.td_plan.proofs.QuickRows.{the_same}
-use Rattle.td_plan.specs.Quick.{IsQuick}
+use Rattle.td_plan.specs.code.Quick.{IsQuick}
 use Rattle.td_tree.specs.Outcomes.{Valued}
 use Rattle.td_value.specs.Values.{integer}
 use Rattle.td_plan.proofs.quick_rows.constant_numbers.Goals as goal

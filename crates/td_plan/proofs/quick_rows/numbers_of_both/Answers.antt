@@ -4,10 +4,10 @@ use Rattle.std.proofs.lemmas.List.{take_all}
 use Rattle.std.proofs.lemmas.Option.{get_or_from_slice_get}
 use mir.Syntax.{w64}
 use Rattle.std.specs.List.{zip}
-use Rattle.td_eval.proofs.WalkedColumns.{beside_at, beside_past, beside_within}
+use Rattle.td_eval.proofs.code_lemmas.WalkedColumns.{beside_at, beside_past, beside_within}
 use Rattle.td_eval.specs.OperatorValues.{operator_value}
 use Rattle.td_plan.proofs.QuickRows.{of_both, of_two, one_more}
-use Rattle.td_plan.specs.Quick.{IsQuick}
+use Rattle.td_plan.specs.code.Quick.{IsQuick}
 use Rattle.td_value.specs.Values.{integer}
 use Rattle.td_plan.proofs.quick_rows.numbers_of_both.Goals as goal
 

@@ -1,6 +1,6 @@
 use Rattle.std.proofs.lemmas.Result.{IfOk-weaker}
 use Rattle.td_plan.proofs.QuickRows.{found_in}
-use Rattle.td_plan.specs.Runs.{value_in}
+use Rattle.td_plan.specs.code.Runs.{value_in}
 use Rattle.td_value.specs.Values.{integer}
 use Rattle.td_plan.proofs.quick_rows.quick_comparisons.Goals as goal
 

@@ -3,8 +3,8 @@ use Rattle.std.proofs.lemmas.Int.{to_z-of_z}
 use Rattle.std.proofs.lemmas.List.{take_all}
 use mir.Syntax.{w64}
 use Rattle.td_plan.proofs.QuickRows.{one_more}
-use Rattle.td_plan.specs.Quick.{IsQuick}
-use Rattle.td_plan.specs.Runs.{value_in}
+use Rattle.td_plan.specs.code.Quick.{IsQuick}
+use Rattle.td_plan.specs.code.Runs.{value_in}
 use Rattle.td_value.specs.Values.{integer}
 use Rattle.td_plan.proofs.quick_rows.single_numbers.Goals as goal
 

@@ -1,8 +1,8 @@
 use Rattle.std.proofs.Common.{List, take}
 use Rattle.td_eval.specs.Worlds.{World}
 use Rattle.td_plan.specs.Plans.{Frame}
-use Rattle.td_plan.specs.Quick.{AreInRows}
-use Rattle.td_plan.specs.Runs.{IsEntered, value_in}
+use Rattle.td_plan.specs.code.Quick.{AreInRows}
+use Rattle.td_plan.specs.code.Runs.{IsEntered, value_in}
 use Rattle.td_tree.specs.Outcomes.{Outcome}
 use Rattle.td_value.specs.Values.{Val, integer}
 use Rattle.td_plan.proofs.quick_rows.single_numbers.Given as goal

@@ -1,8 +1,8 @@
 use Rattle.std.proofs.Common.{◌∙◌, ap, map, subst, sym}
 use Rattle.std.proofs.lemmas.List.{take_all}
 use Rattle.td_plan.proofs.QuickRows.{one_more}
-use Rattle.td_plan.specs.Quick.{IsQuick}
-use Rattle.td_plan.specs.Runs.{value_in}
+use Rattle.td_plan.specs.code.Quick.{IsQuick}
+use Rattle.td_plan.specs.code.Runs.{value_in}
 use Rattle.td_value.specs.Values.{boolean}
 use Rattle.td_plan.proofs.quick_rows.single_truths.Goals as goal
 

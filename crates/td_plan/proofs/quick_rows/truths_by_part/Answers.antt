@@ -1,7 +1,7 @@
 use Rattle.std.proofs.Common.{◌∙◌, refl, subst, sym}
 use Rattle.td_plan.proofs.QuickRows.{no_rest, part_more}
-use Rattle.td_plan.specs.Quick.{AreQuick}
-use Rattle.td_plan.specs.Runs.{value_in}
+use Rattle.td_plan.specs.code.Quick.{AreQuick}
+use Rattle.td_plan.specs.code.Runs.{value_in}
 use Rattle.td_value.specs.Values.{boolean}
 use Rattle.td_plan.proofs.quick_rows.truths_by_part.Goals as goal
 

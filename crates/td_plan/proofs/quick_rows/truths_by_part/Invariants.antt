@@ -1,7 +1,7 @@
 use Rattle.std.proofs.Common.{◌≡◌, ◌++◌, List, length, map}
 use Rattle.td_eval.specs.Worlds.{World}
 use Rattle.td_plan.specs.Plans.{Frame}
-use Rattle.td_plan.specs.Runs.{IsEntered, value_in}
+use Rattle.td_plan.specs.code.Runs.{IsEntered, value_in}
 use Rattle.td_tree.specs.Outcomes.{Outcome, Valued}
 use Rattle.td_value.specs.Values.{Val, boolean}
 use Rattle.td_plan.proofs.quick_rows.truths_by_part.Given as goal

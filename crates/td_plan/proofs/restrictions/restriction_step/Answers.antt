@@ -2,9 +2,9 @@ use Rattle.std.proofs.Common.{subst, sym}
 use Rattle.td_check.specs.Scopes.{entered_with}
 use Rattle.td_plan.specs.Hoisting.{Hoists}
 use Rattle.td_plan.specs.Narrowing.{IsNarrowed}
-use Rattle.td_plan.specs.PlannedParts.{IsPlanned}
+use Rattle.td_plan.specs.code.PlannedParts.{IsPlanned}
 use Rattle.td_plan.specs.PlansOf.{IsPlanOfTyped}
-use Rattle.td_plan.specs.StepViews.{step_view, steps_view}
+use Rattle.td_plan.specs.code.StepViews.{step_view, steps_view}
 use Rattle.td_plan.proofs.PlannedTuples.{restriction_planned}
 use Rattle.td_plan.proofs.StepRows.{restriction_is}
 use Rattle.td_tree.specs.Trees as trees

@@ -1,14 +1,14 @@
 use Rattle.std.proofs.Common.{◌∙◌, ap, arith, subst, sym}
 use Rattle.std.specs.Rc.{rc_str_bytes}
 use Rattle.td_plan.proofs.StepRows as step_rows
-use Rattle.td_plan.specs.Hands.{AreSurroundings, world_around}
+use Rattle.td_plan.specs.code.Hands.{AreSurroundings, world_around}
 use Rattle.td_plan.specs.Plans as plans
 use Rattle.td_plan.specs.Plans.{plan_value, plan_values}
-use Rattle.td_plan.specs.StepHeights.{height}
-use Rattle.td_plan.specs.StepViews.{step_view, steps_view}
+use Rattle.td_plan.specs.code.StepHeights.{height}
+use Rattle.td_plan.specs.code.StepViews.{step_view, steps_view}
 use Rattle.td_tree.specs.Outcomes.{Answers, gathered}
-use Rattle.td_tree.specs.TreeViews.{attributes_view, postfix_view}
-use Rattle.td_types.specs.Views.{pairs_view}
+use Rattle.td_tree.specs.code.TreeViews.{attributes_view, postfix_view}
+use Rattle.td_types.specs.code.Views.{pairs_view}
 use Rattle.td_plan.proofs.run.+run.Goals as goal
 
 pub run-requires : goal.run-requires

@@ -1,4 +1,4 @@
-use Rattle.td_plan.specs.StepHeights.{step_height}
+use Rattle.td_plan.specs.code.StepHeights.{step_height}
 use Rattle.td_plan.proofs.run.+run.Given as goal
 
 abbrev pub decreases-run : goal.decreases-run

@@ -1,6 +1,6 @@
 use Rattle.std.proofs.Common.{subst}
-use Rattle.td_plan.specs.Hands.{world_around}
-use Rattle.td_plan.specs.Runs.{truths_in}
+use Rattle.td_plan.specs.code.Hands.{world_around}
+use Rattle.td_plan.specs.code.Runs.{truths_in}
 use Rattle.td_tree.specs.Outcomes.{Answers}
 use Rattle.td_plan.proofs.run.truths.Goals as goal
 

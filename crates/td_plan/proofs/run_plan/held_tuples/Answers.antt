@@ -1,7 +1,7 @@
 use Rattle.std.proofs.Common.{◌≡◌, ◌∙◌, ◌+◌, ◌-◌, ◌<◌, [], ap, arith, drop, length, subst, sym}
 use Rattle.std.proofs.lemmas.List.{drop_all}
 use Rattle.td_plan.proofs.Planned.{frames_of, held_before, inner_first}
-use Rattle.td_plan.specs.Hands.{AreHeld}
+use Rattle.td_plan.specs.code.Hands.{AreHeld}
 use Rattle.td_plan.proofs.run_plan.held_tuples.Goals as goal
 
 pub loop-place-init : goal.loop-place-init

@@ -1,6 +1,6 @@
 use Rattle.std.proofs.Common.{◌≤◌, drop, length}
 use Rattle.td_plan.proofs.Planned.{frames_of, inner_first}
-use Rattle.td_plan.specs.Hands.{AreHeld}
+use Rattle.td_plan.specs.code.Hands.{AreHeld}
 use Rattle.td_plan.proofs.run_plan.held_tuples.Given as goal
 
 abbrev pub invariant-loop-place : goal.invariant-loop-place

@@ -1,7 +1,7 @@
 use Rattle.std.proofs.Common.{◌∙◌, ◌∷◌, [], ap}
-use Rattle.td_eval.specs.Sights.{tuples_in_hand, world_in}
+use Rattle.td_eval.specs.code.Sights.{tuples_in_hand, world_in}
 use Rattle.td_plan.proofs.Planned.{frames_of, inner_first, last_first, no_tuple, planned, planned_without}
-use Rattle.td_plan.specs.PlanViews.{plan_view}
+use Rattle.td_plan.specs.code.PlanViews.{plan_view}
 use Rattle.td_plan.proofs.run_plan.run_plan_in.Goals as goal
 
 pub returns-in-Some : goal.returns-in-Some

@@ -1,10 +1,10 @@
 use Rattle.std.proofs.Common.{◌∙◌, ◌∷◌, [], List, ap, map, subst, sym}
 use Rattle.td_eval.specs.OperatorValues.{truth_value}
-use Rattle.td_eval.specs.Sights.{tuples_in_hand, world_in}
+use Rattle.td_eval.specs.code.Sights.{tuples_in_hand, world_in}
 use Rattle.td_plan.proofs.Planned.{conditions_planned, frames_of}
-use Rattle.td_plan.specs.Hands.{AreAnswers}
+use Rattle.td_plan.specs.code.Hands.{AreAnswers}
 use Rattle.td_plan.specs.Plans.{frame_of, plan_value}
-use Rattle.td_plan.specs.PlanViews.{plan_view}
+use Rattle.td_plan.specs.code.PlanViews.{plan_view}
 use Rattle.td_tree.specs.Outcomes.{Answers, gathered}
 use Rattle.td_value.specs.Values.{Tuple}
 use Rattle.td_plan.proofs.run_plan.run_truths_in.Goals as goal

@@ -1,6 +1,6 @@
 use Rattle.std.proofs.Common.{◌∙◌, ◌∷◌, [], ap, refl, subst, sym}
 use Rattle.td_plan.proofs.Planned.{frames_of, inner_first}
-use Rattle.td_plan.specs.Hands.{AreAnswers, AreHeld}
+use Rattle.td_plan.specs.code.Hands.{AreAnswers, AreHeld}
 use Rattle.td_plan.proofs.run_plan.run_with.Goals as goal
 
 pub returns : goal.returns

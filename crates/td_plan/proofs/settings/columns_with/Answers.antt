@@ -1,12 +1,12 @@
 use Rattle.std.proofs.Common.{◌∙◌, ◌∷◌, [], List, ap, length, refl, subst, sym}
 use Rattle.td_algebra.specs.Columns.{columns_view}
-use Rattle.td_eval.specs.NewColumns.{named_columns}
+use Rattle.td_eval.specs.code.NewColumns.{named_columns}
 use Rattle.td_plan.proofs.Planned.{frames_of, inner_first}
 use Rattle.td_plan.proofs.RunLaws.{columns_nowhere, inside_rows, no_rows}
-use Rattle.td_plan.specs.Hands.{AreAnswers, AreHeld, world_around}
-use Rattle.td_plan.specs.Runs.{step_values, values_in, values_planned}
+use Rattle.td_plan.specs.code.Hands.{AreAnswers, AreHeld, world_around}
+use Rattle.td_plan.specs.code.Runs.{step_values, values_in, values_planned}
 use Rattle.td_tree.specs.Outcomes.{Answers, gathered}
-use Rattle.td_types.specs.Views.{pairs_view}
+use Rattle.td_types.specs.code.Views.{pairs_view}
 use Rattle.td_value.specs.Values.{Tuple}
 use Rattle.td_plan.proofs.settings.columns_with.Goals as goal
 

@@ -1,14 +1,14 @@
 use Rattle.std.proofs.Common.{◌≡◌, ◌∙◌, ◌∷◌, [], ap, subst, sym}
 use Rattle.std.proofs.lemmas.List.{length-map}
-use Rattle.td_eval.specs.Sights.{tuples_in_hand}
+use Rattle.td_eval.specs.code.Sights.{tuples_in_hand}
 use Rattle.td_plan.proofs.Planned.{frames_of, frames_planned, inner_first, last_first, no_tuple}
 use Rattle.td_plan.proofs.PlannedSettings.{columns_planned}
 use Rattle.td_plan.proofs.RunLaws.{as_many_columns, columns_for}
-use Rattle.td_plan.specs.Hands.{world_around}
+use Rattle.td_plan.specs.code.Hands.{world_around}
 use Rattle.td_plan.specs.PlansOf.{AreFramesOf}
-use Rattle.td_plan.specs.Runs.{step_values, values_planned}
-use Rattle.td_types.specs.Pairs.{pair_view}
-use Rattle.td_types.specs.Views.{pairs_view}
+use Rattle.td_plan.specs.code.Runs.{step_values, values_planned}
+use Rattle.td_types.specs.code.Pairs.{pair_view}
+use Rattle.td_types.specs.code.Views.{pairs_view}
 use Rattle.td_plan.proofs.settings.planned_columns.Goals as goal
 
 pub returns-in-Some-clause-columns : goal.returns-in-Some-clause-columns

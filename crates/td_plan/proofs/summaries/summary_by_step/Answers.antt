@@ -1,16 +1,16 @@
 use Rattle.std.proofs.Common.{◌≡◌, subst, sym}
 use Rattle.std.specs.Prelude.{IfOk}
-use Rattle.td_plan.specs.PlannedParts.{IsBoxPlanned}
+use Rattle.td_plan.specs.code.PlannedParts.{IsBoxPlanned}
 use Rattle.td_plan.specs.Plans as plans
 use Rattle.td_plan.specs.Plans.{none}
 use Rattle.td_plan.specs.PlansOf.{IsPlanOfTyped}
-use Rattle.td_plan.specs.StepViews.{step_view, steps_view}
+use Rattle.td_plan.specs.code.StepViews.{step_view, steps_view}
 use Rattle.td_plan.specs.SummaryItems.{aggregates_in}
 use Rattle.td_plan.proofs.PlannedSummaries.{summary_by_planned}
 use Rattle.td_plan.proofs.StepRows.{summarize_by_is}
 use Rattle.td_tree.specs.Trees as trees
-use Rattle.td_tree.specs.TreeViews.{attributes_view}
-use Rattle.td_types.specs.Views.{pairs_view}
+use Rattle.td_tree.specs.code.TreeViews.{attributes_view}
+use Rattle.td_types.specs.code.Views.{pairs_view}
 use Rattle.td_plan.proofs.summaries.summary_by_step.Goals as goal
 
 pub returns : goal.returns

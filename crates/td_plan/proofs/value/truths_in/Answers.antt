@@ -2,9 +2,9 @@ use Rattle.std.proofs.Common.{◌≡◌, subst, sym}
 use Rattle.td_check.specs.Scopes.{entered_with}
 use Rattle.td_check.specs.StaticTypes.{type_of}
 use Rattle.td_plan.specs.PlansOf.{IsPlanOf, scope_in}
-use Rattle.td_plan.specs.PlanViews.{plan_view}
+use Rattle.td_plan.specs.code.PlanViews.{plan_view}
 use Rattle.td_tree.specs.Outcomes.{Valued}
-use Rattle.td_tree.specs.TreeViews.{tree_view}
+use Rattle.td_tree.specs.code.TreeViews.{tree_view}
 use Rattle.td_plan.proofs.value.truths_in.Goals as goal
 
 pub returns : goal.returns

@@ -1,5 +1,5 @@
 use Rattle.td_plan.specs.PlansOf.{scope_in}
-use Rattle.td_tree.specs.TreeViews.{tree_view}
+use Rattle.td_tree.specs.code.TreeViews.{tree_view}
 use Rattle.td_plan.proofs.value.value_in.Goals as goal
 
 pub returns : goal.returns

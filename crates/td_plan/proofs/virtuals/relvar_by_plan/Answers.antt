@@ -1,8 +1,8 @@
 use Rattle.std.proofs.Common.{sym}
-use Rattle.td_catalog.specs.CatalogViews.{virtual_view}
+use Rattle.td_catalog.specs.code.CatalogViews.{virtual_view}
 use Rattle.td_plan.proofs.VirtualRelvars.{virtual_planned}
-use Rattle.td_plan.specs.PlanViews.{plan_view}
-use Rattle.td_tree.specs.TreeViews.{tree_view}
+use Rattle.td_plan.specs.code.PlanViews.{plan_view}
+use Rattle.td_tree.specs.code.TreeViews.{tree_view}
 use Rattle.td_plan.proofs.virtuals.relvar_by_plan.Goals as goal
 
 pub returns : goal.returns

@@ -1,6 +1,6 @@
 use Rattle.td_eval.specs.DatabaseWorlds.{world_of}
-use Rattle.td_eval.specs.Sights.{world_in}
-use Rattle.td_plan.specs.Hands.{AreValued}
+use Rattle.td_eval.specs.code.Sights.{world_in}
+use Rattle.td_plan.specs.code.Hands.{AreValued}
 use Rattle.td_plan.proofs.virtuals.valued_relvars.Given as goal
 
 abbrev pub invariant-loop-place : goal.invariant-loop-place

@@ -1,7 +1,7 @@
 use Rattle.std.proofs.Common.{◌∙◌, ap, sym, take}
 use Rattle.std.proofs.lemmas.List.{take_more}
 use Rattle.td_tree.specs.Division.{up_to}
-use Rattle.td_scan.specs.Marks.{ends_mark}
+use Rattle.td_scan.specs.code.Marks.{ends_mark}
 use Rattle.td_scan.proofs.MarkLists.{found_at, none_more}
 use Rattle.td_scan.proofs.cutter.count_to_end.Goals as goal
 

@@ -1,7 +1,7 @@
 use Rattle.std.proofs.Common.{◌≡◌, ◌∙◌, ◌-◌, List, [], ◌∷◌, Some, ap, arith, length, suc, ℕ}
 use Rattle.std.specs.Prelude.{slice_get}
 use Rattle.td_scan.specs.declared.token.Mark.{Mark}
-use Rattle.td_scan.specs.Marks.{end_of_marks}
+use Rattle.td_scan.specs.code.Marks.{end_of_marks}
 use Rattle.td_scan.proofs.cutter.end_of_marks.Goals as goal
 
 -- the last one ends last

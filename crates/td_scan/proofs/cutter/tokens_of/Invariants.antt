@@ -1,5 +1,5 @@
 use Rattle.std.proofs.Common.{◌≡◌, map, take}
-use Rattle.td_scan.specs.Marks.{token_at}
+use Rattle.td_scan.specs.code.Marks.{token_at}
 use Rattle.td_scan.proofs.cutter.tokens_of.Given as goal
 
 abbrev pub invariant-loop-mark : goal.invariant-loop-mark

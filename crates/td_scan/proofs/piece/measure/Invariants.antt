@@ -1,6 +1,6 @@
 use Rattle.std.proofs.Common.{◌≡◌, ◌+◌, ◌<◌, length}
 use Rattle.td_tree.specs.Symbols.{symbols}
-use Rattle.td_scan.specs.Fronts.{end_from, first_end}
+use Rattle.td_scan.specs.code.Fronts.{end_from, first_end}
 use Rattle.td_scan.proofs.piece.measure.Given as goal
 
 abbrev pub invariant-loop-rest : goal.invariant-loop-rest

@@ -1,6 +1,6 @@
 use Rattle.std.proofs.Common.{◌≡◌, ◌+◌, ◌-◌, ◌≤◌, ◌++◌, ℕ, List, drop, length}
 use Rattle.td_tree.specs.Symbols.{symbols}
-use Rattle.td_scan.specs.Fronts.{end_from}
+use Rattle.td_scan.specs.code.Fronts.{end_from}
 use Rattle.td_scan.proofs.reading.go_on.Given as goal
 
 abbrev pub invariant-loop-front : goal.invariant-loop-front

@@ -1,7 +1,7 @@
 use Rattle.std.proofs.Common.{◌≡◌, ◌+◌, ◌-◌, ◌++◌, ◌∷◌, [], ap, sym, ◌∙◌, append_assoc, arith, drop, drop-drop, length, take}
 use Rattle.td_scan.specs.declared.token.Mark.{Mark}
 use Rattle.td_tree.specs.Pieces.{kind_after}
-use Rattle.td_scan.specs.Marks.{end_of_marks, marks_of}
+use Rattle.td_scan.specs.code.Marks.{end_of_marks, marks_of}
 use Rattle.td_scan.proofs.MarkLaws.{end_more, kept_more, mark_more, mark_none, none_begun}
 use Rattle.td_scan.proofs.reading.read_on.Goals as goal
 

@@ -1,5 +1,5 @@
 use Rattle.std.proofs.Common.{◌≡◌, ◌+◌, ◌-◌, ◌≤◌, ◌++◌, ℕ, List, drop, length, take}
-use Rattle.td_scan.specs.Marks.{IsBegun, end_of_marks, marks_of}
+use Rattle.td_scan.specs.code.Marks.{IsBegun, end_of_marks, marks_of}
 use Rattle.td_scan.proofs.reading.read_on.Given as goal
 
 abbrev pub invariant-loop-first : goal.invariant-loop-first

@@ -1,5 +1,5 @@
 use Rattle.std.proofs.Common.{◌∙◌, subst, IsUtf8}
-use Rattle.td_tree.proofs.FrontLaws.{found_char}
+use Rattle.td_tree.proofs.law_lemmas.FrontLaws.{found_char}
 use Rattle.td_scan.proofs.symbol.front_char.Goals as goal
 
 pub returns-in-Ok : goal.returns-in-Ok

@@ -1,4 +1,4 @@
-use Rattle.td_tree.proofs.SymbolLaws.{front_ascii}
+use Rattle.td_tree.proofs.law_lemmas.SymbolLaws.{front_ascii}
 use Rattle.td_scan.proofs.symbol.symbol_at_front.Goals as goal
 
 pub returns-then-first-lt128-clause-step : goal.returns-then-first-lt128-clause-step

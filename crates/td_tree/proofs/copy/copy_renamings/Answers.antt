@@ -1,7 +1,7 @@
 use Rattle.std.proofs.Common.{◌∙◌, ap, [], ◌∷◌, ◌++◌, map}
 use Rattle.std.proofs.lemmas.List.{map_push}
-use Rattle.td_tree.proofs.Pushes.{one_more}
-use Rattle.td_tree.specs.TreeViews.{renaming_view}
+use Rattle.td_tree.proofs.code_lemmas.Pushes.{one_more}
+use Rattle.td_tree.specs.code.TreeViews.{renaming_view}
 use Rattle.td_tree.proofs.copy.copy_renamings.Goals as goal
 
 pub loop-renaming-preserved : goal.loop-renaming-preserved

@@ -1,5 +1,5 @@
 use Rattle.std.proofs.Common.{◌≡◌, map, take}
-use Rattle.td_tree.specs.TreeViews.{renaming_view}
+use Rattle.td_tree.specs.code.TreeViews.{renaming_view}
 use Rattle.td_tree.proofs.copy.copy_renamings.Given as goal
 
 abbrev pub invariant-loop-renaming : goal.invariant-loop-renaming

@@ -1,7 +1,7 @@
 use Rattle.std.proofs.Common.{sym, ap, ◌∙◌}
 use Rattle.std.specs.Option.{option_copied}
 use Rattle.std.specs.Prelude.{option_map}
-use Rattle.td_tree.proofs.Initials.{keyword_in, no_keyword, nothing_spelled}
+use Rattle.td_tree.proofs.code_lemmas.Initials.{keyword_in, no_keyword, nothing_spelled}
 use Rattle.td_tree.proofs.keyword.word_among.Goals as goal
 
 pub returns-in_err-first : goal.returns-in_err-first

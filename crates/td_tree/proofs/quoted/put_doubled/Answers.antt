@@ -3,10 +3,10 @@ use Rattle.std.specs.List.{slice_split}
 use Rattle.std.proofs.lemmas.List.{length_push, at_drop_all}
 use Rattle.std.proofs.lemmas.Iterator.Splits.{YieldsList-from_str_split}
 use Rattle.std.proofs.lemmas.Iterator.Consumers.{YieldsList-turn, YieldsList-end}
-use Rattle.td_tree.specs.Written.{quotes_if}
-use Rattle.td_tree.specs.Fronts.{IsBegun}
-use Rattle.td_tree.proofs.Fronts.{begun_all, begun_more, begun_none, front_more, front_none, on_err}
-use Rattle.td_tree.proofs.Doubling.{joined, joined-split, joined-drop, is_quote}
+use Rattle.td_tree.specs.code.Written.{quotes_if}
+use Rattle.td_tree.specs.code.Fronts.{IsBegun}
+use Rattle.td_tree.proofs.code_lemmas.Fronts.{begun_all, begun_more, begun_none, front_more, front_none, on_err}
+use Rattle.td_tree.proofs.code_lemmas.Doubling.{joined, joined-split, joined-drop, is_quote}
 use Rattle.td_tree.proofs.quoted.put_doubled.Goals as goal
 
 pub loop-piece-init : goal.loop-piece-init

@@ -1,6 +1,6 @@
 use Rattle.std.proofs.Common.{◌++◌, codes, refl}
 use Rattle.td_tree.specs.TextTokens.{doubled, quoted}
-use Rattle.td_tree.proofs.Fronts.{begun_more, begun_none, front_more, front_none, on_err}
+use Rattle.td_tree.proofs.code_lemmas.Fronts.{begun_more, begun_none, front_more, front_none, on_err}
 use Rattle.td_tree.proofs.quoted.put_quoted.Goals as goal
 
 pub returns-in_err-push_str-clause-err : goal.returns-in_err-push_str-clause-err

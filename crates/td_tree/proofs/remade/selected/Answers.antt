@@ -1,4 +1,4 @@
-use Rattle.td_tree.proofs.Rows.{select_is}
+use Rattle.td_tree.proofs.code_lemmas.Rows.{select_is}
 use Rattle.td_tree.proofs.remade.selected.Goals as goal
 
 pub returns : goal.returns

@@ -1,4 +1,4 @@
-use Rattle.td_tree.proofs.Rows.{summarize_by_is}
+use Rattle.td_tree.proofs.code_lemmas.Rows.{summarize_by_is}
 use Rattle.td_tree.proofs.remade.summarized_by.Goals as goal
 
 pub returns : goal.returns

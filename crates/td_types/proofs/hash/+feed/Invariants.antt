@@ -1,7 +1,7 @@
 use Rattle.std.proofs.Common.{◌≡◌, drop, fold}
 use Rattle.td_types.specs.Hashes.{fed_heading}
 use Rattle.td_types.specs.Types.{pack}
-use Rattle.td_types.specs.Views.{heading_view}
+use Rattle.td_types.specs.code.Views.{heading_view}
 use Rattle.td_types.proofs.hash.+feed.Given as goal
 
 abbrev pub invariant-feed_heading-loop-attribute : goal.invariant-feed_heading-loop-attribute

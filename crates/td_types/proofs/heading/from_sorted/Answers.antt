@@ -3,8 +3,8 @@ use Rattle.std.proofs.lemmas.List.{map-append, map-id}
 use Rattle.std.proofs.lemmas.Iterator.Adapters.{YieldsList-from_vec}
 use Rattle.std.proofs.lemmas.Iterator.Consumers.{YieldsList-end}
 use Rattle.td_types.specs.Types.{Attribute, IsHeading, pack}
-use Rattle.td_types.specs.Views.{attribute_view, heading_view, pairs_view, type_view}
-use Rattle.td_types.specs.Pairs.{ArePairs}
+use Rattle.td_types.specs.code.Views.{attribute_view, heading_view, pairs_view, type_view}
+use Rattle.td_types.specs.code.Pairs.{ArePairs}
 use Rattle.td_types.proofs.Made.{ArePairs-push, IsHeading-from}
 use Rattle.td_types.proofs.heading.from_sorted.Goals as goal
 

@@ -1,6 +1,6 @@
 use Rattle.std.proofs.Common.{◌≡◌}
-use Rattle.td_types.specs.Views.{heading_view, pairs_view}
-use Rattle.td_types.specs.Pairs.{ArePairs}
+use Rattle.td_types.specs.code.Views.{heading_view, pairs_view}
+use Rattle.td_types.specs.code.Pairs.{ArePairs}
 use Rattle.td_types.proofs.heading.from_sorted.Given as goal
 
 abbrev pub invariant-loop-name : goal.invariant-loop-name

@@ -1,7 +1,7 @@
 use Rattle.std.proofs.Common.{◌≡◌, drop}
 use Rattle.td_types.specs.NamedTypes.{any_names_user}
 use Rattle.td_types.specs.Types.{pack}
-use Rattle.td_types.specs.Views.{heading_view}
+use Rattle.td_types.specs.code.Views.{heading_view}
 use Rattle.td_types.proofs.named.+named.Given as goal
 
 abbrev pub invariant-heading_names_user-loop-attribute : goal.invariant-heading_names_user-loop-attribute

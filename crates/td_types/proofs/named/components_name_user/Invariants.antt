@@ -1,7 +1,7 @@
 use Rattle.std.proofs.Common.{◌≡◌, drop}
 use Rattle.td_types.specs.NamedTypes.{any_names_user}
 use Rattle.td_types.specs.Types.{pack}
-use Rattle.td_types.specs.Views.{pairs_view}
+use Rattle.td_types.specs.code.Views.{pairs_view}
 use Rattle.td_types.proofs.named.components_name_user.Given as goal
 
 abbrev pub invariant-loop-ty : goal.invariant-loop-ty

@@ -1,6 +1,6 @@
 use Rattle.std.proofs.Common.{◌≡◌, ◌≤◌, length, drop}
 use Rattle.td_types.specs.Types.{attrs_cmp, pack}
-use Rattle.td_types.specs.Views.{heading_view}
+use Rattle.td_types.specs.code.Views.{heading_view}
 use Rattle.td_types.proofs.order.+compare.Given as goal
 
 abbrev pub invariant-compare_attributes-loop-x : goal.invariant-compare_attributes-loop-x

@@ -1,5 +1,5 @@
 use Rattle.td_types.specs.Types.{pack, tuple}
-use Rattle.td_types.specs.Views.{pairs_view}
+use Rattle.td_types.specs.code.Views.{pairs_view}
 use Rattle.td_types.proofs.rank.rank_of_components.Goals as goal
 
 pub returns : goal.returns

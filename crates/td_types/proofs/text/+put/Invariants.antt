@@ -1,9 +1,9 @@
 use Rattle.std.proofs.Common.{drop, false}
 use Rattle.std.specs.String.{string_bytes}
-use Rattle.td_tree.specs.Fronts.{IsBegun}
+use Rattle.td_tree.specs.code.Fronts.{IsBegun}
 use Rattle.td_types.specs.Texts.{attributes_text}
 use Rattle.td_types.specs.Types.{pack}
-use Rattle.td_types.specs.Views.{heading_view}
+use Rattle.td_types.specs.code.Views.{heading_view}
 use Rattle.td_types.proofs.text.+put.Given as goal
 
 abbrev pub invariant-put_heading-loop-attribute : goal.invariant-put_heading-loop-attribute

@@ -1,5 +1,5 @@
 use Rattle.std.proofs.Common.{◌∙◌}
-use Rattle.td_value.specs.Views.{values_of}
+use Rattle.td_value.specs.code.Views.{values_of}
 use Rattle.td_value.proofs.Rows.{parts_order-lists, tuple_order-by_values}
 use Rattle.td_value.proofs.laws.tuples_compare_by_values.Goals as goal
 

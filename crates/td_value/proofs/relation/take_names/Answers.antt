@@ -1,6 +1,6 @@
 use Rattle.std.proofs.Common.{◌≡◌, ◌∙◌, ap, sym, subst, length}
 use Rattle.td_value.specs.Values.{IsTuple, tuple_names}
-use Rattle.td_value.specs.Views.{tuple_view}
+use Rattle.td_value.specs.code.Views.{tuple_view}
 use Rattle.td_value.proofs.Zips.{zip_names}
 use Rattle.td_value.proofs.relation.take_names.Goals as goal
 

@@ -2,7 +2,7 @@ use Rattle.std.proofs.Common.{◌≡◌, ◌∙◌, ◌++◌, [], ◌∷◌, ap,
 use Rattle.std.proofs.lemmas.List.{drop_all, length_push}
 use Rattle.td_types.specs.Headings.{has_name}
 use Rattle.td_value.specs.Values.{Val, Tuple}
-use Rattle.td_value.specs.Views.{tuple_view}
+use Rattle.td_value.specs.code.Views.{tuple_view}
 use Rattle.td_value.proofs.Kept.{kept_no, kept_yes}
 use Rattle.td_value.proofs.tuple.keep_entries.Goals.{then-is_among+in_ok-keep_entry, else-is_among}
 use Rattle.td_value.proofs.tuple.keep_entries.Goals as goal

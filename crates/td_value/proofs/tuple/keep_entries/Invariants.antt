@@ -1,6 +1,6 @@
 use Rattle.std.proofs.Common.{◌≡◌, ◌++◌, length, drop, filter}
 use Rattle.td_types.specs.Headings.{has_name}
-use Rattle.td_value.specs.Views.{tuple_view}
+use Rattle.td_value.specs.code.Views.{tuple_view}
 use Rattle.td_value.proofs.tuple.keep_entries.Given as goal
 
 abbrev pub invariant-loop-v : goal.invariant-loop-v

@@ -1,6 +1,6 @@
 use Rattle.std.proofs.Common.{◌≡◌}
 use Rattle.td_value.specs.Values.{AreFields, pack_fields}
-use Rattle.td_value.specs.Views.{values_of}
+use Rattle.td_value.specs.code.Views.{values_of}
 use Rattle.td_value.proofs.tuple.values_alone.Given as goal
 
 abbrev pub invariant-loop-name : goal.invariant-loop-name

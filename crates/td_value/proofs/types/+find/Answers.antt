@@ -5,11 +5,11 @@ use Rattle.std.specs.Ordering.{nat_cmp}
 use Rattle.std.specs.List.Sorted.{IsStrictlySortedBy}
 use Rattle.td_types.specs.Types as types
 use Rattle.td_types.specs.Types.{Type', pack}
-use Rattle.td_types.specs.Views as heads
+use Rattle.td_types.specs.code.Views as heads
 use Rattle.td_types.specs.Headings.{with_attribute}
 use Rattle.td_value.specs.Values.{Val, IsTuple, heading_of, tuple_names, type_of}
-use Rattle.td_value.specs.ValueCode.{unpack_pack_fields}
-use Rattle.td_value.specs.Views.{tuple_view, node_view}
+use Rattle.td_value.specs.code.ValueCode.{unpack_pack_fields}
+use Rattle.td_value.specs.code.Views.{tuple_view, node_view}
 use Rattle.td_value.proofs.Zips.{zip_names}
 use Rattle.td_value.proofs.HeadingOf.{fields_type-heading, heading_more}
 use Rattle.td_value.proofs.types.+find.Goals as goal

@@ -1,6 +1,6 @@
 use Rattle.std.proofs.Common.{◌≡◌, take}
 use Rattle.td_value.specs.Values.{heading_of}
-use Rattle.td_value.specs.Views.{tuple_view}
+use Rattle.td_value.specs.code.Views.{tuple_view}
 use Rattle.td_value.proofs.types.+find.Given as goal
 
 abbrev pub invariant-entries_heading-loop-v : goal.invariant-entries_heading-loop-v

@@ -1,5 +1,5 @@
 use Rattle.std.proofs.Common.{◌≡◌, drop}
-use Rattle.td_value.specs.Zipped.{entries_fit}
+use Rattle.td_value.specs.code.Zipped.{entries_fit}
 use Rattle.td_value.proofs.types.+fit.Given as goal
 
 abbrev pub invariant-entries_have_heading-loop-v : goal.invariant-entries_have_heading-loop-v

@@ -1,5 +1,5 @@
 use Rattle.std.proofs.Common.{◌≡◌, take}
-use Rattle.td_types.specs.Views.{pairs_view}
+use Rattle.td_types.specs.code.Views.{pairs_view}
 use Rattle.td_value.specs.Values.{HaveTypesOf}
 use Rattle.td_value.proofs.user.have_types.Given as goal
 

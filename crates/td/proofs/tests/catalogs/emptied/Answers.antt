@@ -5,7 +5,7 @@ use Rattle.td_body.specs.Bodies.{after_change}
 use Rattle.td_body.proofs.Differences.{replaced}
 use Rattle.td_types.specs.Types.{IsHeading, pack}
 use Rattle.td_value.specs.Values.{IsAscendingBody, IsRelation, tuple_cmp}
-use Rattle.td_value.specs.Views.{relation_view}
+use Rattle.td_value.specs.code.Views.{relation_view}
 use Rattle.td.proofs.tests.catalogs.emptied.Goals as goal
 
 none_ascend : IsStrictlySortedBy tuple_cmp []

@@ -1,6 +1,6 @@
 use Rattle.std.proofs.Common.{◌<◌, ◌++◌, [], length, get_or, subst, sym}
 use Rattle.std.proofs.lemmas.List.{append-nil}
-use Rattle.td_algebra.specs.Layouts.{AreInRange}
+use Rattle.td_algebra.specs.code.Layouts.{AreInRange}
 use Rattle.td_algebra.proofs.Layouts.{place_below}
 use Rattle.td_algebra.proofs.layout.Layout.hash_of.Goals as goal
 

@@ -3,7 +3,7 @@ use Rattle.std.specs.Prelude.{not}
 use Rattle.std.proofs.lemmas.List.{append-nil, get_or_default, take_all}
 use Rattle.std.specs.List.Sorted.{IsPermutation}
 use Rattle.td_value.specs.ValueOrder.{value_Decides}
-use Rattle.td_algebra.specs.Layouts.{AreInRange, IsMade}
+use Rattle.td_algebra.specs.code.Layouts.{AreInRange, IsMade}
 use Rattle.td_algebra.proofs.Layouts.{made_length, made_of, place_below, value_in, value_read, value_there, values_made, values_more}
 use Rattle.td_algebra.proofs.layout.Layout.makes.Goals as goal
 

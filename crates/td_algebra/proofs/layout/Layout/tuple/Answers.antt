@@ -4,7 +4,7 @@ use Rattle.std.specs.List.Sorted.{IsPermutation}
 use Rattle.std.proofs.lemmas.List.{length-map, map-append, take_all, take_more}
 use Rattle.std.proofs.lemmas.Option.{get_or_from_slice_get}
 use Rattle.td_value.specs.Values.{Val, boolean}
-use Rattle.td_algebra.specs.Layouts.{AreInRange}
+use Rattle.td_algebra.specs.code.Layouts.{AreInRange}
 use Rattle.td_algebra.proofs.Layouts.{place_below, tuple_is_taken, value_in}
 use Rattle.td_algebra.proofs.layout.Layout.tuple.Goals as goal
 

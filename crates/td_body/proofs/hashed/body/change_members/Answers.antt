@@ -2,8 +2,8 @@ use Rattle.std.proofs.Common.{◌≡◌, ◌∷◌, ◌++◌, [], List, ap, map,
 use Rattle.std.specs.List.{All}
 use Rattle.std.specs.Prelude.{Err, Ok, OnErr, OnOk, Result}
 use Rattle.std.proofs.lemmas.List.Elements.{All-append}
-use Rattle.td_body.specs.HashBodies.{IsPlacedFor}
-use Rattle.td_body.specs.Members.{Members}
+use Rattle.td_body.specs.code.HashBodies.{IsPlacedFor}
+use Rattle.td_body.specs.code.Members.{Members}
 use Rattle.td_body.proofs.HashBodyLaws.{placed_same}
 use Rattle.td_body.proofs.MembersLaws.{one}
 use Rattle.td_body.proofs.hashed.body.change_members.Goals as goal

@@ -3,8 +3,8 @@ use Rattle.std.specs.List.{All}
 use Rattle.std.proofs.lemmas.List.{map-append, take_more}
 use Rattle.std.proofs.lemmas.List.Elements.{All-append}
 use Rattle.td_tree.specs.declared.name.Name.{Name}
-use Rattle.td_body.specs.KeyParts.{places_from}
-use Rattle.td_body.specs.Members.{IsAt, places_in}
+use Rattle.td_body.specs.code.KeyParts.{places_from}
+use Rattle.td_body.specs.code.Members.{IsAt, places_in}
 use Rattle.td_body.specs.declared.hashed.history.KeyHistory.{KeyHistory}
 use Rattle.td_body.proofs.MembersLaws.{one}
 use Rattle.td_body.proofs.hashed.filled.histories_by.Goals as goal

@@ -1,7 +1,7 @@
 use Rattle.std.proofs.Common.{◌≡◌, [], map, take}
 use Rattle.std.specs.List.{All}
-use Rattle.td_body.specs.KeyParts.{places_from}
-use Rattle.td_body.specs.Members.{IsAt, places_in}
+use Rattle.td_body.specs.code.KeyParts.{places_from}
+use Rattle.td_body.specs.code.Members.{IsAt, places_in}
 use Rattle.td_body.proofs.hashed.filled.histories_by.Given as goal
 
 abbrev pub invariant-loop-key : goal.invariant-loop-key

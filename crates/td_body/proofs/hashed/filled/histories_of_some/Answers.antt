@@ -1,7 +1,7 @@
 use Rattle.std.proofs.Common.{◌≡◌, map, subst, sym}
 use Rattle.td_algebra.proofs.Keys.{if_ok}
-use Rattle.td_body.specs.KeyParts.{places_from}
-use Rattle.td_body.specs.Members.{ArePlaced, places_in}
+use Rattle.td_body.specs.code.KeyParts.{places_from}
+use Rattle.td_body.specs.code.Members.{ArePlaced, places_in}
 use Rattle.td_body.proofs.MembersLaws.{placed_by}
 use Rattle.td_body.proofs.hashed.filled.histories_of_some.Goals as goal
 

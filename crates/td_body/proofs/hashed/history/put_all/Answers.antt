@@ -1,6 +1,6 @@
 use Rattle.std.proofs.Common.{◌+◌, ◌∷◌, [], drop, sym, ap, ◌∙◌}
 use Rattle.std.proofs.lemmas.List.{at_drop_all, at_drop_more}
-use Rattle.td_body.specs.Histories.{changed_set, put_tuple}
+use Rattle.td_body.specs.code.Histories.{changed_set, put_tuple}
 use Rattle.td_body.proofs.TupleSets.{changed_first, changed_none}
 use Rattle.td_body.proofs.hashed.history.put_all.Goals as goal
 

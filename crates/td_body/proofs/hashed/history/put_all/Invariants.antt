@@ -1,5 +1,5 @@
 use Rattle.std.proofs.Common.{◌≡◌, [], drop}
-use Rattle.td_body.specs.Histories.{changed_set}
+use Rattle.td_body.specs.code.Histories.{changed_set}
 use Rattle.td_body.proofs.hashed.history.put_all.Given as goal
 
 abbrev pub invariant-rows : goal.invariant-rows

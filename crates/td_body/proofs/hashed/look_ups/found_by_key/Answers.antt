@@ -6,10 +6,10 @@ use Rattle.td_types.specs.Types.{attribute_names}
 use Rattle.td_value.specs.Agreement.{agree_on}
 use Rattle.td_value.specs.Sets.{set_of}
 use Rattle.td_value.specs.Values.{HaveSameMembers, IsTupleOf, Relation, Tuple, Val, tuple_cmp}
-use Rattle.td_value.specs.Views.{relation_view}
+use Rattle.td_value.specs.code.Views.{relation_view}
 use Rattle.td_body.specs.Bodies.{agreeing}
-use Rattle.td_body.specs.KeyIndexes.{with_part}
-use Rattle.td_body.specs.KeyParts.{places_from}
+use Rattle.td_body.specs.code.KeyIndexes.{with_part}
+use Rattle.td_body.specs.code.KeyParts.{places_from}
 use Rattle.td_body.proofs.LookUps.{at_some, found_agreeing, found_headed, if_weaker, part_count}
 use Rattle.td_body.proofs.hashed.look_ups.found_by_key.Goals as goal
 

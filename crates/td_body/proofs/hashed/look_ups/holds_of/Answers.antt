@@ -1,6 +1,6 @@
 use Rattle.std.proofs.Common.{◌≡◌, ◌∙◌, ap}
 use Rattle.td_types.specs.Types.{attribute_names}
-use Rattle.td_body.specs.KeyParts.{apart_at, places_from}
+use Rattle.td_body.specs.code.KeyParts.{apart_at, places_from}
 use Rattle.td_body.proofs.LookUps.{apart_held, at_some}
 use Rattle.td_body.proofs.hashed.look_ups.holds_of.Goals as goal
 

@@ -1,8 +1,8 @@
 use Rattle.std.proofs.Common.{◌≡◌, ◌<◌, ◌≤◌, ◌∷◌, ◌++◌, [], ℕ, List, get_or}
 use Rattle.std.specs.List.{All}
 use Rattle.td_value.specs.Values.{Tuple}
-use Rattle.td_body.specs.Histories.{changed_set}
-use Rattle.td_body.specs.Members.{HasReady, IsAt, places_in}
+use Rattle.td_body.specs.code.Histories.{changed_set}
+use Rattle.td_body.specs.code.Members.{HasReady, IsAt, places_in}
 use Rattle.td_body.specs.declared.hashed.history.KeyHistory.{KeyHistory}
 use Rattle.td_body.proofs.hashed.members.apply_all.Given as goal
 

@@ -3,9 +3,9 @@ use Rattle.td_algebra.proofs.Keys.{if_ok}
 use Rattle.td_algebra.specs.Operators.{restriction}
 use Rattle.td_value.specs.Sets.{has}
 use Rattle.td_value.specs.Values.{IsAscendingBody, Tuple, relation_of, tuple_cmp}
-use Rattle.td_value.specs.Views.{relation_view}
+use Rattle.td_value.specs.code.Views.{relation_view}
 use Rattle.td_body.specs.Bodies.{after_change}
-use Rattle.td_body.specs.Members.{Covers}
+use Rattle.td_body.specs.code.Members.{Covers}
 use Rattle.td_body.proofs.MembersLaws.{up_to_date}
 use Rattle.td_body.proofs.hashed.members.brought_up_to_date.Goals as goal
 

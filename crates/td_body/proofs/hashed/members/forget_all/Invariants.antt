@@ -1,7 +1,7 @@
 use Rattle.std.proofs.Common.{◌≡◌, ◌<◌, ◌≤◌, [], ℕ, List, get_or}
 use Rattle.std.specs.List.{All}
 use Rattle.td_value.specs.Values.{Tuple}
-use Rattle.td_body.specs.Members.{IsAt, places_in}
+use Rattle.td_body.specs.code.Members.{IsAt, places_in}
 use Rattle.td_body.specs.declared.hashed.history.KeyHistory.{KeyHistory}
 use Rattle.td_body.proofs.hashed.members.forget_all.Given as goal
 

@@ -1,6 +1,6 @@
 use Rattle.std.proofs.Common.{◌≡◌, ◌∙◌, ◌<◌, ◌++◌, ◌∷◌, [], ap, arith, get_or, length, sym}
-use Rattle.td_body.specs.Histories.{kept_sets}
-use Rattle.td_body.specs.Members.{IsAt}
+use Rattle.td_body.specs.code.Histories.{kept_sets}
+use Rattle.td_body.specs.code.Members.{IsAt}
 use Rattle.td_body.specs.declared.hashed.history.KeyHistory.{KeyHistory}
 use Rattle.td_body.proofs.Lasts.{last_of, front_of}
 use Rattle.td_body.proofs.Turns.{set_above, set_below, set_map}

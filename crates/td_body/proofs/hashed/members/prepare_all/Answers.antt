@@ -1,7 +1,7 @@
 use Rattle.std.proofs.Common.{◌∙◌, ◌<◌, arith, length}
 use Rattle.std.specs.List.{All}
-use Rattle.td_body.specs.Histories.{kept_sets}
-use Rattle.td_body.specs.Members.{HasReady, HasRoom, IsAt}
+use Rattle.td_body.specs.code.Histories.{kept_sets}
+use Rattle.td_body.specs.code.Members.{HasReady, HasRoom, IsAt}
 use Rattle.td_body.specs.declared.hashed.history.KeyHistory.{KeyHistory}
 use Rattle.td_body.proofs.Turns.{set_all, set_below, set_map}
 use Rattle.td_body.proofs.hashed.members.prepare_all.Goals as goal

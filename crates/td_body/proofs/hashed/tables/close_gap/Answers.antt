@@ -2,7 +2,7 @@ use Rattle.std.proofs.Common.{Some, sym, ap, ◌∙◌, refl, subst, IsSome}
 use Rattle.std.specs.Ordering.{eq_by_cmp}
 use Rattle.td_value.specs.Values.{tuple_cmp}
 use Rattle.td_value.specs.ValueOrder.{tuple_Decides}
-use Rattle.td_body.specs.KeyIndexes.{ordinal_of, tuple_at}
+use Rattle.td_body.specs.code.KeyIndexes.{ordinal_of, tuple_at}
 use Rattle.td_body.proofs.Numbered.{gap_last, gap_here, gap_both, split}
 use Rattle.td_body.proofs.hashed.tables.close_gap.Goals as goal
 

@@ -2,8 +2,8 @@ use Rattle.std.proofs.Common.{◌≡◌, ◌∙◌, ap, arith, false, refl, subs
 use Rattle.std.specs.List.{AllByRecursion}
 use Rattle.std.specs.Prelude.{is_some}
 use Rattle.std.specs.Map.{lookup}
-use Rattle.td_catalog.specs.CatalogViews.{IsCatalog, Known, known_of, known_rows, base_heading, base_view, database_view, rows_of}
-use Rattle.td_catalog.specs.Histories.{IsHistory, IsOwnStep, history_view}
+use Rattle.td_catalog.specs.code.CatalogViews.{IsCatalog, Known, known_of, known_rows, base_heading, base_view, database_view, rows_of}
+use Rattle.td_catalog.specs.code.Histories.{IsHistory, IsOwnStep, history_view}
 use Rattle.td_catalog.specs.KeptDatabases.{CatalogView}
 use Rattle.td_catalog.specs.declared.history.Step.TheVariants.{BaseAdded}
 use Rattle.td_catalog.proofs.LedSteps.{base_added}

@@ -1,9 +1,9 @@
 use Rattle.std.proofs.Common.{◌≡◌, ◌∙◌, ℕ, false, ap, arith, option_map, refl, subst, sym}
 use Rattle.std.specs.List.{AllByRecursion}
 use Rattle.std.specs.Prelude.{is_some}
-use Rattle.td_catalog.specs.CatalogViews.{database_view, rows_of}
+use Rattle.td_catalog.specs.code.CatalogViews.{database_view, rows_of}
 use Rattle.td_catalog.specs.Database.{Database, with_declared}
-use Rattle.td_catalog.specs.Histories.{HasRoom, IsHistory, IsOwnStep, dropped_in, history_view}
+use Rattle.td_catalog.specs.code.Histories.{HasRoom, IsHistory, IsOwnStep, dropped_in, history_view}
 use Rattle.td_catalog.specs.KeptDatabases.{CatalogView}
 use Rattle.td_catalog.specs.TypedDatabases.{IsConstrained}
 use Rattle.td_catalog.specs.declared.history.Step.TheVariants.{TypeAdded}
@@ -12,10 +12,10 @@ use Rattle.td_catalog.proofs.LedSteps.{some_map, type_added}
 use Rattle.td_catalog.proofs.Named.{own_more}
 use Rattle.td_catalog.proofs.Steps.{history_next, room_stays, view_next}
 use Rattle.td_catalog.proofs.catalog.Catalog.add_type.Goals as goal
-use Rattle.td_tree.specs.TreeViews.{tree_view}
+use Rattle.td_tree.specs.code.TreeViews.{tree_view}
 use Rattle.td_types.specs.Headings.{are_distinct}
 use Rattle.td_types.specs.TypeLists.{declared_type, is_declared}
-use Rattle.td_types.specs.Views.{pairs_view}
+use Rattle.td_types.specs.code.Views.{pairs_view}
 use Rattle.td_types.proofs.Made.{names_of_pairs}
 
 pub add-requires-clause-distinct : goal.add-requires-clause-distinct

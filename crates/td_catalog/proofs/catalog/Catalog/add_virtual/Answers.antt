@@ -3,8 +3,8 @@ use Rattle.std.specs.List.{AllByRecursion}
 use Rattle.std.specs.Prelude.{is_some}
 use Rattle.std.specs.Map.{lookup}
 use Rattle.td_types.specs.Types.{same_name}
-use Rattle.td_catalog.specs.CatalogViews.{IsCatalog, Known, known_of, known_rows, virtual_heading, virtual_view, database_view, rows_of}
-use Rattle.td_catalog.specs.Histories.{IsHistory, IsOwnStep, history_view}
+use Rattle.td_catalog.specs.code.CatalogViews.{IsCatalog, Known, known_of, known_rows, virtual_heading, virtual_view, database_view, rows_of}
+use Rattle.td_catalog.specs.code.Histories.{IsHistory, IsOwnStep, history_view}
 use Rattle.td_catalog.specs.KeptDatabases.{CatalogView}
 use Rattle.td_catalog.specs.declared.history.Step.TheVariants.{VirtualAdded}
 use Rattle.td_catalog.proofs.LedSteps.{virtual_added}
@@ -14,7 +14,7 @@ use Rattle.td_catalog.specs.Database.{Database, VirtualRelvar, database_scope, k
 use Rattle.td_catalog.specs.TypedDatabases.{IsTypedVirtual}
 use Rattle.td_catalog.specs.declared.entry.VirtualEntry.{VirtualEntry}
 use Rattle.td_catalog.proofs.Changes.{catalog_with_virtual, no_virtual, view_with_virtual, with_virtual_rows}
-use Rattle.td_tree.specs.TreeViews.{tree_view}
+use Rattle.td_tree.specs.code.TreeViews.{tree_view}
 use Rattle.td_catalog.proofs.Rows.{rows_with}
 use Rattle.td_catalog.proofs.catalog.Catalog.add_virtual.Goals as goal
 

@@ -1,6 +1,6 @@
 use Rattle.std.proofs.Common.{ap, map, refl, subst, sym, ◌∙◌}
 use Rattle.td_catalog.specs.KeptDatabases.{CatalogView}
-use Rattle.td_catalog.specs.CatalogViews.{base_view}
+use Rattle.td_catalog.specs.code.CatalogViews.{base_view}
 use Rattle.td_catalog.specs.Database.{BaseRelvar, Database}
 use Rattle.td_catalog.proofs.Copies.{BaseParts, IsCopied, base_parts, bases_of, copied_all, copied_next, copied_none, entries_alike, names_of, parts_alike}
 use Rattle.td_catalog.proofs.Lists.{distinct_front}

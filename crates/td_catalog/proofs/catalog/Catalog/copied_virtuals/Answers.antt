@@ -1,6 +1,6 @@
 use Rattle.std.proofs.Common.{ap, map, refl, subst, ◌∙◌}
 use Rattle.td_catalog.specs.KeptDatabases.{CatalogView}
-use Rattle.td_catalog.specs.CatalogViews.{virtual_view}
+use Rattle.td_catalog.specs.code.CatalogViews.{virtual_view}
 use Rattle.td_catalog.specs.Database.{BaseRelvar, Database, VirtualRelvar}
 use Rattle.td_catalog.specs.TypedDatabases.{IsTyped}
 use Rattle.td_catalog.proofs.Copies.{IsCopied, copied_next, copied_none}

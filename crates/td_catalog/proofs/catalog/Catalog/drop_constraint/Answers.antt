@@ -3,9 +3,9 @@ use Rattle.std.specs.Prelude.{is_some}
 use Rattle.std.specs.List.{AllByRecursion, find, list_any}
 use Rattle.std.specs.Map.{lookup}
 use Rattle.std.specs.Set.{remove_key}
-use Rattle.td_catalog.specs.CatalogViews.{IsCatalog, Known, Rows, database_view, known_of, known_rows, rows_of}
+use Rattle.td_catalog.specs.code.CatalogViews.{IsCatalog, Known, Rows, database_view, known_of, known_rows, rows_of}
 use Rattle.td_catalog.specs.Database.{knows_constraint, without_constraint}
-use Rattle.td_catalog.specs.Histories.{IsHistory, IsOwnStep, history_view}
+use Rattle.td_catalog.specs.code.Histories.{IsHistory, IsOwnStep, history_view}
 use Rattle.td_catalog.specs.KeptDatabases.{CatalogView}
 use Rattle.td_catalog.specs.declared.history.Step.TheVariants.{ConstraintDropped}
 use Rattle.td_catalog.proofs.Changes.{knows_constraint_by, with_constraint_rows}

@@ -1,5 +1,5 @@
 use Rattle.std.proofs.Common.{◌∙◌, ap, map, refl, sym}
-use Rattle.td_catalog.specs.CatalogViews.{base_view, rows_of, virtual_view}
+use Rattle.td_catalog.specs.code.CatalogViews.{base_view, rows_of, virtual_view}
 use Rattle.td_catalog.specs.Database.{BaseRelvar, Database, VirtualRelvar, knows_relvar}
 use Rattle.td_catalog.specs.KeptDatabases.{CatalogView}
 use Rattle.td_catalog.proofs.Changes.{unknown_base}

@@ -2,9 +2,9 @@ use Rattle.std.proofs.Common.{◌≡◌, ◌∙◌, true, ap, arith, map, refl, 
 use Rattle.std.specs.Prelude.{is_some}
 use Rattle.std.specs.List.{AllByRecursion}
 use Rattle.std.specs.Map.{lookup, lookup_key, remove_entry}
-use Rattle.td_catalog.specs.CatalogViews.{IsCatalog, Known, virtual_heading, virtual_view, database_view, known_of, known_rows, rows_of}
+use Rattle.td_catalog.specs.code.CatalogViews.{IsCatalog, Known, virtual_heading, virtual_view, database_view, known_of, known_rows, rows_of}
 use Rattle.td_catalog.specs.Database.{Database, VirtualRelvar, without_relvar}
-use Rattle.td_catalog.specs.Histories.{IsHistory, IsOwnStep, history_view}
+use Rattle.td_catalog.specs.code.Histories.{IsHistory, IsOwnStep, history_view}
 use Rattle.td_catalog.specs.KeptDatabases.{CatalogView}
 use Rattle.td_catalog.specs.Mentioned.{is_relvar_in_use}
 use Rattle.td_catalog.specs.declared.history.Step.TheVariants.{VirtualDropped}

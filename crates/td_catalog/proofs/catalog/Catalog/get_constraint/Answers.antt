@@ -1,7 +1,7 @@
 use Rattle.std.proofs.Common.{◌∙◌, Some, ap, refl, option_map}
 use Rattle.td_catalog.specs.KeptDatabases.{CatalogView}
 use Rattle.td_catalog.specs.Database.{NamedConstraint, constraint_named}
-use Rattle.td_catalog.specs.CatalogViews.{constraint_view}
+use Rattle.td_catalog.specs.code.CatalogViews.{constraint_view}
 use Rattle.td_catalog.specs.declared.entry.ConstraintEntry.{ConstraintEntry}
 use Rattle.td_catalog.proofs.Rows.{found}
 use Rattle.td_catalog.proofs.catalog.Catalog.get_constraint.Goals as goal

@@ -1,5 +1,5 @@
 use Rattle.std.proofs.Common.{ap, map, sym, ◌∙◌}
-use Rattle.td_catalog.specs.CatalogViews.{base_heading, virtual_heading}
+use Rattle.td_catalog.specs.code.CatalogViews.{base_heading, virtual_heading}
 use Rattle.td_catalog.proofs.Changes.{catalog_empty}
 use Rattle.td_catalog.proofs.Steps.{kept_none}
 use Rattle.td_catalog.proofs.catalog.Catalog.new.Goals as goal

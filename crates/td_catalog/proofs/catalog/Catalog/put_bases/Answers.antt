@@ -1,5 +1,5 @@
 use Rattle.std.proofs.Common.{◌≡◌, ◌∙◌, ◌++◌, ℕ, List, ap, map, string_bytes}
-use Rattle.td_catalog.specs.CatalogViews.{base_view}
+use Rattle.td_catalog.specs.code.CatalogViews.{base_view}
 use Rattle.td_catalog.specs.Database.{base_relvar}
 use Rattle.td_catalog.specs.Dumps.{base_line}
 use Rattle.td_catalog.proofs.Lines.{line_put}

@@ -1,5 +1,5 @@
 use Rattle.std.proofs.Common.{◌∙◌, ap, take}
-use Rattle.td_catalog.specs.CatalogViews.{known_of, rows_of}
+use Rattle.td_catalog.specs.code.CatalogViews.{known_of, rows_of}
 use Rattle.td_catalog.specs.Database.{Database, database_scope, with_virtuals}
 use Rattle.td_catalog.specs.KeptDatabases.{CatalogView}
 use Rattle.td_catalog.proofs.Named.{lent_is}

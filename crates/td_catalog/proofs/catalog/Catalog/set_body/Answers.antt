@@ -1,6 +1,6 @@
 use Rattle.std.proofs.Common.{◌∙◌, IfSome, ap, refl, subst, sym, true≢false}
 use Rattle.std.specs.Prelude.{is_some}
-use Rattle.td_catalog.specs.CatalogViews.{IsBodyOf, base_heading, base_view, known_rows, rows_of}
+use Rattle.td_catalog.specs.code.CatalogViews.{IsBodyOf, base_heading, base_view, known_rows, rows_of}
 use Rattle.td_catalog.specs.Database.{BaseRelvar, Database, base_named, with_body}
 use Rattle.td_catalog.specs.KeptDatabases.{CatalogView, settled}
 use Rattle.td_catalog.specs.TypedDatabases.{AreTyped}

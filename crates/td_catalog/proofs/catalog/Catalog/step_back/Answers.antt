@@ -1,4 +1,4 @@
-use Rattle.td_catalog.specs.CatalogViews.{rows_of}
+use Rattle.td_catalog.specs.code.CatalogViews.{rows_of}
 use Rattle.td_catalog.proofs.Named.{own_last, own_rest}
 use Rattle.td_catalog.proofs.Steps.{history_back, room_back, stage_back, view_back}
 use Rattle.td_catalog.proofs.catalog.Catalog.step_back.Goals as goal

@@ -1,5 +1,5 @@
 use Rattle.std.proofs.Common.{◌≡◌, ◌∙◌, ap, map, subst, sym}
-use Rattle.td_catalog.specs.CatalogViews.{base_view, database_view, known_of, rows_of, virtual_view}
+use Rattle.td_catalog.specs.code.CatalogViews.{base_view, database_view, known_of, rows_of, virtual_view}
 use Rattle.td_catalog.specs.Database.{BaseRelvar, Database, VirtualRelvar}
 use Rattle.td_catalog.specs.KeptDatabases.{CatalogView}
 use Rattle.td_catalog.specs.TypedDatabases.{IsTyped}

@@ -3,7 +3,7 @@ use Rattle.td_catalog.specs.KeptDatabases.{CatalogView}
 use Rattle.std.specs.Prelude.{◌||◌}
 use Rattle.std.specs.List.{list_any, slice_get}
 use Rattle.std.proofs.lemmas.List.{take_all}
-use Rattle.td_catalog.specs.CatalogViews.{database_view, rows_of}
+use Rattle.td_catalog.specs.code.CatalogViews.{database_view, rows_of}
 use Rattle.td_catalog.specs.Database.{Database}
 use Rattle.td_catalog.specs.Mentioned.{condition_mentions_type, type_mentions_type}
 use Rattle.td_catalog.proofs.Visits.{components_distinct, condition_typed, none_next, passes_at}

@@ -4,7 +4,7 @@ use Rattle.std.specs.List.{slice_get}
 use Rattle.td_catalog.specs.Database.{Database, VirtualRelvar}
 use Rattle.td_catalog.proofs.ByPlace.{tree_at}
 use Rattle.td_catalog.proofs.catalog.Catalog.virtual_tree_at.Goals as goal
-use Rattle.td_tree.specs.TreeViews.{tree_view}
+use Rattle.td_tree.specs.code.TreeViews.{tree_view}
 
 pub returns : goal.returns
 returns g c =

@@ -1,7 +1,7 @@
 use Rattle.std.proofs.Common.{◌≡◌, ◌∙◌, ap, bit_and, nat_eq, not, sym}
 use Rattle.td_catalog.proofs.SharedMarks.{apart}
 use Rattle.td_catalog.proofs.marked_names.MarkedNames.have_common.Goals as goal
-use Rattle.td_catalog.specs.NameMarks.{name_marks}
+use Rattle.td_catalog.specs.code.NameMarks.{name_marks}
 
 pub returns-else-self-others-ne0 : goal.returns-else-self-others-ne0
 returns-else-self-others-ne0 c =

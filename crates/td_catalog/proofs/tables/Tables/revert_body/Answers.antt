@@ -1,7 +1,7 @@
 use Rattle.std.proofs.Common.{◌∙◌, ap, refl, sym}
 use Rattle.std.specs.Prelude.{is_some}
-use Rattle.td_catalog.specs.CatalogViews.{base_heading, known_rows, rows_of}
-use Rattle.td_catalog.specs.Histories.{held_view, with_held_bases}
+use Rattle.td_catalog.specs.code.CatalogViews.{base_heading, known_rows, rows_of}
+use Rattle.td_catalog.specs.code.Histories.{held_view, with_held_bases}
 use Rattle.td_catalog.proofs.LedSteps.{body_reverted, first_place, gone_back, none_reverted, set_same}
 use Rattle.td_catalog.proofs.Named.{with_known_bases}
 use Rattle.td_catalog.proofs.tables.Tables.revert_body.Goals as goal

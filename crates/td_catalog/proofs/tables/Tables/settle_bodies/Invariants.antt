@@ -1,6 +1,6 @@
 use Rattle.std.proofs.Common.{◌≡◌}
-use Rattle.td_catalog.specs.CatalogViews.{AreEntries, database_view, known_of, known_rows, rows_of}
-use Rattle.td_catalog.specs.Histories.{UsesRoomOf}
+use Rattle.td_catalog.specs.code.CatalogViews.{AreEntries, database_view, known_of, known_rows, rows_of}
+use Rattle.td_catalog.specs.code.Histories.{UsesRoomOf}
 use Rattle.td_catalog.proofs.tables.Tables.settle_bodies.Given as goal
 
 abbrev pub invariant-steps : goal.invariant-steps

@@ -2,8 +2,8 @@ use Rattle.std.proofs.Common.{◌≡◌, ◌∙◌, ℕ, List, ap, map, refl, su
 use Rattle.std.specs.Prelude.{is_some, not}
 use Rattle.std.specs.List.{list_any}
 use Rattle.std.specs.Map.{lookup}
-use Rattle.td_catalog.specs.CatalogViews.{Known, base_heading, constraint_view, rows_of, virtual_heading, virtual_view}
-use Rattle.td_catalog.specs.Histories.{IsOwnStep, IsStage, before, held_base, held_view, with_held_bases, with_held_constraints, with_held_virtuals}
+use Rattle.td_catalog.specs.code.CatalogViews.{Known, base_heading, constraint_view, rows_of, virtual_heading, virtual_view}
+use Rattle.td_catalog.specs.code.Histories.{IsOwnStep, IsStage, before, held_base, held_view, with_held_bases, with_held_constraints, with_held_virtuals}
 use Rattle.td_catalog.proofs.LastTypes.{last_unused}
 use Rattle.td_catalog.proofs.PutBack.{base_free, constraint_free, view_inserted, virtual_free}
 use Rattle.td_catalog.proofs.Named.{again_as, any_as, found_as}

@@ -1,6 +1,6 @@
 use Rattle.std.proofs.Common.{◌∙◌, ap, option_map, take}
 use Rattle.std.specs.Map.{lookup}
-use Rattle.td_check.specs.ScopeCode.{seen_view}
+use Rattle.td_check.specs.code.ScopeCode.{seen_view}
 use Rattle.td_check.specs.declared.scope.Kind.TheVariants.{Base, Virtual}
 use Rattle.td_check.proofs.LentScopes.{in_declared, or_else}
 use Rattle.td_types.specs.Types.{Heading, same_name}

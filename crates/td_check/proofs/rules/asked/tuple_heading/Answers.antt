@@ -1,6 +1,6 @@
 use Rattle.std.proofs.Common.{ap}
 use Rattle.td_tree.specs.Outcomes.{Valued}
-use Rattle.td_types.specs.TypeCode.{unpack_pack}
+use Rattle.td_types.specs.code.TypeCode.{unpack_pack}
 use Rattle.td_check.proofs.rules.asked.tuple_heading.Goals as goal
 
 pub returns-in-Tup : goal.returns-in-Tup

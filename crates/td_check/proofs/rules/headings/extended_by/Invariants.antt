@@ -1,7 +1,7 @@
 use Rattle.std.proofs.Common.{◌≡◌, length}
 use Rattle.std.specs.Vec.Iter.{into_iter_items, into_iter_len}
 use Rattle.td_check.specs.OperatorTypes.{extended_by}
-use Rattle.td_types.specs.Views.{pairs_view}
+use Rattle.td_types.specs.code.Views.{pairs_view}
 use Rattle.td_check.proofs.rules.headings.extended_by.Given as goal
 
 abbrev pub invariant-loop-name : goal.invariant-loop-name

@@ -1,6 +1,6 @@
 use Rattle.std.proofs.Common.{◌≡◌, drop, map}
 use Rattle.td_check.specs.OperatorTypes.{are_types_of}
-use Rattle.td_types.specs.Views.{pairs_view, type_view}
+use Rattle.td_types.specs.code.Views.{pairs_view, type_view}
 use Rattle.td_check.proofs.rules.lists.are_types_of.Given as goal
 
 abbrev pub invariant-loop-ty : goal.invariant-loop-ty

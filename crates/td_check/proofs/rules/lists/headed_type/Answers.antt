@@ -5,7 +5,7 @@ use Rattle.td_check.proofs.rules.lists.headed_type.Goals as goal
 use Rattle.td_tree.specs.Gatherings.{IsGathered}
 use Rattle.td_tree.specs.Outcomes.{Valued}
 use Rattle.td_types.specs.Types.{pack, relation}
-use Rattle.td_types.specs.Views.{type_view}
+use Rattle.td_types.specs.code.Views.{type_view}
 use Rattle.std.proofs.lemmas.List.{take_all}
 
 pub loop-element-preserved : goal.loop-element-preserved

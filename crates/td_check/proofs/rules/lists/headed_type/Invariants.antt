@@ -1,7 +1,7 @@
 use Rattle.std.proofs.Common.{map, take}
 use Rattle.td_tree.specs.Gatherings.{IsGathered}
 use Rattle.td_check.specs.OperatorTypes.{element_type}
-use Rattle.td_types.specs.Views.{type_view}
+use Rattle.td_types.specs.code.Views.{type_view}
 use Rattle.td_check.proofs.rules.lists.headed_type.Given as goal
 
 abbrev pub invariant-loop-element : goal.invariant-loop-element

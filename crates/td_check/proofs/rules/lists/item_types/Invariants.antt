@@ -1,8 +1,8 @@
 use Rattle.std.proofs.Common.{map}
-use Rattle.td_check.specs.ItemViews.{named_item_view}
+use Rattle.td_check.specs.code.ItemViews.{named_item_view}
 use Rattle.td_check.specs.OperatorTypes.{item_type}
 use Rattle.td_tree.specs.Gatherings.{IsGathered}
-use Rattle.td_types.specs.Views.{pairs_view}
+use Rattle.td_types.specs.code.Views.{pairs_view}
 use Rattle.td_check.proofs.rules.lists.item_types.Given as goal
 
 abbrev pub invariant-loop-name : goal.invariant-loop-name

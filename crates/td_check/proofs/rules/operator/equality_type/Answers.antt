@@ -1,5 +1,5 @@
 use Rattle.std.proofs.Common.{◌∙◌, sym}
-use Rattle.td_types.specs.Views.{type_view}
+use Rattle.td_types.specs.code.Views.{type_view}
 use Rattle.td_check.proofs.Comparisons.{equal_valued, relation_refused, unlike_refused}
 use Rattle.td_check.proofs.rules.operator.equality_type.Goals as goal
 use Rattle.td_check.proofs.rules.operator.equality_type.Goals.{in_default-via-in-Rel+in_default, in_default-via-in_default}

@@ -2,7 +2,7 @@ use Rattle.std.proofs.Common.{◌∙◌, refl, sym}
 use Rattle.td_check.proofs.rules.operator.restriction_type.Goals as goal
 use Rattle.td_tree.specs.declared.cause.Cause.TheVariants as causes
 use Rattle.td_types.proofs.Valued.{answers_cause, answers_value}
-use Rattle.td_types.specs.Views.{type_view}
+use Rattle.td_types.specs.code.Views.{type_view}
 
 pub returns-then-eq : goal.returns-then-eq
 returns-then-eq c = answers_value _ (type_view c.args.relation) _ causes.TypeMismatch (sym c.eq.ensures.test ∙ c.if-eq.true) refl

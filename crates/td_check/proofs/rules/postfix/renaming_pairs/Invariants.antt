@@ -1,6 +1,6 @@
 use Rattle.std.proofs.Common.{◌≡◌, ◌++◌, drop, map}
 use Rattle.td_check.specs.OperatorTypes.{renaming_pairs}
-use Rattle.td_tree.specs.TreeViews.{renaming_view}
+use Rattle.td_tree.specs.code.TreeViews.{renaming_view}
 use Rattle.td_check.proofs.rules.postfix.renaming_pairs.Given as goal
 
 abbrev pub invariant-loop-renaming : goal.invariant-loop-renaming

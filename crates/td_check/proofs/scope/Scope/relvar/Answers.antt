@@ -1,5 +1,5 @@
 use Rattle.std.proofs.Common.{◌∙◌, ap, option_map, sym}
-use Rattle.td_check.specs.ScopeCode.{known_view, lent_relvars, relvars_view, seen_view}
+use Rattle.td_check.specs.code.ScopeCode.{known_view, lent_relvars, relvars_view, seen_view}
 use Rattle.td_check.specs.Scopes.{Scope, kind_and_heading, relvar_in}
 use Rattle.td_check.proofs.LentScopes.{in_either, or_else}
 use Rattle.td_check.proofs.Scopes.{kept}

@@ -1,7 +1,7 @@
 use Rattle.std.proofs.Common.{◌≡◌, ◌∙◌, ◌∷◌, ◌++◌, [], ap, sym, true}
 use Rattle.std.proofs.lemmas.List.{append_assoc}
 use Rattle.std.specs.Prelude.{not, reverse}
-use Rattle.td_check.specs.ScopeCode.{lent_constraints, lent_relvars, relvars_view}
+use Rattle.td_check.specs.code.ScopeCode.{lent_constraints, lent_relvars, relvars_view}
 use Rattle.td_check.specs.Scopes.{Scope, knows_constraint, with_known_constraint}
 use Rattle.td_check.proofs.LentScopes.{unnamed_behind}
 use Rattle.td_check.proofs.Scopes.{name_added}

@@ -1,6 +1,6 @@
 use Rattle.td_check.specs.StatementTypes.{setting_fits}
 use Rattle.td_check.proofs.StatementAnswers.{asked_more, viewed_all}
-use Rattle.td_types.specs.Pairs.{pair_view}
+use Rattle.td_types.specs.code.Pairs.{pair_view}
 use Rattle.td_check.proofs.statement.assignments.each_setting_fits.Goals as goal
 
 pub loop-name-preserved : goal.loop-name-preserved

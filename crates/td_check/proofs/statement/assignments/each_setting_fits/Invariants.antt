@@ -2,7 +2,7 @@ use Rattle.std.proofs.Common.{map, take}
 use Rattle.td_check.specs.StatementTypes.{setting_fits}
 use Rattle.td_check.proofs.StatementAnswers.{asked_of}
 use Rattle.td_tree.specs.Gatherings.{IsGathered}
-use Rattle.td_types.specs.Pairs.{pair_view}
+use Rattle.td_types.specs.code.Pairs.{pair_view}
 use Rattle.td_check.proofs.statement.assignments.each_setting_fits.Given as goal
 
 abbrev pub invariant-loop-name : goal.invariant-loop-name

@@ -6,7 +6,7 @@ use Rattle.td_check.specs.StatementTypes.{condition_fits}
 use Rattle.td_check.proofs.StatementAnswers.{given_is, parts_answer, parts_have, update_asked}
 use Rattle.td_tree.specs.Outcomes.{Answers}
 use Rattle.td_types.specs.Types.{Type'}
-use Rattle.td_types.specs.Views.{pairs_view, type_view}
+use Rattle.td_types.specs.code.Views.{pairs_view, type_view}
 use Rattle.td_types.specs.declared.ty.Ty.{Ty}
 use Rattle.td_check.proofs.statement.assignments.update_fits.Goals as goal
 

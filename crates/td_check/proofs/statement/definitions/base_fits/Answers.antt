@@ -4,7 +4,7 @@ use Rattle.td_check.proofs.StatementAnswers.{given_is}
 use Rattle.td_check.specs.StatementTypes.{init_fits}
 use Rattle.td_tree.specs.Outcomes.{Answers}
 use Rattle.td_types.specs.Types.{Type'}
-use Rattle.td_types.specs.Views.{type_view}
+use Rattle.td_types.specs.code.Views.{type_view}
 use Rattle.td_check.proofs.statement.definitions.base_fits.Goals as goal
 
 pub returns : goal.returns

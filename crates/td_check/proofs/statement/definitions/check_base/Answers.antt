@@ -3,7 +3,7 @@ use Rattle.std.proofs.lemmas.Result.{err_from_is_err_and}
 use Rattle.std.specs.Prelude.{⊤}
 use Rattle.td_check.proofs.StatementAnswers.{base_asked, init_answers, parts_answer, parts_have}
 use Rattle.td_types.specs.Types.{Heading}
-use Rattle.td_types.specs.Views.{type_view}
+use Rattle.td_types.specs.code.Views.{type_view}
 use Rattle.td_check.proofs.statement.definitions.check_base.Goals as goal
 
 pub returns-in_err-heading : goal.returns-in_err-heading

@@ -6,8 +6,8 @@ use Rattle.td_check.proofs.StatementAnswers.{component_twice, components_had, co
 use Rattle.td_check.specs.StatementTypes.{constraint_fits}
 use Rattle.td_tree.specs.Outcomes.{Answers}
 use Rattle.td_tree.specs.Trees.{Tree}
-use Rattle.td_tree.specs.TreeViews.{heading_tree_view, tree_view}
-use Rattle.td_types.specs.Views.{pairs_view}
+use Rattle.td_tree.specs.code.TreeViews.{heading_tree_view, tree_view}
+use Rattle.td_types.specs.code.Views.{pairs_view}
 use Rattle.td_types.specs.declared.ty.Ty.{Ty}
 use Rattle.td_check.proofs.statement.definitions.check_components.Goals as goal
 

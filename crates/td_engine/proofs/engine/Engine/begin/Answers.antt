@@ -1,7 +1,7 @@
 use Rattle.std.proofs.Common.{rules, ◌≡◌, ◌∙◌, ◌<◌, ◌∷◌, [], ap, length, reverse, subst, sym}
 use Rattle.std.proofs.lemmas.List.{length-reverse, reverse-append}
-use Rattle.td_engine.proofs.Opens.{engine_begun}
-use Rattle.td_engine.specs.Stages.{IsEngine}
+use Rattle.td_engine.proofs.code_lemmas.Opens.{engine_begun}
+use Rattle.td_engine.specs.code.Stages.{IsEngine}
 use Rattle.td_engine.proofs.engine.Engine.begin.Goals as goal
 
 pub invariant_of-self-2 : goal.invariant_of-self-2

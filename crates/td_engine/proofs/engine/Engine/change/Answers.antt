@@ -1,12 +1,12 @@
 use Rattle.std.proofs.Common.{◌≡◌, ◌∙◌, IfOk, map, reverse, subst, sym}
-use Rattle.td_engine.proofs.Answered.{database_does}
-use Rattle.td_engine.proofs.Opens.{engine_on, state_on}
-use Rattle.td_engine.proofs.Turning.{ok_map}
+use Rattle.td_engine.proofs.law_lemmas.Answered.{database_does}
+use Rattle.td_engine.proofs.code_lemmas.Opens.{engine_on, state_on}
+use Rattle.td_engine.proofs.code_lemmas.Turning.{ok_map}
 use Rattle.td_engine.specs.Legality.{IsLegalState}
 use Rattle.td_engine.specs.Machine.{State, effect, effect_in, state_of, step_of}
-use Rattle.td_engine.specs.Stages.{stage}
-use Rattle.td_engine.specs.Steps.{Does}
-use Rattle.td_tree.specs.TreeViews.{statement_view}
+use Rattle.td_engine.specs.code.Stages.{stage}
+use Rattle.td_engine.specs.code.Steps.{Does}
+use Rattle.td_tree.specs.code.TreeViews.{statement_view}
 use Rattle.td_engine.proofs.engine.Engine.change.Goals as goal
 
 pub invariant_of-self : goal.invariant_of-self

@@ -1,11 +1,11 @@
 use Rattle.std.proofs.Common.{◌≡◌, ◌∙◌, ◌∷◌, [], ap, map, reverse, subst, sym}
 use Rattle.std.proofs.lemmas.List.{reverse-append}
-use Rattle.td_engine.proofs.Opens.{engine_committed}
-use Rattle.td_engine.proofs.Transactions.{commit_does}
+use Rattle.td_engine.proofs.code_lemmas.Opens.{engine_committed}
+use Rattle.td_engine.proofs.law_lemmas.Transactions.{commit_does}
 use Rattle.td_engine.specs.Legality.{IsLegalState}
 use Rattle.td_engine.specs.Machine.{State, committed, state_of, step_of}
-use Rattle.td_engine.specs.Stages.{IsEngine, stage}
-use Rattle.td_engine.specs.Steps.{Does}
+use Rattle.td_engine.specs.code.Stages.{IsEngine, stage}
+use Rattle.td_engine.specs.code.Steps.{Does}
 use Rattle.td_engine.proofs.engine.Engine.commit.Goals as goal
 
 pub invariant_of-self : goal.invariant_of-self

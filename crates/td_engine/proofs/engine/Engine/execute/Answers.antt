@@ -1,9 +1,9 @@
 use Rattle.std.proofs.Common.{sym, subst}
-use Rattle.td_engine.proofs.Turning.{ok_map}
+use Rattle.td_engine.proofs.code_lemmas.Turning.{ok_map}
 use Rattle.td_engine.specs.Machine.{effect_in, step_of}
-use Rattle.td_engine.specs.Steps.{Does}
-use Rattle.td_engine.specs.Transactions.{transaction_view}
-use Rattle.td_tree.specs.TreeViews.{statement_view}
+use Rattle.td_engine.specs.code.Steps.{Does}
+use Rattle.td_engine.specs.code.Transactions.{transaction_view}
+use Rattle.td_tree.specs.code.TreeViews.{statement_view}
 use Rattle.td_engine.proofs.engine.Engine.execute.Goals as goal
 
 pub returns-in-Some-clause-done : goal.returns-in-Some-clause-done

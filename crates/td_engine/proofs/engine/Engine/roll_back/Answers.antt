@@ -1,11 +1,11 @@
 use Rattle.std.proofs.Common.{◌≡◌, ◌∙◌, ◌∷◌, [], ap, map, reverse, subst, sym}
 use Rattle.std.proofs.lemmas.List.{reverse-append}
-use Rattle.td_engine.proofs.Opens.{engine_back, state_back}
-use Rattle.td_engine.proofs.Transactions.{rollback_does}
+use Rattle.td_engine.proofs.code_lemmas.Opens.{engine_back, state_back}
+use Rattle.td_engine.proofs.law_lemmas.Transactions.{rollback_does}
 use Rattle.td_engine.specs.Legality.{IsLegalState}
 use Rattle.td_engine.specs.Machine.{State, rolled_back, step_of}
-use Rattle.td_engine.specs.Stages.{IsEngine, stage, state_at}
-use Rattle.td_engine.specs.Steps.{Does}
+use Rattle.td_engine.specs.code.Stages.{IsEngine, stage, state_at}
+use Rattle.td_engine.specs.code.Steps.{Does}
 use Rattle.td_engine.proofs.engine.Engine.roll_back.Goals as goal
 
 pub invariant_of-self : goal.invariant_of-self

@@ -1,8 +1,8 @@
 use Rattle.std.proofs.Common.{List}
-use Rattle.td_engine.proofs.Answered.{parsed_spelled}
-use Rattle.td_engine.proofs.Turning.{ok_map}
+use Rattle.td_engine.proofs.law_lemmas.Answered.{parsed_spelled}
+use Rattle.td_engine.proofs.code_lemmas.Turning.{ok_map}
 use Rattle.td_engine.proofs.engine.Engine.step.Goals as goal
-use Rattle.td_engine.specs.Steps.{IsParsed, IsStep}
+use Rattle.td_engine.specs.code.Steps.{IsParsed, IsStep}
 use Rattle.td_tree.specs.Statements.{PlacedToken}
 
 pub carry_out-requires : goal.carry_out-requires

@@ -1,8 +1,8 @@
 use Rattle.std.proofs.Common.{ap, refl}
 use Rattle.td_catalog.specs.KeptDatabases.{CatalogView}
-use Rattle.td_engine.proofs.Answered.{text_does}
-use Rattle.td_engine.proofs.StageLaws.{stays}
-use Rattle.td_tree.specs.TreeViews.{statement_view}
+use Rattle.td_engine.proofs.law_lemmas.Answered.{text_does}
+use Rattle.td_engine.proofs.code_lemmas.StageLaws.{stays}
+use Rattle.td_tree.specs.code.TreeViews.{statement_view}
 use Rattle.td_engine.proofs.present.Present.do_admitted.Goals as goal
 
 pub returns-in-None-clause-done : goal.returns-in-None-clause-done

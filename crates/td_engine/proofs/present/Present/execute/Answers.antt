@@ -2,14 +2,14 @@ use Rattle.std.proofs.Common.{Err, refl, subst}
 use Rattle.td_catalog.specs.Database.{Database, database_scope}
 use Rattle.td_catalog.specs.KeptDatabases.{CatalogView}
 use Rattle.td_check.specs.StatementTypes.{statement_checked}
-use Rattle.td_engine.proofs.Answered.{refused_does}
-use Rattle.td_engine.proofs.StageLaws.{stays}
-use Rattle.td_engine.proofs.Turning.{ok_map}
-use Rattle.td_engine.specs.Carried.{IsRefusedBy}
+use Rattle.td_engine.proofs.law_lemmas.Answered.{refused_does}
+use Rattle.td_engine.proofs.code_lemmas.StageLaws.{stays}
+use Rattle.td_engine.proofs.code_lemmas.Turning.{ok_map}
+use Rattle.td_engine.specs.code.Carried.{IsRefusedBy}
 use Rattle.td_engine.specs.Machine.{carried_out, effect, step_of}
-use Rattle.td_engine.specs.Steps.{Does}
+use Rattle.td_engine.specs.code.Steps.{Does}
 use Rattle.td_tree.specs.Outcomes.{Answers}
-use Rattle.td_tree.specs.TreeViews.{statement_view}
+use Rattle.td_tree.specs.code.TreeViews.{statement_view}
 use Rattle.td_engine.proofs.present.Present.execute.Goals as goal
 
 pub returns-in-Ok-clause-done : goal.returns-in-Ok-clause-done

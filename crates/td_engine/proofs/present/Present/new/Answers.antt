@@ -1,6 +1,6 @@
 use Rattle.std.proofs.Common.{subst, sym}
 use Rattle.td_catalog.specs.KeptDatabases.{CatalogView}
-use Rattle.td_engine.proofs.LegalChanges.{legal_empty}
+use Rattle.td_engine.proofs.law_lemmas.LegalChanges.{legal_empty}
 use Rattle.td_engine.specs.Legality.{IsLegal}
 use Rattle.td_engine.proofs.present.Present.new.Goals as goal
 

@@ -1,6 +1,6 @@
 use Rattle.std.proofs.Common.{◌≡◌, ◌∙◌, ◌+◌, ap, subst, sym, take}
 use Rattle.td_catalog.specs.KeptDatabases.{CatalogView, stages}
-use Rattle.td_engine.proofs.StageLaws.{back_stage}
+use Rattle.td_engine.proofs.code_lemmas.StageLaws.{back_stage}
 use Rattle.td_engine.specs.Legality.{IsLegal}
 use Rattle.td_engine.proofs.present.Present.revert.Goals as goal
 

@@ -1,6 +1,6 @@
 use Rattle.std.proofs.Common.{◌∙◌, ap, reverse, sym}
 use Rattle.td_eval.specs.Worlds.{innermost_value}
-use Rattle.td_eval.proofs.OpTuples.{innermost_beyond, innermost_here, innermost_nowhere, last_is_innermost}
+use Rattle.td_eval.proofs.code_lemmas.OpTuples.{innermost_beyond, innermost_here, innermost_nowhere, last_is_innermost}
 use Rattle.td_eval.proofs.operators.asked.attribute.Goals as goal
 
 pub loop-tuple-init : goal.loop-tuple-init

@@ -1,6 +1,6 @@
 use Rattle.std.proofs.Common.{◌≡◌, drop, map}
 use Rattle.td_check.specs.OperatorTypes.{are_types_of}
-use Rattle.td_types.specs.Views.{pairs_view}
+use Rattle.td_types.specs.code.Views.{pairs_view}
 use Rattle.td_value.specs.Values.{type_of}
 use Rattle.td_eval.proofs.operators.asked.have_types.Given as goal
 

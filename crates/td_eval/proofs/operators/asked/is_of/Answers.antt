@@ -1,5 +1,5 @@
-use Rattle.td_eval.proofs.OpComparisons.{type_test}
-use Rattle.td_types.specs.Views.{type_view}
+use Rattle.td_eval.proofs.code_lemmas.OpComparisons.{type_test}
+use Rattle.td_types.specs.code.Views.{type_view}
 use Rattle.td_value.specs.Values.{type_of}
 use Rattle.td_eval.proofs.operators.asked.is_of.Goals as goal
 

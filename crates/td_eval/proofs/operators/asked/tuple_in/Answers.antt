@@ -1,4 +1,4 @@
-use Rattle.td_eval.proofs.OpValues.{tuple_unpacked}
+use Rattle.td_eval.proofs.code_lemmas.OpValues.{tuple_unpacked}
 use Rattle.td_tree.specs.Outcomes.{Valued}
 use Rattle.td_eval.proofs.operators.asked.tuple_in.Goals as goal
 

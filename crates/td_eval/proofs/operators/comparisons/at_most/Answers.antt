@@ -1,4 +1,4 @@
-use Rattle.td_eval.proofs.OpComparisons.{at_most_relations}
+use Rattle.td_eval.proofs.code_lemmas.OpComparisons.{at_most_relations}
 use Rattle.td_eval.proofs.operators.comparisons.at_most.Goals as goal
 
 pub returns-in-Rel-Rel : goal.returns-in-Rel-Rel

@@ -1,8 +1,8 @@
 use Rattle.std.proofs.Common.{Bool}
 use Rattle.std.specs.Prelude.{not}
 use Rattle.std.proofs.lemmas.Result.{err_from_is_err_and}
-use Rattle.td_eval.proofs.OpComparisons.{equality_then}
-use Rattle.td_eval.proofs.OpValues.{refused_then}
+use Rattle.td_eval.proofs.code_lemmas.OpComparisons.{equality_then}
+use Rattle.td_eval.proofs.code_lemmas.OpValues.{refused_then}
 use Rattle.td_eval.proofs.operators.comparisons.comparison_value.Goals as goal
 
 pub returns-in_err-are_one-in-Equal : goal.returns-in_err-are_one-in-Equal

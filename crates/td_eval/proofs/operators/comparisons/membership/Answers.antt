@@ -1,4 +1,4 @@
-use Rattle.td_eval.proofs.OpComparisons.{membership_of}
+use Rattle.td_eval.proofs.code_lemmas.OpComparisons.{membership_of}
 use Rattle.td_eval.proofs.operators.comparisons.membership.Goals as goal
 
 pub returns-in-Tup-Rel : goal.returns-in-Tup-Rel

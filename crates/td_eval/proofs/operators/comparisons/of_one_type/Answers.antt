@@ -1,5 +1,5 @@
 use Rattle.std.proofs.Common.{◌∙◌, sym}
-use Rattle.td_eval.proofs.OpComparisons.{equality_valued}
+use Rattle.td_eval.proofs.code_lemmas.OpComparisons.{equality_valued}
 use Rattle.td_eval.proofs.operators.comparisons.of_one_type.Goals as goal
 
 pub returns-then-branch : goal.returns-then-branch

@@ -1,4 +1,4 @@
-use Rattle.td_eval.proofs.OpComparisons.{first_unlike, relations_unlike, second_unlike}
+use Rattle.td_eval.proofs.code_lemmas.OpComparisons.{first_unlike, relations_unlike, second_unlike}
 use Rattle.td_types.specs.Types.{pack}
 use Rattle.td_value.specs.Values.{type_of}
 use Rattle.td_eval.proofs.operators.comparisons.unlike.Goals as goal

@@ -1,9 +1,9 @@
 use Rattle.std.proofs.Common.{map, subst}
 use Rattle.std.proofs.lemmas.List.{take_all}
 use Rattle.std.specs.List.{All}
-use Rattle.td_eval.proofs.OpElements.{elements_answered, elements_hold}
+use Rattle.td_eval.proofs.code_lemmas.OpElements.{elements_answered, elements_hold}
 use Rattle.td_eval.specs.OperatorValues.{element_of}
-use Rattle.td_tree.proofs.Gatherings.{collected_next, collected_hold}
+use Rattle.td_tree.proofs.code_lemmas.Gatherings.{collected_next, collected_hold}
 use Rattle.td_tree.specs.Gatherings.{IsGathered}
 use Rattle.td_value.specs.Values.{IsTupleOf}
 use Rattle.td_eval.proofs.operators.elements.elements_of.Goals as goal

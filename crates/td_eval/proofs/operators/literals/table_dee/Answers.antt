@@ -1,5 +1,5 @@
 use Rattle.std.proofs.Common.{◌≡◌, ◌∙◌, ◌∷◌, ◌++◌, [], subst, sym}
-use Rattle.td_eval.proofs.OpElements.{made_of}
+use Rattle.td_eval.proofs.code_lemmas.OpElements.{made_of}
 use Rattle.td_tree.specs.Outcomes.{Valued}
 use Rattle.td_types.proofs.OutcomeLaws.{valued_is}
 use Rattle.td_value.specs.Values.{made_tuple, relation_of}

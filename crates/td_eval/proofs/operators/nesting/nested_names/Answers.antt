@@ -3,8 +3,8 @@ use Rattle.std.specs.Global.{Vec}
 use Rattle.std.proofs.lemmas.Result.{err_from_is_err_and}
 use Rattle.td_group.specs.Nesting.{can_nest}
 use Rattle.td_tree.specs.Outcomes.{Valued}
-use Rattle.td_tree.specs.TreeViews.{attributes_view}
-use Rattle.td_eval.proofs.NestedNames.{names_given, names_misfit}
+use Rattle.td_tree.specs.code.TreeViews.{attributes_view}
+use Rattle.td_eval.proofs.code_lemmas.NestedNames.{names_given, names_misfit}
 use Rattle.td_eval.proofs.operators.nesting.nested_names.Goals as goal
 
 pub returns-in_err-fit : goal.returns-in_err-fit

@@ -1,11 +1,11 @@
 use Rattle.std.proofs.Common.{◌≡◌, ◌∙◌, subst}
 use Rattle.std.specs.Prelude.{IfOk}
 use Rattle.td_check.proofs.Gives.{answered_then}
-use Rattle.td_eval.proofs.NestedNames.{names_nest}
+use Rattle.td_eval.proofs.code_lemmas.NestedNames.{names_nest}
 use Rattle.td_eval.specs.OperatorValues.{nested_names, of_relation}
 use Rattle.td_group.specs.Nesting.{can_nest, wrapped_relation}
 use Rattle.td_tree.specs.Outcomes.{Valued}
-use Rattle.td_tree.specs.TreeViews.{attributes_view}
+use Rattle.td_tree.specs.code.TreeViews.{attributes_view}
 use Rattle.td_eval.proofs.operators.nesting.wrapped.Goals as goal
 
 pub wrap-requires : goal.wrap-requires

@@ -1,8 +1,8 @@
 use Rattle.std.proofs.Common.{◌∙◌, ap, sym}
 use Rattle.std.specs.Rc.{rc_str_bytes}
-use Rattle.td_eval.proofs.OpElements.{zip_past}
+use Rattle.td_eval.proofs.code_lemmas.OpElements.{zip_past}
 use Rattle.td_types.specs.Types.{attribute_names}
-use Rattle.td_types.specs.Views.{pairs_view}
+use Rattle.td_types.specs.code.Views.{pairs_view}
 use Rattle.td_value.specs.Values.{value_at}
 use Rattle.td_eval.proofs.operators.operand.component_named.Goals as goal
 

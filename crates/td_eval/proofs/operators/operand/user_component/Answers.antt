@@ -2,7 +2,7 @@ use Rattle.std.proofs.Common.{◌≡◌, ◌∙◌, Some, ap, option_map, subst,
 use Rattle.std.specs.List.{zip}
 use Rattle.std.specs.Rc.{rc_str_bytes}
 use Rattle.td_check.specs.OperatorTypes.{known_or}
-use Rattle.td_eval.proofs.OpElements.{component_found}
+use Rattle.td_eval.proofs.code_lemmas.OpElements.{component_found}
 use Rattle.td_tree.specs.declared.cause.Cause.TheVariants as causes
 use Rattle.td_tree.specs.Outcomes.{Answers}
 use Rattle.td_types.specs.TypeLists.{declared_at}

@@ -1,6 +1,6 @@
 use Rattle.std.proofs.Common.{◌<◌, subst, sym, ap, ◌∙◌, option_map}
-use Rattle.td_types.specs.Views.{type_view}
-use Rattle.td_eval.proofs.OpHeadings.{name_more}
+use Rattle.td_types.specs.code.Views.{type_view}
+use Rattle.td_eval.proofs.code_lemmas.OpHeadings.{name_more}
 use Rattle.td_eval.proofs.operators.postfix.names_in.Goals as goal
 
 pub loop-place-preserved : goal.loop-place-preserved

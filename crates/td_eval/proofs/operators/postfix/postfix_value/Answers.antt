@@ -1,8 +1,8 @@
-use Rattle.td_eval.proofs.WalkedExtension.{answers_related}
+use Rattle.td_eval.proofs.code_lemmas.WalkedExtension.{answers_related}
 use Rattle.td_eval.specs.OperatorValues.{nested_names, of_relation}
 use Rattle.td_group.specs.Nesting.{grouped_relation, wrapped_relation}
 use Rattle.td_tree.specs.Outcomes.{with_value}
-use Rattle.td_tree.specs.TreeViews.{attributes_view}
+use Rattle.td_tree.specs.code.TreeViews.{attributes_view}
 use Rattle.td_value.specs.Values.{Val}
 use Rattle.td_eval.proofs.operators.postfix.postfix_value.Goals as goal
 

@@ -1,7 +1,7 @@
 use Rattle.std.proofs.Common.{◌≡◌, ◌∙◌, ap, subst, sym, true}
 use Rattle.std.specs.Prelude.{IfOk}
 use Rattle.td_algebra.specs.Operators.{projected_relation}
-use Rattle.td_eval.proofs.OpHeadings.{given_where, outside_projected}
+use Rattle.td_eval.proofs.code_lemmas.OpHeadings.{given_where, outside_projected}
 use Rattle.td_tree.specs.declared.cause.Cause.TheVariants as causes
 use Rattle.td_types.proofs.OutcomeLaws.{value_of_test}
 use Rattle.td_types.specs.Headings.{has_projection, outside, projection}

@@ -2,8 +2,8 @@ use Rattle.std.proofs.Common.{◌≡◌, ◌∙◌, map, subst, sym}
 use Rattle.std.specs.Prelude.{IfOk}
 use Rattle.td_algebra.specs.Operators.{renamed_relation}
 use Rattle.td_check.specs.OperatorTypes.{renaming_pairs}
-use Rattle.td_eval.proofs.OpHeadings.{given_where}
-use Rattle.td_tree.specs.TreeViews.{renaming_view}
+use Rattle.td_eval.proofs.code_lemmas.OpHeadings.{given_where}
+use Rattle.td_tree.specs.code.TreeViews.{renaming_view}
 use Rattle.td_types.specs.Headings.{can_rename}
 use Rattle.td_eval.proofs.operators.postfix.renamed.Goals as goal
 

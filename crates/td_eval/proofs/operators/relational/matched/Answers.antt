@@ -1,6 +1,6 @@
 use Rattle.std.proofs.Common.{rules}
 use Rattle.td_algebra.specs.Operators.{semijoin}
-use Rattle.td_eval.proofs.OpValues.{related_where}
+use Rattle.td_eval.proofs.code_lemmas.OpValues.{related_where}
 use Rattle.td_types.specs.Headings.{agree}
 use Rattle.td_eval.proofs.operators.relational.matched.Goals as goal
 

@@ -1,6 +1,6 @@
 use Rattle.std.proofs.Common.{rules}
 use Rattle.td_algebra.specs.Operators.{product}
-use Rattle.td_eval.proofs.OpValues.{related_where}
+use Rattle.td_eval.proofs.code_lemmas.OpValues.{related_where}
 use Rattle.td_types.specs.Headings.{have_no_common}
 use Rattle.td_eval.proofs.operators.relational.multiplied.Goals as goal
 

@@ -1,6 +1,6 @@
 use Rattle.td_algebra.specs.Operators.{difference}
 use Rattle.td_check.specs.OperatorTypes.{same_heading}
-use Rattle.td_eval.proofs.OpValues.{related_where}
+use Rattle.td_eval.proofs.code_lemmas.OpValues.{related_where}
 use Rattle.td_types.specs.TypeOrder.{heading_eq-Decides}
 use Rattle.std.proofs.Common.{rules}
 use Rattle.td_eval.proofs.operators.relational.subtracted.Goals as goal

@@ -1,8 +1,8 @@
 use Rattle.std.proofs.Common.{◌∙◌, ◌++◌, ap, sym}
 use Rattle.std.proofs.lemmas.List.{append-nil}
-use Rattle.td_eval.proofs.OpElements.{zip_past}
+use Rattle.td_eval.proofs.code_lemmas.OpElements.{zip_past}
 use Rattle.td_types.specs.Types.{attribute_names}
-use Rattle.td_types.specs.Views.{pairs_view}
+use Rattle.td_types.specs.code.Views.{pairs_view}
 use Rattle.td_eval.proofs.operators.selectors.named.Goals as goal
 
 pub returns : goal.returns

@@ -1,7 +1,7 @@
 use Rattle.std.proofs.Common.{◌≡◌, ◌++◌, drop}
 use Rattle.std.specs.List.{zip}
 use Rattle.td_types.specs.Types.{attribute_names}
-use Rattle.td_types.specs.Views.{pairs_view}
+use Rattle.td_types.specs.code.Views.{pairs_view}
 use Rattle.td_eval.proofs.operators.selectors.named.Given as goal
 
 abbrev pub invariant-loop-value : goal.invariant-loop-value

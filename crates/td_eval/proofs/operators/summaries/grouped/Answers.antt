@@ -1,5 +1,5 @@
 use Rattle.std.proofs.Common.{◌∙◌, sym}
-use Rattle.td_eval.proofs.WalkedTotals.{part_agrees}
+use Rattle.td_eval.proofs.code_lemmas.WalkedTotals.{part_agrees}
 use Rattle.td_types.specs.Headings.{is_part}
 use Rattle.td_eval.proofs.operators.summaries.grouped.Goals as goal
 

@@ -1,12 +1,12 @@
 use Rattle.std.proofs.Common.{ℕ, List}
 use Rattle.std.specs.Global.{Vec}
-use Rattle.td_eval.proofs.WalkedLists.{walked}
-use Rattle.td_eval.proofs.WalkedTotals.{attributes_are}
-use Rattle.td_eval.specs.Totals.{attribute_found}
+use Rattle.td_eval.proofs.code_lemmas.WalkedLists.{walked}
+use Rattle.td_eval.proofs.code_lemmas.WalkedTotals.{attributes_are}
+use Rattle.td_eval.specs.code.Totals.{attribute_found}
 use Rattle.td_types.specs.declared.ty.Ty.{Ty}
-use Rattle.td_types.specs.Pairs.{pair_view}
-use Rattle.td_types.specs.Views.{pairs_view}
-use Rattle.td_tree.proofs.Gatherings.{collected_next}
+use Rattle.td_types.specs.code.Pairs.{pair_view}
+use Rattle.td_types.specs.code.Views.{pairs_view}
+use Rattle.td_tree.proofs.code_lemmas.Gatherings.{collected_next}
 use Rattle.td_eval.proofs.operators.summaries.item_attributes.Goals as goal
 
 pub loop-item-preserved : goal.loop-item-preserved

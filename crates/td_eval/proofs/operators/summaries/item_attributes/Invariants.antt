@@ -1,7 +1,7 @@
 use Rattle.std.proofs.Common.{map, take}
-use Rattle.td_eval.specs.Totals.{attribute_found}
+use Rattle.td_eval.specs.code.Totals.{attribute_found}
 use Rattle.td_tree.specs.Gatherings.{IsGathered}
-use Rattle.td_types.specs.Pairs.{pair_view}
+use Rattle.td_types.specs.code.Pairs.{pair_view}
 use Rattle.td_eval.proofs.operators.summaries.item_attributes.Given as goal
 
 abbrev pub invariant-loop-item : goal.invariant-loop-item

@@ -1,18 +1,18 @@
 use Rattle.std.proofs.Common.{◌≡◌, ◌∙◌, ap, length, map, reverse, subst, sym}
 use Rattle.std.proofs.lemmas.List.{length-map}
 use Rattle.td_check.specs.Scopes.{entered_with}
-use Rattle.td_eval.proofs.WalkedTotals.{as_many_attributes, as_many_items, as_many_totals}
+use Rattle.td_eval.proofs.code_lemmas.WalkedTotals.{as_many_attributes, as_many_items, as_many_totals}
 use Rattle.td_eval.specs.AggregateValues.{summary_in}
 use Rattle.td_eval.specs.OperatorValues.{extended_value}
-use Rattle.td_eval.specs.Sights.{seen_by}
-use Rattle.td_eval.specs.Totals.{total_view}
+use Rattle.td_eval.specs.code.Sights.{seen_by}
+use Rattle.td_eval.specs.code.Totals.{total_view}
 use Rattle.td_eval.specs.TreeValues.{items_in_tuples}
 use Rattle.td_eval.specs.Worlds.{with_tuples}
 use Rattle.td_group.specs.Groups.{groups}
 use Rattle.td_tree.specs.Outcomes.{Answers, Valued}
-use Rattle.td_tree.specs.TreeViews.{summaries_view}
-use Rattle.td_types.specs.Pairs.{pair_view}
-use Rattle.td_types.specs.Views.{pairs_view}
+use Rattle.td_tree.specs.code.TreeViews.{summaries_view}
+use Rattle.td_types.specs.code.Pairs.{pair_view}
+use Rattle.td_types.specs.code.Views.{pairs_view}
 use Rattle.td_value.specs.Values.{Val}
 use Rattle.td_eval.proofs.operators.summaries.summarized.Goals as goal
 

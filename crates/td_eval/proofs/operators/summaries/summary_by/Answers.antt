@@ -4,18 +4,18 @@ use Rattle.std.proofs.lemmas.Result.{err_from_is_err_and}
 use Rattle.std.specs.Global.{Vec}
 use Rattle.td_algebra.specs.Columns.{columns_view}
 use Rattle.td_algebra.specs.declared.extension.Column.{Column}
-use Rattle.td_eval.proofs.WalkedExtension.{apart_given, checked_of, columns_fit, columns_of_additions, columns_refused, distinct_given, extended_given, same_attributes}
-use Rattle.td_eval.proofs.WalkedTotals.{as_many_totals, columns_same}
+use Rattle.td_eval.proofs.code_lemmas.WalkedExtension.{apart_given, checked_of, columns_fit, columns_of_additions, columns_refused, distinct_given, extended_given, same_attributes}
+use Rattle.td_eval.proofs.code_lemmas.WalkedTotals.{as_many_totals, columns_same}
 use Rattle.td_eval.specs.AggregateValues.{summary_in}
-use Rattle.td_eval.specs.NewColumns.{named_columns}
+use Rattle.td_eval.specs.code.NewColumns.{named_columns}
 use Rattle.td_eval.specs.OperatorValues.{additions_of}
-use Rattle.td_eval.specs.Totals.{total_view}
+use Rattle.td_eval.specs.code.Totals.{total_view}
 use Rattle.td_group.specs.Groups.{groups}
 use Rattle.td_tree.specs.Outcomes.{Answers, Valued, gathered}
 use Rattle.td_types.specs.Headings.{are_distinct, have_no_common}
-use Rattle.td_types.specs.Pairs.{pair_view}
+use Rattle.td_types.specs.code.Pairs.{pair_view}
 use Rattle.td_types.specs.Types.{attribute_names}
-use Rattle.td_types.specs.Views.{pairs_view}
+use Rattle.td_types.specs.code.Views.{pairs_view}
 use Rattle.td_eval.proofs.operators.summaries.summary_by.Goals as goal
 
 pub returns-in_err-columns : goal.returns-in_err-columns

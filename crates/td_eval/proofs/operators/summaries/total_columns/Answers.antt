@@ -3,14 +3,14 @@ use Rattle.std.specs.Global.{Vec}
 use Rattle.std.specs.List.{zip}
 use Rattle.td_algebra.specs.Columns.{columns_view}
 use Rattle.td_algebra.specs.declared.extension.Column.{Column}
-use Rattle.td_eval.proofs.WalkedColumns.{beside_at, beside_past, beside_within}
-use Rattle.td_eval.proofs.WalkedLists.{walked}
-use Rattle.td_eval.proofs.WalkedTotals.{total_column, total_columns_are}
-use Rattle.td_eval.specs.NewColumns.{column_view}
-use Rattle.td_eval.specs.Totals.{total_values, total_view}
-use Rattle.td_tree.proofs.Gatherings.{collected_next}
+use Rattle.td_eval.proofs.code_lemmas.WalkedColumns.{beside_at, beside_past, beside_within}
+use Rattle.td_eval.proofs.code_lemmas.WalkedLists.{walked}
+use Rattle.td_eval.proofs.code_lemmas.WalkedTotals.{total_column, total_columns_are}
+use Rattle.td_eval.specs.code.NewColumns.{column_view}
+use Rattle.td_eval.specs.code.Totals.{total_values, total_view}
+use Rattle.td_tree.proofs.code_lemmas.Gatherings.{collected_next}
 use Rattle.td_tree.specs.Outcomes.{Answers, gathered}
-use Rattle.td_types.specs.Views.{type_view}
+use Rattle.td_types.specs.code.Views.{type_view}
 use Rattle.td_value.specs.Values.{Val}
 use Rattle.td_eval.proofs.operators.summaries.total_columns.Goals as goal
 

@@ -3,7 +3,7 @@ use Rattle.td_eval.specs.AggregateValues.{aggregate_of}
 use Rattle.td_eval.specs.OperatorValues.{value_of_type}
 use Rattle.td_tree.specs.Gatherings.{IsGathered}
 use Rattle.td_tree.specs.Outcomes.{with_value}
-use Rattle.td_types.specs.Views.{type_view}
+use Rattle.td_types.specs.code.Views.{type_view}
 use Rattle.td_eval.proofs.operators.summaries.total_values.Given as goal
 
 abbrev pub invariant-loop-group : goal.invariant-loop-group

@@ -1,6 +1,6 @@
 use Rattle.std.proofs.Common.{◌≡◌, ◌∙◌, map, subst}
 use Rattle.td_algebra.specs.Operators.{restriction}
-use Rattle.td_eval.proofs.OpTuples.{restricted_of, truths_are}
+use Rattle.td_eval.proofs.code_lemmas.OpTuples.{restricted_of, truths_are}
 use Rattle.td_eval.specs.OperatorValues.{is_true, truth_value}
 use Rattle.td_tree.specs.Outcomes.{Answers, Valued, gathered}
 use Rattle.td_eval.proofs.operators.tuplewise.restricted.Goals as goal

@@ -1,5 +1,5 @@
 use Rattle.std.proofs.Common.{rules}
-use Rattle.td_eval.proofs.OpHeadings.{given_where}
+use Rattle.td_eval.proofs.code_lemmas.OpHeadings.{given_where}
 use Rattle.td_group.specs.Closure.{closure}
 use Rattle.td_eval.proofs.operators.unnesting.closed.Goals as goal
 

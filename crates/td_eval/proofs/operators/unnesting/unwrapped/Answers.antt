@@ -1,6 +1,6 @@
 use Rattle.std.proofs.Common.{◌∙◌, ap, subst, sym}
-use Rattle.td_eval.proofs.OpHeadings.{given_where}
-use Rattle.td_eval.proofs.UnnestedParts.{tuple_there}
+use Rattle.td_eval.proofs.code_lemmas.OpHeadings.{given_where}
+use Rattle.td_eval.proofs.code_lemmas.UnnestedParts.{tuple_there}
 use Rattle.td_eval.specs.OperatorValues.{relation_where}
 use Rattle.td_group.specs.Nesting.{can_unnest, unnested_relation}
 use Rattle.td_tree.specs.Outcomes.{Answers}

@@ -1,5 +1,5 @@
-use Rattle.td_eval.proofs.VirtualValues.{all_known}
-use Rattle.td_eval.specs.Sights.{other_in}
+use Rattle.td_eval.proofs.code_lemmas.VirtualValues.{all_known}
+use Rattle.td_eval.specs.code.Sights.{other_in}
 use Rattle.td_eval.proofs.sight.Sight.of_env.Goals as goal
 
 pub returns-clause-exact : goal.returns-clause-exact

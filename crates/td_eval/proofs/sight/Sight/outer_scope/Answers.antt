@@ -2,9 +2,9 @@ use Rattle.std.proofs.Common.{◌≡◌, ◌∙◌, ℕ, [], List, Option, ap, r
 use Rattle.td_catalog.specs.Database.{Database, database_scope}
 use Rattle.td_check.specs.Scopes.{Scope, scope_of}
 use Rattle.td_eval.specs.DatabaseWorlds.{with_other, world_of}
-use Rattle.td_eval.specs.Sights.{other_seen, seen_by, with_first_virtuals}
-use Rattle.td_eval.proofs.Selectors.{other_scope}
-use Rattle.td_eval.proofs.WorldParts.{world_scope}
+use Rattle.td_eval.specs.code.Sights.{other_seen, seen_by, with_first_virtuals}
+use Rattle.td_eval.proofs.code_lemmas.Selectors.{other_scope}
+use Rattle.td_eval.proofs.code_lemmas.WorldParts.{world_scope}
 use Rattle.td_eval.specs.Worlds.{with_tuples}
 use Rattle.td_value.specs.Values.{Relation}
 use Rattle.td_eval.proofs.sight.Sight.outer_scope.Goals as goal

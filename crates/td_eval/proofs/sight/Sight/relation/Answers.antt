@@ -1,5 +1,5 @@
 use Rattle.std.proofs.Common.{◌∙◌, Some, ap, refl}
-use Rattle.td_eval.proofs.VirtualValues.{held_base, held_none, held_other}
+use Rattle.td_eval.proofs.code_lemmas.VirtualValues.{held_base, held_none, held_other}
 use Rattle.td_eval.proofs.sight.Sight.relation.Goals as goal
 
 pub returns-in_default : goal.returns-in_default

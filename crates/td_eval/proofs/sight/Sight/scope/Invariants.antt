@@ -1,5 +1,5 @@
 use Rattle.std.proofs.Common.{◌≡◌, reverse, take}
-use Rattle.td_eval.specs.Sights.{seen_by}
+use Rattle.td_eval.specs.code.Sights.{seen_by}
 use Rattle.td_eval.proofs.sight.Sight.scope.Given as goal
 use Rattle.td_eval.specs.Worlds.{with_tuples}
 

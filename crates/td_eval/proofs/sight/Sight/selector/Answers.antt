@@ -1,5 +1,5 @@
 use Rattle.std.proofs.Common.{sym}
-use Rattle.td_eval.proofs.Selectors.{later_placed, none_placed}
+use Rattle.td_eval.proofs.code_lemmas.Selectors.{later_placed, none_placed}
 use Rattle.td_eval.proofs.sight.Sight.selector.Goals as goal
 
 pub returns-in_err-place-clause-none : goal.returns-in_err-place-clause-none

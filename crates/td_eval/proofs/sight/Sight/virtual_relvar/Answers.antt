@@ -1,5 +1,5 @@
 use Rattle.std.proofs.Common.{sym}
-use Rattle.td_eval.proofs.VirtualValues.{is_late, is_none, is_outside, is_virtual, never_missing}
+use Rattle.td_eval.proofs.code_lemmas.VirtualValues.{is_late, is_none, is_outside, is_virtual, never_missing}
 use Rattle.td_eval.proofs.sight.Sight.virtual_relvar.Goals as goal
 
 pub returns-in_err-catalog-clause-none : goal.returns-in_err-catalog-clause-none

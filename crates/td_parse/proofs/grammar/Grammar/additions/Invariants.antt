@@ -1,7 +1,7 @@
 use Rattle.std.proofs.Common.{◌≡◌, ◌-◌, map}
 use Rattle.td_parse.specs.ReadingSteps.{separated, separated_from}
 use Rattle.td_parse.specs.Reading.{addition, read}
-use Rattle.td_parse.specs.Views.{named_part_view}
+use Rattle.td_parse.specs.code.Views.{named_part_view}
 use Rattle.td_parse.proofs.grammar.Grammar.additions.Given as goal
 
 -- what is left goes on from the additions so far

@@ -2,7 +2,7 @@ use Rattle.std.proofs.Common.{◌≡◌, ◌-◌, map}
 use Rattle.td_tree.specs.Grammar.{loosest}
 use Rattle.td_parse.specs.ReadingSteps.{separated, separated_from}
 use Rattle.td_parse.specs.Reading.{read}
-use Rattle.td_tree.specs.TreeViews.{tree_view}
+use Rattle.td_tree.specs.code.TreeViews.{tree_view}
 use Rattle.td_parse.proofs.grammar.Grammar.elements.Given as goal
 
 -- what is left goes on from the expressions so far

@@ -1,6 +1,6 @@
 use Rattle.std.proofs.Common.{◌∙◌}
 use Rattle.td_parse.proofs.Separated.{begins, ends, goes_on, ran_out}
-use Rattle.td_parse.specs.Views.{named_part_view}
+use Rattle.td_parse.specs.code.Views.{named_part_view}
 use Rattle.td_parse.proofs.grammar.Grammar.parts.Goals as goal
 
 pub loop-turn-init : goal.loop-turn-init

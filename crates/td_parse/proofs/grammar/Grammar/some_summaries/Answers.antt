@@ -1,6 +1,6 @@
 use Rattle.td_parse.proofs.Separated.{begins, ends, goes_on, ran_out}
-use Rattle.td_parse.specs.FoundSummaries.{summary_view}
-use Rattle.td_parse.specs.Views.{item_view}
+use Rattle.td_parse.specs.code.FoundSummaries.{summary_view}
+use Rattle.td_parse.specs.code.Views.{item_view}
 use Rattle.td_parse.proofs.grammar.Grammar.some_summaries.Goals as goal
 
 pub loop-turn-init : goal.loop-turn-init

@@ -1,7 +1,7 @@
 use Rattle.std.proofs.Common.{◌≡◌, ◌-◌, map}
 use Rattle.td_parse.specs.ReadingSteps.{separated, separated_from}
 use Rattle.td_parse.specs.Reading.{read, summary}
-use Rattle.td_parse.specs.Views.{item_view}
+use Rattle.td_parse.specs.code.Views.{item_view}
 use Rattle.td_parse.proofs.grammar.Grammar.some_summaries.Given as goal
 
 -- what is left goes on from the attributes so far

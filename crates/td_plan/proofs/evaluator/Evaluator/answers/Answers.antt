@@ -4,8 +4,8 @@ use Rattle.td_check.proofs.CheckedLists.{step_taken}
 use Rattle.td_plan.proofs.HandLaws.{answers_more}
 use Rattle.td_plan.proofs.RunLaws.{values_found}
 use Rattle.td_plan.proofs.StepHeights.{height_part}
-use Rattle.td_plan.specs.Hands.{AreAnswers}
-use Rattle.td_plan.specs.Runs.{step_value}
+use Rattle.td_plan.specs.code.Hands.{AreAnswers}
+use Rattle.td_plan.specs.code.Runs.{step_value}
 use Rattle.td_plan.proofs.ValuedBelow.{lower}
 use Rattle.td_plan.proofs.evaluator.Evaluator.answers.Goals as goal
 

@@ -1,7 +1,7 @@
 use Rattle.std.proofs.Common.{if◌then◌else◌}
 use Rattle.std.proofs.lemmas.Result.{err_from_is_err_and}
 use Rattle.td_plan.proofs.RunLaws.{choice_refused}
-use Rattle.td_plan.specs.Runs.{step_value}
+use Rattle.td_plan.specs.code.Runs.{step_value}
 use Rattle.td_plan.proofs.evaluator.Evaluator.choice.Goals as goal
 
 pub returns-in_err-truth_of : goal.returns-in_err-truth_of

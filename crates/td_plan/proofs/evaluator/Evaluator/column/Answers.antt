@@ -1,10 +1,10 @@
 use Rattle.std.proofs.Common.{refl}
-use Rattle.td_eval.proofs.WalkedLists.{walked_values}
-use Rattle.td_plan.specs.Runs.{value_in}
-use Rattle.td_tree.proofs.Gatherings.{collected_next}
+use Rattle.td_eval.proofs.code_lemmas.WalkedLists.{walked_values}
+use Rattle.td_plan.specs.code.Runs.{value_in}
+use Rattle.td_tree.proofs.code_lemmas.Gatherings.{collected_next}
 use Rattle.td_tree.specs.Outcomes.{with_value}
 use Rattle.td_eval.specs.OperatorValues.{value_of_type}
-use Rattle.td_types.specs.Views.{type_view}
+use Rattle.td_types.specs.code.Views.{type_view}
 use Rattle.td_plan.proofs.evaluator.Evaluator.column.Goals as goal
 
 pub loop-row-preserved : goal.loop-row-preserved

@@ -1,10 +1,10 @@
 use Rattle.std.proofs.Common.{List, map, take}
-use Rattle.td_plan.specs.Runs.{value_in, IsEntered}
+use Rattle.td_plan.specs.code.Runs.{value_in, IsEntered}
 use Rattle.td_tree.specs.Outcomes.{with_value, Outcome}
 use Rattle.td_value.specs.Values.{Val}
 use Rattle.td_eval.specs.OperatorValues.{value_of_type}
 use Rattle.td_tree.specs.Gatherings.{IsGathered}
-use Rattle.td_types.specs.Views.{type_view}
+use Rattle.td_types.specs.code.Views.{type_view}
 use Rattle.td_plan.specs.Plans.{Frame}
 use Rattle.td_plan.proofs.evaluator.Evaluator.column.Given as goal
 

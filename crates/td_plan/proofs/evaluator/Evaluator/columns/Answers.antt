@@ -1,20 +1,20 @@
 use Rattle.std.proofs.Common.{List, ap, ℕ}
 use Rattle.td_algebra.specs.Columns.{columns_view}
 use Rattle.td_plan.proofs.StepHeights.{height_part}
-use Rattle.td_plan.specs.Runs.{value_in}
-use Rattle.td_tree.proofs.Gatherings.{collected_next}
+use Rattle.td_plan.specs.code.Runs.{value_in}
+use Rattle.td_tree.proofs.code_lemmas.Gatherings.{collected_next}
 use Rattle.td_tree.specs.Outcomes.{gathered}
 use Rattle.std.specs.Global.{Vec}
 use Rattle.std.specs.List.{zip}
 use Rattle.td_algebra.specs.declared.extension.Column.{Column}
-use Rattle.td_eval.proofs.WalkedColumns.{beside_at, beside_past, beside_within}
-use Rattle.td_eval.proofs.WalkedLists.{walked}
-use Rattle.td_eval.specs.NewColumns.{column_view}
+use Rattle.td_eval.proofs.code_lemmas.WalkedColumns.{beside_at, beside_past, beside_within}
+use Rattle.td_eval.proofs.code_lemmas.WalkedLists.{walked}
+use Rattle.td_eval.specs.code.NewColumns.{column_view}
 use Rattle.td_eval.specs.OperatorValues.{column_values}
 use Rattle.td_plan.proofs.RunLaws.{column_found, columns_are}
 use Rattle.td_plan.specs.declared.step.Step.{Step}
 use Rattle.td_types.specs.declared.ty.Ty.{Ty}
-use Rattle.td_types.specs.Views.{type_view}
+use Rattle.td_types.specs.code.Views.{type_view}
 use Rattle.td_plan.proofs.ValuedBelow.{lower}
 use Rattle.td_plan.proofs.evaluator.Evaluator.columns.Goals as goal
 

@@ -5,7 +5,7 @@ use Rattle.std.specs.List.{zip}
 use Rattle.td_plan.proofs.RunLaws.{column_found}
 use Rattle.td_tree.specs.Gatherings.{IsGathered}
 use Rattle.td_plan.specs.Plans.{Frame}
-use Rattle.td_plan.specs.Runs.{IsEntered}
+use Rattle.td_plan.specs.code.Runs.{IsEntered}
 use Rattle.td_tree.specs.Outcomes.{Outcome}
 use Rattle.td_plan.proofs.evaluator.Evaluator.columns.Given as goal
 

@@ -1,17 +1,17 @@
 use Rattle.std.proofs.Common.{Err, ◌≡◌, ◌≢◌, List, arith, length, refl, subst}
 use Rattle.std.proofs.lemmas.List.{length-map}
 use Rattle.td_algebra.specs.Columns.{columns_view}
-use Rattle.td_eval.proofs.WalkedExtension.{related}
-use Rattle.td_eval.specs.NewColumns.{named_columns}
+use Rattle.td_eval.proofs.code_lemmas.WalkedExtension.{related}
+use Rattle.td_eval.specs.code.NewColumns.{named_columns}
 use Rattle.td_eval.specs.OperatorValues.{extended_value, on_relation}
 use Rattle.td_plan.proofs.RunLaws.{as_many_columns, columns_for, columns_nowhere, entered_told, frames_inside, inside_rows, no_rows, outcomes_inside, where_equal, where_unequal}
 use Rattle.td_plan.specs.Plans.{extension_of}
-use Rattle.td_plan.specs.Runs.{step_value, step_values, values_in}
+use Rattle.td_plan.specs.code.Runs.{step_value, step_values, values_in}
 use Rattle.td_tree.specs.declared.cause.Cause.TheVariants as causes
 use Rattle.td_tree.specs.declared.fault.Fault.TheVariants as faults
 use Rattle.td_tree.specs.Outcomes.{Answers, Valued, gathered, with_value}
-use Rattle.td_types.specs.Pairs.{pair_view}
-use Rattle.td_types.specs.Views.{pairs_view}
+use Rattle.td_types.specs.code.Pairs.{pair_view}
+use Rattle.td_types.specs.code.Views.{pairs_view}
 use Rattle.td_value.specs.Values.{Tuple}
 use Rattle.td_plan.proofs.ValuedBelow.{lower}
 use Rattle.td_plan.proofs.evaluator.Evaluator.extension.Goals as goal

@@ -1,6 +1,6 @@
 use Rattle.std.proofs.Common.{◌∙◌, ap, arith, sym}
-use Rattle.td_plan.specs.StepHeights.{height}
-use Rattle.td_plan.specs.StepViews.{step_view, steps_view}
+use Rattle.td_plan.specs.code.StepHeights.{height}
+use Rattle.td_plan.specs.code.StepViews.{step_view, steps_view}
 use Rattle.td_plan.proofs.StepRows as step_rows
 use Rattle.td_plan.specs.Plans as plans
 use Rattle.td_plan.proofs.ValuedBelow.{lower}

@@ -1,9 +1,9 @@
 use Rattle.std.proofs.Common.{arith, ◌≡◌, IfOk, List, length, map, refl, subst}
-use Rattle.td_eval.proofs.WalkedExtension.{related}
-use Rattle.td_eval.proofs.WalkedLists.{of_as_many}
+use Rattle.td_eval.proofs.code_lemmas.WalkedExtension.{related}
+use Rattle.td_eval.proofs.code_lemmas.WalkedLists.{of_as_many}
 use Rattle.td_eval.specs.OperatorValues.{on_relation, restricted_value, truth_value}
 use Rattle.td_plan.proofs.RunLaws.{entered_told, frames_inside, inside_rows, no_rows, outcomes_inside}
-use Rattle.td_plan.specs.Runs.{step_value, step_values, value_in}
+use Rattle.td_plan.specs.code.Runs.{step_value, step_values, value_in}
 use Rattle.td_tree.specs.Outcomes.{Answers, Valued, gathered, with_value}
 use Rattle.td_value.specs.Values.{Tuple}
 use Rattle.td_plan.proofs.ValuedBelow.{lower}

@@ -1,10 +1,10 @@
 use Rattle.std.proofs.Common.{arith, ◌≡◌, List, length, map, refl, subst}
 use Rattle.std.proofs.lemmas.Result.{err_from_is_err_and}
-use Rattle.td_eval.proofs.OpValues.{refused_then}
-use Rattle.td_eval.proofs.WalkedExtension.{related}
+use Rattle.td_eval.proofs.code_lemmas.OpValues.{refused_then}
+use Rattle.td_eval.proofs.code_lemmas.WalkedExtension.{related}
 use Rattle.td_eval.specs.OperatorValues.{measure_value, on_relation, restricted_value, truth_value}
 use Rattle.td_plan.proofs.RunLaws.{inside_rows, no_rows}
-use Rattle.td_plan.specs.Runs.{step_value, step_values, value_in}
+use Rattle.td_plan.specs.code.Runs.{step_value, step_values, value_in}
 use Rattle.td_tree.specs.Outcomes.{Answers, Valued, gathered, with_value}
 use Rattle.td_value.specs.Values.{Tuple, Val}
 use Rattle.td_plan.proofs.ValuedBelow.{lower}

@@ -3,19 +3,19 @@ use Rattle.std.proofs.lemmas.List.{length-map}
 use Rattle.std.proofs.lemmas.Result.{err_from_is_err_and}
 use Rattle.td_group.specs.Groups.{groups}
 use Rattle.td_plan.proofs.RunLaws.{entered_told, frames_inside, inside_rows, no_rows, outcomes_inside, where_equal, where_unequal}
-use Rattle.td_plan.specs.Runs.{step_values, values_in}
+use Rattle.td_plan.specs.code.Runs.{step_values, values_in}
 use Rattle.td_tree.specs.Outcomes.{Answers, Valued, gathered}
-use Rattle.td_types.specs.Pairs.{pair_view}
-use Rattle.td_types.specs.Views.{pairs_view}
+use Rattle.td_types.specs.code.Pairs.{pair_view}
+use Rattle.td_types.specs.code.Views.{pairs_view}
 use Rattle.td_value.specs.Values.{Tuple, Val, Relation}
 use Rattle.std.specs.Global.{Vec}
 use Rattle.std.specs.List.{zip}
-use Rattle.td_eval.specs.Totals.{total_of, total_view}
+use Rattle.td_eval.specs.code.Totals.{total_of, total_view}
 use Rattle.td_group.specs.declared.aggregates.Agg.{Agg}
 use Rattle.td_plan.proofs.SummaryLaws.{as_many_items, relations_refused, totals_nowhere}
 use Rattle.std.specs.Borrow.{Bor}
-use Rattle.td_eval.proofs.OpValues.{related as both_related}
-use Rattle.td_eval.proofs.WalkedTotals.{as_many_totals, totals_given, totals_refused}
+use Rattle.td_eval.proofs.code_lemmas.OpValues.{related as both_related}
+use Rattle.td_eval.proofs.code_lemmas.WalkedTotals.{as_many_totals, totals_given, totals_refused}
 use Rattle.td_eval.specs.AggregateValues.{summarized_value, summary_value}
 use Rattle.td_types.proofs.OutcomeLaws.{value_of_test}
 use Rattle.td_types.specs.Headings.{is_part}

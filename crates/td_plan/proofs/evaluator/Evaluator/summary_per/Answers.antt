@@ -1,8 +1,8 @@
 use Rattle.std.proofs.Common.{arith, ◌∙◌, subst, sym}
 use Rattle.std.proofs.lemmas.Result.{err_from_is_err_and}
-use Rattle.td_plan.specs.Runs.{step_value, step_values, values_in}
+use Rattle.td_plan.specs.code.Runs.{step_value, step_values, values_in}
 use Rattle.td_tree.specs.Outcomes.{Answers}
-use Rattle.td_types.specs.Views.{pairs_view}
+use Rattle.td_types.specs.code.Views.{pairs_view}
 use Rattle.td_value.specs.Values.{Val}
 use Rattle.std.specs.List.{zip}
 use Rattle.td_check.proofs.BothAnswers.{both_given, both_refused}

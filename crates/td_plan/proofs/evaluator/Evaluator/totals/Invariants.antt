@@ -1,8 +1,8 @@
 use Rattle.std.proofs.Common.{List, map, take}
-use Rattle.td_plan.specs.Runs.{values_in, IsEntered}
+use Rattle.td_plan.specs.code.Runs.{values_in, IsEntered}
 use Rattle.td_value.specs.Values.{Val}
 use Rattle.std.specs.List.{zip}
-use Rattle.td_eval.specs.Totals.{total_of, total_view}
+use Rattle.td_eval.specs.code.Totals.{total_of, total_view}
 use Rattle.td_tree.specs.Gatherings.{IsGathered}
 use Rattle.td_plan.specs.Plans.{Frame}
 use Rattle.td_tree.specs.Outcomes.{Outcome}

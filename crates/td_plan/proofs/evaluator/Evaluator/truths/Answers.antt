@@ -1,7 +1,7 @@
 use Rattle.std.proofs.Common.{subst}
-use Rattle.td_plan.specs.Runs.{value_in}
+use Rattle.td_plan.specs.code.Runs.{value_in}
 use Rattle.td_plan.proofs.QuickRows.{truths_gathered}
-use Rattle.td_plan.specs.Quick.{AreQuick}
+use Rattle.td_plan.specs.code.Quick.{AreQuick}
 use Rattle.td_value.specs.Values.{boolean}
 use Rattle.td_plan.proofs.evaluator.Evaluator.truths.Goals as goal
 

@@ -1,8 +1,8 @@
 use Rattle.std.proofs.Common.{refl}
-use Rattle.td_eval.proofs.WalkedLists.{walked_values}
+use Rattle.td_eval.proofs.code_lemmas.WalkedLists.{walked_values}
 use Rattle.td_eval.specs.OperatorValues.{truth_value}
-use Rattle.td_plan.specs.Runs.{value_in}
-use Rattle.td_tree.proofs.Gatherings.{collected_next}
+use Rattle.td_plan.specs.code.Runs.{value_in}
+use Rattle.td_tree.proofs.code_lemmas.Gatherings.{collected_next}
 use Rattle.td_plan.proofs.evaluator.Evaluator.truths_by_row.Goals as goal
 
 pub loop-row-preserved : goal.loop-row-preserved

@@ -1,6 +1,6 @@
 use Rattle.std.proofs.Common.{List, map, take}
 use Rattle.td_eval.specs.OperatorValues.{truth_value}
-use Rattle.td_plan.specs.Runs.{value_in, IsEntered}
+use Rattle.td_plan.specs.code.Runs.{value_in, IsEntered}
 use Rattle.td_value.specs.Values.{Val}
 use Rattle.td_tree.specs.Gatherings.{IsGathered}
 use Rattle.td_plan.specs.Plans.{Frame}

@@ -1,10 +1,10 @@
 use Rattle.std.proofs.Common.{map, refl, subst}
-use Rattle.td_plan.specs.Runs.{value_in}
-use Rattle.td_tree.proofs.Gatherings.{collected_next}
+use Rattle.td_plan.specs.code.Runs.{value_in}
+use Rattle.td_tree.proofs.code_lemmas.Gatherings.{collected_next}
 use Rattle.td_tree.specs.Outcomes.{Answers, gathered}
 use Rattle.td_value.specs.Values.{Val}
 use Rattle.std.specs.Global.{Vec}
-use Rattle.td_eval.proofs.WalkedLists.{walked}
+use Rattle.td_eval.proofs.code_lemmas.WalkedLists.{walked}
 use Rattle.td_plan.proofs.SummaryLaws.{group_found}
 use Rattle.td_plan.proofs.evaluator.Evaluator.values_in_groups.Goals as goal
 

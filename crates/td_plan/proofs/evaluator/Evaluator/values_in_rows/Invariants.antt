@@ -1,5 +1,5 @@
 use Rattle.std.proofs.Common.{List, map, take}
-use Rattle.td_plan.specs.Runs.{value_in, IsEntered}
+use Rattle.td_plan.specs.code.Runs.{value_in, IsEntered}
 use Rattle.td_value.specs.Values.{Val}
 use Rattle.td_tree.specs.Gatherings.{IsGathered}
 use Rattle.td_plan.specs.Plans.{Frame}

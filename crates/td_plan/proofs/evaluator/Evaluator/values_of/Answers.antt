@@ -1,9 +1,9 @@
 use Rattle.std.proofs.Common.{ap, sym}
-use Rattle.td_eval.proofs.WalkedLists.{walked_values}
+use Rattle.td_eval.proofs.code_lemmas.WalkedLists.{walked_values}
 use Rattle.td_plan.proofs.RunLaws.{values_found}
 use Rattle.td_plan.proofs.StepHeights.{height_part}
-use Rattle.td_plan.specs.Runs.{step_value}
-use Rattle.td_tree.proofs.Gatherings.{collected_next}
+use Rattle.td_plan.specs.code.Runs.{step_value}
+use Rattle.td_tree.proofs.code_lemmas.Gatherings.{collected_next}
 use Rattle.td_tree.specs.Outcomes.{gathered}
 use Rattle.td_plan.proofs.ValuedBelow.{lower}
 use Rattle.td_plan.proofs.evaluator.Evaluator.values_of.Goals as goal

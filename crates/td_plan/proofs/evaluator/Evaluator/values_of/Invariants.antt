@@ -1,6 +1,6 @@
 use Rattle.std.proofs.Common.{List, map, take}
-use Rattle.td_plan.specs.Hands.{IsHand}
-use Rattle.td_plan.specs.Runs.{step_value}
+use Rattle.td_plan.specs.code.Hands.{IsHand}
+use Rattle.td_plan.specs.code.Runs.{step_value}
 use Rattle.td_tree.specs.Gatherings.{IsGathered}
 use Rattle.td_plan.specs.Plans.{Frame}
 use Rattle.td_plan.proofs.evaluator.Evaluator.values_of.Given as goal

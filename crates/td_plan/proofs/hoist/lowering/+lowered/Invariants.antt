@@ -1,7 +1,7 @@
 use Rattle.std.proofs.Common.{◌≡◌, ◌+◌, ◌*◌, ◌++◌}
 use Rattle.td_plan.proofs.StepWeights.{weight, weights}
 use Rattle.td_plan.specs.Hoisting.{all_lowered}
-use Rattle.td_plan.specs.StepViews.{step_view, steps_view}
+use Rattle.td_plan.specs.code.StepViews.{step_view, steps_view}
 use Rattle.td_plan.proofs.hoist.lowering.+lowered.Given as goal
 
 abbrev pub decreases-lowered : goal.decreases-lowered

@@ -2,7 +2,7 @@ use Rattle.td_plan.proofs.MadeSteps.{made_of}
 use Rattle.td_plan.proofs.StepRows.{headed_relation_is}
 use Rattle.td_plan.specs.declared.step.Step.TheVariants as steps
 use Rattle.td_plan.specs.Plans.{headed_relation}
-use Rattle.td_plan.specs.StepViews.{steps_view}
+use Rattle.td_plan.specs.code.StepViews.{steps_view}
 use Rattle.td_plan.proofs.hoist.made.headed.Goals as goal
 
 pub returns : goal.returns

@@ -2,7 +2,7 @@ use Rattle.td_plan.proofs.MadeSteps.{made_of_both}
 use Rattle.td_plan.proofs.StepRows.{restriction_is}
 use Rattle.td_plan.specs.declared.step.Step.TheVariants as steps
 use Rattle.td_plan.specs.Plans.{restriction}
-use Rattle.td_plan.specs.StepViews.{step_view, steps_view}
+use Rattle.td_plan.specs.code.StepViews.{step_view, steps_view}
 use Rattle.td_plan.proofs.hoist.made.restriction.Goals as goal
 
 pub returns : goal.returns

@@ -2,9 +2,9 @@ use Rattle.td_plan.proofs.MadeSteps.{made_of_both}
 use Rattle.td_plan.proofs.StepRows.{summarize_by_is}
 use Rattle.td_plan.specs.declared.step.Step.TheVariants as steps
 use Rattle.td_plan.specs.Plans.{summarize_by}
-use Rattle.td_plan.specs.StepViews.{step_view, steps_view}
-use Rattle.td_tree.specs.TreeViews.{attributes_view}
-use Rattle.td_types.specs.Views.{pairs_view}
+use Rattle.td_plan.specs.code.StepViews.{step_view, steps_view}
+use Rattle.td_tree.specs.code.TreeViews.{attributes_view}
+use Rattle.td_types.specs.code.Views.{pairs_view}
 use Rattle.td_plan.proofs.hoist.made.summarize_by.Goals as goal
 
 pub returns : goal.returns

@@ -2,8 +2,8 @@ use Rattle.td_plan.proofs.MadeSteps.{made_of_three}
 use Rattle.td_plan.proofs.StepRows.{summarize_per_is}
 use Rattle.td_plan.specs.declared.step.Step.TheVariants as steps
 use Rattle.td_plan.specs.Plans.{summarize_per}
-use Rattle.td_plan.specs.StepViews.{step_view, steps_view}
-use Rattle.td_types.specs.Views.{pairs_view}
+use Rattle.td_plan.specs.code.StepViews.{step_view, steps_view}
+use Rattle.td_types.specs.code.Views.{pairs_view}
 use Rattle.td_plan.proofs.hoist.made.summarize_per.Goals as goal
 
 pub returns : goal.returns

@@ -2,7 +2,7 @@ use Rattle.td_plan.proofs.MadeSteps.{made_of}
 use Rattle.td_plan.proofs.StepRows.{tuple_is}
 use Rattle.td_plan.specs.declared.step.Step.TheVariants as steps
 use Rattle.td_plan.specs.Plans.{tuple}
-use Rattle.td_plan.specs.StepViews.{steps_view}
+use Rattle.td_plan.specs.code.StepViews.{steps_view}
 use Rattle.td_plan.proofs.hoist.made.tuple.Goals as goal
 
 pub returns : goal.returns

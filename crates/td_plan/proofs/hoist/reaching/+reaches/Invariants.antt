@@ -1,7 +1,7 @@
 use Rattle.std.proofs.Common.{◌≡◌, ◌+◌, ◌*◌, false, take}
 use Rattle.td_plan.proofs.StepWeights.{weight, weights}
 use Rattle.td_plan.specs.Hoisting.{any_reaches}
-use Rattle.td_plan.specs.StepViews.{step_view, steps_view}
+use Rattle.td_plan.specs.code.StepViews.{step_view, steps_view}
 use Rattle.td_plan.proofs.hoist.reaching.+reaches.Given as goal
 
 abbrev pub decreases-reaches : goal.decreases-reaches

@@ -1,7 +1,7 @@
 use Rattle.std.proofs.Common.{◌≡◌, ◌∙◌, ◌<◌, ap, get_or, length, rules, subst, sym}
 use Rattle.td_catalog.specs.Database.{database_scope}
 use Rattle.td_check.specs.Scopes.{entered_with}
-use Rattle.td_plan.specs.Planners.{among_headings}
+use Rattle.td_plan.specs.code.Planners.{among_headings}
 use Rattle.td_plan.proofs.Places.{one_more_first}
 use Rattle.td_plan.proofs.planner.Planner.entered.Goals as goal
 

@@ -1,6 +1,6 @@
 use Rattle.std.proofs.Common.{◌≡◌, reverse, take}
 use Rattle.td_catalog.specs.Database.{database_scope}
-use Rattle.td_plan.specs.Planners.{IsPlanner, among_headings}
+use Rattle.td_plan.specs.code.Planners.{IsPlanner, among_headings}
 use Rattle.td_plan.proofs.planner.Planner.entered.Given as goal
 
 abbrev pub invariant-loop-outer : goal.invariant-loop-outer

@@ -1,4 +1,4 @@
-use Rattle.td_plan.specs.TreeWeights.{expr_weight}
+use Rattle.td_plan.specs.code.TreeWeights.{expr_weight}
 use Rattle.td_plan.proofs.planning.Planning.+put_fixed_values.Given as goal
 
 abbrev pub decreases-put_fixed_values : goal.decreases-put_fixed_values

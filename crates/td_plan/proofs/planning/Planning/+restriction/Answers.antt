@@ -2,11 +2,11 @@ use Rattle.std.proofs.Common.{◌∙◌, ap, subst, sym}
 use Rattle.std.proofs.lemmas.Result.{IfOk-weaker}
 use Rattle.std.specs.Prelude.{IfSome}
 use Rattle.td_plan.proofs.Pushed.{stands_planned}
-use Rattle.td_plan.specs.PlannedParts.{IsPlanned}
+use Rattle.td_plan.specs.code.PlannedParts.{IsPlanned}
 use Rattle.td_plan.specs.PlansOf.{IsPlanOfTyped}
 use Rattle.td_plan.specs.Pushing.{MayStandFor, restricted_tree}
-use Rattle.td_plan.specs.StepViews.{step_view}
-use Rattle.td_tree.specs.TreeViews.{tree_view}
+use Rattle.td_plan.specs.code.StepViews.{step_view}
+use Rattle.td_tree.specs.code.TreeViews.{tree_view}
 use Rattle.td_tree.specs.Trees as trees
 use Rattle.td_plan.proofs.planning.Planning.+restriction.Goals as goal
 

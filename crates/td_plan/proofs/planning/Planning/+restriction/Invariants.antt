@@ -1,5 +1,5 @@
 use Rattle.std.proofs.Common.{◌*◌, ◌+◌}
-use Rattle.td_plan.specs.TreeWeights.{expr_weight}
+use Rattle.td_plan.specs.code.TreeWeights.{expr_weight}
 use Rattle.td_plan.proofs.planning.Planning.+restriction.Given as goal
 
 abbrev pub decreases-where_of : goal.decreases-where_of

@@ -5,7 +5,7 @@ use Rattle.td_check.specs.Scopes.{entered_with}
 use Rattle.td_check.specs.StaticTypes.{type_of}
 use Rattle.td_plan.proofs.PlannedAnswers.{relation_typed, untyped_planned}
 use Rattle.td_tree.specs.Outcomes.{Valued, with_value}
-use Rattle.td_tree.specs.TreeViews.{tree_view}
+use Rattle.td_tree.specs.code.TreeViews.{tree_view}
 use Rattle.td_tree.specs.Trees as trees
 use Rattle.td_types.specs.Types.{Heading, pack, relation}
 use Rattle.td_plan.proofs.planning.Planning.aggregate_step.Goals as goal

@@ -1,7 +1,7 @@
 use Rattle.std.proofs.Common.{subst, sym}
 use Rattle.td_plan.specs.PlansOf.{IsPlanOfTyped}
-use Rattle.td_plan.specs.StepViews.{step_view}
-use Rattle.td_tree.specs.TreeViews.{tree_view}
+use Rattle.td_plan.specs.code.StepViews.{step_view}
+use Rattle.td_tree.specs.code.TreeViews.{tree_view}
 use Rattle.td_plan.proofs.planning.Planning.boxed.Goals as goal
 
 pub returns : goal.returns

@@ -4,9 +4,9 @@ use Rattle.td_check.specs.OperatorTypes.{extension_type}
 use Rattle.td_check.specs.Scopes.{entered_with}
 use Rattle.td_check.specs.StaticTypes.{named_types, type_of}
 use Rattle.td_plan.proofs.PlannedAnswers.{parts_typed, relation_typed, untyped_planned}
-use Rattle.td_plan.specs.PlannedParts.{AreFoundColumns, in_named}
+use Rattle.td_plan.specs.code.PlannedParts.{AreFoundColumns, in_named}
 use Rattle.td_tree.specs.Outcomes.{Valued, with_value}
-use Rattle.td_tree.specs.TreeViews.{named_view, tree_view}
+use Rattle.td_tree.specs.code.TreeViews.{named_view, tree_view}
 use Rattle.td_tree.specs.Trees as trees
 use Rattle.td_types.specs.Types.{Heading, pack, relation}
 use Rattle.td_plan.proofs.planning.Planning.extend_step.Goals as goal

@@ -1,6 +1,6 @@
 use Rattle.std.proofs.Common.{subst, sym}
 use Rattle.td_plan.specs.Narrowing.{AreFixed}
-use Rattle.td_tree.specs.TreeViews.{tree_view}
+use Rattle.td_tree.specs.code.TreeViews.{tree_view}
 use Rattle.td_plan.proofs.planning.Planning.fixed_values.Goals as goal
 
 pub returns : goal.returns

@@ -2,11 +2,11 @@ use Rattle.std.proofs.Common.{◌≡◌, List, subst, sym}
 use Rattle.std.specs.Prelude.{IfNone, IfOk, IfSome}
 use Rattle.td_eval.specs.AggregateValues.{summary_attributes}
 use Rattle.td_plan.proofs.PlannedLists.{items_are}
-use Rattle.td_plan.specs.PlannedParts.{ArePlanned, ArePlannedColumns, in_summaries}
+use Rattle.td_plan.specs.code.PlannedParts.{ArePlanned, ArePlannedColumns, in_summaries}
 use Rattle.td_tree.specs.Outcomes.{Valued}
-use Rattle.td_tree.specs.TreeViews.{summaries_view}
+use Rattle.td_tree.specs.code.TreeViews.{summaries_view}
 use Rattle.td_types.specs.Types.{Attribute}
-use Rattle.td_types.specs.Views.{pairs_view}
+use Rattle.td_types.specs.code.Views.{pairs_view}
 use Rattle.td_plan.proofs.planning.Planning.item_columns.Goals as goal
 
 pub returns : goal.returns

@@ -1,8 +1,8 @@
 use Rattle.std.proofs.Common.{subst}
 use Rattle.std.specs.Prelude.{IfOk}
 use Rattle.td_eval.specs.AggregateValues.{summary_attributes}
-use Rattle.td_plan.specs.PlannedParts.{AreFoundColumns, in_summaries}
-use Rattle.td_tree.specs.TreeViews.{summaries_view}
+use Rattle.td_plan.specs.code.PlannedParts.{AreFoundColumns, in_summaries}
+use Rattle.td_tree.specs.code.TreeViews.{summaries_view}
 use Rattle.td_plan.proofs.planning.Planning.item_columns_inside.Goals as goal
 
 pub returns : goal.returns

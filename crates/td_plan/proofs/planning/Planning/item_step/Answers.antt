@@ -1,8 +1,8 @@
 use Rattle.std.proofs.Common.{subst, sym}
 use Rattle.std.specs.Prelude.{IfOk}
-use Rattle.td_plan.specs.PlannedParts.{item_tree}
+use Rattle.td_plan.specs.code.PlannedParts.{item_tree}
 use Rattle.td_plan.specs.PlansOf.{IsPlanOfTyped}
-use Rattle.td_plan.specs.StepViews.{step_view}
+use Rattle.td_plan.specs.code.StepViews.{step_view}
 use Rattle.td_plan.proofs.planning.Planning.item_step.Goals as goal
 
 pub returns-in-Count : goal.returns-in-Count

@@ -2,8 +2,8 @@ use Rattle.std.proofs.Common.{ap, map, subst}
 use Rattle.std.proofs.lemmas.List.{take_all}
 use Rattle.td_plan.proofs.PlannedLists.{one_more_planned}
 use Rattle.td_plan.proofs.TreeWeights.{weight_item}
-use Rattle.td_plan.specs.PlannedParts.{ArePlansOfTyped, item_tree}
-use Rattle.td_plan.specs.StepViews.{steps_view}
+use Rattle.td_plan.specs.code.PlannedParts.{ArePlansOfTyped, item_tree}
+use Rattle.td_plan.specs.code.StepViews.{steps_view}
 use Rattle.td_plan.proofs.PlannedBelow.{lower}
 use Rattle.td_plan.proofs.planning.Planning.item_steps.Goals as goal
 

@@ -1,6 +1,6 @@
 use Rattle.std.proofs.Common.{map, take}
-use Rattle.td_plan.specs.PlannedParts.{ArePlansOfTyped, item_tree}
-use Rattle.td_plan.specs.StepViews.{steps_view}
+use Rattle.td_plan.specs.code.PlannedParts.{ArePlansOfTyped, item_tree}
+use Rattle.td_plan.specs.code.StepViews.{steps_view}
 use Rattle.td_plan.proofs.planning.Planning.item_steps.Given as goal
 
 abbrev pub invariant-loop-item : goal.invariant-loop-item

@@ -1,4 +1,4 @@
-use Rattle.td_tree.specs.TreeViews.{tree_view}
+use Rattle.td_tree.specs.code.TreeViews.{tree_view}
 use Rattle.td_plan.proofs.planning.Planning.look_up_of.Goals as goal
 
 pub returns : goal.returns

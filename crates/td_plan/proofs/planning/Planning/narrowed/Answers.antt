@@ -1,7 +1,7 @@
 use Rattle.std.proofs.lemmas.Result.{IfOk-weaker}
 use Rattle.td_plan.proofs.NarrowedOperands.{plan_narrows}
-use Rattle.td_plan.specs.StepViews.{step_view}
-use Rattle.td_tree.specs.TreeViews.{tree_view}
+use Rattle.td_plan.specs.code.StepViews.{step_view}
+use Rattle.td_tree.specs.code.TreeViews.{tree_view}
 use Rattle.td_plan.proofs.planning.Planning.narrowed.Goals as goal
 
 pub returns-in-None : goal.returns-in-None

@@ -2,11 +2,11 @@ use Rattle.std.proofs.Common.{◌≡◌, List, subst, sym}
 use Rattle.std.specs.Prelude.{IfNone, IfOk, IfSome}
 use Rattle.td_check.specs.StaticTypes.{named_types}
 use Rattle.td_plan.proofs.PlannedLists.{parts_are}
-use Rattle.td_plan.specs.PlannedParts.{ArePlanned, ArePlannedColumns, in_named}
+use Rattle.td_plan.specs.code.PlannedParts.{ArePlanned, ArePlannedColumns, in_named}
 use Rattle.td_tree.specs.Outcomes.{Valued}
-use Rattle.td_tree.specs.TreeViews.{named_view}
+use Rattle.td_tree.specs.code.TreeViews.{named_view}
 use Rattle.td_types.specs.Types.{Attribute}
-use Rattle.td_types.specs.Views.{pairs_view}
+use Rattle.td_types.specs.code.Views.{pairs_view}
 use Rattle.td_plan.proofs.planning.Planning.part_columns.Goals as goal
 
 pub returns : goal.returns

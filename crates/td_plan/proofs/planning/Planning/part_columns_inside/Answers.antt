@@ -1,8 +1,8 @@
 use Rattle.std.proofs.Common.{subst}
 use Rattle.std.specs.Prelude.{IfOk}
 use Rattle.td_check.specs.StaticTypes.{named_types}
-use Rattle.td_plan.specs.PlannedParts.{AreFoundColumns, in_named}
-use Rattle.td_tree.specs.TreeViews.{named_view}
+use Rattle.td_plan.specs.code.PlannedParts.{AreFoundColumns, in_named}
+use Rattle.td_tree.specs.code.TreeViews.{named_view}
 use Rattle.td_plan.proofs.planning.Planning.part_columns_inside.Goals as goal
 
 pub returns : goal.returns

@@ -1,6 +1,6 @@
 use Rattle.std.proofs.Common.{map, take}
-use Rattle.td_plan.specs.PlannedParts.{ArePlansOfTyped, part_tree}
-use Rattle.td_plan.specs.StepViews.{steps_view}
+use Rattle.td_plan.specs.code.PlannedParts.{ArePlansOfTyped, part_tree}
+use Rattle.td_plan.specs.code.StepViews.{steps_view}
 use Rattle.td_plan.proofs.planning.Planning.part_steps.Given as goal
 
 abbrev pub invariant-loop-part : goal.invariant-loop-part

@@ -3,8 +3,8 @@ use Rattle.std.proofs.lemmas.Result.{IfOk-weaker}
 use Rattle.std.specs.Prelude.{IfSome}
 use Rattle.td_plan.proofs.FixedValues.{one_fixed}
 use Rattle.td_plan.specs.Fixing.{MayFix}
-use Rattle.td_plan.specs.StepViews.{step_view}
-use Rattle.td_tree.specs.TreeViews.{tree_view}
+use Rattle.td_plan.specs.code.StepViews.{step_view}
+use Rattle.td_tree.specs.code.TreeViews.{tree_view}
 use Rattle.td_tree.specs.Trees as trees
 use Rattle.td_plan.proofs.planning.Planning.put_fixed_value.Goals as goal
 

@@ -1,6 +1,6 @@
 use Rattle.std.proofs.Common.{subst}
-use Rattle.td_plan.specs.PlannedParts.{IsPlanned}
-use Rattle.td_tree.specs.TreeViews.{tree_view}
+use Rattle.td_plan.specs.code.PlannedParts.{IsPlanned}
+use Rattle.td_tree.specs.code.TreeViews.{tree_view}
 use Rattle.td_plan.proofs.planning.Planning.step_inside.Goals as goal
 
 pub returns : goal.returns

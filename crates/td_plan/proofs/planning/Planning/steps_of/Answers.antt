@@ -2,9 +2,9 @@ use Rattle.std.proofs.Common.{ap, map, subst}
 use Rattle.std.proofs.lemmas.List.{take_all}
 use Rattle.td_plan.proofs.PlannedLists.{one_more_planned}
 use Rattle.td_plan.proofs.TreeWeights.{weight_part}
-use Rattle.td_plan.specs.PlannedParts.{ArePlansOfTyped}
-use Rattle.td_plan.specs.StepViews.{steps_view}
-use Rattle.td_tree.specs.TreeViews.{tree_view}
+use Rattle.td_plan.specs.code.PlannedParts.{ArePlansOfTyped}
+use Rattle.td_plan.specs.code.StepViews.{steps_view}
+use Rattle.td_tree.specs.code.TreeViews.{tree_view}
 use Rattle.td_plan.proofs.PlannedBelow.{lower}
 use Rattle.td_plan.proofs.planning.Planning.steps_of.Goals as goal
 

@@ -1,7 +1,7 @@
 use Rattle.std.proofs.Common.{map, take}
-use Rattle.td_plan.specs.PlannedParts.{ArePlansOfTyped}
-use Rattle.td_plan.specs.StepViews.{steps_view}
-use Rattle.td_tree.specs.TreeViews.{tree_view}
+use Rattle.td_plan.specs.code.PlannedParts.{ArePlansOfTyped}
+use Rattle.td_plan.specs.code.StepViews.{steps_view}
+use Rattle.td_tree.specs.code.TreeViews.{tree_view}
 use Rattle.td_plan.proofs.planning.Planning.steps_of.Given as goal
 
 abbrev pub invariant-loop-expr : goal.invariant-loop-expr

@@ -6,9 +6,9 @@ use Rattle.td_check.specs.StaticTypes.{type_of}
 use Rattle.td_eval.specs.AggregateValues.{summary_attributes}
 use Rattle.td_plan.proofs.PlannedAnswers.{untyped_planned}
 use Rattle.td_plan.proofs.PlannedSummaries.{aggregates_are, by_of_none, by_of_refused}
-use Rattle.td_plan.specs.PlannedParts.{AreFoundColumns, in_summaries}
+use Rattle.td_plan.specs.code.PlannedParts.{AreFoundColumns, in_summaries}
 use Rattle.td_tree.specs.Outcomes.{Valued}
-use Rattle.td_tree.specs.TreeViews.{attributes_view, summaries_view, tree_view}
+use Rattle.td_tree.specs.code.TreeViews.{attributes_view, summaries_view, tree_view}
 use Rattle.td_tree.specs.Trees as trees
 use Rattle.td_types.specs.Types.{Heading, pack, relation}
 use Rattle.td_plan.proofs.planning.Planning.summarize_by_step.Goals as goal

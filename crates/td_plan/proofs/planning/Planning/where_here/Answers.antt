@@ -6,7 +6,7 @@ use Rattle.td_check.specs.Scopes.{entered_with}
 use Rattle.td_check.specs.StaticTypes.{type_of}
 use Rattle.td_plan.proofs.PlannedAnswers.{relation_typed}
 use Rattle.td_tree.specs.Outcomes.{Valued, with_value}
-use Rattle.td_tree.specs.TreeViews.{tree_view}
+use Rattle.td_tree.specs.code.TreeViews.{tree_view}
 use Rattle.td_types.specs.Types.{Heading, pack}
 use Rattle.td_types.specs.Types as types
 use Rattle.td_plan.proofs.planning.Planning.where_here.Goals as goal

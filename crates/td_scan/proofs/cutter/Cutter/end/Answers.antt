@@ -1,6 +1,6 @@
 use Rattle.std.proofs.Common.{◌∙◌, ◌-◌, ap, arith, drop, length, take}
 use Rattle.td_tree.specs.Statements.{behind, tokens}
-use Rattle.td_scan.specs.Marks.{end_of_marks, reached}
+use Rattle.td_scan.specs.code.Marks.{end_of_marks, reached}
 use Rattle.td_scan.proofs.HeldMarks.{end_found, end_left}
 use Rattle.td_scan.proofs.MarkLists.{counted_some}
 use Rattle.td_scan.proofs.cutter.Cutter.end.Goals as goal

@@ -1,6 +1,6 @@
 use Rattle.std.proofs.Common.{◌∙◌, ◌++◌, ◌-◌, ap, arith, drop, length, sym, take}
 use Rattle.td_tree.specs.Statements.{Held}
-use Rattle.td_scan.specs.Marks.{count_to_end}
+use Rattle.td_scan.specs.code.Marks.{count_to_end}
 use Rattle.td_scan.proofs.HeldMarks.{fed_to}
 use Rattle.td_scan.proofs.MarkLists.{counted_stays}
 use Rattle.td_scan.proofs.cutter.Cutter.feed.Goals as goal

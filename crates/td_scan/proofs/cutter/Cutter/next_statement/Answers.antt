@@ -5,7 +5,7 @@ use Rattle.std.proofs.lemmas.Result.{IfOk-weaker}
 use Rattle.td_tree.specs.Division.{up_to}
 use Rattle.td_tree.specs.Statements.{PlacedToken, chosen, ends, first_statement, tokens}
 use Rattle.td_scan.specs.declared.token.Mark.{Mark}
-use Rattle.td_scan.specs.Marks.{IsMark, token_at}
+use Rattle.td_scan.specs.code.Marks.{IsMark, token_at}
 use Rattle.td_scan.proofs.HeldMarks.{first_found, joined_first, marked, open_yet}
 use Rattle.td_scan.proofs.LastLaws.{ends_of, last_stop}
 use Rattle.td_scan.proofs.MarkLists.{counted_some}

@@ -1,6 +1,6 @@
 use Rattle.std.proofs.Common.{◌∙◌, ap, arith, length, sym}
 use Rattle.td_tree.specs.Statements.{Held, behind}
-use Rattle.td_scan.specs.Marks.{count_to_end}
+use Rattle.td_scan.specs.code.Marks.{count_to_end}
 use Rattle.td_scan.proofs.HeldMarks.{end_found, taken_to}
 use Rattle.td_scan.proofs.MarkLists.{counted_some}
 use Rattle.td_scan.proofs.TakenLaws.{first_within}

@@ -1,4 +1,4 @@
-use Rattle.td_tree.proofs.Gatherings.{none_put, value_put}
+use Rattle.td_tree.proofs.code_lemmas.Gatherings.{none_put, value_put}
 use Rattle.td_tree.proofs.gathering.Gathering.collect.Goals as goal
 
 pub returns-in_ok-push : goal.returns-in_ok-push

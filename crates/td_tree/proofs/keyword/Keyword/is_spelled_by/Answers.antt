@@ -1,4 +1,4 @@
-use Rattle.td_tree.proofs.TextTests.{same_text_test}
+use Rattle.td_tree.proofs.code_lemmas.TextTests.{same_text_test}
 use Rattle.td_tree.proofs.keyword.Keyword.is_spelled_by.Goals as goal
 
 pub returns : goal.returns

@@ -1,7 +1,7 @@
 use Rattle.std.proofs.Common.{◌≡◌, false, sym, ◌∙◌, subst, arith}
 use Rattle.std.specs.Prelude.{is_some}
 use Rattle.td_types.specs.Types.{IsHeading, pack, type_at}
-use Rattle.td_types.specs.Views.{heading_view, type_view}
+use Rattle.td_types.specs.code.Views.{heading_view, type_view}
 use Rattle.td_tree.specs.Names.{IsName}
 use Rattle.td_types.specs.Headings.{with_attribute}
 use Rattle.td_types.proofs.HeadingLaws.{IsHeading-with}

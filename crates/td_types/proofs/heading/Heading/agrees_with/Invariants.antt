@@ -1,6 +1,6 @@
 use Rattle.std.proofs.Common.{◌≡◌, drop}
 use Rattle.td_types.specs.Headings.{agree}
-use Rattle.td_types.specs.Views.{heading_view}
+use Rattle.td_types.specs.code.Views.{heading_view}
 use Rattle.td_types.proofs.heading.Heading.agrees_with.Given as goal
 
 abbrev pub invariant-loop-attribute : goal.invariant-loop-attribute

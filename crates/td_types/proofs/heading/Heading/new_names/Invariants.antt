@@ -1,6 +1,6 @@
 use Rattle.std.proofs.Common.{◌≡◌, ◌++◌, drop}
 use Rattle.td_types.specs.Headings.{new_names}
-use Rattle.td_types.specs.Views.{heading_view}
+use Rattle.td_types.specs.code.Views.{heading_view}
 use Rattle.td_types.proofs.heading.Heading.new_names.Given as goal
 
 abbrev pub invariant-loop-attribute : goal.invariant-loop-attribute

@@ -2,7 +2,7 @@ use Rattle.std.proofs.Common.{ap, ◌∙◌, refl}
 use Rattle.td_types.specs.Headings.{renamed}
 use Rattle.td_types.proofs.HeadingLaws.{type_at-renamed}
 use Rattle.td_types.specs.Types.{type_at}
-use Rattle.td_types.specs.Views.{heading_view}
+use Rattle.td_types.specs.code.Views.{heading_view}
 use Rattle.td_types.proofs.Attributes.{added_all}
 use Rattle.td_types.proofs.heading.Heading.rename.Goals as goal
 

@@ -1,6 +1,6 @@
 use Rattle.std.proofs.Common.{◌≡◌, drop, fold, []}
 use Rattle.td_types.specs.Headings.{add_missing, renamed}
-use Rattle.td_types.specs.Views.{heading_view}
+use Rattle.td_types.specs.code.Views.{heading_view}
 use Rattle.td_types.proofs.heading.Heading.rename.Given as goal
 
 abbrev pub invariant-loop-attribute : goal.invariant-loop-attribute

@@ -1,7 +1,7 @@
 use Rattle.std.proofs.Common.{ap, ◌∙◌, refl}
 use Rattle.td_types.proofs.HeadingLaws.{type_at-union}
 use Rattle.td_types.specs.Types.{type_at}
-use Rattle.td_types.specs.Views.{heading_view}
+use Rattle.td_types.specs.code.Views.{heading_view}
 use Rattle.td_types.proofs.Attributes.{added_all}
 use Rattle.td_types.proofs.heading.Heading.union.Goals as goal
 

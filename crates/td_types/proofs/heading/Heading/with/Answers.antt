@@ -1,7 +1,7 @@
 use Rattle.std.proofs.Common.{◌≡◌, false, sym, ap, ◌∙◌}
 use Rattle.std.specs.Prelude.{is_some, not}
 use Rattle.td_types.specs.Types.{type_at}
-use Rattle.td_types.specs.Views.{type_view}
+use Rattle.td_types.specs.code.Views.{type_view}
 use Rattle.td_types.proofs.HeadingLaws.{type_at-with}
 use Rattle.td_types.proofs.Attributes.{found}
 use Rattle.td_tree.specs.declared.cause.Cause.TheVariants as causes

@@ -1,7 +1,7 @@
 use Rattle.std.proofs.Common.{◌≡◌, rules}
 use Rattle.std.specs.Ordering.{eq_by_cmp}
 use Rattle.td_types.specs.TypeOrder.{ty_cmp, type_eq-Decides}
-use Rattle.td_types.specs.Views.{type_view}
+use Rattle.td_types.specs.code.Views.{type_view}
 use Rattle.td_types.proofs.order.TyPartialEq.eq.Goals as goal
 
 pub returns-clause-same : goal.returns-clause-same

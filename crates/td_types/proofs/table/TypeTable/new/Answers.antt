@@ -1,5 +1,5 @@
 use Rattle.std.proofs.Common.{sym, subst}
-use Rattle.td_types.specs.Tables.{IsTable}
+use Rattle.td_types.specs.code.Tables.{IsTable}
 use Rattle.td_types.proofs.Tables.{IsTable-none}
 use Rattle.td_types.proofs.table.TypeTable.new.Goals as goal
 

@@ -1,7 +1,7 @@
 use Rattle.std.proofs.Common.{◌≡◌, ◌∙◌, ap, refl, subst, sym}
 use Rattle.std.specs.Map.Iter.{deref_pair}
 use Rattle.std.proofs.lemmas.Map.Iter.{rest_all, rest_more}
-use Rattle.td_types.specs.Tables.{IsTable, rows_view}
+use Rattle.td_types.specs.code.Tables.{IsTable, rows_view}
 use Rattle.td_types.proofs.Copies.{IsCopied, copied_all, copied_next, copied_none}
 use Rattle.td_types.proofs.table.TypeTable.try_clone.Goals as goal
 

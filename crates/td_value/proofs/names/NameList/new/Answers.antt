@@ -1,7 +1,7 @@
 use Rattle.std.proofs.Common.{ap, sym, subst}
 use Rattle.std.specs.List.{All}
 use Rattle.td_tree.specs.Names.{IsName}
-use Rattle.td_value.specs.Zipped.{AreNames}
+use Rattle.td_value.specs.code.Zipped.{AreNames}
 use Rattle.td_value.proofs.names.NameList.new.Goals as goal
 
 pub invariant_of-result : goal.invariant_of-result

@@ -11,7 +11,7 @@ use Rattle.td_value.specs.Sets.{set_of}
 use Rattle.td_value.proofs.SetLaws.{sorted_is_set_of}
 use Rattle.td_value.specs.Values.{Tuple, HaveSameMembers, HaveSameNames, IsAscendingBody, IsTupleOf, Relation, tuple_cmp}
 use Rattle.td_value.specs.ValueOrder.{tuple_order_total, tuple_order_same}
-use Rattle.td_value.specs.Views.{relation_view}
+use Rattle.td_value.specs.code.Views.{relation_view}
 use Rattle.td_value.proofs.Members.{set_members}
 use Rattle.td_value.proofs.Rows.{All-dedup, HaveSameNames-from, by_values, by_values_total, sorted_from_values}
 use Rattle.td_value.proofs.relation.Rel.new.Goals as goal

@@ -1,6 +1,6 @@
 use Rattle.std.proofs.Common.{◌∙◌, ap, map, subst, sym}
 use Rattle.std.specs.List.{All}
-use Rattle.td_body.specs.HashBodies.{IsHashBody, IsPlacedFor}
+use Rattle.td_body.specs.code.HashBodies.{IsHashBody, IsPlacedFor}
 use Rattle.td_body.proofs.HashBodyLaws.{body_changed}
 use Rattle.td_body.proofs.hashed.body.HashBodyBody.change.Goals as goal
 

@@ -1,8 +1,8 @@
 use Rattle.std.proofs.Common.{◌≡◌, ◌∙◌, [], ap, subst, sym}
 use Rattle.td_algebra.proofs.Relations.{rows_ascend}
 use Rattle.td_value.specs.Values.{with_tuple}
-use Rattle.td_value.specs.Views.{relation_view}
-use Rattle.td_body.specs.Histories.{changed_set, put_tuple}
+use Rattle.td_value.specs.code.Views.{relation_view}
+use Rattle.td_body.specs.code.Histories.{changed_set, put_tuple}
 use Rattle.td_body.proofs.TupleSets.{ascends-put, changed_first, changed_none, put_again}
 use Rattle.td_body.proofs.hashed.body.HashBodyBody.insert.Goals as goal
 

@@ -1,9 +1,9 @@
 use Rattle.std.proofs.Common.{◌≡◌, ◌∙◌, [], ap, subst, sym}
 use Rattle.td_algebra.proofs.Relations.{rows_ascend}
 use Rattle.td_value.specs.Values.{without_tuple}
-use Rattle.td_value.specs.Views.{relation_view}
-use Rattle.td_body.specs.Histories.{changed_set}
-use Rattle.td_body.specs.KeyIndexes.{without}
+use Rattle.td_value.specs.code.Views.{relation_view}
+use Rattle.td_body.specs.code.Histories.{changed_set}
+use Rattle.td_body.specs.code.KeyIndexes.{without}
 use Rattle.td_body.proofs.TupleSets.{ascends-without, changed_none, changed_out, taken_again}
 use Rattle.td_body.proofs.hashed.body.HashBodyBody.remove.Goals as goal
 

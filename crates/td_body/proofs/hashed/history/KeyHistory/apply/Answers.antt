@@ -1,6 +1,6 @@
 use Rattle.std.proofs.Common.{◌≡◌, ◌+◌, ◌∷◌, [], arith, drop, length, sym, ap, ◌∙◌}
 use Rattle.std.proofs.lemmas.List.{at_drop_all, at_drop_more}
-use Rattle.td_body.specs.Histories.{changed_set}
+use Rattle.td_body.specs.code.Histories.{changed_set}
 use Rattle.td_body.proofs.TupleSets.{changed_both, changed_none, changed_out}
 use Rattle.td_body.proofs.hashed.history.KeyHistory.apply.Goals as goal
 

@@ -1,5 +1,5 @@
 use Rattle.std.proofs.Common.{◌≡◌, ◌+◌, ◌-◌, ◌≤◌, [], drop, length, vec_capacity, vec_len}
-use Rattle.td_body.specs.Histories.{changed_set, kept_sets}
+use Rattle.td_body.specs.code.Histories.{changed_set, kept_sets}
 use Rattle.td_body.proofs.hashed.history.KeyHistory.apply.Given as goal
 
 abbrev pub invariant-outs : goal.invariant-outs

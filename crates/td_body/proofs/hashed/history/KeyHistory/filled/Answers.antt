@@ -1,5 +1,5 @@
 use Rattle.std.proofs.Common.{[], ap, ◌∙◌}
-use Rattle.td_body.specs.Histories.{changed_set}
+use Rattle.td_body.specs.code.Histories.{changed_set}
 use Rattle.td_body.proofs.TupleSets.{changed_from_none}
 use Rattle.td_body.proofs.hashed.history.KeyHistory.filled.Goals as goal
 

@@ -1,5 +1,5 @@
 use Rattle.std.proofs.Common.{◌≡◌, vec_len}
-use Rattle.td_body.specs.Histories.{kept_sets}
+use Rattle.td_body.specs.code.Histories.{kept_sets}
 use Rattle.td_body.proofs.hashed.history.KeyHistory.go_back.Given as goal
 
 abbrev pub invariant-steps : goal.invariant-steps

@@ -1,7 +1,7 @@
 use Rattle.std.proofs.Common.{◌≡◌, ◌++◌, ◌∷◌, [], sym, ap, ◌∙◌, refl, subst, Bool, true, false, not}
 use Rattle.td_value.specs.Sets.{has}
 use Rattle.td_value.specs.Values.{tuple_cmp}
-use Rattle.td_body.specs.Histories.{kept_sets, put_tuple}
+use Rattle.td_body.specs.code.Histories.{kept_sets, put_tuple}
 use Rattle.td_body.specs.declared.hashed.step.Step.TheVariants.{Added}
 use Rattle.td_body.proofs.Steps.{kept-added}
 use Rattle.td_body.proofs.TupleSets.{put_again}

@@ -1,6 +1,6 @@
 use Rattle.std.proofs.Common.{◌≡◌, ◌-◌, ◌++◌, ◌∷◌, [], arith, length, length-append, sym, ap, ◌∙◌, take}
 use Rattle.std.proofs.lemmas.List.{append-nil}
-use Rattle.td_body.specs.Histories.{changed_set}
+use Rattle.td_body.specs.code.Histories.{changed_set}
 use Rattle.td_body.proofs.TupleSets.{changed_in, changed_none}
 use Rattle.td_body.proofs.hashed.history.KeyHistory.put_pending.Goals as goal
 

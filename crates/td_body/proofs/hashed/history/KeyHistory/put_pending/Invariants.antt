@@ -1,5 +1,5 @@
 use Rattle.std.proofs.Common.{◌≡◌, ◌+◌, ◌≤◌, [], length, vec_capacity, vec_len}
-use Rattle.td_body.specs.Histories.{changed_set, kept_sets}
+use Rattle.td_body.specs.code.Histories.{changed_set, kept_sets}
 use Rattle.td_body.proofs.hashed.history.KeyHistory.put_pending.Given as goal
 
 abbrev pub invariant-adds : goal.invariant-adds

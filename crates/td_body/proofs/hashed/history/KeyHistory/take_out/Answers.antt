@@ -1,5 +1,5 @@
 use Rattle.std.proofs.Common.{◌≡◌, sym, ap, ◌∙◌}
-use Rattle.td_body.specs.Histories.{kept_sets}
+use Rattle.td_body.specs.code.Histories.{kept_sets}
 use Rattle.td_body.proofs.Steps.{kept-dropped}
 use Rattle.td_body.proofs.TupleSets.{taken_again}
 use Rattle.td_body.proofs.hashed.history.KeyHistory.take_out.Goals as goal

@@ -1,6 +1,6 @@
 use Rattle.std.proofs.Common.{◌≡◌, ◌∙◌, sym, subst, true, false}
 use Rattle.std.specs.Ordering.{is_eq}
-use Rattle.td_body.specs.KeyParts.{apart_at, by_places}
+use Rattle.td_body.specs.code.KeyParts.{apart_at, by_places}
 use Rattle.td_body.proofs.Found.{none_tie, two_tie}
 use Rattle.td_body.proofs.hashed.index.KeyIndex.is_apart.Goals as goal
 

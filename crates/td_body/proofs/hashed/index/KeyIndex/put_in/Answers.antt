@@ -3,7 +3,7 @@ use Rattle.indexmap.specs.IndexMap.{get, keys}
 use Rattle.td_value.specs.Sets.{has, put_in, set_of}
 use Rattle.td_value.specs.ValueOrder.{tuple_Decides}
 use Rattle.td_value.specs.Values.{IsAscendingBody, tuple_cmp}
-use Rattle.td_body.specs.KeyIndexes.{count_in, ordinal_of, part_hash, tuple_at}
+use Rattle.td_body.specs.code.KeyIndexes.{count_in, ordinal_of, part_hash, tuple_at}
 use Rattle.td_body.proofs.Numbered.{none_of, numbered_more_at, several_still}
 use Rattle.td_body.proofs.Ordinals.{count_few, counted_more, counted_other, has_table, same, table_with}
 use Rattle.td_body.proofs.TupleSets.{ascends-set, put_again}

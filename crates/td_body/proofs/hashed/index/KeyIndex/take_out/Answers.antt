@@ -4,7 +4,7 @@ use Rattle.indexmap.specs.IndexMap.{get, keys}
 use Rattle.td_value.specs.Sets.{has, set_of}
 use Rattle.td_value.specs.ValueOrder.{tuple_Decides}
 use Rattle.td_value.specs.Values.{IsAscendingBody, tuple_cmp}
-use Rattle.td_body.specs.KeyIndexes.{count_in, ordinal_of, part_hash, tuple_at, without}
+use Rattle.td_body.specs.code.KeyIndexes.{count_in, ordinal_of, part_hash, tuple_at, without}
 use Rattle.td_body.proofs.Numbered.{numbered_less_at, several_still, some_of, some_same}
 use Rattle.td_body.proofs.Ordinals.{counted_less, has_table, same, stored, table_without}
 use Rattle.td_body.proofs.TupleSets.{ascends-set, taken_again}

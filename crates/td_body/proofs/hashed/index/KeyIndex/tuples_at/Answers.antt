@@ -1,8 +1,8 @@
 use Rattle.std.proofs.Common.{◌≡◌, ◌++◌, ◌∷◌, [], sym, ◌∙◌, arith, cond, subst}
 use Rattle.std.specs.Ordering.{is_eq}
 use Rattle.td_value.specs.Values.{HaveSameMembers, Tuple}
-use Rattle.td_body.specs.KeyIndexes.{count_in, ordinal_of, part_hash, tuple_at, with_part}
-use Rattle.td_body.specs.KeyParts.{values_cmp}
+use Rattle.td_body.specs.code.KeyIndexes.{count_in, ordinal_of, part_hash, tuple_at, with_part}
+use Rattle.td_body.specs.code.KeyParts.{values_cmp}
 use Rattle.td_body.proofs.Found.{AreFound, found_all, found_more, found_none, found_with, hash_with}
 use Rattle.td_body.proofs.hashed.index.KeyIndex.tuples_at.Goals as goal
 

@@ -1,6 +1,6 @@
 use Rattle.std.specs.Ordering.{is_eq}
-use Rattle.td_body.specs.KeyIndexes.{ordinal_of, part_hash}
-use Rattle.td_body.specs.KeyParts.{values_cmp}
+use Rattle.td_body.specs.code.KeyIndexes.{ordinal_of, part_hash}
+use Rattle.td_body.specs.code.KeyParts.{values_cmp}
 use Rattle.td_body.proofs.Found.{AreFound}
 use Rattle.td_body.proofs.hashed.index.KeyIndex.tuples_at.Given as goal
 

@@ -3,8 +3,8 @@ use Rattle.std.specs.List.{slice_get}
 use Rattle.std.specs.Option.{option_map}
 use Rattle.std.specs.Prelude.{Some, List, ℕ}
 use Rattle.std.proofs.lemmas.Option.{slice_get-map, slice_get_read}
-use Rattle.td_body.specs.KeyParts.{apart_at}
-use Rattle.td_body.specs.Members.{IsAt, Members, kept_in, set_in}
+use Rattle.td_body.specs.code.KeyParts.{apart_at}
+use Rattle.td_body.specs.code.Members.{IsAt, Members, kept_in, set_in}
 use Rattle.td_body.specs.declared.hashed.history.KeyHistory.{KeyHistory}
 use Rattle.td_body.proofs.LookUps.{if_weaker}
 use Rattle.td_body.proofs.MembersLaws.{at_place}

@@ -5,9 +5,9 @@ use Rattle.std.specs.declared.result.Result.{Result}
 use Rattle.std.specs.declared.result.Result.TheVariants.{Err, Ok}
 use Rattle.std.proofs.lemmas.List.{length-map, map-append, with_items_is}
 use Rattle.td_value.specs.Values.{IsTupleOf}
-use Rattle.td_value.specs.Views.{relation_view}
-use Rattle.td_body.specs.Histories.{changed_set}
-use Rattle.td_body.specs.Members.{AreMembers, IsAt, Members, kept_in, set_in}
+use Rattle.td_value.specs.code.Views.{relation_view}
+use Rattle.td_body.specs.code.Histories.{changed_set}
+use Rattle.td_body.specs.code.Members.{AreMembers, IsAt, Members, kept_in, set_in}
 use Rattle.td_body.specs.declared.hashed.history.KeyHistory.{KeyHistory}
 use Rattle.td_body.proofs.MembersLaws.{as_many, first_at, members_changed, members_same}
 use Rattle.td_body.proofs.hashed.members.Members.change.Goals as goal

@@ -4,8 +4,8 @@ use Rattle.std.specs.Option.{option_map}
 use Rattle.std.specs.Prelude.{Some}
 use Rattle.std.proofs.lemmas.Option.{slice_get-map, slice_get_read}
 use Rattle.td_value.specs.Values.{HaveSameMembers}
-use Rattle.td_body.specs.KeyIndexes.{with_part}
-use Rattle.td_body.specs.Members.{IsAt, Members, kept_in, set_in}
+use Rattle.td_body.specs.code.KeyIndexes.{with_part}
+use Rattle.td_body.specs.code.Members.{IsAt, Members, kept_in, set_in}
 use Rattle.td_body.specs.declared.hashed.history.KeyHistory.{KeyHistory}
 use Rattle.td_body.proofs.MembersLaws.{at_place}
 use Rattle.td_body.proofs.hashed.members.Members.found.Goals as goal

@@ -1,8 +1,8 @@
 use Rattle.std.proofs.Common.{◌≡◌, ◌∙◌, ◌<◌, ◌-◌, ◌++◌, ◌∷◌, [], arith, ap, length, length-append, map, subst, sym}
 use Rattle.std.specs.List.{All}
 use Rattle.std.proofs.lemmas.List.{length-map, map-append, with_items_is}
-use Rattle.td_value.specs.Views.{relation_view}
-use Rattle.td_body.specs.Members.{AreMembers, IsAt, Members, kept_in, set_in}
+use Rattle.td_value.specs.code.Views.{relation_view}
+use Rattle.td_body.specs.code.Members.{AreMembers, IsAt, Members, kept_in, set_in}
 use Rattle.td_body.proofs.MembersLaws.{as_many, first_at, members_back, some_kept, with_last}
 use Rattle.td_body.proofs.hashed.members.Members.go_back.Goals as goal
 

@@ -1,7 +1,7 @@
 use Rattle.std.proofs.Common.{[], ap, arith, map, refl, subst, sym}
 use Rattle.td_value.specs.Values.{IsRelation}
-use Rattle.td_value.specs.Views.{relation_view}
-use Rattle.td_body.specs.Members.{AreMembers, Covers}
+use Rattle.td_value.specs.code.Views.{relation_view}
+use Rattle.td_body.specs.code.Members.{AreMembers, Covers}
 use Rattle.td_body.proofs.MembersLaws.{first_at, one, standing}
 use Rattle.td_body.proofs.hashed.members.Members.hashed.Goals as goal
 

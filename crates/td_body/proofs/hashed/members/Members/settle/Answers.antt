@@ -1,8 +1,8 @@
 use Rattle.std.proofs.Common.{◌≡◌, ◌∙◌, ap, map, subst, sym}
 use Rattle.std.specs.List.{All}
 use Rattle.std.proofs.lemmas.List.{with_items_is}
-use Rattle.td_value.specs.Views.{relation_view}
-use Rattle.td_body.specs.Members.{AreMembers, IsAt, Members, kept_in, places_in, set_in}
+use Rattle.td_value.specs.code.Views.{relation_view}
+use Rattle.td_body.specs.code.Members.{AreMembers, IsAt, Members, kept_in, places_in, set_in}
 use Rattle.td_body.proofs.MembersLaws.{all_settled, as_many, settled_at}
 use Rattle.td_body.proofs.hashed.members.Members.settle.Goals as goal
 

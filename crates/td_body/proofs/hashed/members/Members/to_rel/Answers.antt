@@ -3,8 +3,8 @@ use Rattle.std.specs.List.{slice_get}
 use Rattle.td_algebra.proofs.Keys.{if_ok}
 use Rattle.td_algebra.proofs.Relations.{rows_ascend}
 use Rattle.td_value.specs.Values.{IsAscendingBody, Tuple}
-use Rattle.td_value.specs.Views.{relation_view}
-use Rattle.td_body.specs.Members.{Covers, Members, set_in}
+use Rattle.td_value.specs.code.Views.{relation_view}
+use Rattle.td_body.specs.code.Members.{Covers, Members, set_in}
 use Rattle.td_body.proofs.MembersLaws.{first_set, no_items, set_covered, set_relation, untouched_same}
 use Rattle.td_body.proofs.hashed.members.Members.to_rel.Goals as goal
 

@@ -1,6 +1,6 @@
 use Rattle.std.proofs.Common.{◌≡◌, ◌∙◌, List, [], ◌∷◌, ◌++◌, ap, append-nil, refl, sym}
-use Rattle.td_tree.proofs.Rows.{extend_is, headed_relation_is, relation_is, select_is, summarize_by_is, summarize_per_is, tuple_is}
-use Rattle.td_tree.proofs.Writing.{both_put, item_put, last_put}
+use Rattle.td_tree.proofs.code_lemmas.Rows.{extend_is, headed_relation_is, relation_is, select_is, summarize_by_is, summarize_per_is, tuple_is}
+use Rattle.td_tree.proofs.code_lemmas.Writing.{both_put, item_put, last_put}
 use Rattle.td_tree.specs.declared.expression.Summary.{Summary}
 use Rattle.td_tree.specs.declared.expression.Summary.TheVariants as s
 use Rattle.td_tree.specs.declared.keyword.Keyword.TheVariants as k
@@ -9,8 +9,8 @@ use Rattle.td_tree.specs.Grammar.{aggregate_word}
 use Rattle.td_tree.specs.Lexemes.{Lexeme, keyword, name, sign}
 use Rattle.td_tree.specs.Lists.{braced, parenthesized}
 use Rattle.td_tree.specs.Prints.{addition_lexemes, all_lexemes, as_lexemes, attributes_lexemes, commas, heading_lexemes, lexemes_of, part_lexemes, summary_lexemes}
-use Rattle.td_tree.specs.TreeViews.{attributes_view, heading_tree_view, named_view, summaries_view, tree_view, trees_view}
-use Rattle.td_tree.specs.Written.{comma_lexeme_if, written}
+use Rattle.td_tree.specs.code.TreeViews.{attributes_view, heading_tree_view, named_view, summaries_view, tree_view, trees_view}
+use Rattle.td_tree.specs.code.Written.{comma_lexeme_if, written}
 use Rattle.td_tree.proofs.print.words.Printer.+printer.Goals as goal
 
 -- ---- loops

@@ -1,8 +1,8 @@
 use Rattle.std.proofs.Common.{◌≡◌, ◌++◌, drop}
-use Rattle.td_tree.proofs.Writing.{listed}
+use Rattle.td_tree.proofs.code_lemmas.Writing.{listed}
 use Rattle.td_tree.specs.Prints.{addition_lexemes, all_lexemes, commas, part_lexemes, summary_lexemes}
-use Rattle.td_tree.specs.TreeViews.{named_view, summaries_view, trees_view}
-use Rattle.td_tree.specs.Written.{written}
+use Rattle.td_tree.specs.code.TreeViews.{named_view, summaries_view, trees_view}
+use Rattle.td_tree.specs.code.Written.{written}
 use Rattle.td_tree.proofs.print.words.Printer.+printer.Given as goal
 
 abbrev pub invariant-arguments-loop-argument : goal.invariant-arguments-loop-argument

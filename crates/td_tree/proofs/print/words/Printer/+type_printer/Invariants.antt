@@ -1,8 +1,8 @@
 use Rattle.std.proofs.Common.{◌≡◌, ◌++◌, drop}
-use Rattle.td_tree.proofs.Writing.{listed}
+use Rattle.td_tree.proofs.code_lemmas.Writing.{listed}
 use Rattle.td_tree.specs.Prints.{attribute_lexemes, commas}
-use Rattle.td_tree.specs.TreeViews.{heading_tree_view}
-use Rattle.td_tree.specs.Written.{written}
+use Rattle.td_tree.specs.code.TreeViews.{heading_tree_view}
+use Rattle.td_tree.specs.code.Written.{written}
 use Rattle.td_tree.proofs.print.words.Printer.+type_printer.Given as goal
 
 abbrev pub invariant-heading-loop-attribute : goal.invariant-heading-loop-attribute

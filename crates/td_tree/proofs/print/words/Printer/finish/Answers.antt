@@ -1,5 +1,5 @@
 use Rattle.std.proofs.Common.{◌∙◌}
-use Rattle.td_tree.proofs.Writing.{popped_text}
+use Rattle.td_tree.proofs.code_lemmas.Writing.{popped_text}
 use Rattle.td_tree.proofs.print.words.Printer.finish.Goals as goal
 
 pub returns : goal.returns

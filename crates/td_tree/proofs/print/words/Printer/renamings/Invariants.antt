@@ -1,8 +1,8 @@
 use Rattle.std.proofs.Common.{◌≡◌, ◌++◌, drop, map}
-use Rattle.td_tree.proofs.Writing.{listed}
+use Rattle.td_tree.proofs.code_lemmas.Writing.{listed}
 use Rattle.td_tree.specs.Prints.{commas, renaming_lexemes}
-use Rattle.td_tree.specs.TreeViews.{renaming_view}
-use Rattle.td_tree.specs.Written.{written}
+use Rattle.td_tree.specs.code.TreeViews.{renaming_view}
+use Rattle.td_tree.specs.code.Written.{written}
 use Rattle.td_tree.proofs.print.words.Printer.renamings.Given as goal
 
 abbrev pub invariant-loop-renaming : goal.invariant-loop-renaming

@@ -1,0 +1,5 @@
+pub mod CheckViews
+pub mod ItemViews
+pub mod LentScopes
+pub mod PlaceViews
+pub mod ScopeCode

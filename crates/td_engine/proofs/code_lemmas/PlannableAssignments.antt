@@ -1,0 +1,168 @@
+-- Assignments whose expressions may be valued by plans, since their targets hold typed relations so far.
+use Rattle.std.proofs.Common.{◌≡◌, ◌∙◌, ◌∷◌, ℕ, true, List, [], Option, Some, None, ap, map, option_map, refl, subst, sym}
+use Rattle.std.specs.List.{AllByRecursion}
+use Rattle.td_catalog.specs.Database.{BaseRelvar, Database, base_named, database_scope}
+use Rattle.td_check.specs.OperatorTypes.{known_or, over_relation, restriction_type, same_type}
+use Rattle.td_check.specs.Scopes.{entered_with, known_relvar}
+use Rattle.td_check.specs.StatementTypes.{both_hold, condition_fits, is_target, source_fits, type_if_given}
+use Rattle.td_check.specs.StaticTypes.{named_types, type_of}
+use Rattle.td_engine.proofs.law_lemmas.Admitted.{both_asked}
+use Rattle.td_engine.proofs.code_lemmas.DeletedTuples.{same_world}
+use Rattle.td_engine.proofs.law_lemmas.GivenValues.{database_gives, source_gives}
+use Rattle.td_engine.proofs.law_lemmas.TypedGifts.{AreChecked, checked_condition, checked_setting_condition, checked_settings, checked_source, chosen_like, is_base, statement_each_checked, typed_gift}
+use Rattle.td_engine.proofs.law_lemmas.WrittenStatements.{AreWritten, definitions_written, statement_written}
+use Rattle.td_engine.specs.Assignments.{chosen_for, source_world, target_of}
+use Rattle.td_engine.specs.code.Carried.{IsAdmitted}
+use Rattle.td_engine.specs.code.Gifts.{IsGift}
+use Rattle.td_engine.specs.Legality.{IsLegal}
+use Rattle.td_engine.specs.code.Plannable.{ArePlannableSettings, IsAdmittedAssignment, IsPlannable, IsPlannableAssignment, IsPlannableConditionIf, IsPlannableIf, IsPlannableSource, IsWrittenIf}
+use Rattle.td_eval.proofs.code_lemmas.KeepsGathered.{all_from_members}
+use Rattle.td_eval.proofs.code_lemmas.KeepsRelations.{IsTypedRelation, value_from_typed}
+use Rattle.td_eval.proofs.law_lemmas.KnownRelvars.{known_as_base}
+use Rattle.td_eval.proofs.code_lemmas.TypedRows.{rows_typed}
+use Rattle.td_eval.specs.DatabaseWorlds.{world_of}
+use Rattle.td_eval.specs.ValueTypes.{DefinitionsAreWritten, IsTypedTuple, IsWritten}
+use Rattle.td_tree.specs.declared.cause.Cause.TheVariants as causes
+use Rattle.td_tree.specs.declared.statement.Assignment as code
+use Rattle.td_tree.specs.Outcomes.{Valued, value_if, with_value}
+use Rattle.td_tree.specs.code.TreeViews.{assignment_view}
+use Rattle.td_tree.specs.Trees.{Assignment, NamedTrees, Tree, assign, assign_all, delete, insert, name, restriction, update}
+use Rattle.td_types.proofs.OutcomeLaws.{value_of_test, value_of_with}
+use Rattle.td_types.specs.code.TypeCode.{unpack_pack}
+use Rattle.td_types.specs.Types.{Heading, Type', boolean, pack, relation}
+use Rattle.td_value.specs.Values.{IsRelation, Relation}
+
+module _ (db : Database) (legal : IsLegal db) where
+  defined : DefinitionsAreWritten db
+  defined = definitions_written db legal.spelled
+
+  -- what is inserted into a relvar to which nothing was given before
+  pub insert_plannable : (n : List ℕ) (e : Tree) → IsAdmittedAssignment db (insert n e) → IsPlannable db e
+  insert_plannable n e is =
+      let source = value_of_with (type_of (database_scope db) e) (source_fits (known_relvar (database_scope db) n)) tt (both_asked _ _ is.checked).1 in
+      record { gives = database_gives db legal.typed defined; definitions = defined; written = is.written; typed = (source.0, source.1) }
+
+  -- a base relvar may be given what it holds
+  pub base_gift : (n : List ℕ) (r : BaseRelvar) → base_named n db ≡ Some r → IsGift db (n, r.relation)
+  base_gift n r at =
+      let is = is_base db legal.typed defined n r at in
+      record { target = r; named = at; heading = refl; relation = is.relation; typed = is.typed }
+
+  -- a relation with values of their types
+  tuples_typed : (r : Relation) → IsTypedRelation db.types r → IsRelation r × AllByRecursion (IsTypedTuple db.types) r.body
+  tuples_typed r is =
+      let typed = value_from_typed db.types r is in
+      (is.is_relation, all_from_members (IsTypedTuple db.types) r.body (λ u c. (rows_typed db.types r typed u c).0))
+
+  -- ---- one assignment
+
+  module _ (n : List ℕ) (so_far : Relation) (gift : IsGift db (n, so_far)) where
+    source_plannable : (e : Tree)
+        → both_hold (is_target (known_relvar (database_scope db) n))
+        (with_value (type_of (database_scope db) e) (source_fits (known_relvar (database_scope db) n))) ≡ Valued tt
+        → IsWritten e → IsPlannableSource db n so_far e
+    source_plannable e checked is_written =
+        record {
+          gives = source_gives db legal.typed defined n so_far gift;
+          definitions = defined;
+          written = is_written;
+          typed = checked_source db legal.typed defined n so_far gift e checked;
+        }
+
+    condition_plannable : (condition : Option Tree) (k : Option Type')
+        → type_if_given (entered_with gift.target.relation.heading (database_scope db)) condition ≡ Valued k
+        → IsWrittenIf condition → IsPlannableConditionIf db n so_far condition
+    condition_plannable None k typed is_written = tt
+    condition_plannable (Some e) k typed is_written =
+        let t = value_of_with (type_of (entered_with gift.target.relation.heading (database_scope db)) e) _ k typed in
+        record {
+          gives = source_gives db legal.typed defined n so_far gift;
+          definitions = defined;
+          tuples = tuples_typed so_far (typed_gift db legal.typed defined n so_far gift);
+          written = is_written;
+          typed = (t.0, subst (λ (h : Heading). type_of (entered_with h (database_scope db)) e ≡ Valued t.0) (sym gift.heading) t.1);
+        }
+
+    settings_plannable : (condition : Option Tree) (settings : NamedTrees) → IsAdmittedAssignment db (update n condition settings)
+        → ArePlannableSettings db (source_world db n so_far) (chosen_for so_far (source_world db n so_far) n condition) settings
+    settings_plannable condition settings is =
+        let kinds = checked_settings db legal.typed defined n so_far gift condition settings is.checked in
+        let like = chosen_like db legal.typed defined n so_far gift condition in
+        record {
+          gives = source_gives db legal.typed defined n so_far gift;
+          definitions = defined;
+          tuples = λ r e. tuples_typed r (like r e).0;
+          written = is.written.1;
+          typed = λ r e. (
+            kinds.0,
+            subst (λ (h : Heading). named_types (entered_with h (database_scope db)) settings ≡ Valued kinds.0) (sym ((like r e).1 ∙ gift.heading)) kinds.1,
+          );
+        }
+
+  pub assignment_plannable : (so_far : Relation) (a : Assignment) → IsGift db (target_of a, so_far) → IsAdmittedAssignment db a
+      → IsPlannableAssignment db so_far a
+  assignment_plannable so_far (assign n e) gift is = source_plannable n so_far gift e is.checked is.written
+  assignment_plannable so_far (insert n e) gift is = source_plannable n so_far gift e is.checked is.written
+  assignment_plannable so_far (delete n condition) gift is =
+      let k = checked_condition db legal.typed defined n so_far gift condition is.checked in
+      condition_plannable n so_far gift condition k.0 k.1 is.written
+  assignment_plannable so_far (update n condition settings) gift is =
+      let k = checked_setting_condition db legal.typed defined n so_far gift condition settings is.checked in
+      (condition_plannable n so_far gift condition k.0 k.1 is.written.0, settings_plannable n so_far gift condition settings is)
+
+  -- ---- what is chosen of what a base relvar holds
+
+  module _ (n : List ℕ) (b : BaseRelvar) (at : base_named n db ≡ Some b) where
+    chosen_plannable : (condition : Option Tree) (k : Option Type') → type_if_given (entered_with b.relation.heading (database_scope db)) condition ≡ Valued k
+        → condition_fits k ≡ Valued tt → IsWrittenIf condition → IsPlannableIf db (option_map (restriction (name n)) condition)
+    chosen_plannable None k typed fits is_written = tt
+    chosen_plannable (Some p) k typed fits is_written =
+        let t = value_of_with (type_of (entered_with b.relation.heading (database_scope db)) p) (λ t. Valued (Some t)) k typed in
+        let asked : condition_fits (Some t.0) ≡ Valued tt = ap (λ o. with_value o condition_fits) t.2 ∙ fits in
+        let truth : same_type t.0 boolean ≡ true = (value_of_test (same_type t.0 boolean) tt tt causes.TypeMismatch asked).0 in
+        let kind = relation (pack b.relation.heading) in
+        let operand : type_of (database_scope db) (name n) ≡ Valued kind =
+        ap (λ o. with_value (known_or causes.NameUnknown o) (λ r. Valued (relation (pack r.heading)))) (known_as_base db n b at) in
+        record {
+          gives = database_gives db legal.typed defined;
+          definitions = defined;
+          written = ((tt, is_written.0), (tt, is_written.1));
+          typed = (
+            kind,
+            ap (λ o. with_value o (λ s. over_relation s (λ h. with_value (type_of (entered_with h (database_scope db)) p) (restriction_type s)))) operand
+                ∙ ap (λ (h : Heading). with_value (type_of (entered_with h (database_scope db)) p) (restriction_type kind)) (unpack_pack b.relation.heading)
+                ∙ ap (λ o. with_value o (restriction_type kind)) t.1 ∙ ap (λ c. value_if c kind causes.TypeMismatch) truth,
+          );
+        }
+
+    pub delete_plannable : (condition : Option Tree) → IsAdmittedAssignment db (delete n condition)
+        → IsPlannableIf db (option_map (restriction (name n)) condition)
+    unfolding base_gift
+    delete_plannable condition is =
+        let k = checked_condition db legal.typed defined n b.relation (base_gift n b at) condition is.checked in
+        chosen_plannable condition k.0 k.1 k.2 is.written
+
+    module _ (condition : Option Tree) (settings : NamedTrees) (is : IsAdmittedAssignment db (update n condition settings)) where
+      pub update_plannable : IsPlannableIf db (option_map (restriction (name n)) condition)
+      unfolding base_gift
+      update_plannable =
+          let k = checked_setting_condition db legal.typed defined n b.relation (base_gift n b at) condition settings is.checked in
+          chosen_plannable condition k.0 k.1 k.2 is.written.0
+
+      pub update_settings : ArePlannableSettings db (world_of db) (chosen_for b.relation (world_of db) n condition) settings
+      update_settings =
+          subst (λ w. ArePlannableSettings db w (chosen_for b.relation w n condition) settings) (same_world db n b at)
+          (settings_plannable n b.relation (base_gift n b at) condition settings is)
+
+  -- ---- those of a statement
+
+  each_admitted : (xs : List code.Assignment) → AreWritten (map assignment_view xs) → AreChecked db legal.typed defined (map assignment_view xs)
+      → AllByRecursion (λ (x : code.Assignment). IsAdmittedAssignment db (assignment_view x)) xs
+  each_admitted [] is_written checked = tt
+  each_admitted (x ∷ xs) is_written checked = (record { written = is_written.0; checked = checked.0 }, each_admitted xs is_written.1 checked.1)
+
+  pub all_admitted : (xs : List code.Assignment) → IsAdmitted db (assign_all (map assignment_view xs))
+      → AllByRecursion (λ (x : code.Assignment). IsAdmittedAssignment db (assignment_view x)) xs
+  all_admitted xs is =
+      each_admitted xs (statement_written (assign_all (map assignment_view xs)) is.spelled)
+      (statement_each_checked db legal.typed defined (map assignment_view xs) is.checked)

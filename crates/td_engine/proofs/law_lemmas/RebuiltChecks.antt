@@ -1,0 +1,90 @@
+-- A part of a legal database that is typed passes the checks: in it the virtual relvars and the constraints have the values that
+-- they have in the whole.
+use Rattle.std.proofs.Common.{◌≡◌, ◌∙◌, ◌∷◌, List, [], Option, Some, None, ap, refl, sym}
+use Rattle.std.specs.List.{AllByRecursion}
+use Rattle.std.specs.Option.{option_or}
+use Rattle.td_catalog.specs.Database.{Database, NamedConstraint, VirtualRelvar, database_scope}
+use Rattle.td_catalog.specs.TypedDatabases.{IsTyped, IsTypedConstraint}
+use Rattle.td_engine.proofs.law_lemmas.EachOf.{all_both, all_given}
+use Rattle.td_engine.proofs.law_lemmas.PassedChecks.{all_pass}
+use Rattle.td_engine.proofs.law_lemmas.RebuiltLists.{all_first}
+use Rattle.td_engine.proofs.law_lemmas.RebuiltParts.{IsPart}
+use Rattle.td_engine.proofs.law_lemmas.SameTests.{IsKnown, all_known, name_checked, same_test, same_truth}
+use Rattle.td_engine.proofs.law_lemmas.Settled.{bases_hold}
+use Rattle.td_engine.proofs.law_lemmas.WrittenStatements.{conditions_written, definitions_written}
+use Rattle.td_engine.specs.Checks.{base_check, constraint_check, database_check, derived_check, first_refusal, unpassed, virtual_check}
+use Rattle.td_engine.specs.Machine.{Accepted, changed, ok_text, unless_refused}
+use Rattle.td_engine.specs.Refusals.{Refusal, by_constraint, by_key}
+use Rattle.td_engine.specs.Legality.{HasKeysThatHold, IsLegal, IsTrueOf}
+use Rattle.td_eval.proofs.law_lemmas.LaterEntries.{later_entries_change_nothing}
+use Rattle.td_eval.specs.DatabaseWorlds.{world_of}
+use Rattle.td_eval.specs.TreeValues.{value_of}
+use Rattle.td_eval.specs.ValueLaws.{HasLater, IsChecked}
+use Rattle.td_eval.specs.ValueTypes.{DefinitionsAreWritten, IsWritten}
+use Rattle.td_tree.specs.Trees.{Tree, name}
+use Rattle.td_types.specs.TypeLists.{DeclaredType}
+use Rattle.td_types.specs.Types.{boolean}
+
+-- where each is passed, no check refuses
+pub none_refuses : {A : Type 0} (check : A → Option Refusal) (P : A → Type 0) → ((x : A) → P x → check x ≡ None) → (xs : List A) → AllByRecursion P xs
+    → first_refusal check xs ≡ None
+none_refuses check P says [] h = refl
+none_refuses check P says (x ∷ xs) h =
+    ap (λ o. option_or o (first_refusal check xs)) (says x h.0) ∙ none_refuses check P says xs h.1
+
+-- the constraint of a type is written
+abbrev IsWrittenType : DeclaredType → Type 0
+IsWrittenType d = (e : Tree) → d.constraint ≡ Some e → IsWritten e
+
+module _ (db part : Database) (legal : IsLegal db) (is : IsPart part db) (is_typed : IsTyped part) where
+  -- the whole has more entries behind those of the part
+  later : HasLater part db
+  later = record { types = is.types; bases = is.bases; virtuals = is.virtuals; distinct = legal.typed.distinct }
+
+  definitions : DefinitionsAreWritten part
+  definitions =
+      record {
+        constraints = all_first IsWrittenType db.types part.types is.types (definitions_written db legal.spelled).constraints;
+        virtuals = all_first (λ (v : VirtualRelvar). IsWritten v.tree) db.virtuals part.virtuals is.virtuals (definitions_written db legal.spelled).virtuals;
+      }
+
+  same_value : (e : Tree) → IsChecked (database_scope part) [] e → value_of (world_of part) [] e ≡ value_of (world_of db) [] e
+  same_value e checked = sym (later_entries_change_nothing.values part db [] e is_typed definitions later checked)
+
+  -- the keys of virtual relvars hold
+  virtuals_hold : AllByRecursion (HasKeysThatHold (world_of part)) part.virtuals
+  virtuals_hold =
+      all_given (IsKnown part) (HasKeysThatHold (world_of db)) (HasKeysThatHold (world_of part))
+      (λ v known. same_test (world_of db) (world_of part) v (same_value (name v.name) (name_checked part v known)))
+      part.virtuals (all_known part) (all_first (HasKeysThatHold (world_of db)) db.virtuals part.virtuals is.virtuals legal.virtuals)
+
+  -- a constraint has a type, and is written
+  abbrev IsAsked : NamedConstraint → Type 0
+  IsAsked c = IsTypedConstraint (database_scope part) c × IsWritten c.tree
+
+  all_asked : AllByRecursion IsAsked part.constraints
+  all_asked =
+      all_both (IsTypedConstraint (database_scope part)) (λ (c : NamedConstraint). IsWritten c.tree) part.constraints is_typed.constraints
+      (all_first (λ (c : NamedConstraint). IsWritten c.tree) db.constraints part.constraints is.constraints (conditions_written db legal.spelled))
+
+  -- the constraints are TRUE
+  constraints_hold : AllByRecursion (IsTrueOf (world_of part)) part.constraints
+  constraints_hold =
+      all_given IsAsked (IsTrueOf (world_of db)) (IsTrueOf (world_of part))
+      (λ c asked. same_truth (world_of db) (world_of part) c
+      (same_value c.tree (record { tuples = tt; written = asked.1; typed = (boolean, asked.0) })))
+      part.constraints all_asked (all_first (IsTrueOf (world_of db)) db.constraints part.constraints is.constraints legal.constraints)
+
+  -- no check refuses
+  passes : database_check part ≡ None
+  passes =
+      ap (λ o. option_or o (derived_check part))
+      (none_refuses base_check (λ b. base_check b ≡ None) (λ b e. e) part.bases
+      (all_first (λ b. base_check b ≡ None) db.bases part.bases is.bases (all_pass base_check (λ b. base_check b ≡ None) (λ b e. e) db.bases (bases_hold db legal))))
+      ∙ ap (λ o. option_or o (first_refusal (constraint_check (world_of part)) part.constraints))
+      (none_refuses (virtual_check (world_of part)) (HasKeysThatHold (world_of part)) (λ v h. ap (unpassed (by_key v.name)) h) part.virtuals virtuals_hold)
+      ∙ none_refuses (constraint_check (world_of part)) (IsTrueOf (world_of part)) (λ c h. ap (unpassed (by_constraint c.name)) h) part.constraints
+      constraints_hold
+
+  pub part_passes : changed part ≡ Accepted part ok_text
+  part_passes = ap (λ o. unless_refused o part) passes

@@ -1,0 +1,98 @@
+-- Expressions that may be valued by a plan.
+use Rattle.std.specs.Prelude.{◌≡◌, ℕ, List, Option, Some, None, ⊤}
+use Rattle.std.specs.List.{AllByRecursion}
+use Rattle.td_catalog.specs.Database.{Database, database_scope}
+use Rattle.td_check.specs.Scopes.{entered_with}
+use Rattle.td_check.specs.StatementTypes.{assignment_checked}
+use Rattle.td_check.specs.StaticLaws.{PartsGiveNames}
+use Rattle.td_check.specs.StaticTypes.{named_types, type_of}
+use Rattle.td_engine.specs.Assignments.{chosen_for, source_world}
+use Rattle.td_engine.specs.Changes.{given_as}
+use Rattle.td_engine.specs.code.Gifts.{IsGift}
+use Rattle.td_engine.specs.declared.change.Change.{Change}
+use Rattle.td_eval.specs.DatabaseWorlds.{world_of}
+use Rattle.td_eval.specs.TreeTexts.{PartsHaveTexts}
+use Rattle.td_eval.specs.UnfailingValues.{GivesValues}
+use Rattle.td_eval.specs.ValueTypes.{DefinitionsAreWritten, IsTypedTuple, IsWritten}
+use Rattle.td_eval.specs.Worlds.{World}
+use Rattle.td_tree.specs.Outcomes.{Outcome, Valued}
+use Rattle.td_tree.specs.Trees.{Assignment, NamedTrees, Tree, assign, delete, insert, update}
+use Rattle.td_types.specs.Types.{Attribute, Type'}
+use Rattle.td_value.specs.Values.{IsRelation, Relation}
+
+-- an expression that has a type where the database is known; it and the definitions there are written as tokens spell them
+pub record IsPlannable (db : Database) (e : Tree) : Type 0 where
+  pub gives : GivesValues (world_of db) (database_scope db)
+  pub definitions : DefinitionsAreWritten db
+  pub written : IsWritten e
+  pub typed : (t : Type') × (type_of (database_scope db) e ≡ Valued t)
+
+-- so is one that is there
+abbrev pub IsPlannableIf : Database → Option Tree → Type 0
+IsPlannableIf db None = ⊤
+IsPlannableIf db (Some e) = IsPlannable db e
+
+-- ---- assignments
+
+-- what a change leaves of what its target held is what the target may be given
+abbrev pub LeavesGift : Database → List ℕ × Change → Type 0
+LeavesGift db change = IsGift db (change.0, given_as db change.0 change.1)
+
+-- an expression that is there is written as tokens spell it
+abbrev pub IsWrittenIf : Option Tree → Type 0
+IsWrittenIf None = ⊤
+IsWrittenIf (Some e) = IsWritten e
+
+-- so are those of settings
+abbrev pub AreWrittenSettings : NamedTrees → Type 0
+AreWrittenSettings settings = PartsGiveNames settings × PartsHaveTexts settings
+
+-- so are the expressions in an assignment
+abbrev pub IsWrittenAssignment : Assignment → Type 0
+IsWrittenAssignment (assign target source) = IsWritten source
+IsWrittenAssignment (insert target source) = IsWritten source
+IsWrittenAssignment (delete target condition) = IsWrittenIf condition
+IsWrittenAssignment (update target condition settings) = IsWrittenIf condition × AreWrittenSettings settings
+
+-- an assignment that meets the static rules, and is written as tokens spell it
+pub record IsAdmittedAssignment (db : Database) (a : Assignment) : Type 0 where
+  pub written : IsWrittenAssignment a
+  pub checked : assignment_checked (database_scope db) a ≡ Valued tt
+
+-- an expression that may be valued by a plan where the name of a target means its relation so far
+pub record IsPlannableSource (db : Database) (target : List ℕ) (so_far : Relation) (e : Tree) : Type 0 where
+  pub gives : GivesValues (source_world db target so_far) (database_scope db)
+  pub definitions : DefinitionsAreWritten db
+  pub written : IsWritten e
+  pub typed : (t : Type') × (type_of (database_scope db) e ≡ Valued t)
+
+-- a condition that may be so in each of the target's tuples so far
+pub record IsPlannableCondition (db : Database) (target : List ℕ) (so_far : Relation) (e : Tree) : Type 0 where
+  pub gives : GivesValues (source_world db target so_far) (database_scope db)
+  pub definitions : DefinitionsAreWritten db
+  pub tuples : IsRelation so_far × AllByRecursion (IsTypedTuple db.types) so_far.body
+  pub written : IsWritten e
+  pub typed : (t : Type') × (type_of (entered_with so_far.heading (database_scope db)) e ≡ Valued t)
+
+abbrev pub IsPlannableConditionIf : Database → List ℕ → Relation → Option Tree → Type 0
+IsPlannableConditionIf db target so_far None = ⊤
+IsPlannableConditionIf db target so_far (Some e) = IsPlannableCondition db target so_far e
+
+-- settings that may be so in each of the tuples that are chosen
+pub record ArePlannableSettings (db : Database) (w : World) (chosen : Outcome Relation) (settings : NamedTrees) : Type 0 where
+  pub gives : GivesValues w (database_scope db)
+  pub definitions : DefinitionsAreWritten db
+  pub tuples : (r : Relation) → chosen ≡ Valued r → IsRelation r × AllByRecursion (IsTypedTuple db.types) r.body
+  pub written : AreWrittenSettings settings
+  pub typed :
+      (r : Relation) → chosen ≡ Valued r
+      → (kinds : List Attribute) × (named_types (entered_with r.heading (database_scope db)) settings ≡ Valued kinds)
+
+-- an assignment whose source, or whose condition and settings, may be valued so
+abbrev pub IsPlannableAssignment : Database → Relation → Assignment → Type 0
+IsPlannableAssignment db so_far (assign target source) = IsPlannableSource db target so_far source
+IsPlannableAssignment db so_far (insert target source) = IsPlannableSource db target so_far source
+IsPlannableAssignment db so_far (delete target condition) = IsPlannableConditionIf db target so_far condition
+IsPlannableAssignment db so_far (update target condition settings) =
+    IsPlannableConditionIf db target so_far condition
+    × ArePlannableSettings db (source_world db target so_far) (chosen_for so_far (source_world db target so_far) target condition) settings

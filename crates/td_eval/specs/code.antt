@@ -1,0 +1,3 @@
+pub mod NewColumns
+pub mod Sights
+pub mod Totals

@@ -1,0 +1,5 @@
+pub mod FoundSummaries
+pub mod Nests
+pub mod Parsing
+pub mod Views
+pub mod Walking

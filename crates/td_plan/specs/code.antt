@@ -1,0 +1,12 @@
+pub mod Hands
+pub mod MadeSteps
+pub mod PlanViews
+pub mod PlannedParts
+pub mod Planners
+pub mod PlansBelow
+pub mod Quick
+pub mod Runs
+pub mod StepHeights
+pub mod StepViews
+pub mod TreeWeights
+pub mod ValuesBelow

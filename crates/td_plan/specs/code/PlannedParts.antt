@@ -1,0 +1,93 @@
+-- When plans stand for the parts of an expression (this project's own).
+use Rattle.std.specs.declared.alloc.AllocError.{AllocError}
+use Rattle.std.specs.Global.{Box, Vec}
+use Rattle.std.specs.Prelude.{◌≡◌, ℕ, true, IfOk, List, [], ◌∷◌, Option, Some, None, Result, ⊤}
+use Rattle.td_check.specs.Scopes.{Scope, entered_with}
+use Rattle.td_plan.specs.declared.in_tuples.NewColumns.{NewColumns}
+use Rattle.td_plan.specs.declared.in_tuples.PulledStep.{PulledStep}
+use Rattle.td_plan.specs.declared.plan.PartPlans.{PartPlans}
+use Rattle.td_plan.specs.declared.step.Step.{Step}
+use Rattle.td_plan.specs.Hoisting.{Hoists, HoistsAll}
+use Rattle.td_plan.specs.Plans.{PlanTree, PlanTrees, none, more}
+use Rattle.td_plan.specs.PlansOf.{IsPlanOfTyped}
+use Rattle.td_plan.specs.code.StepViews.{step_view, steps_view}
+use Rattle.td_tree.specs.declared.expression.NamedExpr.{NamedExpr}
+use Rattle.td_tree.specs.declared.expression.Summary.{Summary}
+use Rattle.td_tree.specs.declared.expression.Summary.TheVariants as summaries
+use Rattle.td_tree.specs.Outcomes.{Outcome, Valued}
+use Rattle.td_tree.specs.code.TreeViews.{tree_view}
+use Rattle.td_tree.specs.Trees.{Tree, literal, truth}
+use Rattle.td_tree.specs.Trees as trees
+use Rattle.td_types.specs.Types.{Attribute, Heading}
+use Rattle.td_types.specs.code.Views.{pairs_view}
+
+-- plans of these expressions, one for each
+abbrev pub ArePlansOfTyped : Scope → PlanTrees → List Tree → Type 0
+ArePlansOfTyped scope none [] = ⊤
+ArePlansOfTyped scope none (e ∷ es) = ⊥
+ArePlansOfTyped scope (more p ps) [] = ⊥
+ArePlansOfTyped scope (more p ps) (e ∷ es) = IsPlanOfTyped scope p e × ArePlansOfTyped scope ps es
+
+-- ---- what planning gives, where there was memory for it
+
+abbrev pub IsPlanned : Scope → Result Step AllocError → Tree → Type 0
+IsPlanned scope made d = IfOk made (λ p. IsPlanOfTyped scope (step_view p) d)
+
+-- in a box
+abbrev pub IsBoxPlanned : Scope → Result (Box Step) AllocError → Tree → Type 0
+IsBoxPlanned scope made d = IfOk made (λ p. IsPlanOfTyped scope (step_view p.value) d)
+
+abbrev pub ArePlanned : Scope → Result (Vec Step) AllocError → List Tree → Type 0
+ArePlanned scope made ds = IfOk made (λ ps. ArePlansOfTyped scope (steps_view ps.items) ds)
+
+-- ---- the expressions in a list
+
+abbrev pub in_trees : trees.Trees → List Tree
+in_trees trees.none = []
+in_trees (trees.more e es) = e ∷ in_trees es
+
+abbrev pub in_named : trees.NamedTrees → List Tree
+in_named trees.none_named = []
+in_named (trees.more_named n e es) = e ∷ in_named es
+
+-- COUNT's item counts a term for each tuple
+abbrev pub in_summaries : trees.Summaries → List Tree
+in_summaries trees.no_summaries = []
+in_summaries (trees.counted n rest) = literal (truth true) ∷ in_summaries rest
+in_summaries (trees.summed op e n rest) = e ∷ in_summaries rest
+
+-- the expression of a part, and that of an item
+abbrev pub part_tree : NamedExpr → Tree
+part_tree part = tree_view part.value
+
+abbrev pub item_tree : Summary → Tree
+item_tree (summaries.Count name) = literal (truth true)
+item_tree (summaries.Of op value name) = tree_view value
+
+-- the names that parts give
+abbrev pub names_in : trees.NamedTrees → List (List ℕ)
+names_in trees.none_named = []
+names_in (trees.more_named n e es) = n ∷ names_in es
+
+-- ---- in the tuples of a relation
+
+-- plans of what parts have where a further tuple, of the heading, is in hand, with what is valued once for all such tuples
+abbrev pub ArePartPlans : Scope → Heading → PartPlans → trees.NamedTrees → Type 0
+ArePartPlans scope h plans parts =
+    (ps : PlanTrees) × ArePlansOfTyped (entered_with h scope) ps (in_named parts)
+    × HoistsAll none (steps_view plans.once.items) ps (steps_view plans.values.items)
+
+-- the types are those of the new attributes, and of what they are of these are plans, with what is valued once
+abbrev pub ArePlannedColumns : Scope → NewColumns → Outcome (List Attribute) → List Tree → Type 0
+ArePlannedColumns inner columns types es =
+    (types ≡ Valued (pairs_view columns.attributes.items))
+    × (ps : PlanTrees) × ArePlansOfTyped inner ps es × HoistsAll none (steps_view columns.once.items) ps (steps_view columns.values.items)
+
+-- where there are such types; else none
+abbrev pub AreFoundColumns : Scope → Option NewColumns → Outcome (List Attribute) → List Tree → Type 0
+AreFoundColumns inner (Some columns) types es = ArePlannedColumns inner columns types es
+AreFoundColumns inner None types es = (xs : List Attribute) → types ≡ Valued xs → ⊥
+
+-- a plan of what is asked of a further tuple in hand, with what is valued once for all such tuples
+abbrev pub IsPulled : Scope → PulledStep → Tree → Type 0
+IsPulled inner asked e = (p : PlanTree) × IsPlanOfTyped inner p e × Hoists none (steps_view asked.once.items) p (step_view asked.step.value)

@@ -1,0 +1,10 @@
+pub mod Doubling
+pub mod Fronts
+pub mod Gatherings
+pub mod Initials
+pub mod Pushes
+pub mod Rows
+pub mod StableBytes
+pub mod TextTests
+pub mod Unrefused
+pub mod Writing

@@ -1,0 +1,5 @@
+pub mod Depths
+pub mod Falls
+pub mod ValueCode
+pub mod Views
+pub mod Zipped

@@ -1,0 +1,22 @@
+-- Tuples by the list of their names and the list of their values.
+use Rattle.std.specs.Prelude.{◌≡◌, ℕ, Bool, List, length}
+use Rattle.std.specs.Cmp.Lexicographic.{slice_cmp}
+use Rattle.std.specs.List.{All}
+use Rattle.std.specs.List.Sorted.{IsStrictlySortedBy}
+use Rattle.std.specs.Ordering.{is_eq, nat_cmp}
+use Rattle.td_tree.specs.Names.{IsName}
+use Rattle.td_types.specs.Types.{Heading, attrs_cmp, pack}
+use Rattle.td_value.specs.Values.{Val, IsTuple, fields_type, pack_fields}
+use Rattle.td_value.specs.code.Views.{tuple_view}
+
+-- there are as many names as values, and their entries are those of a tuple
+abbrev pub AreTuple : List (List ℕ) → List Val → Type 0
+AreTuple ns vs = (length ns ≡ length vs) × IsTuple (tuple_view ns vs)
+
+-- whether the entries have the heading
+abbrev pub entries_fit : List (List ℕ) → List Val → Heading → Bool
+entries_fit ns vs h = is_eq (attrs_cmp (fields_type (pack_fields (tuple_view ns vs))) (pack h))
+
+-- they are names, and ascend
+abbrev pub AreNames : List (List ℕ) → Type 0
+AreNames ns = IsStrictlySortedBy (slice_cmp nat_cmp) ns × All IsName ns
