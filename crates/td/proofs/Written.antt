@@ -8,7 +8,7 @@ use Rattle.td_catalog.specs.Dumps.{dump_text}
 use Rattle.td_engine.proofs.law_lemmas.Runs.{runs_front}
 use Rattle.td_engine.proofs.code_lemmas.Turning.{limit_map, memory_map, ok_map, read_map, write_map}
 use Rattle.td_engine.specs.Faults.{IfMemory, IfNotMemory, IfRead, IfReadLimit, IfWrite}
-use Rattle.td_engine.specs.Machine.{State, begun}
+use Rattle.td_engine.specs.Machine.{State, progress_at_first}
 use Rattle.td_engine.specs.Scripts.{IsFront, IsRead, OfBroken, OfFront, OfScript, OfTooMuch, script_limit}
 use Rattle.td_engine.specs.Legality.{IsLegalState}
 use Rattle.td_engine.specs.Standing.{HasRun, HasRunCut, IsLeft, IsOngoing, run_of, standing}
@@ -151,7 +151,7 @@ module _ (stop : Bool) (old new : State) (told nowhere : Option (List ℕ)) (leg
   undumped done taken is kept =
       record {
         progress = left.progress;
-        runs = runs_front stop (begun old) (statements 0 script) left.progress done left.runs (let same = all_done done is in omega (arith, same));
+        runs = runs_front stop (progress_at_first old) (statements 0 script) left.progress done left.runs (let same = all_done done is in omega (arith, same));
         each_run = all_done done is;
         written = appends_nothing told taken kept;
         legal = legal_end;

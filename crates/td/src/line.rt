@@ -142,7 +142,7 @@ fn line_of<'a>(matches: &ArgMatches<'a>) -> Option<Line<'a>>
 }
 
 /// What the words say to the command.
-fn said<'a>(command: &mut Command<'a>, words: &'a [&'a str]) -> Result<Line<'a>, Error>
+fn line_said_by<'a>(command: &mut Command<'a>, words: &'a [&'a str]) -> Result<Line<'a>, Error>
     requires { app_of command.old ≡ td_app }
     ensures said { IfOk result (λ line.
         IsSaidBy line (subcommand_of td_app (map (λ s. s.now) words.entry.now))) }
@@ -164,7 +164,7 @@ pub fn read_line<'a>(alloc: Global, words: &'a [&'a str]) -> Result<Line<'a>, Er
     ensures refused { FailsBy (fault_of td_app (map (λ s. s.now) words.entry.now)) result }
 {
     let mut command = command(alloc)?;
-    let line = said(&mut command, words);
+    let line = line_said_by(&mut command, words);
     drop(command);
     line
 }

@@ -38,7 +38,7 @@ fn status_of(report: Report) -> u8
 }
 
 /// Runs a script, and writes what the mode wants of it.
-fn written<B: Body, R: Source, W: Sink>(
+fn run_script<B: Body, R: Source, W: Sink>(
     alloc: Global,
     mode: Mode,
     stop: bool,
@@ -117,7 +117,7 @@ pub(crate) fn session_on<B: Body, R: Source, W: Sink>(
     let mut engine: Engine<B> = Engine::new(alloc);
     engine.reveal();
     runs_keep_legality();
-    let answered = written(alloc, mode, stop, &mut engine, reader, writer);
+    let answered = run_script(alloc, mode, stop, &mut engine, reader, writer);
     drop(engine);
     match answered {
         Ok(report) => Outcome {

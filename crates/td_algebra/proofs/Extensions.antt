@@ -25,7 +25,7 @@ use Rattle.td_value.proofs.Maps.{value_at-tuple_of}
 use Rattle.td_value.proofs.Members.{set_members}
 use Rattle.td_algebra.specs.Columns.{AreColumns, AreColumnsOf, IsColumn, NamedColumn, cells_at, column_attributes, column_of, columns_view}
 use Rattle.td_algebra.specs.declared.extension.Column.{Column}
-use Rattle.td_algebra.specs.code.Layouts.{AreInRange, Sources, numbered_sources, sources_outside, sources_with, placed_tuple, taken}
+use Rattle.td_algebra.specs.code.Layouts.{AreInRange, Sources, numbered_sources, sources_outside, sources_with, placed_tuple, entries_taken}
 use Rattle.td_algebra.specs.Membership.{ExtensionByMembership, IsExtended, IsIn}
 use Rattle.td_algebra.specs.Operators.{Addition, added_attributes, added_values, extended_relation, extended_tuple, relation_names}
 use Rattle.td_algebra.proofs.Entries.{as_many, distinct_append, heading_distinct, has_name-heading, names_apart, names_of_heading, no_value, no_value_outside, tuple_distinct, tuple_heading, tuple_of-ascends, typed_values, value_at-append}
@@ -121,13 +121,13 @@ taken_beside part bs h t p = ap tuple_of (taken-append (sources_outside part 0 h
     cells : List Val
     cells = map (λ (a : Addition). a.value t) bs
 
-    old : taken (sources_outside part 0 h) (values_of t ++ cells) ≡ entries_outside part t
+    old : entries_taken (sources_outside part 0 h) (values_of t ++ cells) ≡ entries_outside part t
     old = taken_outside part h t 0 (values_of t ++ cells) cells (names_of_heading h t p) refl
 
-    new : taken (numbered_sources (length h) names) (values_of t ++ cells) ≡ added_values bs t
+    new : entries_taken (numbered_sources (length h) names) (values_of t ++ cells) ≡ added_values bs t
     new =
-        ap (λ n. taken (numbered_sources n names) (values_of t ++ cells)) (as_many h t p)
-        ∙ ap (λ vs. taken (numbered_sources (length (values_of t)) names) (values_of t ++ vs)) (sym (append-nil cells))
+        ap (λ n. entries_taken (numbered_sources n names) (values_of t ++ cells)) (as_many h t p)
+        ∙ ap (λ vs. entries_taken (numbered_sources (length (values_of t)) names) (values_of t ++ vs)) (sym (append-nil cells))
         ∙ taken_numbered (values_of t) names cells [] (same_count bs t) ∙ zip_added bs t
 
 taken_extension : (bs : List Addition) (h : Heading) (t : Tuple) → IsTupleOf h t
@@ -371,11 +371,11 @@ abbrev pub row_with : Sources → List Addition → Tuple → Tuple
 row_with sources bs t = placed_tuple sources (values_of t ++ map (λ (a : Addition). a.value t) bs)
 
 pub row_more : (sources : Sources) (bs : List Addition) (cs : List (List ℕ × Column)) (rows : List Tuple) (i : ℕ) (t made : Tuple) (vs ws : List Val) (old new : List Tuple)
-    → AreColumnsOf (columns_view cs) rows bs → i < length rows → t ≡ get_or rows i t → vs ≡ values_of t → ws ≡ cells_at i cs → made ≡ tuple_of (taken sources (vs ++ ws))
+    → AreColumnsOf (columns_view cs) rows bs → i < length rows → t ≡ get_or rows i t → vs ≡ values_of t → ws ≡ cells_at i cs → made ≡ tuple_of (entries_taken sources (vs ++ ws))
     → old ≡ map (row_with sources bs) (take i rows) → new ≡ old ++ made ∷ [] → new ≡ map (row_with sources bs) (take (i + 1) rows)
 row_more sources bs cs rows i t made vs ws old new columns l here is cells tuple inv more =
     let values : ws ≡ map (λ (a : Addition). a.value t) bs = cells ∙ cells_are cs rows bs i t columns l ∙ ap (λ u. map (λ (a : Addition). a.value u) bs) (sym here) in
-    let whole : made ≡ row_with sources bs t = tuple ∙ (λ k. tuple_of (taken sources (is k ++ values k))) in
+    let whole : made ≡ row_with sources bs t = tuple ∙ (λ k. tuple_of (entries_taken sources (is k ++ values k))) in
     let last : made ≡ row_with sources bs (get_or rows i t) = whole ∙ ap (row_with sources bs) here in
     more ∙ (λ k. inv k ++ last k ∷ [])
     ∙ sym (ap (map (row_with sources bs)) (take_more rows i t l) ∙ map-append (row_with sources bs) (take i rows) (get_or rows i t ∷ []))

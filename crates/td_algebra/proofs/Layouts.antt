@@ -13,7 +13,7 @@ use Rattle.td_value.specs.Values.{Tuple, Val, boolean, tuple_of}
 use Rattle.td_value.specs.code.Views.{values_of}
 use Rattle.td_value.proofs.Maps.{sorted_is_tuple_of}
 use Rattle.td_value.proofs.Zips.{zip_names, zip_values}
-use Rattle.td_algebra.specs.code.Layouts.{AreInRange, IsMade, Sources, source_unless, sources_outside, taken}
+use Rattle.td_algebra.specs.code.Layouts.{AreInRange, IsMade, Sources, source_unless, sources_outside, entries_taken}
 
 -- names with their places, taken apart and put together again
 pub zipped_sources : (ss : Sources) → zip (map (λ s. s.0) ss) (map (λ s. s.1) ss) ≡ ss
@@ -27,7 +27,7 @@ value_in vs p = get_or vs p (boolean false)
 abbrev pub entry_in : List Val → List ℕ × ℕ → List ℕ × Val
 entry_in vs s = (s.0, value_in vs s.1)
 
-pub taken_entries : (ss : Sources) (vs : List Val) → AreInRange ss vs → taken ss vs ≡ map (entry_in vs) ss
+pub taken_entries : (ss : Sources) (vs : List Val) → AreInRange ss vs → entries_taken ss vs ≡ map (entry_in vs) ss
 taken_entries [] vs h = refl
 taken_entries (s ∷ ss) vs h =
     let below : s.1 < length vs = h 0 s (omega arith) in
@@ -40,12 +40,12 @@ zip_entries (n ∷ ns) (p ∷ ps) vs = ap (λ r. (n, value_in vs p) ∷ r) (zip_
 
 -- ascending names with the values at their places are the tuple of what is taken, in each order of the sources
 pub tuple_is_taken : (ns : List (List ℕ)) (ps : List ℕ) (vs : List Val) (sources : Sources) → length ns ≡ length ps → IsStrictlySortedBy name_cmp ns
-    → AreInRange (zip ns ps) vs → IsPermutation sources (zip ns ps) → zip ns (map (value_in vs) ps) ≡ tuple_of (taken sources vs)
+    → AreInRange (zip ns ps) vs → IsPermutation sources (zip ns ps) → zip ns (map (value_in vs) ps) ≡ tuple_of (entries_taken sources vs)
 tuple_is_taken ns ps vs sources e up h p =
     let range : AreInRange sources vs = All-permutation (λ s. s.1 < length vs) (zip ns ps) sources (IsPermutation-sym sources (zip ns ps) p) h in
     let moved : IsPermutation (map (entry_in vs) sources) (map (entry_in vs) (zip ns ps)) = IsPermutation-map (entry_in vs) sources (zip ns ps) p in
     let names = zip_names ns (map (value_in vs) ps) (e ∙ sym (length-map ps (value_in vs))) in
-    sorted_is_tuple_of (zip ns (map (value_in vs) ps)) (taken sources vs)
+    sorted_is_tuple_of (zip ns (map (value_in vs) ps)) (entries_taken sources vs)
     (rw (taken_entries sources vs range, zip_entries ns ps vs) moved)
     (subst (IsStrictlySortedBy name_cmp) (sym names) up)
 
@@ -64,10 +64,10 @@ module _ (ns : List (List ℕ)) (ps : List ℕ) (t : Tuple) (e : length ns ≡ l
 
   -- is the one that is made of other values where its values are those at the places
   module _ (vs : List Val) (sources : Sources) (range : AreInRange (zip ns ps) vs) (p : IsPermutation sources (zip ns ps)) where
-    pub made_of : values_of t ≡ map (value_in vs) ps → t ≡ tuple_of (taken sources vs)
+    pub made_of : values_of t ≡ map (value_in vs) ps → t ≡ tuple_of (entries_taken sources vs)
     made_of same = own_places ∙ ap (zip ns) (sym (ap values_of own_places ∙ zipped_values made.0) ∙ same) ∙ tuple_is_taken ns ps vs sources e up range p
 
-    pub values_made : t ≡ tuple_of (taken sources vs) → values_of t ≡ map (value_in vs) ps
+    pub values_made : t ≡ tuple_of (entries_taken sources vs) → values_of t ≡ map (value_in vs) ps
     values_made is = ap values_of (is ∙ sym (tuple_is_taken ns ps vs sources e up range p)) ∙ zipped_values vs
 
 -- each place of a layout is in range

@@ -13,7 +13,7 @@ use Rattle.td_value.specs.Sets.{has, set_of}
 use Rattle.td_value.specs.Values.{Tuple, IsAscendingBody, tuple_cmp}
 use Rattle.td_value.specs.ValueOrder.{tuple_Decides, tuple_order_same, tuple_order_total}
 use Rattle.td_value.proofs.SetLaws.{is_set_of, same_members}
-use Rattle.td_algebra.specs.code.Merges.{IsAbreast, without_first, begins_with, below, merged, not_below}
+use Rattle.td_algebra.specs.code.Merges.{IsAbreast, without_first, begins_with, below, merged_tuples, not_below}
 
 -- ---- the order of two tuples
 
@@ -140,11 +140,11 @@ reordered a false c d e h = rw h (swapped a c d)
     swapped true false d = refl
     swapped false c d = refl
 
-has-merged : (s : Tuple) (ts us : List Tuple) → has tuple_cmp s (merged ts us) ≡ (has tuple_cmp s ts || has tuple_cmp s us)
+has-merged : (s : Tuple) (ts us : List Tuple) → has tuple_cmp s (merged_tuples ts us) ≡ (has tuple_cmp s ts || has tuple_cmp s us)
 has-merged s [] us = refl
 has-merged s (t ∷ ts) us =
     let rest = without_first t (not_below t us) in
-    list_any-append (eq_by_cmp tuple_cmp s) (below t us) (t ∷ merged ts rest)
+    list_any-append (eq_by_cmp tuple_cmp s) (below t us) (t ∷ merged_tuples ts rest)
     ∙ ap (λ b. has tuple_cmp s (below t us) || (eq_by_cmp tuple_cmp s t || b)) (has-merged s ts rest)
     ∙ reordered (has tuple_cmp s (below t us)) (eq_by_cmp tuple_cmp s t) (has tuple_cmp s ts) (has tuple_cmp s (not_below t us)) (has tuple_cmp s rest) (has-without_first s t (not_below t us))
     ∙ ap (λ b. has tuple_cmp s (t ∷ ts) || b) (sym (has-split s t us))
@@ -203,10 +203,10 @@ module _ (P : Tuple → Type 0) where
       by_tie true e = rw e h.1
       by_tie false e = rw e h
 
-  pub merged_all : (ts us : List Tuple) → AllByRecursion P ts → AllByRecursion P us → AllByRecursion P (merged ts us)
+  pub merged_all : (ts us : List Tuple) → AllByRecursion P ts → AllByRecursion P us → AllByRecursion P (merged_tuples ts us)
   merged_all [] us a b = b
   merged_all (t ∷ ts) us a b =
-      joined_all (below t us) (t ∷ merged ts (without_first t (not_below t us))) (below_all t us b)
+      joined_all (below t us) (t ∷ merged_tuples ts (without_first t (not_below t us))) (below_all t us b)
       (a.0, merged_all ts (without_first t (not_below t us)) a.1 (without_first_all t (not_below t us) (not_below_all t us b)))
 
 below_then : (t : Tuple) (us ms : List Tuple) → IsAscendingBody us → IsAscendingBody (t ∷ ms) → IsAscendingBody (below t us ++ t ∷ ms)
@@ -219,18 +219,18 @@ below_then t (u ∷ us) ms a b = by_order (below_then t us ms a.1 b) (tuple_cmp 
     by_order rest Equal d = rw d b
     by_order rest Greater d = rw d b
 
-pub merged-ascends : (ts us : List Tuple) → IsAscendingBody ts → IsAscendingBody us → IsAscendingBody (merged ts us)
+pub merged-ascends : (ts us : List Tuple) → IsAscendingBody ts → IsAscendingBody us → IsAscendingBody (merged_tuples ts us)
 unfolding IsStrictlySortedBy
 merged-ascends [] us a b = b
 merged-ascends (t ∷ ts) us a b =
     let rest = without_first t (not_below t us) in
     let ascends : IsAscendingBody rest = without_first-ascends t (not_below t us) (not_below-ascends t us b) in
-    below_then t us (merged ts rest) b (merged_all (λ v. tuple_cmp t v ≡ Less) ts rest a.0 (without_first-above t us b), merged-ascends ts rest a.1 ascends)
+    below_then t us (merged_tuples ts rest) b (merged_all (λ v. tuple_cmp t v ≡ Less) ts rest a.0 (without_first-above t us b), merged-ascends ts rest a.1 ascends)
 
 -- the merge of two ascending lists is the set of both
-pub merged-is-set : (ts us : List Tuple) → IsAscendingBody ts → IsAscendingBody us → merged ts us ≡ set_of tuple_cmp (ts ++ us)
+pub merged-is-set : (ts us : List Tuple) → IsAscendingBody ts → IsAscendingBody us → merged_tuples ts us ≡ set_of tuple_cmp (ts ++ us)
 merged-is-set ts us a b =
-    is_set_of tuple_cmp tuple_order_total tuple_order_same (merged ts us) (ts ++ us) (merged-ascends ts us a b)
+    is_set_of tuple_cmp tuple_order_total tuple_order_same (merged_tuples ts us) (ts ++ us) (merged-ascends ts us a b)
     (λ s. has-merged s ts us ∙ sym (list_any-append (eq_by_cmp tuple_cmp s) ts us))
 
 -- ---- one step along the first list

@@ -15,7 +15,7 @@ use Rattle.td_value.specs.ValueOrder.{entry_order_same, entry_order_total}
 use Rattle.td_value.specs.Values.{Val, IsTupleOf, Tuple, entry_cmp, tuple_names, tuple_of}
 use Rattle.td_value.specs.code.Views.{values_of}
 use Rattle.td_value.proofs.SetLaws.{has-set_of, is_set_of, set_of-ascends}
-use Rattle.td_algebra.specs.code.Layouts.{AreInRange, Sources, source_names, sources_outside, taken}
+use Rattle.td_algebra.specs.code.Layouts.{AreInRange, Sources, source_names, sources_outside, entries_taken}
 use Rattle.td_algebra.specs.Operators.{united_tuple}
 use Rattle.td_algebra.specs.code.Pairs.{IsPaired, paired_tuple, pair_sources, pair_tuple}
 use Rattle.td_algebra.proofs.Entries.{as_many, has_name-heading, heading_distinct, names_apart, names_of_heading}
@@ -26,13 +26,13 @@ use Rattle.td_algebra.proofs.Layouts.{entry_in, taken_entries}
 use Rattle.td_algebra.proofs.Sources.{has_attribute-outside, names_outside, outside_in_range, taken-append, taken_outside}
 
 -- sources in another order make the same tuple
-pub same_tuple : (sources layout : Sources) (vs : List Val) → IsPermutation sources layout → AreInRange sources vs → tuple_of (taken sources vs) ≡ tuple_of (taken layout vs)
+pub same_tuple : (sources layout : Sources) (vs : List Val) → IsPermutation sources layout → AreInRange sources vs → tuple_of (entries_taken sources vs) ≡ tuple_of (entries_taken layout vs)
 same_tuple sources layout vs p h =
     let there : AreInRange layout vs = All-permutation (λ s. s.1 < length vs) sources layout p h in
-    let moved : IsPermutation (taken sources vs) (taken layout vs) =
+    let moved : IsPermutation (entries_taken sources vs) (entries_taken layout vs) =
     rw (taken_entries sources vs h, taken_entries layout vs there) (IsPermutation-map (entry_in vs) sources layout p) in
-    is_set_of entry_cmp entry_order_total entry_order_same (set_of entry_cmp (taken sources vs)) (taken layout vs) (set_of-ascends entry_cmp entry_order_total entry_order_same (taken sources vs))
-    (λ e. has-set_of entry_cmp entry_order_total entry_order_same e (taken sources vs) ∙ list_any-IsPermutation (eq_by_cmp entry_cmp e) (taken sources vs) (taken layout vs) moved)
+    is_set_of entry_cmp entry_order_total entry_order_same (set_of entry_cmp (entries_taken sources vs)) (entries_taken layout vs) (set_of-ascends entry_cmp entry_order_total entry_order_same (entries_taken sources vs))
+    (λ e. has-set_of entry_cmp entry_order_total entry_order_same e (entries_taken sources vs) ∙ list_any-IsPermutation (eq_by_cmp entry_cmp e) (entries_taken sources vs) (entries_taken layout vs) moved)
 
 -- ---- the names
 

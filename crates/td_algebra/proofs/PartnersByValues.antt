@@ -8,7 +8,7 @@ use Rattle.td_types.specs.Types.{type_at}
 use Rattle.td_types.proofs.HeadingLaws.{has_attribute-names, type_at-common}
 use Rattle.td_value.specs.Values.{IsTupleOf, Relation, Tuple, projected_tuple}
 use Rattle.td_value.specs.code.Views.{values_of}
-use Rattle.td_algebra.specs.Lookups.{ArePlacesOf, are_same, has_part, part_of, partners_in, values_on, wanted}
+use Rattle.td_algebra.specs.Lookups.{ArePlacesOf, are_same, has_part, part_of, partners_in, values_on, wanted_answer}
 use Rattle.td_algebra.specs.Operators.{are_partners, common_names, relation_names}
 use Rattle.td_algebra.specs.code.Pairs.{IsPaired, pairs_with}
 use Rattle.td_algebra.specs.code.Layouts.{Sources}
@@ -80,12 +80,12 @@ module _ (r s : Relation) where
 
     -- rows kept by their partners in the look-up
     pub kept_by_values : (rows body kept : List Tuple) (there : Bool) → rows ≡ s.body → body ≡ r.body → All (IsTupleOf r.heading) r.body → All (IsTupleOf s.heading) s.body
-        → kept ≡ filter (λ t. wanted there (list_any (has_part theirs (part_of own t)) rows)) body
-        → kept ≡ filter (λ t. wanted there (list_any (are_partners r s t) s.body)) r.body
+        → kept ≡ filter (λ t. wanted_answer there (list_any (has_part theirs (part_of own t)) rows)) body
+        → kept ≡ filter (λ t. wanted_answer there (list_any (are_partners r s t) s.body)) r.body
     kept_by_values rows body kept there is_rows is_body firsts seconds e =
-        e ∙ ap (filter (λ t. wanted there (list_any (has_part theirs (part_of own t)) rows))) is_body
-        ∙ kept_same (IsTupleOf r.heading) (λ t. wanted there (list_any (has_part theirs (part_of own t)) rows)) (λ t. wanted there (list_any (are_partners r s t) s.body)) r.body
-        (λ t p. ap (wanted there) (partner_there rows is_rows seconds t p)) firsts
+        e ∙ ap (filter (λ t. wanted_answer there (list_any (has_part theirs (part_of own t)) rows))) is_body
+        ∙ kept_same (IsTupleOf r.heading) (λ t. wanted_answer there (list_any (has_part theirs (part_of own t)) rows)) (λ t. wanted_answer there (list_any (are_partners r s t) s.body)) r.body
+        (λ t p. ap (wanted_answer there) (partner_there rows is_rows seconds t p)) firsts
 
     -- the pairs of rows and their partners in the look-up
     pub pairs_by_values : (rows body : List Tuple) (f : Tuple → Tuple → Tuple) → rows ≡ s.body → body ≡ r.body

@@ -5,14 +5,14 @@ use Rattle.std.specs.Cmp.Lexicographic.{same_text}
 use Rattle.std.specs.List.{All, zip}
 use Rattle.std.specs.List.Sorted.{IsPermutation}
 use Rattle.std.proofs.lemmas.List.{append-nil, length-map}
-use Rattle.td_types.specs.Headings.{are_distinct, can_rename, has_attribute, has_attributes, has_name, heading_union, new_name, new_names, renamed}
+use Rattle.td_types.specs.Headings.{are_distinct, can_rename, has_attribute, has_attributes, has_name, heading_union, new_name, new_names, renamed_attributes}
 use Rattle.td_types.specs.Types.{Heading, IsHeading, pack, same_name, type_at}
 use Rattle.td_types.proofs.HeadingLaws.{renaming_keeps_types, same_name-itself, type_at-renamed}
 use Rattle.td_value.specs.Values.{IsTupleOf, Tuple, heading_of, tuple_names, tuple_of, type_of, value_at}
 use Rattle.td_value.specs.code.Views.{values_of}
 use Rattle.td_value.proofs.Maps.{value_at-tuple_of}
 use Rattle.td_value.proofs.Members.{set_members}
-use Rattle.td_algebra.specs.code.Layouts.{Sources, numbered_sources, placed_tuple, taken}
+use Rattle.td_algebra.specs.code.Layouts.{Sources, numbered_sources, placed_tuple, entries_taken}
 use Rattle.td_algebra.specs.Membership.{IsIn, IsRenamed, RenamingByMembership}
 use Rattle.td_algebra.specs.Operators.{renamed_relation, renamed_tuple}
 use Rattle.td_algebra.proofs.Entries.{HaveValues, IsTupleOf-made, as_many, has_name-heading, same_on_heading, type_at-heading_of, values_of_fields}
@@ -26,7 +26,7 @@ module _ (rs : List (List ℕ × List ℕ)) where
   abbrev pub renamed_entries : Tuple → Tuple
   renamed_entries = map (λ e. (new_name rs e.0, e.1))
 
-  heading_renamed : (t : Tuple) → heading_of (renamed_entries t) ≡ renamed rs (heading_of t)
+  heading_renamed : (t : Tuple) → heading_of (renamed_entries t) ≡ renamed_attributes rs (heading_of t)
   heading_renamed [] = refl
   heading_renamed (e ∷ t) = ap (λ h. (new_name rs e.0, type_of e.1) ∷ h) (heading_renamed t)
 
@@ -50,17 +50,17 @@ module _ (rs : List (List ℕ × List ℕ)) where
   entries_distinct h t p e = ap are_distinct (names_renamed t ∙ ap (new_names rs) p.1) ∙ new_names_distinct h e
 
   -- a renamed tuple of a heading is one of the renamed heading
-  pub IsTupleOf-renamed : (h : Heading) (t : Tuple) → IsTupleOf h t → can_rename rs h ≡ true → IsHeading (pack (heading_union [] (renamed rs h)))
-      → IsTupleOf (heading_union [] (renamed rs h)) (renamed_tuple rs t)
+  pub IsTupleOf-renamed : (h : Heading) (t : Tuple) → IsTupleOf h t → can_rename rs h ≡ true → IsHeading (pack (heading_union [] (renamed_attributes rs h)))
+      → IsTupleOf (heading_union [] (renamed_attributes rs h)) (renamed_tuple rs t)
   IsTupleOf-renamed h t p e q =
-      IsTupleOf-made (heading_union [] (renamed rs h)) (renamed_entries t) (values_renamed t (values_of_fields t p.0.0)) (entries_distinct h t p e) q
-      (λ n. sym (type_at-heading_of n (renamed_entries t)) ∙ ap (type_at n) (heading_renamed t ∙ ap (renamed rs) p.1) ∙ sym (type_at-renamed rs n h))
+      IsTupleOf-made (heading_union [] (renamed_attributes rs h)) (renamed_entries t) (values_renamed t (values_of_fields t p.0.0)) (entries_distinct h t p e) q
+      (λ n. sym (type_at-heading_of n (renamed_entries t)) ∙ ap (type_at n) (heading_renamed t ∙ ap (renamed_attributes rs) p.1) ∙ sym (type_at-renamed rs n h))
 
   -- what is taken under the new names is the renamed tuple
   pub placed_renaming : (h : Heading) (t : Tuple) → IsTupleOf h t → placed_tuple (numbered_sources 0 (new_names rs h)) (values_of t) ≡ renamed_tuple rs t
   placed_renaming h t p =
-      let lengths : length (new_names rs h) ≡ length (values_of t) = length-map (renamed rs h) (λ a. a.0) ∙ length-map h (λ a. (new_name rs a.0, a.1)) ∙ as_many h t p in
-      ap tuple_of (ap (taken (numbered_sources 0 (new_names rs h))) (sym (append-nil (values_of t))) ∙ taken_numbered [] (new_names rs h) (values_of t) [] lengths
+      let lengths : length (new_names rs h) ≡ length (values_of t) = length-map (renamed_attributes rs h) (λ a. a.0) ∙ length-map h (λ a. (new_name rs a.0, a.1)) ∙ as_many h t p in
+      ap tuple_of (ap (entries_taken (numbered_sources 0 (new_names rs h))) (sym (append-nil (values_of t))) ∙ taken_numbered [] (new_names rs h) (values_of t) [] lengths
       ∙ ap (λ g. zip (new_names rs g) (values_of t)) (sym p.1) ∙ zip_renamed t)
 
   pub renaming_rows : (h : Heading) (ns : List (List ℕ)) (body made : List Tuple) (layout : Sources) → ns ≡ new_names rs h → All (IsTupleOf h) body
@@ -99,10 +99,10 @@ module _ (rs : List (List ℕ × List ℕ)) where
           cc
       by_name rest false is true new =
           let there : has_name n (tuple_names t) ≡ true = rw (← is) at e in
-          let taken : has_name (new_name rs a.0) (tuple_names (renamed_entries t)) ≡ true =
+          let entries_taken : has_name (new_name rs a.0) (tuple_names (renamed_entries t)) ≡ true =
           subst (λ m. has_name m (tuple_names (renamed_entries t)) ≡ true) (sym (same_text (new_name rs a.0) (new_name rs n) new)) (new_name_there n t there) in
           let free : not (has_name (new_name rs a.0) (tuple_names (renamed_entries t))) ≡ true = first_true _ _ d in
-          let clash = rw taken at free in
+          let clash = rw entries_taken at free in
           cc
       by_name rest false is false new = rw (← is, ← new) (rest (rw (← is) at e))
 
@@ -125,7 +125,7 @@ renaming_members rs r t p e q = (some_renamed, renames)
         member : IsTupleOf r.heading d.0
         member = member_headed r d.0 p d.1
 
-        by_old : (n : List ℕ) → has_attribute n (heading_union [] (renamed rs r.heading)) ≡ true → value_at n (renamed_tuple rs d.0) ≡ value_at n t
+        by_old : (n : List ℕ) → has_attribute n (heading_union [] (renamed_attributes rs r.heading)) ≡ true → value_at n (renamed_tuple rs d.0) ≡ value_at n t
         by_old n there =
             let old = (renaming_keeps_types rs r.heading e).1 n (sym (ap is_some (type_at-renamed rs n r.heading)) ∙ there) in
             let named : has_name old.0 (tuple_names d.0) ≡ true = has_name-heading r.heading d.0 member old.0 ∙ old.1 in
@@ -133,4 +133,4 @@ renaming_members rs r t p e q = (some_renamed, renames)
             (renamed_values rs r.heading d.0 member e old.0 named ∙ sym (d.2 old.0 named))
 
         is : renamed_tuple rs d.0 ≡ t
-        is = same_on_heading (heading_union [] (renamed rs r.heading)) (renamed_tuple rs d.0) t (IsTupleOf-renamed rs r.heading d.0 member e q.2) q by_old
+        is = same_on_heading (heading_union [] (renamed_attributes rs r.heading)) (renamed_tuple rs d.0) t (IsTupleOf-renamed rs r.heading d.0 member e q.2) q by_old

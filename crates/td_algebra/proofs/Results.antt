@@ -4,7 +4,7 @@ use Rattle.std.specs.Prelude.{IsTrue, if◌then◌else◌, not}
 use Rattle.std.specs.List.{All, AllByRecursion, Contains, flat_map}
 use Rattle.std.proofs.lemmas.List.Elements.{All-append, recursion_from_All}
 use Rattle.td_tree.specs.Names.{IsName}
-use Rattle.td_types.specs.Headings.{add_missing, are_distinct, can_rename, has_attribute, heading_union, new_name, outside, projection, renamed}
+use Rattle.td_types.specs.Headings.{add_missing, are_distinct, can_rename, has_attribute, heading_union, new_name, outside, projection, renamed_attributes}
 use Rattle.td_types.specs.Types.{Attribute, Heading, IsHeading, IsType, attribute_names, pack, same_name}
 use Rattle.td_types.proofs.HeadingLaws.{IsHeading-filter}
 use Rattle.td_value.specs.Values.{IsRelation, IsTuple, IsTupleOf, Relation, Tuple, AreFields, pack_fields, projected_tuple, relation_of, type_of}
@@ -41,15 +41,15 @@ new_name_is (r ∷ rs) n p h = by_name (same_name r.0 n) (new_name_is rs n p h.1
     by_name false rest = rest
 
 renamed_attributes : (rs : List (List ℕ × List ℕ)) (h : Heading) → IsHeading (pack h) → AllByRecursion (λ (r : List ℕ × List ℕ). IsName r.1) rs
-    → AllByRecursion IsAttribute (renamed rs h)
+    → AllByRecursion IsAttribute (renamed_attributes rs h)
 renamed_attributes rs [] p q = tt
 renamed_attributes rs (a ∷ h) p q = ((new_name_is rs a.0 p.0 q, p.1), renamed_attributes rs h p.3 q)
 
 -- the attributes of a heading under their new names
 pub IsHeading-renamed : (rs : List (List ℕ × List ℕ)) (h : Heading) → IsHeading (pack h) → NewNamesAreNames rs
-    → IsHeading (pack (heading_union [] (renamed rs h)))
+    → IsHeading (pack (heading_union [] (renamed_attributes rs h)))
 IsHeading-renamed rs h p q =
-    IsHeading-added [] (renamed rs h) tt (renamed_attributes rs h p (recursion_from_All (λ (r : List ℕ × List ℕ). IsName r.1) rs q))
+    IsHeading-added [] (renamed_attributes rs h) tt (renamed_attributes rs h p (recursion_from_All (λ (r : List ℕ × List ℕ). IsName r.1) rs q))
 
 -- ---- relations
 
@@ -74,7 +74,7 @@ pub IsRelation-renamed : (rs : List (List ℕ × List ℕ)) (r : Relation) → I
     → IsRelation (renamed_relation rs r)
 IsRelation-renamed rs r p e q =
     let h = IsHeading-renamed rs r.heading p.2 q in
-    IsRelation-mapped (heading_union [] (renamed rs r.heading)) (renamed_tuple rs) r h (λ t c. IsTupleOf-renamed rs r.heading t (member_headed r t p c) e h)
+    IsRelation-mapped (heading_union [] (renamed_attributes rs r.heading)) (renamed_tuple rs) r h (λ t c. IsTupleOf-renamed rs r.heading t (member_headed r t p c) e h)
 
 -- tuples of one relation united with tuples of another
 pub IsRelation-united : (r s : Relation) (partners : Tuple → List Tuple) → IsRelation r → IsRelation s

@@ -8,7 +8,7 @@ use Rattle.td_types.specs.Types.{Heading, IsHeading, attribute_names, pack, type
 use Rattle.td_types.proofs.HeadingLaws.{IsHeading-filter, type_at-outside}
 use Rattle.td_value.specs.Values.{Val, Tuple, tuple_names}
 use Rattle.td_value.specs.code.Views.{values_of}
-use Rattle.td_algebra.specs.code.Layouts.{Sources, sources_outside, taken, with_entry}
+use Rattle.td_algebra.specs.code.Layouts.{Sources, sources_outside, entries_taken, with_entry}
 use Rattle.td_algebra.proofs.Entries.{heading_distinct}
 
 -- the first of what is left after a place, and the rest
@@ -24,7 +24,7 @@ next_of i xs x rest e =
     (found.0, rw add-one found.1)
 
 pub taken_outside : (part g : Heading) (t : Tuple) (start : ℕ) (all after : List Val) → tuple_names t ≡ attribute_names g
-    → drop start all ≡ values_of t ++ after → taken (sources_outside part start g) all ≡ filter (λ e. not (has_attribute e.0 part)) t
+    → drop start all ≡ values_of t ++ after → entries_taken (sources_outside part start g) all ≡ filter (λ e. not (has_attribute e.0 part)) t
 taken_outside part [] [] start all after names left = refl
 taken_outside part [] (e ∷ t) start all after names left = absurd (cc)
 taken_outside part (a ∷ g) [] start all after names left = absurd (cc)
@@ -34,17 +34,17 @@ taken_outside part (a ∷ g) (e ∷ t) start all after names left =
     let here = next_of start all e.1 (values_of t ++ after) left in
     by_test name here.0 (taken_outside part g t (start + 1) all after others here.1) (has_attribute a.0 part) refl
   where
-    by_test : e.0 ≡ a.0 → slice_get all start ≡ Some e.1 → taken (sources_outside part (start + 1) g) all ≡ filter (λ e. not (has_attribute e.0 part)) t
+    by_test : e.0 ≡ a.0 → slice_get all start ≡ Some e.1 → entries_taken (sources_outside part (start + 1) g) all ≡ filter (λ e. not (has_attribute e.0 part)) t
         → (b : Bool) → has_attribute a.0 part ≡ b
-        → taken (if b then sources_outside part (start + 1) g else (a.0, start) ∷ sources_outside part (start + 1) g) all ≡ filter (λ e. not (has_attribute e.0 part)) (e ∷ t)
+        → entries_taken (if b then sources_outside part (start + 1) g else (a.0, start) ∷ sources_outside part (start + 1) g) all ≡ filter (λ e. not (has_attribute e.0 part)) (e ∷ t)
     by_test name value rest true there = rw (name, there) rest
     by_test name value rest false there = rw (name, there, value) (ap (λ es. (a.0, e.1) ∷ es) rest)
 
-pub taken-append : (ss zs : Sources) (vs : List Val) → taken (ss ++ zs) vs ≡ taken ss vs ++ taken zs vs
+pub taken-append : (ss zs : Sources) (vs : List Val) → entries_taken (ss ++ zs) vs ≡ entries_taken ss vs ++ entries_taken zs vs
 taken-append [] zs vs = refl
 taken-append (s ∷ ss) zs vs = by_value (slice_get vs s.1) (taken-append ss zs vs)
   where
-    by_value : (o : Option Val) → taken (ss ++ zs) vs ≡ taken ss vs ++ taken zs vs → with_entry s.0 o (taken (ss ++ zs) vs) ≡ with_entry s.0 o (taken ss vs) ++ taken zs vs
+    by_value : (o : Option Val) → entries_taken (ss ++ zs) vs ≡ entries_taken ss vs ++ entries_taken zs vs → with_entry s.0 o (entries_taken (ss ++ zs) vs) ≡ with_entry s.0 o (entries_taken ss vs) ++ entries_taken zs vs
     by_value None rest = rest
     by_value (Some v) rest = ap (λ es. (s.0, v) ∷ es) rest
 

@@ -20,7 +20,7 @@ use Rattle.td_value.specs.code.Views.{values_of}
 use Rattle.td_value.proofs.Agreement.{entries_of_values, names_ascend, value_at-filter, value_of_projection}
 use Rattle.td_value.proofs.Kept.{IsTuple-filter}
 use Rattle.td_value.proofs.Maps.{value_at-tuple_of}
-use Rattle.td_algebra.specs.code.Layouts.{AreInRange, Sources, numbered_sources, placed_tuple, sources_outside, taken}
+use Rattle.td_algebra.specs.code.Layouts.{AreInRange, Sources, numbered_sources, placed_tuple, sources_outside, entries_taken}
 use Rattle.td_algebra.proofs.Sources.{taken_outside}
 use Rattle.td_algebra.proofs.Entries.{as_many, names_of_heading, no_value_outside, tuple_distinct, tuple_of-ascends}
 
@@ -34,12 +34,12 @@ one_more : (before : List Val) (v : Val) → length (before ++ v ∷ []) ≡ len
 one_more before v = length-append before (v ∷ [])
 
 pub taken_numbered : (before : List Val) (ns : List (List ℕ)) (vs after : List Val) → length ns ≡ length vs
-    → taken (numbered_sources (length before) ns) (before ++ (vs ++ after)) ≡ zip ns vs
+    → entries_taken (numbered_sources (length before) ns) (before ++ (vs ++ after)) ≡ zip ns vs
 taken_numbered before [] vs after e = refl
 taken_numbered before (n ∷ ns) [] after e = absurd (omega (arith, e))
 taken_numbered before (n ∷ ns) (v ∷ vs) after e =
-    let rest : taken (numbered_sources (length (before ++ v ∷ [])) ns) ((before ++ v ∷ []) ++ (vs ++ after)) ≡ zip ns vs = taken_numbered (before ++ v ∷ []) ns vs after (omega (arith, e)) in
-    let moved : taken (numbered_sources (length before + 1) ns) (before ++ (v ∷ (vs ++ after))) ≡ zip ns vs = rw (one_more before v, append_assoc) at rest in
+    let rest : entries_taken (numbered_sources (length (before ++ v ∷ [])) ns) ((before ++ v ∷ []) ++ (vs ++ after)) ≡ zip ns vs = taken_numbered (before ++ v ∷ []) ns vs after (omega (arith, e)) in
+    let moved : entries_taken (numbered_sources (length before + 1) ns) (before ++ (v ∷ (vs ++ after))) ≡ zip ns vs = rw (one_more before v, append_assoc) at rest in
     rw (at_end before v (vs ++ after)) (ap (λ r. (n, v) ∷ r) moved)
 
 -- ---- their range, and their names
@@ -99,7 +99,7 @@ placed_projection names h t p = ap tuple_of taken_kept ∙ entries_of_values (tu
     distinct : are_distinct (tuple_names kept) ≡ true
     distinct = tuple_distinct kept (IsTuple-filter (λ e. not (has_attribute e.0 part)) t p.0)
 
-    taken_kept : taken (sources_outside part 0 h) (values_of t) ≡ kept
+    taken_kept : entries_taken (sources_outside part 0 h) (values_of t) ≡ kept
     taken_kept = taken_outside part h t 0 (values_of t) [] (names_of_heading h t p) (sym (append-nil (values_of t)))
 
     by_name : (n : List ℕ) (b : Bool) → has_attribute n h ≡ b → (if not (has_attribute n part) then value_at n t else None) ≡ (if has_name n names then value_at n t else None)

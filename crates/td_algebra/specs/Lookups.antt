@@ -85,6 +85,6 @@ like_row_at l None = []
 like_row_at l (Some place) = like_first l.0 (drop place l.1)
 
 -- the answer of a test that is wanted, or its contrary
-abbrev pub wanted : Bool → Bool → Bool
-wanted true found = found
-wanted false found = not found
+abbrev pub wanted_answer : Bool → Bool → Bool
+wanted_answer true found = found
+wanted_answer false found = not found

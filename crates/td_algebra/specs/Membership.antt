@@ -1,7 +1,7 @@
 -- The operators by membership: which tuples of the result's heading are in the result (Tutorial D's).
 use Rattle.std.specs.Prelude.{◌≡◌, ℕ, Bool, IsTrue, ◌↔◌, ◌⊎◌, List, [], ◌++◌, Some}
 use Rattle.std.specs.List.{All, Contains}
-use Rattle.td_types.specs.Headings.{agree, are_distinct, can_rename, has_name, have_no_common, heading_union, new_name, outside, projection, renamed}
+use Rattle.td_types.specs.Headings.{agree, are_distinct, can_rename, has_name, have_no_common, heading_union, new_name, outside, projection, renamed_attributes}
 use Rattle.td_types.specs.Types.{Heading, attribute_names}
 use Rattle.td_value.specs.Agreement.{AgreeOn}
 use Rattle.td_value.specs.Values.{Tuple, Relation, IsRelation, IsTupleOf, projected_tuple, tuple_names, value_at}
@@ -31,7 +31,7 @@ IsRenamed renamings u t =
 abbrev pub RenamingByMembership : Type 0
 RenamingByMembership =
     (renamings : List (List ℕ × List ℕ)) (r : Relation) (t : Tuple) → IsRelation r
-    → IsTrue (can_rename renamings r.heading) → IsTupleOf (heading_union [] (renamed renamings r.heading)) t
+    → IsTrue (can_rename renamings r.heading) → IsTupleOf (heading_union [] (renamed_attributes renamings r.heading)) t
     → IsIn t (renamed_relation renamings r) ↔ ((u : Tuple) × IsIn u r × IsRenamed renamings u t)
 
 -- the new attributes have names that are distinct and not there

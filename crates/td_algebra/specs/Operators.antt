@@ -1,7 +1,7 @@
 -- The relational operators, each by a comprehension over the sets of its operands' tuples (Tutorial D's).
 use Rattle.std.specs.Prelude.{ℕ, Bool, not, List, [], ◌++◌, filter, map}
 use Rattle.std.specs.List.{flat_map, list_all, list_any}
-use Rattle.td_types.specs.Headings.{common_part, has_attribute, has_name, heading_union, new_name, outside, projection, renamed}
+use Rattle.td_types.specs.Headings.{common_part, has_attribute, has_name, heading_union, new_name, outside, projection, renamed_attributes}
 use Rattle.td_types.specs.Types.{Type', Heading, attribute_names}
 use Rattle.td_value.specs.Agreement.{agree_on}
 use Rattle.td_value.specs.Sets.{has}
@@ -39,7 +39,7 @@ renamed_tuple renamings t = tuple_of (map (λ e. (new_name renamings e.0, e.1)) 
 -- r RENAME (..): the tuples with their names changed
 abbrev pub renamed_relation : List (List ℕ × List ℕ) → Relation → Relation
 renamed_relation renamings r =
-    relation_of (heading_union [] (renamed renamings r.heading)) (map (renamed_tuple renamings) r.body)
+    relation_of (heading_union [] (renamed_attributes renamings r.heading)) (map (renamed_tuple renamings) r.body)
 
 -- a new attribute: its name, its type, and the value that it has in each tuple
 pub record Addition : Type 0 where

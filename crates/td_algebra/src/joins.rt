@@ -15,7 +15,7 @@ ghost use Rattle.td_algebra.specs.code.Pairs.{partners_paired};
 use crate::layout::{Layout, put_sources};
 use crate::lookup::{Lookup, common_places};
 use std::alloc::{AllocError, Global};
-use td_tree::fault::unrefused;
+use td_tree::fault::without_refusal;
 use td_types::heading::Heading;
 use td_value::relation::Rel;
 use td_value::tuple::Tuple;
@@ -169,7 +169,7 @@ pub fn hash_join(alloc: Global, rel: &Rel, other: &Rel) -> Result<Rel, AllocErro
 {
     rel.reveal();
     other.reveal();
-    let heading = unrefused(rel.heading().union(other.heading()))?;
+    let heading = without_refusal(rel.heading().union(other.heading()))?;
     let none = Heading::empty(alloc);
     let pairs = partners_of_either(alloc, &none, rel, other)?;
     Rel::new(heading, pairs)
@@ -201,7 +201,7 @@ pub fn compose(alloc: Global, rel: &Rel, other: &Rel) -> Result<Rel, AllocError>
     rel.heading().reveal();
     let own = rel.heading().lacking(other.heading())?;
     let others = other.heading().lacking(rel.heading())?;
-    let heading = unrefused(own.union(&others))?;
+    let heading = without_refusal(own.union(&others))?;
     let pairs = partners_of_either(alloc, other.heading(), rel, other)?;
     Rel::new(heading, pairs)
 }

@@ -11,7 +11,7 @@ ghost use Rattle.td_value.specs.code.Views.{values_of};
 use crate::layout::{Layout, kept_layout};
 use std::alloc::{AllocError, Global};
 use std::collections::HashMap;
-use td_tree::fault::unrefused;
+use td_tree::fault::without_refusal;
 use td_tree::name::Name;
 use td_value::relation::Rel;
 use td_value::tuple::Tuple;
@@ -79,7 +79,7 @@ pub fn project(alloc: Global, rel: &Rel, names: &[Name]) -> Result<Rel, AllocErr
     requires { IsTrue (has_projection names.now rel.now.heading) }
     ensures { IfOk result (λ r. r ≡ projected_relation names.now rel.now) }
 {
-    let heading = unrefused(rel.heading().project(names))?;
+    let heading = without_refusal(rel.heading().project(names))?;
     let layout = kept_layout(alloc, rel.heading(), &heading)?;
     let rows = distinct(alloc, &layout, rel.rows())?;
     Rel::new(heading, rows)

@@ -7,7 +7,7 @@ ghost use Rattle.td_types.specs.Headings.{can_rename, new_names};
 
 use crate::layout::{Layout, put_names};
 use std::alloc::{AllocError, Global};
-use td_tree::fault::unrefused;
+use td_tree::fault::without_refusal;
 use td_tree::name::Name;
 use td_types::heading::Heading;
 use td_value::relation::Rel;
@@ -34,7 +34,7 @@ pub fn rename(alloc: Global, rel: &Rel, renamings: &[(Name, Name)]) -> Result<Re
     requires { IsTrue (can_rename renamings.now rel.now.heading) }
     ensures { IfOk result (λ r. r ≡ renamed_relation renamings.now rel.now) }
 {
-    let heading = unrefused(rel.heading().rename(renamings))?;
+    let heading = without_refusal(rel.heading().rename(renamings))?;
     heading.reveal();
     let layout = renamed_layout(alloc, rel.heading(), renamings)?;
     let rows = layout.tuples(alloc, rel.rows())?;

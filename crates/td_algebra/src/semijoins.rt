@@ -1,7 +1,7 @@
 //! MATCHING and NOT MATCHING.
 ghost use Rattle.std.specs.Prelude.{◌≡◌, IfOk, filter};
 ghost use Rattle.std.specs.List.{All, list_any};
-ghost use Rattle.td_algebra.specs.Lookups.{AreWithin, has_partner_in, wanted};
+ghost use Rattle.td_algebra.specs.Lookups.{AreWithin, has_partner_in, wanted_answer};
 ghost use Rattle.td_algebra.specs.Operators.{are_partners, restriction, semidifference, semijoin};
 ghost use Rattle.td_value.specs.code.Views.{values_of};
 
@@ -20,7 +20,7 @@ fn rows_by_partners(
 ) -> Result<Vec<Tuple>, AllocError>
     requires { All (λ t. AreWithin places.now (values_of t)) rows.now }
     ensures { IfOk result (λ kept. kept.items
-        ≡ filter (λ t. wanted there (has_partner_in lookup.now places.now t)) rows.now) }
+        ≡ filter (λ t. wanted_answer there (has_partner_in lookup.now places.now t)) rows.now) }
 {
     let mut kept = Vec::new(alloc);
     for row in rows {
@@ -33,7 +33,7 @@ fn rows_by_partners(
 
 /// The tuples that have a partner in the other, or else those that have none.
 fn by_partners(alloc: Global, rel: &Rel, other: &Rel, there: bool) -> Result<Rel, AllocError>
-    ensures { IfOk result (λ r. r ≡ restriction (λ t. wanted there
+    ensures { IfOk result (λ r. r ≡ restriction (λ t. wanted_answer there
         (list_any (are_partners rel.now other.now t) other.now.body)) rel.now) }
 {
     let partner_places = common_places(alloc, other.heading(), rel.heading())?;

@@ -2,7 +2,7 @@
 //! by side, or by a search for each tuple of one that is far shorter. Both have one heading.
 ghost use Rattle.std.specs.Prelude.{◌≡◌, ◌++◌, IfOk, OnOk, filter};
 ghost use Rattle.std.specs.List.{All, list_all};
-ghost use Rattle.td_algebra.specs.code.Merges.{begins_with, below, is_wanted, merged, not_below};
+ghost use Rattle.td_algebra.specs.code.Merges.{begins_with, below, is_wanted, merged_tuples, not_below};
 ghost use Rattle.td_algebra.specs.code.Merges.{without_first};
 ghost use Rattle.td_algebra.specs.Operators.{difference, intersection, is_subset, restriction};
 ghost use Rattle.td_algebra.specs.Operators.{union};
@@ -80,8 +80,8 @@ fn put_all(kept: &mut Vec<Tuple>, rows: &[Tuple]) -> Result<(), AllocError>
 }
 
 /// The rows of both, ascending.
-fn merged(alloc: Global, rows: &[Tuple], others: &[Tuple]) -> Result<Vec<Tuple>, AllocError>
-    ensures { IfOk result (λ merge. merge.items ≡ merged rows.now others.now) }
+fn merged_tuples(alloc: Global, rows: &[Tuple], others: &[Tuple]) -> Result<Vec<Tuple>, AllocError>
+    ensures { IfOk result (λ merge. merge.items ≡ merged_tuples rows.now others.now) }
 {
     let mut kept = Vec::with_capacity(alloc, rows.len())?;
     let mut rest = others;
@@ -165,7 +165,7 @@ pub(crate) fn with_rows(rel: &Rel, rows: Vec<Tuple>) -> Result<Rel, AllocError>
 }
 
 /// The tuples of the first that are in the second, or those that are not, as is wanted.
-fn kept(alloc: Global, rel: &Rel, other: &Rel, wanted: bool) -> Result<Rel, AllocError>
+fn wanted_part(alloc: Global, rel: &Rel, other: &Rel, wanted: bool) -> Result<Rel, AllocError>
     ensures { IfOk result (λ r.
         r ≡ restriction (is_wanted wanted other.now.body) rel.now) }
 {
@@ -179,7 +179,7 @@ pub fn union(alloc: Global, rel: &Rel, other: &Rel) -> Result<Rel, AllocError>
     requires { rel.now.heading ≡ other.now.heading }
     ensures { IfOk result (λ r. r ≡ union rel.now other.now) }
 {
-    let rows = merged(alloc, rel.rows(), other.rows())?;
+    let rows = merged_tuples(alloc, rel.rows(), other.rows())?;
     with_rows(rel, rows)
 }
 
@@ -189,9 +189,9 @@ pub fn intersect(alloc: Global, rel: &Rel, other: &Rel) -> Result<Rel, AllocErro
     ensures { IfOk result (λ r. r ≡ intersection rel.now other.now) }
 {
     if other.rows().len() < rel.rows().len() {
-        kept(alloc, other, rel, true)
+        wanted_part(alloc, other, rel, true)
     } else {
-        kept(alloc, rel, other, true)
+        wanted_part(alloc, rel, other, true)
     }
 }
 
@@ -200,7 +200,7 @@ pub fn minus(alloc: Global, rel: &Rel, other: &Rel) -> Result<Rel, AllocError>
     requires { rel.now.heading ≡ other.now.heading }
     ensures { IfOk result (λ r. r ≡ difference rel.now other.now) }
 {
-    kept(alloc, rel, other, false)
+    wanted_part(alloc, rel, other, false)
 }
 
 /// Whether each of the rows is among the others.

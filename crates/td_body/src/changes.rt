@@ -8,7 +8,7 @@ use td_value::relation::Rel;
 
 /// The relation without the tuples of the one, and then with those of the other. Both have its
 /// heading. It goes once over the tuples of all three, side by side.
-pub(crate) fn changed(
+pub(crate) fn changed_relation(
     alloc: Global,
     relation: &Rel,
     out: &Rel,

@@ -1,6 +1,6 @@
 //! Bodies whose members stand in order.
 use crate::body::Body;
-use crate::changes::changed;
+use crate::changes::changed_relation;
 use crate::keys::{agreeing, key_holds};
 use std::alloc::{AllocError, Global};
 use std::marker::Model;
@@ -64,7 +64,7 @@ impl Body for SortedBody {
     }
 
     fn change(&mut self, out: &Rel, add: &Rel) -> Result<(), AllocError> {
-        let next = changed(*self.keys.allocator(), &self.relation, out, add)?;
+        let next = changed_relation(*self.keys.allocator(), &self.relation, out, add)?;
         self.kept.push(self.relation.try_clone()?)?;
         self.relation = next;
         Ok(())

@@ -9,7 +9,7 @@ use Rattle.td_catalog.specs.TypedDatabases.{AreTyped}
 use Rattle.td_types.specs.TypeLists.{DeclaredType}
 use Rattle.td_types.specs.Types.{Attrs, pack}
 use Rattle.td_value.specs.KnownValues.{HasHeading, HaveHeading}
-use Rattle.td_value.specs.Sets.{has, placed, put_in, set_of}
+use Rattle.td_value.specs.Sets.{has, with_item_placed, put_in, set_of}
 use Rattle.td_value.specs.Values.{Relation, Tuple, pack_fields, pack_rows, tuple_cmp}
 
 -- ---- what holds of each item
@@ -32,7 +32,7 @@ module _ {A : Type 0} (P : A → Type 0) where
     all_put x [] p h = (p, tt)
     all_put x (y ∷ ys) p h = by_order (R x y) (all_put x ys p h.1)
       where
-        by_order : (o : Ordering) → AllByRecursion P (put_in R x ys) → AllByRecursion P (placed o x y ys (put_in R x ys))
+        by_order : (o : Ordering) → AllByRecursion P (put_in R x ys) → AllByRecursion P (with_item_placed o x y ys (put_in R x ys))
         by_order Less rest = (p, h)
         by_order Equal rest = h
         by_order Greater rest = (h.0, rest)

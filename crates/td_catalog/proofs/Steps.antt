@@ -7,7 +7,7 @@ use Rattle.std.proofs.lemmas.List.Sums.{fold_push, sum_by-append}
 use Rattle.td_catalog.specs.code.CatalogViews.{AreEntries, IsBodyOf, IsCatalog, Rows, base_view, database_view, known_of, known_rows, rows_of}
 use Rattle.td_catalog.specs.Database.{Database}
 use Rattle.td_catalog.specs.code.Histories.{AreKept, HasRoom, Held, HeldBase, IsHistory, IsStage, UsesRoomOf, before, database_of, dropped_in, held_base, held_view, history_view, is_dropped, kept_before, kept_with}
-use Rattle.td_catalog.specs.KeptDatabases.{CatalogView, advanced, settled, stages}
+use Rattle.td_catalog.specs.KeptDatabases.{CatalogView, advanced_view, settled_view, stages}
 use Rattle.td_catalog.specs.TypedDatabases.{IsTyped}
 use Rattle.td_catalog.specs.declared.entry.BaseEntry.{BaseEntry}
 use Rattle.td_catalog.specs.declared.history.Step.{Step}
@@ -94,7 +94,7 @@ module _ {B : Type 0} (relation : B → Relation) (keys : B → List (List (List
 
     -- how the catalogue is seen, where this was its view, and is the database
     pub view_next : (now : CatalogView) (db : Database) → history_view relation keys kept rows steps ≡ now → database_view relation others ≡ db
-        → history_view relation keys kept others next ≡ advanced db now
+        → history_view relation keys kept others next ≡ advanced_view db now
     view_next now db was seen =
         let held = held_view relation keys kept rows in
         let earlier = kept_before relation keys kept steps held in
@@ -102,7 +102,7 @@ module _ {B : Type 0} (relation : B → Relation) (keys : B → List (List (List
         ∙ ap (λ hs. record { database = database_view relation others; kept = map database_of hs }) (kept_step steps step held (held_view relation keys kept others) led)
         ∙ ap (λ ds. record { database = database_view relation others; kept = ds }) (map-append database_of earlier (held ∷ []))
         ∙ ap (λ d. record { database = database_view relation others; kept = map database_of earlier ++ (d ∷ []) }) (database_is rows)
-        ∙ (λ i. advanced (seen i) (was i))
+        ∙ (λ i. advanced_view (seen i) (was i))
 
   -- ---- a step taken back
 
@@ -177,7 +177,7 @@ module _ {B : Type 0} (relation : B → Relation) (keys : B → List (List (List
         own = tt;
       })
 
-  pub view_none : (rows : Rows B) (steps : List (Step B)) → steps ≡ [] → history_view relation keys kept rows steps ≡ settled (database_view relation rows)
+  pub view_none : (rows : Rows B) (steps : List (Step B)) → steps ≡ [] → history_view relation keys kept rows steps ≡ settled_view (database_view relation rows)
   view_none rows steps none = ap (history_view relation keys kept rows) none
 
 -- ---- room

@@ -8,13 +8,13 @@ pub record CatalogView : Type 0 where
   pub kept : List Database
 
 -- the database with nothing kept
-abbrev pub settled : Database → CatalogView
-settled db = record { database = db; kept = [] }
+abbrev pub settled_view : Database → CatalogView
+settled_view db = record { database = db; kept = [] }
 
 -- each database that is kept, and the present one last
 abbrev pub stages : CatalogView → List Database
 stages v = v.kept ++ (v.database ∷ [])
 
 -- another database, before which this one is kept
-abbrev pub advanced : Database → CatalogView → CatalogView
-advanced next v = record { database = next; kept = stages v }
+abbrev pub advanced_view : Database → CatalogView → CatalogView
+advanced_view next v = record { database = next; kept = stages v }

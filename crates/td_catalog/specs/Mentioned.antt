@@ -55,14 +55,14 @@ is_relvar_in_use name db =
 
 -- ---- what may be dropped: what is there (else NAME_UNKNOWN) and no entry mentions (else IN_USE); none mentions a constraint
 
-abbrev pub unused : Bool → Bool → Outcome ⊤
-unused there in_use = with_value (holds_or causes.NameUnknown there) (λ _. holds_or causes.InUse (not in_use))
+abbrev pub drop_outcome : Bool → Bool → Outcome ⊤
+drop_outcome there in_use = with_value (holds_or causes.NameUnknown there) (λ _. holds_or causes.InUse (not in_use))
 
 abbrev pub type_droppable : List ℕ → Database → Outcome ⊤
-type_droppable name db = unused (is_declared name db.types) (is_type_in_use name db)
+type_droppable name db = drop_outcome (is_declared name db.types) (is_type_in_use name db)
 
 abbrev pub relvar_droppable : List ℕ → Database → Outcome ⊤
-relvar_droppable name db = unused (knows_relvar name db) (is_relvar_in_use name db)
+relvar_droppable name db = drop_outcome (knows_relvar name db) (is_relvar_in_use name db)
 
 abbrev pub constraint_droppable : List ℕ → Database → Outcome ⊤
 constraint_droppable name db = holds_or causes.NameUnknown (knows_constraint name db)

@@ -5,7 +5,7 @@ ghost use Rattle.td_catalog.specs.code.CatalogViews.{IsBodyOf, IsCatalog, databa
 ghost use Rattle.td_catalog.specs.code.CatalogViews.{known_rows, rows_of};
 ghost use Rattle.td_catalog.specs.Database.{base_named, with_body};
 ghost use Rattle.td_catalog.specs.code.Histories.{UsesRoomOf, before, held_view};
-ghost use Rattle.td_catalog.specs.KeptDatabases.{advanced, settled};
+ghost use Rattle.td_catalog.specs.KeptDatabases.{advanced_view, settled_view};
 ghost use Rattle.td_catalog.specs.TypedDatabases.{AreTyped};
 ghost use Rattle.td_catalog.specs.declared.history.Step.TheVariants as steps;
 ghost use Rattle.td_value.specs.Values.{IsRelation};
@@ -83,7 +83,7 @@ impl<B: Body> Catalog<B> {
             (out.now.heading ≡ r.relation.heading) × (add.now.heading ≡ r.relation.heading)) }
         requires typed { AreTyped self.old.database.types add.now }
         ensures changed { OnOk result (IfSome (base_named name.now self.old.database) (λ r.
-            self.new ≡ advanced (with_body name.now
+            self.new ≡ advanced_view (with_body name.now
             (after_change out.now add.now r.relation) self.old.database) self.old)) }
         ensures unchanged { OnErr result (self.new ≡ self.old) }
     {
@@ -104,7 +104,7 @@ impl<B: Body> Catalog<B> {
         requires typed { AreTyped self.old.database.types (B.relation body) }
         requires kept { B.kept body ≡ [] }
         ensures { self.new
-            ≡ settled (with_body name.now (B.relation body) self.old.database) }
+            ≡ settled_view (with_body name.now (B.relation body) self.old.database) }
     {
         let _ = body.len();
         if let Some(place) = self.tables.bases.get_index_of(name) {

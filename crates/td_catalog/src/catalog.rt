@@ -3,7 +3,7 @@ ghost use Rattle.std.specs.Prelude.{◌≡◌, IfSome, option_map, slice_get};
 ghost use Rattle.td_catalog.specs.code.CatalogViews.{IsEntry, base_view, virtual_view};
 ghost use Rattle.td_catalog.specs.Database.{base_named, constraint_named, empty_database};
 ghost use Rattle.td_catalog.specs.Database.{virtual_named};
-ghost use Rattle.td_catalog.specs.KeptDatabases.{settled};
+ghost use Rattle.td_catalog.specs.KeptDatabases.{settled_view};
 ghost use Rattle.td_catalog.specs.TypedDatabases.{IsTyped};
 ghost use Rattle.td_tree.specs.code.TreeViews.{tree_view};
 ghost use Rattle.td_types.specs.TypeLists.{declared_at};
@@ -49,7 +49,7 @@ impl<B: Body> Model for Catalog<B> {
 impl<B: Body> Catalog<B> {
     /// Nothing is defined, and nothing kept. It takes no memory.
     pub fn new(alloc: Global) -> Catalog<B>
-        ensures { result ≡ settled empty_database }
+        ensures { result ≡ settled_view empty_database }
     {
         Catalog {
             tables: Tables {

@@ -4,7 +4,7 @@ ghost use Rattle.std.specs.Prelude.{◌≡◌, ℕ, IfOk, IsTrue, List, map};
 ghost use Rattle.td_types.specs.Headings.{are_distinct};
 ghost use Rattle.td_catalog.specs.code.CatalogViews.{AreEntries, base_view, constraint_view};
 ghost use Rattle.td_catalog.specs.code.CatalogViews.{entry_keys, virtual_view};
-ghost use Rattle.td_catalog.specs.KeptDatabases.{settled};
+ghost use Rattle.td_catalog.specs.KeptDatabases.{settled_view};
 
 use crate::catalog::Catalog;
 use crate::entry::{BaseEntry, ConstraintEntry, VirtualEntry};
@@ -180,7 +180,7 @@ impl<B: Body> Catalog<B> {
     /// The same database again, with nothing kept. It takes time and memory in the order of the
     /// entries, not of the tuples, where the bodies' copies do.
     pub fn try_clone(&self) -> Result<Catalog<B>, AllocError>
-        ensures { IfOk result (λ copy. copy ≡ settled self.now.database) }
+        ensures { IfOk result (λ copy. copy ≡ settled_view self.now.database) }
     {
         Ok(Catalog {
             tables: Tables {

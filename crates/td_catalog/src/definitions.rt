@@ -7,7 +7,7 @@ ghost use Rattle.td_catalog.specs.Database.{knows_constraint, knows_relvar, name
 ghost use Rattle.td_catalog.specs.Database.{virtual_relvar, with_base};
 ghost use Rattle.td_catalog.specs.Database.{with_constraint, with_declared, with_virtual};
 ghost use Rattle.td_catalog.specs.code.Histories.{HasRoom, UsesRoomOf, dropped_in};
-ghost use Rattle.td_catalog.specs.KeptDatabases.{advanced};
+ghost use Rattle.td_catalog.specs.KeptDatabases.{advanced_view};
 ghost use Rattle.td_catalog.specs.TypedDatabases.{AreComponents, AreTyped, IsConstrained};
 ghost use Rattle.td_catalog.specs.TypedDatabases.{IsTypedConstraint, IsTypedVirtual};
 ghost use Rattle.td_check.specs.StatementTypes.{holds_or};
@@ -64,7 +64,7 @@ impl<B: Body> Catalog<B> {
             (declared_type name (pairs_view components.items) (option_map tree_view constraint)) }
         ensures answer { Answers (λ u. u) result
             (holds_or causes.NameTaken (not (is_declared name self.old.database.types))) }
-        ensures added { OnOk result (self.new ≡ advanced (with_declared
+        ensures added { OnOk result (self.new ≡ advanced_view (with_declared
             (declared_type name (pairs_view components.items) (option_map tree_view constraint))
             self.old.database) self.old) }
         ensures unchanged { OnErr result (self.new ≡ self.old) }
@@ -103,7 +103,7 @@ impl<B: Body> Catalog<B> {
         requires kept { B.kept body ≡ [] }
         ensures answer { Answers (λ u. u) result
             (holds_or causes.NameTaken (not (knows_relvar name self.old.database))) }
-        ensures added { OnOk result (self.new ≡ advanced (with_base
+        ensures added { OnOk result (self.new ≡ advanced_view (with_base
             (base_relvar name (B.keys body) (B.relation body)) self.old.database) self.old) }
         ensures unchanged { OnErr result (self.new ≡ self.old) }
     {
@@ -139,7 +139,7 @@ impl<B: Body> Catalog<B> {
             (tree_view tree) (map (λ key. key.items) keys.items)) }
         ensures answer { Answers (λ u. u) result
             (holds_or causes.NameTaken (not (knows_relvar name self.old.database))) }
-        ensures added { OnOk result (self.new ≡ advanced (with_virtual (virtual_relvar name heading
+        ensures added { OnOk result (self.new ≡ advanced_view (with_virtual (virtual_relvar name heading
             (tree_view tree) (map (λ key. key.items) keys.items)) self.old.database) self.old) }
         ensures unchanged { OnErr result (self.new ≡ self.old) }
     {
@@ -169,7 +169,7 @@ impl<B: Body> Catalog<B> {
             (named_constraint name (tree_view tree)) }
         ensures answer { Answers (λ u. u) result
             (holds_or causes.NameTaken (not (knows_constraint name self.old.database))) }
-        ensures added { OnOk result (self.new ≡ advanced
+        ensures added { OnOk result (self.new ≡ advanced_view
             (with_constraint (named_constraint name (tree_view tree)) self.old.database)
             self.old) }
         ensures unchanged { OnErr result (self.new ≡ self.old) }

@@ -1,7 +1,7 @@
 //! Entries that are taken out. What is defined anew after that stands last.
 ghost use Rattle.std.specs.Prelude.{◌≡◌, OnErr, OnOk, false, map, true};
 ghost use Rattle.td_catalog.specs.Database.{without_constraint, without_relvar, without_type};
-ghost use Rattle.td_catalog.specs.KeptDatabases.{advanced};
+ghost use Rattle.td_catalog.specs.KeptDatabases.{advanced_view};
 ghost use Rattle.td_catalog.specs.Mentioned.{constraint_droppable, is_relvar_in_use};
 ghost use Rattle.td_catalog.specs.Mentioned.{relvar_droppable, type_droppable};
 ghost use Rattle.td_tree.specs.Outcomes.{Answers};
@@ -21,7 +21,7 @@ impl<B: Body> Catalog<B> {
     pub fn drop_type(&mut self, name: &Name) -> Result<(), Fault>
         ensures answer { Answers (λ u. u) result (type_droppable name.now self.old.database) }
         ensures dropped { OnOk result
-            (self.new ≡ advanced (without_type name.now self.old.database) self.old) }
+            (self.new ≡ advanced_view (without_type name.now self.old.database) self.old) }
         ensures unchanged { OnErr result (self.new ≡ self.old) }
     {
         if self.tables.types.get(name).is_none() {
@@ -42,7 +42,7 @@ impl<B: Body> Catalog<B> {
         requires known { has_name name.now (map (λ r. r.name) self.old.database.bases) ≡ true }
         requires unused { is_relvar_in_use name.now self.old.database ≡ false }
         ensures dropped { OnOk result
-            (self.new ≡ advanced (without_relvar name.now self.old.database) self.old) }
+            (self.new ≡ advanced_view (without_relvar name.now self.old.database) self.old) }
         ensures unchanged { OnErr result (self.new ≡ self.old) }
     {
         prepare(&mut self.tables, &mut self.log)?;
@@ -62,7 +62,7 @@ impl<B: Body> Catalog<B> {
         requires known { has_name name.now (map (λ r. r.name) self.old.database.virtuals) ≡ true }
         requires unused { is_relvar_in_use name.now self.old.database ≡ false }
         ensures dropped { OnOk result
-            (self.new ≡ advanced (without_relvar name.now self.old.database) self.old) }
+            (self.new ≡ advanced_view (without_relvar name.now self.old.database) self.old) }
         ensures unchanged { OnErr result (self.new ≡ self.old) }
     {
         prepare(&mut self.tables, &mut self.log)?;
@@ -82,7 +82,7 @@ impl<B: Body> Catalog<B> {
     pub fn drop_var(&mut self, name: &Name) -> Result<(), Fault>
         ensures answer { Answers (λ u. u) result (relvar_droppable name.now self.old.database) }
         ensures dropped { OnOk result
-            (self.new ≡ advanced (without_relvar name.now self.old.database) self.old) }
+            (self.new ≡ advanced_view (without_relvar name.now self.old.database) self.old) }
         ensures unchanged { OnErr result (self.new ≡ self.old) }
     {
         if !self.has_relvar(name) {
@@ -104,7 +104,7 @@ impl<B: Body> Catalog<B> {
         ensures answer { Answers (λ u. u) result
             (constraint_droppable name.now self.old.database) }
         ensures dropped { OnOk result
-            (self.new ≡ advanced (without_constraint name.now self.old.database) self.old) }
+            (self.new ≡ advanced_view (without_constraint name.now self.old.database) self.old) }
         ensures unchanged { OnErr result (self.new ≡ self.old) }
     {
         if !self.tables.constraints.contains_key(name) {

@@ -22,7 +22,7 @@ use td_body::body::Body;
 use td_check::mentions::mentions;
 use td_check::scope::Scope;
 use td_tree::expression::Expr;
-use td_tree::fault::{Fault, unrefused};
+use td_tree::fault::{Fault, without_refusal};
 use td_tree::name::Name;
 use td_types::heading::Heading;
 use td_types::named::{components_name_user, heading_names_user};
@@ -84,7 +84,7 @@ fn heading_of_components(alloc: Global, components: &[(Name, Ty)]) -> Result<Hea
     for (name, ty) in components {
         attributes.push((name.try_clone()?, ty.try_clone()?))?;
     }
-    unrefused(Heading::new(alloc, attributes))
+    without_refusal(Heading::new(alloc, attributes))
 }
 
 /// Whether the constraint, that has a type where the components and these types are known,

@@ -19,7 +19,7 @@ impl<B: Body> Catalog<B> {
             (with_virtuals (take count self.now.database.virtuals) self.now.database) }
     {
         let alloc = *self.tables.bases.allocator();
-        Scope::lent(alloc, &self.tables.types, &self.tables.declared, count)
+        Scope::over_declared(alloc, &self.tables.types, &self.tables.declared, count)
     }
 
     /// What is known to expressions, with all of the virtual relvars.

@@ -1,6 +1,6 @@
 //! Ways back to what a catalogue was.
 ghost use Rattle.std.specs.Prelude.{◌≡◌, ◌+◌, ◌≤◌, [], IsTrue, false, length, take};
-ghost use Rattle.td_catalog.specs.KeptDatabases.{settled, stages};
+ghost use Rattle.td_catalog.specs.KeptDatabases.{settled_view, stages};
 
 use crate::catalog::Catalog;
 use td_body::body::Body;
@@ -38,7 +38,7 @@ impl<B: Body> Catalog<B> {
 
     /// Keeps no earlier database any longer. It takes no memory.
     pub fn settle(&mut self)
-        ensures { self.new ≡ settled self.old.database }
+        ensures { self.new ≡ settled_view self.old.database }
     {
         self.tables.settle_bodies(&self.log.steps);
         self.log.clear();

@@ -4,7 +4,7 @@ use Rattle.std.specs.Global.{Vec}
 use Rattle.td_check.specs.code.CheckViews.{Added, choice_of, headed_view, by_summary, per_summary, three_types_view, types_view}
 use Rattle.td_check.specs.OperatorTypes as own
 use Rattle.td_check.specs.OperatorTypes.{comparison_type, extension_type, headed_type, operator_type, over_relation}
-use Rattle.td_check.specs.StaticTypes.{paired}
+use Rattle.td_check.specs.StaticTypes.{both_types}
 use Rattle.td_check.proofs.Gives.{Gives, answers_paired, paired_first, with_pair}
 use Rattle.td_tree.specs.Gatherings.{both_answers}
 use Rattle.td_tree.specs.declared.fault.Fault.{Fault}
@@ -30,7 +30,7 @@ headed_typed o p x y z h i gives =
 
 pub choice_typed : (o p q : Outcome Type') (w x y z : Result Ty Fault) → Answers type_view w o → Answers type_view x p → Answers type_view y q
     → Gives three_types_view (both_answers w (both_answers x y)) choice_of type_view z
-    → Answers type_view z (with_both o (paired p q) (λ c both. own.choice_type c both.0 both.1))
+    → Answers type_view z (with_both o (both_types p q) (λ c both. own.choice_type c both.0 both.1))
 choice_typed o p q w x y z h i j gives =
     subst (Answers type_view z) (paired_first o (with_both p q with_pair) (λ c both. own.choice_type c both.0 both.1))
     (gives (with_both o (with_both p q with_pair) with_pair)

@@ -5,7 +5,7 @@ use Rattle.std.proofs.lemmas.List.Elements.{Contains-append_cases, Contains-appe
 use Rattle.td_check.specs.OperatorTypes.{Item, count_item, aggregate_item, aggregate_type, are_types_of, choice_type, comparison_type, component_type, extension_type, extracted_type, headed_type, known_or, listed_type, measure_type, mismatch, named_part, operator_type, per_heading, postfix_type, prefix_type, selector_type, summary_type, tuple_type, restriction_type}
 use Rattle.td_check.specs.Scopes.{KnownRelvar, Scope, entered_with, innermost, known_relvar}
 use Rattle.td_check.specs.StaticLaws.{GiveNames, GivesNames, ItemsGiveNames, OperatorGivesNames, PartsGiveNames}
-use Rattle.td_check.specs.StaticTypes.{items_of, literal_type, name_type, named_types, paired, type_of, types_of, with_items}
+use Rattle.td_check.specs.StaticTypes.{items_of, literal_type, name_type, named_types, both_types, type_of, types_of, with_items}
 use Rattle.td_tree.specs.declared.cause.Cause.TheVariants as causes
 use Rattle.td_tree.specs.declared.operator.Operator.{Operator}
 use Rattle.td_tree.specs.Names.{IsName}
@@ -195,7 +195,7 @@ module _ {G : Type' → Type 0} {H : Heading → Type 0} (c : IsClosed IsName G 
         (λ o f. or_mismatch_gives (λ both. summary_type (named_part by both.0) both.1) o f
         (λ both k all. summary_gives c (named_part by both.0) both.1 (part_gives c by both.0 k) all))
     gives (choice condition consequent alternative) n s a =
-        gives_both G (λ both. G both.0 × G both.1) G (type_of s condition) (paired (type_of s consequent) (type_of s alternative)) (λ t both. choice_type t both.0 both.1)
+        gives_both G (λ both. G both.0 × G both.1) G (type_of s condition) (both_types (type_of s consequent) (type_of s alternative)) (λ t both. choice_type t both.0 both.1)
         (gives condition n.0 s a)
         (gives_both G G (λ both. G both.0 × G both.1) (type_of s consequent) (type_of s alternative) (λ t u. Valued (t, u))
         (gives consequent n.1 s a) (gives alternative n.2 s a) (λ t u g k. (g, k)))

@@ -4,7 +4,7 @@ use Rattle.std.specs.Prelude.{is_some}
 use Rattle.td_check.specs.Mentions.{types_in, types_in_all, types_in_named, types_in_items, types_named, types_named_in}
 use Rattle.td_check.specs.OperatorTypes.{Item, are_types_of, comparison_type, component_type, count_item, aggregate_item, aggregate_type, choice_type, extension_type, extracted_type, headed_type, known_or, listed_type, measure_type, mismatch, named_part, operator_type, over_relation, per_heading, postfix_type, prefix_type, selector_type, summary_type, tuple_type, restriction_type}
 use Rattle.td_check.specs.Scopes.{Scope, entered_with}
-use Rattle.td_check.specs.StaticTypes.{items_of, named_types, paired, type_of, types_of, with_items}
+use Rattle.td_check.specs.StaticTypes.{items_of, named_types, both_types, type_of, types_of, with_items}
 use Rattle.td_tree.specs.declared.cause.Cause.TheVariants as causes
 use Rattle.td_tree.specs.declared.operator.Operator.{Operator}
 use Rattle.td_tree.specs.Outcomes.{Outcome, Valued, Refused, value_if, with_both, with_value}
@@ -198,7 +198,7 @@ mutual
       (λ e. both_there s.types (types_in operand) (types_in_items summaries) (k e).0 (k e).1))
   types_show (choice condition consequent alternative) s =
       both_show s.types (types_in condition) (types_in consequent ++ types_in alternative) (type_of s condition)
-      (paired (type_of s consequent) (type_of s alternative)) (λ t both. choice_type t both.0 both.1) (types_show condition s)
+      (both_types (type_of s consequent) (type_of s alternative)) (λ t both. choice_type t both.0 both.1) (types_show condition s)
       (both_show s.types (types_in consequent) (types_in alternative) (type_of s consequent) (type_of s alternative) (λ t u. Valued (t, u))
       (types_show consequent s) (types_show alternative s))
 

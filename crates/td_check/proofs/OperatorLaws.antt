@@ -17,7 +17,7 @@ use Rattle.td_tree.specs.declared.operator.Prefix.{Prefix}
 use Rattle.td_tree.specs.declared.operator.Prefix.TheVariants as prefixes
 use Rattle.td_tree.specs.Outcomes.{Outcome, Valued, Refused, gathered, value_if, with_both, with_value}
 use Rattle.td_tree.specs.Trees.{Attributes, only, all_but, Renaming, Postfix, project, rename, group, ungroup, wrap, unwrap}
-use Rattle.td_types.specs.Headings.{add_missing, common_heading, has_attribute, heading_union, made_heading, new_name, projected_heading, renamed, with_attribute}
+use Rattle.td_types.specs.Headings.{add_missing, common_heading, has_attribute, heading_union, made_heading, new_name, projected_heading, renamed_attributes, with_attribute}
 use Rattle.td_types.specs.Types.{Type', boolean, integer, char, user, tuple, relation, Attrs, Attribute, Heading, pack, same_name, type_at, unpack}
 
 -- ---- outcomes
@@ -188,7 +188,7 @@ module _ {N : List ℕ → Type 0} {G : Type' → Type 0} {H : Heading → Type 
       by_name false rest = rest
 
   pub renamed_fit : (rs : List Renaming) → AllByRecursion (λ r. N r.new) rs → (h : Heading) → AllByRecursion Fits h
-      → AllByRecursion Fits (renamed (renaming_pairs rs) h)
+      → AllByRecursion Fits (renamed_attributes (renaming_pairs rs) h)
   renamed_fit rs new [] all = tt
   renamed_fit rs new (a ∷ h) all = ((new_fits rs a.0 all.0.0 new, all.0.1), renamed_fit rs new h all.1)
 

@@ -8,7 +8,7 @@ use Rattle.td_check.specs.code.LentScopes.{known_as, lent_scope}
 use Rattle.td_check.specs.declared.declared.Declared.{Declared}
 use Rattle.td_check.specs.declared.scope.Kind.{Kind}
 use Rattle.td_check.specs.declared.scope.Kind.TheVariants.{Base, Virtual}
-use Rattle.td_check.specs.Scopes.{KnownRelvar, Scope, alone_with, entered_with, left, relvar_in, scope_of, with_known_constraint, with_known_relvar}
+use Rattle.td_check.specs.Scopes.{KnownRelvar, Scope, alone_with, entered_with, without_innermost, relvar_in, scope_of, with_known_constraint, with_known_relvar}
 use Rattle.td_check.specs.StaticLaws.{IsKnownHeading, IsScope, ScopesAreKept}
 use Rattle.td_types.specs.TypeLists.{AreDeclared, DeclaredType}
 use Rattle.td_types.specs.Types.{Heading, same_name}
@@ -57,7 +57,7 @@ scope_entered h scope s k =
     by_case g (inl c) = subst (IsKnownHeading scope.types) (only_one h g c) k
     by_case g (inr c) = s.entered g c
 
-scope_left : (scope : Scope) → IsScope scope → IsScope (left scope)
+scope_left : (scope : Scope) → IsScope scope → IsScope (without_innermost scope)
 scope_left scope s =
     record { declared = s.declared; relvars = s.relvars; entered = λ h c. s.entered h (contained_later scope.entered h c) }
 

@@ -7,7 +7,7 @@ use Rattle.td_check.specs.OperatorTypes.{Item, aggregate_item, aggregate_type, a
 use Rattle.td_check.specs.Scopes.{KnownRelvar, Scope, entered_with, innermost, known_relvar}
 use Rattle.td_check.specs.StatementTypes.{assignment_checked, both_hold, condition_fits, constraint_fits, components_meant, has_key, holds_or, in_target, init_fits, is_target, keys_allowed, keys_asked, relation_fits, setting_fits, settings_fit, source_fits, statement_checked, type_if_given, type_rank_fits}
 use Rattle.td_check.specs.StaticCauses.{CausesAreStatic, IsExpressionCause, IsRefusedOnlyBy, IsStatementCause, IsTypeCause}
-use Rattle.td_check.specs.StaticTypes.{items_of, name_type, named_types, paired, type_of, types_of, with_items}
+use Rattle.td_check.specs.StaticTypes.{items_of, name_type, named_types, both_types, type_of, types_of, with_items}
 use Rattle.td_check.proofs.Refusals.{by_both, by_each, by_known, by_one, by_relation, by_test, by_tuple, by_value}
 use Rattle.td_tree.specs.declared.cause.Cause.{Cause}
 use Rattle.td_tree.specs.declared.cause.Cause.TheVariants as causes
@@ -306,7 +306,7 @@ module _ (P : Cause → Type 0) (unknown : P causes.NameUnknown) (mismatched : P
         (by_value P (type_of s operand) _ (expression_refused operand s) (λ t. items_among t _ (λ h. items_refused summaries (entered_with h s))))
         (λ both. or_mismatch both _ (λ x. summary_refused (named_part by x.0) x.1 (part_refused by x.0)))
     expression_refused (choice condition consequent alternative) s =
-        by_both P (type_of s condition) (paired (type_of s consequent) (type_of s alternative)) _ (expression_refused condition s)
+        by_both P (type_of s condition) (both_types (type_of s consequent) (type_of s alternative)) _ (expression_refused condition s)
         (by_both P (type_of s consequent) (type_of s alternative) _ (expression_refused consequent s) (expression_refused alternative s) (λ t u. tt))
         (λ t both. typed _ _)
 

@@ -67,5 +67,5 @@ with_known_constraint name scope =
     record { types = scope.types; relvars = scope.relvars; constraints = scope.constraints ++ (name ∷ []); entered = scope.entered }
 
 -- the heading that was entered last is left
-abbrev pub left : Scope → Scope
-left scope = record { types = scope.types; relvars = scope.relvars; constraints = scope.constraints; entered = drop 1 scope.entered }
+abbrev pub without_innermost : Scope → Scope
+without_innermost scope = record { types = scope.types; relvars = scope.relvars; constraints = scope.constraints; entered = drop 1 scope.entered }

@@ -5,7 +5,7 @@ use Rattle.td_check.specs.code.LentScopes.{lent_scope}
 use Rattle.td_check.specs.Mentions.{name_set, relvars_in, relvars_in_all, relvars_in_items, relvars_in_named, types_in, types_in_all, types_in_items, types_in_named}
 use Rattle.td_check.specs.declared.declared.Declared.{Declared}
 use Rattle.td_check.specs.declared.scope.Kind.{Kind}
-use Rattle.td_check.specs.Scopes.{KnownRelvar, Scope, alone_with, entered_with, known_relvar, left, scope_of, with_known_constraint, with_known_relvar}
+use Rattle.td_check.specs.Scopes.{KnownRelvar, Scope, alone_with, entered_with, known_relvar, without_innermost, scope_of, with_known_constraint, with_known_relvar}
 use Rattle.td_check.specs.StaticTypes.{items_of, named_types, type_of, types_of}
 use Rattle.td_check.specs.WrittenNames.{names_in}
 use Rattle.td_tree.specs.Names.{IsName}
@@ -38,7 +38,7 @@ pub record ScopesAreKept : Type 0 where
       → AllByRecursion (λ row. IsKnownHeading ds row.1) (take virtuals declared.virtuals.entries)
       → IsScope (lent_scope ds declared virtuals)
   pub one_entered : (h : Heading) (scope : Scope) → IsScope scope → IsKnownHeading scope.types h → IsScope (entered_with h scope)
-  pub one_left : (scope : Scope) → IsScope scope → IsScope (left scope)
+  pub one_left : (scope : Scope) → IsScope scope → IsScope (without_innermost scope)
   pub one_alone : (h : Heading) (scope : Scope) → IsScope scope → IsKnownHeading scope.types h → IsScope (alone_with h scope)
   pub one_relvar :
       (n : List ℕ) (kind : Kind) (h : Heading) (scope : Scope) → IsScope scope → IsKnownHeading scope.types h
@@ -63,8 +63,8 @@ abbrev mutual
   GivesNames (prefix op operand) = GivesNames operand
   GivesNames (extract a operand) = GivesNames operand
   GivesNames (restriction operand condition) = GivesNames operand × GivesNames condition
-  GivesNames (binary left op right) = GivesNames left × GivesNames right
-  GivesNames (compare left op right) = GivesNames left × GivesNames right
+  GivesNames (binary without_innermost op right) = GivesNames without_innermost × GivesNames right
+  GivesNames (compare without_innermost op right) = GivesNames without_innermost × GivesNames right
   GivesNames (postfix operand op) = GivesNames operand × OperatorGivesNames op
   GivesNames (select ty arguments) = GiveNames arguments
   GivesNames (component rest operand) = GivesNames operand

@@ -27,8 +27,8 @@ name_type scope n =
     ]
 
 -- two types
-abbrev pub paired : Outcome Type' → Outcome Type' → Outcome (Type' × Type')
-paired o p = with_both o p (λ s t. Valued (s, t))
+abbrev pub both_types : Outcome Type' → Outcome Type' → Outcome (Type' × Type')
+both_types o p = with_both o p (λ s t. Valued (s, t))
 
 -- the heading of SUMMARIZE's operand with its items, which are checked only where that is a relation
 abbrev pub with_items : Type' → (Heading → Outcome (List (List ℕ × Item))) → Outcome (Option (Heading × List (List ℕ × Item)))
@@ -72,7 +72,7 @@ abbrev mutual
       ])
   type_of scope (choice condition consequent alternative) =
       with_both (type_of scope condition)
-      (paired (type_of scope consequent) (type_of scope alternative))
+      (both_types (type_of scope consequent) (type_of scope alternative))
       (λ c both. choice_type c both.0 both.1)
 
   -- the types of expressions, in the order written

@@ -27,7 +27,7 @@ use crate::rules::operand::{
 use crate::rules::postfix::postfix_type;
 use crate::scope::Scope;
 use crate::together::{
-    by_attributes, chosen, compared, extended, headed, operated, per_relation, restricted,
+    by_attributes, type_of_choice, type_of_comparison, type_of_extension, type_of_headed, type_of_operator, per_relation, type_of_restriction,
 };
 use td_tree::cause::Cause;
 use td_tree::expression::{Expr, NamedExpr, Summary};
@@ -72,17 +72,17 @@ fn check(expr: &Expr, place: &Place<'_, '_, '_>, seen: &mut Mentions) -> Result<
         Expr::Restriction(operand, condition) => {
             let operand = check(operand, place, seen)?;
             let condition = check_inside(condition, &operand, place, seen);
-            restricted(operand, condition)
+            type_of_restriction(operand, condition)
         }
         Expr::Binary(left, op, right) => {
             let first = check(left, place, seen);
             let second = check(right, place, seen);
-            operated(*op, both(first, second))
+            type_of_operator(*op, both(first, second))
         }
         Expr::Compare(left, op, right) => {
             let first = check(left, place, seen);
             let second = check(right, place, seen);
-            compared(*op, both(first, second))
+            type_of_comparison(*op, both(first, second))
         }
         Expr::Postfix(operand, op) => postfix_type(op, &check(operand, place, seen)?),
         Expr::Select(ty, arguments) => {
@@ -101,13 +101,13 @@ fn check(expr: &Expr, place: &Place<'_, '_, '_>, seen: &mut Mentions) -> Result<
         Expr::HeadedRelation(heading, elements) => {
             add_types_in(heading, &mut seen.types)?;
             let elements = check_all(elements, place, seen);
-            headed(both(resolve_heading(place.types(), heading), elements))
+            type_of_headed(both(resolve_heading(place.types(), heading), elements))
         }
         Expr::Tuple(parts) => tuple_type(check_named(parts, place, seen)?),
         Expr::Extend(operand, parts) => {
             let operand = check(operand, place, seen)?;
             let attributes = check_named_inside(parts, &operand, place, seen);
-            extended(operand, attributes)
+            type_of_extension(operand, attributes)
         }
         Expr::SummarizePer(operand, per, items) => {
             let operand = check(operand, place, seen);
@@ -122,7 +122,7 @@ fn check(expr: &Expr, place: &Place<'_, '_, '_>, seen: &mut Mentions) -> Result<
             let condition = check(condition, place, seen);
             let first = check(first, place, seen);
             let second = check(second, place, seen);
-            chosen(both(condition, both(first, second)))
+            type_of_choice(both(condition, both(first, second)))
         }
     }
 }

@@ -18,7 +18,7 @@ use td_tree::fault::Fault;
 use td_tree::name::Name;
 
 /// The names, each once, ascending.
-fn sorted(names: Vec<Name>) -> Result<BTreeSet<Name>, AllocError>
+fn set_of_names(names: Vec<Name>) -> Result<BTreeSet<Name>, AllocError>
     ensures names { IfOk result (λ set. set.keys ≡ name_set names.items) }
     ensures ascending { IfOk result (λ set. IsStrictlySortedBy (slice_cmp nat_cmp) set.keys) }
 {
@@ -37,7 +37,7 @@ pub(crate) fn name_set(names: Vec<Name>) -> Result<Vec<Name>, AllocError>
 {
     let alloc = *names.allocator();
     let mut set = Vec::new(alloc);
-    for name in sorted(names)? {
+    for name in set_of_names(names)? {
         set.push(name)?;
     }
     Ok(set)

@@ -4,7 +4,7 @@ ghost use Rattle.std.specs.Prelude.{option_map};
 ghost use Rattle.td_check.specs.code.LentScopes.{lent_scope};
 ghost use Rattle.td_check.specs.code.ScopeCode.{lent_constraints, lent_relvars, seen_view};
 ghost use Rattle.td_check.specs.Scopes.{entered_with, innermost, kind_and_heading, known_relvar};
-ghost use Rattle.td_check.specs.Scopes.{knows_constraint, left, relvar_in, scope_of};
+ghost use Rattle.td_check.specs.Scopes.{knows_constraint, without_innermost, relvar_in, scope_of};
 ghost use Rattle.td_check.specs.Scopes.{with_known_constraint, with_known_relvar};
 ghost use Rattle.td_types.specs.Headings.{has_name};
 ghost use Rattle.td_types.specs.code.Views.{type_view};
@@ -100,7 +100,7 @@ impl<'a> Scope<'a> {
 
     /// Where the types, the base relvars, the constraints and so many of the virtual relvars are
     /// known. It takes no memory.
-    pub fn lent(
+    pub fn over_declared(
         alloc: Global,
         types: &'a TypeTable,
         declared: &'a Declared,
@@ -168,7 +168,7 @@ impl<'a> Scope<'a> {
     /// Goes out of what was entered last. It takes no memory.
     pub fn leave(&mut self)
         requires entered { self.old.entered ≡ [] → ⊥ }
-        ensures { self.new ≡ left self.old }
+        ensures { self.new ≡ without_innermost self.old }
     {
         self.entered.pop();
     }

@@ -23,7 +23,7 @@ use td_types::heading::Heading;
 use td_types::ty::Ty;
 
 /// The type of an operator between operands of these types.
-pub(crate) fn operated(op: Operator, operands: Result<(Ty, Ty), Fault>) -> Result<Ty, Fault>
+pub(crate) fn type_of_operator(op: Operator, operands: Result<(Ty, Ty), Fault>) -> Result<Ty, Fault>
     ensures { (o : Outcome (Type' × Type')) → Answers types_view operands o
         → Answers type_view result (with_value o (λ both. operator_type op both.0 both.1)) }
 {
@@ -32,7 +32,7 @@ pub(crate) fn operated(op: Operator, operands: Result<(Ty, Ty), Fault>) -> Resul
 }
 
 /// The type of a comparison of operands of these types.
-pub(crate) fn compared(op: Comparison, operands: Result<(Ty, Ty), Fault>) -> Result<Ty, Fault>
+pub(crate) fn type_of_comparison(op: Comparison, operands: Result<(Ty, Ty), Fault>) -> Result<Ty, Fault>
     ensures { (o : Outcome (Type' × Type')) → Answers types_view operands o
         → Answers type_view result (with_value o (λ both. comparison_type op both.0 both.1)) }
 {
@@ -41,7 +41,7 @@ pub(crate) fn compared(op: Comparison, operands: Result<(Ty, Ty), Fault>) -> Res
 }
 
 /// The type of an operand restricted by a condition of this type.
-pub(crate) fn restricted(operand: Ty, condition: Result<Ty, Fault>) -> Result<Ty, Fault>
+pub(crate) fn type_of_restriction(operand: Ty, condition: Result<Ty, Fault>) -> Result<Ty, Fault>
     ensures { (o : Outcome Type') → Answers type_view condition o
         → Answers type_view result
         (with_value o (restriction_type (type_view operand))) }
@@ -50,7 +50,7 @@ pub(crate) fn restricted(operand: Ty, condition: Result<Ty, Fault>) -> Result<Ty
 }
 
 /// The type of an operand extended by attributes.
-pub(crate) fn extended(operand: Ty, attributes: Result<Vec<(Name, Ty)>, Fault>) -> Result<Ty, Fault>
+pub(crate) fn type_of_extension(operand: Ty, attributes: Result<Vec<(Name, Ty)>, Fault>) -> Result<Ty, Fault>
     ensures { (o : Outcome (List Attribute)) → Answers (λ ts. pairs_view ts.items) attributes o
         → Answers type_view result (with_value o (λ attributes.
         over_relation (type_view operand) (λ h. extension_type h attributes))) }
@@ -63,7 +63,7 @@ pub(crate) fn extended(operand: Ty, attributes: Result<Vec<(Name, Ty)>, Fault>) 
 }
 
 /// The type of a relation of this heading with elements of these types.
-pub(crate) fn headed(parts: Result<(Heading, Vec<Ty>), Fault>) -> Result<Ty, Fault>
+pub(crate) fn type_of_headed(parts: Result<(Heading, Vec<Ty>), Fault>) -> Result<Ty, Fault>
     ensures { (o : Outcome (Heading × List Type')) → Answers headed_view parts o
         → Answers type_view result (with_value o (λ parts. headed_type parts.0 parts.1)) }
 {
@@ -72,7 +72,7 @@ pub(crate) fn headed(parts: Result<(Heading, Vec<Ty>), Fault>) -> Result<Ty, Fau
 }
 
 /// The type of what is chosen by a condition of two.
-pub(crate) fn chosen(parts: Result<(Ty, (Ty, Ty)), Fault>) -> Result<Ty, Fault>
+pub(crate) fn type_of_choice(parts: Result<(Ty, (Ty, Ty)), Fault>) -> Result<Ty, Fault>
     ensures { (o : Outcome (Type' × (Type' × Type'))) → Answers three_types_view parts o
         → Answers type_view result (with_value o choice_of) }
 {

@@ -14,10 +14,10 @@ use Rattle.td_tree.specs.Outcomes.{Outcome, Valued, Refused, least, with_value}
 use Rattle.td_value.specs.Values.{Tuple}
 
 -- why a test is not passed: it is FALSE, or it has causes, of which the least is named
-abbrev pub unpassed : Refusal → Outcome Bool → Option Refusal
-unpassed refusal (Valued true) = None
-unpassed refusal (Valued false) = Some refusal
-unpassed refusal (Refused cs) = Some (by_cause (least cs))
+abbrev pub refusal_unless_passed : Refusal → Outcome Bool → Option Refusal
+refusal_unless_passed refusal (Valued true) = None
+refusal_unless_passed refusal (Valued false) = Some refusal
+refusal_unless_passed refusal (Refused cs) = Some (by_cause (least cs))
 
 -- the first of a list for which a check refuses decides
 abbrev pub first_refusal : {A : Type 0} → (A → Option Refusal) → List A → Option Refusal
@@ -30,7 +30,7 @@ keys_hold keys tuples = list_all (λ key. key_holds key tuples) keys
 
 -- the keys of a base relvar hold
 abbrev pub base_check : BaseRelvar → Option Refusal
-base_check r = unpassed (by_key r.name) (Valued (keys_hold r.keys r.relation.body))
+base_check r = refusal_unless_passed (by_key r.name) (Valued (keys_hold r.keys r.relation.body))
 
 -- those of each base relvar do
 abbrev pub BasesHold : Database → Type 0
@@ -45,11 +45,11 @@ virtual_test w v =
     ]
 
 abbrev pub virtual_check : World → VirtualRelvar → Option Refusal
-virtual_check w v = unpassed (by_key v.name) (virtual_test w v)
+virtual_check w v = refusal_unless_passed (by_key v.name) (virtual_test w v)
 
 -- a constraint is TRUE
 abbrev pub constraint_check : World → NamedConstraint → Option Refusal
-constraint_check w c = unpassed (by_constraint c.name) (truth_value (value_of w [] c.tree))
+constraint_check w c = refusal_unless_passed (by_constraint c.name) (truth_value (value_of w [] c.tree))
 
 -- the keys of virtual relvars and then the constraints, each list in order of definition
 abbrev pub derived_check : Database → Option Refusal

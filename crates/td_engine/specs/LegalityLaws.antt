@@ -2,7 +2,7 @@
 use Rattle.std.specs.Prelude.{◌≡◌, ℕ, Bool, List}
 use Rattle.td_catalog.specs.Database.{Database}
 use Rattle.td_engine.specs.code.Carried.{IsSpelledStatement}
-use Rattle.td_engine.specs.Machine.{Accepted, Progress, Runs, State, begun, effect}
+use Rattle.td_engine.specs.Machine.{Accepted, Progress, Runs, State, progress_at_first, effect}
 use Rattle.td_engine.specs.Legality.{IsLegal, IsLegalState}
 use Rattle.td_eval.specs.ValueTypes.{IsWritten}
 use Rattle.td_tree.specs.StatementGrammar.{ExpressionItem}
@@ -21,7 +21,7 @@ AcceptedStatementsKeepLegality =
 
 -- whatever statements are run from a state, what stands after them is legal: so it is between any two of a script
 abbrev pub IsLegalThroughout : Bool → State → Type 0
-IsLegalThroughout stop s = (script : List (List PlacedToken)) (p : Progress) → Runs stop (begun s) script p → IsLegalState p.state
+IsLegalThroughout stop s = (script : List (List PlacedToken)) (p : Progress) → Runs stop (progress_at_first s) script p → IsLegalState p.state
 
 -- it is so from each legal state, in transactions and out of them
 abbrev pub RunsKeepLegality : Type 0

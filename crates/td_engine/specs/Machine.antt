@@ -43,8 +43,8 @@ abbrev pub unless_refused : Option Refusal → Database → Effect Database
 unless_refused None db = Accepted db ok_text
 unless_refused (Some refusal) db = Denied refusal
 
-abbrev pub changed : Database → Effect Database
-changed db = unless_refused (database_check db) db
+abbrev pub checked_effect : Database → Effect Database
+checked_effect db = unless_refused (database_check db) db
 
 -- ---- definitions: what is defined stands last in its list; a key is a set of names, kept in name order
 
@@ -81,24 +81,24 @@ constraint_dropped db name = with_value (constraint_droppable name db) (λ _. Va
 -- ---- statements that are of the database alone
 
 -- a change that no check follows
-abbrev pub unchecked : Database → Effect Database
-unchecked db = Accepted db ok_text
+abbrev pub unchecked_effect : Database → Effect Database
+unchecked_effect db = Accepted db ok_text
 
 -- what a statement that meets the static rules does to the database; those of transactions do nothing here: they change which
 -- database stands, below
 abbrev pub carried_out : Database → Statement → Effect Database
-carried_out db empty = unchecked db
-carried_out db (define_type name components constraint) = by_outcome (type_defined db name components constraint) changed
-carried_out db (drop_type name) = by_outcome (type_dropped db name) unchecked
-carried_out db (define_base name heading init keys) = by_outcome (base_defined db name heading init keys) changed
-carried_out db (define_virtual name expression keys) = by_outcome (virtual_defined db name expression keys) changed
-carried_out db (drop_var name) = by_outcome (relvar_dropped db name) unchecked
-carried_out db (define_constraint name condition) = changed (with_constraint (named_constraint name condition) db)
-carried_out db (drop_constraint name) = by_outcome (constraint_dropped db name) unchecked
-carried_out db (assign_all assignments) = by_outcome (assigned_database db assignments) changed
-carried_out db begin_transaction = unchecked db
-carried_out db commit = unchecked db
-carried_out db rollback = unchecked db
+carried_out db empty = unchecked_effect db
+carried_out db (define_type name components constraint) = by_outcome (type_defined db name components constraint) checked_effect
+carried_out db (drop_type name) = by_outcome (type_dropped db name) unchecked_effect
+carried_out db (define_base name heading init keys) = by_outcome (base_defined db name heading init keys) checked_effect
+carried_out db (define_virtual name expression keys) = by_outcome (virtual_defined db name expression keys) checked_effect
+carried_out db (drop_var name) = by_outcome (relvar_dropped db name) unchecked_effect
+carried_out db (define_constraint name condition) = checked_effect (with_constraint (named_constraint name condition) db)
+carried_out db (drop_constraint name) = by_outcome (constraint_dropped db name) unchecked_effect
+carried_out db (assign_all assignments) = by_outcome (assigned_database db assignments) checked_effect
+carried_out db begin_transaction = unchecked_effect db
+carried_out db commit = unchecked_effect db
+carried_out db rollback = unchecked_effect db
 carried_out db (write expression) = by_outcome (value_of (world_of db) [] expression) (λ v. Accepted db (line (literal v)))
 carried_out db dump = Accepted db (dump_text db)
 
@@ -133,9 +133,9 @@ begun_transaction s =
     if nat_lt (length s.kept) transaction_limit then Accepted (state_of s.database (s.database ∷ s.kept)) ok_text else denied_transaction
 
 -- COMMIT lets go of the database kept last
-abbrev pub committed : Database → List Database → Effect State
-committed db [] = denied_transaction
-committed db (last ∷ others) = Accepted (state_of db others) ok_text
+abbrev pub committed_transaction : Database → List Database → Effect State
+committed_transaction db [] = denied_transaction
+committed_transaction db (last ∷ others) = Accepted (state_of db others) ok_text
 
 -- ROLLBACK goes back to it
 abbrev pub rolled_back : List Database → Effect State
@@ -150,7 +150,7 @@ keeping kept (Denied refusal) = Denied refusal
 -- what a statement does
 abbrev pub effect_in : State → Statement → Effect State
 effect_in s begin_transaction = begun_transaction s
-effect_in s commit = committed s.database s.kept
+effect_in s commit = committed_transaction s.database s.kept
 effect_in s rollback = rolled_back s.kept
 effect_in s statement = keeping s.kept (effect s.database statement)
 
@@ -168,13 +168,13 @@ step_of old (Accepted new text) = record { after = new; cause = None; text = tex
 step_of old (Denied refusal) = record { after = old; cause = Some (cause_of_refusal refusal); text = line (refusal_text refusal) }
 
 -- what is meant, or is refused by the least of its causes
-abbrev pub stepped : State → Outcome Statement → Step State
-stepped s meant = step_of s (by_outcome meant (effect_in s))
+abbrev pub step_of_outcome : State → Outcome Statement → Step State
+step_of_outcome s meant = step_of s (by_outcome meant (effect_in s))
 
 -- what a list of tokens does: what they mean does it, and what they mean is SCAN where one is bad, else SYNTAX where they spell
 -- no statement
 abbrev pub Steps : State → List PlacedToken → Step State → Type 0
-Steps s tokens step = (meant : Outcome Statement) × Parsed tokens meant × (step ≡ stepped s meant)
+Steps s tokens step = (meant : Outcome Statement) × Parsed tokens meant × (step ≡ step_of_outcome s meant)
 
 -- ---- runs
 
@@ -185,8 +185,8 @@ pub record Progress : Type 0 where
   pub statements : ℕ
   pub refusals : ℕ
 
-abbrev pub begun : State → Progress
-begun s = record { state = s; text = []; statements = 0; refusals = 0 }
+abbrev pub progress_at_first : State → Progress
+progress_at_first s = record { state = s; text = []; statements = 0; refusals = 0 }
 
 abbrev pub refusals_of : Option Cause → ℕ
 refusals_of None = 0

@@ -2,7 +2,7 @@
 use Rattle.std.specs.Prelude.{◌≡◌, ℕ, Bool, false, List, [], ◌∷◌, ◌++◌, map, Some, ⊤}
 use Rattle.td_catalog.specs.Database.{BaseRelvar, Database, NamedConstraint, VirtualRelvar, empty_database}
 use Rattle.td_catalog.specs.Dumps.{dump_text, ordered_names}
-use Rattle.td_engine.specs.Machine.{Accepted, Progress, Runs, begun, effect, empty_state, ok_text, state_of}
+use Rattle.td_engine.specs.Machine.{Accepted, Progress, Runs, progress_at_first, effect, empty_state, ok_text, state_of}
 use Rattle.td_engine.specs.Legality.{IsLegal}
 use Rattle.td_parse.specs.code.Parsing.{has_bad}
 use Rattle.td_tree.specs.StatementGrammar.{StatementSpelling}
@@ -69,7 +69,7 @@ DumpsAreAccepted = (db : Database) → IsLegal db → AcceptsAll empty_database 
 -- the machine's run of the script, from nothing: each statement is accepted, and it leaves the database, with no transaction open
 pub record Rebuilds (stop : Bool) (script : List ℕ) (db : Database) : Type 0 where
   pub progress : Progress
-  pub runs : Runs stop (begun empty_state) (statements 0 script) progress
+  pub runs : Runs stop (progress_at_first empty_state) (statements 0 script) progress
   pub accepted : progress.refusals ≡ 0
   pub state_is : progress.state ≡ state_of db []
 

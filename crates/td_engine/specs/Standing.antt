@@ -1,7 +1,7 @@
 -- What a run leaves (this project's own, in the words of the set machine).
 use Rattle.std.specs.Prelude.{◌≡◌, ℕ, ◌-◌, ◌<◌, ◌≤◌, Bool, false, List, [], length, take, Option}
 use Rattle.std.specs.Io.KnownBytes.{Appends}
-use Rattle.td_engine.specs.Machine.{Progress, Runs, State, begun, has_stopped}
+use Rattle.td_engine.specs.Machine.{Progress, Runs, State, progress_at_first, has_stopped}
 use Rattle.td_engine.specs.Told.{AppendsIfTold}
 use Rattle.td_engine.specs.declared.run.Report.{Report}
 use Rattle.td_tree.specs.Statements.{PlacedToken, statements}
@@ -26,7 +26,7 @@ run_of stop old bytes = record { stop = stop; old = old; script = statements 0 b
 
 -- the machine comes so far by these statements of the run
 abbrev pub RunsTo : Run → List (List PlacedToken) → Progress → Type 0
-RunsTo run script progress = Runs run.stop (begun run.old.state) script progress
+RunsTo run script progress = Runs run.stop (progress_at_first run.old.state) script progress
 
 -- after what stood, this is what the machine's progress leaves: its state, and its text behind what was taken
 pub record Stands (old : Standing) (progress : Progress) (new : Standing) : Type 0 where

@@ -42,7 +42,7 @@ fn refusal(alloc: Global, cause: Cause) -> Result<String, AllocError>
 
 impl Answer {
     /// A statement that is accepted and prints this, its newline with it.
-    pub fn accepted(text: String) -> Answer
+    pub fn with_text(text: String) -> Answer
         ensures flag { IsTrue result.accepted × (result.cause ≡ None) }
         ensures text { string_bytes result.text ≡ string_bytes text }
     {
@@ -58,11 +58,11 @@ impl Answer {
         ensures flag { IfOk result (λ a. IsTrue a.accepted × (a.cause ≡ None)) }
         ensures text { IfOk result (λ a. string_bytes a.text ≡ ok_text) }
     {
-        Ok(Answer::accepted(line(String::from_str(alloc, "OK")?)?))
+        Ok(Answer::with_text(line(String::from_str(alloc, "OK")?)?))
     }
 
     /// A statement that is refused by this cause.
-    pub fn refused(alloc: Global, cause: Cause) -> Result<Answer, AllocError>
+    pub fn of_cause(alloc: Global, cause: Cause) -> Result<Answer, AllocError>
         ensures flag { IfOk result (λ a. IsFalse a.accepted × (a.cause ≡ Some cause)) }
         ensures text { IfOk result (λ a. string_bytes a.text ≡ line (cause_text cause)) }
     {
@@ -75,7 +75,7 @@ impl Answer {
     }
 
     /// A statement that is refused by this cause, and what of that name is why.
-    pub fn named(alloc: Global, cause: Cause, name: &Name) -> Result<Answer, AllocError>
+    pub fn of_cause_at(alloc: Global, cause: Cause, name: &Name) -> Result<Answer, AllocError>
         ensures flag { IfOk result (λ a. IsFalse a.accepted × (a.cause ≡ Some cause)) }
         ensures text { IfOk result (λ a. string_bytes a.text
             ≡ line (named_text cause name.now)) }

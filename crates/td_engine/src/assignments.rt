@@ -12,9 +12,9 @@ ghost use Rattle.td_engine.specs.Changes.{AreChanges, AreTypedChanges, IsChangeO
 ghost use Rattle.td_engine.specs.Changes.{IsOfHeading, changed_by, given_as};
 ghost use Rattle.td_engine.specs.Changes.{gift_over, given_in};
 ghost use Rattle.td_engine.specs.Checks.{BasesHold, base_check, first_refusal};
-ghost use Rattle.td_engine.specs.code.Gifts.{AreGifts, gift_of, gifted};
+ghost use Rattle.td_engine.specs.code.Gifts.{AreGifts, gift_of, gifted_bases};
 ghost use Rattle.td_engine.specs.LeftOut.{PassesElsewhere};
-ghost use Rattle.td_engine.specs.Machine.{by_outcome, changed};
+ghost use Rattle.td_engine.specs.Machine.{by_outcome, checked_effect};
 ghost use Rattle.td_engine.specs.Legality.{AreSpelled, IsLegal};
 ghost use Rattle.td_engine.specs.code.Plannable.{IsAdmittedAssignment, IsPlannableAssignment};
 ghost use Rattle.td_engine.specs.code.Plannable.{LeavesGift};
@@ -25,8 +25,8 @@ ghost use Rattle.td_tree.specs.code.TreeViews.{assignment_view, statement_view};
 ghost use Rattle.td_tree.specs.Trees.{assign_all};
 
 use crate::change::Change;
-use crate::checks::{entry_keys_hold, reached_from, settled};
-use crate::definitions::failed;
+use crate::checks::{entry_keys_hold, reached_from, check_after};
+use crate::definitions::failure_of;
 use crate::first_changes::{first_delete, first_update, put_in};
 use crate::refusal::{Failure, Refusal};
 use crate::updates::{change_of, target_of};
@@ -241,12 +241,12 @@ fn put_gift<B: Body>(
     requires db { IsTyped db × BasesHold db }
     requires gifts { AreTypedChanges db given.now.entries }
     requires so_far { catalog.old.database ≡ with_bases
-        (gifted (given_in db given.now.entries) place db.bases) db }
+        (gifted_bases (given_in db given.now.entries) place db.bases) db }
     requires place { place < length db.bases }
     ensures check { IfSome (slice_get db.bases place) (λ r.
         Passes result (base_check (with_gift (given_in db given.now.entries) r))) }
     ensures next { OnOk result (catalog.new.database ≡ with_bases
-        (gifted (given_in db given.now.entries) (place + 1) db.bases) db) }
+        (gifted_bases (given_in db given.now.entries) (place + 1) db.bases) db) }
     ensures on { GoesOn catalog.old catalog.new }
 {
     let Some((name, _)) = catalog.nth_base(place) else {
@@ -308,10 +308,10 @@ fn settle_gifts<B: Body>(
     requires elsewhere { PassesElsewhere
         (reached_from (keys_of given.now.entries) catalog.now.database.virtuals)
         catalog.now.database }
-    ensures { Changes catalog.now.database result (changed catalog.now.database) }
+    ensures { Changes catalog.now.database result (checked_effect catalog.now.database) }
 {
     let reached = reached_from(catalog, names_of_all(alloc, given)?)?;
-    settled(alloc, catalog, &reached)
+    check_after(alloc, catalog, &reached)
 }
 
 /// Lets the targets take what they were given: refused where a key does not hold then. One target
@@ -342,7 +342,7 @@ fn give_all<B: Body>(
     requires gifts { AreTypedChanges catalog.old.database given.now.entries }
     requires typed { AreGifts catalog.old.database
         (given_in catalog.old.database given.now.entries) }
-    ensures change { Changes catalog.new.database result (changed
+    ensures change { Changes catalog.new.database result (checked_effect
         (with_gifts (given_in catalog.old.database given.now.entries) catalog.old.database)) }
     ensures on { GoesOn catalog.old catalog.new }
 {
@@ -363,11 +363,11 @@ pub(crate) fn assign<B: Body>(
     requires admitted { IsAdmitted catalog.old.database
         (statement_view (Statement.Assign assignments)) }
     ensures change { Changes catalog.new.database result (by_outcome (assigned_database
-        catalog.old.database (map assignment_view assignments.items)) changed) }
+        catalog.old.database (map assignment_view assignments.items)) checked_effect) }
     ensures on { GoesOn catalog.old catalog.new }
 {
     match given_by(alloc, catalog, &assignments) {
         Ok(given) => give_all(alloc, catalog, &given),
-        Err(fault) => Err(failed(fault)),
+        Err(fault) => Err(failure_of(fault)),
     }
 }

@@ -6,7 +6,7 @@ ghost use Rattle.td_catalog.specs.Dumps.{ordered_names};
 ghost use Rattle.td_catalog.specs.TypedDatabases.{AreTyped};
 ghost use Rattle.td_engine.specs.Assignments.{of_heading, relation_for};
 ghost use Rattle.td_engine.specs.code.Carried.{Changes, IsAdmitted};
-ghost use Rattle.td_engine.specs.Machine.{base_defined, by_outcome, changed, init_relation};
+ghost use Rattle.td_engine.specs.Machine.{base_defined, by_outcome, checked_effect, init_relation};
 ghost use Rattle.td_engine.specs.Legality.{AreBaseKeys, IsLegal};
 ghost use Rattle.td_engine.specs.code.Plannable.{IsPlannableIf};
 ghost use Rattle.td_engine.specs.code.Stages.{GoesOn};
@@ -22,7 +22,7 @@ ghost use Rattle.td_value.specs.code.Views.{relation_view};
 
 use crate::beside::beside;
 use crate::checks::{keys_hold, value};
-use crate::definitions::failed;
+use crate::definitions::failure_of;
 use crate::refusal::{Failure, Refusal};
 use crate::updates::relation_of;
 use std::alloc::{AllocError, Global};
@@ -169,7 +169,7 @@ fn add_checked<B: Body>(
     requires heading { AreKnown catalog.old.database.types (pack relation.heading) }
     requires keys { AreBaseKeys relation.heading (map (λ key. key.items) keys.items) }
     requires typed { AreTyped catalog.old.database.types relation }
-    ensures change { Changes catalog.new.database result (changed (with_base
+    ensures change { Changes catalog.new.database result (checked_effect (with_base
         (base_relvar name (map (λ key. key.items) keys.items) relation) catalog.old.database)) }
     ensures on { GoesOn catalog.old catalog.new }
 {
@@ -196,7 +196,7 @@ fn add_ordered<B: Body>(
     requires heading { AreKnown catalog.old.database.types (pack relation.heading) }
     requires keys { AreBaseKeys relation.heading (map (λ key. key.items) keys.items) }
     requires typed { AreTyped catalog.old.database.types relation }
-    ensures change { Changes catalog.new.database result (changed (with_base (base_relvar name
+    ensures change { Changes catalog.new.database result (checked_effect (with_base (base_relvar name
         (map (ordered_names relation.heading) (map (λ key. key.items) keys.items)) relation)
         catalog.old.database)) }
     ensures on { GoesOn catalog.old catalog.new }
@@ -218,7 +218,7 @@ pub(crate) fn define_base<B: Body>(
     ensures change { Changes catalog.new.database result (by_outcome
         (base_defined catalog.old.database definition.name
         (heading_tree_view definition.heading.items) (option_map tree_view definition.init)
-        (map (λ key. key.items) definition.keys.items)) changed) }
+        (map (λ key. key.items) definition.keys.items)) checked_effect) }
     ensures on { GoesOn catalog.old catalog.new }
 {
     let relation = new_relation(alloc, catalog, &definition);
@@ -229,6 +229,6 @@ pub(crate) fn define_base<B: Body>(
             let (relation, (name, keys)) = parts;
             add_ordered(alloc, catalog, name, keys, relation)
         }
-        Err(fault) => Err(failed(fault)),
+        Err(fault) => Err(failure_of(fault)),
     }
 }

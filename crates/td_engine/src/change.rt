@@ -15,7 +15,7 @@ pub(crate) struct Change {
 }
 
 /// The relation of the same heading without tuples.
-pub(crate) fn emptied(alloc: Global, relation: &Rel) -> Result<Rel, AllocError>
+pub(crate) fn empty_like(alloc: Global, relation: &Rel) -> Result<Rel, AllocError>
     ensures { IfOk result (λ r. r ≡ relation_view relation.now.heading []) }
 {
     relation.reveal();
@@ -51,7 +51,7 @@ impl Change {
         ensures add { IfOk result (λ c. c.add ≡ add) }
         ensures out { IfOk result (λ c. c.out ≡ relation_view add.heading []) }
     {
-        let out = emptied(alloc, &add)?;
+        let out = empty_like(alloc, &add)?;
         Ok(Change { out, add })
     }
 
@@ -60,7 +60,7 @@ impl Change {
         ensures out { IfOk result (λ c. c.out ≡ out) }
         ensures add { IfOk result (λ c. c.add ≡ relation_view out.heading []) }
     {
-        let add = emptied(alloc, &out)?;
+        let add = empty_like(alloc, &out)?;
         Ok(Change { out, add })
     }
 }

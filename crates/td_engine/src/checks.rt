@@ -8,11 +8,11 @@ ghost use Rattle.td_catalog.specs.Database.{named_constraint, with_constraint, w
 ghost use Rattle.td_engine.specs.code.Carried.{Changes, Passes};
 ghost use Rattle.td_engine.specs.Checks.{BasesHold, constraint_check, derived_check};
 ghost use Rattle.td_engine.specs.Checks.{first_refusal};
-ghost use Rattle.td_engine.specs.Checks.{keys_hold, unpassed, virtual_check, virtual_test};
+ghost use Rattle.td_engine.specs.Checks.{keys_hold, refusal_unless_passed, virtual_check, virtual_test};
 ghost use Rattle.td_engine.specs.LeftOut.{PassesElsewhere, PassesUnlessNamed};
 ghost use Rattle.td_engine.specs.LeftOut.{PassesUnlessReached};
 ghost use Rattle.td_engine.specs.Legality.{AreSpelled};
-ghost use Rattle.td_engine.specs.Machine.{changed};
+ghost use Rattle.td_engine.specs.Machine.{checked_effect};
 ghost use Rattle.td_engine.specs.code.Plannable.{IsPlannable};
 ghost use Rattle.td_engine.specs.Refusals.{by_constraint, by_key};
 ghost use Rattle.td_eval.specs.DatabaseWorlds.{world_of};
@@ -147,7 +147,7 @@ fn test_virtual<B: Body>(
 /// What a test of the keys of a relvar comes to.
 fn key_passed(name: &Name, test: Result<bool, Fault>) -> Result<(), Failure>
     ensures { (o : Outcome _) → Answers (λ b. b) test o
-        → Passes result (unpassed (by_key name.now) o) }
+        → Passes result (refusal_unless_passed (by_key name.now) o) }
 {
     if test? {
         Ok(())
@@ -159,7 +159,7 @@ fn key_passed(name: &Name, test: Result<bool, Fault>) -> Result<(), Failure>
 /// What a test of a constraint comes to.
 fn constraint_passed(name: &Name, test: Result<Value, Fault>) -> Result<(), Failure>
     ensures { (o : Outcome Val) → Answers (λ v. v) test o
-        → Passes result (unpassed (by_constraint name.now) (truth_value o)) }
+        → Passes result (refusal_unless_passed (by_constraint name.now) (truth_value o)) }
 {
     match test?.node {
         Node::Bool(true) => Ok(()),
@@ -294,7 +294,7 @@ fn check_derived<B: Body>(
 
 /// After a change that reaches these relvars the keys of the virtual relvars hold, and the
 /// constraints are TRUE. Those of the base relvars were found to hold before.
-pub(crate) fn settled<B: Body>(
+pub(crate) fn check_after<B: Body>(
     alloc: Global,
     catalog: &Catalog<B>,
     reached: &MarkedNames,
@@ -302,7 +302,7 @@ pub(crate) fn settled<B: Body>(
     requires spelled { AreSpelled catalog.now.database }
     requires held { BasesHold catalog.now.database }
     requires elsewhere { PassesElsewhere reached.now catalog.now.database }
-    ensures { Changes catalog.now.database result (changed catalog.now.database) }
+    ensures { Changes catalog.now.database result (checked_effect catalog.now.database) }
 {
     check_derived(alloc, catalog, reached)
 }
@@ -327,7 +327,7 @@ pub(crate) fn reached_from<B: Body>(
     changed: Vec<Name>,
 ) -> Result<MarkedNames, AllocError>
     ensures { IfOk result (λ reached.
-        reached ≡ reached_from changed.items catalog.now.database.virtuals) }
+        reached ≡ reached_from checked_effect.items catalog.now.database.virtuals) }
 {
     let mut reached = MarkedNames::new(changed);
     for place in 0..catalog.virtual_count() {

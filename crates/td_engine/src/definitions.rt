@@ -7,8 +7,8 @@ ghost use Rattle.td_check.specs.OperatorTypes.{over_relation};
 ghost use Rattle.td_check.specs.StaticTypes.{type_of};
 ghost use Rattle.td_engine.specs.code.Carried.{Changes, IsAdmitted, failure_of};
 ghost use Rattle.td_engine.specs.Checks.{BasesHold};
-ghost use Rattle.td_engine.specs.Machine.{by_outcome, changed, constraint_dropped};
-ghost use Rattle.td_engine.specs.Machine.{relvar_dropped, type_defined, type_dropped, unchecked};
+ghost use Rattle.td_engine.specs.Machine.{by_outcome, checked_effect, constraint_dropped};
+ghost use Rattle.td_engine.specs.Machine.{relvar_dropped, type_defined, type_dropped, unchecked_effect};
 ghost use Rattle.td_engine.specs.Machine.{virtual_defined};
 ghost use Rattle.td_engine.specs.Legality.{IsLegal};
 ghost use Rattle.td_engine.specs.code.Stages.{GoesOn};
@@ -35,7 +35,7 @@ use td_types::resolve::resolve_attributes;
 use td_types::ty::Ty;
 
 /// What a fault of the crates below comes to.
-pub(crate) fn failed(fault: Fault) -> Failure
+pub(crate) fn failure_of(fault: Fault) -> Failure
     ensures { result ≡ failure_of fault }
 {
     match fault {
@@ -45,13 +45,13 @@ pub(crate) fn failed(fault: Fault) -> Failure
 }
 
 /// A drop: no check follows.
-pub(crate) fn unchecked(done: Result<(), Fault>) -> Result<(), Failure>
+pub(crate) fn unchecked_effect(done: Result<(), Fault>) -> Result<(), Failure>
     ensures { (db : Database) (o : Outcome Database) → Answers (λ u. db) done o
-        → Changes db result (by_outcome o unchecked) }
+        → Changes db result (by_outcome o unchecked_effect) }
 {
     match done {
         Ok(()) => Ok(()),
-        Err(fault) => Err(failed(fault)),
+        Err(fault) => Err(failure_of(fault)),
     }
 }
 
@@ -87,12 +87,12 @@ pub(crate) fn define_type<B: Body>(
     ensures change { Changes catalog.new.database result (by_outcome
         (type_defined catalog.old.database definition.name
         (heading_tree_view definition.components.items)
-        (option_map tree_view definition.constraint)) changed) }
+        (option_map tree_view definition.constraint)) checked_effect) }
     ensures on { GoesOn catalog.old catalog.new }
 {
     match add_type(catalog, definition) {
         Ok(()) => Ok(()),
-        Err(fault) => Err(failed(fault)),
+        Err(fault) => Err(failure_of(fault)),
     }
 }
 
@@ -177,12 +177,12 @@ pub(crate) fn define_virtual<B: Body>(
         (statement_view (Statement.DefineVirtual definition)) }
     ensures change { Changes catalog.new.database result (by_outcome
         (virtual_defined catalog.old.database definition.name (tree_view definition.expression)
-        (map (λ key. key.items) definition.keys.items)) changed) }
+        (map (λ key. key.items) definition.keys.items)) checked_effect) }
     ensures on { GoesOn catalog.old catalog.new }
 {
     match add_virtual(alloc, catalog, definition) {
         Ok(()) => check_last_virtual(alloc, catalog),
-        Err(fault) => Err(failed(fault)),
+        Err(fault) => Err(failure_of(fault)),
     }
 }
 
@@ -213,13 +213,13 @@ pub(crate) fn define_constraint<B: Body>(
     requires legal { IsLegal catalog.old.database }
     requires admitted { IsAdmitted catalog.old.database
         (statement_view (Statement.DefineConstraint name condition)) }
-    ensures change { Changes catalog.new.database result (changed
+    ensures change { Changes catalog.new.database result (checked_effect
         (with_constraint (named_constraint name (tree_view condition)) catalog.old.database)) }
     ensures on { GoesOn catalog.old catalog.new }
 {
     match add_constraint(catalog, name, condition) {
         Ok(()) => check_last_constraint(alloc, catalog),
-        Err(fault) => Err(failed(fault)),
+        Err(fault) => Err(failure_of(fault)),
     }
 }
 

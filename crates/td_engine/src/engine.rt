@@ -3,7 +3,7 @@ ghost use Rattle.std.specs.Prelude.{◌≡◌, Bool, IfOk, List, OnErr, length};
 ghost use Rattle.std.specs.String.{string_bytes};
 ghost use Rattle.td_catalog.specs.Dumps.{dump_text};
 ghost use Rattle.td_engine.specs.code.Carried.{IsOfDatabase, IsSpelledStatement};
-ghost use Rattle.td_engine.specs.Machine.{begun_transaction, committed, effect_in, empty_state};
+ghost use Rattle.td_engine.specs.Machine.{begun_transaction, committed_transaction, effect_in, empty_state};
 ghost use Rattle.td_engine.specs.Machine.{rolled_back, step_of};
 ghost use Rattle.td_engine.specs.Rebuilding.{Rebuilds};
 ghost use Rattle.td_engine.specs.Legality.{IsLegalState};
@@ -13,7 +13,7 @@ ghost use Rattle.td_tree.specs.Statements.{PlacedToken};
 ghost use Rattle.td_tree.specs.code.TreeViews.{statement_view};
 
 use crate::answer::Answer;
-use crate::present::{Present, refused};
+use crate::present::{Present, answer_of_fault};
 use crate::transaction::{Transaction, transaction_of};
 use std::alloc::{AllocError, Global};
 use std::marker::Model;
@@ -122,7 +122,7 @@ impl<B: Body> Engine<B> {
             Ok(statement) => self.execute(statement),
             Err(fault) => {
                 let _ = &self.present;
-                refused(self.alloc, fault)
+                answer_of_fault(self.alloc, fault)
             }
         }
     }
@@ -190,22 +190,22 @@ impl<B: Body> Engine<B> {
         ensures legal { IsLegalState self.new }
     {
         if self.opens.len() >= TRANSACTION_LIMIT {
-            return Answer::refused(self.alloc, Cause::Transaction);
+            return Answer::of_cause(self.alloc, Cause::Transaction);
         }
         let answer = Answer::ok(self.alloc)?;
-        self.opens.push(self.present.kept())?;
+        self.opens.push(self.present.kept_count())?;
         Ok(answer)
     }
 
     /// Lets go of the number kept last.
     fn commit(&mut self) -> Result<Answer, AllocError>
         ensures done { IfOk result (λ answer.
-            Does (step_of self.old (committed self.old.database self.old.kept)) answer self.new) }
+            Does (step_of self.old (committed_transaction self.old.database self.old.kept)) answer self.new) }
         ensures err { OnErr result (self.new ≡ self.old) }
         ensures legal { IsLegalState self.new }
     {
         if self.opens.is_empty() {
-            return Answer::refused(self.alloc, Cause::Transaction);
+            return Answer::of_cause(self.alloc, Cause::Transaction);
         }
         let answer = Answer::ok(self.alloc)?;
         let Some(_) = self.opens.pop() else {
@@ -223,7 +223,7 @@ impl<B: Body> Engine<B> {
         ensures legal { IsLegalState self.new }
     {
         if self.opens.is_empty() {
-            return Answer::refused(self.alloc, Cause::Transaction);
+            return Answer::of_cause(self.alloc, Cause::Transaction);
         }
         let answer = Answer::ok(self.alloc)?;
         let Some(place) = self.opens.pop() else {

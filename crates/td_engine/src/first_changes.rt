@@ -16,7 +16,7 @@ ghost use Rattle.td_value.specs.code.Views.{relation_view};
 
 use crate::change::Change;
 use crate::checks::value;
-use crate::updates::{changed, relation_of};
+use crate::updates::{updated_tuples, relation_of};
 use std::alloc::Global;
 use td_body::body::Body;
 use td_catalog::catalog::Catalog;
@@ -120,7 +120,7 @@ fn first_updated<'a, B: Body>(
         other,
         tuples: &[],
     };
-    changed(alloc, &env, chosen, settings)
+    updated_tuples(alloc, &env, chosen, settings)
 }
 
 /// What UPDATE changes of a relvar.

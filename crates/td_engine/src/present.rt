@@ -3,7 +3,7 @@ ghost use Rattle.std.specs.Prelude.{◌≡◌, ◌+◌, ◌≤◌, IfNone, IfOk,
 ghost use Rattle.std.specs.String.{string_bytes};
 ghost use Rattle.td_catalog.specs.Database.{Database, empty_database};
 ghost use Rattle.td_catalog.specs.Dumps.{dump_text};
-ghost use Rattle.td_catalog.specs.KeptDatabases.{settled, stages};
+ghost use Rattle.td_catalog.specs.KeptDatabases.{settled_view, stages};
 ghost use Rattle.td_engine.specs.code.Carried.{IsAdmitted, IsChange, IsDenied, IsRefusedBy};
 ghost use Rattle.td_engine.specs.code.Carried.{AnswersText, IsSpelledStatement, Prints};
 ghost use Rattle.td_engine.specs.Machine.{State, effect, step_of};
@@ -19,7 +19,7 @@ ghost use Rattle.td_value.specs.Values.{Val};
 use crate::answer::{Answer, line};
 use crate::checks::value;
 use crate::refusal::{Failure, Refusal};
-use crate::statement::{admitted, change};
+use crate::statement::{check_in, change};
 use std::alloc::{AllocError, Global};
 use std::marker::Model;
 use td_body::body::Body;
@@ -52,25 +52,25 @@ impl<B: Body> Model for Present<B> {
 }
 
 /// The answer to what is refused by a cause.
-pub(crate) fn refused(alloc: Global, fault: Fault) -> Result<Answer, AllocError>
+pub(crate) fn answer_of_fault(alloc: Global, fault: Fault) -> Result<Answer, AllocError>
     ensures databases { IfOk result (λ answer. (db : Database) → IsRefusedBy db fault answer) }
     ensures states { IfOk result (λ answer. (s : State) → IsRefusedBy s fault answer) }
 {
     match fault {
-        Fault::Refused(cause) => Answer::refused(alloc, cause),
+        Fault::Refused(cause) => Answer::answer_of_fault(alloc, cause),
         Fault::Memory => Err(AllocError),
     }
 }
 
 /// The answer to a statement that is refused.
-fn failed(alloc: Global, failure: Failure) -> Result<Answer, AllocError>
+fn answer_of_failure(alloc: Global, failure: Failure) -> Result<Answer, AllocError>
     ensures { IfOk result (λ answer. (db : Database) → IsDenied db failure answer) }
 {
     match failure {
-        Failure::Refused(Refusal::Cause(cause)) => Answer::refused(alloc, cause),
-        Failure::Refused(Refusal::Key(name)) => Answer::named(alloc, Cause::Key, &name),
+        Failure::Refused(Refusal::Cause(cause)) => Answer::answer_of_fault(alloc, cause),
+        Failure::Refused(Refusal::Key(name)) => Answer::name_expression(alloc, Cause::Key, &name),
         Failure::Refused(Refusal::Constraint(name)) => {
-            Answer::named(alloc, Cause::Constraint, &name)
+            Answer::name_expression(alloc, Cause::Constraint, &name)
         }
         Failure::Memory => Err(AllocError),
     }
@@ -88,14 +88,14 @@ fn literal_line(alloc: Global, value: Result<Value, Fault>) -> Result<String, Fa
 }
 
 /// The lines of the dump.
-fn dumped<B: Body>(catalog: &Catalog<B>) -> Result<String, Fault>
+fn dumped_text<B: Body>(catalog: &Catalog<B>) -> Result<String, Fault>
     ensures { Answers string_bytes result (Valued (dump_text catalog.now.database)) }
 {
     Ok(catalog.dump_text()?)
 }
 
 /// The text that a statement prints, if it prints a value or the dump.
-fn printed<B: Body>(
+fn printed_text<B: Body>(
     alloc: Global,
     catalog: &Catalog<B>,
     statement: &Statement,
@@ -110,7 +110,7 @@ fn printed<B: Body>(
         Statement::Write(expression) => {
             Some(literal_line(alloc, value(alloc, catalog, expression)))
         }
-        Statement::Dump => Some(dumped(catalog)),
+        Statement::Dump => Some(dumped_text(catalog)),
         _ => None,
     }
 }
@@ -120,15 +120,15 @@ fn write(alloc: Global, text: Result<String, Fault>) -> Result<Answer, AllocErro
     ensures { IfOk result (AnswersText string_bytes text) }
 {
     match text {
-        Ok(text) => Ok(Answer::accepted(text)),
-        Err(fault) => refused(alloc, fault),
+        Ok(text) => Ok(Answer::with_text(text)),
+        Err(fault) => answer_of_fault(alloc, fault),
     }
 }
 
 impl<B: Body> Present<B> {
     /// An empty database. It takes no memory.
     pub(crate) fn new(alloc: Global) -> Present<B>
-        ensures { result ≡ settled empty_database }
+        ensures { result ≡ settled_view empty_database }
     {
         Present {
             alloc,
@@ -145,10 +145,10 @@ impl<B: Body> Present<B> {
     }
 
     /// How many databases are kept.
-    pub(crate) fn kept(&self) -> usize
+    pub(crate) fn kept_count(&self) -> usize
         ensures { result ≡ length self.now.kept }
     {
-        self.catalog.kept()
+        self.catalog.kept_count()
     }
 
     /// Goes back to the database at a place among those kept. It takes no memory.
@@ -162,7 +162,7 @@ impl<B: Body> Present<B> {
 
     /// Keeps no earlier database any longer. It takes no memory.
     pub(crate) fn settle(&mut self)
-        ensures { self.new ≡ settled self.old.database }
+        ensures { self.new ≡ settled_view self.old.database }
     {
         self.catalog.settle();
     }
@@ -177,11 +177,11 @@ impl<B: Body> Present<B> {
         ensures on { GoesOn self.old self.new }
         ensures legal { IsLegal self.new.database }
     {
-        match admitted(&self.catalog, &statement) {
+        match check_in(&self.catalog, &statement) {
             Ok(()) => self.do_admitted(statement),
             Err(fault) => {
                 drop(statement);
-                refused(self.alloc, fault)
+                answer_of_fault(self.alloc, fault)
             }
         }
     }
@@ -195,7 +195,7 @@ impl<B: Body> Present<B> {
         ensures on { GoesOn self.old self.new }
         ensures legal { IsLegal self.new.database }
     {
-        match printed(self.alloc, &self.catalog, &statement) {
+        match printed_text(self.alloc, &self.catalog, &statement) {
             None => self.change(statement),
             Some(text) => {
                 drop(statement);
@@ -215,7 +215,7 @@ impl<B: Body> Present<B> {
         ensures on { GoesOn self.old self.new }
         ensures legal { IsLegal self.new.database }
     {
-        let place = self.catalog.kept();
+        let place = self.catalog.kept_count();
         match change(self.alloc, &mut self.catalog, statement) {
             Ok(()) => match Answer::ok(self.alloc) {
                 Ok(answer) => Ok(answer),
@@ -226,7 +226,7 @@ impl<B: Body> Present<B> {
             },
             Err(failure) => {
                 self.catalog.revert(place);
-                failed(self.alloc, failure)
+                answer_of_failure(self.alloc, failure)
             }
         }
     }

@@ -12,7 +12,7 @@ use crate::assignments::assign;
 use crate::bases::define_base;
 use crate::definitions::{
     define_constraint, define_type, define_virtual, drop_constraint, drop_relvar, drop_type,
-    unchecked,
+    unchecked_effect,
 };
 use crate::refusal::Failure;
 use std::alloc::Global;
@@ -23,7 +23,7 @@ use td_tree::fault::Fault;
 use td_tree::statement::Statement;
 
 /// Whether the statement meets the static rules where the catalogue is known.
-pub(crate) fn admitted<B: Body>(catalog: &Catalog<B>, statement: &Statement) -> Result<(), Fault>
+pub(crate) fn check_in<B: Body>(catalog: &Catalog<B>, statement: &Statement) -> Result<(), Fault>
     ensures { Answers (λ u. u) result
         (statement_checked (database_scope catalog.now.database) (statement_view statement.now)) }
 {
@@ -47,14 +47,14 @@ pub(crate) fn change<B: Body>(
 {
     match statement {
         Statement::DefineType(definition) => { define_type(catalog, definition) }
-        Statement::DropType(name) => unchecked(drop_type(catalog, &name)),
+        Statement::DropType(name) => unchecked_effect(drop_type(catalog, &name)),
         Statement::DefineBase(definition) => define_base(alloc, catalog, definition),
         Statement::DefineVirtual(definition) => { define_virtual(alloc, catalog, definition) }
-        Statement::DropVar(name) => unchecked(drop_relvar(catalog, &name)),
+        Statement::DropVar(name) => unchecked_effect(drop_relvar(catalog, &name)),
         Statement::DefineConstraint(name, condition) => {
             define_constraint(alloc, catalog, name, condition)
         }
-        Statement::DropConstraint(name) => unchecked(drop_constraint(catalog, &name)),
+        Statement::DropConstraint(name) => unchecked_effect(drop_constraint(catalog, &name)),
         Statement::Assign(assignments) => assign(alloc, catalog, assignments),
         Statement::Empty | Statement::BeginTransaction | Statement::Commit | Statement::Rollback =>
             Ok(()),

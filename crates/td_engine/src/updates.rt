@@ -100,7 +100,7 @@ fn assigned_value<'a, B: Body>(
 }
 
 /// What an assignment of the value of an expression gives.
-fn assigned<B: Body>(
+fn relation_assigned<B: Body>(
     alloc: Global,
     catalog: &Catalog<B>,
     target: &Name,
@@ -119,7 +119,7 @@ fn assigned<B: Body>(
 }
 
 /// What an assignment of the value of an expression changes.
-fn replaced<B: Body>(
+fn change_of_assign<B: Body>(
     alloc: Global,
     catalog: &Catalog<B>,
     target: &Name,
@@ -131,12 +131,12 @@ fn replaced<B: Body>(
         (source_world catalog.now.database target.now so_far.now) (tree_view source.now)) }
     ensures headings { IfOk result (IsOfHeading so_far.now.heading) }
 {
-    let relation = assigned(alloc, catalog, target, so_far, source)?;
+    let relation = relation_assigned(alloc, catalog, target, so_far, source)?;
     Ok(Change::between(alloc, so_far, &relation)?)
 }
 
 /// What INSERT changes.
-fn inserted<B: Body>(
+fn change_of_insert<B: Body>(
     alloc: Global,
     catalog: &Catalog<B>,
     target: &Name,
@@ -149,14 +149,14 @@ fn inserted<B: Body>(
         (with_inserted target.now (tree_view source.now))) }
     ensures headings { IfOk result (IsOfHeading so_far.now.heading) }
 {
-    let add = assigned(alloc, catalog, target, so_far, source)?;
+    let add = relation_assigned(alloc, catalog, target, so_far, source)?;
     Ok(Change::adding(alloc, add)?)
 }
 
 // ---- conditions
 
 /// The tuples whose truth values are TRUE.
-fn restricted(alloc: Global, so_far: &Rel, truths: Result<Vec<bool>, Fault>) -> Result<Rel, Fault>
+fn restricted_to(alloc: Global, so_far: &Rel, truths: Result<Vec<bool>, Fault>) -> Result<Rel, Fault>
     requires { IfOk truths (λ m. length m.items ≡ length so_far.now.body) }
     ensures { (p : Tuple → Outcome Val) → Answers (λ m. m.items) truths
         (gathered (map (λ t. truth_value (p t)) so_far.now.body))
@@ -191,7 +191,7 @@ fn truths_so_far<'a, B: Body>(
 // ---- UPDATE
 
 /// The tuples that UPDATE changes.
-fn chosen<B: Body>(
+fn chosen_tuples<B: Body>(
     alloc: Global,
     catalog: &Catalog<B>,
     target: &Name,
@@ -209,7 +209,7 @@ fn chosen<B: Body>(
         None => Ok(so_far.try_clone()?),
         Some(condition) => {
             let truths = truths_so_far(alloc, catalog, target, so_far, condition);
-            restricted(alloc, so_far, truths)
+            restricted_to(alloc, so_far, truths)
         }
     }
 }
@@ -264,7 +264,7 @@ fn setting_attributes(
 }
 
 /// What UPDATE makes of the chosen tuples.
-pub(crate) fn changed<'a, B: Body>(
+pub(crate) fn updated_tuples<'a, B: Body>(
     alloc: Global,
     env: &Env<'a, B>,
     chosen: &Rel,
@@ -286,7 +286,7 @@ pub(crate) fn changed<'a, B: Body>(
 }
 
 /// What UPDATE makes of the chosen ones of the target's tuples so far.
-fn updated<'a, B: Body>(
+fn updated_so_far<'a, B: Body>(
     alloc: Global,
     catalog: &'a Catalog<B>,
     target: &'a Name,
@@ -309,7 +309,7 @@ fn updated<'a, B: Body>(
         other: Some((target, so_far)),
         tuples: &[],
     };
-    changed(alloc, &env, chosen, settings)
+    updated_tuples(alloc, &env, chosen, settings)
 }
 
 /// What UPDATE changes.
@@ -335,8 +335,8 @@ fn update<B: Body>(
         (named_view settings.now)))) }
     ensures headings { IfOk result (IsOfHeading so_far.now.heading) }
 {
-    let out = chosen(alloc, catalog, target, so_far, condition)?;
-    let add = updated(alloc, catalog, target, so_far, &out, settings)?;
+    let out = chosen_tuples(alloc, catalog, target, so_far, condition)?;
+    let add = updated_so_far(alloc, catalog, target, so_far, &out, settings)?;
     Ok(Change { out, add })
 }
 
@@ -371,7 +371,7 @@ fn delete<B: Body>(
 {
     so_far.heading().reveal();
     so_far.reveal();
-    let out = chosen(alloc, catalog, target, so_far, condition)?;
+    let out = chosen_tuples(alloc, catalog, target, so_far, condition)?;
     Ok(Change::taking(alloc, out)?)
 }
 
@@ -390,8 +390,8 @@ pub(crate) fn change_of<B: Body>(
     ensures headings { IfOk result (IsOfHeading so_far.now.heading) }
 {
     match assignment {
-        Assignment::Assign(target, source) => replaced(alloc, catalog, target, so_far, source),
-        Assignment::Insert(target, source) => inserted(alloc, catalog, target, so_far, source),
+        Assignment::Assign(target, source) => change_of_assign(alloc, catalog, target, so_far, source),
+        Assignment::Insert(target, source) => change_of_insert(alloc, catalog, target, so_far, source),
         Assignment::Delete(target, condition) => {
             delete(alloc, catalog, target, so_far, condition.as_ref())
         }

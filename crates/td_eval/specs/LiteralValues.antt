@@ -9,7 +9,7 @@ use Rattle.td_eval.specs.OperatorValues.{components_of}
 use Rattle.td_eval.specs.TreeValues.{value_of}
 use Rattle.td_eval.specs.ValueLaws.{HasLater}
 use Rattle.td_eval.specs.ValueTypes.{AreComponentsOf, ConstraintsAreWritten}
-use Rattle.td_eval.specs.Worlds.{World, selected}
+use Rattle.td_eval.specs.Worlds.{World, selector_outcome}
 use Rattle.td_tree.specs.Outcomes.{Valued}
 use Rattle.td_types.specs.TypeLists.{DeclaredType}
 use Rattle.td_types.specs.Types.{Type'}
@@ -43,7 +43,7 @@ abbrev mutual
 
 -- the selector of the type gives the user value of these components
 abbrev pub Selects : World → List ℕ → Parts → Type 0
-Selects w n ps = selected w n (components_of ps) ≡ Valued (user n ps)
+Selects w n ps = selector_outcome w n (components_of ps) ≡ Valued (user n ps)
 
 -- each user value in it is what a selector gives
 abbrev pub IsSelected : World → Val → Type 0
@@ -89,7 +89,7 @@ SelectorsGiveWhatMeets =
 -- what such a selector gives is the user value of its components, which meet the constraint
 abbrev pub WhatSelectorsGiveMeets : Type 0
 WhatSelectorsGiveMeets =
-    (db : Database) (n : List ℕ) (vs : List Val) (v : Val) → IsTyped db → selected (world_of db) n vs ≡ Valued v
+    (db : Database) (n : List ℕ) (vs : List Val) (v : Val) → IsTyped db → selector_outcome (world_of db) n vs ≡ Valued v
     → (v ≡ user n (pack_parts vs)) × MeetConstraint db.types n (pack_parts vs)
 
 -- so there the tree of a value whose user values meet their constraints has that value

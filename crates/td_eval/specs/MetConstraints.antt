@@ -9,7 +9,7 @@ use Rattle.td_eval.specs.DatabaseWorlds.{with_other, world_of}
 use Rattle.td_eval.specs.LiteralValues.{EachInFields, EachUserValue, MeetConstraint, MeetsConstraints}
 use Rattle.td_eval.specs.OperatorValues.{on_relation, set_value}
 use Rattle.td_eval.specs.TreeValues.{value_of, values_in_tuples}
-use Rattle.td_eval.specs.Worlds.{World, selected}
+use Rattle.td_eval.specs.Worlds.{World, selector_outcome}
 use Rattle.td_tree.specs.Outcomes.{Outcome, Valued}
 use Rattle.td_tree.specs.Trees.{NamedTrees, Tree}
 use Rattle.td_types.specs.TypeLists.{DeclaredType}
@@ -28,7 +28,7 @@ EachInValues P r = AllByRecursion (λ f. (t : Tuple) (v : Val) → Contains r.bo
 pub record GivesOnly (P : List ℕ → Parts → Type 0) (w : World) : Type 0 where
   pub relvars : (n : List ℕ) (v : Val) → w.relvar n ≡ Some (Valued v) → EachUserValue P v
   pub selectors :
-      (n : List ℕ) (vs : List Val) (v : Val) → AllByRecursion (EachUserValue P) vs → selected w n vs ≡ Valued v → EachUserValue P v
+      (n : List ℕ) (vs : List Val) (v : Val) → AllByRecursion (EachUserValue P) vs → selector_outcome w n vs ≡ Valued v → EachUserValue P v
 
 -- where the world and the tuples in hand have only user values that meet the constraints of their types, so has each value;
 -- a database whose base relvars have only such is such a world, also where a relvar has another such relation

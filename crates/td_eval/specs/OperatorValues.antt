@@ -76,12 +76,12 @@ relation_where fits r = value_if fits (relation_value r) causes.Heading
 -- ---- literals
 
 -- the number with its sign
-abbrev pub signed : Bool → ℕ → ℤ
-signed true n = neg_ℤ (pos n)
-signed false n = pos n
+abbrev pub signed_number : Bool → ℕ → ℤ
+signed_number true n = neg_ℤ (pos n)
+signed_number false n = pos n
 
 abbrev pub literal_value : Literal → Outcome Val
-literal_value (number minus magnitude) = of_number (signed minus magnitude)
+literal_value (number minus magnitude) = of_number (signed_number minus magnitude)
 literal_value (text content) = Valued (char content)
 literal_value (truth b) = of_truth b
 -- no attribute, and the tuple that has none

@@ -6,7 +6,7 @@ use Rattle.td_check.specs.Scopes.{entered_with}
 use Rattle.td_check.specs.StaticTypes.{named_types}
 use Rattle.td_eval.specs.AggregateValues.{Summand, aggregated_value, asked_of, summary_attributes, summary_value}
 use Rattle.td_eval.specs.OperatorValues.{comparison_value, component_value, extended_value, extracted_value, headed_value, listed_value, literal_value, measure_value, of_truth, on_relation, on_truth, operator_value, postfix_value, prefix_value, restricted_value, tuple_from}
-use Rattle.td_eval.specs.Worlds.{World, name_value, selected, with_tuples}
+use Rattle.td_eval.specs.Worlds.{World, name_value, selector_outcome, with_tuples}
 use Rattle.td_group.specs.declared.aggregates.Agg.TheVariants as asked
 use Rattle.td_tree.specs.Outcomes.{Outcome, Valued, with_both, with_value}
 use Rattle.td_tree.specs.Trees.{Tree, literal, name, parentheses, prefix, extract, restriction, binary, compare, postfix, select, component, measure, aggregate, relation, headed_relation, tuple, extend, summarize_per, summarize_by, choice, Trees, none, more, NamedTrees, none_named, more_named, Summaries, no_summaries, counted, summed, project}
@@ -25,7 +25,7 @@ abbrev mutual
   value_of w s (binary left op right) = with_both (value_of w s left) (value_of w s right) (operator_value op)
   value_of w s (compare left op right) = with_both (value_of w s left) (value_of w s right) (comparison_value op)
   value_of w s (postfix operand op) = with_value (value_of w s operand) (postfix_value op)
-  value_of w s (select ty arguments) = with_value (argument_values w s arguments) (selected w ty)
+  value_of w s (select ty arguments) = with_value (argument_values w s arguments) (selector_outcome w ty)
   value_of w s (component rest operand) = with_value (value_of w s operand) (component_value w.scope.types rest)
   value_of w s (measure op operand) = with_value (value_of w s operand) (measure_value op)
   value_of w s (aggregate op operand value) =

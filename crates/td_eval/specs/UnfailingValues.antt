@@ -10,7 +10,7 @@ use Rattle.td_check.specs.StaticTypes.{type_of}
 use Rattle.td_eval.specs.DatabaseWorlds.{with_other, world_of}
 use Rattle.td_eval.specs.TreeValues.{value_of}
 use Rattle.td_eval.specs.ValueTypes.{AreComponentsOf, DefinitionsAreWritten, IsOfType, IsTypedTuple, IsWritten, KeepsScope}
-use Rattle.td_eval.specs.Worlds.{World, selected, with_tuples}
+use Rattle.td_eval.specs.Worlds.{World, selector_outcome, with_tuples}
 use Rattle.td_eval.specs.TreeNumbers.{HasNumbers}
 use Rattle.td_tree.specs.Outcomes.{Valued}
 use Rattle.td_tree.specs.Trees.{Tree}
@@ -27,7 +27,7 @@ pub record GivesValues (w : World) (scope : Scope) : Type 0 where
       → (v : Val) × (w.relvar n ≡ Some (Valued v))
   pub selectors :
       (n : List ℕ) (d : DeclaredType) (vs : List Val) → declared_at n scope.types ≡ Some d → d.constraint ≡ None
-      → AreComponentsOf scope.types d vs → (v : Val) × (selected w n vs ≡ Valued v)
+      → AreComponentsOf scope.types d vs → (v : Val) × (selector_outcome w n vs ≡ Valued v)
 
 -- there an expression that has a type and cannot fail has a value, of that type
 abbrev pub UnfailingExpressionsHaveValues : Type 0

@@ -13,7 +13,7 @@ use Rattle.td_eval.specs.DatabaseWorlds.{world_of}
 use Rattle.td_eval.specs.OperatorValues.{extended_value, is_true, of_relation, restricted_value, truth_value}
 use Rattle.td_eval.specs.TreeValues.{value_of}
 use Rattle.td_eval.specs.ValueTypes.{AreComponentsOf, DefinitionsAreWritten, IsTypedTuple, IsWritten, KeepsScope}
-use Rattle.td_eval.specs.Worlds.{World, selected, with_tuples}
+use Rattle.td_eval.specs.Worlds.{World, selector_outcome, with_tuples}
 use Rattle.td_group.specs.Aggregates.{aggregate}
 use Rattle.td_group.specs.declared.aggregates.Agg.{Agg}
 use Rattle.td_tree.specs.declared.cause.Cause.{Cause}
@@ -38,7 +38,7 @@ pub record IsChecked (scope : Scope) (s : List Tuple) (e : Tree) : Type 0 where
 abbrev pub SelectsTheSame : Scope → World → World → List ℕ → Type 0
 SelectsTheSame scope first second n =
     (d : DeclaredType) (vs : List Val) → declared_at n scope.types ≡ Some d → AreComponentsOf scope.types d vs
-    → selected second n vs ≡ selected first n vs
+    → selector_outcome second n vs ≡ selector_outcome first n vs
 
 -- the second world knows the relvar of the name by the same heading, and it has the same value there
 abbrev pub HasTheSame : (List ℕ → Bool) → Scope → World → World → List ℕ → Type 0

@@ -31,5 +31,5 @@ abbrev pub name_value : World → List Tuple → List ℕ → Outcome Val
 name_value w s n = elim (innermost_value n s) as (λ _. Outcome Val) [ Some v ↦ Valued v | None ↦ known_outcome (w.relvar n) ]
 
 -- what a selector gives of components
-abbrev pub selected : World → List ℕ → List Val → Outcome Val
-selected w n vs = elim (w.selector n) as (λ _. Outcome Val) [ Some f ↦ f vs | None ↦ Refused (Only causes.NameUnknown) ]
+abbrev pub selector_outcome : World → List ℕ → List Val → Outcome Val
+selector_outcome w n vs = elim (w.selector n) as (λ _. Outcome Val) [ Some f ↦ f vs | None ↦ Refused (Only causes.NameUnknown) ]

@@ -15,7 +15,7 @@ ghost use Rattle.td_types.specs.Headings.{has_attribute};
 ghost use Rattle.td_types.specs.code.Views.{pairs_view};
 ghost use Rattle.td_value.specs.Values.{Tuple, Val};
 
-use crate::operators::tuplewise::extended;
+use crate::operators::tuplewise::extension_value;
 use crate::sight::Sight;
 use std::alloc::Global;
 use td_algebra::extension::Column;
@@ -90,5 +90,5 @@ pub fn extension_by(
         (extended_value (Valued (pairs_view attributes.now)) fs rel.now) }
 {
     ask_new(alloc, attributes, rel.heading())?;
-    extended(alloc, rel, columns?)
+    extension_value(alloc, rel, columns?)
 }

@@ -10,7 +10,7 @@ ghost use Rattle.td_types.specs.Types.{attribute_names};
 ghost use Rattle.td_types.specs.code.Views.{pairs_view};
 
 use crate::env::Env;
-use crate::rows::shared;
+use crate::rows::copies_of_lent;
 use crate::sight::Sight;
 use crate::value::{columns, truths};
 use std::alloc::Global;
@@ -34,7 +34,7 @@ pub fn truths_in<B: Body>(
         rel.now.body)) }
 {
     let sight = Sight::of_env(alloc, env);
-    truths(&sight, &shared(alloc, env.tuples)?, rel, condition)
+    truths(&sight, &copies_of_lent(alloc, env.tuples)?, rel, condition)
 }
 
 /// The relation with the attributes of each tuple set, all at once, to the values of the parts
@@ -53,6 +53,6 @@ pub fn set_in_tuples<B: Body>(
         rel.now) }
 {
     let sight = Sight::of_env(alloc, env);
-    let columns = columns(&sight, &shared(alloc, env.tuples)?, rel, attributes, parts)?;
+    let columns = columns(&sight, &copies_of_lent(alloc, env.tuples)?, rel, attributes, parts)?;
     Ok(set_all(alloc, rel, columns)?)
 }

@@ -1,11 +1,11 @@
 //! What the names of relvars and selectors mean in what an expression is evaluated in.
 ghost use Rattle.td_eval.specs.code.Sights.{world_in};
-ghost use Rattle.td_eval.specs.Worlds.{known_outcome, selected};
+ghost use Rattle.td_eval.specs.Worlds.{known_outcome, selector_outcome};
 ghost use Rattle.td_tree.specs.Outcomes.{Answers};
 
 use crate::env::Env;
 use crate::sight::Sight;
-use crate::value::{relvar_value, selected};
+use crate::value::{relvar_value, selector_outcome};
 use std::alloc::Global;
 use td_body::body::Body;
 use td_tree::fault::Fault;
@@ -26,7 +26,7 @@ pub fn selected_in<B: Body>(
     name: &Name,
     values: Vec<Value>,
 ) -> Result<Value, Fault>
-    ensures { Answers (λ v. v) result (selected (world_in env.now) name.now values.items) }
+    ensures { Answers (λ v. v) result (selector_outcome (world_in env.now) name.now values.items) }
 {
-    selected(&Sight::of_env(alloc, env), name, values)
+    selector_outcome(&Sight::of_env(alloc, env), name, values)
 }

@@ -16,7 +16,7 @@ use td_value::tuple::Tuple;
 use td_value::value::Value;
 
 /// The tuples again, in a list that may grow.
-pub(crate) fn copied(alloc: Global, tuples: &[Tuple]) -> Result<Vec<Tuple>, AllocError>
+pub(crate) fn copies_of(alloc: Global, tuples: &[Tuple]) -> Result<Vec<Tuple>, AllocError>
     ensures { IfOk result (λ copy. copy.items ≡ tuples.now) }
 {
     let mut copy = Vec::with_capacity(alloc, tuples.len() + 1)?;
@@ -27,7 +27,7 @@ pub(crate) fn copied(alloc: Global, tuples: &[Tuple]) -> Result<Vec<Tuple>, Allo
 }
 
 /// The tuples themselves, in a list of their own.
-pub(crate) fn shared(alloc: Global, tuples: &[&Tuple]) -> Result<Vec<Tuple>, AllocError>
+pub(crate) fn copies_of_lent(alloc: Global, tuples: &[&Tuple]) -> Result<Vec<Tuple>, AllocError>
     ensures { IfOk result (λ copy. copy.items ≡ map (λ t. t.now) tuples.now) }
 {
     let mut copy = Vec::with_capacity(alloc, tuples.len())?;
@@ -46,7 +46,7 @@ pub fn truth_of(answer: Result<Value, Fault>) -> Result<bool, Fault>
 }
 
 /// The value that was answered, which is of the type.
-pub fn typed(ty: &Ty, answer: Result<Value, Fault>) -> Result<Value, Fault>
+pub fn value_of_its_type(ty: &Ty, answer: Result<Value, Fault>) -> Result<Value, Fault>
     ensures { (o : Outcome Val) → Answers (λ v. v) answer o
         → Answers (λ v. v) result (with_value o (value_of_type (type_view ty.now))) }
 {
@@ -54,7 +54,7 @@ pub fn typed(ty: &Ty, answer: Result<Value, Fault>) -> Result<Value, Fault>
 }
 
 /// The name with the value that was answered.
-pub fn named(name: &Name, answer: Result<Value, Fault>) -> Result<(Name, Value), Fault>
+pub fn named_value(name: &Name, answer: Result<Value, Fault>) -> Result<(Name, Value), Fault>
     ensures { (o : Outcome Val) → Answers (λ v. v) answer o
         → Answers {A = List ℕ × Val} (λ e. e) result
         (with_value o (λ v. Valued (name.now, v))) }

@@ -16,7 +16,7 @@ ghost use Rattle.td_eval.specs.TreeValues.{argument_values, entry_values, items_
 ghost use Rattle.td_eval.specs.TreeValues.{value_of, values_in_tuples};
 ghost use Rattle.td_eval.specs.ValueLaws.{IsChecked};
 ghost use Rattle.td_eval.specs.ValueTypes.{AnswersType, KeepsScope};
-ghost use Rattle.td_eval.specs.Worlds.{known_outcome, name_value, selected, with_tuples};
+ghost use Rattle.td_eval.specs.Worlds.{known_outcome, name_value, selector_outcome, with_tuples};
 ghost use Rattle.td_tree.specs.Outcomes.{Answers, gathered};
 ghost use Rattle.td_tree.specs.code.TreeViews.{named_view, summaries_view, tree_view, trees_view};
 ghost use Rattle.td_tree.specs.Trees.{choice};
@@ -24,19 +24,19 @@ ghost use Rattle.td_types.specs.code.Views.{pairs_view, type_view};
 
 use crate::env::Env;
 use crate::extension::{extension_by, new_attributes};
-use crate::operators::aggregates::{aggregated, terms};
+use crate::operators::aggregates::{value_of_aggregate, terms};
 use crate::operators::asked::{attribute, have_types, relation_in, truth};
-use crate::operators::between::operated;
-use crate::operators::comparisons::compared;
-use crate::operators::elements::{headed, listed_value, tuple_from};
+use crate::operators::between::value_of_operator;
+use crate::operators::comparisons::value_of_comparison;
+use crate::operators::elements::{value_of_headed, listed_value, tuple_from};
 use crate::operators::literals::literal_value;
 use crate::operators::operand::{component_value, extracted_value, measure_value, prefix_value};
 use crate::operators::postfix::{postfix_value, projected_by};
 use crate::operators::relational::relations;
-use crate::operators::selectors::{component_tuple, constructed};
-use crate::operators::summaries::{grouped, summarized, with_aggregate};
-use crate::operators::tuplewise::restricted;
-use crate::rows::{copied, named, named_column, shared, truth_of, typed};
+use crate::operators::selectors::{component_tuple, user_value};
+use crate::operators::summaries::{groups_by_per, extended_per, with_aggregate};
+use crate::operators::tuplewise::restriction_value;
+use crate::rows::{copies_of, named_value, named_column, copies_of_lent, truth_of, value_of_its_type};
 use crate::sight::Sight;
 use std::alloc::Global;
 use td_algebra::extension::Column;
@@ -104,14 +104,14 @@ fn value_of<B: Body>(sight: &Sight<'_, B>, tuples: &[Tuple], expr: &Expr) -> Res
         }
         Expr::Binary(left, op, right) => {
             let first = value_of(sight, tuples, left);
-            operated(alloc, *op, first, value_of(sight, tuples, right))
+            value_of_operator(alloc, *op, first, value_of(sight, tuples, right))
         }
         Expr::Compare(left, op, right) => {
             let first = value_of(sight, tuples, left);
-            compared(alloc, *op, first, value_of(sight, tuples, right))
+            value_of_comparison(alloc, *op, first, value_of(sight, tuples, right))
         }
         Expr::Postfix(operand, op) => postfix_value(alloc, op, &value_of(sight, tuples, operand)?),
-        Expr::Select(ty, arguments) => selected(sight, ty, values_of(sight, tuples, arguments)?),
+        Expr::Select(ty, arguments) => selector_outcome(sight, ty, values_of(sight, tuples, arguments)?),
         Expr::Component(name, operand) => {
             component_value(sight.types, name, &value_of(sight, tuples, operand)?)
         }
@@ -119,7 +119,7 @@ fn value_of<B: Body>(sight: &Sight<'_, B>, tuples: &[Tuple], expr: &Expr) -> Res
         Expr::Relation(elements) => listed_value(alloc, values_of(sight, tuples, elements)?),
         Expr::HeadedRelation(heading, elements) => {
             let elements = values_of(sight, tuples, elements);
-            headed(alloc, resolve_heading(sight.types, heading), elements)
+            value_of_headed(alloc, resolve_heading(sight.types, heading), elements)
         }
         Expr::Tuple(parts) => tuple_from(alloc, entries(sight, tuples, parts)?),
         Expr::Extend(operand, parts) => {
@@ -207,7 +207,7 @@ fn entries<B: Body>(
     let mut causes = Gathering::new();
     let mut entries = Vec::with_capacity(sight.alloc, parts.len())?;
     for part in parts {
-        let entry = named(&part.name, value_of(sight, tuples, &part.value));
+        let entry = named_value(&part.name, value_of(sight, tuples, &part.value));
         causes.collect(&mut entries, entry)?;
     }
     causes.finish(entries)
@@ -215,13 +215,13 @@ fn entries<B: Body>(
 
 /// What the selector of the name gives of components.
 #[cycle(value)]
-pub(crate) fn selected<B: Body>(
+pub(crate) fn selector_outcome<B: Body>(
     sight: &Sight<'_, B>,
     name: &Name,
     values: Vec<Value>,
 ) -> Result<Value, Fault>
     requires { IsSight sight.now }
-    ensures { Answers (λ v. v) result (selected (seen_by sight.now) name.now values.items) }
+    ensures { Answers (λ v. v) result (selector_outcome (seen_by sight.now) name.now values.items) }
 {
     let Some(place) = sight.selector(name) else {
         return Err(Fault::Refused(Cause::NameUnknown));
@@ -233,7 +233,7 @@ pub(crate) fn selected<B: Body>(
         return Err(Fault::Refused(Cause::TypeMismatch));
     }
     let holds = meets_constraint(sight, place, entry, &values);
-    constructed(sight.alloc, name, values, holds)
+    user_value(sight.alloc, name, values, holds)
 }
 
 /// Whether components meet the constraint of the type at a place, which sees them alone and the
@@ -292,7 +292,7 @@ pub(crate) fn truths<B: Body>(
         operand.now.body)) }
 {
     let mut causes = Gathering::new();
-    let mut inner = copied(sight.alloc, tuples)?;
+    let mut inner = copies_of(sight.alloc, tuples)?;
     let rows = operand.rows();
     let mut truths = Vec::with_capacity(sight.alloc, rows.len())?;
     for row in rows {
@@ -315,7 +315,7 @@ fn restriction<B: Body>(
         value_of (seen_by sight.now) (t ∷ reverse tuples.now) (tree_view condition.now)))) }
 {
     let rel = relation_in(operand)?;
-    restricted(sight.alloc, rel, truths(sight, tuples, rel, condition))
+    restriction_value(sight.alloc, rel, truths(sight, tuples, rel, condition))
 }
 
 /// The values of an expression in the tuples of a relation, which are of a type.
@@ -333,11 +333,11 @@ fn column<B: Body>(
         operand.now.body) }
 {
     let mut causes = Gathering::new();
-    let mut inner = copied(sight.alloc, tuples)?;
+    let mut inner = copies_of(sight.alloc, tuples)?;
     let rows = operand.rows();
     let mut values = Vec::with_capacity(sight.alloc, rows.len())?;
     for row in rows {
-        let value = typed(ty, value_in_row(sight, &mut inner, row, expr));
+        let value = value_of_its_type(ty, value_in_row(sight, &mut inner, row, expr));
         causes.collect(&mut values, value)?;
     }
     causes.finish(values)
@@ -403,7 +403,7 @@ fn values_in_rows<B: Body>(
         operand.now.body)) }
 {
     let mut causes = Gathering::new();
-    let mut inner = copied(sight.alloc, tuples)?;
+    let mut inner = copies_of(sight.alloc, tuples)?;
     let rows = operand.rows();
     let mut values = Vec::with_capacity(sight.alloc, rows.len())?;
     for row in rows {
@@ -428,7 +428,7 @@ fn aggregation<B: Body>(
         value_of (seen_by sight.now) (t ∷ reverse tuples.now) (tree_view expr.now)))) }
 {
     let rel = relation_in(operand)?;
-    aggregated(op, values_in_rows(sight, tuples, rel, expr))
+    value_of_aggregate(op, values_in_rows(sight, tuples, rel, expr))
 }
 
 /// What an item of SUMMARIZE is of in the tuples of a group.
@@ -510,9 +510,9 @@ fn summary<B: Body>(
         operand.now per.now) }
 {
     let (rel, per) = relations(operand, per)?;
-    let groups = grouped(sight.alloc, rel, per)?;
+    let groups = groups_by_per(sight.alloc, rel, per)?;
     let totals = totals(sight, tuples, &groups, items)?;
-    summarized(sight, tuples, rel, per, items, &totals)
+    extended_per(sight, tuples, rel, per, items, &totals)
 }
 
 /// The value of the expression in what it is evaluated in, or the least of the causes for which it
@@ -526,5 +526,5 @@ pub fn eval<B: Body>(alloc: Global, env: &Env<'_, B>, expr: &Expr) -> Result<Val
         → AnswersType scope.types is.typed.0 result }
 {
     let sight = Sight::of_env(alloc, env);
-    value_of(&sight, &shared(alloc, env.tuples)?, expr)
+    value_of(&sight, &copies_of_lent(alloc, env.tuples)?, expr)
 }

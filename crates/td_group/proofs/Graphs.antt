@@ -12,7 +12,7 @@ use Rattle.td_value.specs.Sets.{has}
 use Rattle.td_value.specs.Values.{Val, value_cmp}
 use Rattle.td_value.specs.ValueOrder.{order_total, value_Decides}
 use Rattle.td_algebra.proofs.Lists.{contains_cases, contains_first, contains_later, contains_none}
-use Rattle.td_group.specs.code.Successors.{AreReached, Leads, added, all_added}
+use Rattle.td_group.specs.code.Successors.{AreReached, Leads, with_value_added, all_added}
 
 -- a list contains what the test finds, and the test finds what a list contains
 pub value_there : (v : Val) (vs : List Val) → has value_cmp v vs ≡ true → Contains vs v
@@ -45,7 +45,7 @@ has-again q v found there = by_test (eq_by_cmp value_cmp q v) refl
     by_test true e = ap (λ u. has value_cmp u found) ((value_Decides q v).0 e) ∙ there
     by_test false e = refl
 
-pub has-added : (q v : Val) (found : List Val) → has value_cmp q (added found v) ≡ (eq_by_cmp value_cmp q v || has value_cmp q found)
+pub has-added : (q v : Val) (found : List Val) → has value_cmp q (with_value_added found v) ≡ (eq_by_cmp value_cmp q v || has value_cmp q found)
 has-added q v found = by_test (has value_cmp v found) refl
   where
     by_test : (b : Bool) → has value_cmp v found ≡ b → has value_cmp q (if b then found else found ++ v ∷ []) ≡ (eq_by_cmp value_cmp q v || has value_cmp q found)
@@ -53,21 +53,21 @@ has-added q v found = by_test (has value_cmp v found) refl
     by_test false e = has-pushed q v found
 
 -- what was there, and the value, and nothing else
-added_keeps : (found : List Val) (v q : Val) → Contains found q → Contains (added found v) q
+added_keeps : (found : List Val) (v q : Val) → Contains found q → Contains (with_value_added found v) q
 added_keeps found v q c = by_test (has value_cmp v found)
   where
     by_test : (b : Bool) → Contains (if b then found else found ++ v ∷ []) q
     by_test true = c
     by_test false = Contains-append_left found (v ∷ []) q c
 
-added_has : (found : List Val) (v : Val) → Contains (added found v) v
+added_has : (found : List Val) (v : Val) → Contains (with_value_added found v) v
 added_has found v = by_test (has value_cmp v found) refl
   where
     by_test : (b : Bool) → has value_cmp v found ≡ b → Contains (if b then found else found ++ v ∷ []) v
     by_test true e = value_there v found e
     by_test false e = Contains-append_right found (v ∷ []) v (contains_first v [])
 
-added_only : (found : List Val) (v q : Val) → Contains (added found v) q → Contains found q ⊎ (v ≡ q)
+added_only : (found : List Val) (v q : Val) → Contains (with_value_added found v) q → Contains found q ⊎ (v ≡ q)
 added_only found v q c = by_test (has value_cmp v found) c
   where
     single : (v ≡ q) ⊎ Contains [] q → Contains found q ⊎ (v ≡ q)
@@ -82,7 +82,7 @@ added_only found v q c = by_test (has value_cmp v found) c
     by_test true d = inl d
     by_test false d = by_case (Contains-append_cases found (v ∷ []) q d)
 
-added_longer : (found : List Val) (v : Val) → (rest : List Val) × (added found v ≡ found ++ rest)
+added_longer : (found : List Val) (v : Val) → (rest : List Val) × (with_value_added found v ≡ found ++ rest)
 added_longer found v = by_test (has value_cmp v found)
   where
     by_test : (b : Bool) → (rest : List Val) × ((if b then found else found ++ v ∷ []) ≡ found ++ rest)
@@ -93,25 +93,25 @@ added_longer found v = by_test (has value_cmp v found)
 
 pub all_keep : (found vs : List Val) (q : Val) → Contains found q → Contains (all_added found vs) q
 all_keep found [] q c = c
-all_keep found (v ∷ vs) q c = all_keep (added found v) vs q (added_keeps found v q c)
+all_keep found (v ∷ vs) q c = all_keep (with_value_added found v) vs q (added_keeps found v q c)
 
 pub all_there : (found vs : List Val) (q : Val) → Contains vs q → Contains (all_added found vs) q
 all_there found [] q c = absurd (contains_none q c)
-all_there found (v ∷ vs) q c = by_case (all_there (added found v) vs q) (contains_cases v vs q c)
+all_there found (v ∷ vs) q c = by_case (all_there (with_value_added found v) vs q) (contains_cases v vs q c)
   where
-    by_case : (Contains vs q → Contains (all_added (added found v) vs) q) → (v ≡ q) ⊎ Contains vs q → Contains (all_added (added found v) vs) q
-    by_case rest (inl is) = all_keep (added found v) vs q (subst (Contains (added found v)) is (added_has found v))
+    by_case : (Contains vs q → Contains (all_added (with_value_added found v) vs) q) → (v ≡ q) ⊎ Contains vs q → Contains (all_added (with_value_added found v) vs) q
+    by_case rest (inl is) = all_keep (with_value_added found v) vs q (subst (Contains (with_value_added found v)) is (added_has found v))
     by_case rest (inr d) = rest d
 
 pub all_only : (found vs : List Val) (q : Val) → Contains (all_added found vs) q → Contains found q ⊎ Contains vs q
 all_only found [] q c = inl c
-all_only found (v ∷ vs) q c = by_case (all_only (added found v) vs q c)
+all_only found (v ∷ vs) q c = by_case (all_only (with_value_added found v) vs q c)
   where
     first : Contains found q ⊎ (v ≡ q) → Contains found q ⊎ Contains (v ∷ vs) q
     first (inl d) = inl d
     first (inr is) = inr (subst (Contains (v ∷ vs)) is (contains_first v vs))
 
-    by_case : Contains (added found v) q ⊎ Contains vs q → Contains found q ⊎ Contains (v ∷ vs) q
+    by_case : Contains (with_value_added found v) q ⊎ Contains vs q → Contains found q ⊎ Contains (v ∷ vs) q
     by_case (inl d) = first (added_only found v q d)
     by_case (inr d) = inr (contains_later v vs q d)
 
@@ -119,16 +119,16 @@ all_longer : (found vs : List Val) → (rest : List Val) × (all_added found vs 
 all_longer found [] = ([], sym (append-nil found))
 all_longer found (v ∷ vs) =
     let one = added_longer found v in
-    let more = all_longer (added found v) vs in
+    let more = all_longer (with_value_added found v) vs in
     (one.0 ++ more.0, more.1 ∙ ap (λ xs. xs ++ more.0) one.1 ∙ append_assoc found one.0 more.0)
 
 -- one value more of those that a loop has passed
-pub all_more : (found vs : List Val) (k : ℕ) (v : Val) → k < length vs → v ≡ get_or vs k v → all_added found (take (k + 1) vs) ≡ added (all_added found (take k vs)) v
+pub all_more : (found vs : List Val) (k : ℕ) (v : Val) → k < length vs → v ≡ get_or vs k v → all_added found (take (k + 1) vs) ≡ with_value_added (all_added found (take k vs)) v
 all_more found vs k v l is = ap (all_added found) (take_more vs k v l ∙ ap (λ u. take k vs ++ u ∷ []) (sym is)) ∙ at_end found (take k vs)
   where
-    at_end : (fs ws : List Val) → all_added fs (ws ++ v ∷ []) ≡ added (all_added fs ws) v
+    at_end : (fs ws : List Val) → all_added fs (ws ++ v ∷ []) ≡ with_value_added (all_added fs ws) v
     at_end fs [] = refl
-    at_end fs (w ∷ ws) = at_end (added fs w) ws
+    at_end fs (w ∷ ws) = at_end (with_value_added fs w) ws
 
 -- ---- how many are left
 
@@ -173,7 +173,7 @@ pub all_bounded : (found vs all : List Val) → ((q : Val) → Contains vs q →
     → length (all_added found vs) + left_of (all_added found vs) all ≤ length all
 all_bounded found [] all within low = low
 all_bounded found (v ∷ vs) all within low =
-    all_bounded (added found v) vs all (λ q c. within q (contains_later v vs q c)) (by_test (has value_cmp v found) refl)
+    all_bounded (with_value_added found v) vs all (λ q c. within q (contains_later v vs q c)) (by_test (has value_cmp v found) refl)
   where
     by_test : (b : Bool) → has value_cmp v found ≡ b → length (if b then found else found ++ v ∷ []) + left_of (if b then found else found ++ v ∷ []) all ≤ length all
     by_test true e = low

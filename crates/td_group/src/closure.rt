@@ -6,7 +6,7 @@ ghost use Rattle.std.specs.Ordering.{eq_by_cmp};
 ghost use Rattle.td_group.specs.Closure.{closure};
 ghost use Rattle.td_group.specs.code.Successors.{AreReached, AreSeen, AreSuccessors};
 ghost use Rattle.td_group.specs.code.Successors.{HaveSameValues};
-ghost use Rattle.td_group.specs.code.Successors.{ArePairsFrom, added, all_added, led_to, ends_of};
+ghost use Rattle.td_group.specs.code.Successors.{ArePairsFrom, with_value_added, all_added, led_to, ends_of};
 ghost use Rattle.td_group.specs.code.Successors.{pair_of, start_of, starts_in, successors_at};
 ghost use Rattle.td_types.specs.Headings.{is_closable};
 ghost use Rattle.td_value.specs.Values.{Tuple, Val, value_cmp};
@@ -82,7 +82,7 @@ fn put_unseen<'a>(
 ) -> Result<(), AllocError>
     requires { AreSeen seen.old (map (λ v. v.now) found.old.items) }
     ensures found { OnOk result (map (λ v. v.now) found.new.items
-        ≡ added (map (λ v. v.now) found.old.items) value.now) }
+        ≡ with_value_added (map (λ v. v.now) found.old.items) value.now) }
     ensures seen { OnOk result (AreSeen seen.new (map (λ v. v.now) found.new.items)) }
 {
     if seen.insert(value.try_clone()?)? {
@@ -127,7 +127,7 @@ fn put_successors<'a>(
 }
 
 /// The values that the start leads to, each once.
-fn reached<'a>(
+fn values_reached<'a>(
     alloc: Global,
     table: &HashMap<Value, Vec<&'a Value>>,
     start: &Value,
@@ -193,7 +193,7 @@ fn pairs_from(
             alloc,
             names,
             start,
-            &reached(alloc, table, start)?,
+            &values_reached(alloc, table, start)?,
             &mut pairs,
         )?;
     }

@@ -10,7 +10,7 @@ use crate::groups::{attribute_names, groups_on};
 use std::alloc::{AllocError, Global};
 use td_algebra::extension::{Column, extend};
 use td_algebra::projection::project;
-use td_tree::fault::unrefused;
+use td_tree::fault::without_refusal;
 use td_tree::name::Name;
 use td_types::ty::Ty;
 use td_value::relation::Rel;
@@ -43,7 +43,7 @@ pub fn group(alloc: Global, rel: &Rel, names: &[Name], name: Name) -> Result<Rel
 {
     let heading = rel.heading();
     heading.reveal();
-    let part = unrefused(heading.project(names))?;
+    let part = without_refusal(heading.project(names))?;
     let rest = heading.lacking(&part)?;
     let keys = project(alloc, rel, &attribute_names(&rest)?)?;
     let groups = groups_on(alloc, &rest, rel, &keys)?;

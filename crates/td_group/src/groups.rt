@@ -9,7 +9,7 @@ ghost use Rattle.td_value.specs.code.Views.{relation_view, values_of};
 
 use std::alloc::{AllocError, Global};
 use td_algebra::lookup::{Lookup, common_places};
-use td_tree::fault::unrefused;
+use td_tree::fault::without_refusal;
 use td_tree::name::Name;
 use td_types::heading::Heading;
 use td_value::relation::Rel;
@@ -87,6 +87,6 @@ pub fn groups(alloc: Global, rel: &Rel, per: &Rel) -> Result<Vec<(Tuple, Rel)>, 
     ensures { IfOk result (λ found. found.items ≡ groups rel.now per.now) }
 {
     per.heading().reveal();
-    let common = unrefused(per.heading().common(rel.heading()))?;
+    let common = without_refusal(per.heading().common(rel.heading()))?;
     groups_on(alloc, &common, rel, per)
 }

@@ -4,7 +4,7 @@ ghost use Rattle.td_group.specs.Nesting.{HaveNoCommonName};
 ghost use Rattle.td_value.specs.Values.{tuple_of};
 
 use std::alloc::{AllocError, Global};
-use td_tree::fault::unrefused;
+use td_tree::fault::without_refusal;
 use td_tree::name::Name;
 use td_value::tuple::Tuple;
 use td_value::value::Value;
@@ -23,12 +23,12 @@ fn put_entries(entries: &mut Vec<(Name, Value)>, tuple: &Tuple) -> Result<(), Al
 }
 
 /// The tuple of the entries of both, which have no common name.
-pub(crate) fn joined(alloc: Global, first: &Tuple, second: &Tuple) -> Result<Tuple, AllocError>
+pub(crate) fn joined_tuple(alloc: Global, first: &Tuple, second: &Tuple) -> Result<Tuple, AllocError>
     requires { HaveNoCommonName first.now second.now }
     ensures { IfOk result (λ t. t ≡ tuple_of (first.now ++ second.now)) }
 {
     let mut entries = Vec::with_capacity(alloc, 1)?;
     put_entries(&mut entries, first)?;
     put_entries(&mut entries, second)?;
-    unrefused(Tuple::new(alloc, entries))
+    without_refusal(Tuple::new(alloc, entries))
 }

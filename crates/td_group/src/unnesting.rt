@@ -9,9 +9,9 @@ ghost use Rattle.td_types.specs.Types.{type_at};
 ghost use Rattle.td_value.specs.Values.{projected_tuple, tuple_of, value_at};
 
 use crate::groups::attribute_names;
-use crate::tuples::joined;
+use crate::tuples::joined_tuple;
 use std::alloc::{AllocError, Global};
-use td_tree::fault::unrefused;
+use td_tree::fault::without_refusal;
 use td_tree::name::Name;
 use td_types::heading::Heading;
 use td_types::ty::Ty;
@@ -42,7 +42,7 @@ fn put_joined(
         ≡ rows.old.items ++ map (λ x. tuple_of (rest.now ++ x)) tuples.now) }
 {
     for tuple in tuples {
-        rows.push(joined(alloc, rest, tuple)?)?;
+        rows.push(joined_tuple(alloc, rest, tuple)?)?;
     }
     Ok(())
 }
@@ -59,7 +59,7 @@ fn put_inside(
         ++ map (λ x. tuple_of (rest.now ++ x)) (tuples_inside (Some value.now))) }
 {
     match &value.node {
-        Node::Tup(tuple) => Ok(rows.push(joined(alloc, rest, tuple)?)?),
+        Node::Tup(tuple) => Ok(rows.push(joined_tuple(alloc, rest, tuple)?)?),
         Node::Rel(inner) => put_joined(alloc, rest, inner.rows(), rows),
         _ => Ok(()),
     }
@@ -115,9 +115,9 @@ fn unnest(alloc: Global, rel: &Rel, name: &Name) -> Result<Rel, AllocError>
     let heading = rel.heading();
     heading.reveal();
     let inner = inner_heading(alloc, heading, name)?;
-    let rest = unrefused(heading.without(name))?;
+    let rest = without_refusal(heading.without(name))?;
     let rows = unnested_rows(alloc, rel.rows(), &attribute_names(&rest)?, name)?;
-    let heading = unrefused(rest.union(&inner))?;
+    let heading = without_refusal(rest.union(&inner))?;
     Rel::new(heading, rows)
 }
 

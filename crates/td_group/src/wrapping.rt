@@ -5,9 +5,9 @@ ghost use Rattle.td_group.specs.Nesting.{HaveNoCommonName, can_nest, wrapped_rel
 ghost use Rattle.td_value.specs.Values.{projected_tuple, tuple_of, tuple_value};
 
 use crate::groups::attribute_names;
-use crate::tuples::joined;
+use crate::tuples::joined_tuple;
 use std::alloc::{AllocError, Global};
-use td_tree::fault::unrefused;
+use td_tree::fault::without_refusal;
 use td_tree::name::Name;
 use td_types::ty::Ty;
 use td_value::relation::Rel;
@@ -15,13 +15,13 @@ use td_value::tuple::Tuple;
 use td_value::value::Value;
 
 /// The tuple of the name alone, with the tuple as its value.
-fn named(alloc: Global, name: &Name, tuple: Tuple) -> Result<Tuple, AllocError>
+fn tuple_of_one(alloc: Global, name: &Name, tuple: Tuple) -> Result<Tuple, AllocError>
     ensures { IfOk result (λ t. t ≡ (name.now, tuple_value tuple) ∷ []) }
 {
     let value = Value::tuple(alloc, tuple)?;
     let mut entries = Vec::with_capacity(alloc, 1)?;
     entries.push((name.try_clone()?, value))?;
-    unrefused(Tuple::new(alloc, entries))
+    without_refusal(Tuple::new(alloc, entries))
 }
 
 /// The rows on the rest, each with the tuple of its named part.
@@ -39,8 +39,8 @@ fn wrapped_rows(
 {
     let mut wrapped = Vec::with_capacity(alloc, rows.len())?;
     for row in rows {
-        let part = named(alloc, name, row.project(names)?)?;
-        wrapped.push(joined(alloc, &row.project(rest)?, &part)?)?;
+        let part = tuple_of_one(alloc, name, row.project(names)?)?;
+        wrapped.push(joined_tuple(alloc, &row.project(rest)?, &part)?)?;
     }
     Ok(wrapped)
 }
@@ -53,10 +53,10 @@ pub fn wrap(alloc: Global, rel: &Rel, names: &[Name], name: Name) -> Result<Rel,
 {
     let heading = rel.heading();
     heading.reveal();
-    let part = unrefused(heading.project(names))?;
+    let part = without_refusal(heading.project(names))?;
     let rest = heading.lacking(&part)?;
     let rows = wrapped_rows(alloc, rel.rows(), &attribute_names(&rest)?, names, &name)?;
-    let heading = unrefused(rest.with(name, Ty::Tup(part)))?;
+    let heading = without_refusal(rest.with(name, Ty::Tup(part)))?;
     heading.reveal();
     Rel::new(heading, rows)
 }

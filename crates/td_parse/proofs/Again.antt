@@ -14,8 +14,8 @@ use Rattle.td_tree.specs.Grammar.{tighter, comparison_word, BeginsOtherwise, Pos
 use Rattle.td_tree.specs.Heights.{height}
 use Rattle.td_tree.specs.Lexemes.{Lexeme, keyword, sign}
 use Rattle.td_tree.specs.Lexemes as lexeme
-use Rattle.td_parse.specs.Reading.{Read, postfixes, postfixed, extracted, applied, prefixed, operations, chain, multiplicative, additive, relational, compared_to, compared, negated, conjunction, disjunction, restriction, by_level, read}
-use Rattle.td_parse.specs.ReadingOperators.{link_level, link_words, linked, link_at, prefix_at, extraction_at, postfix_at}
+use Rattle.td_parse.specs.Reading.{Read, postfixes, postfix_expression, extract_expression, prefix_expression, unary_expression, operations, chain, multiplicative, additive, relational, compared_to, comparison_expression, negation_expression, conjunction, disjunction, restriction, by_level, read}
+use Rattle.td_parse.specs.ReadingOperators.{link_level, link_words, linked_tree, link_at, prefix_at, extraction_at, postfix_at}
 use Rattle.td_parse.specs.ReadingSteps.{◌>>=◌, expect}
 use Rattle.td_tree.specs.Trees as tree
 use Rattle.td_tree.specs.Trees.{Text, Tree, Postfix}
@@ -168,15 +168,15 @@ unfolding by_level multiplicative
 multiplicative_chain d ts = refl
 
 negation_alone : (xs : List Lexeme) (t : Tree) → Begins levels.Comparison xs → Gets levels.Comparison (at levels.Comparison) xs t → Reads levels.Negation xs t
-unfolding by_level negated
+unfolding by_level negation_expression
 negation_alone xs t b r = record { gets = λ d s lt st. let e : expect (keyword k.Not) (xs ++ s) ≡ None = begins_no (keyword k.Not) false xs s refl b in rw e (r.gets d s lt st) }
 
 comparison_alone : (xs : List Lexeme) (t : Tree) → Gets levels.Relational (at levels.Relational) xs t → Reads levels.Comparison xs t
-unfolding by_level compared
+unfolding by_level comparison_expression
 comparison_alone xs t r = record { gets = λ d s lt st. rw (r.gets d s lt st.1, st.0) refl }
 
 prefixed_alone : (xs : List Lexeme) (t : Tree) → IsPlain xs → Gets levels.Postfixed (at levels.Postfixed) xs t → Reads levels.Prefixed xs t
-unfolding by_level prefixed
+unfolding by_level unary_expression
 prefixed_alone xs t p r = record {
   gets = λ d s lt st.
       let before : prefix_at (xs ++ s) ≡ None = p.no_prefix s in
@@ -185,7 +185,7 @@ prefixed_alone xs t p r = record {
 }
 
 postfixed_alone : (xs : List Lexeme) (t : Tree) → Gets levels.Primary (at levels.Primary) xs t → Reads levels.Postfixed xs t
-unfolding by_level postfixed
+unfolding by_level postfix_expression
 postfixed_alone xs t r = record { goes = λ d s lt st. (suc d, omega (arith, height_pos t), rw (r.gets d s lt st) refl) }
 
 pub alone : (level : Level) (xs : List Lexeme) (t : Tree) → Begins (tighter level) xs → Plain (tighter level) xs → Reads (tighter level) xs t → Reads level xs t
@@ -203,32 +203,32 @@ alone levels.Primary xs t b p r = r
 
 -- ---- operators
 
-linked_height : (a : Tree) (op : Link) (b : Tree) → height (linked a op b) ≡ max (height a) (height b) + 1
+linked_height : (a : Tree) (op : Link) (b : Tree) → height (linked_tree a op b) ≡ max (height a) (height b) + 1
 linked_height a links.Where b = refl
 linked_height a (links.Operator op) b = refl
 
-turn : (op : Link) (d k : ℕ) (a b : Tree) (ts s : List Lexeme) → read d (tighter (link_level op)) ts ≡ Some (b, s) → height (linked a op b) ≤ suc d
-    → operations (read d) d (link_level op) (suc k) a (link_words op ++ ts) ≡ operations (read d) d (link_level op) k (linked a op b) s
+turn : (op : Link) (d k : ℕ) (a b : Tree) (ts s : List Lexeme) → read d (tighter (link_level op)) ts ≡ Some (b, s) → height (linked_tree a op b) ≤ suc d
+    → operations (read d) d (link_level op) (suc k) a (link_words op ++ ts) ≡ operations (read d) d (link_level op) k (linked_tree a op b) s
 unfolding operations
 turn op d k a b ts s h lt = rw (is_link op ts, h, le-leb _ _ lt) refl
 
-longer : (op : Link) (xs ys : List Lexeme) (a b : Tree) → Chained (link_level op) xs a → Again (tighter (link_level op)) ys b → Chained (link_level op) (xs ++ (link_words op ++ ys)) (linked a op b)
+longer : (op : Link) (xs ys : List Lexeme) (a b : Tree) → Chained (link_level op) xs a → Again (tighter (link_level op)) ys b → Chained (link_level op) (xs ++ (link_words op ++ ys)) (linked_tree a op b)
 longer op xs ys a b go r = record {
   goes = λ d s lt st.
       let high = linked_height a op b in
       let g = go.goes d (link_words op ++ (ys ++ s)) (omega (arith, high)) (link_stops op (ys ++ s)) in
       let regroup : (xs ++ (link_words op ++ ys)) ++ s ≡ xs ++ (link_words op ++ (ys ++ s)) = append_assoc xs (link_words op ++ ys) s ∙ ap (λ (x : List Lexeme). xs ++ x) (append_assoc (link_words op) ys s) in
       elim g.0 as (λ k. suc d < k + height a → at (link_level op) d (xs ++ (link_words op ++ (ys ++ s))) ≡ loop_at (link_level op) d k a (link_words op ++ (ys ++ s))
-      → (k : ℕ) × (suc d < k + height (linked a op b)) × (at (link_level op) d ((xs ++ (link_words op ++ ys)) ++ s) ≡ loop_at (link_level op) d k (linked a op b) s)) [
+      → (k : ℕ) × (suc d < k + height (linked_tree a op b)) × (at (link_level op) d ((xs ++ (link_words op ++ ys)) ++ s) ≡ loop_at (link_level op) d k (linked_tree a op b) s)) [
         | zero ↦ λ l e. absurd (omega arith)
         | suc k ↦ λ l e. (k, omega (arith, high), ap (at (link_level op) d) regroup ∙ (e ∙ turn op d k a b (ys ++ s) s (r.reads d s (omega (arith, high)) st) lt))
       ] g.1 g.2;
 }
 
-between_chained : (op : Link) (xs ys : List Lexeme) (a b : Tree) → Chained (link_level op) xs a → Reads (tighter (link_level op)) ys b → Chained (link_level op) (xs ++ (link_words op ++ ys)) (linked a op b)
+between_chained : (op : Link) (xs ys : List Lexeme) (a b : Tree) → Chained (link_level op) xs a → Reads (tighter (link_level op)) ys b → Chained (link_level op) (xs ++ (link_words op ++ ys)) (linked_tree a op b)
 between_chained op xs ys a b p q = longer op xs ys a b p (again_from (tighter (link_level op)) ys b q)
 
-pub link_reads : (op : Link) (xs ys : List Lexeme) (a b : Tree) → Reads (link_level op) xs a → Reads (tighter (link_level op)) ys b → Reads (link_level op) (xs ++ (link_words op ++ ys)) (linked a op b)
+pub link_reads : (op : Link) (xs ys : List Lexeme) (a b : Tree) → Reads (link_level op) xs a → Reads (tighter (link_level op)) ys b → Reads (link_level op) (xs ++ (link_words op ++ ys)) (linked_tree a op b)
 link_reads links.Where xs ys a b p q = between_chained links.Where xs ys a b p q
 link_reads (links.Operator operators.Or) xs ys a b p q = between_chained (links.Operator operators.Or) xs ys a b p q
 link_reads (links.Operator operators.And) xs ys a b p q = between_chained (links.Operator operators.And) xs ys a b p q
@@ -247,7 +247,7 @@ link_reads (links.Operator operators.Multiply) xs ys a b p q = between_chained (
 link_reads (links.Operator operators.Divide) xs ys a b p q = between_chained (links.Operator operators.Divide) xs ys a b p q
 
 pub comparison_reads : (op : Comparison) (xs ys : List Lexeme) (a b : Tree) → Reads levels.Relational xs a → Reads levels.Relational ys b → Reads levels.Comparison (xs ++ (comparison_word op ∷ ys)) (tree.compare a op b)
-unfolding by_level compared compared_to
+unfolding by_level comparison_expression compared_to
 comparison_reads op xs ys a b p q = record {
   gets = λ d s lt st.
       let left = gets_at levels.Relational xs a p in
@@ -258,11 +258,11 @@ comparison_reads op xs ys a b p q = record {
 -- ---- before and after
 
 pub negation_reads : (xs : List Lexeme) (a : Tree) → Again levels.Negation xs a → Reads levels.Negation (keyword k.Not ∷ xs) (tree.prefix prefixes.Not a)
-unfolding by_level negated applied expect
+unfolding by_level negation_expression prefix_expression expect
 negation_reads xs a r = record { gets = λ d s lt st. rw (r.reads d s (omega arith) st) refl }
 
 pub minus_reads : (xs : List Lexeme) (a : Tree) → BeginsOtherwise xs → Begins levels.Prefixed xs → Again levels.Prefixed xs a → Reads levels.Prefixed (sign signs.Minus ∷ xs) (tree.prefix prefixes.Negate a)
-unfolding by_level prefixed prefix_at applied
+unfolding by_level unary_expression prefix_at prefix_expression
 minus_reads [] a h b r = absurd b
 minus_reads (lexeme.number n ∷ xs) a h b r = absurd h
 minus_reads (lexeme.name n ∷ xs) a h b r = record { gets = λ d s lt st. rw (r.reads d s (omega arith) st) refl }
@@ -273,15 +273,15 @@ minus_reads (sign w ∷ xs) a h b r = record { gets = λ d s lt st. rw (r.reads 
 minus_reads (lexeme.bad ∷ xs) a h b r = record { gets = λ d s lt st. rw (r.reads d s (omega arith) st) refl }
 
 pub closure_reads : (xs : List Lexeme) (a : Tree) → Again levels.Prefixed xs a → Reads levels.Prefixed (keyword k.Tclose ∷ xs) (tree.prefix prefixes.TransitiveClosure a)
-unfolding by_level prefixed prefix_at applied
+unfolding by_level unary_expression prefix_at prefix_expression
 closure_reads xs a r = record { gets = λ d s lt st. rw (r.reads d s (omega arith) st) refl }
 
 pub tuple_from_reads : (xs : List Lexeme) (a : Tree) → Again levels.Prefixed xs a → Reads levels.Prefixed (keyword k.Tuple ∷ (from ∷ xs)) (tree.prefix prefixes.TupleFrom a)
-unfolding by_level prefixed prefix_at applied expect
+unfolding by_level unary_expression prefix_at prefix_expression expect
 tuple_from_reads xs a r = record { gets = λ d s lt st. rw (r.reads d s (omega arith) st) refl }
 
 pub extraction_reads : (n : Text) (xs : List Lexeme) (a : Tree) → Again levels.Prefixed xs a → Reads levels.Prefixed (lexeme.name n ∷ (from ∷ xs)) (tree.extract n a)
-unfolding by_level prefixed prefix_at extraction_at extracted expect
+unfolding by_level unary_expression prefix_at extraction_at extract_expression expect
 extraction_reads n xs a r = record { gets = λ d s lt st. rw (r.reads d s (omega arith) st) refl }
 
 behind_turn : (d k : ℕ) (a : Tree) (xs : List Lexeme) (p : Postfix) (s : List Lexeme) → PostfixSpelling xs p → height (tree.postfix a p) ≤ suc d

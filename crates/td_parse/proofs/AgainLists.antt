@@ -3,7 +3,7 @@ use Rattle.std.proofs.Common.{◌≡◌, ℕ, zero, suc, ◌≤◌, List, [], �
 use Rattle.td_tree.specs.declared.token.Sign.TheVariants as signs
 use Rattle.td_tree.specs.Lexemes.{Lexeme, sign}
 use Rattle.td_tree.specs.Lists.{Separated, one_item, next_item}
-use Rattle.td_parse.specs.ReadingSteps.{ReadOf, expect, read_up_to, enclosed, separated_from, separated, listed_to}
+use Rattle.td_parse.specs.ReadingSteps.{ReadOf, expect, read_up_to, in_parentheses_read, separated_from, list_by_commas, listed_to}
 
 abbrev pub comma : Lexeme
 comma = sign signs.Comma
@@ -47,8 +47,8 @@ items_again item Follows follows again (next_item {xs} {ys} {a} {rest} p q) = ne
 
 -- with as many turns as there are lexemes
 pub separated_again : {A : Type 0} (item : List Lexeme → ReadOf A) (Follows : List Lexeme → Type 0) (xs : List Lexeme) (all : List A) → SeparatedAgain item Follows xs all
-    → (s : List Lexeme) → Follows s → expect comma s ≡ None → separated item (xs ++ s) ≡ Some (all, s)
-unfolding separated
+    → (s : List Lexeme) → Follows s → expect comma s ≡ None → list_by_commas item (xs ++ s) ≡ Some (all, s)
+unfolding list_by_commas
 separated_again item Follows xs all r s st e = r.reads (suc (length (xs ++ s))) [] s (omega (arith, r.many, length-append xs s)) st e
 
 -- what closes a list
@@ -57,7 +57,7 @@ pub record Closes (close : Lexeme) : Type 0 where
   pub no_comma : (s : List Lexeme) → expect comma (close ∷ s) ≡ None
 
 pub closed_again : {A : Type 0} (item : List Lexeme → ReadOf A) (Follows : List Lexeme → Type 0) (xs : List Lexeme) (all : List A) (close : Lexeme) → Closes close → SeparatedAgain item Follows xs all
-    → (s : List Lexeme) → Follows (close ∷ s) → read_up_to close (separated item) (xs ++ (close ∷ s)) ≡ Some (all, s)
+    → (s : List Lexeme) → Follows (close ∷ s) → read_up_to close (list_by_commas item) (xs ++ (close ∷ s)) ≡ Some (all, s)
 unfolding read_up_to
 closed_again item Follows xs all close c r s st = rw (separated_again item Follows xs all r (close ∷ s) st (c.no_comma s), c.is_close s) refl
 
@@ -88,14 +88,14 @@ up_to_again item Follows xs a close c r s st = rw (r.reads (close ∷ s) st, c s
 
 -- between parentheses
 pub enclosed_again : {A : Type 0} (item : List Lexeme → ReadOf A) (Follows : List Lexeme → Type 0) (xs : List Lexeme) (a : A) → ItemAgain item Follows xs a → (s : List Lexeme) → Follows (sign signs.CloseParenthesis ∷ s)
-    → enclosed item (sign signs.OpenParenthesis ∷ ((xs ++ (sign signs.CloseParenthesis ∷ [])) ++ s)) ≡ Some (a, s)
-unfolding enclosed expect
+    → in_parentheses_read item (sign signs.OpenParenthesis ∷ ((xs ++ (sign signs.CloseParenthesis ∷ [])) ++ s)) ≡ Some (a, s)
+unfolding in_parentheses_read expect
 enclosed_again item Follows xs a r s st = rw (append_assoc xs (sign signs.CloseParenthesis ∷ []) s, up_to_again item Follows xs a (sign signs.CloseParenthesis) parenthesis_closes.is_close r s st) refl
 
 -- items between parentheses
 pub enclosed_items_again : {A : Type 0} (item : List Lexeme → ReadOf A) (Follows : List Lexeme → Type 0) (xs : List Lexeme) (all : List A) → SeparatedAgain item Follows xs all → (s : List Lexeme) → Follows (sign signs.CloseParenthesis ∷ s)
-    → enclosed (separated item) (sign signs.OpenParenthesis ∷ ((xs ++ (sign signs.CloseParenthesis ∷ [])) ++ s)) ≡ Some (all, s)
-unfolding enclosed expect
+    → in_parentheses_read (list_by_commas item) (sign signs.OpenParenthesis ∷ ((xs ++ (sign signs.CloseParenthesis ∷ [])) ++ s)) ≡ Some (all, s)
+unfolding in_parentheses_read expect
 enclosed_items_again item Follows xs all r s st = rw (append_assoc xs (sign signs.CloseParenthesis ∷ []) s, closed_again item Follows xs all (sign signs.CloseParenthesis) parenthesis_closes r s st) refl
 
 -- how items begin

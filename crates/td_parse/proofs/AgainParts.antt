@@ -8,7 +8,7 @@ use Rattle.td_tree.specs.Grammar.{aggregate_word, loosest}
 use Rattle.td_tree.specs.Heights.{height, highest, highest_named, highest_summary}
 use Rattle.td_tree.specs.Lexemes.{Lexeme, keyword, sign}
 use Rattle.td_tree.specs.Lexemes as lexeme
-use Rattle.td_tree.specs.Lists.{parenthesized}
+use Rattle.td_tree.specs.Lists.{with_parentheses}
 use Rattle.td_parse.specs.Reading.{trees_from, named_from, SummaryItem, count_item, sum_item, summaries_from, part, addition, count_summary, sum_summary, summary_of_word, summary, read}
 use Rattle.td_parse.specs.ReadingSteps.{expect, read_name, read_as}
 use Rattle.td_tree.specs.Trees as tree
@@ -73,7 +73,7 @@ addition_item : (n : Text) (xs : List Lexeme) (a : Tree) (d : ℕ) → Again loo
 unfolding addition read_as read_name expect
 addition_item n xs a d r lt = record { reads = λ s st. rw (append_assoc xs (keyword k.As ∷ (lexeme.name n ∷ [])) s, r.reads d (keyword k.As ∷ (lexeme.name n ∷ s)) lt (as_stops (lexeme.name n ∷ s))) refl }
 
-count_item_again : (n : Text) (d : ℕ) → ItemAgain (summary (read d) d) Anything (keyword k.Count ∷ (parenthesized [] ++ (keyword k.As ∷ (lexeme.name n ∷ [])))) (count_item n)
+count_item_again : (n : Text) (d : ℕ) → ItemAgain (summary (read d) d) Anything (keyword k.Count ∷ (with_parentheses [] ++ (keyword k.As ∷ (lexeme.name n ∷ [])))) (count_item n)
 unfolding summary summary_of_word count_summary read_as read_name expect
 count_item_again n d = record { reads = λ s st. refl }
 
@@ -89,7 +89,7 @@ unfolding sum_summary read_as read_name expect
 sum_again op n xs a d r lt s = rw (enclosed_again (read d loosest) Ends xs a (expression_item xs a d r lt) (keyword k.As ∷ (lexeme.name n ∷ s)) (close_stops (keyword k.As ∷ (lexeme.name n ∷ s)))) refl
 
 sum_item_again : (op : Aggregate) (n : Text) (xs : List Lexeme) (a : Tree) (d : ℕ) → Again loosest xs a → height a ≤ d
-    → ItemAgain (summary (read d) d) Anything (keyword (aggregate_word op) ∷ (parenthesized xs ++ (keyword k.As ∷ (lexeme.name n ∷ [])))) (sum_item op a n)
+    → ItemAgain (summary (read d) d) Anything (keyword (aggregate_word op) ∷ (with_parentheses xs ++ (keyword k.As ∷ (lexeme.name n ∷ [])))) (sum_item op a n)
 sum_item_again op n xs a d r lt = record {
   reads = λ s st. rw (append_assoc (xs ++ (sign signs.CloseParenthesis ∷ [])) (keyword k.As ∷ (lexeme.name n ∷ [])) s, sum_word op d (sign signs.OpenParenthesis ∷ ((xs ++ (sign signs.CloseParenthesis ∷ [])) ++ (keyword k.As ∷ (lexeme.name n ∷ s))))) (sum_again op n xs a d r lt s);
 }
@@ -119,22 +119,22 @@ next_addition_reads n xs ys a all r h = record {
       (next_again (addition (read d) d) Anything (xs ++ (keyword k.As ∷ (lexeme.name n ∷ []))) ys (n, a) (named_items all) (λ s. tt) (addition_item n xs a d r (omega arith)) (h.reads d (omega arith)));
 }
 
-pub last_count_reads : (n : Text) → SummariesAgain (keyword k.Count ∷ (parenthesized [] ++ (keyword k.As ∷ (lexeme.name n ∷ [])))) (tree.counted n tree.no_summaries)
+pub last_count_reads : (n : Text) → SummariesAgain (keyword k.Count ∷ (with_parentheses [] ++ (keyword k.As ∷ (lexeme.name n ∷ [])))) (tree.counted n tree.no_summaries)
 last_count_reads n = record { reads = λ d lt. last_again (summary (read d) d) Anything _ (count_item n) (count_item_again n d) }
 
-pub next_count_reads : (n : Text) (ys : List Lexeme) (all : Summaries) → SummariesAgain ys all → SummariesAgain (keyword k.Count ∷ (parenthesized [] ++ (keyword k.As ∷ (lexeme.name n ∷ (comma ∷ ys))))) (tree.counted n all)
-next_count_reads n ys all h = record { reads = λ d lt. next_again (summary (read d) d) Anything (keyword k.Count ∷ (parenthesized [] ++ (keyword k.As ∷ (lexeme.name n ∷ [])))) ys (count_item n) (summary_items all) (λ s. tt) (count_item_again n d) (h.reads d lt) }
+pub next_count_reads : (n : Text) (ys : List Lexeme) (all : Summaries) → SummariesAgain ys all → SummariesAgain (keyword k.Count ∷ (with_parentheses [] ++ (keyword k.As ∷ (lexeme.name n ∷ (comma ∷ ys))))) (tree.counted n all)
+next_count_reads n ys all h = record { reads = λ d lt. next_again (summary (read d) d) Anything (keyword k.Count ∷ (with_parentheses [] ++ (keyword k.As ∷ (lexeme.name n ∷ [])))) ys (count_item n) (summary_items all) (λ s. tt) (count_item_again n d) (h.reads d lt) }
 
 pub last_sum_reads : (op : Aggregate) (n : Text) (xs : List Lexeme) (a : Tree) → Again loosest xs a
-    → SummariesAgain (keyword (aggregate_word op) ∷ (parenthesized xs ++ (keyword k.As ∷ (lexeme.name n ∷ [])))) (tree.summed op a n tree.no_summaries)
+    → SummariesAgain (keyword (aggregate_word op) ∷ (with_parentheses xs ++ (keyword k.As ∷ (lexeme.name n ∷ [])))) (tree.summed op a n tree.no_summaries)
 last_sum_reads op n xs a r = record { reads = λ d lt. last_again (summary (read d) d) Anything _ (sum_item op a n) (sum_item_again op n xs a d r (omega arith)) }
 
 pub next_sum_reads : (op : Aggregate) (n : Text) (xs ys : List Lexeme) (a : Tree) (all : Summaries) → Again loosest xs a → SummariesAgain ys all
-    → SummariesAgain (keyword (aggregate_word op) ∷ (parenthesized xs ++ (keyword k.As ∷ (lexeme.name n ∷ (comma ∷ ys))))) (tree.summed op a n all)
+    → SummariesAgain (keyword (aggregate_word op) ∷ (with_parentheses xs ++ (keyword k.As ∷ (lexeme.name n ∷ (comma ∷ ys))))) (tree.summed op a n all)
 next_sum_reads op n xs ys a all r h = record {
   reads = λ d lt.
       let regroup : ((xs ++ (sign signs.CloseParenthesis ∷ [])) ++ (keyword k.As ∷ (lexeme.name n ∷ []))) ++ (comma ∷ ys) ≡ (xs ++ (sign signs.CloseParenthesis ∷ [])) ++ (keyword k.As ∷ (lexeme.name n ∷ (comma ∷ ys)))
       = append_assoc (xs ++ (sign signs.CloseParenthesis ∷ [])) (keyword k.As ∷ (lexeme.name n ∷ [])) (comma ∷ ys) in
       subst (λ (l : List Lexeme). SeparatedAgain (summary (read d) d) Anything (keyword (aggregate_word op) ∷ (sign signs.OpenParenthesis ∷ l)) (summary_items (tree.summed op a n all))) regroup
-      (next_again (summary (read d) d) Anything (keyword (aggregate_word op) ∷ (parenthesized xs ++ (keyword k.As ∷ (lexeme.name n ∷ [])))) ys (sum_item op a n) (summary_items all) (λ s. tt) (sum_item_again op n xs a d r (omega arith)) (h.reads d (omega arith)));
+      (next_again (summary (read d) d) Anything (keyword (aggregate_word op) ∷ (with_parentheses xs ++ (keyword k.As ∷ (lexeme.name n ∷ [])))) ys (sum_item op a n) (summary_items all) (λ s. tt) (sum_item_again op n xs a d r (omega arith)) (h.reads d (omega arith)));
 }

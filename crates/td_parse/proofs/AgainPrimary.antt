@@ -12,12 +12,12 @@ use Rattle.td_tree.specs.Grammar.{measure_word, aggregate_word, AttributeListSpe
 use Rattle.td_tree.specs.Heights.{height, highest, highest_summary, type_height}
 use Rattle.td_tree.specs.Lexemes.{Lexeme, keyword, sign}
 use Rattle.td_tree.specs.Lexemes as lexeme
-use Rattle.td_tree.specs.Lists.{braced, parenthesized}
+use Rattle.td_tree.specs.Lists.{with_braces, with_parentheses}
 use Rattle.td_tree.specs.Numbers.{numeral_limit}
-use Rattle.td_parse.specs.Reading.{trees_from, named_from, summaries_from, numeral, negative, expression, part, addition, summary, summaries, named, component_of, measured, aggregated, headed_relation, elements, relation, tuple, extension, summary_per, summary_by, summarized, choice, primary_of_word, primary_of_sign, primary, by_level, read}
+use Rattle.td_parse.specs.Reading.{trees_from, named_from, summaries_from, numeral, negative, expression, part, addition, summary, summaries, name_expression, component_of, measure_expression, aggregate_expression, headed_relation, elements, relation, tuple, extension, summary_per, summary_by, summarize_expression, choice, primary_of_word, primary_of_sign, primary, by_level, read}
 use Rattle.td_parse.specs.Reading as reading
 use Rattle.td_parse.specs.ReadingOperators.{call_at}
-use Rattle.td_parse.specs.ReadingSteps.{expect, read_up_to, enclosed, listed_to}
+use Rattle.td_parse.specs.ReadingSteps.{expect, read_up_to, in_parentheses_read, listed_to}
 use Rattle.td_tree.specs.Trees as tree
 use Rattle.td_tree.specs.Trees.{Text, AttributeTrees, Attributes, Literal, Tree, Trees, NamedTrees, Summaries}
 use Rattle.td_parse.proofs.Again.{Again, Reads}
@@ -51,11 +51,11 @@ literal_reads dee_literal = record { gets = λ d s lt st. refl }
 literal_reads dum_literal = record { gets = λ d s lt st. refl }
 
 pub reference_reads : (n : Text) → Reads levels.Primary (lexeme.name n ∷ []) (tree.name n)
-unfolding by_level primary named
+unfolding by_level primary name_expression
 reference_reads n = record { gets = λ d s lt st. rw st.0 refl }
 
-pub empty_call_reads : (n : Text) → Reads levels.Primary (lexeme.name n ∷ parenthesized []) (tree.select n tree.none)
-unfolding by_level primary named call_at expect
+pub empty_call_reads : (n : Text) → Reads levels.Primary (lexeme.name n ∷ with_parentheses []) (tree.select n tree.none)
+unfolding by_level primary name_expression call_at expect
 empty_call_reads n = record { gets = λ d s lt st. rw (empty_again (read d loosest) close parenthesis_closes s) refl }
 
 -- a list up to what closes it
@@ -67,38 +67,38 @@ list_braced : (xs s : List Lexeme) (all : Trees) (d : ℕ) → ListAgain xs all 
 list_braced xs s all d r p lt =
     listed_again (read d loosest) Ends xs (tree_items all) close_brace brace_closes (r.reads d lt) s (close_brace_stops s) (begins_no close_brace true xs (close_brace ∷ s) refl (expressions_begin p))
 
-pub call_reads : (n : Text) (xs : List Lexeme) (all : Trees) → ListAgain xs all → ExpressionsSpelling xs all → Reads levels.Primary (lexeme.name n ∷ parenthesized xs) (tree.select n all)
-unfolding by_level primary named
+pub call_reads : (n : Text) (xs : List Lexeme) (all : Trees) → ListAgain xs all → ExpressionsSpelling xs all → Reads levels.Primary (lexeme.name n ∷ with_parentheses xs) (tree.select n all)
+unfolding by_level primary name_expression
 call_reads n xs all r p = record {
   gets = λ d s lt st. rw (append_assoc xs (close ∷ []) s, arguments_called p s, list_closed xs s all d r p (omega arith), trees_back all) refl;
 }
 
 -- ---- one or two expressions in parentheses
 
-one_enclosed : (xs s : List Lexeme) (a : Tree) (d : ℕ) → Again loosest xs a → height a ≤ d → enclosed (read d loosest) (sign signs.OpenParenthesis ∷ ((xs ++ (close ∷ [])) ++ s)) ≡ Some (a, s)
+one_enclosed : (xs s : List Lexeme) (a : Tree) (d : ℕ) → Again loosest xs a → height a ≤ d → in_parentheses_read (read d loosest) (sign signs.OpenParenthesis ∷ ((xs ++ (close ∷ [])) ++ s)) ≡ Some (a, s)
 one_enclosed xs s a d r lt = enclosed_again (read d loosest) Ends xs a (expression_item xs a d r lt) s (close_stops s)
 
 one_closed : (xs s : List Lexeme) (a : Tree) (d : ℕ) → Again loosest xs a → height a ≤ d → read_up_to close (read d loosest) (xs ++ (close ∷ s)) ≡ Some (a, s)
 one_closed xs s a d r lt = up_to_again (read d loosest) Ends xs a close parenthesis_closes.is_close (expression_item xs a d r lt) s (close_stops s)
 
-pub component_reads : (rest : Text) (xs : List Lexeme) (a : Tree) → Again loosest xs a → Reads levels.Primary (lexeme.component rest ∷ parenthesized xs) (tree.component rest a)
+pub component_reads : (rest : Text) (xs : List Lexeme) (a : Tree) → Again loosest xs a → Reads levels.Primary (lexeme.component rest ∷ with_parentheses xs) (tree.component rest a)
 unfolding by_level primary component_of
 component_reads rest xs a r = record { gets = λ d s lt st. rw (one_enclosed xs s a d r (omega arith)) refl }
 
-pub parentheses_reads : (xs : List Lexeme) (a : Tree) → Again loosest xs a → Reads levels.Primary (parenthesized xs) (tree.parentheses a)
-unfolding by_level primary primary_of_sign reading.parenthesized
+pub parentheses_reads : (xs : List Lexeme) (a : Tree) → Again loosest xs a → Reads levels.Primary (with_parentheses xs) (tree.parentheses a)
+unfolding by_level primary primary_of_sign reading.parenthesis_expression
 parentheses_reads xs a r = record { gets = λ d s lt st. rw (append_assoc xs (close ∷ []) s, one_closed xs s a d r (omega arith)) refl }
 
-measure_is : (op : Measure) (d : ℕ) (ts : List Lexeme) → primary (read d) d (keyword (measure_word op) ∷ ts) ≡ measured (read d) d op ts
+measure_is : (op : Measure) (d : ℕ) (ts : List Lexeme) → primary (read d) d (keyword (measure_word op) ∷ ts) ≡ measure_expression (read d) d op ts
 unfolding primary primary_of_word
 measure_is measures.Count d ts = refl
 measure_is measures.IsEmpty d ts = refl
 
-pub measure_reads : (op : Measure) (xs : List Lexeme) (a : Tree) → Again loosest xs a → Reads levels.Primary (keyword (measure_word op) ∷ parenthesized xs) (tree.measure op a)
-unfolding by_level measured
+pub measure_reads : (op : Measure) (xs : List Lexeme) (a : Tree) → Again loosest xs a → Reads levels.Primary (keyword (measure_word op) ∷ with_parentheses xs) (tree.measure op a)
+unfolding by_level measure_expression
 measure_reads op xs a r = record { gets = λ d s lt st. rw (measure_is op d (sign signs.OpenParenthesis ∷ ((xs ++ (close ∷ [])) ++ s)), one_enclosed xs s a d r (omega arith)) refl }
 
-aggregate_is : (op : Aggregate) (d : ℕ) (ts : List Lexeme) → primary (read d) d (keyword (aggregate_word op) ∷ ts) ≡ aggregated (read d) d op ts
+aggregate_is : (op : Aggregate) (d : ℕ) (ts : List Lexeme) → primary (read d) d (keyword (aggregate_word op) ∷ ts) ≡ aggregate_expression (read d) d op ts
 unfolding primary primary_of_word
 aggregate_is aggregates.Sum d ts = refl
 aggregate_is aggregates.Max d ts = refl
@@ -109,8 +109,8 @@ unfolding expect
 comma_is s = refl
 
 two_enclosed : (op : Aggregate) (xs ys s : List Lexeme) (a b : Tree) (d : ℕ) → Again loosest xs a → Again loosest ys b → height a ≤ d → height b ≤ d
-    → aggregated (read d) d op (sign signs.OpenParenthesis ∷ (((xs ++ (comma ∷ ys)) ++ (close ∷ [])) ++ s)) ≡ Some (tree.aggregate op a b, s)
-unfolding aggregated expect
+    → aggregate_expression (read d) d op (sign signs.OpenParenthesis ∷ (((xs ++ (comma ∷ ys)) ++ (close ∷ [])) ++ s)) ≡ Some (tree.aggregate op a b, s)
+unfolding aggregate_expression expect
 two_enclosed op xs ys s a b d p q la lb =
     let regroup : ((xs ++ (comma ∷ ys)) ++ (close ∷ [])) ++ s ≡ xs ++ (comma ∷ (ys ++ (close ∷ s))) = simp append_assoc in
     let first : read_up_to comma (read d loosest) (xs ++ (comma ∷ (ys ++ (close ∷ s)))) ≡ Some (a, ys ++ (close ∷ s))
@@ -118,7 +118,7 @@ two_enclosed op xs ys s a b d p q la lb =
     rw (regroup, first, one_closed ys s b d q lb) refl
 
 pub aggregate_reads : (op : Aggregate) (xs ys : List Lexeme) (a b : Tree) → Again loosest xs a → Again loosest ys b
-    → Reads levels.Primary (keyword (aggregate_word op) ∷ parenthesized (xs ++ (comma ∷ ys))) (tree.aggregate op a b)
+    → Reads levels.Primary (keyword (aggregate_word op) ∷ with_parentheses (xs ++ (comma ∷ ys))) (tree.aggregate op a b)
 unfolding by_level
 aggregate_reads op xs ys a b p q = record {
   gets = λ d s lt st. rw (aggregate_is op d (sign signs.OpenParenthesis ∷ (((xs ++ (comma ∷ ys)) ++ (close ∷ [])) ++ s))) (two_enclosed op xs ys s a b d p q (omega arith) (omega arith));
@@ -131,10 +131,10 @@ empty_headed : (hs : List Lexeme) (h : AttributeTrees) → HeadingSpelling hs h 
 unfolding headed_relation expect
 empty_headed hs h p d s lt = rw (relation_heading_again p d (open_brace ∷ (close_brace ∷ s)) lt, empty_again (read d loosest) close_brace brace_closes s) refl
 
-pub empty_headed_reads : (hs : List Lexeme) (h : AttributeTrees) → HeadingSpelling hs h → Reads levels.Primary (keyword k.Relation ∷ (hs ++ braced [])) (tree.headed_relation h tree.none)
+pub empty_headed_reads : (hs : List Lexeme) (h : AttributeTrees) → HeadingSpelling hs h → Reads levels.Primary (keyword k.Relation ∷ (hs ++ with_braces [])) (tree.headed_relation h tree.none)
 unfolding by_level primary primary_of_word relation
 empty_headed_reads hs h p = record {
-  gets = λ d s lt st. rw (append_assoc hs (braced []) s, heading_is p (open_brace ∷ (close_brace ∷ s))) (empty_headed hs h p d s (omega arith));
+  gets = λ d s lt st. rw (append_assoc hs (with_braces []) s, heading_is p (open_brace ∷ (close_brace ∷ s))) (empty_headed hs h p d s (omega arith));
 }
 
 headed : (hs xs : List Lexeme) (h : AttributeTrees) (all : Trees) → HeadingSpelling hs h → ListAgain xs all → ExpressionsSpelling xs all → (d : ℕ) (s : List Lexeme) → type_height (tree.relation_type h) ≤ d → highest all ≤ d
@@ -143,22 +143,22 @@ unfolding headed_relation expect
 headed hs xs h all p r q d s lh la = rw (relation_heading_again p d (open_brace ∷ (xs ++ (close_brace ∷ s))) lh, list_braced xs s all d r q la, trees_back all) refl
 
 pub headed_reads : (hs xs : List Lexeme) (h : AttributeTrees) (all : Trees) → HeadingSpelling hs h → ListAgain xs all → ExpressionsSpelling xs all
-    → Reads levels.Primary (keyword k.Relation ∷ (hs ++ braced xs)) (tree.headed_relation h all)
+    → Reads levels.Primary (keyword k.Relation ∷ (hs ++ with_braces xs)) (tree.headed_relation h all)
 unfolding by_level primary primary_of_word relation
 headed_reads hs xs h all p r q = record {
   gets = λ d s lt st.
-      rw (append_assoc hs (braced xs) s, append_assoc xs (close_brace ∷ []) s, heading_is p (open_brace ∷ (xs ++ (close_brace ∷ s)))) (headed hs xs h all p r q d s (omega arith) (omega arith));
+      rw (append_assoc hs (with_braces xs) s, append_assoc xs (close_brace ∷ []) s, heading_is p (open_brace ∷ (xs ++ (close_brace ∷ s)))) (headed hs xs h all p r q d s (omega arith) (omega arith));
 }
 
 elements_again : (xs : List Lexeme) (all : Trees) → ListAgain xs all → (d : ℕ) (s : List Lexeme) → highest all ≤ d → elements (read d) d (open_brace ∷ (xs ++ (close_brace ∷ s))) ≡ Some (tree.relation all, s)
 unfolding elements expect
 elements_again xs all r d s lt = rw (closed_again (read d loosest) Ends xs (tree_items all) close_brace brace_closes (r.reads d lt) s (close_brace_stops s), trees_back all) refl
 
-pub relation_reads : (xs : List Lexeme) (all : Trees) → ListAgain xs all → ExpressionsSpelling xs all → Reads levels.Primary (keyword k.Relation ∷ braced xs) (tree.relation all)
+pub relation_reads : (xs : List Lexeme) (all : Trees) → ListAgain xs all → ExpressionsSpelling xs all → Reads levels.Primary (keyword k.Relation ∷ with_braces xs) (tree.relation all)
 unfolding by_level primary primary_of_word relation
 relation_reads xs all r p = record { gets = λ d s lt st. rw (append_assoc xs (close_brace ∷ []) s, elements_no_heading p s) (elements_again xs all r d s (omega arith)) }
 
-pub empty_tuple_reads : Reads levels.Primary (keyword k.Tuple ∷ braced []) (tree.tuple tree.none_named)
+pub empty_tuple_reads : Reads levels.Primary (keyword k.Tuple ∷ with_braces []) (tree.tuple tree.none_named)
 unfolding by_level primary primary_of_word tuple expect
 empty_tuple_reads = record { gets = λ d s lt st. rw (empty_again (part (read d) d) close_brace brace_closes s) refl }
 
@@ -167,7 +167,7 @@ unfolding expect
 parts_begin (last_part p) s = refl
 parts_begin (next_part p q) s = refl
 
-pub tuple_reads : (xs : List Lexeme) (parts : NamedTrees) → PartsAgain xs parts → PartsSpelling xs parts → Reads levels.Primary (keyword k.Tuple ∷ braced xs) (tree.tuple parts)
+pub tuple_reads : (xs : List Lexeme) (parts : NamedTrees) → PartsAgain xs parts → PartsSpelling xs parts → Reads levels.Primary (keyword k.Tuple ∷ with_braces xs) (tree.tuple parts)
 unfolding by_level primary primary_of_word tuple expect
 tuple_reads xs parts r p = record {
   gets = λ d s lt st.
@@ -183,13 +183,13 @@ unfolding expect
 add_is s = refl
 
 pub extension_reads : (xs ys : List Lexeme) (a : Tree) (parts : NamedTrees) → Again loosest xs a → AdditionsAgain ys parts
-    → Reads levels.Primary (keyword k.Extend ∷ (xs ++ (keyword k.Add ∷ parenthesized ys))) (tree.extend a parts)
+    → Reads levels.Primary (keyword k.Extend ∷ (xs ++ (keyword k.Add ∷ with_parentheses ys))) (tree.extend a parts)
 unfolding by_level primary primary_of_word extension
 extension_reads xs ys a parts p r = record {
   gets = λ d s lt st.
       let first : read_up_to (keyword k.Add) (read d loosest) (xs ++ (keyword k.Add ∷ (sign signs.OpenParenthesis ∷ ((ys ++ (close ∷ [])) ++ s)))) ≡ Some (a, sign signs.OpenParenthesis ∷ ((ys ++ (close ∷ [])) ++ s))
       = up_to_again (read d loosest) Ends xs a (keyword k.Add) add_is (expression_item xs a d p (omega arith)) (sign signs.OpenParenthesis ∷ ((ys ++ (close ∷ [])) ++ s)) (add_stops _) in
-      rw (append_assoc xs (keyword k.Add ∷ parenthesized ys) s, first, enclosed_items_again (addition (read d) d) Anything ys (named_items parts) (r.reads d (omega arith)) s tt, named_back parts) refl;
+      rw (append_assoc xs (keyword k.Add ∷ with_parentheses ys) s, first, enclosed_items_again (addition (read d) d) Anything ys (named_items parts) (r.reads d (omega arith)) s tt, named_back parts) refl;
 }
 
 summaries_again : (zs : List Lexeme) (items : Summaries) → SummariesAgain zs items → (d : ℕ) (s : List Lexeme) → highest_summary items ≤ d
@@ -198,18 +198,18 @@ unfolding summaries expect
 summaries_again zs items r d s lt = rw (enclosed_items_again (summary (read d) d) Anything zs (summary_items items) (r.reads d lt) s tt, summaries_back items) refl
 
 per_again : (ys zs : List Lexeme) (a b : Tree) (items : Summaries) → Again loosest ys b → SummariesAgain zs items → (d : ℕ) (s : List Lexeme) → height b ≤ d → highest_summary items ≤ d
-    → summary_per (read d) d a (sign signs.OpenParenthesis ∷ (((ys ++ (close ∷ [])) ++ (keyword k.Add ∷ parenthesized zs)) ++ s)) ≡ Some (tree.summarize_per a b items, s)
+    → summary_per (read d) d a (sign signs.OpenParenthesis ∷ (((ys ++ (close ∷ [])) ++ (keyword k.Add ∷ with_parentheses zs)) ++ s)) ≡ Some (tree.summarize_per a b items, s)
 unfolding summary_per
 per_again ys zs a b items p r d s lb li =
-    rw (append_assoc (ys ++ (close ∷ [])) (keyword k.Add ∷ parenthesized zs) s, one_enclosed ys (keyword k.Add ∷ (sign signs.OpenParenthesis ∷ ((zs ++ (close ∷ [])) ++ s))) b d p lb, summaries_again zs items r d s li) refl
+    rw (append_assoc (ys ++ (close ∷ [])) (keyword k.Add ∷ with_parentheses zs) s, one_enclosed ys (keyword k.Add ∷ (sign signs.OpenParenthesis ∷ ((zs ++ (close ∷ [])) ++ s))) b d p lb, summaries_again zs items r d s li) refl
 
 pub summary_per_reads : (xs ys zs : List Lexeme) (a b : Tree) (items : Summaries) → Again loosest xs a → Again loosest ys b → SummariesAgain zs items
-    → Reads levels.Primary (keyword k.Summarize ∷ (xs ++ (keyword k.Per ∷ (parenthesized ys ++ (keyword k.Add ∷ parenthesized zs))))) (tree.summarize_per a b items)
-unfolding by_level primary primary_of_word summarized expect
+    → Reads levels.Primary (keyword k.Summarize ∷ (xs ++ (keyword k.Per ∷ (with_parentheses ys ++ (keyword k.Add ∷ with_parentheses zs))))) (tree.summarize_per a b items)
+unfolding by_level primary primary_of_word summarize_expression expect
 summary_per_reads xs ys zs a b items p q r = record {
   gets = λ d s lt st.
-      let last : List Lexeme = sign signs.OpenParenthesis ∷ (((ys ++ (close ∷ [])) ++ (keyword k.Add ∷ parenthesized zs)) ++ s) in
-      rw (append_assoc xs (keyword k.Per ∷ (parenthesized ys ++ (keyword k.Add ∷ parenthesized zs))) s, p.reads d (keyword k.Per ∷ last) (omega arith) (per_stops last)) (per_again ys zs a b items q r d s (omega arith) (omega arith));
+      let last : List Lexeme = sign signs.OpenParenthesis ∷ (((ys ++ (close ∷ [])) ++ (keyword k.Add ∷ with_parentheses zs)) ++ s) in
+      rw (append_assoc xs (keyword k.Per ∷ (with_parentheses ys ++ (keyword k.Add ∷ with_parentheses zs))) s, p.reads d (keyword k.Per ∷ last) (omega arith) (per_stops last)) (per_again ys zs a b items q r d s (omega arith) (omega arith));
 }
 
 by_again : (ys zs : List Lexeme) (a : Tree) (by : Attributes) (items : Summaries) → AttributeListSpelling ys by → SummariesAgain zs items → (d : ℕ) (s : List Lexeme) → highest_summary items ≤ d
@@ -218,12 +218,12 @@ unfolding summary_by
 by_again ys zs a by items p r d s li = rw (attributes_again p (keyword k.Add ∷ (sign signs.OpenParenthesis ∷ ((zs ++ (close ∷ [])) ++ s))), summaries_again zs items r d s li) refl
 
 pub summary_by_reads : (xs ys zs : List Lexeme) (a : Tree) (by : Attributes) (items : Summaries) → Again loosest xs a → AttributeListSpelling ys by → SummariesAgain zs items
-    → Reads levels.Primary (keyword k.Summarize ∷ (xs ++ (keyword k.By ∷ (ys ++ (keyword k.Add ∷ parenthesized zs))))) (tree.summarize_by a by items)
-unfolding by_level primary primary_of_word summarized expect
+    → Reads levels.Primary (keyword k.Summarize ∷ (xs ++ (keyword k.By ∷ (ys ++ (keyword k.Add ∷ with_parentheses zs))))) (tree.summarize_by a by items)
+unfolding by_level primary primary_of_word summarize_expression expect
 summary_by_reads xs ys zs a by items p q r = record {
   gets = λ d s lt st.
       let last : List Lexeme = ys ++ (keyword k.Add ∷ (sign signs.OpenParenthesis ∷ ((zs ++ (close ∷ [])) ++ s))) in
-      rw (append_assoc xs (keyword k.By ∷ (ys ++ (keyword k.Add ∷ parenthesized zs))) s, append_assoc ys (keyword k.Add ∷ parenthesized zs) s, p.reads d (keyword k.By ∷ last) (omega arith) (by_stops last)) (by_again ys zs a by items q r d s (omega arith));
+      rw (append_assoc xs (keyword k.By ∷ (ys ++ (keyword k.Add ∷ with_parentheses zs))) s, append_assoc ys (keyword k.Add ∷ with_parentheses zs) s, p.reads d (keyword k.By ∷ last) (omega arith) (by_stops last)) (by_again ys zs a by items q r d s (omega arith));
 }
 
 up_to_word : (w : Lexeme) (xs s : List Lexeme) (a : Tree) (d : ℕ) → ((s : List Lexeme) → expect w (w ∷ s) ≡ Some s) → Again loosest xs a → height a ≤ d → Ends (w ∷ s) → read_up_to w (read d loosest) (xs ++ (w ∷ s)) ≡ Some (a, s)

@@ -6,7 +6,7 @@ use Rattle.td_tree.specs.declared.operator.Level.TheVariants as levels
 use Rattle.td_tree.specs.Grammar.{HeadingSpelling, Spelling, looser, restriction, between, negation, comparison, minus, closure, tuple_from, extraction, behind, literal, reference, selector, component, parentheses, measure, aggregate, headed_relation, relation, empty_tuple, tuple, extension, summary_per, summary_by, choice, ListSpelling, no_expressions, some_expressions, ExpressionsSpelling, last_expression, next_expression, PartsSpelling, last_part, next_part, AdditionsSpelling, last_addition, next_addition, SummariesSpelling, last_count, next_count, last_sum, next_sum, loosest}
 use Rattle.td_tree.specs.Lexemes.{Lexeme, keyword}
 use Rattle.td_tree.specs.Lexemes as lexeme
-use Rattle.td_tree.specs.Lists.{braced, parenthesized}
+use Rattle.td_tree.specs.Lists.{with_braces, with_parentheses}
 use Rattle.td_tree.specs.Trees as tree
 use Rattle.td_tree.specs.Trees.{Text, AttributeTrees, Tree, Trees, NamedTrees, Summaries}
 use Rattle.td_parse.specs.declared.operators.Link.TheVariants as links
@@ -47,11 +47,11 @@ mutual
   reads (summary_by {xs} {ys} {zs} {a} {by} {items} p q r) = summary_by_reads xs ys zs a by items (whole (reads p)) q (summaries_again r)
   reads (choice {xs} {ys} {zs} {a} {b} {c} p q r) = choice_reads xs ys zs a b c (whole (reads p)) (whole (reads q)) (whole (reads r))
 
-  call_again : (n : Text) {xs : List Lexeme} {all : Trees} → ListSpelling xs all → Reads levels.Primary (lexeme.name n ∷ parenthesized xs) (tree.select n all)
+  call_again : (n : Text) {xs : List Lexeme} {all : Trees} → ListSpelling xs all → Reads levels.Primary (lexeme.name n ∷ with_parentheses xs) (tree.select n all)
   call_again n no_expressions = empty_call_reads n
   call_again n (some_expressions {xs} {all} p) = call_reads n xs all (list_again p) p
 
-  headed_again : {hs xs : List Lexeme} {h : AttributeTrees} {all : Trees} → HeadingSpelling hs h → ListSpelling xs all → Reads levels.Primary (keyword k.Relation ∷ (hs ++ braced xs)) (tree.headed_relation h all)
+  headed_again : {hs xs : List Lexeme} {h : AttributeTrees} {all : Trees} → HeadingSpelling hs h → ListSpelling xs all → Reads levels.Primary (keyword k.Relation ∷ (hs ++ with_braces xs)) (tree.headed_relation h all)
   headed_again {hs} {xs} {h} {all} p no_expressions = empty_headed_reads hs h p
   headed_again {hs} {xs} {h} {all} p (some_expressions {xs = ys} {all = rest} q) = headed_reads hs ys h rest p (list_again q) q
 

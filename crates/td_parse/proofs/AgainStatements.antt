@@ -10,10 +10,10 @@ use Rattle.td_tree.specs.Grammar.{AttributesSpelling, HeadingSpelling, IsExpress
 use Rattle.td_tree.specs.Heights.{type_height, attributes_height}
 use Rattle.td_tree.specs.Lexemes.{Lexeme, keyword, sign}
 use Rattle.td_tree.specs.Lexemes as lexeme
-use Rattle.td_tree.specs.Lists.{Separated, one_item, next_item, Repeated, no_more, one_more, Optional, absent, present, braced, parenthesized}
+use Rattle.td_tree.specs.Lists.{Separated, one_item, next_item, Repeated, no_more, one_more, Optional, absent, present, with_braces, with_parentheses}
 use Rattle.td_parse.specs.Reading.{read}
 use Rattle.td_parse.specs.ReadingOperators.{link_at, comparison_at, postfix_at, call_at}
-use Rattle.td_parse.specs.ReadingSteps.{expect, read_name, read_up_to, enclosed, optional, repeated_from, repeated, names}
+use Rattle.td_parse.specs.ReadingSteps.{expect, read_name, read_up_to, in_parentheses_read, optional, repeated_from, list_by_words, names}
 use Rattle.td_parse.specs.ReadingStatements as reading
 use Rattle.td_parse.specs.ReadingTypes.{attribute, read_type}
 use Rattle.td_tree.specs.StatementGrammar.{ExpressionItem, ConstraintPart, constraint_part, InitPart, init_part, WherePart, where_part, KeyPart, key_part, SettingsSpelling, last_setting, next_setting, AssignmentSpelling, assignment, insertion, deletion, changing, BaseWord, base_word, real_word, BodySpelling, no_body, type_definition, type_drop, var_drop, constraint_drop, base_definition, virtual_definition, constraint_definition, assignments, begin_transaction, commit, rollback, writing, dump, StatementSpelling, statement}
@@ -32,7 +32,7 @@ pub level_again : (level : Level) (xs : List Lexeme) (t : Tree) → IsExpression
 level_again level xs t p = record { reads = λ s st. (again_from level xs t (reads p.spelled)).reads height_limit s p.low st }
 
 -- '(' e ')'
-enclosed_expression : (xs : List Lexeme) (t : Tree) → ExpressionItem xs t → (s : List Lexeme) → enclosed reading.expression (sign signs.OpenParenthesis ∷ ((xs ++ (sign signs.CloseParenthesis ∷ [])) ++ s)) ≡ Some (t, s)
+enclosed_expression : (xs : List Lexeme) (t : Tree) → ExpressionItem xs t → (s : List Lexeme) → in_parentheses_read reading.expression (sign signs.OpenParenthesis ∷ ((xs ++ (sign signs.CloseParenthesis ∷ [])) ++ s)) ≡ Some (t, s)
 enclosed_expression xs t p s = enclosed_again reading.expression Ends xs t (level_again loosest xs t p) s (close_stops s)
 
 -- ---- optional parts
@@ -48,7 +48,7 @@ condition_again absent s st = rw (st.no_where) refl
 condition_again (present (where_part {xs} {t} p)) s st = rw ((level_again levels.Disjunction xs t p).reads s st.stops) refl
 
 -- [INIT '(' e ')']
-init_again : {xs : List Lexeme} {c : Option Tree} → Optional InitPart xs c → (s : List Lexeme) → expect (keyword k.Init) s ≡ None → optional (keyword k.Init) (enclosed reading.expression) (xs ++ s) ≡ Some (c, s)
+init_again : {xs : List Lexeme} {c : Option Tree} → Optional InitPart xs c → (s : List Lexeme) → expect (keyword k.Init) s ≡ None → optional (keyword k.Init) (in_parentheses_read reading.expression) (xs ++ s) ≡ Some (c, s)
 unfolding optional expect
 init_again absent s st = rw st refl
 init_again (present (init_part {xs} {t} p)) s st = rw (enclosed_expression xs t p s) refl
@@ -73,7 +73,7 @@ keys_length no_more = omega arith
 keys_length (one_more {ys} {rest} (key_part {xs} {ns} p) q) = omega (arith, keys_length q, length-append xs ys)
 
 keys_again : {xs : List Lexeme} {keys : List (List Text)} → Repeated KeyPart xs keys → (s : List Lexeme) → expect (keyword k.Key) s ≡ None → reading.keys (xs ++ s) ≡ Some (keys, s)
-unfolding reading.keys repeated
+unfolding reading.keys list_by_words
 keys_again {xs} {keys} p s e = keys_from p (suc (length (xs ++ s))) [] s (omega (arith, keys_length p, length-append xs s)) e
 
 -- ---- assignments
@@ -119,7 +119,7 @@ assignment_again _ _ (deletion {n} {xs} {condition} p) = record { reads = λ s s
 assignment_again _ _ (changing {n} {xs} {ys} {condition} {settings} p q) = record {
   reads = λ s st.
       let last : List Lexeme = sign signs.OpenParenthesis ∷ ((ys ++ (sign signs.CloseParenthesis ∷ [])) ++ s) in
-      rw (append_assoc xs (parenthesized ys) s, condition_again p last (settings_stop q (sign signs.CloseParenthesis ∷ []) s), enclosed_items_again reading.setting Ends ys (named_items settings) (settings_again q) s (close_stops s), named_back settings) refl;
+      rw (append_assoc xs (with_parentheses ys) s, condition_again p last (settings_stop q (sign signs.CloseParenthesis ∷ []) s), enclosed_items_again reading.setting Ends ys (named_items settings) (settings_again q) s (close_stops s), named_back settings) refl;
 }
 
 -- ---- bodies
@@ -158,7 +158,7 @@ components_again n xs ys h c p lt q s =
     rw (separated_again (attribute (read_type height_limit)) Anything xs (attribute_items h) ((attributes_again p).reads height_limit lt) (ys ++ (sign signs.CloseBrace ∷ s)) tt (no_comma q s), constraint_again q s, attributes_back h) refl
 
 type_definition_reads : (n : Text) (xs ys : List Lexeme) (h : AttributeTrees) (c : Option Tree) → AttributesSpelling xs h → attributes_height h ≤ height_limit → Optional ConstraintPart ys c
-    → BodyAgain (keyword k.«Type» ∷ (lexeme.name n ∷ (keyword k.Possrep ∷ braced (xs ++ ys)))) (tree.define_type n h c)
+    → BodyAgain (keyword k.«Type» ∷ (lexeme.name n ∷ (keyword k.Possrep ∷ with_braces (xs ++ ys)))) (tree.define_type n h c)
 unfolding reading.read_body reading.body reading.body_of_word reading.type_definition read_up_to read_name expect
 type_definition_reads n xs ys h c p lt q = record {
   reads = λ s.
@@ -191,7 +191,7 @@ base_definition_reads n base xs ys zs h c keys b p lt q r = record {
 }
 
 virtual_definition_reads : (n : Text) (xs ys : List Lexeme) (t : Tree) (keys : List (List Text)) → ExpressionItem xs t → Repeated KeyPart ys keys
-    → BodyAgain (keyword k.Var ∷ (lexeme.name n ∷ (keyword k.Virtual ∷ (parenthesized xs ++ ys)))) (tree.define_virtual n t keys)
+    → BodyAgain (keyword k.Var ∷ (lexeme.name n ∷ (keyword k.Virtual ∷ (with_parentheses xs ++ ys)))) (tree.define_virtual n t keys)
 unfolding reading.read_body reading.body reading.body_of_word reading.variable reading.definition_of_word reading.virtual_definition read_name expect
 virtual_definition_reads n xs ys t keys p q = record {
   reads = λ s. rw (append_assoc (xs ++ (sign signs.CloseParenthesis ∷ [])) ys (semicolon ∷ s), enclosed_expression xs t p (ys ++ (semicolon ∷ s)), keys_again q (semicolon ∷ s) refl) refl;

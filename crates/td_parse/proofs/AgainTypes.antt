@@ -7,7 +7,7 @@ use Rattle.td_tree.specs.Grammar as grammar
 use Rattle.td_tree.specs.Heights.{type_height, attributes_height}
 use Rattle.td_tree.specs.Lexemes.{Lexeme, keyword, sign}
 use Rattle.td_tree.specs.Lexemes as lexeme
-use Rattle.td_tree.specs.Lists.{braced}
+use Rattle.td_tree.specs.Lists.{with_braces}
 use Rattle.td_parse.specs.ReadingSteps.{expect, read_name}
 use Rattle.td_parse.specs.ReadingTypes.{attribute, attribute_trees_from, heading, type_of_word, type_of_first, read_type, relation_heading}
 use Rattle.td_tree.specs.Trees as tree
@@ -79,7 +79,7 @@ attribute_reads : (n : Text) (xs : List Lexeme) (t : TypeTree) (d : ℕ) → Typ
 unfolding attribute read_name
 attribute_reads n xs t d r lt = record { reads = λ s st. rw (r.reads d s lt) refl }
 
-empty_heading_reads : HeadingAgain (braced []) tree.no_attributes
+empty_heading_reads : HeadingAgain (with_braces []) tree.no_attributes
 unfolding heading expect
 empty_heading_reads = record { reads = λ d s lt. rw (empty_again (attribute (read_type d)) (sign signs.CloseBrace) brace_closes s) refl }
 
@@ -88,7 +88,7 @@ unfolding expect
 attributes_begin (last_attribute p) s = refl
 attributes_begin (next_attribute p q) s = refl
 
-heading_reads : (xs : List Lexeme) (h : AttributeTrees) → AttributesSpelling xs h → AttributesAgain xs h → HeadingAgain (braced xs) h
+heading_reads : (xs : List Lexeme) (h : AttributeTrees) → AttributesSpelling xs h → AttributesAgain xs h → HeadingAgain (with_braces xs) h
 unfolding heading expect
 heading_reads xs h p r = record {
   reads = λ d s lt.

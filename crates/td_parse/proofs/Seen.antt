@@ -13,7 +13,7 @@ use Rattle.td_tree.specs.Names.{begins_the, is_name, is_word}
 use Rattle.td_tree.specs.Numbers.{decimal_value}
 use Rattle.td_tree.specs.Pieces.{kind_of}
 use Rattle.td_tree.specs.Symbols.{symbols}
-use Rattle.td_tree.specs.TextTokens.{IsQuotedText, content, doubled, quoted}
+use Rattle.td_tree.specs.TextTokens.{IsQuotedText, content, with_quotes_doubled, text_in_quotes}
 use Rattle.td_tree.specs.TokenLexemes.{is_the_word, is_quoted_text, lexeme_of}
 use Rattle.td_tree.proofs.law_lemmas.BadTokens.{bad_where_seen}
 use Rattle.td_tree.proofs.law_lemmas.CharacterLaws.{both}
@@ -68,7 +68,7 @@ pub quoted_is : (t : List ℕ) → kind_of (symbols t) ≡ Some kinds.Text → I
 quoted_is t is = (are_quoted t).0 is
 
 pub text_is_long : (t : List ℕ) → kind_of (symbols t) ≡ Some kinds.Text → 2 ≤ length t
-text_is_long t is = let h = quoted_is t is in rw h.is (omega (arith, length-append (doubled h.said) (39 ∷ [])))
+text_is_long t is = let h = quoted_is t is in rw h.is (omega (arith, length-append (with_quotes_doubled h.said) (39 ∷ [])))
 
 pub text_is_utf8 : (t : List ℕ) → kind_of (symbols t) ≡ Some kinds.Text → IsUtf8 (content t)
-text_is_utf8 t is = IsUtf8-from_is_utf8 (content t) (both (is_utf8 (content t)) (pointwise ◌==◌ (quoted (content t)) t) (text_passes t is)).0
+text_is_utf8 t is = IsUtf8-from_is_utf8 (content t) (both (is_utf8 (content t)) (pointwise ◌==◌ (text_in_quotes (content t)) t) (text_passes t is)).0

@@ -6,7 +6,7 @@ use Rattle.td_tree.specs.declared.token.Sign.TheVariants as signs
 use Rattle.td_tree.specs.Lexemes.{Lexeme, sign}
 use Rattle.td_tree.specs.Outcomes.{Valued, named_cause}
 use Rattle.td_parse.specs.code.Parsing.{or_syntax}
-use Rattle.td_parse.specs.ReadingSteps.{ReadOf, expect, separated, separated_from}
+use Rattle.td_parse.specs.ReadingSteps.{ReadOf, expect, list_by_commas, separated_from}
 use Rattle.td_parse.proofs.Turns.{no_more, one_more}
 
 -- what was answered was read
@@ -16,8 +16,8 @@ read_is (Some y) x e = cc
 
 -- before the first item
 pub begins : {A X : Type 0} (item : List Lexeme → ReadOf A) (view : X → A) (n : ℕ) (before : List X) (ts : List Lexeme)
-    → n ≡ suc (length ts) → before ≡ [] → separated item ts ≡ separated_from item (n - 0) (map view before) ts
-unfolding separated
+    → n ≡ suc (length ts) → before ≡ [] → list_by_commas item ts ≡ separated_from item (n - 0) (map view before) ts
+unfolding list_by_commas
 begins item view n before ts turns none = let e : n - 0 ≡ suc (length ts) = omega arith in rw (e, none) refl
 
 -- an item and a comma were read: the list goes on behind them

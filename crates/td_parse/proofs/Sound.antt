@@ -13,8 +13,8 @@ use Rattle.td_tree.specs.Grammar as grammar
 use Rattle.td_tree.specs.Grammar.{tighter, comparison_word, Spelling, looser, between, negation, comparison, minus, closure, tuple_from, extraction, behind}
 use Rattle.td_tree.specs.Heights.{height}
 use Rattle.td_tree.specs.Lexemes.{Lexeme, keyword}
-use Rattle.td_parse.specs.Reading.{Read, read_postfix, primary, postfixes, postfixed, extracted, applied, prefixed, operations, chain, multiplicative, additive, relational, compared_to, compared, negated, conjunction, disjunction, restriction, by_level, read}
-use Rattle.td_parse.specs.ReadingOperators.{link_level, link_words, linked, link_at, comparison_at, prefix_at, extraction_at, postfix_at}
+use Rattle.td_parse.specs.Reading.{Read, read_postfix, primary, postfixes, postfix_expression, extract_expression, prefix_expression, unary_expression, operations, chain, multiplicative, additive, relational, compared_to, comparison_expression, negation_expression, conjunction, disjunction, restriction, by_level, read}
+use Rattle.td_parse.specs.ReadingOperators.{link_level, link_words, linked_tree, link_at, comparison_at, prefix_at, extraction_at, postfix_at}
 use Rattle.td_parse.specs.ReadingSteps.{◌>>=◌, expect}
 use Rattle.td_tree.specs.Trees as tree
 use Rattle.td_tree.specs.Trees.{Text, Tree}
@@ -52,12 +52,12 @@ extends_more level d left ys ts after t rest e m = record {
 extended : (level : Level) (d : ℕ) (ts front after : List Lexeme) (t : Tree) (rest : List Lexeme) → Front ts front after → Extends level d front after t rest → Takes (IsAt level d) ts t rest
 extended level d ts front after t rest e m = record { front = front ++ m.front; spelled = record { spelled = m.spelled; low = m.low }; parts = glue e m.parts }
 
-linked_spelled : (op : Link) (xs ys : List Lexeme) (a b : Tree) → Spelling (link_level op) xs a → Spelling (tighter (link_level op)) ys b → Spelling (link_level op) (xs ++ (link_words op ++ ys)) (linked a op b)
+linked_spelled : (op : Link) (xs ys : List Lexeme) (a b : Tree) → Spelling (link_level op) xs a → Spelling (tighter (link_level op)) ys b → Spelling (link_level op) (xs ++ (link_words op ++ ys)) (linked_tree a op b)
 linked_spelled links.Where xs ys a b p q = grammar.restriction p q
 linked_spelled (links.Operator op) xs ys a b p q = between p q
 
-between_at : (level : Level) (op : Link) (xs ys : List Lexeme) (a b : Tree) → link_level op ≡ level → Spelling level xs a → Spelling (tighter level) ys b → Spelling level (xs ++ (link_words op ++ ys)) (linked a op b)
-between_at level op xs ys a b e = subst (λ (l : Level). Spelling l xs a → Spelling (tighter l) ys b → Spelling l (xs ++ (link_words op ++ ys)) (linked a op b)) e (linked_spelled op xs ys a b)
+between_at : (level : Level) (op : Link) (xs ys : List Lexeme) (a b : Tree) → link_level op ≡ level → Spelling level xs a → Spelling (tighter level) ys b → Spelling level (xs ++ (link_words op ++ ys)) (linked_tree a op b)
+between_at level op xs ys a b e = subst (λ (l : Level). Spelling l xs a → Spelling (tighter l) ys b → Spelling l (xs ++ (link_words op ++ ys)) (linked_tree a op b)) e (linked_spelled op xs ys a b)
 
 takes_looser : (level : Level) (d : ℕ) (ts : List Lexeme) (t : Tree) (rest : List Lexeme) → Takes (IsAt (tighter level) d) ts t rest → Takes (IsAt level d) ts t rest
 takes_looser level d ts t rest k = record { front = k.front; spelled = record { spelled = looser k.spelled.spelled; low = k.spelled.low }; parts = k.parts }
@@ -91,15 +91,15 @@ module _ (inner : Level → List Lexeme → Read) (d : ℕ) (inside : Inside d i
   postfixes_sound zero left a ts t rest p lt e = absurd cc
   postfixes_sound (suc n) left a ts t rest p lt e = behind_step (postfix_at ts) n left a ts t rest p lt (λ more after b q l f. postfixes_sound n more b after t rest q l f) e
 
-  postfixed_sound : Sound (IsAt levels.Postfixed (suc d)) (postfixed inner d)
-  unfolding postfixed
+  postfixed_sound : Sound (IsAt levels.Postfixed (suc d)) (postfix_expression inner d)
+  unfolding postfix_expression
   postfixed_sound ts t rest e =
       let b = bind_some (primary inner d ts) _ _ e in
       let q = primary_sound inner d inside ts b.0.0 b.0.1 b.1 in
       extended levels.Postfixed (suc d) ts q.front b.0.1 t rest q.parts (postfixes_sound (suc d) q.front b.0.0 b.0.1 t rest (looser q.spelled.spelled) q.spelled.low b.2)
 
-  prefixed_sound : Sound (IsAt levels.Prefixed (suc d)) (prefixed inner d)
-  unfolding prefixed extracted applied
+  prefixed_sound : Sound (IsAt levels.Prefixed (suc d)) (unary_expression inner d)
+  unfolding unary_expression extract_expression prefix_expression
   prefixed_sound ts t rest e =
       elim (either_cases _ _ (prefix_at ts) _ e) [
         | inl g ↦
@@ -126,11 +126,11 @@ module _ (inner : Level → List Lexeme → Read) (d : ℕ) (inside : Inside d i
         | inl g ↦ extends_none level (suc d) left ts a t rest g.1 p lt
         | inr g ↦
             let b = bind_some (inner (tighter level) g.0.1) _ _ g.2 in
-            let c = guard_some (leb (height (linked a g.0.0 b.0.0)) (suc d)) _ _ b.2 in
+            let c = guard_some (leb (height (linked_tree a g.0.0 b.0.0)) (suc d)) _ _ b.2 in
             let o = link_is level ts g.0.0 g.0.1 g.1 in
             let q = inside (tighter level) g.0.1 b.0.0 b.0.1 b.1 in
             extends_more level (suc d) left (link_words g.0.0 ++ q.front) ts b.0.1 t rest (glue o.parts q.parts)
-            (operations_sound level n (left ++ (link_words g.0.0 ++ q.front)) (linked a g.0.0 b.0.0) b.0.1 t rest (between_at level g.0.0 left q.front a b.0.0 o.stands p q.spelled.spelled) (leb-true _ _ c.0) c.1)
+            (operations_sound level n (left ++ (link_words g.0.0 ++ q.front)) (linked_tree a g.0.0 b.0.0) b.0.1 t rest (between_at level g.0.0 left q.front a b.0.0 o.stands p q.spelled.spelled) (leb-true _ _ c.0) c.1)
       ]
 
   chain_sound : (level : Level) (first : List Lexeme → Read) → Sound (IsAt (tighter level) (suc d)) first → Sound (IsAt level (suc d)) (chain inner d level first)
@@ -142,7 +142,7 @@ module _ (inner : Level → List Lexeme → Read) (d : ℕ) (inside : Inside d i
 
   multiplicative_sound : Sound (IsAt levels.Multiplicative (suc d)) (multiplicative inner d)
   unfolding multiplicative
-  multiplicative_sound = chain_sound levels.Multiplicative (prefixed inner d) prefixed_sound
+  multiplicative_sound = chain_sound levels.Multiplicative (unary_expression inner d) prefixed_sound
 
   additive_sound : Sound (IsAt levels.Additive (suc d)) (additive inner d)
   unfolding additive
@@ -161,8 +161,8 @@ module _ (inner : Level → List Lexeme → Read) (d : ℕ) (inside : Inside d i
       let q = inside levels.Relational last b.0.0 b.0.1 b.1 in
       retake (IsAt levels.Comparison (suc d)) c.1 (record { spelled = comparison p q.spelled.spelled; low = leb-true _ _ c.0 }) (glue parts (glue word q.parts))
 
-  compared_sound : Sound (IsAt levels.Comparison (suc d)) (compared inner d)
-  unfolding compared
+  compared_sound : Sound (IsAt levels.Comparison (suc d)) (comparison_expression inner d)
+  unfolding comparison_expression
   compared_sound ts t rest e =
       let b = bind_some (relational inner d ts) _ _ e in
       let q = relational_sound ts b.0.0 b.0.1 b.1 in
@@ -171,8 +171,8 @@ module _ (inner : Level → List Lexeme → Read) (d : ℕ) (inside : Inside d i
         | inr g ↦ compared_to_sound ts q.front b.0.0 g.0.0 b.0.1 g.0.1 t rest q.spelled.spelled q.parts (comparison_is b.0.1 g.0.0 g.0.1 g.1) g.2
       ]
 
-  negated_sound : Sound (IsAt levels.Negation (suc d)) (negated inner d)
-  unfolding negated applied
+  negated_sound : Sound (IsAt levels.Negation (suc d)) (negation_expression inner d)
+  unfolding negation_expression prefix_expression
   negated_sound ts t rest e =
       elim (either_cases _ _ (expect (keyword k.Not) ts) _ e) [
         | inl g ↦ takes_looser levels.Negation (suc d) ts t rest (compared_sound ts t rest g.1)
@@ -184,7 +184,7 @@ module _ (inner : Level → List Lexeme → Read) (d : ℕ) (inside : Inside d i
 
   conjunction_sound : Sound (IsAt levels.Conjunction (suc d)) (conjunction inner d)
   unfolding conjunction
-  conjunction_sound = chain_sound levels.Conjunction (negated inner d) negated_sound
+  conjunction_sound = chain_sound levels.Conjunction (negation_expression inner d) negated_sound
 
   disjunction_sound : Sound (IsAt levels.Disjunction (suc d)) (disjunction inner d)
   unfolding disjunction

@@ -9,7 +9,7 @@ use Rattle.td_tree.specs.Lexemes.{Lexeme, keyword, sign}
 use Rattle.td_tree.specs.Lexemes as lexeme
 use Rattle.td_tree.specs.Lists.{Listed}
 use Rattle.td_parse.specs.Reading.{named_attributes, postfix_of_word, read_postfix}
-use Rattle.td_parse.specs.ReadingSteps.{expect, read_name, read_as, enclosed, separated, names_to_brace, names, all_but, attribute_list, read_renaming}
+use Rattle.td_parse.specs.ReadingSteps.{expect, read_name, read_as, in_parentheses_read, list_by_commas, names_to_brace, names, all_but, attribute_list, read_renaming}
 use Rattle.td_tree.specs.Trees as tree
 use Rattle.td_tree.specs.Trees.{Text, Attributes, Renaming, Postfix}
 use Rattle.td_parse.proofs.SoundSteps.{bind_some, either_cases, Front, glue, expect_front, Takes, Sound, retake, TakesTo, name_front, as_front, enclosed_sound, separated_sound, listed_sound}
@@ -85,23 +85,23 @@ after_word w p = record { parts = ap (λ (l : List Lexeme). w ∷ l) p.parts }
 postfix_word_sound : (w : Keyword) (ts : List Lexeme) (p : Postfix) (rest : List Lexeme) → postfix_of_word w ts ≡ Some (p, rest) → Takes PostfixSpelling (keyword w ∷ ts) p rest
 unfolding postfix_of_word
 postfix_word_sound k.Rename ts p rest e =
-    let b = bind_some (enclosed (separated read_renaming) ts) _ _ e in
-    let t = enclosed_sound (separated read_renaming) (separated_sound read_renaming renaming_sound) ts b.0.0 b.0.1 b.1 in
+    let b = bind_some (in_parentheses_read (list_by_commas read_renaming) ts) _ _ e in
+    let t = enclosed_sound (list_by_commas read_renaming) (separated_sound read_renaming renaming_sound) ts b.0.0 b.0.1 b.1 in
     retake PostfixSpelling b.2 (renamings t.spelled) (after_word (keyword k.Rename) t.parts)
 postfix_word_sound k.Group ts p rest e =
-    let b = bind_some (enclosed named_attributes ts) _ _ e in
+    let b = bind_some (in_parentheses_read named_attributes ts) _ _ e in
     let t = enclosed_sound named_attributes named_sound ts b.0.0 b.0.1 b.1 in
     retake PostfixSpelling b.2 (group_spelled t.spelled) (after_word (keyword k.Group) t.parts)
 postfix_word_sound k.Wrap ts p rest e =
-    let b = bind_some (enclosed named_attributes ts) _ _ e in
+    let b = bind_some (in_parentheses_read named_attributes ts) _ _ e in
     let t = enclosed_sound named_attributes named_sound ts b.0.0 b.0.1 b.1 in
     retake PostfixSpelling b.2 (wrap_spelled t.spelled) (after_word (keyword k.Wrap) t.parts)
 postfix_word_sound k.Ungroup ts p rest e =
-    let b = bind_some (enclosed read_name ts) _ _ e in
+    let b = bind_some (in_parentheses_read read_name ts) _ _ e in
     let t = enclosed_sound read_name name_sound ts b.0.0 b.0.1 b.1 in
     retake PostfixSpelling b.2 (ungroup_spelled t.spelled) (after_word (keyword k.Ungroup) t.parts)
 postfix_word_sound k.Unwrap ts p rest e =
-    let b = bind_some (enclosed read_name ts) _ _ e in
+    let b = bind_some (in_parentheses_read read_name ts) _ _ e in
     let t = enclosed_sound read_name name_sound ts b.0.0 b.0.1 b.1 in
     retake PostfixSpelling b.2 (unwrap_spelled t.spelled) (after_word (keyword k.Unwrap) t.parts)
 postfix_word_sound _ ts p rest e = absurd cc

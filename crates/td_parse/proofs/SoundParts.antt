@@ -10,9 +10,9 @@ use Rattle.td_tree.specs.Grammar.{aggregate_word, Spelling, ListSpelling, no_exp
 use Rattle.td_tree.specs.Heights.{height, highest, highest_named, highest_summary}
 use Rattle.td_tree.specs.Lexemes.{Lexeme, keyword, sign}
 use Rattle.td_tree.specs.Lexemes as lexeme
-use Rattle.td_tree.specs.Lists.{Listed, no_items, some_items, Separated, one_item, next_item, parenthesized}
+use Rattle.td_tree.specs.Lists.{Listed, no_items, some_items, Separated, one_item, next_item, with_parentheses}
 use Rattle.td_parse.specs.Reading.{Read, trees_from, named_from, SummaryItem, count_item, sum_item, summaries_from, part, addition, count_summary, sum_summary, summary_of_word, summary, summaries}
-use Rattle.td_parse.specs.ReadingSteps.{expect, read_name, read_as, enclosed, separated}
+use Rattle.td_parse.specs.ReadingSteps.{expect, read_name, read_as, in_parentheses_read, list_by_commas}
 use Rattle.td_tree.specs.Trees as tree
 use Rattle.td_tree.specs.Trees.{Text, Tree, Trees, NamedTrees, Summaries}
 use Rattle.td_parse.proofs.AgainLists.{comma}
@@ -73,9 +73,9 @@ are_additions (next_item {ys = ys} {rest = others} (addition_item {n = n} {xs = 
     record { spelled = subst (λ (l : List Lexeme). AdditionsSpelling l (tree.more_named n b (named_from others))) (sym (append_assoc zs (keyword k.As ∷ (lexeme.name n ∷ [])) (comma ∷ ys))) (next_addition p r.spelled); low = omega (arith, r.low) }
 
 pub data IsSummary (d : ℕ) : List Lexeme → SummaryItem → Type 0 where
-  count_of : {n : Text} → IsSummary d (keyword k.Count ∷ (parenthesized [] ++ (keyword k.As ∷ (lexeme.name n ∷ [])))) (count_item n)
+  count_of : {n : Text} → IsSummary d (keyword k.Count ∷ (with_parentheses [] ++ (keyword k.As ∷ (lexeme.name n ∷ [])))) (count_item n)
   sum_of : {op : Aggregate} {n : Text} {xs : List Lexeme} {a : Tree} → Spelling loosest xs a → height a ≤ d
-      → IsSummary d (keyword (aggregate_word op) ∷ (parenthesized xs ++ (keyword k.As ∷ (lexeme.name n ∷ [])))) (sum_item op a n)
+      → IsSummary d (keyword (aggregate_word op) ∷ (with_parentheses xs ++ (keyword k.As ∷ (lexeme.name n ∷ [])))) (sum_item op a n)
 
 pub record AreSummaries (d : ℕ) (xs : List Lexeme) (all : Summaries) : Type 0 where
   pub spelled : SummariesSpelling xs all
@@ -97,7 +97,7 @@ are_summaries (next_item {ys = ys} {rest = others} (sum_of {op = op} {n = n} {xs
 
 -- ADD and summaries in parentheses
 pub data AreAdded (d : ℕ) : List Lexeme → Summaries → Type 0 where
-  added : {xs : List Lexeme} {all : Summaries} → AreSummaries d xs all → AreAdded d (keyword k.Add ∷ parenthesized xs) all
+  added : {xs : List Lexeme} {all : Summaries} → AreSummaries d xs all → AreAdded d (keyword k.Add ∷ with_parentheses xs) all
 
 -- ---- items
 
@@ -132,7 +132,7 @@ module _ (inner : Level → List Lexeme → Read) (d : ℕ) (inside : Inside d i
   sum_sound : (op : Aggregate) (ts : List Lexeme) (a : SummaryItem) (rest : List Lexeme) → sum_summary inner d op ts ≡ Some (a, rest) → Takes (IsSummary d) (keyword (aggregate_word op) ∷ ts) a rest
   unfolding sum_summary
   sum_sound op ts a rest e =
-      let b = bind_some (enclosed (inner loosest) ts) _ _ e in
+      let b = bind_some (in_parentheses_read (inner loosest) ts) _ _ e in
       let c = bind_some (read_as b.0.1) _ _ b.2 in
       let t = enclosed_sound (inner loosest) (inside loosest) ts b.0.0 b.0.1 b.1 in
       retake (IsSummary d) c.2 (sum_of t.spelled.spelled t.spelled.low) (after_word (keyword (aggregate_word op)) (glue t.parts (as_front b.0.1 c.0.0 c.0.1 c.1)))
@@ -154,6 +154,6 @@ module _ (inner : Level → List Lexeme → Read) (d : ℕ) (inside : Inside d i
   unfolding summaries
   summaries_sound ts all rest e =
       let b = bind_some (expect (keyword k.Add) ts) _ _ e in
-      let c = bind_some (enclosed (separated (summary inner d)) b.0) _ _ b.2 in
-      let t = enclosed_sound (separated (summary inner d)) (separated_sound (summary inner d) summary_sound) b.0 c.0.0 c.0.1 c.1 in
+      let c = bind_some (in_parentheses_read (list_by_commas (summary inner d)) b.0) _ _ b.2 in
+      let t = enclosed_sound (list_by_commas (summary inner d)) (separated_sound (summary inner d) summary_sound) b.0 c.0.0 c.0.1 c.1 in
       retake (AreAdded d) c.2 (added (are_summaries t.spelled)) (glue (expect_front (keyword k.Add) ts b.0 b.1) t.parts)

@@ -15,12 +15,12 @@ use Rattle.td_tree.specs.Grammar.{measure_word, aggregate_word, AttributeListSpe
 use Rattle.td_tree.specs.Grammar as grammar
 use Rattle.td_tree.specs.Lexemes.{Lexeme, keyword, sign}
 use Rattle.td_tree.specs.Lexemes as lexeme
-use Rattle.td_tree.specs.Lists.{Listed, no_items, some_items, braced, parenthesized}
+use Rattle.td_tree.specs.Lists.{Listed, no_items, some_items, with_braces, with_parentheses}
 use Rattle.td_tree.specs.Numbers.{numeral_limit}
-use Rattle.td_parse.specs.Reading.{Read, trees_from, named_from, summaries_from, numeral, negative, expression, part, addition, summaries, named, component_of, measured, aggregated, headed_relation, elements, relation, tuple, extension, summary_per, summary_by, summarized, choice, primary_of_word, primary_of_sign, primary}
+use Rattle.td_parse.specs.Reading.{Read, trees_from, named_from, summaries_from, numeral, negative, expression, part, addition, summaries, name_expression, component_of, measure_expression, aggregate_expression, headed_relation, elements, relation, tuple, extension, summary_per, summary_by, summarize_expression, choice, primary_of_word, primary_of_sign, primary}
 use Rattle.td_parse.specs.Reading as reading
 use Rattle.td_parse.specs.ReadingOperators.{call_at, heading_at}
-use Rattle.td_parse.specs.ReadingSteps.{expect, read_up_to, enclosed, separated, listed_to, attribute_list}
+use Rattle.td_parse.specs.ReadingSteps.{expect, read_up_to, in_parentheses_read, list_by_commas, listed_to, attribute_list}
 use Rattle.td_parse.specs.ReadingTypes.{relation_heading}
 use Rattle.td_tree.specs.Trees as tree
 use Rattle.td_tree.specs.Trees.{Text, Attributes, Literal, Tree, Trees, NamedTrees, Summaries}
@@ -61,14 +61,14 @@ negative_sound d _ t rest e = absurd cc
 one_word : (d : ℕ) (x : Lexeme) (ts : List Lexeme) (l : Literal) (t : Tree) (rest : List Lexeme) → LiteralSpelling (x ∷ []) l → some {A = Tree × List Lexeme} (tree.literal l, ts) ≡ some {A = Tree × List Lexeme} (t, rest) → TakesPrimary d x ts t rest
 one_word d x ts l t rest p e = literal_takes d (x ∷ ts) (x ∷ []) ts l t rest p (record { parts = refl }) e
 
-tuple_spelled : {d : ℕ} {xs : List Lexeme} {all : List (Text × Tree)} → Listed (IsPart d) xs all → IsAt levels.Primary (suc d) (keyword k.Tuple ∷ braced xs) (tree.tuple (named_from all))
+tuple_spelled : {d : ℕ} {xs : List Lexeme} {all : List (Text × Tree)} → Listed (IsPart d) xs all → IsAt levels.Primary (suc d) (keyword k.Tuple ∷ with_braces xs) (tree.tuple (named_from all))
 tuple_spelled no_items = record { spelled = grammar.empty_tuple; low = omega arith }
 tuple_spelled (some_items p) =
     let r = are_parts p in
     record { spelled = grammar.tuple r.spelled; low = omega (arith, r.low) }
 
 per_spelled : {d : ℕ} {xs ys zs : List Lexeme} {a b : Tree} {all : Summaries} → IsAt loosest d xs a → IsAt loosest d ys b → AreAdded d zs all
-    → IsAt levels.Primary (suc d) (keyword k.Summarize ∷ (xs ++ (keyword k.Per ∷ (parenthesized ys ++ zs)))) (tree.summarize_per a b all)
+    → IsAt levels.Primary (suc d) (keyword k.Summarize ∷ (xs ++ (keyword k.Per ∷ (with_parentheses ys ++ zs)))) (tree.summarize_per a b all)
 per_spelled p q (added r) = record { spelled = grammar.summary_per p.spelled q.spelled r.spelled; low = omega (arith, p.low, q.low, r.low) }
 
 by_spelled : {d : ℕ} {xs ys zs : List Lexeme} {a : Tree} {by : Attributes} {all : Summaries} → IsAt loosest d xs a → AttributeListSpelling ys by → AreAdded d zs all
@@ -87,8 +87,8 @@ module _ (inner : Level → List Lexeme → Read) (d : ℕ) (inside : Inside d i
   whole_sound : Sound (IsAt loosest d) (inner loosest)
   whole_sound = inside loosest
 
-  named_sound : (n : Text) (ts : List Lexeme) (t : Tree) (rest : List Lexeme) → named inner d n ts ≡ Some (t, rest) → TakesPrimary d (lexeme.name n) ts t rest
-  unfolding named
+  named_sound : (n : Text) (ts : List Lexeme) (t : Tree) (rest : List Lexeme) → name_expression inner d n ts ≡ Some (t, rest) → TakesPrimary d (lexeme.name n) ts t rest
+  unfolding name_expression
   named_sound n ts t rest e =
       elim (either_cases _ _ (call_at ts) _ e) [
         | inl g ↦ retake (IsAt levels.Primary (suc d)) g.1 (record { spelled = grammar.reference; low = omega arith }) (record { parts = refl })
@@ -102,26 +102,26 @@ module _ (inner : Level → List Lexeme → Read) (d : ℕ) (inside : Inside d i
   component_sound : (n : Text) (ts : List Lexeme) (t : Tree) (rest : List Lexeme) → component_of inner d n ts ≡ Some (t, rest) → TakesPrimary d (lexeme.component n) ts t rest
   unfolding component_of
   component_sound n ts t rest e =
-      let b = bind_some (enclosed (inner loosest) ts) _ _ e in
+      let b = bind_some (in_parentheses_read (inner loosest) ts) _ _ e in
       let a = enclosed_sound (inner loosest) whole_sound ts b.0.0 b.0.1 b.1 in
       retake (IsAt levels.Primary (suc d)) b.2 (record { spelled = grammar.component a.spelled.spelled; low = omega (arith, a.spelled.low) }) (after_word (lexeme.component n) a.parts)
 
-  parenthesized_sound : (ts : List Lexeme) (t : Tree) (rest : List Lexeme) → reading.parenthesized inner d ts ≡ Some (t, rest) → TakesPrimary d (sign signs.OpenParenthesis) ts t rest
-  unfolding reading.parenthesized
+  parenthesized_sound : (ts : List Lexeme) (t : Tree) (rest : List Lexeme) → reading.parenthesis_expression inner d ts ≡ Some (t, rest) → TakesPrimary d (sign signs.OpenParenthesis) ts t rest
+  unfolding reading.parenthesis_expression
   parenthesized_sound ts t rest e =
       let b = bind_some (read_up_to (sign signs.CloseParenthesis) (inner loosest) ts) _ _ e in
       let a = up_to_sound (inner loosest) whole_sound (sign signs.CloseParenthesis) ts b.0.0 b.0.1 b.1 in
       retake (IsAt levels.Primary (suc d)) b.2 (record { spelled = grammar.parentheses a.spelled.spelled; low = omega (arith, a.spelled.low) }) (after_word (sign signs.OpenParenthesis) a.parts)
 
-  measured_sound : (op : Measure) (ts : List Lexeme) (t : Tree) (rest : List Lexeme) → measured inner d op ts ≡ Some (t, rest) → TakesPrimary d (keyword (measure_word op)) ts t rest
-  unfolding measured
+  measured_sound : (op : Measure) (ts : List Lexeme) (t : Tree) (rest : List Lexeme) → measure_expression inner d op ts ≡ Some (t, rest) → TakesPrimary d (keyword (measure_word op)) ts t rest
+  unfolding measure_expression
   measured_sound op ts t rest e =
-      let b = bind_some (enclosed (inner loosest) ts) _ _ e in
+      let b = bind_some (in_parentheses_read (inner loosest) ts) _ _ e in
       let a = enclosed_sound (inner loosest) whole_sound ts b.0.0 b.0.1 b.1 in
       retake (IsAt levels.Primary (suc d)) b.2 (record { spelled = grammar.measure a.spelled.spelled; low = omega (arith, a.spelled.low) }) (after_word (keyword (measure_word op)) a.parts)
 
-  aggregated_sound : (op : Aggregate) (ts : List Lexeme) (t : Tree) (rest : List Lexeme) → aggregated inner d op ts ≡ Some (t, rest) → TakesPrimary d (keyword (aggregate_word op)) ts t rest
-  unfolding aggregated
+  aggregated_sound : (op : Aggregate) (ts : List Lexeme) (t : Tree) (rest : List Lexeme) → aggregate_expression inner d op ts ≡ Some (t, rest) → TakesPrimary d (keyword (aggregate_word op)) ts t rest
+  unfolding aggregate_expression
   aggregated_sound op ts t rest e =
       let o = bind_some (expect (sign signs.OpenParenthesis) ts) _ _ e in
       let b = bind_some (read_up_to comma (inner loosest) o.0) _ _ o.2 in
@@ -147,8 +147,8 @@ module _ (inner : Level → List Lexeme → Read) (d : ℕ) (inside : Inside d i
   unfolding elements
   elements_sound ts t rest e =
       let o = bind_some (expect (sign signs.OpenBrace) ts) _ _ e in
-      let b = bind_some (read_up_to (sign signs.CloseBrace) (separated (inner loosest)) o.0) _ _ o.2 in
-      let l = up_to_sound (separated (inner loosest)) (separated_sound (inner loosest) whole_sound) (sign signs.CloseBrace) o.0 b.0.0 b.0.1 b.1 in
+      let b = bind_some (read_up_to (sign signs.CloseBrace) (list_by_commas (inner loosest)) o.0) _ _ o.2 in
+      let l = up_to_sound (list_by_commas (inner loosest)) (separated_sound (inner loosest) whole_sound) (sign signs.CloseBrace) o.0 b.0.0 b.0.1 b.1 in
       let all = are_expressions l.spelled in
       retake (IsAt levels.Primary (suc d)) b.2 (record { spelled = grammar.relation all.spelled; low = omega (arith, all.low) }) (after_word (keyword k.Relation) (glue (expect_front (sign signs.OpenBrace) ts o.0 o.1) l.parts))
 
@@ -172,14 +172,14 @@ module _ (inner : Level → List Lexeme → Read) (d : ℕ) (inside : Inside d i
   unfolding extension
   extension_sound ts t rest e =
       let b = bind_some (read_up_to (keyword k.Add) (inner loosest) ts) _ _ e in
-      let c = bind_some (enclosed (separated (addition inner d)) b.0.1) _ _ b.2 in
+      let c = bind_some (in_parentheses_read (list_by_commas (addition inner d)) b.0.1) _ _ b.2 in
       let a = up_to_sound (inner loosest) whole_sound (keyword k.Add) ts b.0.0 b.0.1 b.1 in
-      let l = enclosed_sound (separated (addition inner d)) (separated_sound (addition inner d) (addition_sound inner d inside)) b.0.1 c.0.0 c.0.1 c.1 in
+      let l = enclosed_sound (list_by_commas (addition inner d)) (separated_sound (addition inner d) (addition_sound inner d inside)) b.0.1 c.0.0 c.0.1 c.1 in
       let all = are_additions l.spelled in
       retake (IsAt levels.Primary (suc d)) c.2 (record { spelled = grammar.extension a.spelled.spelled all.spelled; low = omega (arith, a.spelled.low, all.low) }) (after_word (keyword k.Extend) (word_front a.front (keyword k.Add) a.parts l.parts))
 
-  summarized_sound : (ts : List Lexeme) (t : Tree) (rest : List Lexeme) → summarized inner d ts ≡ Some (t, rest) → TakesPrimary d (keyword k.Summarize) ts t rest
-  unfolding summarized summary_per summary_by
+  summarized_sound : (ts : List Lexeme) (t : Tree) (rest : List Lexeme) → summarize_expression inner d ts ≡ Some (t, rest) → TakesPrimary d (keyword k.Summarize) ts t rest
+  unfolding summarize_expression summary_per summary_by
   summarized_sound ts t rest e =
       let b = bind_some (inner loosest ts) _ _ e in
       let a = whole_sound ts b.0.0 b.0.1 b.1 in
@@ -192,7 +192,7 @@ module _ (inner : Level → List Lexeme → Read) (d : ℕ) (inside : Inside d i
             let all = summaries_sound inner d inside c.0.1 f.0.0 f.0.1 f.1 in
             retake (IsAt levels.Primary (suc d)) f.2 (by_spelled a.spelled by.spelled all.spelled) (after_word (keyword k.Summarize) (glue a.parts (glue (expect_front (keyword k.By) b.0.1 o.0 o.1) (glue by.parts all.parts))))
         | inr g ↦
-            let c = bind_some (enclosed (inner loosest) g.0) _ _ g.2 in
+            let c = bind_some (in_parentheses_read (inner loosest) g.0) _ _ g.2 in
             let f = bind_some (summaries inner d c.0.1) _ _ c.2 in
             let per = enclosed_sound (inner loosest) whole_sound g.0 c.0.0 c.0.1 c.1 in
             let all = summaries_sound inner d inside c.0.1 f.0.0 f.0.1 f.1 in

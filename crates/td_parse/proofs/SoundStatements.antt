@@ -9,10 +9,10 @@ use Rattle.td_tree.specs.declared.token.Sign.TheVariants as signs
 use Rattle.td_tree.specs.Grammar.{IsExpression, height_limit, loosest}
 use Rattle.td_tree.specs.Lexemes.{Lexeme, keyword, sign}
 use Rattle.td_tree.specs.Lexemes as lexeme
-use Rattle.td_tree.specs.Lists.{Separated, one_item, next_item, Repeated, Optional, braced, parenthesized}
+use Rattle.td_tree.specs.Lists.{Separated, one_item, next_item, Repeated, Optional, with_braces, with_parentheses}
 use Rattle.td_parse.specs.Reading.{named_from, read}
 use Rattle.td_parse.specs.ReadingStatements as reading
-use Rattle.td_parse.specs.ReadingSteps.{expect, read_name, read_up_to, enclosed, optional, separated, names}
+use Rattle.td_parse.specs.ReadingSteps.{expect, read_name, read_up_to, in_parentheses_read, optional, list_by_commas, names}
 use Rattle.td_parse.specs.ReadingTypes.{attribute, read_type, relation_heading}
 use Rattle.td_tree.specs.StatementGrammar.{ExpressionItem, constraint_part, InitPart, init_part, WherePart, where_part, KeyPart, key_part, SettingsSpelling, last_setting, next_setting, AssignmentSpelling, assignment, insertion, deletion, changing, BaseWord, base_word, real_word, BodySpelling, no_body, type_definition, type_drop, var_drop, constraint_drop, base_definition, virtual_definition, constraint_definition, assignments, begin_transaction, commit, rollback, writing, dump, StatementSpelling, statement}
 use Rattle.td_tree.specs.Trees.{Text, Tree, Assignment, Statement}
@@ -83,9 +83,9 @@ unfolding reading.changing
 changing_sound ts a rest e =
     let b = bind_some (read_name ts) _ _ e in
     let c = bind_some (reading.condition b.0.1) _ _ b.2 in
-    let f = bind_some (enclosed (separated reading.setting) c.0.1) _ _ c.2 in
+    let f = bind_some (in_parentheses_read (list_by_commas reading.setting) c.0.1) _ _ c.2 in
     let s = condition_sound b.0.1 c.0.0 c.0.1 c.1 in
-    let l = enclosed_sound (separated reading.setting) (separated_sound reading.setting setting_sound) c.0.1 f.0.0 f.0.1 f.1 in
+    let l = enclosed_sound (list_by_commas reading.setting) (separated_sound reading.setting setting_sound) c.0.1 f.0.0 f.0.1 f.1 in
     retake AssignmentSpelling f.2 (changing s.spelled (are_settings l.spelled)) (after_word (keyword k.Update) (glue (name_front ts b.0.0 b.0.1 b.1) (glue s.parts l.parts)))
 
 assignment_word_sound : (w : Keyword) (ts : List Lexeme) (a : Assignment) (rest : List Lexeme) → reading.assignment_of_word w ts ≡ Some (a, rest) → Takes AssignmentSpelling (keyword w ∷ ts) a rest
@@ -107,7 +107,7 @@ assignment_sound _ a rest e = absurd cc
 assignments_sound : Sound BodySpelling reading.assignments
 unfolding reading.assignments
 assignments_sound ts t rest e =
-    let b = bind_some (separated reading.assignment ts) _ _ e in
+    let b = bind_some (list_by_commas reading.assignment ts) _ _ e in
     let l = separated_sound reading.assignment assignment_sound ts b.0.0 b.0.1 b.1 in
     retake BodySpelling b.2 (assignments l.spelled) l.parts
 
@@ -115,19 +115,19 @@ assignments_sound ts t rest e =
 
 -- '(' e ')'
 data IsEnclosed : List Lexeme → Tree → Type 0 where
-  between_parentheses : {xs : List Lexeme} {t : Tree} → ExpressionItem xs t → IsEnclosed (parenthesized xs) t
+  between_parentheses : {xs : List Lexeme} {t : Tree} → ExpressionItem xs t → IsEnclosed (with_parentheses xs) t
 
 -- what stands between the braces of a type's definition
 data IsDefinition (n : Text) : List Lexeme → Statement → Type 0 where
-  definition : {xs : List Lexeme} {t : Statement} → BodySpelling (keyword k.«Type» ∷ (lexeme.name n ∷ (keyword k.Possrep ∷ braced xs))) t → IsDefinition n xs t
+  definition : {xs : List Lexeme} {t : Statement} → BodySpelling (keyword k.«Type» ∷ (lexeme.name n ∷ (keyword k.Possrep ∷ with_braces xs))) t → IsDefinition n xs t
 
-definition_is : {n : Text} {xs : List Lexeme} {t : Statement} → IsDefinition n xs t → BodySpelling (keyword k.«Type» ∷ (lexeme.name n ∷ (keyword k.Possrep ∷ braced xs))) t
+definition_is : {n : Text} {xs : List Lexeme} {t : Statement} → IsDefinition n xs t → BodySpelling (keyword k.«Type» ∷ (lexeme.name n ∷ (keyword k.Possrep ∷ with_braces xs))) t
 definition_is (definition p) = p
 
 components_sound : (n : Text) → Sound (IsDefinition n) (reading.components n)
 unfolding reading.components
 components_sound n ts t rest e =
-    let b = bind_some (separated (attribute (read_type height_limit)) ts) _ _ e in
+    let b = bind_some (list_by_commas (attribute (read_type height_limit)) ts) _ _ e in
     let c = bind_some (optional (keyword k.Constraint) reading.expression b.0.1) _ _ b.2 in
     let l = separated_sound (attribute (read_type height_limit)) (attribute_sound (read_type height_limit) height_limit (type_sound height_limit)) ts b.0.0 b.0.1 b.1 in
     let all = are_attributes l.spelled in
@@ -148,16 +148,16 @@ type_definition_sound ts t rest e =
     }
 
 -- [INIT '(' e ')']
-init_item : (ts : List Lexeme) (t : Tree) (rest : List Lexeme) → enclosed reading.expression ts ≡ Some (t, rest) → Takes IsEnclosed ts t rest
+init_item : (ts : List Lexeme) (t : Tree) (rest : List Lexeme) → in_parentheses_read reading.expression ts ≡ Some (t, rest) → Takes IsEnclosed ts t rest
 init_item ts t rest e =
     let a = enclosed_sound reading.expression expression_sound ts t rest e in
-    record { front = parenthesized a.front; spelled = between_parentheses a.spelled; parts = a.parts }
+    record { front = with_parentheses a.front; spelled = between_parentheses a.spelled; parts = a.parts }
 
 init_is : (xs : List Lexeme) (t : Tree) → IsEnclosed xs t → InitPart (keyword k.Init ∷ xs) t
 init_is _ t (between_parentheses p) = init_part p
 
-init_sound : Sound (Optional InitPart) (optional (keyword k.Init) (enclosed reading.expression))
-init_sound = optional_sound (keyword k.Init) (enclosed reading.expression) init_is init_item
+init_sound : Sound (Optional InitPart) (optional (keyword k.Init) (in_parentheses_read reading.expression))
+init_sound = optional_sound (keyword k.Init) (in_parentheses_read reading.expression) init_is init_item
 
 base_definition_sound : (base : Keyword) → BaseWord base → (n : Text) (ts : List Lexeme) (t : Statement) (rest : List Lexeme) → reading.base_definition n ts ≡ Some (t, rest)
     → Takes BodySpelling (keyword k.Var ∷ (lexeme.name n ∷ (keyword base ∷ ts))) t rest
@@ -165,7 +165,7 @@ unfolding reading.base_definition
 base_definition_sound base is_base n ts t rest e =
     let o = bind_some (expect (keyword k.Relation) ts) _ _ e in
     let b = bind_some (relation_heading height_limit o.0) _ _ o.2 in
-    let c = bind_some (optional (keyword k.Init) (enclosed reading.expression) b.0.1) _ _ b.2 in
+    let c = bind_some (optional (keyword k.Init) (in_parentheses_read reading.expression) b.0.1) _ _ b.2 in
     let f = bind_some (reading.keys c.0.1) _ _ c.2 in
     let h = relation_heading_sound height_limit o.0 b.0.0 b.0.1 b.1 in
     let i = init_sound b.0.1 c.0.0 c.0.1 c.1 in
@@ -176,7 +176,7 @@ base_definition_sound base is_base n ts t rest e =
 virtual_definition_sound : (n : Text) (ts : List Lexeme) (t : Statement) (rest : List Lexeme) → reading.virtual_definition n ts ≡ Some (t, rest) → Takes BodySpelling (keyword k.Var ∷ (lexeme.name n ∷ (keyword k.Virtual ∷ ts))) t rest
 unfolding reading.virtual_definition
 virtual_definition_sound n ts t rest e =
-    let b = bind_some (enclosed reading.expression ts) _ _ e in
+    let b = bind_some (in_parentheses_read reading.expression ts) _ _ e in
     let c = bind_some (reading.keys b.0.1) _ _ b.2 in
     let a = enclosed_sound reading.expression expression_sound ts b.0.0 b.0.1 b.1 in
     let keys = keys_sound b.0.1 c.0.0 c.0.1 c.1 in
@@ -260,7 +260,7 @@ read_body_sound ts t rest e =
     ]
 
 -- what is read, and nothing is left
-pub ended_is : {A : Type 0} (a : A) (rest : List Lexeme) (b : A) → reading.ended a rest ≡ Some b → (rest ≡ []) × (a ≡ b)
+pub ended_is : {A : Type 0} (a : A) (rest : List Lexeme) (b : A) → reading.if_all_is_read a rest ≡ Some b → (rest ≡ []) × (a ≡ b)
 ended_is a [] b e = (refl, let f : some a ≡ some b = e in cc)
 ended_is a (x ∷ rest) b e = absurd cc
 

@@ -5,8 +5,8 @@ use Rattle.td_tree.specs.declared.keyword.Keyword.TheVariants as k
 use Rattle.td_tree.specs.declared.token.Sign.TheVariants as signs
 use Rattle.td_tree.specs.Lexemes.{Lexeme, keyword, sign}
 use Rattle.td_tree.specs.Lexemes as lexeme
-use Rattle.td_tree.specs.Lists.{Separated, one_item, next_item, Listed, no_items, some_items, Repeated, no_more, one_more, Optional, absent, present, parenthesized}
-use Rattle.td_parse.specs.ReadingSteps.{◌>>=◌, either, ReadOf, same_lexeme, expect, read_name, read_as, read_up_to, enclosed, optional, separated_from, separated, listed_to, repeated_from, repeated}
+use Rattle.td_tree.specs.Lists.{Separated, one_item, next_item, Listed, no_items, some_items, Repeated, no_more, one_more, Optional, absent, present, with_parentheses}
+use Rattle.td_parse.specs.ReadingSteps.{◌>>=◌, either, ReadOf, same_lexeme, expect, read_name, read_as, read_up_to, in_parentheses_read, optional, separated_from, list_by_commas, listed_to, repeated_from, list_by_words}
 use Rattle.td_tree.specs.Trees.{Text}
 use Rattle.td_parse.proofs.AgainLists.{comma}
 use Rattle.td_parse.proofs.Begins.{same_is}
@@ -79,7 +79,7 @@ pub record TakesTo {A : Type 0} (close : Lexeme) (Item : List Lexeme → A → T
 pub record TakesIn {A : Type 0} (Item : List Lexeme → A → Type 0) (ts : List Lexeme) (a : A) (rest : List Lexeme) : Type 0 where
   pub front : List Lexeme
   pub spelled : Item front a
-  pub parts : Front ts (parenthesized front) rest
+  pub parts : Front ts (with_parentheses front) rest
 
 -- ---- names
 
@@ -112,8 +112,8 @@ up_to_sound {A} {Item} item sound close ts a rest e =
       parts = subst (λ (l : List Lexeme). Front ts (t.front ++ (close ∷ [])) l) g.1 (glue t.parts (expect_front close b.0.1 c.0 c.1));
     }
 
-pub enclosed_sound : {A : Type 0} {Item : List Lexeme → A → Type 0} (item : List Lexeme → ReadOf A) → Sound Item item → (ts : List Lexeme) (a : A) (rest : List Lexeme) → enclosed item ts ≡ Some (a, rest) → TakesIn Item ts a rest
-unfolding enclosed
+pub enclosed_sound : {A : Type 0} {Item : List Lexeme → A → Type 0} (item : List Lexeme → ReadOf A) → Sound Item item → (ts : List Lexeme) (a : A) (rest : List Lexeme) → in_parentheses_read item ts ≡ Some (a, rest) → TakesIn Item ts a rest
+unfolding in_parentheses_read
 enclosed_sound {A} {Item} item sound ts a rest e =
     let b = bind_some (expect (sign signs.OpenParenthesis) ts) _ _ e in
     let t = up_to_sound item sound (sign signs.CloseParenthesis) b.0 a rest b.2 in
@@ -159,8 +159,8 @@ more_from {A} {Item} item sound (suc n) before ts all rest e =
           }
     ]
 
-pub separated_sound : {A : Type 0} {Item : List Lexeme → A → Type 0} (item : List Lexeme → ReadOf A) → Sound Item item → Sound (Separated Item) (separated item)
-unfolding separated
+pub separated_sound : {A : Type 0} {Item : List Lexeme → A → Type 0} (item : List Lexeme → ReadOf A) → Sound Item item → Sound (Separated Item) (list_by_commas item)
+unfolding list_by_commas
 separated_sound {A} {Item} item sound ts all rest e =
     let m = more_from item sound (suc (length ts)) [] ts all rest e in
     subst (λ (x : List A). Takes (Separated Item) ts x rest) (sym m.is_all) m.takes
@@ -171,7 +171,7 @@ unfolding listed_to
 listed_sound {A} {Item} item sound close ts all rest e =
     elim (either_cases _ _ (expect close ts) _ e) [
       | inl g ↦
-          let t = up_to_sound (separated item) (separated_sound item sound) close ts all rest g.1 in
+          let t = up_to_sound (list_by_commas item) (separated_sound item sound) close ts all rest g.1 in
           record { front = t.front; spelled = some_items t.spelled; parts = t.parts }
       | inr g ↦
           let q = pair_is [] all g.0 rest g.2 in
@@ -199,8 +199,8 @@ repeats_from {A} {Item} {Part} word item part sound (suc n) before ts all rest e
     ]
 
 pub repeated_sound : {A : Type 0} {Item Part : List Lexeme → A → Type 0} (word : Lexeme) (item : List Lexeme → ReadOf A) → ((xs : List Lexeme) (a : A) → Item xs a → Part (word ∷ xs) a) → Sound Item item
-    → Sound (Repeated Part) (repeated word item)
-unfolding repeated
+    → Sound (Repeated Part) (list_by_words word item)
+unfolding list_by_words
 repeated_sound {A} {Item} {Part} word item part sound ts all rest e =
     let m = repeats_from word item part sound (suc (length ts)) [] ts all rest e in
     subst (λ (x : List A). Takes (Repeated Part) ts x rest) (sym m.is_all) m.takes

@@ -8,7 +8,7 @@ use Rattle.td_tree.specs.Grammar as grammar
 use Rattle.td_tree.specs.Heights.{type_height, attributes_height}
 use Rattle.td_tree.specs.Lexemes.{Lexeme, keyword, sign}
 use Rattle.td_tree.specs.Lexemes as lexeme
-use Rattle.td_tree.specs.Lists.{Listed, no_items, some_items, Separated, one_item, next_item, braced}
+use Rattle.td_tree.specs.Lists.{Listed, no_items, some_items, Separated, one_item, next_item, with_braces}
 use Rattle.td_parse.specs.ReadingSteps.{ReadOf, expect, read_name, listed_to}
 use Rattle.td_parse.specs.ReadingTypes.{attribute, attribute_trees_from, heading, type_of_word, type_of_first, read_type, relation_heading}
 use Rattle.td_tree.specs.Trees as tree
@@ -40,7 +40,7 @@ are_attributes (next_item (attribute_item p lt) q) =
     let r = are_attributes q in
     record { spelled = next_attribute p r.spelled; low = omega (arith, r.low) }
 
-is_heading : {d : ℕ} {xs : List Lexeme} {all : List (Text × TypeTree)} → Listed (IsAttribute d) xs all → IsHeading d (braced xs) (attribute_trees_from all)
+is_heading : {d : ℕ} {xs : List Lexeme} {all : List (Text × TypeTree)} → Listed (IsAttribute d) xs all → IsHeading d (with_braces xs) (attribute_trees_from all)
 is_heading no_items = record { spelled = empty_heading; low = omega arith }
 is_heading (some_items p) =
     let r = are_attributes p in

@@ -22,10 +22,10 @@ use Rattle.td_tree.specs.Lexemes.{Lexeme, keyword, sign}
 use Rattle.td_tree.specs.Trees.{Tree}
 use Rattle.td_parse.specs.declared.operators.Infix.{Infix}
 use Rattle.td_parse.specs.declared.operators.Infix.TheVariants as infixes
-use Rattle.td_parse.specs.Reading.{Read, additive, applied, by_level, chain, compared, compared_to, conjunction, disjunction, multiplicative, negated, operations, prefixed, relational, restriction}
+use Rattle.td_parse.specs.Reading.{Read, additive, prefix_expression, by_level, chain, comparison_expression, compared_to, conjunction, disjunction, multiplicative, negation_expression, operations, unary_expression, relational, restriction}
 use Rattle.td_parse.specs.ReadingOperators.{link_level, any_link, comparison_at, comparison_of_sign, comparison_of_word, link_at, link_of_sign, link_of_word, same_level, with_rest}
 use Rattle.td_parse.specs.ReadingSteps.{◌>>=◌, either, ReadOf, expect}
-use Rattle.td_parse.specs.code.Walking.{any_infix, infix_at, infix_level, is_between, infix_tree, not_at, tightest_after, tightness, walk, walked}
+use Rattle.td_parse.specs.code.Walking.{any_infix, infix_at, infix_level, is_between, infix_tree, not_at, tightest_after, tightness, walk, infix_expression}
 use Rattle.td_parse.proofs.Again.{height_pos}
 
 -- ---- what stands at the front
@@ -396,47 +396,47 @@ module _ (inner : Level → List Lexeme → Read) (depth : ℕ) where
 
   -- behind what begins with NOT, or behind another operand
   abbrev go_either : ℕ → List Lexeme → Option (List Lexeme) → Read
-  go_either least ts o = either (go_from least (tightness levels.Multiplicative) (prefixed inner depth ts)) (λ after. go_from least (tightness levels.Negation) (applied inner depth levels.Negation prefixes.Not after)) o
+  go_either least ts o = either (go_from least (tightness levels.Multiplicative) (unary_expression inner depth ts)) (λ after. go_from least (tightness levels.Negation) (prefix_expression inner depth levels.Negation prefixes.Not after)) o
 
   either_widened : (cut : ℕ) (ts : List Lexeme) (o : Option (List Lexeme)) → cut ≤ 2 → go_from cut cut (go_either (suc cut) ts o) ≡ go_either cut ts o
-  either_widened cut ts None le = widened cut (tightness levels.Multiplicative) (omega arith) (prefixed inner depth ts)
-  either_widened cut ts (Some after) le = widened cut (tightness levels.Negation) (omega arith) (applied inner depth levels.Negation prefixes.Not after)
+  either_widened cut ts None le = widened cut (tightness levels.Multiplicative) (omega arith) (unary_expression inner depth ts)
+  either_widened cut ts (Some after) le = widened cut (tightness levels.Negation) (omega arith) (prefix_expression inner depth levels.Negation prefixes.Not after)
 
-  multiplicative_is : (ts : List Lexeme) → multiplicative inner depth ts ≡ go_from 7 7 (prefixed inner depth ts)
+  multiplicative_is : (ts : List Lexeme) → multiplicative inner depth ts ≡ go_from 7 7 (unary_expression inner depth ts)
   unfolding multiplicative chain
-  multiplicative_is ts = chain_is levels.Multiplicative refl (prefixed inner depth ts)
+  multiplicative_is ts = chain_is levels.Multiplicative refl (unary_expression inner depth ts)
 
-  additive_is : (ts : List Lexeme) → additive inner depth ts ≡ go_from 6 7 (prefixed inner depth ts)
+  additive_is : (ts : List Lexeme) → additive inner depth ts ≡ go_from 6 7 (unary_expression inner depth ts)
   unfolding additive chain
-  additive_is ts = chain_is levels.Additive refl (multiplicative inner depth ts) ∙ (ap (go_from 6 6) (multiplicative_is ts) ∙ widened 6 7 (omega arith) (prefixed inner depth ts))
+  additive_is ts = chain_is levels.Additive refl (multiplicative inner depth ts) ∙ (ap (go_from 6 6) (multiplicative_is ts) ∙ widened 6 7 (omega arith) (unary_expression inner depth ts))
 
-  relational_is : (ts : List Lexeme) → relational inner depth ts ≡ go_from 5 7 (prefixed inner depth ts)
+  relational_is : (ts : List Lexeme) → relational inner depth ts ≡ go_from 5 7 (unary_expression inner depth ts)
   unfolding relational chain
-  relational_is ts = chain_is levels.Relational refl (additive inner depth ts) ∙ (ap (go_from 5 5) (additive_is ts) ∙ widened 5 7 (omega arith) (prefixed inner depth ts))
+  relational_is ts = chain_is levels.Relational refl (additive inner depth ts) ∙ (ap (go_from 5 5) (additive_is ts) ∙ widened 5 7 (omega arith) (unary_expression inner depth ts))
 
   compared_from : (r : Read) → (r >>= λ x. either (Some x) (λ p. compared_to inner depth x.0 p.0 p.1) (comparison_at x.1)) ≡ go_from 4 4 r
   compared_from None = refl
   compared_from (Some x) = compared_turn x.0 x.1 (any_link x.1) (comparison_at x.1) refl refl
 
-  compared_is : (ts : List Lexeme) → compared inner depth ts ≡ go_from 4 7 (prefixed inner depth ts)
-  unfolding compared
-  compared_is ts = compared_from (relational inner depth ts) ∙ (ap (go_from 4 4) (relational_is ts) ∙ widened 4 7 (omega arith) (prefixed inner depth ts))
+  compared_is : (ts : List Lexeme) → comparison_expression inner depth ts ≡ go_from 4 7 (unary_expression inner depth ts)
+  unfolding comparison_expression
+  compared_is ts = compared_from (relational inner depth ts) ∙ (ap (go_from 4 4) (relational_is ts) ∙ widened 4 7 (omega arith) (unary_expression inner depth ts))
 
   no_negation : (r : Read) → go_from 3 3 r ≡ r
   no_negation None = refl
   no_negation (Some x) = walk_ends 3 (suc depth) 3 x.0 x.1 (omega arith) (nothing_at_negation x.1 (any_infix x.1) refl)
 
-  negated_from : (ts : List Lexeme) (o : Option (List Lexeme)) → either (compared inner depth ts) (λ after. applied inner depth levels.Negation prefixes.Not after) o ≡ go_either 3 ts o
-  negated_from ts None = sym (no_negation (compared inner depth ts)) ∙ (ap (go_from 3 3) (compared_is ts) ∙ widened 3 7 (omega arith) (prefixed inner depth ts))
-  negated_from ts (Some after) = sym (no_negation (applied inner depth levels.Negation prefixes.Not after))
+  negated_from : (ts : List Lexeme) (o : Option (List Lexeme)) → either (comparison_expression inner depth ts) (λ after. prefix_expression inner depth levels.Negation prefixes.Not after) o ≡ go_either 3 ts o
+  negated_from ts None = sym (no_negation (comparison_expression inner depth ts)) ∙ (ap (go_from 3 3) (compared_is ts) ∙ widened 3 7 (omega arith) (unary_expression inner depth ts))
+  negated_from ts (Some after) = sym (no_negation (prefix_expression inner depth levels.Negation prefixes.Not after))
 
-  negated_is : (ts : List Lexeme) → negated inner depth ts ≡ go_either 3 ts (expect (keyword k.Not) ts)
-  unfolding negated
+  negated_is : (ts : List Lexeme) → negation_expression inner depth ts ≡ go_either 3 ts (expect (keyword k.Not) ts)
+  unfolding negation_expression
   negated_is ts = negated_from ts (expect (keyword k.Not) ts)
 
   conjunction_is : (ts : List Lexeme) → conjunction inner depth ts ≡ go_either 2 ts (expect (keyword k.Not) ts)
   unfolding conjunction chain
-  conjunction_is ts = chain_is levels.Conjunction refl (negated inner depth ts) ∙ (ap (go_from 2 2) (negated_is ts) ∙ either_widened 2 ts (expect (keyword k.Not) ts) (omega arith))
+  conjunction_is ts = chain_is levels.Conjunction refl (negation_expression inner depth ts) ∙ (ap (go_from 2 2) (negated_is ts) ∙ either_widened 2 ts (expect (keyword k.Not) ts) (omega arith))
 
   disjunction_is : (ts : List Lexeme) → disjunction inner depth ts ≡ go_either 1 ts (expect (keyword k.Not) ts)
   unfolding disjunction chain
@@ -447,8 +447,8 @@ module _ (inner : Level → List Lexeme → Read) (depth : ℕ) where
   restriction_is ts = chain_is levels.Restriction refl (disjunction inner depth ts) ∙ (ap (go_from 0 0) (disjunction_is ts) ∙ either_widened 0 ts (expect (keyword k.Not) ts) (omega arith))
 
   -- the walk reads an expression of a level of operators between operands
-  pub walked_is : (level : Level) (ts : List Lexeme) → (level ≡ levels.Prefixed → ⊥) → (level ≡ levels.Postfixed → ⊥) → (level ≡ levels.Primary → ⊥) → by_level inner depth level ts ≡ walked inner depth level ts
-  unfolding by_level walked not_at
+  pub walked_is : (level : Level) (ts : List Lexeme) → (level ≡ levels.Prefixed → ⊥) → (level ≡ levels.Postfixed → ⊥) → (level ≡ levels.Primary → ⊥) → by_level inner depth level ts ≡ infix_expression inner depth level ts
+  unfolding by_level infix_expression not_at
   walked_is levels.Restriction ts p q r = restriction_is ts
   walked_is levels.Disjunction ts p q r = disjunction_is ts
   walked_is levels.Conjunction ts p q r = conjunction_is ts

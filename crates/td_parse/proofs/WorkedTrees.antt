@@ -18,7 +18,7 @@ use Rattle.td_tree.specs.Pieces.{sign_at, sign_goes_on, opens, goes_on, word_kin
 use Rattle.td_tree.specs.Prints.{print}
 use Rattle.td_tree.specs.Statements.{tokens}
 use Rattle.td_tree.specs.TokenLexemes.{lexemes}
-use Rattle.td_parse.specs.Reading.{read, by_level, restriction, disjunction, conjunction, negated, compared, compared_to, relational, additive, multiplicative, chain, operations, prefixed, postfixed, postfixes, primary, numeral}
+use Rattle.td_parse.specs.Reading.{read, by_level, restriction, disjunction, conjunction, negation_expression, comparison_expression, compared_to, relational, additive, multiplicative, chain, operations, unary_expression, postfix_expression, postfixes, primary, numeral}
 use Rattle.td_parse.specs.ReadingOperators.{link_at, comparison_at, prefix_at, extraction_at, postfix_at}
 use Rattle.td_parse.specs.ReadingSteps.{expect}
 use Rattle.td_tree.specs.Trees as tree
@@ -159,7 +159,7 @@ restricted_worked = record {
 
 -- `unfolding reading` lets `refl` compute what is read
 unfoldable reading : Unit {0}
-unfolding read by_level restriction disjunction conjunction negated compared compared_to relational additive multiplicative chain operations prefixed postfixed postfixes primary numeral expect link_at comparison_at prefix_at extraction_at postfix_at
+unfolding read by_level restriction disjunction conjunction negation_expression comparison_expression compared_to relational additive multiplicative chain operations unary_expression postfix_expression postfixes primary numeral expect link_at comparison_at prefix_at extraction_at postfix_at
 reading = tt
 
 chained : List Lexeme

@@ -19,8 +19,8 @@ use Rattle.td_tree.specs.Heights.{height}
 use Rattle.td_tree.specs.Lexemes.{Lexeme, keyword, sign}
 use Rattle.td_tree.specs.Lexemes as lexeme
 use Rattle.td_tree.specs.Numbers.{numeral_limit}
-use Rattle.td_parse.specs.ReadingOperators.{linked, link_at, comparison_at, prefix_at, extraction_at, postfix_at, call_at, heading_at}
-use Rattle.td_parse.specs.ReadingSteps.{◌>>=◌, either, ReadOf, expect, read_name, read_as, read_up_to, enclosed, separated, listed_to, attribute_list, read_renaming}
+use Rattle.td_parse.specs.ReadingOperators.{linked_tree, link_at, comparison_at, prefix_at, extraction_at, postfix_at, call_at, heading_at}
+use Rattle.td_parse.specs.ReadingSteps.{◌>>=◌, either, ReadOf, expect, read_name, read_as, read_up_to, in_parentheses_read, list_by_commas, listed_to, attribute_list, read_renaming}
 use Rattle.td_parse.specs.ReadingTypes.{relation_heading}
 use Rattle.td_tree.specs.Trees as tree
 use Rattle.td_tree.specs.Trees.{Text, Attributes, Postfix, Tree, Trees, NamedTrees, Summaries}
@@ -65,12 +65,12 @@ named_attributes ts = attribute_list ts >>= λ a. read_as a.1 >>= λ n. Some ((a
 -- an operator behind its operand, after its first word
 unfoldable pub postfix_of_word : Keyword → List Lexeme → ReadOf Postfix
 postfix_of_word k.Rename ts =
-    enclosed (separated read_renaming) ts >>= λ x. Some (tree.rename x.0, x.1)
+    in_parentheses_read (list_by_commas read_renaming) ts >>= λ x. Some (tree.rename x.0, x.1)
 postfix_of_word k.Group ts =
-    enclosed named_attributes ts >>= λ x. Some (tree.group x.0.0 x.0.1, x.1)
-postfix_of_word k.Wrap ts = enclosed named_attributes ts >>= λ x. Some (tree.wrap x.0.0 x.0.1, x.1)
-postfix_of_word k.Ungroup ts = enclosed read_name ts >>= λ x. Some (tree.ungroup x.0, x.1)
-postfix_of_word k.Unwrap ts = enclosed read_name ts >>= λ x. Some (tree.unwrap x.0, x.1)
+    in_parentheses_read named_attributes ts >>= λ x. Some (tree.group x.0.0 x.0.1, x.1)
+postfix_of_word k.Wrap ts = in_parentheses_read named_attributes ts >>= λ x. Some (tree.wrap x.0.0 x.0.1, x.1)
+postfix_of_word k.Ungroup ts = in_parentheses_read read_name ts >>= λ x. Some (tree.ungroup x.0, x.1)
+postfix_of_word k.Unwrap ts = in_parentheses_read read_name ts >>= λ x. Some (tree.unwrap x.0, x.1)
 postfix_of_word _ ts = None
 
 -- an operator behind its operand
@@ -117,7 +117,7 @@ module _ (inner : Level → List Lexeme → Read) (depth : ℕ) where
   -- (SUM | MAX | MIN) '(' e ')' AS name, after its first word
   unfoldable pub sum_summary : Aggregate → List Lexeme → ReadOf SummaryItem
   sum_summary op ts =
-      enclosed expression ts >>= λ a. read_as a.1 >>= λ n. Some (sum_item op a.0 n.0, n.1)
+      in_parentheses_read expression ts >>= λ a. read_as a.1 >>= λ n. Some (sum_item op a.0 n.0, n.1)
 
   -- what SUMMARIZE adds once, after its first word
   unfoldable pub summary_of_word : Keyword → List Lexeme → ReadOf SummaryItem
@@ -135,12 +135,12 @@ module _ (inner : Level → List Lexeme → Read) (depth : ℕ) where
   -- ADD '(' item,+ ')'
   unfoldable pub summaries : List Lexeme → ReadOf Summaries
   summaries ts =
-      expect (keyword k.Add) ts >>= λ after. enclosed (separated summary) after
+      expect (keyword k.Add) ts >>= λ after. in_parentheses_read (list_by_commas summary) after
       >>= λ x. Some (summaries_from x.0, x.1)
 
   -- after a name
-  unfoldable pub named : Text → List Lexeme → Read
-  named n ts =
+  unfoldable pub name_expression : Text → List Lexeme → Read
+  name_expression n ts =
       either (Some (tree.name n, ts))
       (λ after. listed_to (sign signs.CloseParenthesis) expression after
       >>= λ x. Some (tree.select n (trees_from x.0), x.1))
@@ -148,20 +148,20 @@ module _ (inner : Level → List Lexeme → Read) (depth : ℕ) where
 
   -- after a THE word
   unfoldable pub component_of : Text → List Lexeme → Read
-  component_of rest ts = enclosed expression ts >>= λ a. Some (tree.component rest a.0, a.1)
+  component_of rest ts = in_parentheses_read expression ts >>= λ a. Some (tree.component rest a.0, a.1)
 
   -- after '('
-  unfoldable pub parenthesized : List Lexeme → Read
-  parenthesized ts =
+  unfoldable pub parenthesis_expression : List Lexeme → Read
+  parenthesis_expression ts =
       read_up_to (sign signs.CloseParenthesis) expression ts >>= λ a. Some (tree.parentheses a.0, a.1)
 
   -- after COUNT or IS_EMPTY
-  unfoldable pub measured : Measure → List Lexeme → Read
-  measured op ts = enclosed expression ts >>= λ a. Some (tree.measure op a.0, a.1)
+  unfoldable pub measure_expression : Measure → List Lexeme → Read
+  measure_expression op ts = in_parentheses_read expression ts >>= λ a. Some (tree.measure op a.0, a.1)
 
   -- after SUM, MAX or MIN
-  unfoldable pub aggregated : Aggregate → List Lexeme → Read
-  aggregated op ts =
+  unfoldable pub aggregate_expression : Aggregate → List Lexeme → Read
+  aggregate_expression op ts =
       expect (sign signs.OpenParenthesis) ts >>= λ after. read_up_to (sign signs.Comma) expression after
       >>= λ a. read_up_to (sign signs.CloseParenthesis) expression a.1
       >>= λ b. Some (tree.aggregate op a.0 b.0, b.1)
@@ -177,7 +177,7 @@ module _ (inner : Level → List Lexeme → Read) (depth : ℕ) where
   unfoldable pub elements : List Lexeme → Read
   elements ts =
       expect (sign signs.OpenBrace) ts
-      >>= λ after. read_up_to (sign signs.CloseBrace) (separated expression) after
+      >>= λ after. read_up_to (sign signs.CloseBrace) (list_by_commas expression) after
       >>= λ x. Some (tree.relation (trees_from x.0), x.1)
 
   -- after RELATION
@@ -193,13 +193,13 @@ module _ (inner : Level → List Lexeme → Read) (depth : ℕ) where
   -- after EXTEND
   unfoldable pub extension : List Lexeme → Read
   extension ts =
-      read_up_to (keyword k.Add) expression ts >>= λ a. enclosed (separated addition) a.1
+      read_up_to (keyword k.Add) expression ts >>= λ a. in_parentheses_read (list_by_commas addition) a.1
       >>= λ x. Some (tree.extend a.0 (named_from x.0), x.1)
 
   -- after SUMMARIZE e PER
   unfoldable pub summary_per : Tree → List Lexeme → Read
   summary_per a ts =
-      enclosed expression ts >>= λ b. summaries b.1
+      in_parentheses_read expression ts >>= λ b. summaries b.1
       >>= λ x. Some (tree.summarize_per a b.0 x.0, x.1)
 
   -- after SUMMARIZE e BY
@@ -208,8 +208,8 @@ module _ (inner : Level → List Lexeme → Read) (depth : ℕ) where
       attribute_list ts >>= λ by. summaries by.1 >>= λ x. Some (tree.summarize_by a by.0 x.0, x.1)
 
   -- after SUMMARIZE
-  unfoldable pub summarized : List Lexeme → Read
-  summarized ts =
+  unfoldable pub summarize_expression : List Lexeme → Read
+  summarize_expression ts =
       expression ts
       >>= λ a. either (expect (keyword k.By) a.1 >>= λ after. summary_by a.0 after)
       (λ after. summary_per a.0 after) (expect (keyword k.Per) a.1)
@@ -229,21 +229,21 @@ module _ (inner : Level → List Lexeme → Read) (depth : ℕ) where
   primary_of_word k.False ts = Some (tree.literal (tree.truth false), ts)
   primary_of_word k.TableDee ts = Some (tree.literal tree.table_dee, ts)
   primary_of_word k.TableDum ts = Some (tree.literal tree.table_dum, ts)
-  primary_of_word k.Count ts = measured measures.Count ts
-  primary_of_word k.IsEmpty ts = measured measures.IsEmpty ts
-  primary_of_word k.Sum ts = aggregated aggregates.Sum ts
-  primary_of_word k.Max ts = aggregated aggregates.Max ts
-  primary_of_word k.Min ts = aggregated aggregates.Min ts
+  primary_of_word k.Count ts = measure_expression measures.Count ts
+  primary_of_word k.IsEmpty ts = measure_expression measures.IsEmpty ts
+  primary_of_word k.Sum ts = aggregate_expression aggregates.Sum ts
+  primary_of_word k.Max ts = aggregate_expression aggregates.Max ts
+  primary_of_word k.Min ts = aggregate_expression aggregates.Min ts
   primary_of_word k.Relation ts = relation ts
   primary_of_word k.Tuple ts = tuple ts
   primary_of_word k.Extend ts = extension ts
-  primary_of_word k.Summarize ts = summarized ts
+  primary_of_word k.Summarize ts = summarize_expression ts
   primary_of_word k.If ts = choice ts
   primary_of_word _ ts = None
 
   -- a primary expression after its first sign
   unfoldable pub primary_of_sign : Sign → List Lexeme → Read
-  primary_of_sign signs.OpenParenthesis ts = parenthesized ts
+  primary_of_sign signs.OpenParenthesis ts = parenthesis_expression ts
   primary_of_sign signs.Minus ts = negative ts
   primary_of_sign _ ts = None
 
@@ -251,7 +251,7 @@ module _ (inner : Level → List Lexeme → Read) (depth : ℕ) where
   unfoldable pub primary : List Lexeme → Read
   primary (keyword w ∷ ts) = primary_of_word w ts
   primary (sign s ∷ ts) = primary_of_sign s ts
-  primary (lexeme.name n ∷ ts) = named n ts
+  primary (lexeme.name n ∷ ts) = name_expression n ts
   primary (lexeme.component rest ∷ ts) = component_of rest ts
   primary (lexeme.number n ∷ ts) = numeral false n ts
   primary (lexeme.text said ∷ ts) = Some (tree.literal (tree.text said), ts)
@@ -267,22 +267,22 @@ module _ (inner : Level → List Lexeme → Read) (depth : ℕ) where
       else Some (left, ts)
 
   -- e9: a primary expression with the operators behind it
-  unfoldable pub postfixed : List Lexeme → Read
-  postfixed ts = primary ts >>= λ x. postfixes (suc depth) x.0 x.1
+  unfoldable pub postfix_expression : List Lexeme → Read
+  postfix_expression ts = primary ts >>= λ x. postfixes (suc depth) x.0 x.1
 
   -- after name FROM
-  unfoldable pub extracted : Text → List Lexeme → Read
-  extracted n ts = inner levels.Prefixed ts >>= λ x. Some (tree.extract n x.0, x.1)
+  unfoldable pub extract_expression : Text → List Lexeme → Read
+  extract_expression n ts = inner levels.Prefixed ts >>= λ x. Some (tree.extract n x.0, x.1)
 
   -- after an operator before its operand, which stands at this level
-  unfoldable pub applied : Level → Prefix → List Lexeme → Read
-  applied level op ts = inner level ts >>= λ x. Some (tree.prefix op x.0, x.1)
+  unfoldable pub prefix_expression : Level → Prefix → List Lexeme → Read
+  prefix_expression level op ts = inner level ts >>= λ x. Some (tree.prefix op x.0, x.1)
 
   -- e8: what stands before an operand, or e9
-  unfoldable pub prefixed : List Lexeme → Read
-  prefixed ts =
-      either (either (postfixed ts) (λ p. extracted p.0 p.1) (extraction_at ts))
-      (λ p. applied levels.Prefixed p.0 p.1) (prefix_at ts)
+  unfoldable pub unary_expression : List Lexeme → Read
+  unary_expression ts =
+      either (either (postfix_expression ts) (λ p. extract_expression p.0 p.1) (extraction_at ts))
+      (λ p. prefix_expression levels.Prefixed p.0 p.1) (prefix_at ts)
 
   -- goes on with the operators of a level, at most so many
   unfoldable pub operations : Level → ℕ → Tree → List Lexeme → Read
@@ -290,7 +290,7 @@ module _ (inner : Level → List Lexeme → Read) (depth : ℕ) where
   operations level (suc n) left ts =
       either (Some (left, ts))
       (λ p. inner (tighter level) p.1 >>= λ x.
-      if fits (linked left p.0 x.0) then operations level n (linked left p.0 x.0) x.1 else None)
+      if fits (linked_tree left p.0 x.0) then operations level n (linked_tree left p.0 x.0) x.1 else None)
       (link_at level ts)
 
   -- operands of the next level with the operators of this one
@@ -299,7 +299,7 @@ module _ (inner : Level → List Lexeme → Read) (depth : ℕ) where
 
   -- e7, by '*' and '/'
   unfoldable pub multiplicative : List Lexeme → Read
-  multiplicative = chain levels.Multiplicative prefixed
+  multiplicative = chain levels.Multiplicative unary_expression
 
   -- e6, by '+', '-' and '||'
   unfoldable pub additive : List Lexeme → Read
@@ -316,19 +316,19 @@ module _ (inner : Level → List Lexeme → Read) (depth : ℕ) where
       if fits (tree.compare left op x.0) then Some (tree.compare left op x.0, x.1) else None
 
   -- e4: e5, or a comparison of two
-  unfoldable pub compared : List Lexeme → Read
-  compared ts =
+  unfoldable pub comparison_expression : List Lexeme → Read
+  comparison_expression ts =
       relational ts >>= λ x. either (Some x) (λ p. compared_to x.0 p.0 p.1) (comparison_at x.1)
 
   -- e3: NOT e3, or e4
-  unfoldable pub negated : List Lexeme → Read
-  negated ts =
-      either (compared ts) (λ after. applied levels.Negation prefixes.Not after)
+  unfoldable pub negation_expression : List Lexeme → Read
+  negation_expression ts =
+      either (comparison_expression ts) (λ after. prefix_expression levels.Negation prefixes.Not after)
       (expect (keyword k.Not) ts)
 
   -- e2, by AND
   unfoldable pub conjunction : List Lexeme → Read
-  conjunction = chain levels.Conjunction negated
+  conjunction = chain levels.Conjunction negation_expression
 
   -- e1, by OR
   unfoldable pub disjunction : List Lexeme → Read
@@ -343,13 +343,13 @@ module _ (inner : Level → List Lexeme → Read) (depth : ℕ) where
   by_level levels.Restriction = restriction
   by_level levels.Disjunction = disjunction
   by_level levels.Conjunction = conjunction
-  by_level levels.Negation = negated
-  by_level levels.Comparison = compared
+  by_level levels.Negation = negation_expression
+  by_level levels.Comparison = comparison_expression
   by_level levels.Relational = relational
   by_level levels.Additive = additive
   by_level levels.Multiplicative = multiplicative
-  by_level levels.Prefixed = prefixed
-  by_level levels.Postfixed = postfixed
+  by_level levels.Prefixed = unary_expression
+  by_level levels.Postfixed = postfix_expression
   by_level levels.Primary = primary
 
 -- an expression of this level that is at most so high

@@ -41,9 +41,9 @@ link_words links.Where = keyword k.Where ∷ []
 link_words (links.Operator op) = operator_words op
 
 -- the tree of two operands with what stands between them
-abbrev pub linked : Tree → Link → Tree → Tree
-linked left links.Where right = tree.restriction left right
-linked left (links.Operator op) right = tree.binary left op right
+abbrev pub linked_tree : Tree → Link → Tree → Tree
+linked_tree left links.Where right = tree.restriction left right
+linked_tree left (links.Operator op) right = tree.binary left op right
 
 -- what is one word
 abbrev pub link_of_word : Keyword → Option Link

@@ -8,7 +8,7 @@ use Rattle.td_tree.specs.Grammar.{height_limit, loosest}
 use Rattle.td_tree.specs.Lexemes.{Lexeme, keyword, sign}
 use Rattle.td_tree.specs.Lexemes as lexeme
 use Rattle.td_parse.specs.Reading.{Read, named_from, read}
-use Rattle.td_parse.specs.ReadingSteps.{◌>>=◌, either, ReadOf, expect, read_name, read_up_to, enclosed, optional, separated, repeated, names}
+use Rattle.td_parse.specs.ReadingSteps.{◌>>=◌, either, ReadOf, expect, read_name, read_up_to, in_parentheses_read, optional, list_by_commas, list_by_words, names}
 use Rattle.td_parse.specs.ReadingTypes.{attribute, attribute_trees_from, read_type, relation_heading}
 use Rattle.td_tree.specs.Trees as tree
 use Rattle.td_tree.specs.Trees.{Text, TypeTree, Tree, Assignment, Statement}
@@ -23,7 +23,7 @@ condition = optional (keyword k.Where) (read height_limit levels.Disjunction)
 
 -- (KEY names)*
 unfoldable pub keys : List Lexeme → ReadOf (List (List Text))
-keys = repeated (keyword k.Key) names
+keys = list_by_words (keyword k.Key) names
 
 -- ':=' e
 unfoldable pub source : List Lexeme → Read
@@ -46,7 +46,7 @@ deletion ts = read_name ts >>= λ n. condition n.1 >>= λ c. Some (tree.delete n
 -- UPDATE name [WHERE e1] '(' set,+ ')', after UPDATE
 unfoldable pub changing : List Lexeme → ReadOf Assignment
 changing ts =
-    read_name ts >>= λ n. condition n.1 >>= λ c. enclosed (separated setting) c.1
+    read_name ts >>= λ n. condition n.1 >>= λ c. in_parentheses_read (list_by_commas setting) c.1
     >>= λ x. Some (tree.update n.0 c.0 (named_from x.0), x.1)
 
 -- an assignment after its first word
@@ -64,14 +64,14 @@ assignment _ = None
 
 -- assign,+
 unfoldable pub assignments : List Lexeme → ReadOf Statement
-assignments ts = separated assignment ts >>= λ x. Some (tree.assign_all x.0, x.1)
+assignments ts = list_by_commas assignment ts >>= λ x. Some (tree.assign_all x.0, x.1)
 
 -- ---- definitions
 
 -- attr,+ [CONSTRAINT e]
 unfoldable pub components : Text → List Lexeme → ReadOf Statement
 components n ts =
-    separated (attribute (read_type height_limit)) ts
+    list_by_commas (attribute (read_type height_limit)) ts
     >>= λ h. optional (keyword k.Constraint) expression h.1
     >>= λ c. Some (tree.define_type n (attribute_trees_from h.0) c.0, c.1)
 
@@ -87,14 +87,14 @@ unfoldable pub base_definition : Text → List Lexeme → ReadOf Statement
 base_definition n ts = do
   after ← expect (keyword k.Relation) ts
   h ← relation_heading height_limit after
-  i ← optional (keyword k.Init) (enclosed expression) h.1
+  i ← optional (keyword k.Init) (in_parentheses_read expression) h.1
   all ← keys i.1
   Some (tree.define_base n h.0 i.0 all.0, all.1)
 
 -- '(' e ')' (KEY names)*
 unfoldable pub virtual_definition : Text → List Lexeme → ReadOf Statement
 virtual_definition n ts =
-    enclosed expression ts >>= λ a. keys a.1 >>= λ x. Some (tree.define_virtual n a.0 x.0, x.1)
+    in_parentheses_read expression ts >>= λ a. keys a.1 >>= λ x. Some (tree.define_virtual n a.0 x.0, x.1)
 
 -- a definition after its word and before that VAR and a name
 unfoldable pub definition_of_word : Keyword → Text → List Lexeme → ReadOf Statement
@@ -151,14 +151,14 @@ unfoldable pub read_body : List Lexeme → ReadOf Statement
 read_body ts = either (body ts) (λ after. Some (tree.empty, ts)) (expect (sign signs.Semicolon) ts)
 
 -- what was read, where nothing is left
-abbrev pub ended : {A : Type 0} → A → List Lexeme → Option A
-ended a [] = Some a
-ended a (x ∷ ts) = None
+abbrev pub if_all_is_read : {A : Type 0} → A → List Lexeme → Option A
+if_all_is_read a [] = Some a
+if_all_is_read a (x ∷ ts) = None
 
 -- the statement of all the lexemes
 unfoldable pub read_statement : List Lexeme → Option Statement
-read_statement ts = read_up_to (sign signs.Semicolon) read_body ts >>= λ x. ended x.0 x.1
+read_statement ts = read_up_to (sign signs.Semicolon) read_body ts >>= λ x. if_all_is_read x.0 x.1
 
 -- the expression of all the lexemes
 unfoldable pub read_expression : List Lexeme → Option Tree
-read_expression ts = expression ts >>= λ x. ended x.0 x.1
+read_expression ts = expression ts >>= λ x. if_all_is_read x.0 x.1

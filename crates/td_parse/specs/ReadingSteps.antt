@@ -63,8 +63,8 @@ unfoldable pub read_up_to : {A : Type 0} → Lexeme → (List Lexeme → ReadOf 
 read_up_to close item ts = item ts >>= λ x. expect close x.1 >>= λ after. Some (x.0, after)
 
 -- an item between parentheses
-unfoldable pub enclosed : {A : Type 0} → (List Lexeme → ReadOf A) → List Lexeme → ReadOf A
-enclosed item ts =
+unfoldable pub in_parentheses_read : {A : Type 0} → (List Lexeme → ReadOf A) → List Lexeme → ReadOf A
+in_parentheses_read item ts =
     expect (sign signs.OpenParenthesis) ts
     >>= λ after. read_up_to (sign signs.CloseParenthesis) item after
 
@@ -85,14 +85,14 @@ separated_from item (suc n) before ts =
     (expect (sign signs.Comma) x.1)
 
 -- item,+
-unfoldable pub separated : {A : Type 0} → (List Lexeme → ReadOf A) → List Lexeme → ReadOf (List A)
-separated item ts = separated_from item (suc (length ts)) [] ts
+unfoldable pub list_by_commas : {A : Type 0} → (List Lexeme → ReadOf A) → List Lexeme → ReadOf (List A)
+list_by_commas item ts = separated_from item (suc (length ts)) [] ts
 
 -- item,* and what closes them
 unfoldable pub listed_to : {A : Type 0} → Lexeme → (List Lexeme → ReadOf A) → List Lexeme
     → ReadOf (List A)
 listed_to close item ts =
-    either (read_up_to close (separated item) ts) (λ after. Some ([], after)) (expect close ts)
+    either (read_up_to close (list_by_commas item) ts) (λ after. Some ([], after)) (expect close ts)
 
 -- (word item)* behind the items before, at most so many
 unfoldable pub repeated_from : {A : Type 0} → Lexeme → (List Lexeme → ReadOf A) → ℕ → List A
@@ -104,9 +104,9 @@ repeated_from word item (suc n) before ts =
     (expect word ts)
 
 -- (word item)*
-unfoldable pub repeated : {A : Type 0} → Lexeme → (List Lexeme → ReadOf A) → List Lexeme
+unfoldable pub list_by_words : {A : Type 0} → Lexeme → (List Lexeme → ReadOf A) → List Lexeme
     → ReadOf (List A)
-repeated word item ts = repeated_from word item (suc (length ts)) [] ts
+list_by_words word item ts = repeated_from word item (suc (length ts)) [] ts
 
 -- ---- names
 

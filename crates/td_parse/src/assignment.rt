@@ -3,14 +3,14 @@ ghost use Rattle.std.specs.Prelude.{map, option_map};
 ghost use Rattle.td_parse.specs.code.Parsing.{Moves};
 ghost use Rattle.td_parse.specs.code.Views.{named_part_view};
 ghost use Rattle.td_parse.specs.ReadingStatements as reading;
-ghost use Rattle.td_parse.specs.ReadingSteps.{enclosed, separated};
+ghost use Rattle.td_parse.specs.ReadingSteps.{in_parentheses_read, list_by_commas};
 ghost use Rattle.td_tree.specs.code.TreeViews.{assignment_view, statement_view, tree_view};
 
 use crate::cursor::{Cursor, SYNTAX};
 use crate::grammar::{LOOSEST, MAX_HEIGHT};
 use crate::levels;
 use crate::names::name;
-use crate::steps::{closed, pair_of};
+use crate::steps::{item_closed_by, pair_of};
 use std::alloc::Global;
 use td_tree::expression::{Expr, NamedExpr};
 use td_tree::fault::Fault;
@@ -59,10 +59,10 @@ fn setting(alloc: Global, tokens: &mut Cursor<'_, '_>) -> Result<NamedExpr, Faul
 }
 
 /// `(name ':=' e),+`
-#[tactic(auto, unfolding(crate::specs::ReadingSteps::separated, crate::specs::ReadingSteps::separated_from))]
+#[tactic(auto, unfolding(crate::specs::ReadingSteps::list_by_commas, crate::specs::ReadingSteps::separated_from))]
 fn settings(alloc: Global, tokens: &mut Cursor<'_, '_>) -> Result<Vec<NamedExpr>, Fault>
     ensures { Moves (λ v. map named_part_view v.items) result tokens.new
-        (separated reading.setting tokens.old) }
+        (list_by_commas reading.setting tokens.old) }
 {
     let mut items = Vec::new(alloc);
     let limit = tokens.turns();
@@ -76,14 +76,14 @@ fn settings(alloc: Global, tokens: &mut Cursor<'_, '_>) -> Result<Vec<NamedExpr>
 }
 
 /// `'(' (name ':=' e),+ ')'`
-#[tactic(auto, unfolding(crate::specs::ReadingSteps::enclosed, crate::specs::ReadingSteps::read_up_to))]
+#[tactic(auto, unfolding(crate::specs::ReadingSteps::in_parentheses_read, crate::specs::ReadingSteps::read_up_to))]
 fn enclosed_settings(alloc: Global, tokens: &mut Cursor<'_, '_>) -> Result<Vec<NamedExpr>, Fault>
     ensures { Moves (λ v. map named_part_view v.items) result tokens.new
-        (enclosed (separated reading.setting) tokens.old) }
+        (in_parentheses_read (list_by_commas reading.setting) tokens.old) }
 {
     tokens.expect_sign(Sign::OpenParenthesis)?;
     let settings = settings(alloc, tokens)?;
-    closed(settings, Sign::CloseParenthesis, tokens)
+    item_closed_by(settings, Sign::CloseParenthesis, tokens)
 }
 
 /// `name e`, after `INSERT`
@@ -135,10 +135,10 @@ fn assignment(alloc: Global, tokens: &mut Cursor<'_, '_>) -> Result<Assignment, 
 }
 
 /// `assignment,+`
-#[tactic(auto, unfolding(crate::specs::ReadingSteps::separated, crate::specs::ReadingSteps::separated_from))]
+#[tactic(auto, unfolding(crate::specs::ReadingSteps::list_by_commas, crate::specs::ReadingSteps::separated_from))]
 fn some_assignments(alloc: Global, tokens: &mut Cursor<'_, '_>) -> Result<Vec<Assignment>, Fault>
     ensures { Moves (λ v. map assignment_view v.items) result tokens.new
-        (separated reading.assignment tokens.old) }
+        (list_by_commas reading.assignment tokens.old) }
 {
     let mut items = Vec::new(alloc);
     let limit = tokens.turns();

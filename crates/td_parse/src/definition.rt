@@ -3,14 +3,14 @@ ghost use Rattle.std.specs.Prelude.{map, option_map};
 ghost use Rattle.td_parse.specs.code.Parsing.{Moves};
 ghost use Rattle.td_tree.specs.Lexemes as lexeme;
 ghost use Rattle.td_parse.specs.ReadingStatements as reading;
-ghost use Rattle.td_parse.specs.ReadingSteps.{enclosed, optional};
+ghost use Rattle.td_parse.specs.ReadingSteps.{in_parentheses_read, optional};
 ghost use Rattle.td_tree.specs.code.TreeViews.{statement_view, tree_view};
 
 use crate::assignment::expression;
 use crate::cursor::{Cursor, SYNTAX};
 use crate::grammar::MAX_HEIGHT;
 use crate::names::{name, names};
-use crate::steps::{closed, pair_of};
+use crate::steps::{item_closed_by, pair_of};
 use crate::types::{attributes, relation_heading};
 use std::alloc::Global;
 use td_tree::expression::Expr;
@@ -33,20 +33,20 @@ fn constraint(alloc: Global, tokens: &mut Cursor<'_, '_>) -> Result<Option<Expr>
 }
 
 /// `'(' e ')'`
-#[tactic(auto, unfolding(crate::specs::ReadingSteps::enclosed, crate::specs::ReadingSteps::read_up_to))]
+#[tactic(auto, unfolding(crate::specs::ReadingSteps::in_parentheses_read, crate::specs::ReadingSteps::read_up_to))]
 fn enclosed_expression(alloc: Global, tokens: &mut Cursor<'_, '_>) -> Result<Expr, Fault>
-    ensures { Moves tree_view result tokens.new (enclosed reading.expression tokens.old) }
+    ensures { Moves tree_view result tokens.new (in_parentheses_read reading.expression tokens.old) }
 {
     tokens.expect_sign(Sign::OpenParenthesis)?;
     let found = expression(alloc, tokens)?;
-    closed(found, Sign::CloseParenthesis, tokens)
+    item_closed_by(found, Sign::CloseParenthesis, tokens)
 }
 
 /// `[INIT '(' e ')']`
 #[tactic(auto, unfolding(crate::specs::ReadingSteps::optional))]
 fn init(alloc: Global, tokens: &mut Cursor<'_, '_>) -> Result<Option<Expr>, Fault>
     ensures { Moves (option_map tree_view) result tokens.new
-        (optional (lexeme.keyword Keyword.Init) (enclosed reading.expression) tokens.old) }
+        (optional (lexeme.keyword Keyword.Init) (in_parentheses_read reading.expression) tokens.old) }
 {
     if !tokens.keyword(Keyword::Init) {
         return Ok(None);
@@ -55,7 +55,7 @@ fn init(alloc: Global, tokens: &mut Cursor<'_, '_>) -> Result<Option<Expr>, Faul
 }
 
 /// `(KEY names)*`
-#[tactic(auto, unfolding(crate::specs::ReadingStatements::keys, crate::specs::ReadingSteps::repeated, crate::specs::ReadingSteps::repeated_from))]
+#[tactic(auto, unfolding(crate::specs::ReadingStatements::keys, crate::specs::ReadingSteps::list_by_words, crate::specs::ReadingSteps::repeated_from))]
 fn keys(alloc: Global, tokens: &mut Cursor<'_, '_>) -> Result<Vec<Vec<Name>>, Fault>
     ensures { Moves (λ v. map (λ key. key.items) v.items) result tokens.new
         (reading.keys tokens.old) }
@@ -94,7 +94,7 @@ pub fn type_definition(alloc: Global, tokens: &mut Cursor<'_, '_>) -> Result<Sta
     tokens.expect_keyword(Keyword::Possrep)?;
     tokens.expect_sign(Sign::OpenBrace)?;
     let definition = components(alloc, name, tokens)?;
-    closed(definition, Sign::CloseBrace, tokens)
+    item_closed_by(definition, Sign::CloseBrace, tokens)
 }
 
 /// `RELATION heading [INIT '(' e ')'] (KEY names)*`, of the relvar with this name

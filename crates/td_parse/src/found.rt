@@ -45,7 +45,7 @@ impl Model for Found {
 }
 
 /// A part in a box.
-fn boxed<T: Drop>(alloc: Global, part: T) -> Result<Box<T>, AllocError>
+fn box_of<T: Drop>(alloc: Global, part: T) -> Result<Box<T>, AllocError>
     ensures { IfOk result (λ b. b.value ≡ part) }
 {
     Ok(Box::new(alloc, part)?)
@@ -60,7 +60,7 @@ fn boxed_with<T: Drop, U: Drop>(
     ensures part { IfOk result (λ both. both.0.value ≡ part) }
     ensures before { IfOk result (λ both. both.1 ≡ before) }
 {
-    let part = boxed(alloc, part)?;
+    let part = box_of(alloc, part)?;
     Ok((part, before))
 }
 
@@ -73,12 +73,12 @@ fn boxed_both<T: Drop, U: Drop>(
     ensures first { IfOk result (λ both. both.0.value ≡ first) }
     ensures second { IfOk result (λ both. both.1.value ≡ second) }
 {
-    let second = boxed(alloc, second)?;
+    let second = box_of(alloc, second)?;
     boxed_with(alloc, first, second)
 }
 
 /// `T(e, ..)`
-fn selected(ty: Name, arguments: Vec<Expr>) -> Expr
+fn selector_call(ty: Name, arguments: Vec<Expr>) -> Expr
     ensures { tree_view result ≡ trees.select ty (trees_view arguments.items) }
 {
     Expr::Select(ty, arguments)
@@ -137,7 +137,7 @@ impl Found {
         ensures { IfOk result (λ e. tree_view e ≡ trees.parentheses (tree_view inner)) }
     {
         let height = inner.height.saturating_add(1);
-        let inner = boxed(alloc, inner.tree)?;
+        let inner = box_of(alloc, inner.tree)?;
         let tree = Expr::Parentheses(inner);
         Ok(Found { tree, height })
     }
@@ -147,7 +147,7 @@ impl Found {
         ensures { IfOk result (λ e. tree_view e ≡ trees.prefix op (tree_view operand)) }
     {
         let height = operand.height.saturating_add(1);
-        let operand = boxed(alloc, operand.tree)?;
+        let operand = box_of(alloc, operand.tree)?;
         let tree = Expr::Prefix(op, operand);
         Ok(Found { tree, height })
     }
@@ -157,7 +157,7 @@ impl Found {
         ensures { IfOk result (λ e. tree_view e ≡ trees.extract attribute (tree_view operand)) }
     {
         let height = operand.height.saturating_add(1);
-        let operand = boxed(alloc, operand.tree)?;
+        let operand = box_of(alloc, operand.tree)?;
         let tree = Expr::Extract(attribute, operand);
         Ok(Found { tree, height })
     }
@@ -223,7 +223,7 @@ impl Found {
             ≡ trees.postfix (tree_view operand) (postfix_view op)) }
     {
         let height = operand.height.saturating_add(1);
-        let operand = boxed(alloc, operand.tree)?;
+        let operand = box_of(alloc, operand.tree)?;
         let tree = Expr::Postfix(operand, op);
         Ok(Found { tree, height })
     }
@@ -234,7 +234,7 @@ impl Found {
         ensures { tree_view result ≡ trees.select ty (trees_from (map tree_view arguments)) }
     {
         let height = arguments.height.saturating_add(1);
-        let tree = selected(ty, arguments.items);
+        let tree = selector_call(ty, arguments.items);
         Found { tree, height }
     }
 
@@ -244,7 +244,7 @@ impl Found {
             (λ e. tree_view e ≡ trees.component (rc_str_bytes rest) (tree_view operand)) }
     {
         let height = operand.height.saturating_add(1);
-        let operand = boxed(alloc, operand.tree)?;
+        let operand = box_of(alloc, operand.tree)?;
         let tree = Expr::Component(rest, operand);
         Ok(Found { tree, height })
     }
@@ -254,7 +254,7 @@ impl Found {
         ensures { IfOk result (λ e. tree_view e ≡ trees.measure op (tree_view operand)) }
     {
         let height = operand.height.saturating_add(1);
-        let operand = boxed(alloc, operand.tree)?;
+        let operand = box_of(alloc, operand.tree)?;
         let tree = Expr::Measure(op, operand);
         Ok(Found { tree, height })
     }
@@ -316,7 +316,7 @@ impl Found {
             ≡ trees.extend (tree_view operand) (named_from (map named_part_view parts))) }
     {
         let height = operand.height.max(parts.height).saturating_add(1);
-        let operand = boxed(alloc, operand.tree)?;
+        let operand = box_of(alloc, operand.tree)?;
         let tree = Expr::Extend(operand, parts.items);
         Ok(Found { tree, height })
     }
@@ -358,7 +358,7 @@ impl Found {
             (summaries_from (map item_view summaries))) }
     {
         let height = operand.height.max(summaries.height).saturating_add(1);
-        let operand = boxed(alloc, operand.tree)?;
+        let operand = box_of(alloc, operand.tree)?;
         let tree = summarized_by(operand, by, summaries.items);
         Ok(Found { tree, height })
     }

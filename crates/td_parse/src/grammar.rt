@@ -9,7 +9,7 @@ ghost use Rattle.td_tree.specs.code.TreeViews.{tree_view};
 
 use crate::cursor::Cursor;
 use crate::found::Found;
-use crate::steps::kept;
+use crate::steps::item_if;
 use std::alloc::Global;
 use td_tree::fault::Fault;
 use td_tree::operator::Level;
@@ -59,6 +59,6 @@ impl<F: Fn(Global, u8, Level, &mut Cursor<'_, '_>) -> Result<Found, Fault>> Gram
         ensures { Fits found (nat_le (height (tree_view found)) (suc self.now.depth)) result }
     {
         let fits = self.fits(&found);
-        kept(found, fits)
+        item_if(found, fits)
     }
 }

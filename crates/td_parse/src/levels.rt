@@ -4,7 +4,7 @@ ghost use Rattle.td_parse.specs.code.Nests.{Nests};
 ghost use Rattle.td_parse.specs.code.Parsing.{Moves};
 ghost use Rattle.td_parse.specs.Reading as reading;
 ghost use Rattle.td_parse.specs.Reading.{read};
-ghost use Rattle.td_parse.specs.code.Walking.{tightness, walk, walked};
+ghost use Rattle.td_parse.specs.code.Walking.{tightness, walk, infix_expression};
 ghost use Rattle.td_tree.specs.code.TreeViews.{tree_view};
 
 use crate::cursor::{Cursor, SYNTAX};
@@ -12,7 +12,7 @@ use crate::found::Found;
 use crate::grammar::Grammar;
 use crate::operators::{extraction, negation, next_infix, prefix, tighter};
 use crate::postfix::{begins_postfix, postfix};
-use crate::steps::{kept, pair_of};
+use crate::steps::{item_if, pair_of};
 use std::alloc::Global;
 use td_tree::fault::Fault;
 use td_tree::operator::{Level, Prefix};
@@ -35,43 +35,43 @@ impl<F: Fn(Global, u8, Level, &mut Cursor<'_, '_>) -> Result<Found, Fault>> Gram
             let (operand, op) = pair_of(left, op)?;
             left = self.low(Found::postfix(self.alloc, operand, op)?)?;
         }
-        kept(left, false)
+        item_if(left, false)
     }
 
     /// A primary expression with what stands behind it.
-    #[tactic(auto, unfolding(crate::specs::Reading::postfixed))]
-    fn postfixed(&self, tokens: &mut Cursor<'_, '_>) -> Result<Found, Fault>
+    #[tactic(auto, unfolding(crate::specs::Reading::postfix_expression))]
+    fn postfix_expression(&self, tokens: &mut Cursor<'_, '_>) -> Result<Found, Fault>
         requires { Nests self.now.depth (F.pre self.now.inner) (F.post self.now.inner) }
         ensures { Moves tree_view result tokens.new
-            (reading.postfixed (read self.now.depth) self.now.depth tokens.old) }
+            (reading.postfix_expression (read self.now.depth) self.now.depth tokens.old) }
     {
         let first = self.primary(tokens)?;
         self.postfixes(first, tokens)
     }
 
     /// After an operator that stands before its operand, which is at this level.
-    #[tactic(auto, unfolding(crate::specs::Reading::applied))]
-    fn applied(&self, level: Level, op: Prefix, tokens: &mut Cursor<'_, '_>) -> Result<Found, Fault>
+    #[tactic(auto, unfolding(crate::specs::Reading::prefix_expression))]
+    fn prefix_expression(&self, level: Level, op: Prefix, tokens: &mut Cursor<'_, '_>) -> Result<Found, Fault>
         requires { Nests self.now.depth (F.pre self.now.inner) (F.post self.now.inner) }
         ensures { Moves tree_view result tokens.new
-            (reading.applied (read self.now.depth) self.now.depth level op tokens.old) }
+            (reading.prefix_expression (read self.now.depth) self.now.depth level op tokens.old) }
     {
         let operand = self.inner(level, tokens)?;
         Ok(Found::prefix(self.alloc, op, operand)?)
     }
 
     /// What stands before its operand.
-    #[tactic(auto, unfolding(crate::specs::Reading::prefixed, crate::specs::Reading::extracted))]
-    fn prefixed(&self, tokens: &mut Cursor<'_, '_>) -> Result<Found, Fault>
+    #[tactic(auto, unfolding(crate::specs::Reading::unary_expression, crate::specs::Reading::extract_expression))]
+    fn unary_expression(&self, tokens: &mut Cursor<'_, '_>) -> Result<Found, Fault>
         requires { Nests self.now.depth (F.pre self.now.inner) (F.post self.now.inner) }
         ensures { Moves tree_view result tokens.new
-            (reading.prefixed (read self.now.depth) self.now.depth tokens.old) }
+            (reading.unary_expression (read self.now.depth) self.now.depth tokens.old) }
     {
         if let Some(op) = prefix(tokens) {
-            return self.applied(Level::Prefixed, op, tokens);
+            return self.prefix_expression(Level::Prefixed, op, tokens);
         }
         let Some(attribute) = extraction(self.alloc, tokens)? else {
-            return self.postfixed(tokens);
+            return self.postfix_expression(tokens);
         };
         let operand = self.inner(Level::Prefixed, tokens)?;
         Ok(Found::extract(self.alloc, attribute, operand)?)
@@ -102,21 +102,21 @@ impl<F: Fn(Global, u8, Level, &mut Cursor<'_, '_>) -> Result<Found, Fault>> Gram
             left = self.low(Found::of_infix(self.alloc, operand, op, right)?)?;
             tightest = op.tightest_after();
         }
-        kept(left, false)
+        item_if(left, false)
     }
 
     /// An expression with operators between operands: its first operand, and then the walk.
-    #[tactic(auto, unfolding(crate::specs::code::Walking::walked))]
-    fn walked(&self, level: Level, tokens: &mut Cursor<'_, '_>) -> Result<Found, Fault>
+    #[tactic(auto, unfolding(crate::specs::code::Walking::infix_expression))]
+    fn infix_expression(&self, level: Level, tokens: &mut Cursor<'_, '_>) -> Result<Found, Fault>
         requires { Nests self.now.depth (F.pre self.now.inner) (F.post self.now.inner) }
         ensures { Moves tree_view result tokens.new
-            (walked (read self.now.depth) self.now.depth level tokens.old) }
+            (infix_expression (read self.now.depth) self.now.depth level tokens.old) }
     {
         if negation(level, tokens) {
-            let first = self.applied(Level::Negation, Prefix::Not, tokens)?;
+            let first = self.prefix_expression(Level::Negation, Prefix::Not, tokens)?;
             return self.walk(level, Level::Negation, first, tokens);
         }
-        let first = self.prefixed(tokens)?;
+        let first = self.unary_expression(tokens)?;
         self.walk(level, Level::Multiplicative, first, tokens)
     }
 
@@ -128,10 +128,10 @@ impl<F: Fn(Global, u8, Level, &mut Cursor<'_, '_>) -> Result<Found, Fault>> Gram
             (reading.by_level (read self.now.depth) self.now.depth level tokens.old) }
     {
         match level {
-            Level::Prefixed => self.prefixed(tokens),
-            Level::Postfixed => self.postfixed(tokens),
+            Level::Prefixed => self.unary_expression(tokens),
+            Level::Postfixed => self.postfix_expression(tokens),
             Level::Primary => self.primary(tokens),
-            _ => self.walked(level, tokens),
+            _ => self.infix_expression(level, tokens),
         }
     }
 }

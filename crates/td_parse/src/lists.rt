@@ -7,7 +7,7 @@ ghost use Rattle.td_parse.specs.code.Views.{named_part_view};
 ghost use Rattle.td_tree.specs.Lexemes as lexeme;
 ghost use Rattle.td_parse.specs.Reading as reading;
 ghost use Rattle.td_parse.specs.Reading.{read};
-ghost use Rattle.td_parse.specs.ReadingSteps.{enclosed, listed_to, separated};
+ghost use Rattle.td_parse.specs.ReadingSteps.{in_parentheses_read, listed_to, list_by_commas};
 ghost use Rattle.td_tree.specs.code.TreeViews.{tree_view};
 
 use crate::cursor::{Cursor, SYNTAX};
@@ -15,7 +15,7 @@ use crate::found::Found;
 use crate::grammar::Grammar;
 use crate::names::{alias, name};
 use crate::parts::{Elements, NamedParts};
-use crate::steps::{closed, pair_of};
+use crate::steps::{item_closed_by, pair_of};
 use std::alloc::Global;
 use td_tree::fault::Fault;
 use td_tree::name::Name;
@@ -24,11 +24,11 @@ use td_tree::token::Sign;
 
 impl<F: Fn(Global, u8, Level, &mut Cursor<'_, '_>) -> Result<Found, Fault>> Grammar<F> {
     /// `e,+`
-    #[tactic(auto, unfolding(crate::specs::ReadingSteps::separated, crate::specs::ReadingSteps::separated_from))]
+    #[tactic(auto, unfolding(crate::specs::ReadingSteps::list_by_commas, crate::specs::ReadingSteps::separated_from))]
     pub fn elements(&self, tokens: &mut Cursor<'_, '_>) -> Result<Elements, Fault>
         requires { Nests self.now.depth (F.pre self.now.inner) (F.post self.now.inner) }
         ensures { Moves (map tree_view) result tokens.new
-            (separated (read self.now.depth loosest) tokens.old) }
+            (list_by_commas (read self.now.depth loosest) tokens.old) }
     {
         let mut items = Elements::new(self.alloc);
         let limit = tokens.turns();
@@ -52,7 +52,7 @@ impl<F: Fn(Global, u8, Level, &mut Cursor<'_, '_>) -> Result<Found, Fault>> Gram
             return Ok(Elements::new(self.alloc));
         }
         let items = self.elements(tokens)?;
-        closed(items, close, tokens)
+        item_closed_by(items, close, tokens)
     }
 
     /// `name e`
@@ -68,11 +68,11 @@ impl<F: Fn(Global, u8, Level, &mut Cursor<'_, '_>) -> Result<Found, Fault>> Gram
     }
 
     /// `(name e),+`
-    #[tactic(auto, unfolding(crate::specs::ReadingSteps::separated, crate::specs::ReadingSteps::separated_from))]
+    #[tactic(auto, unfolding(crate::specs::ReadingSteps::list_by_commas, crate::specs::ReadingSteps::separated_from))]
     fn parts(&self, tokens: &mut Cursor<'_, '_>) -> Result<NamedParts, Fault>
         requires { Nests self.now.depth (F.pre self.now.inner) (F.post self.now.inner) }
         ensures { Moves (map named_part_view) result tokens.new
-            (separated (reading.part (read self.now.depth) self.now.depth) tokens.old) }
+            (list_by_commas (reading.part (read self.now.depth) self.now.depth) tokens.old) }
     {
         let mut items = NamedParts::with_room(self.alloc, tokens.parts())?;
         let limit = tokens.turns();
@@ -99,7 +99,7 @@ impl<F: Fn(Global, u8, Level, &mut Cursor<'_, '_>) -> Result<Found, Fault>> Gram
             return Ok(NamedParts::new(self.alloc));
         }
         let items = self.parts(tokens)?;
-        closed(items, Sign::CloseBrace, tokens)
+        item_closed_by(items, Sign::CloseBrace, tokens)
     }
 
     /// `e AS name`
@@ -115,11 +115,11 @@ impl<F: Fn(Global, u8, Level, &mut Cursor<'_, '_>) -> Result<Found, Fault>> Gram
     }
 
     /// `(e AS name),+`
-    #[tactic(auto, unfolding(crate::specs::ReadingSteps::separated, crate::specs::ReadingSteps::separated_from))]
+    #[tactic(auto, unfolding(crate::specs::ReadingSteps::list_by_commas, crate::specs::ReadingSteps::separated_from))]
     fn additions(&self, tokens: &mut Cursor<'_, '_>) -> Result<NamedParts, Fault>
         requires { Nests self.now.depth (F.pre self.now.inner) (F.post self.now.inner) }
         ensures { Moves (map named_part_view) result tokens.new
-            (separated (reading.addition (read self.now.depth) self.now.depth) tokens.old) }
+            (list_by_commas (reading.addition (read self.now.depth) self.now.depth) tokens.old) }
     {
         let mut items = NamedParts::new(self.alloc);
         let limit = tokens.turns();
@@ -134,15 +134,15 @@ impl<F: Fn(Global, u8, Level, &mut Cursor<'_, '_>) -> Result<Found, Fault>> Gram
     }
 
     /// `'(' (e AS name),+ ')'`
-    #[tactic(auto, unfolding(crate::specs::ReadingSteps::enclosed, crate::specs::ReadingSteps::read_up_to))]
+    #[tactic(auto, unfolding(crate::specs::ReadingSteps::in_parentheses_read, crate::specs::ReadingSteps::read_up_to))]
     pub fn enclosed_additions(&self, tokens: &mut Cursor<'_, '_>) -> Result<NamedParts, Fault>
         requires { Nests self.now.depth (F.pre self.now.inner) (F.post self.now.inner) }
         ensures { Moves (map named_part_view) result tokens.new
-            (enclosed (separated (reading.addition (read self.now.depth) self.now.depth))
+            (in_parentheses_read (list_by_commas (reading.addition (read self.now.depth) self.now.depth))
             tokens.old) }
     {
         tokens.expect_sign(Sign::OpenParenthesis)?;
         let items = self.additions(tokens)?;
-        closed(items, Sign::CloseParenthesis, tokens)
+        item_closed_by(items, Sign::CloseParenthesis, tokens)
     }
 }

@@ -2,11 +2,11 @@
 ghost use Rattle.std.specs.Prelude.{map};
 ghost use Rattle.td_parse.specs.code.Parsing.{Moves};
 ghost use Rattle.td_parse.specs.ReadingSteps as reading;
-ghost use Rattle.td_parse.specs.ReadingSteps.{read_name, separated};
+ghost use Rattle.td_parse.specs.ReadingSteps.{read_name, list_by_commas};
 ghost use Rattle.td_tree.specs.code.TreeViews.{attributes_view, renaming_view};
 
 use crate::cursor::{Cursor, SYNTAX};
-use crate::steps::closed;
+use crate::steps::item_closed_by;
 use std::alloc::Global;
 use td_tree::expression::{Attributes, Renaming};
 use td_tree::fault::Fault;
@@ -35,9 +35,9 @@ pub fn alias(alloc: Global, tokens: &mut Cursor<'_, '_>) -> Result<Name, Fault>
 }
 
 /// `name,+`
-#[tactic(auto, unfolding(crate::specs::ReadingSteps::separated, crate::specs::ReadingSteps::separated_from))]
+#[tactic(auto, unfolding(crate::specs::ReadingSteps::list_by_commas, crate::specs::ReadingSteps::separated_from))]
 fn some_names(alloc: Global, tokens: &mut Cursor<'_, '_>) -> Result<Vec<Name>, Fault>
-    ensures { Moves (λ v. v.items) result tokens.new (separated read_name tokens.old) }
+    ensures { Moves (λ v. v.items) result tokens.new (list_by_commas read_name tokens.old) }
 {
     let mut items = Vec::new(alloc);
     let limit = tokens.turns();
@@ -59,7 +59,7 @@ fn names_to_brace(alloc: Global, tokens: &mut Cursor<'_, '_>) -> Result<Vec<Name
         return Ok(Vec::new(alloc));
     }
     let items = some_names(alloc, tokens)?;
-    closed(items, Sign::CloseBrace, tokens)
+    item_closed_by(items, Sign::CloseBrace, tokens)
 }
 
 /// `'{' name,* '}'`
@@ -96,10 +96,10 @@ fn renaming(alloc: Global, tokens: &mut Cursor<'_, '_>) -> Result<Renaming, Faul
 }
 
 /// `(name AS name),+`
-#[tactic(auto, unfolding(crate::specs::ReadingSteps::separated, crate::specs::ReadingSteps::separated_from))]
+#[tactic(auto, unfolding(crate::specs::ReadingSteps::list_by_commas, crate::specs::ReadingSteps::separated_from))]
 pub fn renamings(alloc: Global, tokens: &mut Cursor<'_, '_>) -> Result<Vec<Renaming>, Fault>
     ensures { Moves (λ v. map renaming_view v.items) result tokens.new
-        (separated reading.read_renaming tokens.old) }
+        (list_by_commas reading.read_renaming tokens.old) }
 {
     let mut items = Vec::new(alloc);
     let limit = tokens.turns();

@@ -3,12 +3,12 @@ ghost use Rattle.std.specs.Prelude.{◌≡◌, map};
 ghost use Rattle.td_parse.specs.code.Parsing.{Moves};
 ghost use Rattle.td_parse.specs.Reading as reading;
 ghost use Rattle.td_parse.specs.ReadingOperators.{postfix_at};
-ghost use Rattle.td_parse.specs.ReadingSteps.{enclosed, read_name, read_renaming, separated};
+ghost use Rattle.td_parse.specs.ReadingSteps.{in_parentheses_read, read_name, read_renaming, list_by_commas};
 ghost use Rattle.td_tree.specs.code.TreeViews.{attributes_view, postfix_view, renaming_view};
 
 use crate::cursor::{Cursor, SYNTAX};
 use crate::names::{alias, attributes, name, renamings};
-use crate::steps::{closed, pair_of};
+use crate::steps::{item_closed_by, pair_of};
 use std::alloc::Global;
 use td_tree::expression::{Attributes, Postfix, Renaming};
 use td_tree::fault::Fault;
@@ -32,39 +32,39 @@ pub fn begins_postfix(tokens: &Cursor<'_, '_>) -> bool
 }
 
 /// `'(' name ')'`
-#[tactic(auto, unfolding(crate::specs::ReadingSteps::enclosed, crate::specs::ReadingSteps::read_up_to))]
+#[tactic(auto, unfolding(crate::specs::ReadingSteps::in_parentheses_read, crate::specs::ReadingSteps::read_up_to))]
 fn enclosed_name(alloc: Global, tokens: &mut Cursor<'_, '_>) -> Result<Name, Fault>
-    ensures { Moves (λ n. n) result tokens.new (enclosed read_name tokens.old) }
+    ensures { Moves (λ n. n) result tokens.new (in_parentheses_read read_name tokens.old) }
 {
     tokens.expect_sign(Sign::OpenParenthesis)?;
     let name = name(alloc, tokens)?;
-    closed(name, Sign::CloseParenthesis, tokens)
+    item_closed_by(name, Sign::CloseParenthesis, tokens)
 }
 
 /// `'(' (name AS name),+ ')'`
-#[tactic(auto, unfolding(crate::specs::ReadingSteps::enclosed, crate::specs::ReadingSteps::read_up_to))]
+#[tactic(auto, unfolding(crate::specs::ReadingSteps::in_parentheses_read, crate::specs::ReadingSteps::read_up_to))]
 fn enclosed_renamings(alloc: Global, tokens: &mut Cursor<'_, '_>) -> Result<Vec<Renaming>, Fault>
     ensures { Moves (λ v. map renaming_view v.items) result tokens.new
-        (enclosed (separated read_renaming) tokens.old) }
+        (in_parentheses_read (list_by_commas read_renaming) tokens.old) }
 {
     tokens.expect_sign(Sign::OpenParenthesis)?;
     let renamings = renamings(alloc, tokens)?;
-    closed(renamings, Sign::CloseParenthesis, tokens)
+    item_closed_by(renamings, Sign::CloseParenthesis, tokens)
 }
 
 /// `'(' attrs AS name ')'`
-#[tactic(auto, unfolding(crate::specs::ReadingSteps::enclosed, crate::specs::ReadingSteps::read_up_to, crate::specs::Reading::named_attributes))]
+#[tactic(auto, unfolding(crate::specs::ReadingSteps::in_parentheses_read, crate::specs::ReadingSteps::read_up_to, crate::specs::Reading::named_attributes))]
 fn enclosed_attributes(
     alloc: Global,
     tokens: &mut Cursor<'_, '_>,
 ) -> Result<(Attributes, Name), Fault>
     ensures { Moves (λ x. (attributes_view x.0, x.1)) result tokens.new
-        (enclosed reading.named_attributes tokens.old) }
+        (in_parentheses_read reading.named_attributes tokens.old) }
 {
     tokens.expect_sign(Sign::OpenParenthesis)?;
     let attributes = attributes(alloc, tokens)?;
     let named = pair_of(attributes, alias(alloc, tokens))?;
-    closed(named, Sign::CloseParenthesis, tokens)
+    item_closed_by(named, Sign::CloseParenthesis, tokens)
 }
 
 /// An operator that begins with this word, after it.

@@ -18,7 +18,7 @@ use crate::cursor::{Cursor, SYNTAX};
 use crate::found::Found;
 use crate::grammar::Grammar;
 use crate::operators::{begins_heading, call};
-use crate::steps::{closed, ended, pair_of};
+use crate::steps::{item_closed_by, item_ended_by, pair_of};
 use crate::types::relation_heading;
 use crate::word::{component_of, number_of, text_of};
 use std::alloc::Global;
@@ -64,7 +64,7 @@ impl<F: Fn(Global, u8, Level, &mut Cursor<'_, '_>) -> Result<Found, Fault>> Gram
             (read_up_to (lexeme.sign close) (read self.now.depth loosest) tokens.old) }
     {
         let found = self.expression(tokens)?;
-        closed(found, close, tokens)
+        item_closed_by(found, close, tokens)
     }
 
     /// `e` and the word that closes it.
@@ -75,15 +75,15 @@ impl<F: Fn(Global, u8, Level, &mut Cursor<'_, '_>) -> Result<Found, Fault>> Gram
             (read_up_to (lexeme.keyword close) (read self.now.depth loosest) tokens.old) }
     {
         let found = self.expression(tokens)?;
-        ended(found, close, tokens)
+        item_ended_by(found, close, tokens)
     }
 
     /// After a name: it stands alone, or selects a value of a type.
-    #[tactic(auto, unfolding(crate::specs::Reading::named))]
-    fn named(&self, name: Name, tokens: &mut Cursor<'_, '_>) -> Result<Found, Fault>
+    #[tactic(auto, unfolding(crate::specs::Reading::name_expression))]
+    fn name_expression(&self, name: Name, tokens: &mut Cursor<'_, '_>) -> Result<Found, Fault>
         requires { Nests self.now.depth (F.pre self.now.inner) (F.post self.now.inner) }
         ensures { Moves tree_view result tokens.new
-            (reading.named (read self.now.depth) self.now.depth name tokens.old) }
+            (reading.name_expression (read self.now.depth) self.now.depth name tokens.old) }
     {
         if call(tokens) {
             let arguments = self.elements_to(Sign::CloseParenthesis, tokens)?;
@@ -106,33 +106,33 @@ impl<F: Fn(Global, u8, Level, &mut Cursor<'_, '_>) -> Result<Found, Fault>> Gram
     }
 
     /// After `(`.
-    #[tactic(auto, unfolding(crate::specs::Reading::parenthesized))]
-    fn parenthesized(&self, tokens: &mut Cursor<'_, '_>) -> Result<Found, Fault>
+    #[tactic(auto, unfolding(crate::specs::Reading::parenthesis_expression))]
+    fn parenthesis_expression(&self, tokens: &mut Cursor<'_, '_>) -> Result<Found, Fault>
         requires { Nests self.now.depth (F.pre self.now.inner) (F.post self.now.inner) }
         ensures { Moves tree_view result tokens.new
-            (reading.parenthesized (read self.now.depth) self.now.depth tokens.old) }
+            (reading.parenthesis_expression (read self.now.depth) self.now.depth tokens.old) }
     {
         let inner = self.up_to_sign(Sign::CloseParenthesis, tokens)?;
         Ok(Found::parentheses(self.alloc, inner)?)
     }
 
     /// After `COUNT` or `IS_EMPTY`.
-    #[tactic(auto, unfolding(crate::specs::Reading::measured))]
-    fn measured(&self, op: Measure, tokens: &mut Cursor<'_, '_>) -> Result<Found, Fault>
+    #[tactic(auto, unfolding(crate::specs::Reading::measure_expression))]
+    fn measure_expression(&self, op: Measure, tokens: &mut Cursor<'_, '_>) -> Result<Found, Fault>
         requires { Nests self.now.depth (F.pre self.now.inner) (F.post self.now.inner) }
         ensures { Moves tree_view result tokens.new
-            (reading.measured (read self.now.depth) self.now.depth op tokens.old) }
+            (reading.measure_expression (read self.now.depth) self.now.depth op tokens.old) }
     {
         let operand = self.enclosed_expression(tokens)?;
         Ok(Found::measure(self.alloc, op, operand)?)
     }
 
     /// After `SUM`, `MAX` or `MIN`.
-    #[tactic(auto, unfolding(crate::specs::Reading::aggregated))]
-    fn aggregated(&self, op: Aggregate, tokens: &mut Cursor<'_, '_>) -> Result<Found, Fault>
+    #[tactic(auto, unfolding(crate::specs::Reading::aggregate_expression))]
+    fn aggregate_expression(&self, op: Aggregate, tokens: &mut Cursor<'_, '_>) -> Result<Found, Fault>
         requires { Nests self.now.depth (F.pre self.now.inner) (F.post self.now.inner) }
         ensures { Moves tree_view result tokens.new
-            (reading.aggregated (read self.now.depth) self.now.depth op tokens.old) }
+            (reading.aggregate_expression (read self.now.depth) self.now.depth op tokens.old) }
     {
         tokens.expect_sign(Sign::OpenParenthesis)?;
         let operand = self.up_to_sign(Sign::Comma, tokens)?;
@@ -163,7 +163,7 @@ impl<F: Fn(Global, u8, Level, &mut Cursor<'_, '_>) -> Result<Found, Fault>> Gram
     {
         tokens.expect_sign(Sign::OpenBrace)?;
         let elements = self.elements(tokens)?;
-        let elements = closed(elements, Sign::CloseBrace, tokens)?;
+        let elements = item_closed_by(elements, Sign::CloseBrace, tokens)?;
         Ok(Found::relation(elements))
     }
 
@@ -215,7 +215,7 @@ impl<F: Fn(Global, u8, Level, &mut Cursor<'_, '_>) -> Result<Found, Fault>> Gram
         let consequent = self.up_to_word(Keyword::Else, tokens);
         let parts = pair_of(condition, consequent)?;
         let parts = pair_of(parts, self.up_to_word(Keyword::End, tokens))?;
-        let ((condition, consequent), alternative) = ended(parts, Keyword::If, tokens)?;
+        let ((condition, consequent), alternative) = item_ended_by(parts, Keyword::If, tokens)?;
         Ok(Found::choice(self.alloc, condition, consequent, alternative)?)
     }
 
@@ -231,15 +231,15 @@ impl<F: Fn(Global, u8, Level, &mut Cursor<'_, '_>) -> Result<Found, Fault>> Gram
             Keyword::False => Ok(Found::literal(Literal::Truth(false))),
             Keyword::TableDee => Ok(Found::literal(Literal::TableDee)),
             Keyword::TableDum => Ok(Found::literal(Literal::TableDum)),
-            Keyword::Count => self.measured(Measure::Count, tokens),
-            Keyword::IsEmpty => self.measured(Measure::IsEmpty, tokens),
-            Keyword::Sum => self.aggregated(Aggregate::Sum, tokens),
-            Keyword::Max => self.aggregated(Aggregate::Max, tokens),
-            Keyword::Min => self.aggregated(Aggregate::Min, tokens),
+            Keyword::Count => self.measure_expression(Measure::Count, tokens),
+            Keyword::IsEmpty => self.measure_expression(Measure::IsEmpty, tokens),
+            Keyword::Sum => self.aggregate_expression(Aggregate::Sum, tokens),
+            Keyword::Max => self.aggregate_expression(Aggregate::Max, tokens),
+            Keyword::Min => self.aggregate_expression(Aggregate::Min, tokens),
             Keyword::Relation => self.relation(tokens),
             Keyword::Tuple => self.tuple(tokens),
             Keyword::Extend => self.extension(tokens),
-            Keyword::Summarize => self.summarized(tokens),
+            Keyword::Summarize => self.summarize_expression(tokens),
             Keyword::If => self.choice(tokens),
             _ => Err(SYNTAX),
         }
@@ -257,9 +257,9 @@ impl<F: Fn(Global, u8, Level, &mut Cursor<'_, '_>) -> Result<Found, Fault>> Gram
         };
         match kind {
             Kind::Reserved(word) => self.primary_of_word(word, tokens),
-            Kind::Sign(Sign::OpenParenthesis) => self.parenthesized(tokens),
+            Kind::Sign(Sign::OpenParenthesis) => self.parenthesis_expression(tokens),
             Kind::Sign(Sign::Minus) => negative(tokens),
-            Kind::Name => self.named(tokens.name_of(self.alloc, text)?, tokens),
+            Kind::Name => self.name_expression(tokens.name_of(self.alloc, text)?, tokens),
             Kind::Component => self.component(component_of(self.alloc, text)?, tokens),
             Kind::Number => numeral(false, text).ok_or(SYNTAX),
             Kind::Text => Ok(Found::literal(Literal::Text(text_of(self.alloc, text)?))),

@@ -11,7 +11,7 @@ ghost use Rattle.td_tree.specs.code.TreeViews.{statement_view};
 use crate::assignment::{assignments, expression};
 use crate::cursor::Cursor;
 use crate::definition::{constraint_definition, drop, type_definition, variable};
-use crate::steps::{closed, kept};
+use crate::steps::{item_closed_by, item_if};
 use std::alloc::Global;
 use td_scan::token::Token;
 use td_tree::cause::Cause;
@@ -71,8 +71,8 @@ fn whole(alloc: Global, tokens: &[Token<'_>]) -> Result<Statement, Fault>
 {
     let mut tokens = Cursor::new(alloc, tokens);
     let statement = body_or_none(alloc, &mut tokens)?;
-    let statement = closed(statement, Sign::Semicolon, &mut tokens)?;
-    kept(statement, tokens.is_empty())
+    let statement = item_closed_by(statement, Sign::Semicolon, &mut tokens)?;
+    item_if(statement, tokens.is_empty())
 }
 
 /// Whether a token of this kind is bad.

@@ -9,7 +9,7 @@ use td_tree::keyword::Keyword;
 use td_tree::token::Sign;
 
 /// What was read, if this sign closes it.
-pub fn closed<T: Drop>(item: T, close: Sign, tokens: &mut Cursor<'_, '_>) -> Result<T, Fault>
+pub fn item_closed_by<T: Drop>(item: T, close: Sign, tokens: &mut Cursor<'_, '_>) -> Result<T, Fault>
     ensures { Keeps item (expect (lexeme.sign close) tokens.old) result tokens.new }
 {
     tokens.expect_sign(close)?;
@@ -17,7 +17,7 @@ pub fn closed<T: Drop>(item: T, close: Sign, tokens: &mut Cursor<'_, '_>) -> Res
 }
 
 /// What was read, if this word ends it.
-pub fn ended<T: Drop>(item: T, end: Keyword, tokens: &mut Cursor<'_, '_>) -> Result<T, Fault>
+pub fn item_ended_by<T: Drop>(item: T, end: Keyword, tokens: &mut Cursor<'_, '_>) -> Result<T, Fault>
     ensures { Keeps item (expect (lexeme.keyword end) tokens.old) result tokens.new }
 {
     tokens.expect_keyword(end)?;
@@ -25,7 +25,7 @@ pub fn ended<T: Drop>(item: T, end: Keyword, tokens: &mut Cursor<'_, '_>) -> Res
 }
 
 /// What was read, if it fits.
-pub fn kept<T: Drop>(item: T, fits: bool) -> Result<T, Fault>
+pub fn item_if<T: Drop>(item: T, fits: bool) -> Result<T, Fault>
     ensures { Fits item fits result }
 {
     if fits { Ok(item) } else { Err(SYNTAX) }

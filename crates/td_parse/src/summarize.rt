@@ -7,7 +7,7 @@ ghost use Rattle.td_parse.specs.code.Parsing.{Moves};
 ghost use Rattle.td_parse.specs.code.Views.{item_view};
 ghost use Rattle.td_parse.specs.Reading as reading;
 ghost use Rattle.td_parse.specs.Reading.{read, summaries_from};
-ghost use Rattle.td_parse.specs.ReadingSteps.{enclosed, separated};
+ghost use Rattle.td_parse.specs.ReadingSteps.{in_parentheses_read, list_by_commas};
 ghost use Rattle.td_tree.specs.code.TreeViews.{tree_view};
 
 use crate::cursor::{Cursor, SYNTAX};
@@ -15,7 +15,7 @@ use crate::found::Found;
 use crate::grammar::Grammar;
 use crate::names::{alias, attributes};
 use crate::parts::{FoundSummary, Summaries};
-use crate::steps::{closed, ended, pair_of};
+use crate::steps::{item_closed_by, item_ended_by, pair_of};
 use std::alloc::Global;
 use td_tree::fault::Fault;
 use td_tree::keyword::Keyword;
@@ -35,11 +35,11 @@ fn count_summary(alloc: Global, tokens: &mut Cursor<'_, '_>) -> Result<FoundSumm
 
 impl<F: Fn(Global, u8, Level, &mut Cursor<'_, '_>) -> Result<Found, Fault>> Grammar<F> {
     /// `'(' e ')'`
-    #[tactic(auto, unfolding(crate::specs::ReadingSteps::enclosed))]
+    #[tactic(auto, unfolding(crate::specs::ReadingSteps::in_parentheses_read))]
     pub fn enclosed_expression(&self, tokens: &mut Cursor<'_, '_>) -> Result<Found, Fault>
         requires { Nests self.now.depth (F.pre self.now.inner) (F.post self.now.inner) }
         ensures { Moves tree_view result tokens.new
-            (enclosed (read self.now.depth loosest) tokens.old) }
+            (in_parentheses_read (read self.now.depth loosest) tokens.old) }
     {
         tokens.expect_sign(Sign::OpenParenthesis)?;
         self.up_to_sign(Sign::CloseParenthesis, tokens)
@@ -91,11 +91,11 @@ impl<F: Fn(Global, u8, Level, &mut Cursor<'_, '_>) -> Result<Found, Fault>> Gram
     }
 
     /// `item,+`
-    #[tactic(auto, unfolding(crate::specs::ReadingSteps::separated, crate::specs::ReadingSteps::separated_from))]
+    #[tactic(auto, unfolding(crate::specs::ReadingSteps::list_by_commas, crate::specs::ReadingSteps::separated_from))]
     fn some_summaries(&self, tokens: &mut Cursor<'_, '_>) -> Result<Summaries, Fault>
         requires { Nests self.now.depth (F.pre self.now.inner) (F.post self.now.inner) }
         ensures { Moves (map item_view) result tokens.new
-            (separated (reading.summary (read self.now.depth) self.now.depth) tokens.old) }
+            (list_by_commas (reading.summary (read self.now.depth) self.now.depth) tokens.old) }
     {
         let mut items = Summaries::new(self.alloc);
         let limit = tokens.turns();
@@ -109,7 +109,7 @@ impl<F: Fn(Global, u8, Level, &mut Cursor<'_, '_>) -> Result<Found, Fault>> Gram
     }
 
     /// `ADD '(' item,+ ')'`
-    #[tactic(auto, unfolding(crate::specs::Reading::summaries, crate::specs::ReadingSteps::enclosed, crate::specs::ReadingSteps::read_up_to))]
+    #[tactic(auto, unfolding(crate::specs::Reading::summaries, crate::specs::ReadingSteps::in_parentheses_read, crate::specs::ReadingSteps::read_up_to))]
     fn summaries(&self, tokens: &mut Cursor<'_, '_>) -> Result<Summaries, Fault>
         requires { Nests self.now.depth (F.pre self.now.inner) (F.post self.now.inner) }
         ensures { Moves (λ s. summaries_from (map item_view s)) result tokens.new
@@ -118,7 +118,7 @@ impl<F: Fn(Global, u8, Level, &mut Cursor<'_, '_>) -> Result<Found, Fault>> Gram
         tokens.expect_keyword(Keyword::Add)?;
         tokens.expect_sign(Sign::OpenParenthesis)?;
         let items = self.some_summaries(tokens)?;
-        closed(items, Sign::CloseParenthesis, tokens)
+        item_closed_by(items, Sign::CloseParenthesis, tokens)
     }
 
     /// `'(' e ')' ADD '(' item,+ ')'`, after `SUMMARIZE e PER`
@@ -149,17 +149,17 @@ impl<F: Fn(Global, u8, Level, &mut Cursor<'_, '_>) -> Result<Found, Fault>> Gram
     }
 
     /// After `SUMMARIZE`.
-    #[tactic(auto, unfolding(crate::specs::Reading::summarized))]
-    pub fn summarized(&self, tokens: &mut Cursor<'_, '_>) -> Result<Found, Fault>
+    #[tactic(auto, unfolding(crate::specs::Reading::summarize_expression))]
+    pub fn summarize_expression(&self, tokens: &mut Cursor<'_, '_>) -> Result<Found, Fault>
         requires { Nests self.now.depth (F.pre self.now.inner) (F.post self.now.inner) }
         ensures { Moves tree_view result tokens.new
-            (reading.summarized (read self.now.depth) self.now.depth tokens.old) }
+            (reading.summarize_expression (read self.now.depth) self.now.depth tokens.old) }
     {
         let operand = self.expression(tokens)?;
         if tokens.keyword(Keyword::Per) {
             return self.summary_per(operand, tokens);
         }
-        let operand = ended(operand, Keyword::By, tokens)?;
+        let operand = item_ended_by(operand, Keyword::By, tokens)?;
         self.summary_by(operand, tokens)
     }
 }

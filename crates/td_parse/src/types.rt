@@ -1,7 +1,7 @@
 //! Types and headings.
 ghost use Rattle.std.specs.Prelude.{◌≡◌};
 ghost use Rattle.td_parse.specs.code.Parsing.{Moves};
-ghost use Rattle.td_parse.specs.ReadingSteps.{listed_to, separated};
+ghost use Rattle.td_parse.specs.ReadingSteps.{listed_to, list_by_commas};
 ghost use Rattle.td_parse.specs.ReadingTypes as reading;
 ghost use Rattle.td_parse.specs.ReadingTypes.{read_type};
 ghost use Rattle.td_tree.specs.Trees as trees;
@@ -11,7 +11,7 @@ ghost use Rattle.td_tree.specs.Lexemes.{sign};
 
 use crate::cursor::{Cursor, SYNTAX};
 use crate::names::name;
-use crate::steps::closed;
+use crate::steps::item_closed_by;
 use std::alloc::Global;
 use td_tree::fault::Fault;
 use td_tree::keyword::Keyword;
@@ -88,19 +88,19 @@ fn heading(
         return Ok(Vec::new(alloc));
     }
     let attributes = attributes(alloc, depth, tokens)?;
-    closed(attributes, Sign::CloseBrace, tokens)
+    item_closed_by(attributes, Sign::CloseBrace, tokens)
 }
 
 /// `(name type),+`, of types at most so high
 #[cycle(types)]
-#[tactic(auto, unfolding(crate::specs::ReadingSteps::separated, crate::specs::ReadingSteps::separated_from))]
+#[tactic(auto, unfolding(crate::specs::ReadingSteps::list_by_commas, crate::specs::ReadingSteps::separated_from))]
 pub fn attributes(
     alloc: Global,
     depth: u8,
     tokens: &mut Cursor<'_, '_>,
 ) -> Result<Vec<AttributeTree>, Fault>
     ensures { Moves (λ v. attribute_trees_view v.items) result tokens.new
-        (separated (reading.attribute (read_type depth)) tokens.old) }
+        (list_by_commas (reading.attribute (read_type depth)) tokens.old) }
 {
     let mut items = Vec::new(alloc);
     let limit = tokens.turns();

@@ -5,7 +5,7 @@ ghost use Rattle.std.specs.Prelude.{drop};
 ghost use Rattle.td_tree.specs.Numbers.{decimal_value, numeral_limit};
 ghost use Rattle.td_tree.specs.Pieces.{kind_of};
 ghost use Rattle.td_tree.specs.Symbols.{symbols};
-ghost use Rattle.td_tree.specs.TextTokens.{content, undoubled};
+ghost use Rattle.td_tree.specs.TextTokens.{content, with_quotes_undoubled};
 
 use std::alloc::{AllocError, Global};
 use std::rc::RcStr;
@@ -59,8 +59,8 @@ pub fn number_of(text: &[u8]) -> Option<u64>
 }
 
 /// The bytes, of each two quotes one.
-fn undoubled(alloc: Global, bytes: &[u8]) -> Result<Vec<u8>, AllocError>
-    ensures { IfOk result (λ v. v.items ≡ undoubled bytes.now) }
+fn with_quotes_undoubled(alloc: Global, bytes: &[u8]) -> Result<Vec<u8>, AllocError>
+    ensures { IfOk result (λ v. v.items ≡ with_quotes_undoubled bytes.now) }
 {
     let mut said = Vec::new(alloc);
     let mut rest = bytes;
@@ -80,7 +80,7 @@ pub fn text_of(alloc: Global, text: &[u8]) -> Result<RcStr, AllocError>
     requires { kind_of (symbols text.now) ≡ Some Kind.Text }
     ensures { IfOk result (λ r. rc_str_bytes r ≡ content text.now) }
 {
-    let said = undoubled(alloc, &text[1..text.len() - 1])?;
+    let said = with_quotes_undoubled(alloc, &text[1..text.len() - 1])?;
     match str::from_utf8(said.as_slice()) {
         Ok(said) => RcStr::from_str(alloc, said),
         Err(_) => unreachable!(),

@@ -5,7 +5,7 @@ use Rattle.std.specs.List.{Contains}
 use Rattle.std.proofs.lemmas.List.Elements.{Contains-append_left, Contains-append_right}
 use Rattle.td_check.specs.OperatorTypes.{aggregate_item, aggregate_type, choice_type, comparison_type, component_type, count_item, extension_type, extracted_type, headed_type, listed_type, measure_type, mismatch, named_part, operator_type, over_relation, per_heading, postfix_type, prefix_type, selector_type, summary_type, tuple_type, restriction_type, known_or}
 use Rattle.td_check.specs.Scopes.{Scope, innermost, known_relvar}
-use Rattle.td_check.specs.StaticTypes.{items_of, named_types, paired, type_of, types_of, with_items}
+use Rattle.td_check.specs.StaticTypes.{items_of, named_types, both_types, type_of, types_of, with_items}
 use Rattle.td_check.specs.WrittenNames.{names_in, names_in_all, names_in_items, names_in_named}
 use Rattle.td_group.specs.declared.aggregates.Agg.TheVariants as asked
 use Rattle.td_tree.specs.declared.cause.Cause.TheVariants as causes
@@ -24,7 +24,7 @@ use Rattle.td_algebra.proofs.Relations.{member_headed}
 use Rattle.td_eval.specs.AggregateValues.{aggregated_value, asked_of, summary_attributes, summary_value}
 use Rattle.td_eval.specs.OperatorValues.{comparison_value, component_value, extended_value, extracted_value, headed_value, listed_value, measure_value, of_truth, on_relation, on_truth, operator_value, postfix_value, prefix_value, restricted_value, tuple_from}
 use Rattle.td_eval.specs.TreeValues.{argument_values, entry_values, items_in_tuples, value_of, values_in_tuples}
-use Rattle.td_eval.specs.Worlds.{World, innermost_value, known_outcome, selected}
+use Rattle.td_eval.specs.Worlds.{World, innermost_value, known_outcome, selector_outcome}
 use Rattle.td_plan.specs.EqualitiesOfNames.{NamesAreWhatIsAsked, ValuesDependOnNames}
 
 -- ---- names of parts
@@ -104,7 +104,7 @@ module _ (scope : Scope) where
     types_same g h (choice condition consequent alternative) same =
         let rest = second (names_in condition) (names_in consequent ++ names_in alternative) same in
         λ i. with_both (types_same g h condition (first (names_in condition) (names_in consequent ++ names_in alternative) same) i)
-        (paired (types_same g h consequent (first (names_in consequent) (names_in alternative) rest) i) (types_same g h alternative (second (names_in consequent) (names_in alternative) rest) i))
+        (both_types (types_same g h consequent (first (names_in consequent) (names_in alternative) rest) i) (types_same g h alternative (second (names_in consequent) (names_in alternative) rest) i))
         (λ c both. choice_type c both.0 both.1)
 
     all_types_same : (g h : List Heading) (es : Trees) → HaveOneType g h (names_in_all es) → types_of (among scope g) es ≡ types_of (among scope h) es
@@ -175,7 +175,7 @@ module _ (w : World) where
     values_same s u (compare left op right) same =
         λ i. with_both (values_same s u left (first (names_in left) (names_in right) same) i) (values_same s u right (second (names_in left) (names_in right) same) i) (comparison_value op)
     values_same s u (postfix operand op) same = λ i. with_value (values_same s u operand same i) (postfix_value op)
-    values_same s u (select ty arguments) same = λ i. with_value (arguments_same s u arguments same i) (selected w ty)
+    values_same s u (select ty arguments) same = λ i. with_value (arguments_same s u arguments same i) (selector_outcome w ty)
     values_same s u (component rest operand) same = λ i. with_value (values_same s u operand same i) (component_value w.scope.types rest)
     values_same s u (measure op operand) same = λ i. with_value (values_same s u operand same i) (measure_value op)
     values_same s u (aggregate op operand value) same =

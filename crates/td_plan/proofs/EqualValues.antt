@@ -27,7 +27,7 @@ use Rattle.td_algebra.proofs.SetEqualities.{restriction_of_difference, restricti
 use Rattle.td_body.specs.Bodies.{agreeing}
 use Rattle.td_eval.proofs.code_lemmas.OpValues.{relation_unpacked}
 use Rattle.td_plan.specs.Equalities.{AsksOnlyOf, has_values, is_at}
-use Rattle.td_plan.specs.EqualitiesOfValues.{AndIsOfBoth, AreTotalIn, EqualityIsOfOneValue, EqualityIsOfValue, Gives, IsAnsweredBy, IsHeadedAndAnswered, IsTotalIn, TotalConditionsRestrict, WhereAfterLookUp, WhereByAnd, WhereByAnds, WhereIsLookUp, WhereOfIntersectOnLeft, WhereOfIntersectOnRight, WhereOfJoinOnLeft, WhereOfJoinOnRight, WhereOfMatching, WhereOfMinus, WhereOfNotMatching, WhereOfTimesOnLeft, WhereOfTimesOnRight, WhereOfUnion, WheresCommute, conjoined, operated, where_value}
+use Rattle.td_plan.specs.EqualitiesOfValues.{AndIsOfBoth, AreTotalIn, EqualityIsOfOneValue, EqualityIsOfValue, Gives, IsAnsweredBy, IsHeadedAndAnswered, IsTotalIn, TotalConditionsRestrict, WhereAfterLookUp, WhereByAnd, WhereByAnds, WhereIsLookUp, WhereOfIntersectOnLeft, WhereOfIntersectOnRight, WhereOfJoinOnLeft, WhereOfJoinOnRight, WhereOfMatching, WhereOfMinus, WhereOfNotMatching, WhereOfTimesOnLeft, WhereOfTimesOnRight, WhereOfUnion, WheresCommute, conjoined_conditions, operated_outcome, where_value}
 use Rattle.td_eval.specs.OperatorValues.{comparison_value, is_true, of_relation, of_truth, on_relation, on_relations, relation_where, restricted_value, truth_value}
 use Rattle.td_plan.proofs.EqualLookUps.{kept_same, restricted_after_look_up, restriction_looks_up}
 use Rattle.td_plan.proofs.EqualRestrictions.{intersection_restricted_right, join_restricted_left, join_restricted_right, product_restricted_left, product_restricted_right, restricted_by_both, restrictions_commute, semidifference_restricted, semijoin_restricted}
@@ -293,7 +293,7 @@ followed (Valued y) x f = refl
 followed (Refused cs) x f = refl
 
 -- AND with a condition that has a truth value: refused as the other, and TRUE where both are
-and_done : (o : Outcome Val) (b : Bool) → done (truth_value (operated operators.And o (of_truth b))) ≡ done (truth_value o)
+and_done : (o : Outcome Val) (b : Bool) → done (truth_value (operated_outcome operators.And o (of_truth b))) ≡ done (truth_value o)
 and_done (Valued (boolean a)) b = refl
 and_done (Valued (integer z)) b = refl
 and_done (Valued (char s)) b = refl
@@ -302,7 +302,7 @@ and_done (Valued (tuple fs)) b = refl
 and_done (Valued (relation h rs)) b = refl
 and_done (Refused cs) b = refl
 
-and_true : (o : Outcome Val) (b : Bool) → is_true (operated operators.And o (of_truth b)) ≡ (is_true o && b)
+and_true : (o : Outcome Val) (b : Bool) → is_true (operated_outcome operators.And o (of_truth b)) ≡ (is_true o && b)
 and_true (Valued (boolean a)) b = refl
 and_true (Valued (integer z)) b = refl
 and_true (Valued (char s)) b = refl
@@ -312,25 +312,25 @@ and_true (Valued (relation h rs)) b = refl
 and_true (Refused cs) b = refl
 
 module _ (p q : Tuple → Outcome Val) (r : Relation) (h : IsTotalIn q r) where
-  and_is : (t : Tuple) → Contains r.body t → conjoined p q t ≡ operated operators.And (p t) (of_truth (truth q t))
-  and_is t c = ap (operated operators.And (p t)) (truth_is q t (h t c))
+  and_is : (t : Tuple) → Contains r.body t → conjoined_conditions p q t ≡ operated_outcome operators.And (p t) (of_truth (truth q t))
+  and_is t c = ap (operated_outcome operators.And (p t)) (truth_is q t (h t c))
 
-  gathered_alike : done (gathered (map (λ t. truth_value (conjoined p q t)) r.body)) ≡ done (gathered (map (λ t. truth_value (p t)) r.body))
+  gathered_alike : done (gathered (map (λ t. truth_value (conjoined_conditions p q t)) r.body)) ≡ done (gathered (map (λ t. truth_value (p t)) r.body))
   gathered_alike =
-      done_alike (λ t. truth_value (conjoined p q t)) (λ t. truth_value (p t)) r.body
+      done_alike (λ t. truth_value (conjoined_conditions p q t)) (λ t. truth_value (p t)) r.body
       (λ t c. ap (λ o. done (truth_value o)) (and_is t c) ∙ and_done (p t) (truth q t))
 
-  kept_alike : restriction (truth (conjoined p q)) r ≡ restriction (truth q) (restriction (truth p) r)
+  kept_alike : restriction (truth (conjoined_conditions p q)) r ≡ restriction (truth q) (restriction (truth p) r)
   kept_alike =
       ap (λ ts. record { heading = r.heading; body = ts })
-      (kept_same (truth (conjoined p q)) (λ t. truth p t && truth q t) r.body (λ t c. ap is_true (and_is t c) ∙ and_true (p t) (truth q t)))
+      (kept_same (truth (conjoined_conditions p q)) (λ t. truth p t && truth q t) r.body (λ t c. ap is_true (and_is t c) ∙ and_true (p t) (truth q t)))
       ∙ restricted_by_both (truth p) (truth q) r
 
-  restricted_by_and : restricted_value (conjoined p q) r ≡ where_value q (restricted_value p r)
+  restricted_by_and : restricted_value (conjoined_conditions p q) r ≡ where_value q (restricted_value p r)
   restricted_by_and =
       let truths = gathered (map (λ t. truth_value (p t)) r.body) in
       let kept = restriction (truth p) r in
-      after_done (gathered (map (λ t. truth_value (conjoined p q t)) r.body)) (of_relation (restriction (truth (conjoined p q)) r))
+      after_done (gathered (map (λ t. truth_value (conjoined_conditions p q t)) r.body)) (of_relation (restriction (truth (conjoined_conditions p q)) r))
       ∙ (λ i. with_value (gathered_alike i) (λ y. of_relation (kept_alike i)))
       ∙ sym (after_done truths (of_relation (restriction (truth q) kept)))
       ∙ (λ i. with_value truths (λ y. sym (where_given q kept (total_kept q (truth p) r h)) i))
@@ -338,8 +338,8 @@ module _ (p q : Tuple → Outcome Val) (r : Relation) (h : IsTotalIn q r) where
 
 pub where_by_and : WhereByAnd
 where_by_and p q (Valued v) g =
-    (λ i. on_relation (g.1 i) (restricted_value (conjoined p q)))
-    ∙ relation_unpacked g.0 (restricted_value (conjoined p q)) ∙ restricted_by_and p q g.0 g.2
+    (λ i. on_relation (g.1 i) (restricted_value (conjoined_conditions p q)))
+    ∙ relation_unpacked g.0 (restricted_value (conjoined_conditions p q)) ∙ restricted_by_and p q g.0 g.2
     ∙ sym (ap (where_value q) (relation_unpacked g.0 (restricted_value p)))
     ∙ (λ i. where_value q (on_relation (sym g.1 i) (restricted_value p)))
 where_by_and p q (Refused cs) g = refl
@@ -351,7 +351,7 @@ gives_more P Q (Refused cs) f g = g
 pub where_by_ands : WhereByAnds
 where_by_ands p [] a g = refl
 where_by_ands p (q ∷ qs) a g =
-    where_by_ands (conjoined p q) qs a (gives_more (AreTotalIn (q ∷ qs)) (AreTotalIn qs) a (λ r h. h.1) g)
+    where_by_ands (conjoined_conditions p q) qs a (gives_more (AreTotalIn (q ∷ qs)) (AreTotalIn qs) a (λ r h. h.1) g)
     ∙ ap (λ o. fold (λ o q. where_value q o) o qs) (where_by_and p q a (gives_more (AreTotalIn (q ∷ qs)) (IsTotalIn q) a (λ r h. h.0) g))
 
 pub wheres_commute : WheresCommute

@@ -9,7 +9,7 @@ use Rattle.td_tree.specs.Outcomes.{Answers, Outcome, Valued, Refused, Only}
 use Rattle.td_plan.specs.declared.hand.Hand.{Hand}
 use Rattle.td_plan.specs.declared.hand.Held.{Held}
 use Rattle.td_plan.specs.code.Hands.{AreAnswers, AreHeld, IsAnswer, IsHand, IsHeld}
-use Rattle.td_plan.specs.Plans.{Frame, fixed_at, frame_of, outcome_or, unknown}
+use Rattle.td_plan.specs.Plans.{Frame, fixed_at, frame_of, outcome_or, unknown_place}
 use Rattle.td_value.specs.Values.{Val}
 
 pub held_at : (cs : List Held) (fs : List Frame) (i : ℕ) (c : Held) → AreHeld cs fs → slice_get cs i ≡ Some c
@@ -101,7 +101,7 @@ held_all h (f ∷ fs) cs i past hand so_far =
 abbrev pub told : Result Val Fault → Outcome Val
 told (Ok v) = Valued v
 told (Err (faults.Refused c)) = Refused (Only c)
-told (Err faults.Memory) = unknown
+told (Err faults.Memory) = unknown_place
 
 is_told : (r : Result Val Fault) → Answers (λ v. v) r (told r)
 is_told (Ok v) = refl

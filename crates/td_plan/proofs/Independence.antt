@@ -5,11 +5,11 @@ use Rattle.std.specs.List.{slice_get, zip}
 use Rattle.std.proofs.lemmas.Bool.{eqb-false}
 use Rattle.td_eval.specs.AggregateValues.{aggregated_value, asked_of}
 use Rattle.td_eval.specs.OperatorValues.{comparison_value, component_value, extracted_value, headed_value, listed_value, measure_value, on_relation, on_truth, operator_value, postfix_value, prefix_value, restricted_value, tuple_from}
-use Rattle.td_eval.specs.Worlds.{World, known_outcome, selected}
+use Rattle.td_eval.specs.Worlds.{World, known_outcome, selector_outcome}
 use Rattle.td_tree.specs.Outcomes.{Outcome, gathered, with_both, with_value}
 use Rattle.td_tree.specs.Trees.{project}
 use Rattle.td_value.specs.Values.{Val}
-use Rattle.td_plan.specs.Hoisting.{PlansDependOnTuplesTheyName, all_lowered, any_reaches, lowered, reaches, shifted}
+use Rattle.td_plan.specs.Hoisting.{PlansDependOnTuplesTheyName, all_lowered, any_reaches, lowered_step, reaches, lowered_depth}
 use Rattle.td_plan.specs.Plans.{Frame, PlanTree, PlanTrees, none, more, constant, refused, attribute, fixed, relvar, look_up, prefix, extract, restriction, binary, compare, postfix, select, component, measure, relation, headed_relation, tuple, extend, aggregate, summarize_per, summarize_by, choice, attribute_at, extension_of, fixed_at, frame_of, looked_up, plan_columns, plan_value, plan_values, summary_of}
 
 pub neither : (a b : Bool) → (a || b) ≡ false → (a ≡ false) × (b ≡ false)
@@ -32,20 +32,20 @@ none_of_four a b c d e =
 -- ---- depths
 
 got_shifted : {X : Type 0} (us : List X) (f : X) (fs : List X) (d : ℕ) → (d ≡ length us → ⊥)
-    → slice_get (us ++ (f ∷ fs)) d ≡ slice_get (us ++ fs) (shifted (length us) d)
+    → slice_get (us ++ (f ∷ fs)) d ≡ slice_get (us ++ fs) (lowered_depth (length us) d)
 got_shifted [] f fs zero h = absurd (h refl)
 got_shifted [] f fs (suc d) h = refl
 got_shifted (u ∷ us) f fs zero h = refl
 got_shifted (u ∷ us) f fs (suc d) h = got_shifted us f fs d (λ e. h (ap suc e))
 
-pub shifted_beyond : (k d : ℕ) → k < d → shifted k d ≡ d - 1
+pub shifted_beyond : (k d : ℕ) → k < d → lowered_depth k d ≡ d - 1
 shifted_beyond zero zero h = absurd (omega arith)
 shifted_beyond zero (suc d) h = omega arith
 shifted_beyond (suc k) zero h = absurd (omega arith)
 shifted_beyond (suc k) (suc zero) h = absurd (omega arith)
 shifted_beyond (suc k) (suc (suc d)) h = let e = shifted_beyond k (suc d) (omega arith) in omega (arith, e)
 
-pub shifted_from : (k d : ℕ) → d ≤ k → shifted k d ≡ d
+pub shifted_from : (k d : ℕ) → d ≤ k → lowered_depth k d ≡ d
 shifted_from zero zero h = refl
 shifted_from zero (suc d) h = absurd (omega arith)
 shifted_from (suc k) zero h = refl
@@ -56,7 +56,7 @@ shifted_from (suc k) (suc d) h = ap suc (shifted_from k d (omega arith))
 module _ (w : World) (f : Frame) (fs : List Frame) where
   mutual
     pub independent : (us : List Frame) (p : PlanTree) → reaches (length us) p ≡ false
-        → plan_value w (us ++ (f ∷ fs)) p ≡ plan_value w (us ++ fs) (lowered (length us) p)
+        → plan_value w (us ++ (f ∷ fs)) p ≡ plan_value w (us ++ fs) (lowered_step (length us) p)
     independent us (constant v) h = refl
     independent us (refused c) h = refl
     independent us (attribute d p) h = ap (λ o. attribute_at o p) (got_shifted us f fs d (eqb-false d (length us) h))
@@ -76,7 +76,7 @@ module _ (w : World) (f : Frame) (fs : List Frame) where
         let n = neither (reaches (length us) left) (reaches (length us) right) h in
         λ i. with_both (independent us left n.0 i) (independent us right n.1 i) (comparison_value op)
     independent us (postfix operand op) h = λ i. with_value (independent us operand h i) (postfix_value op)
-    independent us (select ty arguments) h = λ i. with_value (gathered (all_independent us arguments h i)) (selected w ty)
+    independent us (select ty arguments) h = λ i. with_value (gathered (all_independent us arguments h i)) (selector_outcome w ty)
     independent us (component rest operand) h = λ i. with_value (independent us operand h i) (component_value w.scope.types rest)
     independent us (measure op operand) h = λ i. with_value (independent us operand h i) (measure_value op)
     independent us (relation elements) h = λ i. with_value (gathered (all_independent us elements h i)) listed_value

@@ -5,12 +5,12 @@ use Rattle.std.specs.Rc.{rc_str_bytes}
 use Rattle.td_check.specs.OperatorTypes.{choice_type, comparison_type, component_type, extracted_type, headed_type, listed_type, measure_type, operator_type, postfix_type, prefix_type, selector_type, tuple_type}
 use Rattle.td_check.specs.Scopes.{Scope}
 use Rattle.td_check.specs.StaticLaws.{GiveNames, PartsGiveNames}
-use Rattle.td_check.specs.StaticTypes.{named_types, paired, type_of, types_of}
+use Rattle.td_check.specs.StaticTypes.{named_types, both_types, type_of, types_of}
 use Rattle.td_eval.specs.OperatorValues.{comparison_value, component_value, extracted_value, headed_value, listed_value, measure_value, on_truth, operator_value, postfix_value, prefix_value, tuple_from}
 use Rattle.td_eval.specs.TreeTexts.{HaveTexts, PartsHaveTexts}
 use Rattle.td_eval.specs.TreeValues.{argument_values, entry_values, value_of}
 use Rattle.td_eval.specs.UnfailingValues.{GivesValues}
-use Rattle.td_eval.specs.Worlds.{World, selected}
+use Rattle.td_eval.specs.Worlds.{World, selector_outcome}
 use Rattle.td_plan.specs.code.PlannedParts.{ArePlansOfTyped, in_named, in_trees, names_in}
 use Rattle.td_plan.specs.Plans as plans
 use Rattle.td_plan.specs.Plans.{Frame, PlanTree, PlanTrees, plan_value, plan_values}
@@ -93,7 +93,7 @@ module _ (scope : Scope) where
   pub choice_planned : (p q r : PlanTree) (c d e : Tree) → IsPlanOfTyped scope p c → IsPlanOfTyped scope q d → IsPlanOfTyped scope r e
       → IsPlanOfTyped scope (plans.choice p q r) (trees.choice c d e)
   choice_planned p q r c d e h i j = λ written t is w s fs k hand f.
-      let y = values_of_both (type_of scope c) (paired (type_of scope d) (type_of scope e)) (λ t both. choice_type t both.0 both.1) t is in
+      let y = values_of_both (type_of scope c) (both_types (type_of scope d) (type_of scope e)) (λ t both. choice_type t both.0 both.1) t is in
       let z = values_of_both (type_of scope d) (type_of scope e) (λ s t. Valued (s, t)) y.1 y.3 in
       let one = h (written.0.0, written.1.0) y.0 y.2 w s fs k hand f in
       let two = i (written.0.1, written.1.1) z.0 z.2 w s fs k hand f in
@@ -118,7 +118,7 @@ module _ (scope : Scope) where
       → IsPlanOfTyped scope (plans.select n ps) (trees.select n es)
   select_planned n ps es all = λ written t is w s fs k hand f.
       let y = value_of_with (types_of scope es) (selector_type scope.types n) t is in
-      ap (λ o. with_value o (selected w n)) (arguments_planned ps es all written.0 written.1 y.0 y.1 w s fs k hand f)
+      ap (λ o. with_value o (selector_outcome w n)) (arguments_planned ps es all written.0 written.1 y.0 y.1 w s fs k hand f)
 
   pub relation_planned : (ps : PlanTrees) (es : Trees) → ArePlansOfTyped scope ps (in_trees es) → IsPlanOfTyped scope (plans.relation ps) (trees.relation es)
   relation_planned ps es all = λ written t is w s fs k hand f.

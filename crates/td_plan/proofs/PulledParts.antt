@@ -5,7 +5,7 @@ use Rattle.std.specs.List.{slice_get, zip}
 use Rattle.std.proofs.lemmas.List.{append_assoc}
 use Rattle.td_eval.specs.AggregateValues.{aggregated_value, asked_of}
 use Rattle.td_eval.specs.OperatorValues.{comparison_value, component_value, extracted_value, headed_value, listed_value, measure_value, on_relation, on_truth, operator_value, postfix_value, prefix_value, restricted_value, tuple_from}
-use Rattle.td_eval.specs.Worlds.{World, known_outcome, selected}
+use Rattle.td_eval.specs.Worlds.{World, known_outcome, selector_outcome}
 use Rattle.td_group.specs.declared.aggregates.Agg.{Agg}
 use Rattle.td_tree.specs.declared.operator.Aggregate.{Aggregate}
 use Rattle.td_tree.specs.declared.operator.Comparison.{Comparison}
@@ -17,7 +17,7 @@ use Rattle.td_tree.specs.Trees.{Attributes, Postfix, project}
 use Rattle.td_types.specs.Types.{Attribute, Heading}
 use Rattle.td_plan.proofs.Independence.{independent}
 use Rattle.td_plan.specs.declared.step.Step.{Step}
-use Rattle.td_plan.specs.Hoisting.{Hoists, HoistsAll, lowered, reaches}
+use Rattle.td_plan.specs.Hoisting.{Hoists, HoistsAll, lowered_step, reaches}
 use Rattle.td_plan.specs.Plans.{Frame, PlanTree, PlanTrees, fixed, look_up, prefix, extract, restriction, binary, compare, postfix, select, component, measure, relation, headed_relation, tuple, extend, aggregate, summarize_per, summarize_by, choice, extension_of, frame_of, looked_up, outcome_or, plan_columns, plan_value, plan_values, summary_of}
 use Rattle.td_plan.specs.code.StepViews.{step_view, steps_view}
 
@@ -85,7 +85,7 @@ module _ (a c : PlanTrees) where
       (left.0, λ i. with_both (left.1 i) ((k w fs t os z).1 i) (comparison_value op))
 
   pub pulls_select : (ty : List ℕ) (ps qs : PlanTrees) → HoistsAll a c ps qs → Hoists a c (select ty ps) (select ty qs)
-  pulls_select ty ps qs h = λ w fs t os z. let k = h w fs t os z in (k.0, λ i. with_value (gathered (k.1 i)) (selected w ty))
+  pulls_select ty ps qs h = λ w fs t os z. let k = h w fs t os z in (k.0, λ i. with_value (gathered (k.1 i)) (selector_outcome w ty))
 
   pub pulls_relation : (ps qs : PlanTrees) → HoistsAll a c ps qs → Hoists a c (relation ps) (relation qs)
   pulls_relation ps qs h = λ w fs t os z. let k = h w fs t os z in (k.0, λ i. with_value (gathered (k.1 i)) listed_value)
@@ -160,7 +160,7 @@ at_end : {X : Type 0} (xs : List X) (x : X) (rest : List X) → slice_get (xs ++
 at_end [] x rest = refl
 at_end (y ∷ xs) x rest = at_end xs x rest
 
-pub pulls_fixed : (old new : List Step) (p : PlanTree) (q : Step) (n : ℕ) → reaches 0 p ≡ false → step_view q ≡ lowered 0 p → new ≡ old ++ (q ∷ []) → n ≡ length old
+pub pulls_fixed : (old new : List Step) (p : PlanTree) (q : Step) (n : ℕ) → reaches 0 p ≡ false → step_view q ≡ lowered_step 0 p → new ≡ old ++ (q ∷ []) → n ≡ length old
     → Hoists (steps_view old) (steps_view new) p (fixed 0 n)
 pulls_fixed old new p q n h is pushed place = λ w fs t os z.
     let v = plan_value w fs (step_view q) in

@@ -21,7 +21,7 @@ use Rattle.td_plan.proofs.LookUpValues.{answers, relation_of_value}
 use Rattle.td_plan.proofs.PlannedAnswers.{relation_typed}
 use Rattle.td_plan.specs.Equalities.{AsksOnlyOf}
 use Rattle.td_plan.specs.EqualitiesOfNames.{NamesOnly}
-use Rattle.td_plan.specs.EqualitiesOfValues.{Gives, IsAnsweredBy, IsHeadedAndAnswered, IsTotalIn, operated, where_value}
+use Rattle.td_plan.specs.EqualitiesOfValues.{Gives, IsAnsweredBy, IsHeadedAndAnswered, IsTotalIn, operated_outcome, where_value}
 use Rattle.td_plan.specs.PlansOf.{AreInHand, IsPlanOfTyped, outermost}
 use Rattle.td_plan.specs.Plans.{PlanTree}
 use Rattle.td_plan.specs.declared.push.Restricted.TheVariants as operands
@@ -195,8 +195,8 @@ module _ (scope : Scope) where
 
     first_stands : (h : Heading) → IsAnsweredIn scope l e h
         → ((w : World) (s : List Tuple) → GivesValues w (outermost scope) → AreInHand scope s → IsWritten l → IsWritten r → IsWritten e
-        → where_value (λ t. value_of w (t ∷ s) e) (operated op (value_of w s l) (value_of w s r))
-        ≡ operated op (where_value (λ t. value_of w (t ∷ s) e) (value_of w s l)) (value_of w s r))
+        → where_value (λ t. value_of w (t ∷ s) e) (operated_outcome op (value_of w s l) (value_of w s r))
+        ≡ operated_outcome op (where_value (λ t. value_of w (t ∷ s) e) (value_of w s l)) (value_of w s r))
         → MayStandFor scope (restricted_tree operands.First l op r e) Whole
     first_stands h a same = λ written t is.
         let wl : IsWritten l = (written.0.0.0, written.1.0.0) in
@@ -210,8 +210,8 @@ module _ (scope : Scope) where
 
     second_stands : (h : Heading) → IsAnsweredIn scope r e h
         → ((w : World) (s : List Tuple) → GivesValues w (outermost scope) → AreInHand scope s → IsWritten l → IsWritten r → IsWritten e
-        → where_value (λ t. value_of w (t ∷ s) e) (operated op (value_of w s l) (value_of w s r))
-        ≡ operated op (value_of w s l) (where_value (λ t. value_of w (t ∷ s) e) (value_of w s r)))
+        → where_value (λ t. value_of w (t ∷ s) e) (operated_outcome op (value_of w s l) (value_of w s r))
+        ≡ operated_outcome op (value_of w s l) (where_value (λ t. value_of w (t ∷ s) e) (value_of w s r)))
         → MayStandFor scope (restricted_tree operands.Second l op r e) Whole
     second_stands h a same = λ written t is.
         let wl : IsWritten l = (written.0.0.0, written.1.0.0) in
@@ -225,8 +225,8 @@ module _ (scope : Scope) where
 
     both_stand : (h g : Heading) → IsAnsweredIn scope l e h → IsAnsweredIn scope r e g
         → ((w : World) (s : List Tuple) → GivesValues w (outermost scope) → AreInHand scope s → IsWritten l → IsWritten r → IsWritten e
-        → where_value (λ t. value_of w (t ∷ s) e) (operated op (value_of w s l) (value_of w s r))
-        ≡ operated op (where_value (λ t. value_of w (t ∷ s) e) (value_of w s l)) (where_value (λ t. value_of w (t ∷ s) e) (value_of w s r)))
+        → where_value (λ t. value_of w (t ∷ s) e) (operated_outcome op (value_of w s l) (value_of w s r))
+        ≡ operated_outcome op (where_value (λ t. value_of w (t ∷ s) e) (value_of w s l)) (where_value (λ t. value_of w (t ∷ s) e) (value_of w s r)))
         → MayStandFor scope (restricted_tree operands.Both l op r e) Whole
     both_stand h g a b same = λ written t is.
         let wl : IsWritten l = (written.0.0.0, written.1.0.0) in

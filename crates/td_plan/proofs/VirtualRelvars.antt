@@ -12,7 +12,7 @@ use Rattle.td_eval.specs.TreeValues.{value_of}
 use Rattle.td_eval.specs.UnfailingValues.{GivesValues}
 use Rattle.td_eval.specs.ValueLaws.{IsChecked}
 use Rattle.td_eval.specs.ValueTypes.{DefinitionsAreWritten, IsWritten}
-use Rattle.td_eval.specs.Worlds.{World, known_outcome, selected}
+use Rattle.td_eval.specs.Worlds.{World, known_outcome, selector_outcome}
 use Rattle.td_eval.proofs.law_lemmas.KnownRelvars.{NamedAt, front_has_more, fronted, known_in_more, named_at, no_base, stays_behind, virtual_at}
 use Rattle.td_eval.proofs.law_lemmas.LaterTypes.{selected_by}
 use Rattle.td_eval.proofs.law_lemmas.MoreWorlds.{HasMoreThan, same_in_more}
@@ -54,7 +54,7 @@ module _ (db : Database) (is_typed : IsTyped db) (written : DefinitionsAreWritte
         (front_has_more db at.0 (v ∷ at.1) at.2) typed_before).0
 
     -- the whole database has what the virtual relvars before it have
-    selected_alike : (m : List ℕ) (vs : List Val) → selected (world_of db) m vs ≡ selected (world_of (fronted db at.0)) m vs
+    selected_alike : (m : List ℕ) (vs : List Val) → selector_outcome (world_of db) m vs ≡ selector_outcome (world_of (fronted db at.0)) m vs
     selected_alike m vs =
         selected_by (world_of db) (selectors_of db.types db.types) m vs (world_selectors db)
         ∙ sym (selected_by (world_of (fronted db at.0)) (selectors_of db.types db.types) m vs (world_selectors (fronted db at.0)))

@@ -34,8 +34,8 @@ abbrev pub where_value : (Tuple → Outcome Val) → Outcome Val → Outcome Val
 where_value p o = with_value o (λ v. on_relation v (restricted_value p))
 
 -- what an operator gives of what its operands give
-abbrev pub operated : Operator → Outcome Val → Outcome Val → Outcome Val
-operated op a b = with_both a b (operator_value op)
+abbrev pub operated_outcome : Operator → Outcome Val → Outcome Val → Outcome Val
+operated_outcome op a b = with_both a b (operator_value op)
 
 -- a condition that has a truth value in each tuple restricts by these truth values
 abbrev pub TotalConditionsRestrict : Type 0
@@ -49,24 +49,24 @@ TotalConditionsRestrict =
 abbrev pub WhereOfUnion : Type 0
 WhereOfUnion =
     (p : Tuple → Outcome Val) (a b : Outcome Val) → Gives (IsAnsweredBy p) a → Gives (IsAnsweredBy p) b
-    → where_value p (operated operators.Union a b) ≡ operated operators.Union (where_value p a) (where_value p b)
+    → where_value p (operated_outcome operators.Union a b) ≡ operated_outcome operators.Union (where_value p a) (where_value p b)
 
 -- of an intersection, either
 abbrev pub WhereOfIntersectOnLeft : Type 0
 WhereOfIntersectOnLeft =
     (p : Tuple → Outcome Val) (a b : Outcome Val) → Gives (IsTotalIn p) a → Gives IsRelation b
-    → where_value p (operated operators.Intersect a b) ≡ operated operators.Intersect (where_value p a) b
+    → where_value p (operated_outcome operators.Intersect a b) ≡ operated_outcome operators.Intersect (where_value p a) b
 
 abbrev pub WhereOfIntersectOnRight : Type 0
 WhereOfIntersectOnRight =
     (p : Tuple → Outcome Val) (a b : Outcome Val) → Gives IsRelation a → Gives (IsTotalIn p) b
-    → where_value p (operated operators.Intersect a b) ≡ operated operators.Intersect a (where_value p b)
+    → where_value p (operated_outcome operators.Intersect a b) ≡ operated_outcome operators.Intersect a (where_value p b)
 
 -- of a difference, the first
 abbrev pub WhereOfMinus : Type 0
 WhereOfMinus =
     (p : Tuple → Outcome Val) (a b : Outcome Val) → Gives (IsTotalIn p) a → Gives IsRelation b
-    → where_value p (operated operators.Minus a b) ≡ operated operators.Minus (where_value p a) b
+    → where_value p (operated_outcome operators.Minus a b) ≡ operated_outcome operators.Minus (where_value p a) b
 
 -- ---- joins
 
@@ -86,50 +86,50 @@ AsksOnlyIn h o p = (q : Relation) → o ≡ of_relation q → AsksOnlyOf (attrib
 abbrev pub WhereOfJoinOnLeft : Type 0
 WhereOfJoinOnLeft =
     (p : Tuple → Outcome Val) (h : Heading) (a b : Outcome Val) → Gives (IsHeadedAndAnswered h p) a → Gives IsRelation b
-    → AsksOnlyIn h (operated operators.Join a b) p
-    → where_value p (operated operators.Join a b) ≡ operated operators.Join (where_value p a) b
+    → AsksOnlyIn h (operated_outcome operators.Join a b) p
+    → where_value p (operated_outcome operators.Join a b) ≡ operated_outcome operators.Join (where_value p a) b
 
 abbrev pub WhereOfJoinOnRight : Type 0
 WhereOfJoinOnRight =
     (p : Tuple → Outcome Val) (h : Heading) (a b : Outcome Val) → Gives IsRelation a → Gives (IsHeadedAndAnswered h p) b
-    → AsksOnlyIn h (operated operators.Join a b) p
-    → where_value p (operated operators.Join a b) ≡ operated operators.Join a (where_value p b)
+    → AsksOnlyIn h (operated_outcome operators.Join a b) p
+    → where_value p (operated_outcome operators.Join a b) ≡ operated_outcome operators.Join a (where_value p b)
 
 abbrev pub WhereOfTimesOnLeft : Type 0
 WhereOfTimesOnLeft =
     (p : Tuple → Outcome Val) (h : Heading) (a b : Outcome Val) → Gives (IsHeadedAndAnswered h p) a → Gives IsRelation b
-    → AsksOnlyIn h (operated operators.Times a b) p
-    → where_value p (operated operators.Times a b) ≡ operated operators.Times (where_value p a) b
+    → AsksOnlyIn h (operated_outcome operators.Times a b) p
+    → where_value p (operated_outcome operators.Times a b) ≡ operated_outcome operators.Times (where_value p a) b
 
 abbrev pub WhereOfTimesOnRight : Type 0
 WhereOfTimesOnRight =
     (p : Tuple → Outcome Val) (h : Heading) (a b : Outcome Val) → Gives IsRelation a → Gives (IsHeadedAndAnswered h p) b
-    → AsksOnlyIn h (operated operators.Times a b) p
-    → where_value p (operated operators.Times a b) ≡ operated operators.Times a (where_value p b)
+    → AsksOnlyIn h (operated_outcome operators.Times a b) p
+    → where_value p (operated_outcome operators.Times a b) ≡ operated_outcome operators.Times a (where_value p b)
 
 -- MATCHING and NOT MATCHING keep tuples of their first operand
 abbrev pub WhereOfMatching : Type 0
 WhereOfMatching =
     (p : Tuple → Outcome Val) (a b : Outcome Val) → Gives (IsTotalIn p) a → Gives IsRelation b
-    → where_value p (operated operators.Matching a b) ≡ operated operators.Matching (where_value p a) b
+    → where_value p (operated_outcome operators.Matching a b) ≡ operated_outcome operators.Matching (where_value p a) b
 
 abbrev pub WhereOfNotMatching : Type 0
 WhereOfNotMatching =
     (p : Tuple → Outcome Val) (a b : Outcome Val) → Gives (IsTotalIn p) a → Gives IsRelation b
-    → where_value p (operated operators.NotMatching a b) ≡ operated operators.NotMatching (where_value p a) b
+    → where_value p (operated_outcome operators.NotMatching a b) ≡ operated_outcome operators.NotMatching (where_value p a) b
 
 -- ---- one WHERE after another
 
 -- both conditions
-abbrev pub conjoined : (Tuple → Outcome Val) → (Tuple → Outcome Val) → Tuple → Outcome Val
-conjoined p q t = operated operators.And (p t) (q t)
+abbrev pub conjoined_conditions : (Tuple → Outcome Val) → (Tuple → Outcome Val) → Tuple → Outcome Val
+conjoined_conditions p q t = operated_outcome operators.And (p t) (q t)
 
 -- WHERE by two conjuncts is one WHERE after the other, where the second has a truth value in each tuple: AND counts its causes
 -- in tuples that the first drops
 abbrev pub WhereByAnd : Type 0
 WhereByAnd =
     (p q : Tuple → Outcome Val) (a : Outcome Val) → Gives (IsTotalIn q) a
-    → where_value (conjoined p q) a ≡ where_value q (where_value p a)
+    → where_value (conjoined_conditions p q) a ≡ where_value q (where_value p a)
 
 -- each of the conditions has a truth value in each tuple of the relation
 abbrev pub AreTotalIn : List (Tuple → Outcome Val) → Relation → Type 0
@@ -139,7 +139,7 @@ AreTotalIn qs r = AllByRecursion (λ q. IsTotalIn q r) qs
 abbrev pub WhereByAnds : Type 0
 WhereByAnds =
     (p : Tuple → Outcome Val) (qs : List (Tuple → Outcome Val)) (a : Outcome Val) → Gives (AreTotalIn qs) a
-    → where_value (fold conjoined p qs) a ≡ fold (λ o q. where_value q o) (where_value p a) qs
+    → where_value (fold conjoined_conditions p qs) a ≡ fold (λ o q. where_value q o) (where_value p a) qs
 
 -- two WHEREs may change places
 abbrev pub WheresCommute : Type 0
@@ -163,7 +163,7 @@ EqualityIsOfOneValue = (v u : Val) → comparison_value comparisons.Equal v u �
 -- where AND is TRUE, both its operands are
 abbrev pub AndIsOfBoth : Type 0
 AndIsOfBoth =
-    (a b : Outcome Val) → operated operators.And a b ≡ of_truth true → (a ≡ of_truth true) × (b ≡ of_truth true)
+    (a b : Outcome Val) → operated_outcome operators.And a b ≡ of_truth true → (a ≡ of_truth true) × (b ≡ of_truth true)
 
 -- WHERE by a condition that fixes each attribute of a key to a value is the look-up by these values
 abbrev pub WhereIsLookUp : Type 0

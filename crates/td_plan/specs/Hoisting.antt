@@ -39,52 +39,52 @@ abbrev mutual
   any_reaches k (more first rest) = reaches k first || any_reaches k rest
 
 -- a depth, where the tuple at the first depth is no more in hand
-abbrev pub shifted : ℕ → ℕ → ℕ
-shifted zero zero = zero
-shifted zero (suc d) = d
-shifted (suc k) zero = zero
-shifted (suc k) (suc d) = suc (shifted k d)
+abbrev pub lowered_depth : ℕ → ℕ → ℕ
+lowered_depth zero zero = zero
+lowered_depth zero (suc d) = d
+lowered_depth (suc k) zero = zero
+lowered_depth (suc k) (suc d) = suc (lowered_depth k d)
 
 -- the plan, where the tuple at a depth is no more in hand
 abbrev mutual
-  pub lowered : ℕ → PlanTree → PlanTree
-  lowered k (constant v) = constant v
-  lowered k (refused c) = refused c
-  lowered k (attribute d p) = attribute (shifted k d) p
-  lowered k (fixed d p) = fixed (shifted k d) p
-  lowered k (relvar n) = relvar n
-  lowered k (look_up n key part) = look_up n key (lowered k part)
-  lowered k (prefix op operand) = prefix op (lowered k operand)
-  lowered k (extract a operand) = extract a (lowered k operand)
-  lowered k (restriction operand parts condition) = restriction (lowered k operand) (all_lowered k parts) (lowered (suc k) condition)
-  lowered k (binary left op right) = binary (lowered k left) op (lowered k right)
-  lowered k (compare left op right) = compare (lowered k left) op (lowered k right)
-  lowered k (postfix operand op) = postfix (lowered k operand) op
-  lowered k (select ty arguments) = select ty (all_lowered k arguments)
-  lowered k (component rest operand) = component rest (lowered k operand)
-  lowered k (measure op operand) = measure op (lowered k operand)
-  lowered k (relation elements) = relation (all_lowered k elements)
-  lowered k (headed_relation h elements) = headed_relation h (all_lowered k elements)
-  lowered k (tuple names parts) = tuple names (all_lowered k parts)
-  lowered k (extend operand attributes parts values) =
-      extend (lowered k operand) attributes (all_lowered k parts) (all_lowered (suc k) values)
-  lowered k (aggregate op operand parts value) = aggregate op (lowered k operand) (all_lowered k parts) (lowered (suc k) value)
-  lowered k (summarize_per operand per attributes aggregates parts values) =
-      summarize_per (lowered k operand) (lowered k per) attributes aggregates (all_lowered k parts) (all_lowered (suc k) values)
-  lowered k (summarize_by operand by attributes aggregates parts values) =
-      summarize_by (lowered k operand) by attributes aggregates (all_lowered k parts) (all_lowered (suc k) values)
-  lowered k (choice condition consequent alternative) =
-      choice (lowered k condition) (lowered k consequent) (lowered k alternative)
+  pub lowered_step : ℕ → PlanTree → PlanTree
+  lowered_step k (constant v) = constant v
+  lowered_step k (refused c) = refused c
+  lowered_step k (attribute d p) = attribute (lowered_depth k d) p
+  lowered_step k (fixed d p) = fixed (lowered_depth k d) p
+  lowered_step k (relvar n) = relvar n
+  lowered_step k (look_up n key part) = look_up n key (lowered_step k part)
+  lowered_step k (prefix op operand) = prefix op (lowered_step k operand)
+  lowered_step k (extract a operand) = extract a (lowered_step k operand)
+  lowered_step k (restriction operand parts condition) = restriction (lowered_step k operand) (all_lowered k parts) (lowered_step (suc k) condition)
+  lowered_step k (binary left op right) = binary (lowered_step k left) op (lowered_step k right)
+  lowered_step k (compare left op right) = compare (lowered_step k left) op (lowered_step k right)
+  lowered_step k (postfix operand op) = postfix (lowered_step k operand) op
+  lowered_step k (select ty arguments) = select ty (all_lowered k arguments)
+  lowered_step k (component rest operand) = component rest (lowered_step k operand)
+  lowered_step k (measure op operand) = measure op (lowered_step k operand)
+  lowered_step k (relation elements) = relation (all_lowered k elements)
+  lowered_step k (headed_relation h elements) = headed_relation h (all_lowered k elements)
+  lowered_step k (tuple names parts) = tuple names (all_lowered k parts)
+  lowered_step k (extend operand attributes parts values) =
+      extend (lowered_step k operand) attributes (all_lowered k parts) (all_lowered (suc k) values)
+  lowered_step k (aggregate op operand parts value) = aggregate op (lowered_step k operand) (all_lowered k parts) (lowered_step (suc k) value)
+  lowered_step k (summarize_per operand per attributes aggregates parts values) =
+      summarize_per (lowered_step k operand) (lowered_step k per) attributes aggregates (all_lowered k parts) (all_lowered (suc k) values)
+  lowered_step k (summarize_by operand by attributes aggregates parts values) =
+      summarize_by (lowered_step k operand) by attributes aggregates (all_lowered k parts) (all_lowered (suc k) values)
+  lowered_step k (choice condition consequent alternative) =
+      choice (lowered_step k condition) (lowered_step k consequent) (lowered_step k alternative)
 
   pub all_lowered : ℕ → PlanTrees → PlanTrees
   all_lowered k none = none
-  all_lowered k (more first rest) = more (lowered k first) (all_lowered k rest)
+  all_lowered k (more first rest) = more (lowered_step k first) (all_lowered k rest)
 
 -- a plan that does not name a tuple in hand has the same value, or the same causes, without it
 abbrev pub PlansDependOnTuplesTheyName : Type 0
 PlansDependOnTuplesTheyName =
     (w : World) (inner : List Frame) (f : Frame) (outer : List Frame) (p : PlanTree) → reaches (length inner) p ≡ false
-    → plan_value w (inner ++ (f ∷ outer)) p ≡ plan_value w (inner ++ outer) (lowered (length inner) p)
+    → plan_value w (inner ++ (f ∷ outer)) p ≡ plan_value w (inner ++ outer) (lowered_step (length inner) p)
 
 -- the list begins with the other
 abbrev pub BeginsWith : List (Outcome Val) → List (Outcome Val) → Type 0

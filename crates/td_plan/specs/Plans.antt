@@ -4,7 +4,7 @@ use Rattle.std.specs.List.{slice_get, zip}
 use Rattle.td_eval.specs.AggregateValues.{Summand, aggregated_value, asked_of, summary_value}
 use Rattle.td_body.specs.Bodies.{agreeing}
 use Rattle.td_eval.specs.OperatorValues.{comparison_value, component_value, extended_value, extracted_value, headed_value, listed_value, measure_value, of_relation, on_relation, on_truth, on_tuple, operator_value, postfix_value, prefix_value, restricted_value, tuple_from}
-use Rattle.td_eval.specs.Worlds.{World, known_outcome, selected}
+use Rattle.td_eval.specs.Worlds.{World, known_outcome, selector_outcome}
 use Rattle.td_group.specs.declared.aggregates.Agg.{Agg}
 use Rattle.td_tree.specs.declared.cause.Cause.{Cause}
 use Rattle.td_tree.specs.declared.cause.Cause.TheVariants as causes
@@ -60,24 +60,24 @@ abbrev pub frame_of : List (Outcome Val) → Tuple → Frame
 frame_of os t = record { tuple = t; fixed_parts = os }
 
 -- what a place that there is not gives
-abbrev pub unknown : Outcome Val
-unknown = Refused (Only causes.NameUnknown)
+abbrev pub unknown_place : Outcome Val
+unknown_place = Refused (Only causes.NameUnknown)
 
 abbrev pub value_or : Option Val → Outcome Val
 value_or (Some v) = Valued v
-value_or None = unknown
+value_or None = unknown_place
 
 abbrev pub attribute_at : Option Frame → ℕ → Outcome Val
 attribute_at (Some f) place = value_or (slice_get (values_of f.tuple) place)
-attribute_at None place = unknown
+attribute_at None place = unknown_place
 
 abbrev pub outcome_or : Option (Outcome Val) → Outcome Val
 outcome_or (Some o) = o
-outcome_or None = unknown
+outcome_or None = unknown_place
 
 abbrev pub fixed_at : Option Frame → ℕ → Outcome Val
 fixed_at (Some f) place = outcome_or (slice_get f.fixed_parts place)
-fixed_at None place = unknown
+fixed_at None place = unknown_place
 
 -- where there are as many new attributes as parts that give them values, what these give: else HEADING
 abbrev pub where_as_many : {A : Type 0} → List Attribute → List A → Outcome Val → Outcome Val
@@ -116,7 +116,7 @@ abbrev mutual
   plan_value w fs (binary left op right) = with_both (plan_value w fs left) (plan_value w fs right) (operator_value op)
   plan_value w fs (compare left op right) = with_both (plan_value w fs left) (plan_value w fs right) (comparison_value op)
   plan_value w fs (postfix operand op) = with_value (plan_value w fs operand) (postfix_value op)
-  plan_value w fs (select ty arguments) = with_value (gathered (plan_values w fs arguments)) (selected w ty)
+  plan_value w fs (select ty arguments) = with_value (gathered (plan_values w fs arguments)) (selector_outcome w ty)
   plan_value w fs (component rest operand) = with_value (plan_value w fs operand) (component_value w.scope.types rest)
   plan_value w fs (measure op operand) = with_value (plan_value w fs operand) (measure_value op)
   plan_value w fs (relation elements) = with_value (gathered (plan_values w fs elements)) listed_value

@@ -5,7 +5,7 @@ ghost use Rattle.std.specs.Rc.{rc_str_bytes};
 ghost use Rattle.td_eval.specs.OperatorValues.{component_value, extracted_value, headed_value};
 ghost use Rattle.td_eval.specs.OperatorValues.{listed_value, measure_value, postfix_value};
 ghost use Rattle.td_eval.specs.OperatorValues.{prefix_value, tuple_from};
-ghost use Rattle.td_eval.specs.Worlds.{selected};
+ghost use Rattle.td_eval.specs.Worlds.{selector_outcome};
 ghost use Rattle.td_plan.specs.code.Hands.{world_around};
 ghost use Rattle.td_tree.specs.Outcomes.{Answers, Outcome, with_value};
 ghost use Rattle.td_tree.specs.code.TreeViews.{postfix_view};
@@ -16,7 +16,7 @@ use std::alloc::{AllocError, Global};
 use std::rc::RcStr;
 use td_body::body::Body;
 use td_eval::known::selected_in;
-use td_eval::operators::elements::{headed, listed_value, tuple_from};
+use td_eval::operators::elements::{value_of_headed, listed_value, tuple_from};
 use td_eval::operators::operand::{component_value, extracted_value, measure_value, prefix_value};
 use td_eval::operators::postfix::postfix_value;
 use td_tree::expression::Postfix;
@@ -28,7 +28,7 @@ use td_value::value::Value;
 
 /// The value of an operator before its operand.
 #[inline]
-pub(crate) fn prefixed(
+pub(crate) fn value_of_prefix(
     alloc: Global,
     op: Prefix,
     operand: Result<Value, Fault>,
@@ -41,7 +41,7 @@ pub(crate) fn prefixed(
 
 /// The value of an attribute of a tuple.
 #[inline]
-pub(crate) fn extracted(name: &Name, operand: Result<Value, Fault>) -> Result<Value, Fault>
+pub(crate) fn value_of_extraction(name: &Name, operand: Result<Value, Fault>) -> Result<Value, Fault>
     ensures { (o : Outcome Val) → Answers (λ v. v) operand o
         → Answers (λ v. v) result (with_value o (extracted_value name.now)) }
 {
@@ -50,7 +50,7 @@ pub(crate) fn extracted(name: &Name, operand: Result<Value, Fault>) -> Result<Va
 
 /// The value of an operator behind its operand.
 #[inline]
-pub(crate) fn postfixed(
+pub(crate) fn value_of_postfix(
     alloc: Global,
     op: &Postfix,
     operand: Result<Value, Fault>,
@@ -77,7 +77,7 @@ pub(crate) fn component<B: Body>(
 
 /// What is asked of a relation alone.
 #[inline]
-pub(crate) fn measured(op: Measure, operand: Result<Value, Fault>) -> Result<Value, Fault>
+pub(crate) fn value_of_measure(op: Measure, operand: Result<Value, Fault>) -> Result<Value, Fault>
     ensures { (o : Outcome Val) → Answers (λ v. v) operand o
         → Answers (λ v. v) result (with_value o (measure_value op)) }
 {
@@ -86,7 +86,7 @@ pub(crate) fn measured(op: Measure, operand: Result<Value, Fault>) -> Result<Val
 
 /// The relation of the elements, which are tuples of one heading, the first one's.
 #[inline]
-pub(crate) fn listed(alloc: Global, elements: Result<Vec<Value>, Fault>) -> Result<Value, Fault>
+pub(crate) fn value_of_listed(alloc: Global, elements: Result<Vec<Value>, Fault>) -> Result<Value, Fault>
     ensures { (o : Outcome (List Val)) → Answers (λ vs. vs.items) elements o
         → Answers (λ v. v) result (with_value o listed_value) }
 {
@@ -104,11 +104,11 @@ pub(crate) fn headed_by(
         → Answers (λ v. v) result (with_value o (headed_value heading.now)) }
 {
     let elements = elements?;
-    headed(alloc, Ok(heading.try_clone()?), Ok(elements))
+    value_of_headed(alloc, Ok(heading.try_clone()?), Ok(elements))
 }
 
 /// The names with the values, each with the one that stands beside it.
-fn named(alloc: Global, names: &[Name], values: &[Value]) -> Result<Vec<(Name, Value)>, AllocError>
+fn entries_of(alloc: Global, names: &[Name], values: &[Value]) -> Result<Vec<(Name, Value)>, AllocError>
     ensures { IfOk result (λ entries. entries.items ≡ zip names.now values.now) }
 {
     let mut entries = Vec::with_capacity(alloc, values.len())?;
@@ -134,7 +134,7 @@ pub(crate) fn tuple_of(
         → Answers (λ v. v) result (with_value o (λ vs. tuple_from (zip names.now vs))) }
 {
     let values = values?;
-    tuple_from(alloc, named(alloc, names, &values)?)
+    tuple_from(alloc, entries_of(alloc, names, &values)?)
 }
 
 /// What the selector of the name gives of components.
@@ -145,7 +145,7 @@ pub(crate) fn selected_by<B: Body>(
     values: Result<Vec<Value>, Fault>,
 ) -> Result<Value, Fault>
     ensures { (o : Outcome (List Val)) → Answers (λ vs. vs.items) values o
-        → Answers (λ v. v) result (with_value o (selected (world_around around.now) name.now)) }
+        → Answers (λ v. v) result (with_value o (selector_outcome (world_around around.now) name.now)) }
 {
     selected_in(around.alloc, around.env, name, values?)
 }

@@ -101,7 +101,7 @@ where
 
     /// What tuples are gone through with. Where there is none, nothing is valued.
     #[inline(never)]
-    pub(crate) fn entered(
+    pub(crate) fn entered_loop(
         &self,
         hand: &Hand<'_, '_, '_>,
         is_empty: bool,

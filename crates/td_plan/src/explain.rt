@@ -242,7 +242,7 @@ impl Outline {
     }
 
     /// A blank, and the attributes as they are listed.
-    fn listed(&mut self, attributes: &Attributes) -> Result<(), AllocError> {
+    fn listed_attributes(&mut self, attributes: &Attributes) -> Result<(), AllocError> {
         match attributes {
             Attributes::Only(names) => self.names(names),
             Attributes::AllBut(names) => {
@@ -259,7 +259,7 @@ impl Outline {
         attributes: &Attributes,
     ) -> Result<(), AllocError> {
         self.begin(indent, word)?;
-        self.listed(attributes)?;
+        self.listed_attributes(attributes)?;
         self.text.push_str("\n")
     }
 
@@ -272,7 +272,7 @@ impl Outline {
         name: &Name,
     ) -> Result<(), AllocError> {
         self.begin(indent, word)?;
-        self.listed(attributes)?;
+        self.listed_attributes(attributes)?;
         self.text.push_str(" AS ")?;
         self.text.push_str(name.as_str())?;
         self.text.push_str("\n")

@@ -7,27 +7,27 @@ mod lowering;
 mod made;
 mod reaching;
 
-use crate::hoist::lowering::lowered;
+use crate::hoist::lowering::lowered_step;
 use crate::hoist::reaching::reaches;
 use crate::step::Step;
 use std::alloc::{AllocError, Global};
 
 /// The step, where each part with work that does not name the tuple in hand is put into the pool
 /// and fixed. What is in the pool is valued without that tuple.
-#[cycle(pulled)]
-pub(crate) fn pulled(alloc: Global, step: Step, pool: &mut Vec<Step>) -> Result<Step, AllocError>
+#[cycle(hoisted_step)]
+pub(crate) fn hoisted_step(alloc: Global, step: Step, pool: &mut Vec<Step>) -> Result<Step, AllocError>
     ensures { IfOk result (λ q. Hoists (steps_view pool.old.items) (steps_view pool.new.items)
         (step_view step) (step_view q)) }
 {
     if is_worth_fixing(&step) {
-        fixed(step, pool)
+        pooled_step(step, pool)
     } else {
         with_parts_pulled(alloc, step, pool)
     }
 }
 
 /// The steps, where each is so.
-#[cycle(pulled)]
+#[cycle(hoisted_step)]
 pub(crate) fn all_pulled(
     alloc: Global,
     steps: Vec<Step>,
@@ -38,7 +38,7 @@ pub(crate) fn all_pulled(
 {
     let mut all = Vec::new(alloc);
     for step in steps {
-        all.push(pulled(alloc, step, pool)?)?;
+        all.push(hoisted_step(alloc, step, pool)?)?;
     }
     Ok(all)
 }
@@ -69,12 +69,12 @@ fn count_of(pool: &Vec<Step>) -> usize
 }
 
 /// What stands for a step that is put into the pool.
-fn fixed(step: Step, pool: &mut Vec<Step>) -> Result<Step, AllocError>
+fn pooled_step(step: Step, pool: &mut Vec<Step>) -> Result<Step, AllocError>
     requires { reaches 0 (step_view step) ≡ false }
     ensures { IfOk result (λ q. Hoists (steps_view pool.old.items) (steps_view pool.new.items)
         (step_view step) (step_view q)) }
 {
-    let part = lowered(step, 0)?;
+    let part = lowered_step(step, 0)?;
     let place = count_of(pool);
     pool.push(part)?;
     Ok(Step::Fixed { depth: 0, place })
@@ -82,27 +82,27 @@ fn fixed(step: Step, pool: &mut Vec<Step>) -> Result<Step, AllocError>
 
 /// The step, where its parts are pulled. Of IF it is the condition alone: a branch that is not
 /// chosen is not valued.
-#[cycle(pulled)]
+#[cycle(hoisted_step)]
 fn with_parts_pulled(alloc: Global, step: Step, pool: &mut Vec<Step>) -> Result<Step, AllocError>
     ensures { IfOk result (λ q. Hoists (steps_view pool.old.items) (steps_view pool.new.items)
         (step_view step) (step_view q)) }
 {
     match step {
-        Step::LookUp(name, key, part) => made::look_up(name, key, boxed(alloc, part, pool)),
-        Step::Prefix(op, operand) => made::prefix(op, boxed(alloc, operand, pool)),
-        Step::Extract(name, operand) => made::extract(name, boxed(alloc, operand, pool)),
+        Step::LookUp(name, key, part) => made::look_up(name, key, hoisted_box(alloc, part, pool)),
+        Step::Prefix(op, operand) => made::prefix(op, hoisted_box(alloc, operand, pool)),
+        Step::Extract(name, operand) => made::extract(name, hoisted_box(alloc, operand, pool)),
         Step::Restriction(operand, parts, condition, origin) => {
             made::restriction(over(alloc, operand, parts, pool), Ok(condition), origin)
         }
         Step::Binary(left, op, right) => made::binary(operands(alloc, left, right, pool), op),
         Step::Compare(left, op, right) => made::compare(operands(alloc, left, right, pool), op),
-        Step::Postfix(operand, op) => made::postfix(boxed(alloc, operand, pool), op),
+        Step::Postfix(operand, op) => made::postfix(hoisted_box(alloc, operand, pool), op),
         Step::Select(ty, arguments) => made::select(ty, all_pulled(alloc, arguments, pool)),
-        Step::Component(rest, operand) => made::component(rest, boxed(alloc, operand, pool)),
-        Step::Measure(op, operand) => made::measure(op, boxed(alloc, operand, pool)),
+        Step::Component(rest, operand) => made::component(rest, hoisted_box(alloc, operand, pool)),
+        Step::Measure(op, operand) => made::measure(op, hoisted_box(alloc, operand, pool)),
         Step::Relation(elements) => made::relation(all_pulled(alloc, elements, pool)),
         Step::HeadedRelation(heading, elements) => {
-            made::headed(heading, all_pulled(alloc, elements, pool))
+            made::headed_relation(heading, all_pulled(alloc, elements, pool))
         }
         Step::Tuple(names, parts) => made::tuple(names, all_pulled(alloc, parts, pool)),
         Step::Extend(operand, attributes, parts, values) => {
@@ -112,7 +112,7 @@ fn with_parts_pulled(alloc: Global, step: Step, pool: &mut Vec<Step>) -> Result<
             made::aggregate(op, over(alloc, operand, parts, pool), Ok(value))
         }
         Step::SummarizePer(operand, per, attributes, aggregates, parts, values) => {
-            let per = boxed(alloc, per, pool);
+            let per = hoisted_box(alloc, per, pool);
             let operand = over(alloc, operand, parts, pool);
             made::summarize_per(operand, per, attributes, aggregates, Ok(values))
         }
@@ -121,24 +121,24 @@ fn with_parts_pulled(alloc: Global, step: Step, pool: &mut Vec<Step>) -> Result<
             made::summarize_by(operand, by, attributes, aggregates, Ok(values))
         }
         Step::If(condition, consequent, alternative) => {
-            made::choice(boxed(alloc, condition, pool), Ok((consequent, alternative)))
+            made::choice(hoisted_box(alloc, condition, pool), Ok((consequent, alternative)))
         }
         leaf => Ok(leaf),
     }
 }
 
 /// An operand, pulled.
-#[cycle(pulled)]
-fn boxed(alloc: Global, step: Box<Step>, pool: &mut Vec<Step>) -> Result<Box<Step>, AllocError>
+#[cycle(hoisted_step)]
+fn hoisted_box(alloc: Global, step: Box<Step>, pool: &mut Vec<Step>) -> Result<Box<Step>, AllocError>
     ensures { IfOk result (λ q. Hoists (steps_view pool.old.items) (steps_view pool.new.items)
         (step_view step.value) (step_view q.value)) }
 {
-    let step = pulled(alloc, Box::into_inner(step), pool)?;
+    let step = hoisted_step(alloc, Box::into_inner(step), pool)?;
     Ok(Box::new(alloc, step)?)
 }
 
 /// Two operands, pulled.
-#[cycle(pulled)]
+#[cycle(hoisted_step)]
 fn operands(
     alloc: Global,
     left: Box<Step>,
@@ -150,12 +150,12 @@ fn operands(
     ensures right { IfOk result (λ q. Hoists (steps_view pool.old.items)
         (steps_view pool.new.items) (step_view right.value) (step_view q.1.value)) }
 {
-    let left = boxed(alloc, left, pool)?;
-    Ok((left, boxed(alloc, right, pool)?))
+    let left = hoisted_box(alloc, left, pool)?;
+    Ok((left, hoisted_box(alloc, right, pool)?))
 }
 
 /// An operand, and what is valued once for its tuples, pulled.
-#[cycle(pulled)]
+#[cycle(hoisted_step)]
 fn over(
     alloc: Global,
     operand: Box<Step>,
@@ -167,6 +167,6 @@ fn over(
     ensures parts { IfOk result (λ q. HoistsAll (steps_view pool.old.items)
         (steps_view pool.new.items) (steps_view parts.items) (steps_view q.1.items)) }
 {
-    let operand = boxed(alloc, operand, pool)?;
+    let operand = hoisted_box(alloc, operand, pool)?;
     Ok((operand, all_pulled(alloc, parts, pool)?))
 }

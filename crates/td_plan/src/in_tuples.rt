@@ -12,7 +12,7 @@ ghost use Rattle.td_types.specs.Types as types;
 ghost use Rattle.td_types.specs.Types.{Attribute, Heading, pack};
 ghost use Rattle.td_types.specs.code.Views.{pairs_view};
 
-use crate::hoist::{all_pulled, pulled};
+use crate::hoist::{all_pulled, hoisted_step};
 use crate::step::Step;
 use std::alloc::{AllocError, Global};
 use td_tree::name::Name;
@@ -69,7 +69,7 @@ pub(crate) fn pulled_step(
         → IfOk result (λ asked. IsPulled inner asked e) }
 {
     let mut once = Vec::new(alloc);
-    let step = pulled(alloc, step?, &mut once)?;
+    let step = hoisted_step(alloc, step?, &mut once)?;
     let step = Box::new(alloc, step)?;
     Ok(PulledStep { once, step })
 }

@@ -231,7 +231,7 @@ fn is_total<C: Known>(
     if !has_numbers(condition) {
         return Ok(false);
     }
-    let inner = planner.entered(heading)?;
+    let inner = planner.inner_planner(heading)?;
     has_a_value(&inner.scope, condition)
 }
 

@@ -173,7 +173,7 @@ pub(crate) fn headed_step<C: Known>(
         (trees.headed_relation (heading_tree_view heading.now) es) }
 {
     let elements = elements?;
-    match resolve_heading(planner.catalog.declared(), heading) {
+    match resolve_heading(planner.catalog.declared_types(), heading) {
         Ok(heading) => Ok(Step::HeadedRelation(heading, elements)),
         Err(Fault::Refused(cause)) => Ok(Step::Refused(cause)),
         Err(Fault::Memory) => Err(AllocError),

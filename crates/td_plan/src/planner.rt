@@ -35,7 +35,7 @@ pub(crate) trait Known {
         ensures { result ≡ database_scope (database self.now) };
 
     /// The declared types.
-    fn declared(&self) -> &TypeTable
+    fn declared_types(&self) -> &TypeTable
         ensures { result.now ≡ (database self.now).types };
 
     /// The keys of the base relvar of the name.
@@ -49,7 +49,7 @@ impl<B: Body> Known for Catalog<B> {
         self.scope()
     }
 
-    fn declared(&self) -> &TypeTable {
+    fn declared_types(&self) -> &TypeTable {
         self.types()
     }
 
@@ -149,7 +149,7 @@ impl<'a, C: Known> Planner<'a, C> {
 
     /// Where a further tuple, of the heading, is in hand.
     #[inline(never)]
-    pub(crate) fn entered(&self, heading: &Heading) -> Result<Planner<'a, C>, AllocError>
+    pub(crate) fn inner_planner(&self, heading: &Heading) -> Result<Planner<'a, C>, AllocError>
         requires { IsPlanner C.database self.now }
         ensures planner { IfOk result (λ p. IsPlanner C.database p) }
         ensures scope { IfOk result (λ p. p.scope ≡ entered_with heading.now self.now.scope) }

@@ -55,7 +55,7 @@ where
 
     /// The step of a part, in a box.
     #[inline(never)]
-    pub(crate) fn boxed(&self, expr: &Expr) -> Result<Box<Step>, AllocError>
+    pub(crate) fn boxed_step(&self, expr: &Expr) -> Result<Box<Step>, AllocError>
         requires { PlansBelow C.database self.now (suc (expr_weight expr.now)) F.pre F.post }
         ensures { IsBoxPlanned self.now.planner.now.scope result (tree_view expr.now) }
     {
@@ -70,7 +70,7 @@ where
         ensures { IsPlanned (entered_with heading.now self.now.planner.now.scope) result
             (tree_view expr.now) }
     {
-        let inner = self.planner.entered(heading)?;
+        let inner = self.planner.inner_planner(heading)?;
         (self.inner)(&inner, expr)
     }
 
@@ -156,7 +156,7 @@ where
             (named_types (entered_with heading.now self.now.planner.now.scope)
             (named_view parts.now)) (in_named (named_view parts.now))) }
     {
-        let inner = self.planner.entered(heading)?;
+        let inner = self.planner.inner_planner(heading)?;
         Planning {
             planner: &inner,
             inner: self.inner,
@@ -193,7 +193,7 @@ where
             (summary_attributes (entered_with heading.now self.now.planner.now.scope)
             (summaries_view items.now)) (in_summaries (summaries_view items.now))) }
     {
-        let inner = self.planner.entered(heading)?;
+        let inner = self.planner.inner_planner(heading)?;
         Planning {
             planner: &inner,
             inner: self.inner,
@@ -218,7 +218,7 @@ where
             return self.step_of(operand);
         };
         let value = pulled_step(self.planner.alloc, self.step_inside(&heading, value));
-        aggregation_step(op, self.boxed(operand), value)
+        aggregation_step(op, self.boxed_step(operand), value)
     }
 
     /// The step of an operand's tuples with new attributes.
@@ -235,7 +235,7 @@ where
         let Some(columns) = self.part_columns_inside(&heading, parts)? else {
             return self.step_of(operand);
         };
-        extension_step(self.boxed(operand), columns)
+        extension_step(self.boxed_step(operand), columns)
     }
 
     /// The step of SUMMARIZE of an operand by the tuples of another relation.
@@ -258,7 +258,7 @@ where
             return self.step_of(operand);
         };
         let aggregates = aggregates_of(self.planner.alloc, items);
-        summary_step(self.boxed(operand), self.boxed(per), aggregates, columns)
+        summary_step(self.boxed_step(operand), self.boxed_step(per), aggregates, columns)
     }
 
     /// The step of SUMMARIZE of an operand by some of its attributes.
@@ -281,7 +281,7 @@ where
             return self.step_of(operand);
         };
         let aggregates = aggregates_of(self.planner.alloc, items);
-        summary_by_step(self.boxed(operand), by, aggregates, columns)
+        summary_by_step(self.boxed_step(operand), by, aggregates, columns)
     }
 
     /// The step of an expression, by those of its parts.
@@ -294,21 +294,21 @@ where
             Expr::Literal(literal) => literal_step(self.planner.alloc, literal),
             Expr::Name(name) => name_step(self.planner, name),
             Expr::Parentheses(inner) => self.step_of(inner),
-            Expr::Prefix(op, operand) => prefix_step(*op, self.boxed(operand)),
-            Expr::Extract(name, operand) => extract_step(name, self.boxed(operand)),
+            Expr::Prefix(op, operand) => prefix_step(*op, self.boxed_step(operand)),
+            Expr::Extract(name, operand) => extract_step(name, self.boxed_step(operand)),
             Expr::Restriction(operand, condition) => {
                 self.where_of(operand, condition, Origin::Written)
             }
             Expr::Binary(left, op, right) => {
-                binary_step(self.boxed(left), *op, self.boxed(right))
+                binary_step(self.boxed_step(left), *op, self.boxed_step(right))
             }
             Expr::Compare(left, op, right) => {
-                compare_step(self.boxed(left), *op, self.boxed(right))
+                compare_step(self.boxed_step(left), *op, self.boxed_step(right))
             }
-            Expr::Postfix(operand, op) => postfix_step(self.boxed(operand), op),
+            Expr::Postfix(operand, op) => postfix_step(self.boxed_step(operand), op),
             Expr::Select(ty, arguments) => select_step(ty, self.steps_of(arguments)),
-            Expr::Component(rest, operand) => component_step(rest, self.boxed(operand)),
-            Expr::Measure(op, operand) => measure_step(*op, self.boxed(operand)),
+            Expr::Component(rest, operand) => component_step(rest, self.boxed_step(operand)),
+            Expr::Measure(op, operand) => measure_step(*op, self.boxed_step(operand)),
             Expr::Aggregate(op, operand, value) => self.aggregate_step(*op, operand, value),
             Expr::Relation(elements) => relation_step(self.steps_of(elements)),
             Expr::HeadedRelation(heading, elements) => {
@@ -319,9 +319,9 @@ where
             Expr::SummarizePer(operand, per, items) => self.summarize_per_step(operand, per, items),
             Expr::SummarizeBy(operand, by, items) => self.summarize_by_step(operand, by, items),
             Expr::If(condition, consequent, alternative) => choice_step(
-                self.boxed(condition),
-                self.boxed(consequent),
-                self.boxed(alternative),
+                self.boxed_step(condition),
+                self.boxed_step(consequent),
+                self.boxed_step(alternative),
             ),
         }
     }

@@ -76,7 +76,7 @@ fn is_answered<C: Known>(
     if !has_numbers(condition) {
         return Ok(false);
     }
-    let inner = planner.entered(heading)?;
+    let inner = planner.inner_planner(heading)?;
     has_a_truth_value(&inner.scope, condition)
 }
 

@@ -75,7 +75,7 @@ fn lent_part<'h>(hand: &'h Hand<'_, '_, '_>, depth: usize, place: usize) -> Opti
 
 /// The value of a step that is a constant, an attribute or a fixed part.
 #[inline]
-fn lent<'h>(hand: &'h Hand<'_, '_, '_>, step: &'h Step) -> Option<&'h Value>
+fn quick_value<'h>(hand: &'h Hand<'_, '_, '_>, step: &'h Step) -> Option<&'h Value>
     ensures { (w : World) (fs : List Frame) → IsHand hand.now fs
         → IsQuick (λ v. v.now) result (plan_value w fs (step_view step.now)) }
 {
@@ -169,7 +169,7 @@ fn quotient(x: i64, y: i64) -> Option<i64>
 
 /// The number with the other sign.
 #[inline]
-fn negated(x: i64) -> Option<i64>
+fn negative_of(x: i64) -> Option<i64>
     ensures { IsQuick integer result (prefix_value prefixes.Negate (integer x)) }
 {
     x.checked_neg()
@@ -204,9 +204,9 @@ pub(crate) fn quick_number(hand: &Hand<'_, '_, '_>, step: &Step) -> Option<i64>
         },
         Step::Prefix(Prefix::Negate, operand) => match quick_number(hand, operand) {
             None => None,
-            Some(x) => negated(x),
+            Some(x) => negative_of(x),
         },
-        _ => number_in(lent(&*hand, &*step)),
+        _ => number_in(quick_value(&*hand, &*step)),
     }
 }
 
@@ -218,7 +218,7 @@ pub(crate) fn quick_text<'h>(hand: &'h Hand<'_, '_, '_>, step: &'h Step) -> Opti
     ensures { (w : World) (fs : List Frame) → IsHand hand.now fs
         → IsQuick (λ t. char t.now) result (plan_value w fs (step_view step.now)) }
 {
-    text_in(lent(hand, step))
+    text_in(quick_value(hand, step))
 }
 
 // ---- truth values
@@ -321,6 +321,6 @@ pub(crate) fn quick_truth(hand: &Hand<'_, '_, '_>, step: &Step) -> Option<bool>
             None => None,
             Some(b) => Some(!b),
         },
-        _ => truth_in(lent(&*hand, &*step)),
+        _ => truth_in(quick_value(&*hand, &*step)),
     }
 }

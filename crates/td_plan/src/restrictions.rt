@@ -14,7 +14,7 @@ ghost use Rattle.td_tree.specs.Trees.{Tree};
 ghost use Rattle.td_types.specs.Types as types;
 ghost use Rattle.td_types.specs.Types.{Heading, pack};
 
-use crate::hoist::pulled;
+use crate::hoist::hoisted_step;
 use crate::narrowed::{base_named, has_key_attributes, look_up_by_key};
 use crate::nodes::binary_step;
 use crate::planner::{Known, Planner};
@@ -49,7 +49,7 @@ where
                 let left: &Expr = left;
                 let right: &Expr = right;
                 match restricted_operands(self.planner, left, *op, right, condition)? {
-                    Some(restricted) => self.pushed(restricted, left, *op, right, condition),
+                    Some(restricted) => self.pushed_restriction(restricted, left, *op, right, condition),
                     None => self.where_here(expr, condition, origin),
                 }
             }
@@ -59,7 +59,7 @@ where
 
     /// The step of an operator of operands that are restricted, as far as they are.
     #[cycle(restriction)]
-    fn pushed(
+    fn pushed_restriction(
         &self,
         restricted: Restricted,
         left: &Expr,
@@ -75,10 +75,10 @@ where
     {
         match restricted {
             Restricted::First => {
-                binary_step(self.where_pushed(left, condition), op, self.boxed(right))
+                binary_step(self.where_pushed(left, condition), op, self.boxed_step(right))
             }
             Restricted::Second => {
-                binary_step(self.boxed(left), op, self.where_pushed(right, condition))
+                binary_step(self.boxed_step(left), op, self.where_pushed(right, condition))
             }
             Restricted::Both => binary_step(
                 self.where_pushed(left, condition),
@@ -114,7 +114,7 @@ where
         };
         restriction_step(
             self.planner.alloc,
-            self.narrowed(&heading, expr, condition),
+            self.narrowed_operand(&heading, expr, condition),
             self.step_inside(&heading, condition),
             origin,
         )
@@ -123,7 +123,7 @@ where
     /// The step of the operand of WHERE, in a box: a look-up by a key that the condition fixes, if
     /// there is one, else the operand's own step.
     #[inline(never)]
-    fn narrowed(
+    fn narrowed_operand(
         &self,
         heading: &Heading,
         operand: &Expr,
@@ -136,7 +136,7 @@ where
     {
         match self.look_up_of(heading, operand, condition)? {
             Some(look_up) => Ok(look_up),
-            None => self.boxed(operand),
+            None => self.boxed_step(operand),
         }
     }
 
@@ -176,7 +176,7 @@ fn restriction_step(
         → IsPlanned scope result (trees.restriction d e) }
 {
     let mut parts = Vec::new(alloc);
-    let condition = pulled(alloc, condition?, &mut parts)?;
+    let condition = hoisted_step(alloc, condition?, &mut parts)?;
     let condition = Box::new(alloc, condition)?;
     Ok(Step::Restriction(operand?, parts, condition, origin))
 }

@@ -56,7 +56,7 @@ pub(crate) fn run<B: Body>(
         Step::Component(name, operand) => component(around, name, inner.run(hand, operand)),
         Step::Measure(op, operand) => inner.measure(hand, *op, operand),
         Step::Relation(elements) => inner.relation(hand, elements),
-        Step::HeadedRelation(heading, elements) => inner.headed(hand, heading, elements),
+        Step::HeadedRelation(heading, elements) => inner.headed_relation(hand, heading, elements),
         Step::Tuple(names, parts) => inner.tuple(hand, names, parts),
         Step::Extend(operand, attributes, parts, values) => {
             inner.extension(hand, operand, attributes, parts, values)
@@ -79,7 +79,7 @@ pub(crate) fn run<B: Body>(
 // ---- what is run from outside
 
 /// What tuples are gone through with. Where there is none, nothing is valued.
-pub(crate) fn entered<B: Body>(
+pub(crate) fn entered_loop<B: Body>(
     around: &Surroundings<'_, '_, '_, B>,
     hand: &Hand<'_, '_, '_>,
     is_empty: bool,

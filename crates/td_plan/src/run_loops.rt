@@ -18,12 +18,12 @@ use crate::hand::Hand;
 use crate::run_rows::item_count;
 use crate::step::Step;
 use td_eval::extension::extension_by;
-use td_eval::operators::aggregates::aggregated;
+use td_eval::operators::aggregates::value_of_aggregate;
 use td_eval::operators::asked::relation_in;
 use td_eval::operators::postfix::projected_by;
 use td_eval::operators::relational::relations;
-use td_eval::operators::summaries::{grouped, summary_by};
-use td_eval::operators::tuplewise::restricted;
+use td_eval::operators::summaries::{groups_by_per, summary_by};
+use td_eval::operators::tuplewise::restriction_value;
 use td_group::aggregates::Agg;
 use td_tree::cause::Cause;
 use td_tree::expression::Attributes;
@@ -57,8 +57,8 @@ where
         let operand = self.run(hand, operand)?;
         let rel = relation_in(&operand)?;
         let rows = rel.rows();
-        let inside = self.entered(hand, rows.is_empty(), parts)?;
-        restricted(self.alloc, rel, self.truths(&inside, rows, condition))
+        let inside = self.inner_planner(hand, rows.is_empty(), parts)?;
+        restriction_value(self.alloc, rel, self.truths(&inside, rows, condition))
     }
 
     /// What is asked of the tuples of an operand for which a condition is TRUE.
@@ -80,7 +80,7 @@ where
     {
         let operand = self.run(hand, operand)?;
         let rows = relation_in(&operand)?.rows();
-        let inside = self.entered(hand, rows.is_empty(), parts)?;
+        let inside = self.inner_planner(hand, rows.is_empty(), parts)?;
         truths_measured(op, self.truths(&inside, rows, condition))
     }
 
@@ -103,8 +103,8 @@ where
     {
         let operand = self.run(hand, operand)?;
         let rows = relation_in(&operand)?.rows();
-        let inside = self.entered(hand, rows.is_empty(), parts)?;
-        aggregated(op, self.values_in_rows(&inside, rows, value))
+        let inside = self.inner_planner(hand, rows.is_empty(), parts)?;
+        value_of_aggregate(op, self.values_in_rows(&inside, rows, value))
     }
 
     /// The tuples of an operand with new attributes.
@@ -130,7 +130,7 @@ where
             return Err(Fault::Refused(Cause::Heading));
         }
         let rows = rel.rows();
-        let inside = self.entered(hand, rows.is_empty(), parts)?;
+        let inside = self.inner_planner(hand, rows.is_empty(), parts)?;
         let columns = self.columns(&inside, rows, attributes, values);
         extension_by(self.alloc, rel, attributes, columns)
     }
@@ -159,8 +159,8 @@ where
             return Err(Fault::Refused(Cause::Heading));
         }
         let (rel, per) = relations(operand, per)?;
-        let groups = grouped(self.alloc, rel, per)?;
-        let inside = self.entered(hand, groups.is_empty(), items.parts)?;
+        let groups = groups_by_per(self.alloc, rel, per)?;
+        let inside = self.inner_planner(hand, groups.is_empty(), items.parts)?;
         let totals = self.totals(&inside, &groups, items.aggregates, items.values)?;
         summary_by(self.alloc, per, items.attributes, &totals)
     }

@@ -9,12 +9,12 @@ ghost use Rattle.td_plan.specs.code.ValuesBelow.{ValuesBelow};
 ghost use Rattle.td_tree.specs.Outcomes.{Answers};
 ghost use Rattle.td_tree.specs.code.TreeViews.{postfix_view};
 
-use crate::answered::{extracted, headed_by, listed, measured, postfixed, prefixed, tuple_of};
+use crate::answered::{value_of_extraction, headed_by, value_of_listed, value_of_measure, value_of_postfix, value_of_prefix, tuple_of};
 use crate::evaluator::{Evaluator, InWorld};
 use crate::hand::Hand;
 use crate::step::Step;
-use td_eval::operators::between::operated;
-use td_eval::operators::comparisons::compared;
+use td_eval::operators::between::value_of_operator;
+use td_eval::operators::comparisons::value_of_comparison;
 use td_eval::rows::truth_of;
 use td_tree::expression::Postfix;
 use td_tree::fault::Fault;
@@ -39,7 +39,7 @@ where
         ensures { (fs : List Frame) → IsHand hand.now fs → Answers (λ v. v) result
             (plan_value (A.world self.now.around.now) fs (prefix op (step_view operand.now))) }
     {
-        prefixed(self.alloc, op, self.run(hand, operand))
+        value_of_prefix(self.alloc, op, self.run(hand, operand))
     }
 
     /// The value of an attribute of a tuple.
@@ -55,7 +55,7 @@ where
             (plan_value (A.world self.now.around.now) fs
             (extract name.now (step_view operand.now))) }
     {
-        extracted(name, self.run(hand, operand))
+        value_of_extraction(name, self.run(hand, operand))
     }
 
     /// The value of an operator behind its operand.
@@ -71,7 +71,7 @@ where
             (plan_value (A.world self.now.around.now) fs
             (postfix (step_view operand.now) (postfix_view op.now))) }
     {
-        postfixed(self.alloc, op, self.run(hand, operand))
+        value_of_postfix(self.alloc, op, self.run(hand, operand))
     }
 
     /// The value of what is asked of a relation alone. The tuples of a restriction are only
@@ -92,7 +92,7 @@ where
             Step::Restriction(operand, parts, condition, _) => {
                 self.restriction_measured(hand, op, operand, parts, condition)
             }
-            _ => measured(op, self.run(hand, operand)),
+            _ => value_of_measure(op, self.run(hand, operand)),
         }
     }
 
@@ -112,7 +112,7 @@ where
             (binary (step_view left.now) op (step_view right.now))) }
     {
         let first = self.run(hand, left);
-        operated(self.alloc, op, first, self.run(hand, right))
+        value_of_operator(self.alloc, op, first, self.run(hand, right))
     }
 
     /// The value of a comparison of two operands.
@@ -131,7 +131,7 @@ where
             (compare (step_view left.now) op (step_view right.now))) }
     {
         let first = self.run(hand, left);
-        compared(self.alloc, op, first, self.run(hand, right))
+        value_of_comparison(self.alloc, op, first, self.run(hand, right))
     }
 
     /// The value of the one of two steps that a condition chooses.
@@ -168,12 +168,12 @@ where
         ensures { (fs : List Frame) → IsHand hand.now fs → Answers (λ v. v) result
             (plan_value (A.world self.now.around.now) fs (relation (steps_view elements.now))) }
     {
-        listed(self.alloc, self.values_of(hand, elements))
+        value_of_listed(self.alloc, self.values_of(hand, elements))
     }
 
     /// The relation of the heading with the elements.
     #[inline(never)]
-    pub(crate) fn headed(
+    pub(crate) fn headed_relation(
         &self,
         hand: &Hand<'_, '_, '_>,
         heading: &Heading,

@@ -19,7 +19,7 @@ use crate::quick::{quick_number, quick_truth};
 use crate::quick_rows::quick_truths;
 use crate::step::Step;
 use td_algebra::extension::Column;
-use td_eval::rows::{named_column, truth_of, typed};
+use td_eval::rows::{named_column, truth_of, value_of_its_type};
 use td_group::aggregates::Agg;
 use td_tree::fault::Fault;
 use td_tree::gathering::Gathering;
@@ -151,7 +151,7 @@ where
         let mut causes = Gathering::new();
         let mut values = Vec::with_capacity(self.alloc, rows.len())?;
         for row in rows {
-            let value = typed(ty, self.value_in_row(inside, row, step));
+            let value = value_of_its_type(ty, self.value_in_row(inside, row, step));
             causes.collect(&mut values, value)?;
         }
         causes.finish(values)

@@ -21,7 +21,7 @@ ghost use Rattle.td_types.specs.code.Views.{pairs_view};
 
 use crate::hand::Hand;
 use crate::plan::{PartPlans, plan_parts};
-use crate::run::{columns, entered};
+use crate::run::{columns, entered_loop};
 use crate::run_plan::held_tuples;
 use crate::surroundings::Surroundings;
 use crate::virtuals::virtual_relvars_in_parts;
@@ -62,7 +62,7 @@ fn columns_with<B: Body>(
         outer: &outer,
     };
     let rows = rel.rows();
-    let inside = entered(around, &hand, rows.is_empty(), &plans.once)?;
+    let inside = entered_loop(around, &hand, rows.is_empty(), &plans.once)?;
     columns(around, &inside, rows, attributes, &plans.values)
 }
 

@@ -9,7 +9,7 @@ use Rattle.td_tree.specs.declared.token.Kind.{Kind}
 use Rattle.td_tree.specs.Division.{up_to}
 use Rattle.td_tree.specs.Pieces.{kind_of, pieces}
 use Rattle.td_tree.specs.Spans.{AreOfTheirKind, Ascends}
-use Rattle.td_tree.specs.Statements.{Held, PlacedToken, after, behind, chosen, end_of, ends, first_statement, token_of, tokens, tokens_from}
+use Rattle.td_tree.specs.Statements.{Held, PlacedToken, after, behind, statement_or_rest, end_of, ends, first_statement, token_of, tokens, tokens_from}
 use Rattle.td_tree.specs.Symbols.{Symbol, spell, symbols}
 use Rattle.td_tree.proofs.law_lemmas.HeldLaws.{follows_later}
 use Rattle.td_tree.proofs.law_lemmas.PieceLaws.{joined}
@@ -18,7 +18,7 @@ use Rattle.td_tree.proofs.law_lemmas.TokenLaws.{ascends, pieces_spell}
 use Rattle.td_scan.specs.declared.piece.First.{First}
 use Rattle.td_scan.specs.declared.reading.Place.{Place}
 use Rattle.td_scan.specs.declared.token.Mark.{Mark}
-use Rattle.td_scan.specs.code.Marks.{IsBegun, IsMark, IsRead, Keeps, count_to_end, end_after, end_of_marks, mark_of, marks_of, reached, read_of, token_at}
+use Rattle.td_scan.specs.code.Marks.{IsBegun, IsMark, IsRead, Keeps, count_to_end, end_after, end_of_marks, mark_of, marks_of, end_of_statement, read_of, token_at}
 use Rattle.td_scan.specs.code.Fronts.{first_end}
 use Rattle.td_scan.proofs.MarkLaws.{none_begun}
 use Rattle.td_scan.proofs.MarkLists.{counted_none, counted_some, end_at, end_parts, ends_at, found_more, none_both, none_cases}
@@ -84,15 +84,15 @@ are_marks (t ∷ ts) at low bytes on up kinds same =
     })
     (are_marks ts at t.stop bytes (omega (arith, on, up.0, up.1)) up.2 kinds.1 more)
 
-chosen_none : (ts : List PlacedToken) → chosen false ts None ≡ None
+chosen_none : (ts : List PlacedToken) → statement_or_rest false ts None ≡ None
 chosen_none [] = refl
 chosen_none (t ∷ ts) = refl
 
-reached_past : (finished : Bool) (none low : ℕ) (ts us : List PlacedToken) → up_to ends ts ≡ None → reached finished none low (ts ++ us) ≡ reached finished none (end_of low ts) us
+reached_past : (finished : Bool) (none low : ℕ) (ts us : List PlacedToken) → up_to ends ts ≡ None → end_of_statement finished none low (ts ++ us) ≡ end_of_statement finished none (end_of low ts) us
 reached_past finished none low [] us no_end = refl
 reached_past finished none low (t ∷ ts) us no_end =
     let w = none_cases ends t ts no_end in
-    ap (λ b. if b then t.stop else reached finished none t.stop (ts ++ us)) w.0 ∙ reached_past finished none t.stop ts us w.1
+    ap (λ b. if b then t.stop else end_of_statement finished none t.stop (ts ++ us)) w.0 ∙ reached_past finished none t.stop ts us w.1
 
 marks_again : (ms : List Mark) (at : ℕ) (bytes : List ℕ) → map mark_of (map (token_at at bytes) ms) ≡ ms
 marks_again [] at bytes = refl
@@ -121,10 +121,10 @@ module _ (bytes : List ℕ) (at : ℕ) (marks : List Mark) (first : Option ℕ) 
       (are_marks (tokens at bytes) at at bytes (omega arith) (ascends at bytes) (kinds at bytes) (all_marked at bytes)))
 
   -- the first statement, where its `;` is among the marks
-  pub found : (finished : Bool) (count : ℕ) → first ≡ Some count → chosen finished (tokens at bytes) (up_to ends (tokens at bytes)) ≡ Some (map (token_at at bytes) (take count marks))
+  pub found : (finished : Bool) (count : ℕ) → first ≡ Some count → statement_or_rest finished (tokens at bytes) (up_to ends (tokens at bytes)) ≡ Some (map (token_at at bytes) (take count marks))
   found finished count is =
       let w = counted_some marks count (k.counted ∙ is) in
-      ap (chosen finished (tokens at bytes))
+      ap (statement_or_rest finished (tokens at bytes))
       (ap (up_to ends) parts
       ∙ found_more ends (map (token_at at bytes) marks) (tokens place.start rest) (map (token_at at bytes) (take count marks)) (ends_at at bytes marks ∙ ap (option_map (map (token_at at bytes))) w.found))
 
@@ -143,25 +143,25 @@ module _ (bytes : List ℕ) (at : ℕ) (marks : List Mark) (first : Option ℕ) 
   pub awaited : (finished : Bool) → first ≡ None → finished ≡ false → up_to ends (tokens place.start rest) ≡ None → first_statement (held finished) ≡ None
   unfolding first_statement
   awaited finished is more none =
-      ap (λ f. chosen f (tokens at bytes) (up_to ends (tokens at bytes))) more
-      ∙ ap (chosen false (tokens at bytes)) (ap (up_to ends) parts ∙ none_both ends (map (token_at at bytes) marks) (tokens place.start rest) (open_yet is) none)
+      ap (λ f. statement_or_rest f (tokens at bytes) (up_to ends (tokens at bytes))) more
+      ∙ ap (statement_or_rest false (tokens at bytes)) (ap (up_to ends) parts ∙ none_both ends (map (token_at at bytes) marks) (tokens place.start rest) (open_yet is) none)
       ∙ chosen_none (tokens at bytes)
 
   -- the first statement of all is that of the marked and of what is left
   pub joined_first : (finished : Bool) → first_statement (held finished)
-      ≡ chosen finished (map (token_at at bytes) marks ++ tokens place.start rest) (up_to ends (map (token_at at bytes) marks ++ tokens place.start rest))
+      ≡ statement_or_rest finished (map (token_at at bytes) marks ++ tokens place.start rest) (up_to ends (map (token_at at bytes) marks ++ tokens place.start rest))
   unfolding first_statement
-  joined_first finished = ap (λ ts. chosen finished ts (up_to ends ts)) parts
+  joined_first finished = ap (λ ts. statement_or_rest finished ts (up_to ends ts)) parts
 
   pub end_found : (finished : Bool) (count : ℕ) → first ≡ Some count → end_of_marks at (take count marks) ≡ behind (held finished)
   end_found finished count is =
       sym (behind_first (held finished) (map (token_at at bytes) (take count marks)) (first_found finished count is) ∙ end_at at bytes (take count marks) at)
 
-  pub end_left : (finished : Bool) → first ≡ None → reached finished at (end_of_marks at marks) (tokens place.start rest) ≡ behind (held finished)
+  pub end_left : (finished : Bool) → first ≡ None → end_of_statement finished at (end_of_marks at marks) (tokens place.start rest) ≡ behind (held finished)
   end_left finished is = sym (
-      sym (reaches (held finished)) ∙ ap (reached finished at at) parts
+      sym (reaches (held finished)) ∙ ap (end_of_statement finished at at) parts
       ∙ reached_past finished at at (map (token_at at bytes) marks) (tokens place.start rest) (open_yet is)
-      ∙ ap (λ low. reached finished at low (tokens place.start rest)) (end_at at bytes marks at))
+      ∙ ap (λ low. end_of_statement finished at low (tokens place.start rest)) (end_at at bytes marks at))
 
   -- ---- the first statement taken off
 

@@ -1,7 +1,7 @@
 -- What is taken off is the first of the statements, and the others are those of what is still held.
 use Rattle.std.proofs.Common.{◌≡◌, ℕ, ◌+◌, ◌-◌, ◌<◌, ◌≤◌, List, [], ◌∷◌, ◌++◌, length, drop, refl, sym, ap, ◌∙◌, subst, arith, Bool, true, false, Option, Some, None, length-drop, ◌⊎◌, inl, inr, ⊎_elim}
 use Rattle.td_tree.specs.Division.{up_to}
-use Rattle.td_tree.specs.Statements.{PlacedToken, Held, tokens, ends, split, statements, chosen, first_statement, end_of, end_of_first, behind, after}
+use Rattle.td_tree.specs.Statements.{PlacedToken, Held, tokens, ends, split, statements, statement_or_rest, first_statement, end_of, end_of_first, behind, after}
 use Rattle.td_tree.proofs.law_lemmas.StatementLaws.{left, split-left, split-first, split_first}
 use Rattle.td_tree.proofs.law_lemmas.TokenLaws.{ascends}
 use Rattle.td_tree.proofs.law_lemmas.EndLaws.{up_to_cases}
@@ -21,14 +21,14 @@ record LeftOver (finished : Bool) (all : List PlacedToken) (o : Option (List Pla
 First : Bool → List PlacedToken → Option (List PlacedToken) → List PlacedToken → Type 0
 First finished all o first = (o ≡ Some first) ⊎ LeftOver finished all o first
 
-first_cases : (finished : Bool) (all : List PlacedToken) (o : Option (List PlacedToken)) (first : List PlacedToken) → chosen finished all o ≡ Some first → First finished all o first
+first_cases : (finished : Bool) (all : List PlacedToken) (o : Option (List PlacedToken)) (first : List PlacedToken) → statement_or_rest finished all o ≡ Some first → First finished all o first
 unfolding First
 first_cases finished all (Some found) first e = inl e
 first_cases finished [] None first e = absurd cc
 first_cases true (t ∷ ts) None first e = inr (record { none = refl; fed = refl; token = t; others = ts; are = refl; is = (let same : t ∷ ts ≡ first = cc in sym same) })
 first_cases false (t ∷ ts) None first e = absurd cc
 
-none_cases : (finished : Bool) (all : List PlacedToken) (o : Option (List PlacedToken)) → chosen finished all o ≡ None → (o ≡ None) × (finished ≡ true → all ≡ [])
+none_cases : (finished : Bool) (all : List PlacedToken) (o : Option (List PlacedToken)) → statement_or_rest finished all o ≡ None → (o ≡ None) × (finished ≡ true → all ≡ [])
 none_cases finished all (Some found) e = absurd cc
 none_cases finished [] None e = (refl, λ f. refl)
 none_cases true (t ∷ ts) None e = absurd cc

@@ -20,26 +20,26 @@ at_first =
     record { fed = []; held = record { bytes = []; offset = 0; finished = false }; taken = [] }
 
 -- a statement, if there is one
-abbrev pub listed : Option (List PlacedToken) → List (List PlacedToken)
-listed None = []
-listed (Some first) = first ∷ []
+abbrev pub statements_of : Option (List PlacedToken) → List (List PlacedToken)
+statements_of None = []
+statements_of (Some first) = first ∷ []
 
 -- one call, as the contracts of the cutter say it
-abbrev pub called : Course → Call → Course
-called c (Feed piece) =
+abbrev pub course_after : Course → Call → Course
+course_after c (Feed piece) =
     record {
       fed = c.fed ++ piece;
       held = record c.held { bytes = c.held.bytes ++ piece };
       taken = c.taken;
     }
-called c Finish = record { fed = c.fed; held = record c.held { finished = true }; taken = c.taken }
-called c Take =
-    record { fed = c.fed; held = after c.held; taken = c.taken ++ listed (first_statement c.held) }
+course_after c Finish = record { fed = c.fed; held = record c.held { finished = true }; taken = c.taken }
+course_after c Take =
+    record { fed = c.fed; held = after c.held; taken = c.taken ++ statements_of (first_statement c.held) }
 
 -- the calls in order
 abbrev pub all_called : Course → List Call → Course
 all_called c [] = c
-all_called c (call ∷ calls) = all_called (called c call) calls
+all_called c (call ∷ calls) = all_called (course_after c call) calls
 
 -- nothing is fed once no more will be
 abbrev pub may_be_called : Bool → List Call → Bool

@@ -4,10 +4,10 @@ ghost use Rattle.std.specs.Prelude.{OnOk, OnErr, IsFalse, IsTrue, None, Some, dr
 ghost use Rattle.std.specs.Prelude.{option_map, take, true};
 ghost use Rattle.std.specs.List.{All};
 ghost use Rattle.td_scan.specs.code.Fronts.{end_of_last};
-ghost use Rattle.td_scan.specs.code.Marks.{IsMark, count_to_end, end_of_marks, ends_mark, reached};
+ghost use Rattle.td_scan.specs.code.Marks.{IsMark, count_to_end, end_of_marks, ends_mark, end_of_statement};
 ghost use Rattle.td_scan.specs.code.Marks.{token_at};
 ghost use Rattle.td_tree.specs.Division.{up_to};
-ghost use Rattle.td_tree.specs.Statements.{Held, after, behind, chosen, ends, first_statement};
+ghost use Rattle.td_tree.specs.Statements.{Held, after, behind, statement_or_rest, ends, first_statement};
 ghost use Rattle.td_tree.specs.Statements.{is_end, tokens};
 
 use crate::queue::Queue;
@@ -86,7 +86,7 @@ fn with_rest<'a>(
     requires open_yet { up_to ends found.items ≡ None }
     ensures { let all = found.entry.items ++ tokens offset bytes.now
         in IfOk result (λ first. option_map (λ v. v.items) first
-        ≡ chosen finished all (up_to ends all)) }
+        ≡ statement_or_rest finished all (up_to ends all)) }
 {
     let mut start = offset;
     let mut rest = bytes;
@@ -109,7 +109,7 @@ fn with_rest<'a>(
 /// no statement.
 fn end_with_rest(bytes: &[u8], offset: u64, finished: bool, so_far: u64, none: u64) -> u64
     requires { offset + length bytes.now < 2 ^ 64 }
-    ensures { result ≡ reached finished none so_far (tokens offset bytes.now) }
+    ensures { result ≡ end_of_statement finished none so_far (tokens offset bytes.now) }
 {
     let mut last = so_far;
     let mut start = offset;

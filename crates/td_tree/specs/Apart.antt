@@ -16,23 +16,23 @@ pub record IsApart (text rest : List ℕ) : Type 0 where
       → continues piece next ≡ None
 
 -- the texts joined
-abbrev pub joined : List (List ℕ) → List ℕ
-joined = flat_map (λ text. text)
+abbrev pub joined_texts : List (List ℕ) → List ℕ
+joined_texts = flat_map (λ text. text)
 
 -- each stands apart from those that follow
 abbrev pub AreApart : List (List ℕ) → Type 0
 AreApart [] = ⊤
-AreApart (text ∷ texts) = IsApart text (joined texts) × AreApart texts
+AreApart (text ∷ texts) = IsApart text (joined_texts texts) × AreApart texts
 
 -- ---- laws
 
 -- texts that stand apart are the pieces of what they make
 abbrev pub TextsApartAreThePieces : Type 0
 TextsApartAreThePieces =
-    (texts : List (List ℕ)) → AreApart texts → pieces (joined texts) ≡ map symbols texts
+    (texts : List (List ℕ)) → AreApart texts → pieces (joined_texts texts) ≡ map symbols texts
 
 -- and the grammar sees of that what it sees of each
 abbrev pub TextsApartAreSeenEach : Type 0
 TextsApartAreSeenEach =
     (at : ℕ) (texts : List (List ℕ)) → AreApart texts
-    → lexemes (tokens at (joined texts)) ≡ flat_map (λ text. lexemes (tokens 0 text)) texts
+    → lexemes (tokens at (joined_texts texts)) ≡ flat_map (λ text. lexemes (tokens 0 text)) texts

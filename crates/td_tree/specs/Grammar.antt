@@ -18,7 +18,7 @@ use Rattle.td_tree.specs.declared.token.Sign.TheVariants as signs
 use Rattle.td_tree.specs.Heights.{height}
 use Rattle.td_tree.specs.Lexemes.{Lexeme, keyword, sign}
 use Rattle.td_tree.specs.Lexemes as lexeme
-use Rattle.td_tree.specs.Lists.{Listed, Separated, braced, parenthesized}
+use Rattle.td_tree.specs.Lists.{Listed, Separated, with_braces, with_parentheses}
 use Rattle.td_tree.specs.Numbers.{numeral_limit}
 use Rattle.td_tree.specs.Trees as tree
 use Rattle.td_tree.specs.Trees.{Text, TypeTree, AttributeTrees, Literal, Attributes, Renaming, Postfix, Tree, Trees, NamedTrees, Summaries}
@@ -41,9 +41,9 @@ mutual
 
   -- '{' attr,* '}'
   pub data HeadingSpelling : List Lexeme → AttributeTrees → Type 0 where
-    empty_heading : HeadingSpelling (braced []) tree.no_attributes
+    empty_heading : HeadingSpelling (with_braces []) tree.no_attributes
     heading : {xs : List Lexeme} {h : AttributeTrees} → AttributesSpelling xs h
-        → HeadingSpelling (braced xs) h
+        → HeadingSpelling (with_braces xs) h
 
   -- attr,+ where attr := name type
   pub data AttributesSpelling : List Lexeme → AttributeTrees → Type 0 where
@@ -62,14 +62,14 @@ pub data NameSpelling : List Lexeme → Text → Type 0 where
 -- names := '{' name,* '}'
 pub data NamesSpelling : List Lexeme → List Text → Type 0 where
   names : {xs : List Lexeme} {ns : List Text} → Listed NameSpelling xs ns
-      → NamesSpelling (braced xs) ns
+      → NamesSpelling (with_braces xs) ns
 
 -- attrs := names | '{' ALL BUT name,* '}'
 pub data AttributeListSpelling : List Lexeme → Attributes → Type 0 where
   only_names : {xs : List Lexeme} {ns : List Text} → NamesSpelling xs ns
       → AttributeListSpelling xs (tree.only ns)
   all_but_names : {xs : List Lexeme} {ns : List Text} → Listed NameSpelling xs ns
-      → AttributeListSpelling (braced (keyword k.All ∷ (keyword k.But ∷ xs))) (tree.all_but ns)
+      → AttributeListSpelling (with_braces (keyword k.All ∷ (keyword k.But ∷ xs))) (tree.all_but ns)
 
 -- name AS name
 pub data RenamingSpelling : List Lexeme → Renaming → Type 0 where
@@ -84,21 +84,21 @@ pub data PostfixSpelling : List Lexeme → Postfix → Type 0 where
       → PostfixSpelling xs (tree.project a)
   -- e9 RENAME '(' (name AS name),+ ')'
   renamings : {xs : List Lexeme} {rs : List Renaming} → Separated RenamingSpelling xs rs
-      → PostfixSpelling (keyword k.Rename ∷ parenthesized xs) (tree.rename rs)
+      → PostfixSpelling (keyword k.Rename ∷ with_parentheses xs) (tree.rename rs)
   -- e9 GROUP '(' attrs AS name ')' and WRAP
   grouping : {xs : List Lexeme} {a : Attributes} {n : Text} → AttributeListSpelling xs a
       → PostfixSpelling
-      (keyword k.Group ∷ parenthesized (xs ++ (keyword k.As ∷ (lexeme.name n ∷ []))))
+      (keyword k.Group ∷ with_parentheses (xs ++ (keyword k.As ∷ (lexeme.name n ∷ []))))
       (tree.group a n)
   wrapping : {xs : List Lexeme} {a : Attributes} {n : Text} → AttributeListSpelling xs a
       → PostfixSpelling
-      (keyword k.Wrap ∷ parenthesized (xs ++ (keyword k.As ∷ (lexeme.name n ∷ []))))
+      (keyword k.Wrap ∷ with_parentheses (xs ++ (keyword k.As ∷ (lexeme.name n ∷ []))))
       (tree.wrap a n)
   -- e9 UNGROUP '(' name ')' and UNWRAP
   ungrouping : {n : Text}
-      → PostfixSpelling (keyword k.Ungroup ∷ parenthesized (lexeme.name n ∷ [])) (tree.ungroup n)
+      → PostfixSpelling (keyword k.Ungroup ∷ with_parentheses (lexeme.name n ∷ [])) (tree.ungroup n)
   unwrapping : {n : Text}
-      → PostfixSpelling (keyword k.Unwrap ∷ parenthesized (lexeme.name n ∷ [])) (tree.unwrap n)
+      → PostfixSpelling (keyword k.Unwrap ∷ with_parentheses (lexeme.name n ∷ [])) (tree.unwrap n)
 
 pub data LiteralSpelling : List Lexeme → Literal → Type 0 where
   -- number | '-' number, in range
@@ -240,38 +240,38 @@ mutual
     reference : {n : Text} → Spelling levels.Primary (lexeme.name n ∷ []) (tree.name n)
     -- e10 := name '(' e,* ')'
     selector : {n : Text} {xs : List Lexeme} {all : Trees} → ListSpelling xs all
-        → Spelling levels.Primary (lexeme.name n ∷ parenthesized xs) (tree.select n all)
+        → Spelling levels.Primary (lexeme.name n ∷ with_parentheses xs) (tree.select n all)
     -- e10 := THEword '(' e ')'
     component : {rest : Text} {xs : List Lexeme} {a : Tree} → Spelling loosest xs a
-        → Spelling levels.Primary (lexeme.component rest ∷ parenthesized xs) (tree.component rest a)
+        → Spelling levels.Primary (lexeme.component rest ∷ with_parentheses xs) (tree.component rest a)
     -- e10 := '(' e ')'
     parentheses : {xs : List Lexeme} {a : Tree} → Spelling loosest xs a
-        → Spelling levels.Primary (parenthesized xs) (tree.parentheses a)
+        → Spelling levels.Primary (with_parentheses xs) (tree.parentheses a)
     -- e10 := (COUNT | IS_EMPTY) '(' e ')'
     measure : {op : Measure} {xs : List Lexeme} {a : Tree} → Spelling loosest xs a
-        → Spelling levels.Primary (keyword (measure_word op) ∷ parenthesized xs) (tree.measure op a)
+        → Spelling levels.Primary (keyword (measure_word op) ∷ with_parentheses xs) (tree.measure op a)
     -- e10 := (SUM | MAX | MIN) '(' e ',' e ')'
     aggregate : {op : Aggregate} {xs ys : List Lexeme} {a b : Tree} → Spelling loosest xs a
         → Spelling loosest ys b
         → Spelling levels.Primary
-        (keyword (aggregate_word op) ∷ parenthesized (xs ++ (sign signs.Comma ∷ ys)))
+        (keyword (aggregate_word op) ∷ with_parentheses (xs ++ (sign signs.Comma ∷ ys)))
         (tree.aggregate op a b)
     -- e10 := RELATION heading '{' e,* '}'
     headed_relation : {hs xs : List Lexeme} {h : AttributeTrees} {all : Trees}
         → HeadingSpelling hs h → ListSpelling xs all
-        → Spelling levels.Primary (keyword k.Relation ∷ (hs ++ braced xs))
+        → Spelling levels.Primary (keyword k.Relation ∷ (hs ++ with_braces xs))
         (tree.headed_relation h all)
     -- e10 := RELATION '{' e,+ '}'
     relation : {xs : List Lexeme} {all : Trees} → ExpressionsSpelling xs all
-        → Spelling levels.Primary (keyword k.Relation ∷ braced xs) (tree.relation all)
+        → Spelling levels.Primary (keyword k.Relation ∷ with_braces xs) (tree.relation all)
     -- e10 := TUPLE '{' (name e),* '}'
-    empty_tuple : Spelling levels.Primary (keyword k.Tuple ∷ braced []) (tree.tuple tree.none_named)
+    empty_tuple : Spelling levels.Primary (keyword k.Tuple ∷ with_braces []) (tree.tuple tree.none_named)
     tuple : {xs : List Lexeme} {parts : NamedTrees} → PartsSpelling xs parts
-        → Spelling levels.Primary (keyword k.Tuple ∷ braced xs) (tree.tuple parts)
+        → Spelling levels.Primary (keyword k.Tuple ∷ with_braces xs) (tree.tuple parts)
     -- e10 := EXTEND e ADD '(' (e AS name),+ ')'
     extension : {xs ys : List Lexeme} {a : Tree} {parts : NamedTrees} → Spelling loosest xs a
         → AdditionsSpelling ys parts
-        → Spelling levels.Primary (keyword k.Extend ∷ (xs ++ (keyword k.Add ∷ parenthesized ys)))
+        → Spelling levels.Primary (keyword k.Extend ∷ (xs ++ (keyword k.Add ∷ with_parentheses ys)))
         (tree.extend a parts)
     -- e10 := SUMMARIZE e PER '(' e ')' ADD '(' item,+ ')'
     summary_per : {xs ys zs : List Lexeme} {a b : Tree} {items : Summaries} → Spelling loosest xs a
@@ -279,8 +279,8 @@ mutual
         → Spelling levels.Primary
         (keyword k.Summarize
         ∷ (xs ++ (keyword k.Per
-        ∷ (parenthesized ys
-        ++ (keyword k.Add ∷ parenthesized zs)))))
+        ∷ (with_parentheses ys
+        ++ (keyword k.Add ∷ with_parentheses zs)))))
         (tree.summarize_per a b items)
     -- e10 := SUMMARIZE e BY attrs ADD '(' item,+ ')'
     summary_by : {xs ys zs : List Lexeme} {a : Tree} {by : Attributes} {items : Summaries}
@@ -288,7 +288,7 @@ mutual
         → Spelling levels.Primary
         (keyword k.Summarize
         ∷ (xs ++ (keyword k.By
-        ∷ (ys ++ (keyword k.Add ∷ parenthesized zs)))))
+        ∷ (ys ++ (keyword k.Add ∷ with_parentheses zs)))))
         (tree.summarize_by a by items)
     -- e10 := IF e THEN e ELSE e END IF
     choice : {xs ys zs : List Lexeme} {a b c : Tree} → Spelling loosest xs a → Spelling loosest ys b
@@ -337,25 +337,25 @@ mutual
   pub data SummariesSpelling : List Lexeme → Summaries → Type 0 where
     last_count : {n : Text}
         → SummariesSpelling
-        (keyword k.Count ∷ (parenthesized [] ++ (keyword k.As ∷ (lexeme.name n ∷ []))))
+        (keyword k.Count ∷ (with_parentheses [] ++ (keyword k.As ∷ (lexeme.name n ∷ []))))
         (tree.counted n tree.no_summaries)
     next_count : {n : Text} {ys : List Lexeme} {items : Summaries} → SummariesSpelling ys items
         → SummariesSpelling
         (keyword k.Count
-        ∷ (parenthesized []
+        ∷ (with_parentheses []
         ++ (keyword k.As ∷ (lexeme.name n ∷ (sign signs.Comma ∷ ys)))))
         (tree.counted n items)
     last_sum : {op : Aggregate} {n : Text} {xs : List Lexeme} {a : Tree} → Spelling loosest xs a
         → SummariesSpelling
         (keyword (aggregate_word op)
-        ∷ (parenthesized xs
+        ∷ (with_parentheses xs
         ++ (keyword k.As ∷ (lexeme.name n ∷ []))))
         (tree.summed op a n tree.no_summaries)
     next_sum : {op : Aggregate} {n : Text} {xs ys : List Lexeme} {a : Tree} {items : Summaries}
         → Spelling loosest xs a → SummariesSpelling ys items
         → SummariesSpelling
         (keyword (aggregate_word op)
-        ∷ (parenthesized xs
+        ∷ (with_parentheses xs
         ++ (keyword k.As
         ∷ (lexeme.name n ∷ (sign signs.Comma ∷ ys)))))
         (tree.summed op a n items)

@@ -5,7 +5,7 @@ use Rattle.td_tree.specs.declared.keyword.Keyword.{Keyword}
 use Rattle.td_tree.specs.declared.token.Sign.{Sign}
 use Rattle.td_tree.specs.Keywords.{word_of}
 use Rattle.td_tree.specs.Signs.{sign_text}
-use Rattle.td_tree.specs.TextTokens.{quoted}
+use Rattle.td_tree.specs.TextTokens.{text_in_quotes}
 
 -- a token without its spelling: a reserved word in any case is that word, digits are their number,
 -- a text is what it says; of a THE word the rest stays
@@ -19,17 +19,17 @@ pub data Lexeme : Type 0 where
   bad : Lexeme
 
 -- how it is printed: reserved words in capitals, numbers without leading zeros
-abbrev pub printed : Lexeme → List ℕ
-printed (keyword k) = word_of k
-printed (sign s) = sign_text s
-printed (name n) = n
-printed (component rest) = codes "THE_" ++ rest
-printed (number n) = decimal n
-printed (text said) = quoted said
-printed bad = []
+abbrev pub printed_text : Lexeme → List ℕ
+printed_text (keyword k) = word_of k
+printed_text (sign s) = sign_text s
+printed_text (name n) = n
+printed_text (component rest) = codes "THE_" ++ rest
+printed_text (number n) = decimal n
+printed_text (text said) = text_in_quotes said
+printed_text bad = []
 
 -- one space between two
-abbrev pub spaced : List Lexeme → List ℕ
-spaced [] = []
-spaced (l ∷ []) = printed l
-spaced (l ∷ m ∷ ls) = printed l ++ 32 ∷ spaced (m ∷ ls)
+abbrev pub spaced_text : List Lexeme → List ℕ
+spaced_text [] = []
+spaced_text (l ∷ []) = printed_text l
+spaced_text (l ∷ m ∷ ls) = printed_text l ++ 32 ∷ spaced_text (m ∷ ls)

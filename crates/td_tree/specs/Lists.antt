@@ -29,9 +29,9 @@ pub data Optional {A : Type 0} (Item : List Lexeme → A → Type 0) : List Lexe
   present : {xs : List Lexeme} {a : A} → Item xs a → Optional Item xs (Some a)
 
 -- '{' .. '}'
-abbrev pub braced : List Lexeme → List Lexeme
-braced xs = sign signs.OpenBrace ∷ (xs ++ (sign signs.CloseBrace ∷ []))
+abbrev pub with_braces : List Lexeme → List Lexeme
+with_braces xs = sign signs.OpenBrace ∷ (xs ++ (sign signs.CloseBrace ∷ []))
 
 -- '(' .. ')'
-abbrev pub parenthesized : List Lexeme → List Lexeme
-parenthesized xs = sign signs.OpenParenthesis ∷ (xs ++ (sign signs.CloseParenthesis ∷ []))
+abbrev pub with_parentheses : List Lexeme → List Lexeme
+with_parentheses xs = sign signs.OpenParenthesis ∷ (xs ++ (sign signs.CloseParenthesis ∷ []))

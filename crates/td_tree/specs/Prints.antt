@@ -5,9 +5,9 @@ use Rattle.td_tree.specs.declared.operator.Prefix.{Prefix}
 use Rattle.td_tree.specs.declared.operator.Prefix.TheVariants as prefixes
 use Rattle.td_tree.specs.declared.token.Sign.TheVariants as signs
 use Rattle.td_tree.specs.Grammar.{operator_words, comparison_word, measure_word, aggregate_word}
-use Rattle.td_tree.specs.Lexemes.{Lexeme, keyword, sign, spaced}
+use Rattle.td_tree.specs.Lexemes.{Lexeme, keyword, sign, spaced_text}
 use Rattle.td_tree.specs.Lexemes as lexeme
-use Rattle.td_tree.specs.Lists.{braced, parenthesized}
+use Rattle.td_tree.specs.Lists.{with_braces, with_parentheses}
 use Rattle.td_tree.specs.Trees.{Text, TypeTree, integer, char, boolean, user, tuple_type, relation_type, AttributeTrees, no_attributes, attribute, Literal, number, text, truth, table_dee, table_dum, Attributes, only, all_but, Renaming, Postfix, project, rename, group, ungroup, wrap, unwrap, Tree, literal, name, parentheses, prefix, extract, restriction, binary, compare, postfix, select, component, measure, aggregate, relation, headed_relation, tuple, extend, summarize_per, summarize_by, choice, Trees, none, more, NamedTrees, none_named, more_named, Summaries, no_summaries, counted, summed}
 
 -- a comma before each item
@@ -26,9 +26,9 @@ abbrev mutual
   type_lexemes char = keyword k.Char ∷ []
   type_lexemes boolean = keyword k.Boolean ∷ []
   type_lexemes (user n) = lexeme.name n ∷ []
-  type_lexemes (tuple_type heading) = keyword k.Tuple ∷ braced (commas (attribute_lexemes heading))
+  type_lexemes (tuple_type heading) = keyword k.Tuple ∷ with_braces (commas (attribute_lexemes heading))
   type_lexemes (relation_type heading) =
-      keyword k.Relation ∷ braced (commas (attribute_lexemes heading))
+      keyword k.Relation ∷ with_braces (commas (attribute_lexemes heading))
 
   -- of each name with its type
   pub attribute_lexemes : AttributeTrees → List (List Lexeme)
@@ -37,7 +37,7 @@ abbrev mutual
       (lexeme.name n ∷ type_lexemes ty) ∷ attribute_lexemes rest
 
 abbrev pub heading_lexemes : AttributeTrees → List Lexeme
-heading_lexemes heading = braced (commas (attribute_lexemes heading))
+heading_lexemes heading = with_braces (commas (attribute_lexemes heading))
 
 abbrev pub literal_lexemes : Literal → List Lexeme
 literal_lexemes (number true n) = sign signs.Minus ∷ (lexeme.number n ∷ [])
@@ -53,8 +53,8 @@ abbrev pub name_lexemes : List Text → List Lexeme
 name_lexemes names = commas (map (λ n. lexeme.name n ∷ []) names)
 
 abbrev pub attributes_lexemes : Attributes → List Lexeme
-attributes_lexemes (only names) = braced (name_lexemes names)
-attributes_lexemes (all_but names) = braced (keyword k.All ∷ (keyword k.But ∷ name_lexemes names))
+attributes_lexemes (only names) = with_braces (name_lexemes names)
+attributes_lexemes (all_but names) = with_braces (keyword k.All ∷ (keyword k.But ∷ name_lexemes names))
 
 abbrev pub renaming_lexemes : Renaming → List Lexeme
 renaming_lexemes r = lexeme.name r.old ∷ (keyword k.As ∷ (lexeme.name r.new ∷ []))
@@ -66,13 +66,13 @@ as_lexemes n = keyword k.As ∷ (lexeme.name n ∷ [])
 abbrev pub postfix_lexemes : Postfix → List Lexeme
 postfix_lexemes (project attributes) = attributes_lexemes attributes
 postfix_lexemes (rename renamings) =
-    keyword k.Rename ∷ parenthesized (commas (map renaming_lexemes renamings))
+    keyword k.Rename ∷ with_parentheses (commas (map renaming_lexemes renamings))
 postfix_lexemes (group attributes n) =
-    keyword k.Group ∷ parenthesized (attributes_lexemes attributes ++ as_lexemes n)
-postfix_lexemes (ungroup n) = keyword k.Ungroup ∷ parenthesized (lexeme.name n ∷ [])
+    keyword k.Group ∷ with_parentheses (attributes_lexemes attributes ++ as_lexemes n)
+postfix_lexemes (ungroup n) = keyword k.Ungroup ∷ with_parentheses (lexeme.name n ∷ [])
 postfix_lexemes (wrap attributes n) =
-    keyword k.Wrap ∷ parenthesized (attributes_lexemes attributes ++ as_lexemes n)
-postfix_lexemes (unwrap n) = keyword k.Unwrap ∷ parenthesized (lexeme.name n ∷ [])
+    keyword k.Wrap ∷ with_parentheses (attributes_lexemes attributes ++ as_lexemes n)
+postfix_lexemes (unwrap n) = keyword k.Unwrap ∷ with_parentheses (lexeme.name n ∷ [])
 
 abbrev pub prefix_words : Prefix → List Lexeme
 prefix_words prefixes.Not = keyword k.Not ∷ []
@@ -84,7 +84,7 @@ abbrev mutual
   pub lexemes_of : Tree → List Lexeme
   lexemes_of (literal l) = literal_lexemes l
   lexemes_of (name n) = lexeme.name n ∷ []
-  lexemes_of (parentheses inner) = parenthesized (lexemes_of inner)
+  lexemes_of (parentheses inner) = with_parentheses (lexemes_of inner)
   lexemes_of (prefix op operand) = prefix_words op ++ lexemes_of operand
   lexemes_of (extract a operand) = lexeme.name a ∷ (keyword k.From ∷ lexemes_of operand)
   lexemes_of (restriction operand condition) =
@@ -92,31 +92,31 @@ abbrev mutual
   lexemes_of (binary left op right) = lexemes_of left ++ (operator_words op ++ lexemes_of right)
   lexemes_of (compare left op right) = lexemes_of left ++ (comparison_word op ∷ lexemes_of right)
   lexemes_of (postfix operand op) = lexemes_of operand ++ postfix_lexemes op
-  lexemes_of (select ty arguments) = lexeme.name ty ∷ parenthesized (commas (all_lexemes arguments))
-  lexemes_of (component rest operand) = lexeme.component rest ∷ parenthesized (lexemes_of operand)
-  lexemes_of (measure op operand) = keyword (measure_word op) ∷ parenthesized (lexemes_of operand)
+  lexemes_of (select ty arguments) = lexeme.name ty ∷ with_parentheses (commas (all_lexemes arguments))
+  lexemes_of (component rest operand) = lexeme.component rest ∷ with_parentheses (lexemes_of operand)
+  lexemes_of (measure op operand) = keyword (measure_word op) ∷ with_parentheses (lexemes_of operand)
   lexemes_of (aggregate op operand value) =
       keyword (aggregate_word op)
-      ∷ parenthesized (lexemes_of operand ++ (sign signs.Comma ∷ lexemes_of value))
-  lexemes_of (relation elements) = keyword k.Relation ∷ braced (commas (all_lexemes elements))
+      ∷ with_parentheses (lexemes_of operand ++ (sign signs.Comma ∷ lexemes_of value))
+  lexemes_of (relation elements) = keyword k.Relation ∷ with_braces (commas (all_lexemes elements))
   lexemes_of (headed_relation heading elements) =
-      keyword k.Relation ∷ (heading_lexemes heading ++ braced (commas (all_lexemes elements)))
-  lexemes_of (tuple parts) = keyword k.Tuple ∷ braced (commas (part_lexemes parts))
+      keyword k.Relation ∷ (heading_lexemes heading ++ with_braces (commas (all_lexemes elements)))
+  lexemes_of (tuple parts) = keyword k.Tuple ∷ with_braces (commas (part_lexemes parts))
   lexemes_of (extend operand parts) =
       keyword k.Extend
-      ∷ (lexemes_of operand ++ (keyword k.Add ∷ parenthesized (commas (addition_lexemes parts))))
+      ∷ (lexemes_of operand ++ (keyword k.Add ∷ with_parentheses (commas (addition_lexemes parts))))
   lexemes_of (summarize_per operand per summaries) =
       keyword k.Summarize
       ∷ (lexemes_of operand
       ++ (keyword k.Per
-      ∷ (parenthesized (lexemes_of per)
-      ++ (keyword k.Add ∷ parenthesized (commas (summary_lexemes summaries))))))
+      ∷ (with_parentheses (lexemes_of per)
+      ++ (keyword k.Add ∷ with_parentheses (commas (summary_lexemes summaries))))))
   lexemes_of (summarize_by operand by summaries) =
       keyword k.Summarize
       ∷ (lexemes_of operand
       ++ (keyword k.By
       ∷ (attributes_lexemes by
-      ++ (keyword k.Add ∷ parenthesized (commas (summary_lexemes summaries))))))
+      ++ (keyword k.Add ∷ with_parentheses (commas (summary_lexemes summaries))))))
   lexemes_of (choice condition a b) =
       keyword k.If
       ∷ (lexemes_of condition
@@ -144,15 +144,15 @@ abbrev mutual
   pub summary_lexemes : Summaries → List (List Lexeme)
   summary_lexemes no_summaries = []
   summary_lexemes (counted n rest) =
-      (keyword k.Count ∷ (parenthesized [] ++ as_lexemes n)) ∷ summary_lexemes rest
+      (keyword k.Count ∷ (with_parentheses [] ++ as_lexemes n)) ∷ summary_lexemes rest
   summary_lexemes (summed op value n rest) =
-      (keyword (aggregate_word op) ∷ (parenthesized (lexemes_of value) ++ as_lexemes n))
+      (keyword (aggregate_word op) ∷ (with_parentheses (lexemes_of value) ++ as_lexemes n))
       ∷ summary_lexemes rest
 
 -- the text of a type
 abbrev pub type_print : TypeTree → List ℕ
-type_print t = spaced (type_lexemes t)
+type_print t = spaced_text (type_lexemes t)
 
 -- the text of an expression
 abbrev pub print : Tree → List ℕ
-print t = spaced (lexemes_of t)
+print t = spaced_text (lexemes_of t)

@@ -9,7 +9,7 @@ use Rattle.td_tree.specs.Grammar.{AttributesSpelling, HeadingSpelling, NamesSpel
 use Rattle.td_tree.specs.Heights.{type_height, attributes_height}
 use Rattle.td_tree.specs.Lexemes.{Lexeme, keyword, sign}
 use Rattle.td_tree.specs.Lexemes as lexeme
-use Rattle.td_tree.specs.Lists.{Separated, Repeated, Optional, braced, parenthesized}
+use Rattle.td_tree.specs.Lists.{Separated, Repeated, Optional, with_braces, with_parentheses}
 use Rattle.td_tree.specs.Trees as tree
 use Rattle.td_tree.specs.Trees.{Text, AttributeTrees, Tree, NamedTrees, Assignment, Statement}
 
@@ -25,7 +25,7 @@ pub data ConstraintPart : List Lexeme → Tree → Type 0 where
 -- INIT '(' e ')'
 pub data InitPart : List Lexeme → Tree → Type 0 where
   init_part : {xs : List Lexeme} {t : Tree} → ExpressionItem xs t
-      → InitPart (keyword k.Init ∷ parenthesized xs) t
+      → InitPart (keyword k.Init ∷ with_parentheses xs) t
 
 -- WHERE e1
 pub data WherePart : List Lexeme → Tree → Type 0 where
@@ -61,7 +61,7 @@ pub data AssignmentSpelling : List Lexeme → Assignment → Type 0 where
   -- UPDATE name [WHERE e1] '(' set,+ ')'
   changing : {n : Text} {xs ys : List Lexeme} {condition : Option Tree} {settings : NamedTrees}
       → Optional WherePart xs condition → SettingsSpelling ys settings
-      → AssignmentSpelling (keyword k.Update ∷ (lexeme.name n ∷ (xs ++ parenthesized ys)))
+      → AssignmentSpelling (keyword k.Update ∷ (lexeme.name n ∷ (xs ++ with_parentheses ys)))
       (tree.update n condition settings)
 
 -- BASE | REAL
@@ -74,7 +74,7 @@ pub data BodySpelling : List Lexeme → Statement → Type 0 where
   -- TYPE name POSSREP '{' attr,+ [CONSTRAINT e] '}'
   type_definition : {n : Text} {xs ys : List Lexeme} {h : AttributeTrees} {t : Option Tree}
       → AttributesSpelling xs h → attributes_height h ≤ height_limit → Optional ConstraintPart ys t
-      → BodySpelling (keyword k.«Type» ∷ (lexeme.name n ∷ (keyword k.Possrep ∷ braced (xs ++ ys))))
+      → BodySpelling (keyword k.«Type» ∷ (lexeme.name n ∷ (keyword k.Possrep ∷ with_braces (xs ++ ys))))
       (tree.define_type n h t)
   -- DROP TYPE name, DROP VAR name, DROP CONSTRAINT name
   type_drop : {n : Text}
@@ -99,7 +99,7 @@ pub data BodySpelling : List Lexeme → Statement → Type 0 where
   virtual_definition : {n : Text} {xs ys : List Lexeme} {t : Tree} {keys : List (List Text)}
       → ExpressionItem xs t → Repeated KeyPart ys keys
       → BodySpelling
-      (keyword k.Var ∷ (lexeme.name n ∷ (keyword k.Virtual ∷ (parenthesized xs ++ ys))))
+      (keyword k.Var ∷ (lexeme.name n ∷ (keyword k.Virtual ∷ (with_parentheses xs ++ ys))))
       (tree.define_virtual n t keys)
   -- CONSTRAINT name e
   constraint_definition : {n : Text} {xs : List Lexeme} {t : Tree} → ExpressionItem xs t

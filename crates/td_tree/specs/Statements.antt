@@ -81,14 +81,14 @@ pub record Held : Type 0 where
   pub finished : Bool
 
 -- those up to a `;`; where all was fed also all of them, if there are any
-abbrev pub chosen : Bool → List PlacedToken → Option (List PlacedToken) → Option (List PlacedToken)
-chosen finished all (Some first) = Some first
-chosen finished [] None = None
-chosen finished (token ∷ rest) None = if finished then Some (token ∷ rest) else None
+abbrev pub statement_or_rest : Bool → List PlacedToken → Option (List PlacedToken) → Option (List PlacedToken)
+statement_or_rest finished all (Some first) = Some first
+statement_or_rest finished [] None = None
+statement_or_rest finished (token ∷ rest) None = if finished then Some (token ∷ rest) else None
 
 -- the first statement: up to the first `;`; where all was fed also the tokens left
 unfoldable pub first_statement : Held → Option (List PlacedToken)
-first_statement h = chosen h.finished (tokens h.offset h.bytes) (first_ended h.offset h.bytes)
+first_statement h = statement_or_rest h.finished (tokens h.offset h.bytes) (first_ended h.offset h.bytes)
 
 -- where the last of the tokens ends; the offset where there is none
 abbrev pub end_of : ℕ → List PlacedToken → ℕ

@@ -8,7 +8,7 @@ use Rattle.td_tree.specs.Lexemes.{Lexeme, keyword, sign, name, component, number
 use Rattle.td_tree.specs.Names.{is_name, is_word, begins_the}
 use Rattle.td_tree.specs.Numbers.{decimal_value}
 use Rattle.td_tree.specs.Statements.{PlacedToken}
-use Rattle.td_tree.specs.TextTokens.{quoted, content}
+use Rattle.td_tree.specs.TextTokens.{text_in_quotes, content}
 use Rattle.td_tree.specs.declared.token.Kind.{Kind}
 use Rattle.td_tree.specs.declared.token.Kind.TheVariants as kinds
 
@@ -18,7 +18,7 @@ is_the_word t = is_utf8 t && is_word (chars t) && begins_the t
 
 -- a text in quotes that says UTF-8
 abbrev pub is_quoted_text : List ℕ → Bool
-is_quoted_text t = is_utf8 (content t) && pointwise ◌==◌ (quoted (content t)) t
+is_quoted_text t = is_utf8 (content t) && pointwise ◌==◌ (text_in_quotes (content t)) t
 
 -- a token of this kind with these bytes; bad where they are no token of this kind
 abbrev pub lexeme_of : Kind → List ℕ → Lexeme

@@ -129,33 +129,33 @@ impl Expr {
         match self {
             Expr::Literal(value) => remade::literal(value.try_clone()),
             Expr::Name(name) => remade::name(name.try_clone()),
-            Expr::Parentheses(inner) => remade::parentheses(boxed(inner)),
-            Expr::Prefix(op, operand) => remade::prefix(*op, boxed(operand)),
-            Expr::Extract(name, operand) => remade::extract(name.try_clone(), boxed(operand)),
+            Expr::Parentheses(inner) => remade::parentheses(box_with_copy(inner)),
+            Expr::Prefix(op, operand) => remade::prefix(*op, box_with_copy(operand)),
+            Expr::Extract(name, operand) => remade::extract(name.try_clone(), box_with_copy(operand)),
             Expr::Restriction(operand, condition) => {
-                remade::restriction(boxed(operand), boxed(condition))
+                remade::restriction(box_with_copy(operand), box_with_copy(condition))
             }
-            Expr::Binary(left, op, right) => remade::binary(boxed(left), *op, boxed(right)),
-            Expr::Compare(left, op, right) => remade::compare(boxed(left), *op, boxed(right)),
-            Expr::Postfix(operand, op) => remade::postfix(boxed(operand), op.try_clone()),
+            Expr::Binary(left, op, right) => remade::binary(box_with_copy(left), *op, box_with_copy(right)),
+            Expr::Compare(left, op, right) => remade::compare(box_with_copy(left), *op, box_with_copy(right)),
+            Expr::Postfix(operand, op) => remade::postfix(box_with_copy(operand), op.try_clone()),
             Expr::Select(ty, arguments) => remade::select(ty.try_clone(), copy_list(arguments)),
-            Expr::Component(rest, operand) => remade::component(rest.clone(), boxed(operand)),
-            Expr::Measure(op, operand) => remade::measure(*op, boxed(operand)),
-            Expr::Aggregate(op, left, right) => remade::aggregate(*op, boxed(left), boxed(right)),
+            Expr::Component(rest, operand) => remade::component(rest.clone(), box_with_copy(operand)),
+            Expr::Measure(op, operand) => remade::measure(*op, box_with_copy(operand)),
+            Expr::Aggregate(op, left, right) => remade::aggregate(*op, box_with_copy(left), box_with_copy(right)),
             Expr::Relation(elements) => remade::relation(copy_list(elements)),
             Expr::HeadedRelation(heading, elements) => {
                 remade::headed_relation(copy_heading(heading), copy_list(elements))
             }
             Expr::Tuple(parts) => remade::tuple(copy_parts(parts)),
-            Expr::Extend(operand, parts) => remade::extend(boxed(operand), copy_parts(parts)),
+            Expr::Extend(operand, parts) => remade::extend(box_with_copy(operand), copy_parts(parts)),
             Expr::SummarizePer(operand, per, added) => {
-                remade::summarize_per(boxed(operand), boxed(per), copy_summaries(added))
+                remade::summarize_per(box_with_copy(operand), box_with_copy(per), copy_summaries(added))
             }
             Expr::SummarizeBy(operand, by, added) => {
-                remade::summarize_by(boxed(operand), by.try_clone(), copy_summaries(added))
+                remade::summarize_by(box_with_copy(operand), by.try_clone(), copy_summaries(added))
             }
             Expr::If(condition, yes, no) => {
-                remade::choice(boxed(condition), boxed(yes), boxed(no))
+                remade::choice(box_with_copy(condition), box_with_copy(yes), box_with_copy(no))
             }
         }
     }
@@ -163,7 +163,7 @@ impl Expr {
 
 /// The same expression in a box of its own.
 #[cycle(copy)]
-fn boxed(expression: &Box<Expr>) -> Result<Box<Expr>, AllocError>
+fn box_with_copy(expression: &Box<Expr>) -> Result<Box<Expr>, AllocError>
     ensures { Boxed result (tree_view expression.now.value) }
 {
     let copy = expression.try_clone()?;

@@ -40,7 +40,7 @@ impl<T: Drop> From<AllocFailed<T>> for Fault {
 }
 
 /// The answer of a call that asks what holds, so that it can want memory alone.
-pub fn unrefused<T: Drop>(answer: Result<T, Fault>) -> Result<T, AllocError>
+pub fn without_refusal<T: Drop>(answer: Result<T, Fault>) -> Result<T, AllocError>
     requires { IsUnrefused answer }
     ensures { IfOk result (λ value. answer ≡ Ok value) }
 {

@@ -12,7 +12,7 @@ ghost use Rattle.td_tree.specs.Spellings.{IsSpelled, characters};
 ghost use Rattle.td_tree.specs.Statements.{AreStatements, PlacedToken, first_ended, statements};
 ghost use Rattle.td_tree.specs.Statements.{tokens};
 ghost use Rattle.td_tree.specs.Symbols.{AreSymbols, Symbol, symbols};
-ghost use Rattle.td_tree.specs.TextTokens.{IsQuotedText, content, quoted};
+ghost use Rattle.td_tree.specs.TextTokens.{IsQuotedText, content, text_in_quotes};
 
 /// The cause that is named is one of those that there are, and none of them has a lesser number.
 pub fn the_least_cause_is_named()
@@ -79,13 +79,13 @@ pub fn tokens_are_texts()
 /// A text in quotes is one token: a text where it says UTF-8, else a bad one.
 #[tactic(auto, using(crate::proofs::law_lemmas::QuotedLaws::quoted_kind))]
 pub fn quoted_is_one_token()
-    ensures { (said : List ℕ) → kind_of (symbols (quoted said)) ≡ Some (text_kind said) }
+    ensures { (said : List ℕ) → kind_of (symbols (text_in_quotes said)) ≡ Some (text_kind said) }
 {}
 
 /// A text in quotes says what stands between its quotes.
 #[tactic(auto, using(crate::proofs::law_lemmas::TextTokenLaws::content_quoted))]
 pub fn quoted_says()
-    ensures { (said : List ℕ) → content (quoted said) ≡ said }
+    ensures { (said : List ℕ) → content (text_in_quotes said) ≡ said }
 {}
 
 /// Spans ascend.

@@ -5,7 +5,7 @@ ghost use Rattle.td_tree.specs.declared.keyword.Keyword.TheVariants as k;
 ghost use Rattle.td_tree.specs.declared.token.Sign.TheVariants as signs;
 ghost use Rattle.td_tree.specs.Grammar.{aggregate_word};
 ghost use Rattle.td_tree.specs.Lexemes.{keyword, sign};
-ghost use Rattle.td_tree.specs.Lists.{braced, parenthesized};
+ghost use Rattle.td_tree.specs.Lists.{with_braces, with_parentheses};
 ghost use Rattle.td_tree.specs.Prints.{addition_lexemes, all_lexemes, commas, heading_lexemes};
 ghost use Rattle.td_tree.specs.Prints.{lexemes_of, part_lexemes, print, summary_lexemes};
 ghost use Rattle.td_tree.specs.Prints.{type_lexemes, type_print};
@@ -80,7 +80,7 @@ impl Printer {
         match expression {
             Expr::Literal(value) => self.literal(value),
             Expr::Name(name) => self.name(name),
-            Expr::Parentheses(inner) => self.parenthesized(inner),
+            Expr::Parentheses(inner) => self.with_parentheses(inner),
             Expr::Prefix(op, operand) => self.prefix(*op)?.expr(operand),
             Expr::Extract(name, operand) => self.name(name)?.after(Keyword::From, operand),
             Expr::Restriction(operand, condition) => {
@@ -90,9 +90,9 @@ impl Printer {
             Expr::Compare(left, op, right) => self.expr(left)?.comparison(*op)?.expr(right),
             Expr::Postfix(operand, op) => self.expr(operand)?.postfix(op),
             Expr::Select(ty, arguments) => self.name(ty)?.arguments(arguments),
-            Expr::Component(rest, operand) => self.component(rest)?.parenthesized(operand),
-            Expr::Measure(op, operand) => self.keyword(op.keyword())?.parenthesized(operand),
-            Expr::Aggregate(op, left, right) => self.aggregated(*op, left)?.over(right),
+            Expr::Component(rest, operand) => self.component(rest)?.with_parentheses(operand),
+            Expr::Measure(op, operand) => self.keyword(op.keyword())?.with_parentheses(operand),
+            Expr::Aggregate(op, left, right) => self.aggregate_start(*op, left)?.over(right),
             Expr::Relation(elements) => self.keyword(Keyword::Relation)?.elements(elements),
             Expr::HeadedRelation(heading, elements) => {
                 self.relation_type(heading)?.elements(elements)
@@ -115,8 +115,8 @@ impl Printer {
     }
 
     #[cycle(printer)]
-    fn parenthesized(self, inner: &Expr) -> Result<Printer, AllocError>
-        ensures { Writes self result (parenthesized (lexemes_of (tree_view inner.now))) }
+    fn with_parentheses(self, inner: &Expr) -> Result<Printer, AllocError>
+        ensures { Writes self result (with_parentheses (lexemes_of (tree_view inner.now))) }
     {
         let out = self.sign(Sign::OpenParenthesis)?;
         out.expr(inner)?.sign(Sign::CloseParenthesis)
@@ -132,7 +132,7 @@ impl Printer {
 
     /// The word of an aggregate, and its first argument in an open parenthesis.
     #[cycle(printer)]
-    fn aggregated(self, op: Aggregate, operand: &Expr) -> Result<Printer, AllocError>
+    fn aggregate_start(self, op: Aggregate, operand: &Expr) -> Result<Printer, AllocError>
         ensures { Writes self result
             (keyword (aggregate_word op)
             ∷ (sign signs.OpenParenthesis ∷ lexemes_of (tree_view operand.now))) }
@@ -157,9 +157,9 @@ impl Printer {
     #[cycle(printer)]
     fn per(self, per: &Expr) -> Result<Printer, AllocError>
         ensures { Writes self result
-            (keyword k.Per ∷ parenthesized (lexemes_of (tree_view per.now))) }
+            (keyword k.Per ∷ with_parentheses (lexemes_of (tree_view per.now))) }
     {
-        self.keyword(Keyword::Per)?.parenthesized(per)
+        self.keyword(Keyword::Per)?.with_parentheses(per)
     }
 
     #[cycle(printer)]
@@ -176,7 +176,7 @@ impl Printer {
     #[cycle(printer)]
     fn arguments(self, arguments: &[Expr]) -> Result<Printer, AllocError>
         ensures { Writes self result
-            (parenthesized (commas (all_lexemes (trees_view arguments.now)))) }
+            (with_parentheses (commas (all_lexemes (trees_view arguments.now)))) }
     {
         let mut out = self.sign(Sign::OpenParenthesis)?;
         let mut later = false;
@@ -189,7 +189,7 @@ impl Printer {
 
     #[cycle(printer)]
     fn elements(self, elements: &[Expr]) -> Result<Printer, AllocError>
-        ensures { Writes self result (braced (commas (all_lexemes (trees_view elements.now)))) }
+        ensures { Writes self result (with_braces (commas (all_lexemes (trees_view elements.now)))) }
     {
         let mut out = self.sign(Sign::OpenBrace)?;
         let mut later = false;
@@ -203,7 +203,7 @@ impl Printer {
     /// Each name and its expression, in braces.
     #[cycle(printer)]
     fn parts(self, parts: &[NamedExpr]) -> Result<Printer, AllocError>
-        ensures { Writes self result (braced (commas (part_lexemes (named_view parts.now)))) }
+        ensures { Writes self result (with_braces (commas (part_lexemes (named_view parts.now)))) }
     {
         let mut out = self.sign(Sign::OpenBrace)?;
         let mut later = false;
@@ -218,7 +218,7 @@ impl Printer {
     #[cycle(printer)]
     fn additions(self, parts: &[NamedExpr]) -> Result<Printer, AllocError>
         ensures { Writes self result
-            (keyword k.Add ∷ parenthesized (commas (addition_lexemes (named_view parts.now)))) }
+            (keyword k.Add ∷ with_parentheses (commas (addition_lexemes (named_view parts.now)))) }
     {
         let mut out = self.keyword(Keyword::Add)?.sign(Sign::OpenParenthesis)?;
         let mut later = false;
@@ -233,7 +233,7 @@ impl Printer {
     #[cycle(printer)]
     fn summaries(self, added: &[Summary]) -> Result<Printer, AllocError>
         ensures { Writes self result
-            (keyword k.Add ∷ parenthesized (commas (summary_lexemes (summaries_view added.now)))) }
+            (keyword k.Add ∷ with_parentheses (commas (summary_lexemes (summaries_view added.now)))) }
     {
         let mut out = self.keyword(Keyword::Add)?.sign(Sign::OpenParenthesis)?;
         let mut later = false;
@@ -256,7 +256,7 @@ impl Printer {
             }
             Summary::Of(op, value, name) => {
                 self.keyword(op.keyword())?
-                    .parenthesized(value)?
+                    .with_parentheses(value)?
                     .alias(name)
             }
         }

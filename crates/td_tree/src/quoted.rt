@@ -2,7 +2,7 @@
 ghost use Rattle.std.specs.Prelude.{◌≡◌, ◌++◌, OnErr, OnOk};
 ghost use Rattle.std.specs.String.{string_bytes};
 ghost use Rattle.td_tree.specs.code.Fronts.{PutsFront};
-ghost use Rattle.td_tree.specs.TextTokens.{doubled, quoted};
+ghost use Rattle.td_tree.specs.TextTokens.{with_quotes_doubled, text_in_quotes};
 ghost use Rattle.td_tree.specs.code.Written.{quotes_if};
 
 use std::alloc::AllocError;
@@ -20,9 +20,9 @@ fn put_quotes(out: &mut String, later: bool) -> Result<(), AllocError>
 
 /// Puts the text with each quote doubled: its pieces between quotes, with two quotes between.
 fn put_doubled(out: &mut String, said: &str) -> Result<(), AllocError>
-    ensures ok { OnOk result (string_bytes out.new ≡ string_bytes out.old ++ doubled said.now) }
+    ensures ok { OnOk result (string_bytes out.new ≡ string_bytes out.old ++ with_quotes_doubled said.now) }
     ensures err { OnErr result
-        (PutsFront (string_bytes out.old) (string_bytes out.new) (doubled said.now)) }
+        (PutsFront (string_bytes out.old) (string_bytes out.new) (with_quotes_doubled said.now)) }
 {
     let mut later = false;
     for piece in said.split('\'') {
@@ -35,9 +35,9 @@ fn put_doubled(out: &mut String, said: &str) -> Result<(), AllocError>
 
 /// Puts the text in quotes behind what stands there, each quote in it doubled.
 pub fn put_quoted(out: &mut String, said: &str) -> Result<(), AllocError>
-    ensures ok { OnOk result (string_bytes out.new ≡ string_bytes out.old ++ quoted said.now) }
+    ensures ok { OnOk result (string_bytes out.new ≡ string_bytes out.old ++ text_in_quotes said.now) }
     ensures err { OnErr result
-        (PutsFront (string_bytes out.old) (string_bytes out.new) (quoted said.now)) }
+        (PutsFront (string_bytes out.old) (string_bytes out.new) (text_in_quotes said.now)) }
 {
     out.push_str("'")?;
     put_doubled(out, said)?;

@@ -117,7 +117,7 @@ pub fn postfix(
 }
 
 /// `T(e, ..)`, of its parts.
-fn selected(ty: Name, arguments: Vec<Expr>) -> Expr
+fn selector_call(ty: Name, arguments: Vec<Expr>) -> Expr
     ensures { tree_view result ≡ trees.select ty (trees_view arguments.items) }
 {
     Expr::Select(ty, arguments)
@@ -132,7 +132,7 @@ pub fn select(
         → IfOk arguments (λ x. trees_view x.items ≡ es) → Copied result (trees.select n es) }
 {
     match both(ty, arguments) {
-        Ok((ty, arguments)) => Ok(selected(ty, arguments)),
+        Ok((ty, arguments)) => Ok(selector_call(ty, arguments)),
         Err(error) => Err(error),
     }
 }

@@ -11,7 +11,7 @@ use Rattle.std.specs.List.Sorted.{IsStrictlySortedBy}
 use Rattle.std.specs.FinMap.Entries.{by_order, find, is_sorted, below_all, is_sorted-put, is_sorted-where_key, find-put, find-where_key, same_entries}
 use Rattle.std.proofs.lemmas.Cmp.{nat_list_cmp_total, eq_by_cmp_equiv}
 use Rattle.std.proofs.lemmas.Map.Lookups.{exact_bytes}
-use Rattle.td_types.specs.Headings.{AgreementIsOneType, RenamingKeepsTypes, TypesDetermineHeading, are_distinct, new_name, add_missing, agree, common_part, has_attribute, has_attributes, has_name, have_no_common, heading_union, is_type_or_none, outside, projection, renamed, with_attribute, without_attribute}
+use Rattle.td_types.specs.Headings.{AgreementIsOneType, RenamingKeepsTypes, TypesDetermineHeading, are_distinct, new_name, add_missing, agree, common_part, has_attribute, has_attributes, has_name, have_no_common, heading_union, is_type_or_none, outside, projection, renamed_attributes, with_attribute, without_attribute}
 use Rattle.td_tree.specs.Names.{IsName}
 use Rattle.td_types.specs.TypeOrder.{type_eq-Decides}
 use Rattle.td_types.specs.Types.{Type', Attribute, Heading, IsAscending, IsBefore, IsHeading, IsType, pack, attribute_names, same_name, type_at}
@@ -225,12 +225,12 @@ pub IsAscending-union : (h xs : Heading) → IsAscending h → IsAscending (head
 IsAscending-union h [] i = i
 IsAscending-union h (a ∷ xs) i = IsAscending-union (add_missing h a) xs (IsAscending-add_missing h a _ refl i)
 
-pub IsAscending-renamed : (renamings : List (List ℕ × List ℕ)) (h : Heading) → IsAscending (heading_union [] (renamed renamings h))
+pub IsAscending-renamed : (renamings : List (List ℕ × List ℕ)) (h : Heading) → IsAscending (heading_union [] (renamed_attributes renamings h))
 unfolding IsStrictlySortedBy
-IsAscending-renamed renamings h = IsAscending-union [] (renamed renamings h) tt
+IsAscending-renamed renamings h = IsAscending-union [] (renamed_attributes renamings h) tt
 
-pub type_at-renamed : (renamings : List (List ℕ × List ℕ)) (n : List ℕ) (h : Heading) → type_at n (heading_union [] (renamed renamings h)) ≡ type_at n (renamed renamings h)
-type_at-renamed renamings n h = type_at-union n [] (renamed renamings h)
+pub type_at-renamed : (renamings : List (List ℕ × List ℕ)) (n : List ℕ) (h : Heading) → type_at n (heading_union [] (renamed_attributes renamings h)) ≡ type_at n (renamed_attributes renamings h)
+type_at-renamed renamings n h = type_at-union n [] (renamed_attributes renamings h)
 
 -- ---- agreement
 
@@ -310,37 +310,37 @@ or_true true b e = refl
 or_true false b e = e
 
 -- the new name of an attribute is one of the new names
-new_name_there : (rs : List (List ℕ × List ℕ)) (n : List ℕ) (h : Heading) → has_attribute n h ≡ true → has_name (new_name rs n) (attribute_names (renamed rs h)) ≡ true
+new_name_there : (rs : List (List ℕ × List ℕ)) (n : List ℕ) (h : Heading) → has_attribute n h ≡ true → has_name (new_name rs n) (attribute_names (renamed_attributes rs h)) ≡ true
 new_name_there rs n [] e = cc
 new_name_there rs n (a ∷ h) e = by_name (new_name_there rs n h) (same_name a.0 n) refl
   where
-    by_name : (has_attribute n h ≡ true → has_name (new_name rs n) (attribute_names (renamed rs h)) ≡ true)
-        → (same : Bool) → same ≡ same_name a.0 n → has_name (new_name rs n) (attribute_names (renamed rs (a ∷ h))) ≡ true
-    by_name rest true is = subst (λ m. has_name (new_name rs m) (attribute_names (renamed rs (a ∷ h))) ≡ true) (same_text a.0 n is) (rw (same_name-itself (new_name rs a.0)) refl)
+    by_name : (has_attribute n h ≡ true → has_name (new_name rs n) (attribute_names (renamed_attributes rs h)) ≡ true)
+        → (same : Bool) → same ≡ same_name a.0 n → has_name (new_name rs n) (attribute_names (renamed_attributes rs (a ∷ h))) ≡ true
+    by_name rest true is = subst (λ m. has_name (new_name rs m) (attribute_names (renamed_attributes rs (a ∷ h))) ≡ true) (same_text a.0 n is) (rw (same_name-itself (new_name rs a.0)) refl)
     by_name rest false is = or_true _ _ (rest (rw (← is) at e))
 
-kept_types : (rs : List (List ℕ × List ℕ)) (h : Heading) → are_distinct (attribute_names (renamed rs h)) ≡ true
-    → (n : List ℕ) → has_attribute n h ≡ true → type_at (new_name rs n) (renamed rs h) ≡ type_at n h
+kept_types : (rs : List (List ℕ × List ℕ)) (h : Heading) → are_distinct (attribute_names (renamed_attributes rs h)) ≡ true
+    → (n : List ℕ) → has_attribute n h ≡ true → type_at (new_name rs n) (renamed_attributes rs h) ≡ type_at n h
 kept_types rs [] d n e = cc
 kept_types rs (a ∷ h) d n e = by_name (kept_types rs h (and_second _ _ d) n) (same_name a.0 n) refl (same_name (new_name rs a.0) (new_name rs n)) refl
   where
-    by_name : (has_attribute n h ≡ true → type_at (new_name rs n) (renamed rs h) ≡ type_at n h)
+    by_name : (has_attribute n h ≡ true → type_at (new_name rs n) (renamed_attributes rs h) ≡ type_at n h)
         → (same : Bool) → same ≡ same_name a.0 n → (tied : Bool) → tied ≡ same_name (new_name rs a.0) (new_name rs n)
-        → type_at (new_name rs n) (renamed rs (a ∷ h)) ≡ type_at n (a ∷ h)
+        → type_at (new_name rs n) (renamed_attributes rs (a ∷ h)) ≡ type_at n (a ∷ h)
     by_name rest true is true new = rw (← is, ← new) refl
     by_name rest true is false new =
         let tied : same_name (new_name rs a.0) (new_name rs n) ≡ true = subst (λ m. same_name (new_name rs a.0) (new_name rs m) ≡ true) (same_text a.0 n is) (same_name-itself (new_name rs a.0)) in
         cc
     by_name rest false is true new =
         let there : has_attribute n h ≡ true = rw (← is) at e in
-        let taken : has_name (new_name rs a.0) (attribute_names (renamed rs h)) ≡ true =
-        subst (λ m. has_name m (attribute_names (renamed rs h)) ≡ true) (sym (same_text (new_name rs a.0) (new_name rs n) new)) (new_name_there rs n h there) in
-        let free : not (has_name (new_name rs a.0) (attribute_names (renamed rs h))) ≡ true = and_first _ _ d in
+        let taken : has_name (new_name rs a.0) (attribute_names (renamed_attributes rs h)) ≡ true =
+        subst (λ m. has_name m (attribute_names (renamed_attributes rs h)) ≡ true) (sym (same_text (new_name rs a.0) (new_name rs n) new)) (new_name_there rs n h there) in
+        let free : not (has_name (new_name rs a.0) (attribute_names (renamed_attributes rs h))) ≡ true = and_first _ _ d in
         let clash = rw taken at free in
         cc
     by_name rest false is false new = rw (← is, ← new) (rest (rw (← is) at e))
 
-old_name_there : (rs : List (List ℕ × List ℕ)) (m : List ℕ) (h : Heading) → has_attribute m (renamed rs h) ≡ true → (n : List ℕ) × (has_attribute n h ≡ true) × (new_name rs n ≡ m)
+old_name_there : (rs : List (List ℕ × List ℕ)) (m : List ℕ) (h : Heading) → has_attribute m (renamed_attributes rs h) ≡ true → (n : List ℕ) × (has_attribute n h ≡ true) × (new_name rs n ≡ m)
 old_name_there rs m [] e = cc
 old_name_there rs m (a ∷ h) e = by_name (old_name_there rs m h) (same_name (new_name rs a.0) m) refl
   where
@@ -348,7 +348,7 @@ old_name_there rs m (a ∷ h) e = by_name (old_name_there rs m h) (same_name (ne
     later n there true is = rw (← is) refl
     later n there false is = rw (← is) there
 
-    by_name : (has_attribute m (renamed rs h) ≡ true → (n : List ℕ) × (has_attribute n h ≡ true) × (new_name rs n ≡ m))
+    by_name : (has_attribute m (renamed_attributes rs h) ≡ true → (n : List ℕ) × (has_attribute n h ≡ true) × (new_name rs n ≡ m))
         → (same : Bool) → same ≡ same_name (new_name rs a.0) m → (n : List ℕ) × (has_attribute n (a ∷ h) ≡ true) × (new_name rs n ≡ m)
     by_name rest true is = (a.0, rw (same_name-itself a.0) refl, same_text (new_name rs a.0) m is)
     by_name rest false is =
@@ -358,7 +358,7 @@ old_name_there rs m (a ∷ h) e = by_name (old_name_there rs m h) (same_name (ne
 pub renaming_keeps_types : RenamingKeepsTypes
 renaming_keeps_types rs h e =
     let old = has_attributes (map (λ r. r.0) rs) h && are_distinct (map (λ r. r.0) rs) in
-    (kept_types rs h (and_second old (are_distinct (attribute_names (renamed rs h))) e), λ m. old_name_there rs m h)
+    (kept_types rs h (and_second old (are_distinct (attribute_names (renamed_attributes rs h))) e), λ m. old_name_there rs m h)
 
 -- ---- which names a heading has
 

@@ -80,12 +80,12 @@ new_name [] name = name
 new_name (r ∷ rs) name = if same_name r.0 name then r.1 else new_name rs name
 
 -- each attribute under its new name, all at once
-abbrev pub renamed : List (List ℕ × List ℕ) → Heading → Heading
-renamed renamings = map (λ a. (new_name renamings a.0, a.1))
+abbrev pub renamed_attributes : List (List ℕ × List ℕ) → Heading → Heading
+renamed_attributes renamings = map (λ a. (new_name renamings a.0, a.1))
 
 -- the names that the attributes have then
 abbrev pub new_names : List (List ℕ × List ℕ) → Heading → List (List ℕ)
-new_names renamings heading = attribute_names (renamed renamings heading)
+new_names renamings heading = attribute_names (renamed_attributes renamings heading)
 
 -- whether each old name is there, none comes twice, and the new names of the attributes are distinct
 abbrev pub can_rename : List (List ℕ × List ℕ) → Heading → Bool
@@ -159,7 +159,7 @@ united_heading g h = value_if (agree g h) (heading_union g h) causes.Heading
 -- the heading with its attributes renamed, in the order of their new names
 abbrev pub renamed_heading : List (List ℕ × List ℕ) → Heading → Outcome Heading
 renamed_heading renamings heading =
-    value_if (can_rename renamings heading) (heading_union [] (renamed renamings heading)) causes.Heading
+    value_if (can_rename renamings heading) (heading_union [] (renamed_attributes renamings heading)) causes.Heading
 
 -- ---- the type that each name has in the heading that is answered
 
@@ -204,6 +204,6 @@ abbrev pub RenamingKeepsTypes : Type 0
 RenamingKeepsTypes =
     (renamings : List (List ℕ × List ℕ)) (h : Heading) → IsTrue (can_rename renamings h)
     → ((name : List ℕ) → IsTrue (has_attribute name h)
-    → type_at (new_name renamings name) (renamed renamings h) ≡ type_at name h)
-    × ((name : List ℕ) → IsTrue (has_attribute name (renamed renamings h))
+    → type_at (new_name renamings name) (renamed_attributes renamings h) ≡ type_at name h)
+    × ((name : List ℕ) → IsTrue (has_attribute name (renamed_attributes renamings h))
     → (old : List ℕ) × IsTrue (has_attribute old h) × (new_name renamings old ≡ name))

@@ -1,7 +1,7 @@
 //! Renaming: each renaming is a pair of an old and a new name, and all are done at once.
 ghost use Rattle.std.specs.Prelude.{◌≡◌, IfOk};
 ghost use Rattle.td_tree.specs.Outcomes.{Answers};
-ghost use Rattle.td_types.specs.Headings.{IsMap, can_rename, new_name, new_names, renamed};
+ghost use Rattle.td_types.specs.Headings.{IsMap, can_rename, new_name, new_names, renamed_attributes};
 ghost use Rattle.td_types.specs.Headings.{renamed_heading};
 ghost use Rattle.td_types.specs.Types.{type_at};
 
@@ -50,7 +50,7 @@ impl Heading {
     pub fn rename(&self, renamings: &[(Name, Name)]) -> Result<Heading, Fault>
         ensures answer { Answers (λ h. h) result (renamed_heading renamings.now self.now) }
         ensures types { IfOk result (λ h.
-            IsMap h (λ n. type_at n (renamed renamings.now self.now))) }
+            IsMap h (λ n. type_at n (renamed_attributes renamings.now self.now))) }
     {
         if !self.can_rename(renamings)? {
             return Err(Fault::Refused(Cause::Heading));

@@ -11,7 +11,7 @@ use Rattle.td_tree.specs.Lexemes as lexeme
 use Rattle.td_tree.specs.Numbers.{numeral_limit}
 use Rattle.td_tree.specs.Prints.{all_lexemes, commas, following, heading_lexemes, lexemes_of, part_lexemes}
 use Rattle.td_tree.specs.Trees as trees
-use Rattle.td_tree.specs.Lists.{braced, parenthesized}
+use Rattle.td_tree.specs.Lists.{with_braces, with_parentheses}
 use Rattle.td_tree.specs.code.Written.{comma_lexeme_if}
 use Rattle.td_tree.proofs.law_lemmas.Boundaries.{IsBounded}
 use Rattle.td_tree.proofs.law_lemmas.OwnSpellings.{AllNamedSpelled, AllSpelled, IsSpelled, at_level, heading_spelled, items_after, items_first, items_follow, list_spelled, tuple_spelled}
@@ -82,8 +82,8 @@ tuple_seen : (fs : Fields) (rest : List ℕ) (ls : List Lexeme) → IsSeen (fiel
 tuple_seen fs rest ls fields =
     let items : List (List Lexeme) = part_lexemes (field_trees fs) in
     let inner : List ℕ = fields_literal false fs ++ 125 ∷ rest in
-    let closed : IsSeen (123 ∷ inner) (braced (commas items) ++ ls) = between_braces inner (commas items) ls (first inner items (sign signs.CloseBrace ∷ ls) fields) in
-    lexeme_seen (keyword k.Tuple) (32 ∷ 123 ∷ inner) (braced (commas items) ++ ls) tt tt refl (space_seen (123 ∷ inner) (braced (commas items) ++ ls) closed)
+    let closed : IsSeen (123 ∷ inner) (with_braces (commas items) ++ ls) = between_braces inner (commas items) ls (first inner items (sign signs.CloseBrace ∷ ls) fields) in
+    lexeme_seen (keyword k.Tuple) (32 ∷ 123 ∷ inner) (with_braces (commas items) ++ ls) tt tt refl (space_seen (123 ∷ inner) (with_braces (commas items) ++ ls) closed)
 
 mutual
   pub value_seen : (v : Val) → IsValue v → (rest : List ℕ) (ls : List Lexeme) → IsBounded rest → IsSeen rest ls → IsSeen (literal v ++ rest) (lexemes_of (literal_tree v) ++ ls)
@@ -101,10 +101,10 @@ mutual
       let inner : List ℕ = parts_literal false ps ++ 41 ∷ rest in
       let parts : IsSeen inner (items_after false items ++ (sign signs.CloseParenthesis ∷ ls))
       = parts_seen false ps p.1 (41 ∷ rest) (sign signs.CloseParenthesis ∷ ls) refl (close_parenthesis_seen rest ls seen) in
-      let closed : IsSeen (40 ∷ inner) (parenthesized (commas items) ++ ls) = between_parentheses inner (commas items) ls (first inner items (sign signs.CloseParenthesis ∷ ls) parts) in
-      seen_same (literal (user n ps) ++ rest) (n ++ 40 ∷ inner) _ (lexeme.name n ∷ (parenthesized (commas items) ++ ls))
+      let closed : IsSeen (40 ∷ inner) (with_parentheses (commas items) ++ ls) = between_parentheses inner (commas items) ls (first inner items (sign signs.CloseParenthesis ∷ ls) parts) in
+      seen_same (literal (user n ps) ++ rest) (n ++ 40 ∷ inner) _ (lexeme.name n ∷ (with_parentheses (commas items) ++ ls))
       (regroup_5 [] n (codes "(") (parts_literal false ps) (codes ")") rest) refl
-      (lexeme_seen (lexeme.name n) (40 ∷ inner) (parenthesized (commas items) ++ ls) tt (p.0.utf8, p.0.named) refl closed)
+      (lexeme_seen (lexeme.name n) (40 ∷ inner) (with_parentheses (commas items) ++ ls) tt (p.0.utf8, p.0.named) refl closed)
   value_seen (tuple fs) p rest ls bounded seen =
       seen_same (literal (tuple fs) ++ rest) (codes "TUPLE {" ++ (fields_literal false fs ++ 125 ∷ rest)) _ _
       (regroup_3 (codes "TUPLE {") (fields_literal false fs) (codes "}") rest) refl (tuple_seen fs rest ls (fields_seen false fs p.0 (125 ∷ rest) (sign signs.CloseBrace ∷ ls) refl (close_brace_seen rest ls seen)))
@@ -113,11 +113,11 @@ mutual
       let inner : List ℕ = rows_literal false rs ++ 125 ∷ rest in
       let rows : IsSeen inner (items_after false items ++ (sign signs.CloseBrace ∷ ls))
       = rows_seen false h rs p.0 (125 ∷ rest) (sign signs.CloseBrace ∷ ls) refl (close_brace_seen rest ls seen) in
-      let closed : IsSeen (123 ∷ inner) (braced (commas items) ++ ls) = between_braces inner (commas items) ls (first inner items (sign signs.CloseBrace ∷ ls) rows) in
-      let typed = type_seen (types.relation h) p.2 (32 ∷ 123 ∷ inner) (braced (commas items) ++ ls) refl (space_seen (123 ∷ inner) (braced (commas items) ++ ls) closed) in
+      let closed : IsSeen (123 ∷ inner) (with_braces (commas items) ++ ls) = between_braces inner (commas items) ls (first inner items (sign signs.CloseBrace ∷ ls) rows) in
+      let typed = type_seen (types.relation h) p.2 (32 ∷ 123 ∷ inner) (with_braces (commas items) ++ ls) refl (space_seen (123 ∷ inner) (with_braces (commas items) ++ ls) closed) in
       seen_same (literal (relation h rs) ++ rest) (type_text (types.relation h) ++ (32 ∷ 123 ∷ inner)) _ _
       (regroup_5 [] (type_text (types.relation h)) (codes " {") (rows_literal false rs) (codes "}") rest)
-      (ap (λ xs. keyword k.Relation ∷ xs) (append_assoc (heading_lexemes (attribute_trees h)) (braced (commas items)) ls)) typed
+      (ap (λ xs. keyword k.Relation ∷ xs) (append_assoc (heading_lexemes (attribute_trees h)) (with_braces (commas items)) ls)) typed
 
   parts_seen : (later : Bool) (ps : Parts) → AreValues ps → (rest : List ℕ) (ls : List Lexeme) → IsBounded rest → IsSeen rest ls
       → IsSeen (parts_literal later ps ++ rest) (items_after later (all_lexemes (part_trees ps)) ++ ls)

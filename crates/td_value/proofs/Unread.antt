@@ -13,7 +13,7 @@ use Rattle.td_types.specs.Types.{Attrs, Type', no_attrs}
 use Rattle.td_types.specs.Texts.{attributes_text, comma_if, type_text}
 use Rattle.td_types.proofs.Plain.{IsMarked, IsPlain, cut_front, is_mark, name_plain, plain_cut, tail_of}
 use Rattle.td_types.proofs.TypeTexts.{no_name, regroup_3, regroup_5, type_cut}
-use Rattle.td_tree.specs.TextTokens.{doubled}
+use Rattle.td_tree.specs.TextTokens.{with_quotes_doubled}
 use Rattle.td_value.specs.Literal.{literal, fields_literal, parts_literal, rows_literal}
 use Rattle.td_value.specs.Values.{Val, boolean, integer, char, user, tuple, relation, Parts, no_parts, part, Fields, no_fields, field, Rows, no_rows, row, AreFields, AreRows, AreValues, IsInRange, IsValue, value_kind}
 
@@ -93,30 +93,30 @@ quote_first : (x y : List ℕ) → Ends x → x ≡ 39 ∷ y → ⊥
 quote_first [] y h e = cc
 quote_first (c ∷ x) y h e = h.1 (tail_of c 39 x y e).0
 
-texts_cut : (s t x y : List ℕ) → Ends x → Ends y → doubled s ++ 39 ∷ x ≡ doubled t ++ 39 ∷ y → (s ≡ t) × (x ≡ y)
+texts_cut : (s t x y : List ℕ) → Ends x → Ends y → with_quotes_doubled s ++ 39 ∷ x ≡ with_quotes_doubled t ++ 39 ∷ y → (s ≡ t) × (x ≡ y)
 texts_cut [] [] x y p q e = (refl, (tail_of 39 39 x y e).1)
 texts_cut [] (d ∷ t) x y p q e = by_test (d == 39) refl e
   where
-    by_test : (b : Bool) → (d == 39) ≡ b → 39 ∷ x ≡ (if b then 39 ∷ 39 ∷ doubled t else d ∷ doubled t) ++ 39 ∷ y → ([] ≡ d ∷ t) × (x ≡ y)
-    by_test true h e = absurd (quote_first x (doubled t ++ 39 ∷ y) p (tail_of 39 39 x (39 ∷ (doubled t ++ 39 ∷ y)) e).1)
-    by_test false h e = absurd (no_quote_is d h (sym (tail_of 39 d x (doubled t ++ 39 ∷ y) e).0))
+    by_test : (b : Bool) → (d == 39) ≡ b → 39 ∷ x ≡ (if b then 39 ∷ 39 ∷ with_quotes_doubled t else d ∷ with_quotes_doubled t) ++ 39 ∷ y → ([] ≡ d ∷ t) × (x ≡ y)
+    by_test true h e = absurd (quote_first x (with_quotes_doubled t ++ 39 ∷ y) p (tail_of 39 39 x (39 ∷ (with_quotes_doubled t ++ 39 ∷ y)) e).1)
+    by_test false h e = absurd (no_quote_is d h (sym (tail_of 39 d x (with_quotes_doubled t ++ 39 ∷ y) e).0))
 texts_cut (c ∷ s) [] x y p q e = by_test (c == 39) refl e
   where
-    by_test : (b : Bool) → (c == 39) ≡ b → (if b then 39 ∷ 39 ∷ doubled s else c ∷ doubled s) ++ 39 ∷ x ≡ 39 ∷ y → (c ∷ s ≡ []) × (x ≡ y)
-    by_test true h e = absurd (quote_first y (doubled s ++ 39 ∷ x) q (sym (tail_of 39 39 (39 ∷ (doubled s ++ 39 ∷ x)) y e).1))
-    by_test false h e = absurd (no_quote_is c h (tail_of c 39 (doubled s ++ 39 ∷ x) y e).0)
+    by_test : (b : Bool) → (c == 39) ≡ b → (if b then 39 ∷ 39 ∷ with_quotes_doubled s else c ∷ with_quotes_doubled s) ++ 39 ∷ x ≡ 39 ∷ y → (c ∷ s ≡ []) × (x ≡ y)
+    by_test true h e = absurd (quote_first y (with_quotes_doubled s ++ 39 ∷ x) q (sym (tail_of 39 39 (39 ∷ (with_quotes_doubled s ++ 39 ∷ x)) y e).1))
+    by_test false h e = absurd (no_quote_is c h (tail_of c 39 (with_quotes_doubled s ++ 39 ∷ x) y e).0)
 texts_cut (c ∷ s) (d ∷ t) x y p q e = by_tests (texts_cut s t x y p q) (c == 39) (d == 39) refl refl e
   where
-    by_tests : (doubled s ++ 39 ∷ x ≡ doubled t ++ 39 ∷ y → (s ≡ t) × (x ≡ y)) → (a b : Bool) → (c == 39) ≡ a → (d == 39) ≡ b
-        → (if a then 39 ∷ 39 ∷ doubled s else c ∷ doubled s) ++ 39 ∷ x ≡ (if b then 39 ∷ 39 ∷ doubled t else d ∷ doubled t) ++ 39 ∷ y → (c ∷ s ≡ d ∷ t) × (x ≡ y)
+    by_tests : (with_quotes_doubled s ++ 39 ∷ x ≡ with_quotes_doubled t ++ 39 ∷ y → (s ≡ t) × (x ≡ y)) → (a b : Bool) → (c == 39) ≡ a → (d == 39) ≡ b
+        → (if a then 39 ∷ 39 ∷ with_quotes_doubled s else c ∷ with_quotes_doubled s) ++ 39 ∷ x ≡ (if b then 39 ∷ 39 ∷ with_quotes_doubled t else d ∷ with_quotes_doubled t) ++ 39 ∷ y → (c ∷ s ≡ d ∷ t) × (x ≡ y)
     by_tests rest true true h k e =
-        let left : doubled s ++ 39 ∷ x ≡ doubled t ++ 39 ∷ y = cut_front (39 ∷ 39 ∷ []) _ _ e in
+        let left : with_quotes_doubled s ++ 39 ∷ x ≡ with_quotes_doubled t ++ 39 ∷ y = cut_front (39 ∷ 39 ∷ []) _ _ e in
         let more = rest left in
         (λ i. (quote_is c h ∙ sym (quote_is d k)) i ∷ more.0 i, more.1)
-    by_tests rest true false h k e = absurd (no_quote_is d k (sym (tail_of 39 d (39 ∷ (doubled s ++ 39 ∷ x)) (doubled t ++ 39 ∷ y) e).0))
-    by_tests rest false true h k e = absurd (no_quote_is c h (tail_of c 39 (doubled s ++ 39 ∷ x) (39 ∷ (doubled t ++ 39 ∷ y)) e).0)
+    by_tests rest true false h k e = absurd (no_quote_is d k (sym (tail_of 39 d (39 ∷ (with_quotes_doubled s ++ 39 ∷ x)) (with_quotes_doubled t ++ 39 ∷ y) e).0))
+    by_tests rest false true h k e = absurd (no_quote_is c h (tail_of c 39 (with_quotes_doubled s ++ 39 ∷ x) (39 ∷ (with_quotes_doubled t ++ 39 ∷ y)) e).0)
     by_tests rest false false h k e =
-        let both = tail_of c d (doubled s ++ 39 ∷ x) (doubled t ++ 39 ∷ y) e in
+        let both = tail_of c d (with_quotes_doubled s ++ 39 ∷ x) (with_quotes_doubled t ++ 39 ∷ y) e in
         let more = rest both.1 in
         (λ i. both.0 i ∷ more.0 i, more.1)
 
@@ -142,7 +142,7 @@ abbrev after : Val → List ℕ → List ℕ
 after (boolean b) x = x
 after (integer (pos m)) x = x
 after (integer (negsuc m)) x = 45 ∷ decimal (suc m) ++ x
-after (char s) x = 39 ∷ (doubled s ++ 39 ∷ x)
+after (char s) x = 39 ∷ (with_quotes_doubled s ++ 39 ∷ x)
 after (user n ps) x = 40 ∷ (parts_literal false ps ++ 41 ∷ x)
 after (tuple fs) x = codes " {" ++ (fields_literal false fs ++ 125 ∷ x)
 after (relation h rs) x = codes " {" ++ (attributes_text false h ++ 125 ∷ (codes " {" ++ (rows_literal false rs ++ 125 ∷ x)))
@@ -157,7 +157,7 @@ parted : (v : Val) (x : List ℕ) → literal v ++ x ≡ word v ++ after v x
 parted (boolean b) x = refl
 parted (integer (pos m)) x = refl
 parted (integer (negsuc m)) x = refl
-parted (char s) x = regroup_3 (codes "'") (doubled s) (codes "'") x
+parted (char s) x = regroup_3 (codes "'") (with_quotes_doubled s) (codes "'") x
 parted (user n ps) x = regroup_4 n (codes "(") (parts_literal false ps) (codes ")") x
 parted (tuple fs) x = regroup_3 (codes "TUPLE {") (fields_literal false fs) (codes "}") x
 parted (relation h rs) x = regroup_6 (codes "RELATION {") (attributes_text false h) (codes "}") (codes " {") (rows_literal false rs) (codes "}") x

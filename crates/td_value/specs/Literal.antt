@@ -1,7 +1,7 @@
 -- The literal of a value (Tutorial D's selectors in one spelling, which is this project's own).
 use Rattle.std.specs.Prelude.{ℕ, Bool, true, false, List, [], ◌++◌, codes, if◌then◌else◌}
 use Rattle.std.specs.Fmt.{signed_decimal}
-use Rattle.td_tree.specs.TextTokens.{quoted}
+use Rattle.td_tree.specs.TextTokens.{text_in_quotes}
 use Rattle.td_types.specs.Types as types
 use Rattle.td_types.specs.Texts.{comma_if, type_text}
 use Rattle.td_value.specs.Values.{Val, boolean, integer, char, user, tuple, relation, Parts, no_parts, part, Fields, no_fields, field, Rows, no_rows, row, Tuple, Relation, pack_fields, pack_rows}
@@ -13,7 +13,7 @@ abbrev mutual
   pub literal : Val → List ℕ
   literal (boolean b) = if b then codes "TRUE" else codes "FALSE"
   literal (integer z) = signed_decimal z
-  literal (char s) = quoted s
+  literal (char s) = text_in_quotes s
   literal (user n ps) = n ++ codes "(" ++ parts_literal false ps ++ codes ")"
   literal (tuple fs) = codes "TUPLE {" ++ fields_literal false fs ++ codes "}"
   literal (relation h rs) = type_text (types.relation h) ++ codes " {" ++ rows_literal false rs ++ codes "}"

@@ -82,7 +82,7 @@ fn share_names(rows: &mut [Tuple]) -> Result<(), AllocError>
 }
 
 /// The tuples again, in a list of their own.
-fn copied(rows: &Vec<Tuple>) -> Result<Vec<Tuple>, AllocError>
+fn copies_of(rows: &Vec<Tuple>) -> Result<Vec<Tuple>, AllocError>
     ensures { IfOk result (λ copy. copy.items ≡ rows.now.items) }
 {
     let mut copy = Vec::with_capacity(*rows.allocator(), rows.len())?;
@@ -108,7 +108,7 @@ fn unshare(rows: &mut Rc<Vec<Tuple>>) -> Result<(), AllocError>
     if let Some(_) = Rc::get_mut(rows) {
         return Ok(());
     }
-    let own = copied(rows)?;
+    let own = copies_of(rows)?;
     *rows = Rc::new(*own.allocator(), own)?;
     Ok(())
 }
@@ -242,7 +242,7 @@ impl Rel {
         let Rel { heading: _, rows } = self;
         match Rc::try_unwrap(rows) {
             Ok(rows) => Ok(rows),
-            Err(shared) => copied(&shared),
+            Err(shared) => copies_of(&shared),
         }
     }
 }

@@ -20,9 +20,9 @@ with_entry name None es = es
 with_entry name (Some v) es = (name, v) ∷ es
 
 -- the entries of the names with the values at their places
-abbrev pub taken : Sources → List Val → Tuple
-taken [] vs = []
-taken (s ∷ ss) vs = with_entry s.0 (slice_get vs s.1) (taken ss vs)
+abbrev pub entries_taken : Sources → List Val → Tuple
+entries_taken [] vs = []
+entries_taken (s ∷ ss) vs = with_entry s.0 (slice_get vs s.1) (entries_taken ss vs)
 
 -- each place has a value
 abbrev pub AreInRange : Sources → List Val → Type 0
@@ -47,7 +47,7 @@ numbered_sources start (n ∷ ns) = (n, start) ∷ numbered_sources (start + 1) 
 
 -- the tuple of what is taken from the values
 abbrev pub placed_tuple : Sources → List Val → Tuple
-placed_tuple sources vs = tuple_of (taken sources vs)
+placed_tuple sources vs = tuple_of (entries_taken sources vs)
 
 -- the tuple is the one of what is taken from some values
 abbrev pub IsMade : Sources → Tuple → Type 0

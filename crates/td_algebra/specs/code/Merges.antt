@@ -25,9 +25,9 @@ without_first t [] = []
 without_first t (u ∷ us) = if eq_by_cmp tuple_cmp t u then us else u ∷ us
 
 -- the tuples of two ascending lists, ascending: each tuple of the first stands after those of the second that are below it
-abbrev pub merged : List Tuple → List Tuple → List Tuple
-merged [] us = us
-merged (t ∷ ts) us = below t us ++ t ∷ merged ts (without_first t (not_below t us))
+abbrev pub merged_tuples : List Tuple → List Tuple → List Tuple
+merged_tuples [] us = us
+merged_tuples (t ∷ ts) us = below t us ++ t ∷ merged_tuples ts (without_first t (not_below t us))
 
 -- whether a tuple is in a list, or whether it is not
 abbrev pub is_wanted : Bool → List Tuple → Tuple → Bool

@@ -10,7 +10,7 @@ ghost use Rattle.td_body.specs.code.Histories.{changed_set};
 use super::look_ups::{found_by_key, holds_of};
 use super::members::Members;
 use crate::body::Body;
-use crate::changes::changed;
+use crate::changes::changed_relation;
 use std::alloc::{AllocError, Global};
 use std::marker::Model;
 use std::rc::Rc;
@@ -52,7 +52,7 @@ impl Model for HashBody {
 }
 
 /// The members after a change, in order and hashed anew.
-fn renewed(
+fn renewed_members(
     alloc: Global,
     keys: &[Vec<Name>],
     members: &Members,
@@ -66,8 +66,8 @@ fn renewed(
     ensures kept { IfOk result (λ m. m.kept ≡ []) }
     ensures placed { IfOk result (IsPlacedFor (map (λ key. key.items) keys.now)) }
 {
-    let relation = changed(alloc, &members.to_rel(alloc)?, out, add)?;
-    Members::hashed(alloc, relation, keys)
+    let relation = changed_relation(alloc, &members.to_rel(alloc)?, out, add)?;
+    Members::of_relation(alloc, relation, keys)
 }
 
 /// Puts the members aside, and the next ones in their place.
@@ -112,7 +112,7 @@ fn make_ready(
     if members.is_hashed() {
         return members.put_in_order(alloc);
     }
-    let next = Members::hashed(alloc, members.to_rel(alloc)?, keys)?;
+    let next = Members::of_relation(alloc, members.to_rel(alloc)?, keys)?;
     *members = next;
     Ok(())
 }
@@ -183,7 +183,7 @@ fn change_members(
     if members.can_step(tuples) {
         return members.change(out.rows(), add.rows());
     }
-    let next = renewed(alloc, keys, members, out, add)?;
+    let next = renewed_members(alloc, keys, members, out, add)?;
     put_aside(aside, members, next)
 }
 
@@ -196,7 +196,7 @@ impl Body for HashBody {
 
     fn empty(alloc: Global, heading: Heading, names: Vec<Vec<Name>>) -> Result<Self, AllocError> {
         let relation = Rel::of_ascending(heading, Vec::new(alloc))?;
-        let members = Members::hashed(alloc, relation, &names)?;
+        let members = Members::of_relation(alloc, relation, &names)?;
         let keys = Rc::new(alloc, names)?;
         Ok(HashBody {
             keys,

@@ -33,7 +33,7 @@ fn history_of(
     ensures places { IfOk result (λ h. h.index.places ≡ places_from 0 key.now names.now) }
 {
     let places = places_of(alloc, names, key)?;
-    KeyHistory::filled(alloc, places, tuples)
+    KeyHistory::of_tuples(alloc, places, tuples)
 }
 
 /// The tuples, which have the names, to be found by each of the keys.

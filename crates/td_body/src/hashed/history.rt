@@ -66,7 +66,7 @@ fn put_all(index: &mut KeyIndex, tuples: &[Tuple]) -> Result<(), AllocError>
 
 impl KeyHistory {
     /// The tuples, which ascend, to be found by the values at the places. Nothing is kept.
-    pub(crate) fn filled(
+    pub(crate) fn of_tuples(
         alloc: Global,
         places: Vec<usize>,
         tuples: &[Tuple],

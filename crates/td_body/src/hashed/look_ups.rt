@@ -30,7 +30,7 @@ pub(crate) fn found_by_key(
         found ≡ agreeing key.now part.now members.now.relation) }
 {
     members.reveal();
-    match members.found(alloc, number, part.values())? {
+    match members.members_with(alloc, number, part.values())? {
         Some(tuples) => Rel::new(members.heading().try_clone()?, tuples),
         None => agreeing(alloc, key, part, &members.to_rel(alloc)?),
     }

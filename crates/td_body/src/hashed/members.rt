@@ -15,7 +15,7 @@ ghost use Rattle.td_body.specs.code.Members.{ArePlaced, Covers, HasReady, HasRoo
 use super::filled::histories_of;
 use super::history::KeyHistory;
 use super::index::KeyIndex;
-use crate::changes::changed;
+use crate::changes::changed_relation;
 use std::alloc::{AllocError, Global};
 use std::marker::Model;
 use td_algebra::restriction::restrict;
@@ -80,7 +80,7 @@ impl Members {
     }
 
     /// The members that the relation has, in order and hashed by each of the keys.
-    pub(crate) fn hashed(
+    pub(crate) fn of_relation(
         alloc: Global,
         sorted: Rel,
         keys: &[Vec<Name>],
@@ -161,7 +161,7 @@ impl Members {
 
     /// The members whose values at the places of that number are those of the part; where they
     /// are not hashed so, none is told.
-    pub(crate) fn found(
+    pub(crate) fn members_with(
         &self,
         alloc: Global,
         number: usize,
@@ -365,7 +365,7 @@ fn mask_of(alloc: Global, index: &KeyIndex, tuples: &[Tuple]) -> Result<Vec<bool
 }
 
 /// Copies of the tuples.
-fn copied(alloc: Global, tuples: &[Tuple]) -> Result<Vec<Tuple>, AllocError>
+fn copies_of(alloc: Global, tuples: &[Tuple]) -> Result<Vec<Tuple>, AllocError>
     ensures { IfOk result (λ copies. copies.items ≡ tuples.now) }
 {
     let mut copies = Vec::with_capacity(alloc, tuples.len())?;
@@ -387,10 +387,10 @@ fn brought_up_to_date(
         → Covers sorted.now.body touched.now set → IsAscendingBody set
         → r ≡ relation_view sorted.now.heading set) }
 {
-    let touched = Rel::new(sorted.heading().try_clone()?, copied(alloc, touched)?)?;
+    let touched = Rel::new(sorted.heading().try_clone()?, copies_of(alloc, touched)?)?;
     let mask = mask_of(alloc, index, touched.rows())?;
     let there = restrict(alloc, &touched, &mask)?;
-    changed(alloc, sorted, &touched, &there)
+    changed_relation(alloc, sorted, &touched, &there)
 }
 
 impl Members {

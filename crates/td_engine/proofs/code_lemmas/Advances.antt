@@ -3,7 +3,7 @@ use Rattle.std.proofs.Common.{◌≡◌, ℕ, ◌+◌, ◌≤◌, ◌&&◌, Bool
 use Rattle.std.specs.Prelude.{option_map}
 use Rattle.std.proofs.KnownBytes.{Appends-nil}
 use Rattle.td_engine.proofs.code_lemmas.Turning.{left_more, turned_fewer, turned_refused}
-use Rattle.td_engine.specs.Machine.{begun, nothing}
+use Rattle.td_engine.specs.Machine.{progress_at_first, nothing}
 use Rattle.td_engine.specs.Scripts.{AreEnded, AreLeft}
 use Rattle.td_engine.specs.Standing.{IsLeft, Run, Standing}
 use Rattle.td_engine.specs.code.Turns.{Advanced, HasTurned, IsFed, Place, Reached, place_at}
@@ -13,7 +13,7 @@ use Rattle.td_tree.proofs.law_lemmas.EndLaws.{up_to_cases}
 use Rattle.td_tree.proofs.law_lemmas.DivisionLaws.{up_to-ends}
 use Rattle.td_tree.proofs.law_lemmas.StatementLaws.{left}
 use Rattle.td_tree.specs.Division.{up_to}
-use Rattle.td_tree.specs.Statements.{Held, IsEnded, PlacedToken, after, chosen, ends, first_statement, statements, tokens}
+use Rattle.td_tree.specs.Statements.{Held, IsEnded, PlacedToken, after, statement_or_rest, ends, first_statement, statements, tokens}
 
 -- ---- statements that a `;` ends
 
@@ -27,12 +27,12 @@ up_to_itself (t ∷ ts) first found = ⊎_elim
     ∙ ap (option_map (λ qs. t ∷ qs)) (up_to_itself ts l.inner l.found)))
     (up_to_cases ends t ts first found)
 
-chosen_ended : (all : List PlacedToken) (o : Option (List PlacedToken)) (x : List PlacedToken) → chosen false all o ≡ Some x → o ≡ Some x
+chosen_ended : (all : List PlacedToken) (o : Option (List PlacedToken)) (x : List PlacedToken) → statement_or_rest false all o ≡ Some x → o ≡ Some x
 chosen_ended all (Some first) x e = e
 chosen_ended [] None x e = absurd cc
 chosen_ended (t ∷ ts) None x e = absurd cc
 
-chosen_none : (finished : Bool) (all : List PlacedToken) (o : Option (List PlacedToken)) → chosen finished all o ≡ None → o ≡ None
+chosen_none : (finished : Bool) (all : List PlacedToken) (o : Option (List PlacedToken)) → statement_or_rest finished all o ≡ None → o ≡ None
 chosen_none finished all (Some first) e = absurd cc
 chosen_none finished all None e = refl
 
@@ -42,7 +42,7 @@ unfolding first_statement
 first_ended held x e more =
     up_to_itself (tokens held.offset held.bytes) x
     (chosen_ended (tokens held.offset held.bytes) (up_to ends (tokens held.offset held.bytes)) x
-    (ap (λ b. chosen b (tokens held.offset held.bytes) (up_to ends (tokens held.offset held.bytes))) (sym more) ∙ e))
+    (ap (λ b. statement_or_rest b (tokens held.offset held.bytes) (up_to ends (tokens held.offset held.bytes))) (sym more) ∙ e))
 
 left_unended : (ts : List PlacedToken) → up_to ends ts ≡ None → AreLeft (left ts)
 left_unended [] e = tt
@@ -122,7 +122,7 @@ reached_first stop before = record {
   done = [];
   cut = λ rest may. refl;
   left = record {
-    progress = begun before.state;
+    progress = progress_at_first before.state;
     runs = nothing;
     stands = record { state_is = refl; written = Appends-nil before.taken };
     statements_are = refl;

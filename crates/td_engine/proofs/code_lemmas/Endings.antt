@@ -9,7 +9,7 @@ use Rattle.td_engine.proofs.law_lemmas.Runs.{runs_append, runs_stopped}
 use Rattle.td_engine.proofs.code_lemmas.ToldLaws.{told_after}
 use Rattle.td_engine.proofs.code_lemmas.Turning.{goes_on, runs_more}
 use Rattle.td_engine.specs.Faults.{IfNotMemory, IfRead, IfReadLimit, IfWrite}
-use Rattle.td_engine.specs.Machine.{Progress, Runs, State, Step, and_then, begun, has_stopped, nothing}
+use Rattle.td_engine.specs.Machine.{Progress, Runs, State, Step, and_then, progress_at_first, has_stopped, nothing}
 use Rattle.td_engine.specs.Scripts.{AreEnded, Continued, IsFront, IsRead, AreLeft, OfBroken, OfFront, OfScript, OfTooMuch}
 use Rattle.td_engine.specs.Standing.{HasRun, HasRunCut, IsLeft, IsOngoing, Run, RunsTo, Standing, Stands, run_of}
 use Rattle.td_engine.specs.Told.{AppendsIfTold, ConsumesIfTold, GaveAtMost, KeepsIfTold}
@@ -55,7 +55,7 @@ module _ (stop : Bool) (before : Standing) (given : List ℕ) (place : Place) (r
       let all : List (List PlacedToken) = statements 0 (given ++ rest) in
       record {
         progress = r.left.progress;
-        runs = subst (λ (ss : List (List PlacedToken)). Runs stop (begun before.state) ss r.left.progress)
+        runs = subst (λ (ss : List (List PlacedToken)). Runs stop (progress_at_first before.state) ss r.left.progress)
             (sym (front_of all r.done (statements place.held.offset (place.held.bytes ++ rest)) count (r.cut rest may) (r.each ∙ sym is))) r.left.runs;
         each_run = sym r.left.statements_are ∙ sym is;
         stands = subst (λ (s : Standing). Stands before r.left.progress s) (sym same) r.left.stands;
@@ -77,8 +77,8 @@ module _ (stop : Bool) (before : Standing) (given : List ℕ) (place : Place) (r
       let others : List (List PlacedToken) = statements place.held.offset (place.held.bytes ++ rest) in
       record {
         progress = p;
-        runs = subst (λ (ss : List (List PlacedToken)). Runs stop (begun before.state) ss p) (sym (r.cut rest may))
-            (runs_append stop (begun before.state) r.done p others p r.left.runs
+        runs = subst (λ (ss : List (List PlacedToken)). Runs stop (progress_at_first before.state) ss p) (sym (r.cut rest may))
+            (runs_append stop (progress_at_first before.state) r.done p others p r.left.runs
             (elim over as (λ _. Runs stop p others p) [
               | inl none ↦ subst (λ (ss : List (List PlacedToken)). Runs stop p ss p) (sym none) nothing
               | inr stopped ↦ runs_stopped stop p others (ap (λ n. stop && nat_lt 0 n) (sym r.left.refused_are) ∙ stopped)

@@ -10,7 +10,7 @@ use Rattle.td_engine.proofs.law_lemmas.RebuiltChecks.{none_refuses}
 use Rattle.td_engine.proofs.law_lemmas.SameTests.{IsKnown, all_known, name_checked, same_test, same_truth}
 use Rattle.td_engine.proofs.law_lemmas.TestsAfterDrops.{IsAsked, all_asked, tree_checked}
 use Rattle.td_engine.proofs.law_lemmas.WrittenStatements.{definitions_written}
-use Rattle.td_engine.specs.Checks.{constraint_check, derived_check, first_refusal, unpassed, virtual_check}
+use Rattle.td_engine.specs.Checks.{constraint_check, derived_check, first_refusal, refusal_unless_passed, virtual_check}
 use Rattle.td_engine.specs.Legality.{HasKeysThatHold, IsLegal, IsTrueOf}
 use Rattle.td_engine.specs.Refusals.{Refusal, by_constraint, by_key}
 use Rattle.td_eval.proofs.law_lemmas.LaterEntries.{later_entries_change_nothing}
@@ -55,11 +55,11 @@ module _ (db next : Database) (legal : IsLegal db) (later : HasLater db next) wh
   -- no test of the earlier entries refuses
   virtuals_pass : first_refusal (virtual_check (world_of next)) db.virtuals ≡ None
   virtuals_pass =
-      none_refuses (virtual_check (world_of next)) (HasKeysThatHold (world_of next)) (λ v h. ap (unpassed (by_key v.name)) h) db.virtuals virtuals_still
+      none_refuses (virtual_check (world_of next)) (HasKeysThatHold (world_of next)) (λ v h. ap (refusal_unless_passed (by_key v.name)) h) db.virtuals virtuals_still
 
   constraints_pass : first_refusal (constraint_check (world_of next)) db.constraints ≡ None
   constraints_pass =
-      none_refuses (constraint_check (world_of next)) (IsTrueOf (world_of next)) (λ c h. ap (unpassed (by_constraint c.name)) h) db.constraints constraints_still
+      none_refuses (constraint_check (world_of next)) (IsTrueOf (world_of next)) (λ c h. ap (refusal_unless_passed (by_constraint c.name)) h) db.constraints constraints_still
 
   both_pass : option_or (first_refusal (virtual_check (world_of next)) db.virtuals) (first_refusal (constraint_check (world_of next)) db.constraints) ≡ None
   both_pass = ap (λ o. option_or o (first_refusal (constraint_check (world_of next)) db.constraints)) virtuals_pass ∙ constraints_pass

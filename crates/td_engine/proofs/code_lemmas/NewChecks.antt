@@ -15,7 +15,7 @@ use Rattle.td_engine.proofs.law_lemmas.Settled.{bases_hold, held_with_base, sett
 use Rattle.td_engine.specs.code.Carried.{Changes, IsAdmitted, Passes}
 use Rattle.td_engine.specs.Checks.{BasesHold, constraint_check, derived_check, keys_hold, virtual_check}
 use Rattle.td_engine.specs.Legality.{IsLegal}
-use Rattle.td_engine.specs.Machine.{Accepted, by_outcome, changed, ok_text, type_defined, virtual_defined}
+use Rattle.td_engine.specs.Machine.{Accepted, by_outcome, checked_effect, ok_text, type_defined, virtual_defined}
 use Rattle.td_engine.specs.declared.refusal.Failure.{Failure}
 use Rattle.td_eval.specs.DatabaseWorlds.{world_of}
 use Rattle.td_tree.specs.Outcomes.{Outcome, Valued}
@@ -43,21 +43,21 @@ module _ (db : Database) (legal : IsLegal db) where
 
   -- after a type nothing
   pub type_changed : (next : Database) (n : Text) (cs : AttributeTrees) (k : Option Tree) → type_defined db n cs k ≡ Valued next → BasesHold next
-      → by_outcome (type_defined db n cs k) changed ≡ Accepted next ok_text
+      → by_outcome (type_defined db n cs k) checked_effect ≡ Accepted next ok_text
   type_changed next n cs k e held =
       let at = value_of_with (components_meant db.types cs) _ next e in
       let d = declared_type n at.0 k in
       let same : with_declared d db ≡ next = valued_is (with_declared d db) next at.2 in
-      ap (λ o. by_outcome o changed) e ∙ settled next held (subst (λ (m : Database). derived_check m ≡ None) same (type_passes db legal d))
+      ap (λ o. by_outcome o checked_effect) e ∙ settled next held (subst (λ (m : Database). derived_check m ≡ None) same (type_passes db legal d))
 
   -- after a base relvar its keys
-  pub base_changed : (b : BaseRelvar) → not (knows_relvar b.name db) ≡ true → keys_hold b.keys b.relation.body ≡ true → changed (with_base b db) ≡ Accepted (with_base b db) ok_text
+  pub base_changed : (b : BaseRelvar) → not (knows_relvar b.name db) ≡ true → keys_hold b.keys b.relation.body ≡ true → checked_effect (with_base b db) ≡ Accepted (with_base b db) ok_text
   base_changed b new hold = settled (with_base b db) (held_with_base db b (bases_hold db legal) hold) (base_passes db legal b new)
 
   -- after a virtual relvar its own keys
   module _ (next : Database) (n : Text) (x : Tree) (keys : List (List Text)) (is : IsAdmitted db (define_virtual n x keys)) (r : Result ⊤ Failure) (held : BasesHold next)
       (tests : (earlier : Database) (v : VirtualRelvar) → next ≡ with_virtual v earlier → Passes r (virtual_check (world_of next) v)) where
-    by_type : (t : Type') → over_relation t (λ h. Valued (with_virtual (virtual_relvar n h x (map (ordered_names h) keys)) db)) ≡ Valued next → Changes next r (changed next)
+    by_type : (t : Type') → over_relation t (λ h. Valued (with_virtual (virtual_relvar n h x (map (ordered_names h) keys)) db)) ≡ Valued next → Changes next r (checked_effect next)
     by_type (relation g) f =
         let v = virtual_relvar n (unpack g) x (map (ordered_names (unpack g)) keys) in
         let same : with_virtual v db ≡ next = valued_is (with_virtual v db) next f in
@@ -71,16 +71,16 @@ module _ (db : Database) (legal : IsLegal db) where
     by_type (user m) f = absurd (cc)
     by_type (tuple g) f = absurd (cc)
 
-    pub virtual_changed : virtual_defined db n x keys ≡ Valued next → Changes next r (by_outcome (virtual_defined db n x keys) changed)
+    pub virtual_changed : virtual_defined db n x keys ≡ Valued next → Changes next r (by_outcome (virtual_defined db n x keys) checked_effect)
     virtual_changed e =
         let t = value_of_with (type_of (database_scope db) x) _ next e in
-        subst (λ o. Changes next r (by_outcome o changed)) (sym e) (by_type t.0 t.2)
+        subst (λ o. Changes next r (by_outcome o checked_effect)) (sym e) (by_type t.0 t.2)
 
   -- after a constraint itself
   pub constraint_changed : (next : Database) (c : NamedConstraint) → with_constraint c db ≡ next → (r : Result ⊤ Failure) → BasesHold next
       → ((earlier : Database) (k : NamedConstraint) → next ≡ with_constraint k earlier → Passes r (constraint_check (world_of next) k))
-      → Changes next r (changed (with_constraint c db))
+      → Changes next r (checked_effect (with_constraint c db))
   constraint_changed next c same r held tests =
       let decides : derived_check next ≡ constraint_check (world_of next) c =
       subst (λ (m : Database). derived_check m ≡ constraint_check (world_of m) c) same (constraint_decides db legal c) in
-      subst (λ (m : Database). Changes next r (changed m)) (sym same) (settled_or next r held (subst (Passes r) (sym decides) (tests db c (sym same))))
+      subst (λ (m : Database). Changes next r (checked_effect m)) (sym same) (settled_or next r held (subst (Passes r) (sym decides) (tests db c (sym same))))

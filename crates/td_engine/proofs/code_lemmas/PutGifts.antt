@@ -6,13 +6,13 @@ use Rattle.td_algebra.specs.Operators.{difference, restriction}
 use Rattle.td_body.proofs.Differences.{led_over}
 use Rattle.td_body.specs.Bodies.{after_change}
 use Rattle.td_catalog.specs.Database.{BaseRelvar, Database, base_among, base_named, base_relvar, with_bases, with_body, with_relation}
-use Rattle.td_catalog.specs.KeptDatabases.{CatalogView, advanced}
+use Rattle.td_catalog.specs.KeptDatabases.{CatalogView, advanced_view}
 use Rattle.td_catalog.specs.TypedDatabases.{AreTyped, IsTyped, IsTypedBase}
 use Rattle.td_engine.proofs.law_lemmas.Gifted.{found, some_is, still_found}
 use Rattle.td_engine.specs.Assignments.{Given}
 use Rattle.td_engine.specs.code.Carried.{Passes}
 use Rattle.td_engine.specs.Checks.{base_check}
-use Rattle.td_engine.specs.code.Gifts.{IsGift, gifted}
+use Rattle.td_engine.specs.code.Gifts.{IsGift, gifted_bases}
 use Rattle.td_engine.specs.declared.refusal.Failure.{Failure}
 use Rattle.td_eval.proofs.code_lemmas.KeepsOperators.{typed_restriction}
 use Rattle.td_eval.proofs.code_lemmas.KeepsRelations.{IsTypedRelation, typed_from_value, value_from_typed}
@@ -68,7 +68,7 @@ checked_there done db there n q is told = by_base (base_named n db) refl
         subst (λ o. IfSome o (λ r. Passes done (base_check r))) (ap (base_named n) is ∙ found_body n q db.bases r e) told
 
 -- the place is still as it was
-pub gifted_at : (given : Given) (bs : List BaseRelvar) (i : ℕ) → slice_get (gifted given i bs) i ≡ slice_get bs i
+pub gifted_at : (given : Given) (bs : List BaseRelvar) (i : ℕ) → slice_get (gifted_bases given i bs) i ≡ slice_get bs i
 gifted_at given [] zero = refl
 gifted_at given [] (suc i) = refl
 gifted_at given (b ∷ bs) zero = refl

@@ -3,7 +3,7 @@ use Rattle.std.proofs.Common.{◌≡◌, ◌∙◌, ◌≤◌, ◌<◌, ◌+◌,
 use Rattle.std.proofs.Math.Seq.{get_or-append_seam, take-append_seam}
 use Rattle.std.proofs.lemmas.List.{get_or_append_left, length-take-le, take-append-drop}
 use Rattle.td_catalog.specs.Database.{Database}
-use Rattle.td_catalog.specs.KeptDatabases.{CatalogView, advanced, stages}
+use Rattle.td_catalog.specs.KeptDatabases.{CatalogView, advanced_view, stages}
 use Rattle.td_engine.specs.code.Stages.{Descend, GoesOn, stage}
 
 -- ---- lists that end in one more
@@ -39,7 +39,7 @@ stage_count v = length-append v.kept (v.database ∷ [])
 pub stays : (v w : CatalogView) → w ≡ v → GoesOn v w
 stays v w e = ([], ap stages e ∙ sym (append-nil (stages v)))
 
-pub goes_on : (v w : CatalogView) (db : Database) → w ≡ advanced db v → GoesOn v w
+pub goes_on : (v w : CatalogView) (db : Database) → w ≡ advanced_view db v → GoesOn v w
 goes_on v w db e = (db ∷ [], ap stages e)
 
 pub on_and_on : (u v w : CatalogView) → GoesOn u v → GoesOn v w → GoesOn u w

@@ -7,7 +7,7 @@ use Rattle.std.specs.String.{string_bytes}
 use Rattle.td_engine.proofs.law_lemmas.Runs.{runs_append, runs_stopped}
 use Rattle.td_engine.proofs.code_lemmas.ToldLaws.{told_after}
 use Rattle.td_engine.specs.Faults.{IfMemory, IfRead, IfReadLimit, IfWrite}
-use Rattle.td_engine.specs.Machine.{Progress, State, Step, Steps, Runs, nothing, next, and_then, begun, has_stopped, refusals_of}
+use Rattle.td_engine.specs.Machine.{Progress, State, Step, Steps, Runs, nothing, next, and_then, progress_at_first, has_stopped, refusals_of}
 use Rattle.td_engine.specs.Standing.{HasRun, HasRunCut, IsLeft, Run, RunsTo, Standing, Stands, run_of, standing}
 use Rattle.td_engine.specs.code.Steps.{IsParsed, IsStep, step_view}
 use Rattle.td_engine.specs.Told.{AppendsIfTold}
@@ -92,7 +92,7 @@ goes_on stop p refused is h = ap (λ n. stop && nat_lt 0 n) (sym is) ∙ h
 pub runs_more : (run : Run) (done : List (List PlacedToken)) (p : Progress) (old : State) (x : List PlacedToken) (step : Step State)
     → RunsTo run done p → has_stopped run.stop p ≡ false → old ≡ p.state → Steps old x step → RunsTo run (done ++ (x ∷ [])) (and_then p step)
 runs_more run done p old x step runs goes is steps =
-    runs_append run.stop (begun run.old.state) done p (x ∷ []) (and_then p step) runs (next step goes (subst (λ (d : State). Steps d x step) is steps) nothing)
+    runs_append run.stop (progress_at_first run.old.state) done p (x ∷ []) (and_then p step) runs (next step goes (subst (λ (d : State). Steps d x step) is steps) nothing)
 
 pub left_more : (run : Run) (done : List (List PlacedToken)) (old new : Place) → (run.stop && nat_lt 0 old.report.refused) ≡ false
     → IsLeft (record run { script = done }) old.standing old.report → (t : HasTurned old new)

@@ -14,7 +14,7 @@ use Rattle.td_engine.proofs.law_lemmas.TestsAfterDrops.{IsAsked, all_asked, tree
 use Rattle.td_engine.proofs.law_lemmas.WrittenStatements.{definitions_written}
 use Rattle.td_engine.specs.Assignments.{Given, given_to, with_gift, with_gifts}
 use Rattle.td_engine.specs.Changes.{given_in}
-use Rattle.td_engine.specs.Checks.{constraint_check, unpassed, virtual_check}
+use Rattle.td_engine.specs.Checks.{constraint_check, refusal_unless_passed, virtual_check}
 use Rattle.td_engine.specs.declared.change.Change.{Change}
 use Rattle.td_engine.specs.LeftOut.{PassesElsewhere, PassesUnlessNamed, PassesUnlessReached}
 use Rattle.td_engine.specs.Legality.{HasKeysThatHold, IsLegal, IsTrueOf}
@@ -77,7 +77,7 @@ module _ (changed : List (List ℕ)) (db next : Database) (legal : IsLegal db) (
 
   virtual_passes : (v : VirtualRelvar) → IsKnown db v → HasKeysThatHold (world_of db) v → PassesUnlessReached reached (world_of next) v
   virtual_passes v known holds apart =
-      ap (unpassed (by_key v.name))
+      ap (refusal_unless_passed (by_key v.name))
       (same_test (world_of db) (world_of next) v
       (unreached_values_stay changed db next (name v.name) legal.typed is_typed (definitions_written db legal.spelled) differs (name_checked db v known)
       (ap (λ b. b || false) apart))
@@ -85,7 +85,7 @@ module _ (changed : List (List ℕ)) (db next : Database) (legal : IsLegal db) (
 
   constraint_passes : (c : NamedConstraint) → IsAsked db legal c → IsTrueOf (world_of db) c → PassesUnlessNamed reached (world_of next) c
   constraint_passes c asked holds apart =
-      ap (unpassed (by_constraint c.name))
+      ap (refusal_unless_passed (by_constraint c.name))
       (same_truth (world_of db) (world_of next) c
       (unreached_values_stay changed db next c.tree legal.typed is_typed (definitions_written db legal.spelled) differs (tree_checked db legal c asked) apart)
       holds)

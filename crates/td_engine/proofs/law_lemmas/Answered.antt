@@ -4,7 +4,7 @@ use Rattle.std.specs.Prelude.{IfOk, IsTrue, is_none}
 use Rattle.std.specs.String.{string_bytes}
 use Rattle.td_catalog.specs.Database.{Database}
 use Rattle.td_engine.specs.code.Carried.{AnswersText, Changes, IsAdmitted, IsDenied, IsOfDatabase, IsRefusedBy, IsSpelledStatement, Prints}
-use Rattle.td_engine.specs.Machine.{Accepted, Denied, Effect, State, Step, by_outcome, carried_out, effect, effect_in, keeping, ok_text, state_of, step_of, stepped}
+use Rattle.td_engine.specs.Machine.{Accepted, Denied, Effect, State, Step, by_outcome, carried_out, effect, effect_in, keeping, ok_text, state_of, step_of, step_of_outcome}
 use Rattle.td_engine.specs.Refusals.{by_cause}
 use Rattle.td_engine.specs.Legality.{IsLegal}
 use Rattle.td_engine.specs.code.Steps.{Does, IsParsed, IsStep}
@@ -62,7 +62,7 @@ pub changed_legal : (db new : Database) (s : Statement) → IsLegal db → IsAdm
 changed_legal db new s legal is accepted = carried_legal db new ok_text legal s is accepted
 
 -- what was done is a step of the tokens that were read so
-pub parsed_step : (old new : State) (tokens : List PlacedToken) (o : Outcome Statement) (answer : code.Answer) → Parsed tokens o → Does (stepped old o) answer new
+pub parsed_step : (old new : State) (tokens : List PlacedToken) (o : Outcome Statement) (answer : code.Answer) → Parsed tokens o → Does (step_of_outcome old o) answer new
     → IsStep old tokens answer new
 parsed_step old new tokens o answer parsed does = record { step = (o, parsed, does.is); accepted = does.accepted }
 

@@ -10,7 +10,7 @@ use Rattle.td_tree.specs.declared.token.Sign.TheVariants as signs
 use Rattle.td_tree.specs.Grammar.{comparison_word, operator_words}
 use Rattle.td_tree.specs.Lexemes.{Lexeme}
 use Rattle.td_tree.specs.Lexemes as lexeme
-use Rattle.td_tree.specs.Lists.{braced, parenthesized}
+use Rattle.td_tree.specs.Lists.{with_braces, with_parentheses}
 use Rattle.td_tree.specs.Prints.{addition_lexemes, all_lexemes, attribute_lexemes, attributes_lexemes, commas, following, lexemes_of, literal_lexemes, part_lexemes, postfix_lexemes, prefix_words, renaming_lexemes, summary_lexemes, type_lexemes}
 use Rattle.td_tree.specs.Trees as trees
 use Rattle.td_tree.specs.Trees.{AttributeTrees, Attributes, Literal, NamedTrees, Postfix, Renaming, Summaries, Text, Tree, Trees, TypeTree}
@@ -28,10 +28,10 @@ pub join : {xs ys : List Lexeme} → AllInner xs → AllInner ys → AllInner (x
 join none_left q = q
 join (also p ps) q = also p (join ps q)
 
-pub in_braces : {xs : List Lexeme} → AllInner xs → AllInner (braced xs)
+pub in_braces : {xs : List Lexeme} → AllInner xs → AllInner (with_braces xs)
 in_braces p = also tt (join p (also tt none_left))
 
-pub in_parentheses : {xs : List Lexeme} → AllInner xs → AllInner (parenthesized xs)
+pub in_parentheses : {xs : List Lexeme} → AllInner xs → AllInner (with_parentheses xs)
 in_parentheses p = also tt (join p (also tt none_left))
 
 -- ---- items with a comma between

@@ -13,7 +13,7 @@ use Rattle.td_tree.specs.Heights.{attributes_height, type_height}
 use Rattle.td_tree.specs.Keywords.{word_of}
 use Rattle.td_tree.specs.Lexemes.{Lexeme, keyword, sign}
 use Rattle.td_tree.specs.Lexemes as lexeme
-use Rattle.td_tree.specs.Lists.{Optional, absent, braced, parenthesized, present}
+use Rattle.td_tree.specs.Lists.{Optional, absent, with_braces, with_parentheses, present}
 use Rattle.td_tree.specs.Names.{IsName}
 use Rattle.td_tree.specs.Prints.{attribute_lexemes, commas, heading_lexemes, lexemes_of}
 use Rattle.td_tree.specs.StatementGrammar.{BodySpelling, ConstraintPart, base_definition, base_word, constraint_definition, constraint_part, init_part, type_definition, virtual_definition}
@@ -80,7 +80,7 @@ type_line_is d name some typed low tokens =
     let parts : AllInner (components ++ condition_lexemes d.constraint)
     = join (commas_inner (attributes_inner (attribute_trees (pack d.components)))) (condition_inner d.constraint) in
     record {
-      body = keyword k.«Type» ∷ (lexeme.name d.name ∷ (keyword k.Possrep ∷ braced (components ++ condition_lexemes d.constraint)));
+      body = keyword k.«Type» ∷ (lexeme.name d.name ∷ (keyword k.Possrep ∷ with_braces (components ++ condition_lexemes d.constraint)));
       inner = also tt (also tt (also tt (in_braces parts)));
       spelled = type_definition (components_spelled d.components some) low (condition_spelled d.constraint tokens);
       shows = shown_then (before_then inside (λ rest. refl) a_close_brace) a_line_end;
@@ -116,9 +116,9 @@ base_line_is r name heading names value low tokens =
     let shown = shown_then (shown_then valued (keys_show h r.keys names)) a_line_end in
     let same = regroup_base hs xs keys (sign signs.Semicolon ∷ []) (keyword k.Init) (sign signs.OpenParenthesis) (sign signs.CloseParenthesis) in
     let heading_inner : AllInner hs = in_braces (commas_inner (attributes_inner (attribute_trees (pack h)))) in
-    let init_inner : AllInner (keyword k.Init ∷ parenthesized xs) = also tt (in_parentheses (tree_inner (literal_tree v))) in
+    let init_inner : AllInner (keyword k.Init ∷ with_parentheses xs) = also tt (in_parentheses (tree_inner (literal_tree v))) in
     record {
-      body = before_heading r.name (hs ++ ((keyword k.Init ∷ parenthesized xs) ++ keys));
+      body = before_heading r.name (hs ++ ((keyword k.Init ∷ with_parentheses xs) ++ keys));
       inner = also tt (also tt (also tt (also tt (join heading_inner (join init_inner (keys_inner h r.keys))))));
       spelled = base_definition base_word (heading_spelled (attribute_trees (pack h))) low (present (init_part (own_expression (literal_tree v) tokens)))
           (keys_spelled h r.keys);
@@ -131,7 +131,7 @@ virtual_line_is v name names tokens =
     let opened = before_then (named k.Var v.name name) (λ rest. refl) (shown_then (spaced_word k.Virtual) an_open_parenthesis) in
     let valued = before_then (shown_then_before opened (a_print v.tree tokens)) (λ rest. refl) a_close_parenthesis in
     record {
-      body = keyword k.Var ∷ (lexeme.name v.name ∷ (keyword k.Virtual ∷ (parenthesized (lexemes_of v.tree) ++ keys_lexemes v.heading v.keys)));
+      body = keyword k.Var ∷ (lexeme.name v.name ∷ (keyword k.Virtual ∷ (with_parentheses (lexemes_of v.tree) ++ keys_lexemes v.heading v.keys)));
       inner = also tt (also tt (also tt (join (in_parentheses (tree_inner v.tree)) (keys_inner v.heading v.keys))));
       spelled = virtual_definition (own_expression v.tree tokens) (keys_spelled v.heading v.keys);
       shows = shown_then (shown_then valued (keys_show v.heading v.keys names)) a_line_end;

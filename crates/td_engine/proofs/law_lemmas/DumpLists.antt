@@ -7,7 +7,7 @@ use Rattle.td_tree.specs.Grammar as g
 use Rattle.td_tree.specs.Grammar.{AttributesSpelling, NameSpelling, NamesSpelling, name_item}
 use Rattle.td_tree.specs.Lexemes.{Lexeme, keyword}
 use Rattle.td_tree.specs.Lexemes as lexeme
-use Rattle.td_tree.specs.Lists.{Repeated, Separated, braced, next_item, no_items, no_more, one_item, one_more, some_items}
+use Rattle.td_tree.specs.Lists.{Repeated, Separated, with_braces, next_item, no_items, no_more, one_item, one_more, some_items}
 use Rattle.td_tree.specs.Names.{IsName}
 use Rattle.td_tree.specs.Prints.{attribute_lexemes, commas, following, name_lexemes, type_lexemes}
 use Rattle.td_tree.specs.StatementGrammar.{KeyPart, key_part}
@@ -85,14 +85,14 @@ names_separated : (n : Text) (ns : List Text) → Separated NameSpelling (name_l
 names_separated n [] = one_item name_item
 names_separated n (m ∷ ns) = next_item name_item (names_separated m ns)
 
-names_spelled : (ns : List Text) → NamesSpelling (braced (name_lexemes ns)) ns
+names_spelled : (ns : List Text) → NamesSpelling (with_braces (name_lexemes ns)) ns
 names_spelled [] = g.names no_items
 names_spelled (n ∷ ns) = g.names (some_items (names_separated n ns))
 
 -- ---- keys
 
 abbrev key_lexemes : List Text → List Lexeme
-key_lexemes ns = keyword k.Key ∷ braced (name_lexemes ns)
+key_lexemes ns = keyword k.Key ∷ with_braces (name_lexemes ns)
 
 key_shows : (ns : List Text) → AllByRecursion IsName ns → Shows (key_text ns) (key_lexemes ns)
 key_shows ns p =

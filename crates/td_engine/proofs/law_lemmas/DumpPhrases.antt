@@ -13,7 +13,7 @@ use Rattle.td_tree.specs.declared.token.Kind.TheVariants as kinds
 use Rattle.td_tree.specs.declared.token.Sign.TheVariants as signs
 use Rattle.td_tree.specs.Grammar.{loosest}
 use Rattle.td_tree.specs.Keywords.{word_of}
-use Rattle.td_tree.specs.Lexemes.{Lexeme, keyword, printed, sign, spaced}
+use Rattle.td_tree.specs.Lexemes.{Lexeme, keyword, printed_text, sign, spaced_text}
 use Rattle.td_tree.specs.Lexemes as lexeme
 use Rattle.td_tree.specs.Names.{IsName, is_name}
 use Rattle.td_tree.specs.Numbers.{decimal_value}
@@ -21,7 +21,7 @@ use Rattle.td_tree.specs.Pieces.{goes_on, opens}
 use Rattle.td_tree.specs.Prints.{lexemes_of, print, type_lexemes}
 use Rattle.td_tree.specs.Statements.{PlacedToken}
 use Rattle.td_tree.specs.StatementGrammar.{ExpressionItem}
-use Rattle.td_tree.specs.TextTokens.{content, quoted}
+use Rattle.td_tree.specs.TextTokens.{content, text_in_quotes}
 use Rattle.td_tree.specs.TokenLexemes.{is_quoted_text, is_the_word, lexeme_of, lexemes}
 use Rattle.td_tree.specs.Trees.{Tree}
 use Rattle.td_tree.specs.code.Written.{comma_lexeme_if}
@@ -122,7 +122,7 @@ a_comma_if later = record { seen = λ rest ls seen. comma_if_seen later rest ls 
 
 -- ---- words, names and types
 
-a_lexeme : (l : Lexeme) → IsPlain l → IsProper l → ShowsBefore (printed l) (l ∷ [])
+a_lexeme : (l : Lexeme) → IsPlain l → IsProper l → ShowsBefore (printed_text l) (l ∷ [])
 a_lexeme l p q = record { seen = λ rest ls bounded seen. lexeme_seen l rest ls p q bounded seen }
 
 a_word : (k : Keyword) → ShowsBefore (word_of k) (keyword k ∷ [])
@@ -156,7 +156,7 @@ proper kinds.Name t =
 proper kinds.Number t = where_it_holds (list_all is_ascii_digit t) (lexeme.number (decimal_value t)) (λ e. tt)
 proper kinds.Text t =
     where_it_holds (is_quoted_text t) (lexeme.text (content t))
-    (λ e. IsUtf8-from_is_utf8 (content t) (both (is_utf8 (content t)) (pointwise ◌==◌ (quoted (content t)) t) e).0)
+    (λ e. IsUtf8-from_is_utf8 (content t) (both (is_utf8 (content t)) (pointwise ◌==◌ (text_in_quotes (content t)) t) e).0)
 proper (kinds.Sign s) t = tt
 proper kinds.Bad t = tt
 
@@ -165,7 +165,7 @@ all_proper [] = tt
 all_proper (t ∷ ts) = (proper t.kind t.text, all_proper ts)
 
 -- lexemes with a space between two
-spaced_show : (xs : List Lexeme) → AllPlain xs → AllProper xs → ShowsBefore (spaced xs) xs
+spaced_show : (xs : List Lexeme) → AllPlain xs → AllProper xs → ShowsBefore (spaced_text xs) xs
 spaced_show [] p q = anywhere nothing
 spaced_show (x ∷ []) (also p ps) q = a_lexeme x p q.0
 spaced_show (x ∷ y ∷ xs) (also p ps) q =

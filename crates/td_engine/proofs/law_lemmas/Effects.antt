@@ -2,7 +2,7 @@
 use Rattle.std.proofs.Common.{◌≡◌, ℕ, List, Option, Some, None, refl}
 use Rattle.td_catalog.specs.Database.{Database}
 use Rattle.td_engine.specs.Checks.{database_check}
-use Rattle.td_engine.specs.Machine.{Effect, Accepted, by_outcome, changed, unchecked, unless_refused}
+use Rattle.td_engine.specs.Machine.{Effect, Accepted, by_outcome, checked_effect, unchecked_effect, unless_refused}
 use Rattle.td_engine.specs.Refusals.{Refusal}
 use Rattle.td_tree.specs.Outcomes.{Outcome, Valued, Refused}
 
@@ -17,11 +17,11 @@ followed (Valued x) f new text e = (x, refl, e)
 followed (Refused cs) f new text e = absurd (cc)
 
 -- a change that no check follows
-pub dropped_to : (db new : Database) (text : List ℕ) → unchecked db ≡ Accepted new text → db ≡ new
+pub dropped_to : (db new : Database) (text : List ℕ) → unchecked_effect db ≡ Accepted new text → db ≡ new
 dropped_to db new text e = accepted_is db new _ text e
 
 -- a change that was accepted is made, and no check refuses
-pub changed_to : (db new : Database) (text : List ℕ) → changed db ≡ Accepted new text → (db ≡ new) × (database_check db ≡ None)
+pub changed_to : (db new : Database) (text : List ℕ) → checked_effect db ≡ Accepted new text → (db ≡ new) × (database_check db ≡ None)
 changed_to db new text e = by_check (database_check db) e
   where
     by_check : (o : Option Refusal) → unless_refused o db ≡ Accepted new text → (db ≡ new) × (o ≡ None)

@@ -10,8 +10,8 @@ use Rattle.td_catalog.specs.TypedDatabases.{IsTyped}
 use Rattle.td_engine.specs.Legality.{KeysHold}
 use Rattle.td_engine.proofs.law_lemmas.PassedChecks.{all_pass}
 use Rattle.td_engine.specs.Assignments.{Given, given_to, with_gift}
-use Rattle.td_engine.specs.Checks.{base_check, first_refusal, keys_hold, unpassed}
-use Rattle.td_engine.specs.code.Gifts.{AreGifts, IsGift, gifted}
+use Rattle.td_engine.specs.Checks.{base_check, first_refusal, keys_hold, refusal_unless_passed}
+use Rattle.td_engine.specs.code.Gifts.{AreGifts, IsGift, gifted_bases}
 use Rattle.td_engine.specs.Refusals.{Refusal, by_key}
 use Rattle.td_eval.proofs.law_lemmas.DistinctNames.{distinct_first, first_apart}
 use Rattle.td_tree.specs.Outcomes.{Valued}
@@ -81,13 +81,13 @@ module _ (given : Given) where
       → same_name (with_gift given b).name r.name ≡ false
   other_gift b bs i r d e = ap (λ n. same_name n r.name) (same_named b) ∙ other_name b bs i r d e
 
-  found_next : (bs : List BaseRelvar) (i : ℕ) (r : BaseRelvar) → AreApart bs → slice_get bs i ≡ Some r → base_among r.name (gifted given i bs) ≡ Some r
+  found_next : (bs : List BaseRelvar) (i : ℕ) (r : BaseRelvar) → AreApart bs → slice_get bs i ≡ Some r → base_among r.name (gifted_bases given i bs) ≡ Some r
   found_next [] i r d e = absurd (cc)
   found_next (b ∷ bs) zero r d e = found_at (b ∷ bs) zero r d e
   found_next (b ∷ bs) (suc i) r d e = rw (other_gift b bs i r d e) (found_next bs i r (first_apart b.name (names_of bs) d).1 e)
 
   put_next : (bs : List BaseRelvar) (i : ℕ) (r : BaseRelvar) (q : Relation) → AreApart bs → slice_get bs i ≡ Some r → given_to r.name given ≡ Some q
-      → with_relation r.name q (gifted given i bs) ≡ gifted given (suc i) bs
+      → with_relation r.name q (gifted_bases given i bs) ≡ gifted_bases given (suc i) bs
   put_next [] i r q d e k = absurd (cc)
   put_next (b ∷ bs) zero r q d e k =
       let same = some_is b r e in
@@ -97,15 +97,15 @@ module _ (given : Given) where
       rw (other_gift b bs i r d e) (ap (λ cs. with_gift given b ∷ cs) (put_next bs i r q (first_apart b.name (names_of bs) d).1 e k))
 
   skip_next : (bs : List BaseRelvar) (i : ℕ) (r : BaseRelvar) → slice_get bs i ≡ Some r → given_to r.name given ≡ None
-      → gifted given i bs ≡ gifted given (suc i) bs
+      → gifted_bases given i bs ≡ gifted_bases given (suc i) bs
   skip_next [] i r e k = absurd (cc)
   skip_next (b ∷ bs) zero r e k =
       let same = some_is b r e in
       ap (λ c. c ∷ bs) (sym (given_none b (ap (λ (z : BaseRelvar). given_to z.name given) same ∙ k)))
   skip_next (b ∷ bs) (suc i) r e k = ap (λ cs. with_gift given b ∷ cs) (skip_next bs i r e k)
 
-  one_more : (bs : List BaseRelvar) (i : ℕ) → gifted given (suc i) bs ≡ gifted given (i + 1) bs
-  one_more bs i = ap (λ n. gifted given n bs) next
+  one_more : (bs : List BaseRelvar) (i : ℕ) → gifted_bases given (suc i) bs ≡ gifted_bases given (i + 1) bs
+  one_more bs i = ap (λ n. gifted_bases given n bs) next
     where
       next : suc i ≡ i + 1
       next = omega arith
@@ -122,7 +122,7 @@ keys_that_hold (key ∷ keys) r is h =
     both_true true false e = absurd (cc)
     both_true false b e = absurd (cc)
 
-passed : (refusal : Refusal) (b : Bool) → unpassed refusal (Valued b) ≡ None → b ≡ true
+passed : (refusal : Refusal) (b : Bool) → refusal_unless_passed refusal (Valued b) ≡ None → b ≡ true
 passed refusal true e = refl
 passed refusal false e = absurd (cc)
 
@@ -138,14 +138,14 @@ module _ (db : Database) (given : Given) (is_typed : IsTyped db) (i : ℕ) (r : 
   pub found : base_named r.name db ≡ Some r
   found = found_at db.bases i r apart at
 
-  pub still_found : base_named r.name (with_bases (gifted given i db.bases) db) ≡ Some r
+  pub still_found : base_named r.name (with_bases (gifted_bases given i db.bases) db) ≡ Some r
   still_found = found_next given db.bases i r apart at
 
-  pub skipped : given_to r.name given ≡ None → with_bases (gifted given i db.bases) db ≡ with_bases (gifted given (i + 1) db.bases) db
+  pub skipped : given_to r.name given ≡ None → with_bases (gifted_bases given i db.bases) db ≡ with_bases (gifted_bases given (i + 1) db.bases) db
   skipped k = ap (λ bs. with_bases bs db) (skip_next given db.bases i r at k ∙ one_more given db.bases i)
 
   pub put : (q : Relation) → given_to r.name given ≡ Some q
-      → with_bases (with_relation r.name q (gifted given i db.bases)) db ≡ with_bases (gifted given (i + 1) db.bases) db
+      → with_bases (with_relation r.name q (gifted_bases given i db.bases)) db ≡ with_bases (gifted_bases given (i + 1) db.bases) db
   put q k = ap (λ bs. with_bases bs db) (put_next given db.bases i r q apart at k ∙ one_more given db.bases i)
 
   pub skipped_passes : first_refusal base_check db.bases ≡ None → given_to r.name given ≡ None → base_check (with_gift given r) ≡ None

@@ -10,7 +10,7 @@ use Rattle.td_engine.proofs.law_lemmas.InOrder.{IsLeft, drop_next, passed_next, 
 use Rattle.td_engine.specs.Assignments.{Given, given_by, with_assignment, with_gift}
 use Rattle.td_engine.specs.code.Carried.{Changes, Passes, refusal_view}
 use Rattle.td_engine.specs.Checks.{base_check, derived_check, first_refusal}
-use Rattle.td_engine.specs.Machine.{changed, unless_refused}
+use Rattle.td_engine.specs.Machine.{checked_effect, unless_refused}
 use Rattle.td_engine.specs.declared.refusal.Failure.{Failure}
 use Rattle.td_engine.specs.declared.refusal.Failure.TheVariants as failures
 use Rattle.td_tree.specs.declared.fault.Fault.{Fault}
@@ -66,6 +66,6 @@ module _ (given : Given) where
       passed_next base_check (gifts bs) i (with_gift given one.0) left (gift_at bs i one.0 one.1) passes
 
 -- a change that the check of a base relvar refuses
-pub bases_refused : (new db : Database) (f : Failure) → Passes (Err f) (first_refusal base_check db.bases) → Changes new (Err f) (changed db)
+pub bases_refused : (new db : Database) (f : Failure) → Passes (Err f) (first_refusal base_check db.bases) → Changes new (Err f) (checked_effect db)
 bases_refused new db (failures.Refused refusal) h = ap (λ o. unless_refused (option_or o (derived_check db)) db) h
 bases_refused new db failures.Memory h = tt

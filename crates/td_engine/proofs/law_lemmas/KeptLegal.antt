@@ -5,7 +5,7 @@ use Rattle.td_catalog.proofs.EntriesLess.{drops_keep}
 use Rattle.td_catalog.proofs.Lists.{not_true}
 use Rattle.td_catalog.specs.Database.{BaseRelvar, Database, base_relvar, database_scope, knows_relvar, named_constraint, virtual_relvar, with_base, with_constraint, with_declared, with_virtual, without_constraint, without_relvar, without_type}
 use Rattle.td_catalog.specs.Dumps.{dump_text, ordered_names}
-use Rattle.td_catalog.specs.Mentioned.{constraint_droppable, is_relvar_in_use, is_type_in_use, relvar_droppable, type_droppable, unused}
+use Rattle.td_catalog.specs.Mentioned.{constraint_droppable, is_relvar_in_use, is_type_in_use, relvar_droppable, type_droppable, drop_outcome}
 use Rattle.td_check.specs.OperatorTypes.{over_relation}
 use Rattle.td_check.specs.StatementTypes.{components_meant, holds_or, statement_checked}
 use Rattle.td_check.specs.StaticTypes.{type_of}
@@ -23,7 +23,7 @@ use Rattle.td_engine.specs.code.Carried.{IsAdmitted}
 use Rattle.td_engine.specs.Checks.{base_check, database_check, derived_check, first_refusal, keys_hold}
 use Rattle.td_engine.specs.Legality.{IsLegal}
 use Rattle.td_engine.specs.LegalityLaws.{AcceptedStatementsKeepLegality}
-use Rattle.td_engine.specs.Machine.{Accepted, base_defined, by_outcome, carried_out, changed, constraint_dropped, init_relation, ok_text, relvar_dropped, type_defined, type_dropped, unchecked, virtual_defined}
+use Rattle.td_engine.specs.Machine.{Accepted, base_defined, by_outcome, carried_out, checked_effect, constraint_dropped, init_relation, ok_text, relvar_dropped, type_defined, type_dropped, unchecked_effect, virtual_defined}
 use Rattle.td_engine.specs.Refusals.{by_key, line}
 use Rattle.td_eval.specs.DatabaseWorlds.{world_of}
 use Rattle.td_eval.specs.TreeValues.{value_of}
@@ -54,7 +54,7 @@ new_keys_hold db b e =
     valued_is (keys_hold b.keys b.relation.body) true (passed_test (by_key b.name) (Valued (keys_hold b.keys b.relation.body)) last)
 
 -- what may be dropped is not in use
-not_used : (there used : Bool) → unused there used ≡ Valued tt → used ≡ false
+not_used : (there used : Bool) → drop_outcome there used ≡ Valued tt → used ≡ false
 not_used there used e =
     let rest = value_of_with (holds_or causes.NameUnknown there) (λ _. holds_or causes.InUse (not used)) tt e in
     not_true used (value_of_test (not used) tt tt causes.InUse rest.2).0
@@ -63,11 +63,11 @@ not_used there used e =
 
 module _ (db new : Database) (text : List ℕ) (legal : IsLegal db) where
   -- a change that was checked
-  settled_legal : (made : Database) → changed made ≡ Accepted new text → (database_check made ≡ None → IsLegal made) → IsLegal new
+  settled_legal : (made : Database) → checked_effect made ≡ Accepted new text → (database_check made ≡ None → IsLegal made) → IsLegal new
   settled_legal made e f = let is = changed_to made new text e in subst IsLegal is.0 (f is.1)
 
   -- a change that no check follows
-  dropped_legal : (made : Database) → unchecked made ≡ Accepted new text → IsLegal made → IsLegal new
+  dropped_legal : (made : Database) → unchecked_effect made ≡ Accepted new text → IsLegal made → IsLegal new
   dropped_legal made e is = subst IsLegal (dropped_to made new text e) is
 
   -- what is printed changes nothing
@@ -75,40 +75,40 @@ module _ (db new : Database) (text : List ℕ) (legal : IsLegal db) where
   printed_legal printed e = subst IsLegal (accepted_is db new printed text e) legal
 
   -- a type
-  type_legal : (n : Text) (cs : AttributeTrees) (k : Option Tree) → IsAdmitted db (define_type n cs k) → by_outcome (type_defined db n cs k) changed ≡ Accepted new text → IsLegal new
+  type_legal : (n : Text) (cs : AttributeTrees) (k : Option Tree) → IsAdmitted db (define_type n cs k) → by_outcome (type_defined db n cs k) checked_effect ≡ Accepted new text → IsLegal new
   type_legal n cs k is e =
-      let made = followed (type_defined db n cs k) changed new text e in
+      let made = followed (type_defined db n cs k) checked_effect new text e in
       let xs = value_of_with (components_meant db.types cs) _ made.0 made.1 in
       let inner = value_of_with (attributes_meant db.types cs) _ xs.0 xs.1 in
       let test = value_of_test (are_distinct (attribute_names inner.0)) inner.0 xs.0 causes.Heading inner.2 in
       let d = declared_type n xs.0 k in
       let same : with_declared d db ≡ made.0 = valued_is (with_declared d db) made.0 xs.2 in
       let after = type_after db legal n cs k xs.0 is (inner.1 ∙ ap Valued test.1) in
-      settled_legal (with_declared d db) (ap changed same ∙ made.2)
+      settled_legal (with_declared d db) (ap checked_effect same ∙ made.2)
       (λ none. legal_with_type db legal d (type_spelled n cs k is.spelled) after.0 after.1 (passed (with_declared d db) none))
 
   -- a base relvar
   base_legal : (n : Text) (h : AttributeTrees) (init : Option Tree) (keys : List (List Text)) → IsAdmitted db (define_base n h init keys)
-      → by_outcome (base_defined db n h init keys) changed ≡ Accepted new text → IsLegal new
+      → by_outcome (base_defined db n h init keys) checked_effect ≡ Accepted new text → IsLegal new
   base_legal n h init keys is e =
-      let made = followed (base_defined db n h init keys) changed new text e in
+      let made = followed (base_defined db n h init keys) checked_effect new text e in
       let r = value_of_with (with_value (heading_meant db.types h) (init_relation db init)) _ made.0 made.1 in
       let g = value_of_with (heading_meant db.types h) (init_relation db init) r.0 r.1 in
       let b = base_relvar n (map (ordered_names r.0.heading) keys) r.0 in
       let same : with_base b db ≡ made.0 = valued_is (with_base b db) made.0 r.2 in
       let met = init_meets db init g.0 r.0 (world_gives db legal) g.2 in
-      settled_legal (with_base b db) (ap changed same ∙ made.2)
+      settled_legal (with_base b db) (ap checked_effect same ∙ made.2)
       (λ none. (let after = base_after db legal n h init keys r.0 is r.1 (new_keys_hold db b none) in
       legal_with_base db legal b met (keys_stay r.0.heading keys) after.0 after.1 (passed (with_base b db) none)))
 
   -- a virtual relvar, whose expression is a relation
   relvar_legal : (n : Text) (x : Tree) (keys : List (List Text)) → IsAdmitted db (define_virtual n x keys) → (t : Type') → type_of (database_scope db) x ≡ Valued t → (made : Database)
-      → over_relation t (λ h. Valued (with_virtual (virtual_relvar n h x (map (ordered_names h) keys)) db)) ≡ Valued made → changed made ≡ Accepted new text → IsLegal new
+      → over_relation t (λ h. Valued (with_virtual (virtual_relvar n h x (map (ordered_names h) keys)) db)) ≡ Valued made → checked_effect made ≡ Accepted new text → IsLegal new
   relvar_legal n x keys is (relation g) typed made e f =
       let v = virtual_relvar n (unpack g) x (map (ordered_names (unpack g)) keys) in
       let same : with_virtual v db ≡ made = valued_is (with_virtual v db) made e in
       let after = virtual_after db legal n x keys g is typed in
-      settled_legal (with_virtual v db) (ap changed same ∙ f)
+      settled_legal (with_virtual v db) (ap checked_effect same ∙ f)
       (λ none. legal_with_virtual db legal v (virtual_spelled n x keys is.spelled) (keys_stay (unpack g) keys) after.0 after.1 (passed (with_virtual v db) none))
   relvar_legal n x keys is boolean typed made e f = absurd (cc)
   relvar_legal n x keys is integer typed made e f = absurd (cc)
@@ -116,56 +116,56 @@ module _ (db new : Database) (text : List ℕ) (legal : IsLegal db) where
   relvar_legal n x keys is (user m) typed made e f = absurd (cc)
   relvar_legal n x keys is (tuple g) typed made e f = absurd (cc)
 
-  virtual_legal : (n : Text) (x : Tree) (keys : List (List Text)) → IsAdmitted db (define_virtual n x keys) → by_outcome (virtual_defined db n x keys) changed ≡ Accepted new text
+  virtual_legal : (n : Text) (x : Tree) (keys : List (List Text)) → IsAdmitted db (define_virtual n x keys) → by_outcome (virtual_defined db n x keys) checked_effect ≡ Accepted new text
       → IsLegal new
   virtual_legal n x keys is e =
-      let made = followed (virtual_defined db n x keys) changed new text e in
+      let made = followed (virtual_defined db n x keys) checked_effect new text e in
       let t = value_of_with (type_of (database_scope db) x) _ made.0 made.1 in
       relvar_legal n x keys is t.0 t.1 made.0 t.2 made.2
 
-  constraint_legal : (n : Text) (x : Tree) → IsAdmitted db (define_constraint n x) → changed (with_constraint (named_constraint n x) db) ≡ Accepted new text → IsLegal new
+  constraint_legal : (n : Text) (x : Tree) → IsAdmitted db (define_constraint n x) → checked_effect (with_constraint (named_constraint n x) db) ≡ Accepted new text → IsLegal new
   constraint_legal n x is e =
       let made = with_constraint (named_constraint n x) db in
       settled_legal made e
       (λ none. legal_with_constraint db legal (named_constraint n x) (constraint_spelled n x is.spelled) (constraint_after db legal n x is) (passed made none))
 
   -- assignments
-  assigned_legal : (assignments : List Assignment) → IsAdmitted db (assign_all assignments) → by_outcome (assigned_database db assignments) changed ≡ Accepted new text → IsLegal new
+  assigned_legal : (assignments : List Assignment) → IsAdmitted db (assign_all assignments) → by_outcome (assigned_database db assignments) checked_effect ≡ Accepted new text → IsLegal new
   assigned_legal assignments is e =
-      let made = followed (assigned_database db assignments) changed new text e in
+      let made = followed (assigned_database db assignments) checked_effect new text e in
       let given = value_of_with (given_by db [] assignments) _ made.0 made.1 in
       let same : with_gifts given.0 db ≡ made.0 = valued_is (with_gifts given.0 db) made.0 given.2 in
       let gifts =
       given_typed db legal.typed (definitions_written db legal.spelled) assignments given.0 (statement_written (assign_all assignments) is.spelled) is.checked given.1 in
-      settled_legal (with_gifts given.0 db) (ap changed same ∙ made.2)
+      settled_legal (with_gifts given.0 db) (ap checked_effect same ∙ made.2)
       (λ none. legal_with_gifts db legal given.0 assignments given.1 gifts (gifts_typed db given.0 legal gifts)
       (gifts_ruled db given.0 legal gifts (bases_passed (with_gifts given.0 db) none)) (passed (with_gifts given.0 db) none))
 
   -- a type that is dropped
-  type_drop_legal : (n : Text) → by_outcome (type_dropped db n) unchecked ≡ Accepted new text → IsLegal new
+  type_drop_legal : (n : Text) → by_outcome (type_dropped db n) unchecked_effect ≡ Accepted new text → IsLegal new
   type_drop_legal n e =
-      let made = followed (type_dropped db n) unchecked new text e in
+      let made = followed (type_dropped db n) unchecked_effect new text e in
       let asked = value_of_with (type_droppable n db) (λ _. Valued (without_type n db)) made.0 made.1 in
       let same : without_type n db ≡ made.0 = valued_is (without_type n db) made.0 asked.2 in
       let free : is_type_in_use n db ≡ false = not_used (is_declared n db.types) (is_type_in_use n db) asked.1 in
-      dropped_legal (without_type n db) (ap unchecked same ∙ made.2) (legal_without_type db legal n free (drops_keep.type db n legal.typed (ap not free)))
+      dropped_legal (without_type n db) (ap unchecked_effect same ∙ made.2) (legal_without_type db legal n free (drops_keep.type db n legal.typed (ap not free)))
 
   -- a relvar that is dropped
-  relvar_drop_legal : (n : Text) → by_outcome (relvar_dropped db n) unchecked ≡ Accepted new text → IsLegal new
+  relvar_drop_legal : (n : Text) → by_outcome (relvar_dropped db n) unchecked_effect ≡ Accepted new text → IsLegal new
   relvar_drop_legal n e =
-      let made = followed (relvar_dropped db n) unchecked new text e in
+      let made = followed (relvar_dropped db n) unchecked_effect new text e in
       let asked = value_of_with (relvar_droppable n db) (λ _. Valued (without_relvar n db)) made.0 made.1 in
       let same : without_relvar n db ≡ made.0 = valued_is (without_relvar n db) made.0 asked.2 in
       let free : is_relvar_in_use n db ≡ false = not_used (knows_relvar n db) (is_relvar_in_use n db) asked.1 in
-      dropped_legal (without_relvar n db) (ap unchecked same ∙ made.2) (legal_without_relvar db legal n free (drops_keep.relvar db n legal.typed (ap not free)))
+      dropped_legal (without_relvar n db) (ap unchecked_effect same ∙ made.2) (legal_without_relvar db legal n free (drops_keep.relvar db n legal.typed (ap not free)))
 
   -- a constraint that is dropped
-  constraint_drop_legal : (n : Text) → by_outcome (constraint_dropped db n) unchecked ≡ Accepted new text → IsLegal new
+  constraint_drop_legal : (n : Text) → by_outcome (constraint_dropped db n) unchecked_effect ≡ Accepted new text → IsLegal new
   constraint_drop_legal n e =
-      let made = followed (constraint_dropped db n) unchecked new text e in
+      let made = followed (constraint_dropped db n) unchecked_effect new text e in
       let asked = value_of_with (constraint_droppable n db) (λ _. Valued (without_constraint n db)) made.0 made.1 in
       let same : without_constraint n db ≡ made.0 = valued_is (without_constraint n db) made.0 asked.2 in
-      dropped_legal (without_constraint n db) (ap unchecked same ∙ made.2) (legal_without_constraint db legal n (drops_keep.constraint db n legal.typed))
+      dropped_legal (without_constraint n db) (ap unchecked_effect same ∙ made.2) (legal_without_constraint db legal n (drops_keep.constraint db n legal.typed))
 
   -- each statement
   pub carried_legal : (s : Statement) → IsAdmitted db s → carried_out db s ≡ Accepted new text → IsLegal new

@@ -7,7 +7,7 @@ use Rattle.td_engine.proofs.law_lemmas.Answered.{of_database}
 use Rattle.td_engine.proofs.law_lemmas.KeptLegal.{accepted_keep_legal}
 use Rattle.td_engine.proofs.law_lemmas.Transactions.{begin_legal, commit_legal, rollback_legal}
 use Rattle.td_engine.specs.code.Carried.{IsOfDatabase, IsSpelledStatement}
-use Rattle.td_engine.specs.Machine.{Accepted, Denied, Effect, Progress, Runs, State, Step, Steps, and_then, begun_transaction, committed, denied_transaction, effect, effect_in, keeping, next, nothing, ok_text, rolled_back, state_of, step_of, stepped, stopped, transaction_limit}
+use Rattle.td_engine.specs.Machine.{Accepted, Denied, Effect, Progress, Runs, State, Step, Steps, and_then, begun_transaction, committed_transaction, denied_transaction, effect, effect_in, keeping, next, nothing, ok_text, rolled_back, state_of, step_of, step_of_outcome, stopped, transaction_limit}
 use Rattle.td_engine.specs.Legality.{IsLegalState}
 use Rattle.td_engine.specs.LegalityLaws.{RunsKeepLegality}
 use Rattle.td_parse.specs.code.Parsing.{Parsed, bad_token, nothing_spelled, statement_spelled}
@@ -31,7 +31,7 @@ module _ (old : State) (legal : IsLegalState old) where
           room e = grind (arith, nat_tests)
       by_room false is = legal
 
-  commit_left : (kept : List Database) → old.kept ≡ kept → IsLegalState (left_by old (committed old.database kept))
+  commit_left : (kept : List Database) → old.kept ≡ kept → IsLegalState (left_by old (committed_transaction old.database kept))
   commit_left [] is = legal
   commit_left (last ∷ others) is = commit_legal old last others legal is
 
@@ -65,7 +65,7 @@ module _ (old : State) (legal : IsLegalState old) where
   statement_left (write x) spelled = database_left (write x) spelled tt
   statement_left dump spelled = database_left dump spelled tt
 
-  meant_left : (tokens : List PlacedToken) (meant : Outcome Statement) → Parsed tokens meant → IsLegalState (stepped old meant).after
+  meant_left : (tokens : List PlacedToken) (meant : Outcome Statement) → Parsed tokens meant → IsLegalState (step_of_outcome old meant).after
   meant_left tokens _ (bad_token bad) = legal
   meant_left tokens _ (nothing_spelled good none) = legal
   meant_left tokens _ (statement_spelled {s = s} good only) = statement_left s (tokens, only.0)

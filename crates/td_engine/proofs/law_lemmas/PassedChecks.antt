@@ -3,7 +3,7 @@ use Rattle.std.proofs.Common.{◌≡◌, ◌∷◌, Bool, true, false, List, [],
 use Rattle.std.specs.List.{AllByRecursion}
 use Rattle.std.specs.Option.{option_or}
 use Rattle.td_catalog.specs.Database.{Database}
-use Rattle.td_engine.specs.Checks.{base_check, constraint_check, database_check, derived_check, first_refusal, unpassed, virtual_check, virtual_test}
+use Rattle.td_engine.specs.Checks.{base_check, constraint_check, database_check, derived_check, first_refusal, refusal_unless_passed, virtual_check, virtual_test}
 use Rattle.td_engine.specs.Refusals.{Refusal, by_constraint, by_key}
 use Rattle.td_engine.specs.Legality.{HasKeysThatHold, IsTrueOf}
 use Rattle.td_eval.specs.DatabaseWorlds.{world_of}
@@ -12,7 +12,7 @@ use Rattle.td_eval.specs.TreeValues.{value_of}
 use Rattle.td_tree.specs.Outcomes.{Outcome, Valued, Refused}
 
 -- a test that is passed is TRUE
-pub passed_test : (r : Refusal) (o : Outcome Bool) → unpassed r o ≡ None → o ≡ Valued true
+pub passed_test : (r : Refusal) (o : Outcome Bool) → refusal_unless_passed r o ≡ None → o ≡ Valued true
 passed_test r (Valued true) e = refl
 passed_test r (Valued false) e = absurd (cc)
 passed_test r (Refused cs) e = absurd (cc)

@@ -6,7 +6,7 @@ use Rattle.td_catalog.specs.Database.{Database, empty_database}
 use Rattle.td_catalog.specs.Dumps.{dump_text}
 use Rattle.td_engine.proofs.law_lemmas.Answered.{of_database}
 use Rattle.td_engine.specs.code.Carried.{IsOfDatabase}
-use Rattle.td_engine.specs.Machine.{Accepted, Progress, Runs, State, Step, Steps, and_then, begun, effect, empty_state, has_stopped, keeping, next, nothing, ok_text, state_of, step_of, stepped}
+use Rattle.td_engine.specs.Machine.{Accepted, Progress, Runs, State, Step, Steps, and_then, progress_at_first, effect, empty_state, has_stopped, keeping, next, nothing, ok_text, state_of, step_of, step_of_outcome}
 use Rattle.td_engine.specs.Rebuilding.{AcceptsAll, AreReadAs, IsReadAs, Rebuilds, accepts, base_statement, constraint_statement, dump_statements, no_more, type_statement, virtual_statement}
 use Rattle.td_parse.proofs.OneTree.{one_statement}
 use Rattle.td_parse.specs.code.Parsing.{Parsed, statement_spelled}
@@ -25,7 +25,7 @@ reads : (ts : List PlacedToken) (s : Statement) → IsReadAs ts s → Parsed ts 
 reads ts s is = statement_spelled is.good (is.spelled, λ t spelled. one_statement (lexemes ts) t s spelled is.spelled)
 
 does : (old new : Database) (s : Statement) → IsOfDatabase s → effect old s ≡ Accepted new ok_text
-    → accepted_step new ≡ stepped (state_of old []) (Valued s)
+    → accepted_step new ≡ step_of_outcome (state_of old []) (Valued s)
 does old new s is accepted =
     sym (ap (step_of (state_of old [])) (of_database (state_of old []) s is ∙ ap (keeping []) accepted))
 
@@ -86,5 +86,5 @@ dump_of_database db =
 pub rebuilds : (stop : Bool) (db : Database) → AreReadAs (statements 0 (dump_text db)) (dump_statements db) → AcceptsAll empty_database (dump_statements db) db
     → Rebuilds stop (dump_text db) db
 rebuilds stop db read accepted =
-    let made = makes stop (begun empty_state) (statements 0 (dump_text db)) (dump_statements db) empty_database db read (dump_of_database db) accepted refl refl in
+    let made = makes stop (progress_at_first empty_state) (statements 0 (dump_text db)) (dump_statements db) empty_database db read (dump_of_database db) accepted refl refl in
     record { progress = made.progress; runs = made.runs; accepted = made.accepted; state_is = made.state_is }

@@ -12,8 +12,8 @@ use Rattle.td_engine.proofs.law_lemmas.RebuiltParts.{IsPart}
 use Rattle.td_engine.proofs.law_lemmas.SameTests.{IsKnown, all_known, name_checked, same_test, same_truth}
 use Rattle.td_engine.proofs.law_lemmas.Settled.{bases_hold}
 use Rattle.td_engine.proofs.law_lemmas.WrittenStatements.{conditions_written, definitions_written}
-use Rattle.td_engine.specs.Checks.{base_check, constraint_check, database_check, derived_check, first_refusal, unpassed, virtual_check}
-use Rattle.td_engine.specs.Machine.{Accepted, changed, ok_text, unless_refused}
+use Rattle.td_engine.specs.Checks.{base_check, constraint_check, database_check, derived_check, first_refusal, refusal_unless_passed, virtual_check}
+use Rattle.td_engine.specs.Machine.{Accepted, checked_effect, ok_text, unless_refused}
 use Rattle.td_engine.specs.Refusals.{Refusal, by_constraint, by_key}
 use Rattle.td_engine.specs.Legality.{HasKeysThatHold, IsLegal, IsTrueOf}
 use Rattle.td_eval.proofs.law_lemmas.LaterEntries.{later_entries_change_nothing}
@@ -82,9 +82,9 @@ module _ (db part : Database) (legal : IsLegal db) (is : IsPart part db) (is_typ
       (none_refuses base_check (λ b. base_check b ≡ None) (λ b e. e) part.bases
       (all_first (λ b. base_check b ≡ None) db.bases part.bases is.bases (all_pass base_check (λ b. base_check b ≡ None) (λ b e. e) db.bases (bases_hold db legal))))
       ∙ ap (λ o. option_or o (first_refusal (constraint_check (world_of part)) part.constraints))
-      (none_refuses (virtual_check (world_of part)) (HasKeysThatHold (world_of part)) (λ v h. ap (unpassed (by_key v.name)) h) part.virtuals virtuals_hold)
-      ∙ none_refuses (constraint_check (world_of part)) (IsTrueOf (world_of part)) (λ c h. ap (unpassed (by_constraint c.name)) h) part.constraints
+      (none_refuses (virtual_check (world_of part)) (HasKeysThatHold (world_of part)) (λ v h. ap (refusal_unless_passed (by_key v.name)) h) part.virtuals virtuals_hold)
+      ∙ none_refuses (constraint_check (world_of part)) (IsTrueOf (world_of part)) (λ c h. ap (refusal_unless_passed (by_constraint c.name)) h) part.constraints
       constraints_hold
 
-  pub part_passes : changed part ≡ Accepted part ok_text
+  pub part_passes : checked_effect part ≡ Accepted part ok_text
   part_passes = ap (λ o. unless_refused o part) passes

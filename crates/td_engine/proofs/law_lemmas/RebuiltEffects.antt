@@ -5,7 +5,7 @@ use Rattle.td_catalog.specs.Database.{Database, database_scope, relvar_names}
 use Rattle.td_check.specs.OperatorTypes.{over_relation}
 use Rattle.td_check.specs.Scopes.{known_relvar}
 use Rattle.td_check.specs.StatementTypes.{both_hold, holds_or, statement_checked}
-use Rattle.td_engine.specs.Machine.{Accepted, by_outcome, carried_out, changed, effect, ok_text}
+use Rattle.td_engine.specs.Machine.{Accepted, by_outcome, carried_out, checked_effect, effect, ok_text}
 use Rattle.td_eval.proofs.law_lemmas.KnownRelvars.{known_name}
 use Rattle.td_tree.specs.Outcomes.{Outcome, Valued, with_value}
 use Rattle.td_tree.specs.Trees.{Statement}
@@ -45,6 +45,6 @@ over_heading o h f e = ap (λ p. with_value p (λ t. over_relation t f)) e ∙ a
 -- ---- what is accepted
 
 -- what meets the static rules and makes a database that passes the checks
-pub accepted_by : (old new : Database) (s : Statement) → statement_checked (database_scope old) s ≡ Valued tt → carried_out old s ≡ changed new
-    → changed new ≡ Accepted new ok_text → effect old s ≡ Accepted new ok_text
+pub accepted_by : (old new : Database) (s : Statement) → statement_checked (database_scope old) s ≡ Valued tt → carried_out old s ≡ checked_effect new
+    → checked_effect new ≡ Accepted new ok_text → effect old s ≡ Accepted new ok_text
 accepted_by old new s checked carried passes = ap (λ o. by_outcome o (λ _. carried_out old s)) checked ∙ carried ∙ passes

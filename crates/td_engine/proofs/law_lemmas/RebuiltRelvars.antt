@@ -12,7 +12,7 @@ use Rattle.td_engine.proofs.law_lemmas.RebuiltLists.{all_at}
 use Rattle.td_engine.proofs.law_lemmas.RebuiltParts.{base_is_new, constraint_is_new, constraint_there, database_of, typed_bases, virtual_is_new, virtual_there}
 use Rattle.td_engine.specs.Assignments.{of_heading}
 use Rattle.td_catalog.specs.Dumps.{ordered_names}
-use Rattle.td_engine.specs.Machine.{by_outcome, carried_out, changed, init_relation}
+use Rattle.td_engine.specs.Machine.{by_outcome, carried_out, checked_effect, init_relation}
 use Rattle.td_engine.specs.Rebuilding.{base_statement, constraint_statement, virtual_statement}
 use Rattle.td_engine.specs.Legality.{AreOrdered, IsRuledBase, IsRuledVirtual, IsLegal}
 use Rattle.td_eval.proofs.law_lemmas.LiteralTypes.{heading_means, literals_have_their_types}
@@ -104,12 +104,12 @@ module _ (db : Database) (legal : IsLegal db) (front rest : List BaseRelvar) (r 
       (all_at (λ (b : BaseRelvar). MeetsConstraints db.types (relation_value b.relation)) db.bases front rest r e legal.types))
       ∙ own_heading r.relation heading refl
 
-  pub base_made : carried_out before_base (base_statement r) ≡ changed (database_of db.types (front ++ (r ∷ [])) [] [])
+  pub base_made : carried_out before_base (base_statement r) ≡ checked_effect (database_of db.types (front ++ (r ∷ [])) [] [])
   base_made =
       let made : Relation → Outcome Database = λ q. Valued (with_base (base_relvar r.name (map (ordered_names q.heading) r.keys) q) before_base) in
       ap (λ keys. carried_out before_base (base_with_keys r keys)) keys_ordered
-      ∙ ap (λ o. by_outcome (with_value o made) changed) (ap (λ o. with_value o (init_relation before_base (Some init))) heading_is ∙ init_valued)
-      ∙ ap (λ keys. changed (with_base (base_relvar r.name keys r.relation) before_base)) keys_ordered
+      ∙ ap (λ o. by_outcome (with_value o made) checked_effect) (ap (λ o. with_value o (init_relation before_base (Some init))) heading_is ∙ init_valued)
+      ∙ ap (λ keys. checked_effect (with_base (base_relvar r.name keys r.relation) before_base)) keys_ordered
 
 -- ---- a virtual relvar
 
@@ -141,12 +141,12 @@ module _ (db : Database) (legal : IsLegal db) (front rest : List VirtualRelvar) 
   pub virtual_checked : statement_checked (database_scope before_virtual) (virtual_statement v) ≡ Valued tt
   virtual_checked = ap (λ keys. statement_checked (database_scope before_virtual) (define_virtual v.name v.tree keys)) names_ordered ∙ virtual_keyed
 
-  pub virtual_made : carried_out before_virtual (virtual_statement v) ≡ changed (database_of db.types db.bases (front ++ (v ∷ [])) [])
+  pub virtual_made : carried_out before_virtual (virtual_statement v) ≡ checked_effect (database_of db.types db.bases (front ++ (v ∷ [])) [])
   virtual_made =
       let made : Heading → Outcome Database = λ h. Valued (with_virtual (virtual_relvar v.name h v.tree (map (ordered_names h) v.keys)) before_virtual) in
       ap (λ keys. carried_out before_virtual (define_virtual v.name v.tree keys)) names_ordered
-      ∙ ap (λ o. by_outcome o changed) (over_heading (type_of (database_scope before_virtual) v.tree) v.heading made is_virtual.typed)
-      ∙ ap (λ keys. changed (with_virtual (virtual_relvar v.name v.heading v.tree keys) before_virtual)) names_ordered
+      ∙ ap (λ o. by_outcome o checked_effect) (over_heading (type_of (database_scope before_virtual) v.tree) v.heading made is_virtual.typed)
+      ∙ ap (λ keys. checked_effect (with_virtual (virtual_relvar v.name v.heading v.tree keys) before_virtual)) names_ordered
 
 -- ---- a constraint
 
@@ -161,5 +161,5 @@ module _ (db : Database) (is_typed : IsTyped db) (front rest : List NamedConstra
       (is_free _ (constraint_is_new db is_typed front rest c e))
       (ap (λ o. with_value o (λ t. if_type boolean t tt)) (constraint_there db is_typed front rest c e))
 
-  pub constraint_made : carried_out before_constraint (constraint_statement c) ≡ changed (database_of db.types db.bases db.virtuals (front ++ (c ∷ [])))
+  pub constraint_made : carried_out before_constraint (constraint_statement c) ≡ checked_effect (database_of db.types db.bases db.virtuals (front ++ (c ∷ [])))
   constraint_made = refl

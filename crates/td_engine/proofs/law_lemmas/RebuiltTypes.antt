@@ -7,7 +7,7 @@ use Rattle.td_check.specs.StatementTypes.{both_hold, components_meant, constrain
 use Rattle.td_engine.proofs.law_lemmas.RebuiltEffects.{both_asked}
 use Rattle.td_engine.proofs.law_lemmas.RebuiltParts.{database_of}
 use Rattle.td_engine.specs.Legality.{IsLegal}
-use Rattle.td_engine.specs.Machine.{by_outcome, carried_out, changed}
+use Rattle.td_engine.specs.Machine.{by_outcome, carried_out, checked_effect}
 use Rattle.td_engine.specs.Rebuilding.{type_statement}
 use Rattle.td_eval.proofs.code_lemmas.KeepsGathered.{all_from_members}
 use Rattle.td_tree.specs.Outcomes.{Outcome, Valued, value_if, with_both, with_value}
@@ -58,6 +58,6 @@ module _ (db : Database) (legal : IsLegal db) (front rest : List DeclaredType) (
       ∙ both_asked (constraint_fits (database_scope old) d.components d.constraint) (rank_fits front d.components) (legal.typed.constrained front rest d e)
       (legal.ranked front rest d e))
 
-  pub type_made : carried_out old (type_statement d) ≡ changed (database_of (front ++ (d ∷ [])) [] [] [])
+  pub type_made : carried_out old (type_statement d) ≡ checked_effect (database_of (front ++ (d ∷ [])) [] [] [])
   type_made =
-      ap (λ o. by_outcome (with_value o (λ xs. Valued (with_declared (declared_type d.name xs d.constraint) old))) changed) (components_mean front d declarable)
+      ap (λ o. by_outcome (with_value o (λ xs. Valued (with_declared (declared_type d.name xs d.constraint) old))) checked_effect) (components_mean front d declarable)

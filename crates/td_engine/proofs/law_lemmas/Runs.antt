@@ -1,6 +1,6 @@
 -- Statements in turn: runs joined, the machine's one answer, and what a run leaves.
 use Rattle.std.proofs.Common.{◌≡◌, ◌≤◌, ◌+◌, ℕ, zero, suc, Bool, true, false, List, [], ◌∷◌, ◌++◌, take, refl, sym, ap, ◌∙◌, arith, subst}
-use Rattle.td_engine.specs.Machine.{Progress, State, Step, Steps, stepped, Runs, nothing, stopped, next, and_then, has_stopped}
+use Rattle.td_engine.specs.Machine.{Progress, State, Step, Steps, step_of_outcome, Runs, nothing, stopped, next, and_then, has_stopped}
 use Rattle.td_parse.proofs.Parsed.{one_meaning}
 use Rattle.td_tree.specs.Statements.{PlacedToken}
 
@@ -24,7 +24,7 @@ runs_append stop p xs q ys r (next step goes steps rest) k = next step goes step
 pub one_step : (old : State) (tokens : List PlacedToken) (s t : Step State) → Steps old tokens s → Steps old tokens t → s ≡ t
 one_step old tokens s t does also =
     let meaning = one_meaning tokens in
-    does.2 ∙ ap (stepped old) (meaning.2 does.0 does.1 ∙ sym (meaning.2 also.0 also.1)) ∙ sym also.2
+    does.2 ∙ ap (step_of_outcome old) (meaning.2 does.0 does.1 ∙ sym (meaning.2 also.0 also.1)) ∙ sym also.2
 
 -- a list of statements has one outcome
 pub one_outcome : (stop : Bool) (p : Progress) (ss : List (List PlacedToken)) (q r : Progress) → Runs stop p ss q → Runs stop p ss r → q ≡ r
@@ -37,7 +37,7 @@ one_outcome stop p (s ∷ ss) q r (next step goes steps rest) (next other also d
 
 -- what a list of tokens does
 some_step : (old : State) (tokens : List PlacedToken) → (s : Step State) × Steps old tokens s
-some_step old tokens = let meaning = one_meaning tokens in (stepped old meaning.0, (meaning.0, meaning.1, refl))
+some_step old tokens = let meaning = one_meaning tokens in (step_of_outcome old meaning.0, (meaning.0, meaning.1, refl))
 
 -- a list of statements has an outcome
 pub some_outcome : (stop : Bool) (p : Progress) (ss : List (List PlacedToken)) → (q : Progress) × Runs stop p ss q

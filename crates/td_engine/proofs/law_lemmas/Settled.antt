@@ -9,8 +9,8 @@ use Rattle.td_catalog.specs.Database.{BaseRelvar, Database, with_base}
 use Rattle.td_catalog.specs.TypedDatabases.{IsTypedBase}
 use Rattle.td_engine.specs.Legality.{IsRuledBase, IsLegal, KeysHold}
 use Rattle.td_engine.specs.code.Carried.{Changes, Passes}
-use Rattle.td_engine.specs.Checks.{base_check, database_check, derived_check, first_refusal, keys_hold, unpassed}
-use Rattle.td_engine.specs.Machine.{Accepted, Denied, changed, ok_text, unless_refused}
+use Rattle.td_engine.specs.Checks.{base_check, database_check, derived_check, first_refusal, keys_hold, refusal_unless_passed}
+use Rattle.td_engine.specs.Machine.{Accepted, Denied, checked_effect, ok_text, unless_refused}
 use Rattle.td_engine.specs.Refusals.{Refusal, by_key}
 use Rattle.td_engine.specs.declared.refusal.Failure.{Failure}
 use Rattle.td_engine.specs.declared.refusal.Failure.TheVariants as failures
@@ -38,7 +38,7 @@ all_bases_hold : (types : List DeclaredType) (bases : List BaseRelvar) → AllBy
     → first_refusal base_check bases ≡ None
 all_bases_hold types [] h g = refl
 all_bases_hold types (r ∷ rs) h g =
-    ap (λ b. option_or (unpassed (by_key r.name) (Valued b)) (first_refusal base_check rs)) (all_keys_hold r.keys r.relation h.0.relation g.0.hold)
+    ap (λ b. option_or (refusal_unless_passed (by_key r.name) (Valued b)) (first_refusal base_check rs)) (all_keys_hold r.keys r.relation h.0.relation g.0.hold)
     ∙ all_bases_hold types rs h.1 g.1
 
 pub bases_hold : (db : Database) → IsLegal db → first_refusal base_check db.bases ≡ None
@@ -49,14 +49,14 @@ bases_hold db legal = all_bases_hold db.types db.bases legal.typed.bases legal.b
 pub held_check : (db : Database) → first_refusal base_check db.bases ≡ None → database_check db ≡ derived_check db
 held_check db held = ap (λ o. option_or o (derived_check db)) held
 
-pub settled : (db : Database) → first_refusal base_check db.bases ≡ None → derived_check db ≡ None → changed db ≡ Accepted db ok_text
+pub settled : (db : Database) → first_refusal base_check db.bases ≡ None → derived_check db ≡ None → checked_effect db ≡ Accepted db ok_text
 settled db held none = ap (λ o. unless_refused o db) (held_check db held ∙ none)
 
-pub unsettled : (db : Database) (f : Failure) → first_refusal base_check db.bases ≡ None → Passes (Err f) (derived_check db) → Changes db (Err f) (changed db)
+pub unsettled : (db : Database) (f : Failure) → first_refusal base_check db.bases ≡ None → Passes (Err f) (derived_check db) → Changes db (Err f) (checked_effect db)
 unsettled db (failures.Refused r) held is = ap (λ o. unless_refused o db) (held_check db held ∙ is)
 unsettled db failures.Memory held is = tt
 
-pub settled_or : (db : Database) (done : Result ⊤ Failure) → first_refusal base_check db.bases ≡ None → Passes done (derived_check db) → Changes db done (changed db)
+pub settled_or : (db : Database) (done : Result ⊤ Failure) → first_refusal base_check db.bases ≡ None → Passes done (derived_check db) → Changes db done (checked_effect db)
 settled_or db (Ok u) held is = settled db held is
 settled_or db (Err f) held is = unsettled db f held is
 
@@ -74,10 +74,10 @@ refused_behind check (y ∷ ys) x o r none is = by_check (check y) refl (λ n. r
     by_check (Some q) e rest = let no : Some q ≡ None = ap (λ p. option_or p (first_refusal check ys)) (sym e) ∙ none in absurd (cc)
 
 pub broken_base : (db : Database) (r : BaseRelvar) → first_refusal base_check db.bases ≡ None → keys_hold r.keys r.relation.body ≡ false
-    → changed (with_base r db) ≡ Denied (by_key r.name)
+    → checked_effect (with_base r db) ≡ Denied (by_key r.name)
 broken_base db r held broken =
     ap (λ o. unless_refused o (with_base r db))
-    (refused_behind base_check db.bases r (derived_check (with_base r db)) (by_key r.name) held (ap (λ b. unpassed (by_key r.name) (Valued b)) broken))
+    (refused_behind base_check db.bases r (derived_check (with_base r db)) (by_key r.name) held (ap (λ b. refusal_unless_passed (by_key r.name) (Valued b)) broken))
 
 -- one of which they do
 passed_behind : {A : Type 0} (check : A → Option Refusal) (xs : List A) (x : A) → first_refusal check xs ≡ None → check x ≡ None → first_refusal check (xs ++ (x ∷ [])) ≡ None
@@ -91,4 +91,4 @@ passed_behind check (y ∷ ys) x none is = by_check (check y) refl (λ n. passed
 
 pub held_with_base : (db : Database) (r : BaseRelvar) → first_refusal base_check db.bases ≡ None → keys_hold r.keys r.relation.body ≡ true
     → first_refusal base_check (with_base r db).bases ≡ None
-held_with_base db r held hold = passed_behind base_check db.bases r held (ap (λ b. unpassed (by_key r.name) (Valued b)) hold)
+held_with_base db r held hold = passed_behind base_check db.bases r held (ap (λ b. refusal_unless_passed (by_key r.name) (Valued b)) hold)

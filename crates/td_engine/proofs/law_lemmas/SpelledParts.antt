@@ -4,7 +4,7 @@ use Rattle.td_engine.specs.code.Carried.{IsSpelledStatement}
 use Rattle.td_engine.specs.Legality.{IsSpelledExpression, IsSpelledIf}
 use Rattle.td_tree.specs.Lexemes.{Lexeme, keyword, sign}
 use Rattle.td_tree.specs.Lexemes as lexeme
-use Rattle.td_tree.specs.Lists.{Optional, braced, parenthesized, present}
+use Rattle.td_tree.specs.Lists.{Optional, with_braces, with_parentheses, present}
 use Rattle.td_tree.specs.StatementGrammar.{BodySpelling, ConstraintPart, ExpressionItem, StatementSpelling, constraint_definition, constraint_part, statement, type_definition, virtual_definition}
 use Rattle.td_tree.specs.Statements.{PlacedToken}
 use Rattle.td_tree.specs.TokenLexemes.{lexeme_of, lexemes}
@@ -61,7 +61,7 @@ constraint_spelled n e s = part_spelled s.0 e (by_spelling (lexemes s.0) s.1)
 
 -- ---- virtual relvars
 
-between_parentheses : (item ys zs : List Lexeme) → (parenthesized item ++ ys) ++ zs ≡ sign signs.OpenParenthesis ∷ (item ++ (sign signs.CloseParenthesis ∷ (ys ++ zs)))
+between_parentheses : (item ys zs : List Lexeme) → (with_parentheses item ++ ys) ++ zs ≡ sign signs.OpenParenthesis ∷ (item ++ (sign signs.CloseParenthesis ∷ (ys ++ zs)))
 between_parentheses item ys zs = simp append_assoc
 
 pub virtual_spelled : (n : Text) (e : Tree) (keys : List (List Text)) → IsSpelledStatement (define_virtual n e keys) → IsSpelledExpression e
@@ -81,7 +81,7 @@ virtual_spelled n e keys s = part_spelled s.0 e (by_spelling (lexemes s.0) s.1)
 
 -- ---- types
 
-behind_components : (xs item zs : List Lexeme) → braced (xs ++ (keyword k.Constraint ∷ item)) ++ zs ≡ (sign signs.OpenBrace ∷ (xs ++ (keyword k.Constraint ∷ []))) ++ (item ++ (sign signs.CloseBrace ∷ zs))
+behind_components : (xs item zs : List Lexeme) → with_braces (xs ++ (keyword k.Constraint ∷ item)) ++ zs ≡ (sign signs.OpenBrace ∷ (xs ++ (keyword k.Constraint ∷ []))) ++ (item ++ (sign signs.CloseBrace ∷ zs))
 behind_components xs item zs = simp append_assoc
 
 pub type_spelled : (n : Text) (h : AttributeTrees) (c : Option Tree) → IsSpelledStatement (define_type n h c) → IsSpelledIf c
@@ -89,7 +89,7 @@ type_spelled n h None s = tt
 type_spelled n h (Some e) s = part_spelled s.0 e (by_spelling (lexemes s.0) s.1)
   where
     by_part : (xs ys : List Lexeme) → Optional ConstraintPart ys (Some e)
-        → HasPart ((keyword k.«Type» ∷ (lexeme.name n ∷ (keyword k.Possrep ∷ braced (xs ++ ys)))) ++ (sign signs.Semicolon ∷ [])) e
+        → HasPart ((keyword k.«Type» ∷ (lexeme.name n ∷ (keyword k.Possrep ∷ with_braces (xs ++ ys)))) ++ (sign signs.Semicolon ∷ [])) e
     by_part xs _ (present (constraint_part {xs = item} spelled)) = record {
       before = keyword k.«Type» ∷ (lexeme.name n ∷ (keyword k.Possrep ∷ (sign signs.OpenBrace ∷ (xs ++ (keyword k.Constraint ∷ [])))));
       item = item;

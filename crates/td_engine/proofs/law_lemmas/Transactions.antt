@@ -6,7 +6,7 @@ use Rattle.std.specs.List.{AllByRecursion}
 use Rattle.std.specs.String.{string_bytes}
 use Rattle.td_catalog.specs.Database.{Database}
 use Rattle.td_engine.proofs.law_lemmas.Answered.{ok_does}
-use Rattle.td_engine.specs.Machine.{Accepted, Effect, State, begun_transaction, committed, denied_transaction, ok_text, rolled_back, state_of, step_of, transaction_limit}
+use Rattle.td_engine.specs.Machine.{Accepted, Effect, State, begun_transaction, committed_transaction, denied_transaction, ok_text, rolled_back, state_of, step_of, transaction_limit}
 use Rattle.td_engine.specs.Refusals.{cause_text, line}
 use Rattle.td_engine.specs.Legality.{IsLegal, IsLegalState}
 use Rattle.td_engine.specs.code.Steps.{Does}
@@ -35,9 +35,9 @@ refused_does answer s e says is =
 -- ---- COMMIT and ROLLBACK
 
 pub commit_does : (answer : code.Answer) (s : State) (last : Database) (others : List Database) → SaysOk answer → s.kept ≡ last ∷ others
-    → Does (step_of s (committed s.database s.kept)) answer (state_of s.database others)
+    → Does (step_of s (committed_transaction s.database s.kept)) answer (state_of s.database others)
 commit_does answer s last others says is =
-    ok_does answer s (state_of s.database others) (committed s.database s.kept) (ap (committed s.database) is) says.0 says.1
+    ok_does answer s (state_of s.database others) (committed_transaction s.database s.kept) (ap (committed_transaction s.database) is) says.0 says.1
 
 pub rollback_does : (answer : code.Answer) (s : State) (last : Database) (others : List Database) → SaysOk answer → s.kept ≡ last ∷ others
     → Does (step_of s (rolled_back s.kept)) answer (state_of last others)

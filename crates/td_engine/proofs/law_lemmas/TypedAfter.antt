@@ -24,7 +24,7 @@ use Rattle.td_engine.specs.code.Plannable.{IsWrittenIf}
 use Rattle.td_engine.specs.Assignments.{Given, given_to, of_heading, with_gift, with_gifts}
 use Rattle.td_engine.specs.code.Carried.{IsAdmitted}
 use Rattle.td_engine.specs.Checks.{base_check, keys_hold}
-use Rattle.td_engine.specs.code.Gifts.{AreGifts, gifted}
+use Rattle.td_engine.specs.code.Gifts.{AreGifts, gifted_bases}
 use Rattle.td_engine.specs.Machine.{init_relation}
 use Rattle.td_engine.specs.Legality.{AreBaseKeys, IsRuledBase, IsRuledVirtual, IsRanked, IsRankedHeading, IsLegal}
 use Rattle.td_eval.proofs.code_lemmas.KeepsGathered.{member_from_all}
@@ -137,7 +137,7 @@ module _ (db : Database) (legal : IsLegal db) where
 module _ (db : Database) (given : Given) (legal : IsLegal db) (gifts : AreGifts db given) where
   -- the first relvars hold what they were given
   abbrev so_far : ℕ → Database
-  so_far i = with_bases (gifted given i db.bases) db
+  so_far i = with_bases (gifted_bases given i db.bases) db
 
   next_typed : (i : ℕ) → i < length db.bases → IsTyped (so_far i) → IsTyped (so_far (i + 1))
   next_typed i inside before = by_gift (given_to r.name given) refl
@@ -169,7 +169,7 @@ module _ (db : Database) (given : Given) (legal : IsLegal db) (gifts : AreGifts 
       next : i + 1 ≡ suc i
       next = omega arith
 
-  whole : gifted given (length db.bases) db.bases ≡ map (with_gift given) db.bases
+  whole : gifted_bases given (length db.bases) db.bases ≡ map (with_gift given) db.bases
   whole =
       ap (λ bs. map (with_gift given) bs ++ drop (length db.bases) db.bases) (take_all (length db.bases) db.bases (omega arith))
       ∙ ap (λ bs. map (with_gift given) db.bases ++ bs) (drop_all (length db.bases) db.bases (omega arith)) ∙ append-nil (map (with_gift given) db.bases)

@@ -12,7 +12,7 @@ use Rattle.td_tree.specs.Grammar as g
 use Rattle.td_tree.specs.Grammar.{AdditionsSpelling, AttributesSpelling, ExpressionsSpelling, HeadingSpelling, ListSpelling, LiteralSpelling, PartsSpelling, PostfixSpelling, RenamingSpelling, Spelling, SummariesSpelling, TypeSpelling, comparison_word, operator_words}
 use Rattle.td_tree.specs.Lexemes.{Lexeme, keyword, sign}
 use Rattle.td_tree.specs.Lexemes as lexeme
-use Rattle.td_tree.specs.Lists.{Separated, next_item, one_item, parenthesized}
+use Rattle.td_tree.specs.Lists.{Separated, next_item, one_item, with_parentheses}
 use Rattle.td_tree.specs.Names.{IsName, is_name}
 use Rattle.td_tree.specs.Statements.{PlacedToken}
 use Rattle.td_tree.specs.TextTokens.{content}
@@ -175,7 +175,7 @@ mutual
   written (g.extension {xs} {ys} p q) h = both (written p (front xs _ h.1)) (additions_written q (inside ys _ (back xs _ h.1).1.1))
   written (g.summary_per {xs} {ys} {zs} p q r) h =
       let behind = (back xs _ h.1).1 in
-      three (written p (front xs _ h.1)) (written q (inside ys _ (front (parenthesized ys) _ behind).1)) (summaries_written r (inside zs _ (back (parenthesized ys) _ behind).1.1))
+      three (written p (front xs _ h.1)) (written q (inside ys _ (front (with_parentheses ys) _ behind).1)) (summaries_written r (inside zs _ (back (with_parentheses ys) _ behind).1.1))
   written (g.summary_by {xs} {ys} {zs} p by r) h =
       both (written p (front xs _ h.1)) (summaries_written r (inside zs _ (back ys _ (back xs _ h.1).1).1.1))
   written (g.choice {xs} {ys} {zs} p q r) h =
@@ -208,10 +208,10 @@ mutual
   summaries_written g.last_count h = ((h.1.1.1.1.0, tt), tt)
   summaries_written (g.next_count p) h = let rest = summaries_written p h.1.1.1.1.1.1 in ((h.1.1.1.1.0, rest.0), rest.1)
   summaries_written (g.last_sum {xs = xs} p) h =
-      let value = written p (inside xs _ (front (parenthesized xs) _ h.1).1) in
-      ((value.0, (back (parenthesized xs) _ h.1).1.0, tt), (value.1, tt))
+      let value = written p (inside xs _ (front (with_parentheses xs) _ h.1).1) in
+      ((value.0, (back (with_parentheses xs) _ h.1).1.0, tt), (value.1, tt))
   summaries_written (g.next_sum {xs = xs} p q) h =
-      let value = written p (inside xs _ (front (parenthesized xs) _ h.1).1) in
-      let behind = back (parenthesized xs) _ h.1 in
+      let value = written p (inside xs _ (front (with_parentheses xs) _ h.1).1) in
+      let behind = back (with_parentheses xs) _ h.1 in
       let rest = summaries_written q behind.1.1.1 in
       ((value.0, behind.1.0, rest.0), (value.1, rest.1))

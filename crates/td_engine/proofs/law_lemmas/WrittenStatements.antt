@@ -4,7 +4,7 @@ use Rattle.std.specs.Prelude.{⊤}
 use Rattle.std.specs.List.{AllByRecursion}
 use Rattle.td_engine.specs.code.Carried.{IsSpelledStatement}
 use Rattle.td_tree.specs.Lexemes.{Lexeme}
-use Rattle.td_tree.specs.Lists.{Optional, Separated, absent, next_item, one_item, parenthesized, present}
+use Rattle.td_tree.specs.Lists.{Optional, Separated, absent, next_item, one_item, with_parentheses, present}
 use Rattle.td_tree.specs.Names.{IsName}
 use Rattle.td_tree.specs.StatementGrammar as s
 use Rattle.td_tree.specs.StatementGrammar.{AssignmentSpelling, BodySpelling, ConstraintPart, InitPart, SettingsSpelling, StatementSpelling, WherePart, constraint_part, init_part, where_part}
@@ -74,7 +74,7 @@ body_written s.var_drop h = tt
 body_written s.constraint_drop h = tt
 body_written (s.base_definition {xs = xs} {ys = ys} {zs = zs} word p low q keys) h =
     let behind = back xs (ys ++ zs) h.1.1.1.1 in (h.1.0, heading_written p (front xs (ys ++ zs) h.1.1.1.1), init_written q (front ys zs behind))
-body_written (s.virtual_definition {xs = xs} p keys) h = (h.1.0, written p.spelled (inside xs _ (front (parenthesized xs) _ h.1.1.1).1))
+body_written (s.virtual_definition {xs = xs} p keys) h = (h.1.0, written p.spelled (inside xs _ (front (with_parentheses xs) _ h.1.1.1).1))
 body_written (s.constraint_definition p) h = (h.1.0, written p.spelled h.1.1)
 body_written (s.assignments p) h = assignments_written p h
 body_written s.begin_transaction h = tt

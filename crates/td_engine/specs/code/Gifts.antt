@@ -42,5 +42,5 @@ abbrev pub AreGifts : Database → Given → Type 0
 AreGifts db = AllByRecursion (IsGift db)
 
 -- the base relvars, of which the first hold what they were given
-abbrev pub gifted : Given → ℕ → List BaseRelvar → List BaseRelvar
-gifted given count bases = map (with_gift given) (take count bases) ++ drop count bases
+abbrev pub gifted_bases : Given → ℕ → List BaseRelvar → List BaseRelvar
+gifted_bases given count bases = map (with_gift given) (take count bases) ++ drop count bases

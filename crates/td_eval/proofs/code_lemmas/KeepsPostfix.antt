@@ -6,7 +6,7 @@ use Rattle.std.proofs.lemmas.List.Elements.{All-from_recursion}
 use Rattle.td_tree.specs.Names.{IsName}
 use Rattle.td_tree.specs.declared.cause.Cause.TheVariants as causes
 use Rattle.td_tree.specs.Trees.{Attributes, only, all_but, Renaming, Postfix, project, rename, group, ungroup, wrap, unwrap}
-use Rattle.td_types.specs.Headings.{can_rename, has_projection, heading_union, new_name, outside, projection, renamed}
+use Rattle.td_types.specs.Headings.{can_rename, has_projection, heading_union, new_name, outside, projection, renamed_attributes}
 use Rattle.td_types.specs.TypeLists.{DeclaredType}
 use Rattle.td_types.specs.Types.{Heading, Type', attribute_names, pack}
 use Rattle.td_types.specs.Types as types
@@ -62,9 +62,9 @@ module _ (ds : List DeclaredType) where
       let c = known_closed ds in
       let pairs = renaming_pairs rs in
       let names : NewNamesAreNames pairs = All-from_recursion (λ (p : List ℕ × List ℕ). IsName p.1) pairs (names_of_pairs rs new) in
-      typed_set ds (heading_union [] (renamed pairs r.heading)) (map (renamed_tuple pairs) r.body)
+      typed_set ds (heading_union [] (renamed_attributes pairs r.heading)) (map (renamed_tuple pairs) r.body)
       (IsRelation-renamed pairs r m.is_relation fits names)
-      (united c [] (renamed pairs r.heading) c.nothing (renamed_fit c rs new r.heading (all_fit c r.heading (typed_heading ds r m)))).1
+      (united c [] (renamed_attributes pairs r.heading) c.nothing (renamed_fit c rs new r.heading (all_fit c r.heading (typed_heading ds r m)))).1
       (λ y d. let e = (contains_map (renamed_tuple pairs) r.body y).0 d in
       subst (AreOwn ds) e.2 (all_made (IsOwn ds) (map (λ f. (new_name pairs f.0, f.1)) e.0) (own_renamed pairs e.0 (m.rows e.0 e.1))))
 
@@ -76,7 +76,7 @@ postfix_keeps ds (project attributes) v s names k =
     over_relation_keeps ds v s _ _ k (λ r m e. part_keeps ds attributes r m)
 postfix_keeps ds (rename renamings) v s names k =
     over_relation_keeps ds v s _ _ k
-    (λ r m e. heading_if_keeps ds (can_rename (renaming_pairs renamings) r.heading) (heading_union [] (renamed (renaming_pairs renamings) r.heading)) causes.Heading
+    (λ r m e. heading_if_keeps ds (can_rename (renaming_pairs renamings) r.heading) (heading_union [] (renamed_attributes (renaming_pairs renamings) r.heading)) causes.Heading
     (renamed_relation (renaming_pairs renamings) r) refl (λ fits. typed_renamed ds renamings r names fits m))
 postfix_keeps ds (group attributes name) v s names k =
     over_relation_keeps ds v s _ _ k

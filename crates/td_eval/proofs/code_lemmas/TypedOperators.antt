@@ -6,7 +6,7 @@ use Rattle.std.specs.Ordering.{eq_by_cmp}
 use Rattle.std.specs.Prelude.{if◌then◌else◌}
 use Rattle.std.proofs.lemmas.Str.{IsUtf8-append}
 use Rattle.td_check.specs.OperatorTypes.{attribute_type, both_of, choice_type, closure_type, comparison_type, component_type, equality_type, extracted_type, if_type, known_or, measure_type, membership_type, operator_type, order_type, prefix_type, same_heading, same_type}
-use Rattle.td_check.specs.StaticTypes.{literal_type, paired}
+use Rattle.td_check.specs.StaticTypes.{literal_type, both_types}
 use Rattle.td_group.specs.Closure.{closure}
 use Rattle.td_tree.specs.declared.cause.Cause.{Cause}
 use Rattle.td_tree.specs.declared.cause.Cause.TheVariants as causes
@@ -29,7 +29,7 @@ use Rattle.td_value.proofs.Packed.{pack_unpack_fields}
 use Rattle.td_value.specs.KnownValues.{AreOfTypes}
 use Rattle.td_value.specs.Values.{Val, char, of_number, tuple, relation, Parts, no_parts, part, Rows, no_rows, row, AreValues, IsValue, heading_of, unpack_fields, unpack_rows, value_at, value_cmp}
 use Rattle.td_value.proofs.KnownValues.{has_its_type}
-use Rattle.td_eval.specs.OperatorValues.{at_most, comparison_value, component_value, components_of, equality_value, extracted_value, is_zero, literal_value, measure_value, membership_value, of_truth, on_number, on_numbers, on_text, on_truth, on_truths, only_tuple, operator_value, prefix_value, quotient, relation_where, signed}
+use Rattle.td_eval.specs.OperatorValues.{at_most, comparison_value, component_value, components_of, equality_value, extracted_value, is_zero, literal_value, measure_value, membership_value, of_truth, on_number, on_numbers, on_text, on_truth, on_truths, only_tuple, operator_value, prefix_value, quotient, relation_where, signed_number}
 use Rattle.td_eval.specs.TreeTexts.{IsUtf8Literal}
 use Rattle.td_eval.specs.ValueTypes.{IsOfType, KeepsType}
 use Rattle.td_eval.proofs.code_lemmas.KeepsClosure.{closure_keeps}
@@ -43,7 +43,7 @@ module _ (ds : List DeclaredType) where
 
   pub literal_keeps : (l : Literal) → IsUtf8Literal l → KeepsType ds (Valued (literal_type l)) (literal_value l)
   unfolding IsStrictlySortedBy
-  literal_keeps (number minus magnitude) p = in_range_keeps ds (signed minus magnitude)
+  literal_keeps (number minus magnitude) p = in_range_keeps ds (signed_number minus magnitude)
   literal_keeps (text content) p = (p, refl)
   literal_keeps (truth b) p = (tt, refl)
   literal_keeps table_dee p = ((((tt, tt, refl), tt), (tt, tt), tt), (refl, tt, (tt, tt)))
@@ -280,7 +280,7 @@ module _ (ds : List DeclaredType) where
       by_tests false b d e = tt
 
   pub choice_keeps : (x y z : Outcome Type') (o p q : Outcome Val) → KeepsType ds x o → KeepsType ds y p → KeepsType ds z q
-      → KeepsType ds (with_both x (paired y z) (λ c both. choice_type c both.0 both.1)) (with_value o (λ v. on_truth v (λ b. if b then p else q)))
+      → KeepsType ds (with_both x (both_types y z) (λ c both. choice_type c both.0 both.1)) (with_value o (λ v. on_truth v (λ b. if b then p else q)))
   choice_keeps (Valued c) (Valued s) (Valued t) o p q k l m = chosen c s t o p q k l m
   choice_keeps (Valued c) (Valued s) (Refused bs) o p q k l m = tt
   choice_keeps (Valued c) (Refused bs) (Valued t) o p q k l m = tt

@@ -18,7 +18,7 @@ use Rattle.td_types.proofs.Made.{type_at-heading_from}
 use Rattle.td_types.proofs.Meanings.{known_heading, pack_unpack}
 use Rattle.td_value.proofs.Packed.{pack_unpack_fields, pack_unpack_rows}
 use Rattle.td_value.specs.KnownValues.{HasHeading, HasType}
-use Rattle.td_value.specs.Sets.{placed, put_in, set_of}
+use Rattle.td_value.specs.Sets.{with_item_placed, put_in, set_of}
 use Rattle.td_value.specs.Values.{Val, relation_value, tuple, relation, AreFields, Fields, IsTuple, IsTupleOf, IsValue, Relation, Rows, Tuple, entry_cmp, heading_of, pack_fields, relation_of, tuple_cmp, tuple_names, tuple_of, type_of, unpack_fields, unpack_rows}
 use Rattle.td_value.specs.code.Views.{relation_view}
 use Rattle.td_value.proofs.KnownValues.{by_values, has_its_type, has_known_type}
@@ -37,7 +37,7 @@ module _ {K : Type 0} (R : K → K → Ordering) (P : K → Type 0) where
   put_in_all x [] p h = (p, tt)
   put_in_all x (y ∷ ys) p h = by_order (R x y) (put_in_all x ys p h.1)
     where
-      by_order : (o : Ordering) → AllByRecursion P (put_in R x ys) → AllByRecursion P (placed o x y ys (put_in R x ys))
+      by_order : (o : Ordering) → AllByRecursion P (put_in R x ys) → AllByRecursion P (with_item_placed o x y ys (put_in R x ys))
       by_order Less rest = (p, h)
       by_order Equal rest = h
       by_order Greater rest = (h.0, rest)

@@ -36,7 +36,7 @@ use Rattle.td_eval.specs.OperatorValues.{comparison_value, component_value, exte
 use Rattle.td_eval.specs.TreeTexts.{HasTexts, HaveTexts, ItemsHaveTexts, PartsHaveTexts}
 use Rattle.td_eval.specs.TreeValues.{argument_values, entry_values, items_in_tuples, value_of, values_in_tuples}
 use Rattle.td_eval.specs.ValueTypes.{IsOfType, IsTypedTuple, KeepsScope, KeepsType, ValuesKeepTypes}
-use Rattle.td_eval.specs.Worlds.{World, innermost_value, known_outcome, name_value, selected, with_tuples}
+use Rattle.td_eval.specs.Worlds.{World, innermost_value, known_outcome, name_value, selector_outcome, with_tuples}
 use Rattle.td_eval.proofs.code_lemmas.KeepsGathered.{member_from_all}
 use Rattle.td_eval.proofs.code_lemmas.KeepsAggregates.{aggregation_keeps}
 use Rattle.td_eval.proofs.code_lemmas.KeepsExtension.{PartsKeep}
@@ -192,14 +192,14 @@ module _ (w : World) (scope : Scope) (k : KeepsScope w scope) where
       (with_value (known_or causes.NameUnknown (known_relvar scope n)) (λ r. Valued (types.relation (pack r.heading)))) (known_outcome (w.relvar n))
       (innermost_found ds n s h) (relvar_keeps n (known_relvar scope n) refl)
 
-  select_keeps : (n : List ℕ) (ts : List Type') (vs : List Val) → AreOf ds ts vs → KeepsType ds (selector_type ds n ts) (selected w n vs)
+  select_keeps : (n : List ℕ) (ts : List Type') (vs : List Val) → AreOf ds ts vs → KeepsType ds (selector_type ds n ts) (selector_outcome w n vs)
   select_keeps n ts vs all = by_option (declared_at n ds) refl
     where
       by_option : (o : Option DeclaredType) → declared_at n ds ≡ o
-          → KeepsType ds (with_value (known_or causes.NameUnknown o) (λ d. value_if (are_types_of ts d.components) (types.user n) causes.TypeMismatch)) (selected w n vs)
+          → KeepsType ds (with_value (known_or causes.NameUnknown o) (λ d. value_if (are_types_of ts d.components) (types.user n) causes.TypeMismatch)) (selector_outcome w n vs)
       by_option (Some d) e =
           let x = k.selectors n d e in
-          test_keeps ds (are_types_of ts d.components) (types.user n) causes.TypeMismatch (selected w n vs)
+          test_keeps ds (are_types_of ts d.components) (types.user n) causes.TypeMismatch (selector_outcome w n vs)
           (λ fit. rw (KeepsType, x.1) (x.2 vs (components_are ds ts vs d.components all fit)))
       by_option None e = tt
 
@@ -255,7 +255,7 @@ module _ (w : World) (scope : Scope) (k : KeepsScope w scope) where
         (keeps operand s h n.0 x)
         (λ t v q. postfix_keeps ds op v t n.1 q)
     keeps (select ty arguments) s h n x =
-        made_keeps ds (AreOf ds) (types_of (with_tuples scope s) arguments) (argument_values w s arguments) (selector_type ds ty) (selected w ty)
+        made_keeps ds (AreOf ds) (types_of (with_tuples scope s) arguments) (argument_values w s arguments) (selector_type ds ty) (selector_outcome w ty)
         (arguments_keep arguments s h n x) (λ ts vs q. select_keeps ty ts vs q)
     keeps (component rest operand) s h n x =
         value_keeps ds (type_of (with_tuples scope s) operand) (value_of w s operand) (component_type ds rest) (component_value w.scope.types rest)

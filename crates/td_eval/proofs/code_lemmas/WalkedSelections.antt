@@ -4,7 +4,7 @@ use Rattle.td_check.specs.OperatorTypes.{are_types_of}
 use Rattle.td_eval.specs.DatabaseWorlds.{constraint_value, world_of_types}
 use Rattle.td_eval.specs.declared.sight.Sight.{Sight}
 use Rattle.td_eval.specs.code.Sights.{IsSelector, seen_by}
-use Rattle.td_eval.specs.Worlds.{selected}
+use Rattle.td_eval.specs.Worlds.{selector_outcome}
 use Rattle.td_tree.specs.declared.cause.Cause.TheVariants as causes
 use Rattle.td_tree.specs.declared.fault.Fault.{Fault}
 use Rattle.td_tree.specs.Outcomes.{Answers, Outcome, Refused, Only, named_cause, value_if, with_value}
@@ -23,14 +23,14 @@ module _ {B : Type 0} (sight : Sight B) (n : List ℕ) (place : ℕ) (d : Declar
       (λ u. with_value (constraint_value (world_of_types sight.types.now (take place sight.types.now)) d vs)
       (λ holds. value_if holds (selected_value u) causes.TypeConstraint))
 
-  selected_is : selected (seen_by sight) n vs ≡ by_types (are_types_of (map type_of vs) d.components) d.name
+  selected_is : selector_outcome (seen_by sight) n vs ≡ by_types (are_types_of (map type_of vs) d.components) d.name
   selected_is = ap given_by is.selector
 
   -- components that have not the types of its own
-  pub mismatched : are_types_of (map type_of vs) d.components ≡ false → named_cause (selected (seen_by sight) n vs) ≡ Some causes.TypeMismatch
+  pub mismatched : are_types_of (map type_of vs) d.components ≡ false → named_cause (selector_outcome (seen_by sight) n vs) ≡ Some causes.TypeMismatch
   mismatched e = ap named_cause (selected_is ∙ ap (λ b. by_types b d.name) e)
 
   -- components that have
   pub constructed_of : are_types_of (map type_of vs) d.components ≡ true → (x : Result Val Fault) → Answers (λ v. v) x (by_types true n)
-      → Answers (λ v. v) x (selected (seen_by sight) n vs)
+      → Answers (λ v. v) x (selector_outcome (seen_by sight) n vs)
   constructed_of e x a = subst (Answers (λ (v : Val). v) x) (sym (selected_is ∙ ap (λ b. by_types b d.name) e ∙ ap (by_types true) is.named)) a

@@ -20,7 +20,7 @@ use Rattle.td_eval.specs.DatabaseWorlds.{Selectors, selectors_of, types_alone, w
 use Rattle.td_eval.specs.TreeValues.{value_of}
 use Rattle.td_eval.specs.ValueLaws.{HasLater, IsChecked, LaterEntriesChangeNothing, SelectsTheSame}
 use Rattle.td_eval.specs.ValueTypes.{DefinitionsAreWritten, IsWritten}
-use Rattle.td_eval.specs.Worlds.{World, selected}
+use Rattle.td_eval.specs.Worlds.{World, selector_outcome}
 use Rattle.td_eval.proofs.law_lemmas.KnownRelvars.{fronted, known_as_base, known_as_virtual, known_in_more, known_name, named, named_more, never_none, no_base, of_all, one_more_world, some_of, stays_behind, unnamed}
 use Rattle.td_eval.proofs.law_lemmas.LaterTypes.{AreTypedTypes, all_select, selected_by, stays}
 use Rattle.td_eval.proofs.law_lemmas.MoreWorlds.{HasMoreThan, same_in_more}
@@ -37,7 +37,7 @@ module _ (first second : Database) (later : HasLater first second) (is_typed : A
       ap (λ (xs : List DeclaredType). fold (with_selector second.types) (λ m. None) xs n) later.types.1
       ∙ ap (λ (s : Selectors). s n) (fold-append (with_selector second.types) (λ m. None) first.types later.types.0)
       ∙ stays second.types later.types.0 (selectors_of second.types first.types) n x.0 x.1 in
-      let here : selected (types_alone [] (selectors_of second.types second.types)) n vs ≡ x.0 vs = rw (selected, there) refl in
+      let here : selector_outcome (types_alone [] (selectors_of second.types second.types)) n vs ≡ x.0 vs = rw (selector_outcome, there) refl in
       selected_by v (selectors_of second.types second.types) n vs f ∙ here ∙ x.2 vs h
       ∙ sym (selected_by w (selectors_of first.types first.types) n vs e)
 

@@ -32,7 +32,7 @@ use Rattle.td_eval.specs.OperatorValues.{truth_value}
 use Rattle.td_eval.specs.TreeValues.{value_of}
 use Rattle.td_eval.specs.ValueLaws.{IsChecked}
 use Rattle.td_eval.specs.ValueTypes.{AreComponentsOf, ConstraintsAreWritten, IsWritten, KeepsScope}
-use Rattle.td_eval.specs.Worlds.{World, selected}
+use Rattle.td_eval.specs.Worlds.{World, selector_outcome}
 use Rattle.td_eval.proofs.code_lemmas.KeepsGathered.{all_from_members}
 use Rattle.td_eval.proofs.law_lemmas.MoreWorlds.{HasMoreThan, same_in_more}
 use Rattle.td_eval.proofs.law_lemmas.TypedDatabases.{components_known, typed_databases_keep_scopes, shrunk, some_same}
@@ -92,15 +92,15 @@ types_keep ds h =
 -- ---- selectors
 
 -- the selectors of a world
-pub selected_by : (w : World) (s : Selectors) (n : List ℕ) (vs : List Val) → w.selector ≡ s → selected w n vs ≡ selected (types_alone [] s) n vs
-selected_by w s n vs e = ap (λ (t : Selectors). selected (types_alone [] t) n vs) e
+pub selected_by : (w : World) (s : Selectors) (n : List ℕ) (vs : List Val) → w.selector ≡ s → selector_outcome w n vs ≡ selector_outcome (types_alone [] s) n vs
+selected_by w s n vs e = ap (λ (t : Selectors). selector_outcome (types_alone [] t) n vs) e
 
 -- the selectors of the types, as they are where these alone are known
 pub record SelectThose (front : List DeclaredType) (selectors : Selectors) : Type 0 where
   pub found :
       (n : List ℕ) (d : DeclaredType) → declared_at n front ≡ Some d
       → (f : List Val → Outcome Val) × (selectors n ≡ Some f)
-      × ((vs : List Val) → AreComponentsOf front d vs → f vs ≡ selected (world_of_types front front) n vs)
+      × ((vs : List Val) → AreComponentsOf front d vs → f vs ≡ selector_outcome (world_of_types front front) n vs)
   pub missing : (n : List ℕ) → declared_at n front ≡ None → selectors n ≡ None
 
 -- which world that has them has more
@@ -111,7 +111,7 @@ types_more front rest all selectors e s =
       types = (rest, e);
       relvars = λ n r is. is;
       values = λ n k. refl;
-      selectors = λ n d vs is h. let x = s.found n d is in rw (selected, x.1) (x.2 vs h);
+      selectors = λ n d vs is h. let x = s.found n d is in rw (selector_outcome, x.1) (x.2 vs h);
     }
 
 pub parts_shrunk : (ds more : List DeclaredType) (a : AreDeclared ds) (ps : Parts) (cs : List Attribute) → AreKnown ds (pack cs)
@@ -213,17 +213,17 @@ module _ (front : List DeclaredType) (d : DeclaredType) (is_typed : AreTypedType
   abbrev Selects : Selectors → List ℕ → DeclaredType → Type 0
   Selects selectors n c =
       (f : List Val → Outcome Val) × (selectors n ≡ Some f)
-      × ((vs : List Val) → AreComponentsOf wide c vs → f vs ≡ selected (world_of_types wide wide) n vs)
+      × ((vs : List Val) → AreComponentsOf wide c vs → f vs ≡ selector_outcome (world_of_types wide wide) n vs)
 
   -- the selectors of all types of the list, where it is these
   its_own : selectors_of wide wide ≡ with_selector wide (selectors_of wide front) d
   its_own = fold-append (with_selector wide) (λ n. None) front (d ∷ [])
 
   own_selected : (n : List ℕ) (f : List Val → Outcome Val) (vs : List Val) → with_selector wide (selectors_of wide front) d n ≡ Some f
-      → selected (world_of_types wide wide) n vs ≡ f vs
+      → selector_outcome (world_of_types wide wide) n vs ≡ f vs
   own_selected n f vs is =
       let there : selectors_of wide wide n ≡ Some f = ap (λ (s : Selectors). s n) its_own ∙ is in
-      rw (selected, there) refl
+      rw (selector_outcome, there) refl
 
   front_declared : AreDeclared front
   front_declared = AreDeclared-front front (d ∷ []) is_typed.declared

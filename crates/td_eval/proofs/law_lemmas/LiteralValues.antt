@@ -33,7 +33,7 @@ use Rattle.td_eval.specs.DatabaseWorlds.{constraint_value, selector_value, selec
 use Rattle.td_eval.specs.LiteralValues.{EachInFields, EachInParts, EachInRows, EachUserValue, LiteralsHaveTheirValues, MeetConstraint, Selects, SelectorsGiveWhatMeets, StoredLiteralsHaveTheirValues}
 use Rattle.td_eval.specs.OperatorValues.{components_of, element_of, headed_value, of_relation, tuple_from}
 use Rattle.td_eval.specs.TreeValues.{argument_values, entry_values, value_of}
-use Rattle.td_eval.specs.Worlds.{World, selected}
+use Rattle.td_eval.specs.Worlds.{World, selector_outcome}
 use Rattle.td_eval.proofs.law_lemmas.LaterTypes.{selected_by}
 use Rattle.td_eval.proofs.law_lemmas.LiteralTypes.{heading_means}
 use Rattle.td_eval.proofs.law_lemmas.MentionedTypes.{chosen}
@@ -94,7 +94,7 @@ module _ (w : World) (s : List Tuple) where
     value_is (integer (pos n)) t p h m = rw (in_range (pos n) p) refl
     value_is (integer (negsuc n)) t p h m = rw (in_range (negsuc n) p) refl
     value_is (char c) t p h m = refl
-    value_is (user n ps) t p h m = ap (λ o. with_value o (selected w n)) (parts_are ps h.1.components p.1 h.3 m.1) ∙ m.0
+    value_is (user n ps) t p h m = ap (λ o. with_value o (selector_outcome w n)) (parts_are ps h.1.components p.1 h.3 m.1) ∙ m.0
     value_is (tuple fs) t p h m = ap (λ o. with_value o tuple_from) (fields_are fs h.0 p.0 h.2 m) ∙ tuple_from_fields fs p.1
     value_is (relation g rs) t p h m =
         ap (λ o. with_both o (argument_values w s (row_trees rs)) headed_value) (heading_means w.scope.types g p.2 h.1)
@@ -169,32 +169,32 @@ module _ (ds : List DeclaredType) (declared : AreDeclared ds) where
 
   -- what the selector of a declared type gives
   pub own_selector : (earlier later : List DeclaredType) (d : DeclaredType) → ds ≡ earlier ++ (d ∷ later) → (vs : List Val)
-      → selected (types_alone ds (selectors_of ds ds)) d.name vs
+      → selector_outcome (types_alone ds (selectors_of ds ds)) d.name vs
       ≡ selector_value (types_alone ds (selectors_of ds earlier)) d vs
   own_selector earlier later d e vs =
       chosen ds earlier later d d.name e (none_earlier earlier later d e) (same_name-itself d.name) vs
 
   -- a user value that meets the constraint of its type is what the selector gives
   given_of_met : (n : List ℕ) (ps : Parts) (d : DeclaredType) → declared_at n ds ≡ Some d → AreOfTypes ds ps d.components
-      → MeetConstraint ds n ps → selected (types_alone ds (selectors_of ds ds)) n (components_of ps) ≡ Valued (user n ps)
+      → MeetConstraint ds n ps → selector_outcome (types_alone ds (selectors_of ds ds)) n (components_of ps) ≡ Valued (user n ps)
   given_of_met n ps d is h met =
       let at = stands_in n ds d is in
       let vs = components_of ps in
       let earlier = at.0 in
       let w = types_alone ds (selectors_of ds earlier) in
       let fit = types_fit ds vs d.components (subst (λ qs. AreOfTypes ds qs d.components) (sym (packed_components ps)) h) in
-      subst (λ k. selected (types_alone ds (selectors_of ds ds)) k vs ≡ Valued (user k ps)) at.3
+      subst (λ k. selector_outcome (types_alone ds (selectors_of ds ds)) k vs ≡ Valued (user k ps)) at.3
       (own_selector earlier at.1 d at.2 vs ∙ selector_of_met w d vs fit (met earlier at.1 d at.2 at.3)
       ∙ ap (λ qs. Valued (user d.name qs)) (packed_components ps))
 
   -- what a selector gives meets the constraint
-  pub met_of_given : (n : List ℕ) (vs : List Val) (v : Val) → selected (types_alone ds (selectors_of ds ds)) n vs ≡ Valued v
+  pub met_of_given : (n : List ℕ) (vs : List Val) (v : Val) → selector_outcome (types_alone ds (selectors_of ds ds)) n vs ≡ Valued v
       → (earlier later : List DeclaredType) (d : DeclaredType) → ds ≡ earlier ++ (d ∷ later) → d.name ≡ n
       → constraint_value (types_alone ds (selectors_of ds earlier)) d vs ≡ Valued true
   met_of_given n vs v gives earlier later d e named =
       let given : selector_value (types_alone ds (selectors_of ds earlier)) d vs ≡ Valued v =
       sym (own_selector earlier later d e vs)
-      ∙ subst (λ k. selected (types_alone ds (selectors_of ds ds)) k vs ≡ Valued v) (sym named) gives in
+      ∙ subst (λ k. selector_outcome (types_alone ds (selectors_of ds ds)) k vs ≡ Valued v) (sym named) gives in
       (selector_gives (types_alone ds (selectors_of ds earlier)) d vs v given).1
 
 -- what follows, for a user value of a type, from two things that hold of it, holds of each in a value of a type
@@ -227,7 +227,7 @@ module _ (ds : List DeclaredType) (P R Q : List ℕ → Parts → Type 0)
 
 -- what a selector of the database gives
 pub selects : (db : Database) (n : List ℕ) (vs : List Val)
-    → selected (world_of db) n vs ≡ selected (types_alone db.types (selectors_of db.types db.types)) n vs
+    → selector_outcome (world_of db) n vs ≡ selector_outcome (types_alone db.types (selectors_of db.types db.types)) n vs
 selects db n vs = selected_by (world_of db) (selectors_of db.types db.types) n vs (world_selectors db)
 
 pub selectors_give_what_meets : SelectorsGiveWhatMeets

@@ -31,7 +31,7 @@ use Rattle.td_value.proofs.KnownValues.{kept}
 use Rattle.td_eval.specs.DatabaseWorlds.{Selectors, selector_value, selectors_of, types_alone, with_selector, world_of_types}
 use Rattle.td_eval.specs.ValueLaws.{AgreeOnTypes, SelectsTheSame}
 use Rattle.td_eval.specs.ValueTypes.{AreComponentsOf}
-use Rattle.td_eval.specs.Worlds.{World, selected, with_tuples}
+use Rattle.td_eval.specs.Worlds.{World, selector_outcome, with_tuples}
 use Rattle.td_eval.proofs.law_lemmas.LaterTypes.{AreTypedTypes, IsValuedAlike, SelectThose, alike_in_more, all_select, first_typed, parts_shrunk, selector_same, stays, types_keep, types_more}
 use Rattle.td_eval.proofs.law_lemmas.MentionedValues.{values_depend_on_mentions}
 use Rattle.td_eval.proofs.law_lemmas.TypedDatabases.{some_same}
@@ -81,7 +81,7 @@ some_before all (x ∷ xs) s n k = by_option (s n) refl (some_before all xs (wit
 -- the first type of a name has the selector
 pub chosen : (all earlier later : List DeclaredType) (d : DeclaredType) (n : List ℕ) → all ≡ earlier ++ (d ∷ later) → declared_at n earlier ≡ None
     → same_name d.name n ≡ true → (vs : List Val)
-    → selected (world_of_types all all) n vs ≡ selector_value (types_alone all (selectors_of all earlier)) d vs
+    → selector_outcome (world_of_types all all) n vs ≡ selector_value (types_alone all (selectors_of all earlier)) d vs
 chosen all earlier later d n e none named vs =
     let f = selector_value (types_alone all (selectors_of all earlier)) d in
     let here : with_selector all (selectors_of all earlier) d n ≡ Some f = rw (with_selector, none_before all earlier none_yet n refl none, named) refl in
@@ -89,7 +89,7 @@ chosen all earlier later d n e none named vs =
     ap (λ (xs : List DeclaredType). fold (with_selector all) none_yet xs n) e
     ∙ ap (λ (s : Selectors). s n) (fold-append (with_selector all) none_yet earlier (d ∷ later))
     ∙ stays all later (with_selector all (selectors_of all earlier) d) n f here in
-    rw (selected, there) refl
+    rw (selector_outcome, there) refl
 
 parts_grown : (ds more : List DeclaredType) (ps : Parts) (cs : List Attribute) → AreOfTypes ds ps cs → AreOfTypes (ds ++ more) ps cs
 parts_grown ds more no_parts [] h = tt
@@ -112,7 +112,7 @@ module _ (among : List ℕ → Bool) (first second : List DeclaredType) (is_type
   -- the selector of the name gives the same
   abbrev SelectsAlike : List ℕ → DeclaredType → Type 0
   SelectsAlike n d =
-      (vs : List Val) → AreComponentsOf first d vs → selected (world_of_types second second) n vs ≡ selected (world_of_types first first) n vs
+      (vs : List Val) → AreComponentsOf first d vs → selector_outcome (world_of_types second second) n vs ≡ selector_outcome (world_of_types first first) n vs
 
   abbrev FrontAlike : List DeclaredType → Type 0
   FrontAlike front = (n : List ℕ) (d : DeclaredType) → IsTrue (among n) → declared_at n front ≡ Some d → SelectsAlike n d
@@ -135,10 +135,10 @@ module _ (among : List ℕ → Bool) (first second : List DeclaredType) (is_type
 
     -- a selector of the front, where all of the first list are known
     front_same : (n : List ℕ) (b : DeclaredType) (vs : List Val) → declared_at n front ≡ Some b → AreComponentsOf front b vs
-        → selected (world_of_types first first) n vs ≡ selected (world_of_types front front) n vs
+        → selector_outcome (world_of_types first first) n vs ≡ selector_outcome (world_of_types front front) n vs
     front_same n b vs is h =
         let y = front_selects.found n b is in
-        rw (selected, stays_on first front (d ∷ rest) n y.0 e y.1) (y.2 vs h)
+        rw (selector_outcome, stays_on first front (d ∷ rest) n y.0 e y.1) (y.2 vs h)
 
     -- the type itself, where it stands in the second list
     module _ (n : List ℕ) (m : IsTrue (among n)) (at_first : declared_at n first ≡ Some d) (named : same_name d.name n ≡ true)
@@ -158,8 +158,8 @@ module _ (among : List ℕ → Bool) (first second : List DeclaredType) (is_type
           let x = some_before second earlier none_yet k (mentioned_earlier t is k c) in
           let big : AreComponentsOf first b vs =
           (h.0, subst (λ ds. AreOfTypes ds (pack_parts vs) b.components) (sym e) (parts_grown front (d ∷ rest) (pack_parts vs) b.components h.1)) in
-          let here : selected there k vs ≡ x.0 vs = rw (selected, x.1) refl in
-          let all : selected (world_of_types second second) k vs ≡ x.0 vs = rw (selected, stays_on second earlier (d ∷ later) k x.0 at_second x.1) refl in
+          let here : selector_outcome there k vs ≡ x.0 vs = rw (selector_outcome, x.1) refl in
+          let all : selector_outcome (world_of_types second second) k vs ≡ x.0 vs = rw (selector_outcome, stays_on second earlier (d ∷ later) k x.0 at_second x.1) refl in
           here ∙ sym all ∙ alike k b (agree.constraints n d t m at_first is k c) found vs big ∙ front_same k b vs found h
 
       valued_alike : IsValuedAlike front d wide_typed there

@@ -7,7 +7,7 @@ use Rattle.td_check.specs.Mentions.{in_tuples, mentioned_by_name, relvars_in, re
 use Rattle.td_check.specs.OperatorTypes.{count_item, aggregate_item, aggregate_type, are_types_of, choice_type, comparison_type, component_type, extension_type, extracted_type, headed_type, known_or, listed_type, measure_type, operator_type, over_relation, postfix_type, prefix_type, selector_type, tuple_type, restriction_type}
 use Rattle.td_check.specs.Scopes.{KnownRelvar, Scope, entered_with, innermost, known_relvar}
 use Rattle.td_check.specs.StaticLaws.{AgreeOn, GiveNames, GivesNames, HasMore, ItemsGiveNames, PartsGiveNames, UsersAllIn, UsersIn}
-use Rattle.td_check.specs.StaticTypes.{items_of, named_types, paired, type_of, types_of, with_items}
+use Rattle.td_check.specs.StaticTypes.{items_of, named_types, both_types, type_of, types_of, with_items}
 use Rattle.td_check.proofs.AgreementLaws.{agree_entered, heading_follows, one_is}
 use Rattle.td_check.proofs.CarriedLaws.{Each}
 use Rattle.td_check.proofs.MentionLaws.{carried, items_carried_in, named_carried}
@@ -31,7 +31,7 @@ use Rattle.td_eval.specs.TreeTexts.{HasTexts, HaveTexts, ItemsHaveTexts, PartsHa
 use Rattle.td_eval.specs.TreeValues.{argument_values, entry_values, items_in_tuples, value_of, values_in_tuples}
 use Rattle.td_eval.specs.ValueLaws.{HasTheSame, SelectsTheSame, ValuesDependOnMentions}
 use Rattle.td_eval.specs.ValueTypes.{AreComponentsOf, IsOfType, IsTypedTuple, KeepsScope, KeepsType}
-use Rattle.td_eval.specs.Worlds.{World, innermost_value, known_outcome, name_value, selected, with_tuples}
+use Rattle.td_eval.specs.Worlds.{World, innermost_value, known_outcome, name_value, selector_outcome, with_tuples}
 use Rattle.td_eval.proofs.law_lemmas.AlikeOutcomes.{both_alike, over_same, with_alike}
 use Rattle.td_eval.proofs.law_lemmas.AlikeRows.{AreAlikeIn, aggregated_alike, extended_alike, restricted_alike}
 use Rattle.td_eval.proofs.law_lemmas.AlikeSummaries.{SummandsAlikeIn, summarized_alike}
@@ -157,7 +157,7 @@ module _ (among : List ℕ → Bool) (scope : Scope) (w v : World) (k : KeepsSco
 
   select_same : (n : List ℕ) (ts : List Type') (t : Type') (o : Outcome (List Val)) → SelectsTheSame scope w v n → selector_type ds n ts ≡ Valued t
       → ((d : DeclaredType) (vs : List Val) → are_types_of ts d.components ≡ true → o ≡ Valued vs → AreComponentsOf ds d vs)
-      → with_value o (selected v n) ≡ with_value o (selected w n)
+      → with_value o (selector_outcome v n) ≡ with_value o (selector_outcome w n)
   select_same n ts t (Refused cs) same is h = refl
   select_same n ts t (Valued vs) same is h =
       let d = value_of_with (known_or causes.NameUnknown (declared_at n ds)) (λ d. value_if (are_types_of ts d.components) (types.user n) causes.TypeMismatch) t is in
@@ -271,7 +271,7 @@ module _ (among : List ℕ → Bool) (scope : Scope) (w v : World) (k : KeepsSco
     same (select ty arguments) s t h n x a is =
         let hs = map heading_of s in
         let y = value_of_with (types_of (here hs) arguments) (selector_type ds ty) t is in
-        ap (λ o. with_value o (selected v ty))
+        ap (λ o. with_value o (selector_outcome v ty))
         (same_arguments arguments s y.0 h n x (rest_types hs (ty ∷ []) (types_in_all arguments) (relvars_in_all (here hs) arguments) a) y.1)
         ∙ select_same ty y.0 t (argument_values w s arguments)
         (a.types_agree ty (Contains-append_left (ty ∷ []) (types_in_all arguments) ty (one_is ty))).1 y.2
@@ -388,7 +388,7 @@ module _ (among : List ℕ → Bool) (scope : Scope) (w v : World) (k : KeepsSco
         (λ r xs typed agreed known. same_items items s r xs typed h n.1 x.1 agreed known)))
     same (choice condition consequent alternative) s t h n x a is =
         let hs = map heading_of s in
-        let y = values_of_both (type_of (here hs) condition) (paired (type_of (here hs) consequent) (type_of (here hs) alternative))
+        let y = values_of_both (type_of (here hs) condition) (both_types (type_of (here hs) consequent) (type_of (here hs) alternative))
         (λ t both. choice_type t both.0 both.1) t is in
         let z = values_of_both (type_of (here hs) consequent) (type_of (here hs) alternative) (λ s t. Valued (s, t)) y.1 y.3 in
         let others = rest_part hs (types_in condition) (types_in consequent ++ types_in alternative) (relvars_in (here hs) condition)

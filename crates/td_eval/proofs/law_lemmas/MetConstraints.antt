@@ -12,7 +12,7 @@ use Rattle.td_eval.specs.DatabaseWorlds.{constraint_value, selector_value, selec
 use Rattle.td_eval.specs.LiteralValues.{EachInFields, EachInParts, EachInRows, EachUserValue, LaterTypesKeepWhatMeets, MeetConstraint, Selects, WhatSelectorsGiveMeets}
 use Rattle.td_eval.specs.OperatorValues.{components_of}
 use Rattle.td_eval.specs.ValueTypes.{AreComponentsOf}
-use Rattle.td_eval.specs.Worlds.{selected}
+use Rattle.td_eval.specs.Worlds.{selector_outcome}
 use Rattle.td_eval.proofs.law_lemmas.LaterEntries.{selectors_stay}
 use Rattle.td_eval.proofs.law_lemmas.LaterTypes.{AreTypedTypes}
 use Rattle.td_eval.proofs.law_lemmas.LiteralValues.{each, met_of_given, own_selector, packed_components, selector_gives, selectors_give_what_meets, selects}
@@ -22,7 +22,7 @@ use Rattle.td_eval.proofs.code_lemmas.OpElements.{components_unpacked}
 -- ---- what a selector gives
 
 module _ (ds : List DeclaredType) (declared : AreDeclared ds) (n : List ℕ) (vs : List Val) (v : Val)
-    (gives : selected (world_of_types ds ds) n vs ≡ Valued v) where
+    (gives : selector_outcome (world_of_types ds ds) n vs ≡ Valued v) where
   -- is the user value of its components
   is_of_components : v ≡ user n (pack_parts vs)
   is_of_components = by_option (declared_at n ds) refl
@@ -30,12 +30,12 @@ module _ (ds : List DeclaredType) (declared : AreDeclared ds) (n : List ℕ) (vs
       by_option : (o : Option DeclaredType) → declared_at n ds ≡ o → v ≡ user n (pack_parts vs)
       by_option None none =
           let missing : selectors_of ds ds n ≡ None = none_before ds ds (λ _. None) n refl none in
-          absurd (let e = rw (selected, missing) at gives in cc)
+          absurd (let e = rw (selector_outcome, missing) at gives in cc)
       by_option (Some d) is =
           let at = stands_in n ds d is in
           let given : selector_value (types_alone ds (selectors_of ds at.0)) d vs ≡ Valued v =
           sym (own_selector ds declared at.0 at.1 d at.2 vs)
-          ∙ subst (λ k. selected (world_of_types ds ds) k vs ≡ Valued v) (sym at.3) gives in
+          ∙ subst (λ k. selector_outcome (world_of_types ds ds) k vs ≡ Valued v) (sym at.3) gives in
           (selector_gives (types_alone ds (selectors_of ds at.0)) d vs v given).0 ∙ ap (λ k. user k (pack_parts vs)) at.3
 
   meets : MeetConstraint ds n (pack_parts vs)

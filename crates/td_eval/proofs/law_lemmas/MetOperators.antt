@@ -10,7 +10,7 @@ use Rattle.td_eval.proofs.code_lemmas.KeepsGathered.{member_from_all}
 use Rattle.td_eval.proofs.code_lemmas.KeepsRelations.{all_made}
 use Rattle.td_eval.proofs.law_lemmas.MetRelations.{EntryMeets, RelationMeets, TupleMeets, ValuesMeet, closure_meets, composition_meets, extended_meets, fields_meet, grouped_meets, join_meets, product_meets, projected_meets, relation_meets, renamed_meets, restriction_meets, rows_meet, set_attributes_meet, set_meets, union_meets, unnested_meets, unpacked_meet, value_meets, wrapped_meets}
 use Rattle.td_eval.specs.LiteralValues.{EachInParts, EachUserValue}
-use Rattle.td_eval.specs.OperatorValues.{additions_of, at_most, columns_values, comparison_value, component_value, components_of, element_of, extended_value, extracted_value, headed_value, is_true, is_zero, less_or_equal, less_than, listed_value, literal_value, measure_value, membership_value, nested_names, of_relation, of_truth, on_number, on_relation, on_relations, on_text, on_truth, on_tuple, only_tuple, operator_value, postfix_value, prefix_value, projected_names, quotient, relation_where, restricted_value, set_value, signed, truth_value, tuple_from, value_or_false}
+use Rattle.td_eval.specs.OperatorValues.{additions_of, at_most, columns_values, comparison_value, component_value, components_of, element_of, extended_value, extracted_value, headed_value, is_true, is_zero, less_or_equal, less_than, listed_value, literal_value, measure_value, membership_value, nested_names, of_relation, of_truth, on_number, on_relation, on_relations, on_text, on_truth, on_tuple, only_tuple, operator_value, postfix_value, prefix_value, projected_names, quotient, relation_where, restricted_value, set_value, signed_number, truth_value, tuple_from, value_or_false}
 use Rattle.td_group.specs.Closure.{closure}
 use Rattle.td_group.specs.Nesting.{grouped_relation, unnested_relation, wrapped_relation}
 use Rattle.td_tree.specs.declared.cause.Cause.TheVariants as causes
@@ -87,7 +87,7 @@ module _ (P : List ℕ → Parts → Type 0) where
   -- ---- literals, and operators of one operand
 
   pub literal_meets : (l : Literal) → GivesMet (literal_value l)
-  literal_meets (number minus magnitude) = in_range_meets (signed minus magnitude)
+  literal_meets (number minus magnitude) = in_range_meets (signed_number minus magnitude)
   literal_meets (text content) = tt
   literal_meets (truth b) = tt
   literal_meets table_dee = (tt, tt)

@@ -14,7 +14,7 @@ use Rattle.td_eval.specs.AggregateValues.{aggregated_value, asked_of, summary_at
 use Rattle.td_eval.specs.MetConstraints.{EachInTuple, EachInValues, GivesOnly}
 use Rattle.td_eval.specs.OperatorValues.{comparison_value, component_value, extended_value, extracted_value, headed_value, listed_value, measure_value, on_relation, on_truth, operator_value, postfix_value, prefix_value, restricted_value, tuple_from}
 use Rattle.td_eval.specs.TreeValues.{argument_values, entry_values, items_in_tuples, value_of, values_in_tuples}
-use Rattle.td_eval.specs.Worlds.{World, innermost_value, known_outcome, name_value, selected, with_tuples}
+use Rattle.td_eval.specs.Worlds.{World, innermost_value, known_outcome, name_value, selector_outcome, with_tuples}
 use Rattle.td_tree.specs.Outcomes.{Outcome, Valued, Refused}
 use Rattle.td_tree.specs.Trees.{Tree, literal, name, parentheses, prefix, extract, restriction, binary, compare, postfix, select, component, measure, aggregate, relation, headed_relation, tuple, extend, summarize_per, summarize_by, choice, Trees, none, more, NamedTrees, none_named, more_named, Summaries, no_summaries, counted, summed, project}
 use Rattle.td_types.specs.TypeLists.{heading_meant}
@@ -91,8 +91,8 @@ module _ (P : List ℕ → Parts → Type 0) where
       value_has (postfix operand op) s m =
           gives_with (HasOnly P) (HasOnly P) (value_of w s operand) (postfix_value op) (value_has operand s m) (postfix_meets P op)
       value_has (select ty arguments) s m =
-          gives_with (AllByRecursion (HasOnly P)) (HasOnly P) (argument_values w s arguments) (selected w ty) (arguments_have arguments s m)
-          (λ vs a. gives_met P (selected w ty vs) (λ v e. gives.selectors ty vs v a e))
+          gives_with (AllByRecursion (HasOnly P)) (HasOnly P) (argument_values w s arguments) (selector_outcome w ty) (arguments_have arguments s m)
+          (λ vs a. gives_met P (selector_outcome w ty vs) (λ v e. gives.selectors ty vs v a e))
       value_has (component rest operand) s m =
           gives_with (HasOnly P) (HasOnly P) (value_of w s operand) (component_value w.scope.types rest) (value_has operand s m)
           (component_meets P w.scope.types rest)

@@ -13,7 +13,7 @@ use Rattle.td_eval.specs.DatabaseWorlds.{with_other, with_virtual_value, world_o
 use Rattle.td_eval.specs.LiteralValues.{EachInParts, MeetConstraint}
 use Rattle.td_eval.specs.MetConstraints.{GivesOnly, ValuesMeetConstraints}
 use Rattle.td_eval.specs.TreeValues.{value_of}
-use Rattle.td_eval.specs.Worlds.{World, selected}
+use Rattle.td_eval.specs.Worlds.{World, selector_outcome}
 use Rattle.td_tree.specs.Outcomes.{Outcome, Valued}
 use Rattle.td_types.specs.Types.{same_name}
 use Rattle.td_value.specs.Values.{Val, Parts, Relation, pack_parts, relation_value}
@@ -67,7 +67,7 @@ module _ (P : List ℕ → Parts → Type 0) where
 
 module _ (db : Database) (is_typed : IsTyped db) where
   selectors_give : (n : List ℕ) (vs : List Val) (v : Val) → AllByRecursion (HasOnly (MeetConstraint db.types)) vs
-      → selected (world_of_bases db) n vs ≡ Valued v → HasOnly (MeetConstraint db.types) v
+      → selector_outcome (world_of_bases db) n vs ≡ Valued v → HasOnly (MeetConstraint db.types) v
   selectors_give n vs v h e =
       let P = MeetConstraint db.types in
       let given = what_selectors_give_meets db n vs v is_typed (selects db n vs ∙ e) in

@@ -10,14 +10,14 @@ use Rattle.td_check.specs.declared.scope.Kind.TheVariants as kinds
 use Rattle.td_check.specs.OperatorTypes.{are_types_of, choice_type, comparison_type, component_type, extension_type, extracted_type, headed_type, known_or, listed_type, measure_type, mismatch, named_part, operator_type, over_relation, per_heading, postfix_type, prefix_type, restriction_type, selector_type, summary_type, tuple_type}
 use Rattle.td_check.specs.Scopes.{KnownRelvar, Scope, entered_with, innermost, known_relvar}
 use Rattle.td_check.specs.StaticLaws.{GiveNames, GivesNames, HasMore, PartsGiveNames}
-use Rattle.td_check.specs.StaticTypes.{items_of, name_type, named_types, paired, type_of, types_of, with_items}
+use Rattle.td_check.specs.StaticTypes.{items_of, name_type, named_types, both_types, type_of, types_of, with_items}
 use Rattle.td_check.proofs.StaticLaws.{more_changes_no_parts}
-use Rattle.td_eval.specs.OperatorValues.{comparison_value, component_value, extended_value, extracted_value, headed_value, listed_value, literal_value, measure_value, on_relation, on_truth, operator_value, postfix_value, prefix_value, restricted_value, signed, tuple_from}
+use Rattle.td_eval.specs.OperatorValues.{comparison_value, component_value, extended_value, extracted_value, headed_value, listed_value, literal_value, measure_value, on_relation, on_truth, operator_value, postfix_value, prefix_value, restricted_value, signed_number, tuple_from}
 use Rattle.td_eval.specs.TreeTexts.{HasTexts, HaveTexts, PartsHaveTexts}
 use Rattle.td_eval.specs.TreeValues.{argument_values, entry_values, value_of, values_in_tuples}
 use Rattle.td_eval.specs.AggregateValues.{summary_value}
 use Rattle.td_eval.specs.ValueTypes.{IsOfType, IsTypedTuple, KeepsType}
-use Rattle.td_eval.specs.Worlds.{World, innermost_value, known_outcome, name_value, selected, with_tuples}
+use Rattle.td_eval.specs.Worlds.{World, innermost_value, known_outcome, name_value, selector_outcome, with_tuples}
 use Rattle.td_eval.proofs.law_lemmas.TypedArguments.{arguments_typed, known_is}
 use Rattle.td_eval.proofs.code_lemmas.TypedRows.{rows_typed}
 use Rattle.td_eval.proofs.code_lemmas.TypedTrees.{innermost_typed, keeps}
@@ -41,7 +41,7 @@ use Rattle.td_value.specs.Values as values
 -- ---- nodes
 
 -- a number that is in range has its value
-number_static : (minus : Bool) (n : ℕ) → IsInRangeLiteral (number minus n) → IsStatic (of_number (signed minus n))
+number_static : (minus : Bool) (n : ℕ) → IsInRangeLiteral (number minus n) → IsStatic (of_number (signed_number minus n))
 number_static false n h = let low : nat_lt n (2 ^ 63) ≡ true = grind (arith, nat_tests, h) in rw low tt
 number_static true zero h = tt
 number_static true (suc n) h = let low : nat_lt n (2 ^ 63) ≡ true = grind (arith, nat_tests, h) in rw low tt
@@ -122,7 +122,7 @@ module _ (w : World) (scope : Scope) (k : GivesValues w scope) where
       found : declared_at n ds ≡ Some declared.0
       found = known_is causes.NameUnknown (declared_at n ds) declared.0 declared.1
 
-      by_values : (o : Outcome (List Val)) → argument_values w s es ≡ o → IsStatic o → IsStatic (with_value o (selected w n))
+      by_values : (o : Outcome (List Val)) → argument_values w s es ≡ o → IsStatic o → IsStatic (with_value o (selector_outcome w n))
       by_values (Refused cs) e static = static
       by_values (Valued vs) e static =
           let fit = (value_of_test (are_types_of kinds_are.0 declared.0.components) (types.user n) t causes.TypeMismatch declared.2).0 in
@@ -259,7 +259,7 @@ module _ (w : World) (scope : Scope) (k : GivesValues w scope) where
     tree_static (summarize_by operand by (summed op value a rest)) s t h n x m is never = absurd (cc)
     tree_static (choice condition consequent alternative) s t h n x m is never =
         let sc = with_tuples scope s in
-        let y = values_of_both (type_of sc condition) (paired (type_of sc consequent) (type_of sc alternative)) (λ c both. choice_type c both.0 both.1) t is in
+        let y = values_of_both (type_of sc condition) (both_types (type_of sc consequent) (type_of sc alternative)) (λ c both. choice_type c both.0 both.1) t is in
         let z = values_of_both (type_of sc consequent) (type_of sc alternative) (λ a b. Valued (a, b)) y.1 y.3 in
         let free = second_true (cannot_fail sc condition) _ never in
         with_static (value_of w s condition) (λ v. on_truth v (λ b. if b then value_of w s consequent else value_of w s alternative))

@@ -6,7 +6,7 @@ use Rattle.td_check.specs.OperatorTypes.{are_types_of}
 use Rattle.td_check.specs.Scopes.{KnownRelvar, Scope, known_relvar}
 use Rattle.td_eval.specs.DatabaseWorlds.{Selectors, constraint_value, selector_value, types_alone, with_other, with_selector, world_of}
 use Rattle.td_eval.specs.ValueTypes.{AreComponentsOf, KeepsScope, KeepsType}
-use Rattle.td_eval.specs.Worlds.{World, selected}
+use Rattle.td_eval.specs.Worlds.{World, selector_outcome}
 use Rattle.td_eval.proofs.code_lemmas.AddedInTurn.{stays}
 use Rattle.td_eval.proofs.law_lemmas.KnownRelvars.{known_as_virtual, never_none, some_one}
 use Rattle.td_eval.proofs.law_lemmas.OtherRelations.{other_relations_keep_scopes}
@@ -56,8 +56,8 @@ free_static w d vs free =
     let met : constraint_value w d vs ≡ Valued true = rw free refl in
     subst (λ (o : Outcome Bool). IsStatic (with_value o (λ holds. value_if holds (selected_value u) causes.TypeConstraint))) (sym met) tt)
 
-selected_is : (w : World) (n : List ℕ) (vs : List Val) (f : List Val → Outcome Val) → w.selector n ≡ Some f → selected w n vs ≡ f vs
-selected_is w n vs f e = rw (selected, e) refl
+selected_is : (w : World) (n : List ℕ) (vs : List Val) (f : List Val → Outcome Val) → w.selector n ≡ Some f → selector_outcome w n vs ≡ f vs
+selected_is w n vs f e = rw (selector_outcome, e) refl
 
 -- ---- databases
 
@@ -83,12 +83,12 @@ module _ (db : Database) (keeps : KeepsScope (world_of db) (world_of db).scope) 
       by_base None is = by_virtual (virtual_named n db) (known_as_virtual db n is)
 
   free_selected : (n : List ℕ) (d : DeclaredType) (vs : List Val) → declared_at n (world_of db).scope.types ≡ Some d → d.constraint ≡ None
-      → AreComponentsOf (world_of db).scope.types d vs → (v : Val) × (selected (world_of db) n vs ≡ Valued v)
+      → AreComponentsOf (world_of db).scope.types d vs → (v : Val) × (selector_outcome (world_of db) n vs ≡ Valued v)
   free_selected n d vs e free h =
       let found = selector_found db.types db.types (λ m. None) n d refl (ap (λ (s : Scope). declared_at n s.types) (sym (world_scope db)) ∙ e) in
       let is : (world_of db).selector n ≡ Some (selector_value (types_alone db.types found.0) d) = ap (λ (f : Selectors). f n) (world_selectors db) ∙ found.1 in
       let x = keeps.selectors n d e in
-      let v = has_value (world_of db).scope.types (types.user n) (selected (world_of db) n vs)
+      let v = has_value (world_of db).scope.types (types.user n) (selector_outcome (world_of db) n vs)
       (subst (KeepsType (world_of db).scope.types (Valued (types.user n))) (sym (selected_is (world_of db) n vs x.0 x.1)) (x.2 vs h))
       (subst (λ (o : Outcome Val). IsStatic o) (sym (selected_is (world_of db) n vs (selector_value (types_alone db.types found.0) d) is))
       (free_static (types_alone db.types found.0) d vs free)) in

@@ -46,7 +46,7 @@ pub fn aggregate_of(asked: Agg, values: &[Value]) -> Result<Value, Fault>
 }
 
 /// The aggregate of the values that were answered.
-pub fn aggregated(op: Aggregate, values: Result<Vec<Value>, Fault>) -> Result<Value, Fault>
+pub fn value_of_aggregate(op: Aggregate, values: Result<Vec<Value>, Fault>) -> Result<Value, Fault>
     ensures { (o : Outcome (List Val)) → Answers (λ vs. vs.items) values o
         → Answers (λ v. v) result (with_value o (aggregate_of (asked_of op))) }
 {

@@ -47,7 +47,7 @@ pub fn tuple_in(v: &Value) -> Result<&Tuple, Fault>
 }
 
 /// The value that must be found, else that cause.
-pub fn known(found: Option<&Value>, cause: Cause) -> Result<Value, Fault>
+pub fn value_or_cause(found: Option<&Value>, cause: Cause) -> Result<Value, Fault>
     ensures { Answers (λ v. v) result
         (known_or {A = Val} cause (option_map (λ v. v.now) found.entry)) }
 {

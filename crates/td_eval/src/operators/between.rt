@@ -5,7 +5,7 @@ ghost use Rattle.td_value.specs.Values.{Val};
 
 use crate::operators::arithmetic::{difference, product, quotient, sum};
 use crate::operators::relational::{
-    composed, intersected, joined, matched, multiplied, subtracted, united, unmatched,
+    composition_value, intersection_value, join_value, semijoin_value, product_value, difference_value, union_value, semidifference_value,
 };
 use crate::operators::simple::{concatenation, conjunction, disjunction};
 use std::alloc::Global;
@@ -26,14 +26,14 @@ fn operator_value(
     match op {
         Operator::Or => disjunction(first, second),
         Operator::And => conjunction(first, second),
-        Operator::Union => united(alloc, first, second),
-        Operator::Intersect => intersected(alloc, first, second),
-        Operator::Minus => subtracted(alloc, first, second),
-        Operator::Join => joined(alloc, first, second),
-        Operator::Times => multiplied(alloc, first, second),
-        Operator::Compose => composed(alloc, first, second),
-        Operator::Matching => matched(alloc, first, second),
-        Operator::NotMatching => unmatched(alloc, first, second),
+        Operator::Union => union_value(alloc, first, second),
+        Operator::Intersect => intersection_value(alloc, first, second),
+        Operator::Minus => difference_value(alloc, first, second),
+        Operator::Join => join_value(alloc, first, second),
+        Operator::Times => product_value(alloc, first, second),
+        Operator::Compose => composition_value(alloc, first, second),
+        Operator::Matching => semijoin_value(alloc, first, second),
+        Operator::NotMatching => semidifference_value(alloc, first, second),
         Operator::Add => sum(first, second),
         Operator::Subtract => difference(first, second),
         Operator::Concatenate => concatenation(alloc, first, second),
@@ -43,7 +43,7 @@ fn operator_value(
 }
 
 /// The value of an operator between operands of these values.
-pub fn operated(
+pub fn value_of_operator(
     alloc: Global,
     op: Operator,
     first: Result<Value, Fault>,

@@ -152,7 +152,7 @@ fn comparison_value(
 }
 
 /// The value of a comparison of operands of these values.
-pub fn compared(
+pub fn value_of_comparison(
     alloc: Global,
     op: Comparison,
     first: Result<Value, Fault>,

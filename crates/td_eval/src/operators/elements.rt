@@ -69,7 +69,7 @@ pub fn listed_value(alloc: Global, elements: Vec<Value>) -> Result<Value, Fault>
 }
 
 /// The relation of the heading with the elements, by what is answered of both.
-pub fn headed(
+pub fn value_of_headed(
     alloc: Global,
     heading: Result<Heading, Fault>,
     elements: Result<Vec<Value>, Fault>,

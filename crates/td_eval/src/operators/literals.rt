@@ -2,7 +2,7 @@
 ghost use Rattle.std.specs.Prelude.{FitsSigned};
 ghost use Rattle.std.specs.Int.{w64};
 ghost use Rattle.std.specs.Option.{SomeIff};
-ghost use Rattle.td_eval.specs.OperatorValues.{literal_value, signed};
+ghost use Rattle.td_eval.specs.OperatorValues.{literal_value, signed_number};
 ghost use Rattle.td_tree.specs.Outcomes.{Answers};
 ghost use Rattle.td_tree.specs.code.TreeViews.{literal_view};
 ghost use Rattle.td_tree.specs.Trees.{table_dee, table_dum};
@@ -17,8 +17,8 @@ use td_value::tuple::Tuple;
 use td_value::value::Value;
 
 /// The number of a magnitude with its sign, where it is in range.
-fn signed(minus: bool, magnitude: u64) -> Option<i64>
-    ensures { SomeIff result (FitsSigned w64 (signed minus magnitude)) (signed minus magnitude) }
+fn signed_number(minus: bool, magnitude: u64) -> Option<i64>
+    ensures { SomeIff result (FitsSigned w64 (signed_number minus magnitude)) (signed_number minus magnitude) }
 {
     if magnitude < MAX_MAGNITUDE {
         let number = magnitude as i64;
@@ -51,7 +51,7 @@ pub fn literal_value(alloc: Global, literal: &Literal) -> Result<Value, Fault>
     ensures { Answers (λ v. v) result (literal_value (literal_view literal.now)) }
 {
     match literal {
-        Literal::Number { minus, magnitude } => Value::in_range(signed(*minus, *magnitude)),
+        Literal::Number { minus, magnitude } => Value::in_range(signed_number(*minus, *magnitude)),
         Literal::Text(content) => Ok(Value::shared_text(content.clone()?)),
         Literal::Truth(b) => Ok(Value::bool(*b)),
         Literal::TableDee => table_dee(alloc),

@@ -35,7 +35,7 @@ fn nested_names(
 }
 
 /// The relation with attributes put into one of a relation type.
-pub(crate) fn grouped(
+pub(crate) fn grouped_value(
     alloc: Global,
     rel: &Rel,
     attributes: &Attributes,
@@ -50,7 +50,7 @@ pub(crate) fn grouped(
 }
 
 /// The relation with attributes put into one of a tuple type.
-pub(crate) fn wrapped(
+pub(crate) fn wrapped_value(
     alloc: Global,
     rel: &Rel,
     attributes: &Attributes,

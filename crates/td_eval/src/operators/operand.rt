@@ -10,8 +10,8 @@ ghost use Rattle.td_types.specs.Types.{attribute_names};
 ghost use Rattle.td_types.specs.code.Views.{pairs_view};
 ghost use Rattle.td_value.specs.Values.{selected_value, value_at};
 
-use crate::operators::asked::{known, relation_in, truth, tuple_in};
-use crate::operators::unnesting::closed;
+use crate::operators::asked::{value_or_cause, relation_in, truth, tuple_in};
+use crate::operators::unnesting::closure_value;
 use std::alloc::Global;
 use std::rc::RcStr;
 use td_tree::cause::Cause;
@@ -25,7 +25,7 @@ use td_value::user::User;
 use td_value::value::{Node, Value};
 
 /// The number with the other sign.
-fn negated(operand: &Value) -> Result<Value, Fault>
+fn negative_value(operand: &Value) -> Result<Value, Fault>
     ensures { Answers (λ v. v) result (prefix_value prefixes.Negate operand.now) }
 {
     match &operand.node {
@@ -50,8 +50,8 @@ pub fn prefix_value(alloc: Global, op: Prefix, operand: &Value) -> Result<Value,
 {
     match op {
         Prefix::Not => Ok(Value::bool(!truth(operand)?)),
-        Prefix::Negate => negated(operand),
-        Prefix::TransitiveClosure => closed(alloc, relation_in(operand)?),
+        Prefix::Negate => negative_value(operand),
+        Prefix::TransitiveClosure => closure_value(alloc, relation_in(operand)?),
         Prefix::TupleFrom => only_tuple(alloc, relation_in(operand)?),
     }
 }
@@ -60,7 +60,7 @@ pub fn prefix_value(alloc: Global, op: Prefix, operand: &Value) -> Result<Value,
 pub fn extracted_value(name: &Name, operand: &Value) -> Result<Value, Fault>
     ensures { Answers (λ v. v) result (extracted_value name.now operand.now) }
 {
-    known(tuple_in(operand)?.get(name), Cause::Heading)
+    value_or_cause(tuple_in(operand)?.get(name), Cause::Heading)
 }
 
 /// The value of the component whose name is the text.
@@ -94,7 +94,7 @@ fn user_component(types: &TypeTable, name: &RcStr, user: &User) -> Result<Value,
         return Err(Fault::Refused(Cause::NameUnknown));
     };
     let found = component_named(name, entry.components(), user.components());
-    known(found, Cause::NameUnknown)
+    value_or_cause(found, Cause::NameUnknown)
 }
 
 /// The value of `THE_C(e)`, by what follows `THE_`.

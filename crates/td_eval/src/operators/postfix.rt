@@ -11,9 +11,9 @@ ghost use Rattle.td_types.specs.Headings.{can_rename, has_projection};
 ghost use Rattle.td_types.specs.Types.{attribute_names};
 
 use crate::operators::asked::relation_in;
-use crate::operators::nesting::{grouped, wrapped};
+use crate::operators::nesting::{grouped_value, wrapped_value};
 use crate::operators::relational::{as_value, fit};
-use crate::operators::unnesting::{ungrouped, unwrapped};
+use crate::operators::unnesting::{ungrouped_value, unwrapped_value};
 use std::alloc::{AllocError, Global};
 use td_algebra::projection::project;
 use td_algebra::renaming::rename;
@@ -61,7 +61,7 @@ fn projected_off(alloc: Global, rel: &Rel, names: &[Name]) -> Result<Value, Faul
 }
 
 /// The relation with some of its attributes alone.
-fn projected(alloc: Global, rel: &Rel, attributes: &Attributes) -> Result<Value, Fault>
+fn projected_value(alloc: Global, rel: &Rel, attributes: &Attributes) -> Result<Value, Fault>
     ensures { Answers (λ v. v) result (relation_where
         (has_projection (listed_names (attributes_view attributes.now)) rel.now.heading)
         (projected_relation
@@ -78,11 +78,11 @@ pub fn projected_by(alloc: Global, operand: &Value, attributes: &Attributes) -> 
     ensures { Answers (λ v. v) result
         (postfix_value (project (attributes_view attributes.now)) operand.now) }
 {
-    projected(alloc, relation_in(operand)?, attributes)
+    projected_value(alloc, relation_in(operand)?, attributes)
 }
 
 /// The relation with attributes renamed.
-fn renamed(alloc: Global, rel: &Rel, renamings: &[Renaming]) -> Result<Value, Fault>
+fn renamed_value(alloc: Global, rel: &Rel, renamings: &[Renaming]) -> Result<Value, Fault>
     ensures { Answers (λ v. v) result (relation_where
         (can_rename (renaming_pairs (map renaming_view renamings.now)) rel.now.heading)
         (renamed_relation (renaming_pairs (map renaming_view renamings.now)) rel.now)) }
@@ -98,14 +98,14 @@ pub fn postfix_value(alloc: Global, op: &Postfix, operand: &Value) -> Result<Val
 {
     match op {
         Postfix::Project(attributes) => projected_by(alloc, operand, attributes),
-        Postfix::Rename(renamings) => renamed(alloc, relation_in(operand)?, renamings),
+        Postfix::Rename(renamings) => renamed_value(alloc, relation_in(operand)?, renamings),
         Postfix::Group(attributes, name) => {
-            grouped(alloc, relation_in(operand)?, attributes, name)
+            grouped_value(alloc, relation_in(operand)?, attributes, name)
         }
-        Postfix::Ungroup(name) => ungrouped(alloc, relation_in(operand)?, name),
+        Postfix::Ungroup(name) => ungrouped_value(alloc, relation_in(operand)?, name),
         Postfix::Wrap(attributes, name) => {
-            wrapped(alloc, relation_in(operand)?, attributes, name)
+            wrapped_value(alloc, relation_in(operand)?, attributes, name)
         }
-        Postfix::Unwrap(name) => unwrapped(alloc, relation_in(operand)?, name),
+        Postfix::Unwrap(name) => unwrapped_value(alloc, relation_in(operand)?, name),
     }
 }

@@ -46,7 +46,7 @@ pub fn as_value(alloc: Global, found: Result<Rel, AllocError>) -> Result<Value, 
 }
 
 /// The tuples of either of two relations.
-pub fn united(alloc: Global, first: &Value, second: &Value) -> Result<Value, Fault>
+pub fn union_value(alloc: Global, first: &Value, second: &Value) -> Result<Value, Fault>
     ensures { Answers (λ v. v) result (operator_value operators.Union first.now second.now) }
 {
     let (rel, other) = relations(first, second)?;
@@ -55,7 +55,7 @@ pub fn united(alloc: Global, first: &Value, second: &Value) -> Result<Value, Fau
 }
 
 /// The tuples of both of two relations.
-pub fn intersected(alloc: Global, first: &Value, second: &Value) -> Result<Value, Fault>
+pub fn intersection_value(alloc: Global, first: &Value, second: &Value) -> Result<Value, Fault>
     ensures { Answers (λ v. v) result (operator_value operators.Intersect first.now second.now) }
 {
     let (rel, other) = relations(first, second)?;
@@ -64,7 +64,7 @@ pub fn intersected(alloc: Global, first: &Value, second: &Value) -> Result<Value
 }
 
 /// The tuples of the first of two relations that are not in the second.
-pub fn subtracted(alloc: Global, first: &Value, second: &Value) -> Result<Value, Fault>
+pub fn difference_value(alloc: Global, first: &Value, second: &Value) -> Result<Value, Fault>
     ensures { Answers (λ v. v) result (operator_value operators.Minus first.now second.now) }
 {
     let (rel, other) = relations(first, second)?;
@@ -73,7 +73,7 @@ pub fn subtracted(alloc: Global, first: &Value, second: &Value) -> Result<Value,
 }
 
 /// The join of two relations.
-pub fn joined(alloc: Global, first: &Value, second: &Value) -> Result<Value, Fault>
+pub fn join_value(alloc: Global, first: &Value, second: &Value) -> Result<Value, Fault>
     ensures { Answers (λ v. v) result (operator_value operators.Join first.now second.now) }
 {
     let (rel, other) = relations(first, second)?;
@@ -82,7 +82,7 @@ pub fn joined(alloc: Global, first: &Value, second: &Value) -> Result<Value, Fau
 }
 
 /// The product of two relations.
-pub fn multiplied(alloc: Global, first: &Value, second: &Value) -> Result<Value, Fault>
+pub fn product_value(alloc: Global, first: &Value, second: &Value) -> Result<Value, Fault>
     ensures { Answers (λ v. v) result (operator_value operators.Times first.now second.now) }
 {
     let (rel, other) = relations(first, second)?;
@@ -91,7 +91,7 @@ pub fn multiplied(alloc: Global, first: &Value, second: &Value) -> Result<Value,
 }
 
 /// The composition of two relations.
-pub fn composed(alloc: Global, first: &Value, second: &Value) -> Result<Value, Fault>
+pub fn composition_value(alloc: Global, first: &Value, second: &Value) -> Result<Value, Fault>
     ensures { Answers (λ v. v) result (operator_value operators.Compose first.now second.now) }
 {
     let (rel, other) = relations(first, second)?;
@@ -100,7 +100,7 @@ pub fn composed(alloc: Global, first: &Value, second: &Value) -> Result<Value, F
 }
 
 /// The tuples of the first of two relations that have a partner in the second.
-pub fn matched(alloc: Global, first: &Value, second: &Value) -> Result<Value, Fault>
+pub fn semijoin_value(alloc: Global, first: &Value, second: &Value) -> Result<Value, Fault>
     ensures { Answers (λ v. v) result (operator_value operators.Matching first.now second.now) }
 {
     let (rel, other) = relations(first, second)?;
@@ -109,7 +109,7 @@ pub fn matched(alloc: Global, first: &Value, second: &Value) -> Result<Value, Fa
 }
 
 /// The tuples of the first of two relations that have none.
-pub fn unmatched(alloc: Global, first: &Value, second: &Value) -> Result<Value, Fault>
+pub fn semidifference_value(alloc: Global, first: &Value, second: &Value) -> Result<Value, Fault>
     ensures { Answers (λ v. v) result
         (operator_value operators.NotMatching first.now second.now) }
 {

@@ -18,7 +18,7 @@ use td_value::user::User;
 use td_value::value::Value;
 
 /// The names of the components with the values.
-fn named(
+fn component_entries(
     alloc: Global,
     components: &[(Name, Ty)],
     values: &[Value],
@@ -47,11 +47,11 @@ pub fn component_tuple(
     ensures { Answers (λ t. t) result
         (made_tuple (zip (attribute_names (pairs_view components.now)) values.now)) }
 {
-    Tuple::new(alloc, named(alloc, components, values)?)
+    Tuple::new(alloc, component_entries(alloc, components, values)?)
 }
 
 /// The user value of the components, where the type's constraint holds.
-pub fn constructed(
+pub fn user_value(
     alloc: Global,
     name: &Name,
     values: Vec<Value>,

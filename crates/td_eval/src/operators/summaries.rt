@@ -23,8 +23,8 @@ ghost use Rattle.td_value.specs.Values.{Relation, Val};
 use crate::extension::ask_new;
 use crate::operators::aggregates::{aggregate_of, asked_of};
 use crate::operators::relational::fit;
-use crate::operators::tuplewise::extended;
-use crate::rows::{named_column, typed};
+use crate::operators::tuplewise::extension_value;
+use crate::rows::{named_column, value_of_its_type};
 use crate::sight::Sight;
 use std::alloc::Global;
 use td_algebra::extension::Column;
@@ -45,7 +45,7 @@ use td_value::tuple::Tuple;
 use td_value::value::Value;
 
 /// Each tuple of PER with its group: refused where PER's heading is no part of the operand's.
-pub fn grouped(alloc: Global, rel: &Rel, per: &Rel) -> Result<Vec<(Tuple, Rel)>, Fault>
+pub fn groups_by_per(alloc: Global, rel: &Rel, per: &Rel) -> Result<Vec<(Tuple, Rel)>, Fault>
     ensures { Answers (λ gs. gs.items) result
         (value_if (is_part per.now.heading rel.now.heading) (groups rel.now per.now)
         causes.Heading) }
@@ -150,7 +150,7 @@ fn total_values(
     let mut causes = Gathering::new();
     let mut values = Vec::with_capacity(alloc, groups.len())?;
     for group in groups {
-        let value = typed(ty, aggregate_of(asked, group));
+        let value = value_of_its_type(ty, aggregate_of(asked, group));
         causes.collect(&mut values, value)?;
     }
     causes.finish(values)
@@ -194,11 +194,11 @@ pub fn summary_by(
 {
     ask_new(alloc, attributes, per.heading())?;
     let columns = total_columns(alloc, attributes, totals)?;
-    extended(alloc, per, columns)
+    extension_value(alloc, per, columns)
 }
 
 /// The tuples of PER with what the items give of their groups.
-pub(crate) fn summarized<B: Body>(
+pub(crate) fn extended_per<B: Body>(
     sight: &Sight<'_, B>,
     tuples: &[Tuple],
     rel: &Rel,

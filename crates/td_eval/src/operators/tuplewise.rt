@@ -19,7 +19,7 @@ use td_value::relation::Rel;
 use td_value::value::Value;
 
 /// The tuples whose truth values are TRUE.
-pub fn restricted(
+pub fn restriction_value(
     alloc: Global,
     operand: &Rel,
     truths: Result<Vec<bool>, Fault>,
@@ -34,7 +34,7 @@ pub fn restricted(
 }
 
 /// The tuples with new attributes, whose values are given as columns.
-pub fn extended(alloc: Global, operand: &Rel, columns: Vec<(Name, Column)>) -> Result<Value, Fault>
+pub fn extension_value(alloc: Global, operand: &Rel, columns: Vec<(Name, Column)>) -> Result<Value, Fault>
     requires distinct { IsTrue (are_distinct
         (attribute_names (column_attributes (columns_view columns.items)))) }
     requires new { IsTrue (have_no_common

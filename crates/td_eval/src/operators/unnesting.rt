@@ -44,7 +44,7 @@ fn tuple_part<'a>(heading: &'a Heading, name: &Name) -> Result<&'a Heading, Faul
 }
 
 /// The relation with the tuples of an attribute of a relation type in its place.
-pub(crate) fn ungrouped(alloc: Global, rel: &Rel, name: &Name) -> Result<Value, Fault>
+pub(crate) fn ungrouped_value(alloc: Global, rel: &Rel, name: &Name) -> Result<Value, Fault>
     ensures { Answers (λ v. v) result
         (with_value (attribute_type name.now rel.now.heading) (λ t. over_relation t (λ part.
         relation_where (can_unnest name.now rel.now.heading)
@@ -56,7 +56,7 @@ pub(crate) fn ungrouped(alloc: Global, rel: &Rel, name: &Name) -> Result<Value, 
 }
 
 /// The relation with the attributes of an attribute of a tuple type in its place.
-pub(crate) fn unwrapped(alloc: Global, rel: &Rel, name: &Name) -> Result<Value, Fault>
+pub(crate) fn unwrapped_value(alloc: Global, rel: &Rel, name: &Name) -> Result<Value, Fault>
     ensures { Answers (λ v. v) result
         (with_value (attribute_type name.now rel.now.heading) (λ t. over_tuple t (λ part.
         relation_where (can_unnest name.now rel.now.heading)
@@ -68,7 +68,7 @@ pub(crate) fn unwrapped(alloc: Global, rel: &Rel, name: &Name) -> Result<Value, 
 }
 
 /// The transitive closure of a relation of two attributes of one type.
-pub(crate) fn closed(alloc: Global, rel: &Rel) -> Result<Value, Fault>
+pub(crate) fn closure_value(alloc: Global, rel: &Rel) -> Result<Value, Fault>
     ensures { Answers (λ v. v) result
         (relation_where (is_closable rel.now.heading) (closure rel.now)) }
 {

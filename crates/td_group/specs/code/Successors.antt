@@ -54,13 +54,13 @@ abbrev pub AreReached : (Val → List Val) → Val → List Val → Type 0
 AreReached next v found = (w : Val) → Contains found w ↔ ((us : List Val) × Leads next v us w)
 
 -- a list of values with one more, unless it is there
-abbrev pub added : List Val → Val → List Val
-added found v = if has value_cmp v found then found else found ++ v ∷ []
+abbrev pub with_value_added : List Val → Val → List Val
+with_value_added found v = if has value_cmp v found then found else found ++ v ∷ []
 
 -- and with several
 abbrev pub all_added : List Val → List Val → List Val
 all_added found [] = found
-all_added found (v ∷ vs) = all_added (added found v) vs
+all_added found (v ∷ vs) = all_added (with_value_added found v) vs
 
 -- the values seen are those of the list
 abbrev pub AreSeen : {S : Type 0} → HashSet Val S → List Val → Type 0

@@ -15,8 +15,8 @@ use Rattle.td_tree.specs.Trees.{Tree}
 use Rattle.td_parse.specs.declared.operators.Infix.{Infix}
 use Rattle.td_parse.specs.declared.operators.Infix.TheVariants as infixes
 use Rattle.td_parse.specs.declared.operators.Link.TheVariants as links
-use Rattle.td_parse.specs.Reading.{Read, applied, fits, prefixed}
-use Rattle.td_parse.specs.ReadingOperators.{comparison_of_sign, comparison_of_word, link_level, link_of_sign, link_of_word, linked, with_rest}
+use Rattle.td_parse.specs.Reading.{Read, prefix_expression, fits, unary_expression}
+use Rattle.td_parse.specs.ReadingOperators.{comparison_of_sign, comparison_of_word, link_level, link_of_sign, link_of_word, linked_tree, with_rest}
 use Rattle.td_parse.specs.ReadingSteps.{◌>>=◌, either, ReadOf, expect}
 
 -- how tightly a level binds: more than each looser one
@@ -47,7 +47,7 @@ tightest_after (infixes.Comparison op) = levels.Negation
 
 -- the tree of two operands with what stands between them
 abbrev pub infix_tree : Tree → Infix → Tree → Tree
-infix_tree left (infixes.Link link) right = linked left link right
+infix_tree left (infixes.Link link) right = linked_tree left link right
 infix_tree left (infixes.Comparison op) right = tree.compare left op right
 
 -- the operator or comparison that is this word
@@ -111,9 +111,9 @@ module _ (inner : Level → List Lexeme → Read) (depth : ℕ) where
       first >>= λ x. walk (tightness level) (suc depth) (tightness tightest) x.0 x.1
 
   -- an expression with operators between operands: its first operand, and then the walk
-  unfoldable pub walked : Level → List Lexeme → Read
-  walked level ts =
-      either (walk_from level levels.Multiplicative (prefixed inner depth ts))
+  unfoldable pub infix_expression : Level → List Lexeme → Read
+  infix_expression level ts =
+      either (walk_from level levels.Multiplicative (unary_expression inner depth ts))
       (λ after. walk_from level levels.Negation
-      (applied inner depth levels.Negation prefixes.Not after))
+      (prefix_expression inner depth levels.Negation prefixes.Not after))
       (not_at level ts)

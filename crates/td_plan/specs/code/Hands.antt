@@ -7,7 +7,7 @@ use Rattle.td_plan.specs.declared.hand.Hand.{Hand}
 use Rattle.td_plan.specs.declared.hand.Held.{Held}
 use Rattle.td_plan.specs.declared.surroundings.Surroundings.{Surroundings}
 use Rattle.td_plan.specs.declared.surroundings.ValuedRelvar.{ValuedRelvar}
-use Rattle.td_plan.specs.Plans.{Frame, unknown}
+use Rattle.td_plan.specs.Plans.{Frame, unknown_place}
 use Rattle.td_tree.specs.declared.fault.Fault.{Fault}
 use Rattle.td_tree.specs.Outcomes.{Answers, Outcome}
 use Rattle.td_value.specs.Values.{Val}
@@ -41,7 +41,7 @@ AreAnswers (r ∷ rs) (o ∷ os) = Answers (λ v. v) r o × AreAnswers rs os
 -- an answer for this outcome, or for a place that there is not
 abbrev pub IsAnswer : Option (Result Val Fault) → Outcome Val → Type 0
 IsAnswer (Some r) o = Answers (λ v. v) r o
-IsAnswer None o = o ≡ unknown
+IsAnswer None o = o ≡ unknown_place
 
 -- a frame of the same tuple, with answers for what is fixed
 abbrev pub IsHeld : Held → Frame → Type 0

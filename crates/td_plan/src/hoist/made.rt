@@ -144,7 +144,7 @@ pub(crate) fn relation(elements: Result<Vec<Step>, AllocError>) -> Result<Step, 
 
 /// A relation of tuples of a heading.
 #[inline(never)]
-pub(crate) fn headed(
+pub(crate) fn headed_relation(
     heading: Heading,
     elements: Result<Vec<Step>, AllocError>,
 ) -> Result<Step, AllocError>

@@ -53,10 +53,10 @@ end_of_marks at [] = at
 end_of_marks at (m ∷ ms) = end_of_marks m.stop ms
 
 -- where the first statement of what is left ends, the last token so far at `so_far`
-abbrev pub reached : Bool → ℕ → ℕ → List PlacedToken → ℕ
-reached finished none so_far [] = if finished then so_far else none
-reached finished none so_far (t ∷ ts) =
-    if ends t then t.stop else reached finished none t.stop ts
+abbrev pub end_of_statement : Bool → ℕ → ℕ → List PlacedToken → ℕ
+end_of_statement finished none so_far [] = if finished then so_far else none
+end_of_statement finished none so_far (t ∷ ts) =
+    if ends t then t.stop else end_of_statement finished none t.stop ts
 
 -- ---- how far the reading is
 

@@ -24,7 +24,7 @@ copy::copy_summaries-loop-summary-preserved t c =
     c.summary-item.result _ c.loop-summary.invariant c.loop-summary-test.true c.summary-item.is (c.in_ok-try_clone.ensures trees.no_summaries)
 
 pub expression::Expr::try_clone-returns-in-Postfix : goal.expression::Expr::try_clone-returns-in-Postfix
-expression::Expr::try_clone-returns-in-Postfix t c = copied_as _ _ _ (c.postfix.ensures _ _ c.boxed-in-Postfix.ensures c.try_clone-in-Postfix.ensures) (ap tree_view c.in-Postfix.is)
+expression::Expr::try_clone-returns-in-Postfix t c = copied_as _ _ _ (c.postfix.ensures _ _ c.box_with_copy-in-Postfix.ensures c.try_clone-in-Postfix.ensures) (ap tree_view c.in-Postfix.is)
 
 pub expression::Expr::try_clone-returns-in-Select : goal.expression::Expr::try_clone-returns-in-Select
 expression::Expr::try_clone-returns-in-Select t c = copied_as _ _ _ (c.select.ensures _ _ c.try_clone-in-Select.ensures c.copy_list.ensures) (ap tree_view c.in-Select.is ∙ select_is c.in-Select.ty c.in-Select.arguments)
@@ -39,10 +39,10 @@ pub expression::Expr::try_clone-returns-in-Tuple : goal.expression::Expr::try_cl
 expression::Expr::try_clone-returns-in-Tuple t c = copied_as _ _ _ (c.tuple.ensures _ c.copy_parts.ensures) (ap tree_view c.in-Tuple.is ∙ tuple_is c.in-Tuple.parts)
 
 pub expression::Expr::try_clone-returns-in-Extend : goal.expression::Expr::try_clone-returns-in-Extend
-expression::Expr::try_clone-returns-in-Extend t c = copied_as _ _ _ (c.extend.ensures _ _ c.boxed-in-Extend.ensures c.copy_parts-in-Extend.ensures) (ap tree_view c.in-Extend.is ∙ extend_is c.in-Extend.operand c.in-Extend.parts)
+expression::Expr::try_clone-returns-in-Extend t c = copied_as _ _ _ (c.extend.ensures _ _ c.box_with_copy-in-Extend.ensures c.copy_parts-in-Extend.ensures) (ap tree_view c.in-Extend.is ∙ extend_is c.in-Extend.operand c.in-Extend.parts)
 
 pub expression::Expr::try_clone-returns-in-SummarizePer : goal.expression::Expr::try_clone-returns-in-SummarizePer
-expression::Expr::try_clone-returns-in-SummarizePer t c = copied_as _ _ _ (c.summarize_per.ensures _ _ _ c.boxed-in-SummarizePer.ensures c.boxed-in-SummarizePer-2.ensures c.copy_summaries.ensures) (ap tree_view c.in-SummarizePer.is ∙ summarize_per_is c.in-SummarizePer.operand c.in-SummarizePer.per c.in-SummarizePer.added)
+expression::Expr::try_clone-returns-in-SummarizePer t c = copied_as _ _ _ (c.summarize_per.ensures _ _ _ c.box_with_copy-in-SummarizePer.ensures c.box_with_copy-in-SummarizePer-2.ensures c.copy_summaries.ensures) (ap tree_view c.in-SummarizePer.is ∙ summarize_per_is c.in-SummarizePer.operand c.in-SummarizePer.per c.in-SummarizePer.added)
 
 pub expression::Expr::try_clone-returns-in-SummarizeBy : goal.expression::Expr::try_clone-returns-in-SummarizeBy
-expression::Expr::try_clone-returns-in-SummarizeBy t c = copied_as _ _ _ (c.summarize_by.ensures _ _ _ c.boxed-in-SummarizeBy.ensures c.try_clone-in-SummarizeBy.ensures c.copy_summaries-in-SummarizeBy.ensures) (ap tree_view c.in-SummarizeBy.is ∙ summarize_by_is c.in-SummarizeBy.operand c.in-SummarizeBy.by c.in-SummarizeBy.added)
+expression::Expr::try_clone-returns-in-SummarizeBy t c = copied_as _ _ _ (c.summarize_by.ensures _ _ _ c.box_with_copy-in-SummarizeBy.ensures c.try_clone-in-SummarizeBy.ensures c.copy_summaries-in-SummarizeBy.ensures) (ap tree_view c.in-SummarizeBy.is ∙ summarize_by_is c.in-SummarizeBy.operand c.in-SummarizeBy.by c.in-SummarizeBy.added)

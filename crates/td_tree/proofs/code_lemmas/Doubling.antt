@@ -2,7 +2,7 @@
 use Rattle.std.proofs.Common.{◌≡◌, ℕ, ◌<◌, ◌+◌, Bool, true, false, cond, eqb, List, [], ◌∷◌, ◌++◌, length, get_or, drop, refl, sym, ap, ◌∙◌}
 use Rattle.std.specs.List.{slice_split, onto_first}
 use Rattle.std.proofs.lemmas.List.{at_drop_more}
-use Rattle.td_tree.specs.TextTokens.{doubled}
+use Rattle.td_tree.specs.TextTokens.{with_quotes_doubled}
 use Rattle.td_tree.specs.code.Written.{quotes_if}
 
 -- the pieces with two quotes between
@@ -27,12 +27,12 @@ joined-later (b ∷ bs) =
     elim (is_quote b) as (λ q. joined true (cond q ([] ∷ slice_split is_quote bs) (onto_first b (slice_split is_quote bs))) ≡ 39 ∷ 39 ∷ joined false (cond q ([] ∷ slice_split is_quote bs) (onto_first b (slice_split is_quote bs))))
     [ true ↦ refl | false ↦ later_onto b (slice_split is_quote bs) ]
 
-pub joined-split : (bs : List ℕ) → joined false (slice_split is_quote bs) ≡ doubled bs
+pub joined-split : (bs : List ℕ) → joined false (slice_split is_quote bs) ≡ with_quotes_doubled bs
 joined-split [] = refl
 joined-split (b ∷ bs) = by_test (joined-split bs) (is_quote b)
   where
-    by_test : joined false (slice_split is_quote bs) ≡ doubled bs → (q : Bool)
-        → joined false (cond q ([] ∷ slice_split is_quote bs) (onto_first b (slice_split is_quote bs))) ≡ cond q (39 ∷ 39 ∷ doubled bs) (b ∷ doubled bs)
+    by_test : joined false (slice_split is_quote bs) ≡ with_quotes_doubled bs → (q : Bool)
+        → joined false (cond q ([] ∷ slice_split is_quote bs) (onto_first b (slice_split is_quote bs))) ≡ cond q (39 ∷ 39 ∷ with_quotes_doubled bs) (b ∷ with_quotes_doubled bs)
     by_test rest true = joined-later bs ∙ ap (λ r. 39 ∷ 39 ∷ r) rest
     by_test rest false = joined-onto b (slice_split is_quote bs) ∙ ap (λ r. b ∷ r) rest
 

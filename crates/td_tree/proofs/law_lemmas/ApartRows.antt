@@ -2,7 +2,7 @@
 use Rattle.std.proofs.Common.{◌≡◌, ℕ, ◌+◌, List, [], ◌∷◌, ◌++◌, length, refl, sym, ap, ◌∙◌, Option, Some, None, append-nil}
 use Rattle.std.proofs.lemmas.List.{map-append}
 use Rattle.td_tree.specs.declared.token.Kind.{Kind}
-use Rattle.td_tree.specs.Apart.{IsApart, TextsApartAreSeenEach, TextsApartAreThePieces, joined}
+use Rattle.td_tree.specs.Apart.{IsApart, TextsApartAreSeenEach, TextsApartAreThePieces, joined_texts}
 use Rattle.td_tree.specs.Pieces.{kind_after}
 use Rattle.td_tree.specs.Statements.{PlacedToken, token_of, tokens}
 use Rattle.td_tree.specs.Symbols.{symbols}
@@ -16,7 +16,7 @@ first_ends t rest a = record { is = a.is; parted = symbols-append_utf8 t rest a.
 pub are_the_pieces : TextsApartAreThePieces
 are_the_pieces [] apart = refl
 are_the_pieces (t ∷ ts) apart =
-    next_piece apart.0.piece t (joined ts) (first_ends t (joined ts) apart.0) ∙ ap (λ r. symbols t ∷ r) (are_the_pieces ts apart.1)
+    next_piece apart.0.piece t (joined_texts ts) (first_ends t (joined_texts ts) apart.0) ∙ ap (λ r. symbols t ∷ r) (are_the_pieces ts apart.1)
 
 -- what is seen of a token does not depend on where it stands
 same_anywhere : (k : Option Kind) (at from : ℕ) (t : List ℕ) → lexemes (token_of k at t) ≡ lexemes (token_of k from t)
@@ -39,7 +39,7 @@ are_seen_each at [] apart = refl
 are_seen_each at (t ∷ ts) apart =
     let a = apart.0 in
     let front : List PlacedToken = token_of (kind_after a.piece t) at t in
-    ap lexemes (next_token a.piece t (joined ts) at (first_ends t (joined ts) a))
-    ∙ lexemes-append front (tokens (at + length t) (joined ts))
-    ∙ ap (λ xs. xs ++ lexemes (tokens (at + length t) (joined ts))) (same_anywhere (kind_after a.piece t) at 0 t ∙ sym (alone t (joined ts) a))
+    ap lexemes (next_token a.piece t (joined_texts ts) at (first_ends t (joined_texts ts) a))
+    ∙ lexemes-append front (tokens (at + length t) (joined_texts ts))
+    ∙ ap (λ xs. xs ++ lexemes (tokens (at + length t) (joined_texts ts))) (same_anywhere (kind_after a.piece t) at 0 t ∙ sym (alone t (joined_texts ts) a))
     ∙ ap (λ r. lexemes (tokens 0 t) ++ r) (are_seen_each (at + length t) ts apart.1)

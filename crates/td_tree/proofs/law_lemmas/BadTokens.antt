@@ -20,7 +20,7 @@ use Rattle.td_tree.specs.Numbers.{decimal_value}
 use Rattle.td_tree.specs.Pieces.{kind_after, kind_of, state, passes, text_kind, word_kind, word_kind_of}
 use Rattle.td_tree.specs.Spellings.{characters}
 use Rattle.td_tree.specs.Symbols.{Symbol, symbols, spell, AreSymbols, IsFront}
-use Rattle.td_tree.specs.TextTokens.{content, quoted}
+use Rattle.td_tree.specs.TextTokens.{content, text_in_quotes}
 use Rattle.td_tree.specs.Spans.{AreOfTheirKind}
 use Rattle.td_tree.specs.Statements.{PlacedToken, tokens}
 use Rattle.td_tree.specs.TokenLexemes.{is_the_word, is_quoted_text, lexeme_of, AreBadWhereSeen}
@@ -111,9 +111,9 @@ quoted_test : (t : List ℕ) → kind_of (symbols t) ≡ Some kinds.Text → is_
 quoted_test t is =
     let h = (are_quoted t).0 is in
     ap is_quoted_text h.is
-    ∙ ap (λ c. is_utf8 c && pointwise ◌==◌ (quoted c) (quoted h.said)) (content_quoted h.said)
-    ∙ ap (λ b. b && pointwise ◌==◌ (quoted h.said) (quoted h.said)) (is_utf8-from_IsUtf8 h.said h.utf8)
-    ∙ same_all (quoted h.said)
+    ∙ ap (λ c. is_utf8 c && pointwise ◌==◌ (text_in_quotes c) (text_in_quotes h.said)) (content_quoted h.said)
+    ∙ ap (λ b. b && pointwise ◌==◌ (text_in_quotes h.said) (text_in_quotes h.said)) (is_utf8-from_IsUtf8 h.said h.utf8)
+    ∙ same_all (text_in_quotes h.said)
 
 -- ---- tokens
 

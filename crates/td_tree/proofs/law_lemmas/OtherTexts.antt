@@ -21,7 +21,7 @@ use Rattle.td_tree.specs.Pieces.{passes}
 use Rattle.td_tree.specs.Signs.{sign_text}
 use Rattle.td_tree.specs.Spellings.{is_number_spelled, spelling, characters}
 use Rattle.td_tree.specs.Symbols.{symbols}
-use Rattle.td_tree.specs.TextTokens.{quoted}
+use Rattle.td_tree.specs.TextTokens.{text_in_quotes}
 use Rattle.td_tree.proofs.law_lemmas.Boundaries.{number_ends, sign_ends, text_ends}
 use Rattle.td_tree.proofs.law_lemmas.CharacterLaws.{characters_are}
 use Rattle.td_tree.proofs.law_lemmas.KindLaws.{as_spelled}
@@ -91,7 +91,7 @@ sign_stands s = record {
 -- ---- texts in quotes
 
 -- a text in quotes that says UTF-8 is a token
-pub text_stands : (said : List ℕ) → IsUtf8 said → Stands (quoted said) kinds.Text
+pub text_stands : (said : List ℕ) → IsUtf8 said → Stands (text_in_quotes said) kinds.Text
 text_stands said utf8 = record {
   piece = pieces_are.Text;
   is = quoted_state said;

@@ -9,7 +9,7 @@ use Rattle.td_tree.specs.Grammar as g
 use Rattle.td_tree.specs.Grammar.{TypeSpelling, HeadingSpelling, AttributesSpelling, NameSpelling, name_item, NamesSpelling, AttributeListSpelling, RenamingSpelling, PostfixSpelling, LiteralSpelling, Spelling, ListSpelling, ExpressionsSpelling, PartsSpelling, AdditionsSpelling, SummariesSpelling, operator_words, comparison_word}
 use Rattle.td_tree.specs.Lexemes.{Lexeme}
 use Rattle.td_tree.specs.Lexemes as lexeme
-use Rattle.td_tree.specs.Lists.{Listed, no_items, some_items, Separated, one_item, next_item, braced, parenthesized}
+use Rattle.td_tree.specs.Lists.{Listed, no_items, some_items, Separated, one_item, next_item, with_braces, with_parentheses}
 use Rattle.td_tree.specs.Trees.{Text, TypeTree, AttributeTrees, Attributes, Renaming, Postfix, Literal, Tree, Trees, NamedTrees, Summaries}
 
 abbrev pub IsPlain : Lexeme → Type 0
@@ -25,10 +25,10 @@ join : {xs ys : List Lexeme} → AllPlain xs → AllPlain ys → AllPlain (xs ++
 join none_left q = q
 join (also p ps) q = also p (join ps q)
 
-in_braces : {xs : List Lexeme} → AllPlain xs → AllPlain (braced xs)
+in_braces : {xs : List Lexeme} → AllPlain xs → AllPlain (with_braces xs)
 in_braces p = also tt (join p (also tt none_left))
 
-in_parentheses : {xs : List Lexeme} → AllPlain xs → AllPlain (parenthesized xs)
+in_parentheses : {xs : List Lexeme} → AllPlain xs → AllPlain (with_parentheses xs)
 in_parentheses p = also tt (join p (also tt none_left))
 
 -- ---- types

@@ -11,14 +11,14 @@ use Rattle.td_tree.specs.declared.operator.Level.{Level}
 use Rattle.td_tree.specs.declared.token.Kind.{Kind}
 use Rattle.td_tree.specs.declared.token.Kind.TheVariants as kinds
 use Rattle.td_tree.specs.Grammar.{TypeSpelling, IsExpression}
-use Rattle.td_tree.specs.Lexemes.{Lexeme, printed, spaced}
+use Rattle.td_tree.specs.Lexemes.{Lexeme, printed_text, spaced_text}
 use Rattle.td_tree.specs.Lexemes as lexeme
 use Rattle.td_tree.specs.Names.{is_name, is_word, begins_the}
 use Rattle.td_tree.specs.Numbers.{decimal_value}
 use Rattle.td_tree.specs.Prints.{lexemes_of, type_lexemes, print, type_print}
 use Rattle.td_tree.specs.Spaced.{AreItsOwnLexemes, AreItsOwnTypeLexemes, IsSpaced, PrintIsSpaced, TypePrintIsSpaced, texts_of, with_spaces}
 use Rattle.td_tree.specs.Statements.{PlacedToken, tokens}
-use Rattle.td_tree.specs.TextTokens.{content, quoted}
+use Rattle.td_tree.specs.TextTokens.{content, text_in_quotes}
 use Rattle.td_tree.specs.TokenLexemes.{is_the_word, is_quoted_text, lexeme_of, lexemes}
 use Rattle.td_tree.specs.Trees.{Tree, TypeTree}
 use Rattle.td_tree.proofs.law_lemmas.CharacterLaws.{both}
@@ -52,7 +52,7 @@ proper (kinds.Reserved k) t = tt
 proper kinds.Component t = where_it_holds (is_the_word t) (lexeme.component (drop 4 t)) (behind_the t)
 proper kinds.Name t = where_it_holds (is_utf8 t && is_name t) (lexeme.name t) (λ e. (let w = both (is_utf8 t) (is_name t) e in (IsUtf8-from_is_utf8 t w.0, w.1)))
 proper kinds.Number t = where_it_holds (list_all is_ascii_digit t) (lexeme.number (decimal_value t)) (λ e. tt)
-proper kinds.Text t = where_it_holds (is_quoted_text t) (lexeme.text (content t)) (λ e. IsUtf8-from_is_utf8 (content t) (both (is_utf8 (content t)) (pointwise ◌==◌ (quoted (content t)) t) e).0)
+proper kinds.Text t = where_it_holds (is_quoted_text t) (lexeme.text (content t)) (λ e. IsUtf8-from_is_utf8 (content t) (both (is_utf8 (content t)) (pointwise ◌==◌ (text_in_quotes (content t)) t) e).0)
 proper (kinds.Sign s) t = tt
 proper kinds.Bad t = tt
 
@@ -64,8 +64,8 @@ all_proper (t ∷ ts) = (proper t.kind t.text, all_proper ts)
 
 pub record Prints (l : Lexeme) : Type 0 where
   pub kind : Kind
-  pub stands : Stands (printed l) kind
-  pub same : lexeme_of kind (printed l) ≡ l
+  pub stands : Stands (printed_text l) kind
+  pub same : lexeme_of kind (printed_text l) ≡ l
 
 the_same : (b : Bool) (x : Lexeme) → b ≡ true → (if b then x else lexeme.bad) ≡ x
 the_same true x e = refl
@@ -75,11 +75,11 @@ the_word : (rest : List ℕ) → StandsBehindThe rest → is_the_word (codes "TH
 the_word rest h = ap (λ b. b && is_word (chars (codes "THE_" ++ rest)) && begins_the (codes "THE_" ++ rest)) (is_utf8-from_IsUtf8 (codes "THE_" ++ rest) h.utf8)
     ∙ ap (λ b. b && begins_the (codes "THE_" ++ rest)) h.word
 
-quoted_again : (said : List ℕ) → IsUtf8 said → is_quoted_text (quoted said) ≡ true
+quoted_again : (said : List ℕ) → IsUtf8 said → is_quoted_text (text_in_quotes said) ≡ true
 quoted_again said utf8 =
-    ap (λ c. is_utf8 c && pointwise ◌==◌ (quoted c) (quoted said)) (content_quoted said)
-    ∙ ap (λ b. b && pointwise ◌==◌ (quoted said) (quoted said)) (is_utf8-from_IsUtf8 said utf8)
-    ∙ same_all (quoted said)
+    ap (λ c. is_utf8 c && pointwise ◌==◌ (text_in_quotes c) (text_in_quotes said)) (content_quoted said)
+    ∙ ap (λ b. b && pointwise ◌==◌ (text_in_quotes said) (text_in_quotes said)) (is_utf8-from_IsUtf8 said utf8)
+    ∙ same_all (text_in_quotes said)
   where
     same_all : (bs : List ℕ) → pointwise ◌==◌ bs bs ≡ true
     same_all [] = refl
@@ -101,12 +101,12 @@ prints (lexeme.component rest) p q = record {
 prints (lexeme.number n) p q = record {
   kind = kinds.Number;
   stands = number_stands n p;
-  same = the_same (list_all is_ascii_digit (printed (lexeme.number n))) (lexeme.number (decimal_value (printed (lexeme.number n)))) (decimal_digits n p) ∙ ap lexeme.number (decimal_again n p);
+  same = the_same (list_all is_ascii_digit (printed_text (lexeme.number n))) (lexeme.number (decimal_value (printed_text (lexeme.number n)))) (decimal_digits n p) ∙ ap lexeme.number (decimal_again n p);
 }
 prints (lexeme.text said) p q = record {
   kind = kinds.Text;
   stands = text_stands said q;
-  same = the_same (is_quoted_text (quoted said)) (lexeme.text (content (quoted said))) (quoted_again said q) ∙ ap lexeme.text (content_quoted said);
+  same = the_same (is_quoted_text (text_in_quotes said)) (lexeme.text (content (text_in_quotes said))) (quoted_again said q) ∙ ap lexeme.text (content_quoted said);
 }
 prints lexeme.bad p q = absurd p
 
@@ -115,17 +115,17 @@ prints lexeme.bad p q = absurd p
 abbrev seen : PlacedToken → Lexeme
 seen token = lexeme_of token.kind token.text
 
-again : (ls : List Lexeme) (at : ℕ) → AllPlain ls → AllProper ls → lexemes (tokens at (spaced ls)) ≡ ls
+again : (ls : List Lexeme) (at : ℕ) → AllPlain ls → AllProper ls → lexemes (tokens at (spaced_text ls)) ≡ ls
 unfolding tokens
 again [] at p q = refl
 again (l ∷ []) at (also p ps) q =
     let w = prints l p q.0 in
-    ap lexemes (last_token (printed l) w.kind at w.stands) ∙ ap (λ x. x ∷ []) w.same
+    ap lexemes (last_token (printed_text l) w.kind at w.stands) ∙ ap (λ x. x ∷ []) w.same
 again (l ∷ m ∷ ls) at (also p ps) q =
     let w = prints l p q.0 in
-    ap lexemes (token_before_space (printed l) (spaced (m ∷ ls)) w.kind at w.stands)
-    ∙ ap (λ x. x ∷ lexemes (tokens (at + length (printed l) + 1) (spaced (m ∷ ls)))) w.same
-    ∙ ap (λ r. l ∷ r) (again (m ∷ ls) (at + length (printed l) + 1) ps q.1)
+    ap lexemes (token_before_space (printed_text l) (spaced_text (m ∷ ls)) w.kind at w.stands)
+    ∙ ap (λ x. x ∷ lexemes (tokens (at + length (printed_text l) + 1) (spaced_text (m ∷ ls)))) w.same
+    ∙ ap (λ r. l ∷ r) (again (m ∷ ls) (at + length (printed_text l) + 1) ps q.1)
 
 -- the text of an expression that some tokens spell
 pub print_spells : (level : Level) (ts : List PlacedToken) (t : Tree) → IsExpression level (lexemes ts) t → IsExpression level (lexemes (tokens 0 (print t))) t
@@ -150,28 +150,28 @@ pub own_type_lexemes : AreItsOwnTypeLexemes
 own_type_lexemes xs t p = type_is p
 
 -- the bytes of the tokens of a text of lexemes are what is printed of each
-texts_again : (ls : List Lexeme) (at : ℕ) → AllPlain ls → AllProper ls → texts_of (tokens at (spaced ls)) ≡ map printed ls
+texts_again : (ls : List Lexeme) (at : ℕ) → AllPlain ls → AllProper ls → texts_of (tokens at (spaced_text ls)) ≡ map printed_text ls
 unfolding tokens
 texts_again [] at p q = refl
 texts_again (l ∷ []) at (also p ps) q =
     let w = prints l p q.0 in
-    ap texts_of (last_token (printed l) w.kind at w.stands)
+    ap texts_of (last_token (printed_text l) w.kind at w.stands)
 texts_again (l ∷ m ∷ ls) at (also p ps) q =
     let w = prints l p q.0 in
-    ap texts_of (token_before_space (printed l) (spaced (m ∷ ls)) w.kind at w.stands)
-    ∙ ap (λ r. printed l ∷ r) (texts_again (m ∷ ls) (at + length (printed l) + 1) ps q.1)
+    ap texts_of (token_before_space (printed_text l) (spaced_text (m ∷ ls)) w.kind at w.stands)
+    ∙ ap (λ r. printed_text l ∷ r) (texts_again (m ∷ ls) (at + length (printed_text l) + 1) ps q.1)
 
-printed_with_spaces : (ls : List Lexeme) → spaced ls ≡ with_spaces (map printed ls)
+printed_with_spaces : (ls : List Lexeme) → spaced_text ls ≡ with_spaces (map printed_text ls)
 printed_with_spaces [] = refl
 printed_with_spaces (l ∷ []) = refl
-printed_with_spaces (l ∷ m ∷ ls) = ap (λ r. printed l ++ 32 ∷ r) (printed_with_spaces (m ∷ ls))
+printed_with_spaces (l ∷ m ∷ ls) = ap (λ r. printed_text l ++ 32 ∷ r) (printed_with_spaces (m ∷ ls))
 
-is_spaced : (ls : List Lexeme) → AllPlain ls → AllProper ls → IsSpaced (spaced ls) ls
+is_spaced : (ls : List Lexeme) → AllPlain ls → AllProper ls → IsSpaced (spaced_text ls) ls
 is_spaced ls p q = record { tokens_are = again ls 0 p q; text_is = printed_with_spaces ls ∙ sym (ap with_spaces (texts_again ls 0 p q)) }
 
 -- tokens that are the lexemes of a tree
-tokens_spaced : (ts : List PlacedToken) (ls : List Lexeme) → lexemes ts ≡ ls → AllPlain (lexemes ts) → IsSpaced (spaced ls) (lexemes ts)
-tokens_spaced ts ls own p = subst (λ xs. IsSpaced (spaced xs) (lexemes ts)) own (is_spaced (lexemes ts) p (all_proper ts))
+tokens_spaced : (ts : List PlacedToken) (ls : List Lexeme) → lexemes ts ≡ ls → AllPlain (lexemes ts) → IsSpaced (spaced_text ls) (lexemes ts)
+tokens_spaced ts ls own p = subst (λ xs. IsSpaced (spaced_text xs) (lexemes ts)) own (is_spaced (lexemes ts) p (all_proper ts))
 
 pub print_is_spaced : PrintIsSpaced
 print_is_spaced level ts t h = tokens_spaced ts (lexemes_of t) (expression_is h.spelled) (plain h.spelled)

@@ -16,7 +16,7 @@ use Rattle.td_tree.specs.Spans.{AreOfTheirKind, AreTexts}
 use Rattle.td_tree.specs.Spellings.{characters, quote, quotes_doubled, IsText}
 use Rattle.td_tree.specs.Statements.{PlacedToken, tokens}
 use Rattle.td_tree.specs.Symbols.{Symbol, front_bytes, front_char, symbol_of, symbol_at, symbols_from, symbols, spell}
-use Rattle.td_tree.specs.TextTokens.{doubled, quoted, IsQuotedText}
+use Rattle.td_tree.specs.TextTokens.{with_quotes_doubled, text_in_quotes, IsQuotedText}
 use Rattle.td_tree.proofs.law_lemmas.DecodeLaws.{found_is}
 use Rattle.td_tree.proofs.law_lemmas.FrontLaws.{ascii_byte, ascii_bytes, ascii_char}
 use Rattle.td_tree.proofs.law_lemmas.KindLaws.{as_spelled}
@@ -36,9 +36,9 @@ bare_more : (xs : List ℕ) (b : ℕ) → Bare xs → (b == 39) ≡ false → Ba
 bare_more [] b bare e = (e, tt)
 bare_more (x ∷ xs) b bare e = (bare.0, bare_more xs b bare.1 e)
 
-bare_doubled : (xs ys : List ℕ) → Bare xs → doubled (xs ++ ys) ≡ xs ++ doubled ys
+bare_doubled : (xs ys : List ℕ) → Bare xs → with_quotes_doubled (xs ++ ys) ≡ xs ++ with_quotes_doubled ys
 bare_doubled [] ys bare = refl
-bare_doubled (x ∷ xs) ys bare = ap (λ v. if v then 39 ∷ 39 ∷ doubled (xs ++ ys) else x ∷ doubled (xs ++ ys)) bare.0 ∙ ap (λ r. x ∷ r) (bare_doubled xs ys bare.1)
+bare_doubled (x ∷ xs) ys bare = ap (λ v. if v then 39 ∷ 39 ∷ with_quotes_doubled (xs ++ ys) else x ∷ with_quotes_doubled (xs ++ ys)) bare.0 ∙ ap (λ r. x ∷ r) (bare_doubled xs ys bare.1)
 
 high_bare : (b : ℕ) → 128 ≤ b → (b == 39) ≡ false
 high_bare b high =
@@ -142,38 +142,38 @@ at_quote xs ys =
     ap characters (symbols-append_ascii 0 xs ys 39 (omega arith) (omega arith))
     ∙ map-append (λ (s : Symbol). s.character) (symbols xs) (symbols (39 ∷ ys)) ∙ ap (λ r. spelled_of xs ++ r) (symbols_quote ys)
 
-doubled_spelled : (said front : List ℕ) → Bare front → spelled_of (front ++ doubled said) ≡ quotes_doubled (spelled_of (front ++ said))
+doubled_spelled : (said front : List ℕ) → Bare front → spelled_of (front ++ with_quotes_doubled said) ≡ quotes_doubled (spelled_of (front ++ said))
 doubled_spelled [] front bare =
     let bare_front = bare_quotes (spelled_of front) [] (bare_characters 0 front bare) in
     ap spelled_of (append-nil front) ∙ sym (append-nil (spelled_of front)) ∙ sym bare_front ∙ ap quotes_doubled (append-nil (spelled_of front)) ∙ ap (λ f. quotes_doubled (spelled_of f)) (sym (append-nil front))
 doubled_spelled (b ∷ bs) front bare =
-    (elim (b == 39) as (λ v. (b == 39) ≡ v → spelled_of (front ++ (if v then 39 ∷ 39 ∷ doubled bs else b ∷ doubled bs)) ≡ quotes_doubled (spelled_of (front ++ b ∷ bs))) [
+    (elim (b == 39) as (λ v. (b == 39) ≡ v → spelled_of (front ++ (if v then 39 ∷ 39 ∷ with_quotes_doubled bs else b ∷ with_quotes_doubled bs)) ≡ quotes_doubled (spelled_of (front ++ b ∷ bs))) [
       | true ↦ λ is.
-          at_quote front (39 ∷ doubled bs)
-          ∙ ap (λ r. spelled_of front ++ Some 39 ∷ r) (symbols_quote (doubled bs) ∙ ap (λ r. Some 39 ∷ r) (doubled_spelled bs [] tt))
+          at_quote front (39 ∷ with_quotes_doubled bs)
+          ∙ ap (λ r. spelled_of front ++ Some 39 ∷ r) (symbols_quote (with_quotes_doubled bs) ∙ ap (λ r. Some 39 ∷ r) (doubled_spelled bs [] tt))
           ∙ sym (bare_quotes (spelled_of front) (Some 39 ∷ spelled_of bs) (bare_characters 0 front bare))
           ∙ ap quotes_doubled (sym (at_quote front bs))
           ∙ ap (λ x. quotes_doubled (spelled_of (front ++ x ∷ bs))) (sym (same_number b 39 is))
       | false ↦ λ is.
-          ap spelled_of (sym (append_assoc front (b ∷ []) (doubled bs)))
+          ap spelled_of (sym (append_assoc front (b ∷ []) (with_quotes_doubled bs)))
           ∙ doubled_spelled bs (front ++ b ∷ []) (bare_more front b bare is)
           ∙ ap (λ f. quotes_doubled (spelled_of f)) (append_assoc front (b ∷ []) bs)
     ]) refl
 
-quoted_spelled : (said : List ℕ) → spelled_of (quoted said) ≡ quote ++ (quotes_doubled (spelled_of said) ++ quote)
+quoted_spelled : (said : List ℕ) → spelled_of (text_in_quotes said) ≡ quote ++ (quotes_doubled (spelled_of said) ++ quote)
 quoted_spelled said =
-    symbols_quote (doubled said ++ 39 ∷ []) ∙ ap (λ r. Some 39 ∷ r) (at_quote (doubled said) [] ∙ ap (λ r. r ++ quote) (doubled_spelled said [] tt))
+    symbols_quote (with_quotes_doubled said ++ 39 ∷ []) ∙ ap (λ r. Some 39 ∷ r) (at_quote (with_quotes_doubled said) [] ∙ ap (λ r. r ++ quote) (doubled_spelled said [] tt))
 
-pub quoted_state : (said : List ℕ) → state (symbols (quoted said)) ≡ Some pieces_are.Text
+pub quoted_state : (said : List ℕ) → state (symbols (text_in_quotes said)) ≡ Some pieces_are.Text
 quoted_state said =
-    let text : IsText (characters (symbols (quoted said))) = record { said = spelled_of said; is = quoted_spelled said } in
-    (as_spelled (symbols (quoted said)) pieces_are.Text).1 text
+    let text : IsText (characters (symbols (text_in_quotes said))) = record { said = spelled_of said; is = quoted_spelled said } in
+    (as_spelled (symbols (text_in_quotes said)) pieces_are.Text).1 text
 
 -- a text in quotes is one token: a text where it says UTF-8, else a bad one
-pub quoted_kind : (said : List ℕ) → kind_of (symbols (quoted said)) ≡ Some (text_kind said)
+pub quoted_kind : (said : List ℕ) → kind_of (symbols (text_in_quotes said)) ≡ Some (text_kind said)
 quoted_kind said =
-    ap (option_and_then (λ piece. kind_after piece (spell (symbols (quoted said))))) (quoted_state said)
-    ∙ ap (λ t. Some (text_kind t)) (spelled 0 (quoted said)) ∙ ap (λ v. Some (if v then kinds.Text else kinds.Bad)) (same_utf8 said)
+    ap (option_and_then (λ piece. kind_after piece (spell (symbols (text_in_quotes said))))) (quoted_state said)
+    ∙ ap (λ t. Some (text_kind t)) (spelled 0 (text_in_quotes said)) ∙ ap (λ v. Some (if v then kinds.Text else kinds.Bad)) (same_utf8 said)
 
 -- ---- the bytes of a text
 
@@ -181,7 +181,7 @@ quoted_kind said =
 record Begun (ss : List Symbol) (back : List (Option ℕ)) : Type 0 where
   said : List ℕ
   rest : List Symbol
-  is : spell ss ≡ doubled said ++ spell rest
+  is : spell ss ≡ with_quotes_doubled said ++ spell rest
   left : characters rest ≡ back
   all : AllQuoteOrBare rest
 
@@ -189,7 +189,7 @@ begun_other : (s : Symbol) (ss : List Symbol) (back : List (Option ℕ)) → Bar
 begun_other s ss back bare w = record {
   said = s.text ++ w.said;
   rest = w.rest;
-  is = ap (λ r. s.text ++ r) w.is ∙ sym (append_assoc s.text (doubled w.said) (spell w.rest)) ∙ ap (λ r. r ++ spell w.rest) (sym (bare_doubled s.text w.said bare));
+  is = ap (λ r. s.text ++ r) w.is ∙ sym (append_assoc s.text (with_quotes_doubled w.said) (spell w.rest)) ∙ ap (λ r. r ++ spell w.rest) (sym (bare_doubled s.text w.said bare));
   left = w.left;
   all = w.all;
 }
@@ -237,7 +237,7 @@ last_is [] e all = absurd cc
 last_is (s ∷ []) e all = let head : s.character ≡ Some 39 = cc in ap (λ t. t ++ []) (all.0.a_quote head)
 last_is (s ∷ t ∷ ss) e all = absurd cc
 
-text_spell : (ss : List Symbol) → IsText (characters ss) → AllQuoteOrBare ss → (said : List ℕ) × (spell ss ≡ quoted said)
+text_spell : (ss : List Symbol) → IsText (characters ss) → AllQuoteOrBare ss → (said : List ℕ) × (spell ss ≡ text_in_quotes said)
 unfolding AllQuoteOrBare
 text_spell [] text all = absurd (let e = text.is in cc)
 text_spell (s ∷ ss) text all =
@@ -245,9 +245,9 @@ text_spell (s ∷ ss) text all =
     let head : s.character ≡ Some 39 = cc in
     let tail : characters ss ≡ quotes_doubled text.said ++ quote = cc in
     let w = begun_by text.said quote ss tail all.1 in
-    (w.said, ap (λ t. t ++ spell ss) (all.0.a_quote head) ∙ ap (λ r. 39 ∷ r) (w.is ∙ ap (λ r. doubled w.said ++ r) (last_is w.rest w.left w.all)))
+    (w.said, ap (λ t. t ++ spell ss) (all.0.a_quote head) ∙ ap (λ r. 39 ∷ r) (w.is ∙ ap (λ r. with_quotes_doubled w.said ++ r) (last_is w.rest w.left w.all)))
 
-text_is_quoted : (text : List ℕ) → state (symbols text) ≡ Some pieces_are.Text → (said : List ℕ) × (text ≡ quoted said)
+text_is_quoted : (text : List ℕ) → state (symbols text) ≡ Some pieces_are.Text → (said : List ℕ) × (text ≡ text_in_quotes said)
 text_is_quoted text is =
     let w = text_spell (symbols text) ((as_spelled (symbols text) pieces_are.Text).0 is) (quotes_in 0 text) in
     (w.0, sym (spelled 0 text) ∙ w.1)

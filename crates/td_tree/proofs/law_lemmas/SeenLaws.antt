@@ -3,8 +3,8 @@ use Rattle.std.proofs.Common.{◌≡◌, ℕ, ◌+◌, ◌<◌, List, [], ◌∷
 use Rattle.td_tree.specs.declared.piece.Piece.TheVariants as pieces_are
 use Rattle.td_tree.specs.declared.token.Sign.{Sign}
 use Rattle.td_tree.specs.declared.token.Sign.TheVariants as signs
-use Rattle.td_tree.specs.Lexemes.{Lexeme, printed, sign}
-use Rattle.td_tree.specs.Lists.{braced, parenthesized}
+use Rattle.td_tree.specs.Lexemes.{Lexeme, printed_text, sign}
+use Rattle.td_tree.specs.Lists.{with_braces, with_parentheses}
 use Rattle.td_tree.specs.Pieces.{goes_on, kind_after, opens, sign_at, sign_goes_on}
 use Rattle.td_tree.specs.Statements.{token_of, tokens}
 use Rattle.td_tree.specs.TokenLexemes.{lexemes}
@@ -26,12 +26,12 @@ unfolding tokens
 nothing_seen at = refl
 
 -- a printed lexeme before a boundary, or at the end
-pub lexeme_seen : (l : Lexeme) (rest : List ℕ) (ls : List Lexeme) → IsPlain l → IsProper l → IsBounded rest → IsSeen rest ls → IsSeen (printed l ++ rest) (l ∷ ls)
+pub lexeme_seen : (l : Lexeme) (rest : List ℕ) (ls : List Lexeme) → IsPlain l → IsProper l → IsBounded rest → IsSeen rest ls → IsSeen (printed_text l ++ rest) (l ∷ ls)
 lexeme_seen l rest ls plain proper bounded seen at =
     let w = prints l plain proper in
-    ap lexemes (token_before (printed l) rest w.kind at w.stands bounded)
-    ∙ ap (λ x. x ∷ lexemes (tokens (at + length (printed l)) rest)) w.same
-    ∙ ap (λ r. l ∷ r) (seen (at + length (printed l)))
+    ap lexemes (token_before (printed_text l) rest w.kind at w.stands bounded)
+    ∙ ap (λ x. x ∷ lexemes (tokens (at + length (printed_text l)) rest)) w.same
+    ∙ ap (λ r. l ∷ r) (seen (at + length (printed_text l)))
 
 -- ---- what anything may follow
 
@@ -74,12 +74,12 @@ minus_seen rest ls seen = alone_seen signs.Minus 45 rest ls (omega arith) refl (
 
 -- ---- lexemes between signs
 
-pub between_braces : (rest : List ℕ) (xs ls : List Lexeme) → IsSeen rest (xs ++ (sign signs.CloseBrace ∷ ls)) → IsSeen (123 ∷ rest) (braced xs ++ ls)
+pub between_braces : (rest : List ℕ) (xs ls : List Lexeme) → IsSeen rest (xs ++ (sign signs.CloseBrace ∷ ls)) → IsSeen (123 ∷ rest) (with_braces xs ++ ls)
 between_braces rest xs ls seen =
-    seen_same (123 ∷ rest) (123 ∷ rest) (braced xs ++ ls) (sign signs.OpenBrace ∷ (xs ++ (sign signs.CloseBrace ∷ ls)))
+    seen_same (123 ∷ rest) (123 ∷ rest) (with_braces xs ++ ls) (sign signs.OpenBrace ∷ (xs ++ (sign signs.CloseBrace ∷ ls)))
     refl (ap (λ r. sign signs.OpenBrace ∷ r) (append_assoc xs (sign signs.CloseBrace ∷ []) ls)) (open_brace_seen rest (xs ++ (sign signs.CloseBrace ∷ ls)) seen)
 
-pub between_parentheses : (rest : List ℕ) (xs ls : List Lexeme) → IsSeen rest (xs ++ (sign signs.CloseParenthesis ∷ ls)) → IsSeen (40 ∷ rest) (parenthesized xs ++ ls)
+pub between_parentheses : (rest : List ℕ) (xs ls : List Lexeme) → IsSeen rest (xs ++ (sign signs.CloseParenthesis ∷ ls)) → IsSeen (40 ∷ rest) (with_parentheses xs ++ ls)
 between_parentheses rest xs ls seen =
-    seen_same (40 ∷ rest) (40 ∷ rest) (parenthesized xs ++ ls) (sign signs.OpenParenthesis ∷ (xs ++ (sign signs.CloseParenthesis ∷ ls)))
+    seen_same (40 ∷ rest) (40 ∷ rest) (with_parentheses xs ++ ls) (sign signs.OpenParenthesis ∷ (xs ++ (sign signs.CloseParenthesis ∷ ls)))
     refl (ap (λ r. sign signs.OpenParenthesis ∷ r) (append_assoc xs (sign signs.CloseParenthesis ∷ []) ls)) (open_parenthesis_seen rest (xs ++ (sign signs.CloseParenthesis ∷ ls)) seen)

@@ -5,8 +5,8 @@ use Rattle.td_tree.specs.Causes.{number_of}
 use Rattle.td_tree.specs.declared.cause.Cause.{Cause}
 use Rattle.td_tree.specs.declared.cause.Cause.TheVariants.{Scan, Syntax, NameUnknown, NameTaken, TypeMismatch, Heading, KeyDeclaration, Rank, InUse, NotAssignable, Transaction, Overflow, ZeroDivisor, EmptyAggregate, NotOneTuple, TypeConstraint, Key, Constraint}
 
-abbrev numbered : ℕ → Cause
-numbered n =
+abbrev cause_numbered : ℕ → Cause
+cause_numbered n =
     if n == 1 then Scan
     else if n == 2 then Syntax
     else if n == 3 then NameUnknown
@@ -26,7 +26,7 @@ numbered n =
     else if n == 30 then Key
     else Constraint
 
-pub numbered_number : (c : Cause) → numbered (number_of c) ≡ c
+pub numbered_number : (c : Cause) → cause_numbered (number_of c) ≡ c
 numbered_number Scan = refl
 numbered_number Syntax = refl
 numbered_number NameUnknown = refl
@@ -47,7 +47,7 @@ numbered_number Key = refl
 numbered_number Constraint = refl
 
 abbrev pub cause_code : Coded Cause
-cause_code = code_by ℕ coded_ℕ number_of numbered numbered_number
+cause_code = code_by ℕ coded_ℕ number_of cause_numbered numbered_number
 
 abbrev pub cause_if_any_code : Coded (Option Cause)
 cause_if_any_code = coded_option cause_code

@@ -2,15 +2,15 @@
 use Rattle.std.specs.Prelude.{◌≡◌, ℕ, Bool, true, false, List, [], ◌∷◌, ◌++◌, IfOk, Result, codes}
 use Rattle.std.specs.List.{flat_map}
 use Rattle.td_tree.specs.declared.token.Sign.TheVariants as signs
-use Rattle.td_tree.specs.Lexemes.{Lexeme, sign, printed}
+use Rattle.td_tree.specs.Lexemes.{Lexeme, sign, printed_text}
 
 -- each lexeme with a space behind it
-abbrev pub written : List Lexeme → List ℕ
-written = flat_map (λ (l : Lexeme). printed l ++ codes " ")
+abbrev pub written_text : List Lexeme → List ℕ
+written_text = flat_map (λ (l : Lexeme). printed_text l ++ codes " ")
 
 -- if there was memory, these lexemes were written behind what stood there (own)
 abbrev pub Writes : {E : Type 0} → List ℕ → Result (List ℕ) E → List Lexeme → Type 0
-Writes before result ls = IfOk result (λ out. out ≡ before ++ written ls)
+Writes before result ls = IfOk result (λ out. out ≡ before ++ written_text ls)
 
 -- what stands before an item: a comma where another item stands before it
 abbrev pub comma_lexeme_if : Bool → List Lexeme

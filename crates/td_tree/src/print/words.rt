@@ -4,15 +4,15 @@ ghost use Rattle.std.specs.Rc.{rc_str_bytes};
 ghost use Rattle.std.specs.String.{string_bytes};
 ghost use Rattle.td_tree.specs.declared.keyword.Keyword.TheVariants as k;
 ghost use Rattle.td_tree.specs.Grammar.{comparison_word, operator_words};
-ghost use Rattle.td_tree.specs.Lexemes.{Lexeme, spaced};
+ghost use Rattle.td_tree.specs.Lexemes.{Lexeme, spaced_text};
 ghost use Rattle.td_tree.specs.Lexemes as lexeme;
-ghost use Rattle.td_tree.specs.Lists.{parenthesized};
+ghost use Rattle.td_tree.specs.Lists.{with_parentheses};
 ghost use Rattle.td_tree.specs.Prints.{as_lexemes, attributes_lexemes, commas, literal_lexemes};
 ghost use Rattle.td_tree.specs.Prints.{name_lexemes, postfix_lexemes, prefix_words};
 ghost use Rattle.td_tree.specs.Prints.{renaming_lexemes};
 ghost use Rattle.td_tree.specs.code.TreeViews.{attributes_view, literal_view, postfix_view};
 ghost use Rattle.td_tree.specs.code.TreeViews.{renaming_view};
-ghost use Rattle.td_tree.specs.code.Written.{Writes, comma_lexeme_if, written};
+ghost use Rattle.td_tree.specs.code.Written.{Writes, comma_lexeme_if, written_text};
 
 use crate::expression::{Attributes, Literal, Postfix, Renaming};
 use crate::keyword::Keyword;
@@ -50,7 +50,7 @@ impl Printer {
 
     /// The text without the space behind its last lexeme.
     pub(super) fn finish(self) -> String
-        ensures { (ls : List Lexeme) → self ≡ written ls → string_bytes result ≡ spaced ls }
+        ensures { (ls : List Lexeme) → self ≡ written_text ls → string_bytes result ≡ spaced_text ls }
     {
         let mut out = self.out;
         out.pop();
@@ -102,7 +102,7 @@ impl Printer {
         self.token(buffer.format(n))
     }
 
-    fn quoted(mut self, said: &str) -> Result<Printer, AllocError>
+    fn text_in_quotes(mut self, said: &str) -> Result<Printer, AllocError>
         ensures { Writes self result (lexeme.text said.now ∷ []) }
     {
         put_quoted(&mut self.out, said)?;
@@ -121,7 +121,7 @@ impl Printer {
                 minus: false,
                 magnitude,
             } => self.number(*magnitude),
-            Literal::Text(content) => self.quoted(content.as_str()),
+            Literal::Text(content) => self.text_in_quotes(content.as_str()),
             Literal::Truth(true) => self.keyword(Keyword::True),
             Literal::Truth(false) => self.keyword(Keyword::False),
             Literal::TableDee => self.keyword(Keyword::TableDee),
@@ -181,7 +181,7 @@ impl Printer {
 
     fn renamings(self, renamings: &[Renaming]) -> Result<Printer, AllocError>
         ensures { Writes self result
-            (parenthesized (commas (map renaming_lexemes (map renaming_view renamings.now)))) }
+            (with_parentheses (commas (map renaming_lexemes (map renaming_view renamings.now)))) }
     {
         let mut out = self.sign(Sign::OpenParenthesis)?;
         let mut later = false;
@@ -195,7 +195,7 @@ impl Printer {
     /// Attributes and the name of the one that they become, in parentheses.
     fn gathering(self, attributes: &Attributes, name: &Name) -> Result<Printer, AllocError>
         ensures { Writes self result
-            (parenthesized
+            (with_parentheses
             (attributes_lexemes (attributes_view attributes.now) ++ as_lexemes name.now)) }
     {
         let out = self.sign(Sign::OpenParenthesis)?;
@@ -205,7 +205,7 @@ impl Printer {
     }
 
     fn parenthesized_name(self, name: &Name) -> Result<Printer, AllocError>
-        ensures { Writes self result (parenthesized (lexeme.name name.now ∷ [])) }
+        ensures { Writes self result (with_parentheses (lexeme.name name.now ∷ [])) }
     {
         let out = self.sign(Sign::OpenParenthesis)?;
         out.name(name)?.sign(Sign::CloseParenthesis)

@@ -14,8 +14,8 @@ use Rattle.td_algebra.proofs.Joined.{united_answer}
 use Rattle.td_algebra.proofs.Keys.{if_ok}
 use Rattle.td_algebra.proofs.joins.compose.Goals as goal
 
-pub unrefused-requires : goal.unrefused-requires
-unrefused-requires c =
+pub without_refusal-requires : goal.without_refusal-requires
+without_refusal-requires c =
     let own = c.in_ok-own.ensures.heading ∙ (λ i. outside (c.heading-3.ensures i) (c.heading-2.ensures i)) in
     let others = c.in_ok-others.ensures.heading ∙ (λ i. outside (c.heading-5.ensures i) (c.heading-4.ensures i)) in
     unrefused_if (λ h. h) c.union.result (agree c.in_ok-own.own c.in_ok-others.others) (heading_union c.in_ok-own.own c.in_ok-others.others) causes.Heading

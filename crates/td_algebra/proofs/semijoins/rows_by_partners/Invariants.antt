@@ -1,7 +1,7 @@
 use Rattle.std.proofs.Common.{◌≡◌, filter, take}
-use Rattle.td_algebra.specs.Lookups.{has_partner_in, wanted}
+use Rattle.td_algebra.specs.Lookups.{has_partner_in, wanted_answer}
 use Rattle.td_algebra.proofs.semijoins.rows_by_partners.Given as goal
 
 abbrev pub invariant-loop-row : goal.invariant-loop-row
 invariant-loop-row l =
-    l.kept.items ≡ filter (λ t. wanted l.there (has_partner_in l.lookup l.places t)) (take l.row-index l.rows)
+    l.kept.items ≡ filter (λ t. wanted_answer l.there (has_partner_in l.lookup l.places t)) (take l.row-index l.rows)

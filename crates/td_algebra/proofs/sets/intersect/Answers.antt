@@ -10,6 +10,6 @@ pub returns-then-rows : goal.returns-then-rows
 returns-then-rows c =
     let r = c.args.rel.now in
     let s = c.args.other.now in
-    if_ok (λ made. made ≡ restriction (is_wanted true r.body) s) (λ made. made ≡ intersection r s) c.kept.result
+    if_ok (λ made. made ≡ restriction (is_wanted true r.body) s) (λ made. made ≡ intersection r s) c.wanted_part.result
     (λ made e. e ∙ (λ i. relation_view (sym c.requires i) (common_turned s.body r.body c.rows.ensures.ascending c.rows-2.ensures.ascending i)))
-    c.kept.ensures
+    c.wanted_part.ensures

@@ -3,19 +3,19 @@ use Rattle.std.specs.List.{All}
 use Rattle.std.proofs.lemmas.List.Elements.{All-from_recursion, recursion_from_All}
 use Rattle.td_types.specs.Types.{Heading}
 use Rattle.td_value.specs.Values.{Tuple, IsAscendingBody, IsTupleOf}
-use Rattle.td_algebra.specs.code.Merges.{merged}
+use Rattle.td_algebra.specs.code.Merges.{merged_tuples}
 use Rattle.td_algebra.proofs.Merges.{merged-ascends, merged-is-set, merged_all}
 use Rattle.td_algebra.proofs.sets.union.Goals as goal
 
 -- what the code merges, as lists of the relations
-merges : (kept ts us xs ys : List Tuple) → kept ≡ merged ts us → ts ≡ xs → us ≡ ys → kept ≡ merged xs ys
-merges kept ts us xs ys e p q = e ∙ ap (λ l. merged l us) p ∙ ap (merged xs) q
+merges : (kept ts us xs ys : List Tuple) → kept ≡ merged_tuples ts us → ts ≡ xs → us ≡ ys → kept ≡ merged_tuples xs ys
+merges kept ts us xs ys e p q = e ∙ ap (λ l. merged_tuples l us) p ∙ ap (merged_tuples xs) q
 
-headed : (h g : Heading) (kept xs ys : List Tuple) → kept ≡ merged xs ys → h ≡ g → All (IsTupleOf h) xs → All (IsTupleOf g) ys → All (IsTupleOf h) kept
+headed : (h g : Heading) (kept xs ys : List Tuple) → kept ≡ merged_tuples xs ys → h ≡ g → All (IsTupleOf h) xs → All (IsTupleOf g) ys → All (IsTupleOf h) kept
 headed h g kept xs ys e same a b =
     let b' : All (IsTupleOf h) ys = subst (λ i. All (IsTupleOf i) ys) (sym same) b in
     subst (All (IsTupleOf h)) (sym e)
-    (All-from_recursion (IsTupleOf h) (merged xs ys)
+    (All-from_recursion (IsTupleOf h) (merged_tuples xs ys)
     (merged_all (IsTupleOf h) xs ys (recursion_from_All (IsTupleOf h) xs a) (recursion_from_All (IsTupleOf h) ys b')))
 
 pub with_rows-requires-clause-headed : goal.with_rows-requires-clause-headed

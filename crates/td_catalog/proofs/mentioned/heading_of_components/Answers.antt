@@ -21,13 +21,13 @@ if_made (Ok h) answer xs ys same distinct told is =
     is_made xs ys h same distinct (subst (λ (a : Result Heading Fault). Answers (λ k. k) a (made_heading xs)) is told)
 if_made (Err e) answer xs ys same distinct told is = tt
 
-pub unrefused-requires : goal.unrefused-requires
-unrefused-requires c =
+pub without_refusal-requires : goal.without_refusal-requires
+without_refusal-requires c =
     let same = c.loop-name.invariant ∙ ap pairs_view (take_all c.loop-name.name-index c.args.components.now c.loop-name-test.false) in
     unrefused_if (λ h. h) c.new.result (are_distinct (attribute_names (pairs_view c.loop-name.attributes.items))) _ causes.Heading
     (ap (λ xs. are_distinct (attribute_names xs)) same ∙ c.requires) c.new.ensures.answer
 
 pub returns : goal.returns
 returns c =
-    if_made c.unrefused.result c.new.result (pairs_view c.loop-name.attributes.items) (pairs_view c.args.components.now)
-    (c.loop-name.invariant ∙ ap pairs_view (take_all c.loop-name.name-index c.args.components.now c.loop-name-test.false)) c.requires c.new.ensures.answer c.unrefused.ensures
+    if_made c.without_refusal.result c.new.result (pairs_view c.loop-name.attributes.items) (pairs_view c.args.components.now)
+    (c.loop-name.invariant ∙ ap pairs_view (take_all c.loop-name.name-index c.args.components.now c.loop-name-test.false)) c.requires c.new.ensures.answer c.without_refusal.ensures

@@ -117,8 +117,8 @@ check-returns-in-Compare-clause-ty t c =
     rw is
     (two_typed (own.comparison_type c.in-Compare.op) (type_of (scope_at c.args.place.now) (tree_view c.deref-in-Compare.result.now))
     (type_of (scope_at c.args.place.now) (tree_view c.deref-in-Compare-2.result.now))
-    c.check-first-in-Compare.result c.check-second-in-Compare.result c.compared.result c.check-first-in-Compare.ensures.ty c.check-second-in-Compare.ensures.ty
-    (subst (λ r. Gives types_view r (λ both. own.comparison_type c.in-Compare.op both.0 both.1) type_view c.compared.result) c.both-in-Compare.ensures c.compared.ensures))
+    c.check-first-in-Compare.result c.check-second-in-Compare.result c.type_of_comparison.result c.check-first-in-Compare.ensures.ty c.check-second-in-Compare.ensures.ty
+    (subst (λ r. Gives types_view r (λ both. own.comparison_type c.in-Compare.op both.0 both.1) type_view c.type_of_comparison.result) c.both-in-Compare.ensures c.type_of_comparison.ensures))
 
 pub check-returns-in-Compare-clause-names : goal.check-returns-in-Compare-clause-names
 check-returns-in-Compare-clause-names t c =
@@ -127,11 +127,11 @@ check-returns-in-Compare-clause-names t c =
     let r2 = relvars_in (scope_at c.args.place.now) (tree_view c.deref-in-Compare-2.result.now) in
     let ts = types_in (tree_view c.deref-in-Compare.result.now) in
     let ts2 = types_in (tree_view c.deref-in-Compare-2.result.now) in
-    names_are c.compared.result (scope_at c.args.place.now) (tree_view c.args.expr.now) (names_view c.args.seen.now) (names_view c.check-second-in-Compare.new.seen)
+    names_are c.type_of_comparison.result (scope_at c.args.place.now) (tree_view c.args.expr.now) (names_view c.args.seen.now) (names_view c.check-second-in-Compare.new.seen)
     (r ++ r2) (ts ++ ts2) (ap (relvars_in (scope_at c.args.place.now)) is) (ap types_in is)
     (names_held types_view (both_answers c.check-first-in-Compare.result c.check-second-in-Compare.result) (λ both. own.comparison_type c.in-Compare.op both.0 both.1)
-    type_view c.compared.result (names_view c.args.seen.now) (names_view c.check-second-in-Compare.new.seen) (r ++ r2) (ts ++ ts2)
-    (subst (λ r. Gives types_view r (λ both. own.comparison_type c.in-Compare.op both.0 both.1) type_view c.compared.result) c.both-in-Compare.ensures c.compared.ensures)
+    type_view c.type_of_comparison.result (names_view c.args.seen.now) (names_view c.check-second-in-Compare.new.seen) (r ++ r2) (ts ++ ts2)
+    (subst (λ r. Gives types_view r (λ both. own.comparison_type c.in-Compare.op both.0 both.1) type_view c.type_of_comparison.result) c.both-in-Compare.ensures c.type_of_comparison.ensures)
     (names_of_both c.check-first-in-Compare.result c.check-second-in-Compare.result (names_view c.args.seen.now) (names_view c.check-first-in-Compare.new.seen)
     (names_view c.check-second-in-Compare.new.seen) r ts r2 ts2 c.check-first-in-Compare.ensures.names c.check-second-in-Compare.ensures.names))
 
@@ -158,21 +158,21 @@ pub check-returns-in_ok-operand-in-Restriction-clause-ty : goal.check-returns-in
 check-returns-in_ok-operand-in-Restriction-clause-ty t c =
     let is = ap tree_view c.in-Restriction.is ∙ (λ i. trees.restriction (tree_view (sym c.deref-in-Restriction.ensures i)) (tree_view (sym c.deref-in-Restriction-2.ensures i))) in
     rw is
-    (subst (Answers type_view c.restricted.result)
+    (subst (Answers type_view c.type_of_restriction.result)
     (inside_typed (type_of (scope_at c.args.place.now) (tree_view c.deref-in-Restriction.result.now)) (type_view c.in_ok-operand-in-Restriction.operand) c.in_ok-operand-in-Restriction.ensures.ty
     (λ h. type_of (entered_with h (scope_at c.args.place.now)) (tree_view c.deref-in-Restriction-2.result.now)) own.restriction_type)
-    (c.restricted.ensures (own.over_relation (type_view c.in_ok-operand-in-Restriction.operand) (λ h. type_of (entered_with h (scope_at c.args.place.now)) (tree_view c.deref-in-Restriction-2.result.now))) c.check_inside-condition.ensures.ty))
+    (c.type_of_restriction.ensures (own.over_relation (type_view c.in_ok-operand-in-Restriction.operand) (λ h. type_of (entered_with h (scope_at c.args.place.now)) (tree_view c.deref-in-Restriction-2.result.now))) c.check_inside-condition.ensures.ty))
 
 pub check-returns-in_ok-operand-in-Restriction-clause-names : goal.check-returns-in_ok-operand-in-Restriction-clause-names
 check-returns-in_ok-operand-in-Restriction-clause-names t c =
     let is = ap tree_view c.in-Restriction.is ∙ (λ i. trees.restriction (tree_view (sym c.deref-in-Restriction.ensures i)) (tree_view (sym c.deref-in-Restriction-2.ensures i))) in
     let inside = ap (λ o. relvars_in (in_tuples (scope_at c.args.place.now) o) (tree_view c.deref-in-Restriction-2.result.now)) c.in_ok-operand-in-Restriction.ensures.ty in
-    names_are c.restricted.result (scope_at c.args.place.now) (tree_view c.args.expr.now) (names_view c.args.seen.now) (names_view c.check_inside-condition.new.seen)
+    names_are c.type_of_restriction.result (scope_at c.args.place.now) (tree_view c.args.expr.now) (names_view c.args.seen.now) (names_view c.check_inside-condition.new.seen)
     (relvars_in (scope_at c.args.place.now) (tree_view c.deref-in-Restriction.result.now) ++ relvars_in (in_tuples (scope_at c.args.place.now) (Valued (type_view c.in_ok-operand-in-Restriction.operand))) (tree_view c.deref-in-Restriction-2.result.now)) (types_in (tree_view c.deref-in-Restriction.result.now) ++ types_in (tree_view c.deref-in-Restriction-2.result.now))
     (ap (relvars_in (scope_at c.args.place.now)) is ∙ ap (λ ns. relvars_in (scope_at c.args.place.now) (tree_view c.deref-in-Restriction.result.now) ++ ns) inside) (ap types_in is)
-    (names_held type_view c.check_inside-condition.result (own.restriction_type (type_view c.in_ok-operand-in-Restriction.operand)) type_view c.restricted.result
+    (names_held type_view c.check_inside-condition.result (own.restriction_type (type_view c.in_ok-operand-in-Restriction.operand)) type_view c.type_of_restriction.result
     (names_view c.args.seen.now) (names_view c.check_inside-condition.new.seen)
-    (relvars_in (scope_at c.args.place.now) (tree_view c.deref-in-Restriction.result.now) ++ relvars_in (in_tuples (scope_at c.args.place.now) (Valued (type_view c.in_ok-operand-in-Restriction.operand))) (tree_view c.deref-in-Restriction-2.result.now)) (types_in (tree_view c.deref-in-Restriction.result.now) ++ types_in (tree_view c.deref-in-Restriction-2.result.now)) c.restricted.ensures
+    (relvars_in (scope_at c.args.place.now) (tree_view c.deref-in-Restriction.result.now) ++ relvars_in (in_tuples (scope_at c.args.place.now) (Valued (type_view c.in_ok-operand-in-Restriction.operand))) (tree_view c.deref-in-Restriction-2.result.now)) (types_in (tree_view c.deref-in-Restriction.result.now) ++ types_in (tree_view c.deref-in-Restriction-2.result.now)) c.type_of_restriction.ensures
     (names_of_second c.check_inside-condition.result (names_view c.args.seen.now) (names_view c.check-in-Restriction.new.seen) (names_view c.check_inside-condition.new.seen)
     (relvars_in (scope_at c.args.place.now) (tree_view c.deref-in-Restriction.result.now)) (types_in (tree_view c.deref-in-Restriction.result.now)) (relvars_in (in_tuples (scope_at c.args.place.now) (Valued (type_view c.in_ok-operand-in-Restriction.operand))) (tree_view c.deref-in-Restriction-2.result.now)) (types_in (tree_view c.deref-in-Restriction-2.result.now))
     c.in_ok-operand-in-Restriction.ensures.names c.check_inside-condition.ensures.names))
@@ -180,18 +180,18 @@ check-returns-in_ok-operand-in-Restriction-clause-names t c =
 pub check-returns-in-Binary : goal.check-returns-in-Binary
 check-returns-in-Binary t c =
     let is = ap tree_view c.in-Binary.is ∙ (λ i. trees.binary (tree_view (sym c.deref-in-Binary.ensures i)) c.in-Binary.op (tree_view (sym c.deref-in-Binary-2.ensures i))) in
-    let gives = subst (λ r. Gives types_view r (λ both. own.operator_type c.in-Binary.op both.0 both.1) type_view c.operated.result) c.both.ensures c.operated.ensures in
+    let gives = subst (λ r. Gives types_view r (λ both. own.operator_type c.in-Binary.op both.0 both.1) type_view c.type_of_operator.result) c.both.ensures c.type_of_operator.ensures in
     record {
       ty =
           rw is
           (two_typed (own.operator_type c.in-Binary.op) (type_of (scope_at c.args.place.now) (tree_view c.deref-in-Binary.result.now)) (type_of (scope_at c.args.place.now) (tree_view c.deref-in-Binary-2.result.now))
-          c.check-first.result c.check-second.result c.operated.result c.check-first.ensures.ty c.check-second.ensures.ty gives);
+          c.check-first.result c.check-second.result c.type_of_operator.result c.check-first.ensures.ty c.check-second.ensures.ty gives);
       names =
-          names_are c.operated.result (scope_at c.args.place.now) (tree_view c.args.expr.now) (names_view c.args.seen.now) (names_view c.check-second.new.seen)
+          names_are c.type_of_operator.result (scope_at c.args.place.now) (tree_view c.args.expr.now) (names_view c.args.seen.now) (names_view c.check-second.new.seen)
           (relvars_in (scope_at c.args.place.now) (tree_view c.deref-in-Binary.result.now) ++ relvars_in (scope_at c.args.place.now) (tree_view c.deref-in-Binary-2.result.now)) (types_in (tree_view c.deref-in-Binary.result.now) ++ types_in (tree_view c.deref-in-Binary-2.result.now))
           (ap (relvars_in (scope_at c.args.place.now)) is) (ap types_in is)
           (names_held types_view (both_answers c.check-first.result c.check-second.result) (λ both. own.operator_type c.in-Binary.op both.0 both.1)
-          type_view c.operated.result (names_view c.args.seen.now) (names_view c.check-second.new.seen) (relvars_in (scope_at c.args.place.now) (tree_view c.deref-in-Binary.result.now) ++ relvars_in (scope_at c.args.place.now) (tree_view c.deref-in-Binary-2.result.now)) (types_in (tree_view c.deref-in-Binary.result.now) ++ types_in (tree_view c.deref-in-Binary-2.result.now)) gives
+          type_view c.type_of_operator.result (names_view c.args.seen.now) (names_view c.check-second.new.seen) (relvars_in (scope_at c.args.place.now) (tree_view c.deref-in-Binary.result.now) ++ relvars_in (scope_at c.args.place.now) (tree_view c.deref-in-Binary-2.result.now)) (types_in (tree_view c.deref-in-Binary.result.now) ++ types_in (tree_view c.deref-in-Binary-2.result.now)) gives
           (names_of_both c.check-first.result c.check-second.result (names_view c.args.seen.now) (names_view c.check-first.new.seen)
           (names_view c.check-second.new.seen) (relvars_in (scope_at c.args.place.now) (tree_view c.deref-in-Binary.result.now)) (types_in (tree_view c.deref-in-Binary.result.now)) (relvars_in (scope_at c.args.place.now) (tree_view c.deref-in-Binary-2.result.now)) (types_in (tree_view c.deref-in-Binary-2.result.now)) c.check-first.ensures.names c.check-second.ensures.names));
     }
@@ -201,9 +201,9 @@ check-returns-in-Binary t c =
 pub check-returns-in_ok-add_types_in-in-HeadedRelation-clause-ty : goal.check-returns-in_ok-add_types_in-in-HeadedRelation-clause-ty
 check-returns-in_ok-add_types_in-in-HeadedRelation-clause-ty t c =
     let is = ap tree_view c.in-HeadedRelation.is ∙ headed_relation_is c.in-HeadedRelation.heading c.in-HeadedRelation.elements ∙ ap (λ xs. trees.headed_relation (heading_tree_view c.in-HeadedRelation.heading.items) (trees_view xs)) (sym c.deref-in-HeadedRelation-2.ensures.value) in
-    let gives = subst (λ r. Gives headed_view r (λ parts. own.headed_type parts.0 parts.1) type_view c.headed.result) c.both-in-HeadedRelation.ensures c.headed.ensures in
+    let gives = subst (λ r. Gives headed_view r (λ parts. own.headed_type parts.0 parts.1) type_view c.type_of_headed.result) c.both-in-HeadedRelation.ensures c.type_of_headed.ensures in
     rw is
-    (headed_typed (heading_meant (scope_at c.args.place.now).types (heading_tree_view c.in-HeadedRelation.heading.items)) (types_of (scope_at c.args.place.now) (trees_view c.deref-in-HeadedRelation-2.result.now)) c.resolve_heading.result c.check_all-elements.result c.headed.result
+    (headed_typed (heading_meant (scope_at c.args.place.now).types (heading_tree_view c.in-HeadedRelation.heading.items)) (types_of (scope_at c.args.place.now) (trees_view c.deref-in-HeadedRelation-2.result.now)) c.resolve_heading.result c.check_all-elements.result c.type_of_headed.result
     (subst (Answers (λ h. h) c.resolve_heading.result)
     (λ i. heading_meant (c.types-in-HeadedRelation.ensures i) (heading_tree_view (c.deref-in-HeadedRelation-3.ensures.value i))) c.resolve_heading.ensures)
     c.check_all-elements.ensures.types gives)
@@ -211,15 +211,15 @@ check-returns-in_ok-add_types_in-in-HeadedRelation-clause-ty t c =
 pub check-returns-in_ok-add_types_in-in-HeadedRelation-clause-names : goal.check-returns-in_ok-add_types_in-in-HeadedRelation-clause-names
 check-returns-in_ok-add_types_in-in-HeadedRelation-clause-names t c =
     let is = ap tree_view c.in-HeadedRelation.is ∙ headed_relation_is c.in-HeadedRelation.heading c.in-HeadedRelation.elements ∙ ap (λ xs. trees.headed_relation (heading_tree_view c.in-HeadedRelation.heading.items) (trees_view xs)) (sym c.deref-in-HeadedRelation-2.ensures.value) in
-    let gives = subst (λ r. Gives headed_view r (λ parts. own.headed_type parts.0 parts.1) type_view c.headed.result) c.both-in-HeadedRelation.ensures c.headed.ensures in
+    let gives = subst (λ r. Gives headed_view r (λ parts. own.headed_type parts.0 parts.1) type_view c.type_of_headed.result) c.both-in-HeadedRelation.ensures c.type_of_headed.ensures in
     let named = c.in_ok-add_types_in-in-HeadedRelation.ensures ∙ ap (λ xs. c.args.seen.now.types.items ++ types_named_in (heading_tree_view xs)) c.deref-in-HeadedRelation.ensures.value in
     let n = names_view c.args.seen.now in
     let l = names_view c.check_all-elements.new.seen in
     let rs = relvars_in_all (scope_at c.args.place.now) (trees_view c.deref-in-HeadedRelation-2.result.now) in
     let ts = types_in_all (trees_view c.deref-in-HeadedRelation-2.result.now) in
     let hs = types_named_in (heading_tree_view c.in-HeadedRelation.heading.items) in
-    names_are c.headed.result (scope_at c.args.place.now) (tree_view c.args.expr.now) n l rs (hs ++ ts) (ap (relvars_in (scope_at c.args.place.now)) is) (ap types_in is)
-    (names_held headed_view (both_answers c.resolve_heading.result c.check_all-elements.result) (λ parts. own.headed_type parts.0 parts.1) type_view c.headed.result
+    names_are c.type_of_headed.result (scope_at c.args.place.now) (tree_view c.args.expr.now) n l rs (hs ++ ts) (ap (relvars_in (scope_at c.args.place.now)) is) (ap types_in is)
+    (names_held headed_view (both_answers c.resolve_heading.result c.check_all-elements.result) (λ parts. own.headed_type parts.0 parts.1) type_view c.type_of_headed.result
     n l rs (hs ++ ts) gives
     (names_of_both c.resolve_heading.result c.check_all-elements.result n (c.args.seen.now.relvars.items, c.add_types_in.new.types.items) l [] hs rs ts
     (known_names _ c.resolve_heading.result (λ i. (sym (append-nil c.args.seen.now.relvars.items) i, named i)))
@@ -231,9 +231,9 @@ pub check-returns-in_ok-operand-in-Extend-clause-ty : goal.check-returns-in_ok-o
 check-returns-in_ok-operand-in-Extend-clause-ty t c =
     let is = ap tree_view c.in-Extend.is ∙ extend_is c.in-Extend.operand c.in-Extend.parts ∙ (λ i. trees.extend (tree_view (sym c.deref-in-Extend.ensures i)) (named_view (sym c.deref-in-Extend-2.ensures.value i))) in
     rw is
-    (subst (Answers type_view c.extended.result)
+    (subst (Answers type_view c.type_of_extension.result)
     (inside_extended (type_of (scope_at c.args.place.now) (tree_view c.deref-in-Extend.result.now)) (type_view c.in_ok-operand-in-Extend.operand) c.in_ok-operand-in-Extend.ensures.ty (λ h. named_types (entered_with h (scope_at c.args.place.now)) (named_view c.deref-in-Extend-2.result.now)))
-    (c.extended.ensures (own.over_relation (type_view c.in_ok-operand-in-Extend.operand) (λ h. named_types (entered_with h (scope_at c.args.place.now)) (named_view c.deref-in-Extend-2.result.now))) c.check_named_inside-attributes.ensures.types))
+    (c.type_of_extension.ensures (own.over_relation (type_view c.in_ok-operand-in-Extend.operand) (λ h. named_types (entered_with h (scope_at c.args.place.now)) (named_view c.deref-in-Extend-2.result.now))) c.check_named_inside-attributes.ensures.types))
 
 pub check-returns-in_ok-operand-in-Extend-clause-names : goal.check-returns-in_ok-operand-in-Extend-clause-names
 check-returns-in_ok-operand-in-Extend-clause-names t c =
@@ -243,11 +243,11 @@ check-returns-in_ok-operand-in-Extend-clause-names t c =
     let l = names_view c.check_named_inside-attributes.new.seen in
     let rs = relvars_in (scope_at c.args.place.now) (tree_view c.deref-in-Extend.result.now) in
     let ps = relvars_in_named (in_tuples (scope_at c.args.place.now) (Valued (type_view c.in_ok-operand-in-Extend.operand))) (named_view c.deref-in-Extend-2.result.now) in
-    names_are c.extended.result (scope_at c.args.place.now) (tree_view c.args.expr.now) n l (rs ++ ps) (types_in (tree_view c.deref-in-Extend.result.now) ++ types_in_named (named_view c.deref-in-Extend-2.result.now))
+    names_are c.type_of_extension.result (scope_at c.args.place.now) (tree_view c.args.expr.now) n l (rs ++ ps) (types_in (tree_view c.deref-in-Extend.result.now) ++ types_in_named (named_view c.deref-in-Extend-2.result.now))
     (ap (relvars_in (scope_at c.args.place.now)) is ∙ ap (λ ns. rs ++ ns) inside) (ap types_in is)
     (names_held (λ (ts : Vec (List ℕ × Ty)). pairs_view ts.items) c.check_named_inside-attributes.result
-    (λ attributes. own.over_relation (type_view c.in_ok-operand-in-Extend.operand) (λ h. own.extension_type h attributes)) type_view c.extended.result
-    n l (rs ++ ps) (types_in (tree_view c.deref-in-Extend.result.now) ++ types_in_named (named_view c.deref-in-Extend-2.result.now)) c.extended.ensures
+    (λ attributes. own.over_relation (type_view c.in_ok-operand-in-Extend.operand) (λ h. own.extension_type h attributes)) type_view c.type_of_extension.result
+    n l (rs ++ ps) (types_in (tree_view c.deref-in-Extend.result.now) ++ types_in_named (named_view c.deref-in-Extend-2.result.now)) c.type_of_extension.ensures
     (names_of_second c.check_named_inside-attributes.result n (names_view c.check-in-Extend.new.seen) l rs (types_in (tree_view c.deref-in-Extend.result.now)) ps (types_in_named (named_view c.deref-in-Extend-2.result.now))
     c.in_ok-operand-in-Extend.ensures.names c.check_named_inside-attributes.ensures.names))
 
@@ -256,22 +256,22 @@ check-returns-in_ok-operand-in-Extend-clause-names t c =
 pub check-returns-in-If-clause-ty : goal.check-returns-in-If-clause-ty
 check-returns-in-If-clause-ty t c =
     let is = ap tree_view c.in-If.is ∙ (λ i. trees.choice (tree_view (sym c.deref-in-If.ensures i)) (tree_view (sym c.deref-in-If-2.ensures i)) (tree_view (sym c.deref-in-If-3.ensures i))) in
-    let gives = subst (λ r. Gives three_types_view r choice_of type_view c.chosen.result) (c.both-in-If-2.ensures ∙ ap (both_answers c.check-condition.result) c.both-in-If.ensures) c.chosen.ensures in
+    let gives = subst (λ r. Gives three_types_view r choice_of type_view c.type_of_choice.result) (c.both-in-If-2.ensures ∙ ap (both_answers c.check-condition.result) c.both-in-If.ensures) c.type_of_choice.ensures in
     rw is
-    (choice_typed (type_of (scope_at c.args.place.now) (tree_view c.deref-in-If.result.now)) (type_of (scope_at c.args.place.now) (tree_view c.deref-in-If-2.result.now)) (type_of (scope_at c.args.place.now) (tree_view c.deref-in-If-3.result.now)) c.check-condition.result c.check-first-in-If.result c.check-second-in-If.result c.chosen.result
+    (choice_typed (type_of (scope_at c.args.place.now) (tree_view c.deref-in-If.result.now)) (type_of (scope_at c.args.place.now) (tree_view c.deref-in-If-2.result.now)) (type_of (scope_at c.args.place.now) (tree_view c.deref-in-If-3.result.now)) c.check-condition.result c.check-first-in-If.result c.check-second-in-If.result c.type_of_choice.result
     c.check-condition.ensures.ty c.check-first-in-If.ensures.ty c.check-second-in-If.ensures.ty gives)
 
 pub check-returns-in-If-clause-names : goal.check-returns-in-If-clause-names
 check-returns-in-If-clause-names t c =
     let is = ap tree_view c.in-If.is ∙ (λ i. trees.choice (tree_view (sym c.deref-in-If.ensures i)) (tree_view (sym c.deref-in-If-2.ensures i)) (tree_view (sym c.deref-in-If-3.ensures i))) in
-    let gives = subst (λ r. Gives three_types_view r choice_of type_view c.chosen.result) (c.both-in-If-2.ensures ∙ ap (both_answers c.check-condition.result) c.both-in-If.ensures) c.chosen.ensures in
+    let gives = subst (λ r. Gives three_types_view r choice_of type_view c.type_of_choice.result) (c.both-in-If-2.ensures ∙ ap (both_answers c.check-condition.result) c.both-in-If.ensures) c.type_of_choice.ensures in
     let n = names_view c.args.seen.now in
     let l = names_view c.check-second-in-If.new.seen in
     let cs = relvars_in (scope_at c.args.place.now) (tree_view c.deref-in-If.result.now) in
     let rs = relvars_in (scope_at c.args.place.now) (tree_view c.deref-in-If-2.result.now) ++ relvars_in (scope_at c.args.place.now) (tree_view c.deref-in-If-3.result.now) in
     let ts = types_in (tree_view c.deref-in-If-2.result.now) ++ types_in (tree_view c.deref-in-If-3.result.now) in
-    names_are c.chosen.result (scope_at c.args.place.now) (tree_view c.args.expr.now) n l (cs ++ rs) (types_in (tree_view c.deref-in-If.result.now) ++ ts) (ap (relvars_in (scope_at c.args.place.now)) is) (ap types_in is)
-    (names_held three_types_view (both_answers c.check-condition.result (both_answers c.check-first-in-If.result c.check-second-in-If.result)) choice_of type_view c.chosen.result
+    names_are c.type_of_choice.result (scope_at c.args.place.now) (tree_view c.args.expr.now) n l (cs ++ rs) (types_in (tree_view c.deref-in-If.result.now) ++ ts) (ap (relvars_in (scope_at c.args.place.now)) is) (ap types_in is)
+    (names_held three_types_view (both_answers c.check-condition.result (both_answers c.check-first-in-If.result c.check-second-in-If.result)) choice_of type_view c.type_of_choice.result
     n l (cs ++ rs) (types_in (tree_view c.deref-in-If.result.now) ++ ts) gives
     (names_of_both c.check-condition.result (both_answers c.check-first-in-If.result c.check-second-in-If.result) n (names_view c.check-condition.new.seen) l cs (types_in (tree_view c.deref-in-If.result.now)) rs ts
     c.check-condition.ensures.names

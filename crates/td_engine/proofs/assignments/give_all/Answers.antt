@@ -13,7 +13,7 @@ use Rattle.td_engine.proofs.law_lemmas.TypedAfter.{gifts_typed}
 use Rattle.td_engine.proofs.code_lemmas.UnreachedChecks.{gifts_pass_elsewhere, same_targets}
 use Rattle.td_engine.specs.LeftOut.{PassesElsewhere}
 use Rattle.td_eval.specs.ReachedRelvars.{reached_from}
-use Rattle.td_engine.specs.Machine.{changed}
+use Rattle.td_engine.specs.Machine.{checked_effect}
 use Rattle.td_engine.proofs.assignments.give_all.Goals as goal
 
 pub put_all-requires : goal.put_all-requires
@@ -38,7 +38,7 @@ settle_gifts-requires-clause-elsewhere g c =
 
 pub returns-in-Ok-clause-change : goal.returns-in-Ok-clause-change
 returns-in-Ok-clause-change g c =
-    subst (λ (db : Database). Changes c.put_all.new.catalog.database c.settle_gifts.result (changed db)) c.in-Ok.ensures.next c.settle_gifts.ensures
+    subst (λ (db : Database). Changes c.put_all.new.catalog.database c.settle_gifts.result (checked_effect db)) c.in-Ok.ensures.next c.settle_gifts.ensures
 
 pub returns-in-Err-clause-change : goal.returns-in-Err-clause-change
 returns-in-Err-clause-change g c =

@@ -2,7 +2,7 @@ use Rattle.std.proofs.Common.{◌≡◌, ◌∙◌, ap, subst, sym}
 use Rattle.std.specs.Prelude.{IfSome}
 use Rattle.td_body.specs.Bodies.{after_change}
 use Rattle.td_catalog.specs.Database.{base_named, base_relvar, with_body}
-use Rattle.td_catalog.specs.KeptDatabases.{CatalogView, advanced}
+use Rattle.td_catalog.specs.KeptDatabases.{CatalogView, advanced_view}
 use Rattle.td_engine.proofs.code_lemmas.Done.{always_ok}
 use Rattle.td_engine.proofs.code_lemmas.GivenChanges.{given_of}
 use Rattle.td_engine.proofs.code_lemmas.PutGifts.{checked_there}
@@ -24,8 +24,8 @@ returns-clause-check g c =
     let d = c.args.change.now in
     let r = c.requires.is.target in
     let q = changed_by d r.relation in
-    let made : w ≡ advanced (with_body n q v.database) v =
-    subst (λ o. IfSome o (λ b. w ≡ advanced (with_body n (after_change d.out d.add b.relation) v.database) v)) c.requires.is.named c.in_ok-change.ensures.changed in
+    let made : w ≡ advanced_view (with_body n q v.database) v =
+    subst (λ o. IfSome o (λ b. w ≡ advanced_view (with_body n (after_change d.out d.add b.relation) v.database) v)) c.requires.is.named c.in_ok-change.ensures.changed in
     let told = checked_there c.check_keys.result v.database w.database n q (ap (λ (x : CatalogView). x.database) made) c.check_keys.ensures in
     subst (λ o. IfSome o (λ b. Passes c.check_keys.result (base_check (base_relvar b.name b.keys (changed_by d b.relation))))) (sym c.requires.is.named)
     (subst (λ o. IfSome o (λ b. Passes c.check_keys.result (base_check (base_relvar b.name b.keys q)))) c.requires.is.named told)
@@ -37,8 +37,8 @@ returns-clause-put g c =
     let n = c.args.name.now in
     let d = c.args.change.now in
     let r = c.requires.is.target in
-    let made : w ≡ advanced (with_body n (changed_by d r.relation) v.database) v =
-    subst (λ o. IfSome o (λ b. w ≡ advanced (with_body n (after_change d.out d.add b.relation) v.database) v)) c.requires.is.named c.in_ok-change.ensures.changed in
+    let made : w ≡ advanced_view (with_body n (changed_by d r.relation) v.database) v =
+    subst (λ o. IfSome o (λ b. w ≡ advanced_view (with_body n (after_change d.out d.add b.relation) v.database) v)) c.requires.is.named c.in_ok-change.ensures.changed in
     always_ok c.check_keys.result (w.database ≡ with_body n (given_as v.database n d) v.database)
     (ap (λ (x : CatalogView). x.database) made ∙ ap (λ q. with_body n q v.database) (sym (given_of v.database n d r c.requires.is.named)))
 
@@ -49,6 +49,6 @@ returns-clause-on g c =
     let n = c.args.name.now in
     let d = c.args.change.now in
     let r = c.requires.is.target in
-    let made : w ≡ advanced (with_body n (changed_by d r.relation) v.database) v =
-    subst (λ o. IfSome o (λ b. w ≡ advanced (with_body n (after_change d.out d.add b.relation) v.database) v)) c.requires.is.named c.in_ok-change.ensures.changed in
+    let made : w ≡ advanced_view (with_body n (changed_by d r.relation) v.database) v =
+    subst (λ o. IfSome o (λ b. w ≡ advanced_view (with_body n (after_change d.out d.add b.relation) v.database) v)) c.requires.is.named c.in_ok-change.ensures.changed in
     goes_on v w (with_body n (changed_by d r.relation) v.database) made

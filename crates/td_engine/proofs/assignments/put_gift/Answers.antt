@@ -12,7 +12,7 @@ use Rattle.td_engine.specs.Assignments.{given_to}
 use Rattle.td_engine.specs.code.Carried.{Passes}
 use Rattle.td_engine.specs.Changes.{IsTypedChange, changed_by, given_as, given_in}
 use Rattle.td_engine.specs.Checks.{base_check}
-use Rattle.td_engine.specs.code.Gifts.{gifted}
+use Rattle.td_engine.specs.code.Gifts.{gifted_bases}
 use Rattle.td_types.specs.Types.{same_name}
 use Rattle.td_engine.proofs.assignments.put_gift.Goals as goal
 

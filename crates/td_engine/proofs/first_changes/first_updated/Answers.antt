@@ -1,8 +1,8 @@
 use Rattle.std.proofs.Common.{refl}
 use Rattle.td_engine.proofs.first_changes.first_updated.Goals as goal
 
-pub changed-requires : goal.changed-requires
-changed-requires g c =
+pub updated_tuples-requires : goal.updated_tuples-requires
+updated_tuples-requires g c =
     record {
       definitions = c.requires.definitions;
       settings =

@@ -5,11 +5,11 @@ use Rattle.td_engine.specs.code.Plannable.{ArePlannableSettings, IsPlannableAssi
 use Rattle.td_tree.specs.code.TreeViews.{assignment_view, named_view, tree_view}
 use Rattle.td_engine.proofs.updates.change_of.Goals as goal
 
-pub replaced-requires : goal.replaced-requires
-replaced-requires g c = subst (λ a. IsPlannableAssignment c.args.catalog.now.database c.args.so_far.now (assignment_view a)) c.in-Assign.is c.requires
+pub change_of_assign-requires : goal.change_of_assign-requires
+change_of_assign-requires g c = subst (λ a. IsPlannableAssignment c.args.catalog.now.database c.args.so_far.now (assignment_view a)) c.in-Assign.is c.requires
 
-pub inserted-requires : goal.inserted-requires
-inserted-requires g c = subst (λ a. IsPlannableAssignment c.args.catalog.now.database c.args.so_far.now (assignment_view a)) c.in-Insert.is c.requires
+pub change_of_insert-requires : goal.change_of_insert-requires
+change_of_insert-requires g c = subst (λ a. IsPlannableAssignment c.args.catalog.now.database c.args.so_far.now (assignment_view a)) c.in-Insert.is c.requires
 
 pub delete-requires : goal.delete-requires
 delete-requires g c =

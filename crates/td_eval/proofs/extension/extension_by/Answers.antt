@@ -22,8 +22,8 @@ returns-in_err-columns c fs lengths a =
     (columns_refused (Valued attributes) fs c.args.rel.now attributes (checked_of c.args.rel.now.heading attributes _ (sym c.heading.ensures) c.in_ok-ask_new.ensures) view c.in_err-columns.field-0.0 attributes refl
     (subst (λ x. Answers view x (gathered (named_columns attributes fs c.args.rel.now.body))) c.in_err-columns.was a))
 
-pub extended-requires-clause-distinct : goal.extended-requires-clause-distinct
-extended-requires-clause-distinct c =
+pub extension_value-requires-clause-distinct : goal.extension_value-requires-clause-distinct
+extension_value-requires-clause-distinct c =
     let attributes = pairs_view c.args.attributes.now in
     let r = c.args.rel.now in
     let fit = subst (λ x. IfOk x (λ (cs : Vec (List ℕ × Column)). AreColumnsFor attributes r.body (columns_view cs.items))) c.in_ok-columns.was c.requires in
@@ -31,8 +31,8 @@ extended-requires-clause-distinct c =
     (same_attributes (Valued attributes) fit.0 r attributes (checked_of c.args.rel.now.heading attributes _ (sym c.heading.ensures) c.in_ok-ask_new.ensures) (columns_view c.in_ok-columns.field-0.items) fit.2 fit.1)
     ∙ distinct_given (Valued attributes) fit.0 r attributes (checked_of c.args.rel.now.heading attributes _ (sym c.heading.ensures) c.in_ok-ask_new.ensures)
 
-pub extended-requires-clause-new : goal.extended-requires-clause-new
-extended-requires-clause-new c =
+pub extension_value-requires-clause-new : goal.extension_value-requires-clause-new
+extension_value-requires-clause-new c =
     let attributes = pairs_view c.args.attributes.now in
     let r = c.args.rel.now in
     let fit = subst (λ x. IfOk x (λ (cs : Vec (List ℕ × Column)). AreColumnsFor attributes r.body (columns_view cs.items))) c.in_ok-columns.was c.requires in
@@ -40,8 +40,8 @@ extended-requires-clause-new c =
     (same_attributes (Valued attributes) fit.0 r attributes (checked_of c.args.rel.now.heading attributes _ (sym c.heading.ensures) c.in_ok-ask_new.ensures) (columns_view c.in_ok-columns.field-0.items) fit.2 fit.1)
     ∙ apart_given (Valued attributes) fit.0 r attributes (checked_of c.args.rel.now.heading attributes _ (sym c.heading.ensures) c.in_ok-ask_new.ensures)
 
-pub extended-requires-clause-fit : goal.extended-requires-clause-fit
-extended-requires-clause-fit c =
+pub extension_value-requires-clause-fit : goal.extension_value-requires-clause-fit
+extension_value-requires-clause-fit c =
     let attributes = pairs_view c.args.attributes.now in
     let r = c.args.rel.now in
     let fit = subst (λ x. IfOk x (λ (cs : Vec (List ℕ × Column)). AreColumnsFor attributes r.body (columns_view cs.items))) c.in_ok-columns.was c.requires in
@@ -53,6 +53,6 @@ returns c fs lengths a =
     let r = c.args.rel.now in
     let view = λ (cs : Vec (List ℕ × Column)). columns_view cs.items in
     let given = subst (λ x. Answers view x (gathered (named_columns attributes fs r.body))) c.in_ok-columns.was a in
-    extended_given (Valued attributes) fs r attributes (checked_of c.args.rel.now.heading attributes _ (sym c.heading.ensures) c.in_ok-ask_new.ensures) (columns_view c.in_ok-columns.field-0.items) given c.extended.result
-    (c.extended.ensures (additions_of attributes fs)
+    extended_given (Valued attributes) fs r attributes (checked_of c.args.rel.now.heading attributes _ (sym c.heading.ensures) c.in_ok-ask_new.ensures) (columns_view c.in_ok-columns.field-0.items) given c.extension_value.result
+    (c.extension_value.ensures (additions_of attributes fs)
     (columns_of_additions (Valued attributes) fs r attributes (checked_of c.args.rel.now.heading attributes _ (sym c.heading.ensures) c.in_ok-ask_new.ensures) (columns_view c.in_ok-columns.field-0.items) given))

@@ -23,7 +23,7 @@ returns-in_err-columns g c =
     let parts = named_view c.args.parts.now in
     let fs = values_in_tuples (world_in c.args.env.now) (tuples_in_hand c.args.env.now) parts in
     let seen : values_in_tuples (seen_by c.of_env-sight.result) (reverse c.deref.result.now) parts ≡ fs =
-    λ i. values_in_tuples (c.of_env-sight.ensures.exact i) (reverse ((c.deref.ensures.value ∙ c.in_ok-shared.ensures) i)) parts in
+    λ i. values_in_tuples (c.of_env-sight.ensures.exact i) (reverse ((c.deref.ensures.value ∙ c.in_ok-copies_of_lent.ensures) i)) parts in
     let view = λ (cs : Vec (List ℕ × Column)). columns_view cs.items in
     let e = err_from_is_err_and c.from_residual-in_err-columns.result c.from_residual-in_err-columns.ensures.1 in
     rw (e.1, e.2)
@@ -36,7 +36,7 @@ set_all-requires-clause-distinct g c =
     let parts = named_view c.args.parts.now in
     let fs = values_in_tuples (world_in c.args.env.now) (tuples_in_hand c.args.env.now) parts in
     let seen : values_in_tuples (seen_by c.of_env-sight.result) (reverse c.deref.result.now) parts ≡ fs =
-    λ i. values_in_tuples (c.of_env-sight.ensures.exact i) (reverse ((c.deref.ensures.value ∙ c.in_ok-shared.ensures) i)) parts in
+    λ i. values_in_tuples (c.of_env-sight.ensures.exact i) (reverse ((c.deref.ensures.value ∙ c.in_ok-copies_of_lent.ensures) i)) parts in
     let cs = columns_view c.in_ok-columns.columns.items in
     let given : gathered (named_columns attributes fs c.args.rel.now.body) ≡ Valued cs =
     subst (λ gs. gathered (named_columns attributes gs c.args.rel.now.body) ≡ Valued cs) seen c.in_ok-columns.ensures in
@@ -50,7 +50,7 @@ set_all-requires-clause-fit g c =
     let parts = named_view c.args.parts.now in
     let fs = values_in_tuples (world_in c.args.env.now) (tuples_in_hand c.args.env.now) parts in
     let seen : values_in_tuples (seen_by c.of_env-sight.result) (reverse c.deref.result.now) parts ≡ fs =
-    λ i. values_in_tuples (c.of_env-sight.ensures.exact i) (reverse ((c.deref.ensures.value ∙ c.in_ok-shared.ensures) i)) parts in
+    λ i. values_in_tuples (c.of_env-sight.ensures.exact i) (reverse ((c.deref.ensures.value ∙ c.in_ok-copies_of_lent.ensures) i)) parts in
     let cs = columns_view c.in_ok-columns.columns.items in
     let given : gathered (named_columns attributes fs c.args.rel.now.body) ≡ Valued cs =
     subst (λ gs. gathered (named_columns attributes gs c.args.rel.now.body) ≡ Valued cs) seen c.in_ok-columns.ensures in
@@ -62,7 +62,7 @@ returns g c =
     let parts = named_view c.args.parts.now in
     let fs = values_in_tuples (world_in c.args.env.now) (tuples_in_hand c.args.env.now) parts in
     let seen : values_in_tuples (seen_by c.of_env-sight.result) (reverse c.deref.result.now) parts ≡ fs =
-    λ i. values_in_tuples (c.of_env-sight.ensures.exact i) (reverse ((c.deref.ensures.value ∙ c.in_ok-shared.ensures) i)) parts in
+    λ i. values_in_tuples (c.of_env-sight.ensures.exact i) (reverse ((c.deref.ensures.value ∙ c.in_ok-copies_of_lent.ensures) i)) parts in
     let cs = columns_view c.in_ok-columns.columns.items in
     let given : gathered (named_columns attributes fs c.args.rel.now.body) ≡ Valued cs =
     subst (λ gs. gathered (named_columns attributes gs c.args.rel.now.body) ≡ Valued cs) seen c.in_ok-columns.ensures in

@@ -14,4 +14,4 @@ returns g c =
     let view = λ (m : Vec Bool). m.items in
     subst (λ w. Answers view c.truths.result (gathered (map (λ t. truth_value (value_of w (t ∷ tuples_in_hand env) tree)) c.args.rel.now.body))) c.of_env-sight.ensures.exact
     (subst (λ ts. Answers view c.truths.result (gathered (map (λ t. truth_value (value_of (seen_by c.of_env-sight.result) (t ∷ reverse ts) tree)) c.args.rel.now.body)))
-    (c.deref.ensures.value ∙ c.in_ok-shared.ensures) c.truths.ensures)
+    (c.deref.ensures.value ∙ c.in_ok-copies_of_lent.ensures) c.truths.ensures)

@@ -30,7 +30,7 @@ use Rattle.td_eval.specs.code.Sights.{seen_by, virtuals_of}
 use Rattle.td_eval.specs.code.Totals.{term_in, total_of, total_view}
 use Rattle.td_eval.specs.TreeValues.{argument_values, entry_values, items_in_tuples, value_of, values_in_tuples}
 use Rattle.td_group.specs.declared.aggregates.Agg.{Agg}
-use Rattle.td_eval.specs.Worlds.{known_outcome, selected, with_tuples}
+use Rattle.td_eval.specs.Worlds.{known_outcome, selector_outcome, with_tuples}
 use Rattle.td_tree.proofs.code_lemmas.Gatherings.{collected_next}
 use Rattle.td_tree.specs.Heights.{height, highest, highest_named, highest_summary, type_height}
 use Rattle.td_tree.specs.Outcomes.{Answers, Valued, gathered, named_cause, with_value}
@@ -60,7 +60,7 @@ values_of-returns g t c =
 pub entries-loop-part-preserved : goal.entries-loop-part-preserved
 entries-loop-part-preserved g t c =
     collected_next (λ e. e) (entry_found (seen_by c.args.sight.now) (reverse c.args.tuples.now)) c.args.parts.now c.loop-part.part-index c.loop-part-test.true c.part-item.is
-    c.loop-part.invariant (c.named-entry.ensures (value_of (seen_by c.args.sight.now) (reverse c.args.tuples.now) (tree_view c.part-item.result.value)) c.value_of.ensures) c.in_ok-collect.ensures
+    c.loop-part.invariant (c.named_value-entry.ensures (value_of (seen_by c.args.sight.now) (reverse c.args.tuples.now) (tree_view c.part-item.result.value)) c.value_of.ensures) c.in_ok-collect.ensures
 
 pub entries-returns : goal.entries-returns
 entries-returns g t c =
@@ -86,7 +86,7 @@ column-loop-row-preserved g t c =
     let found = λ (u : Tuple). value_of (seen_by c.args.sight.now) (u ∷ reverse c.args.tuples.now) (tree_view c.args.expr.now) in
     let answers = subst (λ (s : List Tuple). Answers (λ (v : Val). v) c.value_in_row.result (value_of (seen_by c.args.sight.now) (c.row-item.result ∷ reverse s) (tree_view c.args.expr.now))) c.loop-row.invariant.1 c.value_in_row.ensures.value in (
       collected_next (λ v. v) (λ u. with_value (found u) (value_of_type (type_view c.args.ty.now))) c.rows-rows.result.now c.loop-row.row-index c.loop-row-test.true c.row-item.is
-          c.loop-row.invariant.0 (c.typed-value.ensures (found c.row-item.result) answers) c.in_ok-collect.ensures,
+          c.loop-row.invariant.0 (c.value_of_its_type-value.ensures (found c.row-item.result) answers) c.in_ok-collect.ensures,
       c.value_in_row.ensures.tuples ∙ c.loop-row.invariant.1,
     )
 
@@ -206,31 +206,31 @@ meets_constraint-value_of-requires g t c =
 
 -- ---- selectors
 
-pub selected-returns-in_default-get : goal.selected-returns-in_default-get
-selected-returns-in_default-get g t c =
+pub selector_outcome-returns-in_default-get : goal.selector_outcome-returns-in_default-get
+selector_outcome-returns-in_default-get g t c =
     absurd (never_missing c.args.sight.now c.args.name.now c.requires c.in-Some.place c.in-Some.ensures.found.0 (sym c.get.ensures ∙ ap (option_map (λ e. e.now)) c.in_default-get.is))
 
-pub selected-returns-then-not-have_types : goal.selected-returns-then-not-have_types
-selected-returns-then-not-have_types g t c =
+pub selector_outcome-returns-then-not-have_types : goal.selector_outcome-returns-then-not-have_types
+selector_outcome-returns-then-not-have_types g t c =
     let is = is_selector c.args.sight.now c.args.name.now c.requires c.in-Some.place c.in-Some-get.entry.now c.in-Some.ensures.found.0 c.in-Some.ensures.found.1 (sym c.get.ensures ∙ ap (option_map (λ e. e.now)) c.in-Some-get.is) in
     mismatched c.args.sight.now c.args.name.now c.in-Some.place c.in-Some-get.entry.now is c.args.values.items
     ((λ i. are_types_of (map type_of (sym c.deref.ensures.value i)) (sym c.components.ensures i)) ∙ sym c.have_types.ensures ∙ c.if-not-have_types.true)
 
-pub selected-meets_constraint-holds-requires : goal.selected-meets_constraint-holds-requires
-selected-meets_constraint-holds-requires g t c =
+pub selector_outcome-meets_constraint-holds-requires : goal.selector_outcome-meets_constraint-holds-requires
+selector_outcome-meets_constraint-holds-requires g t c =
     let is = is_selector c.args.sight.now c.args.name.now c.requires c.in-Some.place c.in-Some-get.entry.now c.in-Some.ensures.found.0 c.in-Some.ensures.found.1 (sym c.get.ensures ∙ ap (option_map (λ e. e.now)) c.in-Some-get.is) in
     λ κs o. (
       (let h = weight_before constraint_height c.args.sight.now.types.now c.in-Some.place c.args.sight.now.selectors c.in-Some-get.entry.now is.entry is.known in omega (arith, c.decreases, h)),
       (o, (c.requires, (is.known, is.entry))),
     )
 
-pub selected-returns : goal.selected-returns
-selected-returns g t c =
+pub selector_outcome-returns : goal.selector_outcome-returns
+selector_outcome-returns g t c =
     let is = is_selector c.args.sight.now c.args.name.now c.requires c.in-Some.place c.in-Some-get.entry.now c.in-Some.ensures.found.0 c.in-Some.ensures.found.1 (sym c.get.ensures ∙ ap (option_map (λ e. e.now)) c.in-Some-get.is) in
     constructed_of c.args.sight.now c.args.name.now c.in-Some.place c.in-Some-get.entry.now is c.args.values.items
     ((λ i. are_types_of (map type_of (sym c.deref.ensures.value i)) (sym c.components.ensures i)) ∙ sym c.have_types.ensures ∙ c.if-not-have_types.false)
-    c.constructed.result
-    (c.constructed.ensures _
+    c.user_value.result
+    (c.user_value.ensures _
     (subst (λ vs. Answers (λ b. b) c.meets_constraint-holds.result (constraint_value (world_of_types c.args.sight.now.types.now (take c.in-Some.place c.args.sight.now.types.now)) c.in-Some-get.entry.now vs))
     c.deref-2.ensures.value c.meets_constraint-holds.ensures))
 
@@ -254,13 +254,13 @@ value_of-returns-in_err-values_of-in-Select g t c =
     let p = err_from_is_err_and c.from_residual-in_err-values_of-in-Select.result c.from_residual-in_err-values_of-in-Select.ensures.1 in
     let is = ap tree_view c.in-Select.is ∙ select_is c.in-Select.ty c.in-Select.arguments ∙ ap (λ xs. trees.select c.in-Select.ty (trees_view xs)) (sym c.deref-in-Select.ensures.value) in
     rw (p.1, p.2, is)
-    (answers_still (λ (vs : Vec Val). vs.items) (λ (v : Val). v) _ (argument_values (seen_by c.args.sight.now) (reverse c.args.tuples.now) (trees_view c.deref-in-Select.result.now)) (selected (seen_by c.args.sight.now) c.in-Select.ty) c.in_err-values_of-in-Select.ensures)
+    (answers_still (λ (vs : Vec Val). vs.items) (λ (v : Val). v) _ (argument_values (seen_by c.args.sight.now) (reverse c.args.tuples.now) (trees_view c.deref-in-Select.result.now)) (selector_outcome (seen_by c.args.sight.now) c.in-Select.ty) c.in_err-values_of-in-Select.ensures)
 
 pub value_of-returns-in_ok-values_of-in-Select : goal.value_of-returns-in_ok-values_of-in-Select
 value_of-returns-in_ok-values_of-in-Select g t c =
     let is = ap tree_view c.in-Select.is ∙ select_is c.in-Select.ty c.in-Select.arguments ∙ ap (λ xs. trees.select c.in-Select.ty (trees_view xs)) (sym c.deref-in-Select.ensures.value) in
     rw is
-    (answered_then (λ vs. vs.items) c.in_ok-values_of-in-Select.field-0 (argument_values (seen_by c.args.sight.now) (reverse c.args.tuples.now) (trees_view c.deref-in-Select.result.now)) (selected (seen_by c.args.sight.now) c.in-Select.ty) (λ v. v) c.selected.result c.in_ok-values_of-in-Select.ensures c.selected.ensures)
+    (answered_then (λ vs. vs.items) c.in_ok-values_of-in-Select.field-0 (argument_values (seen_by c.args.sight.now) (reverse c.args.tuples.now) (trees_view c.deref-in-Select.result.now)) (selector_outcome (seen_by c.args.sight.now) c.in-Select.ty) (λ v. v) c.selector_outcome.result c.in_ok-values_of-in-Select.ensures c.selector_outcome.ensures)
 
 pub value_of-returns-in_err-values_of-in-Relation : goal.value_of-returns-in_err-values_of-in-Relation
 value_of-returns-in_err-values_of-in-Relation g t c =
@@ -292,7 +292,7 @@ pub value_of-returns-in-HeadedRelation : goal.value_of-returns-in-HeadedRelation
 value_of-returns-in-HeadedRelation g t c =
     let is = ap tree_view c.in-HeadedRelation.is ∙ headed_relation_is c.in-HeadedRelation.heading c.in-HeadedRelation.elements ∙ ap (λ xs. trees.headed_relation (heading_tree_view c.in-HeadedRelation.heading.items) (trees_view xs)) (sym c.deref-in-HeadedRelation.ensures.value) in
     rw is
-    (c.headed.ensures (heading_meant (seen_by c.args.sight.now).scope.types (heading_tree_view c.in-HeadedRelation.heading.items)) (argument_values (seen_by c.args.sight.now) (reverse c.args.tuples.now) (trees_view c.deref-in-HeadedRelation.result.now))
+    (c.value_of_headed.ensures (heading_meant (seen_by c.args.sight.now).scope.types (heading_tree_view c.in-HeadedRelation.heading.items)) (argument_values (seen_by c.args.sight.now) (reverse c.args.tuples.now) (trees_view c.deref-in-HeadedRelation.result.now))
     (subst (Answers (λ h. h) c.resolve_heading.result)
     (λ i. heading_meant (sym (types_seen c.args.sight.now c.requires) i) (heading_tree_view (c.deref-in-HeadedRelation-2.ensures.value i))) c.resolve_heading.ensures)
     c.values_of-elements.ensures)
@@ -316,8 +316,8 @@ value_of-returns-in_ok-value_of-in-Extend g t c =
     (values_in_tuples (seen_by c.args.sight.now) (reverse c.args.tuples.now) (named_view c.deref-in-Extend-2.result.now)) r)) (λ v. v) c.extension-in-Extend.result
     c.in_ok-value_of-in-Extend.ensures c.extension-in-Extend.ensures)
 
-pub restriction-restricted-requires : goal.restriction-restricted-requires
-restriction-restricted-requires g t c =
+pub restriction-restriction_value-requires : goal.restriction-restriction_value-requires
+restriction-restriction_value-requires g t c =
     of_as_many c.truths.result (λ t. truth_value (value_of (seen_by c.args.sight.now) (t ∷ (reverse c.args.tuples.now)) (tree_view c.args.condition.now))) c.in_ok-rel.rel.now.body c.truths.ensures
 
 -- ---- new attributes
@@ -435,8 +435,8 @@ aggregation-returns g t c =
     let world = seen_by c.args.sight.now in
     let tuples = reverse c.args.tuples.now in
     let value = λ (u : Tuple). value_of world (u ∷ tuples) (tree_view c.args.expr.now) in
-    answers_related (λ (v : Val). v) c.args.operand.now c.in_ok-rel.rel.now (aggregated_value (asked_of c.args.op) value) c.aggregated.result c.in_ok-rel.ensures
-    (c.aggregated.ensures (gathered (map value c.in_ok-rel.rel.now.body)) c.values_in_rows.ensures)
+    answers_related (λ (v : Val). v) c.args.operand.now c.in_ok-rel.rel.now (aggregated_value (asked_of c.args.op) value) c.value_of_aggregate.result c.in_ok-rel.ensures
+    (c.value_of_aggregate.ensures (gathered (map value c.in_ok-rel.rel.now.body)) c.values_in_rows.ensures)
 
 pub item_in_group-returns-in_ok-terms-in-Count : goal.item_in_group-returns-in_ok-terms-in-Count
 item_in_group-returns-in_ok-terms-in-Count g t c =
@@ -467,9 +467,9 @@ summary-returns g t c =
     let attributes = λ (h : Heading). summary_attributes (entered_with h (with_tuples world.scope tuples)) (summaries_view c.args.items.now) in
     let items = items_in_tuples world tuples (summaries_view c.args.items.now) in
     let totals = map total_view c.in_ok-totals.totals.items in
-    subst (Answers (λ (v : Val). v) c.summarized.result) (sym (both_related c.args.operand.now c.args.per.now r p (λ r p. summarized_value (attributes r.heading) items r p) c.in_ok-rel.ensures))
+    subst (Answers (λ (v : Val). v) c.extended_per.result) (sym (both_related c.args.operand.now c.args.per.now r p (λ r p. summarized_value (attributes r.heading) items r p) c.in_ok-rel.ensures))
     (totals_given (attributes r.heading) items r p c.in_ok-groups.groups.items c.in_ok-groups.ensures totals
-    (subst (λ gs. gathered (map (total_of gs) items) ≡ Valued totals) c.deref.ensures.value c.in_ok-totals.ensures) c.summarized.result c.summarized.ensures)
+    (subst (λ gs. gathered (map (total_of gs) items) ≡ Valued totals) c.deref.ensures.value c.in_ok-totals.ensures) c.extended_per.result c.extended_per.ensures)
 
 -- ---- aggregates and SUMMARIZE in a tree
 

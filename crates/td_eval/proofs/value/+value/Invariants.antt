@@ -77,8 +77,8 @@ decreases-values_of g l = weight l.sight.now + (8 * highest (trees_view l.exprs.
 abbrev pub decreases-entries : goal.decreases-entries
 decreases-entries g l = weight l.sight.now + (8 * highest_named (named_view l.parts.now) + 1)
 
-abbrev pub decreases-selected : goal.decreases-selected
-decreases-selected g l = weight l.sight.now + 1
+abbrev pub decreases-selector_outcome : goal.decreases-selector_outcome
+decreases-selector_outcome g l = weight l.sight.now + 1
 
 abbrev pub decreases-meets_constraint : goal.decreases-meets_constraint
 decreases-meets_constraint g l = weights constraint_height (take l.place l.sight.now.types.now) + (8 * constraint_height l.entry.now + 1)

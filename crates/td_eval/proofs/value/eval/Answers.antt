@@ -16,7 +16,7 @@ returns g c =
     let tree = tree_view c.args.expr.now in
     let value : Answers (λ (v : Val). v) c.value_of.result (value_of (world_in env) tuples tree) =
     subst (λ w. Answers (λ (v : Val). v) c.value_of.result (value_of w tuples tree)) c.of_env-sight.ensures.exact
-    (subst (λ ts. Answers (λ (v : Val). v) c.value_of.result (value_of (seen_by c.of_env-sight.result) (reverse ts) tree)) (c.deref.ensures.value ∙ c.in_ok-shared.ensures) c.value_of.ensures) in
+    (subst (λ ts. Answers (λ (v : Val). v) c.value_of.result (value_of (seen_by c.of_env-sight.result) (reverse ts) tree)) (c.deref.ensures.value ∙ c.in_ok-copies_of_lent.ensures) c.value_of.ensures) in
     record {
       value = value;
       typed = λ scope keeps is.

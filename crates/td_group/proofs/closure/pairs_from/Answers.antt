@@ -10,8 +10,8 @@ loop-start-preserved c =
     let starts = c.args.starts.now in
     let here : c.loop-start.start-index < length (map (λ (v : Bor Val). v.now) starts) = omega (arith, c.loop-start-test.true, length-map starts (λ (v : Bor Val). v.now)) in
     pairs_more (successors_at c.args.table.now) c.args.names.now (map (λ (v : Bor Val). v.now) starts) c.loop-start.start-index c.start-item.result.now
-    (map (λ (v : Bor Val). v.now) c.in_ok-reached.field-0.items) c.loop-start.pairs.items c.put_pairs.new.pairs.items here
-    (at_reference starts c.loop-start.start-index c.start-item.result c.start-item.is) c.in_ok-reached.ensures
+    (map (λ (v : Bor Val). v.now) c.in_ok-values_reached.field-0.items) c.loop-start.pairs.items c.put_pairs.new.pairs.items here
+    (at_reference starts c.loop-start.start-index c.start-item.result c.start-item.is) c.in_ok-values_reached.ensures
     (c.in_ok-put_pairs.ensures ∙ ap (λ xs. c.loop-start.pairs.items ++ map (pair_of c.args.names.now c.start-item.result.now) (map (λ (v : Bor Val). v.now) xs)) c.deref.ensures.value)
     c.loop-start.invariant
 

@@ -9,8 +9,8 @@ use Rattle.td_value.specs.code.Views.{node_view}
 use Rattle.td_value.specs.code.ValueCode.{unpack_pack_fields, unpack_pack_rows}
 use Rattle.td_group.proofs.unnesting.put_inside.Goals as goal
 
-pub joined-requires : goal.joined-requires
-joined-requires c =
+pub joined_tuple-requires : goal.joined_tuple-requires
+joined_tuple-requires c =
     let inside : tuples_inside (Some c.args.value.now) ≡ c.in-Tup.tuple.value ∷ [] =
     ap (λ v. tuples_inside (Some v)) (sym c.value.view_is ∙ ap node_view c.in-Tup.is) ∙ ap (λ t. t ∷ []) (unpack_pack_fields c.in-Tup.tuple.value) in
     subst (HaveNoCommonName c.args.rest.now) (sym c.deref.ensures)
@@ -27,7 +27,7 @@ pub returns-in_ok-push-in-Tup : goal.returns-in_ok-push-in-Tup
 returns-in_ok-push-in-Tup c =
     let inside : tuples_inside (Some c.args.value.now) ≡ c.in-Tup.tuple.value ∷ [] =
     ap (λ v. tuples_inside (Some v)) (sym c.value.view_is ∙ ap node_view c.in-Tup.is) ∙ ap (λ t. t ∷ []) (unpack_pack_fields c.in-Tup.tuple.value) in
-    c.in_ok-push-in-Tup.ensures.items ∙ ap (λ t. c.args.rows.now.items ++ t ∷ []) (c.in_ok-joined-in-Tup.ensures ∙ ap (λ x. tuple_of (c.args.rest.now ++ x)) c.deref.ensures)
+    c.in_ok-push-in-Tup.ensures.items ∙ ap (λ t. c.args.rows.now.items ++ t ∷ []) (c.in_ok-joined_tuple-in-Tup.ensures ∙ ap (λ x. tuple_of (c.args.rest.now ++ x)) c.deref.ensures)
     ∙ ap (λ ts. c.args.rows.now.items ++ map (λ x. tuple_of (c.args.rest.now ++ x)) ts) (sym inside)
 
 pub returns-in-Rel : goal.returns-in-Rel

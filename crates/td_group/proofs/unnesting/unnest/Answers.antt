@@ -22,8 +22,8 @@ unnested_rows-requires c =
     (subst (All (λ u. All (HaveNoCommonName (projected_tuple (other_names name r) u)) (tuples_inside (value_at name u)))) (sym c.rows.ensures.rows)
     (unnested_apart name r c.rows.ensures.headed c.requires.apart))
 
-pub unrefused-requires-2 : goal.unrefused-requires-2
-unrefused-requires-2 c =
+pub without_refusal-requires-2 : goal.without_refusal-requires-2
+without_refusal-requires-2 c =
     let name = c.args.name.now in
     let r = c.args.rel.now in
     let rest : c.in_ok-rest.rest ≡ without_attribute name r.heading =

@@ -26,8 +26,8 @@ wrapped_rows-requires c =
     (subst (All (λ t. HaveNoCommonName (projected_tuple (rest_names names r) t) (new t))) (sym c.rows.ensures.rows)
     (wrapped_apart names c.args.name r c.rows.ensures.headed c.requires))
 
-pub unrefused-requires-2 : goal.unrefused-requires-2
-unrefused-requires-2 c =
+pub without_refusal-requires-2 : goal.without_refusal-requires-2
+without_refusal-requires-2 c =
     let names = c.args.names.now in
     let r = c.args.rel.now in
     let part : c.in_ok-part.part ≡ projection names r.heading =

@@ -1,7 +1,7 @@
 use Rattle.std.proofs.Common.{rules, arith, suc, length, map}
 use Rattle.std.proofs.lemmas.Grind.{common_steps}
 use Rattle.std.proofs.lemmas.List.{map_push}
-use Rattle.td_parse.specs.ReadingSteps.{repeated, repeated_from}
+use Rattle.td_parse.specs.ReadingSteps.{list_by_words, repeated_from}
 use Rattle.std.proofs.Common.{List, ℕ, Vec, Global}
 use Rattle.td_parse.specs.ReadingSteps.{names}
 use Rattle.td_tree.specs.Lexemes.{keyword}
@@ -10,7 +10,7 @@ use Rattle.td_parse.proofs.Turns.{one_more}
 use Rattle.td_parse.proofs.definition.keys.Goals as goal
 
 pub loop-turn-init : goal.loop-turn-init
-unfolding repeated
+unfolding list_by_words
 loop-turn-init c = rw c.turns-limit.ensures (first_of (search rules, grind (arith, common_steps)))
 
 pub loop-turn-preserved : goal.loop-turn-preserved

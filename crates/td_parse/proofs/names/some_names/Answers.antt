@@ -1,6 +1,6 @@
 use Rattle.std.proofs.Common.{rules, arith, suc, length}
 use Rattle.std.proofs.lemmas.Grind.{common_steps}
-use Rattle.td_parse.specs.ReadingSteps.{read_name, separated, separated_from}
+use Rattle.td_parse.specs.ReadingSteps.{read_name, list_by_commas, separated_from}
 use Rattle.td_parse.proofs.Turns.{one_more}
 use Rattle.td_parse.proofs.names.some_names.Goals as goal
 
@@ -11,5 +11,5 @@ loop-turn-preserved c =
     first_of (search rules, grind (arith, common_steps))
 
 pub loop-turn-init : goal.loop-turn-init
-unfolding separated
+unfolding list_by_commas
 loop-turn-init c = rw c.turns-limit.ensures (first_of (search rules, grind (arith, common_steps)))

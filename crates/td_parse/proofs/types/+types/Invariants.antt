@@ -1,5 +1,5 @@
 use Rattle.std.proofs.Common.{◌≡◌, ◌-◌, ◌+◌, ◌*◌}
-use Rattle.td_parse.specs.ReadingSteps.{separated, separated_from}
+use Rattle.td_parse.specs.ReadingSteps.{list_by_commas, separated_from}
 use Rattle.td_parse.specs.ReadingTypes.{attribute, read_type}
 use Rattle.td_parse.specs.code.Views.{attribute_trees_view}
 use Rattle.td_parse.proofs.types.+types.Given as goal
@@ -21,4 +21,4 @@ decreases-type_of_word l = 10 * l.depth + 4
 
 -- what is left goes on from the attributes so far
 abbrev pub invariant-attributes-loop-turn : goal.invariant-attributes-loop-turn
-invariant-attributes-loop-turn l = separated (attribute (read_type l.depth)) l.fn.tokens ≡ separated_from (attribute (read_type l.depth)) (l.limit - l._turn) (attribute_trees_view l.items.items) l.tokens
+invariant-attributes-loop-turn l = list_by_commas (attribute (read_type l.depth)) l.fn.tokens ≡ separated_from (attribute (read_type l.depth)) (l.limit - l._turn) (attribute_trees_view l.items.items) l.tokens

@@ -7,5 +7,5 @@ pub returns : goal.returns
 returns c = λ o a.
     let given : o ≡ Valued c.in_ok-elements.elements.items = subst (λ r. Answers (λ vs. vs.items) r o) c.in_ok-elements.was a in
     rw given
-    (subst (λ h. Answers (λ v. v) c.headed.result (headed_value h c.in_ok-elements.elements.items)) c.in_ok-try_clone.ensures
-    (c.headed.ensures (Valued c.in_ok-try_clone.field-0) (Valued c.in_ok-elements.elements.items) refl refl))
+    (subst (λ h. Answers (λ v. v) c.value_of_headed.result (headed_value h c.in_ok-elements.elements.items)) c.in_ok-try_clone.ensures
+    (c.value_of_headed.ensures (Valued c.in_ok-try_clone.field-0) (Valued c.in_ok-elements.elements.items) refl refl))

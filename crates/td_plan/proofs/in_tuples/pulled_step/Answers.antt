@@ -8,7 +8,7 @@ use Rattle.td_plan.proofs.in_tuples.pulled_step.Goals as goal
 pub returns : goal.returns
 returns c = λ inner e i.
     let p = step_view c.in_ok-step.field-0 in
-    let once = steps_view c.pulled.new.pool.items in
+    let once = steps_view c.hoisted_step.new.pool.items in
     let asked = c.in_ok-step-3.step in (
       p,
       subst (λ o. IsPlanned inner o e) c.in_ok-step.was i,

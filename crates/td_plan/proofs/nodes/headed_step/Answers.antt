@@ -14,7 +14,7 @@ returns-in-Ok g c = λ es all.
     let scope = c.args.planner.now.scope in
     let heading = heading_tree_view c.args.heading.now in
     let elements = c.in_ok-elements.elements in
-    let known = c.declared.ensures ∙ sym (ap (λ s. s.types) c.requires) in
+    let known = c.declared_types.ensures ∙ sym (ap (λ s. s.types) c.requires) in
     subst (λ p. IsPlanOfTyped scope p (trees.headed_relation heading es)) (sym (headed_relation_is c.in-Ok.heading elements))
     (headed_planned scope heading c.in-Ok.heading (steps_view elements.items) es
     (ap (λ ds. heading_meant ds heading) (sym known) ∙ c.in-Ok.ensures) (subst (λ o. ArePlanned scope o (in_trees es)) c.in_ok-elements.was all))

@@ -14,7 +14,7 @@ pub returns : goal.returns
 returns c = λ scope d e h i static j.
     let p = c.in_ok-operand.field-0 in
     let asked = c.in_ok-condition.field-0 in
-    let parts = c.pulled.new.pool in
+    let parts = c.hoisted_step.new.pool in
     let old = steps_view c.new-parts.result.items in
     let q = c.in_ok-condition-3.condition in
     subst (λ x. IsPlanOfTyped scope x (trees.restriction d e)) (sym (restriction_is p parts q c.args.origin))

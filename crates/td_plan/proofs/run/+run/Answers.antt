@@ -132,16 +132,16 @@ returns-in-Relation g t c = λ fs h.
     subst (λ a. Answers (λ v. v) c.relation.result (plan_value (world_around a) fs (step_view c.args.step.now))) c.new-inner.ensures.around
     (rw is (c.relation.ensures fs h))
 
-pub headed-requires : goal.headed-requires
-headed-requires g t c =
+pub headed_relation-requires : goal.headed_relation-requires
+headed_relation-requires g t c =
     let h = ap height (ap step_view c.in-HeadedRelation.is ∙ step_rows.headed_relation_is c.in-HeadedRelation.heading c.in-HeadedRelation.elements ∙ (λ i. plans.headed_relation c.in-HeadedRelation.heading (steps_view (sym c.deref-in-HeadedRelation.ensures.value i)))) in
     record { callable = λ hand step low. (omega (arith, c.decreases, h, low), (λ a m. m, subst (λ a. AreSurroundings a) (sym c.new-inner.ensures.around) c.requires)); values = λ hand step answer p. p }
 
 pub returns-in-HeadedRelation : goal.returns-in-HeadedRelation
 returns-in-HeadedRelation g t c = λ fs h.
     let is = ap step_view c.in-HeadedRelation.is ∙ step_rows.headed_relation_is c.in-HeadedRelation.heading c.in-HeadedRelation.elements ∙ (λ i. plans.headed_relation c.in-HeadedRelation.heading (steps_view (sym c.deref-in-HeadedRelation.ensures.value i))) in
-    subst (λ a. Answers (λ v. v) c.headed.result (plan_value (world_around a) fs (step_view c.args.step.now))) c.new-inner.ensures.around
-    (rw is (c.headed.ensures fs h))
+    subst (λ a. Answers (λ v. v) c.headed_relation.result (plan_value (world_around a) fs (step_view c.args.step.now))) c.new-inner.ensures.around
+    (rw is (c.headed_relation.ensures fs h))
 
 pub tuple-requires : goal.tuple-requires
 tuple-requires g t c =

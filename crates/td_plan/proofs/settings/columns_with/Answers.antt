@@ -36,8 +36,8 @@ returns g c =
 pub held_tuples-requires : goal.held_tuples-requires
 held_tuples-requires g c = ap (λ v. v.items) c.in_ok-fixed.ensures.ok ∙ c.new.ensures.items
 
-pub entered-requires : goal.entered-requires
-entered-requires g c = c.requires.around
+pub entered_loop-requires : goal.entered_loop-requires
+entered_loop-requires g c = c.requires.around
 
 pub columns-requires : goal.columns-requires
 columns-requires g c = record { around = c.requires.around; lengths = c.requires.lengths ∙ ap length (sym c.deref-3.ensures.value) }

@@ -1,13 +1,13 @@
 use Rattle.std.proofs.Common.{◌≡◌, ◌+◌, ◌++◌, length}
 use Rattle.td_tree.specs.Division.{up_to}
-use Rattle.td_tree.specs.Statements.{chosen, ends, tokens}
+use Rattle.td_tree.specs.Statements.{statement_or_rest, ends, tokens}
 use Rattle.td_scan.proofs.ScanLaws.{gathered}
 use Rattle.td_scan.proofs.cutter.with_rest.Given as goal
 
 abbrev pub invariant-loop-next : goal.invariant-loop-next
 invariant-loop-next l = record {
   place : l.start + length l.rest ≡ l.offset + length l.bytes;
-  so_far : gathered l.finished l.found.items (tokens l.start l.rest) ≡ chosen l.finished (l.fn.found.items ++ tokens l.offset l.bytes) (up_to ends (l.fn.found.items ++ tokens l.offset l.bytes));
+  so_far : gathered l.finished l.found.items (tokens l.start l.rest) ≡ statement_or_rest l.finished (l.fn.found.items ++ tokens l.offset l.bytes) (up_to ends (l.fn.found.items ++ tokens l.offset l.bytes));
 }
 
 abbrev pub decreases-loop-next : goal.decreases-loop-next

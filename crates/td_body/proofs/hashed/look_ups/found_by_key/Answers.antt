@@ -13,8 +13,8 @@ use Rattle.td_body.specs.code.KeyParts.{places_from}
 use Rattle.td_body.proofs.LookUps.{at_some, found_agreeing, found_headed, if_weaker, part_count}
 use Rattle.td_body.proofs.hashed.look_ups.found_by_key.Goals as goal
 
-pub found-requires : goal.found-requires
-found-requires c =
+pub members_with-requires : goal.members_with-requires
+members_with-requires c =
     let r = c.args.members.now.relation in
     let count = part_count c.args.key.now r.heading c.args.part.now c.requires.part in
     if_weaker (λ ps. ps ≡ places_from 0 c.args.key.now (attribute_names r.heading)) (λ ps. length ps ≡ length c.values.result.now)

@@ -14,11 +14,11 @@ returns c =
     let sorted = c.args.sorted.now in
     let now = c.args.index.now.tuples in
     let touched : c.in_ok-touched.touched ≡ relation_of sorted.heading c.args.touched.now =
-    c.in_ok-touched.ensures.value ∙ (λ i. relation_of ((c.in_ok-try_clone.ensures ∙ c.heading.ensures) i) (c.in_ok-copied.ensures i)) in
+    c.in_ok-touched.ensures.value ∙ (λ i. relation_of ((c.in_ok-try_clone.ensures ∙ c.heading.ensures) i) (c.in_ok-copies_of.ensures i)) in
     let there : c.in_ok-there.there ≡ restriction (λ t. has tuple_cmp t now) (relation_of sorted.heading c.args.touched.now) =
     c.in_ok-there.ensures (λ t. has tuple_cmp t now) (c.deref.ensures.value ∙ c.in_ok-mask.ensures ∙ ap (map (λ t. has tuple_cmp t now)) c.rows.ensures.rows) ∙ ap (restriction (λ t. has tuple_cmp t now)) touched in
     if_ok (λ r. r ≡ after_change c.in_ok-touched.touched c.in_ok-there.there sorted)
-    (λ r. (set : List Tuple) → set ≡ now → Covers sorted.body c.args.touched.now set → IsAscendingBody set → r ≡ relation_view sorted.heading set) c.changed.result
+    (λ r. (set : List Tuple) → set ≡ now → Covers sorted.body c.args.touched.now set → IsAscendingBody set → r ≡ relation_view sorted.heading set) c.changed_relation.result
     (λ r e set same covers up. e ∙ (λ i. after_change (touched i) (there i) sorted)
     ∙ up_to_date sorted.body c.args.touched.now now sorted.heading (subst (Covers sorted.body c.args.touched.now) same covers) (subst IsAscendingBody same up)
-    ∙ ap (relation_view sorted.heading) (sym same)) c.changed.ensures
+    ∙ ap (relation_view sorted.heading) (sym same)) c.changed_relation.ensures

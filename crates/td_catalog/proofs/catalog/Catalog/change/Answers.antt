@@ -4,7 +4,7 @@ use Rattle.td_body.specs.Bodies.{after_change}
 use Rattle.td_catalog.specs.code.CatalogViews.{database_view, rows_of}
 use Rattle.td_catalog.specs.Database.{base_named, with_body}
 use Rattle.td_catalog.specs.code.Histories.{HasRoom, IsHistory, IsOwnStep, before, dropped_in, held_view, history_view}
-use Rattle.td_catalog.specs.KeptDatabases.{CatalogView, advanced}
+use Rattle.td_catalog.specs.KeptDatabases.{CatalogView, advanced_view}
 use Rattle.td_catalog.specs.declared.history.Step.TheVariants.{BodyChanged}
 use Rattle.td_catalog.proofs.ChangedBodies.{if_some, on_any_error}
 use Rattle.td_catalog.proofs.Named.{own_more}
@@ -53,7 +53,7 @@ returns-clause-changed g c =
     let now = ap (λ (v : CatalogView). v.database) c.self.view_is in
     let led = ap (λ n. before relation keys kept (BodyChanged n) (held_view relation keys kept others)) c.in_ok-changed.ensures ∙ c.in_ok-change.ensures.led in
     if_some (λ r. database_view relation others ≡ with_body c.args.name.now (after_change c.args.out.now c.args.add.now r.relation) (database_view relation rows))
-    (λ r. history_view relation keys kept others c.note.new.self.steps.items ≡ advanced (with_body c.args.name.now (after_change c.args.out.now c.args.add.now r.relation) c.args.self.now.database) c.args.self.now)
+    (λ r. history_view relation keys kept others c.note.new.self.steps.items ≡ advanced_view (with_body c.args.name.now (after_change c.args.out.now c.args.add.now r.relation) c.args.self.now.database) c.args.self.now)
     (base_named c.args.name.now (database_view relation rows)) (base_named c.args.name.now c.args.self.now.database) (ap (base_named c.args.name.now) now)
     (λ r is. view_next relation keys kept rows others steps c.note.new.self.steps.items (BodyChanged c.in_ok-changed.changed) c.note.ensures led c.args.self.now _
     (ap (history_view relation keys kept rows) c.reserve.ensures.steps ∙ c.self.view_is)

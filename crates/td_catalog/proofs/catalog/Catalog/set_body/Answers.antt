@@ -2,7 +2,7 @@ use Rattle.std.proofs.Common.{◌∙◌, IfSome, ap, refl, subst, sym, true≢fa
 use Rattle.std.specs.Prelude.{is_some}
 use Rattle.td_catalog.specs.code.CatalogViews.{IsBodyOf, base_heading, base_view, known_rows, rows_of}
 use Rattle.td_catalog.specs.Database.{BaseRelvar, Database, base_named, with_body}
-use Rattle.td_catalog.specs.KeptDatabases.{CatalogView, settled}
+use Rattle.td_catalog.specs.KeptDatabases.{CatalogView, settled_view}
 use Rattle.td_catalog.specs.TypedDatabases.{AreTyped}
 use Rattle.td_catalog.proofs.Changes.{catalog_with_body, view_with_body}
 use Rattle.td_catalog.proofs.LedSteps.{set_same}
@@ -38,7 +38,7 @@ returns-in-Some g c =
     let now = ap (λ (v : CatalogView). v.database) c.self.view_is in
     let none = no_step relation keys kept rows steps (ap (λ (v : CatalogView). v.kept) c.self.view_is ∙ c.requires.none_kept) in
     view_none relation keys kept _ steps none
-    ∙ ap settled (view_with_body relation keys rows c.args.name.now c.args.body c.in-Some.place _ (place_is relation keys c.args.name.now rows.bases c.in-Some.place (sym c.get_index_of.ensures.index ∙ c.in-Some.is)) c.pair_mut-entry.ensures.value ∙ ap (with_body c.args.name.now (relation c.args.body)) now)
+    ∙ ap settled_view (view_with_body relation keys rows c.args.name.now c.args.body c.in-Some.place _ (place_is relation keys c.args.name.now rows.bases c.in-Some.place (sym c.get_index_of.ensures.index ∙ c.in-Some.is)) c.pair_mut-entry.ensures.value ∙ ap (with_body c.args.name.now (relation c.args.body)) now)
 
 pub returns-in_default : goal.returns-in_default
 returns-in_default g c =

@@ -10,5 +10,5 @@ invariant_of-self-2 g c =
     let few : length opens < 16 = search rules in
     let room : length (reverse opens) < 16 = subst (λ n. n < 16) (sym (length-reverse opens)) few in
     let is : reverse c.push.new.self.items ≡ length c.self.inside.present.kept ∷ reverse opens =
-    ap reverse c.in_ok-push.ensures.items ∙ reverse-append opens (c.kept.result ∷ []) ∙ ap (λ n. n ∷ reverse opens) c.kept.ensures in
+    ap reverse c.in_ok-push.ensures.items ∙ reverse-append opens (c.kept_count.result ∷ []) ∙ ap (λ n. n ∷ reverse opens) c.kept_count.ensures in
     subst (IsEngine c.self.inside.present) (sym is) (engine_begun c.self.inside.present (reverse opens) c.self.invariant room)

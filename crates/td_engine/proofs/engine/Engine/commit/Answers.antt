@@ -3,7 +3,7 @@ use Rattle.std.proofs.lemmas.List.{reverse-append}
 use Rattle.td_engine.proofs.code_lemmas.Opens.{engine_committed}
 use Rattle.td_engine.proofs.law_lemmas.Transactions.{commit_does}
 use Rattle.td_engine.specs.Legality.{IsLegalState}
-use Rattle.td_engine.specs.Machine.{State, committed, state_of, step_of}
+use Rattle.td_engine.specs.Machine.{State, committed_transaction, state_of, step_of}
 use Rattle.td_engine.specs.code.Stages.{IsEngine, stage}
 use Rattle.td_engine.specs.code.Steps.{Does}
 use Rattle.td_engine.proofs.engine.Engine.commit.Goals as goal
@@ -23,7 +23,7 @@ returns-clause-done g c =
     let is : reverse c.self.inside.opens.items ≡ c.in-Some.field-0 ∷ others = ap reverse c.in-Some.ensures.items ∙ reverse-append c.pop.new.self.items (c.in-Some.field-0 ∷ []) in
     let kept : old.kept ≡ stage v c.in-Some.field-0 ∷ map (stage v) others = ap (λ (s : State). s.kept) (sym c.self.view_is) ∙ ap (map (stage v)) is in
     let database : old.database ≡ v.database = ap (λ (s : State). s.database) (sym c.self.view_is) in
-    subst (Does (step_of old (committed old.database old.kept)) c.in_ok-answer.answer)
+    subst (Does (step_of old (committed_transaction old.database old.kept)) c.in_ok-answer.answer)
     (ap (λ db. state_of db (map (stage v) others)) database ∙ sym c.settle.ensures)
     (commit_does c.in_ok-answer.answer old (stage v c.in-Some.field-0) (map (stage v) others) (c.in_ok-answer.ensures.flag, c.in_ok-answer.ensures.text) kept)
 

@@ -22,7 +22,7 @@ returns-in-Err-clause-done g c =
     let told =
     subst (λ (v : CatalogView). Answers (λ u. u) (Err c.in-Err.fault) (statement_checked (database_scope v.database) s)) c.self.view_is c.in-Err.ensures in
     ok_map (λ a. (d : Database) → IsRefusedBy d c.in-Err.fault a) (λ a. Does (step_of db (effect db s)) a db)
-    (λ a d. refused_does (λ u. u) c.in-Err.fault a db (statement_checked (database_scope db) s) (λ _. carried_out db s) told (d db)) c.refused.result c.refused.ensures.databases
+    (λ a d. refused_does (λ u. u) c.in-Err.fault a db (statement_checked (database_scope db) s) (λ _. carried_out db s) told (d db)) c.answer_of_fault.result c.answer_of_fault.ensures.databases
 
 pub returns-in-Err-clause-on : goal.returns-in-Err-clause-on
 returns-in-Err-clause-on g c = stays _ _ refl

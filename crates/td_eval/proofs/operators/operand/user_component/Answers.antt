@@ -15,7 +15,7 @@ returns c =
     let declared : declared_at c.args.user.now.name c.args.types.now ≡ Some c.in-Some.entry.now =
     ap (λ n. declared_at n c.args.types.now) (sym c.name.ensures) ∙ sym c.get.ensures ∙ ap (option_map (λ e. e.now)) c.in-Some.is in
     component_found c.args.types.now (rc_str_bytes c.args.name.now) c.args.user.now c.in-Some.entry.now _ declared
-    (subst (λ o. Answers (λ (v : Val). v) c.known.result (known_or causes.NameUnknown o))
+    (subst (λ o. Answers (λ (v : Val). v) c.value_or_cause.result (known_or causes.NameUnknown o))
     (c.component_named-found.ensures
     ∙ (λ i. value_at (rc_str_bytes c.args.name.now) (zip (attribute_names (c.components.ensures i)) (c.components-2.ensures.components i))))
-    c.known.ensures)
+    c.value_or_cause.ensures)

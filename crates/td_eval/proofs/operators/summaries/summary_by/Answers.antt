@@ -50,8 +50,8 @@ lengths_given c =
     ∙ as_many_totals (groups some.0 c.args.per.now) some.1 (map total_view c.args.totals.now) some.2
     ∙ sym (length-map some.1 (summary_in some.0 c.args.per.now))
 
-pub extended-requires-clause-distinct : goal.extended-requires-clause-distinct
-extended-requires-clause-distinct c =
+pub extension_value-requires-clause-distinct : goal.extension_value-requires-clause-distinct
+extension_value-requires-clause-distinct c =
     let some = c.requires.totals in
     let attributes = pairs_view c.args.attributes.now in
     let fs = map (summary_in some.0 c.args.per.now) some.1 in
@@ -59,8 +59,8 @@ extended-requires-clause-distinct c =
     (same_attributes (Valued attributes) fs c.args.per.now attributes (checked_of c.args.per.now.heading attributes _ (sym c.heading.ensures) c.in_ok-ask_new.ensures) (columns_view c.in_ok-columns.columns.items) (columns_given c) (lengths_given c))
     ∙ distinct_given (Valued attributes) fs c.args.per.now attributes (checked_of c.args.per.now.heading attributes _ (sym c.heading.ensures) c.in_ok-ask_new.ensures)
 
-pub extended-requires-clause-new : goal.extended-requires-clause-new
-extended-requires-clause-new c =
+pub extension_value-requires-clause-new : goal.extension_value-requires-clause-new
+extension_value-requires-clause-new c =
     let some = c.requires.totals in
     let attributes = pairs_view c.args.attributes.now in
     let fs = map (summary_in some.0 c.args.per.now) some.1 in
@@ -68,8 +68,8 @@ extended-requires-clause-new c =
     (same_attributes (Valued attributes) fs c.args.per.now attributes (checked_of c.args.per.now.heading attributes _ (sym c.heading.ensures) c.in_ok-ask_new.ensures) (columns_view c.in_ok-columns.columns.items) (columns_given c) (lengths_given c))
     ∙ apart_given (Valued attributes) fs c.args.per.now attributes (checked_of c.args.per.now.heading attributes _ (sym c.heading.ensures) c.in_ok-ask_new.ensures)
 
-pub extended-requires-clause-fit : goal.extended-requires-clause-fit
-extended-requires-clause-fit c =
+pub extension_value-requires-clause-fit : goal.extension_value-requires-clause-fit
+extension_value-requires-clause-fit c =
     let some = c.requires.totals in
     let attributes = pairs_view c.args.attributes.now in
     columns_fit (Valued attributes) (map (summary_in some.0 c.args.per.now) some.1) c.args.per.now attributes (checked_of c.args.per.now.heading attributes _ (sym c.heading.ensures) c.in_ok-ask_new.ensures) (columns_view c.in_ok-columns.columns.items) (columns_given c)
@@ -81,6 +81,6 @@ returns c r items given =
     let attributes = pairs_view c.args.attributes.now in
     let columns : gathered (named_columns attributes fs p.body) ≡ Valued (columns_view c.in_ok-columns.columns.items) =
     ap gathered (sym (columns_same r p attributes items (map total_view c.args.totals.now) given)) ∙ c.in_ok-columns.ensures in
-    extended_given (Valued attributes) fs p attributes (checked_of c.args.per.now.heading attributes _ (sym c.heading.ensures) c.in_ok-ask_new.ensures) (columns_view c.in_ok-columns.columns.items) columns c.extended.result
-    (c.extended.ensures (additions_of attributes fs)
+    extended_given (Valued attributes) fs p attributes (checked_of c.args.per.now.heading attributes _ (sym c.heading.ensures) c.in_ok-ask_new.ensures) (columns_view c.in_ok-columns.columns.items) columns c.extension_value.result
+    (c.extension_value.ensures (additions_of attributes fs)
     (columns_of_additions (Valued attributes) fs p attributes (checked_of c.args.per.now.heading attributes _ (sym c.heading.ensures) c.in_ok-ask_new.ensures) (columns_view c.in_ok-columns.columns.items) columns))

@@ -14,7 +14,7 @@ pub loop-group-preserved : goal.loop-group-preserved
 loop-group-preserved c =
     collected_next (λ v. v) (λ (vs : Vec Val). with_value (aggregate_of c.args.asked vs.items) (value_of_type (type_view c.args.ty.now))) c.args.groups.now c.loop-group.group-index
     c.loop-group-test.true c.group-item.is c.loop-group.invariant
-    (c.typed-value.ensures (aggregate_of c.args.asked c.group-item.result.items)
+    (c.value_of_its_type-value.ensures (aggregate_of c.args.asked c.group-item.result.items)
     (subst (λ vs. Answers (λ (v : Val). v) c.aggregate_of.result (aggregate_of c.args.asked vs)) c.deref.ensures.value c.aggregate_of.ensures))
     c.in_ok-collect.ensures
 

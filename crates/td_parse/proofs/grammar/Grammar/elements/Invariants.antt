@@ -1,10 +1,10 @@
 use Rattle.std.proofs.Common.{◌≡◌, ◌-◌, map}
 use Rattle.td_tree.specs.Grammar.{loosest}
-use Rattle.td_parse.specs.ReadingSteps.{separated, separated_from}
+use Rattle.td_parse.specs.ReadingSteps.{list_by_commas, separated_from}
 use Rattle.td_parse.specs.Reading.{read}
 use Rattle.td_tree.specs.code.TreeViews.{tree_view}
 use Rattle.td_parse.proofs.grammar.Grammar.elements.Given as goal
 
 -- what is left goes on from the expressions so far
 abbrev pub invariant-loop-turn : goal.invariant-loop-turn
-invariant-loop-turn g l = separated (read l.self.depth loosest) l.fn.tokens ≡ separated_from (read l.self.depth loosest) (l.limit - l._turn) (map tree_view l.items) l.tokens
+invariant-loop-turn g l = list_by_commas (read l.self.depth loosest) l.fn.tokens ≡ separated_from (read l.self.depth loosest) (l.limit - l._turn) (map tree_view l.items) l.tokens

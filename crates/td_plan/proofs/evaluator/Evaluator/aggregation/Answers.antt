@@ -12,8 +12,8 @@ use Rattle.td_plan.proofs.evaluator.Evaluator.aggregation.Goals as goal
 pub run-requires : goal.run-requires
 run-requires g c = lower (omega arith) c.requires
 
-pub entered-requires : goal.entered-requires
-entered-requires g c = lower (omega arith) c.requires
+pub inner_planner-requires : goal.inner_planner-requires
+inner_planner-requires g c = lower (omega arith) c.requires
 
 pub values_in_rows-requires : goal.values_in_rows-requires
 values_in_rows-requires g c = lower (omega arith) c.requires
@@ -28,7 +28,7 @@ returns g c = λ fs h.
     let values : Answers (λ vs. vs.items) c.values_in_rows.result (gathered (map p c.rows-rows.result.now)) =
     inside_rows w fs c.args.parts.now c.in_ok-inside.inside (λ gs os (ts : List Tuple). gathered (map (value_in w gs os c.args.value.now) ts)) (λ gs hs os ps. refl)
     (Answers (λ vs. vs.items) c.values_in_rows.result) c.is_empty.result c.rows-rows.result.now (no_rows c.rows-rows.result.now (length c.rows-rows.result.now) c.is_empty.result refl c.is_empty.ensures) (c.in_ok-inside.ensures fs h) c.values_in_rows.ensures in
-    let value : Answers (λ v. v) c.aggregated.result (with_value (step_value w fs c.args.operand.now) (λ v. on_relation v (aggregated_value (asked_of c.args.op) p))) =
+    let value : Answers (λ v. v) c.value_of_aggregate.result (with_value (step_value w fs c.args.operand.now) (λ v. on_relation v (aggregated_value (asked_of c.args.op) p))) =
     rw (given, related v r (aggregated_value (asked_of c.args.op) p) c.in_ok-relation_in.ensures)
-    (c.aggregated.ensures (gathered (map p r.body)) (subst (λ ts. Answers (λ vs. vs.items) c.values_in_rows.result (gathered (map p ts))) c.rows-rows.ensures.rows values)) in
+    (c.value_of_aggregate.ensures (gathered (map p r.body)) (subst (λ ts. Answers (λ vs. vs.items) c.values_in_rows.result (gathered (map p ts))) c.rows-rows.ensures.rows values)) in
     value

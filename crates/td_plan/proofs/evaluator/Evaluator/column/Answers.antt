@@ -11,7 +11,7 @@ pub loop-row-preserved : goal.loop-row-preserved
 loop-row-preserved g c = λ fs os h.
     let found = value_in (g.A.InWorld.world c.args.self.now.around.now) fs os c.args.step.now in
     collected_next (λ v. v) (λ t. with_value (found t) (value_of_type (type_view c.args.ty.now))) c.args.rows.now c.loop-row.row-index c.loop-row-test.true c.row-item.is
-    (c.loop-row.invariant fs os h) (c.typed-value.ensures (found c.row-item.result) (c.value_in_row.ensures fs os h)) c.in_ok-collect.ensures
+    (c.loop-row.invariant fs os h) (c.value_of_its_type-value.ensures (found c.row-item.result) (c.value_in_row.ensures fs os h)) c.in_ok-collect.ensures
 
 pub returns : goal.returns
 returns g c = λ fs os h.

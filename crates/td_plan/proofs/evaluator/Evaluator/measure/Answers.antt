@@ -20,4 +20,4 @@ pub run-requires : goal.run-requires
 run-requires g c = c.requires
 
 pub returns-in_default : goal.returns-in_default
-returns-in_default g c = λ fs h. c.measured.ensures _ (c.run.ensures fs h)
+returns-in_default g c = λ fs h. c.value_of_measure.ensures _ (c.run.ensures fs h)

@@ -12,14 +12,14 @@ use Rattle.td_plan.proofs.evaluator.Evaluator.restriction.Goals as goal
 pub run-requires : goal.run-requires
 run-requires g c = lower (omega arith) c.requires
 
-pub entered-requires : goal.entered-requires
-entered-requires g c = lower (omega arith) c.requires
+pub inner_planner-requires : goal.inner_planner-requires
+inner_planner-requires g c = lower (omega arith) c.requires
 
 pub truths-requires : goal.truths-requires
 truths-requires g c = lower (omega arith) c.requires
 
-pub restricted-requires : goal.restricted-requires
-restricted-requires g c =
+pub restriction_value-requires : goal.restriction_value-requires
+restriction_value-requires g c =
     let e = c.in_ok-inside.inside in
     subst (λ ts. IfOk c.truths.result (λ m. length m.items ≡ length ts)) c.rows-rows.ensures.rows
     (of_as_many c.truths.result (λ t. truth_value (value_in (g.A.InWorld.world c.args.self.now.around.now) (frames_inside e) (outcomes_inside e) c.args.condition.now t)) c.rows-rows.result.now
@@ -34,7 +34,7 @@ returns g c = λ fs h.
     let truths : Answers (λ m. m.items) c.truths.result (gathered (map (λ t. truth_value (p t)) c.rows-rows.result.now)) =
     inside_rows w fs c.args.parts.now c.in_ok-inside.inside (λ gs os (ts : List Tuple). gathered (map (λ t. truth_value (value_in w gs os c.args.condition.now t)) ts)) (λ gs hs os ps. refl)
     (Answers (λ m. m.items) c.truths.result) c.is_empty.result c.rows-rows.result.now (no_rows c.rows-rows.result.now (length c.rows-rows.result.now) c.is_empty.result refl c.is_empty.ensures) (c.in_ok-inside.ensures fs h) c.truths.ensures in
-    let value : Answers (λ v. v) c.restricted.result (with_value (step_value w fs c.args.operand.now) (λ v. on_relation v (restricted_value p))) =
+    let value : Answers (λ v. v) c.restriction_value.result (with_value (step_value w fs c.args.operand.now) (λ v. on_relation v (restricted_value p))) =
     rw (given, related v c.in_ok-rel.rel.now (restricted_value p) c.in_ok-rel.ensures)
-    (c.restricted.ensures p (subst (λ ts. Answers (λ m. m.items) c.truths.result (gathered (map (λ t. truth_value (p t)) ts))) c.rows-rows.ensures.rows truths)) in
+    (c.restriction_value.ensures p (subst (λ ts. Answers (λ m. m.items) c.truths.result (gathered (map (λ t. truth_value (p t)) ts))) c.rows-rows.ensures.rows truths)) in
     value

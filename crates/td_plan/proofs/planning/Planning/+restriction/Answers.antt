@@ -26,32 +26,32 @@ where_of-returns-in-Some g t c =
     let is = ap tree_view c.in-Binary.is ∙ (λ i. trees.binary (tree_view (sym c.deref-left.ensures i)) op (tree_view (sym c.deref-right.ensures i))) in
     let stands =
     subst (λ o. IfSome o (λ k. MayStandFor scope (restricted_tree k l op r e) (trees.restriction (trees.binary l op r) e)))
-    c.in-Some.is c.in_ok-restricted-in-Binary.ensures in
-    subst (λ d. IsPlanned scope c.pushed.result (trees.restriction d e)) (sym is)
-    (IfOk-weaker c.pushed.result _ _
+    c.in-Some.is c.in_ok-restriction_value-in-Binary.ensures in
+    subst (λ d. IsPlanned scope c.pushed_restriction.result (trees.restriction d e)) (sym is)
+    (IfOk-weaker c.pushed_restriction.result _ _
     (λ p h. stands_planned scope (step_view p) (restricted_tree c.in-Some.restricted l op r e) (trees.restriction (trees.binary l op r) e) stands h)
-    c.pushed.ensures)
+    c.pushed_restriction.ensures)
 
-pub pushed-returns-in-First : goal.pushed-returns-in-First
-pushed-returns-in-First g t c =
+pub pushed_restriction-returns-in-First : goal.pushed_restriction-returns-in-First
+pushed_restriction-returns-in-First g t c =
     let scope = c.args.self.now.planner.now.scope in
     let l = tree_view c.args.left.now in
     let r = tree_view c.args.right.now in
     let e = tree_view c.args.condition.now in
     subst (λ k. IsPlanned scope c.binary_step.result (restricted_tree k l c.args.op r e)) (sym c.in-First.is)
-    (c.binary_step.ensures scope (trees.restriction l e) r c.where_pushed.ensures c.boxed.ensures)
+    (c.binary_step.ensures scope (trees.restriction l e) r c.where_pushed.ensures c.boxed_step.ensures)
 
-pub pushed-returns-in-Second : goal.pushed-returns-in-Second
-pushed-returns-in-Second g t c =
+pub pushed_restriction-returns-in-Second : goal.pushed_restriction-returns-in-Second
+pushed_restriction-returns-in-Second g t c =
     let scope = c.args.self.now.planner.now.scope in
     let l = tree_view c.args.left.now in
     let r = tree_view c.args.right.now in
     let e = tree_view c.args.condition.now in
     subst (λ k. IsPlanned scope c.binary_step-in-Second.result (restricted_tree k l c.args.op r e)) (sym c.in-Second.is)
-    (c.binary_step-in-Second.ensures scope l (trees.restriction r e) c.boxed-in-Second.ensures c.where_pushed-in-Second.ensures)
+    (c.binary_step-in-Second.ensures scope l (trees.restriction r e) c.boxed_step-in-Second.ensures c.where_pushed-in-Second.ensures)
 
-pub pushed-returns-in-Both : goal.pushed-returns-in-Both
-pushed-returns-in-Both g t c =
+pub pushed_restriction-returns-in-Both : goal.pushed_restriction-returns-in-Both
+pushed_restriction-returns-in-Both g t c =
     let scope = c.args.self.now.planner.now.scope in
     let l = tree_view c.args.left.now in
     let r = tree_view c.args.right.now in

@@ -27,27 +27,27 @@ returns-in-Parentheses g c =
 pub returns-in-Prefix : goal.returns-in-Prefix
 returns-in-Prefix g c =
     let is = ap tree_view c.in-Prefix.is ∙ ap (λ x. trees.prefix c.in-Prefix.op (tree_view x)) (sym c.deref-in-Prefix.ensures) in
-    subst (IsPlanned c.args.self.now.planner.now.scope c.prefix_step.result) (sym is) (c.prefix_step.ensures c.args.self.now.planner.now.scope (tree_view c.deref-in-Prefix.result.now) c.boxed.ensures)
+    subst (IsPlanned c.args.self.now.planner.now.scope c.prefix_step.result) (sym is) (c.prefix_step.ensures c.args.self.now.planner.now.scope (tree_view c.deref-in-Prefix.result.now) c.boxed_step.ensures)
 
 pub returns-in-Extract : goal.returns-in-Extract
 returns-in-Extract g c =
     let is = ap tree_view c.in-Extract.is ∙ ap (λ x. trees.extract c.in-Extract.name (tree_view x)) (sym c.deref-in-Extract.ensures) in
-    subst (IsPlanned c.args.self.now.planner.now.scope c.extract_step.result) (sym is) (c.extract_step.ensures c.args.self.now.planner.now.scope (tree_view c.deref-in-Extract.result.now) c.boxed-in-Extract.ensures)
+    subst (IsPlanned c.args.self.now.planner.now.scope c.extract_step.result) (sym is) (c.extract_step.ensures c.args.self.now.planner.now.scope (tree_view c.deref-in-Extract.result.now) c.boxed_step-in-Extract.ensures)
 
 pub returns-in-Postfix : goal.returns-in-Postfix
 returns-in-Postfix g c =
     let is = ap tree_view c.in-Postfix.is ∙ ap (λ x. trees.postfix (tree_view x) (postfix_view c.in-Postfix.op)) (sym c.deref-in-Postfix.ensures) in
-    subst (IsPlanned c.args.self.now.planner.now.scope c.postfix_step.result) (sym is) (c.postfix_step.ensures c.args.self.now.planner.now.scope (tree_view c.deref-in-Postfix.result.now) c.boxed-in-Postfix.ensures)
+    subst (IsPlanned c.args.self.now.planner.now.scope c.postfix_step.result) (sym is) (c.postfix_step.ensures c.args.self.now.planner.now.scope (tree_view c.deref-in-Postfix.result.now) c.boxed_step-in-Postfix.ensures)
 
 pub returns-in-Component : goal.returns-in-Component
 returns-in-Component g c =
     let is = ap tree_view c.in-Component.is ∙ ap (λ x. trees.component (rc_str_bytes c.in-Component.rest) (tree_view x)) (sym c.deref-in-Component.ensures) in
-    subst (IsPlanned c.args.self.now.planner.now.scope c.component_step.result) (sym is) (c.component_step.ensures c.args.self.now.planner.now.scope (tree_view c.deref-in-Component.result.now) c.boxed-in-Component.ensures)
+    subst (IsPlanned c.args.self.now.planner.now.scope c.component_step.result) (sym is) (c.component_step.ensures c.args.self.now.planner.now.scope (tree_view c.deref-in-Component.result.now) c.boxed_step-in-Component.ensures)
 
 pub returns-in-Measure : goal.returns-in-Measure
 returns-in-Measure g c =
     let is = ap tree_view c.in-Measure.is ∙ ap (λ x. trees.measure c.in-Measure.op (tree_view x)) (sym c.deref-in-Measure.ensures) in
-    subst (IsPlanned c.args.self.now.planner.now.scope c.measure_step.result) (sym is) (c.measure_step.ensures c.args.self.now.planner.now.scope (tree_view c.deref-in-Measure.result.now) c.boxed-in-Measure.ensures)
+    subst (IsPlanned c.args.self.now.planner.now.scope c.measure_step.result) (sym is) (c.measure_step.ensures c.args.self.now.planner.now.scope (tree_view c.deref-in-Measure.result.now) c.boxed_step-in-Measure.ensures)
 
 pub returns-in-Restriction : goal.returns-in-Restriction
 returns-in-Restriction g c =
@@ -57,12 +57,12 @@ returns-in-Restriction g c =
 pub returns-in-Binary : goal.returns-in-Binary
 returns-in-Binary g c =
     let is = ap tree_view c.in-Binary.is ∙ (λ i. trees.binary (tree_view (sym c.deref-in-Binary.ensures i)) c.in-Binary.op (tree_view (sym c.deref-in-Binary-2.ensures i))) in
-    subst (IsPlanned c.args.self.now.planner.now.scope c.binary_step.result) (sym is) (c.binary_step.ensures c.args.self.now.planner.now.scope (tree_view c.deref-in-Binary.result.now) (tree_view c.deref-in-Binary-2.result.now) c.boxed-in-Binary.ensures c.boxed-in-Binary-2.ensures)
+    subst (IsPlanned c.args.self.now.planner.now.scope c.binary_step.result) (sym is) (c.binary_step.ensures c.args.self.now.planner.now.scope (tree_view c.deref-in-Binary.result.now) (tree_view c.deref-in-Binary-2.result.now) c.boxed_step-in-Binary.ensures c.boxed_step-in-Binary-2.ensures)
 
 pub returns-in-Compare : goal.returns-in-Compare
 returns-in-Compare g c =
     let is = ap tree_view c.in-Compare.is ∙ (λ i. trees.compare (tree_view (sym c.deref-in-Compare.ensures i)) c.in-Compare.op (tree_view (sym c.deref-in-Compare-2.ensures i))) in
-    subst (IsPlanned c.args.self.now.planner.now.scope c.compare_step.result) (sym is) (c.compare_step.ensures c.args.self.now.planner.now.scope (tree_view c.deref-in-Compare.result.now) (tree_view c.deref-in-Compare-2.result.now) c.boxed-in-Compare.ensures c.boxed-in-Compare-2.ensures)
+    subst (IsPlanned c.args.self.now.planner.now.scope c.compare_step.result) (sym is) (c.compare_step.ensures c.args.self.now.planner.now.scope (tree_view c.deref-in-Compare.result.now) (tree_view c.deref-in-Compare-2.result.now) c.boxed_step-in-Compare.ensures c.boxed_step-in-Compare-2.ensures)
 
 pub returns-in-Select : goal.returns-in-Select
 returns-in-Select g c =
@@ -115,7 +115,7 @@ pub returns-in-If : goal.returns-in-If
 returns-in-If g c =
     let is = ap tree_view c.in-If.is ∙ (λ i. trees.choice (tree_view (sym c.deref-in-If.ensures i)) (tree_view (sym c.deref-in-If-2.ensures i)) (tree_view (sym c.deref-in-If-3.ensures i))) in
     subst (IsPlanned c.args.self.now.planner.now.scope c.choice_step.result) (sym is) (c.choice_step.ensures c.args.self.now.planner.now.scope (tree_view c.deref-in-If.result.now) (tree_view c.deref-in-If-2.result.now) (tree_view c.deref-in-If-3.result.now)
-    c.boxed-in-If.ensures c.boxed-in-If-2.ensures c.boxed-in-If-3.ensures)
+    c.boxed_step-in-If.ensures c.boxed_step-in-If-2.ensures c.boxed_step-in-If-3.ensures)
 
 pub steps_of-requires : goal.steps_of-requires
 steps_of-requires g c =

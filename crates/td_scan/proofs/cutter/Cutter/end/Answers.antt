@@ -1,6 +1,6 @@
 use Rattle.std.proofs.Common.{◌∙◌, ◌-◌, ap, arith, drop, length, take}
 use Rattle.td_tree.specs.Statements.{behind, tokens}
-use Rattle.td_scan.specs.code.Marks.{end_of_marks, reached}
+use Rattle.td_scan.specs.code.Marks.{end_of_marks, end_of_statement}
 use Rattle.td_scan.proofs.HeldMarks.{end_found, end_left}
 use Rattle.td_scan.proofs.MarkLists.{counted_some}
 use Rattle.td_scan.proofs.cutter.Cutter.end.Goals as goal
@@ -21,6 +21,6 @@ returns c =
     let s = c.self.inside in
     let start = s.place.start in
     c.end_with_rest.ensures
-    ∙ ap (λ low. reached s.finished s.offset low (tokens start c.bytes_from-rest.result.now)) (c.end_of_marks-so_far.ensures ∙ ap (end_of_marks s.offset) c.as_slice-marks.ensures)
-    ∙ ap (λ b. reached s.finished s.offset (end_of_marks s.offset s.marks) (tokens start b)) (c.bytes_from-rest.ensures ∙ ap (drop (start - s.offset)) c.as_slice.ensures)
+    ∙ ap (λ low. end_of_statement s.finished s.offset low (tokens start c.bytes_from-rest.result.now)) (c.end_of_marks-so_far.ensures ∙ ap (end_of_marks s.offset) c.as_slice-marks.ensures)
+    ∙ ap (λ b. end_of_statement s.finished s.offset (end_of_marks s.offset s.marks) (tokens start b)) (c.bytes_from-rest.ensures ∙ ap (drop (start - s.offset)) c.as_slice.ensures)
     ∙ end_left s.bytes s.offset s.marks s.first s.place c.self.invariant s.finished c.in_default.is ∙ ap behind c.self.view_is

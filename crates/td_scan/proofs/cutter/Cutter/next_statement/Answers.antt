@@ -3,7 +3,7 @@ use Rattle.std.specs.List.{All}
 use Rattle.std.proofs.lemmas.List.Elements.{All-take}
 use Rattle.std.proofs.lemmas.Result.{IfOk-weaker}
 use Rattle.td_tree.specs.Division.{up_to}
-use Rattle.td_tree.specs.Statements.{PlacedToken, chosen, ends, first_statement, tokens}
+use Rattle.td_tree.specs.Statements.{PlacedToken, statement_or_rest, ends, first_statement, tokens}
 use Rattle.td_scan.specs.declared.token.Mark.{Mark}
 use Rattle.td_scan.specs.code.Marks.{IsMark, token_at}
 use Rattle.td_scan.proofs.HeldMarks.{first_found, joined_first, marked, open_yet}
@@ -57,7 +57,7 @@ returns-clause-is c =
     let start = s.place.start in
     let rest = c.bytes_from.ensures ∙ ap (drop (start - s.offset)) c.as_slice-held.ensures in
     let all = ap (λ ts. ts ++ tokens start c.bytes_from.result.now) (made c.in_ok-found.found.items s.offset c.as_slice-held.result.now s.bytes c.as_slice-marks.result.now s.marks c.in_ok-found.ensures c.as_slice-held.ensures c.as_slice-marks.ensures) ∙ ap (λ b. map (token_at s.offset s.bytes) s.marks ++ tokens start b) rest in
-    let whole = ap (λ ts. chosen s.finished ts (up_to ends ts)) all ∙ sym (joined_first s.bytes s.offset s.marks s.first s.place c.self.invariant s.finished) ∙ ap first_statement c.self.view_is in
+    let whole = ap (λ ts. statement_or_rest s.finished ts (up_to ends ts)) all ∙ sym (joined_first s.bytes s.offset s.marks s.first s.place c.self.invariant s.finished) ∙ ap first_statement c.self.view_is in
     IfOk-weaker c.with_rest.result _ _ (λ found is. is ∙ whole) c.with_rest.ensures
 
 pub returns-clause-end : goal.returns-clause-end

@@ -17,4 +17,4 @@ pub returns-clause-headed : goal.returns-clause-headed
 returns-clause-headed c =
     let own = All-from_rows c.args.self.heading c.args.self.body (subst IsRelation c.self.view_is c.self.invariant).0 in
     let shared = ap (λ v. v.items) c.deref.ensures ∙ ap (λ rc. rc.value.items) c.in-Err.ensures.err ∙ ap (λ (r : Relation). r.body) c.self.view_is in
-    if_all (λ v. v.items) (IsTupleOf c.args.self.heading) c.deref.result.now.items c.copied.result (subst (All (IsTupleOf c.args.self.heading)) (sym shared) own) c.copied.ensures
+    if_all (λ v. v.items) (IsTupleOf c.args.self.heading) c.deref.result.now.items c.copies_of.result (subst (All (IsTupleOf c.args.self.heading)) (sym shared) own) c.copies_of.ensures

@@ -2,10 +2,10 @@ use Rattle.std.proofs.Common.{◌≡◌, [], ◌∷◌, ◌++◌, drop, map}
 use Rattle.td_tree.proofs.code_lemmas.Writing.{listed}
 use Rattle.td_tree.specs.Lexemes as lexeme
 use Rattle.td_tree.specs.Prints.{name_lexemes}
-use Rattle.td_tree.specs.code.Written.{written}
+use Rattle.td_tree.specs.code.Written.{written_text}
 use Rattle.td_tree.proofs.print.words.Printer.names.Given as goal
 
 abbrev pub invariant-loop-name : goal.invariant-loop-name
 invariant-loop-name l =
-    l.out ++ written (listed l.later (map (λ n. lexeme.name n ∷ []) (drop l.name-index l.names)))
-    ≡ l.initial.out ++ written (name_lexemes l.names)
+    l.out ++ written_text (listed l.later (map (λ n. lexeme.name n ∷ []) (drop l.name-index l.names)))
+    ≡ l.initial.out ++ written_text (name_lexemes l.names)

@@ -1,5 +1,0 @@
-use Rattle.td_engine.proofs.law_lemmas.Settled.{settled_or}
-use Rattle.td_engine.proofs.checks.settled.Goals as goal
-
-pub returns : goal.returns
-returns g c = settled_or c.args.catalog.now.database c.check_derived.result c.requires.held c.check_derived.ensures

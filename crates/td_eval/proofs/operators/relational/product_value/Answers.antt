@@ -1,0 +1,10 @@
+use Rattle.std.proofs.Common.{rules}
+use Rattle.td_algebra.specs.Operators.{product}
+use Rattle.td_eval.proofs.code_lemmas.OpValues.{related_where}
+use Rattle.td_types.specs.Headings.{have_no_common}
+use Rattle.td_eval.proofs.operators.relational.product_value.Goals as goal
+
+pub returns : goal.returns
+returns c =
+    related_where (λ r s. have_no_common r.heading s.heading) product _ _ c.in_ok-rel.rel.now c.in_ok-rel.other.now _
+    c.in_ok-rel.ensures (search rules) (c.as_value.ensures _ c.times.ensures)

@@ -1,5 +1,0 @@
-use Rattle.std.proofs.Common.{◌≡◌, map, take}
-use Rattle.td_eval.proofs.rows.shared.Given as goal
-
-abbrev pub invariant-loop-tuple : goal.invariant-loop-tuple
-invariant-loop-tuple l = l.copy.items ≡ map (λ t. t.now) (take l.tuple-index l.tuples)

@@ -1,0 +1,5 @@
+use Rattle.td_tree.proofs.code_lemmas.Rows.{select_is}
+use Rattle.td_tree.proofs.remade.selector_call.Goals as goal
+
+pub returns : goal.returns
+returns c = select_is c.args.ty c.args.arguments
