@@ -61,8 +61,8 @@ fn write_dump<B: Body, W: Sink>(
     }
 }
 
-/// Runs a script, lets its answers go and writes the dump of the database that it leaves; at a fault
-/// of the run it writes nothing.
+/// Runs a script, lets its answers go and writes the dump of the database that it leaves; at a
+/// fault of the run it writes nothing.
 pub(crate) fn dump<B: Body, R: Source, W: Sink>(
     alloc: Global,
     engine: &mut Engine<B>,

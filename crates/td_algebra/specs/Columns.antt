@@ -15,7 +15,7 @@ use Rattle.td_algebra.specs.Operators.{Addition}
 abbrev pub NamedColumn : Type 0
 NamedColumn = List ℕ × Type' × List Val
 
--- those of columns of the code
+-- the name, type and values of each column of the code
 abbrev pub columns_view : List (List ℕ × Column) → List NamedColumn
 columns_view = map (λ c. (c.0, type_view c.1.ty, c.1.values.items))
 
@@ -27,7 +27,7 @@ column_attributes = map (λ c. (c.0, c.1))
 abbrev pub IsColumn : Type' → List Val → List Tuple → Type 0
 IsColumn t vs ts = (length vs ≡ length ts) × All (λ v. type_of v ≡ t) vs
 
--- so each of the columns
+-- each column has one value of its type for each of the tuples
 abbrev pub AreColumns : List NamedColumn → List Tuple → Type 0
 AreColumns cs ts = All (λ c. IsColumn c.1 c.2 ts) cs
 

@@ -75,7 +75,7 @@ abbrev pub RestrictionOfDifference : Type 0
 RestrictionOfDifference =
     (p : Tuple → Bool) (r s : Relation) → restriction p (difference r s) ≡ difference (restriction p r) s
 
--- what is asked of a tuple depends on its part on r's names alone
+-- whether a tuple passes depends on its part on r's names alone
 abbrev pub IsAskedOf : Relation → (Tuple → Bool) → Type 0
 IsAskedOf r p = (t : Tuple) → p t ≡ p (projected_tuple (relation_names r) t)
 

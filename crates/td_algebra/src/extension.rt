@@ -158,7 +158,7 @@ fn come_after(heading: &Heading, names: &[Name]) -> bool
 }
 
 /// The relation with several new attributes. `Heading::is_apart_from` and `Column::fits` are tests
-/// of what is asked.
+/// of what is required.
 pub fn extend_all(alloc: Global, rel: &Rel, columns: Vec<(Name, Column)>) -> Result<Rel, AllocError>
     requires distinct { IsTrue (are_distinct
         (attribute_names (column_attributes (columns_view columns.items)))) }
@@ -182,7 +182,7 @@ pub fn extend_all(alloc: Global, rel: &Rel, columns: Vec<(Name, Column)>) -> Res
 }
 
 /// The relation with one new attribute. `Heading::get` and `Column::fits` are tests of what is
-/// asked.
+/// required.
 pub fn extend(alloc: Global, rel: &Rel, name: Name, column: Column) -> Result<Rel, AllocError>
     requires new { IsTrue (not (has_attribute name rel.now.heading)) }
     requires fit { IsColumn (type_view column.ty) column.values.items rel.now.body }

@@ -104,7 +104,7 @@ fn pair_layout(
     Layout::new(alloc, sources)
 }
 
-/// The tuples of the pairs of partners, found from the first one's.
+/// The joined tuples of two relations, where the partners in the second are looked up.
 fn pairs_from_first(
     alloc: Global,
     left_out: &Heading,
@@ -124,7 +124,7 @@ fn pairs_from_first(
     partner_pairs(alloc, rel, other, &layout)
 }
 
-/// The same tuples, found from the second one's.
+/// The joined tuples of two relations, where the partners in the first are looked up.
 fn pairs_from_second(
     alloc: Global,
     left_out: &Heading,
@@ -144,7 +144,7 @@ fn pairs_from_second(
     partner_pairs(alloc, other, rel, &layout)
 }
 
-/// The same tuples. Those of the relation with fewer are found by their keys.
+/// The joined tuples of two relations. Partners are looked up in the relation with fewer tuples.
 fn partners_of_either(
     alloc: Global,
     left_out: &Heading,

@@ -74,7 +74,7 @@ fn distinct(alloc: Global, layout: &Layout, rows: &[Tuple]) -> Result<Vec<Tuple>
     Ok(kept)
 }
 
-/// The relation projected on the names. `Heading::has_projection` is the test of what is asked.
+/// The relation projected on the names. `Heading::has_projection` is the test of what is required.
 pub fn project(alloc: Global, rel: &Rel, names: &[Name]) -> Result<Rel, AllocError>
     requires { IsTrue (has_projection names.now rel.now.heading) }
     ensures { IfOk result (λ r. r ≡ projected_relation names.now rel.now) }

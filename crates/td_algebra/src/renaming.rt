@@ -29,7 +29,7 @@ fn renamed_layout(
 }
 
 /// The relation with its attributes renamed, each renaming a pair of an old and a new name.
-/// `Heading::can_rename` is the test of what is asked.
+/// `Heading::can_rename` is the test of what is required.
 pub fn rename(alloc: Global, rel: &Rel, renamings: &[(Name, Name)]) -> Result<Rel, AllocError>
     requires { IsTrue (can_rename renamings.now rel.now.heading) }
     ensures { IfOk result (λ r. r ≡ renamed_relation renamings.now rel.now) }

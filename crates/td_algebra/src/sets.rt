@@ -2,7 +2,8 @@
 //! by side, or by a search for each tuple of one that is far shorter. Both have one heading.
 ghost use Rattle.std.specs.Prelude.{◌≡◌, ◌++◌, IfOk, OnOk, filter};
 ghost use Rattle.std.specs.List.{All, list_all};
-ghost use Rattle.td_algebra.specs.code.Merges.{begins_with, below, is_wanted, merged_tuples, not_below};
+ghost use Rattle.td_algebra.specs.code.Merges.{begins_with, below, is_wanted, merged_tuples};
+ghost use Rattle.td_algebra.specs.code.Merges.{not_below};
 ghost use Rattle.td_algebra.specs.code.Merges.{without_first};
 ghost use Rattle.td_algebra.specs.Operators.{difference, intersection, is_subset, restriction};
 ghost use Rattle.td_algebra.specs.Operators.{union};

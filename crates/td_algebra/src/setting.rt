@@ -14,7 +14,7 @@ use td_types::names::names_of;
 use td_value::relation::Rel;
 
 /// The relation with several attributes set: one that is there is replaced, and may change its
-/// type; another is added. `Column::fits` is a test of what is asked.
+/// type; another is added. `Column::fits` is a test of what is required.
 pub fn set_all(alloc: Global, rel: &Rel, columns: Vec<(Name, Column)>) -> Result<Rel, AllocError>
     requires distinct { IsTrue (are_distinct
         (attribute_names (column_attributes (columns_view columns.items)))) }

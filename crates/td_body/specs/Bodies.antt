@@ -37,7 +37,7 @@ HaveOneHeading r kept = All (λ (s : Relation). s.heading ≡ r.heading) kept
 
 -- ---- laws
 
--- the test tells the fact
+-- `key_holds` is true exactly where no two tuples of the relation agree on the key
 abbrev pub KeysHoldByMembership : Type 0
 KeysHoldByMembership =
     (key : List (List ℕ)) (r : Relation) → IsRelation r → IsTrue (key_holds key r.body) ↔ KeyHolds key r.body

@@ -15,8 +15,8 @@ use td_types::heading::Heading;
 use td_value::relation::Rel;
 use td_value::tuple::Tuple;
 
-/// The body of a relvar: a set of tuples of one heading, with the keys that are declared for it, and
-/// the earlier sets to which it can go back. It keeps no key: it answers whether one holds. A
+/// The body of a relvar: a set of tuples of one heading, with the keys that are declared for it,
+/// and the earlier sets to which it can go back. It keeps no key: it answers whether one holds. A
 /// refused call leaves it as it was.
 pub trait Body: Drop {
     /// Its heading with the set of its tuples.

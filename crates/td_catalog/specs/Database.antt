@@ -97,25 +97,25 @@ abbrev pub with_virtuals : List VirtualRelvar → Database → Database
 with_virtuals virtuals db =
     record { types = db.types; bases = db.bases; virtuals = virtuals; constraints = db.constraints }
 
--- with other constraints
+-- the database with other constraints
 abbrev pub with_constraints : List NamedConstraint → Database → Database
 with_constraints constraints db =
     record { types = db.types; bases = db.bases; virtuals = db.virtuals; constraints = constraints }
 
--- one more declared type
+-- the database with one more declared type
 abbrev pub with_declared : DeclaredType → Database → Database
 with_declared d db =
     record { types = db.types ++ (d ∷ []); bases = db.bases; virtuals = db.virtuals; constraints = db.constraints }
 
--- one more base relvar
+-- the database with one more base relvar
 abbrev pub with_base : BaseRelvar → Database → Database
 with_base r db = with_bases (db.bases ++ (r ∷ [])) db
 
--- one more virtual relvar
+-- the database with one more virtual relvar
 abbrev pub with_virtual : VirtualRelvar → Database → Database
 with_virtual v db = with_virtuals (db.virtuals ++ (v ∷ [])) db
 
--- one more constraint
+-- the database with one more constraint
 abbrev pub with_constraint : NamedConstraint → Database → Database
 with_constraint c db = with_constraints (db.constraints ++ (c ∷ [])) db
 
@@ -125,7 +125,7 @@ with_relation name relation [] = []
 with_relation name relation (r ∷ rs) =
     if same_name r.name name then base_relvar r.name r.keys relation ∷ rs else r ∷ with_relation name relation rs
 
--- the database in which it does, and all else is the same
+-- the database where the base relvar of the name holds that relation, else unchanged
 abbrev pub with_body : List ℕ → Relation → Database → Database
 with_body name relation db = with_bases (with_relation name relation db.bases) db
 

@@ -15,6 +15,6 @@ settled_view db = record { database = db; kept = [] }
 abbrev pub stages : CatalogView → List Database
 stages v = v.kept ++ (v.database ∷ [])
 
--- another database, before which this one is kept
+-- the view with another database, where the present one is kept as the latest
 abbrev pub advanced_view : Database → CatalogView → CatalogView
 advanced_view next v = record { database = next; kept = stages v }

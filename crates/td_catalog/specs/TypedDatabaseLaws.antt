@@ -11,30 +11,30 @@ use Rattle.td_value.specs.Values.{Relation}
 abbrev pub EmptyDatabaseIsTyped : Type 0
 EmptyDatabaseIsTyped = IsTyped empty_database
 
--- one more type, that can be declared after the others and is constrained where they are declared
+-- a database stays typed with one more type that may be declared after the others
 abbrev pub TypesKeepTyped : Type 0
 TypesKeepTyped =
     (db : Database) (d : DeclaredType) → IsTyped db → IsDeclarable db.types d → IsConstrained db.types d → IsTyped (with_declared d db)
 
--- one more base relvar, of a name that no relvar has
+-- a database stays typed with one more base relvar, of a new name
 abbrev pub BaseRelvarsKeepTyped : Type 0
 BaseRelvarsKeepTyped =
     (db : Database) (r : BaseRelvar) → IsTyped db → IsName r.name → IsTrue (not (knows_relvar r.name db)) → IsTypedBase db.types r
     → IsTyped (with_base r db)
 
--- one more virtual relvar, of a name that no relvar has
+-- a database stays typed with one more virtual relvar, of a new name
 abbrev pub VirtualRelvarsKeepTyped : Type 0
 VirtualRelvarsKeepTyped =
     (db : Database) (v : VirtualRelvar) → IsTyped db → IsName v.name → IsTrue (not (knows_relvar v.name db))
     → IsTypedVirtual (database_scope db) v → IsTyped (with_virtual v db)
 
--- one more constraint, of a name that no constraint has
+-- a database stays typed with one more constraint, of a new name
 abbrev pub ConstraintsKeepTyped : Type 0
 ConstraintsKeepTyped =
     (db : Database) (c : NamedConstraint) → IsTyped db → IsName c.name → IsTrue (not (knows_constraint c.name db))
     → IsTypedConstraint (database_scope db) c → IsTyped (with_constraint c db)
 
--- another relation in a base relvar, of the same heading
+-- a database stays typed where a base relvar is given another relation of its heading
 abbrev pub BodiesKeepTyped : Type 0
 BodiesKeepTyped =
     (db : Database) (name : List ℕ) (relation : Relation) → IsTyped db

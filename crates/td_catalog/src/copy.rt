@@ -17,7 +17,7 @@ use td_check::declared::Declared;
 use td_tree::name::Name;
 use td_types::heading::Heading;
 
-/// The same names again.
+/// A copy of the names.
 fn copied_names(names: &Vec<Name>) -> Result<Vec<Name>, AllocError>
     ensures { IfOk result (λ copy. copy.items ≡ names.now.items) }
 {
@@ -28,7 +28,7 @@ fn copied_names(names: &Vec<Name>) -> Result<Vec<Name>, AllocError>
     Ok(copy)
 }
 
-/// The same keys again, in the allocator of the list.
+/// A copy of the keys, in the allocator of the list.
 pub fn copied_keys(keys: &Vec<Vec<Name>>) -> Result<Vec<Vec<Name>>, AllocError>
     ensures { IfOk result (λ copy. map (λ key. key.items) copy.items
         ≡ map (λ key. key.items) keys.now.items) }
@@ -54,7 +54,7 @@ fn copied_headings(
     Ok(copy)
 }
 
-/// The same set of names again.
+/// A copy of the set of names.
 fn copied_set(names: &IndexSet<Name>) -> Result<IndexSet<Name>, AllocError>
     requires { IsTrue (are_distinct names.now.keys) }
     ensures { IfOk result (λ copy. copy.keys ≡ names.now.keys) }
@@ -69,7 +69,7 @@ fn copied_set(names: &IndexSet<Name>) -> Result<IndexSet<Name>, AllocError>
     Ok(copy)
 }
 
-/// The same declarations again.
+/// A copy of the declarations.
 fn copied_declared(declared: &Declared) -> Result<Declared, AllocError>
     requires bases { IsTrue (are_distinct (map (λ row. row.0) declared.now.bases.entries)) }
     requires virtuals { IsTrue (are_distinct (map (λ row. row.0) declared.now.virtuals.entries)) }
@@ -86,7 +86,7 @@ fn copied_declared(declared: &Declared) -> Result<Declared, AllocError>
 }
 
 impl<B: Body> BaseEntry<B> {
-    /// The same entry again.
+    /// A copy of the entry.
     fn try_clone(&self) -> Result<BaseEntry<B>, AllocError>
         ensures heading { IfOk result (λ copy. copy.heading ≡ self.now.heading) }
         ensures names { IfOk result (λ copy. entry_keys copy ≡ entry_keys self.now) }
@@ -177,7 +177,7 @@ impl<B: Body> Catalog<B> {
         Ok(copy)
     }
 
-    /// The same database again, with nothing kept. It takes time and memory in the order of the
+    /// A copy of the database, with nothing kept. It takes time and memory in the order of the
     /// entries, not of the tuples, where the bodies' copies do.
     pub fn try_clone(&self) -> Result<Catalog<B>, AllocError>
         ensures { IfOk result (λ copy. copy ≡ settled_view self.now.database) }

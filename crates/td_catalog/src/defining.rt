@@ -71,7 +71,7 @@ impl DefiningExpression {
         self.names.includes(name)
     }
 
-    /// The same expression again.
+    /// A copy of the expression.
     pub(crate) fn try_clone(&self) -> Result<DefiningExpression, AllocError>
         ensures { IfOk result (λ d. d ≡ self.now) }
     {

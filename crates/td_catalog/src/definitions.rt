@@ -52,7 +52,7 @@ pub(crate) fn prepare<B: Body>(
 
 impl<B: Body> Catalog<B> {
     /// Adds a type, last: refused where a type of the name is declared. `check_statement` tells
-    /// whether its components and its constraint are as is asked.
+    /// whether its components and its constraint are as is required.
     pub fn add_type(
         &mut self,
         name: Name,
@@ -88,7 +88,7 @@ impl<B: Body> Catalog<B> {
     }
 
     /// Adds a base relvar, last: refused where a relvar of the name is there. Whether its keys are
-    /// allowed and hold is not asked: that is a statement's to check, after its changes.
+    /// allowed and hold is not tested: that is a statement's to check, after its changes.
     pub fn add_base(
         &mut self,
         name: Name,
@@ -139,7 +139,8 @@ impl<B: Body> Catalog<B> {
             (tree_view tree) (map (λ key. key.items) keys.items)) }
         ensures answer { Answers (λ u. u) result
             (holds_or causes.NameTaken (not (knows_relvar name self.old.database))) }
-        ensures added { OnOk result (self.new ≡ advanced_view (with_virtual (virtual_relvar name heading
+        ensures added { OnOk result (self.new ≡ advanced_view (with_virtual (virtual_relvar name
+            heading
             (tree_view tree) (map (λ key. key.items) keys.items)) self.old.database) self.old) }
         ensures unchanged { OnErr result (self.new ≡ self.old) }
     {
@@ -163,7 +164,7 @@ impl<B: Body> Catalog<B> {
     }
 
     /// Adds a constraint, last: refused where a constraint of the name is there. `check_statement`
-    /// tells whether the expression is as is asked.
+    /// tells whether the expression is as is required.
     pub fn add_constraint(&mut self, name: Name, tree: Expr) -> Result<(), Fault>
         requires { IsTypedConstraint (database_scope self.old.database)
             (named_constraint name (tree_view tree)) }

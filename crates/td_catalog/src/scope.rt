@@ -13,7 +13,7 @@ use td_tree::name::Name;
 impl<B: Body> Catalog<B> {
     /// What is known to expressions where so many of the virtual relvars are known, in order of
     /// definition: the types, the relvars' names with their headings, and the constraints' names;
-    /// no tuple is in hand. It takes no memory, and no time by what is defined.
+    /// no tuple is in scope. It takes no memory, and no time by what is defined.
     pub fn scope_before(&self, count: usize) -> Scope<'_>
         ensures { result ≡ database_scope
             (with_virtuals (take count self.now.database.virtuals) self.now.database) }

@@ -29,7 +29,7 @@ pub(crate) struct Tables<B: Body> {
     pub(crate) bases: IndexMap<Name, BaseEntry<B>>,
     pub(crate) virtuals: IndexMap<Name, VirtualEntry>,
     pub(crate) constraints: IndexMap<Name, ConstraintEntry>,
-    /// What of them is known to expressions, in step with them.
+    /// What expressions may know of the entries: headings and names, kept equal to the lists.
     pub(crate) declared: Declared,
 }
 

@@ -21,7 +21,7 @@ use Rattle.td_types.specs.TypeLists.{DeclaredType, declared_at}
 
 -- ---- kinds of nodes
 
--- + - * / may
+-- whether the operator cannot fail: + - * / may
 abbrev pub operator_cannot_fail : Operator → Bool
 operator_cannot_fail operators.Or = true
 operator_cannot_fail operators.And = true
@@ -46,7 +46,7 @@ prefix_cannot_fail prefixes.Negate = false
 prefix_cannot_fail prefixes.TransitiveClosure = true
 prefix_cannot_fail prefixes.TupleFrom = false
 
--- COUNT may
+-- whether COUNT or IS_EMPTY cannot fail: COUNT may, as its number may be out of range
 abbrev pub measure_cannot_fail : Measure → Bool
 measure_cannot_fail measures.Count = false
 measure_cannot_fail measures.IsEmpty = true
@@ -65,7 +65,7 @@ is_unconstrained (Some d) = not (is_some d.constraint)
 abbrev pub selector_cannot_fail : List DeclaredType → List ℕ → Bool
 selector_cannot_fail types ty = is_unconstrained (declared_at ty types)
 
--- a virtual relvar may
+-- whether a relvar of the kind cannot fail: a virtual relvar may
 abbrev kind_cannot_fail : Kind → Bool
 kind_cannot_fail kinds.Base = true
 kind_cannot_fail kinds.Virtual = false
@@ -77,14 +77,14 @@ is_no_virtual (Some r) = kind_cannot_fail r.kind
 abbrev pub relvar_cannot_fail : List KnownRelvar → List ℕ → Bool
 relvar_cannot_fail relvars n = is_no_virtual (relvar_in n relvars)
 
--- and a name is a relvar where no attribute in hand has it
+-- whether a name cannot fail: an attribute in scope has it, or a relvar that cannot fail
 abbrev pub name_cannot_fail : Scope → List ℕ → Bool
 name_cannot_fail scope n = is_some (innermost n scope.entered) || relvar_cannot_fail scope.relvars n
 
 -- ---- expressions
 
 abbrev mutual
-  -- each node is asked in the scope in which it stands; SUM, MAX and MIN may; a type that a heading names is no selector
+  -- each node is tested in its own scope; SUM, MAX, MIN may fail; a heading's type is no selector
   pub cannot_fail : Scope → Tree → Bool
   cannot_fail scope (literal l) = true
   cannot_fail scope (name n) = name_cannot_fail scope n
@@ -126,7 +126,7 @@ cannot_fail_of scope e = with_value (type_of scope e) (λ t. Valued (cannot_fail
 -- ---- in two parts, of which the first asks no scope
 
 abbrev mutual
-  -- the same where no name is a virtual relvar
+  -- whether evaluation cannot fail, where no name in the expression is a virtual relvar
   pub unfailing : List DeclaredType → Tree → Bool
   unfailing types (literal l) = true
   unfailing types (name n) = true
@@ -160,6 +160,6 @@ abbrev mutual
   parts_unfailing types none_named = true
   parts_unfailing types (more_named n value rest) = unfailing types value && parts_unfailing types rest
 
--- and where none of these names is a virtual relvar
+-- whether none of the names is a virtual relvar
 abbrev pub relvars_cannot_fail : List KnownRelvar → List (List ℕ) → Bool
 relvars_cannot_fail relvars = list_all (relvar_cannot_fail relvars)

@@ -11,14 +11,14 @@ use Rattle.td_tree.specs.Trees.{TypeTree, AttributeTrees, no_attributes, attribu
 use Rattle.td_tree.specs.Trees as trees
 use Rattle.td_types.specs.Types as types
 
--- a name mentions a relvar where no attribute in hand has it
+-- a name mentions a relvar where no attribute in scope has it
 abbrev pub mentioned_by_name : Scope → List ℕ → List (List ℕ)
 mentioned_by_name scope n =
     if is_some (innermost n scope.entered) then []
     else if is_some (known_relvar scope n) then n ∷ []
     else []
 
--- the scope of what is applied to the tuples of an operand: the operand's attributes are in hand where it is a relation
+-- the scope in an operand's tuples: its attributes are in scope where the operand is a relation
 abbrev pub in_tuples : Scope → Outcome types.Type' → Scope
 in_tuples scope (Valued (types.relation h)) = entered_with (types.unpack h) scope
 in_tuples scope _ = scope

@@ -22,7 +22,7 @@ use Rattle.td_types.specs.TypeLists.{DeclaredType, declared_at}
 use Rattle.td_types.specs.TypeOrder.{heading_cmp}
 use Rattle.td_types.specs.Types.{Type', boolean, integer, char, user, tuple, relation, Attribute, Heading, attribute_names, pack, unpack, type_at, type_cmp}
 
--- ---- what each rule asks
+-- ---- what each rule requires
 
 -- whether two types are one
 abbrev pub same_type : Type' → Type' → Bool
@@ -32,7 +32,7 @@ same_type = eq_by_cmp type_cmp
 abbrev pub same_heading : Heading → Heading → Bool
 same_heading = eq_by_cmp heading_cmp
 
--- a type where one is asked that is another is TYPE_MISMATCH
+-- an operand of another type than the rule requires: TYPE_MISMATCH
 abbrev pub mismatch : {A : Type 0} → Outcome A
 mismatch = Refused (Only causes.TypeMismatch)
 
@@ -40,21 +40,21 @@ mismatch = Refused (Only causes.TypeMismatch)
 abbrev pub misfit : {A : Type 0} → Outcome A
 misfit = Refused (Only causes.Heading)
 
--- what follows of the type that is asked
+-- the answer where the first type is the required one, else TYPE_MISMATCH
 abbrev pub if_type : {A : Type 0} → Type' → Type' → A → Outcome A
 if_type asked t x = value_if (same_type t asked) x causes.TypeMismatch
 
--- what follows of a relation's heading
+-- the answer for the heading of a relation type, else TYPE_MISMATCH
 abbrev pub over_relation : {A : Type 0} → Type' → (Heading → Outcome A) → Outcome A
 over_relation (relation h) f = f (unpack h)
 over_relation _ f = mismatch
 
--- what follows of a tuple's heading
+-- the answer for the heading of a tuple type, else TYPE_MISMATCH
 abbrev pub over_tuple : {A : Type 0} → Type' → (Heading → Outcome A) → Outcome A
 over_tuple (tuple h) f = f (unpack h)
 over_tuple _ f = mismatch
 
--- what follows of the headings of two relations
+-- the answer for the headings of two relation types, else TYPE_MISMATCH
 abbrev pub over_relations : {A : Type 0} → Type' → Type' → (Heading → Heading → Outcome A) → Outcome A
 over_relations s t f = over_relation s (λ g. over_relation t (λ h. f g h))
 
@@ -152,7 +152,7 @@ postfix_type (unwrap name) t = over_relation t (λ h. with_value (attribute_type
 
 -- ---- operators between two operands
 
--- two operands of the type that is asked give it
+-- the third type, where both operands are of the first
 abbrev pub both_of : Type' → Type' → Type' → Outcome Type'
 both_of asked s t = value_if (same_type s asked && same_type t asked) asked causes.TypeMismatch
 

@@ -12,7 +12,7 @@ pub record KnownRelvar : Type 0 where
   pub heading : Heading
 
 -- the declared types, the relvars and the constraints' names, each in the order they were made known, and the headings
--- of the tuples that are in hand, the innermost first
+-- of the tuples that are in scope, the innermost first
 pub record Scope : Type 0 where
   pub types : List DeclaredType
   pub relvars : List KnownRelvar
@@ -56,16 +56,16 @@ alone_with heading scope =
 abbrev pub scope_of : List DeclaredType → Scope
 scope_of types = record { types = types; relvars = []; constraints = []; entered = [] }
 
--- one more relvar is known
+-- the scope with one more known relvar
 abbrev pub with_known_relvar : List ℕ → Kind → Heading → Scope → Scope
 with_known_relvar name kind heading scope =
     record { types = scope.types; relvars = scope.relvars ++ (record { name = name; kind = kind; heading = heading } ∷ []); constraints = scope.constraints; entered = scope.entered }
 
--- one more constraint is known
+-- the scope with one more known constraint
 abbrev pub with_known_constraint : List ℕ → Scope → Scope
 with_known_constraint name scope =
     record { types = scope.types; relvars = scope.relvars; constraints = scope.constraints ++ (name ∷ []); entered = scope.entered }
 
--- the heading that was entered last is left
+-- the scope without the heading that was entered last
 abbrev pub without_innermost : Scope → Scope
 without_innermost scope = record { types = scope.types; relvars = scope.relvars; constraints = scope.constraints; entered = drop 1 scope.entered }

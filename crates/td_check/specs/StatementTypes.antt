@@ -1,4 +1,4 @@
--- What is asked of a statement before anything is carried out: the static rules of definitions, drops and assignments
+-- The static rules of definitions, drops and assignments, tested before anything is carried out
 -- (Tutorial D's; the causes are this project's own). A name that is taken, a target that is not known and one that is
 -- virtual count beside the causes of the parts.
 use Rattle.std.specs.Prelude.{ℕ, Bool, true, not, ◌&&◌, ◌||◌, List, [], ◌∷◌, map, Option, Some, None, is_some, ⊤}
@@ -19,7 +19,7 @@ use Rattle.td_types.specs.Types.{Type', boolean, tuple, relation, Attribute, Hea
 abbrev pub holds_or : Cause → Bool → Outcome ⊤
 holds_or cause test = value_if test tt cause
 
--- both are asked
+-- both requirements hold; else the causes of both
 abbrev pub both_hold : Outcome ⊤ → Outcome ⊤ → Outcome ⊤
 both_hold p q = with_both p q (λ _ _. Valued tt)
 
@@ -35,7 +35,7 @@ components_meant ds components =
 abbrev pub type_rank_fits : List DeclaredType → Type' → Outcome ⊤
 type_rank_fits ds t = with_value (limited_rank ds t) (λ _. Valued tt)
 
--- so is that of a user type, which is that of a tuple of its components
+-- the rank of a user type, which is that of a tuple of its components, is within the limit
 abbrev pub rank_fits : List DeclaredType → List Attribute → Outcome ⊤
 rank_fits ds components = type_rank_fits ds (tuple (pack components))
 
@@ -98,7 +98,7 @@ abbrev pub source_fits : Option KnownRelvar → Type' → Outcome ⊤
 source_fits None t = over_relation t (λ g. Valued tt)
 source_fits (Some r) t = relation_fits r.heading t
 
--- what is asked of each tuple after WHERE is BOOLEAN
+-- the type of a condition, where there is one
 abbrev pub condition_fits : Option Type' → Outcome ⊤
 condition_fits None = Valued tt
 condition_fits (Some t) = if_type boolean t tt
@@ -107,7 +107,7 @@ condition_fits (Some t) = if_type boolean t tt
 abbrev pub setting_fits : Heading → Attribute → Outcome ⊤
 setting_fits h setting = with_value (attribute_type setting.0 h) (λ t. if_type t setting.1 tt)
 
--- each is, and none twice
+-- each attribute that is set gets a value of its type, and none is set twice
 abbrev pub settings_fit : Heading → List Attribute → Outcome ⊤
 settings_fit h settings =
     both_hold (holds_or causes.Heading (are_distinct (attribute_names settings)))

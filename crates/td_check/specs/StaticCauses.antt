@@ -1,4 +1,4 @@
--- The causes for which types, expressions and statements are refused before anything is valued: laws (this project's own).
+-- Laws of the causes for which the static rules refuse (this project's own).
 use Rattle.std.specs.Prelude.{List, ⊤}
 use Rattle.td_check.specs.Scopes.{Scope}
 use Rattle.td_check.specs.StatementTypes.{statement_checked}
@@ -33,12 +33,12 @@ IsStatementCause causes.Rank = ⊤
 IsStatementCause causes.NotAssignable = ⊤
 IsStatementCause _ = ⊥
 
--- there is a value, or P holds of each cause
+-- the outcome is a value, or P holds of each of its causes
 abbrev pub IsRefusedOnlyBy : {A : Type 0} → (Cause → Type 0) → Outcome A → Type 0
 IsRefusedOnlyBy P (Valued x) = ⊤
 IsRefusedOnlyBy P (Refused cs) = (c : Cause) → Has cs c → P c
 
--- each is refused by its own causes alone
+-- types, expressions and statements are refused only by causes of their own kind
 pub record CausesAreStatic : Type 0 where
   pub types : (ds : List DeclaredType) (tree : TypeTree) → IsRefusedOnlyBy IsTypeCause (type_meant ds tree)
   pub expressions : (scope : Scope) (e : Tree) → IsRefusedOnlyBy IsExpressionCause (type_of scope e)

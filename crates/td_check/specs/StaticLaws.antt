@@ -23,7 +23,7 @@ use Rattle.td_types.specs.Types.{Attrs, Attribute, Heading, IsHeading, IsType, T
 abbrev pub IsKnownHeading : List DeclaredType → Heading → Type 0
 IsKnownHeading ds h = IsHeading (pack h) × AreKnown ds (pack h)
 
--- the types can be declared in their order, and the headings of the relvars and those in hand are headings of such types
+-- the types can be declared in order; the headings of relvars and tuples in scope are of such types
 pub record IsScope (scope : Scope) : Type 0 where
   pub declared : AreDeclared scope.types
   pub relvars : (n : List ℕ) (r : KnownRelvar) → known_relvar scope n ≡ Some r → IsKnownHeading scope.types r.heading
@@ -128,8 +128,8 @@ abbrev mutual
   UsersAllIn among no_attrs = ⊤
   UsersAllIn among (attr n ty rest) = UsersIn among ty × UsersAllIn among rest
 
--- the second scope has those types of the first, which are made of such types, and the same attributes, of such types, in
--- hand
+-- the second scope has those types of the first, which are made of such types, and the same
+-- attributes in scope, of such types
 pub record AgreeOn (among : List ℕ → Bool) (first second : Scope) : Type 0 where
   pub entered : second.entered ≡ first.entered
   pub types : (n : List ℕ) (d : DeclaredType) → IsTrue (among n) → declared_at n first.types ≡ Some d → declared_at n second.types ≡ Some d
@@ -173,7 +173,7 @@ pub record HasMore (first second : Scope) : Type 0 where
   pub relvars : (more : List KnownRelvar) × (second.relvars ≡ first.relvars ++ more)
   pub entered : second.entered ≡ first.entered
 
--- there an expression that has a type has the same, and mentions the same relvars
+-- with more types and relvars an expression keeps its type and the relvars that it mentions
 abbrev pub MoreChangesNothing : Type 0
 MoreChangesNothing =
     (first second : Scope) (e : Tree) (t : Type') → HasMore first second → type_of first e ≡ Valued t

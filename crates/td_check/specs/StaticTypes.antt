@@ -1,5 +1,5 @@
 -- The type of an expression in a scope, or the causes for which it has none (Tutorial D's; the causes are this project's
--- own). The causes of all parts count; a node's own rule is asked only where all its parts that are checked have types. A
+-- own). The causes of all parts count; a node's rule is tested only where its parts have types. A
 -- part that stands in an operand's tuples is checked only where that operand is a relation.
 use Rattle.std.specs.Prelude.{ℕ, List, [], ◌∷◌, Option, Some, None}
 use Rattle.td_check.specs.OperatorTypes.{Item, count_item, aggregate_item, aggregate_type, choice_type, comparison_type, component_type, extension_type, extracted_type, headed_type, known_or, listed_type, measure_type, mismatch, named_part, operator_type, over_relation, per_heading, postfix_type, prefix_type, selector_type, summary_type, tuple_type, restriction_type}
@@ -26,7 +26,7 @@ name_type scope n =
       | None ↦ with_value (known_or causes.NameUnknown (known_relvar scope n)) (λ r. Valued (types.relation (pack r.heading)))
     ]
 
--- two types
+-- the pair of two types, where both are found; else the causes of both
 abbrev pub both_types : Outcome Type' → Outcome Type' → Outcome (Type' × Type')
 both_types o p = with_both o p (λ s t. Valued (s, t))
 

@@ -35,7 +35,7 @@ fn prefix_cannot_fail(op: Prefix) -> bool
     !matches!(op, Prefix::Negate | Prefix::TupleFrom)
 }
 
-/// Whether what is asked has a value for any relation: a count may be too large.
+/// Whether COUNT or IS_EMPTY has a value for every relation: COUNT may be out of range.
 fn measure_cannot_fail(op: Measure) -> bool
     ensures { result ≡ measure_cannot_fail op }
 {

@@ -27,7 +27,8 @@ use crate::rules::operand::{
 use crate::rules::postfix::postfix_type;
 use crate::scope::Scope;
 use crate::together::{
-    by_attributes, type_of_choice, type_of_comparison, type_of_extension, type_of_headed, type_of_operator, per_relation, type_of_restriction,
+    by_attributes, per_relation, type_of_choice, type_of_comparison, type_of_extension,
+    type_of_headed, type_of_operator, type_of_restriction,
 };
 use td_tree::cause::Cause;
 use td_tree::expression::{Expr, NamedExpr, Summary};

@@ -30,7 +30,8 @@ impl Mentions {
 /// Adds the user types named in a type.
 #[cycle(named)]
 fn add_types(tree: &TypeTree, types: &mut Vec<Name>) -> Result<(), AllocError>
-    ensures { OnOk result (types.new.items ≡ types.old.items ++ types_named (type_tree_view tree.now)) }
+    ensures { OnOk result (types.new.items ≡ types.old.items ++ types_named (type_tree_view
+        tree.now)) }
 {
     match tree {
         TypeTree::Integer | TypeTree::Char | TypeTree::Boolean => Ok(()),

@@ -30,7 +30,7 @@ fn set_of_names(names: Vec<Name>) -> Result<BTreeSet<Name>, AllocError>
     Ok(set)
 }
 
-/// The same in a list.
+/// The names as a list, each once, ascending.
 pub(crate) fn name_set(names: Vec<Name>) -> Result<Vec<Name>, AllocError>
     ensures names { IfOk result (λ set. set.items ≡ name_set names.items) }
     ensures ascending { IfOk result (λ set. IsStrictlySortedBy (slice_cmp nat_cmp) set.items) }

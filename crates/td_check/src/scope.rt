@@ -34,13 +34,13 @@ struct Known {
     heading: Heading,
 }
 
-/// The declared types, the relvars, the constraints' names, and the headings of the tuples in hand.
+/// The declared types, the relvars, the constraints' names, and the headings of tuples in scope.
 #[derive(Drop)]
 pub struct Scope<'a> {
     types: &'a TypeTable,
     /// What is declared, and how many of its virtual relvars are known.
     lent: Option<(&'a Declared, usize)>,
-    /// Those that are known beside what is lent, and behind it.
+    /// The relvars that are known beside those of `lent`, and come after them.
     relvars: IndexMap<Name, Known>,
     constraints: IndexSet<Name>,
     /// The innermost is the last.
@@ -197,7 +197,7 @@ impl<'a> Scope<'a> {
         None
     }
 
-    /// The kind and the heading of the relvar of the name, whatever attributes are in hand. It takes
+    /// The kind and heading of the relvar of the name, whatever attributes are in scope. It takes
     /// no memory.
     pub fn relvar(&self, name: &Name) -> Option<(Kind, &Heading)>
         ensures { option_map seen_view result

@@ -1,4 +1,4 @@
-//! What is asked of a statement before anything is carried out.
+//! What is required of a statement before anything is carried out.
 ghost use Rattle.td_check.specs.StaticTypes.{type_of};
 ghost use Rattle.td_check.specs.StatementTypes.{statement_checked};
 ghost use Rattle.td_tree.specs.Outcomes.{Answers, Valued, with_value};
@@ -19,7 +19,7 @@ use td_tree::expression::Expr;
 use td_tree::fault::Fault;
 use td_tree::statement::Statement;
 
-/// What is asked of an expression whose value is written: it has a type.
+/// What is required of an expression whose value is written: it has a type.
 fn check_written(scope: &Scope<'_>, expression: &Expr) -> Result<(), Fault>
     ensures { Answers (λ u. u) result
         (with_value (type_of scope.now (tree_view expression.now)) (λ _. Valued tt)) }
@@ -28,8 +28,8 @@ fn check_written(scope: &Scope<'_>, expression: &Expr) -> Result<(), Fault>
     Ok(())
 }
 
-/// What is asked of a statement before anything is carried out: the name of what is defined is
-/// new and that of what is dropped is known, the parts have the types that are asked, keys and
+/// What is required of a statement before anything is carried out: the name of what is defined is
+/// new and that of what is dropped is known, the parts have the types that are required, keys and
 /// ranks are allowed, and what is assigned to is a base relvar.
 pub fn check_statement(scope: &Scope<'_>, statement: &Statement) -> Result<(), Fault>
     ensures { Answers (λ u. u) result

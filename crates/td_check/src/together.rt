@@ -32,7 +32,10 @@ pub(crate) fn type_of_operator(op: Operator, operands: Result<(Ty, Ty), Fault>) 
 }
 
 /// The type of a comparison of operands of these types.
-pub(crate) fn type_of_comparison(op: Comparison, operands: Result<(Ty, Ty), Fault>) -> Result<Ty, Fault>
+pub(crate) fn type_of_comparison(
+    op: Comparison,
+    operands: Result<(Ty, Ty), Fault>,
+) -> Result<Ty, Fault>
     ensures { (o : Outcome (Type' × Type')) → Answers types_view operands o
         → Answers type_view result (with_value o (λ both. comparison_type op both.0 both.1)) }
 {
@@ -50,7 +53,10 @@ pub(crate) fn type_of_restriction(operand: Ty, condition: Result<Ty, Fault>) -> 
 }
 
 /// The type of an operand extended by attributes.
-pub(crate) fn type_of_extension(operand: Ty, attributes: Result<Vec<(Name, Ty)>, Fault>) -> Result<Ty, Fault>
+pub(crate) fn type_of_extension(
+    operand: Ty,
+    attributes: Result<Vec<(Name, Ty)>, Fault>,
+) -> Result<Ty, Fault>
     ensures { (o : Outcome (List Attribute)) → Answers (λ ts. pairs_view ts.items) attributes o
         → Answers type_view result (with_value o (λ attributes.
         over_relation (type_view operand) (λ h. extension_type h attributes))) }

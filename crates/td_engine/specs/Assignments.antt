@@ -108,7 +108,7 @@ with_assignment db given a =
     (λ cur. with_value (assignment_value (source_world db (target_of a) cur) cur a)
     (λ r. Valued (with_given (target_of a) r given)))
 
--- the sources are valued in order; the first that has causes decides
+-- the sources are evaluated in order; the first that has causes decides
 abbrev pub given_by : Database → Given → List Assignment → Outcome Given
 given_by db given [] = Valued given
 given_by db given (a ∷ rest) = with_value (with_assignment db given a) (λ next. given_by db next rest)

@@ -1,5 +1,5 @@
--- What is asked of a database after a definition or an assignment: its keys and its constraints (Tutorial D's; the order of
--- the checks is this project's own).
+-- What is required of a database after a definition or an assignment: its keys and its constraints
+-- (Tutorial D's; the order of the checks is this project's own).
 use Rattle.std.specs.Prelude.{◌≡◌, ℕ, Bool, true, false, List, [], ◌∷◌, Option, Some, None}
 use Rattle.std.specs.List.{list_all}
 use Rattle.std.specs.Option.{option_or}
@@ -32,11 +32,11 @@ keys_hold keys tuples = list_all (λ key. key_holds key tuples) keys
 abbrev pub base_check : BaseRelvar → Option Refusal
 base_check r = refusal_unless_passed (by_key r.name) (Valued (keys_hold r.keys r.relation.body))
 
--- those of each base relvar do
+-- the keys of each base relvar hold
 abbrev pub BasesHold : Database → Type 0
 BasesHold db = first_refusal base_check db.bases ≡ None
 
--- a virtual relvar that has keys is valued, and they hold
+-- a virtual relvar that has keys is evaluated, and they hold
 abbrev pub virtual_test : World → VirtualRelvar → Outcome Bool
 virtual_test w v =
     elim v.keys as (λ _. Outcome Bool) [

@@ -39,7 +39,7 @@ abbrev pub IsSpelledIf : Option Tree → Type 0
 IsSpelledIf None = ⊤
 IsSpelledIf (Some e) = IsSpelledExpression e
 
--- so are those of all definitions
+-- some tokens spell each expression in the definitions of the database
 pub record AreSpelled (db : Database) : Type 0 where
   pub types : AllByRecursion (λ d. IsSpelledIf d.constraint) db.types
   pub virtuals : AllByRecursion (λ v. IsSpelledExpression v.tree) db.virtuals
@@ -59,7 +59,7 @@ pub record KeysAreOrdered (db : Database) : Type 0 where
 abbrev pub IsRanked : List DeclaredType → DeclaredType → Type 0
 IsRanked earlier d = rank_fits earlier d.components ≡ Valued tt
 
--- so is that of a relvar's relation type where these types are declared
+-- the rank of a relvar's relation type is within the limit where these types are declared
 abbrev pub IsRankedHeading : List DeclaredType → Heading → Type 0
 IsRankedHeading types h = heading_rank_fits types h ≡ Valued tt
 

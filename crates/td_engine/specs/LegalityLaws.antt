@@ -23,6 +23,6 @@ AcceptedStatementsKeepLegality =
 abbrev pub IsLegalThroughout : Bool → State → Type 0
 IsLegalThroughout stop s = (script : List (List PlacedToken)) (p : Progress) → Runs stop (progress_at_first s) script p → IsLegalState p.state
 
--- it is so from each legal state, in transactions and out of them
+-- from each legal state, in a transaction or not, a run keeps the state legal
 abbrev pub RunsKeepLegality : Type 0
 RunsKeepLegality = (stop : Bool) (s : State) → IsLegalState s → IsLegalThroughout stop s

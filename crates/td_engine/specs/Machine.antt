@@ -29,7 +29,7 @@ pub data Effect (S : Type 0) : Type 0 where
   Accepted : S → List ℕ → Effect S
   Denied : Refusal → Effect S
 
--- what follows where there is a value; else the least of its causes is named
+-- the effect of a value; where there is none, a refusal by the least of the causes
 abbrev pub by_outcome : {A S : Type 0} → Outcome A → (A → Effect S) → Effect S
 by_outcome (Valued x) f = f x
 by_outcome (Refused cs) f = Denied (by_cause (least cs))

@@ -31,7 +31,7 @@ virtual_statement v = define_virtual v.name v.tree (map (ordered_names v.heading
 abbrev pub constraint_statement : NamedConstraint → Statement
 constraint_statement c = define_constraint c.name c.tree
 
--- those of a database, in the order of the dump
+-- the statements that define a database, in the order of the dump
 abbrev pub dump_statements : Database → List Statement
 dump_statements db =
     map type_statement db.types ++ map base_statement db.bases ++ map virtual_statement db.virtuals
@@ -60,7 +60,7 @@ pub data AcceptsAll : Database → List Statement → Database → Type 0 where
   no_more : {db : Database} → AcceptsAll db [] db
   accepts : {old next new : Database} {s : Statement} {ss : List Statement} → effect old s ≡ Accepted next ok_text → AcceptsAll next ss new → AcceptsAll old (s ∷ ss) new
 
--- from nothing
+-- an empty database accepts each statement of the dump of a legal database
 abbrev pub DumpsAreAccepted : Type 0
 DumpsAreAccepted = (db : Database) → IsLegal db → AcceptsAll empty_database (dump_statements db) db
 

@@ -35,8 +35,8 @@ OfFront done before after P =
     (front : List ℕ) × (whole : Bool) × Consumes before after front × IsFront done whole after front
     × Continued whole front P
 
--- the same where all was run that the source gave: the whole script, unless the first refusal ended the run, and at most so
--- many bytes
+-- the source gave at most `limit` bytes, and the whole script unless the run ended before:
+-- `over` tells whether the first refusal ended it
 pub record IsRead (limit : ℕ) (over whole : Bool) (front : List ℕ) : Type 0 where
   pub unless_over : over ≡ false → whole ≡ true
   pub size : length front ≤ limit
@@ -46,13 +46,13 @@ OfScript limit done over before after P =
     (front : List ℕ) × (whole : Bool) × Consumes before after front × IsFront done whole after front
     × Continued whole front P × IsRead limit over whole front
 
--- the same where the source failed: the statements that were run are all that a `;` ends
+-- the source failed: the statements that were run are all of the front that a `;` ends
 abbrev pub OfBroken : ℕ → Option (List ℕ) → Option (List ℕ) → (List ℕ → Type 0) → Type 0
 OfBroken done before after P =
     (front : List ℕ) × ConsumesIfTold before after front × IsFront done false after front × Continued false front P
     × AreLeft (drop done (statements 0 front))
 
--- the same where the source gave more bytes than a script may have
+-- the source gave more bytes than a script may have, and the fact holds of its front
 abbrev pub OfTooMuch : ℕ → ℕ → Option (List ℕ) → Option (List ℕ) → (List ℕ → Type 0) → Type 0
 OfTooMuch limit done before after P =
     (front : List ℕ) × Consumes before after front × IsFront done false after front × Continued false front P

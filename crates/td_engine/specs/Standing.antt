@@ -48,7 +48,7 @@ pub record HasRun (run : Run) (done : ℕ) (new : Standing) : Type 0 where
   pub each_run : progress.statements ≡ done
   pub stands : Stands run.old progress new
 
--- the same, and no refusal ended the run there
+-- as in `HasRun`, and no refusal ended the run there
 pub record IsOngoing (run : Run) (done : ℕ) (new : Standing) : Type 0 where
   pub has_run : HasRun run done new
   pub goes_on : has_stopped run.stop has_run.progress ≡ false

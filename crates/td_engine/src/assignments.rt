@@ -25,7 +25,7 @@ ghost use Rattle.td_tree.specs.code.TreeViews.{assignment_view, statement_view};
 ghost use Rattle.td_tree.specs.Trees.{assign_all};
 
 use crate::change::Change;
-use crate::checks::{entry_keys_hold, reached_from, check_after};
+use crate::checks::{check_after, entry_keys_hold, reached_from};
 use crate::definitions::failure_of;
 use crate::first_changes::{first_delete, first_update, put_in};
 use crate::refusal::{Failure, Refusal};

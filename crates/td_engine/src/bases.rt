@@ -196,7 +196,8 @@ fn add_ordered<B: Body>(
     requires heading { AreKnown catalog.old.database.types (pack relation.heading) }
     requires keys { AreBaseKeys relation.heading (map (λ key. key.items) keys.items) }
     requires typed { AreTyped catalog.old.database.types relation }
-    ensures change { Changes catalog.new.database result (checked_effect (with_base (base_relvar name
+    ensures change { Changes catalog.new.database result (checked_effect (with_base (base_relvar
+        name
         (map (ordered_names relation.heading) (map (λ key. key.items) keys.items)) relation)
         catalog.old.database)) }
     ensures on { GoesOn catalog.old catalog.new }

@@ -8,7 +8,8 @@ ghost use Rattle.td_catalog.specs.Database.{named_constraint, with_constraint, w
 ghost use Rattle.td_engine.specs.code.Carried.{Changes, Passes};
 ghost use Rattle.td_engine.specs.Checks.{BasesHold, constraint_check, derived_check};
 ghost use Rattle.td_engine.specs.Checks.{first_refusal};
-ghost use Rattle.td_engine.specs.Checks.{keys_hold, refusal_unless_passed, virtual_check, virtual_test};
+ghost use Rattle.td_engine.specs.Checks.{keys_hold, refusal_unless_passed, virtual_check};
+ghost use Rattle.td_engine.specs.Checks.{virtual_test};
 ghost use Rattle.td_engine.specs.LeftOut.{PassesElsewhere, PassesUnlessNamed};
 ghost use Rattle.td_engine.specs.LeftOut.{PassesUnlessReached};
 ghost use Rattle.td_engine.specs.Legality.{AreSpelled};
@@ -43,7 +44,7 @@ use td_value::relation::Rel;
 use td_value::value::{Node, Value};
 
 /// The value of an expression that meets the static rules where the catalogue is known and no tuple
-/// is in hand, by a plan.
+/// is in scope, by a plan.
 pub(crate) fn value<'a, B: Body>(
     alloc: Global,
     catalog: &'a Catalog<B>,
@@ -168,7 +169,7 @@ fn constraint_passed(name: &Name, test: Result<Value, Fault>) -> Result<(), Fail
     }
 }
 
-/// The keys of a virtual relvar hold, which is asked where it is among those reached.
+/// The keys of a virtual relvar hold, which is tested where it is among those reached.
 fn check_virtual<B: Body>(
     alloc: Global,
     catalog: &Catalog<B>,
@@ -229,7 +230,7 @@ fn test_constraint<B: Body>(
     constraint_passed(name, value(alloc, catalog, condition.tree()))
 }
 
-/// A constraint is TRUE, which is asked where one of those reached is named in it.
+/// A constraint is TRUE, which is tested where one of those reached is named in it.
 fn check_constraint<B: Body>(
     alloc: Global,
     catalog: &Catalog<B>,

@@ -3,7 +3,8 @@ ghost use Rattle.std.specs.Prelude.{◌≡◌, Bool, IfOk, List, OnErr, length};
 ghost use Rattle.std.specs.String.{string_bytes};
 ghost use Rattle.td_catalog.specs.Dumps.{dump_text};
 ghost use Rattle.td_engine.specs.code.Carried.{IsOfDatabase, IsSpelledStatement};
-ghost use Rattle.td_engine.specs.Machine.{begun_transaction, committed_transaction, effect_in, empty_state};
+ghost use Rattle.td_engine.specs.Machine.{begun_transaction, committed_transaction, effect_in};
+ghost use Rattle.td_engine.specs.Machine.{empty_state};
 ghost use Rattle.td_engine.specs.Machine.{rolled_back, step_of};
 ghost use Rattle.td_engine.specs.Rebuilding.{Rebuilds};
 ghost use Rattle.td_engine.specs.Legality.{IsLegalState};
@@ -107,7 +108,7 @@ impl<B: Body> Engine<B> {
         self.carry_out(parse_statement(self.alloc, tokens))
     }
 
-    /// The same, for what its tokens were read as: they need not be kept so long.
+    /// Runs a statement that was parsed, so that its tokens need not be kept until its end.
     pub(crate) fn carry_out(
         &mut self,
         parsed: Result<Statement, Fault>,
@@ -200,7 +201,8 @@ impl<B: Body> Engine<B> {
     /// Lets go of the number kept last.
     fn commit(&mut self) -> Result<Answer, AllocError>
         ensures done { IfOk result (λ answer.
-            Does (step_of self.old (committed_transaction self.old.database self.old.kept)) answer self.new) }
+            Does (step_of self.old (committed_transaction self.old.database self.old.kept)) answer
+            self.new) }
         ensures err { OnErr result (self.new ≡ self.old) }
         ensures legal { IsLegalState self.new }
     {

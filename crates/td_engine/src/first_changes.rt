@@ -16,7 +16,7 @@ ghost use Rattle.td_value.specs.code.Views.{relation_view};
 
 use crate::change::Change;
 use crate::checks::value;
-use crate::updates::{updated_tuples, relation_of};
+use crate::updates::{relation_of, updated_tuples};
 use std::alloc::Global;
 use td_body::body::Body;
 use td_catalog::catalog::Catalog;

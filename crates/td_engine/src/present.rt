@@ -19,7 +19,7 @@ ghost use Rattle.td_value.specs.Values.{Val};
 use crate::answer::{Answer, line};
 use crate::checks::value;
 use crate::refusal::{Failure, Refusal};
-use crate::statement::{check_in, change};
+use crate::statement::{change, check_in};
 use std::alloc::{AllocError, Global};
 use std::marker::Model;
 use td_body::body::Body;

@@ -29,7 +29,7 @@ use td_tree::statement::Statement;
 /// The most bytes that a script may have.
 pub const SCRIPT_LIMIT: u64 = 1_073_741_824;
 
-/// How many bytes are asked for at a time.
+/// How many bytes are read at a time.
 const PIECE: usize = 8192;
 
 /// What a run counts.
@@ -37,7 +37,7 @@ const PIECE: usize = 8192;
 pub struct Report {
     /// The statements answered.
     pub statements: u64,
-    /// Those of them that were refused.
+    /// How many of the statements were refused.
     pub refused: u64,
 }
 
@@ -232,10 +232,11 @@ fn run_held<B: Body, W: Sink>(
     Ok(())
 }
 
-/// Reads the source piece by piece, runs each statement once its end is known, and writes its answer
-/// whole before it runs the next. With `stop` the first refused statement ends the run, and no more
-/// is read. A piece with which the script has more bytes than `limit` is not run. At a fault the
-/// engine and the writer stand as after the statements that were run, and the engine can go on.
+/// Reads the source piece by piece, runs each statement once its end is known, and writes its
+/// answer whole before it runs the next. With `stop` the first refused statement ends the run, and
+/// no more is read. A piece with which the script has more bytes than `limit` is not run. At a
+/// fault the engine and the writer stand as after the statements that were run, and the engine can
+/// go on.
 pub fn run_within<B: Body, R: Source, W: Sink>(
     alloc: Global,
     engine: &mut Engine<B>,

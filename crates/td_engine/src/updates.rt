@@ -156,7 +156,11 @@ fn change_of_insert<B: Body>(
 // ---- conditions
 
 /// The tuples whose truth values are TRUE.
-fn restricted_to(alloc: Global, so_far: &Rel, truths: Result<Vec<bool>, Fault>) -> Result<Rel, Fault>
+fn restricted_to(
+    alloc: Global,
+    so_far: &Rel,
+    truths: Result<Vec<bool>, Fault>,
+) -> Result<Rel, Fault>
     requires { IfOk truths (λ m. length m.items ≡ length so_far.now.body) }
     ensures { (p : Tuple → Outcome Val) → Answers (λ m. m.items) truths
         (gathered (map (λ t. truth_value (p t)) so_far.now.body))
@@ -177,7 +181,8 @@ fn truths_so_far<'a, B: Body>(
     requires { IsPlannableCondition catalog.now.database target.now so_far.now
         (tree_view condition.now) }
     ensures { Answers (λ m. m.items) result (gathered (map (λ t. truth_value (value_of
-        (source_world catalog.now.database target.now so_far.now) (t ∷ []) (tree_view condition.now)))
+        (source_world catalog.now.database target.now so_far.now) (t ∷ []) (tree_view
+        condition.now)))
         so_far.now.body)) }
 {
     let env = Env {
@@ -390,8 +395,12 @@ pub(crate) fn change_of<B: Body>(
     ensures headings { IfOk result (IsOfHeading so_far.now.heading) }
 {
     match assignment {
-        Assignment::Assign(target, source) => change_of_assign(alloc, catalog, target, so_far, source),
-        Assignment::Insert(target, source) => change_of_insert(alloc, catalog, target, so_far, source),
+        Assignment::Assign(target, source) => change_of_assign(
+            alloc, catalog, target, so_far, source,
+        ),
+        Assignment::Insert(target, source) => change_of_insert(
+            alloc, catalog, target, so_far, source,
+        ),
         Assignment::Delete(target, condition) => {
             delete(alloc, catalog, target, so_far, condition.as_ref())
         }

@@ -56,7 +56,7 @@ aggregated_value a f r = with_value (gathered (map f r.body)) (aggregate_of a)
 
 -- ---- SUMMARIZE
 
--- what an item asks: an aggregate, and what it is of in a tuple
+-- an item of SUMMARIZE: its aggregate, and the value of its expression in a tuple
 abbrev pub Summand : Type 0
 Summand = Agg × (Tuple → Outcome Val)
 
@@ -76,7 +76,7 @@ group_with r p w = restriction (agree_on (common_names p r) w) r
 abbrev pub group_values : List (Tuple × Relation) → Summand → Outcome (List (List Val))
 group_values gs item = gathered (map (λ g. gathered (map item.1 g.1.body)) gs)
 
--- what an item gives of the group of a tuple
+-- the aggregate that an item gives for the group of a tuple of PER
 abbrev pub summary_in : Relation → Relation → Summand → Tuple → Outcome Val
 summary_in r p item w = aggregated_value item.0 item.1 (group_with r p w)
 
@@ -88,6 +88,6 @@ summarized_value attributes items r p =
     with_value (value_if (is_part p.heading r.heading) (groups r p) causes.Heading)
     (λ gs. with_value (gathered (map (group_values gs) items)) (λ values. extended_value attributes (map (summary_in r p) items) p))
 
--- the same of two values, which must be relations; the static types are those in a tuple of the first
+-- SUMMARIZE of two values, which must be relations; the types are those in r's heading
 abbrev pub summary_value : (Heading → Outcome (List Attribute)) → List Summand → Val → Val → Outcome Val
 summary_value attributes items v u = on_relations v u (λ r p. summarized_value (attributes r.heading) items r p)

@@ -1,6 +1,6 @@
--- What the names of a database mean (Tutorial D's). A type's constraint is valued where the selectors of the types before it
--- alone are known, no relvar is, and its components are the one tuple in hand. A virtual relvar is valued where the types, the
--- base relvars and the virtual relvars before it alone are known, and no tuple is in hand.
+-- The meaning of a database's names (Tutorial D's). A type's constraint is evaluated where only the
+-- earlier selectors are known, no relvar is, and its components are the tuple in scope. A virtual
+-- relvar is evaluated where types, base relvars and earlier virtual relvars are known, in no tuple.
 use Rattle.std.specs.Prelude.{ℕ, Bool, true, List, [], ◌∷◌, fold, map, option_map, Option, Some, None, if◌then◌else◌}
 use Rattle.std.specs.List.{zip}
 use Rattle.std.specs.Option.{option_or}
@@ -42,7 +42,7 @@ selector_value w d vs =
     with_value (value_if (are_types_of (map type_of vs) d.components) (user_view d.name vs) causes.TypeMismatch)
     (λ u. with_value (constraint_value w d vs) (λ holds. value_if holds (selected_value u) causes.TypeConstraint))
 
--- one more selector, of a name that none has
+-- the selectors with one more, for a type whose name none has
 abbrev pub with_selector : List DeclaredType → Selectors → DeclaredType → Selectors
 with_selector ds selectors d n =
     option_or (selectors n) (if same_name d.name n then Some (selector_value (types_alone ds selectors) d) else None)
@@ -62,7 +62,7 @@ abbrev pub world_of_bases : Database → World
 world_of_bases db =
     record { scope = database_scope (with_virtuals [] db); relvar = λ n. option_map (λ b. Valued (relation_value b.relation)) (base_named n db); selector = selectors_of db.types db.types }
 
--- one more virtual relvar: its value is that of its expression where the earlier ones alone are known and no tuple is in hand
+-- the world with one more virtual relvar, which is evaluated where the earlier ones alone are known
 abbrev pub with_virtual_value : World → VirtualRelvar → World
 with_virtual_value w v =
     record { scope = with_known_relvar v.name kinds.Virtual v.heading w.scope; relvar = λ n. option_or (w.relvar n) (if same_name v.name n then Some (value_of w [] v.tree) else None); selector = w.selector }

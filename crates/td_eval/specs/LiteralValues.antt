@@ -74,7 +74,7 @@ abbrev pub LiteralsHaveTheirTypes : Type 0
 LiteralsHaveTheirTypes =
     (scope : Scope) (v : Val) (t : Type') → IsValue v → HasType scope.types v t → type_of scope (literal_tree v) ≡ Valued t
 
--- and it has that value, where the selectors give its user values
+-- the tree of a value has that value, where the selectors give its user values
 abbrev pub LiteralsHaveTheirValues : Type 0
 LiteralsHaveTheirValues =
     (w : World) (s : List Tuple) (v : Val) (t : Type') → IsValue v → HasType w.scope.types v t → IsSelected w v
@@ -86,26 +86,26 @@ SelectorsGiveWhatMeets =
     (db : Database) (v : Val) (t : Type') → IsTyped db → HasType db.types v t
     → IsSelected (world_of db) v ↔ MeetsConstraints db.types v
 
--- what such a selector gives is the user value of its components, which meet the constraint
+-- what a selector of a typed database gives is the user value; its components meet the constraint
 abbrev pub WhatSelectorsGiveMeets : Type 0
 WhatSelectorsGiveMeets =
     (db : Database) (n : List ℕ) (vs : List Val) (v : Val) → IsTyped db → selector_outcome (world_of db) n vs ≡ Valued v
     → (v ≡ user n (pack_parts vs)) × MeetConstraint db.types n (pack_parts vs)
 
--- so there the tree of a value whose user values meet their constraints has that value
+-- in a typed database the tree of a value whose user values meet their constraints has that value
 abbrev pub StoredLiteralsHaveTheirValues : Type 0
 StoredLiteralsHaveTheirValues =
     (db : Database) (s : List Tuple) (v : Val) (t : Type') → IsTyped db → IsValue v → HasType db.types v t
     → MeetsConstraints db.types v → value_of (world_of db) s (literal_tree v) ≡ Valued v
 
--- they meet them still where more types stand behind
+-- user values that meet their constraints do so with more types declared behind
 abbrev pub LaterTypesKeepWhatMeets : Type 0
 LaterTypesKeepWhatMeets =
     (first second : Database) (v : Val) (t : Type') → IsTyped first → IsTyped second
     → ConstraintsAreWritten first.types → HasLater first second → IsValue v → HasType first.types v t
     → MeetsConstraints first.types v → MeetsConstraints second.types v
 
--- and where one of the types is dropped
+-- user values that meet their constraints do so where another type is dropped
 abbrev pub DropsKeepWhatMeets : Type 0
 DropsKeepWhatMeets =
     (db : Database) (dropped : List ℕ) (v : Val) (t : Type') → IsTyped db → IsTyped (without_type dropped db)

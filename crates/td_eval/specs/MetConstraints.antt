@@ -20,18 +20,18 @@ use Rattle.td_value.specs.Values.{Val, Parts, Relation, Tuple, pack_fields, rela
 abbrev pub EachInTuple : (List ℕ → Parts → Type 0) → Tuple → Type 0
 EachInTuple P t = EachInFields P (pack_fields t)
 
--- and in each value that one of these has in a tuple of r
+-- P holds of each user value in the values that these functions have in the tuples of r
 abbrev pub EachInValues : (List ℕ → Parts → Type 0) → Relation → List (Tuple → Outcome Val) → Type 0
 EachInValues P r = AllByRecursion (λ f. (t : Tuple) (v : Val) → Contains r.body t → f t ≡ Valued v → EachUserValue P v)
 
--- it holds of each user value in the relvars, and in what a selector gives of components in which it holds of each
+-- each user value has P in the relvars, and in what a selector gives where it has in the components
 pub record GivesOnly (P : List ℕ → Parts → Type 0) (w : World) : Type 0 where
   pub relvars : (n : List ℕ) (v : Val) → w.relvar n ≡ Some (Valued v) → EachUserValue P v
   pub selectors :
       (n : List ℕ) (vs : List Val) (v : Val) → AllByRecursion (EachUserValue P) vs → selector_outcome w n vs ≡ Valued v → EachUserValue P v
 
--- where the world and the tuples in hand have only user values that meet the constraints of their types, so has each value;
--- a database whose base relvars have only such is such a world, also where a relvar has another such relation
+-- where the user values in the world and in the tuples in scope meet their constraints, all do;
+-- so it is in a database whose base relvars meet them, also with another such relation for a relvar
 pub record ValuesMeetConstraints : Type 0 where
   pub values :
       (ds : List DeclaredType) (w : World) (s : List Tuple) (e : Tree) (v : Val) → GivesOnly (MeetConstraint ds) w
@@ -48,7 +48,7 @@ pub record ValuesMeetConstraints : Type 0 where
       (ds : List DeclaredType) (w : World) (n : List ℕ) (r : Relation) → GivesOnly (MeetConstraint ds) w
       → MeetsConstraints ds (relation_value r) → GivesOnly (MeetConstraint ds) (with_other (Some (n, r)) w)
 
--- so has what assignments make of relations that have only such
+-- what assignments make of relations whose user values meet their constraints has only such
 pub record AssignedRelationsMeetConstraints : Type 0 where
   pub related :
       (ds : List DeclaredType) (v : Val) (r : Relation) → MeetsConstraints ds v → on_relation v Valued ≡ Valued r

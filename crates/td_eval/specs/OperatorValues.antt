@@ -263,7 +263,7 @@ value_of_type t v = value_if (same_type (type_of v) t) v causes.TypeMismatch
 abbrev pub column_values : Type' → (Tuple → Outcome Val) → List Tuple → Outcome (List Val)
 column_values t f tuples = gathered (map (λ u. with_value (f u) (value_of_type t)) tuples)
 
--- those of each new attribute
+-- the values of each new attribute in the tuples
 abbrev pub columns_values : List Attribute → List (Tuple → Outcome Val) → List Tuple → List (Outcome (List Val))
 columns_values [] fs tuples = []
 columns_values (a ∷ attributes) [] tuples = []

@@ -26,7 +26,7 @@ pub record DiffersIn (changed : List (List ℕ)) (first second : Database) : Typ
       (n : List ℕ) (r : BaseRelvar) → has_name n changed ≡ false → base_named n first ≡ Some r
       → (q : BaseRelvar) × (base_named n second ≡ Some q) × (q.relation ≡ r.relation)
 
--- there an expression that names nothing which the change reaches has the same value, or the same causes
+-- an expression that names nothing which the change reaches keeps its value, or its causes
 abbrev pub UnreachedValuesStay : Type 0
 UnreachedValuesStay =
     (changed : List (List ℕ)) (first second : Database) (e : Tree) → IsTyped first → IsTyped second → DefinitionsAreWritten first

@@ -1,4 +1,4 @@
--- The value of an expression where names mean what a world says and tuples are in hand, or the causes for which it has none
+-- The value of an expression in a world, with tuples in scope, or the causes for which it has none
 -- (Tutorial D's; the causes are this project's own). The causes of all parts count, on both sides of every operator; what
 -- is applied to the tuples of an operand counts for each of them; IF counts its condition and the chosen branch alone.
 use Rattle.std.specs.Prelude.{true, List, [], ◌∷◌, if◌then◌else◌}
@@ -58,12 +58,12 @@ abbrev mutual
   entry_values w s (more_named n value rest) =
       with_both (value_of w s value) (entry_values w s rest) (λ v entries. Valued ((n, v) ∷ entries))
 
-  -- the values of expressions where a further tuple is in hand
+  -- the values of expressions where a further tuple is in scope
   pub values_in_tuples : World → List Tuple → NamedTrees → List (Tuple → Outcome Val)
   values_in_tuples w s none_named = []
   values_in_tuples w s (more_named n value rest) = (λ t. value_of w (t ∷ s) value) ∷ values_in_tuples w s rest
 
-  -- what the items of SUMMARIZE ask where a further tuple is in hand; COUNT counts a term for each tuple
+  -- what each item of SUMMARIZE takes of a further tuple; COUNT counts a term for each tuple
   pub items_in_tuples : World → List Tuple → Summaries → List Summand
   items_in_tuples w s no_summaries = []
   items_in_tuples w s (counted n rest) = (asked.Count, λ t. of_truth true) ∷ items_in_tuples w s rest

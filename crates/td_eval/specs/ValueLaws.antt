@@ -27,8 +27,8 @@ use Rattle.td_value.specs.code.Views.{relation_view}
 
 -- ---- what is mentioned
 
--- an expression that has a type where these tuples are in hand: their values are of their types, the names that it gives
--- are names, and its texts are UTF-8
+-- an expression that has a type with these tuples in scope: their values are of their types, names
+-- that it gives are names, and its texts are UTF-8
 pub record IsChecked (scope : Scope) (s : List Tuple) (e : Tree) : Type 0 where
   pub tuples : AllByRecursion (IsTypedTuple scope.types) s
   pub written : IsWritten e
@@ -44,8 +44,8 @@ SelectsTheSame scope first second n =
 abbrev pub HasTheSame : (List ℕ → Bool) → Scope → World → World → List ℕ → Type 0
 HasTheSame among scope first second n = AgreeAt among scope second.scope n × (second.relvar n ≡ first.relvar n)
 
--- both worlds agree on what the expression mentions where these tuples are in hand: on its types, with those that they and
--- the tuples are made of, and on its relvars
+-- both worlds agree on what the expression mentions with these tuples in scope: on its types, those
+-- that they and the tuples are made of, and its relvars
 pub record AgreeOnMentions (among : List ℕ → Bool) (scope : Scope) (first second : World) (s : List Tuple) (e : Tree) : Type 0 where
   pub known : AgreeOn among (with_tuples scope s) (with_tuples second.scope s)
   pub types : (n : List ℕ) → Contains (types_in e) n → IsTrue (among n) × SelectsTheSame scope first second n
@@ -84,8 +84,8 @@ pub record AgreeOnRelvars (among seen : List ℕ → Bool) (first second : Datab
       (n : List ℕ) (v : VirtualRelvar) → IsTrue (seen n) → virtual_named n first ≡ Some v
       → (m : List ℕ) → Contains (relvars_in (database_scope first) v.tree) m → IsTrue (seen m)
 
--- both databases agree on the entries that the expression mentions where these tuples are in hand: on its types, with those
--- that they and the tuples are made of, and on its relvars, with those that their expressions mention
+-- both databases agree on the entries that the expression mentions with these tuples in scope: its
+-- types, those that they and the tuples are made of, its relvars, and those that these mention
 pub record AgreeOnEntries (among seen : List ℕ → Bool) (first second : Database) (s : List Tuple) (e : Tree) : Type 0 where
   pub types : AgreeOnTypes among first.types second.types
   pub relvars : AgreeOnRelvars among seen first second
@@ -100,8 +100,8 @@ ValuesDependOnEntries =
     → DefinitionsAreWritten first → IsChecked (database_scope first) s e
     → AgreeOnEntries among seen first second s e → value_of (world_of second) s e ≡ value_of (world_of first) s e
 
--- so has an expression that does not mention an entry that is dropped, where the database is is_typed before and after; the
--- tuples in hand are not made of a type that is
+-- an expression that does not mention a dropped entry keeps its value, where the database is typed
+-- before and after; the tuples in scope are not made of a type that is dropped
 pub record DropsChangeNoValue : Type 0 where
   pub relvar :
       (db : Database) (dropped : List ℕ) (s : List Tuple) (e : Tree) → IsTyped db → IsTyped (without_relvar dropped db)

@@ -5,7 +5,7 @@ use td_tree::name::Name;
 use td_value::relation::Rel;
 use td_value::tuple::Tuple;
 
-/// A catalogue, another relation in place of what one base relvar holds, and the tuples in hand.
+/// A catalogue, another relation in place of what one base relvar holds, and the tuples in scope.
 #[derive(Drop)]
 pub struct Env<'a, B: Body> {
     pub catalog: &'a Catalog<B>,

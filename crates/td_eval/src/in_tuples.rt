@@ -53,6 +53,12 @@ pub fn set_in_tuples<B: Body>(
         rel.now) }
 {
     let sight = Sight::of_env(alloc, env);
-    let columns = columns(&sight, &copies_of_lent(alloc, env.tuples)?, rel, attributes, parts)?;
+    let columns = columns(
+        &sight,
+        &copies_of_lent(alloc, env.tuples)?,
+        rel,
+        attributes,
+        parts,
+    )?;
     Ok(set_all(alloc, rel, columns)?)
 }

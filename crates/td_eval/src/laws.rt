@@ -115,12 +115,12 @@ pub fn stored_literals_have_their_values()
 {}
 
 /// Expressions have only user values that meet the constraints of their types, where the relvars,
-/// the selectors and the tuples in hand give no others, as in a database that holds no others.
+/// the selectors and the tuples in scope give no others, as in a database that holds no others.
 pub fn values_meet_constraints()
     ensures { ValuesMeetConstraints }
 {}
 
-/// So have the relations that assignments make of such.
+/// What assignments make of relations whose user values meet their constraints has only such.
 pub fn assigned_relations_meet_constraints()
     ensures { AssignedRelationsMeetConstraints }
 {}

@@ -87,7 +87,7 @@ impl<'a, B: Body> Sight<'a, B> {
         }
     }
 
-    /// What is known where no tuple is in hand.
+    /// What is known where no tuple is in scope.
     fn outer_scope(&self) -> Result<Scope<'_>, AllocError>
         requires { IsSight self.now }
         ensures { IfOk result (λ s. s ≡ with_tuples (seen_by self.now).scope []) }
@@ -98,7 +98,7 @@ impl<'a, B: Body> Sight<'a, B> {
         }
     }
 
-    /// What is known where these tuples are in hand.
+    /// What is known where these tuples are in scope.
     pub(crate) fn scope(&self, tuples: &[Tuple]) -> Result<Scope<'_>, AllocError>
         requires { IsSight self.now }
         ensures { IfOk result

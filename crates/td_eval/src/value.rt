@@ -24,19 +24,21 @@ ghost use Rattle.td_types.specs.code.Views.{pairs_view, type_view};
 
 use crate::env::Env;
 use crate::extension::{extension_by, new_attributes};
-use crate::operators::aggregates::{value_of_aggregate, terms};
+use crate::operators::aggregates::{terms, value_of_aggregate};
 use crate::operators::asked::{attribute, have_types, relation_in, truth};
 use crate::operators::between::value_of_operator;
 use crate::operators::comparisons::value_of_comparison;
-use crate::operators::elements::{value_of_headed, listed_value, tuple_from};
+use crate::operators::elements::{listed_value, tuple_from, value_of_headed};
 use crate::operators::literals::literal_value;
 use crate::operators::operand::{component_value, extracted_value, measure_value, prefix_value};
 use crate::operators::postfix::{postfix_value, projected_by};
 use crate::operators::relational::relations;
 use crate::operators::selectors::{component_tuple, user_value};
-use crate::operators::summaries::{groups_by_per, extended_per, with_aggregate};
+use crate::operators::summaries::{extended_per, groups_by_per, with_aggregate};
 use crate::operators::tuplewise::restriction_value;
-use crate::rows::{copies_of, named_value, named_column, copies_of_lent, truth_of, value_of_its_type};
+use crate::rows::{
+    copies_of, copies_of_lent, named_column, named_value, truth_of, value_of_its_type,
+};
 use crate::sight::Sight;
 use std::alloc::Global;
 use td_algebra::extension::Column;
@@ -56,7 +58,7 @@ use td_value::tuple::Tuple;
 use td_value::value::Value;
 
 /// The value of the relvar of a name. A virtual relvar's is that of its expression where the
-/// virtual relvars before it alone are known and no tuple is in hand.
+/// virtual relvars before it alone are known and no tuple is in scope.
 #[cycle(value)]
 pub(crate) fn relvar_value<B: Body>(sight: &Sight<'_, B>, name: &Name) -> Result<Value, Fault>
     requires { IsSight sight.now }
@@ -85,7 +87,7 @@ fn name_value<B: Body>(sight: &Sight<'_, B>, tuples: &[Tuple], name: &Name) -> R
     }
 }
 
-/// The value of an expression where these tuples are in hand. The innermost is the last.
+/// The value of an expression where these tuples are in scope. The innermost is the last.
 #[cycle(value)]
 fn value_of<B: Body>(sight: &Sight<'_, B>, tuples: &[Tuple], expr: &Expr) -> Result<Value, Fault>
     requires { IsSight sight.now }
@@ -111,7 +113,11 @@ fn value_of<B: Body>(sight: &Sight<'_, B>, tuples: &[Tuple], expr: &Expr) -> Res
             value_of_comparison(alloc, *op, first, value_of(sight, tuples, right))
         }
         Expr::Postfix(operand, op) => postfix_value(alloc, op, &value_of(sight, tuples, operand)?),
-        Expr::Select(ty, arguments) => selector_outcome(sight, ty, values_of(sight, tuples, arguments)?),
+        Expr::Select(ty, arguments) => selector_outcome(
+            sight,
+            ty,
+            values_of(sight, tuples, arguments)?,
+        ),
         Expr::Component(name, operand) => {
             component_value(sight.types, name, &value_of(sight, tuples, operand)?)
         }
@@ -259,7 +265,7 @@ fn meets_constraint<B: Body>(
     truth_of(value_of(&sight.in_constraint(place), &[components], constraint))
 }
 
-/// The value of an expression where one tuple more is in hand.
+/// The value of an expression where one tuple more is in scope.
 #[cycle(value)]
 fn value_in_row<B: Body>(
     sight: &Sight<'_, B>,
@@ -431,7 +437,7 @@ fn aggregation<B: Body>(
     value_of_aggregate(op, values_in_rows(sight, tuples, rel, expr))
 }
 
-/// What an item of SUMMARIZE is of in the tuples of a group.
+/// The values of the expression of a SUMMARIZE item in the tuples of a group.
 #[cycle(value)]
 fn item_in_group<B: Body>(
     sight: &Sight<'_, B>,
@@ -449,7 +455,7 @@ fn item_in_group<B: Body>(
     }
 }
 
-/// The same in each of the groups.
+/// The values of the expression of a SUMMARIZE item in the tuples of each group.
 #[cycle(value)]
 fn item_in_groups<B: Body>(
     sight: &Sight<'_, B>,

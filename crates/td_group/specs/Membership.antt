@@ -102,6 +102,6 @@ ClosureIsLeast =
     → IsTransitive (closure r) × ((t : Tuple) → IsIn t r → IsIn t (closure r))
     × ((s : Relation) → IsTransitive s → ((t : Tuple) → IsIn t r → IsIn t s) → (t : Tuple) → IsIn t (closure r) → IsIn t s)
 
--- and closing it again changes nothing
+-- the closure of a closure is itself
 abbrev pub ClosureIsIdempotent : Type 0
 ClosureIsIdempotent = (r : Relation) → IsRelation r → IsTrue (is_closable r.heading) → closure (closure r) ≡ closure r

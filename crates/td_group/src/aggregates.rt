@@ -8,7 +8,7 @@ use td_tree::cause::Cause;
 use td_tree::fault::Fault;
 use td_value::value::{Node, Value};
 
-/// What is asked of several values.
+/// An aggregate of a list of values.
 #[derive(Clone, Copy, Debug, PartialEq, Eq)]
 pub enum Agg {
     /// How many there are.

@@ -6,7 +6,8 @@ ghost use Rattle.std.specs.Ordering.{eq_by_cmp};
 ghost use Rattle.td_group.specs.Closure.{closure};
 ghost use Rattle.td_group.specs.code.Successors.{AreReached, AreSeen, AreSuccessors};
 ghost use Rattle.td_group.specs.code.Successors.{HaveSameValues};
-ghost use Rattle.td_group.specs.code.Successors.{ArePairsFrom, with_value_added, all_added, led_to, ends_of};
+ghost use Rattle.td_group.specs.code.Successors.{ArePairsFrom, with_value_added, all_added, led_to};
+ghost use Rattle.td_group.specs.code.Successors.{ends_of};
 ghost use Rattle.td_group.specs.code.Successors.{pair_of, start_of, starts_in, successors_at};
 ghost use Rattle.td_types.specs.Headings.{is_closable};
 ghost use Rattle.td_value.specs.Values.{Tuple, Val, value_cmp};
@@ -91,7 +92,7 @@ fn put_unseen<'a>(
     Ok(())
 }
 
-/// Does so with each of the values.
+/// Puts each of the values after the others, unless it is among those seen.
 fn put_all_unseen<'a>(
     seen: &mut HashSet<Value>,
     found: &mut Vec<&'a Value>,
@@ -108,7 +109,7 @@ fn put_all_unseen<'a>(
     Ok(())
 }
 
-/// Does so with the successors of the value.
+/// Puts each successor of the value after the others, unless it is among those seen.
 fn put_successors<'a>(
     table: &HashMap<Value, Vec<&'a Value>>,
     value: &Value,

@@ -36,7 +36,7 @@ fn group_values(
 }
 
 /// The relation with the attributes of the names put into one relation-valued attribute. `can_nest`
-/// is the test of what is asked.
+/// is the test of what is required.
 pub fn group(alloc: Global, rel: &Rel, names: &[Name], name: Name) -> Result<Rel, AllocError>
     requires { IsTrue (can_nest names.now name rel.now.heading) }
     ensures { IfOk result (λ r. r ≡ grouped_relation names.now name rel.now) }

@@ -81,7 +81,7 @@ pub(crate) fn attribute_names(heading: &Heading) -> Result<Vec<Name>, AllocError
 }
 
 /// Each tuple of `per`, ascending, with the relation of the tuples that agree with it on the common
-/// names. `Heading::agrees_with` is the test of what is asked.
+/// names. `Heading::agrees_with` is the test of what is required.
 pub fn groups(alloc: Global, rel: &Rel, per: &Rel) -> Result<Vec<(Tuple, Rel)>, AllocError>
     requires { IsTrue (agree per.now.heading rel.now.heading) }
     ensures { IfOk result (λ found. found.items ≡ groups rel.now per.now) }

@@ -7,19 +7,20 @@ ghost use Rattle.td_group.specs.Membership.{UngroupUndoesGroup, UnnestByMembersh
 ghost use Rattle.td_group.specs.Membership.{UnwrapUndoesWrap};
 ghost use Rattle.td_group.specs.Membership.{WrapByMembership};
 
-/// GROUP: some tuple of the operand agrees with it on the rest, and its new attribute has the set of
-/// the parts of all such tuples.
+/// GROUP: some tuple of the operand agrees with it on the rest, and its new attribute has the set
+/// of the parts of all such tuples.
 pub fn group_by_membership()
     ensures { GroupByMembership }
 {}
 
-/// WRAP: some tuple of the operand agrees with it on the rest, and its new attribute has the part of
-/// that tuple.
+/// WRAP: some tuple of the operand agrees with it on the rest, and its new attribute has the part
+/// of that tuple.
 pub fn wrap_by_membership()
     ensures { WrapByMembership }
 {}
 
-/// UNGROUP and UNWRAP: it is the rest of some tuple of the operand with a tuple inside the attribute.
+/// UNGROUP and UNWRAP: it is the rest of some tuple of the operand with a tuple inside the
+/// attribute.
 pub fn unnest_by_membership()
     ensures { UnnestByMembership }
 {}

@@ -23,7 +23,11 @@ fn put_entries(entries: &mut Vec<(Name, Value)>, tuple: &Tuple) -> Result<(), Al
 }
 
 /// The tuple of the entries of both, which have no common name.
-pub(crate) fn joined_tuple(alloc: Global, first: &Tuple, second: &Tuple) -> Result<Tuple, AllocError>
+pub(crate) fn joined_tuple(
+    alloc: Global,
+    first: &Tuple,
+    second: &Tuple,
+) -> Result<Tuple, AllocError>
     requires { HaveNoCommonName first.now second.now }
     ensures { IfOk result (λ t. t ≡ tuple_of (first.now ++ second.now)) }
 {

@@ -65,8 +65,8 @@ fn put_inside(
     }
 }
 
-/// Puts the row on the rest, with each of the tuples that its attribute's value has or is, after the
-/// others.
+/// Puts the row on the rest, with each of the tuples that its attribute's value has or is, after
+/// the others.
 fn put_unnested(
     alloc: Global,
     row: &Tuple,

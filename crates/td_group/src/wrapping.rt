@@ -46,7 +46,7 @@ fn wrapped_rows(
 }
 
 /// The relation with the attributes of the names put into one tuple-valued attribute. `can_nest` is
-/// the test of what is asked.
+/// the test of what is required.
 pub fn wrap(alloc: Global, rel: &Rel, names: &[Name], name: Name) -> Result<Rel, AllocError>
     requires { IsTrue (can_nest names.now name rel.now.heading) }
     ensures { IfOk result (λ r. r ≡ wrapped_relation names.now name rel.now) }

@@ -46,7 +46,7 @@ pub data SummaryItem : Type 0 where
   count_item : (name : Text) → SummaryItem
   sum_item : (op : Aggregate) (value : Tree) (name : Text) → SummaryItem
 
--- one more, before the rest
+-- the items of SUMMARIZE with one more before them
 abbrev pub with_item : SummaryItem → Summaries → Summaries
 with_item (count_item n) rest = tree.counted n rest
 with_item (sum_item op a n) rest = tree.summed op a n rest

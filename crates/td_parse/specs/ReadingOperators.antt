@@ -35,7 +35,7 @@ abbrev pub link_level : Link → Level
 link_level links.Where = levels.Restriction
 link_level (links.Operator op) = level_of op
 
--- how it is written
+-- the words or signs by which WHERE or an operator is written
 abbrev pub link_words : Link → List Lexeme
 link_words links.Where = keyword k.Where ∷ []
 link_words (links.Operator op) = operator_words op
@@ -45,7 +45,7 @@ abbrev pub linked_tree : Tree → Link → Tree → Tree
 linked_tree left links.Where right = tree.restriction left right
 linked_tree left (links.Operator op) right = tree.binary left op right
 
--- what is one word
+-- WHERE or the operator that is written by this one word
 abbrev pub link_of_word : Keyword → Option Link
 link_of_word k.Where = Some links.Where
 link_of_word k.Or = Some (links.Operator operators.Or)
@@ -59,7 +59,7 @@ link_of_word k.Compose = Some (links.Operator operators.Compose)
 link_of_word k.Matching = Some (links.Operator operators.Matching)
 link_of_word _ = None
 
--- what is one sign
+-- the operator that is written by this one sign
 abbrev pub link_of_sign : Sign → Option Link
 link_of_sign signs.Plus = Some (links.Operator operators.Add)
 link_of_sign signs.Minus = Some (links.Operator operators.Subtract)
@@ -84,7 +84,7 @@ any_link _ = None
 abbrev pub same_level : Level → Level → Bool
 same_level = sameb level_type.the_type
 
--- the same, where it stands at this level
+-- WHERE or an operator at the front, where it stands at this level
 unfoldable pub link_at : Level → List Lexeme → ReadOf Link
 link_at level ts = any_link ts >>= λ p. if same_level (link_level p.0) level then Some p else None
 

@@ -42,7 +42,7 @@ same_lexeme (keyword a) (keyword b) = same_keyword a b
 same_lexeme (sign a) (sign b) = same_sign a b
 same_lexeme _ _ = false
 
--- what follows this word or sign
+-- the lexemes after this word or sign, where it stands at the front
 unfoldable pub expect : Lexeme → List Lexeme → Option (List Lexeme)
 expect l [] = None
 expect l (x ∷ ts) = if same_lexeme x l then Some ts else None

@@ -50,7 +50,7 @@ impl<'a, 't> Ahead<'a, 't> {
         self.rest.len() + 1
     }
 
-    /// The same tokens again.
+    /// A second look-ahead from the same place.
     pub fn again(&self) -> Ahead<'a, 't>
         ensures { result ≡ self.now }
     {

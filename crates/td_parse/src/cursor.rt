@@ -65,7 +65,7 @@ impl<'a, 't> Cursor<'a, 't> {
         self.left.turns()
     }
 
-    /// The same tokens, to look ahead.
+    /// A look-ahead from the cursor's place, which leaves the cursor there.
     pub fn ahead(&self) -> Ahead<'a, 't>
         ensures { result ≡ self.now }
     {

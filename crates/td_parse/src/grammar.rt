@@ -1,4 +1,5 @@
-//! The rules that hold expressions take the parser of those as a parameter, so that each is proved by itself.
+//! The rules that hold expressions take the parser of those as a parameter, so that each is proved
+//! by itself.
 ghost use Rattle.std.specs.Prelude.{◌≡◌, suc, nat_le};
 ghost use Rattle.td_tree.specs.Grammar.{loosest};
 ghost use Rattle.td_parse.specs.code.Nests.{Nests};

@@ -51,7 +51,12 @@ impl<F: Fn(Global, u8, Level, &mut Cursor<'_, '_>) -> Result<Found, Fault>> Gram
 
     /// After an operator that stands before its operand, which is at this level.
     #[tactic(auto, unfolding(crate::specs::Reading::prefix_expression))]
-    fn prefix_expression(&self, level: Level, op: Prefix, tokens: &mut Cursor<'_, '_>) -> Result<Found, Fault>
+    fn prefix_expression(
+        &self,
+        level: Level,
+        op: Prefix,
+        tokens: &mut Cursor<'_, '_>,
+    ) -> Result<Found, Fault>
         requires { Nests self.now.depth (F.pre self.now.inner) (F.post self.now.inner) }
         ensures { Moves tree_view result tokens.new
             (reading.prefix_expression (read self.now.depth) self.now.depth level op tokens.old) }
@@ -60,7 +65,7 @@ impl<F: Fn(Global, u8, Level, &mut Cursor<'_, '_>) -> Result<Found, Fault>> Gram
         Ok(Found::prefix(self.alloc, op, operand)?)
     }
 
-    /// What stands before its operand.
+    /// An operator before its operand, an extraction, or an operand that has neither.
     #[tactic(auto, unfolding(crate::specs::Reading::unary_expression, crate::specs::Reading::extract_expression))]
     fn unary_expression(&self, tokens: &mut Cursor<'_, '_>) -> Result<Found, Fault>
         requires { Nests self.now.depth (F.pre self.now.inner) (F.post self.now.inner) }

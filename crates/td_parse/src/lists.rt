@@ -138,7 +138,8 @@ impl<F: Fn(Global, u8, Level, &mut Cursor<'_, '_>) -> Result<Found, Fault>> Gram
     pub fn enclosed_additions(&self, tokens: &mut Cursor<'_, '_>) -> Result<NamedParts, Fault>
         requires { Nests self.now.depth (F.pre self.now.inner) (F.post self.now.inner) }
         ensures { Moves (map named_part_view) result tokens.new
-            (in_parentheses_read (list_by_commas (reading.addition (read self.now.depth) self.now.depth))
+            (in_parentheses_read (list_by_commas (reading.addition (read self.now.depth)
+            self.now.depth))
             tokens.old) }
     {
         tokens.expect_sign(Sign::OpenParenthesis)?;

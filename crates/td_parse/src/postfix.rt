@@ -3,7 +3,8 @@ ghost use Rattle.std.specs.Prelude.{◌≡◌, map};
 ghost use Rattle.td_parse.specs.code.Parsing.{Moves};
 ghost use Rattle.td_parse.specs.Reading as reading;
 ghost use Rattle.td_parse.specs.ReadingOperators.{postfix_at};
-ghost use Rattle.td_parse.specs.ReadingSteps.{in_parentheses_read, read_name, read_renaming, list_by_commas};
+ghost use Rattle.td_parse.specs.ReadingSteps.{in_parentheses_read, read_name, read_renaming};
+ghost use Rattle.td_parse.specs.ReadingSteps.{list_by_commas};
 ghost use Rattle.td_tree.specs.code.TreeViews.{attributes_view, postfix_view, renaming_view};
 
 use crate::cursor::{Cursor, SYNTAX};

@@ -129,7 +129,11 @@ impl<F: Fn(Global, u8, Level, &mut Cursor<'_, '_>) -> Result<Found, Fault>> Gram
 
     /// After `SUM`, `MAX` or `MIN`.
     #[tactic(auto, unfolding(crate::specs::Reading::aggregate_expression))]
-    fn aggregate_expression(&self, op: Aggregate, tokens: &mut Cursor<'_, '_>) -> Result<Found, Fault>
+    fn aggregate_expression(
+        &self,
+        op: Aggregate,
+        tokens: &mut Cursor<'_, '_>,
+    ) -> Result<Found, Fault>
         requires { Nests self.now.depth (F.pre self.now.inner) (F.post self.now.inner) }
         ensures { Moves tree_view result tokens.new
             (reading.aggregate_expression (read self.now.depth) self.now.depth op tokens.old) }

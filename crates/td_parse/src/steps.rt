@@ -9,7 +9,11 @@ use td_tree::keyword::Keyword;
 use td_tree::token::Sign;
 
 /// What was read, if this sign closes it.
-pub fn item_closed_by<T: Drop>(item: T, close: Sign, tokens: &mut Cursor<'_, '_>) -> Result<T, Fault>
+pub fn item_closed_by<T: Drop>(
+    item: T,
+    close: Sign,
+    tokens: &mut Cursor<'_, '_>,
+) -> Result<T, Fault>
     ensures { Keeps item (expect (lexeme.sign close) tokens.old) result tokens.new }
 {
     tokens.expect_sign(close)?;
@@ -17,7 +21,11 @@ pub fn item_closed_by<T: Drop>(item: T, close: Sign, tokens: &mut Cursor<'_, '_>
 }
 
 /// What was read, if this word ends it.
-pub fn item_ended_by<T: Drop>(item: T, end: Keyword, tokens: &mut Cursor<'_, '_>) -> Result<T, Fault>
+pub fn item_ended_by<T: Drop>(
+    item: T,
+    end: Keyword,
+    tokens: &mut Cursor<'_, '_>,
+) -> Result<T, Fault>
     ensures { Keeps item (expect (lexeme.keyword end) tokens.old) result tokens.new }
 {
     tokens.expect_keyword(end)?;

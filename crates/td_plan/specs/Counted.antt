@@ -1,4 +1,4 @@
--- What is asked of a relation alone, by the number of its tuples.
+-- The value of COUNT or IS_EMPTY, by the number of the tuples.
 use Rattle.std.specs.Prelude.{ℕ, nat_eq, pos}
 use Rattle.td_eval.specs.OperatorValues.{of_truth}
 use Rattle.td_tree.specs.declared.operator.Measure.{Measure}

@@ -17,7 +17,7 @@ RestrictionOfIntersectionOnRight =
 
 -- ---- a restriction of a join restricts an operand
 
--- in each tuple of the relation, what is asked depends on the tuple's part on the names alone
+-- what p gives for a tuple of the relation depends only on the tuple's part on the names
 abbrev pub AsksOnlyOf : {A : Type 0} → List (List ℕ) → Relation → (Tuple → A) → Type 0
 AsksOnlyOf names r p = (t : Tuple) → IsIn t r → p t ≡ p (projected_tuple names t)
 
@@ -47,7 +47,7 @@ RestrictionOfProductOnRight =
     (p : Tuple → Bool) (r s : Relation) → HaveNoCommon r s → AsksOnlyOf (relation_names s) (product r s) p
     → restriction p (product r s) ≡ product r (restriction p s)
 
--- MATCHING and NOT MATCHING keep tuples of their first operand: whatever is asked of them restricts it
+-- MATCHING and NOT MATCHING keep tuples of the first operand: a restriction of them restricts it
 abbrev pub RestrictionOfSemijoin : Type 0
 RestrictionOfSemijoin =
     (p : Tuple → Bool) (r s : Relation) → restriction p (semijoin r s) ≡ semijoin (restriction p r) s
@@ -84,11 +84,11 @@ is_at name v t = eq_by_cmp (option_cmp value_cmp) (value_at name t) (Some v)
 abbrev pub has_values : Tuple → Tuple → Bool
 has_values part t = list_all (λ e. is_at e.0 e.1 t) part
 
--- it has each of them there
+-- the tuple has each of the part's values at its name
 abbrev pub HasValues : Tuple → Tuple → Type 0
 HasValues part t = All (λ (e : List ℕ × Val). value_at e.0 t ≡ Some e.1) part
 
--- the test tells the fact
+-- `has_values` is true exactly where the tuple has each of the part's values
 abbrev pub ValuesAreTold : Type 0
 ValuesAreTold = (part t : Tuple) → IsTrue (has_values part t) ↔ HasValues part t
 

@@ -1,4 +1,4 @@
--- What an expression asks of the tuples in hand depends on the names alone that stand as expressions in it.
+-- The value of an expression depends only on what the tuples in scope give to the names in it.
 use Rattle.std.specs.Prelude.{◌≡◌, ℕ, List, ◌∷◌, IsTrue}
 use Rattle.std.specs.List.{Contains}
 use Rattle.td_check.specs.WrittenNames.{names_in}
@@ -10,7 +10,7 @@ use Rattle.td_eval.specs.TreeValues.{value_of}
 use Rattle.td_eval.specs.Worlds.{World, innermost_value}
 use Rattle.td_plan.specs.Equalities.{AsksOnlyOf}
 
--- where tuples in hand give each of these names the same value or none, the expression has the same value or the same causes
+-- an expression has the same value or causes where tuples in scope give its names the same values
 abbrev pub ValuesDependOnNames : Type 0
 ValuesDependOnNames =
     (w : World) (s u : List Tuple) (e : Tree)
@@ -21,7 +21,7 @@ ValuesDependOnNames =
 abbrev pub NamesOnly : List (List ℕ) → Heading → Tree → Type 0
 NamesOnly names h e = (n : List ℕ) → Contains (names_in e) n → IsTrue (has_attribute n h) → IsTrue (has_name n names)
 
--- so what it asks of a relation's tuples depends on their part on these names alone
+-- the value of an expression in a tuple depends on the tuple's part on these names alone
 abbrev pub NamesAreWhatIsAsked : Type 0
 NamesAreWhatIsAsked =
     (w : World) (s : List Tuple) (e : Tree) (names : List (List ℕ)) (r : Relation) → IsRelation r → NamesOnly names r.heading e

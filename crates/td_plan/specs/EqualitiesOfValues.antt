@@ -78,7 +78,7 @@ HasHeading h r = IsRelation r × (r.heading ≡ h)
 abbrev pub IsHeadedAndAnswered : Heading → (Tuple → Outcome Val) → Relation → Type 0
 IsHeadedAndAnswered h p r = HasHeading h r × IsTotalIn p r
 
--- in each tuple of the relation that is given, what is asked depends on the tuple's part on the heading's names alone
+-- what p gives for a tuple of the relation depends on its part on the heading's names alone
 abbrev pub AsksOnlyIn : Heading → Outcome Val → (Tuple → Outcome Val) → Type 0
 AsksOnlyIn h o p = (q : Relation) → o ≡ of_relation q → AsksOnlyOf (attribute_names h) q p
 
@@ -135,7 +135,7 @@ WhereByAnd =
 abbrev pub AreTotalIn : List (Tuple → Outcome Val) → Relation → Type 0
 AreTotalIn qs r = AllByRecursion (λ q. IsTotalIn q r) qs
 
--- so of any number of conjuncts
+-- WHERE by several conjuncts is one WHERE after another, where these have truth values
 abbrev pub WhereByAnds : Type 0
 WhereByAnds =
     (p : Tuple → Outcome Val) (qs : List (Tuple → Outcome Val)) (a : Outcome Val) → Gives (AreTotalIn qs) a

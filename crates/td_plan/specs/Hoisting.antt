@@ -1,4 +1,4 @@
--- What does not depend on a tuple in hand, and is valued once for it and its like.
+-- Parts of a plan that do not depend on the tuple in scope, and are evaluated once for all tuples.
 use Rattle.std.specs.Prelude.{◌≡◌, ℕ, zero, suc, nat_eq, Bool, false, ◌||◌, List, ◌∷◌, ◌++◌, length}
 use Rattle.td_eval.specs.Worlds.{World}
 use Rattle.td_plan.specs.Plans.{Frame, PlanTree, PlanTrees, none, more, constant, refused, attribute, fixed, relvar, look_up, prefix, extract, restriction, binary, compare, postfix, select, component, measure, relation, headed_relation, tuple, extend, aggregate, summarize_per, summarize_by, choice, frame_of, plan_value, plan_values}
@@ -38,14 +38,14 @@ abbrev mutual
   any_reaches k none = false
   any_reaches k (more first rest) = reaches k first || any_reaches k rest
 
--- a depth, where the tuple at the first depth is no more in hand
+-- a depth, where the tuple at the first depth is no longer in scope
 abbrev pub lowered_depth : ℕ → ℕ → ℕ
 lowered_depth zero zero = zero
 lowered_depth zero (suc d) = d
 lowered_depth (suc k) zero = zero
 lowered_depth (suc k) (suc d) = suc (lowered_depth k d)
 
--- the plan, where the tuple at a depth is no more in hand
+-- the plan, where the tuple at a depth is no longer in scope
 abbrev mutual
   pub lowered_step : ℕ → PlanTree → PlanTree
   lowered_step k (constant v) = constant v
@@ -80,7 +80,7 @@ abbrev mutual
   all_lowered k none = none
   all_lowered k (more first rest) = more (lowered_step k first) (all_lowered k rest)
 
--- a plan that does not name a tuple in hand has the same value, or the same causes, without it
+-- a plan that does not name a tuple in scope has the same value, or the same causes, without it
 abbrev pub PlansDependOnTuplesTheyName : Type 0
 PlansDependOnTuplesTheyName =
     (w : World) (inner : List Frame) (f : Frame) (outer : List Frame) (p : PlanTree) → reaches (length inner) p ≡ false
@@ -90,13 +90,13 @@ PlansDependOnTuplesTheyName =
 abbrev pub BeginsWith : List (Outcome Val) → List (Outcome Val) → Type 0
 BeginsWith xs os = (more : List (Outcome Val)) × (os ≡ xs ++ more)
 
--- where these parts, which begin with those, were valued once, the second plan has the value of the first
+-- with the parts of `new` evaluated once q has the value of p, and `new` begins with `old`
 abbrev pub Hoists : PlanTrees → PlanTrees → PlanTree → PlanTree → Type 0
 Hoists old new p q =
     (w : World) (fs : List Frame) (t : Tuple) (os : List (Outcome Val)) → BeginsWith (plan_values w fs new) os
     → BeginsWith (plan_values w fs old) os × (plan_value w (frame_of os t ∷ fs) q ≡ plan_value w (frame_of os t ∷ fs) p)
 
--- so have the second plans those of the first
+-- with the parts evaluated once, the second plans have the values of the first
 abbrev pub HoistsAll : PlanTrees → PlanTrees → PlanTrees → PlanTrees → Type 0
 HoistsAll old new ps qs =
     (w : World) (fs : List Frame) (t : Tuple) (os : List (Outcome Val)) → BeginsWith (plan_values w fs new) os

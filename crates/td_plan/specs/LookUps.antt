@@ -13,7 +13,7 @@ pub record MeansName (n : List ℕ) (d : Tree) : Type 0 where
   pub value : (w : World) (s : List Tuple) → value_of w s d ≡ name_value w s n
   pub typed : (scope : Scope) → type_of scope d ≡ name_type scope n
 
--- the name is a base relvar's, and no tuple in hand has an attribute of it
+-- the name is a base relvar's, and no tuple in scope has an attribute of it
 pub record IsBase (scope : Scope) (n : List ℕ) : Type 0 where
   pub shown : innermost n scope.entered ≡ None
   pub known : (r : KnownRelvar) × (known_relvar scope n ≡ Some r) × (r.kind ≡ kinds.Base)

@@ -37,7 +37,7 @@ IsFixedTo scope h e n p =
     (w : World) (s : List Tuple) (fs : List Frame) → GivesValues w (outermost scope) → AreInHand scope s → AreFramesOf s fs
     → (v : Val) × (plan_value w fs p ≡ Valued v) × IsFixedAt w scope s h e n v
 
--- each of these is such a one
+-- the condition fixes each of these attributes to the value of its step
 abbrev pub AreFixed : Scope → Heading → Tree → List FixedValue → Type 0
 AreFixed scope h e fixed = AllByRecursion (λ (f : FixedValue). IsFixedTo scope h e f.name (step_view f.value)) fixed
 

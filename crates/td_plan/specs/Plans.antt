@@ -20,8 +20,8 @@ use Rattle.td_value.specs.code.Views.{values_of}
 use Rattle.td_value.specs.Values.{Val, Relation, Tuple}
 
 mutual
-  -- a depth counts the tuples in hand from the innermost, which is at 0; the list beside what is asked of an operand's tuples is
-  -- what is valued once for all of them
+  -- a depth counts the tuples in scope from the innermost, at 0; the list of plans beside an inner
+  -- plan has its parts that are evaluated once for all the tuples
   pub data PlanTree : Type 0 where
     constant : Val → PlanTree
     refused : Cause → PlanTree
@@ -51,7 +51,7 @@ mutual
     none : PlanTrees
     more : PlanTree → PlanTrees → PlanTrees
 
--- a tuple in hand, with the outcomes of what was valued once for it and its like
+-- a tuple in scope, with the outcomes of the parts that are evaluated once for all such tuples
 pub record Frame : Type 0 where
   pub tuple : Tuple
   pub fixed_parts : List (Outcome Val)
@@ -95,7 +95,7 @@ summary_of attributes items v p = where_as_many attributes items (summary_value 
 abbrev pub agreeing_value : List (List ℕ) → Outcome Val → Tuple → Outcome Val
 agreeing_value key o t = with_value o (λ u. on_relation u (λ r. of_relation (agreeing key t r)))
 
--- those that agree with the tuple that a value is
+-- the tuples of a relation that agree on the key with the tuple that a value is
 abbrev pub looked_up : List (List ℕ) → Outcome Val → Val → Outcome Val
 looked_up key o v = on_tuple v (agreeing_value key o)
 
@@ -142,7 +142,7 @@ abbrev mutual
   plan_values w fs none = []
   plan_values w fs (more first rest) = plan_value w fs first ∷ plan_values w fs rest
 
-  -- what plans give where a further tuple is in hand, with these outcomes of what was valued once
+  -- the functions of a further tuple that plans are, given these outcomes of the parts run once
   pub plan_columns : World → List Frame → List (Outcome Val) → PlanTrees → List (Tuple → Outcome Val)
   plan_columns w fs os none = []
   plan_columns w fs os (more first rest) = (λ t. plan_value w (frame_of os t ∷ fs) first) ∷ plan_columns w fs os rest

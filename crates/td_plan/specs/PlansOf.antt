@@ -18,22 +18,22 @@ use Rattle.td_tree.specs.Trees.{NamedTrees, Tree}
 use Rattle.td_types.specs.Types.{Attribute, Type'}
 use Rattle.td_value.specs.Values.{IsRelation, Relation, Tuple, heading_of}
 
--- what is known where no tuple is in hand
+-- what is known where no tuple is in scope
 abbrev pub outermost : Scope → Scope
 outermost scope = record { types = scope.types; relvars = scope.relvars; constraints = scope.constraints; entered = [] }
 
--- tuples that may be in hand in the scope, the innermost first: of its headings, their values of their types
+-- tuples for the scope's headings, the innermost first, whose values are of their types
 abbrev pub AreInHand : Scope → List Tuple → Type 0
 AreInHand scope s = AllByRecursion (IsTypedTuple scope.types) s × (map heading_of s ≡ scope.entered)
 
--- the frames of the tuples in hand; there may be more further out
+-- the frames of the tuples in scope; there may be more further out
 abbrev pub AreFramesOf : List Tuple → List Frame → Type 0
 AreFramesOf [] fs = ⊤
 AreFramesOf (t ∷ s) [] = ⊥
 AreFramesOf (t ∷ s) (f ∷ fs) = (f.tuple ≡ t) × AreFramesOf s fs
 
--- in every world that gives values in the scope and for all tuples that may be in hand there, the plan has the value of the
--- expression, or the same causes
+-- in every world that gives values in the scope, and for all tuples that may stand there, this plan
+-- has the value of the expression, or the same causes
 abbrev pub IsPlanOf : Scope → PlanTree → Tree → Type 0
 IsPlanOf scope p e =
     (w : World) (s : List Tuple) (fs : List Frame) → GivesValues w (outermost scope) → AreInHand scope s → AreFramesOf s fs
@@ -45,19 +45,19 @@ IsPlanOfTyped scope p e = IsWritten e → (t : Type') → type_of scope e ≡ Va
 
 -- ---- what is planned and run in one place
 
--- what is known in what an expression is evaluated in, with the tuples in hand there
+-- what is known in what an expression is evaluated in, with the tuples in scope there
 abbrev pub scope_in : {B : Type 0} → Env B → Scope
 scope_in env = with_tuples (database_scope env.catalog.now.database) (tuples_in_hand env)
 
--- an expression that has a type in the scope, in a world that gives values there, with tuples of it in hand, and is written as
--- tokens spell it
+-- an expression that has a type in the scope, in a world that gives values there, with tuples of
+-- the scope, and is written as tokens spell it
 pub record MeetsRules (w : World) (scope : Scope) (s : List Tuple) (e : Tree) : Type 0 where
   pub gives : GivesValues w (outermost scope)
   pub tuples : AreInHand scope s
   pub written : IsWritten e
   pub typed : (t : Type') × (type_of scope e ≡ Valued t)
 
--- one that has a type where a tuple of the relation is in hand beside these; the relation's tuples are of their types
+-- as `MeetsRules`, with one more tuple in scope, of the relation, whose tuples are of their types
 pub record MeetsRulesIn (w : World) (scope : Scope) (s : List Tuple) (r : Relation) (e : Tree) : Type 0 where
   pub gives : GivesValues w (outermost scope)
   pub tuples : AreInHand scope s

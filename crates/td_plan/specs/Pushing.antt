@@ -27,13 +27,13 @@ pub record IsAnsweredIn (scope : Scope) (d e : Tree) (h : Heading) : Type 0 wher
   pub unfailing : IsTrue (cannot_fail (entered_with h scope) e)
 
 -- the first expression is of the type, and has the value of the second, or its causes, in every world that gives values in the
--- scope and for all tuples that may be in hand there
+-- scope and for all tuples that may be in scope there
 pub record StandsFor (scope : Scope) (e d : Tree) (t : Type') : Type 0 where
   pub written : IsWritten e
   pub typed : type_of scope e ≡ Valued t
   pub same : (w : World) (s : List Tuple) → GivesValues w (outermost scope) → AreInHand scope s → value_of w s e ≡ value_of w s d
 
--- so it is where the second has a type in the scope, and is written as tokens spell it
+-- the first may stand for the second, where that has a type and is written as tokens spell it
 abbrev pub MayStandFor : Scope → Tree → Tree → Type 0
 MayStandFor scope e d = IsWritten d → (t : Type') → type_of scope d ≡ Valued t → StandsFor scope e d t
 

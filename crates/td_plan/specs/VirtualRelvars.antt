@@ -7,7 +7,7 @@ use Rattle.td_eval.specs.TreeValues.{value_of}
 use Rattle.td_eval.specs.ValueTypes.{DefinitionsAreWritten}
 
 -- a virtual relvar is defined by the virtual relvars before it alone; in a typed database it has the value of its expression where all are
--- known and no tuple is in hand
+-- known and no tuple is in scope
 abbrev pub VirtualRelvarsAreTheirExpressions : Type 0
 VirtualRelvarsAreTheirExpressions =
     (db : Database) (n : List ℕ) (v : VirtualRelvar) → IsTyped db → DefinitionsAreWritten db → virtual_named n db ≡ Some v

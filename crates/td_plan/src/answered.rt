@@ -16,7 +16,7 @@ use std::alloc::{AllocError, Global};
 use std::rc::RcStr;
 use td_body::body::Body;
 use td_eval::known::selected_in;
-use td_eval::operators::elements::{value_of_headed, listed_value, tuple_from};
+use td_eval::operators::elements::{listed_value, tuple_from, value_of_headed};
 use td_eval::operators::operand::{component_value, extracted_value, measure_value, prefix_value};
 use td_eval::operators::postfix::postfix_value;
 use td_tree::expression::Postfix;
@@ -41,7 +41,10 @@ pub(crate) fn value_of_prefix(
 
 /// The value of an attribute of a tuple.
 #[inline]
-pub(crate) fn value_of_extraction(name: &Name, operand: Result<Value, Fault>) -> Result<Value, Fault>
+pub(crate) fn value_of_extraction(
+    name: &Name,
+    operand: Result<Value, Fault>,
+) -> Result<Value, Fault>
     ensures { (o : Outcome Val) → Answers (λ v. v) operand o
         → Answers (λ v. v) result (with_value o (extracted_value name.now)) }
 {
@@ -75,7 +78,7 @@ pub(crate) fn component<B: Body>(
     component_value(around.env.catalog.types(), name, &operand?)
 }
 
-/// What is asked of a relation alone.
+/// The value of COUNT or IS_EMPTY of an operand.
 #[inline]
 pub(crate) fn value_of_measure(op: Measure, operand: Result<Value, Fault>) -> Result<Value, Fault>
     ensures { (o : Outcome Val) → Answers (λ v. v) operand o
@@ -86,7 +89,10 @@ pub(crate) fn value_of_measure(op: Measure, operand: Result<Value, Fault>) -> Re
 
 /// The relation of the elements, which are tuples of one heading, the first one's.
 #[inline]
-pub(crate) fn value_of_listed(alloc: Global, elements: Result<Vec<Value>, Fault>) -> Result<Value, Fault>
+pub(crate) fn value_of_listed(
+    alloc: Global,
+    elements: Result<Vec<Value>, Fault>,
+) -> Result<Value, Fault>
     ensures { (o : Outcome (List Val)) → Answers (λ vs. vs.items) elements o
         → Answers (λ v. v) result (with_value o listed_value) }
 {
@@ -108,7 +114,11 @@ pub(crate) fn headed_by(
 }
 
 /// The names with the values, each with the one that stands beside it.
-fn entries_of(alloc: Global, names: &[Name], values: &[Value]) -> Result<Vec<(Name, Value)>, AllocError>
+fn entries_of(
+    alloc: Global,
+    names: &[Name],
+    values: &[Value],
+) -> Result<Vec<(Name, Value)>, AllocError>
     ensures { IfOk result (λ entries. entries.items ≡ zip names.now values.now) }
 {
     let mut entries = Vec::with_capacity(alloc, values.len())?;
@@ -145,7 +155,8 @@ pub(crate) fn selected_by<B: Body>(
     values: Result<Vec<Value>, Fault>,
 ) -> Result<Value, Fault>
     ensures { (o : Outcome (List Val)) → Answers (λ vs. vs.items) values o
-        → Answers (λ v. v) result (with_value o (selector_outcome (world_around around.now) name.now)) }
+        → Answers (λ v. v) result (with_value o (selector_outcome (world_around around.now)
+        name.now)) }
 {
     selected_in(around.alloc, around.env, name, values?)
 }

@@ -38,8 +38,8 @@ fn plan_in_relvar<B: Body>(
     plan_where(alloc, env, &named, condition)
 }
 
-/// The value of the expression that a plan is of. Each virtual relvar that the condition may ask is
-/// valued once.
+/// The value of the expression of the plan. Each virtual relvar that the condition may need is
+/// evaluated once.
 fn value_by_plan<B: Body>(
     alloc: Global,
     env: &Env<'_, B>,
@@ -63,7 +63,7 @@ fn value_by_plan<B: Body>(
 
 /// The tuples of the relvar for which the condition is TRUE, or the least of the causes for which
 /// there are none. Where the condition fixes a key, they are looked up by it. Each virtual relvar
-/// that the condition may ask is valued once.
+/// that the condition may need is evaluated once.
 pub fn tuples_where<B: Body>(
     alloc: Global,
     env: &Env<'_, B>,

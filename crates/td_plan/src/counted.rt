@@ -1,4 +1,4 @@
-//! What is asked of the tuples of an operand for which a condition is TRUE. They are counted, and
+//! COUNT and IS_EMPTY of an operand's tuples for which a condition is TRUE. They are counted, and
 //! no relation is made of them.
 ghost use Rattle.std.specs.Prelude.{◌≡◌, count_by, map};
 ghost use Rattle.td_eval.specs.OperatorValues.{measure_value, restricted_value};
@@ -24,7 +24,7 @@ fn true_count(truths: &[bool]) -> usize
     count
 }
 
-/// What is asked of so many tuples.
+/// The value of COUNT or IS_EMPTY of a relation of so many tuples.
 fn number_measured(op: Measure, count: usize) -> Result<Value, Fault>
     ensures { Answers (λ v. v) result (number_measured op count) }
 {
@@ -34,7 +34,7 @@ fn number_measured(op: Measure, count: usize) -> Result<Value, Fault>
     }
 }
 
-/// What is asked of the tuples of a relation whose truth values are TRUE.
+/// COUNT or IS_EMPTY of the tuples whose truth values are TRUE, without a relation of them.
 pub(crate) fn truths_measured(op: Measure, truths: Result<Vec<bool>, Fault>) -> Result<Value, Fault>
     ensures { (p : Tuple → Outcome Val) (r : Relation)
         → Answers (λ m. m.items) truths (gathered (map (λ t. truth_value (p t)) r.body))

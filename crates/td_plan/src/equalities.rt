@@ -33,7 +33,7 @@ pub fn restriction_of_a_join()
     ensures right { RestrictionOfJoinOnRight }
 {}
 
-/// So is a restriction of a product.
+/// A restriction of a product by a condition on one operand's attributes restricts that operand.
 pub fn restriction_of_a_product()
     ensures left { RestrictionOfProductOnLeft }
     ensures right { RestrictionOfProductOnRight }
@@ -77,8 +77,8 @@ pub fn where_of_one_heading()
     ensures minus { WhereOfMinus }
 {}
 
-/// WHERE by one that asks of one operand's attributes alone restricts that operand of JOIN or TIMES,
-/// and any restricts the first operand of MATCHING or NOT MATCHING.
+/// WHERE by one that asks of one operand's attributes alone restricts that operand of JOIN or
+/// TIMES, and any restricts the first operand of MATCHING or NOT MATCHING.
 pub fn where_of_a_join()
     ensures left { WhereOfJoinOnLeft }
     ensures right { WhereOfJoinOnRight }
@@ -106,7 +106,7 @@ pub fn where_is_a_look_up()
     ensures after { WhereAfterLookUp }
 {}
 
-/// An expression asks of the tuples in hand only the names that stand as expressions in it: of a
+/// An expression asks of the tuples in scope only the names that stand as expressions in it: of a
 /// tuple, it asks the part on those of its attributes.
 pub fn values_depend_on_names()
     ensures values { ValuesDependOnNames }

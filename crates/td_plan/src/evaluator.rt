@@ -99,7 +99,7 @@ where
         Ok(answers)
     }
 
-    /// What tuples are gone through with. Where there is none, nothing is valued.
+    /// What a loop over tuples needs. Where there is no tuple, its parts are not evaluated.
     #[inline(never)]
     pub(crate) fn entered_loop(
         &self,

@@ -10,8 +10,8 @@ use td_types::text::put_comma;
 use td_types::ty::Ty;
 use td_value::value::Value;
 
-/// The step as a tree of lines: what stands under a step is indented by two blanks. What is valued
-/// once for the tuples of an operand stands under `ONCE`.
+/// The step as a tree of lines: what stands under a step is indented by two blanks. What is
+/// evaluated once for the tuples of an operand stands under `ONCE`.
 pub(crate) fn explain_step(alloc: Global, step: &Step) -> Result<String, AllocError> {
     let mut outline = Outline {
         alloc,

@@ -1,4 +1,4 @@
-//! The tuples in hand.
+//! The tuples in scope.
 ghost use Rattle.std.specs.Prelude.{◌≡◌, IfOk, List, option_map};
 ghost use Rattle.std.specs.List.{slice_get};
 ghost use Rattle.td_plan.specs.code.Hands.{AreHeld, IsAnswer, IsHand};
@@ -14,22 +14,22 @@ use td_tree::fault::Fault;
 use td_value::tuple::Tuple;
 use td_value::value::Value;
 
-/// A tuple in hand, with the answers of what was valued once for it and its like.
+/// A tuple in scope, with the answers of the parts evaluated once for all tuples of its relation.
 #[derive(Drop)]
 pub(crate) struct Held {
     pub(crate) tuple: Tuple,
     pub(crate) fixed: Rc<Vec<Result<Value, Fault>>>,
 }
 
-/// What the tuples of a relation are gone through with: the tuples in hand outside, of which the
-/// first is the innermost, and the answers of what is valued once.
+/// What a loop over the tuples of a relation needs: the tuples in scope outside of it, of which the
+/// first is the innermost, and the answers of what is evaluated once for all of its tuples.
 #[derive(Drop)]
 pub(crate) struct Entered {
     pub(crate) outer: Vec<Held>,
     pub(crate) fixed: Rc<Vec<Result<Value, Fault>>>,
 }
 
-/// The innermost tuple in hand, the answers of what was valued once for it and its like, and the
+/// The innermost tuple in scope, the answers of the parts evaluated once for its relation, and the
 /// outer tuples, of which the first is the innermost.
 #[derive(Drop)]
 pub(crate) struct Hand<'t, 'f, 'o> {
@@ -82,7 +82,7 @@ pub(crate) fn attribute(hand: &Hand<'_, '_, '_>, depth: usize, place: usize) -> 
     }
 }
 
-/// What stands at a place of what is fixed.
+/// The answer at a place of the parts that were evaluated once.
 fn answer_at(fixed: &[Result<Value, Fault>], place: usize) -> Result<Value, Fault>
     ensures { (o : Outcome Val) → IsAnswer (slice_get fixed.now place) o
         → Answers (λ v. v) result o }
@@ -112,7 +112,7 @@ pub(crate) fn fixed_part(
     }
 }
 
-/// The tuples in hand, where a further one will be: the innermost is the first.
+/// The tuples in scope, where a further one will be: the innermost is the first.
 pub(crate) fn all_held(alloc: Global, hand: &Hand<'_, '_, '_>) -> Result<Vec<Held>, AllocError>
     ensures { IfOk result (λ held. (fs : List Frame) → IsHand hand.now fs → AreHeld held.items fs) }
 {

@@ -1,4 +1,4 @@
-//! What is valued once for the tuples of an operand.
+//! Parts of a step that are evaluated once for all tuples of an operand.
 ghost use Rattle.std.specs.Prelude.{◌≡◌, false, true, IfOk, length};
 ghost use Rattle.td_plan.specs.Hoisting.{Hoists, HoistsAll, reaches};
 ghost use Rattle.td_plan.specs.code.StepViews.{step_view, steps_view};
@@ -12,10 +12,14 @@ use crate::hoist::reaching::reaches;
 use crate::step::Step;
 use std::alloc::{AllocError, Global};
 
-/// The step, where each part with work that does not name the tuple in hand is put into the pool
-/// and fixed. What is in the pool is valued without that tuple.
+/// The step, where each part with work that does not name the tuple in scope is put into the pool
+/// and fixed. What is in the pool is evaluated without that tuple.
 #[cycle(hoisted_step)]
-pub(crate) fn hoisted_step(alloc: Global, step: Step, pool: &mut Vec<Step>) -> Result<Step, AllocError>
+pub(crate) fn hoisted_step(
+    alloc: Global,
+    step: Step,
+    pool: &mut Vec<Step>,
+) -> Result<Step, AllocError>
     ensures { IfOk result (λ q. Hoists (steps_view pool.old.items) (steps_view pool.new.items)
         (step_view step) (step_view q)) }
 {
@@ -54,7 +58,7 @@ fn has_work(step: &Step) -> bool {
     }
 }
 
-/// Whether a step has work, and does not name the tuple in hand.
+/// Whether a step has work, and does not name the tuple in scope.
 fn is_worth_fixing(step: &Step) -> bool
     ensures { result ≡ true → reaches 0 (step_view step.now) ≡ false }
 {
@@ -68,7 +72,7 @@ fn count_of(pool: &Vec<Step>) -> usize
     pool.len()
 }
 
-/// What stands for a step that is put into the pool.
+/// Puts a step into the pool of those evaluated once, and gives the step that stands for it.
 fn pooled_step(step: Step, pool: &mut Vec<Step>) -> Result<Step, AllocError>
     requires { reaches 0 (step_view step) ≡ false }
     ensures { IfOk result (λ q. Hoists (steps_view pool.old.items) (steps_view pool.new.items)
@@ -81,7 +85,7 @@ fn pooled_step(step: Step, pool: &mut Vec<Step>) -> Result<Step, AllocError>
 }
 
 /// The step, where its parts are pulled. Of IF it is the condition alone: a branch that is not
-/// chosen is not valued.
+/// chosen is not evaluated.
 #[cycle(hoisted_step)]
 fn with_parts_pulled(alloc: Global, step: Step, pool: &mut Vec<Step>) -> Result<Step, AllocError>
     ensures { IfOk result (λ q. Hoists (steps_view pool.old.items) (steps_view pool.new.items)
@@ -121,7 +125,10 @@ fn with_parts_pulled(alloc: Global, step: Step, pool: &mut Vec<Step>) -> Result<
             made::summarize_by(operand, by, attributes, aggregates, Ok(values))
         }
         Step::If(condition, consequent, alternative) => {
-            made::choice(hoisted_box(alloc, condition, pool), Ok((consequent, alternative)))
+            made::choice(
+                hoisted_box(alloc, condition, pool),
+                Ok((consequent, alternative)),
+            )
         }
         leaf => Ok(leaf),
     }
@@ -129,7 +136,11 @@ fn with_parts_pulled(alloc: Global, step: Step, pool: &mut Vec<Step>) -> Result<
 
 /// An operand, pulled.
 #[cycle(hoisted_step)]
-fn hoisted_box(alloc: Global, step: Box<Step>, pool: &mut Vec<Step>) -> Result<Box<Step>, AllocError>
+fn hoisted_box(
+    alloc: Global,
+    step: Box<Step>,
+    pool: &mut Vec<Step>,
+) -> Result<Box<Step>, AllocError>
     ensures { IfOk result (λ q. Hoists (steps_view pool.old.items) (steps_view pool.new.items)
         (step_view step.value) (step_view q.value)) }
 {
@@ -154,7 +165,7 @@ fn operands(
     Ok((left, hoisted_box(alloc, right, pool)?))
 }
 
-/// An operand, and what is valued once for its tuples, pulled.
+/// An operand, and what is evaluated once for its tuples, pulled.
 #[cycle(hoisted_step)]
 fn over(
     alloc: Global,

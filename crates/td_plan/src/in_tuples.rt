@@ -1,5 +1,5 @@
 //! The steps of what is applied to the tuples of an operand. What does not name these tuples is
-//! valued once.
+//! evaluated once.
 ghost use Rattle.std.specs.Prelude.{◌≡◌, IfOk, List};
 ghost use Rattle.td_check.specs.Scopes.{Scope, entered_with};
 ghost use Rattle.td_check.specs.StaticTypes.{named_types, type_of};
@@ -19,14 +19,14 @@ use td_tree::name::Name;
 use td_tree::operator::Aggregate;
 use td_types::ty::Ty;
 
-/// New attributes, and what is asked for them of the tuples of an operand.
+/// New attributes, with the steps of their values in each tuple of an operand.
 #[derive(Drop)]
 pub(crate) struct NewColumns {
     /// Their names and types.
     pub(crate) attributes: Vec<(Name, Ty)>,
     /// What is valued once for all of these tuples.
     pub(crate) once: Vec<Step>,
-    /// What each is of in a tuple.
+    /// The step of each attribute's value in a tuple.
     pub(crate) values: Vec<Step>,
 }
 
@@ -50,16 +50,16 @@ pub(crate) fn new_columns(
     })
 }
 
-/// What is asked of the tuples of an operand.
+/// A step that is evaluated in each tuple of an operand, without the parts evaluated once.
 #[derive(Drop)]
 pub(crate) struct PulledStep {
     /// What is valued once for all of these tuples.
     pub(crate) once: Vec<Step>,
-    /// What is asked of each.
+    /// The step that is evaluated in each tuple.
     pub(crate) step: Box<Step>,
 }
 
-/// What is asked of the tuples of an operand by a step.
+/// The step, of which the parts that do not name the operand's tuples are evaluated once.
 #[inline(never)]
 pub(crate) fn pulled_step(
     alloc: Global,

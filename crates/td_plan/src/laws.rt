@@ -8,7 +8,7 @@ pub fn unfailing_conditions_are_total()
     ensures { UnfailingConditionsAreTotal }
 {}
 
-/// A plan that does not name a tuple in hand has the same value, or the same causes, without it.
+/// A plan that does not name a tuple in scope has the same value or causes without it.
 pub fn plans_depend_on_the_tuples_that_they_name()
     ensures { PlansDependOnTuplesTheyName }
 {}

@@ -130,7 +130,7 @@ fn agreeing_tuples(alloc: Global, rel: &Rel, key: &[Name], part: &Tuple) -> Resu
     as_value(alloc, restrict(alloc, rel, &truths))
 }
 
-/// The same of the relation that is answered.
+/// The tuples of the operand's relation that agree with the part on the names.
 fn agreeing_in_answer(
     alloc: Global,
     operand: Result<Value, Fault>,
@@ -164,7 +164,7 @@ fn agreeing_value<B: Body>(
     agreeing_in_answer(around.alloc, relvar_value(around, name), key, part)
 }
 
-/// The same for the tuple that is answered.
+/// The tuples of the relvar that agree on the key with the tuple that is the part's value.
 pub(crate) fn look_up<B: Body>(
     around: &Surroundings<'_, '_, '_, B>,
     name: &Name,

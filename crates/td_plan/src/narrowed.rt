@@ -160,7 +160,7 @@ fn key_part(
 
 // ---- the look-up
 
-/// The same names again.
+/// A copy of the names.
 fn copied_names(alloc: Global, names: &[Name]) -> Result<Vec<Name>, AllocError>
     ensures { IfOk result (λ copy. copy.items ≡ names.now) }
 {

@@ -27,7 +27,7 @@ pub struct Plan {
     pub(crate) value: Step,
 }
 
-/// Plans of what parts are in a tuple, and of what is valued once for all tuples.
+/// Plans of what parts are in a tuple, and of what is evaluated once for all tuples.
 #[derive(Drop)]
 pub(crate) struct PartPlans {
     pub(crate) once: Vec<Step>,
@@ -71,8 +71,8 @@ fn plan_by(value: Result<Step, AllocError>) -> Result<Plan, AllocError>
     Ok(Plan { value: value? })
 }
 
-/// The plan of an expression: wherever names are known as there and tuples of the headings of those
-/// in hand there are in hand, it has the expression's value, or is refused by the same causes.
+/// The plan of an expression. Where the same names are known, and tuples of the same headings in
+/// scope, it has the expression's value, or is refused by the same causes.
 pub fn plan_of<B: Body>(alloc: Global, env: &Env<'_, B>, expr: &Expr) -> Result<Plan, AllocError>
     ensures { IfOk result
         (λ p. IsPlanOfTyped (scope_in env.now) (plan_view p) (tree_view expr.now)) }
@@ -129,8 +129,8 @@ fn part_plans(alloc: Global, steps: Result<Vec<Step>, AllocError>) -> Result<Par
     Ok(PartPlans { once, values })
 }
 
-/// The plans of parts where a further tuple, of the heading, is in hand. What does not name that
-/// tuple is valued once.
+/// The plans of parts where a further tuple, of the heading, is in scope. What does not name that
+/// tuple is evaluated once.
 pub(crate) fn plan_parts<B: Body>(
     alloc: Global,
     env: &Env<'_, B>,

@@ -30,7 +30,7 @@ pub(crate) trait Known {
     /// All of it.
     ghost database: { Self → Database };
 
-    /// What is known to expressions where no tuple is in hand.
+    /// What is known to expressions where no tuple is in scope.
     fn outermost(&self) -> Scope<'_>
         ensures { result ≡ database_scope (database self.now) };
 
@@ -59,7 +59,7 @@ impl<B: Body> Known for Catalog<B> {
     }
 }
 
-/// What is known where an expression stands, and the headings of the tuples in hand there.
+/// What is known where an expression stands, and the headings of the tuples in scope there.
 #[derive(Drop)]
 pub(crate) struct Planner<'a, C> {
     pub(crate) alloc: Global,
@@ -110,7 +110,7 @@ fn innermost_place(headings: &[Heading], name: &Name) -> Option<(usize, usize)>
 }
 
 impl<'a, C: Known> Planner<'a, C> {
-    /// Where no tuple is in hand. It takes no memory.
+    /// Where no tuple is in scope. It takes no memory.
     pub(crate) fn outside(alloc: Global, catalog: &'a C) -> Planner<'a, C>
         ensures planner { IsPlanner C.database result }
         ensures scope { result.scope ≡ database_scope (C.database catalog.now) }

@@ -63,7 +63,7 @@ where
         Ok(Box::new(self.planner.alloc, step)?)
     }
 
-    /// The step of a part where a further tuple, of the heading, is in hand.
+    /// The step of a part where a further tuple, of the heading, is in scope.
     #[inline(never)]
     pub(crate) fn step_inside(&self, heading: &Heading, expr: &Expr) -> Result<Step, AllocError>
         requires { PlansBelow C.database self.now (suc (expr_weight expr.now)) F.pre F.post }
@@ -128,7 +128,7 @@ where
         Ok(steps)
     }
 
-    /// The new attributes that parts give to the tuple in hand; none where these have no types.
+    /// The new attributes that parts give to the tuple in scope; none where these have no types.
     fn part_columns(&self, parts: &[NamedExpr]) -> Result<Option<NewColumns>, AllocError>
         requires { PlansBelow C.database self.now (suc (named_weight (named_view parts.now)))
             F.pre F.post }
@@ -258,7 +258,12 @@ where
             return self.step_of(operand);
         };
         let aggregates = aggregates_of(self.planner.alloc, items);
-        summary_step(self.boxed_step(operand), self.boxed_step(per), aggregates, columns)
+        summary_step(
+            self.boxed_step(operand),
+            self.boxed_step(per),
+            aggregates,
+            columns,
+        )
     }
 
     /// The step of SUMMARIZE of an operand by some of its attributes.

@@ -219,7 +219,7 @@ fn asked_operand<C: Known>(
     Ok(None)
 }
 
-/// The same where the second operand's heading is to be found.
+/// As `asked_operand`, where the second operand's heading is still to be found.
 fn asked_operand_before<C: Known>(
     planner: &Planner<'_, C>,
     first: &Heading,

@@ -212,7 +212,7 @@ pub(crate) fn quick_number(hand: &Hand<'_, '_, '_>, step: &Step) -> Option<i64>
 
 // ---- texts
 
-/// The text that is a step's value, lent by the step or a tuple in hand.
+/// The text that is a step's value, lent by the step or a tuple in scope.
 #[inline]
 pub(crate) fn quick_text<'h>(hand: &'h Hand<'_, '_, '_>, step: &'h Step) -> Option<&'h str>
     ensures { (w : World) (fs : List Frame) → IsHand hand.now fs

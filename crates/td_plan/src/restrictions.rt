@@ -1,4 +1,4 @@
-//! The steps of WHERE. A condition that cannot fail restricts the operands of what it is asked of.
+//! The steps of WHERE. A condition that cannot fail restricts the operands of WHERE's operand.
 ghost use Rattle.std.specs.Prelude.{◌+◌, ◌≡◌, suc};
 ghost use Rattle.td_check.specs.Scopes.{Scope, entered_with};
 ghost use Rattle.td_check.specs.StaticTypes.{type_of};
@@ -49,7 +49,9 @@ where
                 let left: &Expr = left;
                 let right: &Expr = right;
                 match restricted_operands(self.planner, left, *op, right, condition)? {
-                    Some(restricted) => self.pushed_restriction(restricted, left, *op, right, condition),
+                    Some(restricted) => self.pushed_restriction(
+                        restricted, left, *op, right, condition,
+                    ),
                     None => self.where_here(expr, condition, origin),
                 }
             }
@@ -75,10 +77,18 @@ where
     {
         match restricted {
             Restricted::First => {
-                binary_step(self.where_pushed(left, condition), op, self.boxed_step(right))
+                binary_step(
+                    self.where_pushed(left, condition),
+                    op,
+                    self.boxed_step(right),
+                )
             }
             Restricted::Second => {
-                binary_step(self.boxed_step(left), op, self.where_pushed(right, condition))
+                binary_step(
+                    self.boxed_step(left),
+                    op,
+                    self.where_pushed(right, condition),
+                )
             }
             Restricted::Both => binary_step(
                 self.where_pushed(left, condition),

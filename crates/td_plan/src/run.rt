@@ -78,7 +78,7 @@ pub(crate) fn run<B: Body>(
 
 // ---- what is run from outside
 
-/// What tuples are gone through with. Where there is none, nothing is valued.
+/// What a loop over tuples needs. Where there is no tuple, its parts are not evaluated.
 pub(crate) fn entered_loop<B: Body>(
     around: &Surroundings<'_, '_, '_, B>,
     hand: &Hand<'_, '_, '_>,

@@ -1,4 +1,4 @@
-//! What is asked of the tuples of an operand, which is valued first.
+//! The values of steps that go over the tuples of an operand. The operand is evaluated first.
 ghost use Rattle.std.specs.Prelude.{◌≡◌, List, max, suc};
 ghost use Rattle.std.specs.List.{zip};
 ghost use Rattle.td_plan.specs.code.Hands.{IsHand};
@@ -61,7 +61,7 @@ where
         restriction_value(self.alloc, rel, self.truths(&inside, rows, condition))
     }
 
-    /// What is asked of the tuples of an operand for which a condition is TRUE.
+    /// COUNT or IS_EMPTY of the tuples of an operand for which a condition is TRUE.
     #[inline(never)]
     pub(crate) fn restriction_measured(
         &self,
@@ -214,7 +214,7 @@ where
     }
 }
 
-/// The new attributes of SUMMARIZE, their aggregates, what is valued once, and what these are of.
+/// The new attributes of SUMMARIZE: their aggregates, the parts evaluated once, and their values.
 #[derive(Drop)]
 pub(crate) struct Summands<'s> {
     attributes: &'s [(Name, Ty)],
@@ -224,7 +224,7 @@ pub(crate) struct Summands<'s> {
 }
 
 impl<'s> Summands<'s> {
-    /// Those of these lists.
+    /// The items of SUMMARIZE, of their parts.
     #[inline]
     pub(crate) fn new(
         attributes: &'s [(Name, Ty)],

@@ -1,4 +1,4 @@
-//! The values of operators, whose operands are valued first.
+//! The values of operators, whose operands are evaluated first.
 ghost use Rattle.std.specs.Prelude.{List, max, suc};
 ghost use Rattle.td_plan.specs.code.Hands.{IsHand};
 ghost use Rattle.td_plan.specs.Plans.{Frame, binary, choice, compare, extract, headed_relation};
@@ -9,7 +9,10 @@ ghost use Rattle.td_plan.specs.code.ValuesBelow.{ValuesBelow};
 ghost use Rattle.td_tree.specs.Outcomes.{Answers};
 ghost use Rattle.td_tree.specs.code.TreeViews.{postfix_view};
 
-use crate::answered::{value_of_extraction, headed_by, value_of_listed, value_of_measure, value_of_postfix, value_of_prefix, tuple_of};
+use crate::answered::{
+    headed_by, tuple_of, value_of_extraction, value_of_listed, value_of_measure, value_of_postfix,
+    value_of_prefix,
+};
 use crate::evaluator::{Evaluator, InWorld};
 use crate::hand::Hand;
 use crate::step::Step;
@@ -74,7 +77,7 @@ where
         value_of_postfix(self.alloc, op, self.run(hand, operand))
     }
 
-    /// The value of what is asked of a relation alone. The tuples of a restriction are only
+    /// The value of COUNT or IS_EMPTY of an operand. The tuples of a restriction are only
     /// counted.
     #[inline(never)]
     pub(crate) fn measure(

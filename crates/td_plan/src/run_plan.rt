@@ -46,7 +46,7 @@ pub(crate) fn held_tuples(
     Ok(held)
 }
 
-/// The value of a plan where these tuples are in hand: the first, and outside of it the others, of
+/// The value of a plan where these tuples are in scope: the first, and outside of it the others, of
 /// which the last is the innermost.
 fn run_with<B: Body>(
     around: &Surroundings<'_, '_, '_, B>,
@@ -68,7 +68,7 @@ fn run_with<B: Body>(
     run(around, &hand, &plan.value)
 }
 
-/// The value of the expression that the plan is of, with the virtual relvars that have been valued.
+/// The value of the expression of the plan, with the virtual relvars that have been evaluated.
 pub(crate) fn run_plan_in<B: Body>(
     around: &Surroundings<'_, '_, '_, B>,
     plan: &Plan,
@@ -92,7 +92,8 @@ pub(crate) fn run_plan_in<B: Body>(
 /// The value of the expression that the plan is of.
 pub fn run_plan<B: Body>(alloc: Global, env: &Env<'_, B>, plan: &Plan) -> Result<Value, Fault>
     ensures { (scope : Scope) (e : Tree) → IsPlanOf scope (plan_view plan.now) e
-        → GivesValues (world_in env.now) (outermost scope) → AreInHand scope (tuples_in_hand env.now)
+        → GivesValues (world_in env.now) (outermost scope) → AreInHand scope (tuples_in_hand
+        env.now)
         → Answers (λ v. v) result (value_of (world_in env.now) (tuples_in_hand env.now) e) }
 {
     let around = Surroundings {
@@ -104,7 +105,7 @@ pub fn run_plan<B: Body>(alloc: Global, env: &Env<'_, B>, plan: &Plan) -> Result
 }
 
 /// The truth values of the condition that the plan is of, one for each tuple of the relation, in
-/// their order, with the virtual relvars that have been valued.
+/// their order, with the virtual relvars that have been evaluated.
 pub(crate) fn run_truths_in<B: Body>(
     around: &Surroundings<'_, '_, '_, B>,
     rel: &Rel,
@@ -136,7 +137,8 @@ pub fn run_truths<B: Body>(
 ) -> Result<Vec<bool>, Fault>
     ensures { (scope : Scope) (e : Tree)
         → IsPlanOf (entered_with rel.now.heading scope) (plan_view plan.now) e
-        → GivesValues (world_in env.now) (outermost scope) → AreInHand scope (tuples_in_hand env.now)
+        → GivesValues (world_in env.now) (outermost scope) → AreInHand scope (tuples_in_hand
+        env.now)
         → AllByRecursion (IsTypedTuple scope.types) rel.now.body
         → Answers (λ m. m.items) result (gathered (map (λ t. truth_value
         (value_of (world_in env.now) (t ∷ tuples_in_hand env.now) e)) rel.now.body)) }

@@ -39,7 +39,7 @@ use td_value::relation::Rel;
 use td_value::tuple::Tuple;
 
 /// The attributes with what plans of parts give in the tuples of a relation, where these tuples are
-/// in hand: the first, and outside of it the others, of which the last is the innermost.
+/// in scope: the first, and outside of it the others, of which the last is the innermost.
 fn columns_with<B: Body>(
     around: &Surroundings<'_, '_, '_, B>,
     first: &Tuple,
@@ -96,7 +96,7 @@ fn planned_columns<B: Body>(
 
 /// The relation with the attributes of each tuple set, all at once, to the values of the parts
 /// there, which are of the attributes' types. The parts are planned once for all tuples, and each
-/// virtual relvar that they may ask is valued once.
+/// virtual relvar that they may need is evaluated once.
 pub fn set_in_tuples<B: Body>(
     alloc: Global,
     env: &Env<'_, B>,

@@ -18,16 +18,16 @@ pub enum Origin {
     Pushed,
 }
 
-/// A step of a plan. A depth says how many tuples out: the innermost tuple in hand has depth 0. The list
-/// beside what is asked of an operand's tuples is what is valued once for all of them.
+/// A step of a plan. A depth counts tuples outwards: the innermost tuple in scope has depth 0. The
+/// list of steps beside an inner step has its parts that are evaluated once for all the tuples.
 #[derive(Drop)]
 pub enum Step {
     Constant(Value),
     /// What has no value, for that cause.
     Refused(Cause),
-    /// The attribute at a place of a tuple in hand.
+    /// The attribute at a place of a tuple in scope.
     Attribute { depth: usize, place: usize },
-    /// What was valued once for a tuple in hand and its like.
+    /// A part that was evaluated once for all tuples of a relation.
     Fixed { depth: usize, place: usize },
     Relvar(Name),
     /// The tuples of a base relvar that agree on a key of these names with a tuple.
@@ -45,10 +45,10 @@ pub enum Step {
     Relation(Vec<Step>),
     HeadedRelation(Heading, Vec<Step>),
     Tuple(Vec<Name>, Vec<Step>),
-    /// The new attributes, what is valued once, and their values.
+    /// The new attributes, the parts evaluated once, and the steps of their values.
     Extend(Box<Step>, Vec<(Name, Ty)>, Vec<Step>, Vec<Step>),
     Aggregate(Aggregate, Box<Step>, Vec<Step>, Box<Step>),
-    /// The new attributes, their aggregates, what is valued once, and what these are of.
+    /// The new attributes, their aggregates, the parts evaluated once, and the steps of values.
     SummarizePer(Box<Step>, Box<Step>, Vec<(Name, Ty)>, Vec<Agg>, Vec<Step>, Vec<Step>),
     SummarizeBy(Box<Step>, Attributes, Vec<(Name, Ty)>, Vec<Agg>, Vec<Step>, Vec<Step>),
     If(Box<Step>, Box<Step>, Box<Step>),

@@ -1,4 +1,4 @@
-//! The steps of SUMMARIZE. What does not name the tuples of a group is valued once.
+//! The steps of SUMMARIZE. What does not name the tuples of a group is evaluated once.
 ghost use Rattle.std.specs.Prelude.{◌≡◌, IfNone, IfOk, IfSome, List, map, true};
 ghost use Rattle.td_check.specs.Scopes.{Scope, entered_with};
 ghost use Rattle.td_check.specs.StaticTypes.{type_of};

@@ -13,14 +13,14 @@ use td_tree::fault::Fault;
 use td_tree::name::Name;
 use td_value::value::Value;
 
-/// A virtual relvar that has been valued.
+/// A virtual relvar that has been evaluated.
 #[derive(Drop)]
 pub(crate) struct ValuedRelvar {
     pub(crate) name: Name,
     pub(crate) answer: Result<Value, Fault>,
 }
 
-/// The database, and the virtual relvars that have been valued in it.
+/// The database, and the virtual relvars that have been evaluated in it.
 #[derive(Drop)]
 pub(crate) struct Surroundings<'e, 'a, 'v, B: Body> {
     pub(crate) alloc: Global,

@@ -23,7 +23,7 @@ use td_value::relation::Rel;
 use td_value::value::Value;
 
 /// The value of the expression, or the least of the causes for which it has none. Each virtual
-/// relvar that it may ask is valued once. A plan is made where one is, or where something is
+/// relvar that it may need is evaluated once. A plan is made where one is, or where something is
 /// applied to tuples.
 pub fn value_in<B: Body>(alloc: Global, env: &Env<'_, B>, expr: &Expr) -> Result<Value, Fault>
     requires { DefinitionsAreWritten env.now.catalog.now.database }
@@ -45,7 +45,7 @@ pub fn value_in<B: Body>(alloc: Global, env: &Env<'_, B>, expr: &Expr) -> Result
 }
 
 /// The truth values of a condition, one for each tuple of the relation, in their order: it is
-/// planned once for all of them, and each virtual relvar that it may ask is valued once.
+/// planned once for all of them, and each virtual relvar that it may need is evaluated once.
 pub fn truths_in<B: Body>(
     alloc: Global,
     env: &Env<'_, B>,

@@ -1,4 +1,4 @@
-//! The virtual relvars that expressions may ask, each of them valued once.
+//! The virtual relvars that expressions may need, each of them evaluated once.
 ghost use Rattle.std.specs.Prelude.{◌≡◌, IfOk, IfSome};
 ghost use Rattle.td_eval.specs.DatabaseWorlds.{world_of};
 ghost use Rattle.td_eval.specs.code.Sights.{world_in};
@@ -139,8 +139,8 @@ fn asked_at<'a, B: Body>(env: &Env<'a, B>, marks: &[bool], place: usize) -> Opti
     if *other == *name { None } else { Some(name) }
 }
 
-/// The virtual relvars that are marked, and those that these may ask, valued: each where those
-/// before it are.
+/// The values of the marked virtual relvars and of those that they may need: each is evaluated
+/// where those before it have values.
 fn valued_relvars<B: Body>(
     alloc: Global,
     env: &Env<'_, B>,
@@ -162,7 +162,7 @@ fn valued_relvars<B: Body>(
     Ok(valued)
 }
 
-/// The virtual relvars that the expression may ask, valued.
+/// The values of the virtual relvars that the expression may need.
 pub(crate) fn virtual_relvars<B: Body>(
     alloc: Global,
     env: &Env<'_, B>,
@@ -176,7 +176,7 @@ pub(crate) fn virtual_relvars<B: Body>(
     valued_relvars(alloc, env, marks)
 }
 
-/// The virtual relvars that the expressions of the parts may ask, valued.
+/// The values of the virtual relvars that the expressions of the parts may need.
 pub(crate) fn virtual_relvars_in_parts<B: Body>(
     alloc: Global,
     env: &Env<'_, B>,

@@ -52,7 +52,7 @@ may_be_called finished (Take ∷ calls) = may_be_called finished calls
 abbrev pub IsAllowed : List Call → Type 0
 IsAllowed calls = IsTrue (may_be_called false calls)
 
--- what they make of a new cutter
+-- the course that some calls lead to from a new cutter
 abbrev pub course : List Call → Course
 course calls = all_called at_first calls
 
@@ -60,6 +60,6 @@ course calls = all_called at_first calls
 abbrev pub statements_held : Held → List (List PlacedToken)
 statements_held h = statements h.offset h.bytes
 
--- the same, with more bytes behind what is held
+-- the statements of what is held, with more bytes behind it
 abbrev pub statements_before : Held → List ℕ → List (List PlacedToken)
 statements_before h more = statements h.offset (h.bytes ++ more)

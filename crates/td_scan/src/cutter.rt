@@ -4,10 +4,12 @@ ghost use Rattle.std.specs.Prelude.{OnOk, OnErr, IsFalse, IsTrue, None, Some, dr
 ghost use Rattle.std.specs.Prelude.{option_map, take, true};
 ghost use Rattle.std.specs.List.{All};
 ghost use Rattle.td_scan.specs.code.Fronts.{end_of_last};
-ghost use Rattle.td_scan.specs.code.Marks.{IsMark, count_to_end, end_of_marks, ends_mark, end_of_statement};
+ghost use Rattle.td_scan.specs.code.Marks.{IsMark, count_to_end, end_of_marks, ends_mark};
+ghost use Rattle.td_scan.specs.code.Marks.{end_of_statement};
 ghost use Rattle.td_scan.specs.code.Marks.{token_at};
 ghost use Rattle.td_tree.specs.Division.{up_to};
-ghost use Rattle.td_tree.specs.Statements.{Held, after, behind, statement_or_rest, ends, first_statement};
+ghost use Rattle.td_tree.specs.Statements.{Held, after, behind, statement_or_rest, ends};
+ghost use Rattle.td_tree.specs.Statements.{first_statement};
 ghost use Rattle.td_tree.specs.Statements.{is_end, tokens};
 
 use crate::queue::Queue;

@@ -3,8 +3,8 @@ ghost use Rattle.std.specs.Prelude.{◌≡◌, ◌++◌, ℕ, List, IsFalse, IsN
 ghost use Rattle.td_scan.specs.Calls.{Call, IsAllowed, course, statements_before, statements_held};
 ghost use Rattle.td_tree.specs.Statements.{first_statement, statements};
 
-/// Whatever calls were made, the statements taken off are the first of all the bytes that were fed, and the others
-/// are those of what is still held.
+/// Whatever calls were made, the statements taken off are the first of all the bytes that were fed,
+/// and the others are those of what is still held.
 #[tactic(auto, using(crate::proofs::CourseLaws::taken_first))]
 pub fn taken_off_are_the_first()
     ensures { (calls : List Call) → IsAllowed calls

@@ -85,8 +85,8 @@ impl<T: Copy> Queue<T> {
         self.taken += count;
     }
 
-    /// Moves the items to the front once as many or more were taken off, so that each is moved for one
-    /// that was.
+    /// Moves the items to the front once as many or more were taken off, so that each is moved for
+    /// one that was.
     pub(crate) fn close_up(&mut self)
         ensures { self.new ≡ self.old }
     {

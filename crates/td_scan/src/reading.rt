@@ -99,8 +99,8 @@ pub(crate) struct Place {
     pub(crate) begun: Option<First>,
 }
 
-/// Reads on from a place, puts the marks of the tokens that end behind the others, and answers where
-/// the reading then stands.
+/// Reads on from a place, puts the marks of the tokens that end behind the others, and answers
+/// where the reading then stands.
 pub(crate) fn read_on(
     marks: &mut Queue<Mark>,
     bytes: &[u8],

@@ -9,8 +9,8 @@ use crate::piece::first_piece;
 use std::marker::Model;
 use td_tree::token::Kind;
 
-/// A token: what it is, the bytes that it is, and where they begin and end in the script. What it is, its bytes say, and
-/// where it ends, their number.
+/// A token: what it is, the bytes that it is, and where they begin and end in the script. What it
+/// is, its bytes say, and where it ends, their number.
 #[derive(Drop)]
 pub struct Token<'a> {
     text: &'a [u8],

@@ -31,7 +31,7 @@ abbrev pub TextsApartAreThePieces : Type 0
 TextsApartAreThePieces =
     (texts : List (List ℕ)) → AreApart texts → pieces (joined_texts texts) ≡ map symbols texts
 
--- and the grammar sees of that what it sees of each
+-- the grammar sees the texts joined by spaces as it sees each text
 abbrev pub TextsApartAreSeenEach : Type 0
 TextsApartAreSeenEach =
     (at : ℕ) (texts : List (List ℕ)) → AreApart texts

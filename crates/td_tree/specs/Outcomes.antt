@@ -32,12 +32,12 @@ abbrev pub named_cause : {A : Type 0} → Outcome A → Option Cause
 named_cause (Valued x) = None
 named_cause (Refused cs) = Some (least cs)
 
--- what follows where there is a value
+-- the function's outcome for the value; the causes, where there is no value
 abbrev pub with_value : {A B : Type 0} → Outcome A → (A → Outcome B) → Outcome B
 with_value (Valued x) f = f x
 with_value (Refused cs) f = Refused cs
 
--- what follows where there are two values; the causes of both count
+-- the function's outcome for two values; where one is missing, the causes of both
 abbrev pub with_both : {A B C : Type 0} → Outcome A → Outcome B → (A → B → Outcome C) → Outcome C
 with_both (Valued x) (Valued y) f = f x y
 with_both (Valued x) (Refused ds) f = Refused ds
@@ -49,7 +49,7 @@ abbrev pub gathered : {A : Type 0} → List (Outcome A) → Outcome (List A)
 gathered [] = Valued []
 gathered (o ∷ os) = with_both o (gathered os) (λ x xs. Valued (x ∷ xs))
 
--- what follows where there is a value of each
+-- the function's outcome for the values of a list; where one is missing, the causes of all
 abbrev pub with_all : {A B : Type 0} → List (Outcome A) → (List A → Outcome B) → Outcome B
 with_all os f = with_value (gathered os) f
 

@@ -30,7 +30,7 @@ abbrev mutual
   type_lexemes (relation_type heading) =
       keyword k.Relation ∷ with_braces (commas (attribute_lexemes heading))
 
-  -- of each name with its type
+  -- the lexemes of each attribute: its name and its type
   pub attribute_lexemes : AttributeTrees → List (List Lexeme)
   attribute_lexemes no_attributes = []
   attribute_lexemes (attribute n ty rest) =
@@ -124,23 +124,23 @@ abbrev mutual
       ∷ (lexemes_of a
       ++ (keyword k.Else ∷ (lexemes_of b ++ (keyword k.End ∷ (keyword k.If ∷ [])))))))
 
-  -- of each expression
+  -- the lexemes of each expression
   pub all_lexemes : Trees → List (List Lexeme)
   all_lexemes none = []
   all_lexemes (more first rest) = lexemes_of first ∷ all_lexemes rest
 
-  -- of each name and expression, as in TUPLE
+  -- the lexemes of each attribute of TUPLE: a name and an expression
   pub part_lexemes : NamedTrees → List (List Lexeme)
   part_lexemes none_named = []
   part_lexemes (more_named n value rest) = (lexeme.name n ∷ lexemes_of value) ∷ part_lexemes rest
 
-  -- of each expression and name, as in EXTEND
+  -- the lexemes of each attribute of EXTEND: an expression and a name
   pub addition_lexemes : NamedTrees → List (List Lexeme)
   addition_lexemes none_named = []
   addition_lexemes (more_named n value rest) =
       (lexemes_of value ++ as_lexemes n) ∷ addition_lexemes rest
 
-  -- of each aggregate and name
+  -- the lexemes of each attribute of SUMMARIZE: an aggregate and a name
   pub summary_lexemes : Summaries → List (List Lexeme)
   summary_lexemes no_summaries = []
   summary_lexemes (counted n rest) =

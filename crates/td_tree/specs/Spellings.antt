@@ -55,7 +55,7 @@ pub record IsOpenText (cs : List (Option ℕ)) : Type 0 where
   pub said : List (Option ℕ)
   pub is : cs ≡ quote ++ quotes_doubled said
 
--- the same and a quote
+-- a text in quotes, in which each quote is doubled
 pub record IsText (cs : List (Option ℕ)) : Type 0 where
   pub said : List (Option ℕ)
   pub is : cs ≡ quote ++ (quotes_doubled said ++ quote)
@@ -84,7 +84,7 @@ pub record IsOpenComment (cs : List (Option ℕ)) : Type 0 where
   pub no_end : HasNoEnd inside
   pub no_star : EndsInStar inside → ⊥
 
--- the same where a `/` would end it
+-- `/*`, and then anything in which there is no `*/`, whose last character is a `*`
 pub record IsStarredComment (cs : List (Option ℕ)) : Type 0 where
   pub inside : List (Option ℕ)
   pub is : cs ≡ comment_start ++ inside

@@ -80,7 +80,7 @@ pub record Held : Type 0 where
   pub offset : ℕ
   pub finished : Bool
 
--- those up to a `;`; where all was fed also all of them, if there are any
+-- the first statement: up to a `;`; where all was fed, also all the tokens, if there are any
 abbrev pub statement_or_rest : Bool → List PlacedToken → Option (List PlacedToken) → Option (List PlacedToken)
 statement_or_rest finished all (Some first) = Some first
 statement_or_rest finished [] None = None

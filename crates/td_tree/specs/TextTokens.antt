@@ -10,7 +10,7 @@ with_quotes_doubled (b ∷ bs) = if b == 39 then 39 ∷ 39 ∷ with_quotes_doubl
 abbrev pub text_in_quotes : List ℕ → List ℕ
 text_in_quotes said = 39 ∷ (with_quotes_doubled said ++ 39 ∷ [])
 
--- of each two quotes one
+-- the bytes of a text, where each two quotes become one
 abbrev pub with_quotes_undoubled : List ℕ → List ℕ
 with_quotes_undoubled [] = []
 with_quotes_undoubled (b ∷ []) = b ∷ []

@@ -15,7 +15,7 @@ use crate::type_tree::{AttributeTree, TypeTree};
 use std::alloc::AllocError;
 
 impl TypeTree {
-    /// The same type again.
+    /// A copy of the type.
     #[cycle(copy_type)]
     pub fn try_clone(&self) -> Result<TypeTree, AllocError>
         ensures { IfOk result (λ copy. type_tree_view copy ≡ type_tree_view self.now) }
@@ -46,7 +46,7 @@ fn copy_heading(heading: &Vec<AttributeTree>) -> Result<Vec<AttributeTree>, Allo
 }
 
 impl Literal {
-    /// The same literal again.
+    /// A copy of the literal.
     pub fn try_clone(&self) -> Result<Literal, AllocError>
         ensures { IfOk result (λ copy. literal_view copy ≡ literal_view self.now) }
     {
@@ -74,7 +74,7 @@ fn copy_names(names: &Vec<Name>) -> Result<Vec<Name>, AllocError>
 }
 
 impl Attributes {
-    /// The same attributes again.
+    /// A copy of the attributes.
     pub fn try_clone(&self) -> Result<Attributes, AllocError>
         ensures { IfOk result (λ copy. attributes_view copy ≡ attributes_view self.now) }
     {
@@ -99,7 +99,7 @@ fn copy_renamings(renamings: &Vec<Renaming>) -> Result<Vec<Renaming>, AllocError
 }
 
 impl Postfix {
-    /// The same operator again.
+    /// A copy of the operator.
     pub fn try_clone(&self) -> Result<Postfix, AllocError>
         ensures { IfOk result (λ copy. postfix_view copy ≡ postfix_view self.now) }
     {
@@ -121,7 +121,7 @@ impl Postfix {
 }
 
 impl Expr {
-    /// The same expression again.
+    /// A copy of the expression.
     #[cycle(copy)]
     pub fn try_clone(&self) -> Result<Expr, AllocError>
         ensures { IfOk result (λ copy. tree_view copy ≡ tree_view self.now) }
@@ -131,31 +131,64 @@ impl Expr {
             Expr::Name(name) => remade::name(name.try_clone()),
             Expr::Parentheses(inner) => remade::parentheses(box_with_copy(inner)),
             Expr::Prefix(op, operand) => remade::prefix(*op, box_with_copy(operand)),
-            Expr::Extract(name, operand) => remade::extract(name.try_clone(), box_with_copy(operand)),
+            Expr::Extract(name, operand) => remade::extract(
+                name.try_clone(),
+                box_with_copy(operand),
+            ),
             Expr::Restriction(operand, condition) => {
                 remade::restriction(box_with_copy(operand), box_with_copy(condition))
             }
-            Expr::Binary(left, op, right) => remade::binary(box_with_copy(left), *op, box_with_copy(right)),
-            Expr::Compare(left, op, right) => remade::compare(box_with_copy(left), *op, box_with_copy(right)),
+            Expr::Binary(left, op, right) => remade::binary(
+                box_with_copy(left),
+                *op,
+                box_with_copy(right),
+            ),
+            Expr::Compare(left, op, right) => remade::compare(
+                box_with_copy(left),
+                *op,
+                box_with_copy(right),
+            ),
             Expr::Postfix(operand, op) => remade::postfix(box_with_copy(operand), op.try_clone()),
             Expr::Select(ty, arguments) => remade::select(ty.try_clone(), copy_list(arguments)),
-            Expr::Component(rest, operand) => remade::component(rest.clone(), box_with_copy(operand)),
+            Expr::Component(rest, operand) => remade::component(
+                rest.clone(),
+                box_with_copy(operand),
+            ),
             Expr::Measure(op, operand) => remade::measure(*op, box_with_copy(operand)),
-            Expr::Aggregate(op, left, right) => remade::aggregate(*op, box_with_copy(left), box_with_copy(right)),
+            Expr::Aggregate(op, left, right) => remade::aggregate(
+                *op,
+                box_with_copy(left),
+                box_with_copy(right),
+            ),
             Expr::Relation(elements) => remade::relation(copy_list(elements)),
             Expr::HeadedRelation(heading, elements) => {
                 remade::headed_relation(copy_heading(heading), copy_list(elements))
             }
             Expr::Tuple(parts) => remade::tuple(copy_parts(parts)),
-            Expr::Extend(operand, parts) => remade::extend(box_with_copy(operand), copy_parts(parts)),
+            Expr::Extend(operand, parts) => remade::extend(
+                box_with_copy(operand),
+                copy_parts(parts),
+            ),
             Expr::SummarizePer(operand, per, added) => {
-                remade::summarize_per(box_with_copy(operand), box_with_copy(per), copy_summaries(added))
+                remade::summarize_per(
+                    box_with_copy(operand),
+                    box_with_copy(per),
+                    copy_summaries(added),
+                )
             }
             Expr::SummarizeBy(operand, by, added) => {
-                remade::summarize_by(box_with_copy(operand), by.try_clone(), copy_summaries(added))
+                remade::summarize_by(
+                    box_with_copy(operand),
+                    by.try_clone(),
+                    copy_summaries(added),
+                )
             }
             Expr::If(condition, yes, no) => {
-                remade::choice(box_with_copy(condition), box_with_copy(yes), box_with_copy(no))
+                remade::choice(
+                    box_with_copy(condition),
+                    box_with_copy(yes),
+                    box_with_copy(no),
+                )
             }
         }
     }

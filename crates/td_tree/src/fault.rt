@@ -9,7 +9,7 @@ use thiserror::Error;
 /// A refusal, or want of memory.
 #[derive(Clone, Copy, Debug, PartialEq, Eq, Error)]
 pub enum Fault {
-    /// What was asked is refused, by this cause.
+    /// The request is refused, by this cause.
     #[error("refused: {0}")]
     Refused(Cause),
     /// A request for memory was refused: it names no cause.

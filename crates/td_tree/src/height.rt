@@ -1,4 +1,5 @@
-//! How high a tree is: 1 without parts, else one more than its highest part. `u64::MAX` stands for what is greater.
+//! How high a tree is: 1 without parts, else one more than its highest part. `u64::MAX` stands for
+//! what is greater.
 ghost use Rattle.std.specs.Prelude.{◌≡◌, ◌+◌, ◌-◌, ◌^◌, min};
 ghost use Rattle.td_tree.specs.Heights.{attributes_height, height, highest, highest_named};
 ghost use Rattle.td_tree.specs.Heights.{highest_summary, type_height};

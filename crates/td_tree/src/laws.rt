@@ -44,8 +44,9 @@ pub fn one_division()
     ensures { (ps : List (List Symbol)) (bytes : List ℕ) → AreLongest ps bytes → ps ≡ pieces bytes }
 {}
 
-/// A piece is what the language's words say of its characters: a blank, a comment, a word, a number, a text, a
-/// sign, a comment or a text that nothing ends, or one symbol that begins none of these.
+/// A piece is what the language's words say of its characters: a blank, a comment, a word, a
+/// number, a text, a sign, a comment or a text that nothing ends, or one symbol that begins none of
+/// these.
 #[tactic(auto, using(crate::proofs::law_lemmas::KindLaws::as_spelled))]
 pub fn pieces_are_as_spelled()
     ensures { (p : List Symbol) (piece : Piece) → (state p ≡ Some piece)
@@ -70,7 +71,7 @@ pub fn texts_are_quoted()
     ensures { (text : List ℕ) → (kind_of (symbols text) ≡ Some kinds.Text) ↔ IsQuotedText text }
 {}
 
-/// So are the texts among the tokens.
+/// Each text among the tokens is a text in quotes that says UTF-8.
 #[tactic(auto, using(crate::proofs::law_lemmas::QuotedLaws::texts))]
 pub fn tokens_are_texts()
     ensures { (at : ℕ) (bytes : List ℕ) → AreTexts (tokens at bytes) }

@@ -104,7 +104,7 @@ impl Name {
         self.text.as_str()
     }
 
-    /// The same name again.
+    /// A copy of the name.
     pub fn try_clone(&self) -> Result<Name, AllocError>
         ensures { IfOk result (λ n. n ≡ self.now) }
     {

@@ -72,7 +72,7 @@ pub enum Prefix {
     TupleFrom,
 }
 
-/// What is asked of a relation alone.
+/// An operator that measures a relation: `COUNT` or `IS_EMPTY`.
 #[derive(Clone, Copy, Debug, PartialEq, Eq)]
 pub enum Measure {
     Count,

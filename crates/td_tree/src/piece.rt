@@ -23,7 +23,7 @@ pub enum Piece {
     LineComment,
     /// A comment that begins with `/*` and that no `*/` ends yet.
     OpenComment,
-    /// The same where its last character is a `*`, so that a `/` ends it.
+    /// A comment that begins with `/*`, whose last character is a `*`, so that a `/` ends it.
     StarredComment,
     /// A comment from `/*` to `*/`.
     Comment,

@@ -20,7 +20,8 @@ fn put_quotes(out: &mut String, later: bool) -> Result<(), AllocError>
 
 /// Puts the text with each quote doubled: its pieces between quotes, with two quotes between.
 fn put_doubled(out: &mut String, said: &str) -> Result<(), AllocError>
-    ensures ok { OnOk result (string_bytes out.new ≡ string_bytes out.old ++ with_quotes_doubled said.now) }
+    ensures ok { OnOk result (string_bytes out.new ≡ string_bytes out.old ++ with_quotes_doubled
+        said.now) }
     ensures err { OnErr result
         (PutsFront (string_bytes out.old) (string_bytes out.new) (with_quotes_doubled said.now)) }
 {
@@ -35,7 +36,8 @@ fn put_doubled(out: &mut String, said: &str) -> Result<(), AllocError>
 
 /// Puts the text in quotes behind what stands there, each quote in it doubled.
 pub fn put_quoted(out: &mut String, said: &str) -> Result<(), AllocError>
-    ensures ok { OnOk result (string_bytes out.new ≡ string_bytes out.old ++ text_in_quotes said.now) }
+    ensures ok { OnOk result (string_bytes out.new ≡ string_bytes out.old ++ text_in_quotes
+        said.now) }
     ensures err { OnErr result
         (PutsFront (string_bytes out.old) (string_bytes out.new) (text_in_quotes said.now)) }
 {

@@ -46,7 +46,7 @@ LaterTypesKeepMeanings =
     (ds more : List DeclaredType) (tree : TypeTree) (t : Type') → type_meant ds tree ≡ Valued t
     → type_meant (ds ++ more) tree ≡ Valued t
 
--- and a type whose user types are declared is known still, and has the same rank
+-- with more types declared, a known type stays known and keeps its rank
 abbrev pub LaterTypesKeepRanks : Type 0
 LaterTypesKeepRanks =
     (ds more : List DeclaredType) (t : Type') → AreDeclared (ds ++ more) → IsKnown ds t

@@ -37,7 +37,7 @@ fn copy_heading(heading: &Heading) -> Result<Heading, AllocError>
 }
 
 impl Ty {
-    /// The same type again.
+    /// A copy of the type.
     pub fn try_clone(&self) -> Result<Ty, AllocError>
         ensures { IfOk result (λ copy. type_view copy ≡ type_view self.now) }
     {
@@ -46,7 +46,7 @@ impl Ty {
 }
 
 impl Attribute {
-    /// The same attribute again.
+    /// A copy of the attribute.
     pub(crate) fn try_clone(&self) -> Result<Attribute, AllocError>
         ensures { IfOk result (λ copy. attribute_view copy ≡ attribute_view self.now) }
     {
@@ -57,7 +57,7 @@ impl Attribute {
 }
 
 impl Heading {
-    /// The same heading again.
+    /// A copy of the heading.
     pub fn try_clone(&self) -> Result<Heading, AllocError>
         ensures { IfOk result (λ copy. copy ≡ self.now) }
     {

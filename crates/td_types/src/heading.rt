@@ -117,7 +117,8 @@ impl Heading {
 
     /// The attribute at a place in name order.
     pub fn at(&self, place: usize) -> Option<(&Name, &Ty)>
-        ensures attribute { option_map (λ a. (a.0.now, type_view a.1.now)) result ≡ slice_get self.now place }
+        ensures attribute { option_map (λ a. (a.0.now, type_view a.1.now)) result ≡ slice_get
+            self.now place }
         ensures ascending { IsAscending self.now }
     {
         self.reveal();

@@ -51,7 +51,7 @@ pub fn repeats_a_name<T>(entries: &[(Name, T)]) -> bool
     }
 }
 
-/// The same of a list by its first entry and the rest.
+/// Whether a name comes twice in a sorted list, given its first entry and the rest.
 fn repeats_after<T>(first: &(Name, T), rest: &[(Name, T)]) -> bool
     requires { IsSortedBy (λ x y. is_lt (slice_cmp nat_cmp x.0 y.0)) (first.now ∷ rest.now) }
     ensures { result ≡ not (are_distinct (map (λ e. e.0) (first.now ∷ rest.now))) }

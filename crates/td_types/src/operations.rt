@@ -1,4 +1,5 @@
-//! Operations that make a heading of headings: each refuses by the cause of headings, or wants memory.
+//! Operations that make a heading of headings: each refuses by the cause of headings, or wants
+//! memory.
 ghost use Rattle.std.specs.Prelude.{◌≡◌, IfOk};
 ghost use Rattle.td_tree.specs.Outcomes.{Answers};
 ghost use Rattle.td_types.specs.Headings.{IsMap, agree, common_heading, has_attributes};

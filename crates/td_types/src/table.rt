@@ -224,7 +224,7 @@ impl TypeTable {
         self.rows.shift_remove(name);
     }
 
-    /// The same types again.
+    /// A copy of the types.
     pub fn try_clone(&self) -> Result<TypeTable, AllocError>
         ensures { IfOk result (λ table. table ≡ self.now) }
     {

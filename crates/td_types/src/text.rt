@@ -48,7 +48,8 @@ pub fn put_relation_type(out: &mut String, heading: &Heading) -> Result<(), Allo
     ensures ok { OnOk result (string_bytes out.new
         ≡ string_bytes out.old ++ type_text (relation (pack heading.now))) }
     ensures err { OnErr result
-        (PutsFront (string_bytes out.old) (string_bytes out.new) (type_text (relation (pack heading.now)))) }
+        (PutsFront (string_bytes out.old) (string_bytes out.new) (type_text (relation (pack
+        heading.now)))) }
 {
     out.push_str("RELATION ")?;
     put_heading(out, heading)

@@ -25,7 +25,7 @@ ProjectionsKeepValues =
     (names : List (List ℕ)) (t : Tuple) (name : List ℕ)
     → value_at name (projected_tuple names t) ≡ (if has_name name names then value_at name t else None)
 
--- the test tells the fact
+-- the test of agreement is true exactly where both tuples give each name one value
 abbrev pub AgreementIsOfValues : Type 0
 AgreementIsOfValues =
     (names : List (List ℕ)) (s t : Tuple) → IsTuple s → IsTuple t

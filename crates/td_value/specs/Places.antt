@@ -5,13 +5,13 @@ use Rattle.std.specs.Ordering.{eq_by_cmp}
 use Rattle.td_value.specs.Sets.{has, put_in}
 use Rattle.td_value.specs.Values.{Tuple, tuple_cmp}
 
--- it is a member, and to take it out is to take out what stands there
+-- the tuple is a member and stands at that place: removing the item there removes it
 abbrev pub IsPlaceOf : Tuple → List Tuple → ℕ → Type 0
 IsPlaceOf t ts place =
     (place < length ts) × (has tuple_cmp t ts ≡ true)
     × (remove ts place ≡ filter (λ u. not (eq_by_cmp tuple_cmp t u)) ts)
 
--- it is no member, and to make it one is to put it there
+-- the tuple is no member, and belongs at that place: inserting it there makes it one
 abbrev pub IsPlaceFor : Tuple → List Tuple → ℕ → Type 0
 IsPlaceFor t ts place =
     (place ≤ length ts) × (has tuple_cmp t ts ≡ false) × (insert ts place t ≡ put_in tuple_cmp t ts)

@@ -7,7 +7,7 @@ use crate::tuple::Tuple;
 use crate::value::{Node, Value};
 use std::alloc::AllocError;
 
-/// The same node again.
+/// A copy of the node.
 fn node_again(node: &Node) -> Result<Node, AllocError>
     ensures { IfOk result (λ n. node_view n ≡ node_view node.now) }
 {
@@ -22,7 +22,7 @@ fn node_again(node: &Node) -> Result<Node, AllocError>
 }
 
 impl Value {
-    /// The same value again, which shares what this one is made of.
+    /// A copy of the value, which shares what this one is made of.
     pub fn try_clone(&self) -> Result<Value, AllocError>
         ensures { IfOk result (λ w. w ≡ self.now) }
     {
@@ -32,7 +32,7 @@ impl Value {
 }
 
 impl Tuple {
-    /// The same tuple again, which shares this one's names and values.
+    /// A copy of the tuple, which shares this one's names and values.
     pub fn try_clone(&self) -> Result<Tuple, AllocError>
         ensures { IfOk result (λ t. t ≡ self.now) }
     {
@@ -43,7 +43,7 @@ impl Tuple {
 }
 
 impl Rel {
-    /// The same relation again, which shares this one's heading and tuples.
+    /// A copy of the relation, which shares this one's heading and tuples.
     pub fn try_clone(&self) -> Result<Rel, AllocError>
         ensures { IfOk result (λ r. r ≡ self.now) }
     {

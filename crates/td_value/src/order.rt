@@ -188,7 +188,8 @@ impl PartialOrd for Value {
 
     ghost partial_cmp = { as_partial_cmp value_cmp };
 
-    ghost laws = { partial_order_from_agreeing_total value_cmp order_total (λ x y. refl) (λ x y. refl) };
+    ghost laws = { partial_order_from_agreeing_total value_cmp order_total (λ x y. refl) (λ x y.
+        refl) };
 
     fn partial_cmp(&self, other: &Value) -> Option<Ordering> {
         Some(self.cmp(other))
@@ -242,7 +243,8 @@ impl PartialOrd for Tuple {
 
     ghost partial_cmp = { as_partial_cmp tuple_cmp };
 
-    ghost laws = { partial_order_from_agreeing_total tuple_cmp tuple_order_total (λ x y. refl) (λ x y. refl) };
+    ghost laws = { partial_order_from_agreeing_total tuple_cmp tuple_order_total (λ x y. refl) (λ x
+        y. refl) };
 
     fn partial_cmp(&self, other: &Tuple) -> Option<Ordering> {
         Some(self.cmp(other))
@@ -296,7 +298,8 @@ impl PartialOrd for Rel {
 
     ghost partial_cmp = { as_partial_cmp relation_cmp };
 
-    ghost laws = { partial_order_from_agreeing_total relation_cmp relation_order_total (λ x y. refl) (λ x y. refl) };
+    ghost laws = { partial_order_from_agreeing_total relation_cmp relation_order_total (λ x y. refl)
+        (λ x y. refl) };
 
     fn partial_cmp(&self, other: &Rel) -> Option<Ordering> {
         Some(self.cmp(other))

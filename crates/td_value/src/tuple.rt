@@ -24,8 +24,8 @@ use td_tree::name::Name;
 use td_types::heading::Heading;
 use td_types::names::{is_among, names_of, repeats_a_name};
 
-/// A finite map from names to values, seen as its entries in name order. The tuples of one relation share one list of
-/// names, and copies of a tuple share its values too.
+/// A finite map from names to values, seen as its entries in name order. The tuples of one relation
+/// share one list of names, and copies of a tuple share its values too.
 #[cycle(value)]
 #[derive(Drop)]
 pub struct Tuple {
@@ -65,7 +65,7 @@ impl Tuple {
         Tuple::new_like(alloc, None, entries)
     }
 
-    /// The same. Where the names are those of the other tuple, it shares that one's list of names.
+    /// As `new`. Where the names are those of the other tuple, it shares that one's list of names.
     pub fn new_like(
         alloc: Global,
         like: Option<&Tuple>,

@@ -110,7 +110,8 @@ impl<'a> Write for Writer<'a> {
 // ---- runs
 
 /// A script on an empty database, whether the first refusal ends the run and the most bytes that
-/// the script may have, after how many calls the reader and the writer fail, and what comes of that.
+/// the script may have, after how many calls the reader and the writer fail, and what comes of
+/// that.
 #[derive(Drop)]
 struct Case {
     script: &'static [u8],

@@ -36,7 +36,7 @@ abbrev pub fed_if_found : Option Val → List (List ℕ)
 fed_if_found None = []
 fed_if_found (Some v) = fed_value v
 
--- what it is fed for values, each of which may be missing
+-- the bytes that a hasher is fed for some values, each of which may be missing
 abbrev pub fed_found : List (Option Val) → List (List ℕ)
 fed_found [] = []
 fed_found (v ∷ vs) = fed_if_found v ++ fed_found vs

@@ -111,7 +111,7 @@ impl KeyIndex {
         Ok(())
     }
 
-    /// Grows the tables once, where so many tuples are to come. Room is asked for all the same.
+    /// Grows the tables once, before so many tuples come. Room for each is reserved all the same.
     pub(crate) fn grow(&mut self, more: usize) -> Result<(), AllocError>
         ensures tuples { self.new.tuples ≡ self.old.tuples }
         ensures places { self.new.places ≡ self.old.places }

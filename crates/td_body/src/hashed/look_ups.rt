@@ -1,4 +1,4 @@
-//! What hashed members are asked of a key.
+//! Look-ups by a key among hashed members.
 ghost use Rattle.std.specs.Prelude.{◌≡◌, IfOk, IfSome};
 ghost use Rattle.std.specs.List.{slice_get};
 ghost use Rattle.td_types.specs.Headings.{projection};

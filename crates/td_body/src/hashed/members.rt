@@ -55,8 +55,8 @@ impl Model for Members {
         AreMembers m.sorted.heading m.sorted.body m.touched.items m.histories.items m.kept_count };
 }
 
-/// A change of so many tuples, or of fewer, is small beside any members; and so many more tuples may
-/// be touched than stand in order, before the members are put in order anew.
+/// A change of so many tuples, or of fewer, is small beside any members; and so many more tuples
+/// may be touched than stand in order, before the members are put in order anew.
 const FEW: usize = 16;
 
 /// A change is small, too, of one tuple for each so many members.
@@ -109,8 +109,8 @@ impl Members {
         self.sorted.heading()
     }
 
-    /// Whether a change of so many tuples is small beside the members: a large one takes longer step
-    /// by step than members that are made anew.
+    /// Whether a change of so many tuples is small beside the members: a large one takes longer
+    /// step by step than members that are made anew.
     pub(crate) fn is_small(&self, tuples: usize) -> bool {
         tuples <= self.len() / MEMBERS_A_TUPLE + FEW
     }

@@ -35,7 +35,7 @@ pub record Rows (B : Type 0) : Type 0 where
   pub virtuals : List (List ℕ × VirtualEntry)
   pub constraints : List (List ℕ × ConstraintEntry)
 
--- those of tables
+-- the rows that a catalogue's tables hold
 abbrev pub rows_of : {B : Type 0} → Tables B → Rows B
 rows_of tables =
     record {
@@ -67,7 +67,7 @@ abbrev pub known_of : {B : Type 0} → Tables B → Known
 known_of tables =
     record { bases = tables.declared.bases.entries; virtuals = tables.declared.virtuals.entries; constraints = tables.declared.constraints.keys }
 
--- the database of them
+-- the database that the rows of a catalogue are
 abbrev pub database_view : {B : Type 0} → (B → Relation) → Rows B → Database
 database_view relation rows =
     record {

@@ -90,7 +90,7 @@ module _ {B : Type 0} (relation : B → Relation) (keys : B → List (List (List
   held_base row =
       record { base = base_view relation row; heading = row.1.heading; body_keys = keys row.1.body; kept = kept row.1.body }
 
-  -- and all of them
+  -- the rows of a catalogue as its steps see them
   abbrev pub held_view : Rows B → Held
   held_view rows =
       record {
@@ -126,7 +126,7 @@ module _ {B : Type 0} (relation : B → Relation) (keys : B → List (List (List
   history_view rows steps =
       record { database = database_view relation rows; kept = map database_of (kept_before steps (held_view rows)) }
 
-  -- what it is: so are the tables before each of the steps
+  -- the tables are well formed, and so they were before each of the steps
   pub record IsHistory (rows : Rows B) (steps : List (Step B)) : Type 0 where
     pub catalog : IsCatalog relation keys rows
     pub stages : AllByRecursion IsStage (kept_before steps (held_view rows))

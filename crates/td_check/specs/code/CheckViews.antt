@@ -49,7 +49,7 @@ item_found scope (s.Of op value name) = with_value (type_of scope (tree_view val
 abbrev pub Added : Type 0
 Added = Heading × List (List ℕ × own.Item)
 
--- where it is a relation
+-- the heading and the items, where SUMMARIZE's operand is a relation
 abbrev pub added_view : Ty × Vec (List ℕ × Item) → Option Added
 added_view (Bool, items) = None
 added_view (Int, items) = None

@@ -16,7 +16,7 @@ abbrev pub declared_relvars : Declared → ℕ → List KnownRelvar
 declared_relvars declared virtuals =
     map (known_as Base) declared.bases.entries ++ map (known_as Virtual) (take virtuals declared.virtuals.entries)
 
--- where the types, these relvars and the constraints are known, and no tuple is in hand
+-- where the types, these relvars and the constraints are known, and no tuple is in scope
 abbrev pub lent_scope : List DeclaredType → Declared → ℕ → Scope
 lent_scope types declared virtuals =
     record { types = types; relvars = declared_relvars declared virtuals; constraints = declared.constraints.keys; entered = [] }

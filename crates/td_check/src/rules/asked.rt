@@ -28,7 +28,7 @@ pub(crate) fn tuple_heading(ty: &Ty) -> Result<&Heading, Fault>
     }
 }
 
-/// What is asked: where it does not hold, that cause.
+/// A requirement of a rule: where it does not hold, the answer is that cause.
 pub(crate) fn ask(holds: bool, cause: Cause) -> Result<(), Fault>
     ensures { Answers (λ u. u) result (value_if holds tt cause) }
 {

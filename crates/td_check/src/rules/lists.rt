@@ -1,4 +1,5 @@
-//! The rules of selectors, relations and tuples by their parts, and of what EXTEND and SUMMARIZE add.
+//! The rules of selectors, relations and tuples by their parts, and of what EXTEND and SUMMARIZE
+//! add.
 ghost use Rattle.std.specs.Prelude.{◌≡◌, map};
 ghost use Rattle.td_check.specs.code.ItemViews.{summary_item_view, items_view};
 ghost use Rattle.td_check.specs.OperatorTypes.{are_types_of, element_type, extension_type};

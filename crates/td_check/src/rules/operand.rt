@@ -35,7 +35,7 @@ pub(crate) fn literal_type(literal: &Literal, alloc: Global) -> Ty
     }
 }
 
-/// The type that is asked: another is refused.
+/// The type of the operand, where it is the required one; another is refused.
 pub(crate) fn type_asked(asked: Ty, operand: &Ty) -> Result<Ty, Fault>
     ensures { Answers type_view result
         (if_type (type_view asked) (type_view operand.now) (type_view asked)) }
@@ -118,7 +118,7 @@ fn component_named<'a>(name: &RcStr, components: &'a [(Name, Ty)]) -> Option<&'a
     None
 }
 
-/// The type of what is asked of a relation alone.
+/// The type of COUNT or IS_EMPTY of an operand.
 pub(crate) fn measure_type(op: Measure, operand: &Ty) -> Result<Ty, Fault>
     ensures { Answers type_view result (measure_type op (type_view operand.now)) }
 {

@@ -36,7 +36,7 @@ pub(crate) fn operator_type(op: Operator, first: Ty, second: Ty) -> Result<Ty, F
     }
 }
 
-/// The type of both operands, which is the one that is asked.
+/// The type of both operands, where it is the required one.
 fn both_of(asked: Ty, first: &Ty, second: &Ty) -> Result<Ty, Fault>
     ensures { Answers type_view result
         (both_of (type_view asked) (type_view first.now) (type_view second.now)) }

@@ -1,4 +1,4 @@
-//! What is asked of assignments.
+//! What is required of assignments.
 ghost use Rattle.std.specs.Prelude.{◌≡◌, List, Option, map, option_map};
 ghost use Rattle.td_check.specs.code.PlaceViews.{scope_at};
 ghost use Rattle.td_check.specs.code.ScopeCode.{seen_view};
@@ -31,7 +31,7 @@ use td_types::ty::Ty;
 
 // ---- targets and sources
 
-/// What is asked of a target: it is known, and it is a base relvar.
+/// What is required of a target: it is known, and it is a base relvar.
 fn is_target(known: Option<(Kind, &Heading)>) -> Result<(), Fault>
     ensures { (target : Option KnownRelvar)
         → option_map seen_view known.entry ≡ option_map kind_and_heading target
@@ -43,7 +43,7 @@ fn is_target(known: Option<(Kind, &Heading)>) -> Result<(), Fault>
     }
 }
 
-/// What is asked of the type of what is assigned or inserted: it is a relation, of the target's
+/// What is required of the type of what is assigned or inserted: it is a relation, of the target's
 /// heading where that is known.
 fn source_fits(known: Option<(Kind, &Heading)>, ty: &Ty) -> Result<(), Fault>
     ensures { (target : Option KnownRelvar)
@@ -59,7 +59,7 @@ fn source_fits(known: Option<(Kind, &Heading)>, ty: &Ty) -> Result<(), Fault>
     }
 }
 
-/// What is asked of what is assigned or inserted.
+/// What is required of what is assigned or inserted.
 fn check_source(
     scope: &Scope<'_>,
     known: Option<(Kind, &Heading)>,
@@ -74,7 +74,7 @@ fn check_source(
     source_fits(known, &ty)
 }
 
-/// What is asked of an assignment of a relation, and of `INSERT`.
+/// What is required of an assignment of a relation, and of `INSERT`.
 fn check_assigned(scope: &Scope<'_>, target: &Name, source: &Expr) -> Result<(), Fault>
     ensures { Answers (λ u. u) result
         (assignment_checked scope.now (assignment_view (Assignment.Assign target.now source.now))) }
@@ -85,7 +85,7 @@ fn check_assigned(scope: &Scope<'_>, target: &Name, source: &Expr) -> Result<(),
 
 // ---- what stands in the target's tuples
 
-/// What is asked of `DELETE`'s condition.
+/// What is required of `DELETE`'s condition.
 fn check_deletion(
     scope: &Scope<'_>,
     known: Option<(Kind, &Heading)>,
@@ -107,7 +107,7 @@ fn check_deletion(
     }
 }
 
-/// What is asked of `DELETE`.
+/// What is required of `DELETE`.
 fn check_delete(scope: &Scope<'_>, target: &Name, condition: Option<&Expr>) -> Result<(), Fault>
     ensures { Answers (λ u. u) result
         (both_hold (is_target (known_relvar scope.now target.now))
@@ -119,14 +119,14 @@ fn check_delete(scope: &Scope<'_>, target: &Name, condition: Option<&Expr>) -> R
     both_hold(is_target(known), check_deletion(scope, known, condition))
 }
 
-/// What is asked of what an attribute is set to: it is of the attribute's type.
+/// What is required of what an attribute is set to: it is of the attribute's type.
 fn setting_fits(heading: &Heading, name: &Name, ty: &Ty) -> Result<(), Fault>
     ensures { Answers (λ u. u) result (setting_fits heading.now (name.now, type_view ty.now)) }
 {
     ask(ty == attribute_type(heading, name)?, Cause::TypeMismatch)
 }
 
-/// What is asked of each setting.
+/// What is required of each setting.
 fn each_setting_fits(heading: &Heading, settings: &[(Name, Ty)]) -> Result<(), Fault>
     ensures { Answers (λ u. u) result
         (with_value (gathered (map (setting_fits heading.now) (pairs_view settings.now)))
@@ -139,7 +139,7 @@ fn each_setting_fits(heading: &Heading, settings: &[(Name, Ty)]) -> Result<(), F
     causes.finish(())
 }
 
-/// What is asked of settings: each fits, and none sets what another does.
+/// What is required of settings: each fits, and none sets what another does.
 fn settings_fit(heading: &Heading, settings: Vec<(Name, Ty)>) -> Result<(), Fault>
     ensures { Answers (λ u. u) result
         (settings_fit heading.now (pairs_view settings.items)) }
@@ -149,7 +149,7 @@ fn settings_fit(heading: &Heading, settings: Vec<(Name, Ty)>) -> Result<(), Faul
     both_hold(distinct, each_setting_fits(heading, &settings))
 }
 
-/// What is asked of `UPDATE`'s condition and settings in the target's tuples.
+/// What is required of `UPDATE`'s condition and settings in the target's tuples.
 fn update_fits(
     place: &Place<'_, '_, '_>,
     heading: &Heading,
@@ -168,7 +168,7 @@ fn update_fits(
     both_hold(condition, settings_fit(heading, values))
 }
 
-/// What is asked of `UPDATE`'s condition and settings.
+/// What is required of `UPDATE`'s condition and settings.
 fn check_settings(
     scope: &Scope<'_>,
     known: Option<(Kind, &Heading)>,
@@ -191,7 +191,7 @@ fn check_settings(
     }
 }
 
-/// What is asked of `UPDATE`.
+/// What is required of `UPDATE`.
 fn check_update(
     scope: &Scope<'_>,
     target: &Name,
@@ -214,7 +214,7 @@ fn check_update(
 
 // ---- assignments
 
-/// What is asked of one assignment.
+/// What is required of one assignment.
 fn check_assignment(scope: &Scope<'_>, assignment: &Assignment) -> Result<(), Fault>
     ensures { Answers (λ u. u) result
         (assignment_checked scope.now (assignment_view assignment.now)) }
@@ -230,7 +230,7 @@ fn check_assignment(scope: &Scope<'_>, assignment: &Assignment) -> Result<(), Fa
     }
 }
 
-/// What is asked of the assignments of one statement: of each, whether or not another is refused.
+/// What is required of the assignments of a statement: of each, whether or not another is refused.
 pub(crate) fn check_assignments(scope: &Scope<'_>, assignments: &[Assignment]) -> Result<(), Fault>
     ensures { Answers (λ u. u) result
         (with_value

@@ -1,4 +1,4 @@
-//! What is asked of definitions.
+//! What is required of definitions.
 ghost use Rattle.std.specs.Prelude.{◌≡◌, List, map, not, option_map};
 ghost use Rattle.td_check.specs.OperatorTypes.{over_relation};
 ghost use Rattle.td_check.specs.StaticTypes.{type_of};
@@ -34,7 +34,7 @@ use td_types::ty::Ty;
 
 // ---- types
 
-/// What is asked of a type's components: a type of them has a rank within the limit.
+/// What is required of a type's components: a type of them has a rank within the limit.
 fn rank_fits(types: &TypeTable, components: &[(Name, Ty)]) -> Result<(), Fault>
     ensures { Answers (λ u. u) result (rank_fits types.now (pairs_view components.now)) }
 {
@@ -42,8 +42,8 @@ fn rank_fits(types: &TypeTable, components: &[(Name, Ty)]) -> Result<(), Fault>
     Ok(())
 }
 
-/// What is asked of a type's constraint, if it has one: it is BOOLEAN where the components and the
-/// earlier types alone are known.
+/// What is required of a type's constraint, if it has one: it is BOOLEAN where the components and
+/// the earlier types alone are known.
 fn constraint_fits(
     scope: &Scope<'_>,
     components: &Heading,
@@ -62,7 +62,7 @@ fn constraint_fits(
     }
 }
 
-/// What is asked of a type's components and of its constraint.
+/// What is required of a type's components and of its constraint.
 fn check_components(scope: &Scope<'_>, definition: &TypeDefinition) -> Result<(), Fault>
     ensures { Answers (λ u. u) result
         (with_value (components_meant scope.now.types
@@ -78,7 +78,7 @@ fn check_components(scope: &Scope<'_>, definition: &TypeDefinition) -> Result<()
     both_hold(constraint, rank)
 }
 
-/// What is asked of `TYPE`.
+/// What is required of `TYPE`.
 pub(crate) fn define_type(scope: &Scope<'_>, definition: &TypeDefinition) -> Result<(), Fault>
     ensures { Answers (λ u. u) result
         (statement_checked scope.now (statement_view (Statement.DefineType definition.now))) }
@@ -90,7 +90,7 @@ pub(crate) fn define_type(scope: &Scope<'_>, definition: &TypeDefinition) -> Res
 
 // ---- relvars
 
-/// What is asked of a new relvar's name: no relvar has it, base or virtual.
+/// What is required of a new relvar's name: no relvar has it, base or virtual.
 fn relvar_is_new(scope: &Scope<'_>, name: &Name) -> Result<(), Fault>
     ensures { Answers (λ u. u) result
         (holds_or causes.NameTaken (not (knows_relvar name.now scope.now))) }
@@ -98,7 +98,7 @@ fn relvar_is_new(scope: &Scope<'_>, name: &Name) -> Result<(), Fault>
     ask(!scope.knows_relvar(name), Cause::NameTaken)
 }
 
-/// What is asked of keys for a heading: they are allowed.
+/// What is required of keys for a heading: they are allowed.
 fn keys_asked(heading: &Heading, keys: &[Vec<Name>]) -> Result<(), Fault>
     ensures { Answers (λ u. u) result
         (keys_asked heading.now (map (λ key. key.items) keys.now)) }
@@ -106,7 +106,7 @@ fn keys_asked(heading: &Heading, keys: &[Vec<Name>]) -> Result<(), Fault>
     ask(keys_allowed(heading, keys), Cause::KeyDeclaration)
 }
 
-/// What is asked of a relvar's heading: the rank of its type is within the limit.
+/// What is required of a relvar's heading: the rank of its type is within the limit.
 fn heading_rank_fits(types: &TypeTable, heading: Heading) -> Result<(), Fault>
     ensures { Answers (λ u. u) result (heading_rank_fits types.now heading) }
 {
@@ -114,7 +114,7 @@ fn heading_rank_fits(types: &TypeTable, heading: Heading) -> Result<(), Fault>
     Ok(())
 }
 
-/// What is asked of a base relvar's keys: there is one, and they are allowed.
+/// What is required of a base relvar's keys: there is one, and they are allowed.
 fn base_keys_fit(heading: &Heading, keys: &[Vec<Name>]) -> Result<(), Fault>
     ensures { Answers (λ u. u) result
         (both_hold (has_key (map (λ key. key.items) keys.now))
@@ -124,7 +124,7 @@ fn base_keys_fit(heading: &Heading, keys: &[Vec<Name>]) -> Result<(), Fault>
     both_hold(has_key, keys_asked(heading, keys))
 }
 
-/// What is asked of INIT's type, where it is given.
+/// What is required of INIT's type, where it is given.
 fn init_fits(heading: &Heading, init: Option<&Ty>) -> Result<(), Fault>
     ensures { Answers (λ u. u) result
         (init_fits heading.now (option_map (λ t. type_view t.now) init.entry)) }
@@ -135,7 +135,7 @@ fn init_fits(heading: &Heading, init: Option<&Ty>) -> Result<(), Fault>
     }
 }
 
-/// What is asked of a base relvar by its heading and INIT's type.
+/// What is required of a base relvar by its heading and INIT's type.
 fn base_fits(
     types: &TypeTable,
     heading: Heading,
@@ -154,7 +154,7 @@ fn base_fits(
     both_hold(init, both_hold(keys, heading_rank_fits(types, heading)))
 }
 
-/// What is asked of a base relvar beside its name.
+/// What is required of a base relvar beside its name.
 fn check_base(scope: &Scope<'_>, definition: &BaseDefinition) -> Result<(), Fault>
     ensures { Answers (λ u. u) result
         (with_both
@@ -172,7 +172,7 @@ fn check_base(scope: &Scope<'_>, definition: &BaseDefinition) -> Result<(), Faul
     base_fits(scope.types(), heading, init, &definition.keys)
 }
 
-/// What is asked of `VAR .. BASE`.
+/// What is required of `VAR .. BASE`.
 pub(crate) fn define_base(scope: &Scope<'_>, definition: &BaseDefinition) -> Result<(), Fault>
     ensures { Answers (λ u. u) result
         (statement_checked scope.now (statement_view (Statement.DefineBase definition.now))) }
@@ -181,7 +181,7 @@ pub(crate) fn define_base(scope: &Scope<'_>, definition: &BaseDefinition) -> Res
     both_hold(named, check_base(scope, definition))
 }
 
-/// What is asked of a virtual relvar by the type of its expression.
+/// What is required of a virtual relvar by the type of its expression.
 fn virtual_fits(types: &TypeTable, ty: Ty, keys: &[Vec<Name>]) -> Result<(), Fault>
     ensures { Answers (λ u. u) result
         (over_relation (type_view ty) (λ h. both_hold
@@ -196,7 +196,7 @@ fn virtual_fits(types: &TypeTable, ty: Ty, keys: &[Vec<Name>]) -> Result<(), Fau
     }
 }
 
-/// What is asked of a virtual relvar beside its name.
+/// What is required of a virtual relvar beside its name.
 fn check_virtual(scope: &Scope<'_>, definition: &VirtualDefinition) -> Result<(), Fault>
     ensures { Answers (λ u. u) result
         (with_value (type_of scope.now (tree_view definition.now.expression))
@@ -208,7 +208,7 @@ fn check_virtual(scope: &Scope<'_>, definition: &VirtualDefinition) -> Result<()
     virtual_fits(scope.types(), ty, &definition.keys)
 }
 
-/// What is asked of `VAR .. VIRTUAL`.
+/// What is required of `VAR .. VIRTUAL`.
 pub(crate) fn define_virtual(scope: &Scope<'_>, definition: &VirtualDefinition) -> Result<(), Fault>
     ensures { Answers (λ u. u) result
         (statement_checked scope.now (statement_view (Statement.DefineVirtual definition.now))) }
@@ -219,7 +219,7 @@ pub(crate) fn define_virtual(scope: &Scope<'_>, definition: &VirtualDefinition) 
 
 // ---- constraints
 
-/// What is asked of `CONSTRAINT`.
+/// What is required of `CONSTRAINT`.
 pub(crate) fn define_constraint(
     scope: &Scope<'_>,
     name: &Name,

@@ -1,4 +1,4 @@
-//! What is asked of the parts of statements.
+//! What is required of the parts of statements.
 ghost use Rattle.std.specs.Prelude.{option_map, ⊤};
 ghost use Rattle.td_check.specs.OperatorTypes.{if_type};
 ghost use Rattle.td_check.specs.code.PlaceViews.{scope_at};
@@ -22,7 +22,7 @@ use td_tree::gathering::both;
 use td_types::heading::Heading;
 use td_types::ty::Ty;
 
-/// Both are asked: the least of their causes is named.
+/// Both requirements hold; else the least of their causes is named.
 pub(crate) fn both_hold(first: Result<(), Fault>, second: Result<(), Fault>) -> Result<(), Fault>
     ensures { (o p : Outcome ⊤) → Answers (λ u. u) first o → Answers (λ u. u) second p
         → Answers (λ u. u) result (both_hold o p) }
@@ -45,7 +45,7 @@ pub(crate) fn type_if_given(
     }
 }
 
-/// What is asked of a condition's type, where there is a condition: it is BOOLEAN.
+/// What is required of a condition's type, where there is a condition: it is BOOLEAN.
 pub(crate) fn condition_fits(ty: Option<&Ty>) -> Result<(), Fault>
     ensures { Answers (λ u. u) result
         (condition_fits (option_map (λ t. type_view t.now) ty.entry)) }
@@ -56,7 +56,7 @@ pub(crate) fn condition_fits(ty: Option<&Ty>) -> Result<(), Fault>
     }
 }
 
-/// What is asked of a condition: it is BOOLEAN.
+/// What is required of a condition: it is BOOLEAN.
 pub(crate) fn check_condition(condition: &Expr, place: &Place<'_, '_, '_>) -> Result<(), Fault>
     ensures { Answers (λ u. u) result (with_value (type_of (scope_at place.now)
         (tree_view condition.now)) (λ t. if_type boolean t tt)) }
@@ -65,7 +65,7 @@ pub(crate) fn check_condition(condition: &Expr, place: &Place<'_, '_, '_>) -> Re
     ask(ty == Ty::Bool, Cause::TypeMismatch)
 }
 
-/// What is asked of a condition on the tuples of a heading: it is BOOLEAN there.
+/// What is required of a condition on the tuples of a heading: it is BOOLEAN there.
 pub(crate) fn check_inside(
     scope: &Scope<'_>,
     heading: &Heading,
@@ -78,7 +78,7 @@ pub(crate) fn check_inside(
     check_condition(condition, &place)
 }
 
-/// What is asked of a value for a relvar: it is a relation of its heading.
+/// What is required of a value for a relvar: it is a relation of its heading.
 pub(crate) fn relation_fits(heading: &Heading, ty: &Ty) -> Result<(), Fault>
     ensures { Answers (λ u. u) result (relation_fits heading.now (type_view ty.now)) }
 {

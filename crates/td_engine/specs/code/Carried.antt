@@ -69,7 +69,7 @@ abbrev pub IsRefusedBy : {S : Type 0} → S → Fault → code_answer.Answer →
 IsRefusedBy s (faults.Refused cause) answer = Does (step_of s (Denied (by_cause cause))) answer s
 IsRefusedBy s faults.Memory answer = ⊥
 
--- it is refused for this
+-- the answer refuses the statement for this failure
 abbrev pub IsDenied : {S : Type 0} → S → Failure → code_answer.Answer → Type 0
 IsDenied s (failures.Refused refusal) answer = Does (step_of s (Denied (refusal_view refusal))) answer s
 IsDenied s failures.Memory answer = ⊥

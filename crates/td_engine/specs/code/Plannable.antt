@@ -1,4 +1,4 @@
--- Expressions that may be valued by a plan.
+-- Expressions that may be evaluated by a plan.
 use Rattle.std.specs.Prelude.{◌≡◌, ℕ, List, Option, Some, None, ⊤}
 use Rattle.std.specs.List.{AllByRecursion}
 use Rattle.td_catalog.specs.Database.{Database, database_scope}
@@ -27,7 +27,7 @@ pub record IsPlannable (db : Database) (e : Tree) : Type 0 where
   pub written : IsWritten e
   pub typed : (t : Type') × (type_of (database_scope db) e ≡ Valued t)
 
--- so is one that is there
+-- an expression that may be evaluated by a plan, where there is one
 abbrev pub IsPlannableIf : Database → Option Tree → Type 0
 IsPlannableIf db None = ⊤
 IsPlannableIf db (Some e) = IsPlannable db e
@@ -43,11 +43,11 @@ abbrev pub IsWrittenIf : Option Tree → Type 0
 IsWrittenIf None = ⊤
 IsWrittenIf (Some e) = IsWritten e
 
--- so are those of settings
+-- the names and texts in the settings of UPDATE are written as tokens spell them
 abbrev pub AreWrittenSettings : NamedTrees → Type 0
 AreWrittenSettings settings = PartsGiveNames settings × PartsHaveTexts settings
 
--- so are the expressions in an assignment
+-- the expressions in an assignment are written as tokens spell them
 abbrev pub IsWrittenAssignment : Assignment → Type 0
 IsWrittenAssignment (assign target source) = IsWritten source
 IsWrittenAssignment (insert target source) = IsWritten source
@@ -59,7 +59,7 @@ pub record IsAdmittedAssignment (db : Database) (a : Assignment) : Type 0 where
   pub written : IsWrittenAssignment a
   pub checked : assignment_checked (database_scope db) a ≡ Valued tt
 
--- an expression that may be valued by a plan where the name of a target means its relation so far
+-- an expression that a plan may evaluate where the name of a target means its relation so far
 pub record IsPlannableSource (db : Database) (target : List ℕ) (so_far : Relation) (e : Tree) : Type 0 where
   pub gives : GivesValues (source_world db target so_far) (database_scope db)
   pub definitions : DefinitionsAreWritten db
@@ -88,7 +88,7 @@ pub record ArePlannableSettings (db : Database) (w : World) (chosen : Outcome Re
       (r : Relation) → chosen ≡ Valued r
       → (kinds : List Attribute) × (named_types (entered_with r.heading (database_scope db)) settings ≡ Valued kinds)
 
--- an assignment whose source, or whose condition and settings, may be valued so
+-- an assignment whose source, or whose condition and settings, may be evaluated so
 abbrev pub IsPlannableAssignment : Database → Relation → Assignment → Type 0
 IsPlannableAssignment db so_far (assign target source) = IsPlannableSource db target so_far source
 IsPlannableAssignment db so_far (insert target source) = IsPlannableSource db target so_far source

@@ -25,6 +25,6 @@ pub record IsStep (old : State) (tokens : List PlacedToken) (answer : code.Answe
   pub step : Steps old tokens (step_view answer new)
   pub accepted : answer.accepted ≡ is_none answer.cause
 
--- an answer of what the tokens mean
+-- the parser's answer is that of a meaning which the tokens have
 abbrev pub IsParsed : List PlacedToken → Result code_tree.Statement Fault → Type 0
 IsParsed tokens r = (o : Outcome trees.Statement) × Parsed tokens o × Answers statement_view r o

@@ -20,7 +20,7 @@ other_in env = option_map (λ o. (o.0.now, o.1.now)) env.other
 abbrev pub world_in : {B : Type 0} → Env B → World
 world_in env = with_other (other_in env) (world_of env.catalog.now.database)
 
--- the tuples in hand there, the innermost first
+-- the tuples in scope there, the innermost first
 abbrev pub tuples_in_hand : {B : Type 0} → Env B → List Tuple
 tuples_in_hand env = reverse (map (λ t. t.now) env.tuples.now)
 

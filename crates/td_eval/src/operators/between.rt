@@ -5,7 +5,8 @@ ghost use Rattle.td_value.specs.Values.{Val};
 
 use crate::operators::arithmetic::{difference, product, quotient, sum};
 use crate::operators::relational::{
-    composition_value, intersection_value, join_value, semijoin_value, product_value, difference_value, union_value, semidifference_value,
+    composition_value, difference_value, intersection_value, join_value, product_value,
+    semidifference_value, semijoin_value, union_value,
 };
 use crate::operators::simple::{concatenation, conjunction, disjunction};
 use std::alloc::Global;

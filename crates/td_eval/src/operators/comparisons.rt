@@ -54,7 +54,7 @@ fn of_one_type(alloc: Global, first: &Value, second: &Value) -> Result<bool, Fau
     }
 }
 
-/// The same. Numbers, texts and truth values take no memory.
+/// As `of_one_type`, but numbers, texts and truth values take no memory for their types.
 fn are_one(alloc: Global, first: &Value, second: &Value) -> Result<bool, Fault>
     ensures { Answers (λ b. b) result (with_value
         (equality_type (type_of first.now) (type_of second.now))

@@ -18,7 +18,8 @@ use td_value::value::Value;
 
 /// The number of a magnitude with its sign, where it is in range.
 fn signed_number(minus: bool, magnitude: u64) -> Option<i64>
-    ensures { SomeIff result (FitsSigned w64 (signed_number minus magnitude)) (signed_number minus magnitude) }
+    ensures { SomeIff result (FitsSigned w64 (signed_number minus magnitude)) (signed_number minus
+        magnitude) }
 {
     if magnitude < MAX_MAGNITUDE {
         let number = magnitude as i64;

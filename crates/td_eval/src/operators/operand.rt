@@ -10,7 +10,7 @@ ghost use Rattle.td_types.specs.Types.{attribute_names};
 ghost use Rattle.td_types.specs.code.Views.{pairs_view};
 ghost use Rattle.td_value.specs.Values.{selected_value, value_at};
 
-use crate::operators::asked::{value_or_cause, relation_in, truth, tuple_in};
+use crate::operators::asked::{relation_in, truth, tuple_in, value_or_cause};
 use crate::operators::unnesting::closure_value;
 use std::alloc::Global;
 use std::rc::RcStr;
@@ -108,7 +108,7 @@ pub fn component_value(types: &TypeTable, name: &RcStr, operand: &Value) -> Resu
     }
 }
 
-/// The value of what is asked of a relation alone.
+/// The value of COUNT or IS_EMPTY.
 pub fn measure_value(op: Measure, operand: &Value) -> Result<Value, Fault>
     ensures { Answers (λ v. v) result (measure_value op operand.now) }
 {

@@ -73,7 +73,7 @@ fn projected_value(alloc: Global, rel: &Rel, attributes: &Attributes) -> Result<
     }
 }
 
-/// The same of a value, which must be a relation.
+/// The projection of a value, which must be a relation.
 pub fn projected_by(alloc: Global, operand: &Value, attributes: &Attributes) -> Result<Value, Fault>
     ensures { Answers (λ v. v) result
         (postfix_value (project (attributes_view attributes.now)) operand.now) }

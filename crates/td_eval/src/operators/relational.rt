@@ -25,7 +25,7 @@ pub fn relations<'a>(first: &'a Value, second: &'a Value) -> Result<(&'a Rel, &'
     Ok((rel, relation_in(second)?))
 }
 
-/// What is asked of headings.
+/// What an operator requires of the headings: HEADING where it does not hold.
 pub fn fit(headings_fit: bool) -> Result<(), Fault>
     ensures answer { Answers (λ u. u) result (value_if headings_fit tt causes.Heading) }
     ensures fits { OnOk result (IsTrue headings_fit) }

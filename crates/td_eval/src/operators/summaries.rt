@@ -96,7 +96,7 @@ pub fn item_attributes(
     causes.finish(attributes)
 }
 
-/// The attributes that items add, with their types where tuples of a relation are in hand.
+/// The attributes that items add, with their types where tuples of a relation are in scope.
 fn new_attributes<B: Body>(
     sight: &Sight<'_, B>,
     tuples: &[Tuple],
@@ -125,7 +125,7 @@ fn asked_by(item: &Summary) -> Agg
     }
 }
 
-/// What an item is of in the groups, with its aggregate.
+/// An item's aggregate, with the values of its expression in the tuples of each group.
 pub fn with_aggregate(
     item: &Summary,
     groups: Result<Vec<Vec<Value>>, Fault>,

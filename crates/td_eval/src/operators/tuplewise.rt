@@ -34,7 +34,11 @@ pub fn restriction_value(
 }
 
 /// The tuples with new attributes, whose values are given as columns.
-pub fn extension_value(alloc: Global, operand: &Rel, columns: Vec<(Name, Column)>) -> Result<Value, Fault>
+pub fn extension_value(
+    alloc: Global,
+    operand: &Rel,
+    columns: Vec<(Name, Column)>,
+) -> Result<Value, Fault>
     requires distinct { IsTrue (are_distinct
         (attribute_names (column_attributes (columns_view columns.items)))) }
     requires new { IsTrue (have_no_common

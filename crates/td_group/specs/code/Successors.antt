@@ -57,7 +57,7 @@ AreReached next v found = (w : Val) → Contains found w ↔ ((us : List Val) ×
 abbrev pub with_value_added : List Val → Val → List Val
 with_value_added found v = if has value_cmp v found then found else found ++ v ∷ []
 
--- and with several
+-- a list of values with several more, each unless it is there
 abbrev pub all_added : List Val → List Val → List Val
 all_added found [] = found
 all_added found (v ∷ vs) = all_added (with_value_added found v) vs

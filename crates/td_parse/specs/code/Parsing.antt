@@ -79,7 +79,7 @@ abbrev pub Finds : {X : Type 0} → Option X → List Lexeme → ReadOf X → Ty
 Finds (Some x) new read = read ≡ Some (x, new)
 Finds None new read = read ≡ None
 
--- so too, and where nothing is found nothing is taken
+-- what was found is what reading gives; where nothing is found, no token is taken
 abbrev pub Tries : {X : Type 0} → Option X → List Lexeme → List Lexeme → ReadOf X → Type 0
 Tries (Some x) old new read = read ≡ Some (x, new)
 Tries None old new read = (read ≡ None) × (new ≡ old)

@@ -1,4 +1,4 @@
--- What the tuples in hand, as the code has them, stand for (this project's own).
+-- What the tuples in scope, as the code has them, stand for (this project's own).
 use Rattle.std.specs.Prelude.{◌≡◌, List, [], ◌∷◌, Option, Some, None, Result, ⊤}
 use Rattle.std.specs.List.{AllByRecursion}
 use Rattle.td_eval.specs.code.Sights.{world_in}
@@ -18,18 +18,18 @@ use Rattle.td_value.specs.Values.{Val}
 abbrev pub world_around : {B : Type 0} → Surroundings B → World
 world_around around = world_in around.env.now
 
--- an answer for the outcome of the relvar of that name
+-- the answer that is kept for a virtual relvar is that of its outcome in the world
 abbrev pub IsValued : World → ValuedRelvar → Type 0
 IsValued w r = Answers (λ v. v) r.answer (known_outcome (w.relvar r.name))
 
--- the relvars that have been valued have these outcomes there
+-- the relvars that have been evaluated have these outcomes there
 abbrev pub AreValued : World → List ValuedRelvar → Type 0
 AreValued w = AllByRecursion (IsValued w)
 
 abbrev pub AreSurroundings : {B : Type 0} → Surroundings B → Type 0
 AreSurroundings around = AreValued (world_around around) around.valued.now
 
--- ---- tuples in hand
+-- ---- tuples in scope
 
 -- answers for these outcomes, one for each
 abbrev pub AreAnswers : List (Result Val Fault) → List (Outcome Val) → Type 0
@@ -38,7 +38,7 @@ AreAnswers [] (o ∷ os) = ⊥
 AreAnswers (r ∷ rs) [] = ⊥
 AreAnswers (r ∷ rs) (o ∷ os) = Answers (λ v. v) r o × AreAnswers rs os
 
--- an answer for this outcome, or for a place that there is not
+-- an answer of this outcome; where there is none, the outcome is that of an unknown place
 abbrev pub IsAnswer : Option (Result Val Fault) → Outcome Val → Type 0
 IsAnswer (Some r) o = Answers (λ v. v) r o
 IsAnswer None o = o ≡ unknown_place

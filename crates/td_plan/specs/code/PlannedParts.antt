@@ -33,7 +33,7 @@ ArePlansOfTyped scope (more p ps) (e ∷ es) = IsPlanOfTyped scope p e × ArePla
 abbrev pub IsPlanned : Scope → Result Step AllocError → Tree → Type 0
 IsPlanned scope made d = IfOk made (λ p. IsPlanOfTyped scope (step_view p) d)
 
--- in a box
+-- the step in the box is a plan of the expression, where there was memory for it
 abbrev pub IsBoxPlanned : Scope → Result (Box Step) AllocError → Tree → Type 0
 IsBoxPlanned scope made d = IfOk made (λ p. IsPlanOfTyped scope (step_view p.value) d)
 
@@ -71,13 +71,13 @@ names_in (trees.more_named n e es) = n ∷ names_in es
 
 -- ---- in the tuples of a relation
 
--- plans of what parts have where a further tuple, of the heading, is in hand, with what is valued once for all such tuples
+-- plans of parts in the tuples of a heading, and of the parts evaluated once for all these tuples
 abbrev pub ArePartPlans : Scope → Heading → PartPlans → trees.NamedTrees → Type 0
 ArePartPlans scope h plans parts =
     (ps : PlanTrees) × ArePlansOfTyped (entered_with h scope) ps (in_named parts)
     × HoistsAll none (steps_view plans.once.items) ps (steps_view plans.values.items)
 
--- the types are those of the new attributes, and of what they are of these are plans, with what is valued once
+-- the attributes have these types; the plans are of their values and of the parts evaluated once
 abbrev pub ArePlannedColumns : Scope → NewColumns → Outcome (List Attribute) → List Tree → Type 0
 ArePlannedColumns inner columns types es =
     (types ≡ Valued (pairs_view columns.attributes.items))
@@ -88,6 +88,6 @@ abbrev pub AreFoundColumns : Scope → Option NewColumns → Outcome (List Attri
 AreFoundColumns inner (Some columns) types es = ArePlannedColumns inner columns types es
 AreFoundColumns inner None types es = (xs : List Attribute) → types ≡ Valued xs → ⊥
 
--- a plan of what is asked of a further tuple in hand, with what is valued once for all such tuples
+-- a plan of the expression in a further tuple, with the parts evaluated once for all tuples
 abbrev pub IsPulled : Scope → PulledStep → Tree → Type 0
 IsPulled inner asked e = (p : PlanTree) × IsPlanOfTyped inner p e × Hoists none (steps_view asked.once.items) p (step_view asked.step.value)

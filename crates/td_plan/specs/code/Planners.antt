@@ -6,7 +6,7 @@ use Rattle.td_check.specs.Scopes.{Scope}
 use Rattle.td_plan.specs.declared.planner.Planner.{Planner}
 use Rattle.td_types.specs.Types.{Attribute, Heading, same_name}
 
--- the scope where tuples of these headings are in hand, the innermost first
+-- the scope where tuples of these headings are in scope, the innermost first
 abbrev pub among_headings : Scope → List Heading → Scope
 among_headings scope hs = record { types = scope.types; relvars = scope.relvars; constraints = scope.constraints; entered = hs }
 
@@ -14,7 +14,7 @@ among_headings scope hs = record { types = scope.types; relvars = scope.relvars;
 abbrev pub catalog_database : CatalogView → Database
 catalog_database catalog = catalog.database
 
--- the scope is the database's, and the headings are those of the tuples in hand there; the innermost is the last
+-- the scope is the database's with the headings of the tuples in scope; the last is the innermost
 abbrev pub IsPlanner : {C : Type 0} → (C → Database) → Planner C → Type 0
 IsPlanner database planner = planner.scope ≡ among_headings (database_scope (database planner.catalog.now)) (reverse planner.headings.items)
 

@@ -19,11 +19,11 @@ step_value w fs step = plan_value w fs (step_view step)
 abbrev pub step_values : World → List Frame → List Step → List (Outcome Val)
 step_values w fs steps = plan_values w fs (steps_view steps)
 
--- the value of a step where a further tuple is in hand, with these outcomes of what was valued once
+-- the value of a step in a further tuple, with these outcomes of the parts evaluated once
 abbrev pub value_in : World → List Frame → List (Outcome Val) → Step → Tuple → Outcome Val
 value_in w fs os step t = plan_value w (frame_of os t ∷ fs) (step_view step)
 
--- the same of each of the steps
+-- the values of each of the steps in a further tuple
 abbrev pub values_in : World → List Frame → List (Outcome Val) → List Step → List (Tuple → Outcome Val)
 values_in w fs os steps = plan_columns w fs os (steps_view steps)
 
@@ -31,7 +31,7 @@ values_in w fs os steps = plan_columns w fs os (steps_view steps)
 abbrev pub truths_in : World → List Frame → List (Outcome Val) → Step → List Tuple → Outcome (List Bool)
 truths_in w fs os condition ts = gathered (map (λ t. truth_value (value_in w fs os condition t)) ts)
 
--- the frames of the tuples outside of a loop, and the outcomes of what is valued once for it
+-- the frames of the tuples outside of a loop, and the outcomes of what is evaluated once for it
 abbrev pub IsEntered : Entered → List Frame → List (Outcome Val) → Type 0
 IsEntered e fs os = AreHeld e.outer.items fs × AreAnswers e.fixed.value.items os
 
@@ -40,6 +40,6 @@ abbrev pub IsInside : World → List Frame → List Step → Bool → Entered �
 IsInside w fs parts true e = IsEntered e [] []
 IsInside w fs parts false e = IsEntered e fs (step_values w fs parts)
 
--- what plans of parts give where a further tuple is in hand
+-- what plans of parts give where a further tuple is in scope
 abbrev pub values_planned : World → List Frame → PartPlans → List (Tuple → Outcome Val)
 values_planned w fs plans = values_in w fs (step_values w fs plans.once.items) plans.values.items

@@ -1,4 +1,4 @@
--- The steps that are lower than a height may be valued, and get the values that plans give them.
+-- The steps that are lower than a height may be evaluated, and get the values that plans give them.
 use Rattle.std.specs.Borrow.{Bor}
 use Rattle.std.specs.Prelude.{ℕ, ◌<◌, List, Result}
 use Rattle.td_eval.specs.Worlds.{World}

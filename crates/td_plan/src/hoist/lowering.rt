@@ -1,4 +1,4 @@
-//! Steps where a tuple that they do not name is no more in hand.
+//! Steps where a tuple that they do not name is no longer in scope.
 ghost use Rattle.std.specs.Prelude.{◌≡◌, IfOk, suc};
 ghost use Rattle.td_plan.specs.Hoisting.{all_lowered, lowered_step, lowered_depth};
 ghost use Rattle.td_plan.specs.Plans as plans;
@@ -8,7 +8,7 @@ use crate::hoist::made;
 use crate::step::Step;
 use std::alloc::AllocError;
 
-/// The step where the tuple at a depth, which it does not name, is no more in hand.
+/// The step where the tuple at a depth, which it does not name, is no longer in scope.
 #[cycle(lowered_step)]
 pub(crate) fn lowered_step(step: Step, depth: usize) -> Result<Step, AllocError>
     ensures { IfOk result (λ p. step_view p ≡ lowered_step depth (step_view step)) }
@@ -29,7 +29,10 @@ pub(crate) fn lowered_step(step: Step, depth: usize) -> Result<Step, AllocError>
         Step::Component(rest, operand) => made::component(rest, lowered_box(operand, depth)),
         Step::Measure(op, operand) => made::measure(op, lowered_box(operand, depth)),
         Step::Relation(elements) => made::relation(all(elements, depth)),
-        Step::HeadedRelation(heading, elements) => made::headed_relation(heading, all(elements, depth)),
+        Step::HeadedRelation(heading, elements) => made::headed_relation(
+            heading,
+            all(elements, depth),
+        ),
         Step::Tuple(names, parts) => made::tuple(names, all(parts, depth)),
         Step::Extend(operand, attributes, parts, values) => {
             let values = columns(values, depth);
@@ -54,28 +57,28 @@ pub(crate) fn lowered_step(step: Step, depth: usize) -> Result<Step, AllocError>
     }
 }
 
-/// A depth, where the tuple at the first depth is no more in hand.
+/// A depth, where the tuple at the first depth is no longer in scope.
 fn lowered_depth(out: usize, depth: usize) -> usize
     ensures { result ≡ lowered_depth out depth }
 {
     if out < depth { depth - 1 } else { depth }
 }
 
-/// An attribute of a tuple in hand.
+/// An attribute of a tuple in scope.
 fn attribute(depth: usize, place: usize) -> Step
     ensures { step_view result ≡ plans.attribute depth place }
 {
     Step::Attribute { depth, place }
 }
 
-/// What was valued once for a tuple in hand.
+/// A part that was evaluated once for all tuples of a relation.
 fn fixed_step(depth: usize, place: usize) -> Step
     ensures { step_view result ≡ plans.fixed depth place }
 {
     Step::Fixed { depth, place }
 }
 
-/// An operand where the tuple is no more in hand.
+/// An operand where the tuple is no longer in scope.
 #[cycle(lowered_step)]
 fn lowered_box(step: Box<Step>, depth: usize) -> Result<Box<Step>, AllocError>
     ensures { IfOk result (λ p. step_view p.value ≡ lowered_step depth (step_view step.value)) }
@@ -85,8 +88,8 @@ fn lowered_box(step: Box<Step>, depth: usize) -> Result<Box<Step>, AllocError>
     Ok(Box::new(alloc, step)?)
 }
 
-/// What is asked of an operand's tuples, where the tuple at the depth outside of them is no more in
-/// hand.
+/// A step inside of a loop, where the tuple at the depth outside of the loop is no longer in
+/// scope.
 #[cycle(lowered_step)]
 fn inner(step: Box<Step>, depth: usize) -> Result<Box<Step>, AllocError>
     ensures { IfOk result (λ p. step_view p.value ≡ lowered_step (suc depth) (step_view step.value)) }
@@ -97,7 +100,7 @@ fn inner(step: Box<Step>, depth: usize) -> Result<Box<Step>, AllocError>
     }
 }
 
-/// The same where several values are asked of them.
+/// The steps inside of a loop, where a tuple outside of the loop is no longer in scope.
 #[cycle(lowered_step)]
 fn columns(steps: Vec<Step>, depth: usize) -> Result<Vec<Step>, AllocError>
     ensures { IfOk result
@@ -109,14 +112,15 @@ fn columns(steps: Vec<Step>, depth: usize) -> Result<Vec<Step>, AllocError>
     }
 }
 
-/// Two operands where the tuple is no more in hand.
+/// Two operands where the tuple is no longer in scope.
 #[cycle(lowered_step)]
 fn operands(
     left: Box<Step>,
     right: Box<Step>,
     depth: usize,
 ) -> Result<(Box<Step>, Box<Step>), AllocError>
-    ensures left { IfOk result (λ p. step_view p.0.value ≡ lowered_step depth (step_view left.value)) }
+    ensures left { IfOk result (λ p. step_view p.0.value ≡ lowered_step depth (step_view
+        left.value)) }
     ensures right { IfOk result
         (λ p. step_view p.1.value ≡ lowered_step depth (step_view right.value)) }
 {
@@ -124,7 +128,7 @@ fn operands(
     Ok((left, lowered_box(right, depth)?))
 }
 
-/// An operand, and what is valued once for its tuples, where the tuple is no more in hand.
+/// An operand, and what is evaluated once for its tuples, where the tuple is no longer in scope.
 #[cycle(lowered_step)]
 fn over(
     operand: Box<Step>,
@@ -140,7 +144,7 @@ fn over(
     Ok((operand, all(parts, depth)?))
 }
 
-/// The steps where the tuple is no more in hand.
+/// The steps where the tuple is no longer in scope.
 #[cycle(lowered_step)]
 fn all(steps: Vec<Step>, depth: usize) -> Result<Vec<Step>, AllocError>
     ensures { IfOk result

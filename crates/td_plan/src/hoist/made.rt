@@ -73,7 +73,7 @@ pub(crate) fn component(
     Ok(Step::Component(rest, operand?))
 }
 
-/// What is asked of a relation alone.
+/// COUNT or IS_EMPTY of an operand.
 #[inline(never)]
 pub(crate) fn measure(
     op: Measure,
@@ -227,7 +227,7 @@ pub(crate) fn summarize_per(
     Ok(Step::SummarizePer(operand, per, attributes, aggregates, parts, values?))
 }
 
-/// The same per the operand's projection.
+/// The tuples of the operand's projection with what the aggregates give of their groups.
 #[inline(never)]
 pub(crate) fn summarize_by(
     operand: Result<(Box<Step>, Vec<Step>), AllocError>,

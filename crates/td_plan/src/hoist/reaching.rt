@@ -1,4 +1,4 @@
-//! Which tuples in hand a step names.
+//! Which tuples in scope a step names.
 ghost use Rattle.std.specs.Prelude.{◌≡◌, ◌||◌, false, suc};
 ghost use Rattle.td_plan.specs.Hoisting.{any_reaches, reaches};
 ghost use Rattle.td_plan.specs.code.StepViews.{step_view, steps_view};
@@ -51,7 +51,7 @@ fn either_reaches(left: &Box<Step>, right: &Box<Step>, depth: usize) -> bool
     operand_reaches(left, depth) || operand_reaches(right, depth)
 }
 
-/// Whether an operand, what is valued once for its tuples or what is asked of them may.
+/// Whether the operand, the parts evaluated once or the inner step of a loop may name the tuple.
 #[cycle(reaches)]
 fn loop_reaches(operand: &Box<Step>, parts: &Vec<Step>, value: &Box<Step>, depth: usize) -> bool
     ensures { result ≡ false → (reaches depth (step_view operand.now.value)
@@ -61,7 +61,7 @@ fn loop_reaches(operand: &Box<Step>, parts: &Vec<Step>, value: &Box<Step>, depth
     operand_reaches(operand, depth) || list_reaches(parts, depth) || inner_reaches(value, depth)
 }
 
-/// The same where several values are asked of them.
+/// Whether the operand, the parts evaluated once or an inner step of a loop may name the tuple.
 #[cycle(reaches)]
 fn columns_reach(operand: &Box<Step>, parts: &Vec<Step>, values: &Vec<Step>, depth: usize) -> bool
     ensures { result ≡ false → (reaches depth (step_view operand.now.value)
@@ -73,7 +73,7 @@ fn columns_reach(operand: &Box<Step>, parts: &Vec<Step>, values: &Vec<Step>, dep
         || inner_list_reaches(values, depth)
 }
 
-/// The same where they are asked of the groups of PER.
+/// Whether the operands, the parts evaluated once or the items of SUMMARIZE may name the tuple.
 #[cycle(reaches)]
 fn summary_reaches(
     operand: &Box<Step>,
@@ -100,7 +100,7 @@ fn operand_reaches(step: &Box<Step>, depth: usize) -> bool
     reaches(step, depth)
 }
 
-/// Whether what is asked of an operand's tuples may name the tuple at a depth outside of them.
+/// Whether the inner step of a loop may name the tuple at a depth outside of the loop.
 #[cycle(reaches)]
 fn inner_reaches(step: &Box<Step>, depth: usize) -> bool
     ensures { result ≡ false → reaches (suc depth) (step_view step.now.value) ≡ false }
@@ -119,8 +119,8 @@ fn list_reaches(steps: &Vec<Step>, depth: usize) -> bool
     any_reaches(steps, depth)
 }
 
-/// Whether one of what is asked of an operand's tuples may name the tuple at a depth outside of
-/// them.
+/// Whether one of a loop's inner steps may name the tuple at a depth outside of
+/// the loop.
 #[cycle(reaches)]
 fn inner_list_reaches(steps: &Vec<Step>, depth: usize) -> bool
     ensures { result ≡ false → any_reaches (suc depth) (steps_view steps.now.items) ≡ false }

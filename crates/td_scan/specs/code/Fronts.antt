@@ -12,7 +12,7 @@ use Rattle.td_tree.specs.Symbols.{Symbol, symbol_at}
 abbrev pub char_size : ℕ → ℕ
 char_size lead = suc (continuation_len lead)
 
--- whatever follows, the same symbol begins the bytes
+-- the first symbol of the bytes is the same whatever follows them
 abbrev pub IsKnown : List ℕ → Type 0
 IsKnown [] = ⊤
 IsKnown (b ∷ bs) = (later : List ℕ) → symbol_at b (bs ++ later) ≡ symbol_at b bs

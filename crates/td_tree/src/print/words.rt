@@ -50,7 +50,8 @@ impl Printer {
 
     /// The text without the space behind its last lexeme.
     pub(super) fn finish(self) -> String
-        ensures { (ls : List Lexeme) → self ≡ written_text ls → string_bytes result ≡ spaced_text ls }
+        ensures { (ls : List Lexeme) → self ≡ written_text ls
+            → string_bytes result ≡ spaced_text ls }
     {
         let mut out = self.out;
         out.pop();
@@ -129,7 +130,7 @@ impl Printer {
         }
     }
 
-    /// What stands before an item.
+    /// The comma before each item but the first.
     pub(super) fn comma(self, later: bool) -> Result<Printer, AllocError>
         ensures { Writes self result (comma_lexeme_if later) }
     {
