@@ -7,7 +7,7 @@ use Rattle.td_catalog.specs.Dumps.{dump_text}
 use Rattle.td_engine.specs.Machine.{Progress, State}
 use Rattle.td_engine.specs.Legality.{IsLegalState}
 use Rattle.td_engine.specs.Scripts.{OfScript, script_limit}
-use Rattle.td_engine.specs.Standing.{HasRun, HasRunCut, RunsTo, standing}
+use Rattle.td_engine.specs.Standing.{HasRunCut, RunsTo, standing}
 use Rattle.td_engine.specs.Standing as runs
 use Rattle.td_engine.specs.Told.{AppendsIfTold}
 use Rattle.td_engine.specs.declared.run.RunFault.{RunFault}

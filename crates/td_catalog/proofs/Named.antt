@@ -12,7 +12,7 @@ use Rattle.td_check.specs.code.LentScopes.{known_as}
 use Rattle.td_check.specs.Scopes.{KnownRelvar, Scope}
 use Rattle.td_check.specs.declared.scope.Kind.TheVariants as kinds
 use Rattle.td_value.specs.Values.{Relation}
-use Rattle.td_catalog.specs.code.Histories.{IsOwnStep, without_last}
+use Rattle.td_catalog.specs.code.Histories.{IsOwnStep}
 use Rattle.td_catalog.specs.declared.entry.BaseEntry.{BaseEntry}
 use Rattle.td_catalog.specs.declared.entry.ConstraintEntry.{ConstraintEntry}
 use Rattle.td_catalog.specs.declared.entry.VirtualEntry.{VirtualEntry}

@@ -9,7 +9,6 @@ use Rattle.std.specs.Set.{remove_key}
 use Rattle.std.proofs.lemmas.List.{map-append}
 use Rattle.indexmap.specs.IndexMap.{IndexMap, insert_entry}
 use Rattle.indexmap.proofs.CallerLemmas.{insert_entry-new}
-use Rattle.td_catalog.specs.Mentioned.{drop_outcome}
 use Rattle.td_check.specs.StatementTypes.{holds_or}
 use Rattle.td_tree.specs.Outcomes.{Valued, named_cause}
 use Rattle.td_tree.specs.declared.cause.Cause.{Cause}

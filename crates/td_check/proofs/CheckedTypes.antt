@@ -3,7 +3,7 @@ use Rattle.std.proofs.Common.{◌≡◌, ◌∙◌, List, Option, Some, None, Re
 use Rattle.std.specs.Global.{Vec}
 use Rattle.td_check.specs.code.CheckViews.{Added, choice_of, headed_view, by_summary, per_summary, three_types_view, types_view}
 use Rattle.td_check.specs.OperatorTypes as own
-use Rattle.td_check.specs.OperatorTypes.{comparison_type, extension_type, headed_type, operator_type, over_relation}
+use Rattle.td_check.specs.OperatorTypes.{extension_type, headed_type, over_relation}
 use Rattle.td_check.specs.StaticTypes.{both_types}
 use Rattle.td_check.proofs.Gives.{Gives, answers_paired, paired_first, with_pair}
 use Rattle.td_tree.specs.Gatherings.{both_answers}

@@ -12,7 +12,7 @@ use Rattle.td_tree.specs.Names.{IsName}
 use Rattle.td_tree.specs.Outcomes.{Outcome, Valued, Refused, value_if, with_both, with_value}
 use Rattle.td_tree.specs.Trees.{Literal, number, text, truth, table_dee, table_dum, Postfix, project, rename, group, ungroup, wrap, unwrap, Tree, literal, name, parentheses, prefix, extract, restriction, binary, compare, postfix, select, component, measure, aggregate, relation, headed_relation, tuple, extend, summarize_per, summarize_by, choice, Trees, none, more, NamedTrees, none_named, more_named, Summaries, no_summaries, counted, summed}
 use Rattle.td_types.specs.TypeLists.{DeclaredType, declared_at, heading_meant}
-use Rattle.td_types.specs.Types.{Attribute, Attrs, Heading, Type', pack, type_at, unpack}
+use Rattle.td_types.specs.Types.{Attribute, Heading, Type', pack, type_at, unpack}
 use Rattle.td_types.specs.Types as types
 use Rattle.td_check.proofs.AgreementLaws.{one_is, only_one}
 use Rattle.td_check.proofs.KnownLaws.{Supplies}

@@ -12,7 +12,7 @@ use Rattle.td_tree.specs.Trees.{TypeTree, AttributeTrees, no_attributes, attribu
 use Rattle.td_tree.specs.Trees as trees
 use Rattle.td_types.specs.Headings.{made_heading}
 use Rattle.td_types.specs.TypeLists.{DeclaredType, attributes_meant, declared_at, heading_meant, is_declared, type_meant}
-use Rattle.td_types.specs.Types.{Attribute, Heading, Type', unpack}
+use Rattle.td_types.specs.Types.{Heading, Type', unpack}
 use Rattle.td_types.specs.Types as types
 use Rattle.td_check.proofs.CarriedLaws.{Each}
 use Rattle.td_check.proofs.MentionedRelvarLaws.{each_both, each_none, each_one}

@@ -7,13 +7,13 @@ use Rattle.td_check.specs.StatementTypes.{statement_checked}
 use Rattle.td_check.specs.StaticTypes.{type_of}
 use Rattle.td_check.specs.declared.scope.Kind.TheVariants.{Base, Virtual}
 use Rattle.td_tree.specs.Outcomes.{Valued, named_cause}
-use Rattle.td_tree.specs.Trees.{Tree, literal, number, text, name, parentheses, compare, binary, postfix, project, only, extend, NamedTrees, more_named, none_named, AttributeTrees, attribute, no_attributes, define_base, define_virtual, assign_all, assign, insert, delete, update, summarize_per, summed, no_summaries, headed_relation, more, none, select, prefix, group, rename, restriction}
+use Rattle.td_tree.specs.Trees.{Tree, literal, number, text, name, parentheses, compare, binary, postfix, project, only, extend, more_named, none_named, AttributeTrees, attribute, no_attributes, define_base, define_virtual, assign_all, assign, insert, update, summarize_per, summed, no_summaries, more, none, select, rename, restriction}
 use Rattle.td_tree.specs.Trees as trees
 use Rattle.td_tree.specs.declared.cause.Cause.TheVariants as causes
 use Rattle.td_tree.specs.declared.operator.Aggregate.TheVariants.{Sum}
 use Rattle.td_tree.specs.declared.operator.Comparison.TheVariants.{Equal}
 use Rattle.td_tree.specs.declared.operator.Operator.TheVariants.{Add, Times}
-use Rattle.td_types.specs.Types.{Type', Heading, integer, char, boolean, pack}
+use Rattle.td_types.specs.Types.{Heading, integer, char, pack}
 use Rattle.td_types.specs.Types as types
 
 abbrev scope : Scope

@@ -1,10 +1,9 @@
 -- Which checks a statement may leave out: those whose tests it cannot have changed (this project's own).
 use Rattle.std.specs.Prelude.{◌≡◌, ℕ, false, List, [], ◌∷◌, Option, None}
 use Rattle.std.specs.List.{AllByRecursion}
-use Rattle.td_catalog.specs.Database.{Database, NamedConstraint, VirtualRelvar, knows_relvar, with_base, with_constraint, with_declared, with_virtual}
+use Rattle.td_catalog.specs.Database.{Database, NamedConstraint, VirtualRelvar}
 use Rattle.td_catalog.specs.NamedRelvars.{names_any}
-use Rattle.td_engine.specs.Checks.{constraint_check, derived_check, virtual_check}
-use Rattle.td_engine.specs.Legality.{IsLegal}
+use Rattle.td_engine.specs.Checks.{constraint_check, virtual_check}
 use Rattle.td_eval.specs.DatabaseWorlds.{world_of}
 use Rattle.td_eval.specs.Worlds.{World}
 use Rattle.td_types.specs.Headings.{has_name}

@@ -18,7 +18,7 @@ use Rattle.td_tree.specs.declared.fault.Fault.TheVariants as faults
 use Rattle.td_tree.specs.Outcomes.{Causes, Has, Outcome, Valued, Refused}
 use Rattle.td_tree.specs.Trees.{Tree}
 use Rattle.td_types.specs.TypeLists.{DeclaredType, declared_at}
-use Rattle.td_types.specs.Types.{Type', Heading, pack, user}
+use Rattle.td_types.specs.Types.{Type', pack, user}
 use Rattle.td_types.specs.Types as forms
 use Rattle.td_value.specs.KnownValues.{AreOfTypes, HasHeading, HasType}
 use Rattle.td_value.specs.Values.{Val, IsRelation, IsTuple, IsValue, Relation, AreValues, Tuple, heading_of, pack_fields, pack_parts}

@@ -3,7 +3,7 @@ use Rattle.std.proofs.Common.{◌≡◌, ◌∙◌, ap, arith, sym, refl, subst,
 use Rattle.std.specs.Prelude.{◌&&◌, not}
 use Rattle.std.proofs.lemmas.List.Elements.{All-from_recursion}
 use Rattle.td_types.specs.Headings.{has_attribute, has_name, has_projection, projection}
-use Rattle.td_types.specs.Types.{Heading, IsHeading, Type', attribute_names, pack}
+use Rattle.td_types.specs.Types.{attribute_names, pack}
 use Rattle.td_types.specs.Types as types
 use Rattle.td_value.specs.Agreement.{AgreeOn, agree_on}
 use Rattle.td_value.specs.Values.{IsRelation, IsTupleOf, Relation, Tuple, projected_tuple, relation_value, value_at}

@@ -4,7 +4,7 @@ use Rattle.std.specs.Prelude.{IsTrue, if◌then◌else◌, is_some, not, option_
 use Rattle.std.specs.List.{All, Contains, flat_map}
 use Rattle.std.proofs.lemmas.List.Elements.{All-contains}
 use Rattle.td_types.specs.Headings.{has_attribute, has_projection, heading_union, projection, with_attribute, without_attribute}
-use Rattle.td_types.specs.Types.{Heading, IsHeading, Type', attribute_names, pack, same_name, type_at, unpack}
+use Rattle.td_types.specs.Types.{Heading, IsHeading, Type', pack, same_name, unpack}
 use Rattle.td_types.specs.Types as types
 use Rattle.td_types.proofs.Meanings.{pack_unpack}
 use Rattle.td_value.specs.Values.{AreRows, IsTupleOf, IsValue, Relation, Tuple, Val, boolean, char, fields_type, integer, projected_tuple, relation, tuple, tuple_of, tuple_value, type_of, unpack_fields, unpack_rows, user, value_at}

@@ -4,7 +4,7 @@ use Rattle.std.specs.Prelude.{◌↔◌, ◌||◌, if◌then◌else◌, is_some,
 use Rattle.std.specs.Cmp.Lexicographic.{same_text}
 use Rattle.std.specs.List.{Contains, flat_map}
 use Rattle.td_types.specs.Headings.{are_distinct, has_attribute, has_name, has_projection, projection, without_attribute}
-use Rattle.td_types.specs.Types.{Heading, IsHeading, attribute_names, pack, same_name, type_at}
+use Rattle.td_types.specs.Types.{pack, same_name, type_at}
 use Rattle.td_types.specs.Types as types
 use Rattle.td_types.proofs.HeadingLaws.{has_attribute-names, has_attribute-with, same_name-itself, type_at-union}
 use Rattle.td_value.specs.Agreement.{AgreeOn, agree_on}

@@ -5,7 +5,7 @@ use Rattle.std.specs.Cmp.Lexicographic.{same_text}
 use Rattle.std.specs.List.{Contains, flat_map}
 use Rattle.td_types.specs.Headings.{has_attribute, has_name, has_projection, have_no_common, heading_union, projection, without_attribute}
 use Rattle.td_types.specs.code.TypeCode.{unpack_pack}
-use Rattle.td_types.specs.Types.{Heading, IsAscending, IsHeading, Type', attribute_names, pack, same_name, type_at}
+use Rattle.td_types.specs.Types.{Heading, IsHeading, Type', attribute_names, pack, same_name, type_at}
 use Rattle.td_types.specs.Types as types
 use Rattle.td_types.proofs.HeadingLaws.{IsAscending-union, IsAscending-without, IsHeading-filter, IsHeading-with, ascending_from_heading, has_attribute-names, same_name-itself, type_at-outside, type_at-projection, type_at-union, type_at-with, type_at-without, types_determine_heading}
 use Rattle.td_value.specs.Agreement.{AgreeOn, agree_on}

@@ -3,7 +3,7 @@ use Rattle.std.proofs.Common.{◌≡◌, refl, ℕ, pos, List, [], ◌∷◌}
 use Rattle.td_group.specs.Aggregates.{greatest_value, least_value, sum_of}
 use Rattle.td_group.specs.Closure.{closure}
 use Rattle.td_group.specs.Nesting.{grouped_relation, unnested_relation, wrapped_relation}
-use Rattle.td_types.specs.Types.{Type', Heading, pack}
+use Rattle.td_types.specs.Types.{Heading, pack}
 use Rattle.td_types.specs.Types as types
 use Rattle.td_value.specs.Values.{Val, integer, Tuple, Relation, relation_of, relation_value, tuple_value}
 

@@ -4,7 +4,7 @@ use Rattle.std.specs.List.{flat_map}
 use Rattle.td_algebra.specs.Columns.{new_attribute}
 use Rattle.td_algebra.specs.Operators.{extended_relation, projected_relation, restriction}
 use Rattle.td_types.specs.Headings.{are_distinct, has_attribute, has_projection, have_no_common, heading_union, outside, projection, with_attribute, without_attribute}
-use Rattle.td_types.specs.Types.{Type', Attrs, Heading, attribute_names, pack, type_at, unpack}
+use Rattle.td_types.specs.Types.{Type', Heading, attribute_names, pack, type_at, unpack}
 use Rattle.td_types.specs.Types as types
 use Rattle.td_value.specs.Agreement.{agree_on}
 use Rattle.td_value.specs.Values.{Val, tuple, relation, Tuple, Relation, projected_tuple, relation_of, relation_value, tuple_names, tuple_of, tuple_value, unpack_fields, unpack_rows, value_at}

@@ -14,7 +14,7 @@ use Rattle.td_tree.specs.Lexemes.{Lexeme, keyword, sign}
 use Rattle.td_tree.specs.Lexemes as lexeme
 use Rattle.td_tree.specs.Lists.{with_braces, with_parentheses}
 use Rattle.td_tree.specs.Numbers.{numeral_limit}
-use Rattle.td_parse.specs.Reading.{trees_from, named_from, summaries_from, numeral, negative, expression, part, addition, summary, summaries, name_expression, component_of, measure_expression, aggregate_expression, headed_relation, elements, relation, tuple, extension, summary_per, summary_by, summarize_expression, choice, primary_of_word, primary_of_sign, primary, by_level, read}
+use Rattle.td_parse.specs.Reading.{numeral, negative, part, addition, summary, summaries, name_expression, component_of, measure_expression, aggregate_expression, headed_relation, elements, relation, tuple, extension, summary_per, summary_by, summarize_expression, choice, primary_of_word, primary_of_sign, primary, by_level, read}
 use Rattle.td_parse.specs.Reading as reading
 use Rattle.td_parse.specs.ReadingOperators.{call_at}
 use Rattle.td_parse.specs.ReadingSteps.{expect, read_up_to, in_parentheses_read, listed_to}

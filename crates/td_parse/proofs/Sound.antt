@@ -17,7 +17,7 @@ use Rattle.td_parse.specs.Reading.{Read, read_postfix, primary, postfixes, postf
 use Rattle.td_parse.specs.ReadingOperators.{link_level, link_words, linked_tree, link_at, comparison_at, prefix_at, extraction_at, postfix_at}
 use Rattle.td_parse.specs.ReadingSteps.{◌>>=◌, expect}
 use Rattle.td_tree.specs.Trees as tree
-use Rattle.td_tree.specs.Trees.{Text, Tree}
+use Rattle.td_tree.specs.Trees.{Tree}
 use Rattle.td_parse.proofs.SoundNames.{after_word, postfix_sound}
 use Rattle.td_parse.proofs.SoundOperators.{link_is, comparison_is, PrefixFront, minus_front, closure_front, tuple_front, prefix_is, otherwise, extraction_is}
 use Rattle.td_parse.proofs.SoundParts.{IsAt, Inside}

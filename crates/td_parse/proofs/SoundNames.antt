@@ -11,7 +11,7 @@ use Rattle.td_tree.specs.Lists.{Listed}
 use Rattle.td_parse.specs.Reading.{named_attributes, postfix_of_word, read_postfix}
 use Rattle.td_parse.specs.ReadingSteps.{expect, read_name, read_as, in_parentheses_read, list_by_commas, names_to_brace, names, all_but, attribute_list, read_renaming}
 use Rattle.td_tree.specs.Trees as tree
-use Rattle.td_tree.specs.Trees.{Text, Attributes, Renaming, Postfix}
+use Rattle.td_tree.specs.Trees.{Text, Attributes, Postfix}
 use Rattle.td_parse.proofs.SoundSteps.{bind_some, either_cases, Front, glue, expect_front, Takes, Sound, retake, TakesTo, name_front, as_front, enclosed_sound, separated_sound, listed_sound}
 
 name_sound : Sound NameSpelling read_name

@@ -11,7 +11,7 @@ use Rattle.td_tree.specs.Grammar as grammar
 use Rattle.td_tree.specs.Grammar.{height_limit, Spelling, IsExpression, looser, between, negation, minus, comparison, literal, reference, component, number_literal, minus_literal, loosest}
 use Rattle.td_tree.specs.Heights.{height}
 use Rattle.td_tree.specs.Keywords.{keyword_of}
-use Rattle.td_tree.specs.Lexemes.{Lexeme, keyword, sign}
+use Rattle.td_tree.specs.Lexemes.{Lexeme, sign}
 use Rattle.td_tree.specs.Lexemes as lexeme
 use Rattle.td_tree.specs.Names.{is_name}
 use Rattle.td_tree.specs.Pieces.{sign_at, sign_goes_on, opens, goes_on, word_kind}

@@ -11,7 +11,7 @@ use Rattle.td_parse.specs.Reading.{Read, named_from, read}
 use Rattle.td_parse.specs.ReadingSteps.{◌>>=◌, either, ReadOf, expect, read_name, read_up_to, in_parentheses_read, optional, list_by_commas, list_by_words, names}
 use Rattle.td_parse.specs.ReadingTypes.{attribute, attribute_trees_from, read_type, relation_heading}
 use Rattle.td_tree.specs.Trees as tree
-use Rattle.td_tree.specs.Trees.{Text, TypeTree, Tree, Assignment, Statement}
+use Rattle.td_tree.specs.Trees.{Text, Tree, Assignment, Statement}
 
 -- e
 abbrev pub expression : List Lexeme → Read

@@ -13,9 +13,9 @@ use Rattle.td_tree.specs.Outcomes.{Outcome, Valued, with_both, with_value}
 use Rattle.td_tree.specs.Trees.{Tree, literal, name, parentheses, prefix, extract, restriction, binary, compare, postfix, select, component, measure, aggregate, relation, headed_relation, tuple, extend, summarize_per, summarize_by, choice, Trees, none, more, NamedTrees, none_named, more_named, Summaries, no_summaries, counted, summed, project}
 use Rattle.td_types.specs.Headings.{has_attribute, has_name}
 use Rattle.td_types.specs.TypeLists.{heading_meant}
-use Rattle.td_types.specs.Types.{Type', Attribute, Heading, pack, type_at}
+use Rattle.td_types.specs.Types.{Type', Heading, pack, type_at}
 use Rattle.td_types.specs.Types as types
-use Rattle.td_value.specs.Values.{Val, Tuple, Relation, IsRelation, heading_of, projected_tuple, value_at}
+use Rattle.td_value.specs.Values.{Val, Tuple, heading_of, projected_tuple, value_at}
 use Rattle.td_value.specs.Values as values
 use Rattle.td_value.proofs.Agreement.{value_of_projection}
 use Rattle.td_algebra.proofs.Entries.{no_value_outside, type_at-heading_of}

@@ -3,7 +3,7 @@ use Rattle.std.proofs.Common.{◌≡◌, ◌∙◌, ◌+◌, ◌≤◌, ℕ, zer
 use Rattle.std.specs.List.{slice_get}
 use Rattle.std.proofs.Math.Seq.{take-suc}
 use Rattle.std.proofs.lemmas.List.{map-append, reverse-append, take_all}
-use Rattle.td_plan.specs.code.Planners.{attribute_place, is_named, place_in}
+use Rattle.td_plan.specs.code.Planners.{is_named, place_in}
 use Rattle.td_types.specs.Types.{Heading, same_name}
 
 not_none : (o : Option ℕ) → option_map suc o ≡ None → o ≡ None

@@ -2,7 +2,7 @@
 use Rattle.std.proofs.Common.{◌≡◌, ◌∙◌, ℕ, suc, Bool, true, false, List, [], ◌∷◌, Option, Some, None, ap, map, option_map, refl, subst, sym, if◌then◌else◌}
 use Rattle.std.specs.List.{slice_get}
 use Rattle.td_check.specs.Scopes.{Scope}
-use Rattle.td_eval.specs.Worlds.{World, innermost_value, known_outcome, name_value}
+use Rattle.td_eval.specs.Worlds.{World, innermost_value, known_outcome}
 use Rattle.td_plan.specs.code.Planners.{attribute_place, place_in}
 use Rattle.td_plan.specs.Plans as plans
 use Rattle.td_plan.specs.Plans.{Frame, attribute_at, value_or}

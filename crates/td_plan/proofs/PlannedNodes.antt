@@ -8,7 +8,7 @@ use Rattle.td_check.specs.StaticLaws.{GiveNames, PartsGiveNames}
 use Rattle.td_check.specs.StaticTypes.{named_types, both_types, type_of, types_of}
 use Rattle.td_eval.specs.OperatorValues.{comparison_value, component_value, extracted_value, headed_value, listed_value, measure_value, on_truth, operator_value, postfix_value, prefix_value, tuple_from}
 use Rattle.td_eval.specs.TreeTexts.{HaveTexts, PartsHaveTexts}
-use Rattle.td_eval.specs.TreeValues.{argument_values, entry_values, value_of}
+use Rattle.td_eval.specs.TreeValues.{argument_values, entry_values}
 use Rattle.td_eval.specs.UnfailingValues.{GivesValues}
 use Rattle.td_eval.specs.Worlds.{World, selector_outcome}
 use Rattle.td_plan.specs.code.PlannedParts.{ArePlansOfTyped, in_named, in_trees, names_in}

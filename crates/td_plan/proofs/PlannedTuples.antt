@@ -23,7 +23,7 @@ use Rattle.td_plan.specs.Hoisting.{BeginsWith, Hoists, HoistsAll}
 use Rattle.td_plan.specs.Narrowing.{Narrows}
 use Rattle.td_plan.specs.code.PlannedParts.{ArePlansOfTyped, in_named}
 use Rattle.td_plan.specs.Plans as plans
-use Rattle.td_plan.specs.Plans.{Frame, PlanTree, PlanTrees, extension_of, frame_of, plan_columns, plan_value, plan_values, where_as_many}
+use Rattle.td_plan.specs.Plans.{Frame, PlanTree, PlanTrees, extension_of, frame_of, plan_columns, plan_value, plan_values}
 use Rattle.td_plan.specs.PlansOf.{AreFramesOf, AreInHand, IsPlanOfTyped, outermost}
 use Rattle.td_tree.specs.declared.operator.Aggregate.{Aggregate}
 use Rattle.td_tree.specs.Outcomes.{Outcome, Valued, with_value}

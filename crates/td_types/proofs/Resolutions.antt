@@ -14,11 +14,8 @@ use Rattle.td_tree.specs.declared.type_tree.TypeTree.{TypeTree}
 use Rattle.td_tree.specs.declared.type_tree.TypeTree.TheVariants as t
 use Rattle.std.specs.Global.{Vec}
 use Rattle.td_types.specs.Headings.{made_heading}
-use Rattle.td_types.specs.code.Pairs.{pair_view}
 use Rattle.td_types.specs.TypeLists.{DeclaredType, attributes_meant, heading_meant, type_meant}
 use Rattle.td_types.specs.Types.{Attribute, Heading, Type', pack, relation, tuple}
-use Rattle.td_types.specs.code.Views.{pairs_view}
-use Rattle.td_types.specs.declared.ty.Ty.{Ty}
 
 -- what an attribute of a tree means
 abbrev pub outcome_of : List DeclaredType → AttributeTree → Outcome Attribute

@@ -12,7 +12,7 @@ use std::hash::{Hash, Hasher};
 fn feed_type<H: Hasher>(ty: &Ty, state: &mut H)
     ensures { state.new ≡ fold H.write state.old (fed_type (type_view ty.now)) }
 {
-    state.write_u8(ty.rank());
+    state.write_u8(ty.kind_number());
     match ty {
         Ty::Bool | Ty::Int | Ty::Text => {}
         Ty::User(name) => name.as_str().hash(state),

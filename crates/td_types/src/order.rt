@@ -10,8 +10,8 @@ use crate::ty::Ty;
 use std::cmp::Ordering;
 
 impl Ty {
-    /// The place of the type's kind.
-    pub(crate) fn rank(&self) -> u8
+    /// The number of the type's kind among the kinds.
+    pub(crate) fn kind_number(&self) -> u8
         ensures { result ≡ type_kind (type_view self.now) }
     {
         match self {
@@ -33,7 +33,7 @@ fn compare_types(a: &Ty, b: &Ty) -> Ordering
         (Ty::User(m), Ty::User(n)) => m.cmp(n),
         (Ty::Tup(g), Ty::Tup(h)) => compare_headings(g, h),
         (Ty::Rel(g), Ty::Rel(h)) => compare_headings(g, h),
-        _ => a.rank().cmp(&b.rank()),
+        _ => a.kind_number().cmp(&b.kind_number()),
     }
 }
 

@@ -5,7 +5,7 @@ use Rattle.std.proofs.lemmas.Int.{ints}
 use Rattle.td_tree.specs.declared.keyword.Keyword.TheVariants as k
 use Rattle.td_tree.specs.declared.token.Sign.TheVariants as signs
 use Rattle.td_tree.specs.Grammar as g
-use Rattle.td_tree.specs.Grammar.{IsExpression, Spelling, loosest}
+use Rattle.td_tree.specs.Grammar.{Spelling, loosest}
 use Rattle.td_tree.specs.Lexemes.{Lexeme, keyword, sign}
 use Rattle.td_tree.specs.Lexemes as lexeme
 use Rattle.td_tree.specs.Numbers.{numeral_limit}
@@ -17,7 +17,7 @@ use Rattle.td_tree.proofs.law_lemmas.Boundaries.{IsBounded}
 use Rattle.td_tree.proofs.law_lemmas.OwnSpellings.{AllNamedSpelled, AllSpelled, IsSpelled, at_level, heading_spelled, items_after, items_first, items_follow, list_spelled, tuple_spelled}
 use Rattle.td_tree.proofs.law_lemmas.SeenLaws.{IsSeen, between_braces, between_parentheses, close_brace_seen, close_parenthesis_seen, lexeme_seen, minus_seen, nothing_seen, seen_same, space_seen}
 use Rattle.td_types.specs.Texts.{comma_if, type_text}
-use Rattle.td_types.specs.Types.{Attrs, Type'}
+use Rattle.td_types.specs.Types.{Attrs}
 use Rattle.td_types.specs.Types as types
 use Rattle.td_types.specs.TypeTrees.{attribute_trees}
 use Rattle.td_types.proofs.TypeSpellings.{comma_if_seen, regroup_items, type_seen}

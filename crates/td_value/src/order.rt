@@ -12,7 +12,8 @@ use crate::value::{Node, Value};
 use std::cmp::Ordering;
 use td_tree::name::Name;
 
-fn rank_of(a: &Value) -> u8
+/// The number of the value's kind among the kinds.
+fn kind_number(a: &Value) -> u8
     ensures { result ≡ value_kind a.now }
 {
     match &a.node {
@@ -36,7 +37,7 @@ pub fn compare_values(a: &Value, b: &Value) -> Ordering
         (Node::User(t), Node::User(u)) => compare_users(t, u),
         (Node::Tup(s), Node::Tup(t)) => compare_tuples(s, t),
         (Node::Rel(r), Node::Rel(s)) => compare_rels(r, s),
-        _ => rank_of(a).cmp(&rank_of(b)),
+        _ => kind_number(a).cmp(&kind_number(b)),
     }
 }
 

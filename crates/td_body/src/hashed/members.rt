@@ -59,7 +59,7 @@ impl Model for Members {
 /// may be touched than stand in order, before the members are put in order anew.
 const FEW: usize = 16;
 
-/// A change is small, too, of one tuple for each so many members.
+/// A change of one tuple for so many members is small, too.
 const MEMBERS_A_TUPLE: usize = 4;
 
 impl Members {

@@ -3,7 +3,7 @@ use Rattle.std.proofs.Common.{◌≡◌, ◌∙◌, ◌∷◌, ℕ, Bool, true, 
 use Rattle.std.specs.Cmp.Lexicographic.{same_text}
 use Rattle.std.specs.List.{AllByRecursion}
 use Rattle.std.specs.Prelude.{if◌then◌else◌, map, not}
-use Rattle.td_algebra.specs.Operators.{difference, restriction, union}
+use Rattle.td_algebra.specs.Operators.{difference, restriction}
 use Rattle.td_algebra.proofs.Relations.{IsRelation-restriction}
 use Rattle.td_body.proofs.Differences.{replaced}
 use Rattle.td_body.specs.Bodies.{after_change}

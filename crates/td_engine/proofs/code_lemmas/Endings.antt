@@ -10,7 +10,7 @@ use Rattle.td_engine.proofs.code_lemmas.ToldLaws.{told_after}
 use Rattle.td_engine.proofs.code_lemmas.Turning.{goes_on, runs_more}
 use Rattle.td_engine.specs.Faults.{IfNotMemory, IfRead, IfReadLimit, IfWrite}
 use Rattle.td_engine.specs.Machine.{Progress, Runs, State, Step, and_then, progress_at_first, has_stopped, nothing}
-use Rattle.td_engine.specs.Scripts.{AreEnded, Continued, IsFront, IsRead, AreLeft, OfBroken, OfFront, OfScript, OfTooMuch}
+use Rattle.td_engine.specs.Scripts.{AreEnded, Continued, AreLeft, OfBroken, OfFront, OfScript, OfTooMuch}
 use Rattle.td_engine.specs.Standing.{HasRun, HasRunCut, IsLeft, IsOngoing, Run, RunsTo, Standing, Stands, run_of}
 use Rattle.td_engine.specs.Told.{AppendsIfTold, ConsumesIfTold, GaveAtMost, KeepsIfTold}
 use Rattle.td_engine.specs.code.Turns.{EndedAt, EndedIn, HasTurnedCut, IsFed, Place, Reached, Advanced, place_at}

@@ -10,7 +10,7 @@ use Rattle.td_algebra.specs.Operators.{difference, union}
 use Rattle.td_catalog.specs.Database.{BaseRelvar, Database, base_named}
 use Rattle.td_catalog.specs.TypedDatabases.{AreTyped}
 use Rattle.td_engine.proofs.law_lemmas.Gifted.{some_is}
-use Rattle.td_engine.specs.Assignments.{Given, given_to, with_given}
+use Rattle.td_engine.specs.Assignments.{given_to, with_given}
 use Rattle.td_engine.specs.Changes.{AreChanges, AreTypedChanges, IsChangeOf, IsTypedChange, changed_by, given_as, given_in}
 use Rattle.td_engine.specs.code.Gifts.{AreGifts, IsGift}
 use Rattle.td_engine.specs.declared.change.Change.{Change}

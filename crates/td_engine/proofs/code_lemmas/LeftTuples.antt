@@ -10,7 +10,7 @@ use Rattle.td_algebra.specs.Operators.{difference, restriction, union}
 use Rattle.td_types.specs.Types.{Heading}
 use Rattle.td_value.proofs.Members.{by_members}
 use Rattle.td_value.proofs.SetLaws.{is_set_of}
-use Rattle.td_value.specs.Sets.{has, set_of}
+use Rattle.td_value.specs.Sets.{has}
 use Rattle.td_value.specs.Values.{IsRelation, Relation, Tuple, tuple_cmp}
 use Rattle.td_value.specs.ValueOrder.{tuple_order_same, tuple_order_total}
 use Rattle.td_value.specs.code.Views.{relation_view}

@@ -18,7 +18,7 @@ use Rattle.td_engine.specs.Legality.{IsLegal}
 use Rattle.td_engine.specs.Machine.{Accepted, by_outcome, checked_effect, ok_text, type_defined, virtual_defined}
 use Rattle.td_engine.specs.declared.refusal.Failure.{Failure}
 use Rattle.td_eval.specs.DatabaseWorlds.{world_of}
-use Rattle.td_tree.specs.Outcomes.{Outcome, Valued}
+use Rattle.td_tree.specs.Outcomes.{Valued}
 use Rattle.td_tree.specs.Trees.{AttributeTrees, Text, Tree, define_virtual}
 use Rattle.td_tree.specs.declared.cause.Cause.TheVariants as causes
 use Rattle.td_types.proofs.OutcomeLaws.{valued_is, value_of_with}

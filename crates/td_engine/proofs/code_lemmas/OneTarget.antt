@@ -6,7 +6,7 @@ use Rattle.td_catalog.specs.Database.{BaseRelvar, Database, base_among, base_nam
 use Rattle.td_catalog.specs.TypedDatabases.{IsTyped}
 use Rattle.td_engine.proofs.law_lemmas.Gifted.{AreApart, names_of, some_is}
 use Rattle.td_engine.proofs.law_lemmas.PassedChecks.{neither_there}
-use Rattle.td_engine.specs.Assignments.{Given, given_to, with_gift, with_gifts}
+use Rattle.td_engine.specs.Assignments.{Given, with_gift, with_gifts}
 use Rattle.td_engine.specs.Checks.{BasesHold, base_check, first_refusal}
 use Rattle.td_engine.specs.Refusals.{Refusal}
 use Rattle.td_eval.proofs.law_lemmas.DistinctNames.{distinct_first, first_apart}

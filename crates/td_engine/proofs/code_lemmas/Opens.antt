@@ -3,7 +3,7 @@ use Rattle.std.proofs.Common.{◌≡◌, ◌∙◌, ◌≤◌, ◌<◌, ◌+◌,
 use Rattle.std.proofs.lemmas.List.{length-map}
 use Rattle.std.specs.List.{AllByRecursion}
 use Rattle.td_catalog.specs.Database.{Database}
-use Rattle.td_catalog.specs.KeptDatabases.{CatalogView, settled_view, stages}
+use Rattle.td_catalog.specs.KeptDatabases.{CatalogView, stages}
 use Rattle.td_engine.proofs.code_lemmas.StageLaws.{back_stage, back_stages, descend_more, keeps_more, present_stage, stages_on}
 use Rattle.td_engine.proofs.law_lemmas.Transactions.{begin_legal, commit_legal, rollback_legal}
 use Rattle.td_engine.specs.Legality.{IsLegal, IsLegalState}

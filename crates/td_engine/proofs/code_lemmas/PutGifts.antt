@@ -2,11 +2,9 @@
 use Rattle.std.proofs.Common.{◌≡◌, ◌∙◌, ◌∷◌, ◌+◌, ℕ, zero, suc, Bool, true, false, List, [], Option, Some, None, Result, Ok, Err, ap, refl, subst, sym}
 use Rattle.std.specs.Prelude.{IfSome, OnOk, if◌then◌else◌, ⊤}
 use Rattle.std.specs.List.{AllByRecursion, slice_get}
-use Rattle.td_algebra.specs.Operators.{difference, restriction}
+use Rattle.td_algebra.specs.Operators.{restriction}
 use Rattle.td_body.proofs.Differences.{led_over}
-use Rattle.td_body.specs.Bodies.{after_change}
-use Rattle.td_catalog.specs.Database.{BaseRelvar, Database, base_among, base_named, base_relvar, with_bases, with_body, with_relation}
-use Rattle.td_catalog.specs.KeptDatabases.{CatalogView, advanced_view}
+use Rattle.td_catalog.specs.Database.{BaseRelvar, Database, base_among, base_named, base_relvar, with_body, with_relation}
 use Rattle.td_catalog.specs.TypedDatabases.{AreTyped, IsTyped, IsTypedBase}
 use Rattle.td_engine.proofs.law_lemmas.Gifted.{found, some_is, still_found}
 use Rattle.td_engine.specs.Assignments.{Given}
@@ -18,7 +16,7 @@ use Rattle.td_eval.proofs.code_lemmas.KeepsOperators.{typed_restriction}
 use Rattle.td_eval.proofs.code_lemmas.KeepsRelations.{IsTypedRelation, typed_from_value, value_from_typed}
 use Rattle.td_types.specs.TypeLists.{AreKnown, DeclaredType}
 use Rattle.td_types.specs.Types.{Heading, pack, same_name}
-use Rattle.td_value.specs.Values.{IsRelation, Relation, Tuple}
+use Rattle.td_value.specs.Values.{Relation, Tuple}
 
 -- ---- what is given
 

@@ -5,7 +5,7 @@ use Rattle.std.specs.Cmp.Lexicographic.{same_text}
 use Rattle.std.specs.Prelude.{◌||◌, cond, if◌then◌else◌}
 use Rattle.std.specs.List.{AllByRecursion, find}
 use Rattle.std.specs.Map.{keys_of}
-use Rattle.td_catalog.specs.Database.{BaseRelvar, Database, NamedConstraint, VirtualRelvar, base_among, base_named, database_scope, with_bases}
+use Rattle.td_catalog.specs.Database.{BaseRelvar, Database, NamedConstraint, VirtualRelvar, base_among}
 use Rattle.td_catalog.specs.TypedDatabases.{IsTyped}
 use Rattle.td_engine.proofs.law_lemmas.EachOf.{all_given, neither}
 use Rattle.td_engine.proofs.law_lemmas.Gifted.{given_none, same_named}
@@ -14,14 +14,13 @@ use Rattle.td_engine.proofs.law_lemmas.TestsAfterDrops.{IsAsked, all_asked, tree
 use Rattle.td_engine.proofs.law_lemmas.WrittenStatements.{definitions_written}
 use Rattle.td_engine.specs.Assignments.{Given, given_to, with_gift, with_gifts}
 use Rattle.td_engine.specs.Changes.{given_in}
-use Rattle.td_engine.specs.Checks.{constraint_check, refusal_unless_passed, virtual_check}
+use Rattle.td_engine.specs.Checks.{refusal_unless_passed}
 use Rattle.td_engine.specs.declared.change.Change.{Change}
 use Rattle.td_engine.specs.LeftOut.{PassesElsewhere, PassesUnlessNamed, PassesUnlessReached}
 use Rattle.td_engine.specs.Legality.{HasKeysThatHold, IsLegal, IsTrueOf}
 use Rattle.td_engine.specs.Refusals.{by_constraint, by_key}
 use Rattle.td_eval.proofs.law_lemmas.UnreachedValues.{unreached_values_stay}
 use Rattle.td_eval.specs.DatabaseWorlds.{world_of}
-use Rattle.td_catalog.specs.NamedRelvars.{names_any}
 use Rattle.td_eval.specs.ReachedRelvars.{DiffersIn, reached_from}
 use Rattle.td_tree.specs.Trees.{name}
 use Rattle.td_types.proofs.HeadingLaws.{same_name-itself}

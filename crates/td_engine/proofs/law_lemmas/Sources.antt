@@ -15,7 +15,7 @@ use Rattle.td_tree.specs.declared.operator.Operator.TheVariants as operators
 use Rattle.td_tree.specs.declared.operator.Prefix.TheVariants as prefixes
 use Rattle.td_tree.specs.declared.fault.Fault.{Fault}
 use Rattle.td_tree.specs.Outcomes.{Answers, Outcome, Valued, Refused, gathered, value_if, with_both, with_value}
-use Rattle.td_tree.specs.Trees.{Tree, binary, name}
+use Rattle.td_tree.specs.Trees.{Tree, name}
 use Rattle.td_tree.specs.Trees as trees
 use Rattle.td_types.proofs.HeadingLaws.{same_name-itself}
 use Rattle.td_types.proofs.OutcomeLaws.{valued_is}

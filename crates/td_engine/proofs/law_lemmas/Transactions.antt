@@ -6,7 +6,7 @@ use Rattle.std.specs.List.{AllByRecursion}
 use Rattle.std.specs.String.{string_bytes}
 use Rattle.td_catalog.specs.Database.{Database}
 use Rattle.td_engine.proofs.law_lemmas.Answered.{ok_does}
-use Rattle.td_engine.specs.Machine.{Accepted, Effect, State, begun_transaction, committed_transaction, denied_transaction, ok_text, rolled_back, state_of, step_of, transaction_limit}
+use Rattle.td_engine.specs.Machine.{Effect, State, committed_transaction, denied_transaction, ok_text, rolled_back, state_of, step_of, transaction_limit}
 use Rattle.td_engine.specs.Refusals.{cause_text, line}
 use Rattle.td_engine.specs.Legality.{IsLegal, IsLegalState}
 use Rattle.td_engine.specs.code.Steps.{Does}

@@ -39,7 +39,7 @@ use Rattle.td_types.specs.Headings.{are_distinct}
 use Rattle.td_types.specs.TypeLists.{AreKnown, DeclaredType}
 use Rattle.td_types.specs.TypeOrder.{heading_eq-Decides}
 use Rattle.td_types.specs.Types.{Attribute, Heading, Type', pack, same_name, unpack}
-use Rattle.td_value.specs.Values.{Val, boolean, integer, char, user, tuple, relation, IsRelation, Relation, Tuple, heading_of, unpack_rows}
+use Rattle.td_value.specs.Values.{Val, boolean, integer, char, user, tuple, relation, Relation, Tuple, heading_of, unpack_rows}
 use Rattle.td_value.specs.Values as values
 use Rattle.td_value.specs.code.Views.{relation_view}
 

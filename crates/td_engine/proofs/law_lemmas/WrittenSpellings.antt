@@ -9,8 +9,8 @@ use Rattle.td_tree.specs.declared.token.Kind.{Kind}
 use Rattle.td_tree.specs.declared.token.Kind.TheVariants as kinds
 use Rattle.td_tree.specs.declared.token.Sign.TheVariants as signs
 use Rattle.td_tree.specs.Grammar as g
-use Rattle.td_tree.specs.Grammar.{AdditionsSpelling, AttributesSpelling, ExpressionsSpelling, HeadingSpelling, ListSpelling, LiteralSpelling, PartsSpelling, PostfixSpelling, RenamingSpelling, Spelling, SummariesSpelling, TypeSpelling, comparison_word, operator_words}
-use Rattle.td_tree.specs.Lexemes.{Lexeme, keyword, sign}
+use Rattle.td_tree.specs.Grammar.{AdditionsSpelling, AttributesSpelling, ExpressionsSpelling, HeadingSpelling, ListSpelling, LiteralSpelling, PartsSpelling, PostfixSpelling, RenamingSpelling, Spelling, SummariesSpelling, TypeSpelling, operator_words}
+use Rattle.td_tree.specs.Lexemes.{Lexeme, sign}
 use Rattle.td_tree.specs.Lexemes as lexeme
 use Rattle.td_tree.specs.Lists.{Separated, next_item, one_item, with_parentheses}
 use Rattle.td_tree.specs.Names.{IsName, is_name}

@@ -20,7 +20,7 @@ use Rattle.td_tree.specs.declared.operator.Aggregate.TheVariants as aggregates
 use Rattle.td_tree.specs.Outcomes.{Outcome, Valued, Refused, gathered, value_if, with_value}
 use Rattle.td_types.proofs.OutcomeLaws.{value_of_test}
 use Rattle.td_types.specs.TypeLists.{DeclaredType}
-use Rattle.td_types.specs.Types.{Attrs, Heading, Type', pack, unpack}
+use Rattle.td_types.specs.Types.{Heading, Type', unpack}
 use Rattle.td_types.specs.Types as types
 use Rattle.td_value.specs.KnownValues.{HasType}
 use Rattle.td_value.specs.Values.{Val, of_number, relation, Relation, Rows, Tuple, heading_of, unpack_rows, value_cmp}

@@ -12,7 +12,7 @@ use Rattle.td_tree.specs.Names.{IsName}
 use Rattle.td_tree.specs.Outcomes.{Outcome, Valued, Refused, gathered, value_if, with_both, with_value}
 use Rattle.td_types.specs.Headings.{are_distinct, heading_from, made_heading}
 use Rattle.td_types.specs.TypeLists.{AreKnown, DeclaredType, IsKnown}
-use Rattle.td_types.specs.Types.{Type', Attribute, Attrs, Heading, IsHeading, IsType, attribute_names, pack, type_at, unpack}
+use Rattle.td_types.specs.Types.{Type', Attribute, Attrs, Heading, IsHeading, IsType, attribute_names, pack, unpack}
 use Rattle.td_types.specs.Types as types
 use Rattle.td_types.proofs.Made.{type_at-heading_from}
 use Rattle.td_types.proofs.Meanings.{known_heading, pack_unpack}

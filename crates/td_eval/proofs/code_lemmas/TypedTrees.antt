@@ -21,7 +21,7 @@ use Rattle.td_tree.specs.Trees.{AttributeTrees, Tree, literal, name, parentheses
 use Rattle.td_types.specs.Headings.{made_heading}
 use Rattle.td_types.specs.TypeListLaws.{HaveNames}
 use Rattle.td_types.specs.TypeLists.{AreKnown, DeclaredType, attributes_meant, declared_at, heading_meant}
-use Rattle.td_types.specs.Types.{Type', Attribute, Heading, IsHeading, IsType, pack, type_at}
+use Rattle.td_types.specs.Types.{Type', Attribute, Heading, IsHeading, pack, type_at}
 use Rattle.td_types.specs.Types as types
 use Rattle.td_types.proofs.Meanings.{attributes_later}
 use Rattle.td_types.proofs.OutcomeLaws.{value_of_with, valued_is, values_of_both}

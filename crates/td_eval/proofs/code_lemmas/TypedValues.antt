@@ -9,7 +9,7 @@ use Rattle.td_tree.specs.declared.cause.Cause.TheVariants as causes
 use Rattle.td_tree.specs.Outcomes.{Only, Outcome, Valued, Refused}
 use Rattle.td_types.specs.TypeLists.{AreKnown, DeclaredType, declared_at}
 use Rattle.td_types.specs.TypeOrder.{heading_eq-Decides, type_eq-Decides}
-use Rattle.td_types.specs.Types.{Type', Attrs, Attribute, Heading, attr, no_attrs, pack, same_name, type_at, unpack}
+use Rattle.td_types.specs.Types.{Type', Attrs, Heading, attr, no_attrs, pack, same_name, type_at, unpack}
 use Rattle.td_types.specs.Types as types
 use Rattle.td_types.specs.code.TypeCode.{unpack_pack}
 use Rattle.td_value.specs.KnownValues.{AreOfTypes, HasHeading, HasType, HaveHeading}

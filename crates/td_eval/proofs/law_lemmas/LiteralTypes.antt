@@ -10,7 +10,7 @@ use Rattle.td_types.specs.Headings.{made_heading}
 use Rattle.td_types.specs.TypeLists.{AreKnown, DeclaredType, heading_meant}
 use Rattle.td_types.specs.TypeOrder.{type_eq-Decides}
 use Rattle.td_types.specs.TypeTrees.{attribute_trees}
-use Rattle.td_types.specs.Types.{Attribute, Attrs, Heading, IsHeading, IsType, Type', attr, no_attrs, pack, unpack}
+use Rattle.td_types.specs.Types.{Attribute, Attrs, IsHeading, IsType, Type', attr, no_attrs, pack, unpack}
 use Rattle.td_types.specs.Types as types
 use Rattle.td_types.proofs.Meanings.{heading_itself, means_attributes, pack_unpack}
 use Rattle.td_value.specs.KnownValues.{AreOfTypes, HasHeading, HaveHeading}

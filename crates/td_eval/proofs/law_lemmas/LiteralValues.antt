@@ -24,7 +24,7 @@ use Rattle.td_value.specs.KnownValues.{AreOfTypes, HasHeading, HasType, HaveHead
 use Rattle.td_value.specs.LiteralTrees.{field_trees, literal_tree, part_trees, row_trees}
 use Rattle.td_value.specs.Sets.{set_of}
 use Rattle.td_value.specs.ValueOrder.{tuple_order_same, tuple_order_total}
-use Rattle.td_value.specs.Values.{Val, boolean, integer, char, is_in_range, user, tuple, relation, AreFields, AreRows, AreValues, Fields, no_fields, field, IsAscendingBody, IsInRange, Parts, no_parts, part, Rows, no_rows, row, Tuple, made_tuple, pack_fields, pack_parts, pack_rows, relation_of, selected_value, tuple_cmp, tuple_names, tuple_of, unpack_fields, unpack_rows}
+use Rattle.td_value.specs.Values.{Val, boolean, integer, char, is_in_range, user, tuple, relation, AreFields, AreRows, AreValues, Fields, no_fields, field, IsAscendingBody, IsInRange, Parts, no_parts, part, Rows, no_rows, row, Tuple, pack_fields, pack_parts, pack_rows, relation_of, selected_value, tuple_cmp, tuple_names, tuple_of, unpack_fields, unpack_rows}
 use Rattle.td_value.specs.Values as values
 use Rattle.td_value.specs.code.Views.{user_view}
 use Rattle.td_value.proofs.Maps.{sorted_is_tuple_of}

@@ -9,7 +9,7 @@ use Rattle.td_tree.specs.declared.operator.Comparison.TheVariants as comparisons
 use Rattle.td_tree.specs.declared.operator.Operator.TheVariants as operators
 use Rattle.td_tree.specs.declared.operator.Prefix.TheVariants as prefixes
 use Rattle.td_tree.specs.Outcomes.{Outcome, Valued, named_cause}
-use Rattle.td_tree.specs.Trees.{Tree, Trees, NamedTrees}
+use Rattle.td_tree.specs.Trees.{Tree, Trees}
 use Rattle.td_tree.specs.Trees as trees
 use Rattle.td_types.specs.TypeLists.{DeclaredType, declared_type}
 use Rattle.td_types.specs.Types as types

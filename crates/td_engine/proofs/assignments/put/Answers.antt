@@ -1,7 +1,7 @@
 use Rattle.std.proofs.Common.{◌≡◌, ◌∙◌, ap, subst, sym}
 use Rattle.std.specs.Prelude.{IfSome}
 use Rattle.td_body.specs.Bodies.{after_change}
-use Rattle.td_catalog.specs.Database.{base_named, base_relvar, with_body}
+use Rattle.td_catalog.specs.Database.{base_relvar, with_body}
 use Rattle.td_catalog.specs.KeptDatabases.{CatalogView, advanced_view}
 use Rattle.td_engine.proofs.code_lemmas.Done.{always_ok}
 use Rattle.td_engine.proofs.code_lemmas.GivenChanges.{given_of}

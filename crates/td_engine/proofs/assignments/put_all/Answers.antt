@@ -1,6 +1,6 @@
 use Rattle.std.proofs.Common.{◌≡◌, ◌∙◌, ◌∷◌, [], ap, subst, sym}
 use Rattle.std.specs.Prelude.{IfSome, OnOk}
-use Rattle.td_catalog.specs.Database.{BaseRelvar, Database, base_named, base_relvar, with_body}
+use Rattle.td_catalog.specs.Database.{Database, base_named, base_relvar, with_body}
 use Rattle.td_engine.proofs.code_lemmas.GivenChanges.{given_of}
 use Rattle.td_engine.proofs.code_lemmas.OneTarget.{alone_checked, alone_given}
 use Rattle.td_engine.specs.Assignments.{with_gifts}

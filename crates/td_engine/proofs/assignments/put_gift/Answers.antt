@@ -4,7 +4,7 @@ use Rattle.std.specs.Map.{lookup}
 use Rattle.std.specs.Prelude.{IfSome}
 use Rattle.std.specs.Result.{OnOk}
 use Rattle.td_catalog.specs.code.CatalogViews.{base_view}
-use Rattle.td_catalog.specs.Database.{Database, base_named, base_relvar, with_bases, with_body}
+use Rattle.td_catalog.specs.Database.{Database, base_named, base_relvar, with_body}
 use Rattle.td_engine.proofs.law_lemmas.Gifted.{found, put, put_check, skipped, skipped_passes, still_found}
 use Rattle.td_engine.proofs.code_lemmas.GivenChanges.{found_in, given_found, given_of, still_change}
 use Rattle.td_engine.proofs.code_lemmas.PutGifts.{gifted_at}
@@ -12,7 +12,6 @@ use Rattle.td_engine.specs.Assignments.{given_to}
 use Rattle.td_engine.specs.code.Carried.{Passes}
 use Rattle.td_engine.specs.Changes.{IsTypedChange, changed_by, given_as, given_in}
 use Rattle.td_engine.specs.Checks.{base_check}
-use Rattle.td_engine.specs.code.Gifts.{gifted_bases}
 use Rattle.td_types.specs.Types.{same_name}
 use Rattle.td_engine.proofs.assignments.put_gift.Goals as goal
 

@@ -1,7 +1,6 @@
 use Rattle.std.proofs.Common.{◌≡◌, ◌∙◌, ap, map, subst, sym}
 use Rattle.std.specs.Prelude.{OnOk}
 use Rattle.td_catalog.specs.Database.{base_relvar, knows_relvar, with_base}
-use Rattle.td_catalog.specs.KeptDatabases.{CatalogView}
 use Rattle.td_catalog.specs.TypedDatabases.{AreTyped}
 use Rattle.td_engine.proofs.code_lemmas.Done.{goes, made_there, new_there}
 use Rattle.td_types.specs.TypeLists.{AreKnown}

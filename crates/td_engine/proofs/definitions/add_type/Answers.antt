@@ -1,7 +1,7 @@
 use Rattle.std.proofs.Common.{◌≡◌, ◌∙◌, ap, option_map, subst, sym}
 use Rattle.std.specs.Prelude.{not}
 use Rattle.td_catalog.specs.Database.{with_declared}
-use Rattle.td_catalog.specs.TypedDatabases.{AreComponents, IsConstrained}
+use Rattle.td_catalog.specs.TypedDatabases.{IsConstrained}
 use Rattle.td_check.specs.StatementTypes.{holds_or}
 use Rattle.td_engine.proofs.law_lemmas.Admitted.{TypeAdmitted, type_admitted}
 use Rattle.td_engine.proofs.code_lemmas.Done.{defined, goes, held_there}

@@ -6,7 +6,6 @@ use Rattle.td_catalog.specs.TypedDatabases.{IsTyped}
 use Rattle.td_catalog.specs.code.Sought.{tree_mentions}
 use Rattle.td_catalog.proofs.Visits.{AreLeft, ConstraintTyped, constraint_passes, constraint_rows_typed, constraints_as, left_all, left_next, left_none, left_passed}
 use Rattle.td_catalog.proofs.catalog.Catalog.constraints_mention.Goals as goal
-use Rattle.td_check.specs.StaticTypes.{type_of}
 
 pub loop-entry-init : goal.loop-entry-init
 loop-entry-init g c =

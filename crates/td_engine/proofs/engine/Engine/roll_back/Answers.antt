@@ -4,7 +4,7 @@ use Rattle.td_engine.proofs.code_lemmas.Opens.{engine_back, state_back}
 use Rattle.td_engine.proofs.law_lemmas.Transactions.{rollback_does}
 use Rattle.td_engine.specs.Legality.{IsLegalState}
 use Rattle.td_engine.specs.Machine.{State, rolled_back, step_of}
-use Rattle.td_engine.specs.code.Stages.{IsEngine, stage, state_at}
+use Rattle.td_engine.specs.code.Stages.{IsEngine, stage}
 use Rattle.td_engine.specs.code.Steps.{Does}
 use Rattle.td_engine.proofs.engine.Engine.roll_back.Goals as goal
 
