@@ -1,7 +1,6 @@
 -- Plans of the parts of an expression make a plan of it.
-use Rattle.std.proofs.Common.{◌≡◌, ◌∙◌, ◌++◌, ℕ, List, [], ◌∷◌, ap, map, refl, subst, sym, if◌then◌else◌}
+use Rattle.std.proofs.Common.{◌≡◌, ◌∙◌, ◌++◌, ℕ, List, ◌∷◌, ap, refl, sym, if◌then◌else◌}
 use Rattle.std.specs.List.{zip}
-use Rattle.std.specs.Rc.{rc_str_bytes}
 use Rattle.td_check.specs.OperatorTypes.{choice_type, comparison_type, component_type, extracted_type, headed_type, listed_type, measure_type, operator_type, postfix_type, prefix_type, selector_type, tuple_type}
 use Rattle.td_check.specs.Scopes.{Scope}
 use Rattle.td_check.specs.StaticLaws.{GiveNames, PartsGiveNames}

@@ -21,8 +21,7 @@ use crate::in_tuples::NewColumns;
 use crate::step::Step;
 use std::alloc::{AllocError, Global};
 use td_check::scope::Scope;
-use td_eval::operators::aggregates::asked_of;
-use td_eval::operators::summaries::item_attributes;
+use td_eval::operators::summaries::{asked_by, item_attributes};
 use td_group::aggregates::Agg;
 use td_tree::expression::{Attributes, Summary};
 use td_tree::fault::Fault;
@@ -49,23 +48,13 @@ pub(crate) fn attributes_of(
     }
 }
 
-/// The aggregate that an item asks.
-fn aggregate_of(item: &Summary) -> Agg
-    ensures { result ≡ asked_by item.now }
-{
-    match item {
-        Summary::Count(_) => Agg::Count,
-        Summary::Of(op, _, _) => asked_of(*op),
-    }
-}
-
-/// The aggregates that items ask, in the order written.
+/// The aggregates that items of SUMMARIZE name, in the order written.
 pub(crate) fn aggregates_of(alloc: Global, items: &[Summary]) -> Result<Vec<Agg>, AllocError>
     ensures { IfOk result (λ xs. xs.items ≡ map asked_by items.now) }
 {
     let mut aggregates = Vec::with_capacity(alloc, items.len())?;
     for item in items {
-        aggregates.push(aggregate_of(item))?;
+        aggregates.push(asked_by(item))?;
     }
     Ok(aggregates)
 }

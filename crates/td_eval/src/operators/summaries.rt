@@ -115,8 +115,8 @@ fn new_attributes<B: Body>(
 
 // ---- their values
 
-/// The aggregate that an item asks.
-fn asked_by(item: &Summary) -> Agg
+/// The aggregate that an item of SUMMARIZE names: COUNT, or the operator of its expression.
+pub fn asked_by(item: &Summary) -> Agg
     ensures { result ≡ asked_by item.now }
 {
     match item {

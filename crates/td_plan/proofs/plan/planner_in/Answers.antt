@@ -1,4 +1,4 @@
-use Rattle.std.proofs.Common.{◌∙◌, ◌<◌, ap, length, map, rules, sym}
+use Rattle.std.proofs.Common.{◌∙◌, ◌<◌, ap, length, rules, sym}
 use Rattle.std.specs.Borrow.{Bor}
 use Rattle.td_catalog.specs.Database.{database_scope}
 use Rattle.td_check.specs.Scopes.{entered_with}

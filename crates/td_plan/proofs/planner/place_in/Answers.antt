@@ -1,4 +1,4 @@
-use Rattle.std.proofs.Common.{◌∙◌, ap, sym}
+use Rattle.std.proofs.Common.{◌∙◌, sym}
 use Rattle.td_plan.proofs.Places.{no_place_yet, place_here}
 use Rattle.td_plan.proofs.planner.place_in.Goals as goal
 
