@@ -89,7 +89,7 @@ pub(crate) fn entered_loop<B: Body>(
     ensures { IfOk result (λ e. (fs : List Frame) → IsHand hand.now fs
         → IsInside (world_around around.now) fs parts.now is_empty e) }
 {
-    Evaluator::new(around.alloc, around, run).entered(hand, is_empty, parts)
+    Evaluator::new(around.alloc, around, run).entered_loop(hand, is_empty, parts)
 }
 
 /// The truth values of a condition in tuples.

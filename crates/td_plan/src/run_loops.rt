@@ -57,7 +57,7 @@ where
         let operand = self.run(hand, operand)?;
         let rel = relation_in(&operand)?;
         let rows = rel.rows();
-        let inside = self.inner_planner(hand, rows.is_empty(), parts)?;
+        let inside = self.entered_loop(hand, rows.is_empty(), parts)?;
         restriction_value(self.alloc, rel, self.truths(&inside, rows, condition))
     }
 
@@ -80,7 +80,7 @@ where
     {
         let operand = self.run(hand, operand)?;
         let rows = relation_in(&operand)?.rows();
-        let inside = self.inner_planner(hand, rows.is_empty(), parts)?;
+        let inside = self.entered_loop(hand, rows.is_empty(), parts)?;
         truths_measured(op, self.truths(&inside, rows, condition))
     }
 
@@ -103,7 +103,7 @@ where
     {
         let operand = self.run(hand, operand)?;
         let rows = relation_in(&operand)?.rows();
-        let inside = self.inner_planner(hand, rows.is_empty(), parts)?;
+        let inside = self.entered_loop(hand, rows.is_empty(), parts)?;
         value_of_aggregate(op, self.values_in_rows(&inside, rows, value))
     }
 
@@ -130,7 +130,7 @@ where
             return Err(Fault::Refused(Cause::Heading));
         }
         let rows = rel.rows();
-        let inside = self.inner_planner(hand, rows.is_empty(), parts)?;
+        let inside = self.entered_loop(hand, rows.is_empty(), parts)?;
         let columns = self.columns(&inside, rows, attributes, values);
         extension_by(self.alloc, rel, attributes, columns)
     }
@@ -160,7 +160,7 @@ where
         }
         let (rel, per) = relations(operand, per)?;
         let groups = groups_by_per(self.alloc, rel, per)?;
-        let inside = self.inner_planner(hand, groups.is_empty(), items.parts)?;
+        let inside = self.entered_loop(hand, groups.is_empty(), items.parts)?;
         let totals = self.totals(&inside, &groups, items.aggregates, items.values)?;
         summary_by(self.alloc, per, items.attributes, &totals)
     }

@@ -12,8 +12,8 @@ use Rattle.td_plan.proofs.evaluator.Evaluator.aggregation.Goals as goal
 pub run-requires : goal.run-requires
 run-requires g c = lower (omega arith) c.requires
 
-pub inner_planner-requires : goal.inner_planner-requires
-inner_planner-requires g c = lower (omega arith) c.requires
+pub entered_loop-requires : goal.entered_loop-requires
+entered_loop-requires g c = lower (omega arith) c.requires
 
 pub values_in_rows-requires : goal.values_in_rows-requires
 values_in_rows-requires g c = lower (omega arith) c.requires

@@ -19,8 +19,8 @@ use Rattle.td_plan.proofs.evaluator.Evaluator.extension.Goals as goal
 pub run-requires : goal.run-requires
 run-requires g c = lower (omega arith) c.requires
 
-pub inner_planner-requires : goal.inner_planner-requires
-inner_planner-requires g c = lower (omega arith) c.requires
+pub entered_loop-requires : goal.entered_loop-requires
+entered_loop-requires g c = lower (omega arith) c.requires
 
 pub columns-columns-requires : goal.columns-columns-requires
 columns-columns-requires g c = record { values = lower (omega arith) c.requires; lengths = c.if-attributes-values.false }

@@ -13,8 +13,8 @@ use Rattle.td_plan.proofs.evaluator.Evaluator.restriction_measured.Goals as goal
 pub run-requires : goal.run-requires
 run-requires g c = lower (omega arith) c.requires
 
-pub inner_planner-requires : goal.inner_planner-requires
-inner_planner-requires g c = lower (omega arith) c.requires
+pub entered_loop-requires : goal.entered_loop-requires
+entered_loop-requires g c = lower (omega arith) c.requires
 
 pub truths-requires : goal.truths-requires
 truths-requires g c = lower (omega arith) c.requires
