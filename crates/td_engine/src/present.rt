@@ -57,7 +57,7 @@ pub(crate) fn answer_of_fault(alloc: Global, fault: Fault) -> Result<Answer, All
     ensures states { IfOk result (λ answer. (s : State) → IsRefusedBy s fault answer) }
 {
     match fault {
-        Fault::Refused(cause) => Answer::answer_of_fault(alloc, cause),
+        Fault::Refused(cause) => Answer::of_cause(alloc, cause),
         Fault::Memory => Err(AllocError),
     }
 }
@@ -67,10 +67,10 @@ fn answer_of_failure(alloc: Global, failure: Failure) -> Result<Answer, AllocErr
     ensures { IfOk result (λ answer. (db : Database) → IsDenied db failure answer) }
 {
     match failure {
-        Failure::Refused(Refusal::Cause(cause)) => Answer::answer_of_fault(alloc, cause),
-        Failure::Refused(Refusal::Key(name)) => Answer::name_expression(alloc, Cause::Key, &name),
+        Failure::Refused(Refusal::Cause(cause)) => Answer::of_cause(alloc, cause),
+        Failure::Refused(Refusal::Key(name)) => Answer::of_cause_at(alloc, Cause::Key, &name),
         Failure::Refused(Refusal::Constraint(name)) => {
-            Answer::name_expression(alloc, Cause::Constraint, &name)
+            Answer::of_cause_at(alloc, Cause::Constraint, &name)
         }
         Failure::Memory => Err(AllocError),
     }
@@ -148,7 +148,7 @@ impl<B: Body> Present<B> {
     pub(crate) fn kept_count(&self) -> usize
         ensures { result ≡ length self.now.kept }
     {
-        self.catalog.kept_count()
+        self.catalog.kept()
     }
 
     /// Goes back to the database at a place among those kept. It takes no memory.
@@ -215,7 +215,7 @@ impl<B: Body> Present<B> {
         ensures on { GoesOn self.old self.new }
         ensures legal { IsLegal self.new.database }
     {
-        let place = self.catalog.kept_count();
+        let place = self.catalog.kept();
         match change(self.alloc, &mut self.catalog, statement) {
             Ok(()) => match Answer::ok(self.alloc) {
                 Ok(answer) => Ok(answer),

@@ -266,17 +266,17 @@ fn drop_all(catalog: &mut Catalog<SortedBody>, alloc: Global) {
 fn catalogues_go_back(rt: HostRuntime) {
     let alloc = rt.alloc();
     let mut catalog = database(alloc, STATEMENTS).expect(&rt, "memory");
-    assert!(rt; catalog.kept_count() == 0);
+    assert!(rt; catalog.kept() == 0);
     drop_all(&mut catalog, alloc);
-    assert!(rt; catalog.kept_count() == 4);
+    assert!(rt; catalog.kept() == 4);
     assert!(rt; is_dump(&catalog, "") == Ok(true));
     assert!(rt; are_all_answered(&mut catalog, alloc, Ok(())));
     catalog.revert(0);
-    assert!(rt; catalog.kept_count() == 0);
+    assert!(rt; catalog.kept() == 0);
     assert!(rt; is_dump(&catalog, DUMP) == Ok(true));
     drop_all(&mut catalog, alloc);
     catalog.settle();
-    assert!(rt; catalog.kept_count() == 0);
+    assert!(rt; catalog.kept() == 0);
     assert!(rt; is_dump(&catalog, "") == Ok(true));
     drop(catalog);
 }

@@ -76,7 +76,7 @@ fn call<B: Body>(alloc: Global, body: &mut B, call: Call, entries: Entries) -> R
     ensures keys { B.keys body.new ≡ B.keys body.old }
     ensures heading { (B.relation body.new).heading ≡ (B.relation body.old).heading }
 {
-    if body.kept_count() > 0 {
+    if body.kept() > 0 {
         return Err(Fault::Refused(Cause::InUse));
     }
     let tuple = numbers(alloc, entries)?;
@@ -128,7 +128,7 @@ fn told_step<B: Body>(
     let answer = answer_of(alloc, body, step);
     let found = both(body_literal(body), told_found(alloc, body, part));
     let (answer, (literal, found)) = both(answer, found)?;
-    Ok(format!(in alloc; "{answer} {} {literal} {found}", body.kept_count())?)
+    Ok(format!(in alloc; "{answer} {} {literal} {found}", body.kept())?)
 }
 
 const NONE: &str = "RELATION {K INTEGER, V INTEGER} {}";

@@ -84,10 +84,10 @@ fn a_base_relvar_changes_in_place(rt: HostRuntime) {
     let alloc = rt.alloc();
     let mut catalog = database(alloc, STATEMENTS).expect(&rt, "memory");
     assert!(rt; put_s_into_p(&mut catalog, alloc) == Ok(()));
-    assert!(rt; catalog.kept_count() == 1);
+    assert!(rt; catalog.kept() == 1);
     assert!(rt; count_of_p(&catalog, alloc) == Ok(2));
     catalog.revert(0);
-    assert!(rt; catalog.kept_count() == 0);
+    assert!(rt; catalog.kept() == 0);
     assert!(rt; count_of_p(&catalog, alloc) == Ok(1));
     drop(catalog);
 }

@@ -34,7 +34,7 @@ returns-in-Err-clause-done g c =
     let s = statement_view c.args.statement in
     let same : v.database ≡ db = ap (λ (v : CatalogView). v.database) c.self.view_is in
     let back : stages c.revert-in-Err.new.self ≡ take (length v.kept + 1) (stages c.change.new.catalog) =
-    c.revert-in-Err.ensures ∙ ap (λ n. take (n + 1) (stages c.change.new.catalog)) c.kept_count-place.ensures in
+    c.revert-in-Err.ensures ∙ ap (λ n. take (n + 1) (stages c.change.new.catalog)) c.kept-place.ensures in
     let there : c.revert-in-Err.new.self ≡ v = back_again v c.change.new.catalog c.revert-in-Err.new.self c.change.ensures.on back in
     let new-is : c.revert-in-Err.new.self.database ≡ db = ap (λ (v : CatalogView). v.database) there ∙ same in
     let refused : Changes c.change.new.catalog.database (Err c.in-Err.failure) (effect db s) =
@@ -48,5 +48,5 @@ pub returns-in-Err-clause-on : goal.returns-in-Err-clause-on
 returns-in-Err-clause-on g c =
     let v = c.self.inside.catalog in
     let back : stages c.revert-in-Err.new.self ≡ take (length v.kept + 1) (stages c.change.new.catalog) =
-    c.revert-in-Err.ensures ∙ ap (λ n. take (n + 1) (stages c.change.new.catalog)) c.kept_count-place.ensures in
+    c.revert-in-Err.ensures ∙ ap (λ n. take (n + 1) (stages c.change.new.catalog)) c.kept-place.ensures in
     stays c.args.self.now c.revert-in-Err.new.self (back_again v c.change.new.catalog c.revert-in-Err.new.self c.change.ensures.on back ∙ c.self.view_is)
