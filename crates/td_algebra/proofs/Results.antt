@@ -40,16 +40,16 @@ new_name_is (r ∷ rs) n p h = by_name (same_name r.0 n) (new_name_is rs n p h.1
     by_name true rest = h.0
     by_name false rest = rest
 
-renamed_attributes : (rs : List (List ℕ × List ℕ)) (h : Heading) → IsHeading (pack h) → AllByRecursion (λ (r : List ℕ × List ℕ). IsName r.1) rs
+attributes_are_renamed : (rs : List (List ℕ × List ℕ)) (h : Heading) → IsHeading (pack h) → AllByRecursion (λ (r : List ℕ × List ℕ). IsName r.1) rs
     → AllByRecursion IsAttribute (renamed_attributes rs h)
-renamed_attributes rs [] p q = tt
-renamed_attributes rs (a ∷ h) p q = ((new_name_is rs a.0 p.0 q, p.1), renamed_attributes rs h p.3 q)
+attributes_are_renamed rs [] p q = tt
+attributes_are_renamed rs (a ∷ h) p q = ((new_name_is rs a.0 p.0 q, p.1), attributes_are_renamed rs h p.3 q)
 
 -- the attributes of a heading under their new names
 pub IsHeading-renamed : (rs : List (List ℕ × List ℕ)) (h : Heading) → IsHeading (pack h) → NewNamesAreNames rs
     → IsHeading (pack (heading_union [] (renamed_attributes rs h)))
 IsHeading-renamed rs h p q =
-    IsHeading-added [] (renamed_attributes rs h) tt (renamed_attributes rs h p (recursion_from_All (λ (r : List ℕ × List ℕ). IsName r.1) rs q))
+    IsHeading-added [] (renamed_attributes rs h) tt (attributes_are_renamed rs h p (recursion_from_All (λ (r : List ℕ × List ℕ). IsName r.1) rs q))
 
 -- ---- relations
 
