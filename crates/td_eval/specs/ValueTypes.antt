@@ -10,7 +10,7 @@ use Rattle.td_check.specs.StaticTypes.{type_of}
 use Rattle.td_eval.specs.DatabaseWorlds.{with_other, world_of}
 use Rattle.td_eval.specs.TreeTexts.{HasTexts}
 use Rattle.td_eval.specs.TreeValues.{value_of}
-use Rattle.td_eval.specs.Worlds.{World}
+use Rattle.td_eval.specs.Worlds.{World, with_tuples}
 use Rattle.td_tree.specs.declared.cause.Cause.{Cause}
 use Rattle.td_tree.specs.declared.cause.Cause.TheVariants as causes
 use Rattle.td_tree.specs.declared.fault.Fault.{Fault}

@@ -12,6 +12,7 @@ use Rattle.td_tree.specs.declared.cause.Cause.{Cause}
 use Rattle.td_tree.specs.Gatherings.{IsGathered, answer_of}
 use Rattle.td_tree.specs.Outcomes.{Answers, Outcome, Valued, gathered}
 use Rattle.td_tree.specs.declared.cause.Cause.TheVariants as causes
+use Rattle.td_tree.specs.declared.fault.Fault.{Fault}
 use Rattle.td_types.specs.TypeLists.{DeclaredType, declared_at}
 use Rattle.td_types.specs.Types.{Heading, attribute_names}
 use Rattle.td_value.specs.Sets.{set_of}
