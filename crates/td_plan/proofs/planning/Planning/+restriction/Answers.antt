@@ -26,7 +26,7 @@ where_of-returns-in-Some g t c =
     let is = ap tree_view c.in-Binary.is ∙ (λ i. trees.binary (tree_view (sym c.deref-left.ensures i)) op (tree_view (sym c.deref-right.ensures i))) in
     let stands =
     subst (λ o. IfSome o (λ k. MayStandFor scope (restricted_tree k l op r e) (trees.restriction (trees.binary l op r) e)))
-    c.in-Some.is c.in_ok-restriction_value-in-Binary.ensures in
+    c.in-Some.is c.in_ok-restricted-in-Binary.ensures in
     subst (λ d. IsPlanned scope c.pushed_restriction.result (trees.restriction d e)) (sym is)
     (IfOk-weaker c.pushed_restriction.result _ _
     (λ p h. stands_planned scope (step_view p) (restricted_tree c.in-Some.restricted l op r e) (trees.restriction (trees.binary l op r) e) stands h)
