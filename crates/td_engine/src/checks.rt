@@ -328,7 +328,7 @@ pub(crate) fn reached_from<B: Body>(
     changed: Vec<Name>,
 ) -> Result<MarkedNames, AllocError>
     ensures { IfOk result (λ reached.
-        reached ≡ reached_from checked_effect.items catalog.now.database.virtuals) }
+        reached ≡ reached_from changed.items catalog.now.database.virtuals) }
 {
     let mut reached = MarkedNames::new(changed);
     for place in 0..catalog.virtual_count() {

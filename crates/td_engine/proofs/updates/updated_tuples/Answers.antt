@@ -31,8 +31,8 @@ returns-in_err-attributes-clause-answer g c = λ so_far e.
     (subst (λ h. Answers (λ (a : Vec (List ℕ × Ty)). pairs_view a.items) (Err c.in_err-attributes.field-0.0) (setting_attributes h (setting_names parts)))
     (c.heading.ensures ∙ sym e) c.in_err-attributes.ensures.answer))
 
-pub returns-in_err-updated_tuples-clause-answer : goal.returns-in_err-updated_tuples-clause-answer
-returns-in_err-updated_tuples-clause-answer g c = λ so_far e.
+pub returns-in_err-changed-clause-answer : goal.returns-in_err-changed-clause-answer
+returns-in_err-changed-clause-answer g c = λ so_far e.
     let chosen = c.args.chosen.now in
     let parts = named_view c.args.settings.now in
     let fs = values_in_tuples (world_in c.args.env.now) (tuples_in_hand c.args.env.now) parts in
@@ -40,11 +40,11 @@ returns-in_err-updated_tuples-clause-answer g c = λ so_far e.
     let rest = λ (attributes : List Attribute). with_value (set_value attributes fs chosen) made in
     let valued : with_value (setting_attributes so_far.heading (setting_names parts)) rest ≡ rest (pairs_view c.in_ok-attributes.attributes.items) =
     ap (λ h. with_value (setting_attributes h (setting_names parts)) rest) (e ∙ sym c.heading.ensures) ∙ ap (λ o. with_value o rest) c.in_ok-attributes.ensures.answer in
-    let is = err_from_is_err_and c.from_residual-in_err-updated_tuples.result c.from_residual-in_err-updated_tuples.ensures.1 in
+    let is = err_from_is_err_and c.from_residual-in_err-changed.result c.from_residual-in_err-changed.ensures.1 in
     rw (is.1, is.2)
-    (subst (Answers (λ (r : Relation). union (difference so_far chosen) r) (Err c.in_err-updated_tuples.field-0.0)) (sym valued)
-    (refused_on (λ (r : Relation). r) (λ (r : Relation). union (difference so_far chosen) r) c.in_err-updated_tuples.field-0.0 (set_value (pairs_view c.in_ok-attributes.attributes.items) fs chosen) made
-    (subst (λ xs. Answers (λ (r : Relation). r) (Err c.in_err-updated_tuples.field-0.0) (set_value (pairs_view xs) fs chosen)) c.deref.ensures.value (c.in_err-updated_tuples.ensures c.requires.settings))))
+    (subst (Answers (λ (r : Relation). union (difference so_far chosen) r) (Err c.in_err-changed.field-0.0)) (sym valued)
+    (refused_on (λ (r : Relation). r) (λ (r : Relation). union (difference so_far chosen) r) c.in_err-changed.field-0.0 (set_value (pairs_view c.in_ok-attributes.attributes.items) fs chosen) made
+    (subst (λ xs. Answers (λ (r : Relation). r) (Err c.in_err-changed.field-0.0) (set_value (pairs_view xs) fs chosen)) c.deref.ensures.value (c.in_err-changed.ensures c.requires.settings))))
 
 pub returns-clause-answer : goal.returns-clause-answer
 returns-clause-answer g c = λ so_far e.
@@ -53,12 +53,12 @@ returns-clause-answer g c = λ so_far e.
     let fs = values_in_tuples (world_in c.args.env.now) (tuples_in_hand c.args.env.now) parts in
     let made = λ (changed : Relation). with_value (of_heading so_far changed) (λ r. Valued (union (difference so_far chosen) r)) in
     let rest = λ (attributes : List Attribute). with_value (set_value attributes fs chosen) made in
-    let valued : with_value (setting_attributes so_far.heading (setting_names parts)) rest ≡ made c.in_ok-updated_tuples.changed =
+    let valued : with_value (setting_attributes so_far.heading (setting_names parts)) rest ≡ made c.in_ok-changed.changed =
     ap (λ h. with_value (setting_attributes h (setting_names parts)) rest) (e ∙ sym c.heading.ensures) ∙ ap (λ o. with_value o rest) c.in_ok-attributes.ensures.answer
-    ∙ ap (λ xs. rest (pairs_view xs)) (sym c.deref.ensures.value) ∙ ap (λ o. with_value o made) (c.in_ok-updated_tuples.ensures c.requires.settings) in
+    ∙ ap (λ xs. rest (pairs_view xs)) (sym c.deref.ensures.value) ∙ ap (λ o. with_value o made) (c.in_ok-changed.ensures c.requires.settings) in
     subst (Answers (λ (r : Relation). union (difference so_far chosen) r) c.of_heading.result) (sym valued)
-    (answers_then c.of_heading.result (of_heading so_far c.in_ok-updated_tuples.changed) (λ (r : Relation). union (difference so_far chosen) r)
-    (subst (λ h. Answers (λ (r : Relation). r) c.of_heading.result (value_if (same_heading c.in_ok-updated_tuples.changed.heading h) c.in_ok-updated_tuples.changed causes.Heading)) (sym e)
+    (answers_then c.of_heading.result (of_heading so_far c.in_ok-changed.changed) (λ (r : Relation). union (difference so_far chosen) r)
+    (subst (λ h. Answers (λ (r : Relation). r) c.of_heading.result (value_if (same_heading c.in_ok-changed.changed.heading h) c.in_ok-changed.changed causes.Heading)) (sym e)
     c.of_heading.ensures.answer))
 
 pub set_in_tuples-requires-clause-written : goal.set_in_tuples-requires-clause-written
