@@ -4,13 +4,6 @@
 set -u
 top=$(cd "$(dirname "$(readlink -f "${BASH_SOURCE[0]}")")" && pwd)
 binary=$top/crates/td/out/td
-stamp=$top/crates/td/out/td.built
-
-is_current() {
-    [ -x "$binary" ] && [ -e "$stamp" ] &&
-        [ -z "$(find "$top/crates" "$top/crates.txt" -name out -prune \
-            -o -newer "$stamp" -type f -print -quit)" ]
-}
 
 crates=()          # the crates, in the order of crates.txt
 declare -A needs   # what a crate uses, those of the kit among them
@@ -134,11 +127,11 @@ build_all() {
     build
 }
 
-if ! is_current; then
+if ! "$top/tools/is-built"; then
     if ! (build_all); then
         echo "td: cannot be built" >&2
         exit 3
     fi
-    touch "$stamp"
+    touch "$binary.built"
 fi
 exec "$binary" "$@"

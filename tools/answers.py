@@ -6,11 +6,10 @@ import os
 import re
 import signal
 import subprocess
-from pathlib import Path
 
 from command import Failure
+from programs import td
 
-TD = Path(__file__).resolve().parent.parent / "td"
 PIECE = re.compile(rb"[^;]*;|[^;]+")
 END_OF_COMMENT = re.compile(rb"\*/|\n")
 BLANKS = re.compile(rb"(?:[ \t\r\n]|\xef\xbb\xbf)*")
@@ -30,10 +29,9 @@ class Session:
         self.mark = b"'" + mark + b"'\n"
         # td is no part of the terminal's job: Ctrl-C is for the tool alone.
         self.process = subprocess.Popen(
-            [TD, "run"], stdin=subprocess.PIPE, stdout=subprocess.PIPE, start_new_session=True
+            [td(), "run"], stdin=subprocess.PIPE, stdout=subprocess.PIPE, start_new_session=True
         )
         try:
-            # td may have to be built, and that is over before another run begins.
             self.answer(b"")
         except BaseException:
             self.leave()
