@@ -39,6 +39,9 @@ class Definition:
     heading: list[tuple[str, str]] = field(default_factory=list)
     keys: list[list[str]] = field(default_factory=list)
 
+    def is_relvar(self):
+        return self.kind in (Kind.BASE, Kind.VIRTUAL)
+
     def in_order(self):
         """The attributes with those of the first key in front."""
         first = self.keys[0]
