@@ -8,6 +8,8 @@ import os
 import sys
 from pathlib import Path
 
+from tables import visible
+
 WRONG_WORDS = 2
 FAILED = 3
 INTERRUPTED = 130
@@ -46,9 +48,25 @@ def why(error):
     return f"{error.filename}: {said}" if error.filename else said
 
 
+def standard_input():
+    """Standard input, as bytes."""
+    if sys.stdin is None:
+        raise Failure("standard input is closed")
+    return sys.stdin.buffer
+
+
+def open_closed_streams():
+    """Opens what is closed of the three streams as nothing, so that no file takes its number."""
+    while (opened := os.open(os.devnull, os.O_RDWR)) <= 2:
+        pass
+    os.close(opened)
+
+
 def finished(main):
     """The status with which the tool ends, and what it says on standard error."""
     try:
+        if sys.stdout is None:
+            raise Failure("standard output is closed")
         try:
             status = main()
         except SystemExit as left:
@@ -58,7 +76,7 @@ def finished(main):
     except Failure as failure:
         return failure.status, str(failure)
     except BrokenPipeError:
-        return FAILED, None
+        return FAILED, "the output was closed before all was written"
     except OSError as error:
         return FAILED, why(error)
     except KeyboardInterrupt:
@@ -67,10 +85,11 @@ def finished(main):
 
 def run(main):
     """Runs a tool, and ends the process."""
+    open_closed_streams()
     status, says = finished(main)
-    if says is not None:
-        print(f"{name()}: {says}", file=sys.stderr)
+    if says is not None and sys.stderr is not None:
+        print(f"{name()}: {visible(says)}", file=sys.stderr)
     if status >= FAILED:
         # What could not be written is let go, so that nothing is said of it a second time.
-        os.dup2(os.open(os.devnull, os.O_WRONLY), sys.stdout.fileno())
+        os.dup2(os.open(os.devnull, os.O_WRONLY), 1)
     sys.exit(status)

@@ -24,13 +24,16 @@ def columns_of_one(character):
 
 
 def visible(text):
-    """The text, in which what a terminal would obey stands as an escape: a tab as `\\t`."""
+    """The text, in which what a terminal would obey stands as an escape: a tab as `\\t`, and a
+    byte that is no character as `\\xff`."""
     if text.isascii() and text.isprintable():
         return text
     return "".join(map(visible_one, text))
 
 
 def visible_one(character):
+    if "\udc80" <= character <= "\udcff":
+        return f"\\x{ord(character) - 0xDC00:02x}"
     is_unsafe = unicodedata.category(character) in UNSAFE
     if is_unsafe or unicodedata.bidirectional(character) in TURNS:
         return character.encode("unicode_escape", "surrogatepass").decode()
