@@ -181,7 +181,8 @@ class Script:
 
     def __init__(self, files, databases=()):
         """Of each file its name and its bytes. The databases come before the files."""
-        self.files = list(with_line_feeds([*databases, *files]))
+        self.given = [*databases, *files]
+        self.files = list(with_line_feeds(self.given))
         self.text = b"".join(text for _, text in self.files)
         self.begins = sum(len(text) for _, text in self.files[: len(databases)])
 

@@ -4,6 +4,7 @@ The statuses are td's: 2 for a wrong command line, 3 where a file, the output or
 comes with one line on standard error.
 """
 import argparse
+import contextlib
 import os
 import sys
 from pathlib import Path
@@ -48,6 +49,13 @@ def why(error):
     return f"{error.filename}: {said}" if error.filename else said
 
 
+def note(says):
+    """Says a line on standard error."""
+    if sys.stderr is not None:
+        with contextlib.suppress(OSError):
+            print(f"{name()}: {visible(says)}", file=sys.stderr, flush=True)
+
+
 def standard_input():
     """Standard input, as bytes."""
     if sys.stdin is None:
@@ -87,8 +95,8 @@ def run(main):
     """Runs a tool, and ends the process."""
     open_closed_streams()
     status, says = finished(main)
-    if says is not None and sys.stderr is not None:
-        print(f"{name()}: {visible(says)}", file=sys.stderr)
+    if says is not None:
+        note(says)
     if status >= FAILED:
         # What could not be written is let go, so that nothing is said of it a second time.
         os.dup2(os.open(os.devnull, os.O_WRONLY), 1)
