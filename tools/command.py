@@ -51,9 +51,8 @@ def why(error):
 
 def note(says):
     """Says a line on standard error."""
-    if sys.stderr is not None:
-        with contextlib.suppress(OSError):
-            print(f"{name()}: {visible(says)}", file=sys.stderr, flush=True)
+    with contextlib.suppress(OSError):
+        print(f"{name()}: {visible(says)}", file=sys.stderr, flush=True)
 
 
 def standard_input():
@@ -64,10 +63,12 @@ def standard_input():
 
 
 def open_closed_streams():
-    """Opens what is closed of the three streams as nothing, so that no file takes its number."""
+    """Opens what is closed of the three streams as nothing, so that no file takes its number. What
+    is said on standard error goes nowhere then."""
     while (opened := os.open(os.devnull, os.O_RDWR)) <= 2:
         pass
     os.close(opened)
+    sys.stderr = sys.stderr or open(os.devnull, "w", encoding="utf-8")
 
 
 def finished(main):
