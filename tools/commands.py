@@ -100,7 +100,7 @@ class Commands:
         """Leaves the database for another, of which nothing that is not saved is lost unasked."""
         script = script_of([str(Path(name).expanduser())])
         is_lost = is_asked and self.database.is_changed()
-        if is_lost and not self.prompt.may_lose(NOT_SAVED, "Leave them", "they are lost"):
+        if is_lost and not self.prompt.may_lose(NOT_SAVED, "Lose them", "they are lost"):
             return
         take, _ = self.taker(script)
         self.database.open(script, take)

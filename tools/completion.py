@@ -36,9 +36,9 @@ class Known:
         }
 
     def of_statement(self, text):
-        """The attributes of the relvars that a statement names."""
+        """The attributes of the relvars that a statement names: those of the last one first."""
         relvars = [one for one in NAME.findall(text) if one in self.attributes]
-        return [name for relvar in relvars for name in self.attributes[relvar]]
+        return [name for relvar in reversed(relvars) for name in self.attributes[relvar]]
 
     def names(self):
         """All names: definitions, then attributes."""

@@ -69,8 +69,9 @@ class Database:
         return self.session.answer(b"DUMP;")
 
     def is_changed(self):
-        """Whether it differs from what was opened or saved last."""
-        return self.dump() != self.saved
+        """Whether it differs from what was opened or saved last. What is recovered is saved
+        nowhere."""
+        return self.saved is None or self.dump() != self.saved
 
     # ---- statements
 
@@ -157,11 +158,11 @@ class Database:
             self.journal.forget()
 
     def recover(self, path):
-        """Goes on from what was typed in a prompt that was closed, and gives the number of
-        statements, or None where another prompt has it."""
+        """Goes on from what was typed in a prompt that was closed, unless another prompt does:
+        whether it goes on."""
         found = self.journal.adopt(path)
         if found is None:
-            return None
+            return False
         self.opened, text = found
         self.accepted = self.cutter.feed(text)
         rest = bytes(self.cutter.held)
@@ -171,4 +172,4 @@ class Database:
         for statement in self.accepted:
             self.session.answer(statement)
         self.saved = None
-        return len(self.accepted)
+        return True
