@@ -1,8 +1,16 @@
 """What a tool shows of td's answers: relations as tables, and refusals with their places."""
 import io
+import os
+import re
 
+from answers import Script
 from literals import whole_lines
+from reports import report
 from tables import shown, visible_lines
+
+# In whose place nothing is told.
+TYPED = "typed"
+PLACE_TYPED = re.compile(rf"{TYPED}:\d+:\d+: ")
 
 
 def decoded(answer):
@@ -16,5 +24,15 @@ def as_tables(answer):
 
 
 def refusal(session, cutter, script, at, statement, answer):
-    """A refusal of a statement of a script, with its place. The session is where it was refused."""
-    return visible_lines(decoded(script.told(cutter, at, statement, answer)))
+    """What is told of a refused statement of a script: where it stands, and what is known of it.
+    The session has the database as it was when the statement was refused."""
+    begins = cutter.begin(statement)
+    name, line = script.place(at + begins)
+    told = report(session, statement[begins:], answer, os.fsencode(name), line)
+    return visible_lines(decoded(told))
+
+
+def refusal_typed(session, cutter, statement, answer):
+    """The same of a statement that was typed, which has no place."""
+    told = refusal(session, cutter, Script([(TYPED, statement)]), 0, statement, answer)
+    return PLACE_TYPED.sub("", told, count=1)
