@@ -1,24 +1,27 @@
 """Runs the repository's programs and reads what td writes, for the checks of tools/.
 
-It shares nothing with tools/: a literal is read here by its signs alone.
+The td that is asked is the one that TD names, else ./td, which builds the proved one. Nothing is
+shared with tools/: a literal is read here by its signs alone.
 """
+import os
 import re
 import subprocess
 from pathlib import Path
 
 TOP = Path(__file__).resolve().parent.parent
+TD = Path(os.environ.get("TD") or TOP / "td")
 PATIENCE = 120
 SIGN = re.compile(r"'(?:[^']|'')*'|[{}()]|, |[^{}(),' ]+|.")
 
 
 def build():
     """Builds td, if it is not built."""
-    subprocess.run([TOP / "td", "run"], stdin=subprocess.DEVNULL, check=True)
+    subprocess.run([TD, "run"], stdin=subprocess.DEVNULL, check=True)
 
 
 def run(program, *words, given=b"", **kept):
     """What a program of the repository writes, its status and what it says on standard error."""
-    command = [TOP / program, *words]
+    command = [TD if program == "td" else TOP / program, *words]
     kept = {"timeout": PATIENCE, "capture_output": True, "check": False, **kept}
     ran = subprocess.run(command, input=given, **kept)
     return ran.stdout, ran.returncode, ran.stderr
