@@ -2,6 +2,7 @@
 
 Not all are found: where nothing tells, the whole heading is one.
 """
+from dumps import keys_of
 from expressions import Form, NoParse, parsed_expression
 
 LIKE_THE_LEFT = {"MINUS", "INTERSECT", "MATCHING", "NOT MATCHING"}
@@ -48,12 +49,12 @@ def of_name(operand):
     if known is None:
         return set()
     if known.keys:
-        return {frozenset(names) for names in known.keys}
+        return {frozenset(names) for names in keys_of(known)}
     try:
-        node = parsed_expression(known.body)
+        node = parsed_expression(known.expression)
     except NoParse:
         return set()
-    return Operand(known.body, node, (), operand.schema).keys()
+    return Operand(known.expression, node, (), operand.schema).keys()
 
 
 def of_first(operand):

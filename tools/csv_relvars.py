@@ -2,12 +2,12 @@
 from dataclasses import dataclass, field
 
 from answers import Session
+from catalog import Kind as Definitions
 from csv_columns import Column, Kind, Selector, kind_of, strays
 from csv_files import BadRow, wrong
-from dumps import Kind as Definitions
-from dumps import definitions, dump_of
-from files import bytes_of
+from dumps import definitions, dump_of, keys_of, representation_of, value_of
 from literals import Reader, relation_of
+from scripts import script_of
 
 BUILT_IN = {kind.value for kind in Kind}
 # So many answers of td fit in a pipe while it is still being asked.
@@ -42,9 +42,9 @@ class Plan:
 
     def take_database(self, file, is_insert):
         """Takes types, and of an INSERT headings and keys, from the database of a script."""
-        self.dump, _ = dump_of(bytes_of(file))
+        self.dump, _ = dump_of(script_of([file]).text)
         known = definitions(self.dump)
-        types = {one.name: one.body for one in known if one.kind == Definitions.TYPE}
+        types = {one.name: one for one in known if one.kind == Definitions.TYPE}
         relvars = {one.name: one for one in known if one.kind == Definitions.BASE}
         targets = [self.relvar, *self.optional.values()]
         for name in targets:
@@ -58,10 +58,10 @@ class Plan:
     def take_relvars(self, targets, types):
         """Takes the heading, the keys and the tuples of the first, and the types of all."""
         first = targets[0]
-        self.keys = self.keys or first.keys
+        self.keys = self.keys or keys_of(first)
         self.heading = [*dict(first.heading), *self.optional]
         names = list(dict(first.heading))
-        tuples = relation_of(first.body + "\n").tuples
+        tuples = relation_of(value_of(first) + "\n").tuples
         self.known = [dict(zip(names, (value.literal for value in one))) for one in tuples]
         for target in targets:
             for attribute, kind in target.heading:
@@ -77,18 +77,17 @@ class Plan:
             raise wrong(f"{attribute!r} is of the type {kind}, and not {selector.type}")
         if selector is not None:
             return
-        component = only_component(types.get(kind, ""))
+        component = only_component(types[kind]) if kind in types else None
         if component is None:
             raise wrong(f"{attribute!r} is of the type {kind}: --as says by which selector")
         self.selectors[attribute] = Selector(kind, [f"{kind}(", ")"])
         self.kinds.setdefault(attribute, component)
 
 
-def only_component(body):
+def only_component(definition):
     """The type of a type's only component, where that is one of a cell's."""
-    reader = Reader(body)
-    if not reader.takes("{"):
-        return None
+    reader = Reader(representation_of(definition))
+    reader.take("{")
     _, kind = reader.attribute()
     is_only = reader.takes("}") or reader.takes(" CONSTRAINT ")
     return Kind[kind] if is_only and kind in BUILT_IN else None

@@ -2,24 +2,12 @@
 
 The grammar is that of docs/grammar.md. A statement that td refuses may be parsed too, or not.
 """
-import re
 from dataclasses import dataclass
 from enum import Enum, auto
 
-RESERVED = frozenset(
-    "ADD ALL AND AS BASE BEGIN BOOLEAN BUT BY CHAR COMMIT COMPOSE CONSTRAINT COUNT DELETE DROP DUMP "
-    "D_INSERT D_UNION ELSE END EXTEND FALSE FROM GROUP IF IN INIT INSERT INTEGER INTERSECT IS_EMPTY "
-    "I_DELETE I_MINUS JOIN KEY MATCHING MAX MIN MINUS NOT OR PER POSSREP REAL RELATION RENAME "
-    "ROLLBACK SUM SUMMARIZE TABLE_DEE TABLE_DUM TCLOSE THEN TIMES TRANSACTION TRUE TUPLE TYPE "
-    "UNGROUP UNION UNWRAP UPDATE VAR VIRTUAL WHERE WITH WRAP WRITE".split()
-)
-TOKEN = re.compile(
-    r"(?P<blank>[ \t\r\n\ufeff]+|/\*.*?\*/|//[^\n]*)|(?P<text>'(?:[^']|'')*')"
-    r"|(?P<word>[^\W\d][\w#\u00b7]*)|(?P<number>[0-9]+)"
-    r"|(?P<sign>:=|<>|<=|>=|\|\||[{}(),;=<>+*/-])",
-    re.DOTALL,
-)
-NAME, NUMBER, TEXT, COMPONENT, END = "a name", "a number", "a text", "THE_", "the end"
+from lexemes import LEAST_NUMBER, Token, tokens
+
+NAME, NUMBER, TEXT, COMPONENT, END = "name", "number", "text", "the_word", "the end"
 TYPES = {"INTEGER", "CHAR", "BOOLEAN", NAME, "TUPLE", "RELATION"}
 COMPARING = {"=", "<>", "<", "<=", ">", ">=", "IN"}
 COMBINING = {"UNION", "INTERSECT", "MINUS", "JOIN", "TIMES", "COMPOSE", "MATCHING"}
@@ -53,16 +41,6 @@ class Form(Enum):
 
 
 @dataclass(frozen=True)
-class Token:
-    """A token: a reserved word or a sign is its own kind."""
-
-    kind: str
-    text: str
-    begins: int
-    ends: int
-
-
-@dataclass(frozen=True)
 class Node:
     """A form with its parts, in order, where it stands in the text, and the names in it.
 
@@ -78,33 +56,18 @@ class Node:
     names: tuple = ()
 
 
-def kind_of(found):
-    text = found.group()
-    if found.lastgroup == "sign":
-        return text
-    if found.lastgroup != "word":
-        return {"number": NUMBER, "text": TEXT}[found.lastgroup]
-    if text.upper() in RESERVED:
-        return text.upper()
-    return COMPONENT if text.upper().startswith("THE_") else NAME
-
-
 def tokens_of(text):
-    at = 0
-    while at < len(text):
-        found = TOKEN.match(text, at)
-        if found is None:
-            raise NoParse(f"no token at {at}")
-        if found.lastgroup != "blank":
-            yield Token(kind_of(found), found.group(), at, found.end())
-        at = found.end()
-    yield Token(END, "", at, at)
+    """The tokens of a text, and one for its end."""
+    for token in tokens(text):
+        yield token._replace(kind=NUMBER) if token.kind == LEAST_NUMBER else token
+    yield Token(END, len(text), len(text))
 
 
 class Parser:
     """Reads the tokens of a text from the left."""
 
     def __init__(self, text):
+        self.text = text
         self.tokens = list(tokens_of(text))
         self.at = 0
 
@@ -132,7 +95,8 @@ class Parser:
 
     def name(self):
         self.take(NAME)
-        return self.tokens[self.at - 1].text
+        token = self.tokens[self.at - 1]
+        return self.text[token.begins : token.ends]
 
     def node(self, form, begin, parts=(), names=()):
         """A node of the tokens from this one on."""

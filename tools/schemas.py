@@ -1,7 +1,7 @@
 """What td says of the database that a session has: headings of expressions, and definitions."""
-from command import Failure
+from catalog import RELVARS, type_of
 from dumps import definitions
-from literals import NoLiteral, Reader
+from literals import Reader
 
 # The name of an attribute that no script is expected to have.
 FRESH = "_asked_"
@@ -24,33 +24,32 @@ class Schema:
         Around it stand the operands whose attributes it may name, the outermost first. Each is left
         without tuples, so that nothing of the expression is evaluated for one.
         """
-        question = expression
+        question = f"({expression})"
         for level, operand in enumerate(reversed(around)):
             fresh = f"{FRESH}{level}"
-            question = f"(EXTEND ({operand}) WHERE FALSE ADD (({question}) AS {fresh})) {{{fresh}}}"
-        question = f"WRITE EXTEND TABLE_DUM ADD (({question}) AS {FRESH});"
+            question = f"(EXTEND ({operand}) WHERE FALSE ADD ({question} AS {fresh})) {{{fresh}}}"
         if question not in self.headings:
-            answer = self.session.answer(question.encode()).decode()
-            self.headings[question] = names_of(answer, len(around) + 1)
+            kind = type_of(self.session, question) or ""
+            self.headings[question] = names_of(kind, len(around))
         return self.headings[question]
 
     def definition(self, name):
         """The definition of a relvar, if it is one."""
         if self.known is None:
-            try:
-                every = definitions(self.session.answer(b"DUMP;").decode())
-            except (Failure, NoLiteral):
-                every = []
-            self.known = {one.name: one for one in every if one.is_relvar()}
+            dump = self.session.answer(b"DUMP;").decode()
+            self.known = {one.name: one for one in definitions(dump) if one.kind in RELVARS}
         return self.known.get(name)
 
 
-def names_of(answer, levels):
-    """The names of the heading so many levels down in a relation's heading."""
-    reader = Reader(answer)
+def names_of(kind, levels):
+    """The names of the heading so many levels down in the text of a relation type."""
     for _ in range(levels):
-        if not reader.takes("RELATION "):
+        if not kind:
             return None
-        ((_, kind),) = reader.heading()
-        reader = Reader(kind)
-    return [name for name, _ in reader.heading()] if reader.takes("RELATION ") else None
+        ((_, kind),) = heading_of(kind)
+    return [name for name, _ in heading_of(kind)] if kind.startswith("RELATION ") else None
+
+
+def heading_of(kind):
+    """The attributes of the text of a relation type."""
+    return Reader(kind.removeprefix("RELATION ")).heading()
