@@ -10,7 +10,7 @@ OFTEN = "; often meant: "
 
 
 @dataclass(frozen=True)
-class Warning:
+class Remark:
     """What is said of a place in a statement."""
 
     at: int
@@ -44,13 +44,13 @@ class Linter:
 
     def __init__(self, statement, schema):
         self.text, self.schema = statement, schema
-        self.warnings = []
+        self.remarks = []
         self.scopes = []
         # Of each scope, by its depth, whether a name is its attribute, and what hides one of it.
         self.named, self.hidden = [], []
 
     def warn(self, node, says):
-        self.warnings.append(Warning(node.begins, says))
+        self.remarks.append(Remark(node.begins, says))
 
     def around(self):
         return tuple(scope.text for scope in self.scopes)
@@ -231,8 +231,8 @@ class Linter:
         self.warn(right.node, says)
 
 
-def warnings_of(statement, schema):
-    """The warnings of a statement that parses, in the order of their places."""
+def remarks_on(statement, schema):
+    """The remarks on a statement that parses, in the order of their places."""
     linter = Linter(statement, schema)
     linter.visit(parsed(statement))
-    return sorted(linter.warnings, key=lambda one: one.at)
+    return sorted(linter.remarks, key=lambda one: one.at)
