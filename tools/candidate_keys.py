@@ -26,13 +26,13 @@ class Operand:
         return None if names is None else frozenset(names)
 
     def relvars(self):
-        """The names in it, of relvars and of attributes."""
+        """The relvars that are named in it."""
         waiting, found = [self.node], set()
         while waiting:
             one = waiting.pop()
             waiting += one.parts
             found |= set(one.names) if one.form == Form.NAME else set()
-        return found
+        return {name for name in found if self.schema.definition(name) is not None}
 
     def keys(self):
         """Keys of the relation, each a set of names; none where its heading is not known."""

@@ -85,7 +85,8 @@ class Format:
         except UnicodeDecodeError as error:
             before = data[: error.start].decode(self.encoding, "replace")
             line = before.count("\n") + 1
-            raise wrong(f"{file}:{line}: it is not {self.encoding}") from error
+            says = f"{file}:{line}: it is not {self.encoding}; try --encoding windows-1252"
+            raise wrong(says) from error
 
     def rows_of(self, file):
         """The rows of a CSV file that are not empty."""

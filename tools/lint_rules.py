@@ -155,7 +155,8 @@ class Linter:
         depth, *hidden = [*self.depths(name)] or [None]
         if depth is None:
             # A name that is no relvar's either is td's to refuse.
-            self.named = [one or not self.schema.heading(name) for one in self.named]
+            is_relvar = self.schema.heading(name) is not None
+            self.named = [one or not is_relvar for one in self.named]
             return
         self.named[depth] = True
         scope = self.scopes[depth]
