@@ -1,24 +1,27 @@
 """Runs the repository's programs and reads what td writes, for the checks of tools/.
 
-It shares nothing with tools/: a literal is read here by its signs alone.
+It reads nothing as tools/ do: a literal is read here by its signs alone.
 """
+import os
 import re
 import subprocess
+import sys
 from pathlib import Path
 
 TOP = Path(__file__).resolve().parent.parent
+sys.path.append(str(TOP / "tools"))
+
+from programs import td  # noqa: E402
+
+# The td that is checked, here and by the tools that a check starts.
+TD = os.environ["TD"] = td()
 PATIENCE = 120
 SIGN = re.compile(r"'(?:[^']|'')*'|[{}()]|, |[^{}(),' ]+|.")
 
 
-def build():
-    """Builds td, if it is not built."""
-    subprocess.run([TOP / "td", "run"], stdin=subprocess.DEVNULL, check=True)
-
-
 def run(program, *words, given=b"", **kept):
     """What a program of the repository writes, its status and what it says on standard error."""
-    command = [TOP / program, *words]
+    command = [TD if program == "td" else TOP / program, *words]
     kept = {"timeout": PATIENCE, "capture_output": True, "check": False, **kept}
     ran = subprocess.run(command, input=given, **kept)
     return ran.stdout, ran.returncode, ran.stderr
