@@ -11,10 +11,12 @@ from pathlib import Path
 TOP = Path(__file__).resolve().parent.parent
 sys.path.append(str(TOP / "tools"))
 
-from programs import td  # noqa: E402
+from programs import PROVED, td  # noqa: E402
 
 # The td that is checked, here and by the tools that a check starts.
 TD = os.environ["TD"] = td()
+# What stands for `td` in commands: ./td where it runs this td, and else this td itself.
+COMMAND = TOP / "td" if Path(TD) == PROVED else Path(TD)
 PATIENCE = 120
 SIGN = re.compile(r"'(?:[^']|'')*'|[{}()]|, |[^{}(),' ]+|.")
 
