@@ -5,12 +5,14 @@ number, and one or more of what stands before them. What stands in quotes stands
 """
 import re
 
+from command import Failure
+
 TOKEN = re.compile(r"""\s*('[^']*'|"[^"]*"|\w+|[()|?*+])""")
 RULE = re.compile(r"^(\w+) +::= (.+)$", re.MULTILINE)
 
 
 def wrong(name, fault):
-    raise SystemExit(f"docs/grammar.md: the line of {name} {fault}")
+    raise Failure(f"docs/grammar.md: the line of {name} {fault}")
 
 
 class Grammar:

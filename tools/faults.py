@@ -1,0 +1,242 @@
+"""The smallest part of a refused statement that td itself refuses by the same cause.
+
+td is asked for the parts of a part: the first that is refused is gone into, up to one of which no
+part is refused.
+"""
+from dataclasses import dataclass
+
+import declared
+import hints
+from definitions import heading_of
+from grammar import Stop, parsed
+from parts import FRESH, Element
+from places import shortened
+from statements import STATIC, VALUES, Reader
+
+NAME_UNKNOWN, HEADING, FIRST_OF_VALUES = 3, 6, 20
+# So many questions are asked at once, and so many tuples are asked for as one.
+AT_ONCE, BLOCK = 50, 200
+
+
+@dataclass
+class Fault:
+    """Where in the statement it is, and what is said of it."""
+
+    begins: int
+    says: str
+
+
+@dataclass
+class Found:
+    """A part that is refused, what stands around it, and the part that it is in."""
+
+    part: object
+    frames: tuple
+    around: object = None
+
+
+class Asking:
+    """Asks td about the parts of a statement that was refused by a cause."""
+
+    def __init__(self, session, text, cause):
+        self.session, self.text, self.cause = session, text, cause
+        self.root = STATIC if cause < FIRST_OF_VALUES else VALUES
+        self.refusal = f"REFUSED {cause} "
+
+    def answers(self, questions, each=1):
+        """td's answer to each question, a statement or several with so many answers."""
+        every = []
+        for at in range(0, len(questions), AT_ONCE):
+            asked = questions[at : at + AT_ONCE]
+            script = "\n".join(asked).encode("utf-8", "surrogateescape")
+            lines = self.session.answer(script).decode("utf-8", "surrogateescape").split("\n")
+            every += lines[: len(asked) * each : each]
+        return every
+
+    def truth(self, question, frames):
+        for frame in reversed(frames):
+            question = question.join(frame.truth)
+        return question.join(self.root.truth)
+
+    def refused(self, questions):
+        """Of each question, with its frames, whether it is refused by the cause."""
+        said = [self.truth(*one) for one in questions]
+        answers = self.answers(said, self.root.answers)
+        return [one.startswith(self.refusal) for one in answers]
+
+    def is_refused(self, question, frames):
+        return self.refused([(question, frames)])[0]
+
+    def first_refused(self, operands, frames):
+        """The first of the operands that is refused, with what stands around it."""
+        plain = [one for one in operands if not isinstance(one[0], Element)]
+        elements = [one for one, _ in operands if isinstance(one, Element)]
+        asked = [(one, around(frames, frame)) for one, frame in plain]
+        asked += [(one, frames) for one in self.suspects(elements, frames)]
+        told = self.refused([(one.asked(), framed) for one, framed in asked])
+        return next((one for one, is_refused in zip(asked, told) if is_refused), None)
+
+    def suspects(self, elements, frames):
+        """The tuples of the first block of a list that is refused. A short list is one block."""
+        if len(elements) <= BLOCK:
+            return elements
+        blocks = [elements[at : at + BLOCK] for at in range(0, len(elements), BLOCK)]
+        whole = elements[0].elements
+        asked = [(whole.question(one[0].number, one[-1].number), frames) for one in blocks]
+        told = self.refused(asked)
+        return next((one for one, is_refused in zip(blocks, told) if is_refused), [])
+
+    def smallest(self, part, frames=()):
+        """The smallest part in a refused one that is refused too."""
+        found = Found(part, frames)
+        while True:
+            inner = self.first_refused(found.part.operands, found.frames)
+            if inner is None:
+                return found
+            found = Found(*inner, found)
+            if isinstance(found.part, Element):
+                inner = found.part.inner()
+                if not self.is_refused(inner.asked(), found.frames):
+                    return found
+                found = Found(inner, found.frames, found.around)
+
+    def in_statement(self, statement):
+        """The smallest part that is refused of all that the statement has."""
+        if statement.root and self.cause < FIRST_OF_VALUES:
+            self.root = STATIC
+        for part in statement.parts:
+            self.root = self.root_of(statement, part)
+            if part.is_expression or self.is_refused(part.asked(), ()) or self.inside(part):
+                return self.smallest(part)
+        return None
+
+    def root_of(self, statement, part):
+        """Where the part is asked: the constraint of a type within that type."""
+        is_constraint = statement.root and part is not statement.parts[0]
+        if is_constraint:
+            return statement.root
+        return STATIC if self.cause < FIRST_OF_VALUES else VALUES
+
+    def inside(self, part):
+        return self.first_refused(part.operands, ()) or self.first_name(part, ())
+
+    def first_name(self, part, frames):
+        """The first name of an attribute that the part's operand has not."""
+        if not part.names or self.cause != HEADING:
+            return None
+        (operand, _), *_ = part.operands
+        said = self.text[operand.begins : operand.ends]
+        names = [self.text[one.begins : one.ends] for one in part.names]
+        told = self.refused([(f"IS_EMPTY(({said}) {{{one}}})", frames) for one in names])
+        return next((one for one, is_refused in zip(part.names, told) if is_refused), None)
+
+    def type(self, text, frames):
+        """The type of an expression, as td prints it; None where it has none."""
+        for frame in reversed(frames):
+            text = text.join(frame.type)
+        depth = 1 + sum(frame.operand is not None for frame in frames)
+        depth += self.root.type != STATIC.type
+        (answer,) = self.answers([text.join(self.root.type)])
+        return type_in(answer, depth)
+
+    def type_of(self, part, frames):
+        return self.type(self.text[part.begins : part.ends], frames)
+
+    def attributes(self, text, frames):
+        """The names of the attributes of a relation, or of a tuple."""
+        kind = self.type(text, frames) or ""
+        return [name for name, _ in heading_of(kind)]
+
+    def attributes_of_heading(self, statement):
+        """The attributes of the relvar that is declared, each with its type."""
+        said = self.text[(of := statement.heading or statement.source).begins : of.ends]
+        kind = f"RELATION {said} {{}}" if statement.heading else f"({said})"
+        return heading_of(self.type(kind, ()) or "")
+
+    def in_scope(self, frames):
+        """The names of the attributes that an expression may name there."""
+        return [
+            name
+            for number, frame in enumerate(frames)
+            if frame.operand is not None
+            for name in self.attributes(f"({frame.operand})", frames[:number])
+        ]
+
+
+def around(frames, frame):
+    return frames if frame is None else (*frames, frame)
+
+
+def type_in(answer, depth):
+    """The type of the fresh attribute, so many relation types deep, in an answer."""
+    for _ in range(depth):
+        answer = dict(heading_of(answer)).get(FRESH)
+        if answer is None:
+            return None
+    return answer
+
+
+def told_part(asking, found):
+    """What is said of the smallest part: its text, the types of its operands, and what to try."""
+    part, frames, cause = found.part, found.frames, asking.cause
+    text = shortened(asking.text[part.begins : part.ends])
+    name = asking.first_name(part, frames)
+    if name is not None:
+        word = asking.text[name.begins : name.ends]
+        (operand, _), *_ = part.operands
+        kind = asking.type_of(operand, frames)
+        near = hints.nearest(word, [one for one, _ in heading_of(kind or "")])
+        return Fault(name.begins, said(f"{word} in {text}", [kind], near))
+    if cause == NAME_UNKNOWN:
+        return unknown(asking, found)
+    operands = [(one, around(frames, frame)) for one, frame in operands_of(part)]
+    kinds = [asking.type_of(*one) for one in operands]
+    texts = [asking.text[one.begins : one.ends] for one, _ in operands]
+    hint = hints.of_part(asking, found, texts, kinds) if all(kinds) else None
+    shown = kinds if cause < FIRST_OF_VALUES else values(asking, operands)
+    return Fault(part.begins, said(text, shown, hint))
+
+
+def operands_of(part):
+    """The expressions whose types tell: of a tuple in a list also the first one."""
+    if isinstance(part, Element):
+        return [(one.inner(), None) for one in (part.elements.every()[0], part)]
+    return [(one, frame) for one, frame in part.operands if one.is_expression]
+
+
+def values(asking, operands):
+    """The values of operands that are scalars and not written as such, if no tuple is in scope."""
+    asked = [f"WRITE {asking.text[one.begins : one.ends]};" for one, frames in operands if not frames]
+    answers = asking.answers(asked)
+    is_plain = all(not one.startswith(("RELATION", "REFUSED")) for one in answers)
+    return answers if answers and is_plain else []
+
+
+def said(text, kinds, hint=None):
+    known = ", ".join(shortened(one, 100) for one in kinds if one)
+    return f" at {text}" + (f": {known}" if known else "") + (f"; try {hint}" if hint else "")
+
+
+def unknown(asking, found):
+    """A name that is not known, and the nearest that is."""
+    part = found.part
+    word = asking.text[part.begins : part.ends].split("(")[0].strip()
+    known = hints.known_names(asking, found)
+    hint = hints.nearest(word, known) or hints.of_name(asking, found, word)
+    return Fault(part.begins, said(word, [], hint))
+
+
+def fault(session, text, cause):
+    """The smallest part of a refused statement that is refused by the cause, and what is said."""
+    tree = parsed(text)
+    if isinstance(tree, Stop):
+        return None
+    statement = Reader(text).statement(tree)
+    asking = Asking(session, text, cause)
+    if cause in declared.CAUSES:
+        found = declared.CAUSES[cause](asking, statement)
+        return Fault(*found) if found else None
+    if cause == NAME_UNKNOWN and statement.name is not None and not statement.parts:
+        return Fault(*declared.not_there(asking, statement))
+    found = asking.in_statement(statement)
+    return told_part(asking, found) if found else None
