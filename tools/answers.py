@@ -168,13 +168,23 @@ class Cutter:
         self.leave()
 
 
+def with_line_feeds(files):
+    """The files, with a line feed behind each but the last where none stands there: a comment that
+    ends one takes in nothing of the next."""
+    for name, text in files[:-1]:
+        yield name, text if text.endswith(b"\n") or not text else text + b"\n"
+    yield from files[-1:]
+
+
 class Script:
     """A script that may come from several files, one behind the other."""
 
-    def __init__(self, files):
-        """Of each file its name and its bytes."""
-        self.files = files
-        self.text = b"".join(text for _, text in files)
+    def __init__(self, files, databases=()):
+        """Of each file its name and its bytes. The databases come before the files."""
+        self.given = [*databases, *files]
+        self.files = list(with_line_feeds(self.given))
+        self.text = b"".join(text for _, text in self.files)
+        self.begins = sum(len(text) for _, text in self.files[: len(databases)])
 
     def place(self, at):
         """The file and the number of the line of a byte of the script."""
@@ -183,6 +193,10 @@ class Script:
                 return name, text.count(b"\n", 0, at) + 1
             at -= len(text)
         raise ValueError("behind the script")
+
+    def is_of_files(self, at, statement):
+        """Whether the statement at this byte ends in the files, and not in the databases."""
+        return at + len(statement) > self.begins
 
     def answered(self, cutter, session):
         """Each statement with the byte at which it begins and td's answer. What stands behind the

@@ -4,9 +4,12 @@ The statuses are td's: 2 for a wrong command line, 3 where a file, the output or
 comes with one line on standard error.
 """
 import argparse
+import contextlib
 import os
 import sys
 from pathlib import Path
+
+from tables import visible
 
 WRONG_WORDS = 2
 FAILED = 3
@@ -46,9 +49,33 @@ def why(error):
     return f"{error.filename}: {said}" if error.filename else said
 
 
+def note(says):
+    """Says a line on standard error."""
+    with contextlib.suppress(OSError):
+        print(f"{name()}: {visible(says)}", file=sys.stderr, flush=True)
+
+
+def standard_input():
+    """Standard input, as bytes."""
+    if sys.stdin is None:
+        raise Failure("standard input is closed")
+    return sys.stdin.buffer
+
+
+def open_closed_streams():
+    """Opens what is closed of the three streams as nothing, so that no file takes its number. What
+    is said on standard error goes nowhere then."""
+    while (opened := os.open(os.devnull, os.O_RDWR)) <= 2:
+        pass
+    os.close(opened)
+    sys.stderr = sys.stderr or open(os.devnull, "w", encoding="utf-8")
+
+
 def finished(main):
     """The status with which the tool ends, and what it says on standard error."""
     try:
+        if sys.stdout is None:
+            raise Failure("standard output is closed")
         try:
             status = main()
         except SystemExit as left:
@@ -58,7 +85,7 @@ def finished(main):
     except Failure as failure:
         return failure.status, str(failure)
     except BrokenPipeError:
-        return FAILED, None
+        return FAILED, "the output was closed before all was written"
     except OSError as error:
         return FAILED, why(error)
     except KeyboardInterrupt:
@@ -67,10 +94,11 @@ def finished(main):
 
 def run(main):
     """Runs a tool, and ends the process."""
+    open_closed_streams()
     status, says = finished(main)
     if says is not None:
-        print(f"{name()}: {says}", file=sys.stderr)
+        note(says)
     if status >= FAILED:
         # What could not be written is let go, so that nothing is said of it a second time.
-        os.dup2(os.open(os.devnull, os.O_WRONLY), sys.stdout.fileno())
+        os.dup2(os.open(os.devnull, os.O_WRONLY), 1)
     sys.exit(status)

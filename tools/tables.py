@@ -8,13 +8,39 @@ from literals import relation_of
 TURNS = {"LRE", "RLE", "LRO", "RLO", "PDF", "LRI", "RLI", "FSI", "PDI"}
 UNSAFE = {"Cc", "Cs", "Zl", "Zp"}
 WITHOUT_WIDTH = {"Mn", "Me", "Cf"}
+# What joins two pictures into one, and what makes a picture of a sign: it takes two columns then.
+JOINER, AS_PICTURE = "\u200d", "\ufe0f"
+SKINS = range(0x1F3FB, 0x1F400)
+SIGNS_WITH_PICTURES = {"So", "Sm"}
 PLAIN_CELL = re.compile(r'[^",\r\n]+')
 DEE, DUM = "TABLE_DEE", "TABLE_DUM"
 
 
 def columns(text):
-    """How many columns of a terminal the text takes."""
-    return len(text) if text.isascii() else sum(map(columns_of_one, text))
+    """How many columns of a terminal the text takes: pictures that are joined take those of one."""
+    if text.isascii():
+        return len(text)
+    total, before, last = 0, " ", 0
+    for character in text:
+        last = columns_behind(character, before, last)
+        total += last
+        before = character
+    return total
+
+
+def columns_behind(character, before, last):
+    """How many columns a character takes behind another, which has taken the last number of them."""
+    if character == AS_PICTURE:
+        return 1 if last == 1 and is_picture(before) else 0
+    is_joined = before == JOINER and is_picture(character)
+    is_skin = ord(character) in SKINS and is_picture(before)
+    return 0 if is_joined or is_skin else columns_of_one(character)
+
+
+def is_picture(character):
+    """Whether the character is a picture, or a sign that may be shown as one."""
+    is_sign = unicodedata.category(character) in SIGNS_WITH_PICTURES
+    return is_sign or character in "#*0123456789\u203c\u2049"
 
 
 def columns_of_one(character):
@@ -24,13 +50,16 @@ def columns_of_one(character):
 
 
 def visible(text):
-    """The text, in which what a terminal would obey stands as an escape: a tab as `\\t`."""
+    """The text, in which what a terminal would obey stands as an escape: a tab as `\\t`, and a
+    byte that is no character as `\\xff`."""
     if text.isascii() and text.isprintable():
         return text
     return "".join(map(visible_one, text))
 
 
 def visible_one(character):
+    if "\udc80" <= character <= "\udcff":
+        return f"\\x{ord(character) - 0xDC00:02x}"
     is_unsafe = unicodedata.category(character) in UNSAFE
     if is_unsafe or unicodedata.bidirectional(character) in TURNS:
         return character.encode("unicode_escape", "surrogatepass").decode()
@@ -80,11 +109,16 @@ def table(relation):
     return shown if is_ruled or not rows else [*shown, rule]
 
 
+def visible_lines(text):
+    """The text, in which a terminal obeys nothing but the ends of lines."""
+    return "\n".join(map(visible, text.split("\n")))
+
+
 def shown(line):
-    """A whole line of an answer: the table of a relation, and all else as it is."""
+    """A whole line of an answer: the table of a relation, and all else with escapes."""
     relation = relation_of(line)
     if relation is None:
-        return line
+        return visible_lines(line)
     return "".join(f"{one}\n" for one in table(relation))
 
 
