@@ -1,22 +1,24 @@
 """Runs the repository's programs and reads what td writes, for the checks of tools/.
 
-The td that is asked is the one that TD names, else ./td, which builds the proved one. Nothing is
-shared with tools/: a literal is read here by its signs alone.
+It reads nothing as tools/ do: a literal is read here by its signs alone.
 """
 import os
 import re
 import subprocess
+import sys
 from pathlib import Path
 
 TOP = Path(__file__).resolve().parent.parent
-TD = Path(os.environ.get("TD") or TOP / "td")
+sys.path.append(str(TOP / "tools"))
+
+from programs import PROVED, td  # noqa: E402
+
+# The td that is checked, here and by the tools that a check starts.
+TD = os.environ["TD"] = td()
+# What stands for `td` in commands: ./td where it runs this td, and else this td itself.
+COMMAND = TOP / "td" if Path(TD) == PROVED else Path(TD)
 PATIENCE = 120
 SIGN = re.compile(r"'(?:[^']|'')*'|[{}()]|, |[^{}(),' ]+|.")
-
-
-def build():
-    """Builds td, if it is not built."""
-    subprocess.run([TD, "run"], stdin=subprocess.DEVNULL, check=True)
 
 
 def run(program, *words, given=b"", **kept):

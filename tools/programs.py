@@ -1,4 +1,7 @@
-"""Which td the tools ask: the one that TD names, the proved one, or the one that ./try keeps."""
+"""Which td the tools ask: the one that TD names, the proved one, or the one that ./try keeps.
+
+As a program it prints where that stands, and with `--unproved` where the one of ./try does.
+"""
 import functools
 import os
 import shutil
@@ -6,7 +9,7 @@ import subprocess
 import sys
 
 import unproved
-from command import Failure, name
+from command import CommandLine, Failure, name, run
 
 TOP = unproved.TOP
 PROVED = TOP / "crates" / "td" / "out" / "td"
@@ -32,3 +35,14 @@ def td():
     found = unproved.program()
     print(f"{name()}: the proved td is not built; this is ./try's", file=sys.stderr, flush=True)
     return str(found)
+
+
+def main():
+    words = CommandLine(__doc__)
+    words.add_argument("--unproved", action="store_true")
+    print(unproved.program() if words.parse_args().unproved else td())
+    return 0
+
+
+if __name__ == "__main__":
+    run(main)
