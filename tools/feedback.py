@@ -20,7 +20,11 @@ h3 {{ font-size: 1rem; margin-bottom: 0.2rem; }}
 .ok {{ color: #1b6b34; }} .wrong {{ color: #a3231f; }}
 pre {{ background: #f4f6f8; border-left: 3px solid #a3231f; padding: 0.5rem 0.8rem;
   overflow-x: auto; font-size: 0.88rem; }}
-{style}@media print {{ body {{ margin: 0; max-width: none; }} table, pre {{ break-inside: avoid; }} }}
+{style}@media print {{
+  body {{ margin: 0; max-width: none; }}
+  table, pre {{ break-inside: avoid; }}
+  pre {{ white-space: pre-wrap; }}
+}}
 </style>
 </head>
 <body>
@@ -56,11 +60,9 @@ def difference_shown(says, difference):
     if not difference.count:
         return ""
     heading, tuples = some_tuples(difference.literal)
-    shown = difference.count
-    front = f"{shown} {says}"
-    if shown > SHOWN:
-        front += f", of which these are {SHOWN}"
-    return f"<p>{front}:</p>\n{table(Relation(heading, tuples))}\n"
+    front = f"{difference.count} tuples are" if difference.count > 1 else "One tuple is"
+    behind = f", of which these are the first {SHOWN}" if difference.count > SHOWN else ""
+    return f"<p>{front} {says}{behind}:</p>\n{table(Relation(heading, tuples))}\n"
 
 
 def headings_shown(one):

@@ -16,9 +16,10 @@ from limits import LimitedSession, Overrun
 from reports import report
 
 LONGEST_FILE = 256 << 10
+UTF_16 = (b"\xff\xfe", b"\xfe\xff")
 LONGEST_REPORTED = 10_000
 MOST_REPORTED = 20
-# So many answers may take all their time.
+# So many statements may take all their time, and then so many answers.
 OVERRUNS = 3
 IN_USE = b"REFUSED 9 "
 
@@ -34,10 +35,19 @@ class Submission:
     says: str = ""
 
 
-def submission(cutter, name, file, text):
-    """The script of a file. One that is too long counts as empty."""
+def not_run(text):
+    """Why the bytes of a file are not run, if they are not."""
     if len(text) > LONGEST_FILE:
-        says = f"The file has more than {LONGEST_FILE >> 10} KiB, and was not run."
+        return f"The file has more than {LONGEST_FILE >> 10} KiB, and was not run."
+    if text.startswith(UTF_16):
+        return "The file is UTF-16 and was not run: a script is to be saved as UTF-8."
+    return ""
+
+
+def submission(cutter, name, file, text):
+    """The script of a file. One that is not run counts as empty."""
+    says = not_run(text)
+    if says:
         return Submission(name, Script([(file, b"")]), [], b"", says)
     statements, at = [], 0
     for statement in cutter.feed(text):
@@ -76,7 +86,8 @@ class Attempt:
     def __post_init__(self):
         """What is known are the refusals that were told on another database."""
         self.accepted, self.refused, self.open_lines = [], [], []
-        self.earlier = 0.0
+        self.earlier, self.is_lost = 0.0, False
+        self.allowed = OVERRUNS * self.limits.seconds
         self.guards = self.given.guards
         self.start()
 
@@ -100,7 +111,8 @@ class Attempt:
 
     @property
     def is_over(self):
-        return self.spent >= OVERRUNS * self.limits.seconds
+        """Whether all the time is used up, or the accepted statements could not be run again."""
+        return self.is_lost or self.spent >= self.allowed
 
     def restart(self, seconds):
         """Goes back to the statements that were accepted. What has run took so many seconds."""
@@ -112,8 +124,7 @@ class Attempt:
         except Overrun:
             # Together they take more than one answer may: none of them stands.
             self.session.leave()
-            self.accepted = []
-            self.earlier = OVERRUNS * self.limits.seconds
+            self.accepted, self.is_lost = [], True
             self.start()
 
     def answer(self, statement):
@@ -125,7 +136,8 @@ class Attempt:
             raise met
 
     def run(self):
-        """Runs each statement. What is left in an open transaction is taken back."""
+        """Runs each statement. What is left in an open transaction is taken back. The answers have
+        as much time as the statements had."""
         for at, statement in self.submission.statements:
             if self.is_over:
                 self.refuse(at, statement, "time", "the script has used up its time; no more is run")
@@ -134,6 +146,7 @@ class Attempt:
         if self.submission.rest.strip():
             self.step_last()
         self.close_transactions()
+        self.allowed += self.spent
 
     def step(self, at, statement):
         try:

@@ -73,6 +73,9 @@ def cause_of_missing(attempt, name):
             return one.answer
     if attempt.open_lines:
         return "a transaction is left open"
+    for other in (name.lower(), name.upper()):
+        if attempt.answer(encoded(f"{other} := {other};")).startswith(VIRTUAL):
+            return f"{other} is another name"
     return "not defined"
 
 
