@@ -187,6 +187,7 @@ class Script:
     def __init__(self, files, databases=()):
         """Of each file its name and its bytes. The databases come before the files."""
         self.given = [*databases, *files]
+        self.of_files = len(files)
         self.files = list(with_line_feeds(self.given))
         self.text = b"".join(text for _, text in self.files)
         self.begins = sum(len(text) for _, text in self.files[: len(databases)])
