@@ -20,7 +20,7 @@ def of_block(text):
     first, *rest = text.replace("\r\n", "\n").split("\n")
     behind = [line for line in rest if line.strip()]
     if behind and all(STARRED.match(line) for line in behind):
-        rest = [STARRED.sub("", line, 1) for line in rest]
+        first, rest = first.lstrip("*"), [STARRED.sub("", line, 1) for line in rest]
     lines = [first.strip(), *textwrap.dedent("\n".join(rest)).split("\n")]
     return "\n".join(lines).strip("\n").split("\n")
 

@@ -141,12 +141,19 @@ def lines_of_databases(script):
         at += len(text)
 
 
+def begin_of(script, cutter, at, statement):
+    """Where what is shown of a statement begins: with the files, unless it begins before them."""
+    if at >= script.begins or at + cutter.begin(statement) < script.begins:
+        return at
+    return script.begins
+
+
 def handout(script, cutter, session, has_keys_first=False):
     """The parts of a script. Of the databases that it names nothing is shown."""
     made, hidden = Handout(session, cutter, has_keys_first), list(lines_of_databases(script))
 
     def seen(at, ends):
-        begins, shown = max(at, script.begins), b""
+        begins, shown = at, b""
         for first, last in hidden:
             if begins <= first < ends:
                 shown += script.text[begins:first]
@@ -157,8 +164,8 @@ def handout(script, cutter, session, has_keys_first=False):
     for at, statement, answer in script.answered(cutter, session):
         ends = at + len(statement)
         if script.is_of_files(at, statement):
-            made.add(seen(at, ends), answer)
-    made.add_front(decoded(seen(ends, len(script.text))))
+            made.add(seen(begin_of(script, cutter, at, statement), ends), answer)
+    made.add_front(decoded(seen(max(ends, script.begins), len(script.text))))
     return made.parts
 
 

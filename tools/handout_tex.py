@@ -54,9 +54,14 @@ SIGNS = {
     '"': r"\textquotedbl{}",
     "[": "{[}",
     "]": "{]}",
+    # Of these two in a row would be another sign.
+    "-": "{-}",
+    ",": "{,}",
+    "'": "{'}",
+    "`": "{`}",
 }
-# Of these two in a row would be another sign, and a quote would be another quote.
-IN_CODE = {**SIGNS, "'": r"\textquotesingle{}", "`": r"\textasciigrave{}", "-": "{-}", ",": "{,}"}
+EXACT = {**SIGNS, "'": r"\textquotesingle{}", "`": r"\textasciigrave{}"}
+LINE_END = r"\\ "
 SECTIONS = {1: "section*", 2: "subsection*", 3: "subsubsection*"}
 MARKS = {prose.Kind.EMPHASIS: "emph", prose.Kind.STRONG: "textbf"}
 
@@ -83,7 +88,7 @@ def verbatim(text):
     """A line as it stands: blanks in front hold together, and between words each is one."""
     body = text.lstrip(" ")
     front = "~" * (len(text) - len(body))
-    return front + escaped(body, IN_CODE).replace(" ", "\\ ")
+    return front + escaped(body, EXACT).replace(" ", "\\ ")
 
 
 def code(text, command="codeline"):
@@ -122,10 +127,11 @@ def cell(value):
     """A value in a cell. A text of several lines is a column of them, and a relation a table."""
     if value.relation is not None:
         return inner_table(value.relation)
-    if value.text is None or "\n" not in value.text:
-        return escaped(value.literal if value.text is None else value.text)
-    lines = r"\\ ".join(map(escaped, value.text.split("\n")))
-    return f"\\begin{{tabular}}[t]{{@{{}}l@{{}}}}{lines}\\end{{tabular}}"
+    text = value.literal if value.text is None else value.text
+    lines = [escaped(line, EXACT) for line in text.split("\n")]
+    if len(lines) == 1:
+        return lines[0]
+    return f"\\begin{{tabular}}[t]{{@{{}}l@{{}}}}{LINE_END.join(lines)}\\end{{tabular}}"
 
 
 def rows(relation):

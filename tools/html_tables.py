@@ -24,7 +24,8 @@ def cell(value, kind):
     if value.relation is not None:
         return f"<td>{table(value.relation)}</td>"
     if value.text is not None:
-        return f'<td class="text">{escaped(value.text)}</td>'
+        lines = "<br>".join(map(escaped, value.text.split("\n")))
+        return f'<td class="text">{lines}</td>'
     name = ' class="number"' if kind == "INTEGER" else ""
     return f"<td{name}>{escaped(value.literal)}</td>"
 
