@@ -18,7 +18,7 @@ NEARLY_ALL = 95
 STRAYS_SHOWN = 10
 
 
-class Kind(Enum):
+class CellType(Enum):
     """The types that a cell may be read as."""
 
     INTEGER = "INTEGER"
@@ -34,10 +34,11 @@ def is_number(cell):
 def number_of(cell):
     """The literal of a cell that is read as a number: blanks, a plus and zeros may stand there."""
     written = cell.strip()
-    # A digit limit, beyond which no number of the range goes, spares the conversion of long ones.
-    if not WRITTEN_NUMBER.fullmatch(written) or len(written.lstrip("+-0")) > 19:
+    digits = written.lstrip("+-0")
+    # No number of the range has more digits, and Python converts no text of very many.
+    if not WRITTEN_NUMBER.fullmatch(written) or len(digits) > 19:
         return None
-    number = int(written)
+    number = int(digits or "0") * (-1 if written[0] == "-" else 1)
     return str(number) if LEAST <= number <= GREATEST else None
 
 
@@ -50,7 +51,7 @@ def truth_of(cell):
 
 
 # Of each type what gives a cell's literal, or None where the cell is no value of it.
-LITERALS = {Kind.INTEGER: number_of, Kind.CHAR: text_of, Kind.BOOLEAN: truth_of}
+LITERALS = {CellType.INTEGER: number_of, CellType.CHAR: text_of, CellType.BOOLEAN: truth_of}
 
 
 @dataclass(frozen=True)
@@ -82,7 +83,7 @@ class Column:
     """An attribute, how its cells are read, and the selector that is applied to them, if any."""
 
     name: str
-    kind: Kind
+    kind: CellType
     selector: Selector | None = None
     is_optional: bool = False
 
@@ -105,10 +106,10 @@ class Column:
 def kind_of(cells):
     """The type of the cells of a column by what they say."""
     if cells and all(map(is_number, cells)):
-        return Kind.INTEGER
+        return CellType.INTEGER
     if cells and all(cell.upper() in TRUTHS for cell in cells):
-        return Kind.BOOLEAN
-    return Kind.CHAR
+        return CellType.BOOLEAN
+    return CellType.CHAR
 
 
 def strays(table, column):

@@ -4,7 +4,7 @@ import io
 from dataclasses import dataclass, field
 
 from command import WRONG_WORDS, Failure
-from files import bytes_of
+from scripts import text_of
 
 UTF_8 = "UTF-8"
 
@@ -77,19 +77,20 @@ class Format:
         if len(self.delimiter) != 1 or self.delimiter in '"\r\n':
             raise wrong("--delimiter is one character, and none of a quote and a line's end")
 
-    def text_of(self, file):
+    def decoded(self, file):
         """The text of a file, or of standard input, without a byte order mark."""
-        data = bytes_of(file)
+        data = text_of(file)
         try:
             return data.decode(self.encoding).removeprefix("\ufeff")
         except UnicodeDecodeError as error:
             before = data[: error.start].decode(self.encoding, "replace")
             line = before.count("\n") + 1
-            raise wrong(f"{file}:{line}: it is not {self.encoding}") from error
+            says = f"{file}:{line}: it is not {self.encoding}; try --encoding windows-1252"
+            raise wrong(says) from error
 
     def rows_of(self, file):
         """The rows of a CSV file that are not empty."""
-        lines = io.StringIO(self.text_of(file), newline="")
+        lines = io.StringIO(self.decoded(file), newline="")
         rows = csv.reader(lines, strict=True, delimiter=self.delimiter)
         begins = 1
         try:

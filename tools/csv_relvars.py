@@ -2,14 +2,14 @@
 from dataclasses import dataclass, field
 
 from answers import Session
-from csv_columns import Column, Kind, Selector, kind_of, strays
+from catalog import Kind
+from csv_columns import CellType, Column, Selector, kind_of, strays
 from csv_files import BadRow, wrong
-from dumps import Kind as Definitions
-from dumps import definitions, dump_of
-from files import bytes_of
+from dumps import definitions, dump_of, keys_of, representation_of, value_of
 from literals import Reader, relation_of
+from scripts import script_of
 
-BUILT_IN = {kind.value for kind in Kind}
+BUILT_IN = {kind.value for kind in CellType}
 # So many answers of td fit in a pipe while it is still being asked.
 ASKED_AT_ONCE = 1000
 FIRST_DYNAMIC_CAUSE = 20
@@ -21,7 +21,7 @@ class Plan:
 
     relvar: str
     keys: list[list[str]]
-    kinds: dict[str, Kind]
+    kinds: dict[str, CellType]
     selectors: dict[str, Selector]
     # Of each attribute whose cells may be empty the name of the relvar that has them.
     optional: dict[str, str]
@@ -42,10 +42,10 @@ class Plan:
 
     def take_database(self, file, is_insert):
         """Takes types, and of an INSERT headings and keys, from the database of a script."""
-        self.dump, _ = dump_of(bytes_of(file))
+        self.dump, _ = dump_of(script_of([file]).text)
         known = definitions(self.dump)
-        types = {one.name: one.body for one in known if one.kind == Definitions.TYPE}
-        relvars = {one.name: one for one in known if one.kind == Definitions.BASE}
+        types = {one.name: one for one in known if one.kind == Kind.TYPE}
+        relvars = {one.name: one for one in known if one.kind == Kind.BASE}
         targets = [self.relvar, *self.optional.values()]
         for name in targets:
             if is_insert and name not in relvars:
@@ -58,10 +58,10 @@ class Plan:
     def take_relvars(self, targets, types):
         """Takes the heading, the keys and the tuples of the first, and the types of all."""
         first = targets[0]
-        self.keys = self.keys or first.keys
+        self.keys = self.keys or keys_of(first)
         self.heading = [*dict(first.heading), *self.optional]
         names = list(dict(first.heading))
-        tuples = relation_of(first.body + "\n").tuples
+        tuples = relation_of(value_of(first) + "\n").tuples
         self.known = [dict(zip(names, (value.literal for value in one))) for one in tuples]
         for target in targets:
             for attribute, kind in target.heading:
@@ -70,28 +70,27 @@ class Plan:
     def take_type(self, attribute, kind, types):
         """Takes an attribute's type as the database has it."""
         if kind in BUILT_IN:
-            self.kinds[attribute] = Kind[kind]
+            self.kinds[attribute] = CellType[kind]
             return
         selector = self.selectors.get(attribute)
         if selector is not None and selector.type != kind:
             raise wrong(f"{attribute!r} is of the type {kind}, and not {selector.type}")
         if selector is not None:
             return
-        component = only_component(types.get(kind, ""))
+        component = only_component(types[kind]) if kind in types else None
         if component is None:
             raise wrong(f"{attribute!r} is of the type {kind}: --as says by which selector")
         self.selectors[attribute] = Selector(kind, [f"{kind}(", ")"])
         self.kinds.setdefault(attribute, component)
 
 
-def only_component(body):
+def only_component(definition):
     """The type of a type's only component, where that is one of a cell's."""
-    reader = Reader(body)
-    if not reader.takes("{"):
-        return None
+    reader = Reader(representation_of(definition))
+    reader.take("{")
     _, kind = reader.attribute()
     is_only = reader.takes("}") or reader.takes(" CONSTRAINT ")
-    return Kind[kind] if is_only and kind in BUILT_IN else None
+    return CellType[kind] if is_only and kind in BUILT_IN else None
 
 
 @dataclass(frozen=True)
@@ -241,7 +240,7 @@ class Import:
         if self.repeated:
             yield f"rows left out that stand there already: {self.repeated}"
         for column in self.columns:
-            is_guessed = column.kind == Kind.CHAR and column.name not in self.plan.kinds
+            is_guessed = column.kind == CellType.CHAR and column.name not in self.plan.kinds
             yield from strays(self.table, column) if is_guessed else ()
         for name, relvar in self.plan.optional.items():
             place = self.table.place(name)
@@ -265,7 +264,7 @@ class Import:
 
 
 def refusals(dump, selections):
-    """Those of the selections that td refuses in the database of the dump, each with the refusal."""
+    """Those of the selections that td refuses in the dump's database, each with the refusal."""
     refused = {}
     with Session() as session:
         session.answer(dump.encode())

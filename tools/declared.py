@@ -5,7 +5,7 @@ from answers import Session
 from definitions import definitions
 from hints import nearest
 from parts import FRESH, nodes
-from places import in_a_row, shortened
+from places import in_a_list, shortened
 
 LONGEST = 80
 
@@ -43,10 +43,6 @@ def mentioned(asking, statement):
     said = in_a_list(by)
     says = f" at {name}, which {said} {verb}" if by else f" at {name}"
     return statement.name.begins, says
-
-
-def in_a_list(words):
-    return f"{', '.join(words[:-1])} and {words[-1]}" if len(words) > 1 else "".join(words)
 
 
 def mentions(session, kind, name):

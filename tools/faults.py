@@ -9,7 +9,7 @@ import declared
 import hints
 from definitions import heading_of
 from grammar import Stop, parsed
-from parts import FRESH, Element
+from parts import FRESH, Element, Scope
 from places import shortened
 from statements import STATIC, VALUES, Reader
 
@@ -55,7 +55,7 @@ class Asking:
 
     def truth(self, question, frames):
         for frame in reversed(frames):
-            question = question.join(frame.truth)
+            question = frame.truth(question, self.cause < FIRST_OF_VALUES)
         return question.join(self.root.truth)
 
     def refused(self, questions):
@@ -133,8 +133,8 @@ class Asking:
     def type(self, text, frames):
         """The type of an expression, as td prints it; None where it has none."""
         for frame in reversed(frames):
-            text = text.join(frame.type)
-        depth = 1 + sum(frame.operand is not None for frame in frames)
+            text = frame.typed(text)
+        depth = 1 + sum(isinstance(frame, Scope) for frame in frames)
         depth += self.root.type != STATIC.type
         (answer,) = self.answers([text.join(self.root.type)])
         return type_in(answer, depth)
@@ -158,7 +158,7 @@ class Asking:
         return [
             name
             for number, frame in enumerate(frames)
-            if frame.operand is not None
+            if isinstance(frame, Scope)
             for name in self.attributes(f"({frame.operand})", frames[:number])
         ]
 
@@ -201,7 +201,8 @@ def operands_of(part):
     """The expressions whose types tell: of a tuple in a list also the first one."""
     if isinstance(part, Element):
         return [(one.inner(), None) for one in (part.elements.every()[0], part)]
-    return [(one, frame) for one, frame in part.operands if one.is_expression]
+    beside = [(part.beside, None)] if part.beside else []
+    return beside + [(one, frame) for one, frame in part.operands if one.is_expression]
 
 
 def values(asking, operands):

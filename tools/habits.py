@@ -9,6 +9,7 @@ import re
 
 from grammar import Stop, automaton, parsed
 from lexemes import Token, reserved_words, tokens
+from places import as_written
 
 MARK = "\0"
 # So many tokens are looked at before and behind the place.
@@ -147,13 +148,6 @@ NOTES = [
 STATEMENTS = [(re.compile(form, re.IGNORECASE), meant) for form, meant in STATEMENTS]
 FORMS = [(re.compile(form), meant) for form, meant in FORMS]
 NOTES = [(re.compile(form), note) for form, note in NOTES]
-CLOSE = re.compile(r" ([,;)}])|([({]) |\b(COUNT|SUM|MAX|MIN|IS_EMPTY|THE_\w+) (?=\()")
-
-
-def as_written(form):
-    """Tokens as one writes them: no blank before a comma or within parentheses."""
-    said = CLOSE.sub(lambda found: "".join(one or "" for one in found.groups()), form)
-    return " ".join(said.split())
 
 
 def mended(found, meant):

@@ -18,25 +18,40 @@ POSTFIXES = {"attributes", "rename", "group", "ungroup"}
 
 
 @dataclass(frozen=True)
-class Frame:
-    """What stands before and behind a question about a part: one for a truth, or for a type."""
+class Scope:
+    """That a part is evaluated for each tuple of an operand, and may name its attributes."""
 
-    truth: tuple
-    type: tuple
-    # The operand whose attributes the part may name, as a text; None where it may name none more.
-    operand: str | None = None
+    # The operand, which gives the types, and the tuples of it that count.
+    operand: str
+    tuples: str
+
+    def truth(self, question, is_static):
+        """A question, an expression of type BOOLEAN, within the scope."""
+        operand = self.operand if is_static else self.tuples
+        return f"IS_EMPTY(EXTEND ({operand}) ADD ({question} AS {FRESH}))"
+
+    def typed(self, text):
+        """An expression in whose type that of the text stands."""
+        return f"EXTEND ({self.operand}) ADD ({text} AS {FRESH})"
 
 
-def scope(operand):
-    """That a part is evaluated for each tuple of the operand."""
-    front, back = f"EXTEND ({operand}) ADD (", f" AS {FRESH})"
-    return Frame((f"IS_EMPTY({front}", f"{back})"), (front, back), operand)
-
-
-def branch(condition, is_taken):
+@dataclass(frozen=True)
+class Branch:
     """That a part is evaluated where a condition is TRUE, or where it is FALSE."""
-    around = ("", " ELSE TRUE END IF") if is_taken else ("TRUE ELSE ", " END IF")
-    return Frame((f"IF ({condition}) THEN {around[0]}", around[1]), ("", ""))
+
+    condition: str
+    is_taken: bool
+
+    def truth(self, question, _):
+        parts = (question, "TRUE") if self.is_taken else ("TRUE", question)
+        return f"IF ({self.condition}) THEN {' ELSE '.join(parts)} END IF"
+
+    def typed(self, text):
+        return text
+
+
+def scope(operand, tuples=None):
+    return Scope(operand, tuples or operand)
 
 
 def has_value(text):
@@ -62,6 +77,8 @@ class Part:
     # Tokens that name attributes of its first operand.
     names: list = field(default_factory=list)
     is_expression: bool = True
+    # A part that is no operand, and whose type tells.
+    beside: object = None
 
     def asked(self):
         """The question about the part alone."""
@@ -189,22 +206,22 @@ class Parts:
 
     def summarize(self, node, parts):
         operand, per = self.expression(parts[1]), parts[2].parts()
-        operands, names, over = [(operand, None)], [], self.text_of(operand)
+        operands, names, frame = [(operand, None)], [], self.scope(operand)
         if len(per) > 2:
             groups = self.expression(per[2])
+            said, other = self.text_of(operand), self.text_of(groups)
             operands.append((groups, None))
-            over = f"({over}) MATCHING ({self.text_of(groups)})"
+            frame = scope(said, f"({said}) MATCHING ({other})")
         else:
             names = self.names(per[1])
         for item in [one for one in parts[3:] if isinstance(one, Node)]:
-            values = [self.expression(one) for one in operands_in(item.parts()[1:])]
-            operands += [(one, scope(over)) for one in values if one.kind != "name" or values]
+            operands += [(self.expression(one), frame) for one in operands_in(item.parts()[1:])]
         return self.of_node(node, "SUMMARIZE", operands, names)
 
     def choice(self, node, parts):
         condition, one, other = [self.expression(each) for each in operands_in(parts)]
         said = self.text_of(condition)
-        operands = [(condition, None), (one, branch(said, True)), (other, branch(said, False))]
+        operands = [(condition, None), (one, Branch(said, True)), (other, Branch(said, False))]
         return self.of_node(node, "IF", operands)
 
     def heading(self, node):

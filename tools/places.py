@@ -1,4 +1,5 @@
 """Where in a script something stands, and what could stand there, in words."""
+import re
 import unicodedata
 
 from grammar import END, automaton
@@ -7,6 +8,11 @@ from tables import columns, visible
 
 AT_MOST = 6
 WIDEST = 100
+# A text as it is, and blanks that nobody writes: before a comma, within parentheses, two in a row.
+GAPS = re.compile(
+    r"('(?:[^']|'')*')| ([,;)}])|([({]) |\b(COUNT|SUM|MAX|MIN|IS_EMPTY|THE_\w+) (?=\()|( ) +"
+)
+LINE_END = re.compile(r"[ \t]*\r?\n[ \t\r\n]*")
 CUT = ".."
 # What is told in place of the tokens with which it begins.
 GROUPS = {
@@ -78,9 +84,28 @@ def told_token(text, token):
     return shortened(text[token.begins : token.ends])
 
 
+def one_line(text):
+    """The text in one line, in which nothing is what a terminal would obey."""
+    return visible(LINE_END.sub(" ", text.strip()))
+
+
+def as_written(tokens):
+    """Tokens with blanks between, as one writes them."""
+    once = GAPS.sub(without_gap, tokens)
+    return GAPS.sub(without_gap, once).strip()
+
+
+def without_gap(found):
+    return "".join(one or "" for one in found.groups())
+
+
+def in_a_list(words):
+    return f"{', '.join(words[:-1])} and {words[-1]}" if len(words) > 1 else "".join(words)
+
+
 def shortened(text, longest=40):
-    """The text in one line, with all blanks as one, and not too long."""
-    text = visible(" ".join(text.split()))
+    """The text in one line, and not too long."""
+    text = one_line(text)
     return text if len(text) <= longest else text[: longest - len(CUT)] + CUT
 
 

@@ -5,9 +5,9 @@ Each is asked for by an expression, so that nothing is assigned, and nothing sta
 from dataclasses import dataclass, field
 
 from grammar import Node
-from parts import FRESH, Frame, Part, Parts, has_value, nodes, scope
+from parts import FRESH, Part, Parts, has_value, nodes, scope
 
-NO_TUPLES = f"EXTEND TABLE_DUM ADD ("
+NO_TUPLES = "EXTEND TABLE_DUM ADD ("
 
 
 @dataclass
@@ -81,41 +81,51 @@ class Reader(Parts):
         return getattr(self, node.name)(node.parts())
 
     def insert(self, parts):
-        return self.assigned(parts[1], parts[2])
+        return self.assigned(parts[1], parts[2], parts[0])
 
-    def assigned(self, target, source):
+    def assigned(self, target, source, begin=None):
         """That the source may be assigned to the target, which has its heading."""
         source, target = self.expression(source), self.of_node(target, "name")
         question = f"IS_EMPTY(({self.text_of(target)}) UNION ({self.text_of(source)}))"
-        return self.whole(spanning(target, source), question, [(target, None), (source, None)])
+        operands = [(target, None), (source, None)]
+        return self.whole(spanning(begin or target, source), question, operands)
 
     def restricted(self, parts):
-        """The target, the condition if there is one, and the tuples that are meant."""
+        """The target, and the part that restricts it to the tuples that are meant, if it does."""
         target = self.of_node(parts[1], "name")
         found = [one for one in parts if isinstance(one, Node) and one.name == "where"]
         if not found:
-            return [(target, None)], self.text_of(target)
+            return target, target
         condition = self.expression(found[0].parts()[1])
-        meant = f"({self.text_of(target)}) WHERE ({self.text_of(condition)})"
-        return [(target, None), (condition, scope(self.text_of(target)))], meant
+        said = self.text_of(target)
+        question = f"IS_EMPTY(({said}) WHERE ({self.text_of(condition)}))"
+        operands = [(target, None), (condition, scope(said))]
+        return target, self.whole(spanning(target, condition), question, operands)
 
     def delete(self, parts):
-        operands, meant = self.restricted(parts)
-        return self.whole(spanning(parts[0], parts[-1]), f"IS_EMPTY({meant})", operands)
+        target, meant = self.restricted(parts)
+        operands = [(target, None), (meant, None)]
+        return self.whole(spanning(parts[0], meant), meant.asked(), operands)
 
     def update(self, parts):
-        operands, meant = self.restricted(parts)
-        names = []
+        target, meant = self.restricted(parts)
+        operands, names = [(target, None), (meant, None)], []
+        frame = scope(self.text_of(target), self.text_of(meant))
         for setting in [one for one in parts if isinstance(one, Node) and one.name == "setting"]:
-            name, _, source = setting.parts()
-            source = self.expression(source)
-            said = f"IF TRUE THEN {self.text[name.begins:name.ends]} ELSE ({self.text_of(source)})"
-            one = self.whole(setting, has_value(f"{said} END IF"), [(source, None)])
-            operands.append((one, scope(meant)))
-            names.append(name)
+            operands.append((self.setting(setting), frame))
+            names.append(setting.parts()[0])
         listed = ", ".join(self.text[one.begins : one.ends] for one in names)
-        question = f"IS_EMPTY(({meant}) {{{listed}}})"
+        question = f"IS_EMPTY(({self.text_of(target)}) {{{listed}}})"
         return self.whole(spanning(parts[0], parts[-1]), question, operands, names)
+
+    def setting(self, node):
+        """That the source may be the value of the attribute, which has its type."""
+        name, _, source = node.parts()
+        name, source = self.of_node(name, "name"), self.expression(source)
+        said = f"IF TRUE THEN {self.text_of(name)} ELSE ({self.text_of(source)}) END IF"
+        part = self.whole(node, has_value(said), [(source, None)])
+        part.beside = name
+        return part
 
     def base_relvar(self, node):
         parts = node.parts()

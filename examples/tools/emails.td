@@ -1,0 +1,2 @@
+// The type of the column Mail of loans.csv.
+TYPE EMAIL POSSREP {E CHAR CONSTRAINT E <> ''};

@@ -1,0 +1,14 @@
+VAR S BASE RELATION {SNO CHAR, SNAME CHAR} INIT (RELATION {
+    TUPLE {SNO 'S1', SNAME 'Ames'}, TUPLE {SNO 'S2', SNAME 'Bray'}}) KEY {SNO};
+VAR P BASE RELATION {PNO CHAR, WEIGHT INTEGER} INIT (RELATION {
+    TUPLE {PNO 'P1', WEIGHT 90}, TUPLE {PNO 'P2', WEIGHT 300}, TUPLE {PNO 'P3', WEIGHT 1400}
+}) KEY {PNO};
+VAR SP BASE RELATION {SNO CHAR, PNO CHAR} INIT (RELATION {
+    TUPLE {SNO 'S1', PNO 'P1'}, TUPLE {SNO 'S1', PNO 'P2'}, TUPLE {SNO 'S1', PNO 'P3'},
+    TUPLE {SNO 'S2', PNO 'P2'}}) KEY {SNO, PNO};
+// Who supplies all parts? Both SNO are that of SP: the condition is TRUE of each of its tuples.
+WRITE S WHERE (SP WHERE SNO = SNO) {PNO} >= P {PNO};
+WRITE S WHERE (SP RENAME (SNO AS X) WHERE X = SNO) {PNO} >= P {PNO};
+// The two heaviest parts? No part is heavier than itself, so that each has none before it.
+WRITE P WHERE COUNT(P WHERE WEIGHT > WEIGHT) < 2;
+WRITE P WHERE COUNT(P RENAME (WEIGHT AS OTHER) WHERE OTHER > WEIGHT) < 2;
