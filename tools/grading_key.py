@@ -10,24 +10,16 @@ from dataclasses import dataclass
 
 import dumps
 from answers import Cutter, Script, Session, is_refusal
+from catalog import Kind, decoded, encoded
 from command import WRONG_WORDS, Failure
-from dumps import Kind
-from files import bytes_of
 from literals import Reader
-from scripts import script_of
+from scripts import script_of, text_of
+from shown import refusal
 
 MARKS = re.compile(r"^[ \t]*//[ \t]*marks\b(.*)$", re.MULTILINE)
 OF_ANSWER = re.compile(r"\s+(\S+)\s+(\d+)(?:\s+(\d+))?\s*")
 OK = b"OK\n"
 SHOWN = 10
-
-
-def decoded(data):
-    return data.decode("utf-8", "surrogateescape")
-
-
-def encoded(text):
-    return text.encode("utf-8", "surrogateescape")
 
 
 @dataclass(frozen=True)
@@ -97,8 +89,8 @@ class Given:
         with Cutter() as cutter:
             for at, statement, answer in script.answered(cutter, self.session):
                 if is_refusal(answer):
-                    told = decoded(script.told(cutter, at, statement, answer)).strip()
-                    raise Failure(f"{told} (on {self.name})", WRONG_WORDS)
+                    told = refusal(self.session, cutter, script, at, statement, answer)
+                    raise Failure(f"{told.splitlines()[0]} (on {self.name})", WRONG_WORDS)
 
     def evaluate(self, names):
         """Keeps the value of each answer."""
@@ -139,7 +131,7 @@ def guarding(one):
     """What is true while the definition is as it is given: it mentions it, so it stays. Of a
     constraint nothing can be said."""
     if one.kind is Kind.BASE:
-        return f"{one.name} = {one.body}"
+        return f"{one.name} = {dumps.value_of(one)}"
     if one.kind is Kind.VIRTUAL:
         return f"IF TRUE THEN TRUE ELSE IS_EMPTY({one.name}) END IF"
     if one.kind is Kind.TYPE:
@@ -151,7 +143,7 @@ class Key:
     """The key, run on each of the databases."""
 
     def __init__(self, name, databases):
-        text = bytes_of(name)
+        text = text_of(name)
         self.name = name
         self.worths = worths(name, decoded(text))
         self.given = []

@@ -12,11 +12,11 @@ from itertools import pairwise
 import prose
 from answers import is_refusal
 from comments import comments, note
-from definitions import definitions
+from dumps import definitions
 from keys_first import key_of, with_first
 from literals import relation_of, whole_lines
-from reports import report
 from scripts import ON_DATABASE
+from shown import decoded, refusal_typed
 
 EXERCISE = re.compile(r"\s*(?:#+ +)?\**Exercise\b")
 SOLUTION = re.compile(r"\s*(?:#+ +)?\**Solution\b")
@@ -55,10 +55,6 @@ class Exercise:
         """How many lines are left for a solution: some more than this one has."""
         steps = [one for one in self.solution if isinstance(one, Step)]
         return LEAST_ROOM + sum(one.code.count("\n") + 1 for one in steps)
-
-
-def decoded(data):
-    return data.decode("utf-8", "surrogateescape")
 
 
 def divided(lines):
@@ -109,8 +105,8 @@ class Handout:
         self.add_front(decoded(statement[:begins]))
         code = decoded(statement[begins:]).replace("\r\n", "\n").rstrip()
         if is_refusal(answer):
-            told = decoded(report(self.session, statement[begins:], answer, b"", 1))
-            self.place.append(Step(code, refusal=re.sub(r"\A:\d+:\d+: ", "", told).rstrip("\n")))
+            told = refusal_typed(self.session, self.cutter, statement[begins:], answer)
+            self.place.append(Step(code, refusal=told.rstrip("\n")))
             return
         if decoded(answer) == OK:
             self.known = None
@@ -126,7 +122,7 @@ class Handout:
         if relation is None or not self.has_keys_first:
             return relation
         if self.known is None:
-            self.known = definitions(self.session)
+            self.known = definitions(decoded(self.session.answer(b"DUMP;")))
         key = key_of(self.known, code, [name for name, _ in relation.heading])
         return with_first(relation, key) if key else relation
 

@@ -1,14 +1,16 @@
 """Relations with the attributes of a key in front, and their tuples in the order of that key."""
+from catalog import RELVARS
+from dumps import keys_of
 from lexemes import tokens
 from literals import Relation
 
 
 def key_of(definitions, statement, names):
     """The first key of a relvar that the statement names whose attributes are all among these."""
-    relvars = {one.name: one for one in definitions if one.kind == "VAR"}
+    relvars = {one.name: one for one in definitions if one.kind in RELVARS}
     words = [statement[one.begins : one.ends] for one in tokens(statement) if one.kind == "name"]
     for word in dict.fromkeys(words):
-        for key in relvars[word].keys if word in relvars else []:
+        for key in keys_of(relvars[word]) if word in relvars else []:
             if key and set(key) <= set(names):
                 return key
     return []

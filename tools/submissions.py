@@ -3,17 +3,16 @@
 A statement that meets a limit, or changes what is given, is taken back alone: td is run anew with
 the statements before it.
 """
-import os
 import re
 from dataclasses import dataclass, field
 
 from answers import Script, Session, is_refusal
+from catalog import Kind, decoded, encoded
 from command import Failure
-from dumps import Kind
-from grading_key import OK, decoded, encoded
+from grading_key import OK
 from lexemes import tokens
 from limits import LimitedSession, Overrun
-from reports import report
+from shown import refusal
 
 LONGEST_FILE = 256 << 10
 UTF_16 = (b"\xff\xfe", b"\xfe\xff")
@@ -232,18 +231,16 @@ class Attempt:
         return next((one for one in words if one in names), None)
 
     def report(self, at, statement, answer, front):
-        begins = self.cutter.begin(statement)
-        file, line = self.submission.script.place(at + begins)
+        line = self.line(at, statement)
         try:
-            lines = report(self.session, statement[begins:], answer, os.fsencode(file), line)
+            said = refusal(
+                self.session, self.cutter, self.submission.script, at, statement, answer
+            )
         except Overrun:
             self.restart(self.limits.seconds)
-            lines = encoded(f"{file}:{line}: {decoded(answer)}")
-        said = decoded(lines)
-        if front:
-            said = said.replace(": REFUSED", f": {front}REFUSED", 1)
-        whole = Refused(at, line, decoded(statement), decoded(answer).strip(), said)
-        self.refused.append(whole)
+            said = f"{self.submission.script.place(at)[0]}:{line}: {decoded(answer)}"
+        said = said.replace(": REFUSED", f": {front}REFUSED", 1)
+        self.refused.append(Refused(at, line, decoded(statement), decoded(answer).strip(), said))
 
     def leave(self):
         self.session.leave()

@@ -2,7 +2,8 @@
 from dataclasses import dataclass
 from enum import Enum
 
-from grading_key import Difference, decoded, encoded, some_tuples
+from catalog import decoded, encoded
+from grading_key import Difference, some_tuples
 from limits import Overrun
 
 VIRTUAL, NOT_THERE = b"REFUSED 10 ", b"REFUSED 3 "
