@@ -23,13 +23,18 @@ class Session:
     the mark is answered, however many lines it has: of DUMP there may be many, or none.
     """
 
-    def __init__(self):
+    def __init__(self, stderr=None):
+        """What td says on standard error goes where subprocess's word for it says."""
         mark = os.urandom(16).hex().encode()
         self.asks = b"WRITE '" + mark + b"';"
         self.mark = b"'" + mark + b"'\n"
         # td is no part of the terminal's job: Ctrl-C is for the tool alone.
         self.process = subprocess.Popen(
-            [td(), "run"], stdin=subprocess.PIPE, stdout=subprocess.PIPE, start_new_session=True
+            [td(), "run"],
+            stdin=subprocess.PIPE,
+            stdout=subprocess.PIPE,
+            stderr=stderr,
+            start_new_session=True,
         )
         try:
             self.answer(b"")
@@ -182,6 +187,7 @@ class Script:
     def __init__(self, files, databases=()):
         """Of each file its name and its bytes. The databases come before the files."""
         self.given = [*databases, *files]
+        self.of_files = len(files)
         self.files = list(with_line_feeds(self.given))
         self.text = b"".join(text for _, text in self.files)
         self.begins = sum(len(text) for _, text in self.files[: len(databases)])
