@@ -120,8 +120,24 @@ def unknown_attribute(asking, statement, key, text):
 
 
 def too_deep(asking, statement):
-    """The attribute whose type is of too high a rank."""
+    """The attribute or the component whose type is of too high a rank."""
+    for name, kind, begins in typed_names(asking, statement):
+        front = "VAR {0} BASE RELATION {{{1} {2}}} KEY {{}}"
+        front = "TYPE {0} POSSREP {{{1} {2}}}" if statement.kind == "TYPE" else front
+        declared = f"{front.format(FRESH, name, kind)}; DROP {statement.kind} {FRESH};"
+        if asking.answers([declared], 2)[0].startswith(asking.refusal):
+            return begins, f" at {name}, whose type is of a rank above 32"
     return None
+
+
+def typed_names(asking, statement):
+    """The attributes or components that are declared, each with its type and where it stands."""
+    if statement.heading is None and statement.source is not None:
+        for name, kind in asking.attributes_of_heading(statement):
+            yield name, kind, statement.source.begins
+    for token, kind in statement.typed:
+        name = asking.text[token.begins : token.ends]
+        yield name, asking.text[kind.begins : kind.ends], token.begins
 
 
 CAUSES = {4: taken, 7: wrong_key, 8: too_deep, 9: mentioned, 10: not_assignable}

@@ -3,10 +3,10 @@ import difflib
 
 from definitions import definitions, heading_of
 from habits import renamed_type
-from places import shortened
+from places import as_written, in_a_list, shortened
 
-TYPE_MISMATCH, HEADING = 5, 6
-NEAR, LONGEST = 0.6, 100
+TYPE_MISMATCH, HEADING, TYPE_CONSTRAINT = 5, 6, 24
+NEAR, LONGEST, MOST = 0.6, 100, 6
 COMPARISONS = {"=", "<>", "<", "<=", ">", ">="}
 OTHER_TYPES = {"STRING", "TEXT", "NUMBER", "BOOL", "INT", "VARCHAR", "DATE", "BIT"}
 # Operators of SQL and of the book that are none here.
@@ -45,17 +45,31 @@ def known_names(asking, found):
 
 
 def of_name(asking, found, word):
-    """What a name that is like no known one may mean."""
-    if found.part.kind == "type" and word.upper() in OTHER_TYPES:
-        return renamed_type(word)
+    """What a name that is like no known one may mean, or which names are known there."""
+    kind = found.part.kind
+    if kind == "type" and word.upper() in OTHER_TYPES:
+        return f"try {renamed_type(word)}"
     if word.upper() in CALLS:
-        return CALLS[word.upper()]
-    is_compared = found.around and found.around.part.kind in COMPARISONS | {"||"}
-    return f"'{word}', if it is a text" if is_compared and found.part.kind == "name" else None
+        return f"try {CALLS[word.upper()]}"
+    around = found.around.part if found.around else None
+    if kind == "name" and around and around.kind in COMPARISONS | {"||"}:
+        if around.operands[0][0] is not found.part:
+            return f"try '{word}', if it is a text"
+    known = asking.in_scope(found.frames)
+    return f"attributes there are {in_a_list(known[:MOST])}" if known else None
 
 
 def of_part(asking, found, texts, kinds):
-    """What to try in place of a part whose operands have these texts and types."""
+    """What to try in place of a part whose operands have these texts and types, or a note."""
+    if asking.cause == TYPE_CONSTRAINT:
+        return of_constraint(asking, found)
+    said = tried(asking, found, texts, kinds)
+    if said:
+        return f"try {said}"
+    return of_common(kinds) if asking.cause == HEADING and len(kinds) == 2 else None
+
+
+def tried(asking, found, texts, kinds):
     kind = found.part.kind
     if asking.cause == TYPE_MISMATCH and len(texts) == 2:
         hints = (of_membership, of_literals, of_single_values, of_components, of_tuples)
@@ -66,6 +80,23 @@ def of_part(asking, found, texts, kinds):
     if asking.cause == HEADING and len(texts) == 2:
         return of_headings(texts, kinds)
     return of_values(kind, texts)
+
+
+def of_constraint(asking, found):
+    """What the constraint of a selector's type asks."""
+    name = asking.text[found.part.begins : found.part.ends].split("(")[0].strip()
+    types = [one for one in definitions(asking.session) if (one.kind, one.name) == ("TYPE", name)]
+    constraint = types[0].components[1] if types else None
+    return f"{name} needs {shortened(as_written(constraint), LONGEST)}" if constraint else None
+
+
+def of_common(kinds):
+    """An attribute that two headings have of two types."""
+    left, right = (dict(heading_of(one)) for one in kinds)
+    for name in left:
+        if name in right and left[name] != right[name]:
+            return f"{name} is {left[name]} and {right[name]}"
+    return None
 
 
 def of_membership(_, kind, texts, kinds):

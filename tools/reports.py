@@ -82,5 +82,8 @@ def report(session, statement, answer, name, line):
 
 
 def why(session, statement):
-    """The lines that show the tuples by which the statement breaks keys and constraints."""
+    """The lines that show the tuples by which the statement breaks keys and constraints.
+
+    There are none where something else is refused of it.
+    """
     return breaches(session, decoded(statement)).encode("utf-8", "surrogateescape")
