@@ -40,7 +40,6 @@ class Commands:
 
     def __init__(self, prompt):
         self.prompt = prompt
-        self.said = prompt.say
         self.actions = {
             "\\d": self.describe,
             "\\read": self.read,
@@ -56,6 +55,10 @@ class Commands:
     @property
     def database(self):
         return self.prompt.database
+
+    def said(self, text):
+        """Says something, such as the name of a file, in which a terminal obeys nothing."""
+        self.prompt.say(visible_lines(text))
 
     def obey(self, line):
         """Does what a line asks for."""
