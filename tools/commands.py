@@ -93,7 +93,8 @@ class Commands:
         text = Path(name).expanduser().read_bytes()
         below = database_named(Path(name).expanduser(), text)
         if below is not None and Path(below).resolve() not in self.database.seen:
-            self.said(f"{name} is written for {below}, which is not open: \\open {name} opens both\n")
+            hint = f"\\open {name} opens both"
+            self.said(f"{name} is written for {below}, which is not open: {hint}\n")
         script = Script([(name, text)])
         take, counts = self.taker(script)
         self.database.read(script, take)
