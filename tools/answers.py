@@ -172,9 +172,12 @@ class Script:
     """A script that may come from several files, one behind the other."""
 
     def __init__(self, files):
-        """Of each file its name and its bytes."""
-        self.files = files
-        self.text = b"".join(text for _, text in files)
+        """Of each file its name and its bytes, to which a line feed is added at the end of a file
+        that has none and is not the last: so that a comment there ends."""
+        *front, last = files
+        self.files = [(name, text if text.endswith(b"\n") else text + b"\n") for name, text in front]
+        self.files.append(last)
+        self.text = b"".join(text for _, text in self.files)
 
     def place(self, at):
         """The file and the number of the line of a byte of the script."""

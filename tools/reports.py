@@ -3,8 +3,12 @@
 A report has a line that editors read, FILE:LINE:COLUMN: and td's own answer with what is known
 beside it; then the line of the script, with a caret below the column.
 """
+import os
 import re
+import sys
+from pathlib import Path
 
+from answers import Cutter, Script, Session, is_refusal
 from breaches import breaches
 from faults import fault
 from grammar import Stop, parsed
@@ -14,6 +18,8 @@ from places import in_a_row, kinds_in_words, place, shortened, told_token, with_
 
 ANSWER = re.compile(rb"REFUSED (\d+) ")
 SCAN, SYNTAX = 1, 2
+# The causes from here on may come of a key or a constraint.
+FIRST_OF_VALUES = 20
 TOO_HIGH = "; it is spelled, but more than 200 nodes high"
 
 
@@ -69,13 +75,17 @@ def told(session, text, cause, line):
     return (found.begins, found.says) if found else (0, "")
 
 
+def cause_of(answer):
+    return int(ANSWER.match(answer).group(1))
+
+
 def report(session, statement, answer, name, line):
     """The lines that tell of a refused statement, which begins at a line of the named file.
 
     The session has the database as it was when the statement was refused, and is left so.
     """
     text = decoded(statement)
-    at, says = told(session, text, int(ANSWER.match(answer).group(1)), line)
+    at, says = told(session, text, cause_of(answer), line)
     row, column = place(text, at)
     head = f"{decoded(name)}:{line + row}:{column}: {decoded(answer).strip()}{says}\n"
     return (head + with_caret(text, at)).encode("utf-8", "surrogateescape")
@@ -87,3 +97,26 @@ def why(session, statement):
     There are none where something else is refused of it.
     """
     return breaches(session, decoded(statement)).encode("utf-8", "surrogateescape")
+
+
+def read(name):
+    return sys.stdin.buffer.read() if name == "-" else Path(name).read_bytes()
+
+
+def reports(names):
+    """Of each refused statement of a script in several files its report and its tuples' lines."""
+    script = Script([(name, read(name)) for name in names])
+    # A statement may be as high as td takes it, and its tree some levels for each.
+    sys.setrecursionlimit(10_000)
+    with Cutter() as cutter, Session() as session:
+        for at, statement, answer in script.answered(cutter, session):
+            if not is_refusal(answer):
+                continue
+            begins = cutter.begin(statement)
+            name, line = script.place(at + begins)
+            statement = statement[begins:]
+            may_break = cause_of(answer) >= FIRST_OF_VALUES
+            yield (
+                report(session, statement, answer, os.fsencode(name), line),
+                lambda: why(session, statement) if may_break else b"",
+            )
