@@ -5,7 +5,7 @@ from answers import Session
 from definitions import definitions
 from hints import nearest
 from parts import FRESH, nodes
-from places import in_a_list, shortened
+from places import as_written, in_a_list, shortened
 
 LONGEST = 80
 
@@ -19,7 +19,7 @@ def taken(asking, statement):
     name = name_of(asking, statement)
     for one in definitions(asking.session):
         if (one.kind, one.name) == (statement.kind, name):
-            has = shortened(one.declared, LONGEST)
+            has = shortened(as_written(one.declared), LONGEST)
             says = f" at {name}, which is there: {has}; try another name, or DROP {one.kind} {name}"
             return statement.name.begins, says
     return None
@@ -64,7 +64,7 @@ def not_assignable(asking, statement):
         name = asking.text[target.begins : target.ends]
         if asking.answers([f"DELETE {name} WHERE FALSE;"])[0].startswith(asking.refusal):
             own = [one for one in definitions(asking.session) if one.name == name and one.is_virtual]
-            return target.begins, f" at {name}: {shortened(own[0].declared, LONGEST)}"
+            return target.begins, f" at {name}, which is {shortened(as_written(own[0].declared), LONGEST)}"
     return None
 
 
@@ -126,7 +126,7 @@ def too_deep(asking, statement):
         front = "TYPE {0} POSSREP {{{1} {2}}}" if statement.kind == "TYPE" else front
         declared = f"{front.format(FRESH, name, kind)}; DROP {statement.kind} {FRESH};"
         if asking.answers([declared], 2)[0].startswith(asking.refusal):
-            return begins, f" at {name}, whose type is of a rank above 32"
+            return begins, f" at {name}, whose type makes the rank more than 32"
     return None
 
 
@@ -140,4 +140,17 @@ def typed_names(asking, statement):
         yield name, asking.text[kind.begins : kind.ends], token.begins
 
 
-CAUSES = {4: taken, 7: wrong_key, 8: too_deep, 9: mentioned, 10: not_assignable}
+def of_transactions(asking, _):
+    """How many transactions are open."""
+    is_begin = asking.text.lstrip().upper().startswith("BEGIN")
+    return 0, "; 16 transactions are open" if is_begin else "; no transaction is open"
+
+
+CAUSES = {
+    4: taken,
+    7: wrong_key,
+    8: too_deep,
+    9: mentioned,
+    10: not_assignable,
+    11: of_transactions,
+}

@@ -10,7 +10,7 @@ import hints
 from definitions import heading_of
 from grammar import Stop, parsed
 from literals import relation_of
-from parts import FRESH, Element, Scope, scope
+from parts import FRESH, Element, Scope, is_type, scope
 from places import one_line, shortened
 from statements import STATIC, VALUES, Reader
 
@@ -69,13 +69,21 @@ class Asking:
         return self.refused([(question, frames)])[0]
 
     def first_refused(self, operands, frames):
-        """The first of the operands that is refused, with what stands around it."""
+        """The first of the operands that is refused, with what stands around it.
+
+        Not so where anything would be refused there, as within a scope whose operand is no relation.
+        """
         plain = [one for one in operands if not isinstance(one[0], Element)]
         elements = [one for one, _ in operands if isinstance(one, Element)]
         asked = [(one, around(frames, frame)) for one, frame in plain]
         asked += [(one, frames) for one in self.suspects(elements, frames)]
         told = self.refused([(one.asked(), framed) for one, framed in asked])
-        return next((one for one, is_refused in zip(asked, told) if is_refused), None)
+        refused = [one for one, is_refused in zip(asked, told) if is_refused]
+        return next((one for one in refused if self.is_sound(one[1], frames)), None)
+
+    def is_sound(self, framed, frames):
+        """Whether what stands around a part is not refused by itself."""
+        return len(framed) == len(frames) or not self.is_refused("TRUE", framed)
 
     def suspects(self, elements, frames):
         """The tuples of the first block of a list that is refused. A short list is one block."""
@@ -90,7 +98,7 @@ class Asking:
     def smallest(self, part, frames=()):
         """The smallest part in a refused one that is refused too."""
         found = Found(part, frames)
-        while True:
+        while not self.is_unknown_selector(found):
             inner = self.first_refused(found.part.operands, found.frames)
             if inner is None:
                 return found
@@ -100,6 +108,14 @@ class Asking:
                 if not self.is_refused(inner.asked(), found.frames):
                     return found
                 found = Found(inner, found.frames, found.around)
+        return found
+
+    def is_unknown_selector(self, found):
+        """Whether the part is T(..) of a type T that is not there."""
+        if self.cause != NAME_UNKNOWN or found.part.kind != "selector":
+            return False
+        name = self.text[found.part.begins : found.part.ends].split("(")[0]
+        return self.is_refused(is_type(name), found.frames)
 
     def in_statement(self, statement):
         """The smallest part that is refused of all that the statement has."""
@@ -196,6 +212,8 @@ def told_part(asking, found):
     if cause == NAME_UNKNOWN:
         return unknown(asking, found)
     operands = [(one, around(frames, frame)) for one, frame in operands_of(part)]
+    if part.added and cause == HEADING:
+        return there_already(asking, part, text, operands[0])
     kinds = [asking.type_of(*one) for one in operands]
     texts = [asking.text[one.begins : one.ends] for one, _ in operands]
     hint = hints.of_part(asking, found, texts, kinds) if all(kinds) else None
@@ -205,8 +223,23 @@ def told_part(asking, found):
     return Fault(part.begins, said(text, values(asking, operands, cause), hint))
 
 
+def there_already(asking, part, text, operand):
+    """The name that EXTEND adds and that its operand has."""
+    kind = asking.type_of(*operand)
+    has = [name for name, _ in heading_of(kind or "")]
+    for token in part.added:
+        word = asking.text[token.begins : token.ends]
+        if word in has:
+            return Fault(token.begins, said(f"{word} in {text}", [kind], "try another name"))
+    return Fault(part.begins, said(text, [kind]))
+
+
 def in_tuple(asking, found):
     """The first tuple for which the part is refused, where the tuples of a relation are gone over."""
+    if found.part.lacking and not found.frames:
+        lacking = relation_of(f"{asking.value(found.part.lacking)}\n")
+        if lacking and lacking.tuples:
+            return f" for {shortened(literal(lacking.heading, lacking.tuples[0]), 100)}"
     if not found.frames or not isinstance(found.frames[0], Scope):
         return ""
     value = asking.value(f"({found.frames[0].tuples})")

@@ -8,6 +8,8 @@ from places import as_written, in_a_list, shortened
 TYPE_MISMATCH, HEADING, TYPE_CONSTRAINT = 5, 6, 24
 NEAR, LONGEST, MOST = 0.6, 100, 6
 COMPARISONS = {"=", "<>", "<", "<=", ">", ">="}
+# Forms whose two operands have one heading: also an assignment and the list of a relation.
+SAME_HEADINGS = {"UNION", "INTERSECT", "MINUS", "=", "<>", "<", "<=", ">", ">=", "", "element"}
 OTHER_TYPES = {"STRING", "TEXT", "NUMBER", "BOOL", "INT", "VARCHAR", "DATE", "BIT"}
 # Operators of SQL and of the book that are none here.
 CALLS = {
@@ -66,7 +68,8 @@ def of_part(asking, found, texts, kinds):
     said = tried(asking, found, texts, kinds)
     if said:
         return f"try {said}"
-    return of_common(kinds) if asking.cause == HEADING and len(kinds) == 2 else None
+    is_of_headings = asking.cause == HEADING and len(kinds) == 2
+    return of_difference(found.part.kind, kinds) if is_of_headings else None
 
 
 def tried(asking, found, texts, kinds):
@@ -77,8 +80,8 @@ def tried(asking, found, texts, kinds):
         return next((one for one in said if one), None)
     if asking.cause == TYPE_MISMATCH:
         return of_precedence(asking, found) or of_tuple(texts, kinds)
-    if asking.cause == HEADING and len(texts) == 2:
-        return of_headings(texts, kinds)
+    if asking.cause == HEADING:
+        return of_headings(texts, kinds) if len(texts) == 2 and kind in SAME_HEADINGS else None
     return of_values(kind, texts)
 
 
@@ -90,13 +93,20 @@ def of_constraint(asking, found):
     return f"{name} needs {shortened(as_written(constraint), LONGEST)}" if constraint else None
 
 
-def of_common(kinds):
-    """An attribute that two headings have of two types."""
+def of_difference(kind, kinds):
+    """In what two headings differ, where they must not."""
     left, right = (dict(heading_of(one)) for one in kinds)
     for name in left:
         if name in right and left[name] != right[name]:
             return f"{name} is {left[name]} and {right[name]}"
-    return None
+    if kind == "TIMES":
+        return f"both have {in_a_list([name for name in left if name in right])}"
+    less = [name for name in left if name not in right]
+    more = [name for name in right if name not in left]
+    if kind not in SAME_HEADINGS or less and more:
+        return None
+    side = "second" if less else "first"
+    return f"the {side} has no {in_a_list(less or more)}"
 
 
 def of_membership(_, kind, texts, kinds):
@@ -156,7 +166,8 @@ def of_tuples(_, kind, texts, kinds):
         return None
     for text, one in zip(texts, kinds):
         if one.startswith("TUPLE"):
-            return shortened(f"RELATION {{{text}}}", LONGEST)
+            front = f"{texts[0]} MATCHING " if kind == "WHERE" and text is texts[1] else ""
+            return shortened(f"{front}RELATION {{{text}}}", LONGEST)
     return None
 
 
@@ -194,7 +205,7 @@ def of_headings(texts, kinds):
 
 def of_values(kind, texts):
     """What has a value where the operands have not what is needed."""
-    if kind == "/" and len(texts) == 2:
+    if kind == "/" and len(texts) == 2 and not texts[1].isdigit():
         return f"IF {texts[1]} = 0 THEN .. ELSE {' / '.join(texts)} END IF"
     if kind in ("MAX", "MIN") and len(texts) == 2:
         return f"IF IS_EMPTY({texts[0]}) THEN .. ELSE {kind}({', '.join(texts)}) END IF"

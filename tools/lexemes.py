@@ -16,7 +16,7 @@ BLANK = r"[ \t\r\n\ufeff]+|/\*.*?\*/|//[^\n]*"
 WORD = r"[A-Za-z_\x80-\ufefe\uff00-\U0010ffff][\w#\x80-\ufefe\uff00-\U0010ffff]*"
 TOKEN = re.compile(
     rf"(?P<blank>{BLANK})|(?P<word>{WORD})|(?P<number>[0-9]+)|(?P<text>'(?:[^']|'')*+')"
-    r"|(?P<sign>:=|<>|<=|>=|\|\||[{}(),;:=<>+*/-])|(?P<open>'|/\*)|(?P<bad>.)",
+    r"|(?P<open>'|/\*)|(?P<sign>:=|<>|<=|>=|\|\||[{}(),;:=<>+*/-])|(?P<bad>.)",
     re.DOTALL,
 )
 SURROGATE = re.compile("[\ud800-\udfff]")

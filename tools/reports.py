@@ -14,6 +14,8 @@ from places import in_a_row, kinds_in_words, place, shortened, told_token, with_
 
 ANSWER = re.compile(rb"REFUSED (\d+) ")
 SCAN, SYNTAX = 1, 2
+# The causes from here on may come of a key or a constraint.
+FIRST_OF_VALUES = 20
 TOO_HIGH = "; it is spelled, but more than 200 nodes high"
 
 
@@ -69,13 +71,22 @@ def told(session, text, cause, line):
     return (found.begins, found.says) if found else (0, "")
 
 
+def cause_of(answer):
+    return int(ANSWER.match(answer).group(1))
+
+
+def may_break(answer):
+    """Whether a statement may be refused so since a key or a constraint does not hold."""
+    return cause_of(answer) >= FIRST_OF_VALUES
+
+
 def report(session, statement, answer, name, line):
     """The lines that tell of a refused statement, which begins at a line of the named file.
 
     The session has the database as it was when the statement was refused, and is left so.
     """
     text = decoded(statement)
-    at, says = told(session, text, int(ANSWER.match(answer).group(1)), line)
+    at, says = told(session, text, cause_of(answer), line)
     row, column = place(text, at)
     head = f"{decoded(name)}:{line + row}:{column}: {decoded(answer).strip()}{says}\n"
     return (head + with_caret(text, at)).encode("utf-8", "surrogateescape")
