@@ -79,13 +79,15 @@ def cause_of(answer):
     return int(ANSWER.match(answer).group(1))
 
 
-def report(session, statement, answer, name, line):
+def report(session, statement, answer, name, line, before=b""):
     """The lines that tell of a refused statement, which begins at a line of the named file.
 
-    The session has the database as it was when the statement was refused, and is left so.
+    What stands before it in that line may be given, so that columns are those of the file. The
+    session has the database as it was when the statement was refused, and is left so.
     """
-    text = decoded(statement)
+    text, before = decoded(statement), decoded(before)
     at, says = told(session, text, cause_of(answer), line)
+    text, at = before + text, len(before) + at
     row, column = place(text, at)
     head = f"{decoded(name)}:{line + row}:{column}: {decoded(answer).strip()}{says}\n"
     return (head + with_caret(text, at)).encode("utf-8", "surrogateescape")
@@ -114,9 +116,10 @@ def reports(names):
                 continue
             begins = cutter.begin(statement)
             name, line = script.place(at + begins)
+            before = script.text[script.text.rfind(b"\n", 0, at + begins) + 1 : at + begins]
             statement = statement[begins:]
             may_break = cause_of(answer) >= FIRST_OF_VALUES
             yield (
-                report(session, statement, answer, os.fsencode(name), line),
+                report(session, statement, answer, os.fsencode(name), line, before),
                 lambda: why(session, statement) if may_break else b"",
             )
