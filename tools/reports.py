@@ -80,13 +80,15 @@ def may_break(answer):
     return cause_of(answer) >= FIRST_OF_VALUES
 
 
-def report(session, statement, answer, name, line):
+def report(session, statement, answer, name, line, before=b""):
     """The lines that tell of a refused statement, which begins at a line of the named file.
 
-    The session has the database as it was when the statement was refused, and is left so.
+    What stands before it in that line may be given, so that columns are those of the file. The
+    session has the database as it was when the statement was refused, and is left so.
     """
-    text = decoded(statement)
+    text, before = decoded(statement), decoded(before)
     at, says = told(session, text, cause_of(answer), line)
+    text, at = before + text, len(before) + at
     row, column = place(text, at)
     head = f"{decoded(name)}:{line + row}:{column}: {decoded(answer).strip()}{says}\n"
     return (head + with_caret(text, at)).encode("utf-8", "surrogateescape")
