@@ -85,11 +85,17 @@ def report(session, statement, answer, name, line, before=b""):
     What stands before it in that line may be given, so that columns are those of the file. The
     session has the database as it was when the statement was refused, and is left so.
     """
-    text, before = decoded(statement), decoded(before)
+    text = decoded(statement)
     at, says = told(session, text, cause_of(answer), line)
-    text, at = before + text, len(before) + at
-    row, column = place(text, at)
-    head = f"{decoded(name)}:{line + row}:{column}: {decoded(answer).strip()}{says}\n"
+    line += text.count("\n", 0, at)
+    return lines_of((name, line), decoded(before) + text, len(decoded(before)) + at, answer, says)
+
+
+def lines_of(where, text, at, answer, says):
+    """The lines of a report, of a place in a text whose file and line are known."""
+    name, line = where
+    _, column = place(text, at)
+    head = f"{decoded(name)}:{line}:{column}: {decoded(answer).strip()}{says}\n"
     return (head + with_caret(text, at)).encode("utf-8", "surrogateescape")
 
 
@@ -105,21 +111,37 @@ def read(name):
     return sys.stdin.buffer.read() if name == "-" else Path(name).read_bytes()
 
 
-def reports(names):
-    """Of each refused statement of a script in several files its report and its tuples' lines."""
+class Refusal:
+    """A refused statement of a script, which stands at a byte of it."""
+
+    def __init__(self, script, session, at, statement, answer):
+        self.script, self.session, self.at = script, session, at
+        self.statement, self.answer = statement, answer
+
+    def report(self):
+        """Its report. Where the statement goes on in another file, the place may be there."""
+        text, script = decoded(self.statement), self.script
+        _, line = script.place(self.at)
+        found, says = told(self.session, text, cause_of(self.answer), line)
+        before = decoded(script.text[script.text.rfind(b"\n", 0, self.at) + 1 : self.at])
+        byte = self.at + len(text[:found].encode("utf-8", "surrogateescape"))
+        name, line = script.place(min(byte, len(script.text) - 1))
+        where = os.fsencode(name), line
+        return lines_of(where, before + text, len(before) + found, self.answer, says)
+
+    def why(self):
+        """The lines of the tuples by which it breaks keys and constraints."""
+        may_break = cause_of(self.answer) >= FIRST_OF_VALUES
+        return why(self.session, self.statement) if may_break else b""
+
+
+def refusals(names):
+    """The refused statements of a script in several files, while it is run."""
     script = Script([(name, read(name)) for name in names])
     # A statement may be as high as td takes it, and its tree some levels for each.
     sys.setrecursionlimit(10_000)
     with Cutter() as cutter, Session() as session:
         for at, statement, answer in script.answered(cutter, session):
-            if not is_refusal(answer):
-                continue
-            begins = cutter.begin(statement)
-            name, line = script.place(at + begins)
-            before = script.text[script.text.rfind(b"\n", 0, at + begins) + 1 : at + begins]
-            statement = statement[begins:]
-            may_break = cause_of(answer) >= FIRST_OF_VALUES
-            yield (
-                report(session, statement, answer, os.fsencode(name), line, before),
-                lambda: why(session, statement) if may_break else b"",
-            )
+            if is_refusal(answer):
+                begins = cutter.begin(statement)
+                yield Refusal(script, session, at + begins, statement[begins:], answer)
