@@ -13,7 +13,7 @@ of a list), and perhaps the mark.
 import itertools
 import re
 
-from engine_tables import GRAMMAR, TREE, found
+from engine import GRAMMAR, TREE, found
 
 START = ("StatementSpelling", None)
 OTHERWISE = "begins with no number"

@@ -1,7 +1,7 @@
 """The tokens of scripts: a reserved word or a sign as it is, any other as its kind, no comments."""
 import re
 
-from engine_tables import reserved_words
+from engine import reserved_words
 
 TOKEN = re.compile(
     r"(?P<blank>[ \t\r\n\ufeff]+|/\*.*?\*/|//[^\n]*)|(?P<text>'(?:[^']|'')*')"

@@ -219,13 +219,6 @@ class Script:
             if answer:
                 yield at, rest, answer
 
-    def told(self, cutter, at, statement, answer):
-        """A refusal as editors read it, with the statement's first line."""
-        begins = cutter.begin(statement)
-        name, number = self.place(at + begins)
-        line = statement[begins:].split(b"\n", 1)[0].strip()
-        return b"%b:%d: %b: %b\n" % (os.fsencode(name), number, answer.rstrip(b"\n"), line)
-
 
 def is_refusal(answer):
     return REFUSAL.fullmatch(answer) is not None

@@ -11,6 +11,8 @@ from pathlib import Path
 
 from tables import visible
 
+# Literals and trees go as deep as td lets expressions go.
+DEPTH = 10_000
 WRONG_WORDS = 2
 FAILED = 3
 INTERRUPTED = 130
@@ -95,6 +97,7 @@ def finished(main):
 def run(main):
     """Runs a tool, and ends the process."""
     open_closed_streams()
+    sys.setrecursionlimit(DEPTH)
     status, says = finished(main)
     if says is not None:
         note(says)

@@ -3,7 +3,7 @@ import difflib
 from pathlib import Path
 
 from answers import Script, is_refusal
-from catalog import RELVARS, Catalog, Kind
+from catalog import Catalog, kind_of
 from database import ACCEPTED
 from literals import Relation, Value
 from scripts import database_named, script_of
@@ -40,7 +40,6 @@ class Commands:
 
     def __init__(self, prompt):
         self.prompt = prompt
-        self.said = prompt.say
         self.actions = {
             "\\d": self.describe,
             "\\read": self.read,
@@ -56,6 +55,10 @@ class Commands:
     @property
     def database(self):
         return self.prompt.database
+
+    def said(self, text):
+        """Says something, such as the name of a file, in which a terminal obeys nothing."""
+        self.prompt.say(visible_lines(text))
 
     def obey(self, line):
         """Does what a line asks for."""
@@ -90,7 +93,8 @@ class Commands:
         text = Path(name).expanduser().read_bytes()
         below = database_named(Path(name).expanduser(), text)
         if below is not None and Path(below).resolve() not in self.database.seen:
-            self.said(f"{name} is written for {below}, which is not open: \\open {name} opens both\n")
+            hint = f"\\open {name} opens both"
+            self.said(f"{name} is written for {below}, which is not open: {hint}\n")
         script = Script([(name, text)])
         take, counts = self.taker(script)
         self.database.read(script, take)
@@ -136,26 +140,29 @@ class Commands:
         every = catalog.definitions
         if not every:
             return "nothing is defined\n"
-        counts = [catalog.count(one) if one.kind is Kind.BASE else "" for one in every]
-        keys = [" ".join(one.keys) for one in every]
-        names = [one.name for one in every]
-        kinds = [one.kind.value for one in every]
+        counts = [catalog.count(one) if one.is_base else "" for one in every]
+        keys = [" ".join(map(braced, one.keys)) for one in every]
+        names, kinds = [one.name for one in every], [kind_of(one) for one in every]
         return columns(("NAME", names), ("KIND", kinds), ("TUPLES", counts), ("KEYS", keys))
+
+
+def braced(names):
+    return f"{{{', '.join(names)}}}"
 
 
 def described(catalog, one):
     """A definition, with what it mentions and what mentions it."""
-    parts = [f"{one.kind.value} {one.name}"]
-    if one.kind in RELVARS:
+    parts = [f"{kind_of(one)} {one.name}"]
+    if one.kind == "VAR":
         parts[0] += f", {tuples(catalog.count(one))}"
         heading = catalog.heading(one)
         names, types = [name for name, _ in heading], [text for _, text in heading]
         parts.append(columns(("ATTRIBUTE", names), ("TYPE", types)).rstrip("\n"))
-        parts += [f"KEY {key}" for key in one.keys]
-    if one.kind is not Kind.BASE:
-        parts.append(visible_lines(one.statement))
+        parts += [f"KEY {braced(names)}" for names in one.keys]
+    if not one.is_base:
+        parts.append(visible_lines(one.text))
     for head, others in (
-        ("mentions", [f"{other.kind.value} {other.name}" for other in catalog.mentioned_by(one)]),
+        ("mentions", [f"{kind_of(other)} {other.name}" for other in catalog.mentioned_by(one)]),
         ("is mentioned by", [summary(other) for other in catalog.mentioning(one)]),
     ):
         parts += [head, *(f"    {other}" for other in others)] if others else []
@@ -169,4 +176,4 @@ def tuples(count):
 
 def summary(one):
     """A definition in a line: of a base relvar, whose value may be long, its name."""
-    return f"{one.kind.value} {one.name}" if one.kind is Kind.BASE else visible_lines(one.statement)
+    return f"{kind_of(one)} {one.name}" if one.is_base else visible_lines(one.text)

@@ -4,7 +4,7 @@ import os
 import re
 from pathlib import Path
 
-from catalog import RELVARS, Catalog, decoded
+from catalog import Catalog
 from command import Failure
 
 try:
@@ -30,9 +30,7 @@ class Known:
         catalog = Catalog(session)
         self.definitions = [one.name for one in catalog.definitions]
         self.attributes = {
-            one.name: [name for name, _ in catalog.heading(one)]
-            for one in catalog.definitions
-            if one.kind in RELVARS
+            one.name: [name for name, _ in catalog.heading(one)] for one in catalog.relvars
         }
 
     def of_statement(self, text):
@@ -99,8 +97,9 @@ class Completer:
 
     def in_statement(self, front, before):
         """Attributes of the relvars that the statement names come first, then all names, then the
-        words of the language. Without a front there are no words: they are too many to be read."""
-        if not front and not before.strip():
+        words of the language. Without a front there are no words, which are too many to be read,
+        and at the front of a line nothing, so that lines with tabs may be pasted."""
+        if self.prompt.is_in_text() or not front and not before.rpartition("\n")[2].strip():
             return []
         known = self.names()
         found = beginning(front, [*known.of_statement(before), *known.names()])

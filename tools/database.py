@@ -1,4 +1,4 @@
-"""The database that is open in a prompt: td's run, what brought it about, and which files have it."""
+"""The database that is open in a prompt: td's run, what brought it about, which files have it."""
 import hashlib
 import os
 import shutil

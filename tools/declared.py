@@ -5,7 +5,7 @@ from answers import Session
 from definitions import definitions
 from hints import nearest
 from parts import FRESH, nodes
-from places import in_a_list, shortened
+from places import as_written, in_a_list, shortened
 
 LONGEST = 80
 
@@ -19,7 +19,7 @@ def taken(asking, statement):
     name = name_of(asking, statement)
     for one in definitions(asking.session):
         if (one.kind, one.name) == (statement.kind, name):
-            has = shortened(one.declared, LONGEST)
+            has = shortened(as_written(one.declared), LONGEST)
             says = f" at {name}, which is there: {has}; try another name, or DROP {one.kind} {name}"
             return statement.name.begins, says
     return None
@@ -64,7 +64,7 @@ def not_assignable(asking, statement):
         name = asking.text[target.begins : target.ends]
         if asking.answers([f"DELETE {name} WHERE FALSE;"])[0].startswith(asking.refusal):
             own = [one for one in definitions(asking.session) if one.name == name and one.is_virtual]
-            return target.begins, f" at {name}: {shortened(own[0].declared, LONGEST)}"
+            return target.begins, f" at {name}, which is {shortened(as_written(own[0].declared), LONGEST)}"
     return None
 
 
@@ -120,8 +120,37 @@ def unknown_attribute(asking, statement, key, text):
 
 
 def too_deep(asking, statement):
-    """The attribute whose type is of too high a rank."""
+    """The attribute or the component whose type is of too high a rank."""
+    for name, kind, begins in typed_names(asking, statement):
+        front = "VAR {0} BASE RELATION {{{1} {2}}} KEY {{}}"
+        front = "TYPE {0} POSSREP {{{1} {2}}}" if statement.kind == "TYPE" else front
+        declared = f"{front.format(FRESH, name, kind)}; DROP {statement.kind} {FRESH};"
+        if asking.answers([declared], 2)[0].startswith(asking.refusal):
+            return begins, f" at {name}, whose type makes the rank more than 32"
     return None
 
 
-CAUSES = {4: taken, 7: wrong_key, 8: too_deep, 9: mentioned, 10: not_assignable}
+def typed_names(asking, statement):
+    """The attributes or components that are declared, each with its type and where it stands."""
+    if statement.heading is None and statement.source is not None:
+        for name, kind in asking.attributes_of_heading(statement):
+            yield name, kind, statement.source.begins
+    for token, kind in statement.typed:
+        name = asking.text[token.begins : token.ends]
+        yield name, asking.text[kind.begins : kind.ends], token.begins
+
+
+def of_transactions(asking, _):
+    """How many transactions are open."""
+    is_begin = asking.text.lstrip().upper().startswith("BEGIN")
+    return 0, "; 16 transactions are open" if is_begin else "; no transaction is open"
+
+
+CAUSES = {
+    4: taken,
+    7: wrong_key,
+    8: too_deep,
+    9: mentioned,
+    10: not_assignable,
+    11: of_transactions,
+}

@@ -9,11 +9,12 @@ import declared
 import hints
 from definitions import heading_of
 from grammar import Stop, parsed
-from parts import FRESH, Element, Scope
-from places import shortened
+from literals import relation_of
+from parts import FRESH, Element, Scope, is_type, scope
+from places import one_line, shortened
 from statements import STATIC, VALUES, Reader
 
-NAME_UNKNOWN, HEADING, FIRST_OF_VALUES = 3, 6, 20
+NAME_UNKNOWN, HEADING, FIRST_OF_VALUES, NOT_ONE_TUPLE = 3, 6, 20, 23
 # So many questions are asked at once, and so many tuples are asked for as one.
 AT_ONCE, BLOCK = 50, 200
 
@@ -68,13 +69,21 @@ class Asking:
         return self.refused([(question, frames)])[0]
 
     def first_refused(self, operands, frames):
-        """The first of the operands that is refused, with what stands around it."""
+        """The first of the operands that is refused, with what stands around it.
+
+        Not so where anything would be refused there, as within a scope whose operand is no relation.
+        """
         plain = [one for one in operands if not isinstance(one[0], Element)]
         elements = [one for one, _ in operands if isinstance(one, Element)]
         asked = [(one, around(frames, frame)) for one, frame in plain]
         asked += [(one, frames) for one in self.suspects(elements, frames)]
         told = self.refused([(one.asked(), framed) for one, framed in asked])
-        return next((one for one, is_refused in zip(asked, told) if is_refused), None)
+        refused = [one for one, is_refused in zip(asked, told) if is_refused]
+        return next((one for one in refused if self.is_sound(one[1], frames)), None)
+
+    def is_sound(self, framed, frames):
+        """Whether what stands around a part is not refused by itself."""
+        return len(framed) == len(frames) or not self.is_refused("TRUE", framed)
 
     def suspects(self, elements, frames):
         """The tuples of the first block of a list that is refused. A short list is one block."""
@@ -89,7 +98,7 @@ class Asking:
     def smallest(self, part, frames=()):
         """The smallest part in a refused one that is refused too."""
         found = Found(part, frames)
-        while True:
+        while not self.is_unknown_selector(found):
             inner = self.first_refused(found.part.operands, found.frames)
             if inner is None:
                 return found
@@ -99,6 +108,14 @@ class Asking:
                 if not self.is_refused(inner.asked(), found.frames):
                     return found
                 found = Found(inner, found.frames, found.around)
+        return found
+
+    def is_unknown_selector(self, found):
+        """Whether the part is T(..) of a type T that is not there."""
+        if self.cause != NAME_UNKNOWN or found.part.kind != "selector":
+            return False
+        name = self.text[found.part.begins : found.part.ends].split("(")[0]
+        return self.is_refused(is_type(name), found.frames)
 
     def in_statement(self, statement):
         """The smallest part that is refused of all that the statement has."""
@@ -138,6 +155,11 @@ class Asking:
         depth += self.root.type != STATIC.type
         (answer,) = self.answers([text.join(self.root.type)])
         return type_in(answer, depth)
+
+    def value(self, text):
+        """What td writes of an expression, without the line's end."""
+        answer = self.session.answer(f"WRITE {text};".encode("utf-8", "surrogateescape"))
+        return answer.decode("utf-8", "surrogateescape").removesuffix("\n")
 
     def type_of(self, part, frames):
         return self.type(self.text[part.begins : part.ends], frames)
@@ -186,44 +208,98 @@ def told_part(asking, found):
         (operand, _), *_ = part.operands
         kind = asking.type_of(operand, frames)
         near = hints.nearest(word, [one for one, _ in heading_of(kind or "")])
-        return Fault(name.begins, said(f"{word} in {text}", [kind], near))
+        return Fault(name.begins, said(f"{word} in {text}", [kind], near and f"try {near}"))
     if cause == NAME_UNKNOWN:
         return unknown(asking, found)
     operands = [(one, around(frames, frame)) for one, frame in operands_of(part)]
+    if part.added and cause == HEADING:
+        return there_already(asking, part, text, operands[0])
     kinds = [asking.type_of(*one) for one in operands]
     texts = [asking.text[one.begins : one.ends] for one, _ in operands]
     hint = hints.of_part(asking, found, texts, kinds) if all(kinds) else None
-    shown = kinds if cause < FIRST_OF_VALUES else values(asking, operands)
-    return Fault(part.begins, said(text, shown, hint))
+    if cause < FIRST_OF_VALUES:
+        return Fault(part.begins, said(text, kinds, hint))
+    text += in_tuple(asking, found)
+    return Fault(part.begins, said(text, values(asking, operands, cause), hint))
+
+
+def there_already(asking, part, text, operand):
+    """The name that EXTEND adds and that its operand has."""
+    kind = asking.type_of(*operand)
+    has = [name for name, _ in heading_of(kind or "")]
+    for token in part.added:
+        word = asking.text[token.begins : token.ends]
+        if word in has:
+            return Fault(token.begins, said(f"{word} in {text}", [kind], "try another name"))
+    return Fault(part.begins, said(text, [kind]))
+
+
+def in_tuple(asking, found):
+    """The first tuple for which the part is refused, where the tuples of a relation are gone over."""
+    if found.part.lacking and not found.frames:
+        lacking = relation_of(f"{asking.value(found.part.lacking)}\n")
+        if lacking and lacking.tuples:
+            return f" for {shortened(literal(lacking.heading, lacking.tuples[0]), 100)}"
+    if not found.frames or not isinstance(found.frames[0], Scope):
+        return ""
+    value = asking.value(f"({found.frames[0].tuples})")
+    relation = relation_of(f"{value}\n")
+    tuples = [literal(relation.heading, one) for one in relation.tuples] if relation else []
+    size = max(BLOCK, 1)
+    while tuples:
+        blocks = [tuples[at : at + size] for at in range(0, len(tuples), size)]
+        asked = [(found.part.asked(), (scope_of(one), *found.frames[1:])) for one in blocks]
+        told = asking.refused(asked)
+        tuples = next((one for one, is_refused in zip(blocks, told) if is_refused), [])
+        if size == 1:
+            return f" for {shortened(tuples[0], 100)}" if tuples else ""
+        size = 1
+    return ""
+
+
+def scope_of(tuples):
+    """The scope of these tuples alone."""
+    return scope(f"RELATION {{{', '.join(tuples)}}}")
+
+
+def literal(heading, values):
+    return f"TUPLE {{{', '.join(f'{name} {one.literal}' for (name, _), one in zip(heading, values))}}}"
 
 
 def operands_of(part):
     """The expressions whose types tell: of a tuple in a list also the first one."""
     if isinstance(part, Element):
         return [(one.inner(), None) for one in (part.elements.every()[0], part)]
-    beside = [(part.beside, None)] if part.beside else []
-    return beside + [(one, frame) for one, frame in part.operands if one.is_expression]
+    every = [(part.beside, None)] if part.beside else []
+    for one, frame in part.operands:
+        if one.is_expression and not any(one is other for other, _ in every):
+            every.append((one, frame))
+    return every
 
 
-def values(asking, operands):
-    """The values of operands that are scalars and not written as such, if no tuple is in scope."""
-    asked = [f"WRITE {asking.text[one.begins : one.ends]};" for one, frames in operands if not frames]
-    answers = asking.answers(asked)
-    is_plain = all(not one.startswith(("RELATION", "REFUSED")) for one in answers)
-    return answers if answers and is_plain else []
+def values(asking, operands, cause):
+    """The values of operands, if no tuple is in scope: of a relation how many tuples it has."""
+    known = []
+    for one, frames in [one for one in operands if not one[1]]:
+        text = asking.text[one.begins : one.ends]
+        if cause == NOT_ONE_TUPLE:
+            known.append(f"{asking.value(f'COUNT({text})')} tuples")
+        elif not (value := asking.value(text)).startswith(("RELATION", "REFUSED")):
+            known.append(value)
+    return known
 
 
 def said(text, kinds, hint=None):
     known = ", ".join(shortened(one, 100) for one in kinds if one)
-    return f" at {text}" + (f": {known}" if known else "") + (f"; try {hint}" if hint else "")
+    return f" at {text}" + (f": {known}" if known else "") + (f"; {one_line(hint)}" if hint else "")
 
 
 def unknown(asking, found):
     """A name that is not known, and the nearest that is."""
     part = found.part
     word = asking.text[part.begins : part.ends].split("(")[0].strip()
-    known = hints.known_names(asking, found)
-    hint = hints.nearest(word, known) or hints.of_name(asking, found, word)
+    near = hints.nearest(word, hints.known_names(asking, found))
+    hint = f"try {near}" if near else hints.of_name(asking, found, word)
     return Fault(part.begins, said(word, [], hint))
 
 

@@ -58,11 +58,18 @@ class Node:
 
     @property
     def begins(self):
-        return self.parts()[0].begins
+        return self.leaf(reversed).begins
 
     @property
     def ends(self):
-        return self.parts()[-1].ends
+        return self.leaf(list).ends
+
+    def leaf(self, order):
+        """The first token or run in it, or by the other order the last one."""
+        waiting = [self]
+        while isinstance(one := waiting.pop(), Node):
+            waiting.extend(order(one.children))
+        return one
 
 
 # Plain tuples, each with a comma behind it.

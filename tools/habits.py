@@ -86,7 +86,8 @@ STATEMENTS = [
 # Forms at the token at which a statement can't go on, and what is meant.
 FORMS = [
     (r"\0! =", "<>"),
-    (r"= \0=", "="),
+    (r"= \0=", "one = alone"),
+    (r"\0:=", "="),
     (r'\0" ([^"]*?) "', r"'\1'"),
     (r"\0[‘’“”\"`´]", "' as the quote"),
     (r"([\w#]+) \0% ([\w#]+)", r"\1 - \1 / \2 * \2"),
@@ -181,9 +182,10 @@ def missing(stop, text):
     word = text[stop.token.begins : stop.token.ends]
     if ";" in stop.expected and kind in machine.first[("body",)] - {"name", ";"}:
         return f"try ; before {word}"
-    if "," in stop.expected:
-        behind = machine.advanced(stop.stacks, Token(",", 0, 0))
-        return f"try , before {word}" if machine.advanced(behind, stop.token) else None
+    for sign in (",", "}", ")"):
+        behind = machine.advanced(stop.stacks, Token(sign, 0, 0)) if sign in stop.expected else []
+        if machine.advanced(behind, stop.token):
+            return f"try {sign} before {word}"
     return None
 
 

@@ -3,11 +3,13 @@ import difflib
 
 from definitions import definitions, heading_of
 from habits import renamed_type
-from places import shortened
+from places import as_written, in_a_list, shortened
 
-TYPE_MISMATCH, HEADING = 5, 6
-NEAR, LONGEST = 0.6, 100
+TYPE_MISMATCH, HEADING, TYPE_CONSTRAINT = 5, 6, 24
+NEAR, LONGEST, MOST = 0.6, 100, 6
 COMPARISONS = {"=", "<>", "<", "<=", ">", ">="}
+# Forms whose two operands have one heading: also an assignment and the list of a relation.
+SAME_HEADINGS = {"UNION", "INTERSECT", "MINUS", "=", "<>", "<", "<=", ">", ">=", "", "element"}
 OTHER_TYPES = {"STRING", "TEXT", "NUMBER", "BOOL", "INT", "VARCHAR", "DATE", "BIT"}
 # Operators of SQL and of the book that are none here.
 CALLS = {
@@ -45,17 +47,32 @@ def known_names(asking, found):
 
 
 def of_name(asking, found, word):
-    """What a name that is like no known one may mean."""
-    if found.part.kind == "type" and word.upper() in OTHER_TYPES:
-        return renamed_type(word)
+    """What a name that is like no known one may mean, or which names are known there."""
+    kind = found.part.kind
+    if kind == "type" and word.upper() in OTHER_TYPES:
+        return f"try {renamed_type(word)}"
     if word.upper() in CALLS:
-        return CALLS[word.upper()]
-    is_compared = found.around and found.around.part.kind in COMPARISONS | {"||"}
-    return f"'{word}', if it is a text" if is_compared and found.part.kind == "name" else None
+        return f"try {CALLS[word.upper()]}"
+    around = found.around.part if found.around else None
+    if kind == "name" and around and around.kind in COMPARISONS | {"||"}:
+        if around.operands[0][0] is not found.part:
+            return f"try '{word}', if it is a text"
+    known = asking.in_scope(found.frames)
+    return f"attributes there are {in_a_list(known[:MOST])}" if known else None
 
 
 def of_part(asking, found, texts, kinds):
-    """What to try in place of a part whose operands have these texts and types."""
+    """What to try in place of a part whose operands have these texts and types, or a note."""
+    if asking.cause == TYPE_CONSTRAINT:
+        return of_constraint(asking, found)
+    said = tried(asking, found, texts, kinds)
+    if said:
+        return f"try {said}"
+    is_of_headings = asking.cause == HEADING and len(kinds) == 2
+    return of_difference(found.part.kind, kinds) if is_of_headings else None
+
+
+def tried(asking, found, texts, kinds):
     kind = found.part.kind
     if asking.cause == TYPE_MISMATCH and len(texts) == 2:
         hints = (of_membership, of_literals, of_single_values, of_components, of_tuples)
@@ -63,9 +80,33 @@ def of_part(asking, found, texts, kinds):
         return next((one for one in said if one), None)
     if asking.cause == TYPE_MISMATCH:
         return of_precedence(asking, found) or of_tuple(texts, kinds)
-    if asking.cause == HEADING and len(texts) == 2:
-        return of_headings(texts, kinds)
+    if asking.cause == HEADING:
+        return of_headings(texts, kinds) if len(texts) == 2 and kind in SAME_HEADINGS else None
     return of_values(kind, texts)
+
+
+def of_constraint(asking, found):
+    """What the constraint of a selector's type asks."""
+    name = asking.text[found.part.begins : found.part.ends].split("(")[0].strip()
+    types = [one for one in definitions(asking.session) if (one.kind, one.name) == ("TYPE", name)]
+    constraint = types[0].components[1] if types else None
+    return f"{name} needs {shortened(as_written(constraint), LONGEST)}" if constraint else None
+
+
+def of_difference(kind, kinds):
+    """In what two headings differ, where they must not."""
+    left, right = (dict(heading_of(one)) for one in kinds)
+    for name in left:
+        if name in right and left[name] != right[name]:
+            return f"{name} is {left[name]} and {right[name]}"
+    if kind == "TIMES":
+        return f"both have {in_a_list([name for name in left if name in right])}"
+    less = [name for name in left if name not in right]
+    more = [name for name in right if name not in left]
+    if kind not in SAME_HEADINGS or less and more:
+        return None
+    side = "second" if less else "first"
+    return f"the {side} has no {in_a_list(less or more)}"
 
 
 def of_membership(_, kind, texts, kinds):
@@ -125,7 +166,8 @@ def of_tuples(_, kind, texts, kinds):
         return None
     for text, one in zip(texts, kinds):
         if one.startswith("TUPLE"):
-            return shortened(f"RELATION {{{text}}}", LONGEST)
+            front = f"{texts[0]} MATCHING " if kind == "WHERE" and text is texts[1] else ""
+            return shortened(f"{front}RELATION {{{text}}}", LONGEST)
     return None
 
 
@@ -163,7 +205,7 @@ def of_headings(texts, kinds):
 
 def of_values(kind, texts):
     """What has a value where the operands have not what is needed."""
-    if kind == "/" and len(texts) == 2:
+    if kind == "/" and len(texts) == 2 and not texts[1].isdigit():
         return f"IF {texts[1]} = 0 THEN .. ELSE {' / '.join(texts)} END IF"
     if kind in ("MAX", "MIN") and len(texts) == 2:
         return f"IF IS_EMPTY({texts[0]}) THEN .. ELSE {kind}({', '.join(texts)}) END IF"

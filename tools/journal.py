@@ -20,10 +20,10 @@ def folder():
 
 
 def locked(path):
-    """The file, open, or None where a running prompt has it."""
+    """The file, open, or None where a running prompt has it, or it can't be opened."""
     try:
         file = open(path, "r+b")
-    except FileNotFoundError:
+    except OSError:
         return None
     try:
         fcntl.flock(file, fcntl.LOCK_EX | fcntl.LOCK_NB)

@@ -79,6 +79,10 @@ class Part:
     is_expression: bool = True
     # A part that is no operand, and whose type tells.
     beside: object = None
+    # Tokens of the names that it adds to its first operand's.
+    added: list = field(default_factory=list)
+    # The tuples for which an aggregate has nothing to go over, as an expression.
+    lacking: str = ""
 
     def asked(self):
         """The question about the part alone."""
@@ -200,23 +204,35 @@ class Parts:
 
     def extend(self, node, parts):
         operand = self.expression(parts[1])
-        added = [one.parts()[0] for one in parts[2:] if isinstance(one, Node)]
-        operands = [(self.expression(one), self.scope(operand)) for one in added]
-        return self.of_node(node, "EXTEND", [(operand, None), *operands])
+        added = [one.parts() for one in parts[2:] if isinstance(one, Node)]
+        operands = [(self.expression(one), self.scope(operand)) for one, *_ in added]
+        part = self.of_node(node, "EXTEND", [(operand, None), *operands])
+        part.added = [self.moved(names[-1]) for names in added]
+        return part
 
     def summarize(self, node, parts):
         operand, per = self.expression(parts[1]), parts[2].parts()
-        operands, names, frame = [(operand, None)], [], self.scope(operand)
+        operands, names, said = [(operand, None)], [], self.text_of(operand)
+        frame, lacking = self.scope(operand), ""
         if len(per) > 2:
             groups = self.expression(per[2])
-            said, other = self.text_of(operand), self.text_of(groups)
             operands.append((groups, None))
-            frame = scope(said, f"({said}) MATCHING ({other})")
+            frame = scope(said, f"({said}) MATCHING ({self.text_of(groups)})")
+            lacking = f"({self.text_of(groups)}) NOT MATCHING ({said})"
         else:
             names = self.names(per[1])
-        for item in [one for one in parts[3:] if isinstance(one, Node)]:
-            operands += [(self.expression(one), frame) for one in operands_in(item.parts()[1:])]
+        front = self.text[node.begins : parts[4].ends]
+        for item in [one for one in parts[5:] if isinstance(one, Node)]:
+            operands.append((self.item(item, front, frame, lacking), None))
         return self.of_node(node, "SUMMARIZE", operands, names)
+
+    def item(self, node, front, frame, lacking):
+        """An aggregate of SUMMARIZE, asked behind what stands before the first one."""
+        operands = [(self.expression(one), frame) for one in operands_in(node.parts()[1:])]
+        part = self.of_node(node, "item", operands)
+        part.question = f"IS_EMPTY({front}{self.text[node.begins : node.ends]}))"
+        part.is_expression, part.lacking = False, lacking
+        return part
 
     def choice(self, node, parts):
         condition, one, other = [self.expression(each) for each in operands_in(parts)]

@@ -75,6 +75,8 @@ def told_token(text, token):
     """The token as it stands in the text. What can't be seen, or misleads, has its name."""
     if token.kind == END:
         return "the end of the script"
+    if token.kind == ";":
+        return "the end of the statement"
     if token.kind in (BAD, NO_UTF8):
         return told_character(text[token.begins])
     if token.kind == OPEN_TEXT:

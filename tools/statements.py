@@ -48,6 +48,8 @@ class Statement:
     source: Part | None = None
     keys: list = field(default_factory=list)
     targets: list = field(default_factory=list)
+    # Of each attribute or component that is declared its name and its type.
+    typed: list = field(default_factory=list)
 
 
 class Reader(Parts):
@@ -122,7 +124,7 @@ class Reader(Parts):
         """That the source may be the value of the attribute, which has its type."""
         name, _, source = node.parts()
         name, source = self.of_node(name, "name"), self.expression(source)
-        said = f"IF TRUE THEN {self.text_of(name)} ELSE ({self.text_of(source)}) END IF"
+        said = f"IF TRUE THEN {self.text_of(source)} ELSE {self.text_of(name)} END IF"
         part = self.whole(node, has_value(said), [(source, None)])
         part.beside = name
         return part
@@ -137,7 +139,8 @@ class Reader(Parts):
             operands.append((source, None))
             said += f" UNION ({self.text_of(source)})"
         whole = self.whole(source or node, f"IS_EMPTY({said})", operands)
-        return self.declared(parts, "VAR", [whole], heading=heading, source=source)
+        typed = typed_names(parts[4])
+        return self.declared(parts, "VAR", [whole], heading=heading, source=source, typed=typed)
 
     def declared(self, parts, kind, read, **known):
         keys = [one for one in parts if isinstance(one, Node) and one.name == "key"]
@@ -168,11 +171,15 @@ class Reader(Parts):
         if len(parts) > 6:
             read.append(self.condition(parts[6]))
             root = within_type(said)
-        return Statement(read, root, parts[1], "TYPE")
+        return Statement(read, root, parts[1], "TYPE", typed=typed_names(components))
 
     def drop(self, node):
         _, kind, name = node.parts()
         return Statement([], None, name, kind.kind)
+
+
+def typed_names(node):
+    return [tuple(one.parts()) for one in nodes(node, "attribute")]
 
 
 def spanning(first, last):

@@ -29,7 +29,7 @@ def columns(text):
 
 
 def columns_behind(character, before, last):
-    """How many columns a character takes behind another, which has taken the last number of them."""
+    """How many columns a character takes behind another one, which took the last number."""
     if character == AS_PICTURE:
         return 1 if last == 1 and is_picture(before) else 0
     is_joined = before == JOINER and is_picture(character)

@@ -6,4 +6,4 @@ let current_compiler = "tutoriald"
 
 let s:folder = fnamemodify(resolve(expand("<sfile>:p")), ":h:h:h:h")
 let &l:makeprg = fnameescape(s:folder . "/tools/refusals") . " %:S"
-CompilerSet errorformat=%f:%l:\ %m
+CompilerSet errorformat=%f:%l:%c:\ %m,%-G%.%#

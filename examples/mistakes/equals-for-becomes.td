@@ -1,0 +1,4 @@
+VAR S BASE RELATION {SNO CHAR, SNAME CHAR, CITY CHAR} INIT (RELATION {
+    TUPLE {SNO 'S1', SNAME 'Ames', CITY 'Leeds'}, TUPLE {SNO 'S2', SNAME 'Bray', CITY 'York'},
+    TUPLE {SNO 'S3', SNAME 'Cole', CITY 'Leeds'}}) KEY {SNO};
+S = S WHERE CITY = 'Leeds';
