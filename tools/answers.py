@@ -175,7 +175,7 @@ class Script:
         """Of each file its name and its bytes, to which a line feed is added at the end of a file
         that has none and is not the last: so that a comment there ends."""
         *front, last = files
-        self.files = [(name, text if text.endswith(b"\n") else text + b"\n") for name, text in front]
+        self.files = [(name, text.removesuffix(b"\n") + b"\n") for name, text in front]
         self.files.append(last)
         self.text = b"".join(text for _, text in self.files)
 
