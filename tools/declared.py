@@ -63,8 +63,10 @@ def not_assignable(asking, statement):
     for target in statement.targets:
         name = asking.text[target.begins : target.ends]
         if asking.answers([f"DELETE {name} WHERE FALSE;"])[0].startswith(asking.refusal):
-            own = [one for one in definitions(asking.session) if one.name == name and one.is_virtual]
-            return target.begins, f" at {name}, which is {shortened(as_written(own[0].declared), LONGEST)}"
+            every = definitions(asking.session)
+            (own,) = [one for one in every if one.name == name and one.is_virtual]
+            said = shortened(as_written(own.declared), LONGEST)
+            return target.begins, f" at {name}, which is {said}"
     return None
 
 
@@ -103,7 +105,8 @@ def wrong_key(asking, statement):
     for place, text in enumerate(said):
         others = [one for one in said[:place] if declaring.refused(one, text)]
         if others:
-            return keys[place].begins, f" at KEY {text}, beside KEY {others[0]}: one includes the other"
+            says = f" at KEY {text}, beside KEY {others[0]}: one includes the other"
+            return keys[place].begins, says
     return None
 
 

@@ -71,7 +71,7 @@ class Asking:
     def first_refused(self, operands, frames):
         """The first of the operands that is refused, with what stands around it.
 
-        Not so where anything would be refused there, as within a scope whose operand is no relation.
+        Not so where anything would be refused there, as in a scope whose operand is no relation.
         """
         plain = [one for one in operands if not isinstance(one[0], Element)]
         elements = [one for one, _ in operands if isinstance(one, Element)]
@@ -235,7 +235,7 @@ def there_already(asking, part, text, operand):
 
 
 def in_tuple(asking, found):
-    """The first tuple for which the part is refused, where the tuples of a relation are gone over."""
+    """The first tuple for which the part is refused, where it is in the scope of tuples."""
     if found.part.lacking and not found.frames:
         lacking = relation_of(f"{asking.value(found.part.lacking)}\n")
         if lacking and lacking.tuples:
@@ -263,7 +263,8 @@ def scope_of(tuples):
 
 
 def literal(heading, values):
-    return f"TUPLE {{{', '.join(f'{name} {one.literal}' for (name, _), one in zip(heading, values))}}}"
+    parts = (f"{name} {one.literal}" for (name, _), one in zip(heading, values))
+    return f"TUPLE {{{', '.join(parts)}}}"
 
 
 def operands_of(part):

@@ -1,4 +1,4 @@
-"""Whether the grammar of docs/grammar.md spells a statement, with its tree, or where it can't go on.
+"""Whether the grammar of docs/grammar.md spells a statement: its tree, or where it can't go on.
 
 The productions are made an automaton, whose states say what may follow what was read. Where two
 productions are possible both are followed until a token tells. So each token is read once.

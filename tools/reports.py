@@ -51,7 +51,8 @@ def text_of_lines(stop, text, line):
     for token in stop.before:
         if token.kind == "text" and "\n" in text[token.begins : token.ends]:
             row, _ = place(text, token.begins)
-            return f"the text {shortened(text[token.begins : token.ends], 20)} begins in line {line + row}"
+            said = shortened(text[token.begins : token.ends], 20)
+            return f"the text {said} begins in line {line + row}"
     return None
 
 

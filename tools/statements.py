@@ -28,9 +28,10 @@ VALUES = Root(("WRITE ", ";"), STATIC.type)
 
 def within_type(components):
     """The constraint of a type sees the components, and no relvar."""
+    relation = f"EXTEND RELATION {{{components}}} {{}} ADD ("
     return Root(
         (f"TYPE {FRESH} POSSREP {{{components} CONSTRAINT ", f"}}; DROP TYPE {FRESH};"),
-        (f"WRITE {NO_TUPLES}EXTEND RELATION {{{components}}} {{}} ADD (", f" AS {FRESH}) AS {FRESH});"),
+        (f"WRITE {NO_TUPLES}{relation}", f" AS {FRESH}) AS {FRESH});"),
         answers=2,
     )
 
@@ -132,7 +133,7 @@ class Reader(Parts):
     def base_relvar(self, node):
         parts = node.parts()
         heading = self.heading(parts[4])
-        initial = [one.parts()[2] for one in parts if isinstance(one, Node) and one.name == "initial"]
+        initial = [one.parts()[2] for one in nodes(node, "initial")]
         operands, said = [(heading, None)], f"RELATION {self.text_of(heading)} {{}}"
         source = self.expression(initial[0]) if initial else None
         if source:
