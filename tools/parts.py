@@ -42,6 +42,11 @@ class Branch:
     condition: str
     is_taken: bool
 
+    @property
+    def holds(self):
+        """The condition under which the part is evaluated."""
+        return f"({self.condition})" if self.is_taken else f"NOT ({self.condition})"
+
     def truth(self, question, _):
         parts = (question, "TRUE") if self.is_taken else ("TRUE", question)
         return f"IF ({self.condition}) THEN {' ELSE '.join(parts)} END IF"
