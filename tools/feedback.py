@@ -67,7 +67,7 @@ def difference_shown(says, difference):
 
 def headings_shown(one):
     """Both headings, where they differ."""
-    said = [", ".join(f"{name} {kind}" for name, kind in part) for part in (one.wanted, one.heading)]
+    said = [", ".join(map(" ".join, heading)) for heading in (one.wanted, one.heading)]
     return (
         f"<p>The heading is to be <code>{{{escaped(said[0])}}}</code>,"
         f" and is <code>{{{escaped(said[1])}}}</code>.</p>\n"

@@ -20,6 +20,8 @@ MARKS = re.compile(r"^[ \t]*//[ \t]*marks\b(.*)$", re.MULTILINE)
 OF_ANSWER = re.compile(r"\s+(\S+)\s+(\d+)(?:\s+(\d+))?\s*")
 OK = b"OK\n"
 SHOWN = 10
+# A relvar beside the key's, which has the value of an answer: no name of a script begins so.
+OTHER = f"OTHER_{os.urandom(8).hex()}"
 
 
 @dataclass(frozen=True)
@@ -37,7 +39,8 @@ def worths(name, text):
         words = OF_ANSWER.fullmatch(line.group(1))
         if words is None:
             number = text.count("\n", 0, line.start()) + 1
-            raise Failure(f"{name}:{number}: a line of marks is // marks NAME 5, or 5 2", WRONG_WORDS)
+            says = f"{name}:{number}: a line of marks is // marks NAME 5, or 5 2"
+            raise Failure(says, WRONG_WORDS)
         found[words.group(1)] = Worth(int(words.group(2)), int(words.group(3) or 0))
     return found
 
@@ -101,42 +104,60 @@ class Given:
                 raise Failure(says, WRONG_WORDS)
             self.literals[name] = literal.removesuffix("\n")
 
-    def difference(self, minuend, subtrahend):
-        """What one relation has that the other has not, or None where their headings differ."""
-        said = f"({minuend}) MINUS ({subtrahend})"
+    def differences(self, name, literal):
+        """What the key's answer has that a relation has not, and the other way round; None where
+        their headings differ."""
+        heading, _ = some_tuples(literal)
+        front = f"{declared(OTHER, heading)} INIT ({literal}) KEY {names(heading)};"
+        self.session.answer(encoded(front))
+        told = [self.difference(f"{name} MINUS {OTHER}"), self.difference(f"{OTHER} MINUS {name}")]
+        self.session.answer(encoded(f"DROP VAR {OTHER};"))
+        return None if None in told else told
+
+    def difference(self, said):
+        """The relation that an expression is, where it has a value."""
         count = decoded(self.session.answer(encoded(f"WRITE COUNT({said});"))).strip()
         if not count.isdecimal():
             return None
         return Difference(int(count), decoded(self.session.answer(encoded(f"WRITE {said};"))))
 
-    @property
     def guards(self):
-        """A constraint for each thing that is given, by which td itself refuses that it changes.
-
-        Their names are such that no script knows them.
-        """
+        """Statements by which td itself refuses that what is given changes, and for the name of
+        each constraint among them what it guards. No script knows their names."""
         front = f"GIVEN_{os.urandom(8).hex()}_"
-        expressions = [(one, guarding(one)) for one in self.definitions]
-        return {
-            f"{front}{number}": (one.name, said)
-            for number, (one, said) in enumerate(expressions)
-            if said is not None
-        }
+        statements, guarded = [], {}
+        for number, one in enumerate(self.definitions):
+            name = f"{front}{number}"
+            statements += guarding(one, name)
+            guarded[name] = one.name
+        return statements, guarded
 
     def leave(self):
         self.session.leave()
 
 
-def guarding(one):
-    """What is true while the definition is as it is given: it mentions it, so it stays. Of a
-    constraint nothing can be said."""
+def names(heading):
+    return f"{{{', '.join(name for name, _ in heading)}}}"
+
+
+def declared(name, heading):
+    """The front of the definition of a base relvar."""
+    attributes = ", ".join(map(" ".join, heading))
+    return f"VAR {name} BASE RELATION {{{attributes}}}"
+
+
+def guarding(one, name):
+    """What is accepted, and keeps a definition as it is: a constraint that mentions it, for a base
+    relvar beside a copy of its value. Of a constraint nothing can be said."""
     if one.kind is Kind.BASE:
-        return f"{one.name} = {dumps.value_of(one)}"
+        key = dumps.keys_of(one)[0]
+        copy = f"{declared(name, one.heading)} INIT ({one.name}) KEY {{{', '.join(key)}}};"
+        return [copy, f"CONSTRAINT {name} {one.name} = {name};"]
     if one.kind is Kind.VIRTUAL:
-        return f"IF TRUE THEN TRUE ELSE IS_EMPTY({one.name}) END IF"
+        return [f"CONSTRAINT {name} IF TRUE THEN TRUE ELSE IS_EMPTY({one.name}) END IF;"]
     if one.kind is Kind.TYPE:
-        return f"IS_EMPTY(RELATION {{A {one.name}}} {{}})"
-    return None
+        return [f"CONSTRAINT {name} IS_EMPTY(RELATION {{A {one.name}}} {{}});"]
+    return []
 
 
 class Key:

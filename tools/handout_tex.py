@@ -27,7 +27,8 @@ PAGE = r"""\documentclass[11pt,a4paper]{article}
 \raggedbottom
 % A line of code, which goes on with an indent where it is too long.
 \newcommand{\codeline}[1]{{\ttfamily\raggedright\hangindent=3em\hangafter=1 #1\par}}
-\newenvironment{code}{\par\addvspace{6pt}\begingroup\parskip=0pt\small}{\par\endgroup\addvspace{4pt}}
+\newenvironment{code}{\par\addvspace{6pt}\begingroup\parskip=0pt\small}%
+  {\par\endgroup\addvspace{4pt}}
 \newenvironment{exercise}{\par\addvspace{8pt}\hrule\nobreak\addvspace{4pt}}%
   {\par\addvspace{6pt}\hrule\addvspace{8pt}}
 \newcommand{\answerline}[1]{{\small\ttfamily\raggedright\leftskip=12pt #1\par}}

@@ -43,18 +43,17 @@ class LimitedSession(Session):
     """A run of td that ends where a statement takes more than the limits give it."""
 
     def __init__(self, limits):
-        self.limits = limits
+        self.limits, self.total = limits, None
         super().__init__(stderr=subprocess.DEVNULL)
         bounds = (limits.memory, limits.memory)
         resource.prlimit(self.process.pid, resource.RLIMIT_AS, bounds)
 
     def spent(self):
-        """The seconds of processor time that this run has taken."""
-        try:
-            with open(f"/proc/{self.process.pid}/stat", "rb") as stat:
-                words = stat.read().rpartition(b")")[2].split()
-        except OSError:
-            return 0.0
+        """The seconds of processor time that this run has taken, also where it is over."""
+        if self.total is not None:
+            return self.total
+        with open(f"/proc/{self.process.pid}/stat", "rb") as stat:
+            words = stat.read().rpartition(b")")[2].split()
         return (int(words[11]) + int(words[12])) / TICKS
 
     def answer(self, statement):
@@ -82,6 +81,7 @@ class LimitedSession(Session):
 
     def fail(self):
         """Raises the limit that td's run has met, which is over."""
+        self.total = self.spent()
         status = self.process.wait()
         if status in (-signal.SIGXCPU, -signal.SIGKILL):
             raise Overrun(Limit.TIME)

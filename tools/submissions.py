@@ -87,51 +87,51 @@ class Attempt:
         self.accepted, self.refused, self.open_lines = [], [], []
         self.earlier, self.is_lost = 0.0, False
         self.allowed = OVERRUNS * self.limits.seconds
-        self.guards = self.given.guards
+        self.guarding, self.guarded = self.given.guards()
         self.start()
 
     def start(self):
         """Runs td with what is given."""
         self.session = LimitedSession(self.limits)
-        guards = [f"CONSTRAINT {one} {says};" for one, (_, says) in self.guards.items()]
         try:
-            said = self.session.answer(self.given.dump + encoded("\n".join(guards)))
+            said = self.session.answer(self.given.dump + encoded("\n".join(self.guarding)))
         except Overrun as met:
             says = f"{self.given.name} meets a limit: {met.limit.value}"
             raise Failure(says) from met
-        if said != OK * (len(self.given.definitions) + len(self.guards)):
+        if said != OK * (len(self.given.definitions) + len(self.guarding)):
             raise Failure(f"{self.given.name} can't be given: {decoded(said)[:80]!r}")
         self.began = self.session.spent()
 
     @property
     def spent(self):
         """The seconds of processor time that the student's statements took."""
-        return self.earlier + max(0.0, self.session.spent() - self.began)
+        return self.earlier + self.session.spent() - self.began
 
     @property
     def is_over(self):
         """Whether all the time is used up, or the accepted statements could not be run again."""
         return self.is_lost or self.spent >= self.allowed
 
-    def restart(self, seconds):
-        """Goes back to the statements that were accepted. What has run took so many seconds."""
+    def restart(self):
+        """Goes back to the statements that were accepted."""
+        self.earlier = self.spent
         self.session.leave()
-        self.earlier += seconds
         self.start()
         try:
             self.session.answer(b"\n".join(self.accepted))
         except Overrun:
             # Together they take more than one answer may: none of them stands.
+            self.earlier = self.spent
             self.session.leave()
             self.accepted, self.is_lost = [], True
             self.start()
 
     def answer(self, statement):
-        """td's answer. Where it meets a limit, the run is what it was before, and that is raised."""
+        """td's answer. Where it meets a limit the run is what it was before, and that is raised."""
         try:
             return self.session.answer(statement)
         except Overrun as met:
-            self.restart(self.limits.seconds)
+            self.restart()
             raise met
 
     def run(self):
@@ -139,7 +139,8 @@ class Attempt:
         as much time as the statements had."""
         for at, statement in self.submission.statements:
             if self.is_over:
-                self.refuse(at, statement, "time", "the script has used up its time; no more is run")
+                says = "the script has used up its time; no more is run"
+                self.refuse(at, statement, "time", says)
                 break
             self.step(at, statement)
         if self.submission.rest.strip():
@@ -164,7 +165,7 @@ class Attempt:
         constraint that is given."""
         dropped = self.dropped_constraint(statement)
         if dropped is not None:
-            self.restart(0.0)
+            self.restart()
             self.refuse(at, statement, f"{dropped} is given", f"{dropped} is given: it stays")
             return
         self.accepted.append(statement)
@@ -221,8 +222,8 @@ class Attempt:
     def given_in(self, statement, answer):
         """What is given, and would be changed or dropped by the statement that is refused."""
         guard = decoded(answer).split()[-1]
-        if guard in self.guards:
-            return self.guards[guard][0]
+        if guard in self.guarded:
+            return self.guarded[guard]
         if not answer.startswith(IN_USE):
             return None
         text = decoded(statement)
@@ -237,7 +238,7 @@ class Attempt:
                 self.session, self.cutter, self.submission.script, at, statement, answer
             )
         except Overrun:
-            self.restart(self.limits.seconds)
+            self.restart()
             said = f"{self.submission.script.place(at)[0]}:{line}: {decoded(answer)}"
         said = said.replace(": REFUSED", f": {front}REFUSED", 1)
         self.refused.append(Refused(at, line, decoded(statement), decoded(answer).strip(), said))

@@ -86,21 +86,20 @@ def compared(given, name, literal):
         return Verdict(Outcome.OK)
     wanted, _ = some_tuples(given.literals[name])
     heading, _ = some_tuples(literal)
-    missing = given.difference(name, literal)
-    superfluous = given.difference(literal, name)
-    if heading != wanted or missing is None or superfluous is None:
-        return Verdict(Outcome.HEADING, heading_told(wanted, heading), wanted=wanted, heading=heading)
-    return Verdict(Outcome.TUPLES, missing=missing, superfluous=superfluous)
+    found = given.differences(name, literal) if heading == wanted else None
+    if found is None:
+        told = heading_told(wanted, heading)
+        return Verdict(Outcome.HEADING, told, wanted=wanted, heading=heading)
+    return Verdict(Outcome.TUPLES, missing=found[0], superfluous=found[1])
 
 
 def heading_told(wanted, heading):
     """How a heading differs from the wanted one, in a few words."""
     types, others = dict(wanted), dict(heading)
+    both = [name for name in types if name in others]
     told = [f"no {name}" for name in types if name not in others]
     told += [f"{name} too many" for name in others if name not in types]
-    told += [
-        f"{name} is {others[name]}" for name in types if others.get(name, types[name]) != types[name]
-    ]
+    told += [f"{name} is {others[name]}" for name in both if others[name] != types[name]]
     return ", ".join(told) or "a type of its own"
 
 
