@@ -25,6 +25,8 @@ class Frame:
     type: tuple
     # The operand whose attributes the part may name, as a text; None where it may name none more.
     operand: str | None = None
+    # The condition under which the part is evaluated, as a text.
+    condition: str | None = None
 
 
 def scope(operand):
@@ -36,7 +38,8 @@ def scope(operand):
 def branch(condition, is_taken):
     """That a part is evaluated where a condition is TRUE, or where it is FALSE."""
     around = ("", " ELSE TRUE END IF") if is_taken else ("TRUE ELSE ", " END IF")
-    return Frame((f"IF ({condition}) THEN {around[0]}", around[1]), ("", ""))
+    holds = f"({condition})" if is_taken else f"NOT ({condition})"
+    return Frame((f"IF ({condition}) THEN {around[0]}", around[1]), ("", ""), condition=holds)
 
 
 def has_value(text):
