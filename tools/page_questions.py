@@ -13,6 +13,7 @@ from page_server import Refused
 from programs import TOP
 
 GRAMMAR = TOP / "editors" / "vscode" / "tutorial-d.tmLanguage.json"
+CAUSE = re.compile(r"^\| (\d+) \| `[A-Z_]+` \| (.*?) \|", re.MULTILINE)
 WORDS = re.compile(r"\(\?i:([A-Z_|]+)\)")
 
 
@@ -21,6 +22,12 @@ def colours():
     text = GRAMMAR.read_text(encoding="utf-8")
     patterns = json.loads(text)["repository"]["reserved"]["patterns"]
     return {one["name"]: WORDS.match(one["match"]).group(1).split("|") for one in patterns}
+
+
+def causes():
+    """When each cause comes, by its number, as docs/language.md has it."""
+    text = (TOP / "docs" / "language.md").read_text(encoding="utf-8")
+    return {number: says.replace("`", "") for number, says in CAUSE.findall(text)}
 
 
 def field(asked, name, kind, default=None):
@@ -39,12 +46,12 @@ class Questions:
     def __init__(self, tabs, database):
         """The database is the name of the script with which each tab begins, if there is one."""
         self.tabs, self.database = tabs, database
-        self.colours = colours()
+        self.colours, self.causes = colours(), causes()
         self.chapters = [asdict(one) for one in lessons.chapters()]
         self.answers = {
             "begin": self.begin, "lessons": self.lessons, "end": self.end, "run": self.run,
             "stop": self.stop, "back": self.back, "listed": self.listed, "shown": self.shown,
-            "dump": self.dump,
+            "dump": self.dump, "diagram": self.diagram, "steps": self.steps,
         }
 
     def get_ready(self):
@@ -54,8 +61,11 @@ class Questions:
     def tab(self, asked):
         return self.tabs.tab(field(asked, "tab", str))
 
-    def begin(self, _):
-        return {"tab": self.tabs.open(), "database": self.database, "colours": self.colours}
+    def begin(self, asked):
+        """A tab, which may begin with an empty database."""
+        tab = self.tabs.open(field(asked, "empty", bool, False))
+        return {"tab": tab, "database": self.database, "colours": self.colours,
+                "causes": self.causes}
 
     def lessons(self, _):
         return {"chapters": self.chapters}
@@ -97,3 +107,10 @@ class Questions:
 
     def dump(self, asked):
         return {"dump": self.tab(asked).dump()}
+
+    def diagram(self, asked):
+        return {"diagram": self.tab(asked).diagram()}
+
+    def steps(self, asked):
+        statement = well_formed(field(asked, "statement", str)).encode()
+        return {"steps": self.tab(asked).steps(field(asked, "number", int, 0), statement)}

@@ -11,10 +11,12 @@ from answers import Cutter, Session, is_refusal
 from catalog import RELVARS, Catalog, Kind
 from command import Failure
 from definitions import definitions
+from diagrams import diagram_svg
 from page_answers import (
     DEFINING, RELATION, answer_of, chosen, decoded, first_event, first_kind, place_of, reason_of,
     relvar_written,
 )
+from query_steps import steps
 
 ACCEPTED = b"OK\n"
 # What the page itself asks for, such as a dump, may be so many times as long as an answer.
@@ -73,7 +75,11 @@ class Tab:
             raise Gone("the tab is closed")
         if self.runs is None:
             self.runs = Runs()
-            self.fill(self.runs.session, self.accepted)
+            try:
+                self.fill(self.runs.session, self.accepted)
+            except Failure:
+                self.rest()
+                raise
 
     def fill(self, session, accepted):
         session.answer(self.base)
@@ -110,37 +116,42 @@ class Tab:
         return self.runs.session
 
     @contextlib.contextmanager
-    def asking(self):
-        """That the page itself asks td, whose answers may be longer then. Where that fails td is
-        begun again, as the database is."""
+    def running(self):
+        """That td runs and answers nobody else. Where that fails td is ended, and begun again by
+        the next question."""
         with self.lock:
             self.is_stopped = False
             self.begin()
-            with self.wider():
-                yield self.session
+            try:
+                yield
+            except Failure:
+                self.rest()
+                raise
 
     @contextlib.contextmanager
     def wider(self):
+        """That the page itself asks td, whose answers may be longer then."""
         session, own = self.session, self.session.limits
         session.limits = own.with_longer_answers(WIDER)
         try:
-            yield
-        except Failure:
-            self.restore()
-            raise
+            yield session
         finally:
             session.limits = own
+
+    @contextlib.contextmanager
+    def asking(self):
+        with self.running(), self.wider() as session:
+            yield session
 
     # ---- statements
 
     def run(self, script, is_anew, at=None, is_alone=False):
         """The events of the statements of a script, as td answers them: of all, of those up to a
         place, or of the one there. Anew is from the database with which the tab began."""
-        with self.lock:
-            self.is_stopped = False
+        with self.running():
             if is_anew:
                 self.go_back(0)
-            self.begin()
+                self.begin()
             for piece in chosen(self.runs.cutter, script, at, is_alone):
                 if self.is_stopped:
                     return
@@ -179,6 +190,7 @@ class Tab:
                     yield reason_of(self.session, piece)
         except Failure as failure:
             yield {"why": "" if self.is_stopped else f"why is not known: {failure}"}
+            self.restore()
 
     def told_keys(self, piece):
         """The keys of the tuples of an answer, where they are those of a relvar."""
@@ -190,6 +202,7 @@ class Tab:
                 with self.wider():
                     every = definitions(self.session)
             except Failure:
+                self.restore()
                 return
             self.keys = {one.name: one.keys for one in every if one.kind == "VAR"}
         yield {"keys": self.keys.get(name, [])}
@@ -202,8 +215,7 @@ class Tab:
             self.rest()
 
     def back(self, number):
-        with self.lock:
-            self.is_stopped = False
+        with self.running():
             self.go_back(number)
             self.begin()
 
@@ -235,8 +247,15 @@ class Tab:
             }
             return {**told, **value_of(session, one)}
 
+    def diagram(self):
+        return diagram_svg(self.dump())
+
+    def steps(self, number, statement):
+        """The steps of the statement of that number, in the database before it."""
+        return self.before(number, lambda session: [step_of(one) for one in steps(session, statement)])
+
     def before(self, number, ask):
-        """What is answered by asking td in the database before the statement of that number."""
+        """What td is asked in the database before the statement of that number."""
         kept = [one for one in self.accepted if one[0] < number]
         with self.asking() as session:
             if len(kept) == len(self.accepted):
@@ -244,6 +263,12 @@ class Tab:
             with Session() as earlier:
                 self.fill(earlier, kept)
                 return ask(earlier)
+
+
+def step_of(step):
+    """A part of a query as data: its text, its answer and the parts in it."""
+    parts = [step_of(one) for one in step.parts]
+    return {"text": step.text, "answer": decoded(step.answer), "parts": parts}
 
 
 def named(one):
@@ -283,8 +308,8 @@ class Tabs:
         self.lock = threading.Lock()
         self.by_word = {}
 
-    def open(self):
-        """The word of a new tab. Where there are too many, one that rests makes room."""
+    def open(self, is_empty=False):
+        """The word of a new tab, which may begin with an empty database. Where there are too many, one that rests makes room."""
         with self.lock:
             if len(self.by_word) >= MOST:
                 resting = [word for word, tab in self.by_word.items() if tab.runs is None]
@@ -292,7 +317,7 @@ class Tabs:
                     raise Full(f"{MOST} tabs are open: close one of them")
                 del self.by_word[min(resting, key=lambda word: self.by_word[word].asked_at)]
             word = secrets.token_urlsafe(16)
-            tab = self.by_word[word] = Tab(self.base)
+            tab = self.by_word[word] = Tab(b"" if is_empty else self.base)
         with tab.lock:
             tab.begin()
         return word
