@@ -267,8 +267,13 @@ class Tab:
 
 def step_of(step):
     """A part of a query as data: its text, its answer and the parts in it."""
-    parts = [step_of(one) for one in step.parts]
-    return {"text": step.text, "answer": decoded(step.answer), "parts": parts}
+    return {
+        "text": step.text,
+        "answer": decoded(step.answer),
+        "parts": [step_of(one) for one in step.parts],
+        "operands": step.operands,
+        "name": step.name,
+    }
 
 
 def named(one):
