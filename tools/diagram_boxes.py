@@ -29,8 +29,8 @@ def name_width(relvar):
     return max(map(width_of, names), default=0)
 
 
-def relvar_box(relvar, margin):
-    """The size of a relvar's box, with room for its loops."""
+def relvar_box(relvar):
+    """The size of a relvar's box."""
     types = [shown(kind, LONGEST_TYPE) for _, kind in relvar.heading]
     rows = name_width(relvar) + 2 * PADDING + max(map(width_of, types), default=0)
     head = 1.1 * width_of(shown(relvar.name, LONGEST_NAME)) + 2 * PADDING
@@ -38,7 +38,7 @@ def relvar_box(relvar, margin):
     keys = [width_of(one) for one in key_lines(relvar)]
     width = max([rows, head, *keys]) + 2 * PADDING
     height = HEAD + LINE * (len(relvar.heading) + len(keys)) + 8
-    return Box(relvar, width, height, margin)
+    return Box(relvar, width, height)
 
 
 def row_style(relvar, name):

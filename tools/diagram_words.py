@@ -10,6 +10,7 @@ LEFT = {End.ONE: "||", End.AT_MOST_ONE: "|o", End.SOME: "}|", End.ANY: "}o"}
 RIGHT = {End.ONE: "||", End.AT_MOST_ONE: "o|", End.SOME: "|{", End.ANY: "o{"}
 # The shapes of Graphviz, from the box on.
 ARROWS = {End.ONE: "teetee", End.AT_MOST_ONE: "teeodot", End.SOME: "crowtee", End.ANY: "crowodot"}
+MERMAID_KEYS = {"PK", "FK", "UK"}
 NO_WORD = re.compile(r"[^A-Za-z0-9_]")
 
 
@@ -77,7 +78,7 @@ def mermaid_text(said):
 def mermaid_word(said):
     """A word as Mermaid takes one, for a name or a type."""
     word = NO_WORD.sub("_", said)
-    return word if word[:1].isalpha() else f"_{word}" if word[:1] == "_" else f"A_{word}"
+    return word if word[:1].isalpha() and word.upper() not in MERMAID_KEYS else f"A_{word}"
 
 
 def mermaid_attribute(relvar, name, kind):

@@ -5,10 +5,10 @@ from diagram_boxes import note_box, note_drawn, relvar_box, relvar_drawn, types_
 from diagram_words import description, title
 from layers import GAP_COMPONENTS, Route, laid_out
 from schema_graph import End, Link, schema_of
-from svg_parts import LINE, label, path, width_of
+from svg_parts import label, path, width_of
 
 MARGIN = 16
-LABEL_HEIGHT = 32
+LABEL_HEIGHT, LOOP_STEP = 32, 40
 # What stands at the end of an arrow, in units from the box along the line: a foot for many, a ring
 # for none, a bar for one.
 GLYPHS = {
@@ -26,13 +26,14 @@ STYLE = """
 svg.td-diagram {
   --ink: #1b1f24; --faint: #57606a; --paper: #ffffff; --box: #f6f8fa; --head: #ddeaf7;
   --virtual: #f3eefb; --note: #fff8d6; --line: #3b5f86; --edge: #8c959f;
-  background: var(--paper); max-width: 100%; height: auto;
+  background: var(--paper);
   font: 12px ui-monospace, Menlo, Consolas, "DejaVu Sans Mono", monospace;
 }
 @media (prefers-color-scheme: dark) { svg.td-diagram {
   --ink: #e6edf3; --faint: #9da7b1; --paper: #0d1117; --box: #161b22; --head: #1d344d;
   --virtual: #2a2140; --note: #3a3210; --line: #8cbcf0; --edge: #6e7681;
 } }
+@media print { svg.td-diagram { max-width: 100%; height: auto; } }
 svg.td-diagram text { fill: var(--ink); white-space: pre; }
 svg.td-diagram .name { font-size: 13px; font-weight: bold; }
 svg.td-diagram .faint { fill: var(--faint); }
@@ -52,10 +53,13 @@ svg.td-diagram .mention .edge { stroke: var(--faint); stroke-width: 1; stroke-da
 """
 
 
-def loop_margin(edges, name):
-    """The room that the loops of a relvar need at its right."""
-    loops = [one for one in edges if one.source is one.target and one.target is name]
-    return max((34 + label_width(one) for one in loops), default=0)
+def box_of(relvar, edges):
+    """The box of a relvar, with room for its loops at the right."""
+    loops = [one for one in edges if one.source is relvar and one.target is relvar]
+    box = relvar_box(relvar)
+    box.margin = max((40 + label_width(one) for one in loops), default=0)
+    box.height = max(box.height, 8 + LOOP_STEP * len(loops))
+    return box
 
 
 def label_width(edge):
@@ -89,26 +93,25 @@ def curve(points):
     return "".join(said)
 
 
-def glyph(shape, point, beside):
-    """What stands at an end of a line, which goes on from the point to another."""
-    (x, y), (to_x, to_y) = point, beside
-    angle = 0 if abs(to_y - y) < 0.05 else 90 if to_y > y else -90
+def glyph(shape, point, angle=0):
+    """What stands at an end of a line, which goes on from the point at the angle."""
+    x, y = point
     return f'<path class="end" d="{shape}" transform="translate({x:.1f},{y:.1f}) rotate({angle})"/>'
 
 
-def ends_drawn(edge, points):
-    """What stands at the ends of a route."""
-    first, last = (points[0], (points[0][0], points[1][1])), (points[-1], points[-2])
+def ends_drawn(edge, route):
+    """What stands at the ends of a route, of which the source is below but where it is turned."""
+    angle = 90 if route.is_reversed else -90
     if edge.link is Link.INCLUSION:
-        near, far = edge.ends
-        return glyph(GLYPHS[near], *first) + glyph(GLYPHS[far], *last)
-    return glyph(ORIGIN_HEAD, *last) if edge.link is Link.ORIGIN else ""
+        near, far = (GLYPHS[one] for one in edge.ends)
+        return glyph(near, route.points[0], angle) + glyph(far, route.points[-1], -angle)
+    return glyph(ORIGIN_HEAD, route.points[-1], -angle) if edge.link is Link.ORIGIN else ""
 
 
 def loop_points(box, number):
     """The points of a loop at the right of a box."""
-    x, y = box.x + box.width, box.y + 14 + 22 * number
-    return x, y, y + min(22, box.height - 20)
+    x, y = box.x + box.width, box.y + 14 + LOOP_STEP * number
+    return x, y, y + LOOP_STEP / 2
 
 
 def loop_drawn(route, number):
@@ -118,7 +121,7 @@ def loop_drawn(route, number):
     if edge.link is not Link.INCLUSION:
         return line
     near, far = (GLYPHS[one] for one in edge.ends)
-    ends = glyph(near, (x, bottom), (x + 20, bottom)) + glyph(far, (x, top), (x + 20, top))
+    ends = glyph(near, (x, bottom)) + glyph(far, (x, top))
     width = label_width(edge)
     return line + ends + label([edge.name, edge.by()], x + 32 + width / 2, (top + bottom) / 2)
 
@@ -126,7 +129,7 @@ def loop_drawn(route, number):
 def route_drawn(route):
     """A route with its ends and its label."""
     edge = route.item
-    drawn = path("edge", curve(route.points)) + ends_drawn(edge, route.points)
+    drawn = path("edge", curve(route.points)) + ends_drawn(edge, route)
     if edge.link is Link.INCLUSION:
         drawn += label([edge.name, edge.by()], *route.label)
     return drawn
@@ -139,12 +142,20 @@ def edges_drawn(routes):
         number = loops.setdefault(route.source, 0) if route.is_loop else 0
         loops[route.source] = number + 1 if route.is_loop else loops.get(route.source, 0)
         drawn = loop_drawn(route, number) if route.is_loop else route_drawn(route)
-        yield f'<g class="{CLASSES[route.item.link]}">{drawn}</g>'
+        yield f"<g {named(route.item)}>{drawn}</g>"
+
+
+def named(edge):
+    """What tells of an edge which it is."""
+    names = {"class": CLASSES[edge.link], "data-from": edge.source.name, "data-to": edge.target.name}
+    if edge.link is Link.INCLUSION:
+        names["data-constraint"] = edge.name
+    return " ".join(f'{name}="{escape(said)}"' for name, said in names.items())
 
 
 def schema_svg(schema):
     """The SVG element of a schema's diagram. It has no ids, so that several stand in one page."""
-    boxes = {id(one): relvar_box(one, loop_margin(schema.edges, one)) for one in schema.relvars}
+    boxes = {id(one): box_of(one, schema.edges) for one in schema.relvars}
     boxes |= {id(one): note_box(one) for one in schema.notes}
     routes = list(routes_of(schema.edges, boxes))
     width, height = laid_out(list(boxes.values()), routes) if boxes else (0, 0)

@@ -7,7 +7,7 @@ from dataclasses import dataclass, field
 
 GAP_X, GAP_Y, GAP_COMPONENTS = 26, 44, 40
 SWEEPS, PASSES = 16, 24
-LEAST_WIDTH, ASPECT = 760, 1.7
+LEAST_WIDTH, ASPECT = 960, 1.9
 
 
 @dataclass(eq=False)
