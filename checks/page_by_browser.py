@@ -2,6 +2,7 @@
 import functools
 import re
 import tempfile
+import time
 from pathlib import Path
 
 from devtools import ALT, CONTROL, SHIFT, Browser
@@ -97,7 +98,7 @@ def the_first_chapter_is_clicked_through():
         ran(page, 1)
         expect(page.value("document.querySelector('.exercise .answers pre').textContent"), "TRUE")
         assert not page.value("!!document.querySelector('.exercise details .editor')"), "the solution is shown"
-        page.click(".exercise summary")
+        page.click(".exercise > details > summary")
         page.wait("!!document.querySelector('.exercise details .editor')")
         page.click(".exercise details .runs")
         ran(page, 3)
@@ -170,6 +171,7 @@ def a_runaway_query_is_ended():
         page.value("editor.area.setSelectionRange(0, 0)")
         page.press("Enter", CONTROL)
         page.wait("database().isBusy")
+        time.sleep(0.3)
         page.press("Escape")
         page.wait("!database().isBusy")
         assert "stopped" in page.value(ANSWERS)[0], page.value(ANSWERS)
@@ -334,8 +336,8 @@ def a_closed_tab_ends_its_td():
     before = served().runs()
     with Opened() as page:
         run_all(page, "WRITE 1;", 1)
+        assert soon(lambda: len(served().runs() - before) == 2), "a tab has not two runs of td"
         own = served().runs() - before
-        expect(len(own), 2, "runs of td:")
     assert soon(lambda: not any(map(is_there, own))), "td goes on when its tab is closed"
 
 
