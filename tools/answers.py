@@ -7,7 +7,7 @@ import re
 import signal
 import subprocess
 
-from command import Failure
+from run_limits import Limits
 from programs import td
 
 PIECE = re.compile(rb"[^;]*;|[^;]+")
@@ -23,20 +23,25 @@ class Session:
     the mark is answered, however many lines it has: of DUMP there may be many, or none.
     """
 
+    # What a run may take: a tool that answers others sets it.
+    limits = Limits()
+
     def __init__(self, stderr=None):
         """What td says on standard error goes where subprocess's word for it says."""
         mark = os.urandom(16).hex().encode()
         self.asks = b"WRITE '" + mark + b"';"
         self.mark = b"'" + mark + b"'\n"
-        # td is no part of the terminal's job: Ctrl-C is for the tool alone.
+        # td is no part of the terminal's job: Ctrl-C is for the tool alone. That memory is missing
+        # is told by the status, where there is a limit of it.
         self.process = subprocess.Popen(
             [td(), "run"],
             stdin=subprocess.PIPE,
             stdout=subprocess.PIPE,
-            stderr=stderr,
+            stderr=stderr if self.limits.memory is None else subprocess.DEVNULL,
             start_new_session=True,
         )
         try:
+            self.limits.hold(self.process.pid)
             self.answer(b"")
         except BaseException:
             self.leave()
@@ -45,12 +50,13 @@ class Session:
     def answer(self, statement):
         """What td writes of a statement, or of several. The last one is whole."""
         try:
+            self.limits.renew(self.process.pid)
             self.process.stdin.write(statement + self.asks)
             self.process.stdin.flush()
-        except BrokenPipeError:
+        except (BrokenPipeError, ProcessLookupError):
             self.fail()
         lines = []
-        for line in self.process.stdout:
+        for line in self.limits.lines(self.process.stdout):
             if line == self.mark:
                 return b"".join(lines)
             lines.append(line)
@@ -64,7 +70,7 @@ class Session:
         return answer
 
     def fail(self):
-        raise Failure(f"td ended with status {self.process.wait()}")
+        raise self.limits.failure(self.process.wait())
 
     def leave(self):
         """Ends td, whatever it does."""

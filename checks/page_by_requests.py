@@ -1,0 +1,398 @@
+"""What tools/page answers to requests, and to which it gives no answer."""
+import functools
+import re
+import socket
+import subprocess
+import threading
+import time
+from pathlib import Path
+
+from reading import TOP, run
+from served import Served, is_there, numbers, script, soon
+
+DATABASE = TOP / "examples" / "tour" / "00-database.td"
+SECONDS, MEMORY, OUTPUT = 1, 128, 1
+RUNAWAY = (
+    "WRITE COUNT(N WHERE 3 < COUNT(N RENAME (I AS J) WHERE I * J > "
+    "COUNT(N RENAME (I AS K) WHERE I * J * K > 5)));"
+)
+HUGE = "WRITE COUNT(N TIMES N RENAME (I AS J) TIMES N RENAME (I AS K));"
+LONG = "WRITE N TIMES (N WHERE I < 80) RENAME (I AS J);"
+OK = "OK\n"
+
+
+@functools.cache
+def page():
+    """The page of all checks but those of how it starts and ends."""
+    return Served(
+        str(DATABASE), "--seconds", str(SECONDS), "--memory", str(MEMORY), "--output", str(OUTPUT)
+    )
+
+
+def expect(given, wanted, what=""):
+    assert given == wanted, f"{what} {given!r} in place of {wanted!r}".strip()
+
+
+# ---- whose request it is
+
+def the_secret_is_asked_for():
+    for path in ("/", "/x/", f"/{page().secret}", f"/{page().secret[:-1]}/", f"/{page().secret}x/", "//"):
+        status, told = page().asked(path)
+        expect(status, 403, path)
+        assert b"<" not in told.partition(b"\r\n\r\n")[2], "a page is shown without the secret"
+    expect(page().asked("/wrong/begin", {})[0], 403)
+    expect(page().asked("/begin", {})[0], 403)
+    expect(page().asked(f"/{page().secret}/")[0], 200)
+
+
+def only_names_of_this_machine_are_answered():
+    home = f"/{page().secret}/"
+    for host in ("evil.example", f"evil.example:{page().port}", "127.0.0.1", "localhost:1", "", None,
+                 f"127.0.0.1:{page().port}.evil.example"):
+        expect(page().asked(home, Host=host)[0], 403, f"Host {host}")
+        expect(page().asked(home + "begin", {}, Host=host)[0], 403, f"Host {host}")
+    twice = f"GET {home} HTTP/1.1\r\nHost: 127.0.0.1:{page().port}\r\nHost: evil\r\n\r\n"
+    expect(page().raw(twice.encode())[0], 403, "two hosts")
+    expect(page().asked(home, Host=f"localhost:{page().port}")[0], 200)
+
+
+def no_other_page_is_answered():
+    home = f"/{page().secret}/"
+    for origin in ("http://evil.example", "null", f"https://127.0.0.1:{page().port}", "http://127.0.0.1:1",
+                   f"http://127.0.0.1:{page().port}.evil.example"):
+        expect(page().asked(home + "begin", {}, Origin=origin)[0], 403, f"Origin {origin}")
+        expect(page().asked(home, Origin=origin)[0], 403, f"Origin {origin}")
+    for site in ("cross-site", "same-site"):
+        expect(page().asked(home + "begin", {}, Sec_Fetch_Site=site)[0], 403, site)
+    own = {"Origin": f"http://127.0.0.1:{page().port}", "Sec_Fetch_Site": "same-origin"}
+    expect(page().asked(home + "listed", {"tab": "x"}, **own)[0], 410)
+
+
+def what_is_too_long_is_refused():
+    home = f"/{page().secret}/"
+    body = b'{"tab": "' + b"x" * (1 << 20) + b'"}'
+    expect(page().asked(home + "begin", body)[0], 413)
+    expect(page().asked(home + "begin", b"{}", Content_Length="999999999999")[0], 411)
+    expect(page().asked(home + "begin", b"{}", Content_Length="-1")[0], 411)
+    expect(page().asked(home + "begin", b"{}", Content_Length=None)[0], 411)
+    expect(page().asked(home + "x" * 1000)[0], 414)
+    expect(page().asked("/" + "x" * 70_000)[0], 414)
+    expect(page().asked(home, X="x" * 70_000)[0], 431)
+    expect(page().raw(b"GET " + home.encode() + b" HTTP/1.1\r\n" + b"X: y\r\n" * 200 + b"\r\n")[0], 431)
+
+
+def what_is_not_there_is_refused():
+    home = f"/{page().secret}/"
+    for path in ("../", "../../etc/passwd", "..%2f..%2fetc/passwd", "page.html", "tools/page", "begin",
+                 "?x", "/", "\\..\\", "//etc/passwd"):
+        expect(page().asked(home + path)[0], 404, path)
+    for path in ("/../", "/../../etc/passwd", "/etc/passwd", "http://evil.example/"):
+        expect(page().asked(path)[0], 403, path)
+    for name in ("nothing", "", "../begin", "begin/", "__init__", "answers"):
+        expect(page().asked(home + name, {})[0], 404, name)
+
+
+def what_is_no_question_is_refused():
+    home = f"/{page().secret}/"
+    for body in (b"", b"[]", b"{", b"\xff", b"[" * 100_000, b'{"a": NaN'):
+        expect(page().asked(home + "begin", body)[0], 400, body[:20])
+    expect(page().asked(home + "begin", {}, Content_Type="text/plain")[0], 415)
+    expect(page().asked(home + "begin", {}, Content_Type="application/x-www-form-urlencoded")[0], 415)
+    for fields in ({}, {"tab": 1}, {"tab": None}, {"tab": []}):
+        expect(page().posted("run", **fields)[0], 400, fields)
+    tab = page().tab()
+    for fields in ({}, {"script": 1}, {"script": "", "at": "1"}, {"script": "", "anew": 1}, {"script": None}):
+        expect(page().posted("run", tab=tab, **fields)[0], 400, fields)
+    for method in ("PUT", "DELETE", "OPTIONS", "HEAD", "CONNECT"):
+        expect(page().asked(home, method=method)[0], 501, method)
+    for data in (b"\r\n\r\n", b"nonsense\r\n\r\n", b"GET\r\n\r\n", b"\x16\x03\x01\x02\r\n\r\n"):
+        assert page().raw(data)[0] in (0, 400), data
+    expect(page().posted("run", tab="no tab", script="WRITE 1;")[0], 410)
+
+
+def a_browser_is_told_what_it_may_do():
+    head = page().asked(f"/{page().secret}/")[1].partition(b"\r\n\r\n")[0].decode()
+    for line in ("X-Content-Type-Options: nosniff", "Referrer-Policy: no-referrer", "Cache-Control: no-store",
+                 "X-Frame-Options: DENY", "Content-Security-Policy: default-src 'none'"):
+        assert line in head, f"{line} is missing"
+    policy = re.search("Content-Security-Policy: (.*)", head).group(1)
+    assert "unsafe" not in policy and "*" not in policy and "frame-ancestors 'none'" in policy, policy
+    assert "Python" not in head, "the version of Python is told"
+
+
+def nobody_beyond_this_machine_is_answered():
+    listening = "".join(Path(f"/proc/net/{kind}").read_text("ascii") for kind in ("tcp", "tcp6"))
+    places = re.findall(rf"\d: ([0-9A-F]+):{page().port:04X} 0+:0000 0A", listening)
+    expect(places, ["0100007F"], "it listens at")
+    own = socket.gethostbyname_ex(socket.gethostname())[2]
+    for address in [one for one in own if not one.startswith("127.")]:
+        try:
+            socket.create_connection((address, page().port), 2).close()
+        except OSError:
+            continue
+        raise AssertionError(f"{address} answers")
+
+
+# ---- what td answers
+
+def statements_are_answered():
+    tab = page().tab()
+    expect(page().answers(tab, "WRITE 1 + 1; WRITE COUNT(S);"), ["2\n", "4\n"])
+    # What a `;` is in, and what is not whole.
+    every = page().run(tab, "WRITE 'a;b'; /* ; */ WRITE 2; // end\n WRITE 3")
+    expect([one["answer"] for one in every], ["'a;b'\n", "2\n", "REFUSED 2 SYNTAX\n"])
+    expect([(one["begins"], one["ends"]) for one in every], [(0, 12), (21, 29), (38, 45)])
+    expect(page().answers(tab, "WRITE 'open;"), ["REFUSED 1 SCAN\n"])
+    expect(page().answers(tab, " // nothing\n"), [])
+    expect(page().answers(tab, "\ufeffWRITE 1;\r\nWRITE 'a\r\nb';\r\n"), ["1\n", "'a\r\nb'\n"])
+    expect(page().answers(tab, "WRITE '\ud800';"), ["'\ufffd'\n"])
+
+
+def places_are_those_of_a_page():
+    # A character beyond 16 bits takes two places there.
+    text = "/* \U0001d4b3 */ WRITE '\U0001d4b3\u00e9' || S2;"
+    (one,) = page().run(page().tab(), text)
+    units = text.encode("utf-16-le")
+    begins, ends = one["fault"]
+    expect(units[2 * begins : 2 * ends].decode("utf-16-le"), "S2", "the fault is at")
+    expect(units[2 * one["begins"] : 2 * one["ends"]].decode("utf-16-le"), text[8:], "the statement is")
+
+
+def refusals_are_placed_and_explained():
+    tab = page().tab()
+    (one,) = page().run(tab, "\n\nWRITE S WHERE TOWN = 'York';")
+    expect((one["refused"], one["answer"], one["fault"]), (True, "REFUSED 3 NAME_UNKNOWN\n", [16, 20]))
+    assert "TOWN" in one["says"], one["says"]
+    (one,) = page().run(tab, "WRITE S WHERE;")
+    expect(one["fault"], [13, 14])
+    (one,) = page().run(tab, "INSERT S RELATION {TUPLE {SNO 'S1', SNAME 'Ames', CITY 'Bath'}};")
+    expect(one["answer"], "REFUSED 30 KEY S\n")
+    wanted = run("tools/refusals", "--why", str(DATABASE), "-", given=b"INSERT S RELATION "
+                 b"{TUPLE {SNO 'S1', SNAME 'Ames', CITY 'Bath'}};")[0].decode().split("^\n", 1)[-1]
+    expect(one["why"], wanted, "why:")
+
+
+def keys_are_told_of_a_relvars_tuples():
+    tab = page().tab()
+    def keys(text):
+        return page().run(tab, text)[-1].get("keys")
+    expect(keys("WRITE SP;"), [["PNO", "SNO"]])
+    expect(keys("WRITE SP WHERE QTY > 100;"), [["PNO", "SNO"]])
+    expect(keys("WRITE SP {SNO};"), None)
+    expect(keys("WRITE (SP) JOIN S;"), None)
+    expect(keys("VAR V VIRTUAL (S {SNO, CITY}) KEY {SNO}; WRITE V;"), [["SNO"]])
+    expect(keys("DROP VAR V; VAR V VIRTUAL (S {SNO, CITY}) KEY {CITY, SNO}; WRITE V;"), [["CITY", "SNO"]])
+    expect(keys("BEGIN TRANSACTION; DROP VAR V; VAR V VIRTUAL (S) KEY {SNO}; WRITE V;"), [["SNO"]])
+    expect(keys("ROLLBACK; WRITE V;"), [["CITY", "SNO"]])
+
+
+def the_tours_scripts_are_answered_as_by_td():
+    chapters = page().told("lessons")["chapters"]
+    expect(len(chapters), 10, "chapters:")
+    tab = page().tab(empty=True)
+    for number, chapter in enumerate(chapters, 1):
+        blocks = {one["kind"]: one for one in chapter["blocks"]}
+        scripts = (TOP / "examples" / "tour").glob(f"{number:02}-*.td")
+        name = next(one.stem for one in scripts if not one.stem.endswith("-solution"))
+        for kind, file in (("script", name), ("exercise", f"{number:02}-solution")):
+            text, wanted = script(f"tour/{file}.td")
+            expect(blocks[kind]["script"].strip(), text.strip(), file)
+            expect("".join(page().answers(tab, text, anew=True)), wanted, file)
+
+
+def tabs_do_not_see_each_other():
+    one, other = page().tab(), page().tab()
+    expect(page().answers(one, "VAR MINE BASE RELATION {A INTEGER} KEY {A}; DELETE SP;"), [OK, OK])
+    expect(page().answers(other, "WRITE MINE; WRITE COUNT(SP);"), ["REFUSED 3 NAME_UNKNOWN\n", "5\n"])
+    names = [one["name"] for one in page().told("listed", tab=other)["definitions"]]
+    expect(names, ["S", "P", "SP"])
+    expect(page().answers(page().tab(empty=True), "WRITE S;"), ["REFUSED 3 NAME_UNKNOWN\n"])
+
+
+def a_part_of_a_script_is_run():
+    text = "VAR R BASE RELATION {A INTEGER} KEY {A};\nINSERT R RELATION {TUPLE {A 1}};\nWRITE COUNT(R);"
+    tab = page().tab()
+    expect(len(page().run(tab, text, anew=True, at=45)), 2, "statements up to a place:")
+    expect(page().answers(tab, text, at=80, alone=True), ["1\n"])
+    expect(page().answers(tab, text, anew=True), [OK, OK, "1\n"])
+    expect(page().answers(tab, text), ["REFUSED 4 NAME_TAKEN\n", OK, "1\n"])
+    expect(page().answers(tab, "WRITE COUNT(R);", anew=True, before=text), ["1\n"])
+    expect(page().answers(tab, text, at=0, alone=True), ["REFUSED 4 NAME_TAKEN\n"])
+    expect(page().answers(tab, text, at=10_000, alone=True), ["1\n"])
+
+
+def the_database_goes_back():
+    tab = page().tab()
+    every = page().run(tab, "DELETE SP; BEGIN TRANSACTION; DELETE S; WRITE COUNT(S); COMMIT;")
+    page().told("back", tab=tab, number=every[2]["number"])
+    expect(page().answers(tab, "WRITE COUNT(S); ROLLBACK; WRITE COUNT(SP);"), ["4\n", OK, "0\n"])
+    page().told("back", tab=tab, number=every[0]["number"])
+    expect(page().answers(tab, "WRITE COUNT(SP); COMMIT;"), ["5\n", "REFUSED 11 TRANSACTION\n"])
+
+
+def definitions_are_shown():
+    tab = page().tab()
+    page().run(tab, "VAR LEEDS VIRTUAL (S WHERE CITY = 'Leeds'); CONSTRAINT C SP {SNO} <= S {SNO};"
+               "TYPE GRAMS POSSREP {N INTEGER};")
+    listed = page().told("listed", tab=tab)["definitions"]
+    expect([(one["kind"], one["name"], one["count"]) for one in listed],
+           [("type", "GRAMS", ""), ("base relvar", "S", "4"), ("base relvar", "P", "3"),
+            ("base relvar", "SP", "5"), ("virtual relvar", "LEEDS", ""), ("constraint", "C", "")])
+    shown = page().told("shown", tab=tab, kind="base relvar", name="S")
+    expect([one["name"] for one in shown["mentioned"]], ["LEEDS", "C"])
+    expect((shown["keys"], shown["heading"][0]), ([["SNO"]], ["CITY", "CHAR"]))
+    expect(shown["answer"], page().answers(tab, "WRITE S;")[0])
+    expect(page().told("shown", tab=tab, kind="constraint", name="C")["statement"],
+           "CONSTRAINT C SP { SNO } <= S { SNO };")
+    expect(page().posted("shown", tab=tab, kind="type", name="S")[0], 410)
+    expect(page().told("dump", tab=tab)["dump"], page().answers(tab, "DUMP;")[0])
+    assert page().told("diagram", tab=tab)["diagram"].startswith("<svg"), "the diagram is no SVG"
+
+
+def a_querys_steps_are_of_its_own_database():
+    tab = page().tab()
+    text = "WRITE (S WHERE CITY = 'Leeds') {SNAME};"
+    number = page().run(tab, text)[0]["number"]
+    page().run(tab, "DELETE S;")
+    (step,) = page().told("steps", tab=tab, number=number, statement=text)["steps"]
+    expect(step["text"], "(S WHERE CITY = 'Leeds') {SNAME}")
+    assert "'Ames'" in step["answer"] and step["parts"], step
+    expect(page().answers(tab, "WRITE COUNT(S);"), ["0\n"])
+
+
+# ---- limits
+
+def goes_on_behind(statement, told):
+    """That a statement is ended, with these words, and that the next ones have the database."""
+    tab = page().tab()
+    front = numbers(1000) + "VAR R BASE RELATION {K INTEGER, J INTEGER} KEY {K, J}; BEGIN TRANSACTION; DELETE SP;"
+    expect(page().answers(tab, front), [OK] * 4)
+    every = page().run(tab, statement + "WRITE COUNT(N); WRITE COUNT(SP); ROLLBACK; WRITE COUNT(SP);")
+    assert told in every[0].get("ended", ""), f"{every[0]} in place of {told!r}"
+    expect([one["answer"] for one in every[1:]], ["1000\n", "0\n", OK, "5\n"])
+
+
+def a_runaway_query_is_ended():
+    goes_on_behind(RUNAWAY, f"{SECONDS} seconds of processor time, which is the limit")
+
+
+def too_much_memory_is_refused():
+    goes_on_behind(HUGE, f"more than {MEMORY} MiB of memory, the limit")
+
+
+def too_long_an_answer_is_cut():
+    goes_on_behind(LONG, f"longer than {OUTPUT} MiB, the limit of output")
+
+
+def seconds_are_of_each_statement():
+    # Together the statements take longer than one of them may.
+    tab = page().tab()
+    page().run(tab, numbers(1000))
+    one = "WRITE COUNT(N TIMES N RENAME (I AS J) WHERE I * J > 3);"
+    began = time.monotonic()
+    every = [page().answers(tab, one)[0] for _ in range(4)]
+    while time.monotonic() - began < 3 * SECONDS:
+        every += page().answers(tab, one)
+    assert len(set(every)) == 1 and every[0].strip().isdigit(), set(every)
+
+
+def a_statement_is_stopped():
+    tab = page().tab()
+    page().run(tab, numbers(1000))
+    told = []
+    running = threading.Thread(target=lambda: told.extend(page().run(tab, RUNAWAY + "WRITE 7;")))
+    running.start()
+    time.sleep(0.2)
+    began = time.monotonic()
+    page().told("stop", tab=tab)
+    running.join()
+    assert told[0].get("ended", "").startswith("stopped"), told
+    expect(len(told), 1, "statements behind the one that is stopped:")
+    expect(page().answers(tab, "WRITE COUNT(N);"), ["1000\n"])
+    assert time.monotonic() - began < 30, "it takes too long to go on"
+
+
+# ---- tabs and their ends
+
+def a_tabs_run_of_td_ends_with_it():
+    before = page().runs()
+    tab = page().tab()
+    page().run(tab, numbers(1000))
+    own = page().runs() - before
+    expect(len(own), 2, "runs of td of a tab:")
+    threading.Thread(target=lambda: page().posted("run", tab=tab, script=RUNAWAY)).start()
+    time.sleep(0.1)
+    page().told("end", tab=tab)
+    assert soon(lambda: not any(map(is_there, own))), "td goes on when its tab has ended"
+    expect(page().posted("run", tab=tab, script="WRITE 1;")[0], 410)
+
+
+def there_are_at_most_32_tabs():
+    with Served() as own:
+        tabs = [own.tab() for _ in range(32)]
+        status, told = own.posted("begin")
+        expect(status, 503)
+        assert "32 tabs are open" in told, told
+        own.told("end", tab=tabs[0])
+        own.tab()
+        runs = own.runs()
+        expect(len(runs), 64, "runs of td:")
+        expect(own.end(), 0, "its status:")
+        assert soon(lambda: not any(map(is_there, runs))), "td goes on when the page has ended"
+
+
+def the_browsers_link_leads_once():
+    code = (
+        "import sys; sys.path.insert(0, 'tools'); from page_server import Server; "
+        "own = Server(0, '<script></script>', {}, lambda: None); "
+        "print(own.server_address[1], own.secret, own.once, flush=True); own.serve_forever()"
+    )
+    asking = subprocess.Popen(["python3", "-B", "-c", code], stdout=subprocess.PIPE, text=True, cwd=TOP)
+    port, secret, once = asking.stdout.readline().split()
+    def first_lines():
+        with socket.create_connection(("127.0.0.1", int(port))) as given:
+            given.sendall(f"GET /{once} HTTP/1.1\r\nHost: 127.0.0.1:{port}\r\n\r\n".encode())
+            return given.makefile().read()
+    first, second = first_lines(), first_lines()
+    asking.kill()
+    asking.wait()
+    asking.stdout.close()
+    assert " 303 " in first and f"Location: /{secret}/\n" in first, first
+    assert " 403 " in second and secret not in second, second
+
+
+def the_command_line_is_told():
+    for words, status in ((["--nope"], 2), (["--port", "x"], 2), (["--seconds", "0"], 2), (["a", "b"], 2),
+                          (["missing.td"], 3), (["--port", str(page().port)], 3)):
+        told = run("tools/page", "--no-browser", *words)
+        expect(told[1], status, words)
+        expect(told[2].count(b"\n"), 1, f"lines on standard error for {words}:")
+    shown = run("tools/page", "--help")
+    assert shown[1] == 0 and b"tools/page db.td" in shown[0], "--help has no example"
+
+
+def a_database_that_is_refused_in_part_is_told():
+    with Served(str(TOP / "examples" / "tools" / "refused.td")) as own:
+        assert "refused.td:3: REFUSED 30 KEY S" in own.said(), own.said()
+        expect(own.answers(own.tab(), "WRITE COUNT(S);"), ["1\n"])
+
+
+def nothing_is_said_of_requests():
+    said = [line for line in page().said().splitlines() if "is not built" not in line]
+    expect(said, [], "on standard error:")
+    expect(page().end(), 0, "its status:")
+
+
+CHECKS = [
+    the_secret_is_asked_for, only_names_of_this_machine_are_answered, no_other_page_is_answered,
+    what_is_too_long_is_refused, what_is_not_there_is_refused, what_is_no_question_is_refused,
+    a_browser_is_told_what_it_may_do, nobody_beyond_this_machine_is_answered,
+    statements_are_answered, places_are_those_of_a_page, refusals_are_placed_and_explained,
+    keys_are_told_of_a_relvars_tuples, the_tours_scripts_are_answered_as_by_td,
+    tabs_do_not_see_each_other, a_part_of_a_script_is_run, the_database_goes_back,
+    definitions_are_shown, a_querys_steps_are_of_its_own_database, a_runaway_query_is_ended,
+    too_much_memory_is_refused, too_long_an_answer_is_cut, seconds_are_of_each_statement,
+    a_statement_is_stopped, a_tabs_run_of_td_ends_with_it, there_are_at_most_32_tabs,
+    the_browsers_link_leads_once, the_command_line_is_told,
+    a_database_that_is_refused_in_part_is_told, nothing_is_said_of_requests,
+]
