@@ -1,11 +1,13 @@
-"""The tokens of scripts: a reserved word or a sign as it is, any other as its kind, no comments."""
+"""The tokens of scripts: a reserved word or a sign as it is, any other as its kind, no comments.
+
+A `/*` that nothing closes is bad."""
 import re
 
 from engine import reserved_words
 
 TOKEN = re.compile(
     r"(?P<blank>[ \t\r\n\ufeff]+|/\*.*?\*/|//[^\n]*)|(?P<text>'(?:[^']|'')*')"
-    r"|(?P<word>[^\W\d][\w#]*)|(?P<number>[0-9]+)"
+    r"|(?P<open>/\*)|(?P<word>[^\W\d][\w#]*)|(?P<number>[0-9]+)"
     r"|(?P<sign>:=|<>|<=|>=|\|\||[{}(),;:=<>+*/-])|(?P<bad>.)",
     re.DOTALL,
 )
@@ -24,7 +26,7 @@ def statements(script):
     for token in TOKEN.finditer(script):
         kind, text = token.lastgroup, token.group()
         if kind != "blank":
-            kinds.append({"word": word_kind(text), "sign": text}.get(kind, kind))
+            kinds.append({"word": word_kind(text), "sign": text, "open": "bad"}.get(kind, kind))
         if kind == "sign" and text == ";":
             yield kinds, script[begin:token.end()]
             kinds, begin = [], token.end()
