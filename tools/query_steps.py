@@ -125,6 +125,8 @@ class Walk:
 
     def needed(self, text, frames):
         """The frames without those of operands of which the text names no attribute."""
+        if not frames:
+            return []
         names = {text[one.begins : one.ends] for one in tokens(text) if one.kind == "name"}
         kept = [*frames]
         for scope in self.scopes(frames):
