@@ -196,6 +196,11 @@ class Key:
     def total(self):
         return sum(self.worth(one).whole for one in self.answers)
 
+    @property
+    def longest(self):
+        """The length of the longest answer."""
+        return max(len(one) for given in self.given for one in given.literals.values())
+
     def leave(self):
         for one in self.given:
             one.leave()

@@ -120,11 +120,14 @@ class Attempt:
         try:
             self.session.answer(b"\n".join(self.accepted))
         except Overrun:
-            # Together they take more than one answer may: none of them stands.
-            self.earlier = self.spent
-            self.session.leave()
-            self.accepted, self.is_lost = [], True
-            self.start()
+            self.lose()
+
+    def lose(self):
+        """Gives the statements up that were accepted: together they take more than one may."""
+        self.earlier = self.spent
+        self.session.leave()
+        self.accepted, self.is_lost = [], True
+        self.start()
 
     def answer(self, statement):
         """td's answer. Where it meets a limit the run is what it was before, and that is raised."""
@@ -133,6 +136,14 @@ class Attempt:
         except Overrun as met:
             self.restart()
             raise met
+
+    def is_accepted(self, statement):
+        """Whether td accepts a statement that is none of the student's."""
+        try:
+            return self.session.answer(statement) == OK
+        except Overrun:
+            self.lose()
+            return False
 
     def run(self):
         """Runs each statement. What is left in an open transaction is taken back. The answers have
@@ -179,7 +190,7 @@ class Attempt:
         """The given constraint that an accepted statement has dropped: td accepts its name anew."""
         for one in self.given.definitions:
             is_named = one.kind is Kind.CONSTRAINT and encoded(one.name) in statement
-            if is_named and self.session.answer(encoded(f"CONSTRAINT {one.name} TRUE;")) == OK:
+            if is_named and self.is_accepted(encoded(f"CONSTRAINT {one.name} TRUE;")):
                 return one.name
         return None
 
@@ -193,7 +204,7 @@ class Attempt:
             self.tell(at, rest, answer, "the statement has no end: ")
 
     def close_transactions(self):
-        while self.session.answer(b"ROLLBACK;") == OK:
+        while self.is_accepted(b"ROLLBACK;"):
             self.accepted.append(b"ROLLBACK;")
 
     def line(self, at, statement):
