@@ -162,9 +162,13 @@ class Page:
 
     def click(self, selector):
         """Clicks the middle of an element with the mouse."""
-        place = self.value(f"""(() => {{
+        place = self.value(f"""(async () => {{
             const one = document.querySelector({json.dumps(selector)});
-            one.scrollIntoView({{block: "center"}});
+            // What comes into sight may move what stands below it.
+            for (let time = 0; time < 3; time++) {{
+                one.scrollIntoView({{block: "center"}});
+                await new Promise(shown => requestAnimationFrame(() => setTimeout(shown)));
+            }}
             const box = one.getBoundingClientRect();
             return [box.left + box.width / 2, box.top + box.height / 2];
         }})()""")

@@ -16,11 +16,18 @@ FAULTS = "[...document.querySelectorAll('.editor .fault')].map(one => one.textCo
 # Of each answer that is shown a word: that it is OK, its rows, or what is written.
 ANSWERS = """[...document.querySelectorAll('#answers .card')].map(card =>
     card.querySelector('.cause')?.textContent ??
-    (card.querySelector('td') ? [...card.querySelectorAll('tbody tr')].map(row => [...row.cells].map(cell => cell.textContent).join('|')).join('/')
-    : card.querySelector('.good').textContent || card.querySelector('.body > pre, .body > p')?.textContent))"""
+    (card.querySelector('td') ? [...card.querySelectorAll('tbody tr')].map(
+        row => [...row.cells].map(cell => cell.textContent).join('|')).join('/')
+    : card.querySelector('.good').textContent
+        || card.querySelector('.body > pre, .body > p')?.textContent))"""
 # What of the page reaches beyond its right edge.
-WIDER = """document.documentElement.scrollWidth > innerWidth && [...document.querySelectorAll('body *')]
-    .filter(one => one.getBoundingClientRect().right > innerWidth + 1).map(one => one.tagName + '.' + one.className).join()"""
+WIDER = """document.documentElement.scrollWidth > innerWidth
+    && [...document.querySelectorAll('body *')]
+        .filter(one => one.getBoundingClientRect().right > innerWidth + 1)
+        .map(one => one.tagName + '.' + one.className).join()"""
+SOLUTION = "!!document.querySelector('.exercise details .editor')"
+# What takes the focus and is no control: the document, and the parts to which F6 leads.
+NAMELESS = ("RootWebArea", "generic")
 # The least contrast of text that WCAG AA allows, and the colours of text and what they stand on.
 LEAST = 4.5
 TEXTS = ("text muted accent bad good statement type constant word string comment member").split()
@@ -54,6 +61,11 @@ class Opened:
             expect(faults, [], "the browser logs")
 
 
+def texts(selector):
+    """The texts of elements, as an expression."""
+    return f"[...document.querySelectorAll({selector!r})].map(one => one.textContent)"
+
+
 def ran(page, count):
     """Waits until so many statements have been answered."""
     page.wait(f"/^{count} statement/.test({STATUS}) && !database().isBusy")
@@ -83,7 +95,7 @@ def the_first_chapter_is_clicked_through():
         expect(page.value("document.querySelectorAll('#chapters button').length"), 10, "chapters:")
         page.click("article .runs")
         ran(page, 10)
-        cards = page.value("[...document.querySelector('article .answers').children].map(one => one.textContent)")
+        cards = page.value(texts("article .answers > *"))
         expect(len(cards), wanted.count("\n"), "answers:")
         assert "LeedsS1YorkS22 tuples" in cards[0], cards[0]
         assert "0 tuples" in cards[1] and "TRUE" in cards[2], cards[:3]
@@ -97,9 +109,9 @@ def the_first_chapter_is_clicked_through():
         page.press("Enter", CONTROL)
         ran(page, 1)
         expect(page.value("document.querySelector('.exercise .answers pre').textContent"), "TRUE")
-        assert not page.value("!!document.querySelector('.exercise details .editor')"), "the solution is shown"
+        assert not page.value(SOLUTION), "the solution is shown unasked"
         page.click(".exercise > details > summary")
-        page.wait("!!document.querySelector('.exercise details .editor')")
+        page.wait(SOLUTION)
         page.click(".exercise details .runs")
         ran(page, 3)
         page.value("[...document.querySelectorAll('article > .row button')].at(-1).click()")
@@ -181,8 +193,8 @@ def two_tabs_do_not_see_each_other():
     with Opened() as one, Opened() as other:
         run_all(one, "VAR MINE BASE RELATION {A INTEGER} KEY {A}; DELETE S;", 2)
         expect(run_all(other, "WRITE MINE; WRITE COUNT(S);", 2), ["REFUSED 3 NAME_UNKNOWN", "4"])
-        assert "MINE" in one.value("document.querySelector('#defined').innerText")
-        assert "MINE" not in other.value("document.querySelector('#defined').innerText")
+        one.wait("/MINE/.test(document.querySelector('#defined').textContent)")
+        expect(other.value("/MINE/.test(document.querySelector('#defined').textContent)"), False)
 
 
 def keys_run_parts_of_a_script():
@@ -212,7 +224,8 @@ def keys_run_parts_of_a_script():
 def what_is_written_is_never_html():
     with Opened() as page:
         text = "'<img src=x onerror=window.broken=1><b>'"
-        answers = run_all(page, f"WRITE {text};\nWRITE RELATION {{TUPLE {{A {text}}}}};\nWRITE {text} + 1;", 3)
+        relation = f"RELATION {{TUPLE {{A {text}}}}}"
+        answers = run_all(page, f"WRITE {text};\nWRITE {relation};\nWRITE {text} + 1;", 3)
         expect(answers[0], text)
         expect(answers[1], text[1:-1])
         expect(page.value("document.querySelectorAll('main img, main b').length"), 0)
@@ -221,18 +234,20 @@ def what_is_written_is_never_html():
 
 def keys_of_relvars_stand_first():
     with Opened() as page:
-        answers = run_all(page, "WRITE SP;\nWRITE SP GROUP ({ALL BUT PNO} AS T) WHERE PNO = 'P1';", 2)
+        grouped = "SP GROUP ({ALL BUT PNO} AS T) WHERE PNO = 'P1'"
+        answers = run_all(page, f"WRITE SP;\nWRITE {grouped};", 2)
         expect(answers[0], "P1|S1|200/P2|S1|300/P2|S2|300/P2|S3|100/P3|S1|40")
-        heads = "[...document.querySelectorAll('#answers thead th')].map(one => one.textContent)"
-        expect(page.value(heads)[:3], ["PNOkeyCHAR", "SNOkeyCHAR", "QTYINTEGER"])
+        heads = page.value(texts("#answers thead th"))[:3]
+        expect(heads, ["PNOkeyCHAR", "SNOkeyCHAR", "QTYINTEGER"])
         expect(page.value("document.querySelectorAll('#answers td table tbody tr').length"), 1)
         # The head of a column sorts: numbers as numbers.
         page.click("#answers th:nth-child(3) button")
-        rows = "[...document.querySelectorAll('#answers .card')[0].querySelectorAll('tbody td:nth-child(3)')].map(one => one.textContent)"
+        rows = texts("#answers .card:first-child tbody td:nth-child(3)")
         expect(page.value(rows), ["40", "100", "200", "300", "300"])
         page.click("#answers th:nth-child(3) button")
         expect(page.value(rows)[0], "300")
-        expect(page.value("document.querySelectorAll('#answers th')[2].getAttribute('aria-sort')"), "descending")
+        order = "document.querySelectorAll('#answers th')[2].getAttribute('aria-sort')"
+        expect(page.value(order), "descending")
 
 
 def ten_thousand_tuples_are_scrolled_through():
@@ -245,7 +260,8 @@ def ten_thousand_tuples_are_scrolled_through():
         page.value("document.querySelector('.scroll.long').scrollTop = 1e9, null")
         last = "[...document.querySelectorAll('.scroll.long td.number')].at(-1)?.innerText"
         page.wait(f"{last} === '9999'")
-        page.value("document.querySelector('.scroll.long th button').click(), document.querySelector('.scroll.long th button').click()")
+        for _ in range(2):
+            page.value("document.querySelector('.scroll.long th button').click()")
         page.value("document.querySelector('.scroll.long').scrollTop = 0, null")
         page.wait("document.querySelector('.scroll.long td.number').innerText === '9999'")
         assert page.value(shown) < 300, page.value(shown)
@@ -256,20 +272,21 @@ def a_querys_steps_are_a_tree():
         run_all(page, "WRITE (S JOIN SP WHERE QTY > 250) {SNAME};", 1)
         page.click("#answers summary")
         page.wait("!!document.querySelector('#answers .step')")
-        expect(page.value("document.querySelector('.step > pre').textContent"), "S JOIN SP WHERE QTY > 250")
-        texts = "[...document.querySelectorAll('.step > pre')].map(one => one.textContent)"
-        assert "S JOIN SP" in page.value(texts), page.value(texts)
+        steps = page.value(texts(".step > pre"))
+        expect(steps[0], "S JOIN SP WHERE QTY > 250")
+        assert "S JOIN SP" in steps, steps
 
 
 # ---- the page
 
 def definitions_are_listed_and_shown():
     with Opened() as page:
-        run_all(page, "VAR LEEDS VIRTUAL (S WHERE CITY = 'Leeds');\nCONSTRAINT C SP {SNO} <= S {SNO};\n"
-                "TYPE GRAMS POSSREP {N INTEGER};", 3)
-        listed = page.wait("/GRAMS/.test(document.querySelector('#defined').innerText) && document.querySelector('#defined').innerText")
-        expect(listed.split(), "Relvars S 4 tuples P 3 tuples SP 5 tuples Virtual relvars LEEDS Types GRAMS "
-               "Constraints C".split())
+        run_all(page, "VAR LEEDS VIRTUAL (S WHERE CITY = 'Leeds');\n"
+                "TYPE GRAMS POSSREP {N INTEGER};\nCONSTRAINT C SP {SNO} <= S {SNO};", 3)
+        page.wait("/GRAMS/.test(document.querySelector('#defined').textContent)")
+        wanted = "Relvars S 4 tuples P 3 tuples SP 5 tuples Virtual relvars LEEDS Types GRAMS"
+        listed = page.value("document.querySelector('#defined').innerText")
+        expect(listed.split(), [*wanted.split(), "Constraints", "C"])
         page.click("#defined li button")
         page.wait("document.querySelector('dialog').open")
         told = page.value("document.querySelector('dialog').innerText")
@@ -358,17 +375,17 @@ def all_that_takes_the_focus_has_a_name():
         for view in ("script", "lessons"):
             page.click(f"#to-{view}")
             page.wait("view === 'script' || !!document.querySelector('article')")
-            nodes = page.ask("Accessibility.getFullAXTree")["nodes"]
-            for node in nodes:
-                properties = {one["name"]: one["value"].get("value") for one in node.get("properties", [])}
-                if properties.get("focusable") and node["role"]["value"] != "RootWebArea":
-                    assert node.get("name", {}).get("value") or node["role"]["value"] == "generic", node
+            for node in page.ask("Accessibility.getFullAXTree")["nodes"]:
+                known = {one["name"]: one["value"] for one in node.get("properties", [])}
+                role = node["role"]["value"]
+                if known.get("focusable", {}).get("value") and role not in NAMELESS:
+                    assert node.get("name", {}).get("value"), node
 
 
 def luminance(colour):
     parts = [int(colour[at : at + 2], 16) / 255 for at in (1, 3, 5)]
-    red, green, blue = [one / 12.92 if one <= 0.04045 else ((one + 0.055) / 1.055) ** 2.4 for one in parts]
-    return 0.2126 * red + 0.7152 * green + 0.0722 * blue
+    linear = [one / 12.92 if one <= 0.04045 else ((one + 0.055) / 1.055) ** 2.4 for one in parts]
+    return sum(share * one for share, one in zip((0.2126, 0.7152, 0.0722), linear))
 
 
 def contrast(one, other):
@@ -398,9 +415,9 @@ CHECKS = [
     the_first_chapter_is_clicked_through, a_chapters_script_has_a_database_of_its_own,
     a_refusal_is_placed, why_is_told_beneath_a_broken_key, a_runaway_query_is_ended,
     two_tabs_do_not_see_each_other, keys_run_parts_of_a_script, what_is_written_is_never_html,
-    keys_of_relvars_stand_first, ten_thousand_tuples_are_scrolled_through, a_querys_steps_are_a_tree,
-    definitions_are_listed_and_shown, the_keyboard_alone_suffices,
+    keys_of_relvars_stand_first, ten_thousand_tuples_are_scrolled_through,
+    a_querys_steps_are_a_tree, definitions_are_listed_and_shown, the_keyboard_alone_suffices,
     a_script_is_saved_opened_and_linked, a_closed_tab_ends_its_td,
-    nothing_is_wider_than_the_window, all_that_takes_the_focus_has_a_name, colours_can_be_told_apart,
-    what_was_begun_is_ended,
+    nothing_is_wider_than_the_window, all_that_takes_the_focus_has_a_name,
+    colours_can_be_told_apart, what_was_begun_is_ended,
 ]

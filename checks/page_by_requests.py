@@ -8,6 +8,7 @@ import time
 from pathlib import Path
 
 from reading import TOP, run
+from page_tabs import Tabs
 from served import Served, is_there, numbers, script, soon
 
 DATABASE = TOP / "examples" / "tour" / "00-database.td"
@@ -36,7 +37,8 @@ def expect(given, wanted, what=""):
 # ---- whose request it is
 
 def the_secret_is_asked_for():
-    for path in ("/", "/x/", f"/{page().secret}", f"/{page().secret[:-1]}/", f"/{page().secret}x/", "//"):
+    secret = page().secret
+    for path in ("/", "/x/", f"/{secret}", f"/{secret[:-1]}/", f"/{secret}x/", "//"):
         status, told = page().asked(path)
         expect(status, 403, path)
         assert b"<" not in told.partition(b"\r\n\r\n")[2], "a page is shown without the secret"
@@ -47,8 +49,9 @@ def the_secret_is_asked_for():
 
 def only_names_of_this_machine_are_answered():
     home = f"/{page().secret}/"
-    for host in ("evil.example", f"evil.example:{page().port}", "127.0.0.1", "localhost:1", "", None,
-                 f"127.0.0.1:{page().port}.evil.example"):
+    own = f"127.0.0.1:{page().port}"
+    for host in ("evil.example", f"evil.example:{page().port}", "127.0.0.1", "localhost:1", "",
+                 None, f"{own}.evil.example", f"{own}@evil.example"):
         expect(page().asked(home, Host=host)[0], 403, f"Host {host}")
         expect(page().asked(home + "begin", {}, Host=host)[0], 403, f"Host {host}")
     twice = f"GET {home} HTTP/1.1\r\nHost: 127.0.0.1:{page().port}\r\nHost: evil\r\n\r\n"
@@ -58,13 +61,14 @@ def only_names_of_this_machine_are_answered():
 
 def no_other_page_is_answered():
     home = f"/{page().secret}/"
-    for origin in ("http://evil.example", "null", f"https://127.0.0.1:{page().port}", "http://127.0.0.1:1",
-                   f"http://127.0.0.1:{page().port}.evil.example"):
+    own = f"127.0.0.1:{page().port}"
+    for origin in ("http://evil.example", "null", f"https://{own}", "http://127.0.0.1:1",
+                   f"http://{own}.evil.example", ""):
         expect(page().asked(home + "begin", {}, Origin=origin)[0], 403, f"Origin {origin}")
         expect(page().asked(home, Origin=origin)[0], 403, f"Origin {origin}")
     for site in ("cross-site", "same-site"):
         expect(page().asked(home + "begin", {}, Sec_Fetch_Site=site)[0], 403, site)
-    own = {"Origin": f"http://127.0.0.1:{page().port}", "Sec_Fetch_Site": "same-origin"}
+    own = {"Origin": f"http://{own}", "Sec_Fetch_Site": "same-origin"}
     expect(page().asked(home + "listed", {"tab": "x"}, **own)[0], 410)
 
 
@@ -78,13 +82,14 @@ def what_is_too_long_is_refused():
     expect(page().asked(home + "x" * 1000)[0], 414)
     expect(page().asked("/" + "x" * 70_000)[0], 414)
     expect(page().asked(home, X="x" * 70_000)[0], 431)
-    expect(page().raw(b"GET " + home.encode() + b" HTTP/1.1\r\n" + b"X: y\r\n" * 200 + b"\r\n")[0], 431)
+    many = b"GET " + home.encode() + b" HTTP/1.1\r\n" + b"X: y\r\n" * 200 + b"\r\n"
+    expect(page().raw(many)[0], 431)
 
 
 def what_is_not_there_is_refused():
     home = f"/{page().secret}/"
-    for path in ("../", "../../etc/passwd", "..%2f..%2fetc/passwd", "page.html", "tools/page", "begin",
-                 "?x", "/", "\\..\\", "//etc/passwd"):
+    for path in ("../", "../../etc/passwd", "..%2f..%2fetc/passwd", "page.html", "tools/page",
+                 "begin", "?x", "/", "\\..\\", "//etc/passwd"):
         expect(page().asked(home + path)[0], 404, path)
     for path in ("/../", "/../../etc/passwd", "/etc/passwd", "http://evil.example/"):
         expect(page().asked(path)[0], 403, path)
@@ -97,11 +102,13 @@ def what_is_no_question_is_refused():
     for body in (b"", b"[]", b"{", b"\xff", b"[" * 100_000, b'{"a": NaN'):
         expect(page().asked(home + "begin", body)[0], 400, body[:20])
     expect(page().asked(home + "begin", {}, Content_Type="text/plain")[0], 415)
-    expect(page().asked(home + "begin", {}, Content_Type="application/x-www-form-urlencoded")[0], 415)
+    form = "application/x-www-form-urlencoded"
+    expect(page().asked(home + "begin", {}, Content_Type=form)[0], 415)
     for fields in ({}, {"tab": 1}, {"tab": None}, {"tab": []}):
         expect(page().posted("run", **fields)[0], 400, fields)
     tab = page().tab()
-    for fields in ({}, {"script": 1}, {"script": "", "at": "1"}, {"script": "", "anew": 1}, {"script": None}):
+    for fields in ({}, {"script": 1}, {"script": None}, {"script": "", "at": "1"},
+                   {"script": "", "anew": 1}):
         expect(page().posted("run", tab=tab, **fields)[0], 400, fields)
     for method in ("PUT", "DELETE", "OPTIONS", "HEAD", "CONNECT"):
         expect(page().asked(home, method=method)[0], 501, method)
@@ -112,11 +119,13 @@ def what_is_no_question_is_refused():
 
 def a_browser_is_told_what_it_may_do():
     head = page().asked(f"/{page().secret}/")[1].partition(b"\r\n\r\n")[0].decode()
-    for line in ("X-Content-Type-Options: nosniff", "Referrer-Policy: no-referrer", "Cache-Control: no-store",
-                 "X-Frame-Options: DENY", "Content-Security-Policy: default-src 'none'"):
+    for line in ("X-Content-Type-Options: nosniff", "Referrer-Policy: no-referrer",
+                 "Cache-Control: no-store", "X-Frame-Options: DENY",
+                 "Content-Security-Policy: default-src 'none'"):
         assert line in head, f"{line} is missing"
     policy = re.search("Content-Security-Policy: (.*)", head).group(1)
-    assert "unsafe" not in policy and "*" not in policy and "frame-ancestors 'none'" in policy, policy
+    assert "frame-ancestors 'none'" in policy, policy
+    assert "unsafe" not in policy and "*" not in policy, policy
     assert "Python" not in head, "the version of Python is told"
 
 
@@ -155,13 +164,15 @@ def places_are_those_of_a_page():
     units = text.encode("utf-16-le")
     begins, ends = one["fault"]
     expect(units[2 * begins : 2 * ends].decode("utf-16-le"), "S2", "the fault is at")
-    expect(units[2 * one["begins"] : 2 * one["ends"]].decode("utf-16-le"), text[8:], "the statement is")
+    statement = units[2 * one["begins"] : 2 * one["ends"]].decode("utf-16-le")
+    expect(statement, text[8:], "the statement is")
 
 
 def refusals_are_placed_and_explained():
     tab = page().tab()
     (one,) = page().run(tab, "\n\nWRITE S WHERE TOWN = 'York';")
-    expect((one["refused"], one["answer"], one["fault"]), (True, "REFUSED 3 NAME_UNKNOWN\n", [16, 20]))
+    expect((one["refused"], one["answer"]), (True, "REFUSED 3 NAME_UNKNOWN\n"))
+    expect(one["fault"], [16, 20])
     assert "TOWN" in one["says"], one["says"]
     (one,) = page().run(tab, "WRITE S WHERE;")
     expect(one["fault"], [13, 14])
@@ -181,7 +192,8 @@ def keys_are_told_of_a_relvars_tuples():
     expect(keys("WRITE SP {SNO};"), None)
     expect(keys("WRITE (SP) JOIN S;"), None)
     expect(keys("VAR V VIRTUAL (S {SNO, CITY}) KEY {SNO}; WRITE V;"), [["SNO"]])
-    expect(keys("DROP VAR V; VAR V VIRTUAL (S {SNO, CITY}) KEY {CITY, SNO}; WRITE V;"), [["CITY", "SNO"]])
+    anew = "DROP VAR V; VAR V VIRTUAL (S {SNO, CITY}) KEY {CITY, SNO}; WRITE V;"
+    expect(keys(anew), [["CITY", "SNO"]])
     expect(keys("BEGIN TRANSACTION; DROP VAR V; VAR V VIRTUAL (S) KEY {SNO}; WRITE V;"), [["SNO"]])
     expect(keys("ROLLBACK; WRITE V;"), [["CITY", "SNO"]])
 
@@ -203,14 +215,16 @@ def the_tours_scripts_are_answered_as_by_td():
 def tabs_do_not_see_each_other():
     one, other = page().tab(), page().tab()
     expect(page().answers(one, "VAR MINE BASE RELATION {A INTEGER} KEY {A}; DELETE SP;"), [OK, OK])
-    expect(page().answers(other, "WRITE MINE; WRITE COUNT(SP);"), ["REFUSED 3 NAME_UNKNOWN\n", "5\n"])
+    unknown = "REFUSED 3 NAME_UNKNOWN\n"
+    expect(page().answers(other, "WRITE MINE; WRITE COUNT(SP);"), [unknown, "5\n"])
     names = [one["name"] for one in page().told("listed", tab=other)["definitions"]]
     expect(names, ["S", "P", "SP"])
-    expect(page().answers(page().tab(empty=True), "WRITE S;"), ["REFUSED 3 NAME_UNKNOWN\n"])
+    expect(page().answers(page().tab(empty=True), "WRITE S;"), [unknown])
 
 
 def a_part_of_a_script_is_run():
-    text = "VAR R BASE RELATION {A INTEGER} KEY {A};\nINSERT R RELATION {TUPLE {A 1}};\nWRITE COUNT(R);"
+    text = ("VAR R BASE RELATION {A INTEGER} KEY {A};\nINSERT R RELATION {TUPLE {A 1}};\n"
+            "WRITE COUNT(R);")
     tab = page().tab()
     expect(len(page().run(tab, text, anew=True, at=45)), 2, "statements up to a place:")
     expect(page().answers(tab, text, at=80, alone=True), ["1\n"])
@@ -265,9 +279,10 @@ def a_querys_steps_are_of_its_own_database():
 def goes_on_behind(statement, told):
     """That a statement is ended, with these words, and that the next ones have the database."""
     tab = page().tab()
-    front = numbers(1000) + "VAR R BASE RELATION {K INTEGER, J INTEGER} KEY {K, J}; BEGIN TRANSACTION; DELETE SP;"
-    expect(page().answers(tab, front), [OK] * 4)
-    every = page().run(tab, statement + "WRITE COUNT(N); WRITE COUNT(SP); ROLLBACK; WRITE COUNT(SP);")
+    front = numbers(1000) + "BEGIN TRANSACTION; DELETE SP;"
+    expect(page().answers(tab, front), [OK] * 3)
+    behind = "WRITE COUNT(N); WRITE COUNT(SP); ROLLBACK; WRITE COUNT(SP);"
+    every = page().run(tab, statement + behind)
     assert told in every[0].get("ended", ""), f"{every[0]} in place of {told!r}"
     expect([one["answer"] for one in every[1:]], ["1000\n", "0\n", OK, "5\n"])
 
@@ -315,16 +330,16 @@ def a_statement_is_stopped():
 # ---- tabs and their ends
 
 def a_tabs_run_of_td_ends_with_it():
-    before = page().runs()
-    tab = page().tab()
-    page().run(tab, numbers(1000))
-    own = page().runs() - before
-    expect(len(own), 2, "runs of td of a tab:")
-    threading.Thread(target=lambda: page().posted("run", tab=tab, script=RUNAWAY)).start()
-    time.sleep(0.1)
-    page().told("end", tab=tab)
-    assert soon(lambda: not any(map(is_there, own))), "td goes on when its tab has ended"
-    expect(page().posted("run", tab=tab, script="WRITE 1;")[0], 410)
+    with Served("--seconds", "600") as own:
+        tab = own.tab()
+        own.run(tab, numbers(1000))
+        runs = own.runs()
+        expect(len(runs), 2, "runs of td of a tab:")
+        threading.Thread(target=lambda: own.posted("run", tab=tab, script=RUNAWAY)).start()
+        time.sleep(0.3)
+        own.told("end", tab=tab)
+        assert soon(lambda: not any(map(is_there, runs))), "td goes on when its tab has ended"
+        expect(own.posted("run", tab=tab, script="WRITE 1;")[0], 410)
 
 
 def there_are_at_most_32_tabs():
@@ -341,13 +356,30 @@ def there_are_at_most_32_tabs():
         assert soon(lambda: not any(map(is_there, runs))), "td goes on when the page has ended"
 
 
+def an_idle_tab_goes_on_where_it_was():
+    tabs = Tabs(b"", idle=60)
+    word = tabs.open()
+    tab = tabs.tab(word)
+    for _ in tab.run(numbers(10) + "BEGIN TRANSACTION; DELETE N;", is_anew=False):
+        pass
+    tabs.rest()
+    assert tab.runs is not None, "a tab that is not idle rests"
+    tab.asked_at -= 61
+    tabs.rest()
+    assert tab.runs is None, "the td of an idle tab is not ended"
+    (told,) = tabs.tab(word).run("ROLLBACK; WRITE COUNT(N);", is_anew=False, at=20, is_alone=True)
+    expect(told["answer"], "0\n")
+    tabs.close_all()
+
+
 def the_browsers_link_leads_once():
     code = (
         "import sys; sys.path.insert(0, 'tools'); from page_server import Server; "
         "own = Server(0, '<script></script>', {}, lambda: None); "
         "print(own.server_address[1], own.secret, own.once, flush=True); own.serve_forever()"
     )
-    asking = subprocess.Popen(["python3", "-B", "-c", code], stdout=subprocess.PIPE, text=True, cwd=TOP)
+    words = ["python3", "-B", "-c", code]
+    asking = subprocess.Popen(words, stdout=subprocess.PIPE, text=True, cwd=TOP)
     port, secret, once = asking.stdout.readline().split()
     def first_lines():
         with socket.create_connection(("127.0.0.1", int(port))) as given:
@@ -362,8 +394,8 @@ def the_browsers_link_leads_once():
 
 
 def the_command_line_is_told():
-    for words, status in ((["--nope"], 2), (["--port", "x"], 2), (["--seconds", "0"], 2), (["a", "b"], 2),
-                          (["missing.td"], 3), (["--port", str(page().port)], 3)):
+    for words, status in ((["--nope"], 2), (["--port", "x"], 2), (["--seconds", "0"], 2),
+                          (["a", "b"], 2), (["missing.td"], 3), (["--port", str(page().port)], 3)):
         told = run("tools/page", "--no-browser", *words)
         expect(told[1], status, words)
         expect(told[2].count(b"\n"), 1, f"lines on standard error for {words}:")
@@ -393,6 +425,6 @@ CHECKS = [
     definitions_are_shown, a_querys_steps_are_of_its_own_database, a_runaway_query_is_ended,
     too_much_memory_is_refused, too_long_an_answer_is_cut, seconds_are_of_each_statement,
     a_statement_is_stopped, a_tabs_run_of_td_ends_with_it, there_are_at_most_32_tabs,
-    the_browsers_link_leads_once, the_command_line_is_told,
+    an_idle_tab_goes_on_where_it_was, the_browsers_link_leads_once, the_command_line_is_told,
     a_database_that_is_refused_in_part_is_told, nothing_is_said_of_requests,
 ]

@@ -23,7 +23,8 @@ class Served:
         self.errors = tempfile.TemporaryFile()
         command = [TOP / "tools" / "page", "--no-browser", *words]
         began = time.monotonic()
-        self.process = subprocess.Popen(command, stdout=subprocess.PIPE, stderr=self.errors, text=True)
+        streams = {"stdout": subprocess.PIPE, "stderr": self.errors}
+        self.process = subprocess.Popen(command, text=True, **streams)
         said = LINK.search(self.process.stdout.readline())
         self.seconds = time.monotonic() - began
         assert said, "no link is printed"
@@ -42,8 +43,8 @@ class Served:
         return int(front.group(1)) if front else 0, told
 
     def asked(self, path, body=None, method=None, **headers):
-        """The status and what is answered to a request, of which a header may be left out by None."""
-        data = None if body is None else body if isinstance(body, bytes) else json.dumps(body).encode()
+        """The status and what is answered to a request. A header that is None is left out."""
+        data = json.dumps(body).encode() if isinstance(body, dict) else body
         given = {"Host": f"127.0.0.1:{self.port}"}
         if data is not None:
             given |= {"Content-Type": "application/json", "Content-Length": str(len(data))}

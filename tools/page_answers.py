@@ -79,7 +79,7 @@ def first_event(piece, answer):
 
 
 def place_of(session, piece, answer):
-    """Where in the page's script the fault of a refused statement stands, and what is said of it."""
+    """Where in the page's script the fault of a refusal stands, and what is said of it."""
     cause = int(ANSWER.match(answer).group(1))
     at, says = told(session, piece.text, cause, 1)
     token = next(tokens(piece.text, at), None)

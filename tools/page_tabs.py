@@ -252,7 +252,8 @@ class Tab:
 
     def steps(self, number, statement):
         """The steps of the statement of that number, in the database before it."""
-        return self.before(number, lambda session: [step_of(one) for one in steps(session, statement)])
+        found = self.before(number, lambda session: steps(session, statement))
+        return [step_of(one) for one in found]
 
     def before(self, number, ask):
         """What td is asked in the database before the statement of that number."""
@@ -314,7 +315,8 @@ class Tabs:
         self.by_word = {}
 
     def open(self, is_empty=False):
-        """The word of a new tab, which may begin with an empty database. Where there are too many, one that rests makes room."""
+        """The word of a new tab, which may begin with an empty database. Where there are too many,
+        one that rests makes room."""
         with self.lock:
             if len(self.by_word) >= MOST:
                 resting = [word for word, tab in self.by_word.items() if tab.runs is None]

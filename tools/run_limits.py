@@ -62,8 +62,9 @@ class Limits:
     def failure(self, status):
         """What is told of a run that has ended with a status."""
         if self.seconds is not None and status == -signal.SIGXCPU:
-            said = f"the statement took {self.seconds} seconds of processor time, which is the limit"
-            return LimitMet(said)
+            took = f"{self.seconds} seconds of processor time"
+            return LimitMet(f"the statement took {took}, which is the limit")
         if self.memory is not None and status == WITHOUT_MEMORY:
-            return LimitMet(f"the statement needs more than {self.memory / MIB:g} MiB of memory, the limit")
+            needs = f"{self.memory / MIB:g} MiB of memory"
+            return LimitMet(f"the statement needs more than {needs}, the limit")
         return Failure(f"td ended with status {status}")
