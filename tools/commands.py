@@ -3,7 +3,7 @@ import difflib
 from pathlib import Path
 
 from answers import Script, is_refusal
-from catalog import Catalog, kind_of
+from catalog import RELVARS, Catalog, Kind
 from database import ACCEPTED
 from literals import Relation, Value
 from scripts import database_named, script_of
@@ -140,29 +140,25 @@ class Commands:
         every = catalog.definitions
         if not every:
             return "nothing is defined\n"
-        counts = [catalog.count(one) if one.is_base else "" for one in every]
-        keys = [" ".join(map(braced, one.keys)) for one in every]
-        names, kinds = [one.name for one in every], [kind_of(one) for one in every]
+        counts = [catalog.count(one) if one.kind is Kind.BASE else "" for one in every]
+        keys = [" ".join(one.keys) for one in every]
+        names, kinds = [one.name for one in every], [one.kind.value for one in every]
         return columns(("NAME", names), ("KIND", kinds), ("TUPLES", counts), ("KEYS", keys))
-
-
-def braced(names):
-    return f"{{{', '.join(names)}}}"
 
 
 def described(catalog, one):
     """A definition, with what it mentions and what mentions it."""
-    parts = [f"{kind_of(one)} {one.name}"]
-    if one.kind == "VAR":
+    parts = [f"{one.kind.value} {one.name}"]
+    if one.kind in RELVARS:
         parts[0] += f", {tuples(catalog.count(one))}"
         heading = catalog.heading(one)
         names, types = [name for name, _ in heading], [text for _, text in heading]
         parts.append(columns(("ATTRIBUTE", names), ("TYPE", types)).rstrip("\n"))
-        parts += [f"KEY {braced(names)}" for names in one.keys]
-    if not one.is_base:
-        parts.append(visible_lines(one.text))
+        parts += [f"KEY {key}" for key in one.keys]
+    if one.kind is not Kind.BASE:
+        parts.append(visible_lines(one.statement))
     for head, others in (
-        ("mentions", [f"{kind_of(other)} {other.name}" for other in catalog.mentioned_by(one)]),
+        ("mentions", [f"{other.kind.value} {other.name}" for other in catalog.mentioned_by(one)]),
         ("is mentioned by", [summary(other) for other in catalog.mentioning(one)]),
     ):
         parts += [head, *(f"    {other}" for other in others)] if others else []
@@ -176,4 +172,4 @@ def tuples(count):
 
 def summary(one):
     """A definition in a line: of a base relvar, whose value may be long, its name."""
-    return f"{kind_of(one)} {one.name}" if one.is_base else visible_lines(one.text)
+    return f"{one.kind.value} {one.name}" if one.kind is Kind.BASE else visible_lines(one.statement)

@@ -4,7 +4,7 @@ import os
 import re
 from pathlib import Path
 
-from catalog import Catalog
+from catalog import RELVARS, Catalog
 from command import Failure
 
 try:
@@ -30,7 +30,9 @@ class Known:
         catalog = Catalog(session)
         self.definitions = [one.name for one in catalog.definitions]
         self.attributes = {
-            one.name: [name for name, _ in catalog.heading(one)] for one in catalog.relvars
+            one.name: [name for name, _ in catalog.heading(one)]
+            for one in catalog.definitions
+            if one.kind in RELVARS
         }
 
     def of_statement(self, text):
