@@ -86,7 +86,8 @@ def note_box(note):
 def note_drawn(note, box):
     """A note: a sheet with a corner that is folded."""
     x, y, right, bottom = box.x, box.y, box.x + box.width, box.y + box.height
-    outline = f"M{x:.1f},{y:.1f}H{right - FOLD:.1f}L{right:.1f},{y + FOLD:.1f}V{bottom:.1f}H{x:.1f}Z"
+    corner = f"H{right - FOLD:.1f}L{right:.1f},{y + FOLD:.1f}"
+    outline = f"M{x:.1f},{y:.1f}{corner}V{bottom:.1f}H{x:.1f}Z"
     fold = f"M{right - FOLD:.1f},{y:.1f}V{y + FOLD:.1f}H{right:.1f}"
     drawn = [path("note", outline), path("rim", fold)]
     drawn.append(text(x + PADDING, y + 18, shown(note.name, LONGEST_NAME), "name"))

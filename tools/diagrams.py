@@ -147,7 +147,8 @@ def edges_drawn(routes):
 
 def named(edge):
     """What tells of an edge which it is."""
-    names = {"class": CLASSES[edge.link], "data-from": edge.source.name, "data-to": edge.target.name}
+    source, target = edge.source.name, edge.target.name
+    names = {"class": CLASSES[edge.link], "data-from": source, "data-to": target}
     if edge.link is Link.INCLUSION:
         names["data-constraint"] = edge.name
     return " ".join(f'{name}="{escape(said)}"' for name, said in names.items())

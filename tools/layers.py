@@ -150,7 +150,7 @@ class Component:
     # ---- order in the layers
 
     def order(self):
-        """Orders each layer by where its neighbours stand, and keeps the order that crosses least."""
+        """Orders each layer by where its neighbours stand, and keeps what crosses least."""
         best = self.crossings(), [list(layer) for layer in self.layers]
         for sweep in range(SWEEPS):
             is_down = sweep % 2 == 0

@@ -16,8 +16,10 @@ OK, TRUE, REFUSED = b"OK\n", b"TRUE\n", b"REFUSED "
 # Parts that say what they are, and parts that are no values.
 LITERALS = {"number", "text", "TRUE", "FALSE", "TABLE_DEE", "TABLE_DUM"}
 NO_VALUES = {"heading", "type"}
-# A part of a part is asked for at most so many tuples.
-AT_MOST = 10_000
+# A part of a part is asked for at most so many tuples, and in at most so many operands.
+AT_MOST, DEEPEST = 10_000, 4
+# What is more than 200 nodes high with the operands around it is no expression.
+TOO_HIGH = b"REFUSED 2 "
 
 
 @dataclass
@@ -81,14 +83,17 @@ class Walk:
 
     def __init__(self, session, text):
         self.session, self.text = session, text
-        self.known = {}
+        # The answers to questions, and the attributes of operands.
+        self.answers, self.known = {}, {}
 
     def text_of(self, part):
         return self.text[part.begins : part.ends]
 
     def written(self, expression):
         """What td answers where it writes an expression."""
-        return self.session.answer(encoded(f"WRITE {expression};"))
+        if expression not in self.answers:
+            self.answers[expression] = self.session.answer(encoded(f"WRITE {expression};"))
+        return self.answers[expression]
 
     def is_typed(self, text, frames):
         """Whether the text is an expression there."""
@@ -120,6 +125,8 @@ class Walk:
 
     def needed(self, text, frames):
         """The frames without those of operands of which the text names no attribute."""
+        if not frames:
+            return []
         names = {text[one.begins : one.ends] for one in tokens(text) if one.kind == "name"}
         kept = [*frames]
         for scope in self.scopes(frames):
@@ -147,10 +154,13 @@ class Walk:
         found = []
         for one, frame in part.operands:
             framed = frames if frame is None else (*frames, frame)
-            if frame is not None and frame.operand and self.attributes(framed) is None:
-                continue  # It is evaluated for no tuple.
-            found += self.of_part(one, framed)
+            if frame is None or frame.operand is None or self.is_scope(framed):
+                found += self.of_part(one, framed)
         return found
+
+    def is_scope(self, frames):
+        """Whether parts are asked in the last operand: it has a value, and is in few others."""
+        return len(self.scopes(frames)) <= DEEPEST and self.attributes(frames) is not None
 
     def of_part(self, part, frames):
         """The step of a part, or those of its parts where it shows nothing more."""
@@ -179,7 +189,7 @@ class Walk:
             step = self.asked(text, self.taken(frames))
         step.parts = parts
         shows_nothing = step.answer.decode("utf-8", "replace").strip() == " ".join(text.split())
-        return parts if shows_nothing else [step]
+        return parts if shows_nothing or step.answer.startswith(TOO_HIGH) else [step]
 
     def asked(self, text, frames):
         """The step of a text within the frames that it needs."""

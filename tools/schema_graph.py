@@ -145,7 +145,7 @@ class Making:
         self.schema.relvars.append(made)
 
     def constraint(self, one, asked):
-        attributes = {name: [of for of, _ in relvar.heading] for name, relvar in self.relvars.items()}
+        attributes = {name: dict(relvar.heading) for name, relvar in self.relvars.items()}
         found = inclusions(one.expression, attributes)
         for each in found:
             source, target = self.relvars[each.source], self.relvars[each.target]

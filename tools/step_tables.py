@@ -51,7 +51,8 @@ def cut_value(value, most):
 
 def head(step, number):
     """The line above a step's answer."""
-    scopes = "".join(f", for each tuple of {shortened(one, LONGEST)}" for one in reversed(step.operands))
+    operands = [shortened(one, LONGEST) for one in reversed(step.operands)]
+    scopes = "".join(f", for each tuple of {one}" for one in operands)
     return f"{number}. {shortened(step.text, LONGEST)}{scopes}\n"
 
 
