@@ -162,6 +162,7 @@ class Page:
 
     def click(self, selector):
         """Clicks the middle of an element with the mouse."""
+        self.ask("Page.bringToFront")
         place = self.value(f"""(async () => {{
             const one = document.querySelector({json.dumps(selector)});
             // What comes into sight may move what stands below it.

@@ -168,13 +168,15 @@ class Tab:
             yield {**first_event(piece, b""), "ended": said}
             self.restore()
             return
-        yield first_event(piece, answer)
+        name = relvar_written(piece) if answer.startswith(RELATION) else None
+        is_known = name is not None and self.keys is not None
+        yield first_event(piece, answer) | (self.keys_of(name) if is_known else {})
         if answer == ACCEPTED:
             self.accept(piece)
         elif is_refusal(answer):
             yield from self.explained(piece, answer)
-        elif answer.startswith(RELATION):
-            yield from self.told_keys(piece)
+        elif name is not None and not is_known:
+            yield from self.asked_keys(name)
 
     def accept(self, piece):
         self.accepted.append((self.count, piece.data))
@@ -192,20 +194,19 @@ class Tab:
             yield {"why": "" if self.is_stopped else f"why is not known: {failure}"}
             self.restore()
 
-    def told_keys(self, piece):
-        """The keys of the tuples of an answer, where they are those of a relvar."""
-        name = relvar_written(piece)
-        if name is None:
+    def keys_of(self, name):
+        return {"keys": self.keys.get(name, [])}
+
+    def asked_keys(self, name):
+        """The keys of a relvar, which are asked for once for all."""
+        try:
+            with self.wider():
+                every = definitions(self.session)
+        except Failure:
+            self.restore()
             return
-        if self.keys is None:
-            try:
-                with self.wider():
-                    every = definitions(self.session)
-            except Failure:
-                self.restore()
-                return
-            self.keys = {one.name: one.keys for one in every if one.kind == "VAR"}
-        yield {"keys": self.keys.get(name, [])}
+        self.keys = {one.name: one.keys for one in every if one.kind == "VAR"}
+        yield self.keys_of(name)
 
     def go_back(self, number):
         """Brings the database to where it was before the statement of that number."""
