@@ -7,7 +7,7 @@ import re
 import signal
 import subprocess
 
-from run_limits import Limits
+from limits import Limits
 from programs import td
 
 PIECE = re.compile(rb"[^;]*;|[^;]+")

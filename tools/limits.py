@@ -1,29 +1,22 @@
-"""A run of td with limits: what one answer may take of processor time, memory and output."""
-import os
+"""How much a run of td may take: a processor's time, memory and what it writes."""
+import math
 import resource
 import signal
-import subprocess
-from dataclasses import dataclass
+import time
+from dataclasses import dataclass, replace
 from enum import Enum
 
-from answers import Session
+from command import Failure
 
-TICKS = os.sysconf("SC_CLK_TCK")
-PIECE = 1 << 16
-NO_MEMORY = 3
-
-
-@dataclass(frozen=True)
-class Limits:
-    """Seconds of processor time for an answer, and bytes of td's memory and of an answer."""
-
-    seconds: int = 5
-    memory: int = 1 << 30
-    output: int = 4 << 20
+MIB = 1 << 20
+# The status with which td ends where it finds no memory.
+WITHOUT_MEMORY = 3
+# The kind of clock that has the time of all of a process's threads, for clock_gettime(3).
+OF_A_PROCESS = 2
 
 
 class Limit(Enum):
-    """What a statement has met: a limit, or td's end."""
+    """What a run of td may take, and that it ended otherwise."""
 
     TIME = "time"
     MEMORY = "memory"
@@ -31,58 +24,62 @@ class Limit(Enum):
     ENDED = "td ended"
 
 
-class Overrun(Exception):
-    """The statement has met a limit, and td's run is over."""
+class LimitMet(Failure):
+    """That a run of td has met a limit, and has to be left."""
 
-    def __init__(self, limit):
-        super().__init__(limit.value)
+    def __init__(self, says, limit):
+        super().__init__(says)
         self.limit = limit
 
 
-class LimitedSession(Session):
-    """A run of td that ends where a statement takes more than the limits give it."""
+def seconds_of(process):
+    """The processor's time that a process has taken."""
+    return time.clock_gettime((~process << 3) | OF_A_PROCESS)
 
-    def __init__(self, limits):
-        self.limits, self.total = limits, None
-        super().__init__(stderr=subprocess.DEVNULL)
-        bounds = (limits.memory, limits.memory)
-        resource.prlimit(self.process.pid, resource.RLIMIT_AS, bounds)
 
-    def spent(self):
-        """The seconds of processor time that this run has taken, also where it is over."""
-        if self.total is not None:
-            return self.total
-        with open(f"/proc/{self.process.pid}/stat", "rb") as stat:
-            words = stat.read().rpartition(b")")[2].split()
-        return (int(words[11]) + int(words[12])) / TICKS
+@dataclass(frozen=True)
+class Limits:
+    """The seconds of a processor that a question may take, and the bytes of the run's memory and of
+    an answer. None is no limit."""
 
-    def answer(self, statement):
-        """What td writes of a statement within the limits."""
-        ends = int(self.spent()) + 1 + self.limits.seconds
-        resource.prlimit(self.process.pid, resource.RLIMIT_CPU, (ends, resource.RLIM_INFINITY))
-        try:
-            self.process.stdin.write(statement + self.asks)
-            self.process.stdin.flush()
-        except BrokenPipeError:
-            self.fail()
-        return self.within_output()
+    seconds: int | None = None
+    memory: int | None = None
+    output: int | None = None
 
-    def within_output(self):
-        """What td writes up to the mark."""
-        held = bytearray()
-        while not held.endswith(self.mark):
-            more = self.process.stdout.read1(PIECE)
-            if not more:
-                self.fail()
-            held += more
-            if len(held) > self.limits.output + len(self.mark):
-                raise Overrun(Limit.OUTPUT)
-        return bytes(held[: -len(self.mark)])
+    def with_longer_answers(self, times):
+        """The same limits, but of an answer that may be so many times as long."""
+        return self if self.output is None else replace(self, output=self.output * times)
 
-    def fail(self):
-        """Raises the limit that td's run has met, which is over."""
-        self.total = self.spent()
-        status = self.process.wait()
-        if status in (-signal.SIGXCPU, -signal.SIGKILL):
-            raise Overrun(Limit.TIME)
-        raise Overrun(Limit.MEMORY if status == NO_MEMORY else Limit.ENDED)
+    def hold(self, process):
+        """Sets the limit of memory of a run that has begun."""
+        if self.memory is not None:
+            resource.prlimit(process, resource.RLIMIT_AS, (self.memory, self.memory))
+
+    def renew(self, process):
+        """Gives a run the seconds for another question."""
+        if self.seconds is None:
+            return
+        until = math.ceil(seconds_of(process)) + self.seconds
+        _, most = resource.prlimit(process, resource.RLIMIT_CPU)
+        resource.prlimit(process, resource.RLIMIT_CPU, (until, most))
+
+    def lines(self, stream):
+        """The lines of a run's answer, which may go on as long as the limit is not met."""
+        room = self.output
+        while line := stream.readline(-1 if room is None else room + 1):
+            room = room and room - len(line)
+            if room is not None and room < 0:
+                said = f"{self.output / MIB:g} MiB"
+                told = f"the answer is longer than {said}, the limit of output"
+                raise LimitMet(told, Limit.OUTPUT)
+            yield line
+
+    def failure(self, status):
+        """What is told of a run that has ended with a status."""
+        if self.seconds is not None and status in (-signal.SIGXCPU, -signal.SIGKILL):
+            took = f"{self.seconds} seconds of processor time"
+            return LimitMet(f"the statement took {took}, which is the limit", Limit.TIME)
+        if self.memory is not None and status == WITHOUT_MEMORY:
+            needs = f"{self.memory / MIB:g} MiB of memory"
+            return LimitMet(f"the statement needs more than {needs}, the limit", Limit.MEMORY)
+        return Failure(f"td ended with status {status}")

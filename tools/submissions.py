@@ -3,7 +3,9 @@
 A statement that meets a limit, or changes what is given, is taken back alone: td is run anew with
 the statements before it.
 """
+import os
 import re
+import subprocess
 from dataclasses import dataclass, field
 
 from answers import Script, Session, is_refusal
@@ -11,7 +13,7 @@ from catalog import Kind, decoded, encoded
 from command import Failure
 from grading_key import OK
 from lexemes import tokens
-from limits import LimitedSession, Overrun
+from limits import Limit, LimitMet
 from shown import refusal
 
 LONGEST_FILE = 256 << 10
@@ -21,6 +23,33 @@ MOST_REPORTED = 20
 # So many statements may take all their time, and then so many answers.
 OVERRUNS = 3
 IN_USE = b"REFUSED 9 "
+TICKS = os.sysconf("SC_CLK_TCK")
+
+
+class LimitedSession(Session):
+    """A run of td within limits, which knows the processor's time that it has taken."""
+
+    def __init__(self, limits):
+        self.limits, self.total = limits, None
+        super().__init__(stderr=subprocess.DEVNULL)
+
+    def spent(self):
+        """The seconds of a processor that this run has taken, also where it is over."""
+        if self.total is not None:
+            return self.total
+        with open(f"/proc/{self.process.pid}/stat", "rb") as stat:
+            words = stat.read().rpartition(b")")[2].split()
+        return (int(words[11]) + int(words[12])) / TICKS
+
+    def fail(self):
+        """Raises the limit that td's run has met, which is over, or that it ended."""
+        self.total = self.spent()
+        try:
+            super().fail()
+        except LimitMet:
+            raise
+        except Failure as failure:
+            raise LimitMet(str(failure), Limit.ENDED) from failure
 
 
 @dataclass(frozen=True)
@@ -95,7 +124,7 @@ class Attempt:
         self.session = LimitedSession(self.limits)
         try:
             said = self.session.answer(self.given.dump + encoded("\n".join(self.guarding)))
-        except Overrun as met:
+        except LimitMet as met:
             says = f"{self.given.name} meets a limit: {met.limit.value}"
             raise Failure(says) from met
         if said != OK * (len(self.given.definitions) + len(self.guarding)):
@@ -119,7 +148,7 @@ class Attempt:
         self.start()
         try:
             self.session.answer(b"\n".join(self.accepted))
-        except Overrun:
+        except LimitMet:
             self.lose()
 
     def lose(self):
@@ -133,7 +162,7 @@ class Attempt:
         """td's answer. Where it meets a limit the run is what it was before, and that is raised."""
         try:
             return self.session.answer(statement)
-        except Overrun as met:
+        except LimitMet as met:
             self.restart()
             raise met
 
@@ -141,7 +170,7 @@ class Attempt:
         """Whether td accepts a statement that is none of the student's."""
         try:
             return self.session.answer(statement) == OK
-        except Overrun:
+        except LimitMet:
             self.lose()
             return False
 
@@ -162,7 +191,7 @@ class Attempt:
     def step(self, at, statement):
         try:
             answer = self.answer(statement)
-        except Overrun as met:
+        except LimitMet as met:
             told = f"the statement meets a limit: {met.limit.value}"
             self.refuse(at, statement, met.limit.value, told)
             return
@@ -248,7 +277,7 @@ class Attempt:
             said = refusal(
                 self.session, self.cutter, self.submission.script, at, statement, answer
             )
-        except Overrun:
+        except LimitMet:
             self.restart()
             said = f"{self.submission.script.place(at)[0]}:{line}: {decoded(answer)}"
         said = said.replace(": REFUSED", f": {front}REFUSED", 1)

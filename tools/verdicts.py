@@ -4,7 +4,7 @@ from enum import Enum
 
 from catalog import decoded, encoded
 from grading_key import Difference, some_tuples
-from limits import Overrun
+from limits import LimitMet
 
 VIRTUAL, NOT_THERE = b"REFUSED 10 ", b"REFUSED 3 "
 
@@ -49,7 +49,7 @@ def verdict(attempt, name):
     before = attempt.spent
     try:
         found = found_by(attempt, name)
-    except Overrun as met:
+    except LimitMet as met:
         return Verdict(Outcome.LIMIT, met.limit.value, seconds=attempt.spent - before)
     return Verdict(**{**vars(found), "seconds": attempt.spent - before})
 
