@@ -49,7 +49,7 @@ def spelled(text, frames, name):
         if isinstance(frame, Branch):
             conditions.insert(0, frame.holds)
         else:
-            text = f"EXTEND {restricted(frame.operand, conditions)} ADD (({text}) AS {name})"
+            text = f"EXTEND {restricted(frame.tuples, conditions)} ADD (({text}) AS {name})"
             conditions = []
     if conditions:
         text = f"EXTEND {restricted('TABLE_DEE', conditions)} ADD (({text}) AS {name})"
@@ -65,6 +65,11 @@ def restricted(operand, conditions):
     return text
 
 
+def distinct(steps):
+    """The steps, each once: a target stands in what it is restricted to, too."""
+    return [step for at, step in enumerate(steps) if step not in steps[:at]]
+
+
 def number_of_tuples(frames):
     """The expression of how many tuples all the innermost operands have."""
     text, conditions = None, []
@@ -72,7 +77,7 @@ def number_of_tuples(frames):
         if isinstance(frame, Branch):
             conditions.insert(0, frame.holds)
             continue
-        operand = restricted(frame.operand, conditions)
+        operand = restricted(frame.tuples, conditions)
         text = f"COUNT({operand})" if text is None else f"SUM({operand}, {text})"
         conditions = []
     return text
@@ -105,7 +110,7 @@ class Walk:
         *before, last = frames
         key = tuple(frames)
         if key not in self.known:
-            self.known[key] = self.asked_attributes(last.operand, before)
+            self.known[key] = self.asked_attributes(last.tuples, before)
         return self.known[key]
 
     def asked_attributes(self, operand, before):
@@ -156,7 +161,7 @@ class Walk:
             framed = frames if frame is None else (*frames, frame)
             if not isinstance(frame, Scope) or self.is_scope(framed):
                 found += self.of_part(one, framed)
-        return found
+        return found if part.is_expression else distinct(found)
 
     def is_scope(self, frames):
         """Whether parts are asked in the last operand: it has a value, and is in few others."""
@@ -198,7 +203,7 @@ class Walk:
         name = "VALUE"
         while name in taken:
             name += "_"
-        operands = [scope[-1].operand for scope in scopes]
+        operands = [scope[-1].tuples for scope in scopes]
         if len(scopes) > 1 and self.is_too_much(frames):
             return Step(text, b"", operands=operands, name=name)
         answer = self.written(spelled(text, frames, name))
