@@ -203,13 +203,17 @@ def the_tours_scripts_are_answered_as_by_td():
     expect(len(chapters), 10, "chapters:")
     tab = page().tab(empty=True)
     for number, chapter in enumerate(chapters, 1):
-        blocks = {one["kind"]: one for one in chapter["blocks"]}
-        scripts = (TOP / "examples" / "tour").glob(f"{number:02}-*.td")
-        name = next(one.stem for one in scripts if not one.stem.endswith("-solution"))
-        for kind, file in (("script", name), ("exercise", f"{number:02}-solution")):
-            text, wanted = script(f"tour/{file}.td")
-            expect(blocks[kind]["script"].strip(), text.strip(), file)
-            expect("".join(page().answers(tab, text, anew=True)), wanted, file)
+        shown = {one["kind"]: [] for one in chapter["blocks"]}
+        for one in chapter["blocks"]:
+            shown[one["kind"]].append(one.get("script", "").strip())
+        files = {one.stem for one in (TOP / "examples" / "tour").glob(f"{number:02}-*.td")}
+        solution = f"{number:02}-solution"
+        for kind, names in (("script", files - {solution}), ("exercise", {solution})):
+            expect(len(shown[kind]), len(names), f"{kind}s of chapter {number}:")
+            for name in sorted(names):
+                text, wanted = script(f"tour/{name}.td")
+                assert text.strip() in shown[kind], name
+                expect("".join(page().answers(tab, text, anew=True)), wanted, name)
 
 
 def tabs_do_not_see_each_other():
