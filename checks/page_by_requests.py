@@ -2,14 +2,13 @@
 import functools
 import re
 import socket
-import subprocess
 import threading
 import time
 from pathlib import Path
 
 from reading import TOP, run
 from page_tabs import Tabs
-from served import Served, is_there, numbers, script, soon
+from served import Served, bare, exchanged, is_there, numbers, script, soon
 
 DATABASE = TOP / "examples" / "tour" / "00-database.td"
 SECONDS, MEMORY, OUTPUT = 1, 128, 1
@@ -129,6 +128,22 @@ def a_browser_is_told_what_it_may_do():
     assert "Python" not in head, "the version of Python is told"
 
 
+def a_fault_of_the_page_is_told():
+    front = "def lines():\n    yield {'number': 1}\n    raise ValueError('broken')\n"
+    answers = "{'one': lambda asked: asked['x'], 'lines': lambda asked: lines()}"
+    with bare(front, answers) as (process, port, secret, _):
+        told = []
+        for name in ("one", "lines"):
+            head = f"POST /{secret}/{name} HTTP/1.1\r\nHost: 127.0.0.1:{port}\r\n"
+            head += "Content-Type: application/json\r\nContent-Length: 2\r\n\r\n{}"
+            told.append(exchanged(port, head))
+        process.kill()
+        said = process.stderr.read()
+    assert " 500 " in told[0] and "the page failed: KeyError" in told[0], told[0]
+    assert " 200 " in told[1] and told[1].endswith("ValueError('broken')\"}\n"), told[1]
+    assert said.count("\n") == 2 and "Traceback" not in said, said
+
+
 def nobody_beyond_this_machine_is_answered():
     listening = "".join(Path(f"/proc/net/{kind}").read_text("ascii") for kind in ("tcp", "tcp6"))
     places = re.findall(rf"\d: ([0-9A-F]+):{page().port:04X} 0+:0000 0A", listening)
@@ -201,19 +216,15 @@ def keys_are_told_of_a_relvars_tuples():
 def the_tours_scripts_are_answered_as_by_td():
     chapters = page().told("lessons")["chapters"]
     expect(len(chapters), 10, "chapters:")
+    tour = (TOP / "docs" / "tour.md").read_text(encoding="utf-8").split("\n## 1. ", 1)[1]
+    names = re.findall(r"examples/(tour/\S+\.td)(?: -->|\))", tour)
+    shown = [one["script"] for chapter in chapters for one in chapter["blocks"] if one["script"]]
+    expect(len(shown), len(names), "scripts:")
     tab = page().tab(empty=True)
-    for number, chapter in enumerate(chapters, 1):
-        shown = {one["kind"]: [] for one in chapter["blocks"]}
-        for one in chapter["blocks"]:
-            shown[one["kind"]].append(one.get("script", "").strip())
-        files = {one.stem for one in (TOP / "examples" / "tour").glob(f"{number:02}-*.td")}
-        solution = f"{number:02}-solution"
-        for kind, names in (("script", files - {solution}), ("exercise", {solution})):
-            expect(len(shown[kind]), len(names), f"{kind}s of chapter {number}:")
-            for name in sorted(names):
-                text, wanted = script(f"tour/{name}.td")
-                assert text.strip() in shown[kind], name
-                expect("".join(page().answers(tab, text, anew=True)), wanted, name)
+    for name, given in zip(names, shown):
+        text, wanted = script(name)
+        expect(given.strip(), text.strip(), name)
+        expect("".join(page().answers(tab, given, anew=True)), wanted, name)
 
 
 def tabs_do_not_see_each_other():
@@ -377,22 +388,9 @@ def an_idle_tab_goes_on_where_it_was():
 
 
 def the_browsers_link_leads_once():
-    code = (
-        "import sys; sys.path.insert(0, 'tools'); from page_server import Server; "
-        "own = Server(0, '<script></script>', {}, lambda: None); "
-        "print(own.server_address[1], own.secret, own.once, flush=True); own.serve_forever()"
-    )
-    words = ["python3", "-B", "-c", code]
-    asking = subprocess.Popen(words, stdout=subprocess.PIPE, text=True, cwd=TOP)
-    port, secret, once = asking.stdout.readline().split()
-    def first_lines():
-        with socket.create_connection(("127.0.0.1", int(port))) as given:
-            given.sendall(f"GET /{once} HTTP/1.1\r\nHost: 127.0.0.1:{port}\r\n\r\n".encode())
-            return given.makefile().read()
-    first, second = first_lines(), first_lines()
-    asking.kill()
-    asking.wait()
-    asking.stdout.close()
+    with bare() as (_, port, secret, once):
+        asked = f"GET /{once} HTTP/1.1\r\nHost: 127.0.0.1:{port}\r\n\r\n"
+        first, second = exchanged(port, asked), exchanged(port, asked)
     assert " 303 " in first and f"Location: /{secret}/\n" in first, first
     assert " 403 " in second and secret not in second, second
 
@@ -422,7 +420,8 @@ def nothing_is_said_of_requests():
 CHECKS = [
     the_secret_is_asked_for, only_names_of_this_machine_are_answered, no_other_page_is_answered,
     what_is_too_long_is_refused, what_is_not_there_is_refused, what_is_no_question_is_refused,
-    a_browser_is_told_what_it_may_do, nobody_beyond_this_machine_is_answered,
+    a_browser_is_told_what_it_may_do, a_fault_of_the_page_is_told,
+    nobody_beyond_this_machine_is_answered,
     statements_are_answered, places_are_those_of_a_page, refusals_are_placed_and_explained,
     keys_are_told_of_a_relvars_tuples, the_tours_scripts_are_answered_as_by_td,
     tabs_do_not_see_each_other, a_part_of_a_script_is_run, the_database_goes_back,

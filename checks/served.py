@@ -108,6 +108,36 @@ class Served:
         self.errors.close()
 
 
+# A server without a page and without tabs. It prints its port, its secret and what leads there once.
+BARE = """import sys
+sys.path.insert(0, 'tools')
+from page_server import Server
+{front}
+own = Server(0, '<script></script>', {answers}, lambda: None)
+print(own.server_address[1], own.secret, own.once, flush=True)
+own.serve_forever()
+"""
+
+
+@contextlib.contextmanager
+def bare(front="", answers="{}"):
+    """Such a server, with answers that are written in Python: its process and what it prints."""
+    code = BARE.format(front=front, answers=answers)
+    streams = {"stdout": subprocess.PIPE, "stderr": subprocess.PIPE}
+    with subprocess.Popen(["python3", "-B", "-c", code], text=True, cwd=TOP, **streams) as process:
+        try:
+            yield process, *process.stdout.readline().split()
+        finally:
+            process.kill()
+
+
+def exchanged(port, asked):
+    """What is answered to a request on a port."""
+    with socket.create_connection(("127.0.0.1", int(port)), PATIENCE) as asking:
+        asking.sendall(asked.encode())
+        return asking.makefile().read()
+
+
 def soon(holds):
     """Whether something comes to hold."""
     until = time.monotonic() + PATIENCE

@@ -30,11 +30,6 @@ class Chapter:
     title: str
     blocks: list
 
-    @property
-    def script(self):
-        """The script of the chapter."""
-        return "\n".join(one.script for one in self.blocks if one.kind == "script")
-
 
 def runs_of(paragraph):
     """The texts of a paragraph, each with its form. A link is its words."""

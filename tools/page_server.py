@@ -5,6 +5,7 @@ No request reads or writes a file: what is served was read before the first one.
 import base64
 import hashlib
 import hmac
+import itertools
 import json
 import re
 import secrets
@@ -21,6 +22,15 @@ MOST_BYTES = 1 << 20
 LONGEST_PATH = 200
 LENGTH = re.compile(r"[0-9]{1,9}")
 INLINE = re.compile(r"<(style|script)>(.*?)</\1>", re.DOTALL)
+# That whoever asks has gone, or says no more.
+LEFT = (ConnectionError, TimeoutError)
+
+
+def failed(error):
+    """What is said of a fault of the page itself, which is told on standard error too."""
+    said = f"the page failed: {error!r}"
+    note(said)
+    return said
 
 
 class Refused(Exception):
@@ -62,18 +72,19 @@ class Handler(BaseHTTPRequestHandler):
         self.guarded(self.posted)
 
     def guarded(self, answer):
-        """Answers a request, or says why not. A browser that has gone is told nothing."""
+        """Answers a request, or says why not."""
         try:
-            try:
-                self.check_host()
-                answer()
-            except Refused as refused:
-                self.put(refused.status, {"says": str(refused)})
-            except (Gone, Full, Failure) as failure:
-                status = {Gone: HTTPStatus.GONE, Full: HTTPStatus.SERVICE_UNAVAILABLE}
-                self.put(status.get(type(failure), HTTPStatus.CONFLICT), {"says": str(failure)})
-        except (ConnectionError, TimeoutError):
-            self.close_connection = True
+            self.check_host()
+            answer()
+        except Refused as refused:
+            self.put(refused.status, {"says": str(refused)})
+        except (Gone, Full, Failure) as failure:
+            status = {Gone: HTTPStatus.GONE, Full: HTTPStatus.SERVICE_UNAVAILABLE}
+            self.put(status.get(type(failure), HTTPStatus.CONFLICT), {"says": str(failure)})
+        except LEFT:
+            raise
+        except Exception as error:  # Whatever it is, the page goes on.
+            self.put(HTTPStatus.INTERNAL_SERVER_ERROR, {"says": failed(error)})
 
     # ---- whose request it is
 
@@ -150,11 +161,14 @@ class Handler(BaseHTTPRequestHandler):
         first = next(events, None)
         self.put_head(HTTPStatus.OK, "application/x-ndjson", {})
         try:
-            while first is not None:
-                self.put_line(first)
-                first = next(events, None)
+            for event in itertools.chain([] if first is None else [first], events):
+                self.put_line(event)
         except (Gone, Failure) as failure:
             self.put_line({"failed": str(failure)})
+        except LEFT:
+            raise
+        except Exception as error:  # What was begun as lines ends as lines.
+            self.put_line({"failed": failed(error)})
         finally:
             events.close()
 
@@ -217,5 +231,7 @@ class Server(ThreadingHTTPServer):
         self.each_moment()
 
     def handle_error(self, request, client_address):
-        """A fault is told in a line; the page goes on."""
-        note(f"a request failed: {sys.exc_info()[1]!r}")
+        """A browser that has gone is told nothing. Any other fault is told in a line."""
+        error = sys.exc_info()[1]
+        if not isinstance(error, LEFT):
+            failed(error)
