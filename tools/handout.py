@@ -2,7 +2,8 @@
 
 A line of a comment whose first word is Exercise begins an exercise. The statements behind it are
 its solution, up to the next comment in lines of its own. A line whose first word is Solution begins
-a comment that belongs to the solution.
+a comment that belongs to the solution. A comment that is the word diagram is in place of the
+diagram of the database there.
 """
 import io
 import re
@@ -20,6 +21,8 @@ from shown import decoded, refusal_typed
 
 EXERCISE = re.compile(r"\s*(?:#+ +)?\**Exercise\b")
 SOLUTION = re.compile(r"\s*(?:#+ +)?\**Solution\b")
+DIAGRAM = "diagram"
+OF_DIAGRAM = re.compile(rb"(?://|/\*)\s*diagram\b")
 OK = "OK\n"
 LEAST_ROOM = 2
 
@@ -41,6 +44,13 @@ class Step:
     code: str
     answer: list = field(default_factory=list)
     refusal: str = ""
+
+
+@dataclass(frozen=True)
+class Diagram:
+    """The diagram of the database that a dump makes."""
+
+    dump: str
 
 
 @dataclass
@@ -67,9 +77,10 @@ def divided(lines):
 class Handout:
     """Makes the parts of a handout from the statements of a script, one after the other."""
 
-    def __init__(self, session, cutter, has_keys_first):
+    def __init__(self, session, cutter, has_keys_first, has_diagrams):
         self.session, self.cutter = session, cutter
-        self.has_keys_first = has_keys_first
+        self.has_keys_first, self.has_diagrams = has_keys_first, has_diagrams
+        self.dump = ""
         self.parts, self.exercise, self.known = [], None, None
 
     @property
@@ -90,7 +101,10 @@ class Handout:
     def add_comment(self, lines):
         """Adds the prose of a comment, or the exercise that it is."""
         found = prose.blocks(lines)
-        if EXERCISE.match(lines[0]):
+        if [line.strip() for line in lines] == [DIAGRAM]:
+            self.exercise = None
+            self.parts.append(Diagram(self.dump))
+        elif EXERCISE.match(lines[0]):
             self.exercise = Exercise(found)
             self.parts.append(self.exercise)
         elif self.exercise and SOLUTION.match(lines[0]):
@@ -108,9 +122,15 @@ class Handout:
             told = refusal_typed(self.session, self.cutter, statement[begins:], answer)
             self.place.append(Step(code, refusal=told.rstrip("\n")))
             return
+        self.see(answer)
+        self.place.append(Step(code, self.shown(decoded(answer), code)))
+
+    def see(self, answer):
+        """Sees that a statement was answered: one that was accepted may have defined something."""
         if decoded(answer) == OK:
             self.known = None
-        self.place.append(Step(code, self.shown(decoded(answer), code)))
+            if self.has_diagrams:
+                self.dump = decoded(self.session.answer(b"DUMP;"))
 
     def shown(self, answer, code):
         lines = whole_lines(io.StringIO(answer, newline="\n"))
@@ -146,7 +166,9 @@ def begin_of(script, cutter, at, statement):
 
 def handout(script, cutter, session, has_keys_first=False):
     """The parts of a script. Of the databases that it names nothing is shown."""
-    made, hidden = Handout(session, cutter, has_keys_first), list(lines_of_databases(script))
+    has_diagrams = OF_DIAGRAM.search(script.text) is not None
+    made = Handout(session, cutter, has_keys_first, has_diagrams)
+    hidden = list(lines_of_databases(script))
 
     def seen(at, ends):
         begins, shown = at, b""
@@ -161,6 +183,8 @@ def handout(script, cutter, session, has_keys_first=False):
         ends = at + len(statement)
         if script.is_of_files(at, statement):
             made.add(seen(begin_of(script, cutter, at, statement), ends), answer)
+        else:
+            made.see(answer)
     made.add_front(decoded(seen(max(ends, script.begins), len(script.text))))
     return made.parts
 

@@ -2,7 +2,8 @@
 import re
 
 import prose
-from handout import Exercise, Prose
+from diagrams import diagram_svg
+from handout import Diagram, Exercise, Prose
 from html_tables import STYLE, escaped, table
 from lexemes import is_bad, reserved_words, tokens
 from literals import Relation
@@ -36,6 +37,7 @@ pre.code {{ margin: 0.8rem 0; }}
 .refused {{ color: #8f1d1d; border-left: 3px solid #c23b3b; margin: 0.35rem 0 0 0.8rem; }}
 .exercise {{ border: 1px solid #8a949f; border-radius: 4px; padding: 0.2rem 1rem 0.8rem;
   margin: 1.5rem 0; }}
+figure {{ margin: 1.2rem 0; }} figure svg {{ max-width: 100%; height: auto; }}
 .room div {{ border-bottom: 1px dotted #8a949f; height: 2rem; }}
 {style}@media print {{
   @page {{ margin: 2cm; }}
@@ -132,6 +134,8 @@ def exercise(one, is_blank):
 def part(one, is_blank):
     if isinstance(one, Exercise):
         return exercise(one, is_blank)
+    if isinstance(one, Diagram):
+        return f"<figure>\n{diagram_svg(one.dump)}\n</figure>"
     return blocks(one.blocks) if isinstance(one, Prose) else step(one)
 
 

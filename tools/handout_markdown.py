@@ -3,8 +3,10 @@ import re
 
 import html_tables
 import prose
-from handout import Exercise, Prose
+from diagram_words import mermaid
+from handout import Diagram, Exercise, Prose
 from literals import Relation
+from schema_graph import schema_of
 from tables import DEE, DUM, visible, visible_lines
 
 SIGNS = re.compile(r"[\\`*_\[\]<>|~&$]")
@@ -115,6 +117,8 @@ def part(one, is_blank):
     if isinstance(one, Exercise):
         rest = [room(one.room)] if is_blank else [part(it, is_blank) for it in one.solution]
         return "\n\n".join([*map(block, one.blocks), *rest])
+    if isinstance(one, Diagram):
+        return f"```mermaid\n{mermaid(schema_of(one.dump)).rstrip()}\n```"
     return "\n\n".join(map(block, one.blocks)) if isinstance(one, Prose) else step(one)
 
 

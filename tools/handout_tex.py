@@ -1,8 +1,11 @@
-"""A handout as LaTeX. pdfLaTeX, XeLaTeX and LuaLaTeX compile it, by packages that each has."""
+"""A handout as LaTeX. pdfLaTeX, XeLaTeX and LuaLaTeX compile it, by packages that each has.
+
+A diagram is left out.
+"""
 import unicodedata
 
 import prose
-from handout import Exercise, Prose
+from handout import Diagram, Exercise, Prose
 from literals import Relation
 from tables import DEE, DUM, visible
 
@@ -189,6 +192,8 @@ def exercise(one, is_blank):
 def part(one, is_blank):
     if isinstance(one, Exercise):
         return exercise(one, is_blank)
+    if isinstance(one, Diagram):
+        return ""
     return "\n\n".join(map(block, one.blocks)) if isinstance(one, Prose) else step(one)
 
 
