@@ -394,7 +394,7 @@ def contrast(one, other):
 
 
 def colours_can_be_told_apart():
-    text = (TOP / "tools" / "page.html").read_text(encoding="utf-8")
+    text = (TOP / "tools" / "td_tools" / "page.html").read_text(encoding="utf-8")
     found = re.findall(r":root \{(.*?)\}", text, re.DOTALL)
     themes = [dict(re.findall(r"--([\w-]+): (#[0-9a-f]{6})", one)) for one in found]
     expect(len(themes), 2, "themes:")

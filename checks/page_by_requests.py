@@ -7,7 +7,7 @@ import time
 from pathlib import Path
 
 from reading import TOP, run
-from page_tabs import Tabs
+from td_tools.page_tabs import Tabs
 from served import Served, bare, exchanged, is_there, numbers, script, soon
 
 DATABASE = TOP / "examples" / "tour" / "00-database.td"

@@ -11,7 +11,7 @@ from pathlib import Path
 TOP = Path(__file__).resolve().parent.parent
 sys.path.append(str(TOP / "tools"))
 
-from programs import PROVED, td  # noqa: E402
+from td_tools.programs import PROVED, td  # noqa: E402
 
 # The td that is checked, here and by the tools that a check starts.
 TD = os.environ["TD"] = td()

@@ -111,7 +111,7 @@ class Served:
 # A server without a page and without tabs. It prints its port, its secret and what leads there once.
 BARE = """import sys
 sys.path.insert(0, 'tools')
-from page_server import Server
+from td_tools.page_server import Server
 {front}
 own = Server(0, '<script></script>', {answers}, lambda: None)
 print(own.server_address[1], own.secret, own.once, flush=True)

@@ -10,7 +10,7 @@ from reading import TD
 from sentences import RandomSentences, Sentences
 from tokens import statements, word_kind
 
-from ebnf import Grammar
+from td_tools.ebnf import Grammar
 
 DOCUMENT = TOP / "docs" / "grammar.md"
 TOKENS = {"name": "name", "number": "number", "text": "text", "the_word": "THE_"}

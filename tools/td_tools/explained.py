@@ -1,0 +1,102 @@
+"""Why a condition is FALSE: the tuples that are where they must not be, or the values compared."""
+from .grammar import parsed
+from .parts import FRESH, Parts, written
+from .places import as_written, one_line, shortened
+
+INCLUSIONS = {"<=": [(0, 1)], "<": [(0, 1)], ">=": [(1, 0)], ">": [(1, 0)], "=": [(0, 1), (1, 0)]}
+COMPARISONS = {*INCLUSIONS, "<>"}
+
+
+def explained(copy, expression):
+    """Pairs of what is said and of a relation's literal, or none, of a condition that is FALSE."""
+    text = f"WRITE {expression};"
+    return list(Explanation(copy, text).of(Parts(text).expression(written(parsed(text)))))
+
+
+class Explanation:
+    """Asks td for the parts of a condition that is FALSE."""
+
+    def __init__(self, copy, text):
+        self.copy, self.text = copy, text
+
+    def said(self, part):
+        return self.text[part.begins : part.ends]
+
+    def shown(self, part):
+        return shortened(as_written(self.said(part)), 60)
+
+    def is_true(self, part):
+        return self.copy.value(self.said(part)) == "TRUE"
+
+    def of(self, part):
+        """What makes the part FALSE."""
+        operands = [one for one, _ in part.operands]
+        if part.kind == "" and len(operands) == 1:
+            yield from self.of(operands[0])
+        elif part.kind in ("AND", "OR"):
+            for one in operands:
+                if part.kind == "OR" or not self.is_true(one):
+                    yield from self.of(one)
+        elif part.kind == "IF":
+            condition, taken, other = operands
+            yield from self.of(taken if self.is_true(condition) else other)
+        elif part.kind == "IS_EMPTY":
+            (relation,) = operands
+            yield f"{self.shown(relation)} must be empty, and has", self.value(relation)
+        elif part.kind == "NOT" and operands[0].kind == "IS_EMPTY":
+            yield f"{self.shown(operands[0].operands[0][0])} is empty", ""
+        elif part.kind in COMPARISONS and self.is_relation(operands[0]):
+            yield from self.of_relations(part.kind, operands)
+        elif part.kind in COMPARISONS | {"IN"}:
+            yield from self.of_values(part.kind, operands)
+        else:
+            yield f"{self.shown(part)} is FALSE", ""
+
+    def value(self, part):
+        return self.copy.value(self.said(part))
+
+    def is_relation(self, part):
+        return self.value(part).startswith("RELATION ")
+
+    def of_relations(self, kind, operands):
+        """Of an inclusion what the one side has and the other has not."""
+        found = False
+        for left, right in INCLUSIONS.get(kind, []):
+            left, right = operands[left], operands[right]
+            value = self.copy.value(f"({self.said(left)}) MINUS ({self.said(right)})")
+            if not value.endswith("{}"):
+                found = True
+                yield f"{self.shown(left)} has, and {self.shown(right)} has not", value
+        if not found:
+            yield "both sides are", self.value(operands[0])
+
+    def of_values(self, kind, operands):
+        """The values of the sides; of two counts the tuples that a projection makes one."""
+        counted = [self.counted(one) for one in operands]
+        if kind in ("=", "<=", ">=") and all(counted):
+            short, whole = sorted(counted, key=lambda one: len(self.said(one)), reverse=True)
+            if self.is_projection_of(short, whole):
+                yield self.agreeing(short, whole)
+                return
+        for one in operands:
+            value = self.value(one)
+            if value != self.said(one).strip():
+                yield f"{self.shown(one)} is {one_line(value)}", ""
+        for one in [one for one in counted if one]:
+            yield f"{self.shown(one)} has", self.value(one)
+
+    def counted(self, part):
+        """The relation of which the part is the COUNT; None where it is no COUNT."""
+        return part.operands[0][0] if part.kind == "COUNT" else None
+
+    def is_projection_of(self, short, whole):
+        is_same = short.operands and self.said(short.operands[0][0]) == self.said(whole)
+        return short.kind == "attributes" and is_same
+
+    def agreeing(self, short, whole):
+        """The tuples of a relation that agree on the attributes of a projection of it."""
+        relation = self.said(whole)
+        listed = self.said(short)[len(relation) :]
+        counted = f"SUMMARIZE ({relation}) BY {listed} ADD (COUNT() AS {FRESH})"
+        label = f"tuples of {self.shown(whole)} agree on {as_written(listed)}"
+        return label, self.copy.value(f"({relation}) MATCHING ({counted} WHERE {FRESH} > 1)")

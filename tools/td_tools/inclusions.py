@@ -1,0 +1,119 @@
+"""The inclusions that a constraint demands: that what a relvar has for attributes, another has too.
+
+They are read from its expression: `A {X} <= B {Y RENAME ..}` and the like, IS_EMPTY of a MINUS or a
+NOT MATCHING, and several of these with AND between.
+"""
+from dataclasses import dataclass
+
+from .grammar import Stop, parsed
+from .lexemes import tokens
+from .parts import Parts, written
+
+BELOW, ABOVE = {"<=", "="}, {">="}
+
+
+@dataclass(frozen=True)
+class Inclusion:
+    """That the tuples of a relvar have partners in another that agree with them."""
+
+    source: str
+    target: str
+    # The attributes that agree, each of the source with that of the target.
+    pairs: tuple
+    # Whether the tuples of the target have partners in the source, too.
+    is_mutual: bool = False
+
+
+@dataclass
+class Side:
+    """What stands on a side of a comparison: a relvar, and of each attribute of the side the one
+    of the relvar that it is."""
+
+    relvar: str
+    attributes: dict
+
+
+class Reading:
+    """Reads the expression of a constraint, by the attributes of each relvar."""
+
+    def __init__(self, expression, attributes):
+        self.text = f"WRITE {expression};"
+        self.attributes = attributes
+
+    def tree(self):
+        tree = parsed(self.text)
+        return None if isinstance(tree, Stop) else Parts(self.text).expression(written(tree))
+
+    def text_of(self, part):
+        return self.text[part.begins : part.ends]
+
+    def is_in_parentheses(self, part):
+        return part.kind == "" and self.text_of(part).startswith("(")
+
+    def inclusions(self, part):
+        """The inclusions that the part demands, or None where it demands something else too."""
+        operands = [one for one, _ in part.operands]
+        if self.is_in_parentheses(part):
+            return self.inclusions(operands[0])
+        if part.kind == "AND":
+            found = [self.inclusions(one) for one in operands]
+            return None if None in found else found[0] + found[1]
+        if part.kind == "IS_EMPTY":
+            return self.of_nothing(operands[0])
+        if part.kind in BELOW | ABOVE:
+            left, right = operands if part.kind in BELOW else operands[::-1]
+            return self.between(left, right, part.kind == "=", is_whole=True)
+        return None
+
+    def of_nothing(self, part):
+        """Those of a MINUS or a NOT MATCHING that has to be empty."""
+        while self.is_in_parentheses(part):
+            part = part.operands[0][0]
+        if part.kind not in ("MINUS", "NOT MATCHING"):
+            return None
+        (left, _), (right, _) = part.operands
+        return self.between(left, right, False, part.kind == "MINUS")
+
+    def between(self, left, right, is_mutual, is_whole):
+        """The inclusion of one side in another: by all attributes, or by those in common."""
+        sides = self.side(left), self.side(right)
+        if None in sides:
+            return None
+        source, target = sides
+        common = [one for one in source.attributes if one in target.attributes]
+        if is_whole and not len(common) == len(source.attributes) == len(target.attributes):
+            return None
+        pairs = tuple((source.attributes[one], target.attributes[one]) for one in common)
+        return [Inclusion(source.relvar, target.relvar, pairs, is_mutual)]
+
+    def side(self, part):
+        """The side that a part is: a relvar, projected and renamed; None where it is no such."""
+        if self.is_in_parentheses(part):
+            return self.side(part.operands[0][0])
+        if part.kind == "name" and self.text_of(part) in self.attributes:
+            name = self.text_of(part)
+            return Side(name, {one: one for one in self.attributes[name]})
+        if part.kind not in ("attributes", "rename"):
+            return None
+        operand = part.operands[0][0]
+        side = self.side(operand)
+        return side and self.behind(side, part.kind, self.text[operand.ends : part.ends])
+
+    def behind(self, side, kind, text):
+        """The side, projected or renamed by what stands behind it."""
+        every = list(tokens(text))
+        names = [text[one.begins : one.ends] for one in every if one.kind == "name"]
+        known = side.attributes
+        if kind == "rename":
+            new = dict(zip(names[::2], names[1::2]))
+            return Side(side.relvar, {new.get(one, one): of for one, of in known.items()})
+        is_rest = any(one.kind == "ALL" for one in every)
+        kept = {one: of for one, of in known.items() if (one in names) != is_rest}
+        return Side(side.relvar, kept)
+
+
+def inclusions(expression, attributes):
+    """The inclusions that a constraint's expression demands, where it demands nothing else."""
+    reading = Reading(expression, attributes)
+    tree = reading.tree()
+    return reading.inclusions(tree) or [] if tree is not None else []

@@ -1,0 +1,55 @@
+"""What td says of the database that a session has: headings of expressions, and definitions."""
+from .catalog import RELVARS, type_of
+from .dumps import definitions
+from .literals import Reader
+
+# The name of an attribute that no script is expected to have.
+FRESH = "_asked_"
+
+
+class Schema:
+    """The headings of expressions and the definitions of relvars, asked once each."""
+
+    def __init__(self, session):
+        self.session = session
+        self.forget()
+
+    def forget(self):
+        """Forgets what td said: something may be defined in another way."""
+        self.headings, self.known = {}, None
+
+    def heading(self, expression, around=()):
+        """The names of a relational expression's attributes; None where td gives none.
+
+        Around it stand the operands whose attributes it may name, the outermost first. Each is left
+        without tuples, so that nothing of the expression is evaluated for one.
+        """
+        question = f"({expression})"
+        for level, operand in enumerate(reversed(around)):
+            fresh = f"{FRESH}{level}"
+            question = f"(EXTEND ({operand}) WHERE FALSE ADD ({question} AS {fresh})) {{{fresh}}}"
+        if question not in self.headings:
+            kind = type_of(self.session, question) or ""
+            self.headings[question] = names_of(kind, len(around))
+        return self.headings[question]
+
+    def definition(self, name):
+        """The definition of a relvar, if it is one."""
+        if self.known is None:
+            dump = self.session.answer(b"DUMP;").decode()
+            self.known = {one.name: one for one in definitions(dump) if one.kind in RELVARS}
+        return self.known.get(name)
+
+
+def names_of(kind, levels):
+    """The names of the heading so many levels down in the text of a relation type."""
+    for _ in range(levels):
+        if not kind:
+            return None
+        ((_, kind),) = heading_of(kind)
+    return [name for name, _ in heading_of(kind)] if kind.startswith("RELATION ") else None
+
+
+def heading_of(kind):
+    """The attributes of the text of a relation type."""
+    return Reader(kind.removeprefix("RELATION ")).heading()
