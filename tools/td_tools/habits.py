@@ -9,7 +9,7 @@ import re
 
 from .grammar import Stop, automaton, parsed
 from .lexemes import Token, reserved_words, tokens
-from .places import as_written
+from .places import as_written, quoted
 
 MARK = "\0"
 # So many tokens are looked at before and behind the place.
@@ -181,11 +181,11 @@ def missing(stop, text):
     machine, kind = automaton(), stop.token.kind
     word = text[stop.token.begins : stop.token.ends]
     if ";" in stop.expected and kind in machine.first[("body",)] - {"name", ";"}:
-        return f"try ; before {word}"
+        return f"try {quoted(';')} before {quoted(word)}"
     for sign in (",", "}", ")"):
         behind = machine.advanced(stop.stacks, Token(sign, 0, 0)) if sign in stop.expected else []
         if machine.advanced(behind, stop.token):
-            return f"try {sign} before {word}"
+            return f"try {quoted(sign)} before {quoted(word)}"
     return None
 
 

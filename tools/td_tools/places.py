@@ -45,8 +45,13 @@ def kinds_in_words(expected):
         said.append("an operator")
     signs = [sign for sign in FIRST if sign in left]
     others = sorted(KINDS.get(kind, kind) for kind in left - {*signs, END})
-    every = [*signs, *others, *said]
+    every = [*map(quoted, [*signs, *others]), *said]
     return every if len(every) <= AT_MOST else [*every[: AT_MOST - 1], CUT]
+
+
+def quoted(token):
+    """A token in a sentence: a sign is quoted, so that it is not taken for the sentence's."""
+    return token if any(map(str.isalnum, token)) else f"`{token}`"
 
 
 def first_whole(sets, expected):
@@ -57,8 +62,8 @@ def first_whole(sets, expected):
 def in_a_row(words):
     """The words with commas between, and `or` before the last."""
     if words[-1:] == [CUT] or len(words) < 2:
-        return " ".join(words)
-    return f"{' '.join(words[:-1])} or {words[-1]}"
+        return ", ".join(words)
+    return f"{', '.join(words[:-1])} or {words[-1]}"
 
 
 def told_character(character):
@@ -67,7 +72,7 @@ def told_character(character):
         return f"the byte 0x{ord(character) - 0xDC00:02X}, which is no UTF-8"
     shown = character if character.isprintable() and not character.isspace() else ""
     if character.isascii() and shown:
-        return shown
+        return quoted(shown)
     return f"{shown} U+{ord(character):04X} {unicodedata.name(character, 'without a name')}".strip()
 
 
@@ -83,7 +88,7 @@ def told_token(text, token):
         return "a quote that nothing closes"
     if token.kind == OPEN_COMMENT:
         return "a /* that nothing closes"
-    return shortened(text[token.begins : token.ends])
+    return quoted(shortened(text[token.begins : token.ends]))
 
 
 def one_line(text):
