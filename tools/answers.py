@@ -7,8 +7,8 @@ import re
 import signal
 import subprocess
 
-from run_limits import Limits
 from programs import td
+from run_limits import current
 
 PIECE = re.compile(rb"[^;]*;|[^;]+")
 END_OF_COMMENT = re.compile(rb"\*/|\n")
@@ -23,21 +23,22 @@ class Session:
     the mark is answered, however many lines it has: of DUMP there may be many, or none.
     """
 
-    # What a run may take: a tool that answers others sets it.
-    limits = Limits()
-
-    def __init__(self):
+    def __init__(self, stderr=None):
+        """What td says on standard error goes where subprocess's word for it says."""
         mark = os.urandom(16).hex().encode()
         self.asks = b"WRITE '" + mark + b"';"
         self.mark = b"'" + mark + b"'\n"
-        # td is no part of the terminal's job: Ctrl-C is for the tool alone. That memory is missing
-        # is told by the status, where there is a limit of it.
+        # td is no part of the terminal's job: Ctrl-C is for the tool alone.
         self.process = subprocess.Popen(
-            [td(), "run"], stdin=subprocess.PIPE, stdout=subprocess.PIPE, start_new_session=True,
-            stderr=None if self.limits.memory is None else subprocess.DEVNULL,
+            [td(), "run"],
+            stdin=subprocess.PIPE,
+            stdout=subprocess.PIPE,
+            stderr=stderr,
+            start_new_session=True,
         )
         try:
-            self.limits.hold(self.process.pid)
+            self.run_limits = current()
+            self.run_limits.hold(self.process.pid)
             self.answer(b"")
         except BaseException:
             self.leave()
@@ -46,13 +47,13 @@ class Session:
     def answer(self, statement):
         """What td writes of a statement, or of several. The last one is whole."""
         try:
-            self.limits.renew(self.process.pid)
+            self.run_limits.renew(self.process.pid)
             self.process.stdin.write(statement + self.asks)
             self.process.stdin.flush()
         except (BrokenPipeError, ProcessLookupError):
             self.fail()
         lines = []
-        for line in self.limits.lines(self.process.stdout):
+        for line in self.run_limits.lines(self.process.stdout):
             if line == self.mark:
                 return b"".join(lines)
             lines.append(line)
@@ -66,7 +67,7 @@ class Session:
         return answer
 
     def fail(self):
-        raise self.limits.failure(self.process.wait())
+        raise self.run_limits.failure(self.process.wait())
 
     def leave(self):
         """Ends td, whatever it does."""

@@ -3,6 +3,7 @@ import contextlib
 import os
 import secrets
 import signal
+import subprocess
 import threading
 import time
 from dataclasses import dataclass, field
@@ -33,11 +34,16 @@ class Full(Exception):
     """No more tabs can be opened."""
 
 
+def quiet_session():
+    """A run of td that says nothing on standard error: its status tells that memory is missing."""
+    return Session(stderr=subprocess.DEVNULL)
+
+
 @dataclass
 class Runs:
     """A run of td that has the tab's database, and one that cuts its scripts."""
 
-    session: Session = field(default_factory=Session)
+    session: Session = field(default_factory=quiet_session)
     cutter: Cutter = field(default_factory=Cutter)
 
     def kill(self):
@@ -131,12 +137,12 @@ class Tab:
     @contextlib.contextmanager
     def wider(self):
         """That the page itself asks td, whose answers may be longer then."""
-        session, own = self.session, self.session.limits
-        session.limits = own.with_longer_answers(WIDER)
+        session, own = self.session, self.session.run_limits
+        session.run_limits = own.with_longer_answers(WIDER)
         try:
             yield session
         finally:
-            session.limits = own
+            session.run_limits = own
 
     @contextlib.contextmanager
     def asking(self):
@@ -262,7 +268,7 @@ class Tab:
         with self.asking() as session:
             if len(kept) == len(self.accepted):
                 return ask(session)
-            with Session() as earlier:
+            with quiet_session() as earlier:
                 self.fill(earlier, kept)
                 return ask(earlier)
 

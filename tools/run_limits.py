@@ -68,3 +68,17 @@ class Limits:
             needs = f"{self.memory / MIB:g} MiB of memory"
             return LimitMet(f"the statement needs more than {needs}, the limit")
         return Failure(f"td ended with status {status}")
+
+
+# Those of each run of td that begins.
+_current = Limits()
+
+
+def current():
+    return _current
+
+
+def limit_runs(limits):
+    """Sets the limits of each run of td that this tool begins from here on."""
+    global _current
+    _current = limits
