@@ -407,7 +407,7 @@ def the_command_line_is_told():
 
 def a_database_that_is_refused_in_part_is_told():
     with Served(str(TOP / "examples" / "tools" / "refused.td")) as own:
-        assert re.search(r"refused\.td:3(:1)?: REFUSED 30 KEY S\n", own.said()), own.said()
+        assert re.search(r"refused\.td:3(:1)?: REFUSED 30 KEY S\b", own.said()), own.said()
         expect(own.answers(own.tab(), "WRITE COUNT(S);"), ["1\n"])
 
 
