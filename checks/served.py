@@ -108,7 +108,7 @@ class Served:
         self.errors.close()
 
 
-# A server without a page and without tabs. It prints its port, its secret and what leads there once.
+# A server without a page or tabs. It prints its port, its secret and what leads there once.
 BARE = """import sys
 sys.path.insert(0, 'tools')
 from td_tools.page_server import Server
