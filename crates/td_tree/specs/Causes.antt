@@ -1,7 +1,7 @@
 -- The causes of refusals, with their numbers and names (this project's own).
 use Rattle.std.specs.Prelude.{ℕ, List, codes}
 use Rattle.td_tree.specs.declared.cause.Cause.{Cause}
-use Rattle.td_tree.specs.declared.cause.Cause.TheVariants.{Scan, Syntax, NameUnknown, NameTaken, TypeMismatch, Heading, KeyDeclaration, Rank, InUse, NotAssignable, Transaction, Overflow, ZeroDivisor, EmptyAggregate, NotOneTuple, TypeConstraint, Key, Constraint}
+use Rattle.td_tree.specs.declared.cause.Cause.TheVariants.{Scan, Syntax, NameUnknown, NameTaken, TypeMismatch, Heading, KeyDeclaration, Rank, InUse, NotAssignable, Transaction, Overflow, ZeroDivisor, EmptyAggregate, NotOneTuple, TypeConstraint, NotDisjoint, NotIncluded, Key, Constraint}
 
 -- of several causes the one with the least number is named
 abbrev pub number_of : Cause → ℕ
@@ -21,6 +21,8 @@ number_of ZeroDivisor = 21
 number_of EmptyAggregate = 22
 number_of NotOneTuple = 23
 number_of TypeConstraint = 24
+number_of NotDisjoint = 25
+number_of NotIncluded = 26
 number_of Key = 30
 number_of Constraint = 31
 
@@ -41,5 +43,7 @@ name_of ZeroDivisor = codes "ZERO_DIVISOR"
 name_of EmptyAggregate = codes "EMPTY_AGGREGATE"
 name_of NotOneTuple = codes "NOT_ONE_TUPLE"
 name_of TypeConstraint = codes "TYPE_CONSTRAINT"
+name_of NotDisjoint = codes "NOT_DISJOINT"
+name_of NotIncluded = codes "NOT_INCLUDED"
 name_of Key = codes "KEY"
 name_of Constraint = codes "CONSTRAINT"

@@ -14,6 +14,7 @@ use Rattle.td_tree.specs.declared.operator.Measure.TheVariants as measures
 use Rattle.td_tree.specs.declared.operator.Operator.{Operator}
 use Rattle.td_tree.specs.declared.operator.Operator.TheVariants as operators
 use Rattle.td_tree.specs.declared.operator.Prefix.TheVariants as prefixes
+use Rattle.td_tree.specs.declared.operator.Style.TheVariants as styles
 use Rattle.td_tree.specs.declared.token.Sign.TheVariants as signs
 use Rattle.td_tree.specs.Heights.{height}
 use Rattle.td_tree.specs.Lexemes.{Lexeme, keyword, sign}
@@ -84,16 +85,26 @@ pub data PostfixSpelling : List Lexeme → Postfix → Type 0 where
       → PostfixSpelling xs (tree.project a)
   -- e9 RENAME '(' (name AS name),+ ')'
   renamings : {xs : List Lexeme} {rs : List Renaming} → Separated RenamingSpelling xs rs
-      → PostfixSpelling (keyword k.Rename ∷ with_parentheses xs) (tree.rename rs)
+      → PostfixSpelling (keyword k.Rename ∷ with_parentheses xs) (tree.rename styles.Older rs)
+  -- e9 RENAME '{' (name AS name),+ '}'
+  renamings_in_braces : {xs : List Lexeme} {rs : List Renaming} → Separated RenamingSpelling xs rs
+      → PostfixSpelling (keyword k.Rename ∷ with_braces xs) (tree.rename styles.Newer rs)
   -- e9 GROUP '(' attrs AS name ')' and WRAP
   grouping : {xs : List Lexeme} {a : Attributes} {n : Text} → AttributeListSpelling xs a
       → PostfixSpelling
       (keyword k.Group ∷ with_parentheses (xs ++ (keyword k.As ∷ (lexeme.name n ∷ []))))
-      (tree.group a n)
+      (tree.group styles.Older a n)
   wrapping : {xs : List Lexeme} {a : Attributes} {n : Text} → AttributeListSpelling xs a
       → PostfixSpelling
       (keyword k.Wrap ∷ with_parentheses (xs ++ (keyword k.As ∷ (lexeme.name n ∷ []))))
-      (tree.wrap a n)
+      (tree.wrap styles.Older a n)
+  -- e9 GROUP attrs AS name and WRAP
+  open_grouping : {xs : List Lexeme} {a : Attributes} {n : Text} → AttributeListSpelling xs a
+      → PostfixSpelling (keyword k.Group ∷ (xs ++ (keyword k.As ∷ (lexeme.name n ∷ []))))
+      (tree.group styles.Newer a n)
+  open_wrapping : {xs : List Lexeme} {a : Attributes} {n : Text} → AttributeListSpelling xs a
+      → PostfixSpelling (keyword k.Wrap ∷ (xs ++ (keyword k.As ∷ (lexeme.name n ∷ []))))
+      (tree.wrap styles.Newer a n)
   -- e9 UNGROUP '(' name ')' and UNWRAP
   ungrouping : {n : Text}
       → PostfixSpelling (keyword k.Ungroup ∷ with_parentheses (lexeme.name n ∷ [])) (tree.ungroup n)
@@ -145,6 +156,8 @@ level_of operators.Times = levels.Relational
 level_of operators.Compose = levels.Relational
 level_of operators.Matching = levels.Relational
 level_of operators.NotMatching = levels.Relational
+level_of operators.DisjointUnion = levels.Relational
+level_of operators.IncludedMinus = levels.Relational
 level_of operators.Add = levels.Additive
 level_of operators.Subtract = levels.Additive
 level_of operators.Concatenate = levels.Additive
@@ -163,6 +176,8 @@ operator_words operators.Times = keyword k.Times ∷ []
 operator_words operators.Compose = keyword k.Compose ∷ []
 operator_words operators.Matching = keyword k.Matching ∷ []
 operator_words operators.NotMatching = keyword k.Not ∷ (keyword k.Matching ∷ [])
+operator_words operators.DisjointUnion = keyword k.DUnion ∷ []
+operator_words operators.IncludedMinus = keyword k.IMinus ∷ []
 operator_words operators.Add = sign signs.Plus ∷ []
 operator_words operators.Subtract = sign signs.Minus ∷ []
 operator_words operators.Concatenate = sign signs.Concatenate ∷ []
@@ -273,6 +288,11 @@ mutual
         → AdditionsSpelling ys parts
         → Spelling levels.Primary (keyword k.Extend ∷ (xs ++ (keyword k.Add ∷ with_parentheses ys)))
         (tree.extend a parts)
+    -- e10 := EXTEND e ':' '{' set,+ '}'
+    setting_extension : {xs ys : List Lexeme} {a : Tree} {parts : NamedTrees}
+        → Spelling loosest xs a → SettingsSpelling ys parts
+        → Spelling levels.Primary (keyword k.Extend ∷ (xs ++ (sign signs.Colon ∷ with_braces ys)))
+        (tree.extend_setting a parts)
     -- e10 := SUMMARIZE e PER '(' e ')' ADD '(' item,+ ')'
     summary_per : {xs ys zs : List Lexeme} {a b : Tree} {items : Summaries} → Spelling loosest xs a
         → Spelling loosest ys b → SummariesSpelling zs items
@@ -333,6 +353,16 @@ mutual
         → AdditionsSpelling (xs ++ (keyword k.As ∷ (lexeme.name n ∷ (sign signs.Comma ∷ ys))))
         (tree.more_named n a parts)
 
+  -- set,+ where set := name ':=' e
+  pub data SettingsSpelling : List Lexeme → NamedTrees → Type 0 where
+    last_setting : {n : Text} {xs : List Lexeme} {a : Tree} → Spelling loosest xs a
+        → SettingsSpelling (lexeme.name n ∷ (sign signs.Assign ∷ xs))
+        (tree.more_named n a tree.none_named)
+    next_setting : {n : Text} {xs ys : List Lexeme} {a : Tree} {parts : NamedTrees}
+        → Spelling loosest xs a → SettingsSpelling ys parts
+        → SettingsSpelling (lexeme.name n ∷ (sign signs.Assign ∷ (xs ++ (sign signs.Comma ∷ ys))))
+        (tree.more_named n a parts)
+
   -- item,+ where item := COUNT '(' ')' AS name | (SUM | MAX | MIN) '(' e ')' AS name
   pub data SummariesSpelling : List Lexeme → Summaries → Type 0 where
     last_count : {n : Text}
@@ -362,7 +392,7 @@ mutual
 
 -- the height that no tree of a statement goes beyond
 abbrev pub height_limit : ℕ
-height_limit = 200
+height_limit = 400
 
 -- an expression of this level that is not too high
 pub record IsExpression (level : Level) (xs : List Lexeme) (t : Tree) : Type 0 where

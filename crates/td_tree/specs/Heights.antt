@@ -1,7 +1,7 @@
 -- The height of a tree (this project's own): 1 for a node without parts, else one more than its
 -- highest part.
 use Rattle.std.specs.Prelude.{ℕ, zero, ◌+◌, max}
-use Rattle.td_tree.specs.Trees.{TypeTree, integer, char, boolean, user, tuple_type, relation_type, AttributeTrees, no_attributes, attribute, Tree, literal, name, parentheses, prefix, extract, restriction, binary, compare, postfix, select, component, measure, aggregate, relation, headed_relation, tuple, extend, summarize_per, summarize_by, choice, Trees, none, more, NamedTrees, none_named, more_named, Summaries, no_summaries, counted, summed}
+use Rattle.td_tree.specs.Trees.{TypeTree, integer, char, boolean, user, tuple_type, relation_type, AttributeTrees, no_attributes, attribute, Tree, literal, name, parentheses, prefix, extract, restriction, binary, compare, postfix, select, component, measure, aggregate, relation, headed_relation, tuple, extend, extend_setting, summarize_per, summarize_by, choice, Trees, none, more, NamedTrees, none_named, more_named, Summaries, no_summaries, counted, summed}
 
 abbrev mutual
   pub type_height : TypeTree → ℕ
@@ -38,6 +38,7 @@ abbrev mutual
       max (type_height (relation_type heading)) (highest elements) + 1
   height (tuple parts) = highest_named parts + 1
   height (extend operand parts) = max (height operand) (highest_named parts) + 1
+  height (extend_setting operand settings) = max (height operand) (highest_named settings) + 1
   height (summarize_per operand per summaries) =
       max (max (height operand) (height per)) (highest_summary summaries) + 1
   height (summarize_by operand by summaries) = max (height operand) (highest_summary summaries) + 1

@@ -3,12 +3,14 @@ use Rattle.std.specs.Prelude.{ℕ, true, false, List, [], ◌∷◌, ◌++◌, m
 use Rattle.td_tree.specs.declared.keyword.Keyword.TheVariants as k
 use Rattle.td_tree.specs.declared.operator.Prefix.{Prefix}
 use Rattle.td_tree.specs.declared.operator.Prefix.TheVariants as prefixes
+use Rattle.td_tree.specs.declared.operator.Style.{Style}
+use Rattle.td_tree.specs.declared.operator.Style.TheVariants as styles
 use Rattle.td_tree.specs.declared.token.Sign.TheVariants as signs
 use Rattle.td_tree.specs.Grammar.{operator_words, comparison_word, measure_word, aggregate_word}
 use Rattle.td_tree.specs.Lexemes.{Lexeme, keyword, sign, spaced_text}
 use Rattle.td_tree.specs.Lexemes as lexeme
 use Rattle.td_tree.specs.Lists.{with_braces, with_parentheses}
-use Rattle.td_tree.specs.Trees.{Text, TypeTree, integer, char, boolean, user, tuple_type, relation_type, AttributeTrees, no_attributes, attribute, Literal, number, text, truth, table_dee, table_dum, Attributes, only, all_but, Renaming, Postfix, project, rename, group, ungroup, wrap, unwrap, Tree, literal, name, parentheses, prefix, extract, restriction, binary, compare, postfix, select, component, measure, aggregate, relation, headed_relation, tuple, extend, summarize_per, summarize_by, choice, Trees, none, more, NamedTrees, none_named, more_named, Summaries, no_summaries, counted, summed}
+use Rattle.td_tree.specs.Trees.{Text, TypeTree, integer, char, boolean, user, tuple_type, relation_type, AttributeTrees, no_attributes, attribute, Literal, number, text, truth, table_dee, table_dum, Attributes, only, all_but, Renaming, Postfix, project, rename, group, ungroup, wrap, unwrap, Tree, literal, name, parentheses, prefix, extract, restriction, binary, compare, postfix, select, component, measure, aggregate, relation, headed_relation, tuple, extend, extend_setting, summarize_per, summarize_by, choice, Trees, none, more, NamedTrees, none_named, more_named, Summaries, no_summaries, counted, summed}
 
 -- a comma before each item
 abbrev pub following : List (List Lexeme) → List Lexeme
@@ -63,15 +65,25 @@ renaming_lexemes r = lexeme.name r.old ∷ (keyword k.As ∷ (lexeme.name r.new 
 abbrev pub as_lexemes : Text → List Lexeme
 as_lexemes n = keyword k.As ∷ (lexeme.name n ∷ [])
 
+-- renamings in parentheses, or in braces
+abbrev pub renamings_between : Style → List Lexeme → List Lexeme
+renamings_between styles.Older xs = with_parentheses xs
+renamings_between styles.Newer xs = with_braces xs
+
+-- attributes with the name of the one that they become, in parentheses or not
+abbrev pub gathering_between : Style → List Lexeme → List Lexeme
+gathering_between styles.Older xs = with_parentheses xs
+gathering_between styles.Newer xs = xs
+
 abbrev pub postfix_lexemes : Postfix → List Lexeme
 postfix_lexemes (project attributes) = attributes_lexemes attributes
-postfix_lexemes (rename renamings) =
-    keyword k.Rename ∷ with_parentheses (commas (map renaming_lexemes renamings))
-postfix_lexemes (group attributes n) =
-    keyword k.Group ∷ with_parentheses (attributes_lexemes attributes ++ as_lexemes n)
+postfix_lexemes (rename style renamings) =
+    keyword k.Rename ∷ renamings_between style (commas (map renaming_lexemes renamings))
+postfix_lexemes (group style attributes n) =
+    keyword k.Group ∷ gathering_between style (attributes_lexemes attributes ++ as_lexemes n)
 postfix_lexemes (ungroup n) = keyword k.Ungroup ∷ with_parentheses (lexeme.name n ∷ [])
-postfix_lexemes (wrap attributes n) =
-    keyword k.Wrap ∷ with_parentheses (attributes_lexemes attributes ++ as_lexemes n)
+postfix_lexemes (wrap style attributes n) =
+    keyword k.Wrap ∷ gathering_between style (attributes_lexemes attributes ++ as_lexemes n)
 postfix_lexemes (unwrap n) = keyword k.Unwrap ∷ with_parentheses (lexeme.name n ∷ [])
 
 abbrev pub prefix_words : Prefix → List Lexeme
@@ -105,6 +117,10 @@ abbrev mutual
   lexemes_of (extend operand parts) =
       keyword k.Extend
       ∷ (lexemes_of operand ++ (keyword k.Add ∷ with_parentheses (commas (addition_lexemes parts))))
+  lexemes_of (extend_setting operand settings) =
+      keyword k.Extend
+      ∷ (lexemes_of operand
+      ++ (sign signs.Colon ∷ with_braces (commas (setting_lexemes settings))))
   lexemes_of (summarize_per operand per summaries) =
       keyword k.Summarize
       ∷ (lexemes_of operand
@@ -139,6 +155,12 @@ abbrev mutual
   addition_lexemes none_named = []
   addition_lexemes (more_named n value rest) =
       (lexemes_of value ++ as_lexemes n) ∷ addition_lexemes rest
+
+  -- the lexemes of each attribute that is set: a name and an expression
+  pub setting_lexemes : NamedTrees → List (List Lexeme)
+  setting_lexemes none_named = []
+  setting_lexemes (more_named n value rest) =
+      (lexeme.name n ∷ (sign signs.Assign ∷ lexemes_of value)) ∷ setting_lexemes rest
 
   -- the lexemes of each attribute of SUMMARIZE: an aggregate and a name
   pub summary_lexemes : Summaries → List (List Lexeme)

@@ -4,9 +4,10 @@ use Rattle.std.specs.Prelude.{◌≤◌, List, [], ◌∷◌, ◌++◌, Option}
 use Rattle.td_tree.specs.declared.keyword.Keyword.{Keyword}
 use Rattle.td_tree.specs.declared.keyword.Keyword.TheVariants as k
 use Rattle.td_tree.specs.declared.operator.Level.TheVariants as levels
+use Rattle.td_tree.specs.declared.operator.Style.TheVariants as styles
 use Rattle.td_tree.specs.declared.token.Sign.TheVariants as signs
-use Rattle.td_tree.specs.Grammar.{AttributesSpelling, HeadingSpelling, NamesSpelling, IsExpression, height_limit, loosest}
-use Rattle.td_tree.specs.Heights.{type_height, attributes_height}
+use Rattle.td_tree.specs.Grammar.{AttributesSpelling, HeadingSpelling, NamesSpelling, SettingsSpelling, IsExpression, height_limit, loosest}
+use Rattle.td_tree.specs.Heights.{type_height, attributes_height, highest_named}
 use Rattle.td_tree.specs.Lexemes.{Lexeme, keyword, sign}
 use Rattle.td_tree.specs.Lexemes as lexeme
 use Rattle.td_tree.specs.Lists.{Separated, Repeated, Optional, with_braces, with_parentheses}
@@ -37,15 +38,10 @@ pub data KeyPart : List Lexeme → List Text → Type 0 where
   key_part : {xs : List Lexeme} {ns : List Text} → NamesSpelling xs ns
       → KeyPart (keyword k.Key ∷ xs) ns
 
--- set,+ where set := name ':=' e
-pub data SettingsSpelling : List Lexeme → NamedTrees → Type 0 where
-  last_setting : {n : Text} {xs : List Lexeme} {t : Tree} → ExpressionItem xs t
-      → SettingsSpelling (lexeme.name n ∷ (sign signs.Assign ∷ xs))
-      (tree.more_named n t tree.none_named)
-  next_setting : {n : Text} {xs ys : List Lexeme} {t : Tree} {rest : NamedTrees}
-      → ExpressionItem xs t → SettingsSpelling ys rest
-      → SettingsSpelling (lexeme.name n ∷ (sign signs.Assign ∷ (xs ++ (sign signs.Comma ∷ ys))))
-      (tree.more_named n t rest)
+-- set,+ where each expression is one that is not too high
+pub record SettingItems (xs : List Lexeme) (settings : NamedTrees) : Type 0 where
+  pub spelled : SettingsSpelling xs settings
+  pub low : highest_named settings ≤ height_limit
 
 pub data AssignmentSpelling : List Lexeme → Assignment → Type 0 where
   -- name ':=' e
@@ -54,15 +50,27 @@ pub data AssignmentSpelling : List Lexeme → Assignment → Type 0 where
   -- INSERT name e
   insertion : {n : Text} {xs : List Lexeme} {t : Tree} → ExpressionItem xs t
       → AssignmentSpelling (keyword k.Insert ∷ (lexeme.name n ∷ xs)) (tree.insert n t)
+  -- D_INSERT name e
+  disjoint_insertion : {n : Text} {xs : List Lexeme} {t : Tree} → ExpressionItem xs t
+      → AssignmentSpelling (keyword k.DInsert ∷ (lexeme.name n ∷ xs)) (tree.disjoint_insert n t)
   -- DELETE name [WHERE e1]
   deletion : {n : Text} {xs : List Lexeme} {condition : Option Tree}
       → Optional WherePart xs condition
       → AssignmentSpelling (keyword k.Delete ∷ (lexeme.name n ∷ xs)) (tree.delete n condition)
+  -- I_DELETE name e
+  included_deletion : {n : Text} {xs : List Lexeme} {t : Tree} → ExpressionItem xs t
+      → AssignmentSpelling (keyword k.IDelete ∷ (lexeme.name n ∷ xs)) (tree.included_delete n t)
   -- UPDATE name [WHERE e1] '(' set,+ ')'
   changing : {n : Text} {xs ys : List Lexeme} {condition : Option Tree} {settings : NamedTrees}
-      → Optional WherePart xs condition → SettingsSpelling ys settings
+      → Optional WherePart xs condition → SettingItems ys settings
       → AssignmentSpelling (keyword k.Update ∷ (lexeme.name n ∷ (xs ++ with_parentheses ys)))
-      (tree.update n condition settings)
+      (tree.update styles.Older n condition settings)
+  -- UPDATE name [WHERE e1] ':' '{' set,+ '}'
+  changing_in_braces : {n : Text} {xs ys : List Lexeme} {condition : Option Tree}
+      {settings : NamedTrees} → Optional WherePart xs condition → SettingItems ys settings
+      → AssignmentSpelling
+      (keyword k.Update ∷ (lexeme.name n ∷ (xs ++ (sign signs.Colon ∷ with_braces ys))))
+      (tree.update styles.Newer n condition settings)
 
 -- BASE | REAL
 pub data BaseWord : Keyword → Type 0 where

@@ -6,6 +6,7 @@ use Rattle.td_tree.specs.declared.operator.Comparison.{Comparison}
 use Rattle.td_tree.specs.declared.operator.Prefix.{Prefix}
 use Rattle.td_tree.specs.declared.operator.Measure.{Measure}
 use Rattle.td_tree.specs.declared.operator.Aggregate.{Aggregate}
+use Rattle.td_tree.specs.declared.operator.Style.{Style}
 
 -- the bytes of a name, or of a text
 abbrev pub Text : Type 0
@@ -44,13 +45,13 @@ pub record Renaming : Type 0 where
   pub old : Text
   pub new : Text
 
--- an operator behind its operand
+-- an operator behind its operand; a style says how it is spelled, and nothing of what it means
 pub data Postfix : Type 0 where
   project : (attributes : Attributes) → Postfix
-  rename : (renamings : List Renaming) → Postfix
-  group : (attributes : Attributes) (name : Text) → Postfix
+  rename : (style : Style) (renamings : List Renaming) → Postfix
+  group : (style : Style) (attributes : Attributes) (name : Text) → Postfix
   ungroup : (name : Text) → Postfix
-  wrap : (attributes : Attributes) (name : Text) → Postfix
+  wrap : (style : Style) (attributes : Attributes) (name : Text) → Postfix
   unwrap : (name : Text) → Postfix
 
 mutual
@@ -73,6 +74,7 @@ mutual
     headed_relation : (heading : AttributeTrees) (elements : Trees) → Tree
     tuple : (parts : NamedTrees) → Tree
     extend : (operand : Tree) (parts : NamedTrees) → Tree
+    extend_setting : (operand : Tree) (settings : NamedTrees) → Tree
     summarize_per : (operand per : Tree) (summaries : Summaries) → Tree
     summarize_by : (operand : Tree) (by : Attributes) (summaries : Summaries) → Tree
     choice : (condition consequent alternative : Tree) → Tree
@@ -97,8 +99,10 @@ mutual
 pub data Assignment : Type 0 where
   assign : (target : Text) (source : Tree) → Assignment
   insert : (target : Text) (source : Tree) → Assignment
+  disjoint_insert : (target : Text) (source : Tree) → Assignment
   delete : (target : Text) (condition : Option Tree) → Assignment
-  update : (target : Text) (condition : Option Tree) (settings : NamedTrees) → Assignment
+  included_delete : (target : Text) (source : Tree) → Assignment
+  update : (style : Style) (target : Text) (condition : Option Tree) (settings : NamedTrees) → Assignment
 
 -- a statement
 pub data Statement : Type 0 where

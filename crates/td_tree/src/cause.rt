@@ -40,6 +40,10 @@ pub enum Cause {
     NotOneTuple,
     /// A type constraint is false.
     TypeConstraint,
+    /// A tuple is in both operands of a disjoint union.
+    NotDisjoint,
+    /// A tuple to be taken away is not there.
+    NotIncluded,
     /// A key does not hold.
     Key,
     /// A constraint is false.
@@ -68,6 +72,8 @@ impl Cause {
             Cause::EmptyAggregate => 22,
             Cause::NotOneTuple => 23,
             Cause::TypeConstraint => 24,
+            Cause::NotDisjoint => 25,
+            Cause::NotIncluded => 26,
             Cause::Key => 30,
             Cause::Constraint => 31,
         }
@@ -94,6 +100,8 @@ impl Cause {
             Cause::EmptyAggregate => "EMPTY_AGGREGATE",
             Cause::NotOneTuple => "NOT_ONE_TUPLE",
             Cause::TypeConstraint => "TYPE_CONSTRAINT",
+            Cause::NotDisjoint => "NOT_DISJOINT",
+            Cause::NotIncluded => "NOT_INCLUDED",
             Cause::Key => "KEY",
             Cause::Constraint => "CONSTRAINT",
         }

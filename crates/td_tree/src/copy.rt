@@ -105,15 +105,17 @@ impl Postfix {
     {
         match self {
             Postfix::Project(attributes) => Ok(Postfix::Project(attributes.try_clone()?)),
-            Postfix::Rename(renamings) => { Ok(Postfix::Rename(copy_renamings(renamings)?)) }
-            Postfix::Group(attributes, name) => {
+            Postfix::Rename(style, renamings) => {
+                Ok(Postfix::Rename(*style, copy_renamings(renamings)?))
+            }
+            Postfix::Group(style, attributes, name) => {
                 let (attributes, name) = both(attributes.try_clone(), name.try_clone())?;
-                Ok(Postfix::Group(attributes, name))
+                Ok(Postfix::Group(*style, attributes, name))
             }
             Postfix::Ungroup(name) => Ok(Postfix::Ungroup(name.try_clone()?)),
-            Postfix::Wrap(attributes, name) => {
+            Postfix::Wrap(style, attributes, name) => {
                 let (attributes, name) = both(attributes.try_clone(), name.try_clone())?;
-                Ok(Postfix::Wrap(attributes, name))
+                Ok(Postfix::Wrap(*style, attributes, name))
             }
             Postfix::Unwrap(name) => Ok(Postfix::Unwrap(name.try_clone()?)),
         }
@@ -169,6 +171,9 @@ impl Expr {
                 box_with_copy(operand),
                 copy_parts(parts),
             ),
+            Expr::ExtendSetting(operand, parts) => {
+                remade::extend_setting(box_with_copy(operand), copy_parts(parts))
+            }
             Expr::SummarizePer(operand, per, added) => {
                 remade::summarize_per(
                     box_with_copy(operand),

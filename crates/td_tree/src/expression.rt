@@ -1,6 +1,6 @@
 //! Expressions as they are written: parentheses are nodes.
 use crate::name::Name;
-use crate::operator::{Aggregate, Comparison, Measure, Operator, Prefix};
+use crate::operator::{Aggregate, Comparison, Measure, Operator, Prefix, Style};
 use crate::type_tree::AttributeTree;
 use std::rc::RcStr;
 
@@ -39,10 +39,10 @@ pub struct Renaming {
 #[derive(Drop)]
 pub enum Postfix {
     Project(Attributes),
-    Rename(Vec<Renaming>),
-    Group(Attributes, Name),
+    Rename(Style, Vec<Renaming>),
+    Group(Style, Attributes, Name),
     Ungroup(Name),
-    Wrap(Attributes, Name),
+    Wrap(Style, Attributes, Name),
     Unwrap(Name),
 }
 
@@ -73,7 +73,10 @@ pub enum Expr {
     /// A heading and tuples.
     HeadedRelation(Vec<AttributeTree>, Vec<Expr>),
     Tuple(Vec<NamedExpr>),
+    /// `EXTEND r ADD (e AS A, ..)`: the attributes are new.
     Extend(Box<Expr>, Vec<NamedExpr>),
+    /// `EXTEND r : {A := e, ..}`: an attribute that is there gets another value, and its type.
+    ExtendSetting(Box<Expr>, Vec<NamedExpr>),
     SummarizePer(Box<Expr>, Box<Expr>, Vec<Summary>),
     SummarizeBy(Box<Expr>, Attributes, Vec<Summary>),
     If(Box<Expr>, Box<Expr>, Box<Expr>),

@@ -67,7 +67,9 @@ impl Expr {
                 .saturating_add(1)
                 .max(highest(elements)),
             Expr::Tuple(parts) => highest_named(parts),
-            Expr::Extend(operand, parts) => operand.height().max(highest_named(parts)),
+            Expr::Extend(operand, parts) | Expr::ExtendSetting(operand, parts) => {
+                operand.height().max(highest_named(parts))
+            }
             Expr::SummarizePer(operand, per, summaries) => operand
                 .height()
                 .max(per.height())

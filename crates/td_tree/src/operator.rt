@@ -44,11 +44,24 @@ pub enum Operator {
     Compose,
     Matching,
     NotMatching,
+    /// A union that is refused where a tuple is in both.
+    DisjointUnion,
+    /// A difference that is refused where a tuple of the second is not in the first.
+    IncludedMinus,
     Add,
     Subtract,
     Concatenate,
     Multiply,
     Divide,
+}
+
+/// Which of its two spellings an operator or an assignment is written in. They mean the same.
+#[derive(Clone, Copy, Debug, PartialEq, Eq)]
+pub enum Style {
+    /// `RENAME (..)`, `GROUP ({..} AS X)`, `WRAP ({..} AS X)`, `UPDATE R (..)`
+    Older,
+    /// `RENAME {..}`, `GROUP {..} AS X`, `WRAP {..} AS X`, `UPDATE R : {..}`
+    Newer,
 }
 
 /// A comparison between two operands, which does not group.

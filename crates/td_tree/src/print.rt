@@ -7,7 +7,8 @@ ghost use Rattle.td_tree.specs.Grammar.{aggregate_word};
 ghost use Rattle.td_tree.specs.Lexemes.{keyword, sign};
 ghost use Rattle.td_tree.specs.Lists.{with_braces, with_parentheses};
 ghost use Rattle.td_tree.specs.Prints.{addition_lexemes, all_lexemes, commas, heading_lexemes};
-ghost use Rattle.td_tree.specs.Prints.{lexemes_of, part_lexemes, print, summary_lexemes};
+ghost use Rattle.td_tree.specs.Prints.{lexemes_of, part_lexemes, print, setting_lexemes};
+ghost use Rattle.td_tree.specs.Prints.{summary_lexemes};
 ghost use Rattle.td_tree.specs.Prints.{type_lexemes, type_print};
 ghost use Rattle.td_tree.specs.code.TreeViews.{heading_tree_view, named_view, summaries_view};
 ghost use Rattle.td_tree.specs.code.TreeViews.{tree_view};
@@ -99,6 +100,9 @@ impl Printer {
             }
             Expr::Tuple(parts) => self.keyword(Keyword::Tuple)?.parts(parts),
             Expr::Extend(operand, parts) => self.after(Keyword::Extend, operand)?.additions(parts),
+            Expr::ExtendSetting(operand, parts) => {
+                self.after(Keyword::Extend, operand)?.settings(parts)
+            }
             Expr::SummarizePer(operand, per, added) => {
                 let out = self.after(Keyword::Summarize, operand)?;
                 out.per(per)?.summaries(added)
@@ -227,6 +231,21 @@ impl Printer {
             later = true;
         }
         out.sign(Sign::CloseParenthesis)
+    }
+
+    /// `:` and each name with `:=` and its expression, in braces.
+    #[cycle(printer)]
+    fn settings(self, parts: &[NamedExpr]) -> Result<Printer, AllocError>
+        ensures { Writes self result
+            (sign signs.Colon ∷ with_braces (commas (setting_lexemes (named_view parts.now)))) }
+    {
+        let mut out = self.sign(Sign::Colon)?.sign(Sign::OpenBrace)?;
+        let mut later = false;
+        for part in parts {
+            out = out.comma(later)?.target(&part.name)?.expr(&part.value)?;
+            later = true;
+        }
+        out.sign(Sign::CloseBrace)
     }
 
     /// `ADD` and each aggregate with `AS` and its name, in parentheses.

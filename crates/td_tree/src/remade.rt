@@ -223,6 +223,21 @@ pub fn extend(
     }
 }
 
+/// `EXTEND e : {A := v, ..}`
+#[tactic(auto, using(crate::proofs::code_lemmas::Rows::extend_setting_is))]
+pub fn extend_setting(
+    operand: Result<Box<Expr>, AllocError>,
+    settings: Result<Vec<NamedExpr>, AllocError>,
+) -> Result<Expr, AllocError>
+    ensures { (o : trees.Tree) → (ps : trees.NamedTrees) → Boxed operand o
+        → IfOk settings (λ x. named_view x.items ≡ ps) → Copied result (trees.extend_setting o ps) }
+{
+    match both(operand, settings) {
+        Ok((operand, settings)) => Ok(Expr::ExtendSetting(operand, settings)),
+        Err(error) => Err(error),
+    }
+}
+
 /// `SUMMARIZE e PER (p) ADD (..)`
 #[tactic(auto, using(crate::proofs::code_lemmas::Rows::summarize_per_is))]
 pub fn summarize_per(

@@ -1,6 +1,7 @@
 //! Statements as they are written.
 use crate::expression::{Expr, NamedExpr};
 use crate::name::Name;
+use crate::operator::Style;
 use crate::type_tree::AttributeTree;
 
 /// A statement.
@@ -53,6 +54,10 @@ pub struct VirtualDefinition {
 pub enum Assignment {
     Assign(Name, Expr),
     Insert(Name, Expr),
+    /// An insertion that is refused where a tuple is there.
+    DisjointInsert(Name, Expr),
     Delete(Name, Option<Expr>),
-    Update(Name, Option<Expr>, Vec<NamedExpr>),
+    /// A deletion of tuples that is refused where one of them is not there.
+    IncludedDelete(Name, Expr),
+    Update(Style, Name, Option<Expr>, Vec<NamedExpr>),
 }

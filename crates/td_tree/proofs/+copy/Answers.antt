@@ -1,6 +1,6 @@
 use Rattle.std.proofs.Common.{ap, ◌∙◌}
 use Rattle.td_tree.proofs.code_lemmas.Pushes.{one_more, one_tree, then_trees, trees_push, one_named, then_named, named_push, one_summary, then_summaries, summaries_push}
-use Rattle.td_tree.proofs.code_lemmas.Rows.{copied_as, extend_is, headed_relation_is, relation_is, select_is, summarize_by_is, summarize_per_is, tuple_is}
+use Rattle.td_tree.proofs.code_lemmas.Rows.{copied_as, extend_is, extend_setting_is, headed_relation_is, relation_is, select_is, summarize_by_is, summarize_per_is, tuple_is}
 use Rattle.td_tree.specs.Trees as trees
 use Rattle.td_tree.specs.code.TreeViews.{named_view, summaries_view, tree_view, trees_view}
 use Rattle.td_tree.proofs.+copy.Goals as goal
@@ -40,6 +40,9 @@ expression::Expr::try_clone-returns-in-Tuple t c = copied_as _ _ _ (c.tuple.ensu
 
 pub expression::Expr::try_clone-returns-in-Extend : goal.expression::Expr::try_clone-returns-in-Extend
 expression::Expr::try_clone-returns-in-Extend t c = copied_as _ _ _ (c.extend.ensures _ _ c.box_with_copy-in-Extend.ensures c.copy_parts-in-Extend.ensures) (ap tree_view c.in-Extend.is ∙ extend_is c.in-Extend.operand c.in-Extend.parts)
+
+pub expression::Expr::try_clone-returns-in-ExtendSetting : goal.expression::Expr::try_clone-returns-in-ExtendSetting
+expression::Expr::try_clone-returns-in-ExtendSetting t c = copied_as _ _ _ (c.extend_setting.ensures _ _ c.box_with_copy-in-ExtendSetting.ensures c.copy_parts-in-ExtendSetting.ensures) (ap tree_view c.in-ExtendSetting.is ∙ extend_setting_is c.in-ExtendSetting.operand c.in-ExtendSetting.parts)
 
 pub expression::Expr::try_clone-returns-in-SummarizePer : goal.expression::Expr::try_clone-returns-in-SummarizePer
 expression::Expr::try_clone-returns-in-SummarizePer t c = copied_as _ _ _ (c.summarize_per.ensures _ _ _ c.box_with_copy-in-SummarizePer.ensures c.box_with_copy-in-SummarizePer-2.ensures c.copy_summaries.ensures) (ap tree_view c.in-SummarizePer.is ∙ summarize_per_is c.in-SummarizePer.operand c.in-SummarizePer.per c.in-SummarizePer.added)

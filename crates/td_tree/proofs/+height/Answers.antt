@@ -1,8 +1,9 @@
-use Rattle.std.proofs.Common.{◌≡◌, ◌⊎◌, inl, inr, ◌+◌, ◌∙◌, ap, arith}
-use Rattle.std.specs.Global.{Vec}
-use Rattle.td_tree.proofs.code_lemmas.Rows.{extend_is, headed_relation_is, relation_is, select_is, summarize_by_is, summarize_per_is, tuple_is}
+use Rattle.std.proofs.Common.{◌≡◌, ◌⊎◌, inl, inr, ◌+◌, ◌∙◌, ap, arith, max}
+use Rattle.std.specs.Global.{Box, Vec}
+use Rattle.td_tree.proofs.code_lemmas.Rows.{extend_is, extend_setting_is, headed_relation_is, relation_is, select_is, summarize_by_is, summarize_per_is, tuple_is}
 use Rattle.td_tree.specs.declared.expression.Expr.{Expr}
 use Rattle.td_tree.specs.declared.expression.Expr.TheVariants as e
+use Rattle.td_tree.specs.declared.expression.NamedExpr.{NamedExpr}
 use Rattle.td_tree.specs.Heights.{attributes_height, height, highest, highest_named, highest_summary}
 use Rattle.td_tree.specs.Trees.{Text}
 use Rattle.td_tree.specs.code.TreeViews.{heading_tree_view, named_view, summaries_view, tree_view, trees_view}
@@ -37,10 +38,17 @@ expression::Expr::highest_part-returns-in-Tuple t c =
     let a = ap (λ x. highest_named (named_view x)) c.deref-in-Tuple.ensures.value in
     omega arith
 
+with_parts : (a : Expr) (b : Box Expr) (v : Vec NamedExpr) → (a ≡ e.Extend b v) ⊎ (a ≡ e.ExtendSetting b v)
+    → height (tree_view a) ≡ max (height (tree_view b.value)) (highest_named (named_view v.items)) + 1
+with_parts a b v is = elim is [
+  | inl s ↦ ap height (ap tree_view s ∙ extend_is b v)
+  | inr r ↦ ap height (ap tree_view r ∙ extend_setting_is b v)
+]
+
 pub expression::Expr::highest_part-returns-in-Extend :
     goal.expression::Expr::highest_part-returns-in-Extend
 expression::Expr::highest_part-returns-in-Extend t c =
-    let e = ap height (ap tree_view c.in-Extend.is ∙ extend_is c.in-Extend.operand c.in-Extend.parts) in
+    let e = with_parts _ c.in-Extend.operand c.in-Extend.parts c.in-Extend.is in
     let o = ap (λ x. height (tree_view x)) c.deref-in-Extend.ensures in
     let a = ap (λ x. highest_named (named_view x)) c.deref-in-Extend-2.ensures.value in
     omega arith

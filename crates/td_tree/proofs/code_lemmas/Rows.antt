@@ -85,6 +85,9 @@ relation_is v = ap trees.relation (expressions_are v)
 pub extend_is : (b : Box Expr) (v : Vec NamedExpr) → tree_view (e.Extend b v) ≡ trees.extend (tree_view b.value) (named_view v.items)
 extend_is b v = ap (trees.extend (tree_view b.value)) (parts_are v)
 
+pub extend_setting_is : (b : Box Expr) (v : Vec NamedExpr) → tree_view (e.ExtendSetting b v) ≡ trees.extend_setting (tree_view b.value) (named_view v.items)
+extend_setting_is b v = ap (trees.extend_setting (tree_view b.value)) (parts_are v)
+
 pub summarize_per_is : (b p : Box Expr) (v : Vec Summary) → tree_view (e.SummarizePer b p v) ≡ trees.summarize_per (tree_view b.value) (tree_view p.value) (summaries_view v.items)
 summarize_per_is b p v =
     let row = summary_row (e.SummarizePer b p v) in

@@ -5,11 +5,11 @@ use Rattle.td_tree.specs.declared.keyword.Keyword.TheVariants as k
 use Rattle.td_tree.specs.declared.operator.Level.{Level}
 use Rattle.td_tree.specs.declared.token.Sign.TheVariants as signs
 use Rattle.td_tree.specs.Grammar as g
-use Rattle.td_tree.specs.Grammar.{TypeSpelling, HeadingSpelling, AttributesSpelling, NameSpelling, name_item, NamesSpelling, AttributeListSpelling, RenamingSpelling, PostfixSpelling, LiteralSpelling, Spelling, ListSpelling, ExpressionsSpelling, PartsSpelling, AdditionsSpelling, SummariesSpelling}
+use Rattle.td_tree.specs.Grammar.{TypeSpelling, HeadingSpelling, AttributesSpelling, NameSpelling, name_item, NamesSpelling, AttributeListSpelling, RenamingSpelling, PostfixSpelling, LiteralSpelling, Spelling, ListSpelling, ExpressionsSpelling, PartsSpelling, AdditionsSpelling, SettingsSpelling, SummariesSpelling}
 use Rattle.td_tree.specs.Lexemes.{Lexeme, keyword, sign}
 use Rattle.td_tree.specs.Lexemes as lexeme
 use Rattle.td_tree.specs.Lists.{Listed, no_items, some_items, Separated, one_item, next_item}
-use Rattle.td_tree.specs.Prints.{following, commas, type_lexemes, attribute_lexemes, heading_lexemes, literal_lexemes, name_lexemes, attributes_lexemes, renaming_lexemes, postfix_lexemes, lexemes_of, all_lexemes, part_lexemes, addition_lexemes, summary_lexemes}
+use Rattle.td_tree.specs.Prints.{following, commas, type_lexemes, attribute_lexemes, heading_lexemes, literal_lexemes, name_lexemes, attributes_lexemes, renaming_lexemes, postfix_lexemes, lexemes_of, all_lexemes, part_lexemes, addition_lexemes, setting_lexemes, summary_lexemes}
 use Rattle.td_tree.specs.Trees.{Text, TypeTree, AttributeTrees, Attributes, Renaming, Postfix, Literal, Tree, Trees, NamedTrees, Summaries}
 
 abbrev comma : Lexeme
@@ -76,6 +76,9 @@ postfix_is (g.projection a) = attribute_list_is a
 postfix_is (g.renamings rs) = rw (separated_are RenamingSpelling renaming_lexemes renaming_is rs) refl
 postfix_is (g.grouping a) = rw (attribute_list_is a) refl
 postfix_is (g.wrapping a) = rw (attribute_list_is a) refl
+postfix_is (g.renamings_in_braces rs) = rw (separated_are RenamingSpelling renaming_lexemes renaming_is rs) refl
+postfix_is (g.open_grouping a) = rw (attribute_list_is a) refl
+postfix_is (g.open_wrapping a) = rw (attribute_list_is a) refl
 postfix_is g.ungrouping = refl
 postfix_is g.unwrapping = refl
 
@@ -119,6 +122,7 @@ mutual
   expression_is g.empty_tuple = refl
   expression_is (g.tuple p) = rw (parts_are p) refl
   expression_is (g.extension p q) = rw (expression_is p, additions_are q) refl
+  expression_is (g.setting_extension p q) = rw (expression_is p, settings_are q) refl
   expression_is (g.summary_per p q r) = rw (expression_is p, expression_is q, summaries_are r) refl
   expression_is (g.summary_by p q r) = rw (expression_is p, attribute_list_is q, summaries_are r) refl
   expression_is (g.choice p q r) = rw (expression_is p, expression_is q, expression_is r) refl
@@ -150,6 +154,14 @@ mutual
   additions_follow : {xs : List Lexeme} {parts : NamedTrees} → AdditionsSpelling xs parts → comma ∷ xs ≡ following (addition_lexemes parts)
   additions_follow (g.last_addition {n} p) = rw (expression_is p) (ap (λ r. comma ∷ r) (sym (append-nil _)))
   additions_follow (g.next_addition {n} p q) = rw (expression_is p, additions_follow q) (ap (λ r. comma ∷ r) (sym (append_assoc _ (keyword k.As ∷ (lexeme.name n ∷ [])) _)))
+
+  pub settings_are : {xs : List Lexeme} {parts : NamedTrees} → SettingsSpelling xs parts → xs ≡ commas (setting_lexemes parts)
+  settings_are (g.last_setting {n} p) = rw (expression_is p) (ap (λ r. lexeme.name n ∷ (sign signs.Assign ∷ r)) (sym (append-nil _)))
+  settings_are (g.next_setting p q) = rw (expression_is p, settings_follow q) refl
+
+  settings_follow : {xs : List Lexeme} {parts : NamedTrees} → SettingsSpelling xs parts → comma ∷ xs ≡ following (setting_lexemes parts)
+  settings_follow (g.last_setting {n} p) = rw (expression_is p) (ap (λ r. comma ∷ (lexeme.name n ∷ (sign signs.Assign ∷ r))) (sym (append-nil _)))
+  settings_follow (g.next_setting p q) = rw (expression_is p, settings_follow q) refl
 
   pub summaries_are : {xs : List Lexeme} {items : Summaries} → SummariesSpelling xs items → xs ≡ commas (summary_lexemes items)
   summaries_are g.last_count = refl

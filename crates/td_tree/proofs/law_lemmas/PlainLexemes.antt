@@ -6,7 +6,7 @@ use Rattle.td_tree.specs.declared.operator.Operator.TheVariants as operators
 use Rattle.td_tree.specs.declared.operator.Comparison.{Comparison}
 use Rattle.td_tree.specs.declared.operator.Comparison.TheVariants as comparisons
 use Rattle.td_tree.specs.Grammar as g
-use Rattle.td_tree.specs.Grammar.{TypeSpelling, HeadingSpelling, AttributesSpelling, NameSpelling, name_item, NamesSpelling, AttributeListSpelling, RenamingSpelling, PostfixSpelling, LiteralSpelling, Spelling, ListSpelling, ExpressionsSpelling, PartsSpelling, AdditionsSpelling, SummariesSpelling, operator_words, comparison_word}
+use Rattle.td_tree.specs.Grammar.{TypeSpelling, HeadingSpelling, AttributesSpelling, NameSpelling, name_item, NamesSpelling, AttributeListSpelling, RenamingSpelling, PostfixSpelling, LiteralSpelling, Spelling, ListSpelling, ExpressionsSpelling, PartsSpelling, AdditionsSpelling, SettingsSpelling, SummariesSpelling, operator_words, comparison_word}
 use Rattle.td_tree.specs.Lexemes.{Lexeme}
 use Rattle.td_tree.specs.Lexemes as lexeme
 use Rattle.td_tree.specs.Lists.{Listed, no_items, some_items, Separated, one_item, next_item, with_braces, with_parentheses}
@@ -82,6 +82,9 @@ plain_postfix (g.projection a) = plain_attribute_list a
 plain_postfix (g.renamings rs) = (also tt (in_parentheses (plain_separated RenamingSpelling plain_renaming rs)))
 plain_postfix (g.grouping a) = (also tt (in_parentheses (join (plain_attribute_list a) (also tt (also tt none_left)))))
 plain_postfix (g.wrapping a) = (also tt (in_parentheses (join (plain_attribute_list a) (also tt (also tt none_left)))))
+plain_postfix (g.renamings_in_braces rs) = (also tt (in_braces (plain_separated RenamingSpelling plain_renaming rs)))
+plain_postfix (g.open_grouping a) = (also tt (join (plain_attribute_list a) (also tt (also tt none_left))))
+plain_postfix (g.open_wrapping a) = (also tt (join (plain_attribute_list a) (also tt (also tt none_left))))
 plain_postfix g.ungrouping = (also tt (also tt (also tt (also tt none_left))))
 plain_postfix g.unwrapping = (also tt (also tt (also tt (also tt none_left))))
 
@@ -128,6 +131,7 @@ mutual
   plain g.empty_tuple = (also tt (also tt (also tt none_left)))
   plain (g.tuple p) = (also tt (in_braces (plain_parts p)))
   plain (g.extension p q) = (also tt (join (plain p) (also tt (in_parentheses (plain_additions q)))))
+  plain (g.setting_extension p q) = (also tt (join (plain p) (also tt (in_braces (plain_settings q)))))
   plain (g.summary_per p q r) = (also tt (join (plain p) (also tt (join (in_parentheses (plain q)) (also tt (in_parentheses (plain_summaries r)))))))
   plain (g.summary_by p q r) = (also tt (join (plain p) (also tt (join (plain_attribute_list q) (also tt (in_parentheses (plain_summaries r)))))))
   plain (g.choice p q r) = (also tt (join (plain p) (also tt (join (plain q) (also tt (join (plain r) (also tt (also tt none_left))))))))
@@ -147,6 +151,10 @@ mutual
   plain_additions : {xs : List Lexeme} {parts : NamedTrees} → AdditionsSpelling xs parts → AllPlain xs
   plain_additions (g.last_addition p) = join (plain p) (also tt (also tt none_left))
   plain_additions (g.next_addition p q) = join (plain p) (also tt (also tt (also tt (plain_additions q))))
+
+  plain_settings : {xs : List Lexeme} {parts : NamedTrees} → SettingsSpelling xs parts → AllPlain xs
+  plain_settings (g.last_setting p) = (also tt (also tt (plain p)))
+  plain_settings (g.next_setting p q) = (also tt (also tt (join (plain p) (also tt (plain_settings q)))))
 
   plain_summaries : {xs : List Lexeme} {items : Summaries} → SummariesSpelling xs items → AllPlain xs
   plain_summaries g.last_count = (also tt (also tt (also tt (also tt (also tt none_left)))))

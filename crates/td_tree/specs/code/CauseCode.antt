@@ -3,7 +3,7 @@ use Rattle.std.specs.Prelude.{◌≡◌, ℕ, ◌==◌, if◌then◌else◌, ref
 use Rattle.std.specs.Coded.{Coded, code_by, coded_ℕ, coded_option}
 use Rattle.td_tree.specs.Causes.{number_of}
 use Rattle.td_tree.specs.declared.cause.Cause.{Cause}
-use Rattle.td_tree.specs.declared.cause.Cause.TheVariants.{Scan, Syntax, NameUnknown, NameTaken, TypeMismatch, Heading, KeyDeclaration, Rank, InUse, NotAssignable, Transaction, Overflow, ZeroDivisor, EmptyAggregate, NotOneTuple, TypeConstraint, Key, Constraint}
+use Rattle.td_tree.specs.declared.cause.Cause.TheVariants.{Scan, Syntax, NameUnknown, NameTaken, TypeMismatch, Heading, KeyDeclaration, Rank, InUse, NotAssignable, Transaction, Overflow, ZeroDivisor, EmptyAggregate, NotOneTuple, TypeConstraint, NotDisjoint, NotIncluded, Key, Constraint}
 
 abbrev cause_numbered : ℕ → Cause
 cause_numbered n =
@@ -23,6 +23,8 @@ cause_numbered n =
     else if n == 22 then EmptyAggregate
     else if n == 23 then NotOneTuple
     else if n == 24 then TypeConstraint
+    else if n == 25 then NotDisjoint
+    else if n == 26 then NotIncluded
     else if n == 30 then Key
     else Constraint
 
@@ -43,6 +45,8 @@ numbered_number ZeroDivisor = refl
 numbered_number EmptyAggregate = refl
 numbered_number NotOneTuple = refl
 numbered_number TypeConstraint = refl
+numbered_number NotDisjoint = refl
+numbered_number NotIncluded = refl
 numbered_number Key = refl
 numbered_number Constraint = refl
 

@@ -12,6 +12,8 @@ use Rattle.td_tree.specs.declared.operator.Operator.{Operator}
 use Rattle.td_tree.specs.declared.operator.Operator.TheVariants as o
 use Rattle.td_tree.specs.declared.operator.Prefix.{Prefix}
 use Rattle.td_tree.specs.declared.operator.Prefix.TheVariants as prefixes
+use Rattle.td_tree.specs.declared.operator.Style.{Style}
+use Rattle.td_tree.specs.declared.operator.Style.TheVariants as styles
 use Rattle.td_tree.specs.Trees.{Text, Literal, number, text, truth, table_dee, table_dum, Attributes, only, all_but, Renaming, Postfix, project, rename, group, ungroup, wrap, unwrap}
 
 abbrev pub bytes_to : Text → Gv
@@ -105,30 +107,55 @@ renamings_back [] = refl
 renamings_back (r ∷ rs) =
     λ i. (record { old = bytes_back r.old i; new = bytes_back r.new i }) ∷ renamings_back rs i
 
+abbrev style_number : Style → ℕ
+style_number styles.Older = 0
+style_number styles.Newer = 1
+
+abbrev style_numbered : ℕ → Style
+style_numbered n = if n == 0 then styles.Older else styles.Newer
+
+style_back : (style : Style) → style_numbered (style_number style) ≡ style
+style_back styles.Older = refl
+style_back styles.Newer = refl
+
+-- a style, and what is spelled so
+abbrev styled : Style → Gv → Gv
+styled style g = gcons (gnum (style_number style)) g
+
+-- the style
+abbrev style_in : Gv → Style
+style_in (gcons (gnum n) g) = style_numbered n
+style_in _ = styles.Older
+
+-- what is spelled so
+abbrev beside_style : Gv → Gv
+beside_style (gcons s g) = g
+beside_style g = g
+
 abbrev pub postfix_to : Postfix → Gv
 postfix_to (project a) = gcons (gnum 0) (gcons (attributes_to a) gnil)
-postfix_to (rename rs) = gcons (gnum 1) (gcons (renamings_to rs) gnil)
-postfix_to (group a n) = gcons (gnum 2) (gcons (attributes_to a) (bytes_to n))
+postfix_to (rename s rs) = gcons (gnum 1) (gcons (renamings_to rs) (styled s gnil))
+postfix_to (group s a n) = gcons (gnum 2) (gcons (attributes_to a) (styled s (bytes_to n)))
 postfix_to (ungroup n) = gcons (gnum 3) (gcons gnil (bytes_to n))
-postfix_to (wrap a n) = gcons (gnum 4) (gcons (attributes_to a) (bytes_to n))
+postfix_to (wrap s a n) = gcons (gnum 4) (gcons (attributes_to a) (styled s (bytes_to n)))
 postfix_to (unwrap n) = gcons (gnum 5) (gcons gnil (bytes_to n))
 
 abbrev pub postfix_from : Gv → Postfix
 postfix_from (gcons (gnum k) (gcons a b)) =
     if k == 0 then project (attributes_from a)
-    else if k == 1 then rename (renamings_from a)
-    else if k == 2 then group (attributes_from a) (bytes_from b)
+    else if k == 1 then rename (style_in b) (renamings_from a)
+    else if k == 2 then group (style_in b) (attributes_from a) (bytes_from (beside_style b))
     else if k == 3 then ungroup (bytes_from b)
-    else if k == 4 then wrap (attributes_from a) (bytes_from b)
+    else if k == 4 then wrap (style_in b) (attributes_from a) (bytes_from (beside_style b))
     else unwrap (bytes_from b)
 postfix_from _ = unwrap []
 
 pub postfix_back : (p : Postfix) → postfix_from (postfix_to p) ≡ p
 postfix_back (project a) = ap project (attributes_back a)
-postfix_back (rename rs) = ap rename (renamings_back rs)
-postfix_back (group a n) = λ i. group (attributes_back a i) (bytes_back n i)
+postfix_back (rename s rs) = λ i. rename (style_back s i) (renamings_back rs i)
+postfix_back (group s a n) = λ i. group (style_back s i) (attributes_back a i) (bytes_back n i)
 postfix_back (ungroup n) = ap ungroup (bytes_back n)
-postfix_back (wrap a n) = λ i. wrap (attributes_back a i) (bytes_back n i)
+postfix_back (wrap s a n) = λ i. wrap (style_back s i) (attributes_back a i) (bytes_back n i)
 postfix_back (unwrap n) = ap unwrap (bytes_back n)
 
 -- ---- operators
@@ -220,6 +247,8 @@ operator_number o.Subtract = 11
 operator_number o.Concatenate = 12
 operator_number o.Multiply = 13
 operator_number o.Divide = 14
+operator_number o.DisjointUnion = 15
+operator_number o.IncludedMinus = 16
 
 abbrev pub operator_numbered : ℕ → Operator
 operator_numbered n =
@@ -237,7 +266,9 @@ operator_numbered n =
     else if n == 11 then o.Subtract
     else if n == 12 then o.Concatenate
     else if n == 13 then o.Multiply
-    else o.Divide
+    else if n == 14 then o.Divide
+    else if n == 15 then o.DisjointUnion
+    else o.IncludedMinus
 
 pub operator_back : (op : Operator) → operator_numbered (operator_number op) ≡ op
 operator_back o.Or = refl
@@ -255,3 +286,5 @@ operator_back o.Subtract = refl
 operator_back o.Concatenate = refl
 operator_back o.Multiply = refl
 operator_back o.Divide = refl
+operator_back o.DisjointUnion = refl
+operator_back o.IncludedMinus = refl

@@ -5,7 +5,7 @@ use Rattle.std.specs.Coded.{Coded, code_by}
 use base.Stored.{Gv, gnil, gnum, gcons}
 use denote.Struct.Codes.{itself}
 use Rattle.td_tree.specs.code.NodeCode.{aggregate_number, aggregate_numbered, aggregate_back, attributes_to, attributes_from, attributes_back, bytes_to, bytes_from, bytes_back, comparison_number, comparison_numbered, comparison_back, literal_to, literal_from, literal_back, measure_number, measure_numbered, measure_back, number_in, operator_number, operator_numbered, operator_back, postfix_to, postfix_from, postfix_back, prefix_number, prefix_numbered, prefix_back}
-use Rattle.td_tree.specs.Trees.{TypeTree, AttributeTrees, no_attributes, Tree, literal, name, parentheses, prefix, extract, restriction, binary, compare, postfix, select, component, measure, aggregate, relation, headed_relation, tuple, extend, summarize_per, summarize_by, choice, Trees, none, more, NamedTrees, none_named, more_named, Summaries, no_summaries, counted, summed}
+use Rattle.td_tree.specs.Trees.{TypeTree, AttributeTrees, no_attributes, Tree, literal, name, parentheses, prefix, extract, restriction, binary, compare, postfix, select, component, measure, aggregate, relation, headed_relation, tuple, extend, extend_setting, summarize_per, summarize_by, choice, Trees, none, more, NamedTrees, none_named, more_named, Summaries, no_summaries, counted, summed}
 use Rattle.td_tree.specs.Trees as t
 
 -- a node: its number and its three parts
@@ -79,6 +79,7 @@ abbrev mutual
       node 16 (tree_to operand) (tree_to per) (summaries_to summaries)
   tree_to (summarize_by operand by summaries) =
       node 17 (tree_to operand) (attributes_to by) (summaries_to summaries)
+  tree_to (extend_setting operand settings) = node 20 (tree_to operand) (named_to settings) gnil
   tree_to (choice condition consequent alternative) =
       node 19 (tree_to condition) (tree_to consequent) (tree_to alternative)
 
@@ -115,6 +116,7 @@ abbrev mutual
       else if n == 13 then headed_relation (heading_from a) (trees_from b)
       else if n == 14 then tuple (named_from a)
       else if n == 15 then extend (tree_from a) (named_from b)
+      else if n == 20 then extend_setting (tree_from a) (named_from b)
       else if n == 16 then summarize_per (tree_from a) (tree_from b) (summaries_from c)
       else if n == 17 then summarize_by (tree_from a) (attributes_from b) (summaries_from c)
       else if n == 18 then restriction (tree_from a) (tree_from b)
@@ -156,6 +158,8 @@ mutual
   tree_back (headed_relation h elements) = λ i. headed_relation (heading_back h i) (trees_back elements i)
   tree_back (tuple parts) = ap tuple (named_back parts)
   tree_back (extend operand parts) = λ i. extend (tree_back operand i) (named_back parts i)
+  tree_back (extend_setting operand settings) =
+      λ i. extend_setting (tree_back operand i) (named_back settings i)
   tree_back (summarize_per operand per summaries) =
       λ i. summarize_per (tree_back operand i) (tree_back per i) (summaries_back summaries i)
   tree_back (summarize_by operand by summaries) =

@@ -59,10 +59,10 @@ renaming_view r = record { old = r.old; new = r.new }
 
 abbrev pub postfix_view : Postfix → trees.Postfix
 postfix_view (p.Project attributes) = trees.project (attributes_view attributes)
-postfix_view (p.Rename renamings) = trees.rename (map renaming_view renamings.items)
-postfix_view (p.Group attributes name) = trees.group (attributes_view attributes) name
+postfix_view (p.Rename style renamings) = trees.rename style (map renaming_view renamings.items)
+postfix_view (p.Group style attributes name) = trees.group style (attributes_view attributes) name
 postfix_view (p.Ungroup name) = trees.ungroup name
-postfix_view (p.Wrap attributes name) = trees.wrap (attributes_view attributes) name
+postfix_view (p.Wrap style attributes name) = trees.wrap style (attributes_view attributes) name
 postfix_view (p.Unwrap name) = trees.unwrap name
 
 abbrev mutual
@@ -86,6 +86,8 @@ abbrev mutual
       trees.headed_relation (heading_tree_view heading.items) (trees_row elements)
   tree_view (e.Tuple' _ parts) = trees.tuple (named_row parts)
   tree_view (e.Extend' _ operand _ parts) = trees.extend (tree_view operand) (named_row parts)
+  tree_view (e.ExtendSetting' _ operand _ parts) =
+      trees.extend_setting (tree_view operand) (named_row parts)
   tree_view (e.SummarizePer' _ operand _ per _ summaries) =
       trees.summarize_per (tree_view operand) (tree_view per) (summaries_row summaries)
   tree_view (e.SummarizeBy' _ operand by _ summaries) =
@@ -128,9 +130,11 @@ summaries_view (first ∷ rest) = with_summary first (summaries_view rest)
 abbrev pub assignment_view : Assignment → trees.Assignment
 assignment_view (a.Assign target source) = trees.assign target (tree_view source)
 assignment_view (a.Insert target source) = trees.insert target (tree_view source)
+assignment_view (a.DisjointInsert target source) = trees.disjoint_insert target (tree_view source)
 assignment_view (a.Delete target condition) = trees.delete target (option_map tree_view condition)
-assignment_view (a.Update target condition settings) =
-    trees.update target (option_map tree_view condition) (named_view settings.items)
+assignment_view (a.IncludedDelete target source) = trees.included_delete target (tree_view source)
+assignment_view (a.Update style target condition settings) =
+    trees.update style target (option_map tree_view condition) (named_view settings.items)
 
 -- the names of each key
 abbrev keys_view : List (Vec Text) → List (List Text)

@@ -3,13 +3,14 @@ ghost use Rattle.std.specs.Prelude.{◌≡◌, ◌∷◌, ◌++◌, [], IfOk, Li
 ghost use Rattle.std.specs.Rc.{rc_str_bytes};
 ghost use Rattle.std.specs.String.{string_bytes};
 ghost use Rattle.td_tree.specs.declared.keyword.Keyword.TheVariants as k;
+ghost use Rattle.td_tree.specs.declared.token.Sign.TheVariants as signs;
 ghost use Rattle.td_tree.specs.Grammar.{comparison_word, operator_words};
 ghost use Rattle.td_tree.specs.Lexemes.{Lexeme, spaced_text};
 ghost use Rattle.td_tree.specs.Lexemes as lexeme;
 ghost use Rattle.td_tree.specs.Lists.{with_parentheses};
-ghost use Rattle.td_tree.specs.Prints.{as_lexemes, attributes_lexemes, commas, literal_lexemes};
-ghost use Rattle.td_tree.specs.Prints.{name_lexemes, postfix_lexemes, prefix_words};
-ghost use Rattle.td_tree.specs.Prints.{renaming_lexemes};
+ghost use Rattle.td_tree.specs.Prints.{as_lexemes, attributes_lexemes, commas, gathering_between};
+ghost use Rattle.td_tree.specs.Prints.{literal_lexemes, name_lexemes, postfix_lexemes};
+ghost use Rattle.td_tree.specs.Prints.{prefix_words, renaming_lexemes, renamings_between};
 ghost use Rattle.td_tree.specs.code.TreeViews.{attributes_view, literal_view, postfix_view};
 ghost use Rattle.td_tree.specs.code.TreeViews.{renaming_view};
 ghost use Rattle.td_tree.specs.code.Written.{Writes, comma_lexeme_if, written_text};
@@ -17,7 +18,7 @@ ghost use Rattle.td_tree.specs.code.Written.{Writes, comma_lexeme_if, written_te
 use crate::expression::{Attributes, Literal, Postfix, Renaming};
 use crate::keyword::Keyword;
 use crate::name::Name;
-use crate::operator::{Comparison, Operator, Prefix};
+use crate::operator::{Comparison, Operator, Prefix, Style};
 use crate::quoted::put_quoted;
 use crate::token::Sign;
 use std::alloc::{AllocError, Global};
@@ -180,29 +181,71 @@ impl Printer {
         self.keyword(Keyword::As)?.name(name)
     }
 
+    /// A name and `:=`.
+    pub(super) fn target(self, name: &Name) -> Result<Printer, AllocError>
+        ensures { Writes self result (lexeme.name name.now ∷ (lexeme.sign signs.Assign ∷ [])) }
+    {
+        self.name(name)?.sign(Sign::Assign)
+    }
+
     fn renamings(self, renamings: &[Renaming]) -> Result<Printer, AllocError>
         ensures { Writes self result
-            (with_parentheses (commas (map renaming_lexemes (map renaming_view renamings.now)))) }
+            (commas (map renaming_lexemes (map renaming_view renamings.now))) }
     {
-        let mut out = self.sign(Sign::OpenParenthesis)?;
+        let mut out = self;
         let mut later = false;
         for renaming in renamings {
             out = out.comma(later)?.name(&renaming.old)?.alias(&renaming.new)?;
             later = true;
         }
-        out.sign(Sign::CloseParenthesis)
+        Ok(out)
     }
 
-    /// Attributes and the name of the one that they become, in parentheses.
-    fn gathering(self, attributes: &Attributes, name: &Name) -> Result<Printer, AllocError>
+    /// Renamings between the signs that the spelling wants.
+    fn rename(self, style: Style, renamings: &[Renaming]) -> Result<Printer, AllocError>
         ensures { Writes self result
-            (with_parentheses
+            (renamings_between style
+            (commas (map renaming_lexemes (map renaming_view renamings.now)))) }
+    {
+        match style {
+            Style::Older => {
+                let out = self.sign(Sign::OpenParenthesis)?;
+                out.renamings(renamings)?.sign(Sign::CloseParenthesis)
+            }
+            Style::Newer => {
+                let out = self.sign(Sign::OpenBrace)?;
+                out.renamings(renamings)?.sign(Sign::CloseBrace)
+            }
+        }
+    }
+
+    /// Attributes and the name of the one that they become.
+    fn gathered(self, attributes: &Attributes, name: &Name) -> Result<Printer, AllocError>
+        ensures { Writes self result
+            (attributes_lexemes (attributes_view attributes.now) ++ as_lexemes name.now) }
+    {
+        self.attributes(attributes)?.alias(name)
+    }
+
+    /// Attributes and the name of the one that they become, in parentheses where the spelling
+    /// wants them.
+    fn gathering(
+        self,
+        style: Style,
+        attributes: &Attributes,
+        name: &Name,
+    ) -> Result<Printer, AllocError>
+        ensures { Writes self result
+            (gathering_between style
             (attributes_lexemes (attributes_view attributes.now) ++ as_lexemes name.now)) }
     {
-        let out = self.sign(Sign::OpenParenthesis)?;
-        out.attributes(attributes)?
-            .alias(name)?
-            .sign(Sign::CloseParenthesis)
+        match style {
+            Style::Older => {
+                let out = self.sign(Sign::OpenParenthesis)?;
+                out.gathered(attributes, name)?.sign(Sign::CloseParenthesis)
+            }
+            Style::Newer => self.gathered(attributes, name),
+        }
     }
 
     fn parenthesized_name(self, name: &Name) -> Result<Printer, AllocError>
@@ -217,13 +260,17 @@ impl Printer {
     {
         match op {
             Postfix::Project(attributes) => self.attributes(attributes),
-            Postfix::Rename(renamings) => self.keyword(Keyword::Rename)?.renamings(renamings),
-            Postfix::Group(attributes, name) => {
-                self.keyword(Keyword::Group)?.gathering(attributes, name)
+            Postfix::Rename(style, renamings) => {
+                self.keyword(Keyword::Rename)?.rename(*style, renamings)
+            }
+            Postfix::Group(style, attributes, name) => {
+                self.keyword(Keyword::Group)?
+                    .gathering(*style, attributes, name)
             }
             Postfix::Ungroup(name) => self.keyword(Keyword::Ungroup)?.parenthesized_name(name),
-            Postfix::Wrap(attributes, name) => {
-                self.keyword(Keyword::Wrap)?.gathering(attributes, name)
+            Postfix::Wrap(style, attributes, name) => {
+                self.keyword(Keyword::Wrap)?
+                    .gathering(*style, attributes, name)
             }
             Postfix::Unwrap(name) => self.keyword(Keyword::Unwrap)?.parenthesized_name(name),
         }
@@ -254,6 +301,8 @@ impl Printer {
             Operator::Compose => self.keyword(Keyword::Compose),
             Operator::Matching => self.keyword(Keyword::Matching),
             Operator::NotMatching => self.keyword(Keyword::Not)?.keyword(Keyword::Matching),
+            Operator::DisjointUnion => self.keyword(Keyword::DUnion),
+            Operator::IncludedMinus => self.keyword(Keyword::IMinus),
             Operator::Add => self.sign(Sign::Plus),
             Operator::Subtract => self.sign(Sign::Minus),
             Operator::Concatenate => self.sign(Sign::Concatenate),

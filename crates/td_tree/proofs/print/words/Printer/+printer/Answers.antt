@@ -1,5 +1,5 @@
 use Rattle.std.proofs.Common.{◌≡◌, ◌∙◌, List, [], ◌∷◌, ◌++◌, ap, append-nil, refl, sym}
-use Rattle.td_tree.proofs.code_lemmas.Rows.{extend_is, headed_relation_is, relation_is, select_is, summarize_by_is, summarize_per_is, tuple_is}
+use Rattle.td_tree.proofs.code_lemmas.Rows.{extend_is, extend_setting_is, headed_relation_is, relation_is, select_is, summarize_by_is, summarize_per_is, tuple_is}
 use Rattle.td_tree.proofs.code_lemmas.Writing.{both_put, item_put, last_put}
 use Rattle.td_tree.specs.declared.expression.Summary.{Summary}
 use Rattle.td_tree.specs.declared.expression.Summary.TheVariants as s
@@ -8,7 +8,7 @@ use Rattle.td_tree.specs.declared.token.Sign.TheVariants as signs
 use Rattle.td_tree.specs.Grammar.{aggregate_word}
 use Rattle.td_tree.specs.Lexemes.{Lexeme, keyword, name, sign}
 use Rattle.td_tree.specs.Lists.{with_braces, with_parentheses}
-use Rattle.td_tree.specs.Prints.{addition_lexemes, all_lexemes, as_lexemes, attributes_lexemes, commas, heading_lexemes, lexemes_of, part_lexemes, summary_lexemes}
+use Rattle.td_tree.specs.Prints.{addition_lexemes, all_lexemes, as_lexemes, attributes_lexemes, commas, heading_lexemes, lexemes_of, part_lexemes, setting_lexemes, summary_lexemes}
 use Rattle.td_tree.specs.code.TreeViews.{attributes_view, heading_tree_view, named_view, summaries_view, tree_view, trees_view}
 use Rattle.td_tree.specs.code.Written.{comma_lexeme_if, written_text}
 use Rattle.td_tree.proofs.print.words.Printer.+printer.Goals as goal
@@ -23,6 +23,16 @@ additions-loop-part-preserved t c =
     c.part-item.result c.loop-part.out c.in_ok-out-2.out _ c.loop-part.later c.loop-part-test.true c.part-item.is
     (both_put c.loop-part.out c.in_ok-comma.field-0 c.in_ok-out-2.out (comma_lexeme_if c.loop-part.later) (value ++ alias) c.in_ok-comma.ensures
     (both_put c.in_ok-comma.field-0 c.in_ok-expr.field-0 c.in_ok-out-2.out value alias c.in_ok-expr.ensures c.in_ok-out-2.ensures))
+    c.loop-part.invariant
+
+pub settings-loop-part-preserved : goal.settings-loop-part-preserved
+settings-loop-part-preserved t c =
+    let target = name c.part-item.result.name ∷ (sign signs.Assign ∷ []) in
+    let value = lexemes_of (tree_view c.part-item.result.value) in
+    item_put (λ ps. setting_lexemes (named_view ps)) (λ p. name p.name ∷ (sign signs.Assign ∷ lexemes_of (tree_view p.value))) (λ x r. refl) c.args.parts.now c.loop-part.part-index
+    c.part-item.result c.loop-part.out c.in_ok-out-2.out _ c.loop-part.later c.loop-part-test.true c.part-item.is
+    (both_put c.loop-part.out c.in_ok-comma.field-0 c.in_ok-out-2.out (comma_lexeme_if c.loop-part.later) (target ++ value) c.in_ok-comma.ensures
+    (both_put c.in_ok-comma.field-0 c.in_ok-target.field-0 c.in_ok-out-2.out target value c.in_ok-target.ensures c.in_ok-out-2.ensures))
     c.loop-part.invariant
 
 -- the lexemes of one summary
@@ -98,6 +108,14 @@ expr-returns-in_ok-after-in-Extend t c =
     ((cc (c.deref-in-Extend.ensures, c.deref-in-Extend-2.ensures.value))
     ∙ sym (ap lexemes_of (ap tree_view c.in-Extend.is ∙ extend_is c.in-Extend.operand c.in-Extend.parts)))
     c.in_ok-after-in-Extend.ensures c.additions.ensures
+
+pub expr-returns-in_ok-after-in-ExtendSetting : goal.expr-returns-in_ok-after-in-ExtendSetting
+expr-returns-in_ok-after-in-ExtendSetting t c =
+    last_put c.settings.result _ _ (keyword k.Extend ∷ lexemes_of (tree_view c.deref-in-ExtendSetting.result.now))
+    (sign signs.Colon ∷ with_braces (commas (setting_lexemes (named_view c.deref-in-ExtendSetting-2.result.now)))) _
+    ((cc (c.deref-in-ExtendSetting.ensures, c.deref-in-ExtendSetting-2.ensures.value))
+    ∙ sym (ap lexemes_of (ap tree_view c.in-ExtendSetting.is ∙ extend_setting_is c.in-ExtendSetting.operand c.in-ExtendSetting.parts)))
+    c.in_ok-after-in-ExtendSetting.ensures c.settings.ensures
 
 pub expr-returns-in_ok-per-in-SummarizePer : goal.expr-returns-in_ok-per-in-SummarizePer
 expr-returns-in_ok-per-in-SummarizePer t c =

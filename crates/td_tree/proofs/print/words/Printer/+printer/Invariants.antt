@@ -1,6 +1,6 @@
 use Rattle.std.proofs.Common.{◌≡◌, ◌++◌, drop}
 use Rattle.td_tree.proofs.code_lemmas.Writing.{listed}
-use Rattle.td_tree.specs.Prints.{addition_lexemes, all_lexemes, commas, part_lexemes, summary_lexemes}
+use Rattle.td_tree.specs.Prints.{addition_lexemes, all_lexemes, commas, part_lexemes, setting_lexemes, summary_lexemes}
 use Rattle.td_tree.specs.code.TreeViews.{named_view, summaries_view, trees_view}
 use Rattle.td_tree.specs.code.Written.{written_text}
 use Rattle.td_tree.proofs.print.words.Printer.+printer.Given as goal
@@ -24,6 +24,11 @@ abbrev pub invariant-additions-loop-part : goal.invariant-additions-loop-part
 invariant-additions-loop-part l =
     l.out ++ written_text (listed l.later (addition_lexemes (named_view (drop l.part-index l.parts))))
     ≡ l.initial.out ++ written_text (commas (addition_lexemes (named_view l.parts)))
+
+abbrev pub invariant-settings-loop-part : goal.invariant-settings-loop-part
+invariant-settings-loop-part l =
+    l.out ++ written_text (listed l.later (setting_lexemes (named_view (drop l.part-index l.parts))))
+    ≡ l.initial.out ++ written_text (commas (setting_lexemes (named_view l.parts)))
 
 abbrev pub invariant-summaries-loop-summary : goal.invariant-summaries-loop-summary
 invariant-summaries-loop-summary l =
