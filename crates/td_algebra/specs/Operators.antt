@@ -93,6 +93,10 @@ difference r s = restriction (λ t. not (has tuple_cmp t s.body)) r
 abbrev pub is_subset : Relation → Relation → Bool
 is_subset r s = list_all (λ t. has tuple_cmp t s.body) r.body
 
+-- whether no tuple is in both
+abbrev pub is_disjoint : Relation → Relation → Bool
+is_disjoint r s = list_all (λ t. not (has tuple_cmp t s.body)) r.body
+
 -- ---- operators on two relations whose common attributes have one type each
 
 -- whether a tuple of the first and one of the second agree on the common names

@@ -1,6 +1,6 @@
 -- Whether an expression cannot fail: none of its nodes is of a kind that may have no value though its operands have values
--- (this project's own). Arithmetic, counts and sums may leave the range of INTEGER, and a quotient may be by zero; MAX and MIN
--- may be of no tuple; TUPLE FROM may be of none or of several; a virtual relvar is an expression that may do any of this; and
+-- (this project's own). Arithmetic, counts and sums may leave the range of INTEGER, and a quotient may be by zero; D_UNION may be
+-- of relations that overlap, and I_MINUS of one that lacks a tuple of the other; MAX and MIN may be of no tuple; TUPLE FROM may be of none or of several; a virtual relvar is an expression that may do any of this; and
 -- a constraint may refuse what is selected.
 use Rattle.std.specs.Prelude.{ℕ, Bool, true, false, not, ◌&&◌, ◌||◌, List, Option, Some, None, is_some}
 use Rattle.std.specs.List.{list_all}
@@ -16,18 +16,20 @@ use Rattle.td_tree.specs.declared.operator.Operator.TheVariants as operators
 use Rattle.td_tree.specs.declared.operator.Prefix.{Prefix}
 use Rattle.td_tree.specs.declared.operator.Prefix.TheVariants as prefixes
 use Rattle.td_tree.specs.Outcomes.{Outcome, Valued, with_value}
-use Rattle.td_tree.specs.Trees.{Tree, literal, name, parentheses, prefix, extract, restriction, binary, compare, postfix, select, component, measure, aggregate, relation, headed_relation, tuple, extend, summarize_per, summarize_by, choice, Trees, none, more, NamedTrees, none_named, more_named, Summaries, no_summaries, counted, summed}
+use Rattle.td_tree.specs.Trees.{Tree, literal, name, parentheses, prefix, extract, restriction, binary, compare, postfix, select, component, measure, aggregate, relation, headed_relation, tuple, extend, extend_setting, summarize_per, summarize_by, choice, Trees, none, more, NamedTrees, none_named, more_named, Summaries, no_summaries, counted, summed}
 use Rattle.td_types.specs.TypeLists.{DeclaredType, declared_at}
 
 -- ---- kinds of nodes
 
--- whether the operator cannot fail: + - * / may
+-- whether the operator cannot fail: + - * / may, and so may D_UNION and I_MINUS
 abbrev pub operator_cannot_fail : Operator → Bool
 operator_cannot_fail operators.Or = true
 operator_cannot_fail operators.And = true
 operator_cannot_fail operators.Union = true
 operator_cannot_fail operators.Intersect = true
 operator_cannot_fail operators.Minus = true
+operator_cannot_fail operators.DisjointUnion = false
+operator_cannot_fail operators.IncludedMinus = false
 operator_cannot_fail operators.Join = true
 operator_cannot_fail operators.Times = true
 operator_cannot_fail operators.Compose = true
@@ -105,6 +107,8 @@ abbrev mutual
   cannot_fail scope (tuple parts) = parts_cannot_fail scope parts
   cannot_fail scope (extend operand parts) =
       cannot_fail scope operand && parts_cannot_fail (in_tuples scope (type_of scope operand)) parts
+  cannot_fail scope (extend_setting operand settings) =
+      cannot_fail scope operand && parts_cannot_fail (in_tuples scope (type_of scope operand)) settings
   cannot_fail scope (summarize_per operand per summaries) =
       items_cannot_fail summaries && (cannot_fail scope operand && cannot_fail scope per)
   cannot_fail scope (summarize_by operand by summaries) = items_cannot_fail summaries && cannot_fail scope operand
@@ -146,6 +150,7 @@ abbrev mutual
   unfailing types (headed_relation heading elements) = all_unfailing types elements
   unfailing types (tuple parts) = parts_unfailing types parts
   unfailing types (extend operand parts) = unfailing types operand && parts_unfailing types parts
+  unfailing types (extend_setting operand settings) = unfailing types operand && parts_unfailing types settings
   unfailing types (summarize_per operand per summaries) =
       items_cannot_fail summaries && (unfailing types operand && unfailing types per)
   unfailing types (summarize_by operand by summaries) = items_cannot_fail summaries && unfailing types operand

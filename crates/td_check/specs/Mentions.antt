@@ -7,7 +7,7 @@ use Rattle.std.specs.BTreeSet.{insert_key}
 use Rattle.td_check.specs.Scopes.{Scope, entered_with, innermost, known_relvar}
 use Rattle.td_check.specs.StaticTypes.{type_of}
 use Rattle.td_tree.specs.Outcomes.{Outcome, Valued, with_value}
-use Rattle.td_tree.specs.Trees.{TypeTree, AttributeTrees, no_attributes, attribute, user, tuple_type, relation_type, Tree, literal, name, parentheses, prefix, extract, restriction, binary, compare, postfix, select, component, measure, aggregate, relation, headed_relation, tuple, extend, summarize_per, summarize_by, choice, Trees, none, more, NamedTrees, none_named, more_named, Summaries, no_summaries, counted, summed}
+use Rattle.td_tree.specs.Trees.{TypeTree, AttributeTrees, no_attributes, attribute, user, tuple_type, relation_type, Tree, literal, name, parentheses, prefix, extract, restriction, binary, compare, postfix, select, component, measure, aggregate, relation, headed_relation, tuple, extend, extend_setting, summarize_per, summarize_by, choice, Trees, none, more, NamedTrees, none_named, more_named, Summaries, no_summaries, counted, summed}
 use Rattle.td_tree.specs.Trees as trees
 use Rattle.td_types.specs.Types as types
 
@@ -46,6 +46,8 @@ abbrev mutual
   relvars_in scope (tuple parts) = relvars_in_named scope parts
   relvars_in scope (extend operand parts) =
       relvars_in scope operand ++ relvars_in_named (in_tuples scope (type_of scope operand)) parts
+  relvars_in scope (extend_setting operand settings) =
+      relvars_in scope operand ++ relvars_in_named (in_tuples scope (type_of scope operand)) settings
   relvars_in scope (summarize_per operand per summaries) =
       relvars_in scope operand ++ (relvars_in_items (in_tuples scope (type_of scope operand)) summaries
       ++ relvars_in scope per)
@@ -103,6 +105,7 @@ abbrev mutual
   types_in (headed_relation heading elements) = types_named_in heading ++ types_in_all elements
   types_in (tuple parts) = types_in_named parts
   types_in (extend operand parts) = types_in operand ++ types_in_named parts
+  types_in (extend_setting operand settings) = types_in operand ++ types_in_named settings
   types_in (summarize_per operand per summaries) =
       types_in operand ++ (types_in_items summaries ++ types_in per)
   types_in (summarize_by operand by summaries) = types_in operand ++ types_in_items summaries

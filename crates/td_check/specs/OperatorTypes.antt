@@ -84,6 +84,11 @@ extended_by h attributes =
     value_if (are_distinct (attribute_names attributes) && list_all (λ a. not (has_attribute a.0 h)) attributes)
     (fold with_attribute h attributes) causes.Heading
 
+-- a heading with attributes set: one of a name that is there is replaced, others are added; a name twice is HEADING
+abbrev pub set_heading : Heading → List Attribute → Outcome Heading
+set_heading h attributes =
+    value_if (are_distinct (attribute_names attributes)) (heading_union (outside attributes h) attributes) causes.Heading
+
 -- the heading of two that have no common attribute
 abbrev pub joined_apart : Heading → Heading → Outcome Heading
 joined_apart g h = value_if (have_no_common g h) (heading_union g h) causes.Heading
@@ -137,11 +142,11 @@ abbrev pub postfix_type : Postfix → Type' → Outcome Type'
 -- projection asks a relation with the names, each once
 postfix_type (project attributes) t = over_relation t (λ h. relation_if (named_part attributes h))
 -- RENAME asks a relation with the old names, each once, and new names that are distinct
-postfix_type (rename renamings) t = over_relation t (λ h. relation_if (renamed_heading (renaming_pairs renamings) h))
+postfix_type (rename style renamings) t = over_relation t (λ h. relation_if (renamed_heading (renaming_pairs renamings) h))
 -- GROUP and WRAP ask what projection does, and a new name that is none of the remaining
-postfix_type (group attributes name) t = over_relation t (λ h. with_value (named_part attributes h)
+postfix_type (group style attributes name) t = over_relation t (λ h. with_value (named_part attributes h)
     (λ part. relation_if (extended_heading (outside part h) (name, relation (pack part)))))
-postfix_type (wrap attributes name) t = over_relation t (λ h. with_value (named_part attributes h)
+postfix_type (wrap style attributes name) t = over_relation t (λ h. with_value (named_part attributes h)
     (λ part. relation_if (extended_heading (outside part h) (name, tuple (pack part)))))
 -- UNGROUP and UNWRAP ask a relation, an attribute of a relation or tuple type, and that none of its names is one of the
 -- remaining
@@ -172,10 +177,12 @@ abbrev pub operator_type : Operator → Type' → Type' → Outcome Type'
 -- AND and OR ask BOOLEAN
 operator_type operators.Or s t = both_of boolean s t
 operator_type operators.And s t = both_of boolean s t
--- UNION, INTERSECT and MINUS ask relations of one heading
+-- UNION, INTERSECT, MINUS, D_UNION and I_MINUS ask relations of one heading
 operator_type operators.Union s t = of_one_heading s t
 operator_type operators.Intersect s t = of_one_heading s t
 operator_type operators.Minus s t = of_one_heading s t
+operator_type operators.DisjointUnion s t = of_one_heading s t
+operator_type operators.IncludedMinus s t = of_one_heading s t
 -- JOIN, COMPOSE, MATCHING and NOT MATCHING ask relations whose common attributes have one type
 operator_type operators.Join s t = over_relations s t (λ g h. relation_if (united_heading g h))
 operator_type operators.Compose s t = over_relations s t (λ g h. relation_if (composed_heading g h))
@@ -256,6 +263,10 @@ tuple_type attributes = with_value (made_heading attributes) (λ h. Valued (tupl
 -- EXTEND asks new names that are distinct
 abbrev pub extension_type : Heading → List Attribute → Outcome Type'
 extension_type h attributes = relation_if (extended_by h attributes)
+
+-- EXTEND with settings asks distinct names
+abbrev pub setting_type : Heading → List Attribute → Outcome Type'
+setting_type h attributes = relation_if (set_heading h attributes)
 
 -- what SUMMARIZE adds: a count, or an aggregate of an expression of a type
 pub data Item : Type 0 where

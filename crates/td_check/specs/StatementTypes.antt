@@ -10,7 +10,7 @@ use Rattle.td_check.specs.StaticTypes.{named_types, type_of}
 use Rattle.td_tree.specs.declared.cause.Cause.{Cause}
 use Rattle.td_tree.specs.declared.cause.Cause.TheVariants as causes
 use Rattle.td_tree.specs.Outcomes.{Outcome, Valued, Refused, Only, gathered, with_value, with_both, value_if}
-use Rattle.td_tree.specs.Trees.{AttributeTrees, Tree, Assignment, assign, insert, delete, update, Statement, empty, define_type, drop_type, define_base, define_virtual, drop_var, define_constraint, drop_constraint, assign_all, begin_transaction, commit, rollback, write, dump}
+use Rattle.td_tree.specs.Trees.{AttributeTrees, Tree, Assignment, assign, insert, disjoint_insert, delete, included_delete, update, Statement, empty, define_type, drop_type, define_base, define_virtual, drop_var, define_constraint, drop_constraint, assign_all, begin_transaction, commit, rollback, write, dump}
 use Rattle.td_types.specs.Headings.{are_distinct, has_attributes, has_name, heading_from}
 use Rattle.td_types.specs.TypeLists.{DeclaredType, attributes_meant, heading_meant, is_declared, limited_rank}
 use Rattle.td_types.specs.Types.{Type', boolean, tuple, relation, Attribute, Heading, attribute_names, pack}
@@ -93,7 +93,7 @@ abbrev pub is_target : Option KnownRelvar → Outcome ⊤
 is_target None = Refused (Only causes.NameUnknown)
 is_target (Some r) = elim r.kind as (λ _. Outcome ⊤) [ kinds.Base ↦ Valued tt | kinds.Virtual ↦ Refused (Only causes.NotAssignable) ]
 
--- what is assigned or inserted: a relation, of the target's heading where that is known
+-- what is assigned, inserted or taken away: a relation, of the target's heading where that is known
 abbrev pub source_fits : Option KnownRelvar → Type' → Outcome ⊤
 source_fits None t = over_relation t (λ g. Valued tt)
 source_fits (Some r) t = relation_fits r.heading t
@@ -125,10 +125,16 @@ assignment_checked scope (assign target source) =
 assignment_checked scope (insert target source) =
     both_hold (is_target (known_relvar scope target))
     (with_value (type_of scope source) (source_fits (known_relvar scope target)))
+assignment_checked scope (disjoint_insert target source) =
+    both_hold (is_target (known_relvar scope target))
+    (with_value (type_of scope source) (source_fits (known_relvar scope target)))
 assignment_checked scope (delete target condition) =
     both_hold (is_target (known_relvar scope target))
     (in_target scope (known_relvar scope target) (λ inside h. with_value (type_if_given inside condition) condition_fits))
-assignment_checked scope (update target condition settings) =
+assignment_checked scope (included_delete target source) =
+    both_hold (is_target (known_relvar scope target))
+    (with_value (type_of scope source) (source_fits (known_relvar scope target)))
+assignment_checked scope (update style target condition settings) =
     both_hold (is_target (known_relvar scope target))
     (in_target scope (known_relvar scope target) (λ inside h. with_both (type_if_given inside condition) (named_types inside settings)
     (λ c values. both_hold (condition_fits c) (settings_fit h values))))

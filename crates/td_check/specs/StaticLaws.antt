@@ -10,7 +10,7 @@ use Rattle.td_check.specs.StaticTypes.{items_of, named_types, type_of, types_of}
 use Rattle.td_check.specs.WrittenNames.{names_in}
 use Rattle.td_tree.specs.Names.{IsName}
 use Rattle.td_tree.specs.Outcomes.{Outcome, Valued}
-use Rattle.td_tree.specs.Trees.{Postfix, project, rename, group, ungroup, wrap, unwrap, Tree, literal, name, parentheses, prefix, extract, restriction, binary, compare, postfix, select, component, measure, aggregate, headed_relation, extend, summarize_per, summarize_by, choice, Trees, none, more, NamedTrees, none_named, more_named, Summaries, no_summaries, counted, summed}
+use Rattle.td_tree.specs.Trees.{Postfix, project, rename, group, ungroup, wrap, unwrap, Tree, literal, name, parentheses, prefix, extract, restriction, binary, compare, postfix, select, component, measure, aggregate, headed_relation, extend, extend_setting, summarize_per, summarize_by, choice, Trees, none, more, NamedTrees, none_named, more_named, Summaries, no_summaries, counted, summed}
 use Rattle.td_tree.specs.Trees as trees
 use Rattle.td_types.specs.Headings.{has_name}
 use Rattle.td_types.specs.TypeListLaws.{HaveNames}
@@ -48,10 +48,10 @@ pub record ScopesAreKept : Type 0 where
 -- the names that an operator gives to attributes are names
 abbrev pub OperatorGivesNames : Postfix → Type 0
 OperatorGivesNames (project attributes) = ⊤
-OperatorGivesNames (rename renamings) = AllByRecursion (λ r. IsName r.new) renamings
-OperatorGivesNames (group attributes n) = IsName n
+OperatorGivesNames (rename style renamings) = AllByRecursion (λ r. IsName r.new) renamings
+OperatorGivesNames (group style attributes n) = IsName n
 OperatorGivesNames (ungroup n) = ⊤
-OperatorGivesNames (wrap attributes n) = IsName n
+OperatorGivesNames (wrap style attributes n) = IsName n
 OperatorGivesNames (unwrap n) = ⊤
 
 abbrev mutual
@@ -74,6 +74,7 @@ abbrev mutual
   GivesNames (headed_relation heading elements) = HaveNames heading × GiveNames elements
   GivesNames (trees.tuple parts) = PartsGiveNames parts
   GivesNames (extend operand parts) = GivesNames operand × PartsGiveNames parts
+  GivesNames (extend_setting operand settings) = GivesNames operand × PartsGiveNames settings
   GivesNames (summarize_per operand per summaries) = GivesNames operand × GivesNames per × ItemsGiveNames summaries
   GivesNames (summarize_by operand by summaries) = GivesNames operand × ItemsGiveNames summaries
   GivesNames (choice condition consequent alternative) = GivesNames condition × GivesNames consequent × GivesNames alternative

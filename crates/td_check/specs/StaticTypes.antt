@@ -2,11 +2,11 @@
 -- own). The causes of all parts count; a node's rule is tested only where its parts have types. A
 -- part that stands in an operand's tuples is checked only where that operand is a relation.
 use Rattle.std.specs.Prelude.{ℕ, List, [], ◌∷◌, Option, Some, None}
-use Rattle.td_check.specs.OperatorTypes.{Item, count_item, aggregate_item, aggregate_type, choice_type, comparison_type, component_type, extension_type, extracted_type, headed_type, known_or, listed_type, measure_type, mismatch, named_part, operator_type, over_relation, per_heading, postfix_type, prefix_type, selector_type, summary_type, tuple_type, restriction_type}
+use Rattle.td_check.specs.OperatorTypes.{Item, count_item, aggregate_item, aggregate_type, choice_type, comparison_type, component_type, extension_type, extracted_type, headed_type, known_or, listed_type, measure_type, mismatch, named_part, operator_type, over_relation, per_heading, postfix_type, prefix_type, selector_type, setting_type, summary_type, tuple_type, restriction_type}
 use Rattle.td_check.specs.Scopes.{Scope, entered_with, innermost, known_relvar}
 use Rattle.td_tree.specs.declared.cause.Cause.TheVariants as causes
 use Rattle.td_tree.specs.Outcomes.{Outcome, Valued, with_value, with_both}
-use Rattle.td_tree.specs.Trees.{Literal, number, text, truth, table_dee, table_dum, Tree, literal, name, parentheses, prefix, extract, restriction, binary, compare, postfix, select, component, measure, aggregate, relation, headed_relation, tuple, extend, summarize_per, summarize_by, choice, Trees, none, more, NamedTrees, none_named, more_named, Summaries, no_summaries, counted, summed}
+use Rattle.td_tree.specs.Trees.{Literal, number, text, truth, table_dee, table_dum, Tree, literal, name, parentheses, prefix, extract, restriction, binary, compare, postfix, select, component, measure, aggregate, relation, headed_relation, tuple, extend, extend_setting, summarize_per, summarize_by, choice, Trees, none, more, NamedTrees, none_named, more_named, Summaries, no_summaries, counted, summed}
 use Rattle.td_types.specs.TypeLists.{heading_meant}
 use Rattle.td_types.specs.Types.{Type', boolean, integer, char, no_attrs, Attribute, Heading, pack}
 use Rattle.td_types.specs.Types as types
@@ -58,6 +58,8 @@ abbrev mutual
   type_of scope (tuple parts) = with_value (named_types scope parts) tuple_type
   type_of scope (extend operand parts) =
       with_value (type_of scope operand) (λ s. over_relation s (λ h. with_value (named_types (entered_with h scope) parts) (extension_type h)))
+  type_of scope (extend_setting operand settings) =
+      with_value (type_of scope operand) (λ s. over_relation s (λ h. with_value (named_types (entered_with h scope) settings) (setting_type h)))
   type_of scope (summarize_per operand per summaries) =
       with_both (with_value (type_of scope operand) (λ s. with_items s (λ h. items_of (entered_with h scope) summaries))) (type_of scope per)
       (λ operand_items t. elim operand_items as (λ _. Outcome Type') [

@@ -12,8 +12,9 @@ use Rattle.td_eval.specs.OperatorValues.{on_relation, set_value}
 use Rattle.td_eval.specs.TreeValues.{value_of, values_in_tuples}
 use Rattle.td_eval.specs.Worlds.{World}
 use Rattle.td_tree.specs.Outcomes.{Outcome, Valued, gathered, value_if, with_value}
-use Rattle.td_tree.specs.Trees.{Tree, name, binary, prefix, parentheses, Assignment, assign, insert, delete, update, NamedTrees, none_named, more_named, restriction}
+use Rattle.td_tree.specs.Trees.{Tree, name, binary, prefix, parentheses, Assignment, assign, insert, disjoint_insert, delete, included_delete, update, NamedTrees, none_named, more_named, restriction}
 use Rattle.td_tree.specs.declared.cause.Cause.TheVariants as causes
+use Rattle.td_tree.specs.declared.operator.Operator.{Operator}
 use Rattle.td_tree.specs.declared.operator.Operator.TheVariants as operators
 use Rattle.td_tree.specs.declared.operator.Prefix.TheVariants as prefixes
 use Rattle.td_types.specs.Headings.{are_distinct}
@@ -49,9 +50,9 @@ of_heading target r = value_if (same_heading r.heading target.heading) r causes.
 abbrev pub relation_for : Relation → World → Tree → Outcome Relation
 relation_for target w e = with_value (value_of w [] e) (λ v. on_relation v (of_heading target))
 
--- INSERT R x is R := R UNION (x)
-abbrev pub with_inserted : List ℕ → Tree → Tree
-with_inserted target source = binary (name target) operators.Union (parentheses source)
+-- R UNION (x), R D_UNION (x) or R I_MINUS (x), for a target R
+abbrev pub combined_with : List ℕ → Operator → Tree → Tree
+combined_with target op source = binary (name target) op (parentheses source)
 
 -- DELETE R WHERE p is R := R WHERE NOT (p)
 abbrev pub without_deleted : List ℕ → Tree → Tree
@@ -83,17 +84,22 @@ updated_relation cur names fs chosen =
 -- what an assignment gives to its target, whose relation so far is this
 abbrev pub assignment_value : World → Relation → Assignment → Outcome Relation
 assignment_value w cur (assign target source) = relation_for cur w source
-assignment_value w cur (insert target source) = relation_for cur w (with_inserted target source)
+-- INSERT R x is R := R UNION (x), D_INSERT R x is R := R D_UNION (x), and I_DELETE R x is R := R I_MINUS (x)
+assignment_value w cur (insert target source) = relation_for cur w (combined_with target operators.Union source)
+assignment_value w cur (disjoint_insert target source) = relation_for cur w (combined_with target operators.DisjointUnion source)
 assignment_value w cur (delete target None) = Valued (relation_view cur.heading [])
 assignment_value w cur (delete target (Some p)) = relation_for cur w (without_deleted target p)
-assignment_value w cur (update target condition settings) =
+assignment_value w cur (included_delete target source) = relation_for cur w (combined_with target operators.IncludedMinus source)
+assignment_value w cur (update style target condition settings) =
     with_value (chosen_for cur w target condition) (updated_relation cur (setting_names settings) (values_in_tuples w [] settings))
 
 abbrev pub target_of : Assignment → List ℕ
 target_of (assign target source) = target
 target_of (insert target source) = target
+target_of (disjoint_insert target source) = target
 target_of (delete target condition) = target
-target_of (update target condition settings) = target
+target_of (included_delete target source) = target
+target_of (update style target condition settings) = target
 
 -- ---- all of a statement
 

@@ -5,8 +5,8 @@ use Rattle.std.specs.Prelude.{ℕ, ℤ, pos, negsuc, neg_ℤ, ◌+ℤ◌, ◌-�
 use Rattle.std.specs.Cmp.Lexicographic.{slice_cmp}
 use Rattle.std.specs.List.{zip}
 use Rattle.std.specs.Ordering.{eq_by_cmp, int_cmp, is_le, nat_cmp}
-use Rattle.td_algebra.specs.Operators.{Addition, composition, difference, extended_relation, intersection, is_subset, join, product, projected_relation, renamed_relation, restriction, semidifference, semijoin, set_relation, union}
-use Rattle.td_check.specs.OperatorTypes.{attribute_type, equality_type, extended_by, known_or, mismatch, named_part, over_relation, over_tuple, renaming_pairs, same_heading, same_type}
+use Rattle.td_algebra.specs.Operators.{Addition, composition, difference, extended_relation, intersection, is_disjoint, is_subset, join, product, projected_relation, renamed_relation, restriction, semidifference, semijoin, set_relation, union}
+use Rattle.td_check.specs.OperatorTypes.{attribute_type, equality_type, extended_by, known_or, mismatch, named_part, over_relation, over_tuple, renaming_pairs, same_heading, same_type, set_heading}
 use Rattle.td_group.specs.Closure.{closure}
 use Rattle.td_group.specs.Nesting.{can_nest, can_unnest, grouped_relation, unnested_relation, wrapped_relation}
 use Rattle.td_tree.specs.declared.cause.Cause.TheVariants as causes
@@ -143,11 +143,11 @@ nested_names attributes name h =
 abbrev pub postfix_value : Postfix → Val → Outcome Val
 postfix_value (project attributes) v =
     on_relation v (λ r. relation_where (has_projection (listed_names attributes) r.heading) (projected_relation (projected_names attributes r.heading) r))
-postfix_value (rename renamings) v =
+postfix_value (rename style renamings) v =
     on_relation v (λ r. relation_where (can_rename (renaming_pairs renamings) r.heading) (renamed_relation (renaming_pairs renamings) r))
-postfix_value (group attributes name) v =
+postfix_value (group style attributes name) v =
     on_relation v (λ r. with_value (nested_names attributes name r.heading) (λ names. of_relation (grouped_relation names name r)))
-postfix_value (wrap attributes name) v =
+postfix_value (wrap style attributes name) v =
     on_relation v (λ r. with_value (nested_names attributes name r.heading) (λ names. of_relation (wrapped_relation names name r)))
 -- an attribute that is missing is HEADING, one of another type TYPE_MISMATCH, and HEADING is a name in it that one of the
 -- remaining has
@@ -168,12 +168,27 @@ is_zero (negsuc n) = false
 abbrev pub quotient : ℤ → ℤ → Outcome Val
 quotient x y = if is_zero y then Refused (Only causes.ZeroDivisor) else of_number (int_div x y)
 
+-- r D_UNION s: where a tuple is in both it is NOT_DISJOINT, else their union
+abbrev pub disjoint_union : Relation → Relation → Outcome Relation
+disjoint_union r s = value_if (is_disjoint r s) (union r s) causes.NotDisjoint
+
+-- r I_MINUS s: where a tuple of s is not in r it is NOT_INCLUDED, else their difference
+abbrev pub included_difference : Relation → Relation → Outcome Relation
+included_difference r s = value_if (is_subset s r) (difference r s) causes.NotIncluded
+
+-- what two relations of one heading give, else HEADING
+abbrev pub over_one_heading : (Relation → Relation → Outcome Relation) → Relation → Relation → Outcome Val
+over_one_heading f r s =
+    with_value (value_if (same_heading r.heading s.heading) s causes.Heading) (λ same. with_value (f r same) of_relation)
+
 abbrev pub operator_value : Operator → Val → Val → Outcome Val
 operator_value operators.Or v w = on_truths v w (λ a b. of_truth (a || b))
 operator_value operators.And v w = on_truths v w (λ a b. of_truth (a && b))
 operator_value operators.Union v w = on_relations v w (λ r s. relation_where (same_heading r.heading s.heading) (union r s))
 operator_value operators.Intersect v w = on_relations v w (λ r s. relation_where (same_heading r.heading s.heading) (intersection r s))
 operator_value operators.Minus v w = on_relations v w (λ r s. relation_where (same_heading r.heading s.heading) (difference r s))
+operator_value operators.DisjointUnion v w = on_relations v w (over_one_heading disjoint_union)
+operator_value operators.IncludedMinus v w = on_relations v w (over_one_heading included_difference)
 operator_value operators.Join v w = on_relations v w (λ r s. relation_where (agree r.heading s.heading) (join r s))
 operator_value operators.Times v w = on_relations v w (λ r s. relation_where (have_no_common r.heading s.heading) (product r s))
 operator_value operators.Compose v w = on_relations v w (λ r s. relation_where (agree r.heading s.heading) (composition r s))
@@ -294,3 +309,10 @@ extended_value types fs r =
 abbrev pub set_value : List Attribute → List (Tuple → Outcome Val) → Relation → Outcome Relation
 set_value attributes fs r =
     with_value (gathered (columns_values attributes fs r.body)) (λ columns. Valued (set_relation (additions_of attributes fs) r))
+
+-- EXTEND r : {A := e, ..}: where each e has a value for each tuple, the tuples with each attribute set to the value of its e, all
+-- at once. The types of the attributes are the static ones, since a relation may have no tuple that tells them
+abbrev pub extended_by_settings : Outcome (List Attribute) → List (Tuple → Outcome Val) → Relation → Outcome Val
+extended_by_settings types fs r =
+    with_value types (λ attributes. with_value (set_heading r.heading attributes)
+    (λ heading. with_value (set_value attributes fs r) of_relation))

@@ -1,6 +1,6 @@
 -- The texts in an expression are UTF-8, at every depth (this project's own: what tokens spell is such).
 use Rattle.std.specs.Prelude.{IsUtf8, ⊤}
-use Rattle.td_tree.specs.Trees.{Literal, number, text, truth, table_dee, table_dum, Tree, literal, name, parentheses, prefix, extract, restriction, binary, compare, postfix, select, component, measure, aggregate, relation, headed_relation, tuple, extend, summarize_per, summarize_by, choice, Trees, none, more, NamedTrees, none_named, more_named, Summaries, no_summaries, counted, summed}
+use Rattle.td_tree.specs.Trees.{Literal, number, text, truth, table_dee, table_dum, Tree, literal, name, parentheses, prefix, extract, restriction, binary, compare, postfix, select, component, measure, aggregate, relation, headed_relation, tuple, extend, extend_setting, summarize_per, summarize_by, choice, Trees, none, more, NamedTrees, none_named, more_named, Summaries, no_summaries, counted, summed}
 
 abbrev pub IsUtf8Literal : Literal → Type 0
 IsUtf8Literal (number minus magnitude) = ⊤
@@ -28,6 +28,7 @@ abbrev mutual
   HasTexts (headed_relation heading elements) = HaveTexts elements
   HasTexts (tuple parts) = PartsHaveTexts parts
   HasTexts (extend operand parts) = HasTexts operand × PartsHaveTexts parts
+  HasTexts (extend_setting operand settings) = HasTexts operand × PartsHaveTexts settings
   HasTexts (summarize_per operand per items) = HasTexts operand × HasTexts per × ItemsHaveTexts items
   HasTexts (summarize_by operand by items) = HasTexts operand × ItemsHaveTexts items
   HasTexts (choice condition consequent alternative) = HasTexts condition × HasTexts consequent × HasTexts alternative

@@ -30,6 +30,8 @@ IsDynamic causes.ZeroDivisor = ⊤
 IsDynamic causes.EmptyAggregate = ⊤
 IsDynamic causes.NotOneTuple = ⊤
 IsDynamic causes.TypeConstraint = ⊤
+IsDynamic causes.NotDisjoint = ⊤
+IsDynamic causes.NotIncluded = ⊤
 IsDynamic _ = ⊥
 
 -- each of the causes is such a one
