@@ -131,7 +131,7 @@ class Definition:
             yield dict(zip(named, chosen))
 
     def symbol(self, family, index, known):
-        """The symbol of a type: what is not too high is spelled as what may be."""
+        """The symbol of a type. What a record holds to be not too high is spelled by its field."""
         family = known.get(family, family)
         if family in self.equations:
             family, *index = nested(iter(self.equations[family][0][1]))
