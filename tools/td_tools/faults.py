@@ -231,12 +231,15 @@ def told_part(asking, found):
 def there_already(asking, part, text, operand):
     """The name that EXTEND adds and that its operand has, or that it has twice."""
     kind = asking.type_of(*operand)
-    has = [] if part.replaces else [name for name, _ in heading_of(kind or "")]
+    old = [] if part.replaces else [name for name, _ in heading_of(kind or "")]
+    new = []
     for token in part.added:
         word = asking.text[token.begins : token.ends]
-        if word in has:
-            return Fault(token.begins, said(f"{word} in {text}", [kind], "try another name"))
-        has.append(word)
+        if word in old or word in new:
+            hint = f", or EXTEND .. : {{{word} := ..}} to replace it" if word in old else ""
+            hint = f"try another name{hint}"
+            return Fault(token.begins, said(f"{word} in {text}", [kind], hint))
+        new.append(word)
     return Fault(part.begins, said(text, [kind]))
 
 
