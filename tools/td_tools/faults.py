@@ -18,7 +18,7 @@ NAME_UNKNOWN, HEADING, FIRST_OF_VALUES, NOT_ONE_TUPLE = 3, 6, 20, 23
 # Of the causes that come of tuples of two operands: which those are, and what is said of one.
 OF_TUPLES = {
     hints.NOT_DISJOINT: ("({0}) INTERSECT ({1})", "both have"),
-    hints.NOT_INCLUDED: ("({1}) MINUS ({0})", "the first has no"),
+    hints.NOT_INCLUDED: ("({1}) MINUS ({0})", "{0} has no"),
 }
 # So many questions are asked at once, and so many tuples are asked for as one.
 AT_ONCE, BLOCK = 50, 200
@@ -304,10 +304,11 @@ def values(asking, operands, cause):
 
 def tuples_of(asking, operands, meant, says):
     """The first of the tuples that are meant by an expression of two operands."""
-    texts = (asking.text[one.begins : one.ends] for one in operands)
+    texts = [asking.text[one.begins : one.ends] for one in operands]
     relation = relation_of(f"{asking.value(meant.format(*texts))}\n")
     if not relation or not relation.tuples:
         return []
+    says = says.format(*map(shortened, texts))
     return [f"{says} {literal(relation.heading, relation.tuples[0])}"]
 
 
