@@ -1,0 +1,36 @@
+-- What D_INSERT and I_DELETE change of a relation, where they are not refused.
+use Rattle.std.proofs.Common.{◌≡◌, ◌∙◌, true, false, [], ap}
+use Rattle.td_algebra.proofs.Relations.{IsRelation-restriction}
+use Rattle.td_algebra.specs.Operators.{difference, is_disjoint, is_subset, union}
+use Rattle.td_engine.proofs.code_lemmas.LeftTuples.{nothing_in, nothing_out}
+use Rattle.td_engine.specs.Changes.{changed_by}
+use Rattle.td_engine.specs.declared.change.Change.{Change}
+use Rattle.td_eval.specs.OperatorValues.{disjoint_union, included_difference}
+use Rattle.td_tree.specs.declared.cause.Cause.TheVariants as causes
+use Rattle.td_tree.specs.Outcomes.{Outcome, Only, Refused, Valued, value_if, with_value}
+use Rattle.td_value.specs.Values.{IsRelation, Relation}
+use Rattle.td_value.specs.code.Views.{relation_view}
+
+-- ---- tuples that come in, where none is there
+
+module _ (r add : Relation) (o : Outcome Relation) (told : o ≡ Valued add) where
+  pub put_apart : (d : Change) → is_disjoint r add ≡ true → d.out ≡ relation_view add.heading [] → d.add ≡ add
+      → with_value o (disjoint_union r) ≡ Valued (changed_by d r)
+  put_apart d apart out is =
+      ap (λ p. with_value p (disjoint_union r)) told ∙ ap (λ b. value_if b (union r add) causes.NotDisjoint) apart
+      ∙ ap Valued (sym (ap (λ q. union (difference r q) d.add) out ∙ ap (union (difference r (relation_view add.heading []))) is ∙ ap (λ q. union q add) (nothing_out add.heading r)))
+
+  pub not_apart : is_disjoint r add ≡ false → with_value o (disjoint_union r) ≡ Refused (Only causes.NotDisjoint)
+  not_apart overlap = ap (λ p. with_value p (disjoint_union r)) told ∙ ap (λ b. value_if b (union r add) causes.NotDisjoint) overlap
+
+-- ---- tuples that go out, where each is there
+
+module _ (r out : Relation) (o : Outcome Relation) (told : o ≡ Valued out) where
+  pub taken_out : (d : Change) → IsRelation r → is_subset out r ≡ true → d.out ≡ out → d.add ≡ relation_view out.heading []
+      → with_value o (included_difference r) ≡ Valued (changed_by d r)
+  taken_out d valid within is add =
+      ap (λ p. with_value p (included_difference r)) told ∙ ap (λ b. value_if b (difference r out) causes.NotIncluded) within
+      ∙ ap Valued (sym (ap (λ q. union (difference r q) d.add) is ∙ ap (union (difference r out)) add ∙ nothing_in out.heading (difference r out) (IsRelation-restriction _ r valid)))
+
+  pub not_within : is_subset out r ≡ false → with_value o (included_difference r) ≡ Refused (Only causes.NotIncluded)
+  not_within lacking = ap (λ p. with_value p (included_difference r)) told ∙ ap (λ b. value_if b (difference r out) causes.NotIncluded) lacking
