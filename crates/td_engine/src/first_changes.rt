@@ -17,7 +17,7 @@ ghost use Rattle.td_value.specs.code.Views.{relation_view};
 
 use crate::change::Change;
 use crate::checks::value;
-use crate::members::{has_each, has_none};
+use crate::members::are_members;
 use crate::updates::{relation_of, updated_tuples};
 use std::alloc::Global;
 use td_body::body::Body;
@@ -80,7 +80,7 @@ pub(crate) fn put_in_apart<B: Body>(
     ensures headings { IfOk result (IsOfHeading (B.relation entry.now.body).heading) }
 {
     let add = source_in(alloc, catalog, &entry.heading, source)?;
-    if has_none(&entry.body, &add) {
+    if are_members(&entry.body, &add, false) {
         Ok(Change::adding(alloc, add)?)
     } else {
         Err(Fault::Refused(Cause::NotDisjoint))
@@ -103,7 +103,7 @@ pub(crate) fn take_out<B: Body>(
     ensures headings { IfOk result (IsOfHeading (B.relation entry.now.body).heading) }
 {
     let out = source_in(alloc, catalog, &entry.heading, source)?;
-    if has_each(&entry.body, &out) {
+    if are_members(&entry.body, &out, true) {
         Ok(Change::taking(alloc, out)?)
     } else {
         Err(Fault::Refused(Cause::NotIncluded))

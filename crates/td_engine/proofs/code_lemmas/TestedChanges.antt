@@ -1,5 +1,6 @@
 -- What D_INSERT and I_DELETE change of a relation, where they are not refused.
-use Rattle.std.proofs.Common.{◌≡◌, ◌∙◌, true, false, [], ap}
+use Rattle.std.proofs.Common.{◌≡◌, ◌∙◌, Bool, true, false, [], ap, refl, sym, true≢false}
+use Rattle.td_algebra.proofs.Members.{divided, divides}
 use Rattle.td_algebra.proofs.Relations.{IsRelation-restriction}
 use Rattle.td_algebra.specs.Operators.{difference, is_disjoint, is_subset, union}
 use Rattle.td_engine.proofs.code_lemmas.LeftTuples.{nothing_in, nothing_out}
@@ -10,6 +11,19 @@ use Rattle.td_tree.specs.declared.cause.Cause.TheVariants as causes
 use Rattle.td_tree.specs.Outcomes.{Outcome, Only, Refused, Valued, value_if, with_value}
 use Rattle.td_value.specs.Values.{IsRelation, Relation}
 use Rattle.td_value.specs.code.Views.{relation_view}
+
+-- ---- none is in both
+
+pub other_way : (r s : Relation) → is_disjoint r s ≡ is_disjoint s r
+other_way r s = by_tests (is_disjoint r s) (is_disjoint s r) refl refl
+  where
+    turned : (r s : Relation) → is_disjoint r s ≡ true → is_disjoint s r ≡ true
+    turned r s h = divides s.body r.body (λ t c d. divided r.body s.body h t d c)
+
+    by_tests : (b c : Bool) → is_disjoint r s ≡ b → is_disjoint s r ≡ c → is_disjoint r s ≡ is_disjoint s r
+    by_tests true c e f = e ∙ sym (turned r s e)
+    by_tests false true e f = absurd (true≢false (sym (turned s r f) ∙ e))
+    by_tests false false e f = e ∙ sym f
 
 -- ---- tuples that come in, where none is there
 
