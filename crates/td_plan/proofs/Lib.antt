@@ -13,7 +13,6 @@ pub mod LookUpValues
 pub mod LoweredSteps
 pub mod MadeSteps
 pub mod NarrowedOperands
-pub mod NewAttributes
 pub mod Places
 pub mod Planned
 pub mod PlannedAnswers

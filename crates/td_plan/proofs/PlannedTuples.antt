@@ -17,12 +17,12 @@ use Rattle.td_eval.specs.UnfailingValues.{GivesValues}
 use Rattle.td_eval.specs.Worlds.{World, with_tuples}
 use Rattle.td_eval.proofs.law_lemmas.AlikeOutcomes.{over_same}
 use Rattle.td_eval.proofs.law_lemmas.AlikeRows.{AlikeIn, AreAlikeIn, aggregated_alike, restricted_alike, settings_alike}
+use Rattle.td_eval.proofs.law_lemmas.NewSettings.{new_settings_extend}
 use Rattle.td_eval.proofs.code_lemmas.TypedRows.{rows_typed}
 use Rattle.td_eval.proofs.code_lemmas.TypedTrees.{values_keep_types}
 use Rattle.td_plan.specs.Hoisting.{BeginsWith, Hoists, HoistsAll}
 use Rattle.td_plan.specs.Narrowing.{Narrows}
 use Rattle.td_plan.specs.code.PlannedParts.{ArePlansOfTyped, in_named}
-use Rattle.td_plan.proofs.NewAttributes.{additions_are_settings}
 use Rattle.td_plan.proofs.PlannedAnswers.{parts_typed}
 use Rattle.td_plan.specs.Plans as plans
 use Rattle.td_plan.specs.Plans.{Frame, PlanTree, PlanTrees, extension_of, frame_of, plan_columns, plan_value, plan_values}
@@ -213,10 +213,10 @@ module _ (scope : Scope) where
         (kept scope w s fs k hand f d (types.relation (pack h)) (written.0.0, written.1.0) static)
         (λ g r same head typed.
         let at = heading_is h g r same head in
-        let there = known_there w s fs k hand f r at in
-        (λ j. extended_value (there j) (values_in_tuples w s es) r)
-        ∙ additions_are_settings xs (values_in_tuples w s es) r (λ u b. (rows_typed scope.types r typed u b).1) (ap (have_no_common xs) at ∙ apart)
-        ∙ (λ j. extended_by_settings (sym there j) (values_in_tuples w s es) r))
+        let there_typed = named_types (entered_with r.heading (with_tuples w.scope s)) es in
+        let there : there_typed ≡ Valued xs = known_there w s fs k hand f r at in
+        sym (new_settings_extend there_typed (values_in_tuples w s es) r typed.0 (λ ys same.
+        ap (λ zs. have_no_common zs r.heading) (valued_is ys xs (sym same ∙ there)) ∙ ap (have_no_common xs) at ∙ apart)))
 
   -- a plan of each spelling
   module _ (p : PlanTree) (xs : List Attribute) (old parts qs cs : PlanTrees) (d : Tree) (es : NamedTrees) (h : Heading) (i : IsPlanOfTyped scope p d)

@@ -46,8 +46,10 @@ pub(crate) fn set_by(
         → Answers (λ v. v) result
         (extended_by_settings (Valued (pairs_view attributes.now)) fs rel.now) }
 {
+    let heading = rel.heading();
+    heading.reveal();
     rel.reveal();
-    if are_new(attributes, rel.heading()) {
+    if are_new(attributes, heading) {
         extension_by(alloc, rel, attributes, columns)
     } else {
         setting_by(alloc, rel, attributes, columns)
