@@ -1,8 +1,12 @@
-use Rattle.std.proofs.Common.{◌∙◌, ap, subst, sym, true≢false}
-use Rattle.td_eval.specs.TreeNumbers.{HasNumbers}
+use Rattle.std.proofs.Common.{◌≡◌, ◌⊎◌, inl, inr, ◌∙◌, ap, subst, sym, true≢false}
+use Rattle.std.specs.Global.{Box, Vec}
+use Rattle.td_eval.specs.TreeNumbers.{HasNumbers, PartsHaveNumbers}
 use Rattle.td_plan.proofs.numbers.+numbers.Goals.{has_numbers-else-has_numbers-2, has_numbers-then-has_numbers-2}
 use Rattle.td_plan.proofs.numbers.+numbers.Goals as goal
-use Rattle.td_tree.proofs.code_lemmas.Rows.{extend_is, headed_relation_is, relation_is, select_is, summarize_by_is, summarize_per_is, tuple_is}
+use Rattle.td_tree.proofs.code_lemmas.Rows.{extend_is, extend_setting_is, headed_relation_is, relation_is, select_is, summarize_by_is, summarize_per_is, tuple_is}
+use Rattle.td_tree.specs.declared.expression.Expr.{Expr}
+use Rattle.td_tree.specs.declared.expression.Expr.TheVariants as exprs
+use Rattle.td_tree.specs.declared.expression.NamedExpr.{NamedExpr}
 use Rattle.td_tree.specs.code.TreeViews.{attributes_view, heading_tree_view, named_view, summaries_view, tree_view, trees_view}
 use Rattle.td_tree.specs.Trees as trees
 
@@ -26,10 +30,19 @@ has_numbers-returns-in-Tuple t c =
     let is = ap tree_view c.in-Tuple.is ∙ tuple_is c.in-Tuple.parts ∙ ap (λ xs. trees.tuple (named_view xs)) (sym c.deref-in-Tuple.ensures.value) in
     λ e. subst HasNumbers (sym is) (c.parts_have_numbers.ensures e)
 
+-- EXTEND in either spelling
+numbers_of_parts : (a : Expr) (b : Box Expr) (v : Vec NamedExpr) → (a ≡ exprs.Extend b v) ⊎ (a ≡ exprs.ExtendSetting b v)
+    → HasNumbers (tree_view b.value) → PartsHaveNumbers (named_view v.items) → HasNumbers (tree_view a)
+numbers_of_parts a b v is operand parts = elim is [
+  | inl x ↦ subst HasNumbers (sym (ap tree_view x ∙ extend_is b v)) (operand, parts)
+  | inr x ↦ subst HasNumbers (sym (ap tree_view x ∙ extend_setting_is b v)) (operand, parts)
+]
+
 pub has_numbers-returns-then-has_numbers : goal.has_numbers-returns-then-has_numbers
 has_numbers-returns-then-has_numbers t c =
-    let is = ap tree_view c.in-Extend.is ∙ extend_is c.in-Extend.operand c.in-Extend.parts ∙ (λ i. trees.extend (tree_view (sym c.deref-in-Extend.ensures i)) (named_view (sym c.deref-then-has_numbers.ensures.value i))) in
-    λ e. subst HasNumbers (sym is) (c.has_numbers.ensures c.if-has_numbers.true, c.parts_have_numbers-then-has_numbers.ensures e)
+    λ e. numbers_of_parts _ c.in-Extend.operand c.in-Extend.parts c.in-Extend.is
+    (subst (λ x. HasNumbers (tree_view x)) c.deref-in-Extend.ensures (c.has_numbers.ensures c.if-has_numbers.true))
+    (subst (λ xs. PartsHaveNumbers (named_view xs)) c.deref-then-has_numbers.ensures.value (c.parts_have_numbers-then-has_numbers.ensures e))
 
 pub has_numbers-returns-then-has_numbers-3 : goal.has_numbers-returns-then-has_numbers-3
 has_numbers-returns-then-has_numbers-3 t c =
