@@ -7,7 +7,8 @@ ghost use Rattle.td_parse.specs.code.Views.{named_part_view};
 ghost use Rattle.td_tree.specs.Lexemes as lexeme;
 ghost use Rattle.td_parse.specs.Reading as reading;
 ghost use Rattle.td_parse.specs.Reading.{read};
-ghost use Rattle.td_parse.specs.ReadingSteps.{in_braces_read, in_parentheses_read, listed_to, list_by_commas};
+ghost use Rattle.td_parse.specs.ReadingSteps.{in_braces_read, in_parentheses_read};
+ghost use Rattle.td_parse.specs.ReadingSteps.{listed_to, list_by_commas};
 ghost use Rattle.td_tree.specs.code.TreeViews.{tree_view};
 
 use crate::cursor::{Cursor, SYNTAX};
