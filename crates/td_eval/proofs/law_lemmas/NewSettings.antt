@@ -1,5 +1,5 @@
 -- EXTEND with settings of attributes that are not there is EXTEND with ADD.
-use Rattle.std.proofs.Common.{◌≡◌, ◌∙◌, ◌++◌, ℕ, Bool, true, false, List, [], ◌∷◌, Option, None, Some, ap, filter, fold, refl, rw, sym, true≢false}
+use Rattle.std.proofs.Common.{◌≡◌, ◌∙◌, ◌++◌, ℕ, Bool, true, false, List, [], ◌∷◌, Option, None, Some, ap, filter, fold, refl, sym, true≢false}
 use Rattle.std.specs.Prelude.{◌&&◌, if◌then◌else◌, is_some, not}
 use Rattle.std.specs.Cmp.Lexicographic.{same_text}
 use Rattle.std.specs.List.{Contains, list_all}
