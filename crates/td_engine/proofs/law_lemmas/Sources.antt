@@ -133,7 +133,7 @@ module _ (db : Database) (n : List ℕ) (cur : Relation) where
     by_heading s false true e = absurd (true≢false e)
     by_heading s false false e = refl
 
-    operated : Val → Outcome Relation
+    abbrev operated : Val → Outcome Relation
     operated u = with_value (on_relations (relation_value cur) u (over_one_heading f)) (λ v. on_relation v (of_heading cur))
 
     by_value : (o : Outcome Val)
