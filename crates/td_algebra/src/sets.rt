@@ -1,5 +1,6 @@
-//! UNION, INTERSECT, MINUS, inclusion and disjointness, by a pass over the ascending tuples of both operands side
-//! by side, or by a search for each tuple of one that is far shorter. Both have one heading.
+//! UNION, INTERSECT, MINUS, inclusion and disjointness, by a pass over the ascending tuples of both
+//! operands side by side, or by a search for each tuple of one that is far shorter. Both have one
+//! heading.
 ghost use Rattle.std.specs.Prelude.{◌≡◌, ◌++◌, IfOk, OnOk, filter};
 ghost use Rattle.std.specs.List.{All, list_all};
 ghost use Rattle.td_algebra.specs.code.Merges.{begins_with, below, is_wanted, merged_tuples};

@@ -17,7 +17,7 @@ ghost use Rattle.td_value.specs.code.Views.{relation_view};
 
 use crate::change::Change;
 use crate::checks::value;
-use crate::members::are_members;
+use crate::members::{put_in_body, take_from_body};
 use crate::updates::{relation_of, updated_tuples};
 use std::alloc::Global;
 use td_body::body::Body;
@@ -25,7 +25,6 @@ use td_catalog::catalog::Catalog;
 use td_catalog::entry::BaseEntry;
 use td_eval::env::Env;
 use td_plan::chosen::tuples_where;
-use td_tree::cause::Cause;
 use td_tree::expression::{Expr, NamedExpr};
 use td_tree::fault::Fault;
 use td_tree::name::Name;
@@ -79,12 +78,8 @@ pub(crate) fn put_in_apart<B: Body>(
         (tree_view source.now)) (disjoint_union (B.relation entry.now.body))) }
     ensures headings { IfOk result (IsOfHeading (B.relation entry.now.body).heading) }
 {
-    let add = source_in(alloc, catalog, &entry.heading, source)?;
-    if are_members(&entry.body, &add, false) {
-        Ok(Change::adding(alloc, add)?)
-    } else {
-        Err(Fault::Refused(Cause::NotDisjoint))
-    }
+    let add = source_in(alloc, catalog, &entry.heading, source);
+    put_in_body(alloc, &entry.body, add)
 }
 
 /// What I_DELETE changes of a relvar: a tuple that is not there is refused.
@@ -102,12 +97,8 @@ pub(crate) fn take_out<B: Body>(
         (tree_view source.now)) (included_difference (B.relation entry.now.body))) }
     ensures headings { IfOk result (IsOfHeading (B.relation entry.now.body).heading) }
 {
-    let out = source_in(alloc, catalog, &entry.heading, source)?;
-    if are_members(&entry.body, &out, true) {
-        Ok(Change::taking(alloc, out)?)
-    } else {
-        Err(Fault::Refused(Cause::NotIncluded))
-    }
+    let out = source_in(alloc, catalog, &entry.heading, source);
+    take_from_body(alloc, &entry.body, out)
 }
 
 // ---- DELETE and UPDATE

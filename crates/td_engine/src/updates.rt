@@ -27,9 +27,9 @@ ghost use Rattle.td_types.specs.code.Views.{pairs_view, type_view};
 ghost use Rattle.td_value.specs.Values.{Relation, Tuple, Val};
 
 use crate::change::Change;
+use crate::members::{put_in_relation, take_from_relation};
 use std::alloc::Global;
 use td_algebra::restriction::restrict;
-use td_algebra::sets::{disjoint, subset};
 use td_body::body::Body;
 use td_catalog::catalog::Catalog;
 use td_eval::env::Env;
@@ -169,12 +169,8 @@ fn change_of_disjoint_insert<B: Body>(
         (combined_with target.now operators.DisjointUnion (tree_view source.now))) }
     ensures headings { IfOk result (IsOfHeading so_far.now.heading) }
 {
-    let add = relation_assigned(alloc, catalog, target, so_far, source)?;
-    if disjoint(so_far, &add) {
-        Ok(Change::adding(alloc, add)?)
-    } else {
-        Err(Fault::Refused(Cause::NotDisjoint))
-    }
+    let add = relation_assigned(alloc, catalog, target, so_far, source);
+    put_in_relation(alloc, so_far, add)
 }
 
 /// What I_DELETE changes: a tuple that is not there is refused.
@@ -191,14 +187,8 @@ fn change_of_included_delete<B: Body>(
         (combined_with target.now operators.IncludedMinus (tree_view source.now))) }
     ensures headings { IfOk result (IsOfHeading so_far.now.heading) }
 {
-    so_far.heading().reveal();
-    so_far.reveal();
-    let out = relation_assigned(alloc, catalog, target, so_far, source)?;
-    if subset(&out, so_far) {
-        Ok(Change::taking(alloc, out)?)
-    } else {
-        Err(Fault::Refused(Cause::NotIncluded))
-    }
+    let out = relation_assigned(alloc, catalog, target, so_far, source);
+    take_from_relation(alloc, so_far, out)
 }
 
 // ---- conditions
