@@ -21,6 +21,8 @@ LEXEMES = {"lexeme.name": "name", "lexeme.number": "number", "lexeme.text": "tex
            "lexeme.component": "THE_"}
 TOKEN = re.compile(r"→|∷|\+\+|≤|\[\]|[(){}:=;,]|[^\s(){}:=;,→∷≤\[\]+]+")
 DECLARATION = re.compile(r"^ *(?:pub (data) (\w+)|abbrev pub|pub record|mutual|use)\b")
+# A record of what is not too high: its first field says which type spells that.
+RECORD = re.compile(r"^pub record (\w+).*\n *pub spelled : (\w+)", re.MULTILINE)
 CONSTRUCTOR = re.compile(r"^ {2,4}([a-z_]+) : ")
 EQUATION = re.compile(r"^(\w+)((?: [\w.]+)?) = (.*)$")
 
@@ -58,9 +60,11 @@ class Definition:
     """The constructors of each type of the grammar's files, and the equations of each function."""
 
     def __init__(self):
-        self.constructors, self.equations = {}, {}
+        self.constructors, self.equations, self.records = {}, {}, {}
         for file in GRAMMAR:
-            self.read((TREE / "specs" / f"{file}.antt").read_text(encoding="utf-8").splitlines())
+            text = (TREE / "specs" / f"{file}.antt").read_text(encoding="utf-8")
+            self.records.update(RECORD.findall(text))
+            self.read(text.splitlines())
         self.words = dict(found(TREE / "src" / "keyword.rt", r'Keyword::(\w+) => "([A-Z_]+)"'))
         self.signs = dict(found(TREE / "src" / "token.rt", r'Sign::(\w+) => "(\S+)"'))
 
@@ -127,11 +131,11 @@ class Definition:
             yield dict(zip(named, chosen))
 
     def symbol(self, family, index, known):
-        """The symbol of a type: an expression that is not too high is one of its level."""
+        """The symbol of a type. What a record holds to be not too high is spelled by its field."""
         family = known.get(family, family)
         if family in self.equations:
             family, *index = nested(iter(self.equations[family][0][1]))
-        family = "Spelling" if family == "IsExpression" else family
+        family = self.records.get(family, family)
         return family, self.value(as_terms(index[0]), known) if index else None
 
     def learn(self, premise, known):

@@ -13,6 +13,9 @@ WRITE EXTEND P ADD (WEIGHT / 2 AS HALF, HALF / 2 AS QUARTER);
 WRITE EXTEND EXTEND P {WEIGHT} WHERE WEIGHT = 300 ADD (WEIGHT / 2 AS HALF)
     ADD (HALF / 2 AS QUARTER);
 WRITE EXTEND P ADD (WEIGHT / 1000 AS WEIGHT);
+// What ADD may not do, a setting does: it replaces the attribute, be it by one of another type.
+WRITE EXTEND P {PNO, WEIGHT} : {WEIGHT := WEIGHT / 100};
+WRITE EXTEND P {PNO, WEIGHT} WHERE WEIGHT > 90 : {WEIGHT := 'heavy'};
 // A comparison is a value, but no operand of another comparison.
 WRITE (P WHERE WEIGHT > 200 = TRUE) {PNO};
 WRITE (P WHERE (WEIGHT > 200) = TRUE) {PNO};

@@ -10,12 +10,13 @@ VAR SP BASE RELATION {SNO CHAR, PNO CHAR, QTY INTEGER} INIT (RELATION {
 
 INSERT S RELATION {TUPLE {SNO 'S5', SNAME 'Eyre', CITY 'Bath'}};
 INSERT S RELATION {TUPLE {SNO 'S5', SNAME 'Eyre', CITY 'Bath'}};
+D_INSERT S RELATION {TUPLE {SNO 'S5', SNAME 'Eyre', CITY 'Bath'}};
 INSERT S RELATION {TUPLE {SNO 'S5', SNAME 'Eyre', CITY 'York'}};
-UPDATE S WHERE CITY = 'Leeds' (CITY := 'Ripon');
+UPDATE S WHERE CITY = 'Leeds' : {CITY := 'Ripon'};
 DELETE S WHERE CITY = 'Hull';
 WRITE S {CITY};
 // Two relvars change at once: no statement sees the one without the other.
-UPDATE S WHERE SNO = 'S1' (SNO := 'S9'), UPDATE SP WHERE SNO = 'S1' (SNO := 'S9');
+UPDATE S WHERE SNO = 'S1' : {SNO := 'S9'}, UPDATE SP WHERE SNO = 'S1' : {SNO := 'S9'};
 WRITE SP {SNO};
 // The form that all the others are short for.
 S := S WHERE CITY = 'York';

@@ -5,7 +5,7 @@ Not all are found: where nothing tells, the whole heading is one.
 from .dumps import keys_of
 from .expressions import Form, NoParse, parsed_expression
 
-LIKE_THE_LEFT = {"MINUS", "INTERSECT", "MATCHING", "NOT MATCHING"}
+LIKE_THE_LEFT = {"MINUS", "I_MINUS", "INTERSECT", "MATCHING", "NOT MATCHING"}
 
 
 class Operand:
@@ -61,6 +61,11 @@ def of_first(operand):
     return operand.part(0).keys()
 
 
+def of_extend(operand):
+    """Those of the operand of which nothing is set."""
+    return {key for key in operand.part(0).keys() if key.isdisjoint(operand.node.names)}
+
+
 def of_rename(operand):
     new = dict(operand.node.names)
     return {frozenset(new.get(one, one) for one in key) for key in operand.part(0).keys()}
@@ -113,7 +118,7 @@ KEYS = {
     Form.NAME: of_name,
     Form.RESTRICTION: of_first,
     Form.PROJECTION: of_first,
-    Form.EXTEND: of_first,
+    Form.EXTEND: of_extend,
     Form.RENAME: of_rename,
     Form.GROUP: of_group,
     Form.SUMMARIZE: of_summarize,

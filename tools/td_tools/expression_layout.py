@@ -9,11 +9,11 @@ WIDTH = 100
 STEP = 4
 OPENERS, CLOSERS = {"(", "{"}, {")", "}"}
 # What an expression stands behind, and what ends it: they go together as brackets do.
-BEGINNING, ENDING = {"EXTEND", "SUMMARIZE", "IF"}, {"ADD", "END"}
+BEGINNING, ENDING = {"EXTEND", "SUMMARIZE", "IF"}, {"ADD", ":", "END"}
 # Words behind which a parenthesis is no call's.
 BEFORE_PARENTHESIS = set(
-    "WHERE OR AND NOT IN UNION INTERSECT MINUS JOIN TIMES COMPOSE MATCHING TCLOSE FROM EXTEND ADD "
-    "SUMMARIZE PER IF THEN ELSE RENAME GROUP UNGROUP WRAP UNWRAP CONSTRAINT".split()
+    "WHERE OR AND NOT IN UNION D_UNION INTERSECT MINUS I_MINUS JOIN TIMES COMPOSE MATCHING TCLOSE "
+    "FROM EXTEND ADD SUMMARIZE PER IF THEN ELSE RENAME GROUP UNGROUP WRAP UNWRAP CONSTRAINT".split()
 )
 # Operators from the loosest to the tightest.
 LEVELS = [
@@ -21,7 +21,7 @@ LEVELS = [
     {"OR"},
     {"AND"},
     {"=", "<>", "<", "<=", ">", ">=", "IN"},
-    {"UNION", "INTERSECT", "MINUS", "JOIN", "TIMES", "COMPOSE", "MATCHING"},
+    set("UNION D_UNION INTERSECT MINUS I_MINUS JOIN TIMES COMPOSE MATCHING".split()),
 ]
 
 

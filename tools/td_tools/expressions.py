@@ -10,7 +10,9 @@ from .lexemes import LEAST_NUMBER, Token, tokens
 NAME, NUMBER, TEXT, COMPONENT, END = "name", "number", "text", "the_word", "the end"
 TYPES = {"INTEGER", "CHAR", "BOOLEAN", NAME, "TUPLE", "RELATION"}
 COMPARING = {"=", "<>", "<", "<=", ">", ">=", "IN"}
-COMBINING = {"UNION", "INTERSECT", "MINUS", "JOIN", "TIMES", "COMPOSE", "MATCHING"}
+COMBINING = {
+    *("UNION", "D_UNION", "INTERSECT", "MINUS", "I_MINUS", "JOIN", "TIMES", "COMPOSE", "MATCHING")
+}
 AGGREGATES = {"SUM", "MAX", "MIN"}
 CONSTANTS = {NUMBER, TEXT, "TRUE", "FALSE", "TABLE_DEE", "TABLE_DUM"}
 
@@ -45,8 +47,8 @@ class Node:
     """A form with its parts, in order, where it stands in the text, and the names in it.
 
     They are the name itself, the operator of a combination, the attributes of a projection, the
-    pairs of a RENAME, the components of a type, what a SUMMARIZE goes by, and WHERE where a DELETE
-    or an UPDATE has one.
+    pairs of a RENAME, the components of a type, what an EXTEND sets, what a SUMMARIZE goes by, and
+    WHERE where a DELETE or an UPDATE has one.
     """
 
     form: Form
@@ -210,7 +212,9 @@ class Parser:
         begin = self.at
         if self.takes(NAME, ":="):
             return self.node(Form.OTHER, begin, [self.expression()])
-        if self.takes("INSERT", NAME):
+        if self.kind() in ("INSERT", "D_INSERT", "I_DELETE"):
+            self.at += 1
+            self.take(NAME)
             return self.node(Form.OTHER, begin, [self.expression()])
         form = Form[self.take_one_of({"DELETE", "UPDATE"})]
         parts, names = [self.target()], []
@@ -218,7 +222,8 @@ class Parser:
             parts.append(self.disjunction())
             names.append("WHERE")
         if form == Form.UPDATE:
-            parts += self.in_parentheses(lambda: self.listed(self.setting))
+            settings = self.settings() if self.takes(":") else self.in_parentheses(self.set_list)
+            parts += [value for _, value in settings]
         return self.node(form, begin, parts, names)
 
     def target(self):
@@ -226,8 +231,20 @@ class Parser:
         return self.node(Form.NAME, begin, names=[self.name()])
 
     def setting(self):
-        self.take(NAME, ":=")
-        return self.expression()
+        """The name that is set, and its expression."""
+        name = self.name()
+        self.take(":=")
+        return name, self.expression()
+
+    def set_list(self):
+        return self.listed(self.setting)
+
+    def settings(self):
+        """The settings in braces."""
+        self.take("{")
+        found = self.set_list()
+        self.take("}")
+        return found
 
     # ---- expressions, from the loosest operators to the tightest
 
@@ -306,7 +323,11 @@ class Parser:
 
     def rename(self, begin, operand):
         self.take("RENAME")
-        pairs = self.in_parentheses(lambda: self.listed(self.renaming))
+        last = "}" if self.takes("{") else ")"
+        if last == ")":
+            self.take("(")
+        pairs = self.listed(self.renaming)
+        self.take(last)
         return self.node(Form.RENAME, begin, [operand], pairs)
 
     def renaming(self):
@@ -316,9 +337,9 @@ class Parser:
 
     def group(self, begin, operand):
         form = Form.GROUP if self.take_one_of({"GROUP", "WRAP"}) == "GROUP" else Form.OTHER
-        self.take("(")
+        is_closed = self.takes("(")
         is_all_but, names = self.attributes()
-        self.take("AS", NAME, ")")
+        self.take("AS", NAME, *[")"] * is_closed)
         return self.node(form, begin, [operand], [is_all_but, *names])
 
     def ungroup(self, begin, operand):
@@ -379,6 +400,9 @@ class Parser:
     def extend(self, begin):
         self.take("EXTEND")
         operand = self.expression()
+        if self.takes(":"):
+            names, values = zip(*self.settings())
+            return self.node(Form.EXTEND, begin, [operand, *values], names)
         self.take("ADD")
         additions = self.in_parentheses(lambda: self.listed(self.addition))
         return self.node(Form.EXTEND, begin, [operand, *additions])

@@ -15,6 +15,11 @@ from .places import one_line, shortened
 from .statements import STATIC, VALUES, Reader
 
 NAME_UNKNOWN, HEADING, FIRST_OF_VALUES, NOT_ONE_TUPLE = 3, 6, 20, 23
+# Of the causes that come of tuples of two operands: which those are, and what is said of one.
+OF_TUPLES = {
+    hints.NOT_DISJOINT: ("({0}) INTERSECT ({1})", "both have"),
+    hints.NOT_INCLUDED: ("({1}) MINUS ({0})", "{0} has no"),
+}
 # So many questions are asked at once, and so many tuples are asked for as one.
 AT_ONCE, BLOCK = 50, 200
 
@@ -224,13 +229,17 @@ def told_part(asking, found):
 
 
 def there_already(asking, part, text, operand):
-    """The name that EXTEND adds and that its operand has."""
+    """The name that EXTEND adds and that its operand has, or that it has twice."""
     kind = asking.type_of(*operand)
-    has = [name for name, _ in heading_of(kind or "")]
+    old = [] if part.replaces else [name for name, _ in heading_of(kind or "")]
+    new = []
     for token in part.added:
         word = asking.text[token.begins : token.ends]
-        if word in has:
-            return Fault(token.begins, said(f"{word} in {text}", [kind], "try another name"))
+        if word in old or word in new:
+            hint = f", or EXTEND .. : {{{word} := ..}} to replace it" if word in old else ""
+            hint = f"try another name{hint}"
+            return Fault(token.begins, said(f"{word} in {text}", [kind], hint))
+        new.append(word)
     return Fault(part.begins, said(text, [kind]))
 
 
@@ -281,13 +290,26 @@ def operands_of(part):
 def values(asking, operands, cause):
     """The values of operands, if no tuple is in scope: of a relation how many tuples it has."""
     known = []
-    for one, frames in [one for one in operands if not one[1]]:
+    outside = [one for one, frames in operands if not frames]
+    if cause in OF_TUPLES and len(outside) == 2:
+        return tuples_of(asking, outside, *OF_TUPLES[cause])
+    for one in outside:
         text = asking.text[one.begins : one.ends]
         if cause == NOT_ONE_TUPLE:
             known.append(f"{asking.value(f'COUNT({text})')} tuples")
         elif not (value := asking.value(text)).startswith(("RELATION", "REFUSED")):
             known.append(value)
     return known
+
+
+def tuples_of(asking, operands, meant, says):
+    """The first of the tuples that are meant by an expression of two operands."""
+    texts = [asking.text[one.begins : one.ends] for one in operands]
+    relation = relation_of(f"{asking.value(meant.format(*texts))}\n")
+    if not relation or not relation.tuples:
+        return []
+    says = says.format(*map(shortened, texts))
+    return [f"{says} {literal(relation.heading, relation.tuples[0])}"]
 
 
 def said(text, kinds, hint=None):

@@ -5,11 +5,19 @@ from .definitions import definitions, heading_of
 from .habits import renamed_type
 from .places import as_written, in_a_list, shortened
 
-TYPE_MISMATCH, HEADING, TYPE_CONSTRAINT = 5, 6, 24
+TYPE_MISMATCH, HEADING, TYPE_CONSTRAINT, NOT_DISJOINT, NOT_INCLUDED = 5, 6, 24, 25, 26
 NEAR, LONGEST, MOST = 0.6, 100, 6
 COMPARISONS = {"=", "<>", "<", "<=", ">", ">="}
 # Forms whose two operands have one heading: also an assignment and the list of a relation.
-SAME_HEADINGS = {"UNION", "INTERSECT", "MINUS", "=", "<>", "<", "<=", ">", ">=", "", "element"}
+SAME_HEADINGS = {
+    *("UNION", "D_UNION", "INTERSECT", "MINUS", "I_MINUS", "=", "<>", "<", "<=", ">", ">=", ""),
+    "element",
+}
+# What asks nothing of the tuples: of an operator, and of an assignment.
+LOOSER = {
+    NOT_DISJOINT: ("{0} UNION {1}", "INSERT {0} {1}"),
+    NOT_INCLUDED: ("{0} MINUS {1}", "{0} := {0} MINUS ({1})"),
+}
 OTHER_TYPES = {"STRING", "TEXT", "NUMBER", "BOOL", "INT", "VARCHAR", "DATE", "BIT"}
 # Operators of SQL and of the book that are none here.
 CALLS = {
@@ -82,7 +90,7 @@ def tried(asking, found, texts, kinds):
         return of_precedence(asking, found) or of_tuple(texts, kinds)
     if asking.cause == HEADING:
         return of_headings(texts, kinds) if len(texts) == 2 and kind in SAME_HEADINGS else None
-    return of_values(kind, texts)
+    return of_looser(asking.cause, kind, texts) or of_values(kind, texts)
 
 
 def of_constraint(asking, found):
@@ -201,6 +209,14 @@ def of_headings(texts, kinds):
     if more and not less:
         return shortened(f"{texts[1]} {{{', '.join(left)}}}", LONGEST)
     return None
+
+
+def of_looser(cause, kind, texts):
+    """What also takes tuples that are in both, or in the second alone."""
+    if cause not in LOOSER or len(texts) != 2:
+        return None
+    operator, assignment = LOOSER[cause]
+    return shortened((operator if kind else assignment).format(*texts), LONGEST)
 
 
 def of_values(kind, texts):

@@ -84,8 +84,9 @@ class Part:
     is_expression: bool = True
     # A part that is no operand, and whose type tells.
     beside: object = None
-    # Tokens of the names that it adds to its first operand's.
+    # Tokens of the names that it adds to its first operand's, or puts in their place.
     added: list = field(default_factory=list)
+    replaces: bool = False
     # The tuples for which an aggregate has nothing to go over, as an expression.
     lacking: str = ""
 
@@ -208,11 +209,13 @@ class Parts:
         return self.of_node(node, "TUPLE", [(self.expression(one[1]), None) for one in values])
 
     def extend(self, node, parts):
-        operand = self.expression(parts[1])
-        added = [one.parts() for one in parts[2:] if isinstance(one, Node)]
-        operands = [(self.expression(one), self.scope(operand)) for one, *_ in added]
+        """EXTEND r ADD (e AS A, ..) or EXTEND r : {A := e, ..}."""
+        operand, replaces = self.expression(parts[1]), parts[2].kind == ":"
+        added = [one.parts() for one in nodes(parts[4], "setting" if replaces else "addition")]
+        added = added if replaces else [one[::-1] for one in added]
+        operands = [(self.expression(one), self.scope(operand)) for _, _, one in added]
         part = self.of_node(node, "EXTEND", [(operand, None), *operands])
-        part.added = [self.moved(names[-1]) for names in added]
+        part.added, part.replaces = [self.moved(name) for name, *_ in added], replaces
         return part
 
     def summarize(self, node, parts):

@@ -22,8 +22,8 @@ GROUPS = {
 }
 OPERATORS = {
     *("WHERE", "OR", "AND", "IN", "NOT", "=", "<>", "<", "<=", ">", ">=", "+", "-", "||", "*", "/"),
-    *("UNION", "INTERSECT", "MINUS", "JOIN", "TIMES", "COMPOSE", "MATCHING", "{", "RENAME"),
-    *("GROUP", "WRAP", "UNGROUP", "UNWRAP"),
+    *("UNION", "D_UNION", "INTERSECT", "MINUS", "I_MINUS", "JOIN", "TIMES", "COMPOSE", "MATCHING"),
+    *("{", "RENAME", "GROUP", "WRAP", "UNGROUP", "UNWRAP"),
 }
 LEAST_OPERATORS = 5
 BEHIND_A_NAME = {"FROM", "("}

@@ -18,7 +18,7 @@ LITERALS = {"number", "text", "TRUE", "FALSE", "TABLE_DEE", "TABLE_DUM"}
 NO_VALUES = {"heading", "type"}
 # A part of a part is asked for at most so many tuples, and in at most so many operands.
 AT_MOST, DEEPEST = 10_000, 4
-# What is more than 200 nodes high with the operands around it is no expression.
+# What is more than 400 nodes high with the operands around it is no expression.
 TOO_HIGH = b"REFUSED 2 "
 
 

@@ -20,7 +20,7 @@ BYTE_ORDER_MARK = "\ufeff"
 SCAN, SYNTAX = 1, 2
 # The causes from here on may come of a key or a constraint.
 FIRST_OF_VALUES = 20
-TOO_HIGH = "; it is spelled, but more than 200 nodes high"
+TOO_HIGH = "; it is spelled, but more than 400 nodes high"
 
 
 def decoded(statement):

@@ -8,6 +8,8 @@ from .grammar import Node
 from .parts import FRESH, Part, Parts, has_value, nodes, scope
 
 NO_TUPLES = "EXTEND TABLE_DUM ADD ("
+# The operators of the assignments that ask more of their source than its heading.
+OPERATORS = {"D_INSERT": "D_UNION", "I_DELETE": "I_MINUS"}
 
 
 @dataclass
@@ -89,7 +91,8 @@ class Reader(Parts):
     def assigned(self, target, source, begin=None):
         """That the source may be assigned to the target, which has its heading."""
         source, target = self.expression(source), self.of_node(target, "name")
-        question = f"IS_EMPTY(({self.text_of(target)}) UNION ({self.text_of(source)}))"
+        operator = OPERATORS.get(begin and begin.kind, "UNION")
+        question = f"IS_EMPTY(({self.text_of(target)}) {operator} ({self.text_of(source)}))"
         operands = [(target, None), (source, None)]
         return self.whole(spanning(begin or target, source), question, operands)
 
@@ -106,6 +109,8 @@ class Reader(Parts):
         return target, self.whole(spanning(target, condition), question, operands)
 
     def delete(self, parts):
+        if parts[0].kind == "I_DELETE":
+            return self.assigned(parts[1], parts[2], parts[0])
         target, meant = self.restricted(parts)
         operands = [(target, None), (meant, None)]
         return self.whole(spanning(parts[0], meant), meant.asked(), operands)
@@ -114,7 +119,7 @@ class Reader(Parts):
         target, meant = self.restricted(parts)
         operands, names = [(target, None), (meant, None)], []
         frame = scope(self.text_of(target), self.text_of(meant))
-        for setting in [one for one in parts if isinstance(one, Node) and one.name == "setting"]:
+        for setting in nodes(parts[-2], "setting"):
             operands.append((self.setting(setting), frame))
             names.append(setting.parts()[0])
         listed = ", ".join(self.text[one.begins : one.ends] for one in names)
