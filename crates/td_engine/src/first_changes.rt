@@ -15,7 +15,7 @@ ghost use Rattle.td_tree.specs.Trees.{name, restriction};
 ghost use Rattle.td_value.specs.Values.{IsRelation, Relation};
 ghost use Rattle.td_value.specs.code.Views.{relation_view};
 
-use crate::change::Change;
+use crate::change::{Change, empty_of};
 use crate::checks::value;
 use crate::members::{put_in_body, take_from_body};
 use crate::updates::{relation_of, updated_tuples};
@@ -31,20 +31,19 @@ use td_tree::name::Name;
 use td_types::heading::Heading;
 use td_value::relation::Rel;
 
-/// The tuples of a source that a relvar of the heading may hold.
-fn source_in<B: Body>(
+/// The tuples of a source that a relvar of the other relation's heading may hold.
+fn source_for<B: Body>(
     alloc: Global,
     catalog: &Catalog<B>,
-    heading: &Heading,
+    other: &Rel,
     source: &Expr,
 ) -> Result<Rel, Fault>
     requires { IsPlannable catalog.now.database (tree_view source.now) }
-    ensures answer { (r : Relation) → r.heading ≡ heading.now → Answers (λ s. s) result
+    ensures answer { (r : Relation) → r.heading ≡ other.now.heading → Answers (λ s. s) result
         (relation_for r (world_of catalog.now.database) (tree_view source.now)) }
-    ensures heading { IfOk result (λ s. s.heading ≡ heading.now) }
+    ensures heading { IfOk result (λ s. s.heading ≡ other.now.heading) }
 {
-    let none = Rel::new(heading.try_clone()?, Vec::new(alloc))?;
-    relation_of(&none, value(alloc, catalog, source))
+    relation_of(other, value(alloc, catalog, source))
 }
 
 /// What INSERT changes of a relvar of the heading.
@@ -60,8 +59,9 @@ pub(crate) fn put_in<B: Body>(
         (λ s. Valued (union r s))) }
     ensures headings { IfOk result (IsOfHeading heading.now) }
 {
-    let add = source_in(alloc, catalog, heading, source)?;
-    Ok(Change::adding(alloc, add)?)
+    let none = empty_of(alloc, heading)?;
+    let add = source_for(alloc, catalog, &none, source)?;
+    Ok(Change { out: none, add })
 }
 
 /// What D_INSERT changes of a relvar: a tuple that is there is refused.
@@ -78,8 +78,9 @@ pub(crate) fn put_in_apart<B: Body>(
         (tree_view source.now)) (disjoint_union (B.relation entry.now.body))) }
     ensures headings { IfOk result (IsOfHeading (B.relation entry.now.body).heading) }
 {
-    let add = source_in(alloc, catalog, &entry.heading, source);
-    put_in_body(alloc, &entry.body, add)
+    let none = empty_of(alloc, &entry.heading)?;
+    let add = source_for(alloc, catalog, &none, source);
+    put_in_body(&entry.body, none, add)
 }
 
 /// What I_DELETE changes of a relvar: a tuple that is not there is refused.
@@ -97,8 +98,9 @@ pub(crate) fn take_out<B: Body>(
         (tree_view source.now)) (included_difference (B.relation entry.now.body))) }
     ensures headings { IfOk result (IsOfHeading (B.relation entry.now.body).heading) }
 {
-    let out = source_in(alloc, catalog, &entry.heading, source);
-    take_from_body(alloc, &entry.body, out)
+    let none = empty_of(alloc, &entry.heading)?;
+    let out = source_for(alloc, catalog, &none, source);
+    take_from_body(&entry.body, none, out)
 }
 
 // ---- DELETE and UPDATE

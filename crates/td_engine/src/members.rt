@@ -1,11 +1,12 @@
 //! Which tuples of a relation a body has, and what D_INSERT and I_DELETE change with it.
-ghost use Rattle.std.specs.Prelude.{◌≡◌, IfOk};
+ghost use Rattle.std.specs.Prelude.{◌≡◌, [], IfOk};
 ghost use Rattle.std.specs.List.{list_all};
 ghost use Rattle.td_algebra.specs.code.Merges.{is_wanted};
 ghost use Rattle.td_engine.specs.Changes.{IsOfHeading, changed_by};
 ghost use Rattle.td_eval.specs.OperatorValues.{disjoint_union, included_difference};
 ghost use Rattle.td_tree.specs.Outcomes.{Answers, Outcome, with_value};
 ghost use Rattle.td_value.specs.Values.{IsRelation, Relation};
+ghost use Rattle.td_value.specs.code.Views.{relation_view};
 
 use crate::change::Change;
 use std::alloc::Global;
@@ -29,13 +30,15 @@ fn are_members<B: Body>(body: &B, tuples: &Rel, wanted: bool) -> bool
     true
 }
 
-/// Tuples that come into a body: refused where one is there.
+/// Tuples that come into a body, whose heading a relation without tuples has: refused where one is
+/// there.
 pub(crate) fn put_in_body<B: Body>(
-    alloc: Global,
     body: &B,
+    none: Rel,
     source: Result<Rel, Fault>,
 ) -> Result<Change, Fault>
-    requires { IfOk source (λ s. s.heading ≡ (B.relation body.now).heading) }
+    requires none { none ≡ relation_view (B.relation body.now).heading [] }
+    requires heading { IfOk source (λ s. s.heading ≡ (B.relation body.now).heading) }
     ensures answer { (o : Outcome Relation) → Answers (λ s. s) source o
         → Answers (λ c. changed_by c (B.relation body.now)) result
         (with_value o (disjoint_union (B.relation body.now))) }
@@ -43,19 +46,21 @@ pub(crate) fn put_in_body<B: Body>(
 {
     let add = source?;
     if are_members(body, &add, false) {
-        Ok(Change::adding(alloc, add)?)
+        Ok(Change { out: none, add })
     } else {
         Err(Fault::Refused(Cause::NotDisjoint))
     }
 }
 
-/// Tuples that go out of a body: refused where one is not there.
+/// Tuples that go out of a body, whose heading a relation without tuples has: refused where one is
+/// not there.
 pub(crate) fn take_from_body<B: Body>(
-    alloc: Global,
     body: &B,
+    none: Rel,
     source: Result<Rel, Fault>,
 ) -> Result<Change, Fault>
     requires valid { IsRelation (B.relation body.now) }
+    requires none { none ≡ relation_view (B.relation body.now).heading [] }
     requires heading { IfOk source (λ s. s.heading ≡ (B.relation body.now).heading) }
     ensures answer { (o : Outcome Relation) → Answers (λ s. s) source o
         → Answers (λ c. changed_by c (B.relation body.now)) result
@@ -64,7 +69,7 @@ pub(crate) fn take_from_body<B: Body>(
 {
     let out = source?;
     if are_members(body, &out, true) {
-        Ok(Change::taking(alloc, out)?)
+        Ok(Change { out, add: none })
     } else {
         Err(Fault::Refused(Cause::NotIncluded))
     }

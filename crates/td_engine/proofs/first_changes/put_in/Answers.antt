@@ -17,16 +17,19 @@ pub returns-in_err-add-clause-answer : goal.returns-in_err-add-clause-answer
 returns-in_err-add-clause-answer g c = λ r e.
     let w = world_of c.args.catalog.now.database in
     let tree = tree_view c.args.source.now in
-    let is = err_from_is_err_and c.from_residual.result c.from_residual.ensures.1 in
+    let none = c.in_ok-none.none in
+    let headed : r.heading ≡ none.heading = e ∙ ap (λ (q : Relation). q.heading) (sym c.in_ok-none.ensures) in
+    let is = err_from_is_err_and c.from_residual-in_err-add.result c.from_residual-in_err-add.ensures.1 in
     rw (is.1, is.2)
     (refused_on (λ (q : Relation). q) (λ (d : Change). changed_by d r) c.in_err-add.field-0.0 (relation_for r w tree) (λ s. Valued (union r s))
-    (c.in_err-add.ensures.answer r e))
+    (c.in_err-add.ensures.answer r headed))
 
 pub returns-clause-answer : goal.returns-clause-answer
 returns-clause-answer g c = λ r e.
-    let d = c.in_ok-adding.field-0 in
+    let none = c.in_ok-none.none in
     let add = c.in_ok-add.add in
-    let there : changed_by d r ≡ union r add =
-    ap (λ o. union (difference r o) d.add) c.in_ok-adding.ensures.out ∙ ap (union (difference r (relation_view add.heading []))) c.in_ok-adding.ensures.add
-    ∙ ap (λ q. union q add) (nothing_out add.heading r) in
-    ap (λ o. with_value o (λ s. Valued (union r s))) (c.in_ok-add.ensures.answer r e) ∙ ap Valued (sym there)
+    let h = c.args.heading.now in
+    let headed : r.heading ≡ none.heading = e ∙ ap (λ (q : Relation). q.heading) (sym c.in_ok-none.ensures) in
+    let there : union (difference r none) add ≡ union r add =
+    ap (λ o. union (difference r o) add) c.in_ok-none.ensures ∙ ap (λ q. union q add) (nothing_out h r) in
+    ap (λ o. with_value o (λ s. Valued (union r s))) (c.in_ok-add.ensures.answer r headed) ∙ ap Valued (sym there)
