@@ -56,7 +56,7 @@ module _ (attributes : List Attribute) (fs : List (Tuple → Outcome Val)) (r : 
   settings_refused faults.Memory a = tt
   settings_refused (faults.Refused c) a = by_test (are_distinct (attribute_names attributes)) a
     where
-      by_test : (b : Bool) → named_cause (value_if b tt causes.Heading) ≡ Some c
+      by_test : (b : Bool) → named_cause (value_if {A = ⊤} b tt causes.Heading) ≡ Some c
           → named_cause (with_value (value_if b (heading_union (outside attributes r.heading) attributes) causes.Heading)
           (λ heading. with_value (set_value attributes fs r) of_relation)) ≡ Some c
       by_test true e = absurd (cc)

@@ -1,5 +1,5 @@
 -- EXTEND with settings of attributes that are not there is EXTEND with ADD.
-use Rattle.std.proofs.Common.{◌≡◌, ◌∙◌, ◌++◌, ℕ, Bool, true, false, List, [], ◌∷◌, Option, None, Some, ap, filter, fold, refl, rw, sym, true≢false}
+use Rattle.std.proofs.Common.{◌≡◌, ◌∙◌, ◌++◌, ℕ, Bool, true, false, List, [], ◌∷◌, Option, None, Some, ap, filter, fold, refl, sym, true≢false}
 use Rattle.std.specs.Prelude.{◌&&◌, if◌then◌else◌, is_some, not}
 use Rattle.std.specs.Cmp.Lexicographic.{same_text}
 use Rattle.std.specs.List.{Contains, list_all}
@@ -8,7 +8,7 @@ use Rattle.td_algebra.proofs.Entries.{no_value_outside}
 use Rattle.td_algebra.proofs.Members.{both_true, first_true, second_true}
 use Rattle.td_algebra.proofs.Relations.{member_headed}
 use Rattle.td_eval.proofs.law_lemmas.AlikeRows.{map_alike}
-use Rattle.td_eval.specs.OperatorValues.{additions_of, columns_values, extended_by_settings, extended_value, of_relation, set_value}
+use Rattle.td_eval.specs.OperatorValues.{additions_of, columns_values, of_relation, set_value}
 use Rattle.td_eval.specs.ValueLaws.{NewSettingsExtend}
 use Rattle.td_tree.specs.declared.cause.Cause.TheVariants as causes
 use Rattle.td_tree.specs.Outcomes.{Outcome, Valued, Refused, gathered, value_if, with_value}
