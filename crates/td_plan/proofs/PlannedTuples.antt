@@ -3,6 +3,7 @@ use Rattle.std.proofs.Common.{◌≡◌, ◌∙◌, suc, true, List, [], ◌∷�
 use Rattle.std.specs.List.{Contains}
 use Rattle.std.specs.Prelude.{nat_eq}
 use Rattle.std.proofs.lemmas.Bool.{eq-eqb}
+use Rattle.td_algebra.proofs.Members.{second_true}
 use Rattle.td_check.specs.OperatorTypes.{aggregate_type, extended_by, extension_type, over_relation, restriction_type}
 use Rattle.td_check.specs.Scopes.{Scope, entered_with}
 use Rattle.td_check.specs.StaticLaws.{HasMore, PartsGiveNames}
@@ -32,11 +33,10 @@ use Rattle.td_tree.specs.declared.operator.Aggregate.{Aggregate}
 use Rattle.td_tree.specs.Outcomes.{Outcome, Valued, with_value}
 use Rattle.td_tree.specs.Trees as trees
 use Rattle.td_tree.specs.Trees.{NamedTrees, Tree}
-use Rattle.td_types.proofs.DistinctNames.{second_of}
 use Rattle.td_types.proofs.OutcomeLaws.{value_of_test, value_of_with, valued_is, values_of_both}
-use Rattle.td_types.specs.Headings.{have_no_common}
+use Rattle.td_types.specs.Headings.{are_distinct, have_no_common}
 use Rattle.td_types.specs.code.TypeCode.{unpack_pack}
-use Rattle.td_types.specs.Types.{Attribute, Attrs, Heading, Type', pack, unpack}
+use Rattle.td_types.specs.Types.{Attribute, Attrs, Heading, Type', attribute_names, pack, unpack}
 use Rattle.td_types.specs.Types as types
 use Rattle.td_value.specs.Values.{Relation, Tuple, Val, heading_of}
 
@@ -206,7 +206,7 @@ module _ (scope : Scope) where
         let extended = value_of_with (extended_by h new.0) (λ g. Valued (types.relation (pack g))) t new.2 in
         let apart : have_no_common xs h ≡ true =
         ap (λ ys. have_no_common ys h) (valued_is xs new.0 (sym known ∙ new.1))
-        ∙ second_of _ _ (value_of_test _ _ extended.0 causes.Heading extended.1).0 in
+        ∙ second_true (are_distinct (attribute_names new.0)) (have_no_common new.0 h) (value_of_test _ _ extended.0 causes.Heading extended.1).0 in
         over_same scope.types (types.relation (pack h)) (value_of w s d)
         (λ r. extended_value (named_types (entered_with r.heading (with_tuples w.scope s)) es) (values_in_tuples w s es) r)
         (λ r. extended_by_settings (named_types (entered_with r.heading (with_tuples w.scope s)) es) (values_in_tuples w s es) r)

@@ -17,10 +17,9 @@ returns c = λ scope d es h i static columns.
     let once = steps_view new.once.items in
     let values = steps_view new.values.items in
     let is = sym (extend_is p new.attributes new.once new.values) in
-    let planned = subst (λ o. IsBoxPlanned scope o d) c.in_ok-operand.was i in
-    (
+    let planned = subst (λ o. IsBoxPlanned scope o d) c.in_ok-operand.was i in (
       subst (λ x. IsPlanOfTyped scope x (trees.extend d es)) is
-      (extension_planned scope (step_view p.value) xs none once values columns.1 d es h planned static columns.0 columns.2 columns.3),
+          (extension_planned scope (step_view p.value) xs none once values columns.1 d es h planned static columns.0 columns.2 columns.3),
       subst (λ x. IsPlanOfTyped scope x (trees.extend_setting d es)) is
-      (setting_planned scope (step_view p.value) xs none once values columns.1 d es h planned static columns.0 columns.2 columns.3),
+          (setting_planned scope (step_view p.value) xs none once values columns.1 d es h planned static columns.0 columns.2 columns.3),
     )
