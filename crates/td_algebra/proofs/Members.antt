@@ -31,22 +31,22 @@ lacked t ts h = by_test (has tuple_cmp t ts) (λ e. h (contained t ts e))
     by_test true f = absurd (f refl)
     by_test false f = refl
 
--- what is in one list is in another exactly where the test of each tuple says so
-pub included : (ts us : List Tuple) → IsTrue (list_all (λ t. has tuple_cmp t us) ts) → (t : Tuple) → Contains ts t → Contains us t
-included ts us h t c = contained t us (everywhere ts h (found t ts c))
+-- a test holds of all of a list exactly where it holds of what the list contains
+tested : (p : Tuple → Bool) (ts : List Tuple) → list_all p ts ≡ true → (t : Tuple) → Contains ts t → p t ≡ true
+tested p ts h t c = everywhere ts h (found t ts c)
   where
-    everywhere : (ts : List Tuple) → list_all (λ u. has tuple_cmp u us) ts ≡ true → has tuple_cmp t ts ≡ true → has tuple_cmp t us ≡ true
+    everywhere : (ts : List Tuple) → list_all p ts ≡ true → has tuple_cmp t ts ≡ true → p t ≡ true
     everywhere [] h e = absurd (true≢false (sym e))
     everywhere (u ∷ rest) h e = by_tie (everywhere rest (second_true _ _ h)) (eq_by_cmp tuple_cmp t u) refl
       where
-        by_tie : (has tuple_cmp t rest ≡ true → has tuple_cmp t us ≡ true) → (b : Bool) → eq_by_cmp tuple_cmp t u ≡ b → has tuple_cmp t us ≡ true
-        by_tie later true is = ap (λ w. has tuple_cmp w us) ((tuple_Decides t u).0 is) ∙ first_true _ _ h
+        by_tie : (has tuple_cmp t rest ≡ true → p t ≡ true) → (b : Bool) → eq_by_cmp tuple_cmp t u ≡ b → p t ≡ true
+        by_tie later true is = ap p ((tuple_Decides t u).0 is) ∙ first_true _ _ h
         by_tie later false is = later (rw is at e)
 
-pub includes : (ts us : List Tuple) → ((t : Tuple) → Contains ts t → Contains us t) → IsTrue (list_all (λ t. has tuple_cmp t us) ts)
-includes [] us h = refl
-includes (t ∷ ts) us h =
-    both_true _ _ (found t us (h t (contained t (t ∷ ts) (itself t ts)))) (includes ts us (λ u c. h u (contained u (t ∷ ts) (later u t ts (found u ts c)))))
+tests : (p : Tuple → Bool) (ts : List Tuple) → ((t : Tuple) → Contains ts t → p t ≡ true) → list_all p ts ≡ true
+tests p [] h = refl
+tests p (t ∷ ts) h =
+    both_true _ _ (h t (contained t (t ∷ ts) (itself t ts))) (tests p ts (λ u c. h u (contained u (t ∷ ts) (later u t ts (found u ts c)))))
   where
     itself : (t : Tuple) (ts : List Tuple) → has tuple_cmp t (t ∷ ts) ≡ true
     itself t ts = rw ((tuple_Decides t t).1 refl) refl
@@ -57,3 +57,17 @@ includes (t ∷ ts) us h =
         by_tie : (b : Bool) → (b || has tuple_cmp u ts) ≡ true
         by_tie true = refl
         by_tie false = e
+
+-- what is in one list is in another exactly where the test of each tuple says so
+pub included : (ts us : List Tuple) → IsTrue (list_all (λ t. has tuple_cmp t us) ts) → (t : Tuple) → Contains ts t → Contains us t
+included ts us h t c = contained t us (tested (λ u. has tuple_cmp u us) ts h t c)
+
+pub includes : (ts us : List Tuple) → ((t : Tuple) → Contains ts t → Contains us t) → IsTrue (list_all (λ t. has tuple_cmp t us) ts)
+includes ts us h = tests (λ u. has tuple_cmp u us) ts (λ t c. found t us (h t c))
+
+-- and none of the one is in the other
+pub divided : (ts us : List Tuple) → IsTrue (list_all (λ t. not (has tuple_cmp t us)) ts) → (t : Tuple) → Contains ts t → Contains us t → ⊥
+divided ts us h t c = absent t us (tested (λ u. not (has tuple_cmp u us)) ts h t c)
+
+pub divides : (ts us : List Tuple) → ((t : Tuple) → Contains ts t → Contains us t → ⊥) → IsTrue (list_all (λ t. not (has tuple_cmp t us)) ts)
+divides ts us h = tests (λ u. not (has tuple_cmp u us)) ts (λ t c. lacked t us (h t c))

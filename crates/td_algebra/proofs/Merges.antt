@@ -6,6 +6,7 @@ use Rattle.std.specs.declared.cmp.Ordering.TheVariants.{Less, Equal, Greater}
 use Rattle.std.specs.Ordering.{eq_by_cmp, is_eq, is_lt, ordering_reverse}
 use Rattle.std.specs.List.{AllByRecursion, list_all}
 use Rattle.std.specs.List.Sorted.{IsStrictlySortedBy}
+use Rattle.std.proofs.Math.Bool.{beq}
 use Rattle.std.proofs.lemmas.List.{at_drop_more}
 use Rattle.std.proofs.lemmas.List.Folds.{list_any-append}
 use Rattle.std.proofs.lemmas.List.Kept.{IsStrictlySortedBy-filter}
@@ -13,7 +14,7 @@ use Rattle.td_value.specs.Sets.{has, set_of}
 use Rattle.td_value.specs.Values.{Tuple, IsAscendingBody, tuple_cmp}
 use Rattle.td_value.specs.ValueOrder.{tuple_Decides, tuple_order_same, tuple_order_total}
 use Rattle.td_value.proofs.SetLaws.{is_set_of, same_members}
-use Rattle.td_algebra.specs.code.Merges.{IsAbreast, without_first, begins_with, below, merged_tuples, not_below}
+use Rattle.td_algebra.specs.code.Merges.{IsAbreast, without_first, begins_with, below, is_wanted, merged_tuples, not_below}
 
 -- ---- the order of two tuples
 
@@ -260,6 +261,13 @@ step_abreast ts rest left us i t h e a abreast is =
 
 pub left-ascends : (t : Tuple) (rest left : List Tuple) → IsAscendingBody rest → left ≡ not_below t rest → IsAscendingBody left
 left-ascends t rest left a is = subst IsAscendingBody (sym is) (not_below-ascends t rest a)
+
+-- whether a tuple is wanted, as the code tests it
+pub wanted_is : (wanted : Bool) (us : List Tuple) (t : Tuple) (found result : Bool) → found ≡ has tuple_cmp t us → beq found wanted ≡ result → is_wanted wanted us t ≡ result
+wanted_is true us t true result e f = sym e ∙ f
+wanted_is true us t false result e f = sym e ∙ f
+wanted_is false us t true result e f = rw (sym e) f
+wanted_is false us t false result e f = rw (sym e) f
 
 -- a test of all from the place on, by the tuple at the place
 pub step_failed : (p : Tuple → Bool) (ts : List Tuple) (i : ℕ) (t : Tuple) → i < length ts → t ≡ get_or ts i t → false ≡ p t

@@ -5,7 +5,7 @@ use Rattle.td_types.specs.Headings.{agree, are_distinct, can_rename, has_name, h
 use Rattle.td_types.specs.Types.{Heading, attribute_names}
 use Rattle.td_value.specs.Agreement.{AgreeOn}
 use Rattle.td_value.specs.Values.{Tuple, Relation, IsRelation, IsTupleOf, projected_tuple, tuple_names, value_at}
-use Rattle.td_algebra.specs.Operators.{Addition, added_attributes, common_names, composition, difference, extended_relation, intersection, is_subset, join, own_names, product, projected_relation, relation_names, renamed_relation, restriction, semidifference, semijoin, set_relation, union}
+use Rattle.td_algebra.specs.Operators.{Addition, added_attributes, common_names, composition, difference, extended_relation, intersection, is_disjoint, is_subset, join, own_names, product, projected_relation, relation_names, renamed_relation, restriction, semidifference, semijoin, set_relation, union}
 
 -- the tuple is in the relation
 abbrev pub IsIn : Tuple → Relation → Type 0
@@ -88,6 +88,10 @@ DifferenceByMembership = (r s : Relation) (t : Tuple) → IsIn t (difference r s
 -- r <= s: each t in r is in s
 abbrev pub SubsetByMembership : Type 0
 SubsetByMembership = (r s : Relation) → IsTrue (is_subset r s) ↔ ((t : Tuple) → IsIn t r → IsIn t s)
+
+-- r and s are disjoint: no t is in both
+abbrev pub DisjointByMembership : Type 0
+DisjointByMembership = (r s : Relation) → IsTrue (is_disjoint r s) ↔ ((t : Tuple) → IsIn t r → IsIn t s → ⊥)
 
 -- t on r's names is in r and t on s's names is in s
 abbrev pub IsInBoth : Relation → Relation → Tuple → Type 0

@@ -1,14 +1,14 @@
-//! UNION, INTERSECT, MINUS and inclusion, by a pass over the ascending tuples of both operands side
-//! by side, or by a search for each tuple of one that is far shorter. Both have one heading.
+//! UNION, INTERSECT, MINUS, inclusion and disjointness, by a pass over the ascending tuples of both
+//! operands side by side, or by a search for each tuple of one that is far shorter. Both have one
+//! heading.
 ghost use Rattle.std.specs.Prelude.{◌≡◌, ◌++◌, IfOk, OnOk, filter};
 ghost use Rattle.std.specs.List.{All, list_all};
 ghost use Rattle.td_algebra.specs.code.Merges.{begins_with, below, is_wanted, merged_tuples};
 ghost use Rattle.td_algebra.specs.code.Merges.{not_below};
 ghost use Rattle.td_algebra.specs.code.Merges.{without_first};
-ghost use Rattle.td_algebra.specs.Operators.{difference, intersection, is_subset, restriction};
-ghost use Rattle.td_algebra.specs.Operators.{union};
-ghost use Rattle.td_value.specs.Sets.{has};
-ghost use Rattle.td_value.specs.Values.{IsAscendingBody, IsTupleOf, tuple_cmp};
+ghost use Rattle.td_algebra.specs.Operators.{difference, intersection, is_disjoint, is_subset};
+ghost use Rattle.td_algebra.specs.Operators.{restriction, union};
+ghost use Rattle.td_value.specs.Values.{IsAscendingBody, IsTupleOf};
 ghost use Rattle.td_value.specs.code.Views.{relation_view};
 
 use std::alloc::{AllocError, Global};
@@ -204,16 +204,16 @@ pub fn minus(alloc: Global, rel: &Rel, other: &Rel) -> Result<Rel, AllocError>
     wanted_part(alloc, rel, other, false)
 }
 
-/// Whether each of the rows is among the others.
-fn are_among(rows: &[Tuple], others: &[Tuple]) -> bool
+/// Whether each of the rows is among the others, or whether none is, as is wanted.
+fn are_wanted(rows: &[Tuple], others: &[Tuple], wanted: bool) -> bool
     requires rows { IsAscendingBody rows.now }
     requires others { IsAscendingBody others.now }
-    ensures { result ≡ list_all (λ t. has tuple_cmp t others.now) rows.now }
+    ensures { result ≡ list_all (is_wanted wanted others.now) rows.now }
 {
     let mut rest = others;
     for row in rows {
         rest = not_below(rest, row);
-        if !begins_with(rest, row) {
+        if begins_with(rest, row) != wanted {
             return false;
         }
     }
@@ -225,5 +225,13 @@ pub fn subset(rel: &Rel, other: &Rel) -> bool
     requires { rel.now.heading ≡ other.now.heading }
     ensures { result ≡ is_subset rel.now other.now }
 {
-    are_among(rel.rows(), other.rows())
+    are_wanted(rel.rows(), other.rows(), true)
+}
+
+/// Whether no tuple is in both.
+pub fn disjoint(rel: &Rel, other: &Rel) -> bool
+    requires { rel.now.heading ≡ other.now.heading }
+    ensures { result ≡ is_disjoint rel.now other.now }
+{
+    are_wanted(rel.rows(), other.rows(), false)
 }

@@ -15,23 +15,23 @@ use td_value::relation::Rel;
 
 /// The relation with several attributes set: one that is there is replaced, and may change its
 /// type; another is added. `Column::fits` is a test of what is required.
-pub fn set_all(alloc: Global, rel: &Rel, columns: Vec<(Name, Column)>) -> Result<Rel, AllocError>
+pub fn set_all(alloc: Global, rel: &Rel, columns: &[(Name, Column)]) -> Result<Rel, AllocError>
     requires distinct { IsTrue (are_distinct
-        (attribute_names (column_attributes (columns_view columns.items)))) }
-    requires fit { AreColumns (columns_view columns.items) rel.now.body }
+        (attribute_names (column_attributes (columns_view columns.now)))) }
+    requires fit { AreColumns (columns_view columns.now) rel.now.body }
     ensures { (additions : List Addition)
-        → AreColumnsOf (columns_view columns.items) rel.now.body additions
+        → AreColumnsOf (columns_view columns.now) rel.now.body additions
         → IfOk result (λ r. r ≡ set_relation additions rel.now) }
 {
     let old = rel.heading();
     old.reveal();
     let nothing = Heading::empty(alloc);
-    let set = heading_with(&nothing, &columns)?;
+    let set = heading_with(&nothing, columns)?;
     let others = old.lacking(&set)?;
-    let heading = heading_with(&others, &columns)?;
+    let heading = heading_with(&others, columns)?;
     heading.reveal();
-    let names = names_of(alloc, &columns)?;
+    let names = names_of(alloc, columns)?;
     let layout = extended_layout(alloc, &set, old, &names)?;
-    let rows = extended_rows(alloc, rel.rows(), &columns, &layout)?;
+    let rows = extended_rows(alloc, rel.rows(), columns, &layout)?;
     Rel::new(heading, rows)
 }

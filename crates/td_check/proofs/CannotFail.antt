@@ -5,7 +5,7 @@ use Rattle.std.proofs.lemmas.List.Folds.{list_all-append}
 use Rattle.std.proofs.Math.Bool.{and_assoc}
 use Rattle.std.proofs.Math.Dec.{eqb-suc-zero}
 use Rattle.std.specs.Bool.{◌==◌}
-use Rattle.std.specs.Global.{Vec}
+use Rattle.std.specs.Global.{Box, Vec}
 use Rattle.std.specs.Prelude.{if◌then◌else◌, is_some}
 use Rattle.td_check.specs.CannotFail.{all_cannot_fail, all_unfailing, cannot_fail, cannot_fail_of, is_no_virtual, items_cannot_fail, measure_cannot_fail, name_cannot_fail, unfailing, operator_cannot_fail, parts_unfailing, parts_cannot_fail, prefix_cannot_fail, relvar_cannot_fail, relvars_cannot_fail, selector_cannot_fail}
 use Rattle.td_check.specs.code.CheckViews.{Names}
@@ -14,13 +14,14 @@ use Rattle.td_check.specs.Scopes.{KnownRelvar, Scope, innermost, relvar_in}
 use Rattle.td_check.specs.StaticTypes.{type_of}
 use Rattle.td_tree.specs.declared.expression.Expr.{Expr}
 use Rattle.td_tree.specs.declared.expression.Expr.TheVariants as x
+use Rattle.td_tree.specs.declared.expression.NamedExpr.{NamedExpr}
 use Rattle.td_tree.specs.declared.expression.Summary.{Summary}
 use Rattle.td_tree.specs.declared.expression.Summary.TheVariants as s
 use Rattle.td_tree.specs.declared.type_tree.AttributeTree.{AttributeTree}
 use Rattle.td_tree.specs.Outcomes.{Outcome, Valued, Refused, with_value}
-use Rattle.td_tree.specs.code.TreeViews.{summaries_view, tree_view, trees_view}
-use Rattle.td_tree.specs.Trees.{Tree, literal, name, parentheses, prefix, extract, restriction, binary, compare, postfix, select, component, measure, aggregate, relation, headed_relation, tuple, extend, summarize_per, summarize_by, choice, Trees, none, more, NamedTrees, none_named, more_named, no_summaries, counted, summed}
-use Rattle.td_tree.proofs.code_lemmas.Rows.{headed_relation_is, relation_is}
+use Rattle.td_tree.specs.code.TreeViews.{named_view, summaries_view, tree_view, trees_view}
+use Rattle.td_tree.specs.Trees.{Tree, literal, name, parentheses, prefix, extract, restriction, binary, compare, postfix, select, component, measure, aggregate, relation, headed_relation, tuple, extend, extend_setting, summarize_per, summarize_by, choice, Trees, none, more, NamedTrees, none_named, more_named, no_summaries, counted, summed}
+use Rattle.td_tree.proofs.code_lemmas.Rows.{extend_is, extend_setting_is, headed_relation_is, relation_is}
 use Rattle.td_types.proofs.OutcomeLaws.{valued_is}
 use Rattle.td_types.specs.TypeLists.{DeclaredType}
 use Rattle.td_types.specs.Types.{Type'}
@@ -60,6 +61,13 @@ elements_unfailing ds e v es is same = ap (λ ys. all_unfailing ds (trees_view y
     by_case : (e ≡ x.Relation v) ⊎ ((h : Vec AttributeTree) × (e ≡ x.HeadedRelation h v)) → unfailing ds (tree_view e) ≡ all_unfailing ds (trees_view v.items)
     by_case (inl f) = ap (λ w. unfailing ds (tree_view w)) f ∙ ap (unfailing ds) (relation_is v)
     by_case (inr (h, f)) = ap (λ w. unfailing ds (tree_view w)) f ∙ ap (unfailing ds) (headed_relation_is h v)
+
+-- of an operand with attributes added or set
+pub extended_unfailing : (ds : List DeclaredType) (e : Expr) (operand : Box Expr) (parts : Vec NamedExpr)
+    → (e ≡ x.Extend operand parts) ⊎ (e ≡ x.ExtendSetting operand parts)
+    → unfailing ds (tree_view e) ≡ (unfailing ds (tree_view operand.value) && parts_unfailing ds (named_view parts.items))
+extended_unfailing ds e operand parts (inl f) = ap (λ w. unfailing ds (tree_view w)) f ∙ ap (unfailing ds) (extend_is operand parts)
+extended_unfailing ds e operand parts (inr f) = ap (λ w. unfailing ds (tree_view w)) f ∙ ap (unfailing ds) (extend_setting_is operand parts)
 
 -- ---- parts
 
@@ -131,6 +139,10 @@ mutual
       of_both s.relvars _ _ _ _ _ _ (of_parts operand s)
       (in_hand (λ ts rs. IsOfParts rs (parts_cannot_fail (in_tuples s (type_of s operand)) parts) (parts_unfailing ts parts) (relvars_in_named (in_tuples s (type_of s operand)) parts))
       s (type_of s operand) (named_of_parts parts (in_tuples s (type_of s operand))))
+  of_parts (extend_setting operand settings) s =
+      of_both s.relvars _ _ _ _ _ _ (of_parts operand s)
+      (in_hand (λ ts rs. IsOfParts rs (parts_cannot_fail (in_tuples s (type_of s operand)) settings) (parts_unfailing ts settings) (relvars_in_named (in_tuples s (type_of s operand)) settings))
+      s (type_of s operand) (named_of_parts settings (in_tuples s (type_of s operand))))
   of_parts (summarize_per operand per no_summaries) s = of_both s.relvars _ _ _ _ _ _ (of_parts operand s) (of_parts per s)
   of_parts (summarize_per operand per (counted n rest)) s = refl
   of_parts (summarize_per operand per (summed op value n rest)) s = refl

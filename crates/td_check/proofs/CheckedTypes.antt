@@ -3,7 +3,7 @@ use Rattle.std.proofs.Common.{◌≡◌, ◌∙◌, List, Option, Some, None, Re
 use Rattle.std.specs.Global.{Vec}
 use Rattle.td_check.specs.code.CheckViews.{Added, choice_of, headed_view, by_summary, per_summary, three_types_view, types_view}
 use Rattle.td_check.specs.OperatorTypes as own
-use Rattle.td_check.specs.OperatorTypes.{extension_type, headed_type, over_relation}
+use Rattle.td_check.specs.OperatorTypes.{headed_type, over_relation}
 use Rattle.td_check.specs.StaticTypes.{both_types}
 use Rattle.td_check.proofs.Gives.{Gives, answers_paired, paired_first, with_pair}
 use Rattle.td_tree.specs.Gatherings.{both_answers}
@@ -62,10 +62,11 @@ pub inside_typed : {A : Type 0} (o : Outcome Type') (s : Type') → o ≡ Valued
     → with_value (over_relation s found) (f s) ≡ with_value o (λ s. over_relation s (λ h. with_value (found h) (f s)))
 inside_typed o s is found f = rw is (sym (over_relation_then s found (f s)))
 
-pub inside_extended : (o : Outcome Type') (s : Type') → o ≡ Valued s → (found : Heading → Outcome (List Attribute))
-    → with_value (over_relation s found) (λ attributes. over_relation s (λ h. extension_type h attributes))
-    ≡ with_value o (λ s. over_relation s (λ h. with_value (found h) (extension_type h)))
-inside_extended o s is found = rw is (sym (over_relation_each s found extension_type))
+-- with attributes that a rule adds to the operand's heading
+pub inside_extended : (rule : Heading → List Attribute → Outcome Type') (o : Outcome Type') (s : Type') → o ≡ Valued s → (found : Heading → Outcome (List Attribute))
+    → with_value (over_relation s found) (λ attributes. over_relation s (λ h. rule h attributes))
+    ≡ with_value o (λ s. over_relation s (λ h. with_value (found h) (rule h)))
+inside_extended rule o s is found = rw is (sym (over_relation_each s found rule))
 
 -- ---- SUMMARIZE
 

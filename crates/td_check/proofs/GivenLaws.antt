@@ -2,7 +2,7 @@
 use Rattle.std.proofs.Common.{◌≡◌, ◌∷◌, ℕ, List, [], ◌⊎◌, inl, inr, Option, Some, None, refl, subst}
 use Rattle.std.specs.List.{AllByRecursion, Contains}
 use Rattle.std.proofs.lemmas.List.Elements.{Contains-append_cases, Contains-append_left, Contains-append_right}
-use Rattle.td_check.specs.OperatorTypes.{Item, count_item, aggregate_item, aggregate_type, are_types_of, choice_type, comparison_type, component_type, extension_type, extracted_type, headed_type, known_or, listed_type, measure_type, mismatch, named_part, operator_type, per_heading, postfix_type, prefix_type, selector_type, summary_type, tuple_type, restriction_type}
+use Rattle.td_check.specs.OperatorTypes.{Item, count_item, aggregate_item, aggregate_type, are_types_of, choice_type, comparison_type, component_type, extension_type, extracted_type, headed_type, known_or, listed_type, measure_type, mismatch, named_part, operator_type, per_heading, postfix_type, prefix_type, selector_type, setting_type, summary_type, tuple_type, restriction_type}
 use Rattle.td_check.specs.Scopes.{KnownRelvar, Scope, entered_with, innermost, known_relvar}
 use Rattle.td_check.specs.StaticLaws.{GiveNames, GivesNames, ItemsGiveNames, OperatorGivesNames, PartsGiveNames}
 use Rattle.td_check.specs.StaticTypes.{items_of, literal_type, name_type, named_types, both_types, type_of, types_of, with_items}
@@ -10,13 +10,13 @@ use Rattle.td_tree.specs.declared.cause.Cause.TheVariants as causes
 use Rattle.td_tree.specs.declared.operator.Operator.{Operator}
 use Rattle.td_tree.specs.Names.{IsName}
 use Rattle.td_tree.specs.Outcomes.{Outcome, Valued, Refused, value_if, with_both, with_value}
-use Rattle.td_tree.specs.Trees.{Literal, number, text, truth, table_dee, table_dum, Postfix, project, rename, group, ungroup, wrap, unwrap, Tree, literal, name, parentheses, prefix, extract, restriction, binary, compare, postfix, select, component, measure, aggregate, relation, headed_relation, tuple, extend, summarize_per, summarize_by, choice, Trees, none, more, NamedTrees, none_named, more_named, Summaries, no_summaries, counted, summed}
+use Rattle.td_tree.specs.Trees.{Literal, number, text, truth, table_dee, table_dum, Postfix, project, rename, group, ungroup, wrap, unwrap, Tree, literal, name, parentheses, prefix, extract, restriction, binary, compare, postfix, select, component, measure, aggregate, relation, headed_relation, tuple, extend, extend_setting, summarize_per, summarize_by, choice, Trees, none, more, NamedTrees, none_named, more_named, Summaries, no_summaries, counted, summed}
 use Rattle.td_types.specs.TypeLists.{DeclaredType, declared_at, heading_meant}
 use Rattle.td_types.specs.Types.{Attribute, Heading, Type', pack, type_at, unpack}
 use Rattle.td_types.specs.Types as types
 use Rattle.td_check.proofs.AgreementLaws.{one_is, only_one}
 use Rattle.td_check.proofs.KnownLaws.{Supplies}
-use Rattle.td_check.proofs.OperatorLaws.{Fits, Gives, IsClosed, ItemFits, NewNames, aggregate_gives, choice_gives, comparison_gives, extension_gives, extracted_gives, gives_both, gives_if, gives_known, gives_with, headed_gives, listed_gives, measure_gives, operator_gives, over_relation_gives, part_gives, per_gives, postfix_gives, prefix_gives, restricted_gives, summary_gives, tuple_gives, type_fits}
+use Rattle.td_check.proofs.OperatorLaws.{Fits, Gives, IsClosed, ItemFits, NewNames, aggregate_gives, choice_gives, comparison_gives, extension_gives, extracted_gives, gives_both, gives_if, gives_known, gives_with, headed_gives, listed_gives, measure_gives, operator_gives, over_relation_gives, part_gives, per_gives, postfix_gives, prefix_gives, restricted_gives, setting_gives, summary_gives, tuple_gives, type_fits}
 
 gives_value : {A : Type 0} (P : A → Type 0) (o : Outcome A) → ((x : A) → o ≡ Valued x → P x) → Gives P o
 gives_value P (Valued x) p = p x refl
@@ -38,10 +38,10 @@ module _ {G : Type' → Type 0} {H : Heading → Type 0} (c : IsClosed IsName G 
 
   new_names : (op : Postfix) → OperatorGivesNames op → NewNames c op
   new_names (project attributes) n = n
-  new_names (rename renamings) n = n
-  new_names (group attributes m) n = n
+  new_names (rename style renamings) n = n
+  new_names (group style attributes m) n = n
   new_names (ungroup m) n = n
-  new_names (wrap attributes m) n = n
+  new_names (wrap style attributes m) n = n
   new_names (unwrap m) n = n
 
   -- ---- the attributes in hand, and the relvars
@@ -183,6 +183,10 @@ module _ {G : Type' → Type 0} {H : Heading → Type 0} (c : IsClosed IsName G 
         gives_with G G (type_of s operand) _ (gives operand n.0 s a) (λ t g. over_relation_gives c G t _ g (λ h k.
         gives_with Attributes' G (named_types (entered_with h s) parts) (extension_type h) (parts_give parts n.1 (entered_with h s) (supplies_entered s a h k))
         (λ xs all. extension_gives c h xs k all)))
+    gives (extend_setting operand settings) n s a =
+        gives_with G G (type_of s operand) _ (gives operand n.0 s a) (λ t g. over_relation_gives c G t _ g (λ h k.
+        gives_with Attributes' G (named_types (entered_with h s) settings) (setting_type h) (parts_give settings n.1 (entered_with h s) (supplies_entered s a h k))
+        (λ xs all. setting_gives c h xs k all)))
     gives (summarize_per operand per summaries) n s a =
         gives_both SomeFit G G _ (type_of s per) _
         (gives_with G SomeFit (type_of s operand) _ (gives operand n.0 s a) (λ t g. with_items_gives t _ g (λ h k. items_give summaries n.2 (entered_with h s) (supplies_entered s a h k))))

@@ -1,15 +1,15 @@
--- What the rules' headings are: headings without a common attribute agree, and attributes that are added one after another
--- extend a heading exactly where their names are new and distinct.
+-- What the rules' headings are: headings without a common attribute agree, attributes that are added one after another
+-- extend a heading exactly where their names are new and distinct, and attributes that are set are those of a heading.
 use Rattle.std.proofs.Common.{◌≡◌, ◌∙◌, ◌∷◌, ℕ, Bool, true, false, List, [], Option, Some, None, Result, ap, refl, subst, sym, true≢false}
 use Rattle.std.specs.Prelude.{◌&&◌, ◌||◌, if◌then◌else◌, is_some, not}
 use Rattle.std.specs.List.{list_all}
-use Rattle.td_check.specs.OperatorTypes.{composed_heading, extended_by, joined_apart}
+use Rattle.td_check.specs.OperatorTypes.{composed_heading, extended_by, joined_apart, set_heading}
 use Rattle.td_tree.specs.declared.cause.Cause.TheVariants as causes
 use Rattle.td_tree.specs.declared.fault.Fault.{Fault}
 use Rattle.td_tree.specs.Outcomes.{Answers, Valued, value_if, with_value}
-use Rattle.td_types.specs.Headings.{agree, are_distinct, common_heading, common_part, extended_heading, has_attribute, has_name, have_no_common, heading_union, is_type_or_none, outside, united_heading, with_attribute}
-use Rattle.td_types.specs.Types.{Attribute, Heading, Type', attribute_names, same_name, type_at}
-use Rattle.td_types.proofs.HeadingLaws.{has_attribute-with, same_name-flips, same_name-itself, type_at-common, type_at-outside}
+use Rattle.td_types.specs.Headings.{agree, are_distinct, common_heading, common_part, extended_heading, has_attribute, has_name, have_no_common, heading_from, heading_union, is_type_or_none, made_heading, outside, united_heading, with_attribute}
+use Rattle.td_types.specs.Types.{Attribute, Heading, IsAscending, Type', attribute_names, same_name, type_at}
+use Rattle.td_types.proofs.HeadingLaws.{IsAscending-filter, IsAscending-union, has_attribute-with, same_name-flips, same_name-itself, type_at-common, type_at-outside, type_at-union, types_determine_heading}
 use Rattle.td_types.proofs.OutcomeLaws.{value_of_test}
 
 -- ---- headings apart
@@ -122,3 +122,46 @@ composed_answers g h common left right r e l m =
     let composed : composed_heading g h ≡ Valued (heading_union (outside common g) (outside common h)) =
     ap (λ o. with_value o (λ c. Valued (heading_union (outside c g) (outside c h)))) e in
     subst (λ o. Answers (λ (x : Heading). x) r o) (union ∙ sym composed)
+
+-- ---- attributes that are set
+
+-- the heading that they make has the types that they have
+abbrev GivesTypes : Heading → List Attribute → Type 0
+GivesTypes set xs = (n : List ℕ) → type_at n set ≡ type_at n xs
+
+-- beside it stands what stands beside them
+outside_set : (h set : Heading) (xs : List Attribute) → GivesTypes set xs → outside set h ≡ outside xs h
+outside_set [] set xs e = refl
+outside_set (a ∷ h) set xs e =
+    (λ i. if not (is_some (e a.0 i)) then a ∷ outside set h else outside set h)
+    ∙ ap (λ rest. if not (has_attribute a.0 xs) then a ∷ rest else rest) (outside_set h set xs e)
+
+-- with it united, a heading is the same as with them
+united_set : (g set : Heading) (xs : List Attribute) → IsAscending g → GivesTypes set xs → heading_union g set ≡ heading_union g xs
+united_set g set xs p e =
+    types_determine_heading (heading_union g set) (heading_union g xs) (IsAscending-union g set p) (IsAscending-union g xs p)
+    (λ n. type_at-union n g set ∙ ap (λ o. if has_attribute n g then type_at n g else o) (e n) ∙ sym (type_at-union n g xs))
+
+-- what a heading lacks is apart from it
+outside_apart : (set h : Heading) → have_no_common (outside set h) set ≡ true
+outside_apart set h = apart_from (outside set h) set missing
+  where
+    by_test : (b : Bool) (o : Option Type') → is_some (if b then None else o) ≡ true → b ≡ false
+    by_test true o e = absurd (true≢false (sym e))
+    by_test false o e = refl
+
+    missing : (n : List ℕ) → has_attribute n (outside set h) ≡ true → has_attribute n set ≡ false
+    missing n e = by_test (has_attribute n set) (type_at n h) (sym (ap is_some (type_at-outside n set h)) ∙ e)
+
+-- the heading with attributes set, of the heading that they make
+pub set_answers : (h set others : Heading) (xs : List Attribute) (r : Result Heading Fault) → IsAscending h → made_heading xs ≡ Valued set
+    → GivesTypes set xs → others ≡ outside set h → Answers (λ (x : Heading). x) r (united_heading others set)
+    → Answers (λ (x : Heading). x) r (set_heading h xs)
+set_answers h set others xs r p made gives left answers =
+    let distinct : are_distinct (attribute_names xs) ≡ true = (value_of_test (are_distinct (attribute_names xs)) (heading_from xs) set causes.Heading made).0 in
+    let agreed : agree (outside set h) set ≡ true = apart_agree (outside set h) set (outside_apart set h) in
+    let union : united_heading others set ≡ Valued (heading_union (outside set h) set) = rw (left, agreed) refl in
+    let same : heading_union (outside set h) set ≡ heading_union (outside xs h) xs =
+    united_set (outside set h) set xs (IsAscending-filter (λ n. not (has_attribute n set)) h p) gives ∙ ap (λ g. heading_union g xs) (outside_set h set xs gives) in
+    let set_to : set_heading h xs ≡ Valued (heading_union (outside xs h) xs) = rw distinct refl in
+    subst (λ o. Answers (λ (x : Heading). x) r o) (union ∙ ap (λ g. Valued g) same ∙ sym set_to) answers

@@ -11,6 +11,7 @@ pub mod CheckedTypes
 pub mod Comparisons
 pub mod DeclaredUsers
 pub mod Entered
+pub mod ExpressionCauses
 pub mod GatheredAnswers
 pub mod GivenLaws
 pub mod Gives

@@ -4,19 +4,19 @@ use Rattle.std.specs.Prelude.{IsTrue, ⊤}
 use Rattle.std.specs.List.{AllByRecursion}
 use Rattle.std.proofs.lemmas.List.Elements.{Contains-append_left, Contains-append_right}
 use Rattle.td_check.specs.Mentions.{in_tuples, relvars_in, relvars_in_all, relvars_in_items, relvars_in_named, types_in, types_in_all, types_in_items, types_in_named, types_named_in}
-use Rattle.td_check.specs.OperatorTypes.{count_item, aggregate_item, aggregate_type, choice_type, comparison_type, component_type, extension_type, extracted_type, headed_type, listed_type, measure_type, named_part, operator_type, per_heading, postfix_type, prefix_type, selector_type, summary_type, tuple_type, restriction_type}
+use Rattle.td_check.specs.OperatorTypes.{count_item, aggregate_item, aggregate_type, choice_type, comparison_type, component_type, extension_type, extracted_type, headed_type, listed_type, measure_type, named_part, operator_type, per_heading, postfix_type, prefix_type, selector_type, setting_type, summary_type, tuple_type, restriction_type}
 use Rattle.td_check.specs.Scopes.{Scope, entered_with}
 use Rattle.td_check.specs.StaticLaws.{AgreeAt, AgreeOn, UsersAllIn, UsersIn}
 use Rattle.td_check.specs.StaticTypes.{items_of, literal_type, named_types, type_of, types_of}
 use Rattle.td_tree.specs.declared.operator.Operator.{Operator}
 use Rattle.td_tree.specs.Outcomes.{Valued, with_both}
-use Rattle.td_tree.specs.Trees.{Literal, number, text, truth, table_dee, table_dum, Renaming, Postfix, project, rename, group, ungroup, wrap, unwrap, Tree, literal, name, parentheses, prefix, extract, restriction, binary, compare, postfix, select, component, measure, aggregate, relation, headed_relation, tuple, extend, summarize_per, summarize_by, choice, Trees, none, more, NamedTrees, none_named, more_named, Summaries, no_summaries, counted, summed}
+use Rattle.td_tree.specs.Trees.{Literal, number, text, truth, table_dee, table_dum, Renaming, Postfix, project, rename, group, ungroup, wrap, unwrap, Tree, literal, name, parentheses, prefix, extract, restriction, binary, compare, postfix, select, component, measure, aggregate, relation, headed_relation, tuple, extend, extend_setting, summarize_per, summarize_by, choice, Trees, none, more, NamedTrees, none_named, more_named, Summaries, no_summaries, counted, summed}
 use Rattle.td_types.specs.Types.{Attribute, Attrs, Heading, Type', pack, unpack}
 use Rattle.td_types.specs.Types as types
 use Rattle.td_types.proofs.OutcomeLaws.{valued_is}
 use Rattle.td_check.proofs.AgreementLaws.{Mentioned, agree_entered, component_follows, heading_follows, name_carried, one_is, selector_follows}
 use Rattle.td_check.proofs.CarriedLaws.{Carries, Each, carries_after, carries_both, carries_with, carries_within, follows_itself}
-use Rattle.td_check.proofs.OperatorLaws.{Fits, IsClosed, ItemFits, NewNames, aggregate_gives, choice_gives, comparison_gives, extension_gives, extracted_gives, headed_gives, listed_gives, measure_gives, operator_gives, part_gives, per_gives, postfix_gives, prefix_gives, summary_gives, tuple_gives, restricted_gives}
+use Rattle.td_check.proofs.OperatorLaws.{Fits, IsClosed, ItemFits, NewNames, aggregate_gives, choice_gives, comparison_gives, extension_gives, extracted_gives, headed_gives, listed_gives, measure_gives, operator_gives, part_gives, per_gives, postfix_gives, prefix_gives, setting_gives, summary_gives, tuple_gives, restricted_gives}
 use Rattle.td_check.proofs.SummaryLaws.{Both, Items, items_carried, summary_by, summary_per}
 use Rattle.td_check.proofs.UserTypeLaws.{users_closed, users_unpacked}
 
@@ -87,10 +87,10 @@ module _ (among : List ℕ → Bool) where
 
   any_names : (op : Postfix) → NewNames closed op
   any_names (project attributes) = tt
-  any_names (rename renamings) = no_new renamings
-  any_names (group attributes n) = tt
+  any_names (rename style renamings) = no_new renamings
+  any_names (group style attributes n) = tt
   any_names (ungroup n) = tt
-  any_names (wrap attributes n) = tt
+  any_names (wrap style attributes n) = tt
   any_names (unwrap n) = tt
 
   module _ (first second : Scope) (a : AgreeOn among first second) where
@@ -189,6 +189,14 @@ module _ (among : List ℕ → Bool) where
         (λ xs u inside. carries_with Attributes' G _ _ (extension_type (unpack xs)) (extension_type (unpack xs)) _ _
         (named_carried parts _ _ (within first second a xs u) (rest_of Passes (types_in operand) (types_in_named parts) m) inside)
         (λ ts v. follows_itself G (extension_type (unpack xs) ts) (extension_gives closed (unpack xs) ts (users_unpacked among xs u) v)))
+    carried (extend_setting operand settings) first second a m k =
+        carries_within first second G (AgreeAt among first second) (λ s. relvars_in_named s settings) G _ _
+        (type_of first operand) (type_of second operand) (relvars_in first operand) (relvars_in second operand)
+        (carried operand first second a (first_of Passes (types_in operand) (types_in_named settings) m) (first_known first second (relvars_in first operand) _ k))
+        (rest_known first second (relvars_in first operand) _ k)
+        (λ xs u inside. carries_with Attributes' G _ _ (setting_type (unpack xs)) (setting_type (unpack xs)) _ _
+        (named_carried settings _ _ (within first second a xs u) (rest_of Passes (types_in operand) (types_in_named settings) m) inside)
+        (λ ts v. follows_itself G (setting_type (unpack xs) ts) (setting_gives closed (unpack xs) ts (users_unpacked among xs u) v)))
     carried (summarize_per operand per summaries) first second a m k =
         let m_rest = rest_of Passes (types_in operand) (types_in_items summaries ++ types_in per) m in
         let k_rest = rest_known first second (relvars_in first operand) _ k in

@@ -7,7 +7,7 @@ use Rattle.td_check.specs.Mentions.{in_tuples, mentioned_by_name, relvars_in, re
 use Rattle.td_check.specs.Scopes.{KnownRelvar, Scope, innermost, known_relvar}
 use Rattle.td_check.specs.StaticTypes.{type_of}
 use Rattle.td_tree.specs.Outcomes.{Outcome, Valued, Refused}
-use Rattle.td_tree.specs.Trees.{Tree, literal, name, parentheses, prefix, extract, restriction, binary, compare, postfix, select, component, measure, aggregate, relation, headed_relation, tuple, extend, summarize_per, summarize_by, choice, Trees, none, more, NamedTrees, none_named, more_named, Summaries, no_summaries, counted, summed}
+use Rattle.td_tree.specs.Trees.{Tree, literal, name, parentheses, prefix, extract, restriction, binary, compare, postfix, select, component, measure, aggregate, relation, headed_relation, tuple, extend, extend_setting, summarize_per, summarize_by, choice, Trees, none, more, NamedTrees, none_named, more_named, Summaries, no_summaries, counted, summed}
 use Rattle.td_types.specs.Types.{Type'}
 use Rattle.td_types.specs.Types as types
 use Rattle.td_check.proofs.AgreementLaws.{only_one}
@@ -86,6 +86,8 @@ mutual
   relvars_known (headed_relation heading elements) s = all_known elements s
   relvars_known (tuple parts) s = named_known parts s
   relvars_known (extend operand parts) s = within_known operand (relvars_known operand) s (λ t. relvars_in_named t parts) (named_known parts)
+  relvars_known (extend_setting operand settings) s =
+      within_known operand (relvars_known operand) s (λ t. relvars_in_named t settings) (named_known settings)
   relvars_known (summarize_per operand per summaries) s =
       each_both (IsKnownIn s) (relvars_in s operand) _ (relvars_known operand s)
       (each_both (IsKnownIn s) (relvars_in_items (in_tuples s (type_of s operand)) summaries) _

@@ -2,13 +2,13 @@
 use Rattle.std.proofs.Common.{◌≡◌, ◌∷◌, ◌++◌, ℕ, Bool, true, false, List, [], Option, Some, None, refl}
 use Rattle.std.specs.Prelude.{is_some}
 use Rattle.td_check.specs.Mentions.{types_in, types_in_all, types_in_named, types_in_items, types_named, types_named_in}
-use Rattle.td_check.specs.OperatorTypes.{Item, are_types_of, comparison_type, component_type, count_item, aggregate_item, aggregate_type, choice_type, extension_type, extracted_type, headed_type, known_or, listed_type, measure_type, mismatch, named_part, operator_type, over_relation, per_heading, postfix_type, prefix_type, selector_type, summary_type, tuple_type, restriction_type}
+use Rattle.td_check.specs.OperatorTypes.{Item, are_types_of, comparison_type, component_type, count_item, aggregate_item, aggregate_type, choice_type, extension_type, extracted_type, headed_type, known_or, listed_type, measure_type, mismatch, named_part, operator_type, over_relation, per_heading, postfix_type, prefix_type, selector_type, setting_type, summary_type, tuple_type, restriction_type}
 use Rattle.td_check.specs.Scopes.{Scope, entered_with}
 use Rattle.td_check.specs.StaticTypes.{items_of, named_types, both_types, type_of, types_of, with_items}
 use Rattle.td_tree.specs.declared.cause.Cause.TheVariants as causes
 use Rattle.td_tree.specs.declared.operator.Operator.{Operator}
 use Rattle.td_tree.specs.Outcomes.{Outcome, Valued, Refused, value_if, with_both, with_value}
-use Rattle.td_tree.specs.Trees.{TypeTree, AttributeTrees, no_attributes, attribute, Tree, literal, name, parentheses, prefix, extract, restriction, binary, compare, postfix, select, component, measure, aggregate, relation, headed_relation, tuple, extend, summarize_per, summarize_by, choice, Trees, none, more, NamedTrees, none_named, more_named, Summaries, no_summaries, counted, summed}
+use Rattle.td_tree.specs.Trees.{TypeTree, AttributeTrees, no_attributes, attribute, Tree, literal, name, parentheses, prefix, extract, restriction, binary, compare, postfix, select, component, measure, aggregate, relation, headed_relation, tuple, extend, extend_setting, summarize_per, summarize_by, choice, Trees, none, more, NamedTrees, none_named, more_named, Summaries, no_summaries, counted, summed}
 use Rattle.td_tree.specs.Trees as trees
 use Rattle.td_types.specs.Headings.{made_heading}
 use Rattle.td_types.specs.TypeLists.{DeclaredType, attributes_meant, declared_at, heading_meant, is_declared, type_meant}
@@ -182,6 +182,9 @@ mutual
   types_show (extend operand parts) s =
       within_shows operand (types_show operand) s (types_in_named parts) _
       (λ t h. shows_with (AreThere s.types (types_in_named parts)) (named_types (entered_with h s) parts) (extension_type h) (named_show parts (entered_with h s)))
+  types_show (extend_setting operand settings) s =
+      within_shows operand (types_show operand) s (types_in_named settings) _
+      (λ t h. shows_with (AreThere s.types (types_in_named settings)) (named_types (entered_with h s) settings) (setting_type h) (named_show settings (entered_with h s)))
   types_show (summarize_per operand per summaries) s =
       gives_both (SomeShow operand (types_show operand) s (types_in_items summaries)) (λ _. AreThere s.types (types_in per))
       (λ _. AreThere s.types (types_in operand ++ (types_in_items summaries ++ types_in per)))

@@ -2,7 +2,7 @@
 use Rattle.std.proofs.Common.{◌≡◌, ◌∷◌, ℕ, Bool, true, false, List, [], Option, Some, None, fold, map, refl, subst}
 use Rattle.std.specs.Prelude.{not, if◌then◌else◌, ⊤}
 use Rattle.std.specs.List.{AllByRecursion, filter}
-use Rattle.td_check.specs.OperatorTypes.{Item, count_item, aggregate_item, aggregate_type, choice_type, closure_type, comparison_type, element_type, equality_type, extension_type, extracted_type, headed_type, item_type, joined_apart, known_or, listed_type, measure_type, membership_type, named_part, operator_type, order_type, over_relation, over_tuple, per_heading, postfix_type, prefix_type, relation_if, renaming_pairs, summary_type, tuple_type, restriction_type}
+use Rattle.td_check.specs.OperatorTypes.{Item, count_item, aggregate_item, aggregate_type, choice_type, closure_type, comparison_type, element_type, equality_type, extension_type, extracted_type, headed_type, item_type, joined_apart, known_or, listed_type, measure_type, membership_type, named_part, operator_type, order_type, over_relation, over_tuple, per_heading, postfix_type, prefix_type, relation_if, renaming_pairs, setting_type, summary_type, tuple_type, restriction_type}
 use Rattle.td_tree.specs.declared.cause.Cause.{Cause}
 use Rattle.td_tree.specs.declared.cause.Cause.TheVariants as causes
 use Rattle.td_tree.specs.declared.operator.Aggregate.{Aggregate}
@@ -173,10 +173,10 @@ module _ {N : List ℕ → Type 0} {G : Type' → Type 0} {H : Heading → Type 
   -- what the names that an operator gives to attributes are
   abbrev pub NewNames : Postfix → Type 0
   NewNames (project attributes) = ⊤
-  NewNames (rename renamings) = AllByRecursion (λ r. N r.new) renamings
-  NewNames (group attributes name) = N name
+  NewNames (rename style renamings) = AllByRecursion (λ r. N r.new) renamings
+  NewNames (group style attributes name) = N name
   NewNames (ungroup name) = ⊤
-  NewNames (wrap attributes name) = N name
+  NewNames (wrap style attributes name) = N name
   NewNames (unwrap name) = ⊤
 
   new_fits : (rs : List Renaming) (n : List ℕ) → N n → AllByRecursion (λ r. N r.new) rs → N (new_name (renaming_pairs rs) n)
@@ -195,12 +195,12 @@ module _ {N : List ℕ → Type 0} {G : Type' → Type 0} {H : Heading → Type 
   pub postfix_gives : (op : Postfix) (t : Type') → NewNames op → G t → Gives G (postfix_type op t)
   postfix_gives (project attributes) t n g =
       over_relation_gives G t _ g (λ h k. relation_gives _ (part_gives attributes h k))
-  postfix_gives (rename renamings) t n g =
+  postfix_gives (rename style renamings) t n g =
       over_relation_gives G t _ g (λ h k. relation_gives _ (gives_if H _ _ _ (united [] _ c.nothing (renamed_fit renamings n h (all_fit h k)))))
-  postfix_gives (group attributes name) t n g =
+  postfix_gives (group style attributes name) t n g =
       over_relation_gives G t _ g (λ h k. gives_with H G _ _ (part_gives attributes h k)
       (λ part p. relation_gives _ (gives_if H _ _ _ (c.one_more _ _ n (c.of_relation part p) (c.filtered _ h k)))))
-  postfix_gives (wrap attributes name) t n g =
+  postfix_gives (wrap style attributes name) t n g =
       over_relation_gives G t _ g (λ h k. gives_with H G _ _ (part_gives attributes h k)
       (λ part p. relation_gives _ (gives_if H _ _ _ (c.one_more _ _ n (c.of_tuple part p) (c.filtered _ h k)))))
   postfix_gives (ungroup name) t n g =
@@ -226,6 +226,8 @@ module _ {N : List ℕ → Type 0} {G : Type' → Type 0} {H : Heading → Type 
   operator_gives operators.Union s t a b = over_both s t _ a b (λ _ _ _ _. search (gives_if, a))
   operator_gives operators.Intersect s t a b = over_both s t _ a b (λ _ _ _ _. search (gives_if, a))
   operator_gives operators.Minus s t a b = over_both s t _ a b (λ _ _ _ _. search (gives_if, a))
+  operator_gives operators.DisjointUnion s t a b = over_both s t _ a b (λ _ _ _ _. search (gives_if, a))
+  operator_gives operators.IncludedMinus s t a b = over_both s t _ a b (λ _ _ _ _. search (gives_if, a))
   operator_gives operators.Join s t a b =
       over_both s t _ a b (λ g h k l. relation_gives _ (gives_if H _ _ _ (united g h k (all_fit h l))))
   operator_gives operators.Compose s t a b =
@@ -317,6 +319,11 @@ module _ {N : List ℕ → Type 0} {G : Type' → Type 0} {H : Heading → Type 
   pub extension_gives : (h : Heading) (attributes : List Attribute) → H h → AllByRecursion Fits attributes
       → Gives G (extension_type h attributes)
   extension_gives h attributes k all = relation_gives _ (gives_if H _ _ _ (folded h attributes k all))
+
+  pub setting_gives : (h : Heading) (attributes : List Attribute) → H h → AllByRecursion Fits attributes
+      → Gives G (setting_type h attributes)
+  setting_gives h attributes k all =
+      relation_gives _ (gives_if H _ _ _ (united (lacking attributes h) attributes (c.filtered _ h k) all))
 
   -- an item of the sort
   abbrev pub ItemFits : List ℕ × Item → Type 0

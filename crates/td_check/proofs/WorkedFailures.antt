@@ -5,12 +5,13 @@ use Rattle.std.specs.Prelude.{codes}
 use Rattle.td_check.specs.CannotFail.{cannot_fail}
 use Rattle.td_check.specs.Scopes.{Scope}
 use Rattle.td_check.specs.declared.scope.Kind.TheVariants.{Base, Virtual}
-use Rattle.td_tree.specs.Trees.{Tree, literal, number, truth, name, compare, binary, postfix, headed_relation, attribute, no_attributes, measure, more, none, select, prefix, rename, restriction}
+use Rattle.td_tree.specs.Trees.{Tree, literal, number, truth, name, compare, binary, postfix, extend_setting, more_named, none_named, headed_relation, attribute, no_attributes, measure, more, none, select, prefix, rename, restriction}
 use Rattle.td_tree.specs.Trees as trees
 use Rattle.td_tree.specs.declared.operator.Comparison.TheVariants.{Equal}
 use Rattle.td_tree.specs.declared.operator.Measure.TheVariants.{Count, IsEmpty}
-use Rattle.td_tree.specs.declared.operator.Operator.TheVariants.{Divide}
+use Rattle.td_tree.specs.declared.operator.Operator.TheVariants.{DisjointUnion, Divide, IncludedMinus, Union}
 use Rattle.td_tree.specs.declared.operator.Prefix.TheVariants.{Negate}
+use Rattle.td_tree.specs.declared.operator.Style.TheVariants.{Older}
 use Rattle.td_types.specs.TypeLists.{declared_type}
 use Rattle.td_types.specs.Types.{integer}
 
@@ -43,6 +44,23 @@ negation_may = refl
 quotient_may : cannot_fail scope (binary one Divide (literal (number false 0))) ≡ false
 quotient_may = refl
 
+-- R UNION R cannot fail; R D_UNION R and R I_MINUS R may
+union_cannot : cannot_fail scope (binary r Union r) ≡ true
+union_cannot = refl
+
+disjoint_union_may : cannot_fail scope (binary r DisjointUnion r) ≡ false
+disjoint_union_may = refl
+
+included_minus_may : cannot_fail scope (binary r IncludedMinus r) ≡ false
+included_minus_may = refl
+
+-- EXTEND R : {A := A} cannot fail; EXTEND R : {A := 1 / 0} may
+setting_cannot : cannot_fail scope (extend_setting r (more_named (codes "A") (name (codes "A")) none_named)) ≡ true
+setting_cannot = refl
+
+setting_may : cannot_fail scope (extend_setting r (more_named (codes "A") (binary one Divide (literal (number false 0))) none_named)) ≡ false
+setting_may = refl
+
 -- R WHERE A = 1 cannot fail; R WHERE COUNT(R) = 1 may
 test_cannot : cannot_fail scope (restriction r (compare (name (codes "A")) Equal one)) ≡ true
 test_cannot = refl
@@ -54,7 +72,7 @@ count_may = refl
 virtual_may : cannot_fail scope (name (codes "V")) ≡ false
 virtual_may = refl
 
-hidden_cannot : cannot_fail scope (restriction (postfix r (rename (record { old = codes "A"; new = codes "V" } ∷ [])))
+hidden_cannot : cannot_fail scope (restriction (postfix r (rename Older (record { old = codes "A"; new = codes "V" } ∷ [])))
     (compare (name (codes "V")) Equal one)) ≡ true
 hidden_cannot = refl
 

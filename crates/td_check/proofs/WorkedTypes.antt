@@ -7,12 +7,13 @@ use Rattle.td_check.specs.StatementTypes.{statement_checked}
 use Rattle.td_check.specs.StaticTypes.{type_of}
 use Rattle.td_check.specs.declared.scope.Kind.TheVariants.{Base, Virtual}
 use Rattle.td_tree.specs.Outcomes.{Valued, named_cause}
-use Rattle.td_tree.specs.Trees.{Tree, literal, number, text, name, parentheses, compare, binary, postfix, project, only, extend, more_named, none_named, AttributeTrees, attribute, no_attributes, define_base, define_virtual, assign_all, assign, insert, update, summarize_per, summed, no_summaries, more, none, select, rename, restriction}
+use Rattle.td_tree.specs.Trees.{Tree, literal, number, text, name, parentheses, compare, binary, postfix, project, only, extend, extend_setting, more_named, none_named, AttributeTrees, attribute, no_attributes, define_base, define_virtual, assign_all, assign, insert, disjoint_insert, included_delete, update, summarize_per, summed, no_summaries, more, none, select, rename, restriction}
 use Rattle.td_tree.specs.Trees as trees
 use Rattle.td_tree.specs.declared.cause.Cause.TheVariants as causes
 use Rattle.td_tree.specs.declared.operator.Aggregate.TheVariants.{Sum}
 use Rattle.td_tree.specs.declared.operator.Comparison.TheVariants.{Equal}
-use Rattle.td_tree.specs.declared.operator.Operator.TheVariants.{Add, Times}
+use Rattle.td_tree.specs.declared.operator.Operator.TheVariants.{Add, DisjointUnion, IncludedMinus, Times}
+use Rattle.td_tree.specs.declared.operator.Style.TheVariants.{Newer, Older}
 use Rattle.td_types.specs.Types.{Heading, integer, char, pack}
 use Rattle.td_types.specs.Types as types
 
@@ -72,6 +73,29 @@ common_attribute = refl
 attribute_twice : named_cause (type_of scope (extend r (more_named (codes "K") (name (codes "K")) none_named))) ≡ Some causes.Heading
 attribute_twice = refl
 
+-- EXTEND V : {S := K, A := S} replaces S and adds A; each is of V's attributes
+set_at_once : type_of scope (extend_setting (name (codes "V"))
+    (more_named (codes "S") (name (codes "K")) (more_named (codes "A") (name (codes "S")) none_named)))
+    ≡ Valued (types.relation (pack ((codes "A", char) ∷ (codes "K", integer) ∷ (codes "S", integer) ∷ [])))
+set_at_once = refl
+
+-- EXTEND R : {K := 1, K := 1} is HEADING, EXTEND 1 : {A := Z} TYPE_MISMATCH
+set_twice : named_cause (type_of scope (extend_setting r (more_named (codes "K") one (more_named (codes "K") one none_named)))) ≡ Some causes.Heading
+set_twice = refl
+
+settings_not_checked : named_cause (type_of scope (extend_setting one (more_named (codes "A") z none_named))) ≡ Some causes.TypeMismatch
+settings_not_checked = refl
+
+-- R D_UNION V and R I_MINUS V are HEADING, R D_UNION 1 TYPE_MISMATCH
+union_of_other : named_cause (type_of scope (binary r DisjointUnion (name (codes "V")))) ≡ Some causes.Heading
+union_of_other = refl
+
+minus_of_other : named_cause (type_of scope (binary r IncludedMinus (name (codes "V")))) ≡ Some causes.Heading
+minus_of_other = refl
+
+union_of_number : named_cause (type_of scope (binary r DisjointUnion one)) ≡ Some causes.TypeMismatch
+union_of_number = refl
+
 -- 1 WHERE Z is TYPE_MISMATCH: the predicate is checked only where the operand is a relation
 predicate_not_checked : named_cause (type_of scope (restriction one z)) ≡ Some causes.TypeMismatch
 predicate_not_checked = refl
@@ -90,7 +114,7 @@ items_checked : named_cause (type_of scope (summarize_per r one (summed Sum z (c
 items_checked = refl
 
 -- V RENAME (K AS S, S AS K) changes all names at once
-renamed_at_once : type_of scope (postfix (name (codes "V")) (rename
+renamed_at_once : type_of scope (postfix (name (codes "V")) (rename Older
     (record { old = codes "K"; new = codes "S" } ∷ record { old = codes "S"; new = codes "K" } ∷ [])))
     ≡ Valued (types.relation (pack ((codes "K", char) ∷ (codes "S", integer) ∷ [])))
 renamed_at_once = refl
@@ -138,19 +162,27 @@ virtual_of_other = refl
 virtual_assigned : named_cause (statement_checked scope (assign_all (assign (codes "V") (name (codes "V")) ∷ []))) ≡ Some causes.NotAssignable
 virtual_assigned = refl
 
+-- D_INSERT V of another heading is HEADING, I_DELETE V V NOT_ASSIGNABLE
+virtual_put_in : named_cause (statement_checked scope (assign_all (disjoint_insert (codes "V") r ∷ []))) ≡ Some causes.Heading
+virtual_put_in = refl
+
+virtual_taken_from : named_cause (statement_checked scope (assign_all (included_delete (codes "V") (name (codes "V")) ∷ [])))
+    ≡ Some causes.NotAssignable
+virtual_taken_from = refl
+
 -- UPDATE NOPE WHERE 1 (A := Z) and INSERT NOPE 1 are NAME_UNKNOWN
-unknown_updated : named_cause (statement_checked scope (assign_all (update (codes "NOPE") (Some one) (more_named (codes "A") z none_named) ∷ [])))
+unknown_updated : named_cause (statement_checked scope (assign_all (update Older (codes "NOPE") (Some one) (more_named (codes "A") z none_named) ∷ [])))
     ≡ Some causes.NameUnknown
 unknown_updated = refl
 
 unknown_inserted : named_cause (statement_checked scope (assign_all (insert (codes "NOPE") one ∷ []))) ≡ Some causes.NameUnknown
 unknown_inserted = refl
 
--- UPDATE R (A := 1, K := 'a') is TYPE_MISMATCH, the least of its own causes; UPDATE R (A := 1) HEADING
-least_of_own : named_cause (statement_checked scope (assign_all (update (codes "R") None
+-- UPDATE R (A := 1, K := 'a') is TYPE_MISMATCH, the least of its own causes; UPDATE R : {A := 1} HEADING
+least_of_own : named_cause (statement_checked scope (assign_all (update Older (codes "R") None
     (more_named (codes "A") one (more_named (codes "K") (literal (text (codes "a"))) none_named)) ∷ []))) ≡ Some causes.TypeMismatch
 least_of_own = refl
 
-no_attribute_set : named_cause (statement_checked scope (assign_all (update (codes "R") None (more_named (codes "A") one none_named) ∷ [])))
+no_attribute_set : named_cause (statement_checked scope (assign_all (update Newer (codes "R") None (more_named (codes "A") one none_named) ∷ [])))
     ≡ Some causes.Heading
 no_attribute_set = refl

@@ -1,6 +1,6 @@
 -- The names that stand in the parts of an expression.
 use Rattle.std.proofs.Common.{◌≡◌, ◌∙◌, ◌∷◌, ◌++◌, ◌+◌, ◌<◌, ◌≤◌, ◌⊎◌, inl, inr, ℕ, Bool, true, false, List, [], ap, arith, get_or, length, refl, sym, take}
-use Rattle.std.specs.Global.{Vec}
+use Rattle.std.specs.Global.{Box, Vec}
 use Rattle.std.specs.Prelude.{if◌then◌else◌, is_some}
 use Rattle.std.specs.List.{Contains}
 use Rattle.std.proofs.lemmas.List.{append-nil, append_assoc, take_all}
@@ -18,8 +18,8 @@ use Rattle.td_tree.specs.declared.expression.Summary.{Summary}
 use Rattle.td_tree.specs.declared.expression.Summary.TheVariants as s
 use Rattle.td_tree.specs.declared.type_tree.AttributeTree.{AttributeTree}
 use Rattle.td_tree.specs.code.TreeViews.{named_view, summaries_view, tree_view, trees_view}
-use Rattle.td_tree.specs.Trees.{Tree, literal, name, parentheses, prefix, extract, restriction, binary, compare, postfix, select, component, measure, aggregate, relation, headed_relation, tuple, extend, summarize_per, summarize_by, choice, Trees, none, more, NamedTrees, none_named, more_named, Summaries, no_summaries, counted, summed}
-use Rattle.td_tree.proofs.code_lemmas.Rows.{headed_relation_is, relation_is, select_is}
+use Rattle.td_tree.specs.Trees.{Tree, literal, name, parentheses, prefix, extract, restriction, binary, compare, postfix, select, component, measure, aggregate, relation, headed_relation, tuple, extend, extend_setting, summarize_per, summarize_by, choice, Trees, none, more, NamedTrees, none_named, more_named, Summaries, no_summaries, counted, summed}
+use Rattle.td_tree.proofs.code_lemmas.Rows.{extend_is, extend_setting_is, headed_relation_is, relation_is, select_is}
 
 -- ---- one part after another
 
@@ -58,6 +58,12 @@ names_of_list e v es is same = ap (λ ys. names_in_all (trees_view ys)) same ∙
     by_case (inl (n, f)) = ap (λ w. names_in (tree_view w)) f ∙ ap names_in (select_is n v)
     by_case (inr (inl f)) = ap (λ w. names_in (tree_view w)) f ∙ ap names_in (relation_is v)
     by_case (inr (inr (h, f))) = ap (λ w. names_in (tree_view w)) f ∙ ap names_in (headed_relation_is h v)
+
+-- those of an operand with attributes added or set
+pub names_of_extended : (e : Expr) (operand : Box Expr) (parts : Vec NamedExpr) → (e ≡ x.Extend operand parts) ⊎ (e ≡ x.ExtendSetting operand parts)
+    → names_in (tree_view e) ≡ names_in (tree_view operand.value) ++ names_in_named (named_view parts.items)
+names_of_extended e operand parts (inl f) = ap (λ w. names_in (tree_view w)) f ∙ ap names_in (extend_is operand parts)
+names_of_extended e operand parts (inr f) = ap (λ w. names_in (tree_view w)) f ∙ ap names_in (extend_setting_is operand parts)
 
 -- once past one more
 pub names_more : {X : Type 0} (f : X → List (List ℕ)) (xs : List X) (i : ℕ) (x : X) → i < length xs → x ≡ get_or xs i x
@@ -134,6 +140,8 @@ mutual
   named (tuple parts) scope = parts_named parts scope
   named (extend operand parts) scope =
       both_within _ _ _ _ (named operand scope) (parts_named parts (in_tuples scope (type_of scope operand)))
+  named (extend_setting operand settings) scope =
+      both_within _ _ _ _ (named operand scope) (parts_named settings (in_tuples scope (type_of scope operand)))
   named (summarize_per operand per summaries) scope =
       both_within _ _ _ _ (named operand scope)
       (turned_within _ _ _ _ (items_named summaries (in_tuples scope (type_of scope operand))) (named per scope))

@@ -1,7 +1,7 @@
 -- Whether an expression cannot fail: none of its nodes is of a kind that may have no value though its operands have values
 -- (this project's own). Arithmetic, counts and sums may leave the range of INTEGER, and a quotient may be by zero; D_UNION may be
--- of relations that overlap, and I_MINUS of one that lacks a tuple of the other; MAX and MIN may be of no tuple; TUPLE FROM may be of none or of several; a virtual relvar is an expression that may do any of this; and
--- a constraint may refuse what is selected.
+-- of relations that overlap, and I_MINUS of one that lacks a tuple of the other; MAX and MIN may be of no tuple; TUPLE FROM may be
+-- of none or of several; a virtual relvar is an expression that may do any of this; and a constraint may refuse what is selected.
 use Rattle.std.specs.Prelude.{ℕ, Bool, true, false, not, ◌&&◌, ◌||◌, List, Option, Some, None, is_some}
 use Rattle.std.specs.List.{list_all}
 use Rattle.td_check.specs.declared.scope.Kind.{Kind}

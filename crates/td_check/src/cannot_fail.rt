@@ -22,10 +22,25 @@ use td_types::table::TypeTable;
 fn operator_cannot_fail(op: Operator) -> bool
     ensures { result ≡ operator_cannot_fail op }
 {
-    !matches!(
-        op,
-        Operator::Add | Operator::Subtract | Operator::Multiply | Operator::Divide
-    )
+    match op {
+        Operator::Or
+        | Operator::And
+        | Operator::Union
+        | Operator::Intersect
+        | Operator::Minus
+        | Operator::Join
+        | Operator::Times
+        | Operator::Compose
+        | Operator::Matching
+        | Operator::NotMatching
+        | Operator::Concatenate => true,
+        Operator::DisjointUnion
+        | Operator::IncludedMinus
+        | Operator::Add
+        | Operator::Subtract
+        | Operator::Multiply
+        | Operator::Divide => false,
+    }
 }
 
 /// Whether the operator has a value for any operand.
@@ -82,7 +97,9 @@ fn unfailing(types: &TypeTable, expr: &Expr) -> bool
         Expr::Aggregate(..) => false,
         Expr::Relation(exprs) | Expr::HeadedRelation(_, exprs) => all_unfailing(types, exprs),
         Expr::Tuple(parts) => parts_unfailing(types, parts),
-        Expr::Extend(operand, parts) => unfailing(types, operand) && parts_unfailing(types, parts),
+        Expr::Extend(operand, parts) | Expr::ExtendSetting(operand, parts) => {
+            unfailing(types, operand) && parts_unfailing(types, parts)
+        }
         Expr::SummarizePer(operand, per, items) => {
             items_cannot_fail(items) && unfailing(types, operand) && unfailing(types, per)
         }
@@ -140,9 +157,10 @@ fn relvars_cannot_fail(scope: &Scope<'_>, seen: &Mentions) -> bool
         .all(|name| relvar_cannot_fail(scope, name))
 }
 
-/// Whether the expression cannot fail: none of its nodes is arithmetic, an aggregate, `TUPLE
-/// FROM`, a virtual relvar or the selector of a type with a constraint. A literal's minus is a
-/// part of it. An expression without a type is refused as `check_expr` refuses it.
+/// Whether the expression cannot fail: none of its nodes is arithmetic, `D_UNION`, `I_MINUS`, an
+/// aggregate, `TUPLE FROM`, a virtual relvar or the selector of a type with a constraint. A
+/// literal's minus is a part of it. An expression without a type is refused as `check_expr`
+/// refuses it.
 pub fn cannot_fail(scope: &Scope<'_>, expr: &Expr) -> Result<bool, Fault>
     ensures { Answers (λ b. b) result (cannot_fail_of scope.now (tree_view expr.now)) }
 {

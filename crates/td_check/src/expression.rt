@@ -28,7 +28,7 @@ use crate::rules::postfix::postfix_type;
 use crate::scope::Scope;
 use crate::together::{
     by_attributes, per_relation, type_of_choice, type_of_comparison, type_of_extension,
-    type_of_headed, type_of_operator, type_of_restriction,
+    type_of_headed, type_of_operator, type_of_restriction, type_of_setting,
 };
 use td_tree::cause::Cause;
 use td_tree::expression::{Expr, NamedExpr, Summary};
@@ -109,6 +109,11 @@ fn check(expr: &Expr, place: &Place<'_, '_, '_>, seen: &mut Mentions) -> Result<
             let operand = check(operand, place, seen)?;
             let attributes = check_named_inside(parts, &operand, place, seen);
             type_of_extension(operand, attributes)
+        }
+        Expr::ExtendSetting(operand, settings) => {
+            let operand = check(operand, place, seen)?;
+            let attributes = check_named_inside(settings, &operand, place, seen);
+            type_of_setting(operand, attributes)
         }
         Expr::SummarizePer(operand, per, items) => {
             let operand = check(operand, place, seen);

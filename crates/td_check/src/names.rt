@@ -38,7 +38,7 @@ fn add_names(expr: &Expr, names: &mut Vec<Name>) -> Result<(), AllocError>
             add_all(exprs, names)
         }
         Expr::Tuple(parts) => add_named(parts, names),
-        Expr::Extend(operand, parts) => {
+        Expr::Extend(operand, parts) | Expr::ExtendSetting(operand, parts) => {
             add_names(operand, names)?;
             add_named(parts, names)
         }

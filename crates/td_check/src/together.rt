@@ -5,6 +5,7 @@ ghost use Rattle.td_check.specs.code.CheckViews.{per_view, by_summary};
 ghost use Rattle.td_check.specs.code.CheckViews.{per_summary, three_types_view, types_view};
 ghost use Rattle.td_check.specs.OperatorTypes.{comparison_type, extension_type, headed_type};
 ghost use Rattle.td_check.specs.OperatorTypes.{operator_type, over_relation, restriction_type};
+ghost use Rattle.td_check.specs.OperatorTypes.{setting_type};
 ghost use Rattle.td_tree.specs.Outcomes.{Answers, Outcome, with_value};
 ghost use Rattle.td_tree.specs.code.TreeViews.{attributes_view};
 ghost use Rattle.td_types.specs.Types.{Attribute, Heading, Type'};
@@ -12,7 +13,9 @@ ghost use Rattle.td_types.specs.code.Views.{pairs_view, type_view};
 
 use crate::rules::asked::relation_heading;
 use crate::rules::headings::named_part;
-use crate::rules::lists::{Item, extension_type, headed_type, per_heading, summary_type};
+use crate::rules::lists::{
+    Item, extension_type, headed_type, per_heading, setting_type, summary_type,
+};
 use crate::rules::operator::{choice_type, comparison_type, operator_type, restriction_type};
 use td_tree::cause::Cause;
 use td_tree::expression::Attributes;
@@ -64,6 +67,22 @@ pub(crate) fn type_of_extension(
     let attributes = attributes?;
     match operand {
         Ty::Rel(heading) => extension_type(heading, attributes),
+        _ => Err(Fault::Refused(Cause::TypeMismatch)),
+    }
+}
+
+/// The type of an operand with attributes set.
+pub(crate) fn type_of_setting(
+    operand: Ty,
+    attributes: Result<Vec<(Name, Ty)>, Fault>,
+) -> Result<Ty, Fault>
+    ensures { (o : Outcome (List Attribute)) → Answers (λ ts. pairs_view ts.items) attributes o
+        → Answers type_view result (with_value o (λ attributes.
+        over_relation (type_view operand) (λ h. setting_type h attributes))) }
+{
+    let attributes = attributes?;
+    match operand {
+        Ty::Rel(heading) => setting_type(&heading, attributes),
         _ => Err(Fault::Refused(Cause::TypeMismatch)),
     }
 }

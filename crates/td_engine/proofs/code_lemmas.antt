@@ -15,6 +15,7 @@ pub mod Plannables
 pub mod PutGifts
 pub mod SpelledDefinitions
 pub mod StageLaws
+pub mod TestedChanges
 pub mod ToldLaws
 pub mod Turning
 pub mod UnreachedChecks

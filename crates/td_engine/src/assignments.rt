@@ -27,7 +27,7 @@ ghost use Rattle.td_tree.specs.Trees.{assign_all};
 use crate::change::Change;
 use crate::checks::{check_after, entry_keys_hold, reached_from};
 use crate::definitions::failure_of;
-use crate::first_changes::{first_delete, first_update, put_in};
+use crate::first_changes::{first_delete, first_update, put_in, put_in_apart, take_out};
 use crate::refusal::{Failure, Refusal};
 use crate::updates::{change_of, target_of};
 use indexmap::IndexMap;
@@ -80,10 +80,12 @@ fn first_change<B: Body>(
     match assignment {
         Assignment::Assign(..) => change_over(alloc, catalog, entry, assignment),
         Assignment::Insert(_, source) => put_in(alloc, catalog, &entry.heading, source),
+        Assignment::DisjointInsert(_, source) => put_in_apart(alloc, catalog, entry, source),
+        Assignment::IncludedDelete(_, source) => take_out(alloc, catalog, entry, source),
         Assignment::Delete(target, condition) => {
             first_delete(alloc, catalog, entry, target, condition.as_ref())
         }
-        Assignment::Update(target, condition, settings) => {
+        Assignment::Update(_, target, condition, settings) => {
             let condition = condition.as_ref();
             first_update(alloc, catalog, entry, target, condition, settings)
         }

@@ -5,6 +5,7 @@ ghost use Rattle.td_value.specs.code.Views.{relation_view};
 
 use std::alloc::{AllocError, Global};
 use td_algebra::sets::{minus, union};
+use td_types::heading::Heading;
 use td_value::relation::Rel;
 
 /// The tuples that go out of a relation, and those that then come in.
@@ -14,12 +15,18 @@ pub(crate) struct Change {
     pub(crate) add: Rel,
 }
 
+/// The relation of the heading without tuples.
+pub(crate) fn empty_of(alloc: Global, heading: &Heading) -> Result<Rel, AllocError>
+    ensures { IfOk result (λ r. r ≡ relation_view heading.now []) }
+{
+    Rel::of_ascending(heading.try_clone()?, Vec::new(alloc))
+}
+
 /// The relation of the same heading without tuples.
 pub(crate) fn empty_like(alloc: Global, relation: &Rel) -> Result<Rel, AllocError>
     ensures { IfOk result (λ r. r ≡ relation_view relation.now.heading []) }
 {
-    relation.reveal();
-    Rel::of_ascending(relation.heading().try_clone()?, Vec::new(alloc))
+    empty_of(alloc, relation.heading())
 }
 
 impl Change {

@@ -7,15 +7,17 @@ ghost use Rattle.td_engine.specs.Assignments.{updated_relation};
 ghost use Rattle.td_engine.specs.Changes.{IsOfHeading, changed_by};
 ghost use Rattle.td_engine.specs.code.Plannable.{ArePlannableSettings, IsPlannable, IsPlannableIf};
 ghost use Rattle.td_eval.specs.DatabaseWorlds.{world_of};
+ghost use Rattle.td_eval.specs.OperatorValues.{disjoint_union, included_difference};
 ghost use Rattle.td_eval.specs.TreeValues.{values_in_tuples};
 ghost use Rattle.td_tree.specs.Outcomes.{Answers, Valued, with_value};
 ghost use Rattle.td_tree.specs.code.TreeViews.{named_view, tree_view};
 ghost use Rattle.td_tree.specs.Trees.{name, restriction};
-ghost use Rattle.td_value.specs.Values.{Relation};
+ghost use Rattle.td_value.specs.Values.{IsRelation, Relation};
 ghost use Rattle.td_value.specs.code.Views.{relation_view};
 
-use crate::change::Change;
+use crate::change::{Change, empty_of};
 use crate::checks::value;
+use crate::members::{put_in_body, take_from_body};
 use crate::updates::{relation_of, updated_tuples};
 use std::alloc::Global;
 use td_body::body::Body;
@@ -28,6 +30,21 @@ use td_tree::fault::Fault;
 use td_tree::name::Name;
 use td_types::heading::Heading;
 use td_value::relation::Rel;
+
+/// The tuples of a source that a relvar of the other relation's heading may hold.
+fn source_for<B: Body>(
+    alloc: Global,
+    catalog: &Catalog<B>,
+    other: &Rel,
+    source: &Expr,
+) -> Result<Rel, Fault>
+    requires { IsPlannable catalog.now.database (tree_view source.now) }
+    ensures answer { (r : Relation) → r.heading ≡ other.now.heading → Answers (λ s. s) result
+        (relation_for r (world_of catalog.now.database) (tree_view source.now)) }
+    ensures heading { IfOk result (λ s. s.heading ≡ other.now.heading) }
+{
+    relation_of(other, value(alloc, catalog, source))
+}
 
 /// What INSERT changes of a relvar of the heading.
 pub(crate) fn put_in<B: Body>(
@@ -42,9 +59,48 @@ pub(crate) fn put_in<B: Body>(
         (λ s. Valued (union r s))) }
     ensures headings { IfOk result (IsOfHeading heading.now) }
 {
-    let none = Rel::new(heading.try_clone()?, Vec::new(alloc))?;
-    let add = relation_of(&none, value(alloc, catalog, source))?;
+    let none = empty_of(alloc, heading)?;
+    let add = source_for(alloc, catalog, &none, source)?;
     Ok(Change { out: none, add })
+}
+
+/// What D_INSERT changes of a relvar: a tuple that is there is refused.
+pub(crate) fn put_in_apart<B: Body>(
+    alloc: Global,
+    catalog: &Catalog<B>,
+    entry: &BaseEntry<B>,
+    source: &Expr,
+) -> Result<Change, Fault>
+    requires heading { (B.relation entry.now.body).heading ≡ entry.now.heading }
+    requires source { IsPlannable catalog.now.database (tree_view source.now) }
+    ensures answer { Answers (λ c. changed_by c (B.relation entry.now.body)) result (with_value
+        (relation_for (B.relation entry.now.body) (world_of catalog.now.database)
+        (tree_view source.now)) (disjoint_union (B.relation entry.now.body))) }
+    ensures headings { IfOk result (IsOfHeading (B.relation entry.now.body).heading) }
+{
+    let none = empty_of(alloc, &entry.heading)?;
+    let add = source_for(alloc, catalog, &none, source);
+    put_in_body(&entry.body, none, add)
+}
+
+/// What I_DELETE changes of a relvar: a tuple that is not there is refused.
+pub(crate) fn take_out<B: Body>(
+    alloc: Global,
+    catalog: &Catalog<B>,
+    entry: &BaseEntry<B>,
+    source: &Expr,
+) -> Result<Change, Fault>
+    requires heading { (B.relation entry.now.body).heading ≡ entry.now.heading }
+    requires valid { IsRelation (B.relation entry.now.body) }
+    requires source { IsPlannable catalog.now.database (tree_view source.now) }
+    ensures answer { Answers (λ c. changed_by c (B.relation entry.now.body)) result (with_value
+        (relation_for (B.relation entry.now.body) (world_of catalog.now.database)
+        (tree_view source.now)) (included_difference (B.relation entry.now.body))) }
+    ensures headings { IfOk result (IsOfHeading (B.relation entry.now.body).heading) }
+{
+    let none = empty_of(alloc, &entry.heading)?;
+    let out = source_for(alloc, catalog, &none, source);
+    take_from_body(&entry.body, none, out)
 }
 
 // ---- DELETE and UPDATE

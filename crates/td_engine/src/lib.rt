@@ -11,6 +11,7 @@ mod definitions;
 pub mod engine;
 mod first_changes;
 pub mod laws;
+mod members;
 mod present;
 mod refusal;
 pub mod run;

@@ -6,7 +6,7 @@ ghost use Rattle.td_check.specs.OperatorTypes.{attribute_type};
 ghost use Rattle.td_engine.specs.Assignments.{assignment_value, chosen_for, of_heading};
 ghost use Rattle.td_engine.specs.Assignments.{relation_for, setting_attributes, setting_names};
 ghost use Rattle.td_engine.specs.Assignments.{source_world, target_of, updated_relation};
-ghost use Rattle.td_engine.specs.Assignments.{with_inserted};
+ghost use Rattle.td_engine.specs.Assignments.{combined_with};
 ghost use Rattle.td_engine.specs.Changes.{IsOfHeading, changed_by};
 ghost use Rattle.td_engine.specs.code.Gifts.{restricted_relation, setting_attribute};
 ghost use Rattle.td_engine.specs.code.Plannable.{ArePlannableSettings, IsPlannableAssignment};
@@ -20,12 +20,14 @@ ghost use Rattle.td_plan.specs.PlansOf.{PartsMeetRulesIn, scope_in};
 ghost use Rattle.td_tree.specs.Outcomes.{Answers, Outcome, Valued, gathered, with_value};
 ghost use Rattle.td_tree.specs.code.TreeViews.{assignment_view, named_view, tree_view};
 ghost use Rattle.td_tree.specs.Trees.{delete};
+ghost use Rattle.td_tree.specs.declared.operator.Operator.TheVariants as operators;
 ghost use Rattle.td_types.specs.Headings.{are_distinct};
 ghost use Rattle.td_types.specs.Types.{Type', attribute_names};
 ghost use Rattle.td_types.specs.code.Views.{pairs_view, type_view};
 ghost use Rattle.td_value.specs.Values.{Relation, Tuple, Val};
 
 use crate::change::Change;
+use crate::members::{put_in_relation, take_from_relation};
 use std::alloc::Global;
 use td_algebra::restriction::restrict;
 use td_body::body::Body;
@@ -146,11 +148,47 @@ fn change_of_insert<B: Body>(
     requires { IsPlannableSource catalog.now.database target.now so_far.now (tree_view source.now) }
     ensures answer { Answers (λ c. changed_by c so_far.now) result (relation_for so_far.now
         (source_world catalog.now.database target.now so_far.now)
-        (with_inserted target.now (tree_view source.now))) }
+        (combined_with target.now operators.Union (tree_view source.now))) }
     ensures headings { IfOk result (IsOfHeading so_far.now.heading) }
 {
     let add = relation_assigned(alloc, catalog, target, so_far, source)?;
     Ok(Change::adding(alloc, add)?)
+}
+
+/// What D_INSERT changes: a tuple that is there is refused.
+fn change_of_disjoint_insert<B: Body>(
+    alloc: Global,
+    catalog: &Catalog<B>,
+    target: &Name,
+    so_far: &Rel,
+    source: &Expr,
+) -> Result<Change, Fault>
+    requires { IsPlannableSource catalog.now.database target.now so_far.now (tree_view source.now) }
+    ensures answer { Answers (λ c. changed_by c so_far.now) result (relation_for so_far.now
+        (source_world catalog.now.database target.now so_far.now)
+        (combined_with target.now operators.DisjointUnion (tree_view source.now))) }
+    ensures headings { IfOk result (IsOfHeading so_far.now.heading) }
+{
+    let add = relation_assigned(alloc, catalog, target, so_far, source);
+    put_in_relation(alloc, so_far, add)
+}
+
+/// What I_DELETE changes: a tuple that is not there is refused.
+fn change_of_included_delete<B: Body>(
+    alloc: Global,
+    catalog: &Catalog<B>,
+    target: &Name,
+    so_far: &Rel,
+    source: &Expr,
+) -> Result<Change, Fault>
+    requires { IsPlannableSource catalog.now.database target.now so_far.now (tree_view source.now) }
+    ensures answer { Answers (λ c. changed_by c so_far.now) result (relation_for so_far.now
+        (source_world catalog.now.database target.now so_far.now)
+        (combined_with target.now operators.IncludedMinus (tree_view source.now))) }
+    ensures headings { IfOk result (IsOfHeading so_far.now.heading) }
+{
+    let out = relation_assigned(alloc, catalog, target, so_far, source);
+    take_from_relation(alloc, so_far, out)
 }
 
 // ---- conditions
@@ -354,8 +392,10 @@ pub(crate) fn target_of(assignment: &Assignment) -> &Name
     match assignment {
         Assignment::Assign(target, _)
         | Assignment::Insert(target, _)
+        | Assignment::DisjointInsert(target, _)
         | Assignment::Delete(target, _)
-        | Assignment::Update(target, _, _) => target,
+        | Assignment::IncludedDelete(target, _)
+        | Assignment::Update(_, target, _, _) => target,
     }
 }
 
@@ -401,10 +441,16 @@ pub(crate) fn change_of<B: Body>(
         Assignment::Insert(target, source) => change_of_insert(
             alloc, catalog, target, so_far, source,
         ),
+        Assignment::DisjointInsert(target, source) => {
+            change_of_disjoint_insert(alloc, catalog, target, so_far, source)
+        }
+        Assignment::IncludedDelete(target, source) => {
+            change_of_included_delete(alloc, catalog, target, so_far, source)
+        }
         Assignment::Delete(target, condition) => {
             delete(alloc, catalog, target, so_far, condition.as_ref())
         }
-        Assignment::Update(target, condition, settings) => {
+        Assignment::Update(_, target, condition, settings) => {
             let condition = condition.as_ref();
             update(alloc, catalog, target, so_far, condition, settings)
         }

@@ -21,6 +21,7 @@ pub mod MetSummaries
 pub mod MetTrees
 pub mod MetWorlds
 pub mod MoreWorlds
+pub mod NewSettings
 pub mod OtherRelations
 pub mod ProjectedSummaries
 pub mod SpelledNumbers

@@ -10,7 +10,7 @@ use Rattle.td_check.specs.StaticLaws.{AgreeAt, AgreeOn, GivesNames, IsScope, Use
 use Rattle.td_check.specs.StaticTypes.{type_of}
 use Rattle.td_eval.specs.AggregateValues.{Summand, aggregated_value, summarized_value}
 use Rattle.td_eval.specs.DatabaseWorlds.{world_of}
-use Rattle.td_eval.specs.OperatorValues.{extended_value, is_true, of_relation, restricted_value, truth_value}
+use Rattle.td_eval.specs.OperatorValues.{extended_by_settings, extended_value, is_true, of_relation, restricted_value, truth_value}
 use Rattle.td_eval.specs.TreeValues.{value_of}
 use Rattle.td_eval.specs.ValueTypes.{AreComponentsOf, DefinitionsAreWritten, IsTypedTuple, IsWritten, KeepsScope}
 use Rattle.td_eval.specs.Worlds.{World, selector_outcome, with_tuples}
@@ -19,7 +19,7 @@ use Rattle.td_group.specs.declared.aggregates.Agg.{Agg}
 use Rattle.td_tree.specs.declared.cause.Cause.{Cause}
 use Rattle.td_tree.specs.Outcomes.{Has, Outcome, Valued, Refused, gathered, least, with_value}
 use Rattle.td_tree.specs.Trees.{Attributes, Tree, postfix, summarize_per, summarize_by, Summaries, project}
-use Rattle.td_types.specs.Headings.{are_distinct}
+use Rattle.td_types.specs.Headings.{are_distinct, have_no_common}
 use Rattle.td_types.specs.TypeLists.{DeclaredType, declared_at}
 use Rattle.td_types.specs.Types.{Attribute, Heading, Type', pack}
 use Rattle.td_value.specs.Values.{Val, HaveSameMembers, IsRelation, Relation, Tuple, heading_of, relation_of}
@@ -163,6 +163,9 @@ pub record TupleOrderDoesNotCount : Type 0 where
   pub extended :
       (types : Outcome (List Attribute)) (fs : List (Tuple → Outcome Val)) (r : Relation) (tuples : List Tuple) → HaveSameMembers r.body tuples
       → AreOneOutcome (extended_value types fs r) (extended_value types fs (relation_view r.heading tuples))
+  pub set :
+      (types : Outcome (List Attribute)) (fs : List (Tuple → Outcome Val)) (r : Relation) (tuples : List Tuple) → HaveSameMembers r.body tuples
+      → AreOneOutcome (extended_by_settings types fs r) (extended_by_settings types fs (relation_view r.heading tuples))
   -- COUNT, SUM, MAX and MIN of values, each as often as it comes
   pub values : (a : Agg) (vs ws : List Val) → IsPermutation vs ws → aggregate a vs ≡ aggregate a ws
   pub aggregated :
@@ -173,6 +176,15 @@ pub record TupleOrderDoesNotCount : Type 0 where
       (types : Outcome (List Attribute)) (items : List Summand) (r p : Relation) (tuples groups : List Tuple) → IsPermutation r.body tuples
       → HaveSameMembers p.body groups
       → AreOneOutcome (summarized_value types items r p) (summarized_value types items (relation_view r.heading tuples) (relation_view p.heading groups))
+
+-- ---- EXTEND in both spellings
+
+-- settings of attributes that are not there give what ADD gives
+abbrev pub NewSettingsExtend : Type 0
+NewSettingsExtend =
+    (types : Outcome (List Attribute)) (fs : List (Tuple → Outcome Val)) (r : Relation) → IsRelation r
+    → ((attributes : List Attribute) → types ≡ Valued attributes → IsTrue (have_no_common attributes r.heading))
+    → extended_by_settings types fs r ≡ extended_value types fs r
 
 -- ---- SUMMARIZE BY
 

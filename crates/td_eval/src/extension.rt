@@ -1,4 +1,4 @@
-//! The new attributes of EXTEND.
+//! The attributes that EXTEND adds or sets.
 ghost use Rattle.std.specs.Prelude.{◌≡◌, IfOk, List, length, not, reverse};
 ghost use Rattle.std.specs.List.{list_all};
 ghost use Rattle.td_algebra.specs.Columns.{columns_view};
@@ -6,7 +6,7 @@ ghost use Rattle.td_check.specs.OperatorTypes.{extended_by};
 ghost use Rattle.td_check.specs.Scopes.{entered_with};
 ghost use Rattle.td_check.specs.StaticTypes.{named_types};
 ghost use Rattle.td_eval.specs.code.NewColumns.{AreColumnsFor, named_columns};
-ghost use Rattle.td_eval.specs.OperatorValues.{extended_value};
+ghost use Rattle.td_eval.specs.OperatorValues.{extended_by_settings, extended_value};
 ghost use Rattle.td_eval.specs.code.Sights.{IsSight, seen_by};
 ghost use Rattle.td_eval.specs.Worlds.{with_tuples};
 ghost use Rattle.td_tree.specs.Outcomes.{Answers, Outcome, Valued, gathered, with_value};
@@ -15,10 +15,12 @@ ghost use Rattle.td_types.specs.Headings.{has_attribute};
 ghost use Rattle.td_types.specs.code.Views.{pairs_view};
 ghost use Rattle.td_value.specs.Values.{Tuple, Val};
 
+use crate::operators::relational::{as_value, fit};
 use crate::operators::tuplewise::extension_value;
 use crate::sight::Sight;
 use std::alloc::Global;
 use td_algebra::extension::Column;
+use td_algebra::setting::set_all;
 use td_body::body::Body;
 use td_check::expression::check_parts;
 use td_tree::cause::Cause;
@@ -56,7 +58,7 @@ pub fn ask_new(alloc: Global, attributes: &[(Name, Ty)], heading: &Heading) -> R
     }
 }
 
-/// The new attributes with the types of their expressions.
+/// The attributes that are added or set, with the types of their expressions.
 pub(crate) fn new_attributes<B: Body>(
     sight: &Sight<'_, B>,
     tuples: &[Tuple],
@@ -91,4 +93,26 @@ pub fn extension_by(
 {
     ask_new(alloc, attributes, rel.heading())?;
     extension_value(alloc, rel, columns?)
+}
+
+/// The tuples of a relation with attributes set, by what is answered of their values: refused where
+/// a name comes twice.
+pub fn setting_by(
+    alloc: Global,
+    rel: &Rel,
+    attributes: &[(Name, Ty)],
+    columns: Result<Vec<(Name, Column)>, Fault>,
+) -> Result<Value, Fault>
+    requires { IfOk columns (λ cs. AreColumnsFor (pairs_view attributes.now) rel.now.body
+        (columns_view cs.items)) }
+    ensures { (fs : List (Tuple → Outcome Val)) → length attributes.now ≡ length fs
+        → Answers (λ cs. columns_view cs.items) columns
+        (gathered (named_columns (pairs_view attributes.now) fs rel.now.body))
+        → Answers (λ v. v) result
+        (extended_by_settings (Valued (pairs_view attributes.now)) fs rel.now) }
+{
+    let names = names_of(alloc, attributes)?;
+    fit(are_distinct(&names))?;
+    let columns = columns?;
+    as_value(alloc, set_all(alloc, rel, &columns))
 }

@@ -60,5 +60,5 @@ pub fn set_in_tuples<B: Body>(
         attributes,
         parts,
     )?;
-    Ok(set_all(alloc, rel, columns)?)
+    Ok(set_all(alloc, rel, &columns)?)
 }

@@ -12,13 +12,15 @@ ghost use Rattle.td_eval.specs.TreeNumbers.{SpelledNumbersAreInRange};
 ghost use Rattle.td_eval.specs.UnfailingValues.{OtherRelationsGiveValues, TypedDatabasesGiveValues};
 ghost use Rattle.td_eval.specs.UnfailingValues.{UnfailingExpressionsHaveValues};
 ghost use Rattle.td_eval.specs.ValueLaws.{DropsChangeNoValue, LaterEntriesChangeNothing};
-ghost use Rattle.td_eval.specs.ValueLaws.{SummarizeByIsPerOfTheProjection, TupleOrderDoesNotCount};
+ghost use Rattle.td_eval.specs.ValueLaws.{NewSettingsExtend, SummarizeByIsPerOfTheProjection};
+ghost use Rattle.td_eval.specs.ValueLaws.{TupleOrderDoesNotCount};
 ghost use Rattle.td_eval.specs.ValueLaws.{ValuesDependOnEntries, ValuesDependOnMentions};
 ghost use Rattle.td_eval.specs.ValueTypes.{TypedDatabasesKeepScopes, OtherRelationsKeepScopes};
 ghost use Rattle.td_eval.specs.ValueTypes.{ValuesKeepTypes};
 
 /// An expression that has a type has, if it has a value, a value of that type, and else causes of
-/// evaluation alone: OVERFLOW, ZERO_DIVISOR, EMPTY_AGGREGATE, NOT_ONE_TUPLE or TYPE_CONSTRAINT.
+/// evaluation alone: OVERFLOW, ZERO_DIVISOR, EMPTY_AGGREGATE, NOT_ONE_TUPLE, TYPE_CONSTRAINT,
+/// NOT_DISJOINT or NOT_INCLUDED.
 pub fn values_keep_types()
     ensures { ValuesKeepTypes }
 {}
@@ -80,6 +82,11 @@ pub fn drops_change_no_value()
 /// are taken.
 pub fn tuple_order_does_not_count()
     ensures { TupleOrderDoesNotCount }
+{}
+
+/// EXTEND with settings gives what EXTEND with ADD gives where no attribute that is set is there.
+pub fn new_settings_extend()
+    ensures { NewSettingsExtend }
 {}
 
 /// SUMMARIZE BY is SUMMARIZE PER of the projection of its operand.

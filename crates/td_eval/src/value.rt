@@ -4,27 +4,28 @@ ghost use Rattle.std.specs.List.{slice_get};
 ghost use Rattle.td_algebra.specs.Columns.{columns_view};
 ghost use Rattle.td_check.specs.Scopes.{Scope, entered_with};
 ghost use Rattle.td_check.specs.StaticTypes.{named_types};
-ghost use Rattle.td_eval.specs.AggregateValues.{aggregated_value, asked_of, summary_attributes};
-ghost use Rattle.td_eval.specs.AggregateValues.{summary_value};
+ghost use Rattle.td_eval.specs.AggregateValues.{aggregated_value, asked_of};
 ghost use Rattle.td_eval.specs.DatabaseWorlds.{constraint_value, world_of_types};
 ghost use Rattle.td_eval.specs.code.NewColumns.{named_columns};
-ghost use Rattle.td_eval.specs.OperatorValues.{column_values, extended_value};
-ghost use Rattle.td_eval.specs.OperatorValues.{on_relation, restricted_value, truth_value};
+ghost use Rattle.td_eval.specs.OperatorValues.{column_values, extended_by_settings};
+ghost use Rattle.td_eval.specs.OperatorValues.{extended_value, on_relation, restricted_value};
+ghost use Rattle.td_eval.specs.OperatorValues.{truth_value};
 ghost use Rattle.td_eval.specs.code.Sights.{IsSight, seen_by, tuples_in_hand, world_in};
-ghost use Rattle.td_eval.specs.code.Totals.{term_in, total_of, total_view};
-ghost use Rattle.td_eval.specs.TreeValues.{argument_values, entry_values, items_in_tuples};
+ghost use Rattle.td_eval.specs.TreeValues.{argument_values, entry_values};
 ghost use Rattle.td_eval.specs.TreeValues.{value_of, values_in_tuples};
 ghost use Rattle.td_eval.specs.ValueLaws.{IsChecked};
 ghost use Rattle.td_eval.specs.ValueTypes.{AnswersType, KeepsScope};
 ghost use Rattle.td_eval.specs.Worlds.{known_outcome, name_value, selector_outcome, with_tuples};
 ghost use Rattle.td_tree.specs.Outcomes.{Answers, gathered};
-ghost use Rattle.td_tree.specs.code.TreeViews.{named_view, summaries_view, tree_view, trees_view};
+ghost use Rattle.td_tree.specs.code.TreeViews.{named_view, tree_view, trees_view};
 ghost use Rattle.td_tree.specs.Trees.{choice};
 ghost use Rattle.td_types.specs.code.Views.{pairs_view, type_view};
 
+mod summaries;
+
 use crate::env::Env;
-use crate::extension::{extension_by, new_attributes};
-use crate::operators::aggregates::{terms, value_of_aggregate};
+use crate::extension::{extension_by, new_attributes, setting_by};
+use crate::operators::aggregates::value_of_aggregate;
 use crate::operators::asked::{attribute, have_types, relation_in, truth};
 use crate::operators::between::value_of_operator;
 use crate::operators::comparisons::value_of_comparison;
@@ -32,20 +33,18 @@ use crate::operators::elements::{listed_value, tuple_from, value_of_headed};
 use crate::operators::literals::literal_value;
 use crate::operators::operand::{component_value, extracted_value, measure_value, prefix_value};
 use crate::operators::postfix::{postfix_value, projected_by};
-use crate::operators::relational::relations;
 use crate::operators::selectors::{component_tuple, user_value};
-use crate::operators::summaries::{extended_per, groups_by_per, with_aggregate};
 use crate::operators::tuplewise::restriction_value;
 use crate::rows::{
     copies_of, copies_of_lent, named_column, named_value, truth_of, value_of_its_type,
 };
 use crate::sight::Sight;
+use crate::value::summaries::summary;
 use std::alloc::Global;
 use td_algebra::extension::Column;
 use td_body::body::Body;
-use td_group::aggregates::Agg;
 use td_tree::cause::Cause;
-use td_tree::expression::{Expr, NamedExpr, Summary};
+use td_tree::expression::{Expr, NamedExpr};
 use td_tree::fault::Fault;
 use td_tree::gathering::{Gathering, both};
 use td_tree::name::Name;
@@ -130,6 +129,9 @@ fn value_of<B: Body>(sight: &Sight<'_, B>, tuples: &[Tuple], expr: &Expr) -> Res
         Expr::Tuple(parts) => tuple_from(alloc, entries(sight, tuples, parts)?),
         Expr::Extend(operand, parts) => {
             extension(sight, tuples, &value_of(sight, tuples, operand)?, parts)
+        }
+        Expr::ExtendSetting(operand, settings) => {
+            setting(sight, tuples, &value_of(sight, tuples, operand)?, settings)
         }
         Expr::If(condition, first, second) => choice(sight, tuples, condition, first, second),
         Expr::Aggregate(op, operand, value) => {
@@ -395,9 +397,30 @@ fn extension<B: Body>(
     extension_by(sight.alloc, rel, &attributes, columns)
 }
 
+/// The tuples of an operand with attributes set.
+#[cycle(value)]
+fn setting<B: Body>(
+    sight: &Sight<'_, B>,
+    tuples: &[Tuple],
+    operand: &Value,
+    settings: &[NamedExpr],
+) -> Result<Value, Fault>
+    requires { IsSight sight.now }
+    ensures { Answers (λ v. v) result (on_relation operand.now (λ r. extended_by_settings
+        (named_types (entered_with r.heading
+        (with_tuples (seen_by sight.now).scope (reverse tuples.now))) (named_view settings.now))
+        (values_in_tuples (seen_by sight.now) (reverse tuples.now) (named_view settings.now))
+        r)) }
+{
+    let rel = relation_in(operand)?;
+    let attributes = new_attributes(sight, tuples, rel, settings)?;
+    let columns = columns(sight, tuples, rel, &attributes, settings);
+    setting_by(sight.alloc, rel, &attributes, columns)
+}
+
 /// The values of an expression in the tuples of a relation.
 #[cycle(value)]
-fn values_in_rows<B: Body>(
+pub(crate) fn values_in_rows<B: Body>(
     sight: &Sight<'_, B>,
     tuples: &[Tuple],
     operand: &Rel,
@@ -437,93 +460,9 @@ fn aggregation<B: Body>(
     value_of_aggregate(op, values_in_rows(sight, tuples, rel, expr))
 }
 
-/// The values of the expression of a SUMMARIZE item in the tuples of a group.
-#[cycle(value)]
-fn item_in_group<B: Body>(
-    sight: &Sight<'_, B>,
-    tuples: &[Tuple],
-    group: &Rel,
-    item: &Summary,
-) -> Result<Vec<Value>, Fault>
-    requires { IsSight sight.now }
-    ensures { Answers (λ vs. vs.items) result (gathered
-        (map (term_in (seen_by sight.now) (reverse tuples.now) item.now) group.now.body)) }
-{
-    match item {
-        Summary::Count(_) => Ok(terms(sight.alloc, group)?),
-        Summary::Of(_, value, _) => values_in_rows(sight, tuples, group, value),
-    }
-}
-
-/// The values of the expression of a SUMMARIZE item in the tuples of each group.
-#[cycle(value)]
-fn item_in_groups<B: Body>(
-    sight: &Sight<'_, B>,
-    tuples: &[Tuple],
-    groups: &[(Tuple, Rel)],
-    item: &Summary,
-) -> Result<Vec<Vec<Value>>, Fault>
-    requires { IsSight sight.now }
-    ensures { Answers (λ vss. map (λ vs. vs.items) vss.items) result (gathered (map (λ g. gathered
-        (map (term_in (seen_by sight.now) (reverse tuples.now) item.now) g.1.body))
-        groups.now)) }
-{
-    let mut causes = Gathering::new();
-    let mut values = Vec::with_capacity(sight.alloc, groups.len())?;
-    for (_, group) in groups {
-        let found = item_in_group(sight, tuples, group, item);
-        causes.collect(&mut values, found)?;
-    }
-    causes.finish(values)
-}
-
-/// What the items of SUMMARIZE are of in the groups, with their aggregates.
-#[cycle(value)]
-fn totals<B: Body>(
-    sight: &Sight<'_, B>,
-    tuples: &[Tuple],
-    groups: &[(Tuple, Rel)],
-    items: &[Summary],
-) -> Result<Vec<(Agg, Vec<Vec<Value>>)>, Fault>
-    requires { IsSight sight.now }
-    ensures { Answers (λ ts. map total_view ts.items) result (gathered
-        (map (total_of groups.now) (items_in_tuples (seen_by sight.now) (reverse tuples.now)
-        (summaries_view items.now)))) }
-{
-    let mut causes = Gathering::new();
-    let mut totals = Vec::with_capacity(sight.alloc, items.len())?;
-    for item in items {
-        let total = with_aggregate(item, item_in_groups(sight, tuples, groups, item));
-        causes.collect(&mut totals, total)?;
-    }
-    causes.finish(totals)
-}
-
-/// The tuples of PER, each with what the items give of its group.
-#[cycle(value)]
-fn summary<B: Body>(
-    sight: &Sight<'_, B>,
-    tuples: &[Tuple],
-    operand: &Value,
-    per: &Value,
-    items: &[Summary],
-) -> Result<Value, Fault>
-    requires { IsSight sight.now }
-    ensures { Answers (λ v. v) result (summary_value
-        (λ h. summary_attributes (entered_with h
-        (with_tuples (seen_by sight.now).scope (reverse tuples.now))) (summaries_view items.now))
-        (items_in_tuples (seen_by sight.now) (reverse tuples.now) (summaries_view items.now))
-        operand.now per.now) }
-{
-    let (rel, per) = relations(operand, per)?;
-    let groups = groups_by_per(sight.alloc, rel, per)?;
-    let totals = totals(sight, tuples, &groups, items)?;
-    extended_per(sight, tuples, rel, per, items, &totals)
-}
-
 /// The value of the expression in what it is evaluated in, or the least of the causes for which it
 /// has none. Of an expression that the checker gave a type the value is of that type, and the
-/// causes are from OVERFLOW up.
+/// causes are from OVERFLOW to NOT_INCLUDED.
 pub fn eval<B: Body>(alloc: Global, env: &Env<'_, B>, expr: &Expr) -> Result<Value, Fault>
     ensures value { Answers (λ v. v) result
         (value_of (world_in env.now) (tuples_in_hand env.now) (tree_view expr.now)) }

@@ -3,7 +3,7 @@ use Rattle.std.proofs.Common.{◌≡◌, ℕ, zero, suc, ◌≤◌, List, [], �
 use Rattle.td_tree.specs.declared.token.Sign.TheVariants as signs
 use Rattle.td_tree.specs.Lexemes.{Lexeme, sign}
 use Rattle.td_tree.specs.Lists.{Separated, one_item, next_item}
-use Rattle.td_parse.specs.ReadingSteps.{ReadOf, expect, read_up_to, in_parentheses_read, separated_from, list_by_commas, listed_to}
+use Rattle.td_parse.specs.ReadingSteps.{ReadOf, expect, read_up_to, in_parentheses_read, in_braces_read, separated_from, list_by_commas, listed_to}
 
 abbrev pub comma : Lexeme
 comma = sign signs.Comma
@@ -97,6 +97,12 @@ pub enclosed_items_again : {A : Type 0} (item : List Lexeme → ReadOf A) (Follo
     → in_parentheses_read (list_by_commas item) (sign signs.OpenParenthesis ∷ ((xs ++ (sign signs.CloseParenthesis ∷ [])) ++ s)) ≡ Some (all, s)
 unfolding in_parentheses_read expect
 enclosed_items_again item Follows xs all r s st = rw (append_assoc xs (sign signs.CloseParenthesis ∷ []) s, closed_again item Follows xs all (sign signs.CloseParenthesis) parenthesis_closes r s st) refl
+
+-- items between braces
+pub braced_items_again : {A : Type 0} (item : List Lexeme → ReadOf A) (Follows : List Lexeme → Type 0) (xs : List Lexeme) (all : List A) → SeparatedAgain item Follows xs all → (s : List Lexeme) → Follows (sign signs.CloseBrace ∷ s)
+    → in_braces_read (list_by_commas item) (sign signs.OpenBrace ∷ ((xs ++ (sign signs.CloseBrace ∷ [])) ++ s)) ≡ Some (all, s)
+unfolding in_braces_read expect
+braced_items_again item Follows xs all r s st = rw (append_assoc xs (sign signs.CloseBrace ∷ []) s, closed_again item Follows xs all (sign signs.CloseBrace) brace_closes r s st) refl
 
 -- how items begin
 pub items_begin : {A : Type 0} {Item : List Lexeme → A → Type 0} (l : Lexeme) → ((xs : List Lexeme) (a : A) → Item xs a → (s : List Lexeme) → expect l (xs ++ s) ≡ None)

@@ -9,7 +9,7 @@ use Rattle.td_tree.specs.Heights.{height, highest, highest_named, highest_summar
 use Rattle.td_tree.specs.Lexemes.{Lexeme, keyword, sign}
 use Rattle.td_tree.specs.Lexemes as lexeme
 use Rattle.td_tree.specs.Lists.{with_parentheses}
-use Rattle.td_parse.specs.Reading.{trees_from, named_from, SummaryItem, count_item, sum_item, summaries_from, part, addition, count_summary, sum_summary, summary_of_word, summary, read}
+use Rattle.td_parse.specs.Reading.{trees_from, named_from, SummaryItem, count_item, sum_item, summaries_from, part, addition, setting, count_summary, sum_summary, summary_of_word, summary, read}
 use Rattle.td_parse.specs.ReadingSteps.{expect, read_name, read_as}
 use Rattle.td_tree.specs.Trees as tree
 use Rattle.td_tree.specs.Trees.{Text, Tree, Trees, NamedTrees, Summaries}
@@ -57,6 +57,9 @@ pub record PartsAgain (xs : List Lexeme) (parts : NamedTrees) : Type 0 where
 pub record AdditionsAgain (xs : List Lexeme) (parts : NamedTrees) : Type 0 where
   pub reads : (d : ℕ) → highest_named parts ≤ d → SeparatedAgain (addition (read d) d) Anything xs (named_items parts)
 
+pub record SettingsAgain (xs : List Lexeme) (settings : NamedTrees) : Type 0 where
+  pub reads : (d : ℕ) → highest_named settings ≤ d → SeparatedAgain (setting (read d) d) Ends xs (named_items settings)
+
 pub record SummariesAgain (xs : List Lexeme) (all : Summaries) : Type 0 where
   pub reads : (d : ℕ) → highest_summary all ≤ d → SeparatedAgain (summary (read d) d) Anything xs (summary_items all)
 
@@ -72,6 +75,10 @@ part_item n xs a d r lt = record { reads = λ s st. rw (r.reads d s lt st) refl 
 addition_item : (n : Text) (xs : List Lexeme) (a : Tree) (d : ℕ) → Again loosest xs a → height a ≤ d → ItemAgain (addition (read d) d) Anything (xs ++ (keyword k.As ∷ (lexeme.name n ∷ []))) (n, a)
 unfolding addition read_as read_name expect
 addition_item n xs a d r lt = record { reads = λ s st. rw (append_assoc xs (keyword k.As ∷ (lexeme.name n ∷ [])) s, r.reads d (keyword k.As ∷ (lexeme.name n ∷ s)) lt (as_stops (lexeme.name n ∷ s))) refl }
+
+setting_item : (n : Text) (xs : List Lexeme) (a : Tree) (d : ℕ) → Again loosest xs a → height a ≤ d → ItemAgain (setting (read d) d) Ends (lexeme.name n ∷ (sign signs.Assign ∷ xs)) (n, a)
+unfolding setting read_name expect
+setting_item n xs a d r lt = record { reads = λ s st. rw (r.reads d s lt st) refl }
 
 count_item_again : (n : Text) (d : ℕ) → ItemAgain (summary (read d) d) Anything (keyword k.Count ∷ (with_parentheses [] ++ (keyword k.As ∷ (lexeme.name n ∷ [])))) (count_item n)
 unfolding summary summary_of_word count_summary read_as read_name expect
@@ -118,6 +125,12 @@ next_addition_reads n xs ys a all r h = record {
       subst (λ (l : List Lexeme). SeparatedAgain (addition (read d) d) Anything l (named_items (tree.more_named n a all))) (append_assoc xs (keyword k.As ∷ (lexeme.name n ∷ [])) (comma ∷ ys))
       (next_again (addition (read d) d) Anything (xs ++ (keyword k.As ∷ (lexeme.name n ∷ []))) ys (n, a) (named_items all) (λ s. tt) (addition_item n xs a d r (omega arith)) (h.reads d (omega arith)));
 }
+
+pub last_setting_reads : (n : Text) (xs : List Lexeme) (a : Tree) → Again loosest xs a → SettingsAgain (lexeme.name n ∷ (sign signs.Assign ∷ xs)) (tree.more_named n a tree.none_named)
+last_setting_reads n xs a r = record { reads = λ d lt. last_again (setting (read d) d) Ends (lexeme.name n ∷ (sign signs.Assign ∷ xs)) (n, a) (setting_item n xs a d r (omega arith)) }
+
+pub next_setting_reads : (n : Text) (xs ys : List Lexeme) (a : Tree) (all : NamedTrees) → Again loosest xs a → SettingsAgain ys all → SettingsAgain (lexeme.name n ∷ (sign signs.Assign ∷ (xs ++ (comma ∷ ys)))) (tree.more_named n a all)
+next_setting_reads n xs ys a all r h = record { reads = λ d lt. next_again (setting (read d) d) Ends (lexeme.name n ∷ (sign signs.Assign ∷ xs)) ys (n, a) (named_items all) comma_stops (setting_item n xs a d r (omega arith)) (h.reads d (omega arith)) }
 
 pub last_count_reads : (n : Text) → SummariesAgain (keyword k.Count ∷ (with_parentheses [] ++ (keyword k.As ∷ (lexeme.name n ∷ [])))) (tree.counted n tree.no_summaries)
 last_count_reads n = record { reads = λ d lt. last_again (summary (read d) d) Anything _ (count_item n) (count_item_again n d) }

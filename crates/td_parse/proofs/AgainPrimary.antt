@@ -9,25 +9,25 @@ use Rattle.td_tree.specs.declared.operator.Measure.{Measure}
 use Rattle.td_tree.specs.declared.operator.Measure.TheVariants as measures
 use Rattle.td_tree.specs.declared.token.Sign.TheVariants as signs
 use Rattle.td_tree.specs.Grammar.{measure_word, aggregate_word, AttributeListSpelling, LiteralSpelling, number_literal, minus_literal, text_literal, true_literal, false_literal, dee_literal, dum_literal, ExpressionsSpelling, HeadingSpelling, PartsSpelling, last_part, next_part, loosest}
-use Rattle.td_tree.specs.Heights.{height, highest, highest_summary, type_height}
+use Rattle.td_tree.specs.Heights.{height, highest, highest_named, highest_summary, type_height}
 use Rattle.td_tree.specs.Lexemes.{Lexeme, keyword, sign}
 use Rattle.td_tree.specs.Lexemes as lexeme
 use Rattle.td_tree.specs.Lists.{with_braces, with_parentheses}
 use Rattle.td_tree.specs.Numbers.{numeral_limit}
-use Rattle.td_parse.specs.Reading.{numeral, negative, part, addition, summary, summaries, name_expression, component_of, measure_expression, aggregate_expression, headed_relation, elements, relation, tuple, extension, summary_per, summary_by, summarize_expression, choice, primary_of_word, primary_of_sign, primary, by_level, read}
+use Rattle.td_parse.specs.Reading.{numeral, negative, part, addition, setting, summary, summaries, name_expression, component_of, measure_expression, aggregate_expression, headed_relation, elements, relation, tuple, extension_adding, extension_setting, extension, summary_per, summary_by, summarize_expression, choice, primary_of_word, primary_of_sign, primary, by_level, read}
 use Rattle.td_parse.specs.Reading as reading
 use Rattle.td_parse.specs.ReadingOperators.{call_at}
 use Rattle.td_parse.specs.ReadingSteps.{expect, read_up_to, in_parentheses_read, listed_to}
 use Rattle.td_tree.specs.Trees as tree
 use Rattle.td_tree.specs.Trees.{Text, AttributeTrees, Attributes, Literal, Tree, Trees, NamedTrees, Summaries}
 use Rattle.td_parse.proofs.Again.{Again, Reads}
-use Rattle.td_parse.proofs.AgainLists.{comma, closed_again, listed_again, empty_again, up_to_again, enclosed_again, enclosed_items_again, brace_closes, parenthesis_closes}
+use Rattle.td_parse.proofs.AgainLists.{comma, closed_again, listed_again, empty_again, up_to_again, enclosed_again, enclosed_items_again, braced_items_again, brace_closes, parenthesis_closes}
 use Rattle.td_parse.proofs.AgainNames.{Anything, attributes_again}
-use Rattle.td_parse.proofs.AgainParts.{ListAgain, PartsAgain, AdditionsAgain, SummariesAgain, expression_item, tree_items, trees_back, named_items, named_back, summary_items, summaries_back}
+use Rattle.td_parse.proofs.AgainParts.{ListAgain, PartsAgain, AdditionsAgain, SettingsAgain, SummariesAgain, expression_item, tree_items, trees_back, named_items, named_back, summary_items, summaries_back}
 use Rattle.td_parse.proofs.AgainTypes.{relation_heading_again}
 use Rattle.td_parse.proofs.Begins.{begins_no, expressions_begin}
 use Rattle.td_parse.proofs.BeginsNames.{arguments_called, elements_no_heading, heading_is}
-use Rattle.td_parse.proofs.Stops.{Ends, close_stops, close_brace_stops, comma_stops, then_stops, else_stops, end_stops, add_stops, per_stops, by_stops}
+use Rattle.td_parse.proofs.Stops.{Ends, close_stops, close_brace_stops, comma_stops, then_stops, else_stops, end_stops, add_stops, colon_stops, per_stops, by_stops}
 
 abbrev close : Lexeme
 close = sign signs.CloseParenthesis
@@ -178,18 +178,30 @@ tuple_reads xs parts r p = record {
 
 -- ---- EXTEND, SUMMARIZE and IF
 
-add_is : (s : List Lexeme) → expect (keyword k.Add) (keyword k.Add ∷ s) ≡ Some s
-unfolding expect
-add_is s = refl
+adding_again : (ys : List Lexeme) (a : Tree) (parts : NamedTrees) → AdditionsAgain ys parts → (d : ℕ) (s : List Lexeme) → highest_named parts ≤ d → extension_adding (read d) d a (with_parentheses ys ++ s) ≡ Some (tree.extend a parts, s)
+unfolding extension_adding
+adding_again ys a parts r d s lt = rw (enclosed_items_again (addition (read d) d) Anything ys (named_items parts) (r.reads d lt) s tt, named_back parts) refl
 
 pub extension_reads : (xs ys : List Lexeme) (a : Tree) (parts : NamedTrees) → Again loosest xs a → AdditionsAgain ys parts
     → Reads levels.Primary (keyword k.Extend ∷ (xs ++ (keyword k.Add ∷ with_parentheses ys))) (tree.extend a parts)
-unfolding by_level primary primary_of_word extension
+unfolding by_level primary primary_of_word extension expect
 extension_reads xs ys a parts p r = record {
   gets = λ d s lt st.
-      let first : read_up_to (keyword k.Add) (read d loosest) (xs ++ (keyword k.Add ∷ (sign signs.OpenParenthesis ∷ ((ys ++ (close ∷ [])) ++ s)))) ≡ Some (a, sign signs.OpenParenthesis ∷ ((ys ++ (close ∷ [])) ++ s))
-      = up_to_again (read d loosest) Ends xs a (keyword k.Add) add_is (expression_item xs a d p (omega arith)) (sign signs.OpenParenthesis ∷ ((ys ++ (close ∷ [])) ++ s)) (add_stops _) in
-      rw (append_assoc xs (keyword k.Add ∷ with_parentheses ys) s, first, enclosed_items_again (addition (read d) d) Anything ys (named_items parts) (r.reads d (omega arith)) s tt, named_back parts) refl;
+      let last : List Lexeme = with_parentheses ys ++ s in
+      rw (append_assoc xs (keyword k.Add ∷ with_parentheses ys) s, p.reads d (keyword k.Add ∷ last) (omega arith) (add_stops last)) (adding_again ys a parts r d s (omega arith));
+}
+
+setting_again : (ys : List Lexeme) (a : Tree) (settings : NamedTrees) → SettingsAgain ys settings → (d : ℕ) (s : List Lexeme) → highest_named settings ≤ d → extension_setting (read d) d a (with_braces ys ++ s) ≡ Some (tree.extend_setting a settings, s)
+unfolding extension_setting
+setting_again ys a settings r d s lt = rw (braced_items_again (setting (read d) d) Ends ys (named_items settings) (r.reads d lt) s (close_brace_stops s), named_back settings) refl
+
+pub setting_extension_reads : (xs ys : List Lexeme) (a : Tree) (settings : NamedTrees) → Again loosest xs a → SettingsAgain ys settings
+    → Reads levels.Primary (keyword k.Extend ∷ (xs ++ (sign signs.Colon ∷ with_braces ys))) (tree.extend_setting a settings)
+unfolding by_level primary primary_of_word extension expect
+setting_extension_reads xs ys a settings p r = record {
+  gets = λ d s lt st.
+      let last : List Lexeme = with_braces ys ++ s in
+      rw (append_assoc xs (sign signs.Colon ∷ with_braces ys) s, p.reads d (sign signs.Colon ∷ last) (omega arith) (colon_stops last)) (setting_again ys a settings r d s (omega arith));
 }
 
 summaries_again : (zs : List Lexeme) (items : Summaries) → SummariesAgain zs items → (d : ℕ) (s : List Lexeme) → highest_summary items ≤ d

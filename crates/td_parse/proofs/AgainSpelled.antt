@@ -3,7 +3,7 @@ use Rattle.std.proofs.Common.{List, ◌∷◌, ◌++◌}
 use Rattle.td_tree.specs.declared.keyword.Keyword.TheVariants as k
 use Rattle.td_tree.specs.declared.operator.Level.{Level}
 use Rattle.td_tree.specs.declared.operator.Level.TheVariants as levels
-use Rattle.td_tree.specs.Grammar.{HeadingSpelling, Spelling, looser, restriction, between, negation, comparison, minus, closure, tuple_from, extraction, behind, literal, reference, selector, component, parentheses, measure, aggregate, headed_relation, relation, empty_tuple, tuple, extension, summary_per, summary_by, choice, ListSpelling, no_expressions, some_expressions, ExpressionsSpelling, last_expression, next_expression, PartsSpelling, last_part, next_part, AdditionsSpelling, last_addition, next_addition, SummariesSpelling, last_count, next_count, last_sum, next_sum, loosest}
+use Rattle.td_tree.specs.Grammar.{HeadingSpelling, Spelling, looser, restriction, between, negation, comparison, minus, closure, tuple_from, extraction, behind, literal, reference, selector, component, parentheses, measure, aggregate, headed_relation, relation, empty_tuple, tuple, extension, setting_extension, summary_per, summary_by, choice, ListSpelling, no_expressions, some_expressions, ExpressionsSpelling, last_expression, next_expression, PartsSpelling, last_part, next_part, AdditionsSpelling, last_addition, next_addition, SettingsSpelling, last_setting, next_setting, SummariesSpelling, last_count, next_count, last_sum, next_sum, loosest}
 use Rattle.td_tree.specs.Lexemes.{Lexeme, keyword}
 use Rattle.td_tree.specs.Lexemes as lexeme
 use Rattle.td_tree.specs.Lists.{with_braces, with_parentheses}
@@ -11,8 +11,8 @@ use Rattle.td_tree.specs.Trees as tree
 use Rattle.td_tree.specs.Trees.{Text, AttributeTrees, Tree, Trees, NamedTrees, Summaries}
 use Rattle.td_parse.specs.declared.operators.Link.TheVariants as links
 use Rattle.td_parse.proofs.Again.{Again, Reads, again_from, alone, link_reads, comparison_reads, negation_reads, minus_reads, closure_reads, tuple_from_reads, extraction_reads, behind_reads}
-use Rattle.td_parse.proofs.AgainParts.{ListAgain, PartsAgain, AdditionsAgain, SummariesAgain, last_expression_reads, next_expression_reads, last_part_reads, next_part_reads, last_addition_reads, next_addition_reads, last_count_reads, next_count_reads, last_sum_reads, next_sum_reads}
-use Rattle.td_parse.proofs.AgainPrimary.{literal_reads, reference_reads, empty_call_reads, call_reads, component_reads, parentheses_reads, measure_reads, aggregate_reads, empty_headed_reads, headed_reads, relation_reads, empty_tuple_reads, tuple_reads, extension_reads, summary_per_reads, summary_by_reads, choice_reads}
+use Rattle.td_parse.proofs.AgainParts.{ListAgain, PartsAgain, AdditionsAgain, SettingsAgain, SummariesAgain, last_expression_reads, next_expression_reads, last_part_reads, next_part_reads, last_addition_reads, next_addition_reads, last_setting_reads, next_setting_reads, last_count_reads, next_count_reads, last_sum_reads, next_sum_reads}
+use Rattle.td_parse.proofs.AgainPrimary.{literal_reads, reference_reads, empty_call_reads, call_reads, component_reads, parentheses_reads, measure_reads, aggregate_reads, empty_headed_reads, headed_reads, relation_reads, empty_tuple_reads, tuple_reads, extension_reads, setting_extension_reads, summary_per_reads, summary_by_reads, choice_reads}
 use Rattle.td_parse.proofs.Begins.{spelled_begins}
 use Rattle.td_parse.proofs.BeginsPlain.{plain}
 
@@ -43,6 +43,7 @@ mutual
   reads empty_tuple = empty_tuple_reads
   reads (tuple {xs} {parts} p) = tuple_reads xs parts (parts_again p) p
   reads (extension {xs} {ys} {a} {parts} p q) = extension_reads xs ys a parts (whole (reads p)) (additions_again q)
+  reads (setting_extension {xs} {ys} {a} {parts} p q) = setting_extension_reads xs ys a parts (whole (reads p)) (settings_again q)
   reads (summary_per {xs} {ys} {zs} {a} {b} {items} p q r) = summary_per_reads xs ys zs a b items (whole (reads p)) (whole (reads q)) (summaries_again r)
   reads (summary_by {xs} {ys} {zs} {a} {by} {items} p q r) = summary_by_reads xs ys zs a by items (whole (reads p)) q (summaries_again r)
   reads (choice {xs} {ys} {zs} {a} {b} {c} p q r) = choice_reads xs ys zs a b c (whole (reads p)) (whole (reads q)) (whole (reads r))
@@ -66,6 +67,10 @@ mutual
   additions_again : {xs : List Lexeme} {parts : NamedTrees} → AdditionsSpelling xs parts → AdditionsAgain xs parts
   additions_again (last_addition {n} {xs} {a} p) = last_addition_reads n xs a (whole (reads p))
   additions_again (next_addition {n} {xs} {ys} {a} {parts} p q) = next_addition_reads n xs ys a parts (whole (reads p)) (additions_again q)
+
+  pub settings_again : {xs : List Lexeme} {settings : NamedTrees} → SettingsSpelling xs settings → SettingsAgain xs settings
+  settings_again (last_setting {n} {xs} {a} p) = last_setting_reads n xs a (whole (reads p))
+  settings_again (next_setting {n} {xs} {ys} {a} {parts} p q) = next_setting_reads n xs ys a parts (whole (reads p)) (settings_again q)
 
   summaries_again : {xs : List Lexeme} {items : Summaries} → SummariesSpelling xs items → SummariesAgain xs items
   summaries_again (last_count {n}) = last_count_reads n

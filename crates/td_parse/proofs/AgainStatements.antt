@@ -5,27 +5,28 @@ use Rattle.td_tree.specs.declared.keyword.Keyword.{Keyword}
 use Rattle.td_tree.specs.declared.keyword.Keyword.TheVariants as k
 use Rattle.td_tree.specs.declared.operator.Level.{Level}
 use Rattle.td_tree.specs.declared.operator.Level.TheVariants as levels
+use Rattle.td_tree.specs.declared.operator.Style.TheVariants as styles
 use Rattle.td_tree.specs.declared.token.Sign.TheVariants as signs
-use Rattle.td_tree.specs.Grammar.{AttributesSpelling, HeadingSpelling, IsExpression, height_limit, loosest}
+use Rattle.td_tree.specs.Grammar.{AttributesSpelling, HeadingSpelling, SettingsSpelling, last_setting, next_setting, IsExpression, height_limit, loosest}
 use Rattle.td_tree.specs.Heights.{type_height, attributes_height}
 use Rattle.td_tree.specs.Lexemes.{Lexeme, keyword, sign}
 use Rattle.td_tree.specs.Lexemes as lexeme
 use Rattle.td_tree.specs.Lists.{Separated, one_item, next_item, Repeated, no_more, one_more, Optional, absent, present, with_braces, with_parentheses}
-use Rattle.td_parse.specs.Reading.{read}
+use Rattle.td_parse.specs.Reading.{read, setting}
 use Rattle.td_parse.specs.ReadingOperators.{link_at, comparison_at, postfix_at, call_at}
 use Rattle.td_parse.specs.ReadingSteps.{expect, read_name, read_up_to, in_parentheses_read, optional, repeated_from, list_by_words, names}
 use Rattle.td_parse.specs.ReadingStatements as reading
 use Rattle.td_parse.specs.ReadingTypes.{attribute, read_type}
-use Rattle.td_tree.specs.StatementGrammar.{ExpressionItem, ConstraintPart, constraint_part, InitPart, init_part, WherePart, where_part, KeyPart, key_part, SettingsSpelling, last_setting, next_setting, AssignmentSpelling, assignment, insertion, deletion, changing, BaseWord, base_word, real_word, BodySpelling, no_body, type_definition, type_drop, var_drop, constraint_drop, base_definition, virtual_definition, constraint_definition, assignments, begin_transaction, commit, rollback, writing, dump, StatementSpelling, statement}
+use Rattle.td_tree.specs.StatementGrammar.{ExpressionItem, ConstraintPart, constraint_part, InitPart, init_part, WherePart, where_part, KeyPart, key_part, SettingItems, AssignmentSpelling, assignment, insertion, disjoint_insertion, deletion, included_deletion, changing, changing_in_braces, BaseWord, base_word, real_word, BodySpelling, no_body, type_definition, type_drop, var_drop, constraint_drop, base_definition, virtual_definition, constraint_definition, assignments, begin_transaction, commit, rollback, writing, dump, StatementSpelling, statement}
 use Rattle.td_tree.specs.Trees as tree
 use Rattle.td_tree.specs.Trees.{Text, AttributeTrees, Tree, NamedTrees, Assignment, Statement}
 use Rattle.td_parse.proofs.Again.{again_from}
-use Rattle.td_parse.proofs.AgainLists.{comma, ItemAgain, SeparatedAgain, last_again, next_again, items_again, separated_again, enclosed_again, enclosed_items_again}
+use Rattle.td_parse.proofs.AgainLists.{comma, ItemAgain, SeparatedAgain, items_again, separated_again, enclosed_again, enclosed_items_again, braced_items_again}
 use Rattle.td_parse.proofs.AgainNames.{Anything, names_again}
 use Rattle.td_parse.proofs.AgainParts.{named_items, named_back}
-use Rattle.td_parse.proofs.AgainSpelled.{reads}
+use Rattle.td_parse.proofs.AgainSpelled.{reads, settings_again}
 use Rattle.td_parse.proofs.AgainTypes.{attribute_items, attributes_back, attributes_again, relation_heading_again}
-use Rattle.td_parse.proofs.Stops.{Stops, Ends, close_stops, close_brace_stops, comma_stops, semicolon_stops}
+use Rattle.td_parse.proofs.Stops.{Stops, Ends, close_stops, close_brace_stops, colon_stops, comma_stops, semicolon_stops}
 
 -- an expression of a level that is not too high
 pub level_again : (level : Level) (xs : List Lexeme) (t : Tree) → IsExpression level xs t → ItemAgain (read height_limit level) (Stops level) xs t
@@ -81,19 +82,27 @@ keys_again {xs} {keys} p s e = keys_from p (suc (length (xs ++ s))) [] s (omega 
 abbrev semicolon : Lexeme
 semicolon = sign signs.Semicolon
 
-setting_item : (n : Text) (xs : List Lexeme) (t : Tree) → ExpressionItem xs t → ItemAgain reading.setting Ends (lexeme.name n ∷ (sign signs.Assign ∷ xs)) (n, t)
-unfolding reading.setting reading.source read_name expect
-setting_item n xs t p = record { reads = λ s st. rw ((level_again loosest xs t p).reads s st) refl }
+all_settings : {xs : List Lexeme} {all : NamedTrees} → SettingItems xs all → SeparatedAgain (setting (read height_limit) height_limit) Ends xs (named_items all)
+all_settings p = (settings_again p.spelled).reads height_limit p.low
 
-settings_again : {xs : List Lexeme} {all : NamedTrees} → SettingsSpelling xs all → SeparatedAgain reading.setting Ends xs (named_items all)
-settings_again (last_setting {n} {xs} {t} p) = last_again reading.setting Ends _ (n, t) (setting_item n xs t p)
-settings_again (next_setting {n} {xs} {ys} {t} {rest} p q) = next_again reading.setting Ends (lexeme.name n ∷ (sign signs.Assign ∷ xs)) ys (n, t) (named_items rest) comma_stops (setting_item n xs t p) (settings_again q)
+older_settings_again : {xs : List Lexeme} {all : NamedTrees} → SettingItems xs all → (s : List Lexeme) → reading.styled_settings (with_parentheses xs ++ s) ≡ Some ((styles.Older, named_items all), s)
+unfolding reading.styled_settings expect
+older_settings_again {xs} {all} p s = rw (enclosed_items_again (setting (read height_limit) height_limit) Ends xs (named_items all) (all_settings p) s (close_stops s)) refl
+
+newer_settings_again : {xs : List Lexeme} {all : NamedTrees} → SettingItems xs all → (s : List Lexeme) → reading.styled_settings (sign signs.Colon ∷ (with_braces xs ++ s)) ≡ Some ((styles.Newer, named_items all), s)
+unfolding reading.styled_settings expect
+newer_settings_again {xs} {all} p s = rw (braced_items_again (setting (read height_limit) height_limit) Ends xs (named_items all) (all_settings p) s (close_brace_stops s)) refl
 
 -- settings are no arguments of a call
 settings_stop : {xs : List Lexeme} {all : NamedTrees} → SettingsSpelling xs all → (ys s : List Lexeme) → EndsCondition (sign signs.OpenParenthesis ∷ ((xs ++ ys) ++ s))
 unfolding link_at comparison_at postfix_at call_at expect
 settings_stop (last_setting p) ys s = record { no_where = refl; stops = (refl, (refl, (refl, (refl, (refl, (refl, (refl, (refl, refl)))))))) }
 settings_stop (next_setting p q) ys s = record { no_where = refl; stops = (refl, (refl, (refl, (refl, (refl, (refl, (refl, (refl, refl)))))))) }
+
+-- nor does an operator begin with ':'
+colon_stop : (s : List Lexeme) → EndsCondition (sign signs.Colon ∷ s)
+unfolding expect
+colon_stop s = record { no_where = refl; stops = (colon_stops s).1 }
 
 -- what follows an assignment
 pub record EndsAssignment (s : List Lexeme) : Type 0 where
@@ -112,14 +121,21 @@ ends_condition : (s : List Lexeme) → EndsAssignment s → EndsCondition s
 ends_condition s st = record { no_where = st.no_where; stops = st.ends.1 }
 
 assignment_again : (xs : List Lexeme) (a : Assignment) → AssignmentSpelling xs a → ItemAgain reading.assignment EndsAssignment xs a
-unfolding reading.assignment reading.assignment_of_word reading.source reading.insertion reading.deletion reading.changing read_name expect
+unfolding reading.assignment reading.assignment_of_word reading.source reading.insertion reading.disjoint_insertion reading.deletion reading.included_deletion reading.changing read_name expect
 assignment_again _ _ (assignment {n} {xs} {t} p) = record { reads = λ s st. rw ((level_again loosest xs t p).reads s st.ends) refl }
 assignment_again _ _ (insertion {n} {xs} {t} p) = record { reads = λ s st. rw ((level_again loosest xs t p).reads s st.ends) refl }
+assignment_again _ _ (disjoint_insertion {n} {xs} {t} p) = record { reads = λ s st. rw ((level_again loosest xs t p).reads s st.ends) refl }
 assignment_again _ _ (deletion {n} {xs} {condition} p) = record { reads = λ s st. rw (condition_again p s (ends_condition s st)) refl }
+assignment_again _ _ (included_deletion {n} {xs} {t} p) = record { reads = λ s st. rw ((level_again loosest xs t p).reads s st.ends) refl }
 assignment_again _ _ (changing {n} {xs} {ys} {condition} {settings} p q) = record {
   reads = λ s st.
-      let last : List Lexeme = sign signs.OpenParenthesis ∷ ((ys ++ (sign signs.CloseParenthesis ∷ [])) ++ s) in
-      rw (append_assoc xs (with_parentheses ys) s, condition_again p last (settings_stop q (sign signs.CloseParenthesis ∷ []) s), enclosed_items_again reading.setting Ends ys (named_items settings) (settings_again q) s (close_stops s), named_back settings) refl;
+      let last : List Lexeme = with_parentheses ys ++ s in
+      rw (append_assoc xs (with_parentheses ys) s, condition_again p last (settings_stop q.spelled (sign signs.CloseParenthesis ∷ []) s), older_settings_again q s, named_back settings) refl;
+}
+assignment_again _ _ (changing_in_braces {n} {xs} {ys} {condition} {settings} p q) = record {
+  reads = λ s st.
+      let last : List Lexeme = sign signs.Colon ∷ (with_braces ys ++ s) in
+      rw (append_assoc xs (sign signs.Colon ∷ with_braces ys) s, condition_again p last (colon_stop (with_braces ys ++ s)), newer_settings_again q s, named_back settings) refl;
 }
 
 -- ---- bodies
@@ -132,8 +148,11 @@ assignment_begins : (xs : List Lexeme) (a : Assignment) → AssignmentSpelling x
 unfolding reading.read_body reading.body reading.body_of_word expect
 assignment_begins _ _ (assignment p) s = refl
 assignment_begins _ _ (insertion p) s = refl
+assignment_begins _ _ (disjoint_insertion p) s = refl
 assignment_begins _ _ (deletion p) s = refl
+assignment_begins _ _ (included_deletion p) s = refl
 assignment_begins _ _ (changing p q) s = refl
+assignment_begins _ _ (changing_in_braces p q) s = refl
 
 assignments_begin : {xs : List Lexeme} {all : List Assignment} → Separated AssignmentSpelling xs all → (s : List Lexeme) → reading.read_body (xs ++ s) ≡ reading.assignments (xs ++ s)
 assignments_begin (one_item {xs} {a} p) s = assignment_begins xs a p s

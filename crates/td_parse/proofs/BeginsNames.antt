@@ -7,7 +7,7 @@ use Rattle.td_tree.specs.declared.operator.Level.{Level}
 use Rattle.td_tree.specs.declared.operator.Operator.{Operator}
 use Rattle.td_tree.specs.declared.operator.Operator.TheVariants as operators
 use Rattle.td_tree.specs.declared.token.Sign.TheVariants as signs
-use Rattle.td_tree.specs.Grammar.{operator_words, comparison_word, Spelling, looser, restriction, between, negation, comparison, minus, closure, tuple_from, extraction, behind, literal, reference, selector, component, parentheses, measure, aggregate, headed_relation, relation, empty_tuple, tuple, extension, summary_per, summary_by, choice, LiteralSpelling, number_literal, minus_literal, text_literal, true_literal, false_literal, dee_literal, dum_literal, PostfixSpelling, projection, renamings, grouping, wrapping, ungrouping, unwrapping, AttributeListSpelling, only_names, all_but_names, ExpressionsSpelling, last_expression, next_expression, HeadingSpelling, empty_heading, AttributesSpelling, last_attribute, next_attribute, TypeSpelling, integer_type, char_type, boolean_type, user_type, relation_type, tuple_type}
+use Rattle.td_tree.specs.Grammar.{operator_words, comparison_word, Spelling, looser, restriction, between, negation, comparison, minus, closure, tuple_from, extraction, behind, literal, reference, selector, component, parentheses, measure, aggregate, headed_relation, relation, empty_tuple, tuple, extension, setting_extension, summary_per, summary_by, choice, LiteralSpelling, number_literal, minus_literal, text_literal, true_literal, false_literal, dee_literal, dum_literal, PostfixSpelling, projection, renamings, renamings_in_braces, grouping, wrapping, open_grouping, open_wrapping, ungrouping, unwrapping, AttributeListSpelling, only_names, all_but_names, ExpressionsSpelling, last_expression, next_expression, HeadingSpelling, empty_heading, AttributesSpelling, last_attribute, next_attribute, TypeSpelling, integer_type, char_type, boolean_type, user_type, relation_type, tuple_type}
 use Rattle.td_tree.specs.Grammar as grammar
 use Rattle.td_tree.specs.Lexemes.{Lexeme, keyword, sign}
 use Rattle.td_tree.specs.Lexemes as lexeme
@@ -99,6 +99,7 @@ avoids what h (relation p) = avoids_word what _ _
 avoids what h empty_tuple = avoids_word what _ _
 avoids what h (tuple p) = avoids_word what _ _
 avoids what h (extension p q) = avoids_word what _ _
+avoids what h (setting_extension p q) = avoids_word what _ _
 avoids what h (summary_per p q r) = avoids_word what _ _
 avoids what h (summary_by p q r) = avoids_word what _ _
 avoids what h (choice p q r) = avoids_word what _ _
@@ -116,8 +117,11 @@ projection_no_type (all_but_names p) s = refl
 postfix_no_type : {xs : List Lexeme} {p : Postfix} → PostfixSpelling xs p → (s : List Lexeme) → first_is begins_type (xs ++ s) ≡ false
 postfix_no_type (projection q) s = projection_no_type q s
 postfix_no_type (renamings q) s = refl
+postfix_no_type (renamings_in_braces q) s = refl
 postfix_no_type (grouping q) s = refl
 postfix_no_type (wrapping q) s = refl
+postfix_no_type (open_grouping q) s = refl
+postfix_no_type (open_wrapping q) s = refl
 postfix_no_type ungrouping s = refl
 postfix_no_type unwrapping s = refl
 
@@ -132,6 +136,8 @@ operator_no_type operators.Times s = refl
 operator_no_type operators.Compose s = refl
 operator_no_type operators.Matching s = refl
 operator_no_type operators.NotMatching s = refl
+operator_no_type operators.DisjointUnion s = refl
+operator_no_type operators.IncludedMinus s = refl
 operator_no_type operators.Add s = refl
 operator_no_type operators.Subtract s = refl
 operator_no_type operators.Concatenate s = refl
@@ -157,8 +163,11 @@ projection_no_assign (all_but_names p) s = refl
 postfix_no_assign : {xs : List Lexeme} {p : Postfix} → PostfixSpelling xs p → (s : List Lexeme) → first_is is_assign (xs ++ s) ≡ false
 postfix_no_assign (projection q) s = projection_no_assign q s
 postfix_no_assign (renamings q) s = refl
+postfix_no_assign (renamings_in_braces q) s = refl
 postfix_no_assign (grouping q) s = refl
 postfix_no_assign (wrapping q) s = refl
+postfix_no_assign (open_grouping q) s = refl
+postfix_no_assign (open_wrapping q) s = refl
 postfix_no_assign ungrouping s = refl
 postfix_no_assign unwrapping s = refl
 
@@ -173,6 +182,8 @@ operator_no_assign operators.Times s = refl
 operator_no_assign operators.Compose s = refl
 operator_no_assign operators.Matching s = refl
 operator_no_assign operators.NotMatching s = refl
+operator_no_assign operators.DisjointUnion s = refl
+operator_no_assign operators.IncludedMinus s = refl
 operator_no_assign operators.Add s = refl
 operator_no_assign operators.Subtract s = refl
 operator_no_assign operators.Concatenate s = refl

@@ -10,7 +10,7 @@ use Rattle.td_tree.specs.declared.operator.Measure.TheVariants as measures
 use Rattle.td_tree.specs.declared.operator.Operator.{Operator}
 use Rattle.td_tree.specs.declared.operator.Operator.TheVariants as operators
 use Rattle.td_tree.specs.declared.token.Sign.TheVariants as signs
-use Rattle.td_tree.specs.Grammar.{tighter, level_of, measure_word, aggregate_word, Spelling, looser, restriction, between, negation, comparison, minus, closure, tuple_from, extraction, behind, literal, reference, selector, component, parentheses, measure, aggregate, headed_relation, relation, empty_tuple, tuple, extension, summary_per, summary_by, choice, LiteralSpelling, number_literal, minus_literal, text_literal, true_literal, false_literal, dee_literal, dum_literal, PostfixSpelling, projection, renamings, grouping, wrapping, ungrouping, unwrapping, AttributeListSpelling, only_names, all_but_names}
+use Rattle.td_tree.specs.Grammar.{tighter, level_of, measure_word, aggregate_word, Spelling, looser, restriction, between, negation, comparison, minus, closure, tuple_from, extraction, behind, literal, reference, selector, component, parentheses, measure, aggregate, headed_relation, relation, empty_tuple, tuple, extension, setting_extension, summary_per, summary_by, choice, LiteralSpelling, number_literal, minus_literal, text_literal, true_literal, false_literal, dee_literal, dum_literal, PostfixSpelling, projection, renamings, renamings_in_braces, grouping, wrapping, open_grouping, open_wrapping, ungrouping, unwrapping, AttributeListSpelling, only_names, all_but_names}
 use Rattle.td_tree.specs.Grammar as grammar
 use Rattle.td_tree.specs.Lexemes.{Lexeme, keyword, sign}
 use Rattle.td_tree.specs.Lexemes as lexeme
@@ -55,6 +55,8 @@ plain_between operators.Times xs = tt
 plain_between operators.Compose xs = tt
 plain_between operators.Matching xs = tt
 plain_between operators.NotMatching xs = tt
+plain_between operators.DisjointUnion xs = tt
+plain_between operators.IncludedMinus xs = tt
 plain_between operators.Add xs = tt
 plain_between operators.Subtract xs = tt
 plain_between operators.Concatenate xs = tt
@@ -70,8 +72,11 @@ postfix_no_from : {xs : List Lexeme} {p : Postfix} → PostfixSpelling xs p → 
 unfolding expect
 postfix_no_from (projection q) s = list_no_from q s
 postfix_no_from (renamings q) s = refl
+postfix_no_from (renamings_in_braces q) s = refl
 postfix_no_from (grouping q) s = refl
 postfix_no_from (wrapping q) s = refl
+postfix_no_from (open_grouping q) s = refl
+postfix_no_from (open_wrapping q) s = refl
 postfix_no_from ungrouping s = refl
 postfix_no_from unwrapping s = refl
 
@@ -162,6 +167,7 @@ plain (relation p) = plain_relation _
 plain empty_tuple = plain_tuple _
 plain (tuple p) = plain_tuple _
 plain (extension p q) = plain_extend _
+plain (setting_extension p q) = plain_extend _
 plain (summary_per p q r) = plain_summarize _
 plain (summary_by p q r) = plain_summarize _
 plain (choice p q r) = plain_if _

@@ -46,6 +46,8 @@ word_of_is k.Join op e = ap link_words (some_is (links.Operator operators.Join) 
 word_of_is k.Times op e = ap link_words (some_is (links.Operator operators.Times) op e)
 word_of_is k.Compose op e = ap link_words (some_is (links.Operator operators.Compose) op e)
 word_of_is k.Matching op e = ap link_words (some_is (links.Operator operators.Matching) op e)
+word_of_is k.DUnion op e = ap link_words (some_is (links.Operator operators.DisjointUnion) op e)
+word_of_is k.IMinus op e = ap link_words (some_is (links.Operator operators.IncludedMinus) op e)
 word_of_is _ op e = absurd cc
 
 sign_of_is : (s : Sign) (op : Link) → link_of_sign s ≡ Some op → sign s ∷ [] ≡ link_words op

@@ -6,12 +6,12 @@ use Rattle.td_tree.specs.declared.operator.Aggregate.{Aggregate}
 use Rattle.td_tree.specs.declared.operator.Aggregate.TheVariants as aggregates
 use Rattle.td_tree.specs.declared.operator.Level.{Level}
 use Rattle.td_tree.specs.declared.token.Sign.TheVariants as signs
-use Rattle.td_tree.specs.Grammar.{aggregate_word, Spelling, ListSpelling, no_expressions, some_expressions, ExpressionsSpelling, last_expression, next_expression, PartsSpelling, last_part, next_part, AdditionsSpelling, last_addition, next_addition, SummariesSpelling, last_count, next_count, last_sum, next_sum, loosest}
+use Rattle.td_tree.specs.Grammar.{aggregate_word, Spelling, ListSpelling, no_expressions, some_expressions, ExpressionsSpelling, last_expression, next_expression, PartsSpelling, last_part, next_part, AdditionsSpelling, last_addition, next_addition, SettingsSpelling, last_setting, next_setting, SummariesSpelling, last_count, next_count, last_sum, next_sum, loosest}
 use Rattle.td_tree.specs.Heights.{height, highest, highest_named, highest_summary}
 use Rattle.td_tree.specs.Lexemes.{Lexeme, keyword, sign}
 use Rattle.td_tree.specs.Lexemes as lexeme
 use Rattle.td_tree.specs.Lists.{Listed, no_items, some_items, Separated, one_item, next_item, with_parentheses}
-use Rattle.td_parse.specs.Reading.{Read, trees_from, named_from, SummaryItem, count_item, sum_item, summaries_from, part, addition, count_summary, sum_summary, summary_of_word, summary, summaries}
+use Rattle.td_parse.specs.Reading.{Read, trees_from, named_from, SummaryItem, count_item, sum_item, summaries_from, part, addition, setting, count_summary, sum_summary, summary_of_word, summary, summaries}
 use Rattle.td_parse.specs.ReadingSteps.{expect, read_name, read_as, in_parentheses_read, list_by_commas}
 use Rattle.td_tree.specs.Trees as tree
 use Rattle.td_tree.specs.Trees.{Text, Tree, Trees, NamedTrees, Summaries}
@@ -72,6 +72,19 @@ are_additions (next_item {ys = ys} {rest = others} (addition_item {n = n} {xs = 
     let r = are_additions q in
     record { spelled = subst (λ (l : List Lexeme). AdditionsSpelling l (tree.more_named n b (named_from others))) (sym (append_assoc zs (keyword k.As ∷ (lexeme.name n ∷ [])) (comma ∷ ys))) (next_addition p r.spelled); low = omega (arith, r.low) }
 
+pub data IsSetting (d : ℕ) : List Lexeme → Text × Tree → Type 0 where
+  setting_item : {n : Text} {xs : List Lexeme} {a : Tree} → Spelling loosest xs a → height a ≤ d → IsSetting d (lexeme.name n ∷ (sign signs.Assign ∷ xs)) (n, a)
+
+pub record AreSettings (d : ℕ) (xs : List Lexeme) (all : NamedTrees) : Type 0 where
+  pub spelled : SettingsSpelling xs all
+  pub low : highest_named all ≤ d
+
+pub are_settings : {d : ℕ} {xs : List Lexeme} {all : List (Text × Tree)} → Separated (IsSetting d) xs all → AreSettings d xs (named_from all)
+are_settings (one_item (setting_item p lt)) = record { spelled = last_setting p; low = omega arith }
+are_settings (next_item (setting_item p lt) q) =
+    let r = are_settings q in
+    record { spelled = next_setting p r.spelled; low = omega (arith, r.low) }
+
 pub data IsSummary (d : ℕ) : List Lexeme → SummaryItem → Type 0 where
   count_of : {n : Text} → IsSummary d (keyword k.Count ∷ (with_parentheses [] ++ (keyword k.As ∷ (lexeme.name n ∷ [])))) (count_item n)
   sum_of : {op : Aggregate} {n : Text} {xs : List Lexeme} {a : Tree} → Spelling loosest xs a → height a ≤ d
@@ -120,6 +133,15 @@ module _ (inner : Level → List Lexeme → Read) (d : ℕ) (inside : Inside d i
       let c = bind_some (read_as b.0.1) _ _ b.2 in
       let t = inside loosest ts b.0.0 b.0.1 b.1 in
       retake (IsAddition d) c.2 (addition_item t.spelled.spelled t.spelled.low) (glue t.parts (as_front b.0.1 c.0.0 c.0.1 c.1))
+
+  pub setting_sound : Sound (IsSetting d) (setting inner d)
+  unfolding setting
+  setting_sound ts a rest e =
+      let b = bind_some (read_name ts) _ _ e in
+      let c = bind_some (expect (sign signs.Assign) b.0.1) _ _ b.2 in
+      let f = bind_some (inner loosest c.0) _ _ c.2 in
+      let t = inside loosest c.0 f.0.0 f.0.1 f.1 in
+      retake (IsSetting d) f.2 (setting_item t.spelled.spelled t.spelled.low) (glue (name_front ts b.0.0 b.0.1 b.1) (glue (expect_front (sign signs.Assign) b.0.1 c.0 c.1) t.parts))
 
   count_sound : (ts : List Lexeme) (a : SummaryItem) (rest : List Lexeme) → count_summary inner d ts ≡ Some (a, rest) → Takes (IsSummary d) (keyword k.Count ∷ ts) a rest
   unfolding count_summary

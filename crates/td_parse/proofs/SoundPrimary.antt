@@ -17,18 +17,18 @@ use Rattle.td_tree.specs.Lexemes.{Lexeme, keyword, sign}
 use Rattle.td_tree.specs.Lexemes as lexeme
 use Rattle.td_tree.specs.Lists.{Listed, no_items, some_items, with_braces, with_parentheses}
 use Rattle.td_tree.specs.Numbers.{numeral_limit}
-use Rattle.td_parse.specs.Reading.{Read, named_from, numeral, negative, part, addition, summaries, name_expression, component_of, measure_expression, aggregate_expression, headed_relation, elements, relation, tuple, extension, summary_per, summary_by, summarize_expression, choice, primary_of_word, primary_of_sign, primary}
+use Rattle.td_parse.specs.Reading.{Read, named_from, numeral, negative, part, addition, setting, summaries, name_expression, component_of, measure_expression, aggregate_expression, headed_relation, elements, relation, tuple, extension_adding, extension_setting, extension, summary_per, summary_by, summarize_expression, choice, primary_of_word, primary_of_sign, primary}
 use Rattle.td_parse.specs.Reading as reading
 use Rattle.td_parse.specs.ReadingOperators.{call_at, heading_at}
-use Rattle.td_parse.specs.ReadingSteps.{expect, read_up_to, in_parentheses_read, list_by_commas, listed_to, attribute_list}
+use Rattle.td_parse.specs.ReadingSteps.{expect, read_up_to, in_parentheses_read, in_braces_read, list_by_commas, listed_to, attribute_list}
 use Rattle.td_parse.specs.ReadingTypes.{relation_heading}
 use Rattle.td_tree.specs.Trees as tree
 use Rattle.td_tree.specs.Trees.{Text, Attributes, Literal, Tree, Summaries}
 use Rattle.td_parse.proofs.AgainLists.{comma}
 use Rattle.td_parse.proofs.SoundNames.{after_word, attributes_sound}
 use Rattle.td_parse.proofs.SoundOperators.{call_is}
-use Rattle.td_parse.proofs.SoundParts.{IsAt, are_expressions, are_listed, IsPart, are_parts, are_additions, AreAdded, added, Inside, part_sound, addition_sound, summaries_sound}
-use Rattle.td_parse.proofs.SoundSteps.{some, bind_some, guard_some, either_cases, Front, glue, expect_front, Takes, Sound, retake, up_to_sound, enclosed_sound, separated_sound, listed_sound}
+use Rattle.td_parse.proofs.SoundParts.{IsAt, are_expressions, are_listed, IsPart, are_parts, are_additions, are_settings, AreAdded, added, Inside, part_sound, addition_sound, setting_sound, summaries_sound}
+use Rattle.td_parse.proofs.SoundSteps.{some, bind_some, guard_some, either_cases, Front, glue, expect_front, Takes, Sound, retake, up_to_sound, enclosed_sound, braced_sound, separated_sound, listed_sound}
 use Rattle.td_parse.proofs.SoundTypes.{relation_heading_sound}
 
 -- ---- literals
@@ -169,14 +169,25 @@ module _ (inner : Level → List Lexeme → Read) (d : ℕ) (inside : Inside d i
       retake (IsAt levels.Primary (suc d)) b.2 (tuple_spelled l.spelled) (after_word (keyword k.Tuple) (glue (expect_front (sign signs.OpenBrace) ts o.0 o.1) l.parts))
 
   extension_sound : (ts : List Lexeme) (t : Tree) (rest : List Lexeme) → extension inner d ts ≡ Some (t, rest) → TakesPrimary d (keyword k.Extend) ts t rest
-  unfolding extension
+  unfolding extension extension_adding extension_setting
   extension_sound ts t rest e =
-      let b = bind_some (read_up_to (keyword k.Add) (inner loosest) ts) _ _ e in
-      let c = bind_some (in_parentheses_read (list_by_commas (addition inner d)) b.0.1) _ _ b.2 in
-      let a = up_to_sound (inner loosest) whole_sound (keyword k.Add) ts b.0.0 b.0.1 b.1 in
-      let l = enclosed_sound (list_by_commas (addition inner d)) (separated_sound (addition inner d) (addition_sound inner d inside)) b.0.1 c.0.0 c.0.1 c.1 in
-      let all = are_additions l.spelled in
-      retake (IsAt levels.Primary (suc d)) c.2 (record { spelled = grammar.extension a.spelled.spelled all.spelled; low = omega (arith, a.spelled.low, all.low) }) (after_word (keyword k.Extend) (word_front a.front (keyword k.Add) a.parts l.parts))
+      let b = bind_some (inner loosest ts) _ _ e in
+      let a = whole_sound ts b.0.0 b.0.1 b.1 in
+      elim (either_cases _ _ (expect (sign signs.Colon) b.0.1) _ b.2) [
+        | inl g ↦
+            let o = bind_some (expect (keyword k.Add) b.0.1) _ _ g.1 in
+            let c = bind_some (in_parentheses_read (list_by_commas (addition inner d)) o.0) _ _ o.2 in
+            let l = enclosed_sound (list_by_commas (addition inner d)) (separated_sound (addition inner d) (addition_sound inner d inside)) o.0 c.0.0 c.0.1 c.1 in
+            let all = are_additions l.spelled in
+            retake (IsAt levels.Primary (suc d)) c.2 (record { spelled = grammar.extension a.spelled.spelled all.spelled; low = omega (arith, a.spelled.low, all.low) })
+            (after_word (keyword k.Extend) (glue a.parts (glue (expect_front (keyword k.Add) b.0.1 o.0 o.1) l.parts)))
+        | inr g ↦
+            let c = bind_some (in_braces_read (list_by_commas (setting inner d)) g.0) _ _ g.2 in
+            let l = braced_sound (list_by_commas (setting inner d)) (separated_sound (setting inner d) (setting_sound inner d inside)) g.0 c.0.0 c.0.1 c.1 in
+            let all = are_settings l.spelled in
+            retake (IsAt levels.Primary (suc d)) c.2 (record { spelled = grammar.setting_extension a.spelled.spelled all.spelled; low = omega (arith, a.spelled.low, all.low) })
+            (after_word (keyword k.Extend) (glue a.parts (glue (expect_front (sign signs.Colon) b.0.1 g.0 g.1) l.parts)))
+      ]
 
   summarized_sound : (ts : List Lexeme) (t : Tree) (rest : List Lexeme) → summarize_expression inner d ts ≡ Some (t, rest) → TakesPrimary d (keyword k.Summarize) ts t rest
   unfolding summarize_expression summary_per summary_by

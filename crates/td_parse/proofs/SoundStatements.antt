@@ -1,24 +1,28 @@
 -- What is read as a statement is spelled.
-use Rattle.std.proofs.Common.{◌≡◌, List, [], ◌∷◌, ◌++◌, Some, refl, sym, ap, subst, ◌∙◌, inl, inr}
+use Rattle.std.proofs.Common.{◌≡◌, List, [], ◌∷◌, ◌++◌, Option, Some, refl, sym, ap, subst, ◌∙◌, inl, inr}
 use Rattle.std.proofs.lemmas.List.{append-nil}
 use Rattle.td_tree.specs.declared.keyword.Keyword.{Keyword}
 use Rattle.td_tree.specs.declared.keyword.Keyword.TheVariants as k
 use Rattle.td_tree.specs.declared.operator.Level.{Level}
 use Rattle.td_tree.specs.declared.operator.Level.TheVariants as levels
+use Rattle.td_tree.specs.declared.operator.Style.{Style}
+use Rattle.td_tree.specs.declared.operator.Style.TheVariants as styles
 use Rattle.td_tree.specs.declared.token.Sign.TheVariants as signs
 use Rattle.td_tree.specs.Grammar.{IsExpression, height_limit, loosest}
 use Rattle.td_tree.specs.Lexemes.{Lexeme, keyword, sign}
 use Rattle.td_tree.specs.Lexemes as lexeme
-use Rattle.td_tree.specs.Lists.{Separated, one_item, next_item, Repeated, Optional, with_braces, with_parentheses}
-use Rattle.td_parse.specs.Reading.{named_from, read}
+use Rattle.td_tree.specs.Lists.{Separated, Repeated, Optional, with_braces, with_parentheses}
+use Rattle.td_parse.specs.Reading.{named_from, read, setting}
 use Rattle.td_parse.specs.ReadingStatements as reading
-use Rattle.td_parse.specs.ReadingSteps.{expect, read_name, read_up_to, in_parentheses_read, optional, list_by_commas, names}
+use Rattle.td_parse.specs.ReadingSteps.{expect, read_name, read_up_to, in_parentheses_read, in_braces_read, optional, list_by_commas, names}
 use Rattle.td_parse.specs.ReadingTypes.{attribute, read_type, relation_heading}
-use Rattle.td_tree.specs.StatementGrammar.{ExpressionItem, constraint_part, InitPart, init_part, WherePart, where_part, KeyPart, key_part, SettingsSpelling, last_setting, next_setting, AssignmentSpelling, assignment, insertion, deletion, changing, BaseWord, base_word, real_word, BodySpelling, no_body, type_definition, type_drop, var_drop, constraint_drop, base_definition, virtual_definition, constraint_definition, assignments, begin_transaction, commit, rollback, writing, dump, StatementSpelling, statement}
+use Rattle.td_tree.specs.StatementGrammar.{ExpressionItem, constraint_part, InitPart, init_part, WherePart, where_part, KeyPart, key_part, SettingItems, AssignmentSpelling, assignment, insertion, disjoint_insertion, deletion, included_deletion, changing, changing_in_braces, BaseWord, base_word, real_word, BodySpelling, no_body, type_definition, type_drop, var_drop, constraint_drop, base_definition, virtual_definition, constraint_definition, assignments, begin_transaction, commit, rollback, writing, dump, StatementSpelling, statement}
+use Rattle.td_tree.specs.Trees as tree
 use Rattle.td_tree.specs.Trees.{Text, Tree, Assignment, Statement}
 use Rattle.td_parse.proofs.Sound.{sound}
 use Rattle.td_parse.proofs.SoundNames.{after_word, names_sound}
-use Rattle.td_parse.proofs.SoundSteps.{some, bind_some, either_cases, Front, all_left, glue, expect_front, Takes, Sound, retake, name_front, up_to_sound, enclosed_sound, optional_sound, separated_sound, repeated_sound}
+use Rattle.td_parse.proofs.SoundParts.{IsSetting, are_settings, setting_sound}
+use Rattle.td_parse.proofs.SoundSteps.{some, bind_some, either_cases, Front, all_left, glue, expect_front, Takes, Sound, retake, name_front, up_to_sound, enclosed_sound, braced_sound, optional_sound, separated_sound, repeated_sound}
 use Rattle.td_parse.proofs.SoundTypes.{are_attributes, attribute_sound, type_sound, relation_heading_sound}
 
 -- ---- parts
@@ -47,20 +51,37 @@ source_sound ts t rest e =
 
 -- ---- assignments
 
-data IsSetting : List Lexeme → Text × Tree → Type 0 where
-  setting_item : {n : Text} {xs : List Lexeme} {t : Tree} → ExpressionItem xs t → IsSetting (lexeme.name n ∷ (sign signs.Assign ∷ xs)) (n, t)
+settings_sound : Sound (Separated (IsSetting height_limit)) reading.settings
+settings_sound = separated_sound (setting (read height_limit) height_limit) (setting_sound (read height_limit) height_limit (sound height_limit))
 
-are_settings : {xs : List Lexeme} {all : List (Text × Tree)} → Separated IsSetting xs all → SettingsSpelling xs (named_from all)
-are_settings (one_item (setting_item p)) = last_setting p
-are_settings (next_item (setting_item p) q) = next_setting p (are_settings q)
+-- the settings of UPDATE, in their style
+data StyledSettings : List Lexeme → Style × List (Text × Tree) → Type 0 where
+  older_settings : {xs : List Lexeme} {all : List (Text × Tree)} → Separated (IsSetting height_limit) xs all → StyledSettings (with_parentheses xs) (styles.Older, all)
+  newer_settings : {xs : List Lexeme} {all : List (Text × Tree)} → Separated (IsSetting height_limit) xs all → StyledSettings (sign signs.Colon ∷ with_braces xs) (styles.Newer, all)
 
-setting_sound : Sound IsSetting reading.setting
-unfolding reading.setting
-setting_sound ts a rest e =
-    let b = bind_some (read_name ts) _ _ e in
-    let c = bind_some (reading.source b.0.1) _ _ b.2 in
-    let s = source_sound b.0.1 c.0.0 c.0.1 c.1 in
-    retake IsSetting c.2 (setting_item s.2.spelled) (glue (name_front ts b.0.0 b.0.1 b.1) (glue s.1 s.2.parts))
+styled_settings_sound : Sound StyledSettings reading.styled_settings
+unfolding reading.styled_settings
+styled_settings_sound ts x rest e =
+    elim (either_cases _ _ (expect (sign signs.Colon) ts) _ e) [
+      | inl g ↦
+          let b = bind_some (in_parentheses_read reading.settings ts) _ _ g.1 in
+          let l = enclosed_sound reading.settings settings_sound ts b.0.0 b.0.1 b.1 in
+          retake StyledSettings b.2 (older_settings l.spelled) l.parts
+      | inr g ↦
+          let b = bind_some (in_braces_read reading.settings g.0) _ _ g.2 in
+          let l = braced_sound reading.settings settings_sound g.0 b.0.0 b.0.1 b.1 in
+          retake StyledSettings b.2 (newer_settings l.spelled) (glue (expect_front (sign signs.Colon) ts g.0 g.1) l.parts)
+    ]
+
+setting_items : {xs : List Lexeme} {all : List (Text × Tree)} → Separated (IsSetting height_limit) xs all → SettingItems xs (named_from all)
+setting_items p =
+    let r = are_settings p in
+    record { spelled = r.spelled; low = r.low }
+
+changing_spelled : {n : Text} {xs ys : List Lexeme} {condition : Option Tree} {x : Style × List (Text × Tree)} → Optional WherePart xs condition → StyledSettings ys x
+    → AssignmentSpelling (keyword k.Update ∷ (lexeme.name n ∷ (xs ++ ys))) (tree.update x.0 n condition (named_from x.1))
+changing_spelled p (older_settings q) = changing p (setting_items q)
+changing_spelled p (newer_settings q) = changing_in_braces p (setting_items q)
 
 insertion_sound : (ts : List Lexeme) (a : Assignment) (rest : List Lexeme) → reading.insertion ts ≡ Some (a, rest) → Takes AssignmentSpelling (keyword k.Insert ∷ ts) a rest
 unfolding reading.insertion
@@ -70,6 +91,14 @@ insertion_sound ts a rest e =
     let s = expression_sound b.0.1 c.0.0 c.0.1 c.1 in
     retake AssignmentSpelling c.2 (insertion s.spelled) (after_word (keyword k.Insert) (glue (name_front ts b.0.0 b.0.1 b.1) s.parts))
 
+disjoint_insertion_sound : (ts : List Lexeme) (a : Assignment) (rest : List Lexeme) → reading.disjoint_insertion ts ≡ Some (a, rest) → Takes AssignmentSpelling (keyword k.DInsert ∷ ts) a rest
+unfolding reading.disjoint_insertion
+disjoint_insertion_sound ts a rest e =
+    let b = bind_some (read_name ts) _ _ e in
+    let c = bind_some (reading.expression b.0.1) _ _ b.2 in
+    let s = expression_sound b.0.1 c.0.0 c.0.1 c.1 in
+    retake AssignmentSpelling c.2 (disjoint_insertion s.spelled) (after_word (keyword k.DInsert) (glue (name_front ts b.0.0 b.0.1 b.1) s.parts))
+
 deletion_sound : (ts : List Lexeme) (a : Assignment) (rest : List Lexeme) → reading.deletion ts ≡ Some (a, rest) → Takes AssignmentSpelling (keyword k.Delete ∷ ts) a rest
 unfolding reading.deletion
 deletion_sound ts a rest e =
@@ -78,20 +107,30 @@ deletion_sound ts a rest e =
     let s = condition_sound b.0.1 c.0.0 c.0.1 c.1 in
     retake AssignmentSpelling c.2 (deletion s.spelled) (after_word (keyword k.Delete) (glue (name_front ts b.0.0 b.0.1 b.1) s.parts))
 
+included_deletion_sound : (ts : List Lexeme) (a : Assignment) (rest : List Lexeme) → reading.included_deletion ts ≡ Some (a, rest) → Takes AssignmentSpelling (keyword k.IDelete ∷ ts) a rest
+unfolding reading.included_deletion
+included_deletion_sound ts a rest e =
+    let b = bind_some (read_name ts) _ _ e in
+    let c = bind_some (reading.expression b.0.1) _ _ b.2 in
+    let s = expression_sound b.0.1 c.0.0 c.0.1 c.1 in
+    retake AssignmentSpelling c.2 (included_deletion s.spelled) (after_word (keyword k.IDelete) (glue (name_front ts b.0.0 b.0.1 b.1) s.parts))
+
 changing_sound : (ts : List Lexeme) (a : Assignment) (rest : List Lexeme) → reading.changing ts ≡ Some (a, rest) → Takes AssignmentSpelling (keyword k.Update ∷ ts) a rest
 unfolding reading.changing
 changing_sound ts a rest e =
     let b = bind_some (read_name ts) _ _ e in
     let c = bind_some (reading.condition b.0.1) _ _ b.2 in
-    let f = bind_some (in_parentheses_read (list_by_commas reading.setting) c.0.1) _ _ c.2 in
+    let f = bind_some (reading.styled_settings c.0.1) _ _ c.2 in
     let s = condition_sound b.0.1 c.0.0 c.0.1 c.1 in
-    let l = enclosed_sound (list_by_commas reading.setting) (separated_sound reading.setting setting_sound) c.0.1 f.0.0 f.0.1 f.1 in
-    retake AssignmentSpelling f.2 (changing s.spelled (are_settings l.spelled)) (after_word (keyword k.Update) (glue (name_front ts b.0.0 b.0.1 b.1) (glue s.parts l.parts)))
+    let l = styled_settings_sound c.0.1 f.0.0 f.0.1 f.1 in
+    retake AssignmentSpelling f.2 (changing_spelled s.spelled l.spelled) (after_word (keyword k.Update) (glue (name_front ts b.0.0 b.0.1 b.1) (glue s.parts l.parts)))
 
 assignment_word_sound : (w : Keyword) (ts : List Lexeme) (a : Assignment) (rest : List Lexeme) → reading.assignment_of_word w ts ≡ Some (a, rest) → Takes AssignmentSpelling (keyword w ∷ ts) a rest
 unfolding reading.assignment_of_word
 assignment_word_sound k.Insert ts a rest e = insertion_sound ts a rest e
+assignment_word_sound k.DInsert ts a rest e = disjoint_insertion_sound ts a rest e
 assignment_word_sound k.Delete ts a rest e = deletion_sound ts a rest e
+assignment_word_sound k.IDelete ts a rest e = included_deletion_sound ts a rest e
 assignment_word_sound k.Update ts a rest e = changing_sound ts a rest e
 assignment_word_sound _ ts a rest e = absurd cc
 

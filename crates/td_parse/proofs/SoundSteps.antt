@@ -5,8 +5,8 @@ use Rattle.td_tree.specs.declared.keyword.Keyword.TheVariants as k
 use Rattle.td_tree.specs.declared.token.Sign.TheVariants as signs
 use Rattle.td_tree.specs.Lexemes.{Lexeme, keyword, sign}
 use Rattle.td_tree.specs.Lexemes as lexeme
-use Rattle.td_tree.specs.Lists.{Separated, one_item, next_item, Listed, no_items, some_items, Repeated, no_more, one_more, Optional, absent, present, with_parentheses}
-use Rattle.td_parse.specs.ReadingSteps.{◌>>=◌, either, ReadOf, same_lexeme, expect, read_name, read_as, read_up_to, in_parentheses_read, optional, separated_from, list_by_commas, listed_to, repeated_from, list_by_words}
+use Rattle.td_tree.specs.Lists.{Separated, one_item, next_item, Listed, no_items, some_items, Repeated, no_more, one_more, Optional, absent, present, with_braces, with_parentheses}
+use Rattle.td_parse.specs.ReadingSteps.{◌>>=◌, either, ReadOf, same_lexeme, expect, read_name, read_as, read_up_to, in_parentheses_read, in_braces_read, optional, separated_from, list_by_commas, listed_to, repeated_from, list_by_words}
 use Rattle.td_tree.specs.Trees.{Text}
 use Rattle.td_parse.proofs.AgainLists.{comma}
 use Rattle.td_parse.proofs.Begins.{same_is}
@@ -75,11 +75,11 @@ pub record TakesTo {A : Type 0} (close : Lexeme) (Item : List Lexeme → A → T
   pub spelled : Item front a
   pub parts : Front ts (front ++ (close ∷ [])) rest
 
--- a value between parentheses
-pub record TakesIn {A : Type 0} (Item : List Lexeme → A → Type 0) (ts : List Lexeme) (a : A) (rest : List Lexeme) : Type 0 where
+-- a value between what encloses it
+pub record TakesIn {A : Type 0} (enclosed : List Lexeme → List Lexeme) (Item : List Lexeme → A → Type 0) (ts : List Lexeme) (a : A) (rest : List Lexeme) : Type 0 where
   pub front : List Lexeme
   pub spelled : Item front a
-  pub parts : Front ts (with_parentheses front) rest
+  pub parts : Front ts (enclosed front) rest
 
 -- ---- names
 
@@ -112,12 +112,19 @@ up_to_sound {A} {Item} item sound close ts a rest e =
       parts = subst (λ (l : List Lexeme). Front ts (t.front ++ (close ∷ [])) l) g.1 (glue t.parts (expect_front close b.0.1 c.0 c.1));
     }
 
-pub enclosed_sound : {A : Type 0} {Item : List Lexeme → A → Type 0} (item : List Lexeme → ReadOf A) → Sound Item item → (ts : List Lexeme) (a : A) (rest : List Lexeme) → in_parentheses_read item ts ≡ Some (a, rest) → TakesIn Item ts a rest
+pub enclosed_sound : {A : Type 0} {Item : List Lexeme → A → Type 0} (item : List Lexeme → ReadOf A) → Sound Item item → (ts : List Lexeme) (a : A) (rest : List Lexeme) → in_parentheses_read item ts ≡ Some (a, rest) → TakesIn with_parentheses Item ts a rest
 unfolding in_parentheses_read
 enclosed_sound {A} {Item} item sound ts a rest e =
     let b = bind_some (expect (sign signs.OpenParenthesis) ts) _ _ e in
     let t = up_to_sound item sound (sign signs.CloseParenthesis) b.0 a rest b.2 in
     record { front = t.front; spelled = t.spelled; parts = glue (expect_front (sign signs.OpenParenthesis) ts b.0 b.1) t.parts }
+
+pub braced_sound : {A : Type 0} {Item : List Lexeme → A → Type 0} (item : List Lexeme → ReadOf A) → Sound Item item → (ts : List Lexeme) (a : A) (rest : List Lexeme) → in_braces_read item ts ≡ Some (a, rest) → TakesIn with_braces Item ts a rest
+unfolding in_braces_read
+braced_sound {A} {Item} item sound ts a rest e =
+    let b = bind_some (expect (sign signs.OpenBrace) ts) _ _ e in
+    let t = up_to_sound item sound (sign signs.CloseBrace) b.0 a rest b.2 in
+    record { front = t.front; spelled = t.spelled; parts = glue (expect_front (sign signs.OpenBrace) ts b.0 b.1) t.parts }
 
 pub optional_sound : {A : Type 0} {Item Part : List Lexeme → A → Type 0} (word : Lexeme) (item : List Lexeme → ReadOf A) → ((xs : List Lexeme) (a : A) → Item xs a → Part (word ∷ xs) a) → Sound Item item
     → Sound (Optional Part) (optional word item)

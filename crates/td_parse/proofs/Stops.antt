@@ -9,7 +9,7 @@ use Rattle.td_parse.specs.declared.operators.Link.{Link}
 use Rattle.td_tree.specs.declared.operator.Operator.TheVariants as operators
 use Rattle.td_parse.specs.declared.operators.Link.TheVariants as links
 use Rattle.td_tree.specs.declared.token.Sign.TheVariants as signs
-use Rattle.td_tree.specs.Grammar.{tighter, comparison_word, PostfixSpelling, projection, renamings, grouping, wrapping, ungrouping, unwrapping, AttributeListSpelling, only_names, all_but_names, loosest}
+use Rattle.td_tree.specs.Grammar.{tighter, comparison_word, PostfixSpelling, projection, renamings, renamings_in_braces, grouping, wrapping, open_grouping, open_wrapping, ungrouping, unwrapping, AttributeListSpelling, only_names, all_but_names, loosest}
 use Rattle.td_tree.specs.Grammar as grammar
 use Rattle.td_tree.specs.Lexemes.{Lexeme, keyword, sign}
 use Rattle.td_parse.specs.ReadingOperators.{link_level, link_words, any_link, link_at, comparison_at, postfix_at, call_at}
@@ -157,6 +157,10 @@ pub add_stops : (s : List Lexeme) → Ends (keyword k.Add ∷ s)
 unfolding comparison_at postfix_at call_at expect
 add_stops s = stops_all loosest (keyword k.Add ∷ s) (record { operator = refl; comparison = refl; postfix = refl; call = refl; extraction = refl })
 
+pub colon_stops : (s : List Lexeme) → Ends (sign signs.Colon ∷ s)
+unfolding comparison_at postfix_at call_at expect
+colon_stops s = stops_all loosest (sign signs.Colon ∷ s) (record { operator = refl; comparison = refl; postfix = refl; call = refl; extraction = refl })
+
 pub per_stops : (s : List Lexeme) → Ends (keyword k.Per ∷ s)
 unfolding comparison_at postfix_at call_at expect
 per_stops s = stops_all loosest (keyword k.Per ∷ s) (record { operator = refl; comparison = refl; postfix = refl; call = refl; extraction = refl })
@@ -180,6 +184,8 @@ link_stops (links.Operator operators.Times) s = (refl, (refl, (refl, (refl, refl
 link_stops (links.Operator operators.Compose) s = (refl, (refl, (refl, (refl, refl))))
 link_stops (links.Operator operators.Matching) s = (refl, (refl, (refl, (refl, refl))))
 link_stops (links.Operator operators.NotMatching) s = (refl, (refl, (refl, (refl, refl))))
+link_stops (links.Operator operators.DisjointUnion) s = (refl, (refl, (refl, (refl, refl))))
+link_stops (links.Operator operators.IncludedMinus) s = (refl, (refl, (refl, (refl, refl))))
 link_stops (links.Operator operators.Add) s = (refl, (refl, (refl, refl)))
 link_stops (links.Operator operators.Subtract) s = (refl, (refl, (refl, refl)))
 link_stops (links.Operator operators.Concatenate) s = (refl, (refl, (refl, refl)))
@@ -199,6 +205,8 @@ is_link (links.Operator operators.Times) s = refl
 is_link (links.Operator operators.Compose) s = refl
 is_link (links.Operator operators.Matching) s = refl
 is_link (links.Operator operators.NotMatching) s = refl
+is_link (links.Operator operators.DisjointUnion) s = refl
+is_link (links.Operator operators.IncludedMinus) s = refl
 is_link (links.Operator operators.Add) s = refl
 is_link (links.Operator operators.Subtract) s = refl
 is_link (links.Operator operators.Concatenate) s = refl
@@ -235,7 +243,10 @@ pub postfix_stops : {xs : List Lexeme} {p : Postfix} → PostfixSpelling xs p �
 unfolding call_at expect
 postfix_stops (projection q) s = list_stops q s
 postfix_stops (renamings q) s = (refl, refl)
+postfix_stops (renamings_in_braces q) s = (refl, refl)
 postfix_stops (grouping q) s = (refl, refl)
 postfix_stops (wrapping q) s = (refl, refl)
+postfix_stops (open_grouping q) s = (refl, refl)
+postfix_stops (open_wrapping q) s = (refl, refl)
 postfix_stops ungrouping s = (refl, refl)
 postfix_stops unwrapping s = (refl, refl)

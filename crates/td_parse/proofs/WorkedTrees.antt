@@ -2,17 +2,20 @@
 use Rattle.std.proofs.Common.{◌≡◌, ℕ, true, false, List, [], ◌∷◌, refl, codes, arith, Option, Some, sym, ap, ◌∙◌, subst}
 use Rattle.std.specs.Fmt.{digits}
 use Rattle.std.specs.Str.{chars, is_utf8}
+use Rattle.td_tree.specs.declared.keyword.Keyword.TheVariants as k
 use Rattle.td_tree.specs.declared.operator.Comparison.TheVariants as comparisons
 use Rattle.td_tree.specs.declared.operator.Level.TheVariants as levels
 use Rattle.td_tree.specs.declared.operator.Operator.TheVariants as operators
 use Rattle.td_tree.specs.declared.operator.Prefix.TheVariants as prefixes
+use Rattle.td_tree.specs.declared.operator.Style.TheVariants as styles
 use Rattle.td_tree.specs.declared.token.Sign.TheVariants as signs
 use Rattle.td_tree.specs.Grammar as grammar
-use Rattle.td_tree.specs.Grammar.{height_limit, Spelling, IsExpression, looser, between, negation, minus, comparison, literal, reference, component, number_literal, minus_literal, loosest}
+use Rattle.td_tree.specs.Grammar.{height_limit, Spelling, IsExpression, looser, between, negation, minus, comparison, behind, literal, reference, component, setting_extension, last_setting, renaming, renamings_in_braces, number_literal, minus_literal, loosest}
 use Rattle.td_tree.specs.Heights.{height}
 use Rattle.td_tree.specs.Keywords.{keyword_of}
-use Rattle.td_tree.specs.Lexemes.{Lexeme, sign}
+use Rattle.td_tree.specs.Lexemes.{Lexeme, keyword, sign}
 use Rattle.td_tree.specs.Lexemes as lexeme
+use Rattle.td_tree.specs.Lists.{one_item}
 use Rattle.td_tree.specs.Names.{is_name}
 use Rattle.td_tree.specs.Pieces.{sign_at, sign_goes_on, opens, goes_on, word_kind}
 use Rattle.td_tree.specs.Prints.{print}
@@ -22,7 +25,7 @@ use Rattle.td_parse.specs.Reading.{read, by_level, restriction, disjunction, con
 use Rattle.td_parse.specs.ReadingOperators.{link_at, comparison_at, prefix_at, extraction_at, postfix_at}
 use Rattle.td_parse.specs.ReadingSteps.{expect}
 use Rattle.td_tree.specs.Trees as tree
-use Rattle.td_tree.specs.Trees.{Tree}
+use Rattle.td_tree.specs.Trees.{Renaming, Tree}
 use Rattle.td_tree.proofs.law_lemmas.Letters.{letters}
 use Rattle.td_parse.proofs.OneTree.{expression_again}
 
@@ -151,6 +154,40 @@ restricted_worked = record {
     spelled = as_whole (grammar.restriction (as_restriction (as_sum r_named)) (between (looser (looser (negation (looser first_test)))) (as_conjunction second_test)));
     low = omega arith;
   };
+  height_is = refl;
+  printed = refl;
+}
+
+-- ---- extend R : {A := 1}
+
+abbrev extended : Tree
+extended = tree.extend_setting (tree.name (codes "R")) (tree.more_named (codes "A") (tree.literal (tree.number false 1)) tree.none_named)
+
+-- an attribute that EXTEND sets
+pub extended_worked : IsWorked (codes "extend R : {A := 1}") extended 2 (codes "EXTEND R : { A := 1 }")
+unfolding computing
+extended_worked = record {
+  spelled = record { spelled = whole_sum (as_sum (setting_extension (whole_sum (as_sum r_named)) (last_setting (whole_sum (as_sum one))))); low = omega arith };
+  height_is = refl;
+  printed = refl;
+}
+
+-- ---- R d_union S rename {A as B}
+
+abbrev a_to_b : List Renaming
+a_to_b = record { old = codes "A"; new = codes "B" } ∷ []
+
+abbrev renamed : Tree
+renamed = tree.postfix (tree.name (codes "S")) (tree.rename styles.Newer a_to_b)
+
+renamed_spelled : Spelling levels.Postfixed (lexeme.name (codes "S") ∷ keyword k.Rename ∷ sign signs.OpenBrace ∷ lexeme.name (codes "A") ∷ keyword k.As ∷ lexeme.name (codes "B") ∷ sign signs.CloseBrace ∷ []) renamed
+renamed_spelled = behind (looser reference) (renamings_in_braces (one_item renaming))
+
+-- a renaming in braces is printed in braces, and binds tighter than D_UNION
+pub renamed_worked : IsWorked (codes "R d_union S rename {A as B}") (tree.binary (tree.name (codes "R")) operators.DisjointUnion renamed) 3 (codes "R D_UNION S RENAME { A AS B }")
+unfolding computing
+renamed_worked = record {
+  spelled = record { spelled = as_whole (looser (looser (looser (looser (looser (between (as_relation r_named) (looser (looser (looser renamed_spelled))))))))); low = omega arith };
   height_is = refl;
   printed = refl;
 }

@@ -12,6 +12,8 @@ use Rattle.td_tree.specs.declared.operator.Measure.{Measure}
 use Rattle.td_tree.specs.declared.operator.Measure.TheVariants as measures
 use Rattle.td_tree.specs.declared.operator.Prefix.{Prefix}
 use Rattle.td_tree.specs.declared.operator.Prefix.TheVariants as prefixes
+use Rattle.td_tree.specs.declared.operator.Style.{Style}
+use Rattle.td_tree.specs.declared.operator.Style.TheVariants as styles
 use Rattle.td_tree.specs.declared.token.Sign.{Sign}
 use Rattle.td_tree.specs.declared.token.Sign.TheVariants as signs
 use Rattle.td_tree.specs.Grammar.{tighter, loosest}
@@ -20,10 +22,10 @@ use Rattle.td_tree.specs.Lexemes.{Lexeme, keyword, sign}
 use Rattle.td_tree.specs.Lexemes as lexeme
 use Rattle.td_tree.specs.Numbers.{numeral_limit}
 use Rattle.td_parse.specs.ReadingOperators.{linked_tree, link_at, comparison_at, prefix_at, extraction_at, postfix_at, call_at, heading_at}
-use Rattle.td_parse.specs.ReadingSteps.{◌>>=◌, either, ReadOf, expect, read_name, read_as, read_up_to, in_parentheses_read, list_by_commas, listed_to, attribute_list, read_renaming}
+use Rattle.td_parse.specs.ReadingSteps.{◌>>=◌, either, ReadOf, expect, read_name, read_as, read_up_to, in_parentheses_read, in_braces_read, list_by_commas, listed_to, attribute_list, read_renaming}
 use Rattle.td_parse.specs.ReadingTypes.{relation_heading}
 use Rattle.td_tree.specs.Trees as tree
-use Rattle.td_tree.specs.Trees.{Text, Attributes, Postfix, Tree, Trees, NamedTrees, Summaries}
+use Rattle.td_tree.specs.Trees.{Text, Attributes, Renaming, Postfix, Tree, Trees, NamedTrees, Summaries}
 
 -- a tree that is read, and the lexemes after it
 abbrev pub Read : Type 0
@@ -58,17 +60,35 @@ summaries_from (item ∷ rest) = with_item item (summaries_from rest)
 
 -- ---- what stands behind an operand
 
--- '(' attrs AS name ')', of GROUP and WRAP
+-- '(' (name AS name),+ ')', or '{' (name AS name),+ '}' in the newer spelling, after RENAME
+unfoldable pub styled_renamings : List Lexeme → ReadOf (Style × List Renaming)
+styled_renamings ts =
+    either
+    (in_parentheses_read (list_by_commas read_renaming) ts
+    >>= λ x. Some ((styles.Older, x.0), x.1))
+    (λ after. read_up_to (sign signs.CloseBrace) (list_by_commas read_renaming) after
+    >>= λ x. Some ((styles.Newer, x.0), x.1))
+    (expect (sign signs.OpenBrace) ts)
+
+-- attrs AS name, of GROUP and WRAP
 unfoldable pub named_attributes : List Lexeme → ReadOf (Attributes × Text)
 named_attributes ts = attribute_list ts >>= λ a. read_as a.1 >>= λ n. Some ((a.0, n.0), n.1)
 
+-- '(' attrs AS name ')', or attrs AS name in the newer spelling, after GROUP or WRAP
+unfoldable pub styled_attributes : List Lexeme → ReadOf (Style × Attributes × Text)
+styled_attributes ts =
+    either (named_attributes ts >>= λ x. Some ((styles.Newer, x.0.0, x.0.1), x.1))
+    (λ after. read_up_to (sign signs.CloseParenthesis) named_attributes after
+    >>= λ x. Some ((styles.Older, x.0.0, x.0.1), x.1))
+    (expect (sign signs.OpenParenthesis) ts)
+
 -- an operator behind its operand, after its first word
 unfoldable pub postfix_of_word : Keyword → List Lexeme → ReadOf Postfix
-postfix_of_word k.Rename ts =
-    in_parentheses_read (list_by_commas read_renaming) ts >>= λ x. Some (tree.rename x.0, x.1)
+postfix_of_word k.Rename ts = styled_renamings ts >>= λ x. Some (tree.rename x.0.0 x.0.1, x.1)
 postfix_of_word k.Group ts =
-    in_parentheses_read named_attributes ts >>= λ x. Some (tree.group x.0.0 x.0.1, x.1)
-postfix_of_word k.Wrap ts = in_parentheses_read named_attributes ts >>= λ x. Some (tree.wrap x.0.0 x.0.1, x.1)
+    styled_attributes ts >>= λ x. Some (tree.group x.0.0 x.0.1 x.0.2, x.1)
+postfix_of_word k.Wrap ts =
+    styled_attributes ts >>= λ x. Some (tree.wrap x.0.0 x.0.1 x.0.2, x.1)
 postfix_of_word k.Ungroup ts = in_parentheses_read read_name ts >>= λ x. Some (tree.ungroup x.0, x.1)
 postfix_of_word k.Unwrap ts = in_parentheses_read read_name ts >>= λ x. Some (tree.unwrap x.0, x.1)
 postfix_of_word _ ts = None
@@ -107,6 +127,12 @@ module _ (inner : Level → List Lexeme → Read) (depth : ℕ) where
   -- e AS name
   unfoldable pub addition : List Lexeme → ReadOf (Text × Tree)
   addition ts = expression ts >>= λ a. read_as a.1 >>= λ n. Some ((n.0, a.0), n.1)
+
+  -- name ':=' e
+  unfoldable pub setting : List Lexeme → ReadOf (Text × Tree)
+  setting ts =
+      read_name ts >>= λ n. expect (sign signs.Assign) n.1 >>= λ after. expression after
+      >>= λ a. Some ((n.0, a.0), a.1)
 
   -- COUNT '(' ')' AS name, after COUNT
   unfoldable pub count_summary : List Lexeme → ReadOf SummaryItem
@@ -190,11 +216,24 @@ module _ (inner : Level → List Lexeme → Read) (depth : ℕ) where
       >>= λ after. listed_to (sign signs.CloseBrace) part after
       >>= λ x. Some (tree.tuple (named_from x.0), x.1)
 
+  -- after EXTEND e ADD
+  unfoldable pub extension_adding : Tree → List Lexeme → Read
+  extension_adding a ts =
+      in_parentheses_read (list_by_commas addition) ts
+      >>= λ x. Some (tree.extend a (named_from x.0), x.1)
+
+  -- after EXTEND e ':'
+  unfoldable pub extension_setting : Tree → List Lexeme → Read
+  extension_setting a ts =
+      in_braces_read (list_by_commas setting) ts
+      >>= λ x. Some (tree.extend_setting a (named_from x.0), x.1)
+
   -- after EXTEND
   unfoldable pub extension : List Lexeme → Read
   extension ts =
-      read_up_to (keyword k.Add) expression ts >>= λ a. in_parentheses_read (list_by_commas addition) a.1
-      >>= λ x. Some (tree.extend a.0 (named_from x.0), x.1)
+      expression ts
+      >>= λ a. either (expect (keyword k.Add) a.1 >>= λ after. extension_adding a.0 after)
+      (λ after. extension_setting a.0 after) (expect (sign signs.Colon) a.1)
 
   -- after SUMMARIZE e PER
   unfoldable pub summary_per : Tree → List Lexeme → Read

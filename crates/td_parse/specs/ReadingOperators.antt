@@ -57,6 +57,8 @@ link_of_word k.Join = Some (links.Operator operators.Join)
 link_of_word k.Times = Some (links.Operator operators.Times)
 link_of_word k.Compose = Some (links.Operator operators.Compose)
 link_of_word k.Matching = Some (links.Operator operators.Matching)
+link_of_word k.DUnion = Some (links.Operator operators.DisjointUnion)
+link_of_word k.IMinus = Some (links.Operator operators.IncludedMinus)
 link_of_word _ = None
 
 -- the operator that is written by this one sign

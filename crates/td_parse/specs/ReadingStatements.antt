@@ -3,12 +3,14 @@ use Rattle.std.specs.Prelude.{List, [], ◌∷◌, Option, Some, None}
 use Rattle.td_tree.specs.declared.keyword.Keyword.{Keyword}
 use Rattle.td_tree.specs.declared.keyword.Keyword.TheVariants as k
 use Rattle.td_tree.specs.declared.operator.Level.TheVariants as levels
+use Rattle.td_tree.specs.declared.operator.Style.{Style}
+use Rattle.td_tree.specs.declared.operator.Style.TheVariants as styles
 use Rattle.td_tree.specs.declared.token.Sign.TheVariants as signs
 use Rattle.td_tree.specs.Grammar.{height_limit, loosest}
 use Rattle.td_tree.specs.Lexemes.{Lexeme, keyword, sign}
 use Rattle.td_tree.specs.Lexemes as lexeme
-use Rattle.td_parse.specs.Reading.{Read, named_from, read}
-use Rattle.td_parse.specs.ReadingSteps.{◌>>=◌, either, ReadOf, expect, read_name, read_up_to, in_parentheses_read, optional, list_by_commas, list_by_words, names}
+use Rattle.td_parse.specs.Reading.{Read, named_from, read, setting}
+use Rattle.td_parse.specs.ReadingSteps.{◌>>=◌, either, ReadOf, expect, read_name, read_up_to, in_parentheses_read, in_braces_read, optional, list_by_commas, list_by_words, names}
 use Rattle.td_parse.specs.ReadingTypes.{attribute, attribute_trees_from, read_type, relation_heading}
 use Rattle.td_tree.specs.Trees as tree
 use Rattle.td_tree.specs.Trees.{Text, Tree, Assignment, Statement}
@@ -31,28 +33,47 @@ source ts = expect (sign signs.Assign) ts >>= λ after. expression after
 
 -- ---- assignments
 
--- name ':=' e
-unfoldable pub setting : List Lexeme → ReadOf (Text × Tree)
-setting ts = read_name ts >>= λ n. source n.1 >>= λ a. Some ((n.0, a.0), a.1)
+-- set,+
+abbrev pub settings : List Lexeme → ReadOf (List (Text × Tree))
+settings = list_by_commas (setting (read height_limit) height_limit)
+
+-- '(' set,+ ')', or ':' '{' set,+ '}' in the newer spelling
+unfoldable pub styled_settings : List Lexeme → ReadOf (Style × List (Text × Tree))
+styled_settings ts =
+    either (in_parentheses_read settings ts >>= λ x. Some ((styles.Older, x.0), x.1))
+    (λ after. in_braces_read settings after >>= λ x. Some ((styles.Newer, x.0), x.1))
+    (expect (sign signs.Colon) ts)
 
 -- INSERT name e, after INSERT
 unfoldable pub insertion : List Lexeme → ReadOf Assignment
 insertion ts = read_name ts >>= λ n. expression n.1 >>= λ a. Some (tree.insert n.0 a.0, a.1)
 
+-- D_INSERT name e, after D_INSERT
+unfoldable pub disjoint_insertion : List Lexeme → ReadOf Assignment
+disjoint_insertion ts =
+    read_name ts >>= λ n. expression n.1 >>= λ a. Some (tree.disjoint_insert n.0 a.0, a.1)
+
 -- DELETE name [WHERE e1], after DELETE
 unfoldable pub deletion : List Lexeme → ReadOf Assignment
 deletion ts = read_name ts >>= λ n. condition n.1 >>= λ c. Some (tree.delete n.0 c.0, c.1)
 
--- UPDATE name [WHERE e1] '(' set,+ ')', after UPDATE
+-- I_DELETE name e, after I_DELETE
+unfoldable pub included_deletion : List Lexeme → ReadOf Assignment
+included_deletion ts =
+    read_name ts >>= λ n. expression n.1 >>= λ a. Some (tree.included_delete n.0 a.0, a.1)
+
+-- UPDATE name [WHERE e1] and the settings in one of their spellings, after UPDATE
 unfoldable pub changing : List Lexeme → ReadOf Assignment
 changing ts =
-    read_name ts >>= λ n. condition n.1 >>= λ c. in_parentheses_read (list_by_commas setting) c.1
-    >>= λ x. Some (tree.update n.0 c.0 (named_from x.0), x.1)
+    read_name ts >>= λ n. condition n.1 >>= λ c. styled_settings c.1
+    >>= λ x. Some (tree.update x.0.0 n.0 c.0 (named_from x.0.1), x.1)
 
 -- an assignment after its first word
 unfoldable pub assignment_of_word : Keyword → List Lexeme → ReadOf Assignment
 assignment_of_word k.Insert ts = insertion ts
+assignment_of_word k.DInsert ts = disjoint_insertion ts
 assignment_of_word k.Delete ts = deletion ts
+assignment_of_word k.IDelete ts = included_deletion ts
 assignment_of_word k.Update ts = changing ts
 assignment_of_word _ ts = None
 

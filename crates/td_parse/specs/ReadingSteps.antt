@@ -68,6 +68,11 @@ in_parentheses_read item ts =
     expect (sign signs.OpenParenthesis) ts
     >>= λ after. read_up_to (sign signs.CloseParenthesis) item after
 
+-- an item between braces
+unfoldable pub in_braces_read : {A : Type 0} → (List Lexeme → ReadOf A) → List Lexeme → ReadOf A
+in_braces_read item ts =
+    expect (sign signs.OpenBrace) ts >>= λ after. read_up_to (sign signs.CloseBrace) item after
+
 -- [word item]
 unfoldable pub optional : {A : Type 0} → Lexeme → (List Lexeme → ReadOf A) → List Lexeme
     → ReadOf (Option A)

@@ -3,11 +3,11 @@ ghost use Rattle.std.specs.Prelude.{map, option_map};
 ghost use Rattle.td_parse.specs.code.Parsing.{Moves};
 ghost use Rattle.td_parse.specs.code.Views.{named_part_view};
 ghost use Rattle.td_parse.specs.ReadingStatements as reading;
-ghost use Rattle.td_parse.specs.ReadingSteps.{in_parentheses_read, list_by_commas};
+ghost use Rattle.td_parse.specs.ReadingSteps.{in_braces_read, in_parentheses_read, list_by_commas};
 ghost use Rattle.td_tree.specs.code.TreeViews.{assignment_view, statement_view, tree_view};
 
 use crate::cursor::{Cursor, SYNTAX};
-use crate::grammar::{LOOSEST, MAX_HEIGHT};
+use crate::grammar::{Grammar, LOOSEST, MAX_HEIGHT};
 use crate::levels;
 use crate::names::name;
 use crate::steps::{item_closed_by, pair_of};
@@ -15,7 +15,7 @@ use std::alloc::Global;
 use td_tree::expression::{Expr, NamedExpr};
 use td_tree::fault::Fault;
 use td_tree::keyword::Keyword;
-use td_tree::operator::Level;
+use td_tree::operator::{Level, Style};
 use td_tree::statement::{Assignment, Statement};
 use td_tree::token::{Kind, Sign};
 
@@ -48,42 +48,55 @@ fn source(alloc: Global, tokens: &mut Cursor<'_, '_>) -> Result<Expr, Fault>
     expression(alloc, tokens)
 }
 
-/// `name ':=' e`
-#[tactic(auto, unfolding(crate::specs::ReadingStatements::setting))]
-fn setting(alloc: Global, tokens: &mut Cursor<'_, '_>) -> Result<NamedExpr, Fault>
-    ensures { Moves named_part_view result tokens.new (reading.setting tokens.old) }
-{
-    let name = name(alloc, tokens)?;
-    let value = source(alloc, tokens)?;
-    Ok(NamedExpr { name, value })
-}
-
 /// `(name ':=' e),+`
-#[tactic(auto, unfolding(crate::specs::ReadingSteps::list_by_commas, crate::specs::ReadingSteps::separated_from))]
 fn settings(alloc: Global, tokens: &mut Cursor<'_, '_>) -> Result<Vec<NamedExpr>, Fault>
     ensures { Moves (λ v. map named_part_view v.items) result tokens.new
-        (list_by_commas reading.setting tokens.old) }
+        (reading.settings tokens.old) }
 {
-    let mut items = Vec::new(alloc);
-    let limit = tokens.turns();
-    for _turn in 0..limit {
-        items.push(setting(alloc, tokens)?)?;
-        if !tokens.sign(Sign::Comma) {
-            return Ok(items);
-        }
+    let settings = Grammar {
+        alloc,
+        depth: MAX_HEIGHT,
+        inner: levels::expression,
     }
-    Err(SYNTAX)
+    .settings(tokens)?;
+    Ok(settings.into_items())
 }
 
 /// `'(' (name ':=' e),+ ')'`
 #[tactic(auto, unfolding(crate::specs::ReadingSteps::in_parentheses_read, crate::specs::ReadingSteps::read_up_to))]
 fn enclosed_settings(alloc: Global, tokens: &mut Cursor<'_, '_>) -> Result<Vec<NamedExpr>, Fault>
     ensures { Moves (λ v. map named_part_view v.items) result tokens.new
-        (in_parentheses_read (list_by_commas reading.setting) tokens.old) }
+        (in_parentheses_read reading.settings tokens.old) }
 {
     tokens.expect_sign(Sign::OpenParenthesis)?;
     let settings = settings(alloc, tokens)?;
     item_closed_by(settings, Sign::CloseParenthesis, tokens)
+}
+
+/// `'{' (name ':=' e),+ '}'`
+#[tactic(auto, unfolding(crate::specs::ReadingSteps::in_braces_read, crate::specs::ReadingSteps::read_up_to))]
+fn braced_settings(alloc: Global, tokens: &mut Cursor<'_, '_>) -> Result<Vec<NamedExpr>, Fault>
+    ensures { Moves (λ v. map named_part_view v.items) result tokens.new
+        (in_braces_read reading.settings tokens.old) }
+{
+    tokens.expect_sign(Sign::OpenBrace)?;
+    let settings = settings(alloc, tokens)?;
+    item_closed_by(settings, Sign::CloseBrace, tokens)
+}
+
+/// `'(' (name ':=' e),+ ')'` or `':' '{' (name ':=' e),+ '}'`
+#[tactic(auto, unfolding(crate::specs::ReadingStatements::styled_settings))]
+fn styled_settings(
+    alloc: Global,
+    tokens: &mut Cursor<'_, '_>,
+) -> Result<(Style, Vec<NamedExpr>), Fault>
+    ensures { Moves (λ x. (x.0, map named_part_view x.1.items)) result tokens.new
+        (reading.styled_settings tokens.old) }
+{
+    if tokens.sign(Sign::Colon) {
+        return Ok((Style::Newer, braced_settings(alloc, tokens)?));
+    }
+    Ok((Style::Older, enclosed_settings(alloc, tokens)?))
 }
 
 /// `name e`, after `INSERT`
@@ -96,6 +109,16 @@ fn insertion(alloc: Global, tokens: &mut Cursor<'_, '_>) -> Result<Assignment, F
     Ok(Assignment::Insert(target, source))
 }
 
+/// `name e`, after `D_INSERT`
+#[tactic(auto, unfolding(crate::specs::ReadingStatements::disjoint_insertion))]
+fn disjoint_insertion(alloc: Global, tokens: &mut Cursor<'_, '_>) -> Result<Assignment, Fault>
+    ensures { Moves assignment_view result tokens.new (reading.disjoint_insertion tokens.old) }
+{
+    let target = name(alloc, tokens)?;
+    let source = expression(alloc, tokens)?;
+    Ok(Assignment::DisjointInsert(target, source))
+}
+
 /// `name [WHERE e1]`, after `DELETE`
 #[tactic(auto, unfolding(crate::specs::ReadingStatements::deletion))]
 fn deletion(alloc: Global, tokens: &mut Cursor<'_, '_>) -> Result<Assignment, Fault>
@@ -106,15 +129,25 @@ fn deletion(alloc: Global, tokens: &mut Cursor<'_, '_>) -> Result<Assignment, Fa
     Ok(Assignment::Delete(target, condition))
 }
 
-/// `name [WHERE e1] '(' (name ':=' e),+ ')'`, after `UPDATE`
+/// `name e`, after `I_DELETE`
+#[tactic(auto, unfolding(crate::specs::ReadingStatements::included_deletion))]
+fn included_deletion(alloc: Global, tokens: &mut Cursor<'_, '_>) -> Result<Assignment, Fault>
+    ensures { Moves assignment_view result tokens.new (reading.included_deletion tokens.old) }
+{
+    let target = name(alloc, tokens)?;
+    let source = expression(alloc, tokens)?;
+    Ok(Assignment::IncludedDelete(target, source))
+}
+
+/// `name [WHERE e1]` and the settings in one of their spellings, after `UPDATE`
 #[tactic(auto, unfolding(crate::specs::ReadingStatements::changing), using(crate::proofs::Views::named_from_of))]
 fn changing(alloc: Global, tokens: &mut Cursor<'_, '_>) -> Result<Assignment, Fault>
     ensures { Moves assignment_view result tokens.new (reading.changing tokens.old) }
 {
     let target = name(alloc, tokens)?;
     let condition = condition(alloc, tokens)?;
-    let (condition, settings) = pair_of(condition, enclosed_settings(alloc, tokens))?;
-    Ok(Assignment::Update(target, condition, settings))
+    let (condition, (style, settings)) = pair_of(condition, styled_settings(alloc, tokens))?;
+    Ok(Assignment::Update(style, target, condition, settings))
 }
 
 /// An assignment.
@@ -128,7 +161,9 @@ fn assignment(alloc: Global, tokens: &mut Cursor<'_, '_>) -> Result<Assignment, 
             Ok(Assignment::Assign(target, source(alloc, tokens)?))
         }
         Some((Kind::Reserved(Keyword::Insert), _)) => insertion(alloc, tokens),
+        Some((Kind::Reserved(Keyword::DInsert), _)) => disjoint_insertion(alloc, tokens),
         Some((Kind::Reserved(Keyword::Delete), _)) => deletion(alloc, tokens),
+        Some((Kind::Reserved(Keyword::IDelete), _)) => included_deletion(alloc, tokens),
         Some((Kind::Reserved(Keyword::Update), _)) => changing(alloc, tokens),
         _ => Err(SYNTAX),
     }

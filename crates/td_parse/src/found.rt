@@ -321,6 +321,24 @@ impl Found {
         Ok(Found { tree, height })
     }
 
+    /// `EXTEND e : {A := v, ..}`
+    #[tactic(auto, using(crate::proofs::Views::named_from_of, td_tree::proofs::code_lemmas::Rows::extend_setting_is))]
+    pub fn extend_setting(
+        alloc: Global,
+        operand: Found,
+        settings: NamedParts,
+    ) -> Result<Found, AllocError>
+        ensures { IfOk result
+            (λ e. tree_view e
+            ≡ trees.extend_setting (tree_view operand)
+            (named_from (map named_part_view settings))) }
+    {
+        let height = operand.height.max(settings.height).saturating_add(1);
+        let operand = box_of(alloc, operand.tree)?;
+        let tree = Expr::ExtendSetting(operand, settings.items);
+        Ok(Found { tree, height })
+    }
+
     /// `SUMMARIZE e PER (p) ADD (..)`
     #[tactic(auto, using(crate::proofs::Views::summaries_from_of, td_tree::proofs::code_lemmas::Rows::summarize_per_is))]
     pub fn summarize_per(

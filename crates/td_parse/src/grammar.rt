@@ -16,7 +16,7 @@ use td_tree::fault::Fault;
 use td_tree::operator::Level;
 
 /// How high an expression may be.
-pub const MAX_HEIGHT: u8 = 200;
+pub const MAX_HEIGHT: u16 = 400;
 
 /// The level of a whole expression.
 pub const LOOSEST: Level = Level::Restriction;
@@ -26,12 +26,12 @@ pub const LOOSEST: Level = Level::Restriction;
 pub struct Grammar<F> {
     pub alloc: Global,
     /// How high its parts may be.
-    pub depth: u8,
+    pub depth: u16,
     /// Reads a part.
     pub inner: F,
 }
 
-impl<F: Fn(Global, u8, Level, &mut Cursor<'_, '_>) -> Result<Found, Fault>> Grammar<F> {
+impl<F: Fn(Global, u16, Level, &mut Cursor<'_, '_>) -> Result<Found, Fault>> Grammar<F> {
     /// A part that stands at this level.
     pub fn inner(&self, level: Level, tokens: &mut Cursor<'_, '_>) -> Result<Found, Fault>
         requires { Nests self.now.depth (F.pre self.now.inner) (F.post self.now.inner) }

@@ -17,7 +17,7 @@ use std::alloc::Global;
 use td_tree::fault::Fault;
 use td_tree::operator::{Level, Prefix};
 
-impl<F: Fn(Global, u8, Level, &mut Cursor<'_, '_>) -> Result<Found, Fault>> Grammar<F> {
+impl<F: Fn(Global, u16, Level, &mut Cursor<'_, '_>) -> Result<Found, Fault>> Grammar<F> {
     /// Goes on with operators behind the operand.
     #[tactic(auto, unfolding(crate::specs::Reading::postfixes))]
     fn postfixes(&self, first: Found, tokens: &mut Cursor<'_, '_>) -> Result<Found, Fault>
@@ -145,7 +145,7 @@ impl<F: Fn(Global, u8, Level, &mut Cursor<'_, '_>) -> Result<Found, Fault>> Gram
 #[tactic(auto, unfolding(crate::specs::Reading::read))]
 pub fn expression(
     alloc: Global,
-    depth: u8,
+    depth: u16,
     level: Level,
     tokens: &mut Cursor<'_, '_>,
 ) -> Result<Found, Fault>

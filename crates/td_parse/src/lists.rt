@@ -7,7 +7,8 @@ ghost use Rattle.td_parse.specs.code.Views.{named_part_view};
 ghost use Rattle.td_tree.specs.Lexemes as lexeme;
 ghost use Rattle.td_parse.specs.Reading as reading;
 ghost use Rattle.td_parse.specs.Reading.{read};
-ghost use Rattle.td_parse.specs.ReadingSteps.{in_parentheses_read, listed_to, list_by_commas};
+ghost use Rattle.td_parse.specs.ReadingSteps.{in_braces_read, in_parentheses_read};
+ghost use Rattle.td_parse.specs.ReadingSteps.{listed_to, list_by_commas};
 ghost use Rattle.td_tree.specs.code.TreeViews.{tree_view};
 
 use crate::cursor::{Cursor, SYNTAX};
@@ -22,7 +23,7 @@ use td_tree::name::Name;
 use td_tree::operator::Level;
 use td_tree::token::Sign;
 
-impl<F: Fn(Global, u8, Level, &mut Cursor<'_, '_>) -> Result<Found, Fault>> Grammar<F> {
+impl<F: Fn(Global, u16, Level, &mut Cursor<'_, '_>) -> Result<Found, Fault>> Grammar<F> {
     /// `e,+`
     #[tactic(auto, unfolding(crate::specs::ReadingSteps::list_by_commas, crate::specs::ReadingSteps::separated_from))]
     pub fn elements(&self, tokens: &mut Cursor<'_, '_>) -> Result<Elements, Fault>
@@ -145,5 +146,51 @@ impl<F: Fn(Global, u8, Level, &mut Cursor<'_, '_>) -> Result<Found, Fault>> Gram
         tokens.expect_sign(Sign::OpenParenthesis)?;
         let items = self.additions(tokens)?;
         item_closed_by(items, Sign::CloseParenthesis, tokens)
+    }
+
+    /// `name ':=' e`
+    #[tactic(auto, unfolding(crate::specs::Reading::setting))]
+    fn setting(&self, tokens: &mut Cursor<'_, '_>) -> Result<(Name, Found), Fault>
+        requires { Nests self.now.depth (F.pre self.now.inner) (F.post self.now.inner) }
+        ensures { Moves (λ x. (x.0, tree_view x.1)) result tokens.new
+            (reading.setting (read self.now.depth) self.now.depth tokens.old) }
+    {
+        let name = name(self.alloc, tokens)?;
+        tokens.expect_sign(Sign::Assign)?;
+        let value = self.expression(tokens)?;
+        Ok((name, value))
+    }
+
+    /// `(name ':=' e),+`
+    #[tactic(auto, unfolding(crate::specs::ReadingSteps::list_by_commas, crate::specs::ReadingSteps::separated_from))]
+    pub fn settings(&self, tokens: &mut Cursor<'_, '_>) -> Result<NamedParts, Fault>
+        requires { Nests self.now.depth (F.pre self.now.inner) (F.post self.now.inner) }
+        ensures { Moves (map named_part_view) result tokens.new
+            (list_by_commas (reading.setting (read self.now.depth) self.now.depth) tokens.old) }
+    {
+        let mut items = NamedParts::new(self.alloc);
+        let limit = tokens.turns();
+        for _turn in 0..limit {
+            let (name, value) = self.setting(tokens)?;
+            items.push(name, value)?;
+            if !tokens.sign(Sign::Comma) {
+                return Ok(items);
+            }
+        }
+        Err(SYNTAX)
+    }
+
+    /// `'{' (name ':=' e),+ '}'`
+    #[tactic(auto, unfolding(crate::specs::ReadingSteps::in_braces_read, crate::specs::ReadingSteps::read_up_to))]
+    pub fn braced_settings(&self, tokens: &mut Cursor<'_, '_>) -> Result<NamedParts, Fault>
+        requires { Nests self.now.depth (F.pre self.now.inner) (F.post self.now.inner) }
+        ensures { Moves (map named_part_view) result tokens.new
+            (in_braces_read (list_by_commas (reading.setting (read self.now.depth)
+            self.now.depth))
+            tokens.old) }
+    {
+        tokens.expect_sign(Sign::OpenBrace)?;
+        let items = self.settings(tokens)?;
+        item_closed_by(items, Sign::CloseBrace, tokens)
     }
 }

@@ -43,6 +43,8 @@ fn link_of_word(word: Keyword) -> Option<Link>
         Keyword::Times => Some(Link::Operator(Operator::Times)),
         Keyword::Compose => Some(Link::Operator(Operator::Compose)),
         Keyword::Matching => Some(Link::Operator(Operator::Matching)),
+        Keyword::DUnion => Some(Link::Operator(Operator::DisjointUnion)),
+        Keyword::IMinus => Some(Link::Operator(Operator::IncludedMinus)),
         _ => None,
     }
 }
@@ -115,7 +117,9 @@ fn level_of(op: Operator) -> Level
         | Operator::Times
         | Operator::Compose
         | Operator::Matching
-        | Operator::NotMatching => Level::Relational,
+        | Operator::NotMatching
+        | Operator::DisjointUnion
+        | Operator::IncludedMinus => Level::Relational,
         Operator::Add | Operator::Subtract | Operator::Concatenate => Level::Additive,
         Operator::Multiply | Operator::Divide => Level::Multiplicative,
     }

@@ -102,6 +102,13 @@ impl NamedParts {
         })
     }
 
+    /// The expressions with their names alone.
+    pub fn into_items(self) -> Vec<NamedExpr>
+        ensures { result.items ≡ self }
+    {
+        self.items
+    }
+
     /// How many there are.
     pub fn count(&self) -> usize
         ensures { result ≡ length self.now }

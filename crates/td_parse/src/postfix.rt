@@ -15,6 +15,7 @@ use td_tree::expression::{Attributes, Postfix, Renaming};
 use td_tree::fault::Fault;
 use td_tree::keyword::Keyword;
 use td_tree::name::Name;
+use td_tree::operator::Style;
 use td_tree::token::{Kind, Sign};
 
 /// Whether an operator behind its operand comes next.
@@ -53,19 +54,49 @@ fn enclosed_renamings(alloc: Global, tokens: &mut Cursor<'_, '_>) -> Result<Vec<
     item_closed_by(renamings, Sign::CloseParenthesis, tokens)
 }
 
-/// `'(' attrs AS name ')'`
-#[tactic(auto, unfolding(crate::specs::ReadingSteps::in_parentheses_read, crate::specs::ReadingSteps::read_up_to, crate::specs::Reading::named_attributes))]
-fn enclosed_attributes(
+/// `'(' (name AS name),+ ')'` or `'{' (name AS name),+ '}'`, after `RENAME`
+#[tactic(auto, unfolding(crate::specs::ReadingSteps::read_up_to, crate::specs::Reading::styled_renamings))]
+fn styled_renamings(
     alloc: Global,
     tokens: &mut Cursor<'_, '_>,
-) -> Result<(Attributes, Name), Fault>
-    ensures { Moves (λ x. (attributes_view x.0, x.1)) result tokens.new
-        (in_parentheses_read reading.named_attributes tokens.old) }
+) -> Result<(Style, Vec<Renaming>), Fault>
+    ensures { Moves (λ x. (x.0, map renaming_view x.1.items)) result tokens.new
+        (reading.styled_renamings tokens.old) }
 {
-    tokens.expect_sign(Sign::OpenParenthesis)?;
+    if tokens.sign(Sign::OpenBrace) {
+        let renamings = renamings(alloc, tokens)?;
+        let renamings = item_closed_by(renamings, Sign::CloseBrace, tokens)?;
+        return Ok((Style::Newer, renamings));
+    }
+    Ok((Style::Older, enclosed_renamings(alloc, tokens)?))
+}
+
+/// `attrs AS name`
+#[tactic(auto, unfolding(crate::specs::Reading::named_attributes))]
+fn named_attributes(alloc: Global, tokens: &mut Cursor<'_, '_>) -> Result<(Attributes, Name), Fault>
+    ensures { Moves (λ x. (attributes_view x.0, x.1)) result tokens.new
+        (reading.named_attributes tokens.old) }
+{
     let attributes = attributes(alloc, tokens)?;
-    let named = pair_of(attributes, alias(alloc, tokens))?;
-    item_closed_by(named, Sign::CloseParenthesis, tokens)
+    pair_of(attributes, alias(alloc, tokens))
+}
+
+/// `'(' attrs AS name ')'` or `attrs AS name`, after `GROUP` or `WRAP`
+#[tactic(auto, unfolding(crate::specs::ReadingSteps::read_up_to, crate::specs::Reading::styled_attributes))]
+fn styled_attributes(
+    alloc: Global,
+    tokens: &mut Cursor<'_, '_>,
+) -> Result<(Style, Attributes, Name), Fault>
+    ensures { Moves (λ x. (x.0, attributes_view x.1, x.2)) result tokens.new
+        (reading.styled_attributes tokens.old) }
+{
+    if tokens.sign(Sign::OpenParenthesis) {
+        let named = named_attributes(alloc, tokens)?;
+        let (attributes, name) = item_closed_by(named, Sign::CloseParenthesis, tokens)?;
+        return Ok((Style::Older, attributes, name));
+    }
+    let (attributes, name) = named_attributes(alloc, tokens)?;
+    Ok((Style::Newer, attributes, name))
 }
 
 /// An operator that begins with this word, after it.
@@ -78,14 +109,17 @@ fn postfix_of_word(
     ensures { Moves postfix_view result tokens.new (reading.postfix_of_word word tokens.old) }
 {
     match word {
-        Keyword::Rename => Ok(Postfix::Rename(enclosed_renamings(alloc, tokens)?)),
+        Keyword::Rename => {
+            let (style, renamings) = styled_renamings(alloc, tokens)?;
+            Ok(Postfix::Rename(style, renamings))
+        }
         Keyword::Group => {
-            let (attributes, name) = enclosed_attributes(alloc, tokens)?;
-            Ok(Postfix::Group(attributes, name))
+            let (style, attributes, name) = styled_attributes(alloc, tokens)?;
+            Ok(Postfix::Group(style, attributes, name))
         }
         Keyword::Wrap => {
-            let (attributes, name) = enclosed_attributes(alloc, tokens)?;
-            Ok(Postfix::Wrap(attributes, name))
+            let (style, attributes, name) = styled_attributes(alloc, tokens)?;
+            Ok(Postfix::Wrap(style, attributes, name))
         }
         Keyword::Ungroup => Ok(Postfix::Ungroup(enclosed_name(alloc, tokens)?)),
         Keyword::Unwrap => Ok(Postfix::Unwrap(enclosed_name(alloc, tokens)?)),

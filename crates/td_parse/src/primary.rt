@@ -55,7 +55,7 @@ fn negative(tokens: &mut Cursor<'_, '_>) -> Result<Found, Fault>
     }
 }
 
-impl<F: Fn(Global, u8, Level, &mut Cursor<'_, '_>) -> Result<Found, Fault>> Grammar<F> {
+impl<F: Fn(Global, u16, Level, &mut Cursor<'_, '_>) -> Result<Found, Fault>> Grammar<F> {
     /// `e` and the sign that closes it.
     #[tactic(auto, unfolding(crate::specs::ReadingSteps::read_up_to))]
     pub fn up_to_sign(&self, close: Sign, tokens: &mut Cursor<'_, '_>) -> Result<Found, Fault>
@@ -196,6 +196,30 @@ impl<F: Fn(Global, u8, Level, &mut Cursor<'_, '_>) -> Result<Found, Fault>> Gram
         Ok(Found::tuple(self.parts_to_brace(tokens)?))
     }
 
+    /// After `EXTEND e ADD`.
+    #[tactic(auto, unfolding(crate::specs::Reading::extension_adding))]
+    fn extension_adding(&self, operand: Found, tokens: &mut Cursor<'_, '_>) -> Result<Found, Fault>
+        requires { Nests self.now.depth (F.pre self.now.inner) (F.post self.now.inner) }
+        ensures { Moves tree_view result tokens.new
+            (reading.extension_adding (read self.now.depth) self.now.depth
+            (tree_view operand) tokens.old) }
+    {
+        let (operand, additions) = pair_of(operand, self.enclosed_additions(tokens))?;
+        Ok(Found::extend(self.alloc, operand, additions)?)
+    }
+
+    /// After `EXTEND e :`.
+    #[tactic(auto, unfolding(crate::specs::Reading::extension_setting))]
+    fn extension_setting(&self, operand: Found, tokens: &mut Cursor<'_, '_>) -> Result<Found, Fault>
+        requires { Nests self.now.depth (F.pre self.now.inner) (F.post self.now.inner) }
+        ensures { Moves tree_view result tokens.new
+            (reading.extension_setting (read self.now.depth) self.now.depth
+            (tree_view operand) tokens.old) }
+    {
+        let (operand, settings) = pair_of(operand, self.braced_settings(tokens))?;
+        Ok(Found::extend_setting(self.alloc, operand, settings)?)
+    }
+
     /// After `EXTEND`.
     #[tactic(auto, unfolding(crate::specs::Reading::extension))]
     fn extension(&self, tokens: &mut Cursor<'_, '_>) -> Result<Found, Fault>
@@ -203,9 +227,12 @@ impl<F: Fn(Global, u8, Level, &mut Cursor<'_, '_>) -> Result<Found, Fault>> Gram
         ensures { Moves tree_view result tokens.new
             (reading.extension (read self.now.depth) self.now.depth tokens.old) }
     {
-        let operand = self.up_to_word(Keyword::Add, tokens)?;
-        let (operand, additions) = pair_of(operand, self.enclosed_additions(tokens))?;
-        Ok(Found::extend(self.alloc, operand, additions)?)
+        let operand = self.expression(tokens)?;
+        if tokens.sign(Sign::Colon) {
+            return self.extension_setting(operand, tokens);
+        }
+        let operand = item_ended_by(operand, Keyword::Add, tokens)?;
+        self.extension_adding(operand, tokens)
     }
 
     /// After `IF`.

@@ -33,7 +33,7 @@ fn count_summary(alloc: Global, tokens: &mut Cursor<'_, '_>) -> Result<FoundSumm
     Ok(FoundSummary::Count(alias(alloc, tokens)?))
 }
 
-impl<F: Fn(Global, u8, Level, &mut Cursor<'_, '_>) -> Result<Found, Fault>> Grammar<F> {
+impl<F: Fn(Global, u16, Level, &mut Cursor<'_, '_>) -> Result<Found, Fault>> Grammar<F> {
     /// `'(' e ')'`
     #[tactic(auto, unfolding(crate::specs::ReadingSteps::in_parentheses_read))]
     pub fn enclosed_expression(&self, tokens: &mut Cursor<'_, '_>) -> Result<Found, Fault>

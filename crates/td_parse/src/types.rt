@@ -37,7 +37,7 @@ fn relation_type(heading: Vec<AttributeTree>) -> TypeTree
 /// A type that is at most so high.
 #[cycle(types)]
 #[tactic(auto, unfolding(crate::specs::ReadingTypes::read_type, crate::specs::ReadingTypes::type_of_first))]
-pub fn type_tree(alloc: Global, depth: u8, tokens: &mut Cursor<'_, '_>) -> Result<TypeTree, Fault>
+pub fn type_tree(alloc: Global, depth: u16, tokens: &mut Cursor<'_, '_>) -> Result<TypeTree, Fault>
     ensures { Moves type_tree_view result tokens.new (read_type depth tokens.old) }
 {
     if depth == 0 {
@@ -55,7 +55,7 @@ pub fn type_tree(alloc: Global, depth: u8, tokens: &mut Cursor<'_, '_>) -> Resul
 #[tactic(auto, unfolding(crate::specs::ReadingTypes::type_of_word))]
 fn type_of_word(
     alloc: Global,
-    depth: u8,
+    depth: u16,
     word: Keyword,
     tokens: &mut Cursor<'_, '_>,
 ) -> Result<TypeTree, Fault>
@@ -77,7 +77,7 @@ fn type_of_word(
 #[tactic(auto, unfolding(crate::specs::ReadingTypes::heading, crate::specs::ReadingSteps::listed_to, crate::specs::ReadingSteps::read_up_to), using(crate::proofs::Views::attributes_from_of))]
 fn heading(
     alloc: Global,
-    depth: u8,
+    depth: u16,
     tokens: &mut Cursor<'_, '_>,
 ) -> Result<Vec<AttributeTree>, Fault>
     ensures { Moves (λ v. heading_tree_view v.items) result tokens.new
@@ -96,7 +96,7 @@ fn heading(
 #[tactic(auto, unfolding(crate::specs::ReadingSteps::list_by_commas, crate::specs::ReadingSteps::separated_from))]
 pub fn attributes(
     alloc: Global,
-    depth: u8,
+    depth: u16,
     tokens: &mut Cursor<'_, '_>,
 ) -> Result<Vec<AttributeTree>, Fault>
     ensures { Moves (λ v. attribute_trees_view v.items) result tokens.new
@@ -116,7 +116,7 @@ pub fn attributes(
 /// `name type`, of a type at most so high
 #[cycle(types)]
 #[tactic(auto, unfolding(crate::specs::ReadingTypes::attribute))]
-fn attribute(alloc: Global, depth: u8, tokens: &mut Cursor<'_, '_>) -> Result<AttributeTree, Fault>
+fn attribute(alloc: Global, depth: u16, tokens: &mut Cursor<'_, '_>) -> Result<AttributeTree, Fault>
     ensures { Moves attribute_tree_view result tokens.new
         (reading.attribute (read_type depth) tokens.old) }
 {
@@ -129,7 +129,7 @@ fn attribute(alloc: Global, depth: u8, tokens: &mut Cursor<'_, '_>) -> Result<At
 #[tactic(auto, unfolding(crate::specs::ReadingTypes::relation_heading))]
 pub fn relation_heading(
     alloc: Global,
-    depth: u8,
+    depth: u16,
     tokens: &mut Cursor<'_, '_>,
 ) -> Result<Vec<AttributeTree>, Fault>
     ensures { Moves (λ v. heading_tree_view v.items) result tokens.new

@@ -3,14 +3,14 @@ use Rattle.std.proofs.Common.{◌≡◌, ◌∙◌, ap, sym, refl, ℕ, Bool, tr
 use Rattle.std.specs.Prelude.{option_map, if◌then◌else◌}
 use Rattle.std.specs.List.{Contains}
 use Rattle.std.proofs.lemmas.List.Elements.{Contains-append_left, Contains-append_right}
-use Rattle.td_check.specs.OperatorTypes.{aggregate_item, aggregate_type, choice_type, comparison_type, component_type, count_item, extension_type, extracted_type, headed_type, listed_type, measure_type, mismatch, named_part, operator_type, over_relation, per_heading, postfix_type, prefix_type, selector_type, summary_type, tuple_type, restriction_type, known_or}
+use Rattle.td_check.specs.OperatorTypes.{aggregate_item, aggregate_type, choice_type, comparison_type, component_type, count_item, extension_type, extracted_type, headed_type, listed_type, measure_type, mismatch, named_part, operator_type, over_relation, per_heading, postfix_type, prefix_type, selector_type, setting_type, summary_type, tuple_type, restriction_type, known_or}
 use Rattle.td_check.specs.Scopes.{Scope, innermost, known_relvar}
 use Rattle.td_check.specs.StaticTypes.{items_of, named_types, both_types, type_of, types_of, with_items}
 use Rattle.td_check.specs.WrittenNames.{names_in, names_in_all, names_in_items, names_in_named}
 use Rattle.td_group.specs.declared.aggregates.Agg.TheVariants as asked
 use Rattle.td_tree.specs.declared.cause.Cause.TheVariants as causes
 use Rattle.td_tree.specs.Outcomes.{Outcome, Valued, with_both, with_value}
-use Rattle.td_tree.specs.Trees.{Tree, literal, name, parentheses, prefix, extract, restriction, binary, compare, postfix, select, component, measure, aggregate, relation, headed_relation, tuple, extend, summarize_per, summarize_by, choice, Trees, none, more, NamedTrees, none_named, more_named, Summaries, no_summaries, counted, summed, project}
+use Rattle.td_tree.specs.Trees.{Tree, literal, name, parentheses, prefix, extract, restriction, binary, compare, postfix, select, component, measure, aggregate, relation, headed_relation, tuple, extend, extend_setting, summarize_per, summarize_by, choice, Trees, none, more, NamedTrees, none_named, more_named, Summaries, no_summaries, counted, summed, project}
 use Rattle.td_types.specs.Headings.{has_attribute, has_name}
 use Rattle.td_types.specs.TypeLists.{heading_meant}
 use Rattle.td_types.specs.Types.{Type', Heading, pack, type_at}
@@ -22,7 +22,7 @@ use Rattle.td_algebra.proofs.Entries.{no_value_outside, type_at-heading_of}
 use Rattle.td_algebra.proofs.Lists.{contains_first}
 use Rattle.td_algebra.proofs.Relations.{member_headed}
 use Rattle.td_eval.specs.AggregateValues.{aggregated_value, asked_of, summary_attributes, summary_value}
-use Rattle.td_eval.specs.OperatorValues.{comparison_value, component_value, extended_value, extracted_value, headed_value, listed_value, measure_value, of_truth, on_relation, on_truth, operator_value, postfix_value, prefix_value, restricted_value, tuple_from}
+use Rattle.td_eval.specs.OperatorValues.{comparison_value, component_value, extended_by_settings, extended_value, extracted_value, headed_value, listed_value, measure_value, of_truth, on_relation, on_truth, operator_value, postfix_value, prefix_value, restricted_value, tuple_from}
 use Rattle.td_eval.specs.TreeValues.{argument_values, entry_values, items_in_tuples, value_of, values_in_tuples}
 use Rattle.td_eval.specs.Worlds.{World, innermost_value, known_outcome, selector_outcome}
 use Rattle.td_plan.specs.EqualitiesOfNames.{NamesAreWhatIsAsked, ValuesDependOnNames}
@@ -83,6 +83,9 @@ module _ (scope : Scope) where
     types_same g h (extend operand parts) same =
         λ i. with_value (types_same g h operand (first (names_in operand) (names_in_named parts) same) i)
         (λ s. over_relation s (λ k. with_value (named_types_same (k ∷ g) (k ∷ h) parts (entered_type k g h (names_in_named parts) (second (names_in operand) (names_in_named parts) same)) i) (extension_type k)))
+    types_same g h (extend_setting operand settings) same =
+        λ i. with_value (types_same g h operand (first (names_in operand) (names_in_named settings) same) i)
+        (λ s. over_relation s (λ k. with_value (named_types_same (k ∷ g) (k ∷ h) settings (entered_type k g h (names_in_named settings) (second (names_in operand) (names_in_named settings) same)) i) (setting_type k)))
     types_same g h (summarize_per operand per summaries) same =
         let rest = second (names_in operand) (names_in per ++ names_in_items summaries) same in
         λ i. with_both
@@ -191,6 +194,12 @@ module _ (w : World) where
         (λ r. extended_value
         (named_types_same w.scope (r.heading ∷ map heading_of s) (r.heading ∷ map heading_of u) parts (entered_type r.heading (map heading_of s) (map heading_of u) (names_in_named parts) (one_type s u (names_in_named parts) inner)) i)
         (columns_same s u parts inner i) r))
+    values_same s u (extend_setting operand settings) same =
+        let inner = second (names_in operand) (names_in_named settings) same in
+        λ i. with_value (values_same s u operand (first (names_in operand) (names_in_named settings) same) i) (λ v. on_relation v
+        (λ r. extended_by_settings
+        (named_types_same w.scope (r.heading ∷ map heading_of s) (r.heading ∷ map heading_of u) settings (entered_type r.heading (map heading_of s) (map heading_of u) (names_in_named settings) (one_type s u (names_in_named settings) inner)) i)
+        (columns_same s u settings inner i) r))
     values_same s u (summarize_per operand per items) same =
         let rest = second (names_in operand) (names_in per ++ names_in_items items) same in
         let inner = second (names_in per) (names_in_items items) rest in

@@ -34,16 +34,15 @@ relation_typed o f t e =
     let headed = relation_asked found.0 (f found.0) t found.2 in
     (headed.0, found.1 ∙ ap Valued headed.1)
 
--- parts have types where EXTEND of an operand of the heading has one
+-- parts have types where EXTEND of an operand of the heading has one, and these give it that type
 pub parts_typed : (scope : Scope) (d : Tree) (h : Heading) (parts : NamedTrees) (f : Heading → List Attribute → Outcome Type') (t : Type')
     → type_of scope d ≡ Valued (relation (pack h))
     → with_value (type_of scope d) (λ s. over_relation s (λ g. with_value (named_types (entered_with g scope) parts) (f g))) ≡ Valued t
-    → (xs : List Attribute) × (named_types (entered_with h scope) parts ≡ Valued xs)
+    → (xs : List Attribute) × (named_types (entered_with h scope) parts ≡ Valued xs) × (f h xs ≡ Valued t)
 parts_typed scope d h parts f t static e =
     let asked = λ (g : Heading). with_value (named_types (entered_with g scope) parts) (f g) in
     let there : asked h ≡ Valued t = ap asked (sym (unpacked h)) ∙ ap (λ o. with_value o (λ s. over_relation s asked)) (sym static) ∙ e in
-    let found = value_of_with (named_types (entered_with h scope) parts) (f h) t there in
-    (found.0, found.1)
+    value_of_with (named_types (entered_with h scope) parts) (f h) t there
 
 -- of an expression that has no type each step is a plan
 pub untyped_planned : (scope : Scope) (made : Result Step AllocError) (e : Tree) → ((t : Type') → type_of scope e ≡ Valued t → ⊥) → IsPlanned scope made e

@@ -3,35 +3,40 @@ use Rattle.std.proofs.Common.{◌≡◌, ◌∙◌, suc, true, List, [], ◌∷�
 use Rattle.std.specs.List.{Contains}
 use Rattle.std.specs.Prelude.{nat_eq}
 use Rattle.std.proofs.lemmas.Bool.{eq-eqb}
-use Rattle.td_check.specs.OperatorTypes.{aggregate_type, over_relation, restriction_type}
+use Rattle.td_algebra.proofs.Members.{second_true}
+use Rattle.td_check.specs.OperatorTypes.{aggregate_type, extended_by, extension_type, over_relation, restriction_type}
 use Rattle.td_check.specs.Scopes.{Scope, entered_with}
 use Rattle.td_check.specs.StaticLaws.{HasMore, PartsGiveNames}
 use Rattle.td_check.specs.StaticTypes.{named_types, type_of}
 use Rattle.td_check.proofs.StaticLaws.{more_changes_no_parts}
 use Rattle.td_eval.specs.AggregateValues.{aggregated_value, asked_of}
-use Rattle.td_eval.specs.OperatorValues.{extended_value, on_relation, restricted_value}
+use Rattle.td_eval.specs.OperatorValues.{extended_by_settings, extended_value, on_relation, restricted_value}
 use Rattle.td_eval.specs.TreeTexts.{PartsHaveTexts}
 use Rattle.td_eval.specs.TreeValues.{value_of, values_in_tuples}
 use Rattle.td_eval.specs.ValueTypes.{IsTypedTuple, IsWritten, KeepsType}
 use Rattle.td_eval.specs.UnfailingValues.{GivesValues}
 use Rattle.td_eval.specs.Worlds.{World, with_tuples}
 use Rattle.td_eval.proofs.law_lemmas.AlikeOutcomes.{over_same}
-use Rattle.td_eval.proofs.law_lemmas.AlikeRows.{AlikeIn, AreAlikeIn, aggregated_alike, extended_alike, restricted_alike}
+use Rattle.td_eval.proofs.law_lemmas.AlikeRows.{AlikeIn, AreAlikeIn, aggregated_alike, restricted_alike, settings_alike}
+use Rattle.td_eval.proofs.law_lemmas.NewSettings.{new_settings_extend}
 use Rattle.td_eval.proofs.code_lemmas.TypedRows.{rows_typed}
 use Rattle.td_eval.proofs.code_lemmas.TypedTrees.{values_keep_types}
 use Rattle.td_plan.specs.Hoisting.{BeginsWith, Hoists, HoistsAll}
 use Rattle.td_plan.specs.Narrowing.{Narrows}
 use Rattle.td_plan.specs.code.PlannedParts.{ArePlansOfTyped, in_named}
+use Rattle.td_plan.proofs.PlannedAnswers.{parts_typed}
 use Rattle.td_plan.specs.Plans as plans
 use Rattle.td_plan.specs.Plans.{Frame, PlanTree, PlanTrees, extension_of, frame_of, plan_columns, plan_value, plan_values}
-use Rattle.td_plan.specs.PlansOf.{AreFramesOf, AreInHand, IsPlanOfTyped, outermost}
+use Rattle.td_plan.specs.PlansOf.{AreFramesOf, AreInHand, IsPlanOf, IsPlanOfTyped, outermost}
+use Rattle.td_tree.specs.declared.cause.Cause.TheVariants as causes
 use Rattle.td_tree.specs.declared.operator.Aggregate.{Aggregate}
 use Rattle.td_tree.specs.Outcomes.{Outcome, Valued, with_value}
 use Rattle.td_tree.specs.Trees as trees
 use Rattle.td_tree.specs.Trees.{NamedTrees, Tree}
-use Rattle.td_types.proofs.OutcomeLaws.{value_of_with, valued_is, values_of_both}
+use Rattle.td_types.proofs.OutcomeLaws.{value_of_test, value_of_with, valued_is, values_of_both}
+use Rattle.td_types.specs.Headings.{are_distinct, have_no_common}
 use Rattle.td_types.specs.code.TypeCode.{unpack_pack}
-use Rattle.td_types.specs.Types.{Attribute, Attrs, Heading, Type', pack, unpack}
+use Rattle.td_types.specs.Types.{Attribute, Attrs, Heading, Type', attribute_names, pack, unpack}
 use Rattle.td_types.specs.Types as types
 use Rattle.td_value.specs.Values.{Relation, Tuple, Val, heading_of}
 
@@ -161,25 +166,66 @@ module _ (scope : Scope) where
       let y = values_of_both (type_of inner e) (named_types inner es) (λ t attributes. Valued ((m, t) ∷ attributes)) xs is in
       ap length (sym (valued_is ((m, y.0) ∷ y.1) xs y.4)) ∙ ap suc (as_many w fs os inner ps es y.1 all.1 y.3)
 
-  pub extension_planned : (p : PlanTree) (xs : List Attribute) (old parts qs cs : PlanTrees) (d : Tree) (es : NamedTrees) (h : Heading) → IsPlanOfTyped scope p d
-      → type_of scope d ≡ Valued (types.relation (pack h)) → named_types (entered_with h scope) es ≡ Valued xs
-      → ArePlansOfTyped (entered_with h scope) cs (in_named es) → HoistsAll old parts cs qs
-      → IsPlanOfTyped scope (plans.extend p xs parts qs) (trees.extend d es)
-  extension_planned p xs old parts qs cs d es h i static known all pulls = λ written t is w s fs k hand f.
-      let os = plan_values w fs parts in
-      let columns = plan_columns w fs os cs in
-      let many : nat_eq (length xs) (length columns) ≡ true = eq-eqb (length xs) (length columns) (as_many w fs os (entered_with h scope) cs es xs all known) in
-      ap (λ cols. with_value (plan_value w fs p) (λ v. on_relation v (extension_of xs cols))) (all_pulled old parts cs qs pulls w fs)
-      ∙ ap (λ o. with_value o (λ v. on_relation v (extension_of xs columns)))
-      (i (written.0.0, written.1.0) (types.relation (pack h)) static w s fs k hand f)
-      ∙ over_same scope.types (types.relation (pack h)) (value_of w s d) (extension_of xs columns)
-      (λ r. extended_value (named_types (entered_with r.heading (with_tuples w.scope s)) es) (values_in_tuples w s es) r)
-      (kept scope w s fs k hand f d (types.relation (pack h)) (written.0.0, written.1.0) static)
-      (λ g r same head typed.
-      let at = heading_is h g r same head in
-      let there = more_changes_no_parts (entered_with h scope) (entered_with h (with_tuples w.scope s)) es xs (more_there scope w s fs k hand f h) known in
-      rw many
-      (extended_alike r (Valued xs) columns (values_in_tuples w s es)
-      (parts_alike scope w s fs k hand f r h at (rows_typed scope.types r typed) os cs es xs all written.0.1 written.1.1 known)
-      ∙ (λ j. extended_value (sym there j) (values_in_tuples w s es) r)
-      ∙ (λ j. extended_value (named_types (entered_with (sym at j) (with_tuples w.scope s)) es) (values_in_tuples w s es) r)))
+  -- the attributes of both spellings, where the operand has the heading
+  module _ (d : Tree) (es : NamedTrees) (h : Heading) (static : type_of scope d ≡ Valued (types.relation (pack h)))
+      (xs : List Attribute) (known : named_types (entered_with h scope) es ≡ Valued xs) where
+    -- they have the same types for each relation of the operand's type
+    known_there : (w : World) (s : List Tuple) (fs : List Frame) → GivesValues w (outermost scope) → AreInHand scope s → AreFramesOf s fs
+        → (r : Relation) → r.heading ≡ h → named_types (entered_with r.heading (with_tuples w.scope s)) es ≡ Valued xs
+    known_there w s fs k hand f r at =
+        ap (λ g. named_types (entered_with g (with_tuples w.scope s)) es) at
+        ∙ more_changes_no_parts (entered_with h scope) (entered_with h (with_tuples w.scope s)) es xs (more_there scope w s fs k hand f h) known
+
+    -- what plans give as settings
+    settings_planned : (p : PlanTree) (old parts qs cs : PlanTrees) → IsPlanOfTyped scope p d → ArePlansOfTyped (entered_with h scope) cs (in_named es)
+        → HoistsAll old parts cs qs → IsWritten (trees.extend_setting d es) → IsPlanOf scope (plans.extend p xs parts qs) (trees.extend_setting d es)
+    settings_planned p old parts qs cs i all pulls written = λ w s fs k hand f.
+        let os = plan_values w fs parts in
+        let columns = plan_columns w fs os cs in
+        let many : nat_eq (length xs) (length columns) ≡ true = eq-eqb (length xs) (length columns) (as_many w fs os (entered_with h scope) cs es xs all known) in
+        ap (λ cols. with_value (plan_value w fs p) (λ v. on_relation v (extension_of xs cols))) (all_pulled old parts cs qs pulls w fs)
+        ∙ ap (λ o. with_value o (λ v. on_relation v (extension_of xs columns)))
+        (i (written.0.0, written.1.0) (types.relation (pack h)) static w s fs k hand f)
+        ∙ over_same scope.types (types.relation (pack h)) (value_of w s d) (extension_of xs columns)
+        (λ r. extended_by_settings (named_types (entered_with r.heading (with_tuples w.scope s)) es) (values_in_tuples w s es) r)
+        (kept scope w s fs k hand f d (types.relation (pack h)) (written.0.0, written.1.0) static)
+        (λ g r same head typed.
+        let at = heading_is h g r same head in
+        let there = known_there w s fs k hand f r at in
+        rw many
+        (settings_alike r (Valued xs) columns (values_in_tuples w s es)
+        (parts_alike scope w s fs k hand f r h at (rows_typed scope.types r typed) os cs es xs all written.0.1 written.1.1 known)
+        ∙ (λ j. extended_by_settings (sym there j) (values_in_tuples w s es) r)))
+
+    -- what is added to the operand's heading is set
+    additions_set : (t : Type') → type_of scope (trees.extend d es) ≡ Valued t → IsWritten (trees.extend d es) → (w : World) (s : List Tuple) (fs : List Frame)
+        → GivesValues w (outermost scope) → AreInHand scope s → AreFramesOf s fs
+        → value_of w s (trees.extend d es) ≡ value_of w s (trees.extend_setting d es)
+    additions_set t is written w s fs k hand f =
+        let new = parts_typed scope d h es extension_type t static is in
+        let extended = value_of_with (extended_by h new.0) (λ g. Valued (types.relation (pack g))) t new.2 in
+        let apart : have_no_common xs h ≡ true =
+        ap (λ ys. have_no_common ys h) (valued_is xs new.0 (sym known ∙ new.1))
+        ∙ second_true (are_distinct (attribute_names new.0)) (have_no_common new.0 h) (value_of_test _ _ extended.0 causes.Heading extended.1).0 in
+        over_same scope.types (types.relation (pack h)) (value_of w s d)
+        (λ r. extended_value (named_types (entered_with r.heading (with_tuples w.scope s)) es) (values_in_tuples w s es) r)
+        (λ r. extended_by_settings (named_types (entered_with r.heading (with_tuples w.scope s)) es) (values_in_tuples w s es) r)
+        (kept scope w s fs k hand f d (types.relation (pack h)) (written.0.0, written.1.0) static)
+        (λ g r same head typed.
+        let at = heading_is h g r same head in
+        let there_typed = named_types (entered_with r.heading (with_tuples w.scope s)) es in
+        let there : there_typed ≡ Valued xs = known_there w s fs k hand f r at in
+        sym (new_settings_extend there_typed (values_in_tuples w s es) r typed.0 (λ ys same.
+        ap (λ zs. have_no_common zs r.heading) (valued_is ys xs (sym same ∙ there)) ∙ ap (have_no_common xs) at ∙ apart)))
+
+  -- a plan of each spelling
+  module _ (p : PlanTree) (xs : List Attribute) (old parts qs cs : PlanTrees) (d : Tree) (es : NamedTrees) (h : Heading) (i : IsPlanOfTyped scope p d)
+      (static : type_of scope d ≡ Valued (types.relation (pack h))) (known : named_types (entered_with h scope) es ≡ Valued xs)
+      (all : ArePlansOfTyped (entered_with h scope) cs (in_named es)) (pulls : HoistsAll old parts cs qs) where
+    pub setting_planned : IsPlanOfTyped scope (plans.extend p xs parts qs) (trees.extend_setting d es)
+    setting_planned = λ written t is. settings_planned d es h static xs known p old parts qs cs i all pulls written
+
+    pub extension_planned : IsPlanOfTyped scope (plans.extend p xs parts qs) (trees.extend d es)
+    extension_planned = λ written t is w s fs k hand f.
+        settings_planned d es h static xs known p old parts qs cs i all pulls written w s fs k hand f
+        ∙ sym (additions_set d es h static xs known t is written w s fs k hand f)

@@ -3,7 +3,7 @@ use Rattle.std.specs.Prelude.{ℕ, nat_eq, List, [], ◌∷◌, length, Option, 
 use Rattle.std.specs.List.{slice_get, zip}
 use Rattle.td_eval.specs.AggregateValues.{Summand, aggregated_value, asked_of, summary_value}
 use Rattle.td_body.specs.Bodies.{agreeing}
-use Rattle.td_eval.specs.OperatorValues.{comparison_value, component_value, extended_value, extracted_value, headed_value, listed_value, measure_value, of_relation, on_relation, on_truth, on_tuple, operator_value, postfix_value, prefix_value, restricted_value, tuple_from}
+use Rattle.td_eval.specs.OperatorValues.{comparison_value, component_value, extended_by_settings, extracted_value, headed_value, listed_value, measure_value, of_relation, on_relation, on_truth, on_tuple, operator_value, postfix_value, prefix_value, restricted_value, tuple_from}
 use Rattle.td_eval.specs.Worlds.{World, known_outcome, selector_outcome}
 use Rattle.td_group.specs.declared.aggregates.Agg.{Agg}
 use Rattle.td_tree.specs.declared.cause.Cause.{Cause}
@@ -83,9 +83,9 @@ fixed_at None place = unknown_place
 abbrev pub where_as_many : {A : Type 0} → List Attribute → List A → Outcome Val → Outcome Val
 where_as_many attributes parts o = if nat_eq (length attributes) (length parts) then o else Refused (Only causes.Heading)
 
--- EXTEND by attributes whose types are known
+-- EXTEND by attributes whose types are known, each there before or new. Where all are new, it is what ADD gives.
 abbrev pub extension_of : List Attribute → List (Tuple → Outcome Val) → Relation → Outcome Val
-extension_of attributes fs r = where_as_many attributes fs (extended_value (Valued attributes) fs r)
+extension_of attributes fs r = where_as_many attributes fs (extended_by_settings (Valued attributes) fs r)
 
 -- SUMMARIZE by attributes whose types are known
 abbrev pub summary_of : List Attribute → List Summand → Val → Val → Outcome Val

@@ -294,10 +294,12 @@ impl Outline {
     fn postfix(&mut self, indent: usize, op: &Postfix) -> Result<(), AllocError> {
         match op {
             Postfix::Project(attributes) => self.line_of_listed(indent, "PROJECTION", attributes),
-            Postfix::Rename(renamings) => self.renamings(indent, renamings),
-            Postfix::Group(attributes, name) => self.gathering(indent, "GROUP", attributes, name),
+            Postfix::Rename(_, renamings) => self.renamings(indent, renamings),
+            Postfix::Group(_, attributes, name) => {
+                self.gathering(indent, "GROUP", attributes, name)
+            }
             Postfix::Ungroup(name) => self.line_of(indent, "UNGROUP", name.as_str()),
-            Postfix::Wrap(attributes, name) => self.gathering(indent, "WRAP", attributes, name),
+            Postfix::Wrap(_, attributes, name) => self.gathering(indent, "WRAP", attributes, name),
             Postfix::Unwrap(name) => self.line_of(indent, "UNWRAP", name.as_str()),
         }
     }
@@ -345,6 +347,8 @@ fn operator_word(op: Operator) -> &'static str {
         Operator::Compose => "COMPOSE BY HASHJOIN",
         Operator::Matching => "MATCHING BY HASHJOIN",
         Operator::NotMatching => "NOT MATCHING BY HASHJOIN",
+        Operator::DisjointUnion => "D_UNION",
+        Operator::IncludedMinus => "I_MINUS",
         Operator::Add => "+",
         Operator::Subtract => "-",
         Operator::Concatenate => "||",

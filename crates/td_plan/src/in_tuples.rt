@@ -4,7 +4,8 @@ ghost use Rattle.std.specs.Prelude.{◌≡◌, IfOk, List};
 ghost use Rattle.td_check.specs.Scopes.{Scope, entered_with};
 ghost use Rattle.td_check.specs.StaticTypes.{named_types, type_of};
 ghost use Rattle.td_plan.specs.code.PlannedParts.{ArePlanned, IsBoxPlanned, IsPlanned};
-ghost use Rattle.td_plan.specs.code.PlannedParts.{ArePlannedColumns, IsPulled, in_named};
+ghost use Rattle.td_plan.specs.code.PlannedParts.{ArePlannedColumns, IsExtensionPlanned, IsPulled};
+ghost use Rattle.td_plan.specs.code.PlannedParts.{in_named};
 ghost use Rattle.td_tree.specs.Outcomes.{Outcome, Valued};
 ghost use Rattle.td_tree.specs.Trees as trees;
 ghost use Rattle.td_tree.specs.Trees.{Tree};
@@ -91,7 +92,8 @@ pub(crate) fn aggregation_step(
     Ok(Step::Aggregate(op, operand, value.once, value.step))
 }
 
-/// The step of an operand's tuples with new attributes.
+/// The step of an operand's tuples with attributes set, each there before or new. It serves both
+/// spellings of EXTEND: what is added is set.
 #[inline(never)]
 pub(crate) fn extension_step(
     operand: Result<Box<Step>, AllocError>,
@@ -101,7 +103,7 @@ pub(crate) fn extension_step(
         → IsBoxPlanned scope operand d → type_of scope d ≡ Valued (types.relation (pack h))
         → ArePlannedColumns (entered_with h scope) columns (named_types (entered_with h scope) es)
         (in_named es)
-        → IsPlanned scope result (trees.extend d es) }
+        → IsExtensionPlanned scope result d es }
 {
     let NewColumns {
         attributes,

@@ -8,6 +8,7 @@ mod counted;
 pub mod equalities;
 mod evaluator;
 pub mod explain;
+mod extended;
 mod fixed;
 mod hand;
 mod hoist;

@@ -10,6 +10,7 @@ pub(crate) fn goes_over_tuples(expr: &Expr) -> bool {
         Expr::Restriction(..)
         | Expr::Aggregate(..)
         | Expr::Extend(..)
+        | Expr::ExtendSetting(..)
         | Expr::SummarizePer(..)
         | Expr::SummarizeBy(..) => true,
         Expr::Parentheses(operand) => goes_over_tuples(operand),

@@ -50,7 +50,9 @@ pub(crate) fn has_numbers(expr: &Expr) -> bool
         Expr::Relation(elements) => have_numbers(elements),
         Expr::HeadedRelation(_, elements) => have_numbers(elements),
         Expr::Tuple(parts) => parts_have_numbers(parts),
-        Expr::Extend(operand, parts) => has_numbers(operand) && parts_have_numbers(parts),
+        Expr::Extend(operand, parts) | Expr::ExtendSetting(operand, parts) => {
+            has_numbers(operand) && parts_have_numbers(parts)
+        }
         Expr::SummarizePer(operand, per, items) => {
             has_numbers(operand) && has_numbers(per) && items_have_numbers(items)
         }

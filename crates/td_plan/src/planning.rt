@@ -5,8 +5,8 @@ ghost use Rattle.td_check.specs.Scopes.{entered_with};
 ghost use Rattle.td_check.specs.StaticTypes.{named_types};
 ghost use Rattle.td_eval.specs.AggregateValues.{summary_attributes};
 ghost use Rattle.td_plan.specs.code.PlannedParts.{AreFoundColumns, ArePlanned, ArePlansOfTyped};
-ghost use Rattle.td_plan.specs.code.PlannedParts.{IsBoxPlanned, IsPlanned, in_named};
-ghost use Rattle.td_plan.specs.code.PlannedParts.{in_summaries, item_tree, part_tree};
+ghost use Rattle.td_plan.specs.code.PlannedParts.{IsBoxPlanned, IsExtensionPlanned, IsPlanned};
+ghost use Rattle.td_plan.specs.code.PlannedParts.{in_named, in_summaries, item_tree, part_tree};
 ghost use Rattle.td_plan.specs.code.Planners.{IsPlanner};
 ghost use Rattle.td_plan.specs.code.PlansBelow.{PlansBelow};
 ghost use Rattle.td_plan.specs.PlansOf.{IsPlanOfTyped};
@@ -221,13 +221,13 @@ where
         aggregation_step(op, self.boxed_step(operand), value)
     }
 
-    /// The step of an operand's tuples with new attributes.
+    /// The step of an operand's tuples with attributes set, in either spelling.
     #[inline(never)]
     fn extend_step(&self, operand: &Expr, parts: &[NamedExpr]) -> Result<Step, AllocError>
         requires { PlansBelow C.database self.now
             (suc (expr_weight operand.now + named_weight (named_view parts.now))) F.pre F.post }
-        ensures { IsPlanned self.now.planner.now.scope result
-            (trees.extend (tree_view operand.now) (named_view parts.now)) }
+        ensures { IsExtensionPlanned self.now.planner.now.scope result (tree_view operand.now)
+            (named_view parts.now) }
     {
         let Some(heading) = self.planner.heading_of(operand)? else {
             return self.step_of(operand);
@@ -321,6 +321,7 @@ where
             }
             Expr::Tuple(parts) => tuple_step(self.planner.alloc, parts, self.part_steps(parts)),
             Expr::Extend(operand, parts) => self.extend_step(operand, parts),
+            Expr::ExtendSetting(operand, settings) => self.extend_step(operand, settings),
             Expr::SummarizePer(operand, per, items) => self.summarize_per_step(operand, per, items),
             Expr::SummarizeBy(operand, by, items) => self.summarize_by_step(operand, by, items),
             Expr::If(condition, consequent, alternative) => choice_step(

@@ -14,10 +14,10 @@ ghost use Rattle.td_types.specs.code.Views.{pairs_view};
 
 use crate::counted::truths_measured;
 use crate::evaluator::{Evaluator, InWorld};
+use crate::extended::set_by;
 use crate::hand::Hand;
 use crate::run_rows::item_count;
 use crate::step::Step;
-use td_eval::extension::extension_by;
 use td_eval::operators::aggregates::value_of_aggregate;
 use td_eval::operators::asked::relation_in;
 use td_eval::operators::postfix::projected_by;
@@ -107,7 +107,7 @@ where
         value_of_aggregate(op, self.values_in_rows(&inside, rows, value))
     }
 
-    /// The tuples of an operand with new attributes.
+    /// The tuples of an operand with attributes set, each there before or new.
     #[inline(never)]
     pub(crate) fn extension(
         &self,
@@ -132,7 +132,7 @@ where
         let rows = rel.rows();
         let inside = self.entered_loop(hand, rows.is_empty(), parts)?;
         let columns = self.columns(&inside, rows, attributes, values);
-        extension_by(self.alloc, rel, attributes, columns)
+        set_by(self.alloc, rel, attributes, columns)
     }
 
     // ---- SUMMARIZE

@@ -120,5 +120,5 @@ pub fn set_in_tuples<B: Body>(
         valued: &valued,
     };
     let columns = planned_columns(&around, rel, attributes, &plans)?;
-    Ok(set_all(alloc, rel, columns)?)
+    Ok(set_all(alloc, rel, &columns)?)
 }

@@ -45,7 +45,8 @@ pub enum Step {
     Relation(Vec<Step>),
     HeadedRelation(Heading, Vec<Step>),
     Tuple(Vec<Name>, Vec<Step>),
-    /// The new attributes, the parts evaluated once, and the steps of their values.
+    /// Attributes that are set, each there before or new, the parts evaluated once, and the steps
+    /// of their values.
     Extend(Box<Step>, Vec<(Name, Ty)>, Vec<Step>, Vec<Step>),
     Aggregate(Aggregate, Box<Step>, Vec<Step>, Box<Step>),
     /// The new attributes, their aggregates, the parts evaluated once, and the steps of values.

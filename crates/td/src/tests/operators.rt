@@ -54,9 +54,9 @@ fn renamed_one(alloc: Global, rel: &Rel, old: &Name, new: &Name) -> Result<Rel, 
     renamed(alloc, rel, &[renaming])
 }
 
-/// A column with 5 for each of two rows.
-fn fives(alloc: Global) -> Result<Column, Fault> {
-    let values = Vec::from_array(alloc, [Value::int(5), Value::int(5)])?;
+/// A column with the number for each of two rows.
+fn twice(alloc: Global, number: i64) -> Result<Column, Fault> {
+    let values = Vec::from_array(alloc, [Value::int(number), Value::int(number)])?;
     Ok(Column {
         ty: Ty::Int,
         values,
@@ -78,13 +78,17 @@ fn extended(alloc: Global, call: Call, rel: &Rel, name: Name, column: Column) ->
 fn set_to(alloc: Global, rel: &Rel, name: Name, column: Column) -> Result<Rel, Fault>
     requires { IsColumn (type_view column.ty) column.values.items rel.now.body }
 {
-    made(set_all(alloc, rel, list_of(alloc, (name, column))?))
+    made(set_all(alloc, rel, &[(name, column)]))
 }
 
-/// The relation of two tuples with an attribute that is 5 in each.
-fn with_fives(alloc: Global, call: Call, rel: &Rel, name: &Name) -> Result<Rel, Fault> {
+/// The relation of two tuples with an attribute that is set to 7, or is new and is 5, in each.
+fn with_column(alloc: Global, call: Call, rel: &Rel, name: &Name) -> Result<Rel, Fault> {
     let is_new = rel.heading().get(name).is_none();
-    let (column, name) = both(fives(alloc), made(name.try_clone()))?;
+    let number = match call {
+        Call::SetAll => 7,
+        _ => 5,
+    };
+    let (column, name) = both(twice(alloc, number), made(name.try_clone()))?;
     let fits = column.fits(rel);
     let (column, name) = kept((column, name), Ok(fits))?;
     match call {
@@ -150,7 +154,7 @@ fn of_one(alloc: Global, call: Call, rel: &Rel, names: &[Name]) -> Result<Rel, F
         (Call::Group | Call::Wrap, [new, part @ ..]) => nested(alloc, call, rel, part, new),
         (Call::Unnest, [name]) => unnested(alloc, rel, name),
         (Call::Close, _) => closed(alloc, rel),
-        (_, [name]) => with_fives(alloc, call, rel, name),
+        (_, [name]) => with_column(alloc, call, rel, name),
         _ => Err(MISFIT),
     }
 }
@@ -166,6 +170,9 @@ const TWO: &str = "RELATION {A INTEGER, B INTEGER} {TUPLE {A 1, B 2}, TUPLE {A 1
 
 const WITH_FIVES: &str =
     "RELATION {A INTEGER, B INTEGER, C INTEGER} {TUPLE {A 1, B 2, C 5}, TUPLE {A 1, B 3, C 5}}";
+
+const WITH_SEVENS: &str =
+    "RELATION {A INTEGER, B INTEGER, C INTEGER} {TUPLE {A 1, B 2, C 7}, TUPLE {A 1, B 3, C 7}}";
 
 /// A call of a relation with some names, and what it answers.
 type Row = (Call, &'static str, &'static [&'static str], Want);
@@ -191,12 +198,12 @@ const CALLS: &[Row] = &[
     ),
     (Call::Extend, TWO, &["C"], Ok(WITH_FIVES)),
     (Call::ExtendAll, TWO, &["C"], Ok(WITH_FIVES)),
-    (Call::SetAll, TWO, &["C"], Ok(WITH_FIVES)),
+    (Call::SetAll, TWO, &["C"], Ok(WITH_SEVENS)),
     (
         Call::SetAll,
         TWO,
         &["B"],
-        Ok("RELATION {A INTEGER, B INTEGER} {TUPLE {A 1, B 5}}"),
+        Ok("RELATION {A INTEGER, B INTEGER} {TUPLE {A 1, B 7}}"),
     ),
 ];
 

@@ -1,12 +1,10 @@
 //! The operators of two relations.
-ghost use Rattle.std.specs.Prelude.{◌≡◌};
-
 use super::given::{both, made};
 use super::texts::{Want, is_answer, literal, relation};
 use std::alloc::Global;
 use td_algebra::joins::{compose, hash_join, join, times};
 use td_algebra::semijoins::{matching, not_matching};
-use td_algebra::sets::{intersect, minus, subset, union};
+use td_algebra::sets::{disjoint, intersect, minus, subset, union};
 use td_tree::cause::Cause;
 use td_tree::fault::Fault;
 use td_value::relation::Rel;
@@ -16,8 +14,10 @@ enum Call {
     Union,
     Intersect,
     Minus,
-    /// The first where it is a subset of the second, which is answered else.
+    /// The first where it is a subset of the second, else the second.
     Subset,
+    /// The first where no tuple is in both, else the second.
+    Disjoint,
     Join,
     HashJoin,
     Times,
@@ -26,11 +26,9 @@ enum Call {
     NotMatching,
 }
 
-/// The first where it is a subset of the second, which is answered else.
-fn subset_of(rel: &Rel, other: &Rel) -> Result<Rel, Fault>
-    requires { rel.now.heading ≡ other.now.heading }
-{
-    if subset(rel, other) {
+/// The first where that holds, else the second.
+fn chosen(holds: bool, rel: &Rel, other: &Rel) -> Result<Rel, Fault> {
+    if holds {
         made(rel.try_clone())
     } else {
         made(other.try_clone())
@@ -44,7 +42,8 @@ fn of_one_heading(alloc: Global, call: Call, rel: &Rel, other: &Rel) -> Result<R
             Call::Union => made(union(alloc, rel, other)),
             Call::Intersect => made(intersect(alloc, rel, other)),
             Call::Minus => made(minus(alloc, rel, other)),
-            _ => subset_of(rel, other),
+            Call::Disjoint => chosen(disjoint(rel, other), rel, other),
+            _ => chosen(subset(rel, other), rel, other),
         }
     } else {
         Err(Fault::Refused(Cause::Heading))
@@ -85,6 +84,8 @@ fn told(alloc: Global, call: Call, rel: &str, other: &str) -> Result<String, Fau
 /// Of the integers A and B.
 const TWO: &str = "RELATION {A INTEGER, B INTEGER} {TUPLE {A 1, B 2}, TUPLE {A 1, B 3}}";
 
+const FIRST: &str = "RELATION {A INTEGER, B INTEGER} {TUPLE {A 1, B 2}}";
+
 const SECOND: &str = "RELATION {A INTEGER, B INTEGER} {TUPLE {A 1, B 3}}";
 
 const NONE: &str = "RELATION {A INTEGER, B INTEGER} {}";
@@ -100,14 +101,12 @@ const OF_SETS: &[Row] = &[
     (Call::Intersect, TWO, TWO, Ok(TWO)),
     (Call::Intersect, TWO, SECOND, Ok(SECOND)),
     (Call::Minus, TWO, TWO, Ok(NONE)),
-    (
-        Call::Minus,
-        TWO,
-        SECOND,
-        Ok("RELATION {A INTEGER, B INTEGER} {TUPLE {A 1, B 2}}"),
-    ),
+    (Call::Minus, TWO, SECOND, Ok(FIRST)),
     (Call::Subset, SECOND, TWO, Ok(SECOND)),
     (Call::Subset, TWO, SECOND, Ok(SECOND)),
+    (Call::Disjoint, TWO, SECOND, Ok(SECOND)),
+    (Call::Disjoint, TWO, NONE, Ok(TWO)),
+    (Call::Disjoint, FIRST, SECOND, Ok(FIRST)),
 ];
 
 #[test]

@@ -50,6 +50,8 @@ const CAUSES: &[Cause] = &[
     Cause::EmptyAggregate,
     Cause::NotOneTuple,
     Cause::TypeConstraint,
+    Cause::NotDisjoint,
+    Cause::NotIncluded,
     Cause::Key,
     Cause::Constraint,
 ];
@@ -58,7 +60,7 @@ const CAUSES: &[Cause] = &[
 const NUMBERED: &str = "1 SCAN, 2 SYNTAX, 3 NAME_UNKNOWN, 4 NAME_TAKEN, 5 TYPE_MISMATCH, \
     6 HEADING, 7 KEY_DECLARATION, 8 RANK, 9 IN_USE, 10 NOT_ASSIGNABLE, 11 TRANSACTION, \
     20 OVERFLOW, 21 ZERO_DIVISOR, 22 EMPTY_AGGREGATE, 23 NOT_ONE_TUPLE, 24 TYPE_CONSTRAINT, \
-    30 KEY, 31 CONSTRAINT, ";
+    25 NOT_DISJOINT, 26 NOT_INCLUDED, 30 KEY, 31 CONSTRAINT, ";
 
 /// Puts the cause's number and name at the end of the text.
 fn put_cause(text: &mut String, alloc: Global, cause: Cause) -> Result<(), Fault> {
@@ -103,6 +105,21 @@ const PRINTS: &[(&str, Want)] = &[
         Ok("5 R WHERE NOT A = - 5 OR THE_q ( B ) = 1"),
     ),
     ("--0", Ok("2 - - 0")),
+    ("R d_union S i_minus T", Ok("3 R D_UNION S I_MINUS T")),
+    (
+        "extend R:{A:=B,B:=(A)}",
+        Ok("3 EXTEND R : { A := B , B := ( A ) }"),
+    ),
+    (
+        "R rename{A as B}rename(B as A)",
+        Ok("3 R RENAME { A AS B } RENAME ( B AS A )"),
+    ),
+    (
+        "R group{}as X wrap{all but X}as T",
+        Ok("3 R GROUP { } AS X WRAP { ALL BUT X } AS T"),
+    ),
+    ("R group(all but A as X)", Err(Cause::Syntax)),
+    ("extend R:{}", Err(Cause::Syntax)),
     ("1 = 1 = 1", Err(Cause::Syntax)),
 ];
 

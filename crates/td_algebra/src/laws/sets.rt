@@ -1,6 +1,7 @@
 //! Which tuples a restriction, a union, an intersection and a difference have, and what inclusion
-//! is.
-ghost use Rattle.td_algebra.specs.Membership.{DifferenceByMembership, IntersectionByMembership};
+//! and disjointness are.
+ghost use Rattle.td_algebra.specs.Membership.{DifferenceByMembership, DisjointByMembership};
+ghost use Rattle.td_algebra.specs.Membership.{IntersectionByMembership};
 ghost use Rattle.td_algebra.specs.Membership.{RestrictionByMembership, SubsetByMembership};
 ghost use Rattle.td_algebra.specs.Membership.{UnionByMembership};
 
@@ -27,4 +28,9 @@ pub fn difference_by_membership()
 /// Inclusion: each tuple of the first is in the second.
 pub fn subset_by_membership()
     ensures { SubsetByMembership }
+{}
+
+/// Disjointness: no tuple is in both.
+pub fn disjoint_by_membership()
+    ensures { DisjointByMembership }
 {}

@@ -1,6 +1,6 @@
 //! Headings that the rules make: each refuses by the cause of headings, or wants memory.
 ghost use Rattle.td_check.specs.OperatorTypes.{attribute_type, composed_heading, extended_by};
-ghost use Rattle.td_check.specs.OperatorTypes.{joined_apart, named_part};
+ghost use Rattle.td_check.specs.OperatorTypes.{joined_apart, named_part, set_heading};
 ghost use Rattle.td_tree.specs.Outcomes.{Answers};
 ghost use Rattle.td_tree.specs.code.TreeViews.{attributes_view};
 ghost use Rattle.td_types.specs.code.Views.{pairs_view, type_view};
@@ -43,6 +43,18 @@ pub(crate) fn extended_by(heading: Heading, attributes: Vec<(Name, Ty)>) -> Resu
         extended = extended.with(name, ty)?;
     }
     Ok(extended)
+}
+
+/// The heading with attributes set: one of a name that is there is replaced, others are added.
+/// Refused where a name comes twice among them.
+pub(crate) fn set_heading(heading: &Heading, attributes: Vec<(Name, Ty)>) -> Result<Heading, Fault>
+    ensures { Answers (λ h. h) result (set_heading heading.now (pairs_view attributes.items)) }
+{
+    let alloc = *attributes.allocator();
+    let set = Heading::new(alloc, attributes)?;
+    heading.reveal();
+    let others = heading.lacking(&set)?;
+    others.union(&set)
 }
 
 /// The attributes of both: refused where they have one in common.

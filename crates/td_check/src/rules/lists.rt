@@ -4,15 +4,15 @@ ghost use Rattle.std.specs.Prelude.{◌≡◌, map};
 ghost use Rattle.td_check.specs.code.ItemViews.{summary_item_view, items_view};
 ghost use Rattle.td_check.specs.OperatorTypes.{are_types_of, element_type, extension_type};
 ghost use Rattle.td_check.specs.OperatorTypes.{headed_type, item_type, listed_type};
-ghost use Rattle.td_check.specs.OperatorTypes.{per_heading, selector_type, summary_type};
-ghost use Rattle.td_check.specs.OperatorTypes.{tuple_type};
+ghost use Rattle.td_check.specs.OperatorTypes.{per_heading, selector_type, setting_type};
+ghost use Rattle.td_check.specs.OperatorTypes.{summary_type, tuple_type};
 ghost use Rattle.td_tree.specs.Outcomes.{Answers, Outcome, gathered};
 ghost use Rattle.td_types.specs.code.Pairs.{pair_view};
 ghost use Rattle.td_types.specs.Types.{Heading};
 ghost use Rattle.td_types.specs.code.Views.{pairs_view, type_view};
 
 use crate::rules::asked::{relation_heading, tuple_heading};
-use crate::rules::headings::extended_by;
+use crate::rules::headings::{extended_by, set_heading};
 use crate::rules::operand::aggregate_type;
 use td_tree::cause::Cause;
 use td_tree::fault::Fault;
@@ -98,6 +98,13 @@ pub(crate) fn extension_type(heading: Heading, attributes: Vec<(Name, Ty)>) -> R
     ensures { Answers type_view result (extension_type heading (pairs_view attributes.items)) }
 {
     Ok(Ty::Rel(extended_by(heading, attributes)?))
+}
+
+/// The type of a relation of the heading with attributes set.
+pub(crate) fn setting_type(heading: &Heading, attributes: Vec<(Name, Ty)>) -> Result<Ty, Fault>
+    ensures { Answers type_view result (setting_type heading.now (pairs_view attributes.items)) }
+{
+    Ok(Ty::Rel(set_heading(heading, attributes)?))
 }
 
 /// What SUMMARIZE adds.

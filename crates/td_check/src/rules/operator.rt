@@ -24,7 +24,11 @@ pub(crate) fn operator_type(op: Operator, first: Ty, second: Ty) -> Result<Ty, F
 {
     match op {
         Operator::Or | Operator::And => both_of(Ty::Bool, &first, &second),
-        Operator::Union | Operator::Intersect | Operator::Minus => of_one_heading(first, &second),
+        Operator::Union
+        | Operator::Intersect
+        | Operator::Minus
+        | Operator::DisjointUnion
+        | Operator::IncludedMinus => of_one_heading(first, &second),
         Operator::Join => join_type(&first, &second),
         Operator::Compose => composition_type(&first, &second),
         Operator::Matching | Operator::NotMatching => first_where_agreed(first, &second),

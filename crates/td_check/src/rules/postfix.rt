@@ -107,10 +107,10 @@ pub(crate) fn postfix_type(op: &Postfix, operand: &Ty) -> Result<Ty, Fault>
     let heading = relation_heading(operand)?;
     match op {
         Postfix::Project(attributes) => projected_type(heading, attributes),
-        Postfix::Rename(renamings) => renamed_type(*renamings.allocator(), heading, renamings),
-        Postfix::Group(attributes, name) => grouped_type(heading, attributes, name),
+        Postfix::Rename(_, renamings) => renamed_type(*renamings.allocator(), heading, renamings),
+        Postfix::Group(_, attributes, name) => grouped_type(heading, attributes, name),
         Postfix::Ungroup(name) => ungrouped_type(heading, name),
-        Postfix::Wrap(attributes, name) => wrapped_type(heading, attributes, name),
+        Postfix::Wrap(_, attributes, name) => wrapped_type(heading, attributes, name),
         Postfix::Unwrap(name) => unwrapped_type(heading, name),
     }
 }

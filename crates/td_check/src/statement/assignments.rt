@@ -43,8 +43,8 @@ fn is_target(known: Option<(Kind, &Heading)>) -> Result<(), Fault>
     }
 }
 
-/// What is required of the type of what is assigned or inserted: it is a relation, of the target's
-/// heading where that is known.
+/// What is required of the type of what is assigned, inserted or taken away: it is a relation, of
+/// the target's heading where that is known.
 fn source_fits(known: Option<(Kind, &Heading)>, ty: &Ty) -> Result<(), Fault>
     ensures { (target : Option KnownRelvar)
         → option_map seen_view known.entry ≡ option_map kind_and_heading target
@@ -59,7 +59,7 @@ fn source_fits(known: Option<(Kind, &Heading)>, ty: &Ty) -> Result<(), Fault>
     }
 }
 
-/// What is required of what is assigned or inserted.
+/// What is required of what is assigned, inserted or taken away.
 fn check_source(
     scope: &Scope<'_>,
     known: Option<(Kind, &Heading)>,
@@ -74,7 +74,7 @@ fn check_source(
     source_fits(known, &ty)
 }
 
-/// What is required of an assignment of a relation, and of `INSERT`.
+/// What is required of an assignment of a relation, and of `INSERT`, `D_INSERT` and `I_DELETE`.
 fn check_assigned(scope: &Scope<'_>, target: &Name, source: &Expr) -> Result<(), Fault>
     ensures { Answers (λ u. u) result
         (assignment_checked scope.now (assignment_view (Assignment.Assign target.now source.now))) }
@@ -220,11 +220,12 @@ fn check_assignment(scope: &Scope<'_>, assignment: &Assignment) -> Result<(), Fa
         (assignment_checked scope.now (assignment_view assignment.now)) }
 {
     match assignment {
-        Assignment::Assign(target, source) | Assignment::Insert(target, source) => {
-            check_assigned(scope, target, source)
-        }
+        Assignment::Assign(target, source)
+        | Assignment::Insert(target, source)
+        | Assignment::DisjointInsert(target, source)
+        | Assignment::IncludedDelete(target, source) => check_assigned(scope, target, source),
         Assignment::Delete(target, condition) => check_delete(scope, target, condition.as_ref()),
-        Assignment::Update(target, condition, settings) => {
+        Assignment::Update(_, target, condition, settings) => {
             check_update(scope, target, condition.as_ref(), settings)
         }
     }

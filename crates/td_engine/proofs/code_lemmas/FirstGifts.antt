@@ -7,19 +7,20 @@ use Rattle.td_body.specs.Bodies.{after_change}
 use Rattle.td_catalog.specs.Database.{BaseRelvar, Database, base_named}
 use Rattle.td_check.specs.OperatorTypes.{known_or, same_heading}
 use Rattle.td_engine.proofs.code_lemmas.DeletedTuples.{delete_is, same_world}
-use Rattle.td_engine.proofs.law_lemmas.Sources.{inserted_is}
+use Rattle.td_engine.proofs.law_lemmas.Sources.{inserted_is, put_apart_is, taken_out_is}
 use Rattle.td_engine.specs.Assignments.{Given, chosen_for, current, given_to, relation_for, setting_names, target_of, updated_relation, with_assignment, with_given}
 use Rattle.td_engine.specs.Changes.{IsChangeOf, IsOfHeading, changed_by, gift_over, given_as}
 use Rattle.td_engine.specs.code.Gifts.{gift_of}
 use Rattle.td_engine.specs.declared.change.Change.{Change}
 use Rattle.td_eval.specs.DatabaseWorlds.{world_of}
-use Rattle.td_eval.specs.OperatorValues.{on_relation}
+use Rattle.td_eval.specs.OperatorValues.{disjoint_union, included_difference, on_relation}
 use Rattle.td_eval.specs.TreeValues.{value_of, values_in_tuples}
 use Rattle.td_eval.specs.Worlds.{World}
 use Rattle.td_tree.specs.Outcomes.{Answers, Outcome, Valued, Refused, value_if, with_value}
-use Rattle.td_tree.specs.Trees.{Assignment, NamedTrees, Tree, delete, insert, update}
+use Rattle.td_tree.specs.Trees.{Assignment, NamedTrees, Tree, delete, disjoint_insert, included_delete, insert, update}
 use Rattle.td_tree.specs.declared.cause.Cause.TheVariants as causes
 use Rattle.td_tree.specs.declared.fault.Fault.{Fault}
+use Rattle.td_tree.specs.declared.operator.Style.{Style}
 use Rattle.td_types.specs.Types.{Heading}
 use Rattle.td_value.specs.Values.{IsRelation, Relation}
 use Rattle.td_value.specs.code.Views.{relation_view}
@@ -44,6 +45,22 @@ module _ (db : Database) where
       subst (Answers (λ (c : Change). changed_by c r.relation) result)
       (sym (inserted_is db n r.relation source ∙ ap (λ w. with_value (relation_for r.relation w source) (λ s. Valued (union r.relation s))) (same_world db n r is))) told
 
+  -- so D_INSERT and I_DELETE
+  module _ (n : List ℕ) (source : Tree) (r : BaseRelvar) (result : Result Change Fault) (is : base_named n db ≡ Some r) where
+    pub disjoint_insert_first :
+        Answers (λ c. changed_by c r.relation) result (with_value (relation_for r.relation (world_of db) source) (disjoint_union r.relation))
+        → Answers (λ c. changed_by c r.relation) result (gift_over db r.relation (disjoint_insert n source))
+    disjoint_insert_first told =
+        subst (Answers (λ (c : Change). changed_by c r.relation) result)
+        (sym (put_apart_is db n r.relation source ∙ ap (λ w. with_value (relation_for r.relation w source) (disjoint_union r.relation)) (same_world db n r is))) told
+
+    pub included_delete_first :
+        Answers (λ c. changed_by c r.relation) result (with_value (relation_for r.relation (world_of db) source) (included_difference r.relation))
+        → Answers (λ c. changed_by c r.relation) result (gift_over db r.relation (included_delete n source))
+    included_delete_first told =
+        subst (Answers (λ (c : Change). changed_by c r.relation) result)
+        (sym (taken_out_is db n r.relation source ∙ ap (λ w. with_value (relation_for r.relation w source) (included_difference r.relation)) (same_world db n r is))) told
+
   -- so DELETE and UPDATE
   module _ (n : List ℕ) (condition : Option Tree) (r : BaseRelvar) (result : Result Change Fault) (is : base_named n db ≡ Some r) where
     pub delete_first : IsRelation r.relation
@@ -56,11 +73,11 @@ module _ (db : Database) where
         ∙ ap (λ w. with_value (chosen_for r.relation w n condition) (λ out. Valued (after_change out (relation_view out.heading []) r.relation))) (same_world db n r is)))
         told
 
-    pub update_first : (settings : NamedTrees)
+    pub update_first : (style : Style) (settings : NamedTrees)
         → Answers (λ c. changed_by c r.relation) result
         (with_value (chosen_for r.relation (world_of db) n condition) (updated_relation r.relation (setting_names settings) (values_in_tuples (world_of db) [] settings)))
-        → Answers (λ c. changed_by c r.relation) result (gift_over db r.relation (update n condition settings))
-    update_first settings told =
+        → Answers (λ c. changed_by c r.relation) result (gift_over db r.relation (update style n condition settings))
+    update_first style settings told =
         subst (Answers (λ (c : Change). changed_by c r.relation) result)
         (sym (ap (λ w. with_value (chosen_for r.relation w n condition) (updated_relation r.relation (setting_names settings) (values_in_tuples w [] settings)))
         (same_world db n r is)))

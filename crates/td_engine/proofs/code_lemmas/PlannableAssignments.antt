@@ -23,10 +23,11 @@ use Rattle.td_eval.proofs.code_lemmas.TypedRows.{rows_typed}
 use Rattle.td_eval.specs.DatabaseWorlds.{world_of}
 use Rattle.td_eval.specs.ValueTypes.{DefinitionsAreWritten, IsTypedTuple, IsWritten}
 use Rattle.td_tree.specs.declared.cause.Cause.TheVariants as causes
+use Rattle.td_tree.specs.declared.operator.Style.{Style}
 use Rattle.td_tree.specs.declared.statement.Assignment as code
 use Rattle.td_tree.specs.Outcomes.{Valued, value_if, with_value}
 use Rattle.td_tree.specs.code.TreeViews.{assignment_view}
-use Rattle.td_tree.specs.Trees.{Assignment, NamedTrees, Tree, assign, assign_all, delete, insert, name, restriction, update}
+use Rattle.td_tree.specs.Trees.{Assignment, NamedTrees, Tree, assign, assign_all, delete, disjoint_insert, included_delete, insert, name, restriction, update}
 use Rattle.td_types.proofs.OutcomeLaws.{value_of_test, value_of_with}
 use Rattle.td_types.specs.code.TypeCode.{unpack_pack}
 use Rattle.td_types.specs.Types.{Heading, Type', boolean, pack, relation}
@@ -36,11 +37,24 @@ module _ (db : Database) (legal : IsLegal db) where
   defined : DefinitionsAreWritten db
   defined = definitions_written db legal.spelled
 
-  -- what is inserted into a relvar to which nothing was given before
+  -- a source that meets the rules
+  checked_plannable : (n : List ℕ) (e : Tree) → IsWritten e
+      → both_hold (is_target (known_relvar (database_scope db) n))
+      (with_value (type_of (database_scope db) e) (source_fits (known_relvar (database_scope db) n))) ≡ Valued tt
+      → IsPlannable db e
+  checked_plannable n e is_written checked =
+      let source = value_of_with (type_of (database_scope db) e) (source_fits (known_relvar (database_scope db) n)) tt (both_asked _ _ checked).1 in
+      record { gives = database_gives db legal.typed defined; definitions = defined; written = is_written; typed = (source.0, source.1) }
+
+  -- what is inserted into a relvar to which nothing was given before, or is to be taken away from it
   pub insert_plannable : (n : List ℕ) (e : Tree) → IsAdmittedAssignment db (insert n e) → IsPlannable db e
-  insert_plannable n e is =
-      let source = value_of_with (type_of (database_scope db) e) (source_fits (known_relvar (database_scope db) n)) tt (both_asked _ _ is.checked).1 in
-      record { gives = database_gives db legal.typed defined; definitions = defined; written = is.written; typed = (source.0, source.1) }
+  insert_plannable n e is = checked_plannable n e is.written is.checked
+
+  pub disjoint_insert_plannable : (n : List ℕ) (e : Tree) → IsAdmittedAssignment db (disjoint_insert n e) → IsPlannable db e
+  disjoint_insert_plannable n e is = checked_plannable n e is.written is.checked
+
+  pub included_delete_plannable : (n : List ℕ) (e : Tree) → IsAdmittedAssignment db (included_delete n e) → IsPlannable db e
+  included_delete_plannable n e is = checked_plannable n e is.written is.checked
 
   -- a base relvar may be given what it holds
   pub base_gift : (n : List ℕ) (r : BaseRelvar) → base_named n db ≡ Some r → IsGift db (n, r.relation)
@@ -83,10 +97,10 @@ module _ (db : Database) (legal : IsLegal db) where
           typed = (t.0, subst (λ (h : Heading). type_of (entered_with h (database_scope db)) e ≡ Valued t.0) (sym gift.heading) t.1);
         }
 
-    settings_plannable : (condition : Option Tree) (settings : NamedTrees) → IsAdmittedAssignment db (update n condition settings)
+    settings_plannable : (style : Style) (condition : Option Tree) (settings : NamedTrees) → IsAdmittedAssignment db (update style n condition settings)
         → ArePlannableSettings db (source_world db n so_far) (chosen_for so_far (source_world db n so_far) n condition) settings
-    settings_plannable condition settings is =
-        let kinds = checked_settings db legal.typed defined n so_far gift condition settings is.checked in
+    settings_plannable style condition settings is =
+        let kinds = checked_settings db legal.typed defined n so_far gift style condition settings is.checked in
         let like = chosen_like db legal.typed defined n so_far gift condition in
         record {
           gives = source_gives db legal.typed defined n so_far gift;
@@ -103,12 +117,14 @@ module _ (db : Database) (legal : IsLegal db) where
       → IsPlannableAssignment db so_far a
   assignment_plannable so_far (assign n e) gift is = source_plannable n so_far gift e is.checked is.written
   assignment_plannable so_far (insert n e) gift is = source_plannable n so_far gift e is.checked is.written
+  assignment_plannable so_far (disjoint_insert n e) gift is = source_plannable n so_far gift e is.checked is.written
+  assignment_plannable so_far (included_delete n e) gift is = source_plannable n so_far gift e is.checked is.written
   assignment_plannable so_far (delete n condition) gift is =
       let k = checked_condition db legal.typed defined n so_far gift condition is.checked in
       condition_plannable n so_far gift condition k.0 k.1 is.written
-  assignment_plannable so_far (update n condition settings) gift is =
-      let k = checked_setting_condition db legal.typed defined n so_far gift condition settings is.checked in
-      (condition_plannable n so_far gift condition k.0 k.1 is.written.0, settings_plannable n so_far gift condition settings is)
+  assignment_plannable so_far (update style n condition settings) gift is =
+      let k = checked_setting_condition db legal.typed defined n so_far gift style condition settings is.checked in
+      (condition_plannable n so_far gift condition k.0 k.1 is.written.0, settings_plannable n so_far gift style condition settings is)
 
   -- ---- what is chosen of what a base relvar holds
 
@@ -142,17 +158,17 @@ module _ (db : Database) (legal : IsLegal db) where
         let k = checked_condition db legal.typed defined n b.relation (base_gift n b at) condition is.checked in
         chosen_plannable condition k.0 k.1 k.2 is.written
 
-    module _ (condition : Option Tree) (settings : NamedTrees) (is : IsAdmittedAssignment db (update n condition settings)) where
+    module _ (style : Style) (condition : Option Tree) (settings : NamedTrees) (is : IsAdmittedAssignment db (update style n condition settings)) where
       pub update_plannable : IsPlannableIf db (option_map (restriction (name n)) condition)
       unfolding base_gift
       update_plannable =
-          let k = checked_setting_condition db legal.typed defined n b.relation (base_gift n b at) condition settings is.checked in
+          let k = checked_setting_condition db legal.typed defined n b.relation (base_gift n b at) style condition settings is.checked in
           chosen_plannable condition k.0 k.1 k.2 is.written.0
 
       pub update_settings : ArePlannableSettings db (world_of db) (chosen_for b.relation (world_of db) n condition) settings
       update_settings =
           subst (λ w. ArePlannableSettings db w (chosen_for b.relation w n condition) settings) (same_world db n b at)
-          (settings_plannable n b.relation (base_gift n b at) condition settings is)
+          (settings_plannable n b.relation (base_gift n b at) style condition settings is)
 
   -- ---- those of a statement
 

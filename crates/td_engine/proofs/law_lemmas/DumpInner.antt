@@ -6,12 +6,13 @@ use Rattle.td_tree.specs.declared.operator.Operator.{Operator}
 use Rattle.td_tree.specs.declared.operator.Operator.TheVariants as operators
 use Rattle.td_tree.specs.declared.operator.Prefix.{Prefix}
 use Rattle.td_tree.specs.declared.operator.Prefix.TheVariants as prefixes
+use Rattle.td_tree.specs.declared.operator.Style.TheVariants as styles
 use Rattle.td_tree.specs.declared.token.Sign.TheVariants as signs
 use Rattle.td_tree.specs.Grammar.{comparison_word, operator_words}
 use Rattle.td_tree.specs.Lexemes.{Lexeme}
 use Rattle.td_tree.specs.Lexemes as lexeme
 use Rattle.td_tree.specs.Lists.{with_braces, with_parentheses}
-use Rattle.td_tree.specs.Prints.{addition_lexemes, all_lexemes, attribute_lexemes, attributes_lexemes, commas, following, lexemes_of, literal_lexemes, part_lexemes, postfix_lexemes, prefix_words, renaming_lexemes, summary_lexemes, type_lexemes}
+use Rattle.td_tree.specs.Prints.{addition_lexemes, all_lexemes, attribute_lexemes, attributes_lexemes, commas, following, lexemes_of, literal_lexemes, part_lexemes, postfix_lexemes, prefix_words, renaming_lexemes, setting_lexemes, summary_lexemes, type_lexemes}
 use Rattle.td_tree.specs.Trees as trees
 use Rattle.td_tree.specs.Trees.{AttributeTrees, Attributes, Literal, NamedTrees, Postfix, Renaming, Summaries, Text, Tree, Trees, TypeTree}
 
@@ -79,10 +80,13 @@ renamings_inner (r ∷ rs) = and_item (also tt (also tt (also tt none_left))) (r
 
 postfix_inner : (p : Postfix) → AllInner (postfix_lexemes p)
 postfix_inner (trees.project a) = attribute_list_inner a
-postfix_inner (trees.rename rs) = also tt (in_parentheses (commas_inner (renamings_inner rs)))
-postfix_inner (trees.group a n) = also tt (in_parentheses (join (attribute_list_inner a) (also tt (also tt none_left))))
+postfix_inner (trees.rename styles.Older rs) = also tt (in_parentheses (commas_inner (renamings_inner rs)))
+postfix_inner (trees.rename styles.Newer rs) = also tt (in_braces (commas_inner (renamings_inner rs)))
+postfix_inner (trees.group styles.Older a n) = also tt (in_parentheses (join (attribute_list_inner a) (also tt (also tt none_left))))
+postfix_inner (trees.group styles.Newer a n) = also tt (join (attribute_list_inner a) (also tt (also tt none_left)))
 postfix_inner (trees.ungroup n) = also tt (in_parentheses (also tt none_left))
-postfix_inner (trees.wrap a n) = also tt (in_parentheses (join (attribute_list_inner a) (also tt (also tt none_left))))
+postfix_inner (trees.wrap styles.Older a n) = also tt (in_parentheses (join (attribute_list_inner a) (also tt (also tt none_left))))
+postfix_inner (trees.wrap styles.Newer a n) = also tt (join (attribute_list_inner a) (also tt (also tt none_left)))
 postfix_inner (trees.unwrap n) = also tt (in_parentheses (also tt none_left))
 
 literal_inner : (l : Literal) → AllInner (literal_lexemes l)
@@ -127,6 +131,7 @@ mutual
   tree_inner (trees.headed_relation h all) = also tt (join (in_braces (commas_inner (attributes_inner h))) (in_braces (commas_inner (all_inner all))))
   tree_inner (trees.tuple parts) = also tt (in_braces (commas_inner (parts_inner parts)))
   tree_inner (trees.extend a parts) = also tt (join (tree_inner a) (also tt (in_parentheses (commas_inner (additions_inner parts)))))
+  tree_inner (trees.extend_setting a settings) = also tt (join (tree_inner a) (also tt (in_braces (commas_inner (settings_inner settings)))))
   tree_inner (trees.summarize_per a b items) =
       also tt (join (tree_inner a) (also tt (join (in_parentheses (tree_inner b)) (also tt (in_parentheses (commas_inner (summaries_inner items)))))))
   tree_inner (trees.summarize_by a by items) =
@@ -145,6 +150,10 @@ mutual
   additions_inner : (parts : NamedTrees) → EachInner (addition_lexemes parts)
   additions_inner trees.none_named = no_item
   additions_inner (trees.more_named n a parts) = and_item (join (tree_inner a) (also tt (also tt none_left))) (additions_inner parts)
+
+  settings_inner : (settings : NamedTrees) → EachInner (setting_lexemes settings)
+  settings_inner trees.none_named = no_item
+  settings_inner (trees.more_named n a settings) = and_item (also tt (also tt (tree_inner a))) (settings_inner settings)
 
   summaries_inner : (items : Summaries) → EachInner (summary_lexemes items)
   summaries_inner trees.no_summaries = no_item

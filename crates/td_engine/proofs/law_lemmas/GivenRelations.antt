@@ -6,7 +6,7 @@ use Rattle.std.specs.Option.{option_or}
 use Rattle.td_algebra.specs.Operators.{difference, union}
 use Rattle.td_catalog.specs.Database.{BaseRelvar, Database, base_named, base_relvar}
 use Rattle.td_check.specs.OperatorTypes.{known_or, same_heading}
-use Rattle.td_engine.specs.Assignments.{Given, assignment_value, chosen_for, current, given_by, given_to, of_heading, relation_for, setting_attributes, setting_names, source_world, target_of, updated_relation, with_assignment, with_gift, with_given, with_inserted, without_deleted}
+use Rattle.td_engine.specs.Assignments.{Given, assignment_value, chosen_for, current, given_by, given_to, of_heading, relation_for, setting_attributes, setting_names, source_world, target_of, updated_relation, with_assignment, with_gift, with_given, combined_with, without_deleted}
 use Rattle.td_engine.specs.Machine.{init_relation}
 use Rattle.td_engine.proofs.law_lemmas.EachOf.{all_mapped, of_found}
 use Rattle.td_eval.proofs.law_lemmas.MetAssignments.{assigned_relations_meet_constraints}
@@ -18,8 +18,9 @@ use Rattle.td_eval.specs.OperatorValues.{on_relation, set_value}
 use Rattle.td_eval.specs.TreeValues.{value_of, values_in_tuples}
 use Rattle.td_eval.specs.Worlds.{World}
 use Rattle.td_tree.specs.Outcomes.{Outcome, Valued}
-use Rattle.td_tree.specs.Trees.{Tree, name, parentheses, Assignment, assign, insert, delete, update, restriction}
+use Rattle.td_tree.specs.Trees.{Tree, name, parentheses, Assignment, assign, insert, disjoint_insert, delete, included_delete, update, restriction}
 use Rattle.td_tree.specs.declared.cause.Cause.TheVariants as causes
+use Rattle.td_tree.specs.declared.operator.Operator.TheVariants as operators
 use Rattle.td_types.proofs.OutcomeLaws.{value_of_test, value_of_with, valued_is}
 use Rattle.td_types.specs.TypeLists.{DeclaredType}
 use Rattle.td_types.specs.Types.{Heading, same_name, unpack}
@@ -75,10 +76,12 @@ module _ (ds : List DeclaredType) where
     -- what an assignment gives to its target
     assigned_meets : (cur : Relation) (a : Assignment) (r : Relation) → Meets ds cur → assignment_value w cur a ≡ Valued r → Meets ds r
     assigned_meets cur (assign target source) r met is = source_meets cur source r is
-    assigned_meets cur (insert target source) r met is = source_meets cur (with_inserted target source) r is
+    assigned_meets cur (insert target source) r met is = source_meets cur (combined_with target operators.Union source) r is
+    assigned_meets cur (disjoint_insert target source) r met is = source_meets cur (combined_with target operators.DisjointUnion source) r is
+    assigned_meets cur (included_delete target source) r met is = source_meets cur (combined_with target operators.IncludedMinus source) r is
     assigned_meets cur (delete target None) r met is = subst (Meets ds) (valued_is (relation_view cur.heading []) r is) tt
     assigned_meets cur (delete target (Some p)) r met is = source_meets cur (without_deleted target p) r is
-    assigned_meets cur (update target condition settings) r met is =
+    assigned_meets cur (update style target condition settings) r met is =
         let fs = values_in_tuples w [] settings in
         let chosen = value_of_with (chosen_for cur w target condition) (updated_relation cur (setting_names settings) fs) r is in
         let part = chosen_meets cur target condition chosen.0 met chosen.1 in

@@ -1,16 +1,17 @@
 -- What INSERT, DELETE and UPDATE are of, without the trees that they stand for.
 use Rattle.std.proofs.Common.{◌≡◌, ◌∙◌, ◌∷◌, ℕ, Bool, true, false, List, [], Result, Ok, Err, ap, refl, sym, map, true≢false}
 use Rattle.std.specs.Prelude.{IfOk, not}
-use Rattle.td_algebra.specs.Operators.{restriction, union}
+use Rattle.td_algebra.specs.Operators.{difference, is_disjoint, is_subset, restriction, union}
 use Rattle.td_catalog.specs.Database.{Database}
 use Rattle.td_check.specs.OperatorTypes.{same_heading}
-use Rattle.td_engine.specs.Assignments.{of_heading, relation_for, source_world, with_inserted}
+use Rattle.td_engine.specs.Assignments.{combined_with, of_heading, relation_for, source_world}
 use Rattle.td_engine.specs.code.Gifts.{restricted_relation}
 use Rattle.td_eval.proofs.code_lemmas.OpValues.{relation_unpacked}
-use Rattle.td_eval.specs.OperatorValues.{is_true, of_relation, on_relation, operator_value, prefix_value, relation_where, restricted_value, truth_value}
+use Rattle.td_eval.specs.OperatorValues.{disjoint_union, included_difference, is_true, of_relation, on_relation, on_relations, operator_value, over_one_heading, prefix_value, relation_where, restricted_value, truth_value}
 use Rattle.td_eval.specs.TreeValues.{value_of}
 use Rattle.td_eval.specs.Worlds.{World, name_value}
 use Rattle.td_tree.specs.declared.cause.Cause.TheVariants as causes
+use Rattle.td_tree.specs.declared.operator.Operator.{Operator}
 use Rattle.td_tree.specs.declared.operator.Operator.TheVariants as operators
 use Rattle.td_tree.specs.declared.operator.Prefix.TheVariants as prefixes
 use Rattle.td_tree.specs.declared.fault.Fault.{Fault}
@@ -18,7 +19,7 @@ use Rattle.td_tree.specs.Outcomes.{Answers, Outcome, Valued, Refused, gathered, 
 use Rattle.td_tree.specs.Trees.{Tree, name}
 use Rattle.td_tree.specs.Trees as trees
 use Rattle.td_types.proofs.HeadingLaws.{same_name-itself}
-use Rattle.td_types.proofs.OutcomeLaws.{valued_is}
+use Rattle.td_types.proofs.OutcomeLaws.{value_of_test, valued_is}
 use Rattle.td_types.specs.TypeOrder.{heading_eq-Decides}
 use Rattle.td_types.specs.Types.{Heading, unpack}
 use Rattle.td_value.specs.Values.{Val, boolean, integer, char, relation_value, user, tuple, relation, Relation, Tuple, unpack_rows}
@@ -87,7 +88,7 @@ module _ (db : Database) (n : List ℕ) (cur : Relation) where
   target_value = rw (same_name-itself n) refl
 
   -- INSERT gives the tuples of either
-  pub inserted_is : (x : Tree) → relation_for cur w (with_inserted n x) ≡ with_value (relation_for cur w x) (λ r. Valued (union cur r))
+  pub inserted_is : (x : Tree) → relation_for cur w (combined_with n operators.Union x) ≡ with_value (relation_for cur w x) (λ r. Valued (union cur r))
   inserted_is x =
       ap (λ o. with_value (with_both o (value_of w [] x) (operator_value operators.Union)) (λ v. on_relation v (of_heading cur))) target_value
       ∙ by_source (value_of w [] x)
@@ -114,6 +115,58 @@ module _ (db : Database) (n : List ℕ) (cur : Relation) where
           ap (λ o. with_value o (λ v. on_relation v (of_heading cur)))
           (relation_unpacked cur (λ r. relation_where (same_heading r.heading s.heading) (union r s)))
           ∙ by_test s (same_heading cur.heading s.heading) (same_heading s.heading cur.heading) (other_way s.heading cur.heading)
+
+  -- what an operator that may refuse two relations of one heading gives of the target
+  module _ (op : Operator) (f : Relation → Relation → Outcome Relation)
+      (operates : (v u : Val) → operator_value op v u ≡ on_relations v u (over_one_heading f))
+      (keeps : (s q : Relation) → f cur s ≡ Valued q → q.heading ≡ cur.heading) where
+    of_target : (o : Outcome Relation) → ((q : Relation) → o ≡ Valued q → q.heading ≡ cur.heading)
+        → with_value (with_value o of_relation) (λ v. on_relation v (of_heading cur)) ≡ o
+    of_target (Refused cs) k = refl
+    of_target (Valued q) k = relation_unpacked q (of_heading cur) ∙ ap (λ b. value_if b q causes.Heading) (ap (λ h. same_heading h cur.heading) (k q refl) ∙ itself cur.heading)
+
+    by_heading : (s : Relation) (b c : Bool) → c ≡ b
+        → with_value (with_value (value_if b s causes.Heading) (λ q. with_value (f cur q) of_relation)) (λ v. on_relation v (of_heading cur))
+        ≡ with_value (value_if c s causes.Heading) (f cur)
+    by_heading s true true e = of_target (f cur s) (keeps s)
+    by_heading s true false e = absurd (true≢false (sym e))
+    by_heading s false true e = absurd (true≢false e)
+    by_heading s false false e = refl
+
+    abbrev operated : Val → Outcome Relation
+    operated u = with_value (on_relations (relation_value cur) u (over_one_heading f)) (λ v. on_relation v (of_heading cur))
+
+    by_value : (o : Outcome Val)
+        → with_value (with_both (Valued (relation_value cur)) o (operator_value op)) (λ v. on_relation v (of_heading cur))
+        ≡ with_value (with_value o (λ v. on_relation v (of_heading cur))) (f cur)
+    by_value (Refused cs) = refl
+    by_value (Valued u) = ap (λ o. with_value o (λ v. on_relation v (of_heading cur))) (operates (relation_value cur) u) ∙ by_kind u
+      where
+        by_kind : (u : Val) → operated u ≡ with_value (on_relation u (of_heading cur)) (f cur)
+        by_kind (boolean b) = refl
+        by_kind (integer z) = refl
+        by_kind (char s) = refl
+        by_kind (user m ps) = refl
+        by_kind (tuple fs) = refl
+        by_kind (relation g rs) =
+            let s = relation_view (unpack g) (unpack_rows rs) in
+            ap (λ o. with_value o (λ v. on_relation v (of_heading cur))) (relation_unpacked cur (λ r. over_one_heading f r s))
+            ∙ by_heading s (same_heading cur.heading s.heading) (same_heading s.heading cur.heading) (other_way s.heading cur.heading)
+
+    combined_is : (x : Tree) → relation_for cur w (combined_with n op x) ≡ with_value (relation_for cur w x) (f cur)
+    combined_is x =
+        ap (λ o. with_value (with_both o (value_of w [] x) (operator_value op)) (λ v. on_relation v (of_heading cur))) target_value
+        ∙ by_value (value_of w [] x)
+
+  -- D_INSERT gives the tuples of either, where none is in both
+  pub put_apart_is : (x : Tree) → relation_for cur w (combined_with n operators.DisjointUnion x) ≡ with_value (relation_for cur w x) (disjoint_union cur)
+  put_apart_is = combined_is operators.DisjointUnion disjoint_union (λ v u. refl)
+      (λ s q e. ap (λ (r : Relation). r.heading) (sym (value_of_test (is_disjoint cur s) (union cur s) q causes.NotDisjoint e).1))
+
+  -- I_DELETE gives the other tuples, where those that go are there
+  pub taken_out_is : (x : Tree) → relation_for cur w (combined_with n operators.IncludedMinus x) ≡ with_value (relation_for cur w x) (included_difference cur)
+  taken_out_is = combined_is operators.IncludedMinus included_difference (λ v u. refl)
+      (λ s q e. ap (λ (r : Relation). r.heading) (sym (value_of_test (is_subset s cur) (difference cur s) q causes.NotIncluded e).1))
 
   -- R WHERE p, of the target
   pub restricted_is : (p : Tree) → relation_for cur w (trees.restriction (name n) p) ≡ restricted_relation (λ t. value_of w (t ∷ []) p) cur

@@ -4,7 +4,7 @@ use Rattle.std.specs.Cmp.Lexicographic.{same_text}
 use Rattle.std.specs.Option.{option_or}
 use Rattle.std.specs.Prelude.{⊤}
 use Rattle.std.specs.List.{AllByRecursion, Contains}
-use Rattle.td_algebra.specs.Operators.{difference, restriction, union}
+use Rattle.td_algebra.specs.Operators.{difference, is_disjoint, is_subset, restriction, union}
 use Rattle.td_catalog.specs.Database.{BaseRelvar, Database, base_among, base_named, database_scope, known_base}
 use Rattle.td_catalog.specs.TypedDatabases.{IsTyped, IsTypedBase}
 use Rattle.td_check.specs.OperatorTypes.{known_or, same_heading}
@@ -15,9 +15,9 @@ use Rattle.td_engine.proofs.law_lemmas.Admitted.{both_asked}
 use Rattle.td_engine.proofs.law_lemmas.Gifted.{gift_to, some_is}
 use Rattle.td_engine.proofs.law_lemmas.GivenValues.{source_gives}
 use Rattle.td_engine.proofs.law_lemmas.SettingNames.{names_are}
-use Rattle.td_engine.proofs.law_lemmas.Sources.{inserted_is, restricted_is}
+use Rattle.td_engine.proofs.law_lemmas.Sources.{inserted_is, put_apart_is, restricted_is, taken_out_is}
 use Rattle.td_engine.proofs.law_lemmas.TypedSettings.{AreOwnParts, additions_are, set_attributes, typed_setting}
-use Rattle.td_engine.specs.Assignments.{Given, assignment_value, chosen_for, current, given_by, given_to, of_heading, relation_for, setting_attributes, setting_names, source_world, target_of, updated_relation, with_assignment, with_given, with_inserted, without_deleted}
+use Rattle.td_engine.specs.Assignments.{Given, assignment_value, chosen_for, current, given_by, given_to, of_heading, relation_for, setting_attributes, setting_names, source_world, target_of, updated_relation, with_assignment, with_given, combined_with, without_deleted}
 use Rattle.td_engine.specs.code.Gifts.{AreGifts, IsGift, restricted_relation, setting_attribute}
 use Rattle.td_engine.proofs.law_lemmas.WrittenStatements.{AreWritten}
 use Rattle.td_engine.specs.code.Plannable.{AreWrittenSettings, IsWrittenAssignment}
@@ -26,14 +26,16 @@ use Rattle.td_eval.proofs.code_lemmas.KeepsRelations.{IsTypedRelation, typed_fro
 use Rattle.td_eval.proofs.law_lemmas.KnownRelvars.{known_as_base}
 use Rattle.td_eval.proofs.code_lemmas.TypedRows.{own_type, parts_typed, rows_typed}
 use Rattle.td_eval.proofs.code_lemmas.TypedTrees.{values_keep_types}
-use Rattle.td_eval.specs.OperatorValues.{is_true, on_relation, set_value, truth_value}
+use Rattle.td_eval.specs.OperatorValues.{disjoint_union, included_difference, is_true, on_relation, set_value, truth_value}
 use Rattle.td_eval.specs.TreeValues.{value_of, values_in_tuples}
 use Rattle.td_eval.specs.ValueTypes.{DefinitionsAreWritten, IsOfType, IsWritten, KeepsScope, KeepsType}
 use Rattle.td_eval.specs.Worlds.{World}
 use Rattle.td_tree.specs.declared.cause.Cause.TheVariants as causes
 use Rattle.td_tree.specs.Outcomes.{Outcome, Valued, gathered, value_if, with_both, with_value}
-use Rattle.td_tree.specs.Trees.{Assignment, NamedTrees, Tree, assign, assign_all, delete, insert, more_named, none_named, parentheses, prefix, update}
+use Rattle.td_tree.specs.Trees.{Assignment, NamedTrees, Tree, assign, assign_all, delete, disjoint_insert, included_delete, insert, more_named, none_named, parentheses, prefix, update}
+use Rattle.td_tree.specs.declared.operator.Operator.TheVariants as operators
 use Rattle.td_tree.specs.declared.operator.Prefix.TheVariants as prefixes
+use Rattle.td_tree.specs.declared.operator.Style.{Style}
 use Rattle.td_types.proofs.OutcomeLaws.{valued_is, value_of_test, value_of_with, values_of_both}
 use Rattle.td_types.specs.Headings.{are_distinct}
 use Rattle.td_types.specs.TypeLists.{AreKnown, DeclaredType}
@@ -216,18 +218,18 @@ module _ (db : Database) (is_typed : IsTyped db) (written : DefinitionsAreWritte
         (one.0, one.1, one.2)
 
     -- and UPDATE
-    pub checked_setting_condition : (condition : Option Tree) (settings : NamedTrees) → assignment_checked scope (update n condition settings) ≡ Valued tt
+    pub checked_setting_condition : (style : Style) (condition : Option Tree) (settings : NamedTrees) → assignment_checked scope (update style n condition settings) ≡ Valued tt
         → (k : Option Type') × (type_if_given (entered_with gift.target.relation.heading scope) condition ≡ Valued k) × (condition_fits k ≡ Valued tt)
-    checked_setting_condition condition settings checked =
+    checked_setting_condition style condition settings checked =
         let asked = λ (inside : Scope) (h : Heading). with_both (type_if_given inside condition) (named_types inside settings) (λ c kinds. both_hold (condition_fits c) (settings_fit h kinds)) in
         let is : asked (entered_with gift.target.relation.heading scope) gift.target.relation.heading ≡ Valued tt =
         ap (λ o. in_target scope o asked) (sym known) ∙ (both_asked _ _ checked).1 in
         let both = values_of_both (type_if_given (entered_with gift.target.relation.heading scope) condition) (named_types (entered_with gift.target.relation.heading scope) settings) _ tt is in
         (both.0, both.2, (both_asked _ _ both.4).0)
 
-    pub checked_settings : (condition : Option Tree) (settings : NamedTrees) → assignment_checked scope (update n condition settings) ≡ Valued tt
+    pub checked_settings : (style : Style) (condition : Option Tree) (settings : NamedTrees) → assignment_checked scope (update style n condition settings) ≡ Valued tt
         → (kinds : List Attribute) × (named_types (entered_with gift.target.relation.heading scope) settings ≡ Valued kinds)
-    checked_settings condition settings checked =
+    checked_settings style condition settings checked =
         let asked = λ (inside : Scope) (h : Heading). with_both (type_if_given inside condition) (named_types inside settings) (λ c kinds. both_hold (condition_fits c) (settings_fit h kinds)) in
         let is : asked (entered_with gift.target.relation.heading scope) gift.target.relation.heading ≡ Valued tt =
         ap (λ o. in_target scope o asked) (sym known) ∙ (both_asked _ _ checked).1 in
@@ -249,18 +251,32 @@ module _ (db : Database) (is_typed : IsTyped db) (written : DefinitionsAreWritte
         source_like e source.0 r is_written source.1 is
     gives_like (insert m e) r same is_written checked is =
         let source = checked_source e (subst (λ k. assignment_checked scope (insert k e) ≡ Valued tt) same checked) in
-        let at : relation_for so_far w (with_inserted n e) ≡ Valued r = ap (λ k. relation_for so_far w (with_inserted k e)) (sym same) ∙ is in
+        let at : relation_for so_far w (combined_with n operators.Union e) ≡ Valued r = ap (λ k. relation_for so_far w (combined_with k operators.Union e)) (sym same) ∙ is in
         let given = value_of_with (relation_for so_far w e) (λ q. Valued (union so_far q)) r (sym (inserted_is db n so_far e) ∙ at) in
         subst (IsLike ds so_far) (valued_is (union so_far given.0) r given.2)
         (inserted_like ds so_far given.0 typed (source_like e source.0 given.0 is_written source.1 given.1))
+    gives_like (disjoint_insert m e) r same is_written checked is =
+        let source = checked_source e (subst (λ k. assignment_checked scope (disjoint_insert k e) ≡ Valued tt) same checked) in
+        let at : relation_for so_far w (combined_with n operators.DisjointUnion e) ≡ Valued r =
+        ap (λ k. relation_for so_far w (combined_with k operators.DisjointUnion e)) (sym same) ∙ is in
+        let given = value_of_with (relation_for so_far w e) (disjoint_union so_far) r (sym (put_apart_is db n so_far e) ∙ at) in
+        subst (IsLike ds so_far) (value_of_test (is_disjoint so_far given.0) (union so_far given.0) r causes.NotDisjoint given.2).1
+        (inserted_like ds so_far given.0 typed (source_like e source.0 given.0 is_written source.1 given.1))
+    gives_like (included_delete m e) r same is_written checked is =
+        let source = checked_source e (subst (λ k. assignment_checked scope (included_delete k e) ≡ Valued tt) same checked) in
+        let at : relation_for so_far w (combined_with n operators.IncludedMinus e) ≡ Valued r =
+        ap (λ k. relation_for so_far w (combined_with k operators.IncludedMinus e)) (sym same) ∙ is in
+        let given = value_of_with (relation_for so_far w e) (included_difference so_far) r (sym (taken_out_is db n so_far e) ∙ at) in
+        subst (IsLike ds so_far) (value_of_test (is_subset given.0 so_far) (difference so_far given.0) r causes.NotIncluded given.2).1
+        (typed_restriction ds _ so_far typed, refl)
     gives_like (delete m None) r same is_written checked is =
         subst (IsLike ds so_far) (valued_is (relation_view so_far.heading []) r is) (emptied_like ds so_far typed)
     gives_like (delete m (Some p)) r same is_written checked is =
         let at : relation_for so_far w (without_deleted n p) ≡ Valued r = ap (λ k. relation_for so_far w (without_deleted k p)) (sym same) ∙ is in
         restricted_like ds so_far (λ t. value_of w (t ∷ []) (prefix prefixes.Not (parentheses p))) r typed
         (sym (restricted_is db n so_far (prefix prefixes.Not (parentheses p))) ∙ at)
-    gives_like (update m condition settings) r same is_written checked is =
-        let kinds = checked_settings condition settings (subst (λ k. assignment_checked scope (update k condition settings) ≡ Valued tt) same checked) in
+    gives_like (update style m condition settings) r same is_written checked is =
+        let kinds = checked_settings style condition settings (subst (λ k. assignment_checked scope (update style k condition settings) ≡ Valued tt) same checked) in
         let last = updated_relation so_far (setting_names settings) (values_in_tuples w [] settings) in
         let chosen = value_of_with (chosen_for so_far w n condition) last r (ap (λ k. with_value (chosen_for so_far w k condition) last) (sym same) ∙ is) in
         let like = chosen_like condition chosen.0 chosen.1 in

@@ -9,7 +9,7 @@ use Rattle.td_tree.specs.declared.token.Kind.{Kind}
 use Rattle.td_tree.specs.declared.token.Kind.TheVariants as kinds
 use Rattle.td_tree.specs.declared.token.Sign.TheVariants as signs
 use Rattle.td_tree.specs.Grammar as g
-use Rattle.td_tree.specs.Grammar.{AdditionsSpelling, AttributesSpelling, ExpressionsSpelling, HeadingSpelling, ListSpelling, LiteralSpelling, PartsSpelling, PostfixSpelling, RenamingSpelling, Spelling, SummariesSpelling, TypeSpelling, operator_words}
+use Rattle.td_tree.specs.Grammar.{AdditionsSpelling, AttributesSpelling, ExpressionsSpelling, HeadingSpelling, ListSpelling, LiteralSpelling, PartsSpelling, PostfixSpelling, RenamingSpelling, SettingsSpelling, Spelling, SummariesSpelling, TypeSpelling, operator_words}
 use Rattle.td_tree.specs.Lexemes.{Lexeme, sign}
 use Rattle.td_tree.specs.Lexemes as lexeme
 use Rattle.td_tree.specs.Lists.{Separated, next_item, one_item, with_parentheses}
@@ -116,6 +116,9 @@ postfix_written (g.projection a) h = tt
 postfix_written (g.renamings {xs} rs) h = renamings_written rs (inside xs _ h.1.1)
 postfix_written (g.grouping {xs} a) h = (back xs _ (inside (xs ++ _) _ h.1.1)).1.0
 postfix_written (g.wrapping {xs} a) h = (back xs _ (inside (xs ++ _) _ h.1.1)).1.0
+postfix_written (g.renamings_in_braces {xs} rs) h = renamings_written rs (inside xs _ h.1.1)
+postfix_written (g.open_grouping {xs} a) h = (back xs _ h.1).1.0
+postfix_written (g.open_wrapping {xs} a) h = (back xs _ h.1).1.0
 postfix_written g.ungrouping h = tt
 postfix_written g.unwrapping h = tt
 
@@ -173,6 +176,7 @@ mutual
   written g.empty_tuple h = (tt, tt)
   written (g.tuple {xs} p) h = parts_written p (inside xs _ h.1.1)
   written (g.extension {xs} {ys} p q) h = both (written p (front xs _ h.1)) (additions_written q (inside ys _ (back xs _ h.1).1.1))
+  written (g.setting_extension {xs} {ys} p q) h = both (written p (front xs _ h.1)) (settings_written q (inside ys _ (back xs _ h.1).1.1))
   written (g.summary_per {xs} {ys} {zs} p q r) h =
       let behind = (back xs _ h.1).1 in
       three (written p (front xs _ h.1)) (written q (inside ys _ (front (with_parentheses ys) _ behind).1)) (summaries_written r (inside zs _ (back (with_parentheses ys) _ behind).1.1))
@@ -203,6 +207,13 @@ mutual
       let value = written p (front xs _ h) in
       let rest = additions_written q (back xs _ h).1.1.1 in
       (((back xs _ h).1.0, value.0, rest.0), (value.1, rest.1))
+
+  pub settings_written : {xs : List Lexeme} {parts : NamedTrees} → SettingsSpelling xs parts → AreOfTokens xs → PartsAreWritten parts
+  settings_written (g.last_setting p) h = let value = written p h.1.1 in ((h.0, value.0, tt), (value.1, tt))
+  settings_written (g.next_setting {xs = xs} p q) h =
+      let value = written p (front xs _ h.1.1) in
+      let rest = settings_written q (back xs _ h.1.1).1 in
+      ((h.0, value.0, rest.0), (value.1, rest.1))
 
   summaries_written : {xs : List Lexeme} {items : Summaries} → SummariesSpelling xs items → AreOfTokens xs → ItemsAreWritten items
   summaries_written g.last_count h = ((h.1.1.1.1.0, tt), tt)

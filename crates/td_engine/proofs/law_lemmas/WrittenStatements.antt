@@ -7,16 +7,16 @@ use Rattle.td_tree.specs.Lexemes.{Lexeme}
 use Rattle.td_tree.specs.Lists.{Optional, Separated, absent, next_item, one_item, with_parentheses, present}
 use Rattle.td_tree.specs.Names.{IsName}
 use Rattle.td_tree.specs.StatementGrammar as s
-use Rattle.td_tree.specs.StatementGrammar.{AssignmentSpelling, BodySpelling, ConstraintPart, InitPart, SettingsSpelling, StatementSpelling, WherePart, constraint_part, init_part, where_part}
-use Rattle.td_tree.specs.Trees.{Assignment, NamedTrees, Statement, Tree, assign_all, define_base, define_constraint, define_type, define_virtual, write}
+use Rattle.td_tree.specs.StatementGrammar.{AssignmentSpelling, BodySpelling, ConstraintPart, InitPart, StatementSpelling, WherePart, constraint_part, init_part, where_part}
+use Rattle.td_tree.specs.Trees.{Assignment, Statement, Tree, assign_all, define_base, define_constraint, define_type, define_virtual, write}
 use Rattle.td_eval.specs.ValueTypes.{DefinitionsAreWritten, IsWritten}
 use Rattle.td_types.specs.TypeListLaws.{HaveNames}
 use Rattle.td_types.specs.TypeLists.{DeclaredType}
 use Rattle.td_catalog.specs.Database.{Database, NamedConstraint, VirtualRelvar}
 use Rattle.td_engine.proofs.law_lemmas.EachOf.{all_follow}
-use Rattle.td_engine.specs.code.Plannable.{AreWrittenSettings, IsWrittenAssignment, IsWrittenIf}
+use Rattle.td_engine.specs.code.Plannable.{IsWrittenAssignment, IsWrittenIf}
 use Rattle.td_engine.specs.Legality.{AreSpelled, IsSpelledExpression, IsSpelledIf}
-use Rattle.td_engine.proofs.law_lemmas.WrittenSpellings.{AreOfTokens, attributes_written, back, front, heading_written, inside, of_tokens, written}
+use Rattle.td_engine.proofs.law_lemmas.WrittenSpellings.{AreOfTokens, attributes_written, back, front, heading_written, inside, of_tokens, settings_written, written}
 
 -- ---- statements as they are written
 
@@ -48,18 +48,16 @@ condition_written : {xs : List Lexeme} {c : Option Tree} → Optional WherePart 
 condition_written absent h = tt
 condition_written (present (where_part p)) h = written p.spelled h.1
 
-settings_written : {xs : List Lexeme} {settings : NamedTrees} → SettingsSpelling xs settings → AreOfTokens xs → AreWrittenSettings settings
-settings_written (s.last_setting p) h = let value = written p.spelled h.1.1 in ((h.0, value.0, tt), (value.1, tt))
-settings_written (s.next_setting {xs = xs} p q) h =
-    let value = written p.spelled (front xs _ h.1.1) in
-    let rest = settings_written q (back xs _ h.1.1).1 in
-    ((h.0, value.0, rest.0), (value.1, rest.1))
-
 assignment_written : {xs : List Lexeme} {a : Assignment} → AssignmentSpelling xs a → AreOfTokens xs → IsWrittenAssignment a
 assignment_written (s.assignment p) h = written p.spelled h.1.1
 assignment_written (s.insertion p) h = written p.spelled h.1.1
+assignment_written (s.disjoint_insertion p) h = written p.spelled h.1.1
+assignment_written (s.included_deletion p) h = written p.spelled h.1.1
 assignment_written (s.deletion p) h = condition_written p h.1.1
-assignment_written (s.changing {xs = xs} {ys = ys} p q) h = (condition_written p (front xs _ h.1.1), settings_written q (inside ys _ (back xs _ h.1.1).1))
+assignment_written (s.changing {xs = xs} {ys = ys} p q) h =
+    (condition_written p (front xs _ h.1.1), settings_written q.spelled (inside ys _ (back xs _ h.1.1).1))
+assignment_written (s.changing_in_braces {xs = xs} {ys = ys} p q) h =
+    (condition_written p (front xs _ h.1.1), settings_written q.spelled (inside ys _ (back xs _ h.1.1).1.1))
 
 assignments_written : {xs : List Lexeme} {all : List Assignment} → Separated AssignmentSpelling xs all → AreOfTokens xs → AreWritten all
 assignments_written (one_item p) h = (assignment_written p h, tt)

@@ -16,7 +16,7 @@ use Rattle.td_eval.specs.UnfailingValues.{GivesValues}
 use Rattle.td_eval.specs.ValueTypes.{DefinitionsAreWritten, IsTypedTuple, IsWritten}
 use Rattle.td_eval.specs.Worlds.{World}
 use Rattle.td_tree.specs.Outcomes.{Outcome, Valued}
-use Rattle.td_tree.specs.Trees.{Assignment, NamedTrees, Tree, assign, delete, insert, update}
+use Rattle.td_tree.specs.Trees.{Assignment, NamedTrees, Tree, assign, delete, disjoint_insert, included_delete, insert, update}
 use Rattle.td_types.specs.Types.{Attribute, Type'}
 use Rattle.td_value.specs.Values.{IsRelation, Relation}
 
@@ -51,8 +51,10 @@ AreWrittenSettings settings = PartsGiveNames settings × PartsHaveTexts settings
 abbrev pub IsWrittenAssignment : Assignment → Type 0
 IsWrittenAssignment (assign target source) = IsWritten source
 IsWrittenAssignment (insert target source) = IsWritten source
+IsWrittenAssignment (disjoint_insert target source) = IsWritten source
+IsWrittenAssignment (included_delete target source) = IsWritten source
 IsWrittenAssignment (delete target condition) = IsWrittenIf condition
-IsWrittenAssignment (update target condition settings) = IsWrittenIf condition × AreWrittenSettings settings
+IsWrittenAssignment (update style target condition settings) = IsWrittenIf condition × AreWrittenSettings settings
 
 -- an assignment that meets the static rules, and is written as tokens spell it
 pub record IsAdmittedAssignment (db : Database) (a : Assignment) : Type 0 where
@@ -92,7 +94,9 @@ pub record ArePlannableSettings (db : Database) (w : World) (chosen : Outcome Re
 abbrev pub IsPlannableAssignment : Database → Relation → Assignment → Type 0
 IsPlannableAssignment db so_far (assign target source) = IsPlannableSource db target so_far source
 IsPlannableAssignment db so_far (insert target source) = IsPlannableSource db target so_far source
+IsPlannableAssignment db so_far (disjoint_insert target source) = IsPlannableSource db target so_far source
+IsPlannableAssignment db so_far (included_delete target source) = IsPlannableSource db target so_far source
 IsPlannableAssignment db so_far (delete target condition) = IsPlannableConditionIf db target so_far condition
-IsPlannableAssignment db so_far (update target condition settings) =
+IsPlannableAssignment db so_far (update style target condition settings) =
     IsPlannableConditionIf db target so_far condition
     × ArePlannableSettings db (source_world db target so_far) (chosen_for so_far (source_world db target so_far) target condition) settings

@@ -1,18 +1,18 @@
--- WHERE and EXTEND give values of their static types, or are refused by dynamic causes alone.
-use Rattle.std.proofs.Common.{◌≡◌, ◌∙◌, ◌++◌, ◌⊎◌, inl, inr, Bool, true, false, List, [], ◌∷◌, ap, fold, map, refl, subst, sym}
+-- WHERE and EXTEND, in both spellings, give values of their static types, or are refused by dynamic causes alone.
+use Rattle.std.proofs.Common.{◌≡◌, ◌∙◌, ◌++◌, ◌⊎◌, inl, inr, ℕ, Bool, true, false, List, [], ◌∷◌, ap, filter, fold, map, refl, subst, sym}
 use Rattle.std.specs.Prelude.{◌&&◌, if◌then◌else◌, not, ⊤}
 use Rattle.std.specs.List.{AllByRecursion, Contains, list_all}
 use Rattle.td_tree.specs.declared.cause.Cause.TheVariants as causes
 use Rattle.td_tree.specs.Names.{IsName}
 use Rattle.td_tree.specs.Outcomes.{Outcome, Valued, Refused, gathered, value_if, with_value}
-use Rattle.td_types.specs.Headings.{are_distinct, has_attribute, has_name, have_no_common, heading_union, with_attribute}
+use Rattle.td_types.specs.Headings.{are_distinct, has_attribute, has_name, have_no_common, heading_union, outside, with_attribute}
 use Rattle.td_types.specs.TypeLists.{AreKnown, DeclaredType, IsKnown}
 use Rattle.td_types.specs.TypeOrder.{type_eq-Decides}
 use Rattle.td_types.specs.Types.{Attribute, Heading, IsType, Type', attribute_names, pack}
 use Rattle.td_types.specs.Types as types
 use Rattle.td_types.proofs.DistinctNames.{first_of, second_of}
 use Rattle.td_types.proofs.OutcomeLaws.{values_of_both}
-use Rattle.td_check.specs.OperatorTypes.{extension_type, relation_if}
+use Rattle.td_check.specs.OperatorTypes.{extension_type, relation_if, setting_type}
 use Rattle.td_check.proofs.HeadingRules.{lacks_with}
 use Rattle.td_check.proofs.KnownLaws.{IsKnownType, known_closed}
 use Rattle.td_check.proofs.OperatorLaws.{united}
@@ -20,16 +20,16 @@ use Rattle.td_value.specs.KnownValues.{HasType}
 use Rattle.td_value.specs.Values.{Val, boolean, integer, char, relation_value, user, tuple, relation, Relation, Tuple, type_of}
 use Rattle.td_value.proofs.KnownValues.{has_its_type}
 use Rattle.td_algebra.specs.Membership.{AreNew}
-use Rattle.td_algebra.specs.Operators.{Addition, added_attributes, added_values, extended_relation, extended_tuple, restriction}
+use Rattle.td_algebra.specs.Operators.{Addition, added_attributes, added_values, extended_relation, extended_tuple, restriction, set_relation, set_tuple}
 use Rattle.td_algebra.specs.Results.{IsTyped}
 use Rattle.td_algebra.proofs.Lists.{contains_cases, contains_map, contains_none}
 use Rattle.td_algebra.proofs.Members.{both_true, first_true, second_true}
-use Rattle.td_algebra.proofs.Results.{IsRelation-extended}
-use Rattle.td_eval.specs.OperatorValues.{additions_of, columns_values, extended_value, is_true, of_relation, on_truth, restricted_value, truth_value, value_of_type, value_or_false}
+use Rattle.td_algebra.proofs.Results.{IsRelation-extended, IsRelation-set}
+use Rattle.td_eval.specs.OperatorValues.{additions_of, columns_values, extended_by_settings, extended_value, is_true, of_relation, on_truth, restricted_value, truth_value, value_of_type, value_or_false}
 use Rattle.td_eval.specs.ValueTypes.{IsOfType, KeepsType}
 use Rattle.td_eval.proofs.code_lemmas.KeepsGathered.{Keeps, gathered_dynamic, gathered_map_keeps, keeps_type, with_value_keeps}
 use Rattle.td_eval.proofs.code_lemmas.KeepsOperators.{typed_restriction}
-use Rattle.td_eval.proofs.code_lemmas.KeepsRelations.{AreOwn, IsOwn, IsTypedRelation, all_joined, all_made, typed_from_value, typed_heading, typed_set, value_from_typed}
+use Rattle.td_eval.proofs.code_lemmas.KeepsRelations.{AreOwn, IsOwn, IsTypedRelation, all_filtered, all_joined, all_made, typed_from_value, typed_heading, typed_set, value_from_typed}
 
 -- ---- WHERE
 
@@ -167,6 +167,25 @@ module _ (ds : List DeclaredType) (r : Relation) where
       subst (AreOwn ds) d.2
       (all_made (IsOwn ds) (d.0 ++ added_values bs d.0) (all_joined (IsOwn ds) d.0 (added_values bs d.0) (m.rows d.0 d.1) (own_added bs d.0 d.1 h))))
 
+  -- the relation with attributes set
+  pub typed_setting : (attributes : List Attribute) (bs : List Addition) → added_attributes bs ≡ attributes
+      → are_distinct (attribute_names (added_attributes bs)) ≡ true
+      → AllByRecursion IsKnownAttribute attributes → AllByRecursion IsNew bs → IsTypedRelation ds r → IsTypedRelation ds (set_relation bs r)
+  typed_setting attributes bs is distinct named h m =
+      let closed = known_closed ds in
+      let others = closed.filtered (λ a. not (has_attribute a.0 attributes)) r.heading (typed_heading ds r m) in
+      typed_set ds (heading_union (outside (added_attributes bs) r.heading) (added_attributes bs)) (map (set_tuple bs) r.body)
+      (IsRelation-set bs r m.is_relation distinct (typed_of_new bs h))
+      (subst (λ (xs : Heading). AreKnown ds (pack (heading_union (outside xs r.heading) xs))) (sym is)
+      (united closed (outside attributes r.heading) attributes others (known_fit attributes named)).1)
+      (λ y c. let d = (contains_map (set_tuple bs) r.body y).0 c in subst (AreOwn ds) d.2 (own d.0 d.1))
+    where
+      own : (t : Tuple) → Contains r.body t → AreOwn ds (set_tuple bs t)
+      own t c =
+          let is_other = λ (e : List ℕ × Val). not (has_attribute e.0 (added_attributes bs)) in
+          all_made (IsOwn ds) (filter is_other t ++ added_values bs t)
+          (all_joined (IsOwn ds) (filter is_other t) (added_values bs t) (all_filtered (IsOwn ds) is_other t (m.rows t c)) (own_added bs t c h))
+
 pub extended_keeps : (ds : List DeclaredType) (r : Relation) (attributes : List Attribute) (fs : List (Tuple → Outcome Val))
     → IsOfType ds (relation_value r) (types.relation (pack r.heading)) → AllByRecursion (λ (a : Attribute). IsName a.0 × IsType a.1 × IsKnown ds a.1) attributes
     → PartsKeep ds r attributes fs → KeepsType ds (extension_type r.heading attributes) (extended_value (Valued attributes) fs r)
@@ -197,5 +216,36 @@ extended_keeps ds r attributes fs k named parts = by_test (are_distinct (attribu
         (λ columns. of_relation (extended_relation bs r))))
     by_test true e =
         by_columns (first_true _ _ e) (second_true _ _ e) (gathered (columns_values attributes fs r.body)) refl
+        (gathered_dynamic (AllByRecursion (λ (v : Val). ⊤)) (columns_values attributes fs r.body) (columns_keep ds r attributes fs parts))
+    by_test false e = tt
+
+pub settings_keep : (ds : List DeclaredType) (r : Relation) (attributes : List Attribute) (fs : List (Tuple → Outcome Val))
+    → IsOfType ds (relation_value r) (types.relation (pack r.heading)) → AllByRecursion (λ (a : Attribute). IsName a.0 × IsType a.1 × IsKnown ds a.1) attributes
+    → PartsKeep ds r attributes fs → KeepsType ds (setting_type r.heading attributes) (extended_by_settings (Valued attributes) fs r)
+settings_keep ds r attributes fs k named parts = by_test (are_distinct (attribute_names attributes)) refl
+  where
+    bs : List Addition
+    bs = additions_of attributes fs
+
+    heading : Heading
+    heading = heading_union (outside attributes r.heading) attributes
+
+    by_columns : are_distinct (attribute_names attributes) ≡ true
+        → (o : Outcome (List (List Val))) → gathered (columns_values attributes fs r.body) ≡ o → Keeps (AllByRecursion (AllByRecursion (λ (v : Val). ⊤))) o
+        → KeepsType ds (Valued (types.relation (pack heading))) (with_value (with_value o (λ columns. Valued (set_relation bs r))) of_relation)
+    by_columns distinct (Valued ys) e g =
+        let is = additions_are ds r attributes fs parts in
+        let h = all_new ds r attributes fs parts named (gathered_items (columns_values attributes fs r.body) ys e) in
+        subst (λ (xs : Heading). IsOfType ds (relation_value (set_relation bs r)) (types.relation (pack (heading_union (outside xs r.heading) xs)))) is
+        (value_from_typed ds (set_relation bs r)
+        (typed_setting ds r attributes bs is (ap (λ xs. are_distinct (attribute_names xs)) is ∙ distinct) named h (typed_from_value ds r k)))
+    by_columns distinct (Refused cs) e g = g
+
+    by_test : (b : Bool) → are_distinct (attribute_names attributes) ≡ b
+        → KeepsType ds (relation_if (value_if b heading causes.Heading))
+        (with_value (value_if b heading causes.Heading) (λ heading. with_value (with_value (gathered (columns_values attributes fs r.body))
+        (λ columns. Valued (set_relation bs r))) of_relation))
+    by_test true e =
+        by_columns e (gathered (columns_values attributes fs r.body)) refl
         (gathered_dynamic (AllByRecursion (λ (v : Val). ⊤)) (columns_values attributes fs r.body) (columns_keep ds r attributes fs parts))
     by_test false e = tt

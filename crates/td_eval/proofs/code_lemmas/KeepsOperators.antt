@@ -3,27 +3,31 @@ use Rattle.std.proofs.Common.{◌≡◌, ◌∙◌, ◌++◌, ◌⊎◌, inl, in
 use Rattle.std.specs.Prelude.{if◌then◌else◌, is_some, not}
 use Rattle.std.specs.List.{Contains, flat_map}
 use Rattle.std.proofs.lemmas.List.Elements.{Contains-append_cases}
+use Rattle.td_tree.specs.declared.cause.Cause.{Cause}
 use Rattle.td_tree.specs.declared.cause.Cause.TheVariants as causes
 use Rattle.td_tree.specs.declared.operator.Operator.TheVariants as operators
+use Rattle.td_tree.specs.Outcomes.{Outcome, value_if, with_value}
 use Rattle.td_types.specs.Headings.{agree, common_part, has_attribute, has_name, have_no_common, heading_union, outside, projection}
 use Rattle.td_types.specs.TypeLists.{AreKnown, DeclaredType}
 use Rattle.td_types.specs.TypeOrder.{heading_eq-Decides}
 use Rattle.td_types.specs.Types.{Attribute, Heading, IsAscending, Type', pack, type_at}
+use Rattle.td_types.specs.Types as types
 use Rattle.td_types.proofs.HeadingLaws.{IsAscending-filter, ascending_from_heading, type_at-common, type_at-outside, types_determine_heading}
 use Rattle.td_check.specs.OperatorTypes.{operator_type, same_heading}
 use Rattle.td_check.specs.StaticLaws.{IsKnownHeading}
 use Rattle.td_check.proofs.KnownLaws.{known_closed}
 use Rattle.td_check.proofs.OperatorLaws.{all_fit, united}
-use Rattle.td_value.specs.Values.{Val, Relation, Tuple, projected_tuple, tuple_names}
-use Rattle.td_algebra.specs.Operators.{are_partners, composition, difference, intersection, join, own_names, product, projected_relation, restriction, semidifference, semijoin, union, united_tuple}
+use Rattle.td_value.specs.Values.{Val, Relation, Tuple, projected_tuple, relation_value, tuple_names}
+use Rattle.td_algebra.specs.Operators.{are_partners, composition, difference, intersection, is_disjoint, is_subset, join, own_names, product, projected_relation, restriction, semidifference, semijoin, union, united_tuple}
 use Rattle.td_algebra.proofs.Composed.{composed_heading_is}
 use Rattle.td_algebra.proofs.Lists.{contains_filter, contains_flat_map, contains_map}
 use Rattle.td_algebra.proofs.Relations.{IsRelation-restriction}
 use Rattle.td_algebra.proofs.Results.{IsRelation-projected, IsRelation-union, IsRelation-united}
 use Rattle.td_algebra.proofs.United.{others}
-use Rattle.td_eval.specs.OperatorValues.{operator_value}
-use Rattle.td_eval.specs.ValueTypes.{IsOfType, KeepsType}
-use Rattle.td_eval.proofs.code_lemmas.KeepsRelations.{AreOwn, IsOwn, IsTypedRelation, all_filtered, all_joined, all_made, heading_if_keeps, made_if_keeps, over_relations_keeps, type_if_keeps, typed_heading, typed_set}
+use Rattle.td_eval.specs.OperatorValues.{disjoint_union, included_difference, of_relation, operator_value}
+use Rattle.td_eval.specs.ValueTypes.{IsDynamic, IsOfType, KeepsType}
+use Rattle.td_eval.proofs.code_lemmas.KeepsGathered.{Keeps, keeps_type, one_dynamic, with_value_keeps}
+use Rattle.td_eval.proofs.code_lemmas.KeepsRelations.{AreOwn, IsOwn, IsTypedRelation, all_filtered, all_joined, all_made, heading_if_keeps, made_if_keeps, over_relations_keeps, type_if_keeps, typed_heading, typed_set, value_from_typed}
 
 module _ (ds : List DeclaredType) where
   -- ---- the results
@@ -123,6 +127,23 @@ composed_is : (q r : Relation) → IsAscending q.heading → IsAscending r.headi
 composed_is q r up vp =
     sym (composed_heading_is q r up) ∙ (λ i. heading_union (sym (first_outside q.heading r.heading up) i) (sym (second_outside q.heading r.heading vp) i))
 
+-- ---- what is asked of the tuples too
+
+-- a value where that holds, else a dynamic cause
+if_dynamic : {A : Type 0} (P : A → Type 0) (test : Bool) (x : A) (cause : Cause) → IsDynamic cause → P x → Keeps P (value_if test x cause)
+if_dynamic P true x cause d p = p
+if_dynamic P false x cause d p = one_dynamic cause d
+
+-- of two relations of one heading
+one_heading_keeps : (ds : List DeclaredType) (test : Bool) (s : Type') (cause : Cause) (r : Relation) (f : Relation → Outcome Relation)
+    → (test ≡ true → Keeps (λ (x : Relation). IsTypedRelation ds x × (s ≡ types.relation (pack x.heading))) (f r))
+    → KeepsType ds (value_if test s cause) (with_value (value_if test r cause) (λ same. with_value (f same) of_relation))
+one_heading_keeps ds true s cause r f k =
+    keeps_type ds s (with_value (f r) of_relation)
+    (with_value_keeps (λ (x : Relation). IsTypedRelation ds x × (s ≡ types.relation (pack x.heading))) (λ v. IsOfType ds v s) (f r) of_relation (k refl)
+    (λ x p. subst (IsOfType ds (relation_value x)) (sym p.1) (value_from_typed ds x p.0)))
+one_heading_keeps ds false s cause r f k = tt
+
 -- ---- the operators
 
 module _ (ds : List DeclaredType) (v w : Val) (s t : Type') (k : IsOfType ds v s) (l : IsOfType ds w t) where
@@ -141,6 +162,20 @@ module _ (ds : List DeclaredType) (v w : Val) (s t : Type') (k : IsOfType ds v s
   minus_keeps =
       over_relations_keeps ds v w s t _ _ k l
       (λ q r m n e. type_if_keeps ds (same_heading q.heading r.heading) s causes.Heading (difference q r) e (λ _. typed_restriction ds _ q m))
+
+  pub disjoint_union_keeps : KeepsType ds (operator_type operators.DisjointUnion s t) (operator_value operators.DisjointUnion v w)
+  disjoint_union_keeps =
+      over_relations_keeps ds v w s t _ _ k l
+      (λ q r m n e. one_heading_keeps ds (same_heading q.heading r.heading) s causes.Heading r (disjoint_union q)
+      (λ same. if_dynamic (λ (x : Relation). IsTypedRelation ds x × (s ≡ types.relation (pack x.heading))) (is_disjoint q r) (union q r) causes.NotDisjoint tt
+      (typed_union ds q r m n ((heading_eq-Decides q.heading r.heading).0 same), e)))
+
+  pub included_minus_keeps : KeepsType ds (operator_type operators.IncludedMinus s t) (operator_value operators.IncludedMinus v w)
+  included_minus_keeps =
+      over_relations_keeps ds v w s t _ _ k l
+      (λ q r m n e. one_heading_keeps ds (same_heading q.heading r.heading) s causes.Heading r (included_difference q)
+      (λ same. if_dynamic (λ (x : Relation). IsTypedRelation ds x × (s ≡ types.relation (pack x.heading))) (is_subset r q) (difference q r) causes.NotIncluded tt
+      (typed_restriction ds _ q m, e)))
 
   pub join_keeps : KeepsType ds (operator_type operators.Join s t) (operator_value operators.Join v w)
   join_keeps =

@@ -74,17 +74,17 @@ pub postfix_keeps : (ds : List DeclaredType) (op : Postfix) (v : Val) (s : Type'
     → KeepsType ds (postfix_type op s) (postfix_value op v)
 postfix_keeps ds (project attributes) v s names k =
     over_relation_keeps ds v s _ _ k (λ r m e. part_keeps ds attributes r m)
-postfix_keeps ds (rename renamings) v s names k =
+postfix_keeps ds (rename style renamings) v s names k =
     over_relation_keeps ds v s _ _ k
     (λ r m e. heading_if_keeps ds (can_rename (renaming_pairs renamings) r.heading) (heading_union [] (renamed_attributes (renaming_pairs renamings) r.heading)) causes.Heading
     (renamed_relation (renaming_pairs renamings) r) refl (λ fits. typed_renamed ds renamings r names fits m))
-postfix_keeps ds (group attributes name) v s names k =
+postfix_keeps ds (group style attributes name) v s names k =
     over_relation_keeps ds v s _ _ k
     (λ r m e. nest_keeps ds attributes r.heading name (λ part. types.relation (pack part)) (λ ns. grouped_relation ns name r) (typed_heading ds r m).0
     (grouped_made ds name names r m))
 postfix_keeps ds (ungroup name) v s names k =
     over_relation_keeps ds v s _ _ k (λ r m e. ungroup_keeps ds name r m)
-postfix_keeps ds (wrap attributes name) v s names k =
+postfix_keeps ds (wrap style attributes name) v s names k =
     over_relation_keeps ds v s _ _ k
     (λ r m e. nest_keeps ds attributes r.heading name (λ part. types.tuple (pack part)) (λ ns. wrapped_relation ns name r) (typed_heading ds r m).0
     (wrapped_made ds name names r m))

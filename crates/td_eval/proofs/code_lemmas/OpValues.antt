@@ -1,6 +1,7 @@
 -- What operators find in values, and what is answered of it.
 use Rattle.std.proofs.Common.{◌≡◌, Bool, true, Result, Err, ap, refl}
-use Rattle.td_eval.specs.OperatorValues.{of_relation, on_relation, on_relations, on_tuple, relation_where}
+use Rattle.td_check.specs.OperatorTypes.{same_heading}
+use Rattle.td_eval.specs.OperatorValues.{of_relation, on_relation, on_relations, on_tuple, over_one_heading, relation_where}
 use Rattle.td_tree.specs.declared.fault.Fault.{Fault}
 use Rattle.td_tree.specs.declared.fault.Fault.TheVariants as faults
 use Rattle.td_tree.specs.Outcomes.{Answers, Outcome, Valued, Refused, with_value}
@@ -43,6 +44,12 @@ pub related_where : (fits : Relation → Relation → Bool) (made : Relation →
     → Answers (λ v. v) x (of_relation (made r s))
     → Answers (λ v. v) x (on_relations v w (λ r s. relation_where (fits r s) (made r s)))
 related_where fits made v w r s x e t a = rw (related v w r s (λ r s. relation_where (fits r s) (made r s)) e, t) a
+
+-- the relation that an operator gives of two of one heading, where it gives one
+pub related_alike : (f : Relation → Relation → Outcome Relation) (v w : Val) (r s q : Relation) (x : Result Val Fault)
+    → on_relation v (λ r. on_relation w (both_of r)) ≡ Valued (r, s) → same_heading r.heading s.heading ≡ true → f r s ≡ Valued q
+    → Answers (λ v. v) x (of_relation q) → Answers (λ v. v) x (on_relations v w (over_one_heading f))
+related_alike f v w r s q x e t is a = rw (related v w r s (over_one_heading f) e, t, is) a
 
 -- what is refused stays refused
 pub refused_then : {X Y A B : Type 0} (view : X → A) (next : Y → B) (e : Fault) (o : Outcome A) (f : A → Outcome B)

@@ -6,7 +6,7 @@ use Rattle.std.specs.declared.cmp.Ordering.{Ordering}
 use Rattle.std.specs.declared.cmp.Ordering.TheVariants.{Less, Equal, Greater}
 use Rattle.td_algebra.proofs.Entries.{IsTupleOf-tuple_of, names-heading, type_at-heading_of}
 use Rattle.td_algebra.proofs.Relations.{All-from_members, IsRelation-relation_of, member_headed}
-use Rattle.td_check.specs.OperatorTypes.{element_type, extension_type, headed_type, listed_type, over_relation, same_heading, same_type, tuple_type, restriction_type}
+use Rattle.td_check.specs.OperatorTypes.{element_type, headed_type, listed_type, over_relation, same_heading, same_type, tuple_type, restriction_type}
 use Rattle.td_tree.specs.declared.cause.Cause.TheVariants as causes
 use Rattle.td_tree.specs.Names.{IsName}
 use Rattle.td_tree.specs.Outcomes.{Outcome, Valued, Refused, gathered, value_if, with_both, with_value}
@@ -23,10 +23,10 @@ use Rattle.td_value.specs.Values.{Val, relation_value, tuple, relation, AreField
 use Rattle.td_value.specs.code.Views.{relation_view}
 use Rattle.td_value.proofs.KnownValues.{by_values, has_its_type, has_known_type}
 use Rattle.td_value.proofs.Typed.{typed}
-use Rattle.td_eval.specs.OperatorValues.{element_of, extended_value, headed_value, listed_value, of_relation, on_relation, restricted_value, tuple_from}
+use Rattle.td_eval.specs.OperatorValues.{element_of, headed_value, listed_value, of_relation, on_relation, restricted_value, tuple_from}
 use Rattle.td_eval.specs.ValueTypes.{IsOfType, IsTypedTuple, KeepsType}
 use Rattle.td_eval.proofs.code_lemmas.KeepsGathered.{has_type_members, member_from_all}
-use Rattle.td_eval.proofs.code_lemmas.KeepsExtension.{PartsKeep, extended_keeps, restricted_keeps}
+use Rattle.td_eval.proofs.code_lemmas.KeepsExtension.{PartsKeep, restricted_keeps}
 use Rattle.td_eval.proofs.code_lemmas.TypedOutcomes.{KeepsAs, keeps_both, made_keeps, test_keeps}
 use Rattle.td_eval.proofs.code_lemmas.TypedValues.{fields_heading, fields_of, heading_is, relation_keeps, rows_of, same_is, type_is}
 
@@ -221,20 +221,25 @@ module _ (ds : List DeclaredType) where
       restricts h rs w (Refused cs) e = tt
   where_keeps condition p _ v q k = tt
 
-  -- the parts of EXTEND, where their types are known
-  pub extend_keeps : (kinds others : Heading → Outcome (List Attribute)) (fs : List (Tuple → Outcome Val)) (t : Type') (v : Val) → IsOfType ds v t
+  -- the parts of EXTEND, where their types are known: by its rule and by what it gives of typed parts
+  pub extend_keeps : (kinds others : Heading → Outcome (List Attribute)) (fs : List (Tuple → Outcome Val)) (rule : Heading → List Attribute → Outcome Type')
+      (given : Outcome (List Attribute) → List (Tuple → Outcome Val) → Relation → Outcome Val)
+      → ((r : Relation) (attributes : List Attribute) (fs : List (Tuple → Outcome Val)) → IsOfType ds (relation_value r) (types.relation (pack r.heading))
+      → AllByRecursion (λ (a : Attribute). IsName a.0 × IsType a.1 × IsKnown ds a.1) attributes → PartsKeep ds r attributes fs
+      → KeepsType ds (rule r.heading attributes) (given (Valued attributes) fs r))
+      → (t : Type') (v : Val) → IsOfType ds v t
       → ((r : Relation) (attributes : List Attribute) → IsOfType ds (relation_value r) (types.relation (pack r.heading))
       → kinds r.heading ≡ Valued attributes
       → (others r.heading ≡ Valued attributes) × AllByRecursion (λ a. IsName a.0 × IsType a.1 × IsKnown ds a.1) attributes × PartsKeep ds r attributes fs)
-      → KeepsType ds (over_relation t (λ h. with_value (kinds h) (extension_type h))) (on_relation v (λ r. extended_value (others r.heading) fs r))
-  extend_keeps kinds others fs (types.relation h) v q k =
-      relation_keeps ds (with_value (kinds (unpack h)) (extension_type (unpack h))) v h (λ r. extended_value (others r.heading) fs r) q
+      → KeepsType ds (over_relation t (λ h. with_value (kinds h) (rule h))) (on_relation v (λ r. given (others r.heading) fs r))
+  extend_keeps kinds others fs rule given made (types.relation h) v q k =
+      relation_keeps ds (with_value (kinds (unpack h)) (rule (unpack h))) v h (λ r. given (others r.heading) fs r) q
       (λ rs w. extends (relation_view (unpack h) (unpack_rows rs)) (parts_typed h rs w) (kinds (unpack h)) refl)
     where
       extends : (r : Relation) → IsOfType ds (relation_value r) (types.relation (pack r.heading)) → (o : Outcome (List Attribute)) → kinds r.heading ≡ o
-          → KeepsType ds (with_value o (extension_type r.heading)) (extended_value (others r.heading) fs r)
+          → KeepsType ds (with_value o (rule r.heading)) (given (others r.heading) fs r)
       extends r w (Valued attributes) e =
           let x = k r attributes w e in
-          rw x.0 (extended_keeps ds r attributes fs w x.1 x.2)
+          rw x.0 (made r attributes fs w x.1 x.2)
       extends r w (Refused cs) e = tt
-  extend_keeps kinds others fs _ v q k = tt
+  extend_keeps kinds others fs rule given made _ v q k = tt

@@ -4,7 +4,7 @@ use Rattle.std.specs.List.{AllByRecursion}
 use Rattle.std.specs.Prelude.{⊤}
 use Rattle.td_algebra.proofs.Entries.{type_at-heading_of}
 use Rattle.td_algebra.proofs.Members.{first_true, second_true}
-use Rattle.td_check.specs.OperatorTypes.{count_item, aggregate_item, aggregate_type, are_types_of, comparison_type, component_type, extension_type, extracted_type, headed_type, item_type, known_or, listed_type, measure_type, operator_type, over_relation, postfix_type, prefix_type, same_type, selector_type, tuple_type, restriction_type}
+use Rattle.td_check.specs.OperatorTypes.{count_item, aggregate_item, aggregate_type, are_types_of, comparison_type, component_type, extension_type, extracted_type, headed_type, item_type, known_or, listed_type, measure_type, operator_type, over_relation, postfix_type, prefix_type, same_type, selector_type, setting_type, tuple_type, restriction_type}
 use Rattle.td_check.specs.Scopes.{KnownRelvar, Scope, entered_with, innermost, known_relvar}
 use Rattle.td_check.specs.StaticLaws.{GiveNames, GivesNames, HasMore, IsKnownHeading, IsScope, ItemsGiveNames, PartsGiveNames}
 use Rattle.td_check.specs.StaticTypes.{items_of, name_type, named_types, type_of, types_of}
@@ -16,12 +16,13 @@ use Rattle.td_check.proofs.SummaryLaws.{Items}
 use Rattle.td_tree.specs.declared.cause.Cause.TheVariants as causes
 use Rattle.td_tree.specs.declared.operator.Operator.{Operator}
 use Rattle.td_tree.specs.declared.operator.Operator.TheVariants as operators
+use Rattle.td_tree.specs.Names.{IsName}
 use Rattle.td_tree.specs.Outcomes.{Outcome, Valued, Refused, gathered, value_if, with_both, with_value}
-use Rattle.td_tree.specs.Trees.{AttributeTrees, Tree, literal, name, parentheses, prefix, extract, restriction, binary, compare, postfix, select, component, measure, aggregate, relation, headed_relation, tuple, extend, summarize_per, summarize_by, choice, Trees, none, more, NamedTrees, none_named, more_named, Summaries, no_summaries, counted, summed}
+use Rattle.td_tree.specs.Trees.{AttributeTrees, Tree, literal, name, parentheses, prefix, extract, restriction, binary, compare, postfix, select, component, measure, aggregate, relation, headed_relation, tuple, extend, extend_setting, summarize_per, summarize_by, choice, Trees, none, more, NamedTrees, none_named, more_named, Summaries, no_summaries, counted, summed}
 use Rattle.td_types.specs.Headings.{made_heading}
 use Rattle.td_types.specs.TypeListLaws.{HaveNames}
-use Rattle.td_types.specs.TypeLists.{AreKnown, DeclaredType, attributes_meant, declared_at, heading_meant}
-use Rattle.td_types.specs.Types.{Type', Attribute, Heading, IsHeading, pack, type_at}
+use Rattle.td_types.specs.TypeLists.{AreKnown, DeclaredType, IsKnown, attributes_meant, declared_at, heading_meant}
+use Rattle.td_types.specs.Types.{Type', Attribute, Heading, IsHeading, IsType, pack, type_at}
 use Rattle.td_types.specs.Types as types
 use Rattle.td_types.proofs.Meanings.{attributes_later}
 use Rattle.td_types.proofs.OutcomeLaws.{value_of_with, valued_is, values_of_both}
@@ -32,15 +33,15 @@ use Rattle.td_value.proofs.HeadingOf.{fields_type-heading}
 use Rattle.td_value.proofs.KnownValues.{has_its_type, has_known_type}
 use Rattle.td_value.proofs.Typed.{typed}
 use Rattle.td_eval.specs.AggregateValues.{aggregated_value, asked_of, summary_attributes}
-use Rattle.td_eval.specs.OperatorValues.{comparison_value, component_value, extended_value, extracted_value, headed_value, listed_value, measure_value, on_relation, operator_value, postfix_value, prefix_value, restricted_value, tuple_from}
+use Rattle.td_eval.specs.OperatorValues.{comparison_value, component_value, extended_by_settings, extended_value, extracted_value, headed_value, listed_value, measure_value, on_relation, operator_value, postfix_value, prefix_value, restricted_value, tuple_from}
 use Rattle.td_eval.specs.TreeTexts.{HasTexts, HaveTexts, ItemsHaveTexts, PartsHaveTexts}
 use Rattle.td_eval.specs.TreeValues.{argument_values, entry_values, items_in_tuples, value_of, values_in_tuples}
 use Rattle.td_eval.specs.ValueTypes.{IsOfType, IsTypedTuple, KeepsScope, KeepsType, ValuesKeepTypes}
 use Rattle.td_eval.specs.Worlds.{World, innermost_value, known_outcome, name_value, selector_outcome, with_tuples}
 use Rattle.td_eval.proofs.code_lemmas.KeepsGathered.{member_from_all}
 use Rattle.td_eval.proofs.code_lemmas.KeepsAggregates.{aggregation_keeps}
-use Rattle.td_eval.proofs.code_lemmas.KeepsExtension.{PartsKeep}
-use Rattle.td_eval.proofs.code_lemmas.KeepsOperators.{compose_keeps, intersect_keeps, join_keeps, matching_keeps, minus_keeps, not_matching_keeps, times_keeps, union_keeps}
+use Rattle.td_eval.proofs.code_lemmas.KeepsExtension.{PartsKeep, extended_keeps, settings_keep}
+use Rattle.td_eval.proofs.code_lemmas.KeepsOperators.{compose_keeps, disjoint_union_keeps, included_minus_keeps, intersect_keeps, join_keeps, matching_keeps, minus_keeps, not_matching_keeps, times_keeps, union_keeps}
 use Rattle.td_eval.proofs.code_lemmas.KeepsPostfix.{postfix_keeps}
 use Rattle.td_eval.proofs.code_lemmas.KeepsSummaries.{ItemsKeep, summarize_by_keeps, summarize_per_keeps}
 use Rattle.td_eval.proofs.code_lemmas.SummaryParts.{attributes_of_items, more_changes_no_items}
@@ -58,6 +59,8 @@ operator_keeps ds operators.And v w s t h k = and_keeps ds v w s t h k
 operator_keeps ds operators.Union v w s t h k = union_keeps ds v w s t h k
 operator_keeps ds operators.Intersect v w s t h k = intersect_keeps ds v w s t h k
 operator_keeps ds operators.Minus v w s t h k = minus_keeps ds v w s t h k
+operator_keeps ds operators.DisjointUnion v w s t h k = disjoint_union_keeps ds v w s t h k
+operator_keeps ds operators.IncludedMinus v w s t h k = included_minus_keeps ds v w s t h k
 operator_keeps ds operators.Join v w s t h k = join_keeps ds v w s t h k
 operator_keeps ds operators.Times v w s t h k = times_keeps ds v w s t h k
 operator_keeps ds operators.Compose v w s t h k = compose_keeps ds v w s t h k
@@ -203,6 +206,18 @@ module _ (w : World) (scope : Scope) (k : KeepsScope w scope) where
           (λ fit. rw (KeepsType, x.1) (x.2 vs (components_are ds ts vs d.components all fit)))
       by_option None e = tt
 
+  -- the attributes that EXTEND adds or sets, where their expressions have types
+  parts_are_kept : (parts : NamedTrees) (s : List Tuple) (r : Relation) (attributes : List Attribute) → AreTyped s → PartsGiveNames parts
+      → IsOfType ds (relation_value r) (types.relation (pack r.heading)) → named_types (entered_with r.heading (with_tuples scope s)) parts ≡ Valued attributes
+      → KeepParts ds r (named_types (entered_with r.heading (with_tuples scope s)) parts) (values_in_tuples w s parts)
+      → (named_types (entered_with r.heading (with_tuples w.scope s)) parts ≡ Valued attributes)
+      × AllByRecursion (λ (a : Attribute). IsName a.0 × IsType a.1 × IsKnown ds a.1) attributes × PartsKeep ds r attributes (values_in_tuples w s parts)
+  parts_are_kept parts s r attributes h n p e kept = (
+    more_changes_no_parts (entered_with r.heading (with_tuples scope s)) (entered_with r.heading (with_tuples w.scope s)) parts attributes (more_there s r.heading) e,
+    types_are_known.of_parts (entered_with r.heading (with_tuples scope s)) parts attributes (entered_is s r.heading h (p.0.2, p.1.1)) n e,
+    subst (λ o. KeepParts ds r o (values_in_tuples w s parts)) e kept,
+  )
+
   -- the new attributes of SUMMARIZE, where the items have types
   items_are_kept : (items : Summaries) (s : List Tuple) (r : Relation) (xs : Items) → AreTyped s → ItemsGiveNames items
       → IsOfType ds (relation_value r) (types.relation (pack r.heading)) → items_of (entered_with r.heading (with_tuples scope s)) items ≡ Valued xs
@@ -292,13 +307,16 @@ module _ (w : World) (scope : Scope) (k : KeepsScope w scope) where
         (λ v. on_relation v (λ r. extended_value (named_types (entered_with r.heading (with_tuples w.scope s)) parts) (values_in_tuples w s parts) r))
         (keeps operand s h n.0 x.0)
         (λ t v q. extend_keeps ds (λ g. named_types (entered_with g (with_tuples scope s)) parts) (λ g. named_types (entered_with g (with_tuples w.scope s)) parts)
-        (values_in_tuples w s parts) t v q
-        (λ r attributes p e. (
-          more_changes_no_parts (entered_with r.heading (with_tuples scope s)) (entered_with r.heading (with_tuples w.scope s)) parts attributes (more_there s r.heading) e,
-          types_are_known.of_parts (entered_with r.heading (with_tuples scope s)) parts attributes (entered_is s r.heading h (p.0.2, p.1.1)) n.1 e,
-          subst (λ o. KeepParts ds r o (values_in_tuples w s parts)) e
-              (parts_keep parts s h n.1 x.1 r p),
-        )))
+        (values_in_tuples w s parts) extension_type extended_value (extended_keeps ds) t v q
+        (λ r attributes p e. parts_are_kept parts s r attributes h n.1 p e (parts_keep parts s h n.1 x.1 r p)))
+    keeps (extend_setting operand settings) s h n x =
+        value_keeps ds (type_of (with_tuples scope s) operand) (value_of w s operand)
+        (λ t. over_relation t (λ g. with_value (named_types (entered_with g (with_tuples scope s)) settings) (setting_type g)))
+        (λ v. on_relation v (λ r. extended_by_settings (named_types (entered_with r.heading (with_tuples w.scope s)) settings) (values_in_tuples w s settings) r))
+        (keeps operand s h n.0 x.0)
+        (λ t v q. extend_keeps ds (λ g. named_types (entered_with g (with_tuples scope s)) settings) (λ g. named_types (entered_with g (with_tuples w.scope s)) settings)
+        (values_in_tuples w s settings) setting_type extended_by_settings (settings_keep ds) t v q
+        (λ r attributes p e. parts_are_kept settings s r attributes h n.1 p e (parts_keep settings s h n.1 x.1 r p)))
     keeps (summarize_per operand per items) s h n x =
         summarize_per_keeps ds (λ g. items_of (entered_with g (with_tuples scope s)) items) (λ g. summary_attributes (entered_with g (with_tuples w.scope s)) items)
         (items_in_tuples w s items) (type_of (with_tuples scope s) operand) (type_of (with_tuples scope s) per) (value_of w s operand) (value_of w s per)

@@ -32,7 +32,7 @@ use Rattle.td_eval.specs.OperatorValues.{extended_value, value_or_false}
 use Rattle.td_eval.specs.ValueLaws.{AreOneOutcome, TupleOrderDoesNotCount}
 use Rattle.td_eval.proofs.law_lemmas.AlikeRows.{AreAlikeIn, extended_alike}
 use Rattle.td_eval.proofs.code_lemmas.KeepsExtension.{gathered_member}
-use Rattle.td_eval.proofs.law_lemmas.TupleOrder.{AreAlike, Refuses, extended, follows, gathered_alike, one_itself, one_order, restricted}
+use Rattle.td_eval.proofs.law_lemmas.TupleOrder.{AreAlike, Refuses, extended, follows, gathered_alike, one_itself, one_order, restricted, settings}
 
 -- ---- lists of the same items
 
@@ -327,6 +327,7 @@ tuple_order_does_not_count =
     record {
       restricted = restricted;
       extended = extended;
+      set = settings;
       values = λ a vs ws p. aggregate_alike a vs ws (permuted vs ws p);
       aggregated = λ a f r ts p. aggregated a f r ts (permuted r.body ts p);
       summarized = λ types items r q ts us p same. summarized r q ts us (permuted r.body ts p) same types items;

@@ -1,18 +1,18 @@
 -- What WHERE, aggregates and EXTEND give depends only on what is applied to the tuples of the relation.
-use Rattle.std.proofs.Common.{◌≡◌, ◌++◌, Bool, List, [], ◌∷◌, ap, filter, map, refl}
+use Rattle.std.proofs.Common.{◌≡◌, ◌++◌, ℕ, Bool, List, [], ◌∷◌, ap, filter, map, not, refl}
 use Rattle.std.specs.Prelude.{if◌then◌else◌, ⊤}
 use Rattle.std.specs.List.{Contains}
-use Rattle.td_algebra.specs.Operators.{added_attributes, added_values, extended_relation, extended_tuple}
+use Rattle.td_algebra.specs.Operators.{added_attributes, added_values, extended_relation, extended_tuple, set_relation, set_tuple}
 use Rattle.td_algebra.proofs.Lists.{contains_first, contains_later}
-use Rattle.td_check.specs.OperatorTypes.{extended_by}
+use Rattle.td_check.specs.OperatorTypes.{extended_by, set_heading}
 use Rattle.td_tree.specs.Outcomes.{Outcome, Valued, Refused, gathered, with_value}
-use Rattle.td_types.specs.Headings.{heading_union}
+use Rattle.td_types.specs.Headings.{has_attribute, heading_union, outside}
 use Rattle.td_types.specs.Types.{Attribute}
 use Rattle.td_value.specs.Values.{Val, Relation, Tuple, relation_of, tuple_of}
 use Rattle.td_value.specs.code.Views.{relation_view}
 use Rattle.td_eval.specs.AggregateValues.{aggregate_of, aggregated_value}
 use Rattle.td_group.specs.declared.aggregates.Agg.{Agg}
-use Rattle.td_eval.specs.OperatorValues.{additions_of, columns_values, extended_value, is_true, of_relation, restricted_value, truth_value, value_of_type, value_or_false}
+use Rattle.td_eval.specs.OperatorValues.{additions_of, columns_values, extended_by_settings, extended_value, is_true, of_relation, restricted_value, truth_value, value_of_type, value_or_false}
 
 -- ---- lists
 
@@ -103,3 +103,20 @@ module _ (r : Relation) where
       let columns = columns_alike attributes fs gs same in
       let result = relation_alike attributes fs gs same in
       λ i. with_value (extended_by r.heading attributes) (λ heading. with_value (gathered (columns i)) (λ _. of_relation (result i)))
+
+  set_alike : (attributes : List Attribute) (fs gs : List (Tuple → Outcome Val)) → AreAlikeIn fs gs
+      → set_relation (additions_of attributes fs) r ≡ set_relation (additions_of attributes gs) r
+  set_alike attributes fs gs same =
+      let heading = attributes_alike attributes fs gs same in
+      let rows = map_alike (set_tuple (additions_of attributes fs)) (set_tuple (additions_of attributes gs)) r.body
+      (λ u c. let values = values_alike attributes fs gs same u c in
+      λ i. tuple_of (filter (λ (e : List ℕ × Val). not (has_attribute e.0 (heading i))) u ++ values i)) in
+      λ i. relation_of (heading_union (outside (heading i) r.heading) (heading i)) (rows i)
+
+  pub settings_alike : (types : Outcome (List Attribute)) (fs gs : List (Tuple → Outcome Val)) → AreAlikeIn fs gs
+      → extended_by_settings types fs r ≡ extended_by_settings types gs r
+  settings_alike (Refused cs) fs gs same = refl
+  settings_alike (Valued attributes) fs gs same =
+      let columns = columns_alike attributes fs gs same in
+      let result = set_alike attributes fs gs same in
+      λ i. with_value (set_heading r.heading attributes) (λ heading. with_value (with_value (gathered (columns i)) (λ _. Valued (result i))) of_relation)

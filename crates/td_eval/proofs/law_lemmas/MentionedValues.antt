@@ -4,7 +4,7 @@ use Rattle.std.specs.List.{AllByRecursion}
 use Rattle.std.specs.Prelude.{if◌then◌else◌, is_some, IsTrue}
 use Rattle.std.proofs.lemmas.List.Elements.{Contains-append_left, Contains-append_right}
 use Rattle.td_check.specs.Mentions.{in_tuples, mentioned_by_name, relvars_in, relvars_in_all, relvars_in_items, relvars_in_named, types_in, types_in_all, types_in_items, types_in_named, types_named_in}
-use Rattle.td_check.specs.OperatorTypes.{count_item, aggregate_item, aggregate_type, are_types_of, choice_type, comparison_type, component_type, extension_type, extracted_type, headed_type, known_or, listed_type, measure_type, operator_type, over_relation, postfix_type, prefix_type, selector_type, tuple_type, restriction_type}
+use Rattle.td_check.specs.OperatorTypes.{count_item, aggregate_item, aggregate_type, are_types_of, choice_type, comparison_type, component_type, extension_type, extracted_type, headed_type, known_or, listed_type, measure_type, operator_type, over_relation, postfix_type, prefix_type, selector_type, setting_type, tuple_type, restriction_type}
 use Rattle.td_check.specs.Scopes.{KnownRelvar, Scope, entered_with, innermost, known_relvar}
 use Rattle.td_check.specs.StaticLaws.{AgreeOn, GiveNames, GivesNames, HasMore, ItemsGiveNames, PartsGiveNames, UsersAllIn, UsersIn}
 use Rattle.td_check.specs.StaticTypes.{items_of, named_types, both_types, type_of, types_of, with_items}
@@ -15,7 +15,7 @@ use Rattle.td_check.proofs.StaticLaws.{more_changes_no_parts}
 use Rattle.td_check.proofs.SummaryLaws.{HeadingItems, Items}
 use Rattle.td_tree.specs.declared.cause.Cause.TheVariants as causes
 use Rattle.td_tree.specs.Outcomes.{Outcome, Valued, Refused, value_if, with_both, with_value}
-use Rattle.td_tree.specs.Trees.{AttributeTrees, Tree, literal, name, parentheses, prefix, extract, restriction, binary, compare, postfix, select, component, measure, aggregate, relation, headed_relation, tuple, extend, summarize_per, summarize_by, choice, Trees, none, more, NamedTrees, none_named, more_named, Summaries, no_summaries, counted, summed, project}
+use Rattle.td_tree.specs.Trees.{AttributeTrees, Tree, literal, name, parentheses, prefix, extract, restriction, binary, compare, postfix, select, component, measure, aggregate, relation, headed_relation, tuple, extend, extend_setting, summarize_per, summarize_by, choice, Trees, none, more, NamedTrees, none_named, more_named, Summaries, no_summaries, counted, summed, project}
 use Rattle.td_types.specs.Headings.{made_heading}
 use Rattle.td_types.specs.TypeLists.{DeclaredType, attributes_meant, declared_at, heading_meant}
 use Rattle.td_types.specs.Types.{Type', Attribute, Attrs, Heading, pack, unpack}
@@ -26,14 +26,14 @@ use Rattle.td_types.proofs.OutcomeLaws.{value_of_test, value_of_with, values_of_
 use Rattle.td_value.specs.Values.{Val, boolean, integer, char, relation_value, user, Relation, Tuple, heading_of}
 use Rattle.td_value.specs.Values as values
 use Rattle.td_eval.specs.AggregateValues.{aggregated_value, asked_of, summarized_value, summary_attributes, summary_value}
-use Rattle.td_eval.specs.OperatorValues.{comparison_value, component_value, extended_value, extracted_value, headed_value, listed_value, measure_value, on_relation, on_truth, operator_value, postfix_value, prefix_value, restricted_value, tuple_from}
+use Rattle.td_eval.specs.OperatorValues.{comparison_value, component_value, extended_by_settings, extended_value, extracted_value, headed_value, listed_value, measure_value, on_relation, on_truth, operator_value, postfix_value, prefix_value, restricted_value, tuple_from}
 use Rattle.td_eval.specs.TreeTexts.{HasTexts, HaveTexts, ItemsHaveTexts, PartsHaveTexts}
 use Rattle.td_eval.specs.TreeValues.{argument_values, entry_values, items_in_tuples, value_of, values_in_tuples}
 use Rattle.td_eval.specs.ValueLaws.{HasTheSame, SelectsTheSame, ValuesDependOnMentions}
 use Rattle.td_eval.specs.ValueTypes.{AreComponentsOf, IsOfType, IsTypedTuple, KeepsScope, KeepsType}
 use Rattle.td_eval.specs.Worlds.{World, innermost_value, known_outcome, name_value, selector_outcome, with_tuples}
 use Rattle.td_eval.proofs.law_lemmas.AlikeOutcomes.{both_alike, over_same, with_alike}
-use Rattle.td_eval.proofs.law_lemmas.AlikeRows.{AreAlikeIn, aggregated_alike, extended_alike, restricted_alike}
+use Rattle.td_eval.proofs.law_lemmas.AlikeRows.{AreAlikeIn, aggregated_alike, extended_alike, restricted_alike, settings_alike}
 use Rattle.td_eval.proofs.law_lemmas.AlikeSummaries.{SummandsAlikeIn, summarized_alike}
 use Rattle.td_eval.proofs.code_lemmas.SummaryParts.{attributes_of_items, by_type, more_changes_no_items, per_type}
 use Rattle.td_eval.proofs.law_lemmas.TypedArguments.{arguments_typed, known_is}
@@ -214,6 +214,45 @@ module _ (among : List ℕ → Bool) (scope : Scope) (w v : World) (k : KeepsSco
       ∙ (λ i. on_relation u (λ p. summarized_alike r p (summary_attributes (entered_with r.heading (with_tuples w.scope s)) items)
       (items_in_tuples v s items) (items_in_tuples w s items) (alike r y.0 typed within known) i)))
 
+  -- attributes that are added or set in the tuples of an operand that has a type
+  over_tuples_same : (operand : Tree) (parts : NamedTrees) (s : List Tuple) (t : Type') (rule : Heading → List Attribute → Outcome Type')
+      (given : Outcome (List Attribute) → List (Tuple → Outcome Val) → Relation → Outcome Val)
+      → KeepsType ds (type_of (here (map heading_of s)) operand) (value_of w s operand)
+      → Agreed (map heading_of s) (types_in operand ++ types_in_named parts)
+      (relvars_in (here (map heading_of s)) operand ++ relvars_in_named (in_tuples (here (map heading_of s)) (type_of (here (map heading_of s)) operand)) parts)
+      → with_value (type_of (here (map heading_of s)) operand)
+      (λ q. over_relation q (λ g. with_value (named_types (entered_with g (here (map heading_of s))) parts) (rule g))) ≡ Valued t
+      → ((r : Relation) (types : Outcome (List Attribute)) (fs gs : List (Tuple → Outcome Val)) → AreAlikeIn r fs gs → given types fs r ≡ given types gs r)
+      → ((u : Type') → Agreed (map heading_of s) (types_in operand) (relvars_in (here (map heading_of s)) operand)
+      → type_of (here (map heading_of s)) operand ≡ Valued u → value_of v s operand ≡ value_of w s operand)
+      → ((r : Relation) (xs : List Attribute) → IsOfType ds (relation_value r) (types.relation (pack r.heading))
+      → Agreed (r.heading ∷ map heading_of s) (types_in_named parts) (relvars_in_named (here (r.heading ∷ map heading_of s)) parts)
+      → named_types (here (r.heading ∷ map heading_of s)) parts ≡ Valued xs → AreAlikeIn r (values_in_tuples v s parts) (values_in_tuples w s parts))
+      → with_value (value_of v s operand) (λ z. on_relation z (λ r. given (named_types (entered_with r.heading (with_tuples v.scope s)) parts) (values_in_tuples v s parts) r))
+      ≡ with_value (value_of w s operand) (λ z. on_relation z (λ r. given (named_types (entered_with r.heading (with_tuples w.scope s)) parts) (values_in_tuples w s parts) r))
+  over_tuples_same operand parts s t rule given keeps a is alike operands each =
+      let hs = map heading_of s in
+      let inner = relvars_in_named (in_tuples (here hs) (type_of (here hs) operand)) parts in
+      let y = value_of_with (type_of (here hs) operand) (λ q. over_relation q (λ g. with_value (named_types (entered_with g (here hs)) parts) (rule g))) t is in
+      let first = first_part hs (types_in operand) (types_in_named parts) (relvars_in (here hs) operand) inner a in
+      let rest = rest_part hs (types_in operand) (types_in_named parts) (relvars_in (here hs) operand) inner a in
+      let kept = subst (λ o. KeepsType ds o (value_of w s operand)) y.1 keeps in
+      ap (λ o. with_value o (λ z. on_relation z (λ r. given (named_types (entered_with r.heading (with_tuples v.scope s)) parts) (values_in_tuples v s parts) r)))
+      (operands y.0 first y.1)
+      ∙ over_same ds y.0 (value_of w s operand)
+      (λ r. given (named_types (entered_with r.heading (with_tuples v.scope s)) parts) (values_in_tuples v s parts) r)
+      (λ r. given (named_types (entered_with r.heading (with_tuples w.scope s)) parts) (values_in_tuples w s parts) r) kept
+      (λ g r e head typed.
+      let into = inside hs (type_of (here hs) operand) g (types_in_named parts) (λ m. relvars_in_named m parts) (y.1 ∙ ap Valued e)
+      (subst (UsersIn among) e (users_agreed hs operand y.0 first y.1)) rest in
+      let z = value_of_with (named_types (here (unpack g ∷ hs)) parts) (rule (unpack g)) t
+      (subst (λ q. over_relation q (λ i. with_value (named_types (entered_with i (here hs)) parts) (rule i)) ≡ Valued t) e y.2) in
+      let agreed = subst (λ i. Agreed (i ∷ hs) (types_in_named parts) (relvars_in_named (here (i ∷ hs)) parts)) (sym head) into in
+      let known = subst (λ i. named_types (here (i ∷ hs)) parts ≡ Valued z.0) (sym head) z.1 in
+      ap (λ o. given o (values_in_tuples v s parts) r) (parts_typed_same s r.heading parts z.0 agreed known)
+      ∙ alike r (named_types (entered_with r.heading (with_tuples w.scope s)) parts) (values_in_tuples v s parts) (values_in_tuples w s parts)
+      (each r z.0 typed agreed known))
+
   -- ---- trees
 
   mutual
@@ -321,29 +360,11 @@ module _ (among : List ℕ → Bool) (scope : Scope) (w v : World) (k : KeepsSco
         let y = value_of_with (named_types (here (map heading_of s)) parts) tuple_type t is in
         ap (λ o. with_value o tuple_from) (same_entries parts s y.0 h n x a y.1)
     same (extend operand parts) s t h n x a is =
-        let hs = map heading_of s in
-        let y = value_of_with (type_of (here hs) operand)
-        (λ q. over_relation q (λ g. with_value (named_types (entered_with g (here hs)) parts) (extension_type g))) t is in
-        let first = first_part hs (types_in operand) (types_in_named parts) (relvars_in (here hs) operand)
-        (relvars_in_named (in_tuples (here hs) (type_of (here hs) operand)) parts) a in
-        let rest = rest_part hs (types_in operand) (types_in_named parts) (relvars_in (here hs) operand)
-        (relvars_in_named (in_tuples (here hs) (type_of (here hs) operand)) parts) a in
-        let kept = subst (λ o. KeepsType ds o (value_of w s operand)) y.1 (keeps w scope k operand s h n.0 x.0) in
-        ap (λ o. with_value o (λ z. on_relation z (λ r. extended_value (named_types (entered_with r.heading (with_tuples v.scope s)) parts) (values_in_tuples v s parts) r)))
-        (same operand s y.0 h n.0 x.0 first y.1)
-        ∙ over_same ds y.0 (value_of w s operand)
-        (λ r. extended_value (named_types (entered_with r.heading (with_tuples v.scope s)) parts) (values_in_tuples v s parts) r)
-        (λ r. extended_value (named_types (entered_with r.heading (with_tuples w.scope s)) parts) (values_in_tuples w s parts) r) kept
-        (λ g r e head typed.
-        let into = inside hs (type_of (here hs) operand) g (types_in_named parts) (λ m. relvars_in_named m parts) (y.1 ∙ ap Valued e)
-        (subst (UsersIn among) e (users_agreed hs operand y.0 first y.1)) rest in
-        let z = value_of_with (named_types (here (unpack g ∷ hs)) parts) (extension_type (unpack g)) t
-        (subst (λ q. over_relation q (λ i. with_value (named_types (entered_with i (here hs)) parts) (extension_type i)) ≡ Valued t) e y.2) in
-        let agreed = subst (λ i. Agreed (i ∷ hs) (types_in_named parts) (relvars_in_named (here (i ∷ hs)) parts)) (sym head) into in
-        let known = subst (λ i. named_types (here (i ∷ hs)) parts ≡ Valued z.0) (sym head) z.1 in
-        ap (λ o. extended_value o (values_in_tuples v s parts) r) (parts_typed_same s r.heading parts z.0 agreed known)
-        ∙ extended_alike r (named_types (entered_with r.heading (with_tuples w.scope s)) parts) (values_in_tuples v s parts) (values_in_tuples w s parts)
-        (same_parts parts s r z.0 typed h n.1 x.1 agreed known))
+        over_tuples_same operand parts s t extension_type extended_value (keeps w scope k operand s h n.0 x.0) a is (λ r. extended_alike r)
+        (λ u b e. same operand s u h n.0 x.0 b e) (λ r xs typed b e. same_parts parts s r xs typed h n.1 x.1 b e)
+    same (extend_setting operand settings) s t h n x a is =
+        over_tuples_same operand settings s t setting_type extended_by_settings (keeps w scope k operand s h n.0 x.0) a is (λ r. settings_alike r)
+        (λ u b e. same operand s u h n.0 x.0 b e) (λ r xs typed b e. same_parts settings s r xs typed h n.1 x.1 b e)
     same (summarize_per operand per items) s t h n x a is =
         let hs = map heading_of s in
         let y = values_of_both (with_value (type_of (here hs) operand) (λ q. with_items q (λ g. items_of (entered_with g (here hs)) items))) (type_of (here hs) per)

@@ -3,14 +3,14 @@ use Rattle.std.proofs.Common.{ℕ, ℤ, pos, Bool, true, false, List, [], ◌∷
 use Rattle.std.specs.Prelude.{◌+ℤ◌, ◌-ℤ◌, ◌*ℤ◌, if◌then◌else◌, int_div, neg_ℤ}
 use Rattle.std.specs.List.{AllByRecursion, Contains, zip}
 use Rattle.td_algebra.proofs.Lists.{contains_first}
-use Rattle.td_algebra.specs.Operators.{composition, difference, extended_relation, intersection, join, product, projected_relation, renamed_relation, restriction, semidifference, semijoin, union}
+use Rattle.td_algebra.specs.Operators.{composition, difference, extended_relation, intersection, is_disjoint, is_subset, join, product, projected_relation, renamed_relation, restriction, semidifference, semijoin, union}
 use Rattle.td_check.proofs.OperatorLaws.{Gives, gives_after, gives_all, gives_if, gives_known, gives_with}
-use Rattle.td_check.specs.OperatorTypes.{attribute_type, equality_type, extended_by, known_or, over_relation, over_tuple, renaming_pairs, same_heading}
+use Rattle.td_check.specs.OperatorTypes.{attribute_type, equality_type, extended_by, known_or, over_relation, over_tuple, renaming_pairs, same_heading, set_heading}
 use Rattle.td_eval.proofs.code_lemmas.KeepsGathered.{member_from_all}
 use Rattle.td_eval.proofs.code_lemmas.KeepsRelations.{all_made}
 use Rattle.td_eval.proofs.law_lemmas.MetRelations.{EntryMeets, RelationMeets, TupleMeets, ValuesMeet, closure_meets, composition_meets, extended_meets, fields_meet, grouped_meets, join_meets, product_meets, projected_meets, relation_meets, renamed_meets, restriction_meets, rows_meet, set_attributes_meet, set_meets, union_meets, unnested_meets, unpacked_meet, value_meets, wrapped_meets}
 use Rattle.td_eval.specs.LiteralValues.{EachInParts, EachUserValue}
-use Rattle.td_eval.specs.OperatorValues.{additions_of, at_most, columns_values, comparison_value, component_value, components_of, element_of, extended_value, extracted_value, headed_value, is_true, is_zero, less_or_equal, less_than, listed_value, literal_value, measure_value, membership_value, nested_names, of_relation, of_truth, on_number, on_relation, on_relations, on_text, on_truth, on_tuple, only_tuple, operator_value, postfix_value, prefix_value, projected_names, quotient, relation_where, restricted_value, set_value, signed_number, truth_value, tuple_from, value_or_false}
+use Rattle.td_eval.specs.OperatorValues.{additions_of, at_most, columns_values, comparison_value, component_value, components_of, disjoint_union, element_of, extended_by_settings, extended_value, extracted_value, headed_value, included_difference, is_true, is_zero, less_or_equal, less_than, listed_value, literal_value, measure_value, membership_value, nested_names, of_relation, of_truth, on_number, on_relation, on_relations, on_text, on_truth, on_tuple, only_tuple, operator_value, over_one_heading, postfix_value, prefix_value, projected_names, quotient, relation_where, restricted_value, set_value, signed_number, truth_value, tuple_from, value_or_false}
 use Rattle.td_group.specs.Closure.{closure}
 use Rattle.td_group.specs.Nesting.{grouped_relation, unnested_relation, wrapped_relation}
 use Rattle.td_tree.specs.declared.cause.Cause.TheVariants as causes
@@ -22,7 +22,7 @@ use Rattle.td_tree.specs.declared.operator.Operator.{Operator}
 use Rattle.td_tree.specs.declared.operator.Operator.TheVariants as operators
 use Rattle.td_tree.specs.declared.operator.Prefix.{Prefix}
 use Rattle.td_tree.specs.declared.operator.Prefix.TheVariants as prefixes
-use Rattle.td_tree.specs.Outcomes.{Outcome, Valued, Refused, Only, gathered, value_if}
+use Rattle.td_tree.specs.Outcomes.{Outcome, Valued, Refused, Only, gathered, value_if, with_value}
 use Rattle.td_tree.specs.Trees.{Literal, number, text, truth, table_dee, table_dum, Postfix, project, rename, group, ungroup, wrap, unwrap}
 use Rattle.td_types.specs.Headings.{are_distinct}
 use Rattle.td_types.specs.TypeLists.{DeclaredType, declared_at}
@@ -145,14 +145,14 @@ module _ (P : List ℕ → Parts → Type 0) where
   postfix_meets (project attributes) v m =
       relation_gives HasOnly v _ m
       (λ r a. where_meets _ (projected_relation (projected_names attributes r.heading) r) (projected_meets P (projected_names attributes r.heading) r a))
-  postfix_meets (rename renamings) v m =
+  postfix_meets (rename style renamings) v m =
       relation_gives HasOnly v _ m
       (λ r a. where_meets _ (renamed_relation (renaming_pairs renamings) r) (renamed_meets P (renaming_pairs renamings) r a))
-  postfix_meets (group attributes name) v m =
+  postfix_meets (group style attributes name) v m =
       relation_gives HasOnly v _ m
       (λ r a. gives_after HasOnly (nested_names attributes name r.heading) _
       (λ names. relation_meets P (grouped_relation names name r) (grouped_meets P names name r a)))
-  postfix_meets (wrap attributes name) v m =
+  postfix_meets (wrap style attributes name) v m =
       relation_gives HasOnly v _ m
       (λ r a. gives_after HasOnly (nested_names attributes name r.heading) _
       (λ names. relation_meets P (wrapped_relation names name r) (wrapped_meets P names name r a)))
@@ -181,6 +181,14 @@ module _ (P : List ℕ → Parts → Type 0) where
       by_test true = tt
       by_test false = in_range_meets (int_div x y)
 
+  -- of two relations of one heading
+  one_heading_meets : (f : Relation → Relation → Outcome Relation) (q r : Relation) → RelationMeets P r
+      → ((s : Relation) → RelationMeets P s → Gives (RelationMeets P) (f q s)) → GivesMet (over_one_heading f q r)
+  one_heading_meets f q r m h =
+      gives_with (RelationMeets P) HasOnly (value_if (same_heading q.heading r.heading) r causes.Heading) (λ s. with_value (f q s) of_relation)
+      (gives_if (RelationMeets P) (same_heading q.heading r.heading) r causes.Heading m)
+      (λ s a. gives_with (RelationMeets P) HasOnly (f q s) of_relation (h s a) (λ u b. relation_meets P u b))
+
   pub operator_meets : (op : Operator) (v w : Val) → HasOnly v → HasOnly w → GivesMet (operator_value op v w)
   operator_meets operators.Or v w m n = truths_meet v w _
   operator_meets operators.And v w m n = truths_meet v w _
@@ -190,6 +198,14 @@ module _ (P : List ℕ → Parts → Type 0) where
       relations_give v w _ m n (λ q r a b. where_meets _ (intersection q r) (restriction_meets P _ q a))
   operator_meets operators.Minus v w m n =
       relations_give v w _ m n (λ q r a b. where_meets _ (difference q r) (restriction_meets P _ q a))
+  operator_meets operators.DisjointUnion v w m n =
+      relations_give v w _ m n
+      (λ q r a b. one_heading_meets disjoint_union q r b
+      (λ s c. gives_if (RelationMeets P) (is_disjoint q s) (union q s) causes.NotDisjoint (union_meets P q s a c)))
+  operator_meets operators.IncludedMinus v w m n =
+      relations_give v w _ m n
+      (λ q r a b. one_heading_meets included_difference q r b
+      (λ s c. gives_if (RelationMeets P) (is_subset s q) (difference q s) causes.NotIncluded (restriction_meets P _ q a)))
   operator_meets operators.Join v w m n =
       relations_give v w _ m n (λ q r a b. where_meets _ (join q r) (join_meets P q r a b))
   operator_meets operators.Times v w m n =
@@ -280,3 +296,11 @@ module _ (P : List ℕ → Parts → Type 0) where
   set_value_meets attributes fs r m h =
       gives_after (RelationMeets P) (gathered (columns_values attributes fs r.body)) _
       (λ columns. set_attributes_meet P (additions_of attributes fs) r m (λ t c. additions_meet attributes fs t (h t c)))
+
+  pub extended_by_settings_meets : (attributes : Outcome (List Attribute)) (fs : List (Tuple → Outcome Val)) (r : Relation) → RelationMeets P r
+      → ((t : Tuple) → Contains r.body t → PartsMeet fs t) → GivesMet (extended_by_settings attributes fs r)
+  extended_by_settings_meets attributes fs r m h =
+      gives_after HasOnly attributes _
+      (λ xs. gives_after HasOnly (set_heading r.heading xs) _
+      (λ heading. gives_with (RelationMeets P) HasOnly (set_value xs fs r) of_relation (set_value_meets xs fs r m h)
+      (λ q a. relation_meets P q a)))

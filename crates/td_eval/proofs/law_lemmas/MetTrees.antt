@@ -7,16 +7,16 @@ use Rattle.td_check.proofs.OperatorLaws.{Gives, gives_both, gives_with}
 use Rattle.td_check.specs.Scopes.{entered_with}
 use Rattle.td_check.specs.StaticTypes.{named_types}
 use Rattle.td_eval.proofs.law_lemmas.MetAssignments.{gives_met, met_given}
-use Rattle.td_eval.proofs.law_lemmas.MetOperators.{GivesMet, HasOnly, PartsMeet, comparison_meets, component_meets, extended_value_meets, extracted_meets, headed_meets, listed_meets, literal_meets, measure_meets, operator_meets, postfix_meets, prefix_meets, relation_gives, restricted_meets, truth_meets, tuple_from_meets}
+use Rattle.td_eval.proofs.law_lemmas.MetOperators.{GivesMet, HasOnly, PartsMeet, comparison_meets, component_meets, extended_by_settings_meets, extended_value_meets, extracted_meets, headed_meets, listed_meets, literal_meets, measure_meets, operator_meets, postfix_meets, prefix_meets, relation_gives, restricted_meets, truth_meets, tuple_from_meets}
 use Rattle.td_eval.proofs.law_lemmas.MetRelations.{TupleMeets, entries_meet, met_relation, value_meets}
 use Rattle.td_eval.proofs.law_lemmas.MetSummaries.{ItemsMeet, aggregated_meets, summary_meets}
 use Rattle.td_eval.specs.AggregateValues.{aggregated_value, asked_of, summary_attributes, summary_value}
 use Rattle.td_eval.specs.MetConstraints.{EachInTuple, EachInValues, GivesOnly}
-use Rattle.td_eval.specs.OperatorValues.{comparison_value, component_value, extended_value, extracted_value, headed_value, listed_value, measure_value, on_relation, on_truth, operator_value, postfix_value, prefix_value, restricted_value, tuple_from}
+use Rattle.td_eval.specs.OperatorValues.{comparison_value, component_value, extended_by_settings, extended_value, extracted_value, headed_value, listed_value, measure_value, on_relation, on_truth, operator_value, postfix_value, prefix_value, restricted_value, tuple_from}
 use Rattle.td_eval.specs.TreeValues.{argument_values, entry_values, items_in_tuples, value_of, values_in_tuples}
 use Rattle.td_eval.specs.Worlds.{World, innermost_value, known_outcome, name_value, selector_outcome, with_tuples}
 use Rattle.td_tree.specs.Outcomes.{Outcome, Valued, Refused}
-use Rattle.td_tree.specs.Trees.{Tree, literal, name, parentheses, prefix, extract, restriction, binary, compare, postfix, select, component, measure, aggregate, relation, headed_relation, tuple, extend, summarize_per, summarize_by, choice, Trees, none, more, NamedTrees, none_named, more_named, Summaries, no_summaries, counted, summed, project}
+use Rattle.td_tree.specs.Trees.{Tree, literal, name, parentheses, prefix, extract, restriction, binary, compare, postfix, select, component, measure, aggregate, relation, headed_relation, tuple, extend, extend_setting, summarize_per, summarize_by, choice, Trees, none, more, NamedTrees, none_named, more_named, Summaries, no_summaries, counted, summed, project}
 use Rattle.td_types.specs.TypeLists.{heading_meant}
 use Rattle.td_types.specs.Types.{Heading}
 use Rattle.td_value.specs.Values.{Val, Parts, Relation, Tuple, relation_value, value_at}
@@ -119,6 +119,15 @@ module _ (P : List ℕ → Parts → Type 0) where
           (λ r. extended_value (named_types (entered_with r.heading (with_tuples w.scope s)) parts) (values_in_tuples w s parts) r) a
           (λ r b. extended_value_meets P (named_types (entered_with r.heading (with_tuples w.scope s)) parts) (values_in_tuples w s parts) r b
           (λ t c. parts_have parts s m t (b t c))))
+      value_has (extend_setting operand settings) s m =
+          gives_with (HasOnly P) (HasOnly P) (value_of w s operand)
+          (λ v. on_relation v
+          (λ r. extended_by_settings (named_types (entered_with r.heading (with_tuples w.scope s)) settings) (values_in_tuples w s settings) r))
+          (value_has operand s m)
+          (λ v a. relation_gives P (HasOnly P) v
+          (λ r. extended_by_settings (named_types (entered_with r.heading (with_tuples w.scope s)) settings) (values_in_tuples w s settings) r) a
+          (λ r b. extended_by_settings_meets P (named_types (entered_with r.heading (with_tuples w.scope s)) settings) (values_in_tuples w s settings) r b
+          (λ t c. parts_have settings s m t (b t c))))
       value_has (summarize_per operand per items) s m =
           gives_both (HasOnly P) (HasOnly P) (HasOnly P) (value_of w s operand) (value_of w s per)
           (summary_value (λ h. summary_attributes (entered_with h (with_tuples w.scope s)) items) (items_in_tuples w s items))

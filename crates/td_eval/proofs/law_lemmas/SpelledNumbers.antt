@@ -3,7 +3,7 @@ use Rattle.std.proofs.Common.{List}
 use Rattle.td_eval.specs.TreeNumbers.{HasNumbers, HaveNumbers, IsInRangeLiteral, ItemsHaveNumbers, PartsHaveNumbers, SpelledNumbersAreInRange}
 use Rattle.td_tree.specs.declared.operator.Level.{Level}
 use Rattle.td_tree.specs.Grammar as g
-use Rattle.td_tree.specs.Grammar.{AdditionsSpelling, ExpressionsSpelling, ListSpelling, LiteralSpelling, PartsSpelling, Spelling, SummariesSpelling}
+use Rattle.td_tree.specs.Grammar.{AdditionsSpelling, ExpressionsSpelling, ListSpelling, LiteralSpelling, PartsSpelling, SettingsSpelling, Spelling, SummariesSpelling}
 use Rattle.td_tree.specs.Lexemes.{Lexeme}
 use Rattle.td_tree.specs.Trees.{Literal, NamedTrees, Summaries, Tree, Trees}
 
@@ -40,6 +40,7 @@ mutual
   in_range g.empty_tuple = tt
   in_range (g.tuple p) = parts_in_range p
   in_range (g.extension p q) = (in_range p, additions_in_range q)
+  in_range (g.setting_extension p q) = (in_range p, settings_in_range q)
   in_range (g.summary_per p q r) = (in_range p, in_range q, summaries_in_range r)
   in_range (g.summary_by p by r) = (in_range p, summaries_in_range r)
   in_range (g.choice p q r) = (in_range p, in_range q, in_range r)
@@ -59,6 +60,10 @@ mutual
   additions_in_range : {xs : List Lexeme} {parts : NamedTrees} → AdditionsSpelling xs parts → PartsHaveNumbers parts
   additions_in_range (g.last_addition p) = (in_range p, tt)
   additions_in_range (g.next_addition p q) = (in_range p, additions_in_range q)
+
+  settings_in_range : {xs : List Lexeme} {parts : NamedTrees} → SettingsSpelling xs parts → PartsHaveNumbers parts
+  settings_in_range (g.last_setting p) = (in_range p, tt)
+  settings_in_range (g.next_setting p q) = (in_range p, settings_in_range q)
 
   summaries_in_range : {xs : List Lexeme} {items : Summaries} → SummariesSpelling xs items → ItemsHaveNumbers items
   summaries_in_range g.last_count = tt

@@ -76,15 +76,15 @@ postfix_static (project attributes) v =
     relation_static v
     (λ r. relation_where (has_projection (listed_names attributes) r.heading) (projected_relation (projected_names attributes r.heading) r))
     (λ r. fits_static (has_projection (listed_names attributes) r.heading) (projected_relation (projected_names attributes r.heading) r))
-postfix_static (rename renamings) v =
+postfix_static (rename style renamings) v =
     relation_static v
     (λ r. relation_where (can_rename (renaming_pairs renamings) r.heading) (renamed_relation (renaming_pairs renamings) r))
     (λ r. fits_static (can_rename (renaming_pairs renamings) r.heading) (renamed_relation (renaming_pairs renamings) r))
-postfix_static (group attributes name) v =
+postfix_static (group style attributes name) v =
     relation_static v (λ r. with_value (nested_names attributes name r.heading) (λ names. of_relation (grouped_relation names name r)))
     (λ r. with_static (nested_names attributes name r.heading) (λ names. of_relation (grouped_relation names name r))
     (nested_static attributes name r.heading) (λ names. tt))
-postfix_static (wrap attributes name) v =
+postfix_static (wrap style attributes name) v =
     relation_static v (λ r. with_value (nested_names attributes name r.heading) (λ names. of_relation (wrapped_relation names name r)))
     (λ r. with_static (nested_names attributes name r.heading) (λ names. of_relation (wrapped_relation names name r))
     (nested_static attributes name r.heading) (λ names. tt))
@@ -121,6 +121,8 @@ operator_static operators.And v w e = truths_static v w (λ a b. of_truth (a && 
 operator_static operators.Union v w e = where_fit v w same_heading union
 operator_static operators.Intersect v w e = where_fit v w same_heading intersection
 operator_static operators.Minus v w e = where_fit v w same_heading difference
+operator_static operators.DisjointUnion v w e = absurd (cc)
+operator_static operators.IncludedMinus v w e = absurd (cc)
 operator_static operators.Join v w e = where_fit v w agree join
 operator_static operators.Times v w e = where_fit v w have_no_common product
 operator_static operators.Compose v w e = where_fit v w agree composition

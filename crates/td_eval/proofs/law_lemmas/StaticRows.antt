@@ -2,19 +2,19 @@
 use Rattle.std.proofs.Common.{◌≡◌, ◌∙◌, Contains, List, [], ◌∷◌, ap, fold, map, not, refl, subst, sym}
 use Rattle.std.specs.List.{AllByRecursion, list_all}
 use Rattle.std.specs.Prelude.{◌&&◌}
-use Rattle.td_algebra.specs.Operators.{extended_relation, restriction}
+use Rattle.td_algebra.specs.Operators.{extended_relation, restriction, set_relation}
 use Rattle.td_check.specs.Mentions.{in_tuples}
-use Rattle.td_check.specs.OperatorTypes.{extended_by, over_relation, same_type}
+use Rattle.td_check.specs.OperatorTypes.{extended_by, over_relation, same_type, set_heading}
 use Rattle.td_check.specs.Scopes.{Scope, entered_with}
 use Rattle.td_eval.specs.AggregateValues.{group_values, summarized_value, summary_in, summary_value}
-use Rattle.td_eval.specs.OperatorValues.{additions_of, columns_values, extended_value, is_true, of_relation, on_relation, on_truth, restricted_value, truth_value, value_of_type}
+use Rattle.td_eval.specs.OperatorValues.{additions_of, columns_values, extended_by_settings, extended_value, is_true, of_relation, on_relation, on_truth, restricted_value, set_value, truth_value, value_of_type}
 use Rattle.td_eval.specs.ValueTypes.{IsOfType, KeepsType}
 use Rattle.td_eval.proofs.code_lemmas.TypedRows.{parts_typed}
 use Rattle.td_group.specs.Groups.{groups}
 use Rattle.td_eval.proofs.law_lemmas.StaticOutcomes.{IsStatic, gathered_static, list_static, relations_static, test_static, truth_static, with_static}
 use Rattle.td_tree.specs.declared.cause.Cause.TheVariants as causes
 use Rattle.td_tree.specs.Outcomes.{Outcome, Valued, Refused, gathered, value_if, with_value}
-use Rattle.td_types.specs.Headings.{are_distinct, has_attribute, is_part, with_attribute}
+use Rattle.td_types.specs.Headings.{are_distinct, has_attribute, heading_union, is_part, outside, with_attribute}
 use Rattle.td_types.specs.code.TypeCode.{unpack_pack}
 use Rattle.td_types.specs.TypeLists.{DeclaredType}
 use Rattle.td_types.specs.Types.{Type', Attribute, Heading, attribute_names, pack, unpack}
@@ -58,6 +58,16 @@ extension_static attributes fs r h =
     (fold with_attribute r.heading attributes) causes.Heading (λ k. k))
     (λ heading. with_static (gathered (columns_values attributes fs r.body)) (λ columns. of_relation (extended_relation (additions_of attributes fs) r))
     (list_static (columns_values attributes fs r.body) (columns_static attributes fs r.body h)) (λ columns. tt))
+
+pub setting_static : (attributes : List Attribute) (fs : List (Tuple → Outcome Val)) (r : Relation) → AreStaticIn r.body fs
+    → IsStatic (extended_by_settings (Valued attributes) fs r)
+setting_static attributes fs r h =
+    with_static (set_heading r.heading attributes) (λ heading. with_value (set_value attributes fs r) of_relation)
+    (test_static (are_distinct (attribute_names attributes)) (heading_union (outside attributes r.heading) attributes) causes.Heading (λ k. k))
+    (λ heading. with_static (set_value attributes fs r) of_relation
+    (with_static (gathered (columns_values attributes fs r.body)) (λ columns. Valued (set_relation (additions_of attributes fs) r))
+    (list_static (columns_values attributes fs r.body) (columns_static attributes fs r.body h)) (λ columns. tt))
+    (λ q. tt))
 
 -- without items
 pub summary_static : (v w : Val) → IsStatic (summary_value (λ h. Valued []) [] v w)

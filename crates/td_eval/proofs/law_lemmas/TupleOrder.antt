@@ -3,11 +3,11 @@ use Rattle.std.proofs.Common.{◌≡◌, ◌∙◌, ◌⊎◌, inl, inr, Bool, L
 use Rattle.std.specs.Prelude.{◌↔◌, ⊤}
 use Rattle.std.specs.List.{Contains}
 use Rattle.std.proofs.lemmas.List.Kept.{IsStrictlySortedBy-filter}
-use Rattle.td_algebra.specs.Operators.{Addition, extended_relation, extended_tuple, restriction}
+use Rattle.td_algebra.specs.Operators.{Addition, extended_relation, extended_tuple, restriction, set_relation, set_tuple}
 use Rattle.td_algebra.proofs.Joined.{sets_alike}
 use Rattle.td_algebra.proofs.Lists.{contains_cases, contains_filter, contains_first, contains_later, contains_map, contains_none}
 use Rattle.td_algebra.proofs.Relations.{rows_ascend}
-use Rattle.td_check.specs.OperatorTypes.{extended_by}
+use Rattle.td_check.specs.OperatorTypes.{extended_by, set_heading}
 use Rattle.td_tree.specs.code.CauseCode.{numbered_number}
 use Rattle.td_tree.specs.Causes.{number_of}
 use Rattle.td_tree.specs.declared.cause.Cause.{Cause}
@@ -18,7 +18,7 @@ use Rattle.td_value.specs.ValueOrder.{tuple_order_same, tuple_order_total}
 use Rattle.td_value.specs.Values.{Val, HaveSameMembers, IsRelation, Relation, Tuple, relation_of, relation_value, tuple_cmp}
 use Rattle.td_value.specs.code.Views.{relation_view}
 use Rattle.td_value.proofs.SetLaws.{is_set_of}
-use Rattle.td_eval.specs.OperatorValues.{additions_of, columns_values, extended_value, is_true, of_relation, restricted_value, truth_value, value_of_type}
+use Rattle.td_eval.specs.OperatorValues.{additions_of, columns_values, extended_by_settings, extended_value, is_true, of_relation, restricted_value, set_value, truth_value, value_of_type}
 use Rattle.td_eval.specs.ValueLaws.{AreOneOutcome, restricted_in_turn}
 
 -- ---- sets of causes
@@ -204,5 +204,38 @@ extended (Valued attributes) fs r us same = by_heading (extended_by r.heading at
     by_heading : (o : Outcome Heading)
         → AreOneOutcome (with_value o (λ heading. with_value (gathered (columns_values attributes fs r.body)) (λ columns. of_relation (extended_relation (additions_of attributes fs) r))))
         (with_value o (λ heading. with_value (gathered (columns_values attributes fs us)) (λ columns. of_relation (extended_relation (additions_of attributes fs) (relation_view r.heading us)))))
+    by_heading (Refused cs) = one_itself (Refused cs)
+    by_heading (Valued heading) = with_columns
+
+-- the tuples of a relation with attributes set, in whatever order they are taken
+set_set : (bs : List Addition) (r : Relation) (us : List Tuple) → HaveSameMembers r.body us
+    → set_relation bs r ≡ set_relation bs (relation_view r.heading us)
+set_set bs r us same =
+    ap (relation_view (set_relation bs r).heading)
+    (sets_alike (map (set_tuple bs) r.body) (map (set_tuple bs) us) (same_made (set_tuple bs) r.body us same))
+
+pub settings : (types : Outcome (List Attribute)) (fs : List (Tuple → Outcome Val)) (r : Relation) (us : List Tuple) → HaveSameMembers r.body us
+    → AreOneOutcome (extended_by_settings types fs r) (extended_by_settings types fs (relation_view r.heading us))
+settings (Refused cs) fs r us same = one_itself (Refused cs)
+settings (Valued attributes) fs r us same = by_heading (set_heading r.heading attributes)
+  where
+    regrouped : (o : Outcome (List (List Val))) (q : Relation)
+        → with_value (with_value o (λ columns. Valued (set_relation (additions_of attributes fs) q))) of_relation
+        ≡ with_value o (λ columns. of_relation (set_relation (additions_of attributes fs) q))
+    regrouped (Valued columns) q = refl
+    regrouped (Refused cs) q = refl
+
+    with_columns : AreOneOutcome (with_value (set_value attributes fs r) of_relation) (with_value (set_value attributes fs (relation_view r.heading us)) of_relation)
+    with_columns =
+        let p = relation_view r.heading us in
+        rw (regrouped (gathered (columns_values attributes fs r.body)) r, regrouped (gathered (columns_values attributes fs us)) p)
+        (follows (gathered (columns_values attributes fs r.body)) (gathered (columns_values attributes fs us))
+        (λ columns. of_relation (set_relation (additions_of attributes fs) r)) (λ columns. of_relation (set_relation (additions_of attributes fs) p))
+        (gathered_alike (columns_values attributes fs r.body) (columns_values attributes fs us) (columns_alike attributes fs r.body us same))
+        (λ x y e g. ap relation_value (set_set (additions_of attributes fs) r us same)))
+
+    by_heading : (o : Outcome Heading)
+        → AreOneOutcome (with_value o (λ heading. with_value (set_value attributes fs r) of_relation))
+        (with_value o (λ heading. with_value (set_value attributes fs (relation_view r.heading us)) of_relation))
     by_heading (Refused cs) = one_itself (Refused cs)
     by_heading (Valued heading) = with_columns

@@ -7,12 +7,13 @@ use Rattle.td_algebra.proofs.Members.{first_true, second_true}
 use Rattle.td_check.specs.CannotFail.{all_cannot_fail, cannot_fail, is_no_virtual, items_cannot_fail, measure_cannot_fail, name_cannot_fail, operator_cannot_fail, parts_cannot_fail, prefix_cannot_fail, selector_cannot_fail}
 use Rattle.td_check.specs.declared.scope.Kind.{Kind}
 use Rattle.td_check.specs.declared.scope.Kind.TheVariants as kinds
-use Rattle.td_check.specs.OperatorTypes.{are_types_of, choice_type, comparison_type, component_type, extension_type, extracted_type, headed_type, known_or, listed_type, measure_type, mismatch, named_part, operator_type, over_relation, per_heading, postfix_type, prefix_type, restriction_type, selector_type, summary_type, tuple_type}
+use Rattle.td_check.specs.Mentions.{in_tuples}
+use Rattle.td_check.specs.OperatorTypes.{are_types_of, choice_type, comparison_type, component_type, extension_type, extracted_type, headed_type, known_or, listed_type, measure_type, mismatch, named_part, operator_type, over_relation, per_heading, postfix_type, prefix_type, restriction_type, selector_type, setting_type, summary_type, tuple_type}
 use Rattle.td_check.specs.Scopes.{KnownRelvar, Scope, entered_with, innermost, known_relvar}
 use Rattle.td_check.specs.StaticLaws.{GiveNames, GivesNames, HasMore, PartsGiveNames}
 use Rattle.td_check.specs.StaticTypes.{items_of, name_type, named_types, both_types, type_of, types_of, with_items}
 use Rattle.td_check.proofs.StaticLaws.{more_changes_no_parts}
-use Rattle.td_eval.specs.OperatorValues.{comparison_value, component_value, extended_value, extracted_value, headed_value, listed_value, literal_value, measure_value, on_relation, on_truth, operator_value, postfix_value, prefix_value, restricted_value, signed_number, tuple_from}
+use Rattle.td_eval.specs.OperatorValues.{comparison_value, component_value, extended_by_settings, extended_value, extracted_value, headed_value, listed_value, literal_value, measure_value, on_relation, on_truth, operator_value, postfix_value, prefix_value, restricted_value, signed_number, tuple_from}
 use Rattle.td_eval.specs.TreeTexts.{HasTexts, HaveTexts, PartsHaveTexts}
 use Rattle.td_eval.specs.TreeValues.{argument_values, entry_values, value_of, values_in_tuples}
 use Rattle.td_eval.specs.AggregateValues.{summary_value}
@@ -25,10 +26,10 @@ use Rattle.td_eval.specs.TreeNumbers.{HasNumbers, HaveNumbers, IsInRangeLiteral,
 use Rattle.td_eval.specs.UnfailingValues.{GivesValues, UnfailingExpressionsHaveValues}
 use Rattle.td_eval.proofs.law_lemmas.StaticOperators.{comparison_static, component_static, extracted_static, headed_static, listed_static, measure_static, operator_static, postfix_static, prefix_static, tuple_from_static}
 use Rattle.td_eval.proofs.law_lemmas.StaticOutcomes.{IsStatic, both_static, has_value, truth_static, with_static}
-use Rattle.td_eval.proofs.law_lemmas.StaticRows.{AreStaticIn, extension_static, in_its_tuples, kept_static, over_its_heading, restricted_static, rows_static, summary_static}
+use Rattle.td_eval.proofs.law_lemmas.StaticRows.{AreStaticIn, extension_static, in_its_tuples, kept_static, over_its_heading, restricted_static, rows_static, setting_static, summary_static}
 use Rattle.td_tree.specs.declared.cause.Cause.TheVariants as causes
 use Rattle.td_tree.specs.Outcomes.{Outcome, Valued, Refused, value_if, with_value}
-use Rattle.td_tree.specs.Trees.{AttributeTrees, Literal, number, text, truth, table_dee, table_dum, Tree, literal, name, parentheses, prefix, extract, restriction, binary, compare, postfix, select, component, measure, aggregate, relation, headed_relation, tuple, extend, summarize_per, summarize_by, choice, Trees, none, more, NamedTrees, none_named, more_named, Summaries, no_summaries, counted, summed, project}
+use Rattle.td_tree.specs.Trees.{AttributeTrees, Literal, number, text, truth, table_dee, table_dum, Tree, literal, name, parentheses, prefix, extract, restriction, binary, compare, postfix, select, component, measure, aggregate, relation, headed_relation, tuple, extend, extend_setting, summarize_per, summarize_by, choice, Trees, none, more, NamedTrees, none_named, more_named, Summaries, no_summaries, counted, summed, project}
 use Rattle.td_types.specs.Headings.{made_heading}
 use Rattle.td_types.specs.TypeLists.{DeclaredType, attributes_meant, declared_at, heading_meant}
 use Rattle.td_types.specs.Types.{Type', Attribute, Heading, pack}
@@ -139,6 +140,32 @@ module _ (w : World) (scope : Scope) (k : GivesValues w scope) where
       ap (λ o. with_value o made_heading) (attributes_later ds k.keeps.types.0 heading m.0 m.1) ∙ m.2 in
       subst (λ known. IsStatic (heading_meant known heading)) (sym k.keeps.types.1) (subst (λ (o : Outcome Heading). IsStatic o) (sym later) tt)
 
+  -- what attributes that are added or set give, where the operand has a value and so has each of their expressions in its tuples
+  over_tuples_static : (operand : Tree) (parts : NamedTrees) (s : List Tuple) (t : Type') (rule : Heading → List Attribute → Outcome Type')
+      (given : Outcome (List Attribute) → List (Tuple → Outcome Val) → Relation → Outcome Val)
+      → KeepsType ds (type_of (with_tuples scope s) operand) (value_of w s operand)
+      → with_value (type_of (with_tuples scope s) operand) (λ u. over_relation u (λ g. with_value (named_types (entered_with g (with_tuples scope s)) parts) (rule g))) ≡ Valued t
+      → parts_cannot_fail (in_tuples (with_tuples scope s) (type_of (with_tuples scope s) operand)) parts ≡ true
+      → ((u : Type') → type_of (with_tuples scope s) operand ≡ Valued u → IsStatic (value_of w s operand))
+      → ((r : Relation) (attributes : List Attribute) → IsOfType ds (relation_value r) (types.relation (pack r.heading))
+      → named_types (entered_with r.heading (with_tuples scope s)) parts ≡ Valued attributes
+      → parts_cannot_fail (entered_with r.heading (with_tuples scope s)) parts ≡ true → IsStatic (given (Valued attributes) (values_in_tuples w s parts) r))
+      → IsStatic (with_value (value_of w s operand)
+      (λ v. on_relation v (λ r. given (named_types (entered_with r.heading (with_tuples w.scope s)) parts) (values_in_tuples w s parts) r)))
+  over_tuples_static operand parts s t rule given kept is never first each =
+      let sc = with_tuples scope s in
+      let y = value_of_with (type_of sc operand) (λ u. over_relation u (λ g. with_value (named_types (entered_with g sc) parts) (rule g))) t is in
+      kept_static ds (type_of sc operand) (value_of w s operand) y.0
+      (λ v. on_relation v (λ r. given (named_types (entered_with r.heading (with_tuples w.scope s)) parts) (values_in_tuples w s parts) r))
+      kept y.1 (first y.0 y.1)
+      (λ v q. rows_static ds v y.0 (λ r. given (named_types (entered_with r.heading (with_tuples w.scope s)) parts) (values_in_tuples w s parts) r) q
+      (λ r f p.
+      let z = value_of_with (named_types (entered_with r.heading sc) parts) (rule r.heading) t
+      (sym (over_its_heading y.0 r.heading (λ g. with_value (named_types (entered_with g sc) parts) (rule g)) f) ∙ y.2) in
+      let there = more_changes_no_parts (entered_with r.heading sc) (entered_with r.heading (with_tuples w.scope s)) parts z.0 (more_there s r.heading) z.1 in
+      let free = subst (λ there. parts_cannot_fail there parts ≡ true) (in_its_tuples sc (type_of sc operand) y.0 r.heading y.1 f) never in
+      subst (λ o. IsStatic (given o (values_in_tuples w s parts) r)) (sym there) (each r z.0 p z.1 free)))
+
   mutual
     tree_static : (e : Tree) (s : List Tuple) (t : Type') → AreTyped s → GivesNames e → HasTexts e → HasNumbers e
         → type_of (with_tuples scope s) e ≡ Valued t → cannot_fail (with_tuples scope s) e ≡ true → IsStatic (value_of w s e)
@@ -214,22 +241,15 @@ module _ (w : World) (scope : Scope) (k : GivesValues w scope) where
         let y = value_of_with (named_types (with_tuples scope s) parts) tuple_type t is in
         with_static (entry_values w s parts) tuple_from (entries_static parts s y.0 h n x m y.1 never) (λ es. tuple_from_static es)
     tree_static (extend operand parts) s t h n x m is never =
-        let sc = with_tuples scope s in
-        let y = value_of_with (type_of sc operand)
-        (λ u. over_relation u (λ g. with_value (named_types (entered_with g sc) parts) (extension_type g))) t is in
-        kept_static ds (type_of sc operand) (value_of w s operand) y.0
-        (λ v. on_relation v (λ r. extended_value (named_types (entered_with r.heading (with_tuples w.scope s)) parts) (values_in_tuples w s parts) r))
-        (keeps w scope k.keeps operand s h n.0 x.0) y.1
-        (tree_static operand s y.0 h n.0 x.0 m.0 y.1 (first_true (cannot_fail sc operand) _ never))
-        (λ v q. rows_static ds v y.0 (λ r. extended_value (named_types (entered_with r.heading (with_tuples w.scope s)) parts) (values_in_tuples w s parts) r) q
-        (λ r f p.
-        let z = value_of_with (named_types (entered_with r.heading sc) parts) (extension_type r.heading) t
-        (sym (over_its_heading y.0 r.heading (λ g. with_value (named_types (entered_with g sc) parts) (extension_type g)) f) ∙ y.2) in
-        let there = more_changes_no_parts (entered_with r.heading sc) (entered_with r.heading (with_tuples w.scope s)) parts z.0 (more_there s r.heading) z.1 in
-        let free = subst (λ there. parts_cannot_fail there parts ≡ true) (in_its_tuples sc (type_of sc operand) y.0 r.heading y.1 f)
-        (second_true (cannot_fail sc operand) _ never) in
-        subst (λ o. IsStatic (extended_value o (values_in_tuples w s parts) r)) (sym there)
-        (extension_static z.0 (values_in_tuples w s parts) r (parts_static parts s r z.0 h n.1 x.1 m.1 p z.1 free))))
+        over_tuples_static operand parts s t extension_type extended_value (keeps w scope k.keeps operand s h n.0 x.0) is
+        (second_true (cannot_fail (with_tuples scope s) operand) _ never)
+        (λ u e. tree_static operand s u h n.0 x.0 m.0 e (first_true (cannot_fail (with_tuples scope s) operand) _ never))
+        (λ r attributes p e free. extension_static attributes (values_in_tuples w s parts) r (parts_static parts s r attributes h n.1 x.1 m.1 p e free))
+    tree_static (extend_setting operand settings) s t h n x m is never =
+        over_tuples_static operand settings s t setting_type extended_by_settings (keeps w scope k.keeps operand s h n.0 x.0) is
+        (second_true (cannot_fail (with_tuples scope s) operand) _ never)
+        (λ u e. tree_static operand s u h n.0 x.0 m.0 e (first_true (cannot_fail (with_tuples scope s) operand) _ never))
+        (λ r attributes p e free. setting_static attributes (values_in_tuples w s settings) r (parts_static settings s r attributes h n.1 x.1 m.1 p e free))
     tree_static (summarize_per operand per no_summaries) s t h n x m is never =
         let sc = with_tuples scope s in
         let y = values_of_both (with_value (type_of sc operand) (λ u. with_items u (λ g. items_of (entered_with g sc) no_summaries))) (type_of sc per)

@@ -14,7 +14,7 @@ use Rattle.td_tree.specs.Trees as trees
 use Rattle.td_types.specs.TypeLists.{DeclaredType, declared_type}
 use Rattle.td_types.specs.Types as types
 use Rattle.td_value.specs.LiteralTrees.{literal_tree}
-use Rattle.td_value.specs.Values.{Val, boolean, integer, Fields, field, no_fields, no_parts, no_rows, part, relation, row, user}
+use Rattle.td_value.specs.Values.{Val, boolean, char, integer, Fields, field, no_fields, no_parts, no_rows, part, relation, row, user}
 
 abbrev value : Tree → Outcome Val
 value = value_of (world_of empty_database) []
@@ -83,6 +83,30 @@ proper : value (trees.compare (of_integers (trees.more (tuple_of_one 1) trees.no
     ≡ Valued (boolean false)
 proper = refl
 
+-- D_UNION of relations that have no tuple in common is their union, else it is refused
+disjoint_union : value (trees.binary (of_integers (trees.more (tuple_of_one 2) trees.none)) operators.DisjointUnion (of_integers (trees.more (tuple_of_one 1) trees.none)))
+    ≡ Valued (relation (types.attr attribute_a types.integer types.no_attrs)
+    (row (field attribute_a (integer (pos 1)) no_fields) (row (field attribute_a (integer (pos 2)) no_fields) no_rows)))
+disjoint_union = refl
+
+overlapping : named_cause (value (trees.binary (of_integers (trees.more (tuple_of_one 2) trees.none)) operators.DisjointUnion
+    (of_integers (trees.more (tuple_of_one 1) (trees.more (tuple_of_one 2) trees.none))))) ≡ Some causes.NotDisjoint
+overlapping = refl
+
+-- I_MINUS of what is there is the difference, else it is refused
+included_minus : value (trees.binary (of_integers (trees.more (tuple_of_one 1) trees.none)) operators.IncludedMinus (of_integers (trees.more (tuple_of_one 1) trees.none)))
+    ≡ Valued (relation (types.attr attribute_a types.integer types.no_attrs) no_rows)
+included_minus = refl
+
+lacking : named_cause (value (trees.binary (of_integers (trees.more (tuple_of_one 1) trees.none)) operators.IncludedMinus
+    (of_integers (trees.more (tuple_of_one 1) (trees.more (tuple_of_one 2) trees.none))))) ≡ Some causes.NotIncluded
+lacking = refl
+
+-- of other headings they are refused by that, whatever their tuples
+unlike : named_cause (value (trees.binary (of_integers (trees.more (tuple_of_one 1) trees.none)) operators.IncludedMinus (trees.literal trees.table_dee)))
+    ≡ Some causes.Heading
+unlike = refl
+
 -- WHERE keeps the tuples for which the condition is TRUE
 kept : value (trees.restriction (of_integers (trees.more (tuple_of_one 2) (trees.more (tuple_of_one 1) trees.none)))
     (trees.compare (trees.name attribute_a) comparisons.Less (digit 2)))
@@ -98,6 +122,28 @@ one_refused = refl
 nothing_extended : value (trees.extend (of_integers trees.none) (trees.more_named (66 ∷ []) (trees.literal (trees.text (120 ∷ []))) trees.none_named))
     ≡ Valued (relation (types.attr attribute_a types.integer (types.attr (66 ∷ []) types.char types.no_attrs)) no_rows)
 nothing_extended = refl
+
+-- settings are of the operand's tuples, all at once
+exchanged : value (trees.extend_setting (trees.relation (trees.more (trees.tuple (trees.more_named attribute_a (digit 1) (trees.more_named (66 ∷ []) (digit 2) trees.none_named))) trees.none))
+    (trees.more_named attribute_a (trees.name (66 ∷ [])) (trees.more_named (66 ∷ []) (trees.name attribute_a) trees.none_named)))
+    ≡ Valued (relation (types.attr attribute_a types.integer (types.attr (66 ∷ []) types.integer types.no_attrs))
+    (row (field attribute_a (integer (pos 2)) (field (66 ∷ []) (integer (pos 1)) no_fields)) no_rows))
+exchanged = refl
+
+-- an attribute that is set may change its type, and tuples that coincide are one
+retyped : value (trees.extend_setting (of_integers (trees.more (tuple_of_one 1) (trees.more (tuple_of_one 2) trees.none)))
+    (trees.more_named attribute_a (trees.literal (trees.text (120 ∷ []))) trees.none_named))
+    ≡ Valued (relation (types.attr attribute_a types.char types.no_attrs) (row (field attribute_a (char (120 ∷ [])) no_fields) no_rows))
+retyped = refl
+
+nothing_retyped : value (trees.extend_setting (of_integers trees.none) (trees.more_named attribute_a (trees.literal (trees.text (120 ∷ []))) trees.none_named))
+    ≡ Valued (relation (types.attr attribute_a types.char types.no_attrs) no_rows)
+nothing_retyped = refl
+
+-- a name that is set twice is refused
+set_twice : named_cause (value (trees.extend_setting (of_integers trees.none) (trees.more_named attribute_a (digit 1) (trees.more_named attribute_a (digit 2) trees.none_named))))
+    ≡ Some causes.Heading
+set_twice = refl
 
 -- ---- UNGROUP and TCLOSE
 

@@ -5,8 +5,9 @@ ghost use Rattle.td_value.specs.Values.{Val};
 
 use crate::operators::arithmetic::{difference, product, quotient, sum};
 use crate::operators::relational::{
-    composition_value, difference_value, intersection_value, join_value, product_value,
-    semidifference_value, semijoin_value, union_value,
+    composition_value, difference_value, disjoint_union_value, included_difference_value,
+    intersection_value, join_value, product_value, semidifference_value, semijoin_value,
+    union_value,
 };
 use crate::operators::simple::{concatenation, conjunction, disjunction};
 use std::alloc::Global;
@@ -30,6 +31,8 @@ fn operator_value(
         Operator::Union => union_value(alloc, first, second),
         Operator::Intersect => intersection_value(alloc, first, second),
         Operator::Minus => difference_value(alloc, first, second),
+        Operator::DisjointUnion => disjoint_union_value(alloc, first, second),
+        Operator::IncludedMinus => included_difference_value(alloc, first, second),
         Operator::Join => join_value(alloc, first, second),
         Operator::Times => product_value(alloc, first, second),
         Operator::Compose => composition_value(alloc, first, second),

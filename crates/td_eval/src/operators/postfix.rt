@@ -98,12 +98,12 @@ pub fn postfix_value(alloc: Global, op: &Postfix, operand: &Value) -> Result<Val
 {
     match op {
         Postfix::Project(attributes) => projected_by(alloc, operand, attributes),
-        Postfix::Rename(renamings) => renamed_value(alloc, relation_in(operand)?, renamings),
-        Postfix::Group(attributes, name) => {
+        Postfix::Rename(_, renamings) => renamed_value(alloc, relation_in(operand)?, renamings),
+        Postfix::Group(_, attributes, name) => {
             grouped_value(alloc, relation_in(operand)?, attributes, name)
         }
         Postfix::Ungroup(name) => ungrouped_value(alloc, relation_in(operand)?, name),
-        Postfix::Wrap(attributes, name) => {
+        Postfix::Wrap(_, attributes, name) => {
             wrapped_value(alloc, relation_in(operand)?, attributes, name)
         }
         Postfix::Unwrap(name) => unwrapped_value(alloc, relation_in(operand)?, name),

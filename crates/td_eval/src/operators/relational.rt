@@ -10,7 +10,7 @@ use crate::operators::asked::relation_in;
 use std::alloc::{AllocError, Global};
 use td_algebra::joins::{compose, join, times};
 use td_algebra::semijoins::{matching, not_matching};
-use td_algebra::sets::{intersect, minus, union};
+use td_algebra::sets::{disjoint, intersect, minus, subset, union};
 use td_tree::cause::Cause;
 use td_tree::fault::Fault;
 use td_value::relation::Rel;
@@ -25,16 +25,24 @@ pub fn relations<'a>(first: &'a Value, second: &'a Value) -> Result<(&'a Rel, &'
     Ok((rel, relation_in(second)?))
 }
 
+/// What an operator requires: refused by the cause where it does not hold.
+fn hold(holds: bool, cause: Cause) -> Result<(), Fault>
+    ensures answer { Answers (λ u. u) result (value_if holds tt cause) }
+    ensures holds { OnOk result (IsTrue holds) }
+{
+    if holds {
+        Ok(())
+    } else {
+        Err(Fault::Refused(cause))
+    }
+}
+
 /// What an operator requires of the headings: HEADING where it does not hold.
 pub fn fit(headings_fit: bool) -> Result<(), Fault>
     ensures answer { Answers (λ u. u) result (value_if headings_fit tt causes.Heading) }
     ensures fits { OnOk result (IsTrue headings_fit) }
 {
-    if headings_fit {
-        Ok(())
-    } else {
-        Err(Fault::Refused(Cause::Heading))
-    }
+    hold(headings_fit, Cause::Heading)
 }
 
 /// The relation as a value.
@@ -69,6 +77,32 @@ pub fn difference_value(alloc: Global, first: &Value, second: &Value) -> Result<
 {
     let (rel, other) = relations(first, second)?;
     fit(rel.heading() == other.heading())?;
+    as_value(alloc, minus(alloc, rel, other))
+}
+
+/// The tuples of either of two relations, which must have none in common.
+pub fn disjoint_union_value(alloc: Global, first: &Value, second: &Value) -> Result<Value, Fault>
+    ensures { Answers (λ v. v) result
+        (operator_value operators.DisjointUnion first.now second.now) }
+{
+    let (rel, other) = relations(first, second)?;
+    fit(rel.heading() == other.heading())?;
+    hold(disjoint(rel, other), Cause::NotDisjoint)?;
+    as_value(alloc, union(alloc, rel, other))
+}
+
+/// The tuples of the first of two relations that are not in the second, which must be among them.
+pub fn included_difference_value(
+    alloc: Global,
+    first: &Value,
+    second: &Value,
+) -> Result<Value, Fault>
+    ensures { Answers (λ v. v) result
+        (operator_value operators.IncludedMinus first.now second.now) }
+{
+    let (rel, other) = relations(first, second)?;
+    fit(rel.heading() == other.heading())?;
+    hold(subset(other, rel), Cause::NotIncluded)?;
     as_value(alloc, minus(alloc, rel, other))
 }
 

@@ -37,6 +37,10 @@ IsPlanned scope made d = IfOk made (λ p. IsPlanOfTyped scope (step_view p) d)
 abbrev pub IsBoxPlanned : Scope → Result (Box Step) AllocError → Tree → Type 0
 IsBoxPlanned scope made d = IfOk made (λ p. IsPlanOfTyped scope (step_view p.value) d)
 
+-- the step is a plan of EXTEND of the operand by these, in either spelling
+abbrev pub IsExtensionPlanned : Scope → Result Step AllocError → Tree → trees.NamedTrees → Type 0
+IsExtensionPlanned scope made d es = IsPlanned scope made (trees.extend d es) × IsPlanned scope made (trees.extend_setting d es)
+
 abbrev pub ArePlanned : Scope → Result (Vec Step) AllocError → List Tree → Type 0
 ArePlanned scope made ds = IfOk made (λ ps. ArePlansOfTyped scope (steps_view ps.items) ds)
 

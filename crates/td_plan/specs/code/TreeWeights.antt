@@ -25,6 +25,7 @@ abbrev mutual
   weight (trees.headed_relation heading elements) = suc (weights elements)
   weight (trees.tuple parts) = suc (named_weight parts)
   weight (trees.extend operand parts) = suc (weight operand + named_weight parts)
+  weight (trees.extend_setting operand settings) = suc (weight operand + named_weight settings)
   weight (trees.summarize_per operand per summaries) = suc (weight operand + weight per + summaries_weight summaries)
   weight (trees.summarize_by operand by summaries) = suc (weight operand + summaries_weight summaries)
   weight (trees.choice condition consequent alternative) = suc (weight condition + weight consequent + weight alternative)

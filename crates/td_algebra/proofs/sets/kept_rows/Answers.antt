@@ -1,18 +1,8 @@
-use Rattle.std.proofs.Common.{◌≡◌, ◌∙◌, ◌++◌, ◌∷◌, [], ap, sym, Bool, true, false, List, filter, drop, ◌+◌}
-use Rattle.std.proofs.Math.Bool.{beq}
-use Rattle.td_value.specs.Sets.{has}
-use Rattle.td_value.specs.Values.{Tuple, tuple_cmp}
+use Rattle.std.proofs.Common.{◌∙◌, ◌++◌, ◌∷◌, [], ap, true, false, filter, drop, ◌+◌}
 use Rattle.td_algebra.specs.code.Merges.{is_wanted}
-use Rattle.td_algebra.proofs.Merges.{left-ascends, step_abreast, step_dropped, step_finds, step_kept}
+use Rattle.td_algebra.proofs.Merges.{left-ascends, step_abreast, step_dropped, step_finds, step_kept, wanted_is}
 use Rattle.td_algebra.proofs.sets.kept_rows.Goals.{then-begins_with-wanted+in_ok-try_clone+in_ok-push, else-begins_with-wanted}
 use Rattle.td_algebra.proofs.sets.kept_rows.Goals as goal
-
--- the test, as the code makes it
-wanted_is : (wanted : Bool) (us : List Tuple) (t : Tuple) (found result : Bool) → found ≡ has tuple_cmp t us → beq found wanted ≡ result → is_wanted wanted us t ≡ result
-wanted_is true us t true result e f = sym e ∙ f
-wanted_is true us t false result e f = sym e ∙ f
-wanted_is false us t true result e f = rw (sym e) f
-wanted_is false us t false result e f = rw (sym e) f
 
 pub loop-row-preserved : goal.loop-row-preserved
 loop-row-preserved c =

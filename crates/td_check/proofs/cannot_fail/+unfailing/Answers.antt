@@ -1,10 +1,10 @@
 use Rattle.std.proofs.Common.{◌≡◌, ◌∙◌, ◌&&◌, ap, sym}
 use Rattle.std.proofs.Math.Bool.{and_assoc}
-use Rattle.td_check.proofs.CannotFail.{elements_unfailing, when_false, when_true}
+use Rattle.td_check.proofs.CannotFail.{elements_unfailing, extended_unfailing, when_false, when_true}
 use Rattle.td_check.proofs.cannot_fail.+unfailing.Goals as goal
 use Rattle.td_check.proofs.cannot_fail.+unfailing.Goals.{unfailing-else-items_cannot_fail, unfailing-then-items_cannot_fail}
-use Rattle.td_check.specs.CannotFail.{items_cannot_fail, unfailing}
-use Rattle.td_tree.proofs.code_lemmas.Rows.{extend_is, select_is, summarize_by_is, summarize_per_is, tuple_is}
+use Rattle.td_check.specs.CannotFail.{items_cannot_fail, parts_unfailing, unfailing}
+use Rattle.td_tree.proofs.code_lemmas.Rows.{select_is, summarize_by_is, summarize_per_is, tuple_is}
 use Rattle.td_tree.specs.code.TreeViews.{attributes_view, named_view, summaries_view, tree_view, trees_view}
 use Rattle.td_tree.specs.Trees as trees
 
@@ -20,11 +20,6 @@ unfailing-returns-in-Tuple t c =
 
 pub unfailing-returns-then-unfailing-2 : goal.unfailing-returns-then-unfailing-2
 unfailing-returns-then-unfailing-2 t c =
-    let is = ap tree_view c.in-Extend.is ∙ extend_is c.in-Extend.operand c.in-Extend.parts ∙ (λ i. trees.extend (tree_view (sym c.deref-in-Extend.ensures i)) (named_view (sym c.deref-then-unfailing-2.ensures.value i))) in
-    c.parts_unfailing-then-unfailing-2.ensures ∙ when_true _ _ _ c.if-unfailing-2.true c.unfailing-in-Extend.ensures ∙ ap (unfailing c.args.types.now) (sym is)
-
-pub unfailing-returns-then-unfailing-3 : goal.unfailing-returns-then-unfailing-3
-unfailing-returns-then-unfailing-3 t c =
     let is = ap tree_view c.in-SummarizePer.is ∙ summarize_per_is c.in-SummarizePer.operand c.in-SummarizePer.per c.in-SummarizePer.items ∙ ap (λ xs. trees.summarize_per (tree_view c.in-SummarizePer.operand.value) (tree_view c.in-SummarizePer.per.value) (summaries_view xs)) (sym c.deref-in-SummarizePer.ensures.value) in
     let two : c.if-items_cannot_fail.value ≡ (items_cannot_fail (summaries_view c.deref-in-SummarizePer.result.now) && unfailing c.args.types.now (tree_view c.in-SummarizePer.operand.value)) =
     elim c.if-items_cannot_fail.branch [
@@ -33,12 +28,12 @@ unfailing-returns-then-unfailing-3 t c =
           ∙ when_true _ _ _ w.if-items_cannot_fail.true c.items_cannot_fail.ensures
       | unfailing-else-items_cannot_fail w ↦ w.value-is ∙ when_false _ _ _ w.if-items_cannot_fail.false c.items_cannot_fail.ensures
     ] in
-    c.unfailing-then-unfailing-3.ensures ∙ ap (λ e. unfailing c.args.types.now (tree_view e)) c.deref-then-unfailing-3.ensures
-    ∙ when_true _ _ _ c.if-unfailing-3.true two ∙ and_assoc (items_cannot_fail (summaries_view c.deref-in-SummarizePer.result.now)) (unfailing c.args.types.now (tree_view c.in-SummarizePer.operand.value)) (unfailing c.args.types.now (tree_view c.in-SummarizePer.per.value))
+    c.unfailing-then-unfailing-2.ensures ∙ ap (λ e. unfailing c.args.types.now (tree_view e)) c.deref-then-unfailing-2.ensures
+    ∙ when_true _ _ _ c.if-unfailing-2.true two ∙ and_assoc (items_cannot_fail (summaries_view c.deref-in-SummarizePer.result.now)) (unfailing c.args.types.now (tree_view c.in-SummarizePer.operand.value)) (unfailing c.args.types.now (tree_view c.in-SummarizePer.per.value))
     ∙ ap (unfailing c.args.types.now) (sym is)
 
-pub unfailing-returns-else-unfailing-3 : goal.unfailing-returns-else-unfailing-3
-unfailing-returns-else-unfailing-3 t c =
+pub unfailing-returns-else-unfailing-2 : goal.unfailing-returns-else-unfailing-2
+unfailing-returns-else-unfailing-2 t c =
     let is = ap tree_view c.in-SummarizePer.is ∙ summarize_per_is c.in-SummarizePer.operand c.in-SummarizePer.per c.in-SummarizePer.items ∙ ap (λ xs. trees.summarize_per (tree_view c.in-SummarizePer.operand.value) (tree_view c.in-SummarizePer.per.value) (summaries_view xs)) (sym c.deref-in-SummarizePer.ensures.value) in
     let two : c.if-items_cannot_fail.value ≡ (items_cannot_fail (summaries_view c.deref-in-SummarizePer.result.now) && unfailing c.args.types.now (tree_view c.in-SummarizePer.operand.value)) =
     elim c.if-items_cannot_fail.branch [
@@ -47,7 +42,7 @@ unfailing-returns-else-unfailing-3 t c =
           ∙ when_true _ _ _ w.if-items_cannot_fail.true c.items_cannot_fail.ensures
       | unfailing-else-items_cannot_fail w ↦ w.value-is ∙ when_false _ _ _ w.if-items_cannot_fail.false c.items_cannot_fail.ensures
     ] in
-    when_false _ _ (unfailing c.args.types.now (tree_view c.in-SummarizePer.per.value)) c.if-unfailing-3.false two ∙ and_assoc (items_cannot_fail (summaries_view c.deref-in-SummarizePer.result.now)) (unfailing c.args.types.now (tree_view c.in-SummarizePer.operand.value)) (unfailing c.args.types.now (tree_view c.in-SummarizePer.per.value))
+    when_false _ _ (unfailing c.args.types.now (tree_view c.in-SummarizePer.per.value)) c.if-unfailing-2.false two ∙ and_assoc (items_cannot_fail (summaries_view c.deref-in-SummarizePer.result.now)) (unfailing c.args.types.now (tree_view c.in-SummarizePer.operand.value)) (unfailing c.args.types.now (tree_view c.in-SummarizePer.per.value))
     ∙ ap (unfailing c.args.types.now) (sym is)
 
 pub unfailing-returns-then-items_cannot_fail-2 : goal.unfailing-returns-then-items_cannot_fail-2
@@ -64,3 +59,9 @@ pub unfailing-returns-in-Relation : goal.unfailing-returns-in-Relation
 unfailing-returns-in-Relation t c =
     c.all_unfailing-in-Relation.ensures
     ∙ elements_unfailing c.args.types.now c.args.expr.now c.in-Relation.exprs c.deref-in-Relation.result.now c.in-Relation.is c.deref-in-Relation.ensures.value
+
+pub unfailing-returns-then-unfailing-5 : goal.unfailing-returns-then-unfailing-5
+unfailing-returns-then-unfailing-5 t c =
+    let ds = c.args.types.now in
+    let is = extended_unfailing ds c.args.expr.now c.in-Extend.operand c.in-Extend.parts c.in-Extend.is ∙ (λ i. unfailing ds (tree_view (sym c.deref-in-Extend.ensures i)) && parts_unfailing ds (named_view (sym c.deref-then-unfailing-5.ensures.value i))) in
+    c.parts_unfailing-then-unfailing-5.ensures ∙ when_true _ _ _ c.if-unfailing-5.true c.unfailing-in-Extend.ensures ∙ sym is

@@ -22,7 +22,7 @@ use Rattle.td_tree.specs.Gatherings.{both_answers}
 use Rattle.td_tree.specs.Outcomes.{Answers, Valued, with_value}
 use Rattle.td_tree.specs.code.TreeViews.{attributes_view, heading_tree_view, named_view, summaries_view, tree_view, trees_view}
 use Rattle.td_tree.specs.Trees as trees
-use Rattle.td_tree.proofs.code_lemmas.Rows.{extend_is, headed_relation_is, relation_is, select_is, summarize_by_is, summarize_per_is, tuple_is}
+use Rattle.td_tree.proofs.code_lemmas.Rows.{extend_is, extend_setting_is, headed_relation_is, relation_is, select_is, summarize_by_is, summarize_per_is, tuple_is}
 use Rattle.td_types.specs.code.Pairs.{pair_view}
 use Rattle.td_types.specs.TypeLists.{heading_meant}
 use Rattle.td_types.specs.declared.ty.Ty.{Ty}
@@ -232,7 +232,7 @@ check-returns-in_ok-operand-in-Extend-clause-ty t c =
     let is = ap tree_view c.in-Extend.is ∙ extend_is c.in-Extend.operand c.in-Extend.parts ∙ (λ i. trees.extend (tree_view (sym c.deref-in-Extend.ensures i)) (named_view (sym c.deref-in-Extend-2.ensures.value i))) in
     rw is
     (subst (Answers type_view c.type_of_extension.result)
-    (inside_extended (type_of (scope_at c.args.place.now) (tree_view c.deref-in-Extend.result.now)) (type_view c.in_ok-operand-in-Extend.operand) c.in_ok-operand-in-Extend.ensures.ty (λ h. named_types (entered_with h (scope_at c.args.place.now)) (named_view c.deref-in-Extend-2.result.now)))
+    (inside_extended own.extension_type (type_of (scope_at c.args.place.now) (tree_view c.deref-in-Extend.result.now)) (type_view c.in_ok-operand-in-Extend.operand) c.in_ok-operand-in-Extend.ensures.ty (λ h. named_types (entered_with h (scope_at c.args.place.now)) (named_view c.deref-in-Extend-2.result.now)))
     (c.type_of_extension.ensures (own.over_relation (type_view c.in_ok-operand-in-Extend.operand) (λ h. named_types (entered_with h (scope_at c.args.place.now)) (named_view c.deref-in-Extend-2.result.now))) c.check_named_inside-attributes.ensures.types))
 
 pub check-returns-in_ok-operand-in-Extend-clause-names : goal.check-returns-in_ok-operand-in-Extend-clause-names
@@ -250,6 +250,30 @@ check-returns-in_ok-operand-in-Extend-clause-names t c =
     n l (rs ++ ps) (types_in (tree_view c.deref-in-Extend.result.now) ++ types_in_named (named_view c.deref-in-Extend-2.result.now)) c.type_of_extension.ensures
     (names_of_second c.check_named_inside-attributes.result n (names_view c.check-in-Extend.new.seen) l rs (types_in (tree_view c.deref-in-Extend.result.now)) ps (types_in_named (named_view c.deref-in-Extend-2.result.now))
     c.in_ok-operand-in-Extend.ensures.names c.check_named_inside-attributes.ensures.names))
+
+pub check-returns-in_ok-operand-in-ExtendSetting-clause-ty : goal.check-returns-in_ok-operand-in-ExtendSetting-clause-ty
+check-returns-in_ok-operand-in-ExtendSetting-clause-ty t c =
+    let is = ap tree_view c.in-ExtendSetting.is ∙ extend_setting_is c.in-ExtendSetting.operand c.in-ExtendSetting.settings ∙ (λ i. trees.extend_setting (tree_view (sym c.deref-in-ExtendSetting.ensures i)) (named_view (sym c.deref-in-ExtendSetting-2.ensures.value i))) in
+    rw is
+    (subst (Answers type_view c.type_of_setting.result)
+    (inside_extended own.setting_type (type_of (scope_at c.args.place.now) (tree_view c.deref-in-ExtendSetting.result.now)) (type_view c.in_ok-operand-in-ExtendSetting.operand) c.in_ok-operand-in-ExtendSetting.ensures.ty (λ h. named_types (entered_with h (scope_at c.args.place.now)) (named_view c.deref-in-ExtendSetting-2.result.now)))
+    (c.type_of_setting.ensures (own.over_relation (type_view c.in_ok-operand-in-ExtendSetting.operand) (λ h. named_types (entered_with h (scope_at c.args.place.now)) (named_view c.deref-in-ExtendSetting-2.result.now))) c.check_named_inside-attributes-in-ExtendSetting.ensures.types))
+
+pub check-returns-in_ok-operand-in-ExtendSetting-clause-names : goal.check-returns-in_ok-operand-in-ExtendSetting-clause-names
+check-returns-in_ok-operand-in-ExtendSetting-clause-names t c =
+    let is = ap tree_view c.in-ExtendSetting.is ∙ extend_setting_is c.in-ExtendSetting.operand c.in-ExtendSetting.settings ∙ (λ i. trees.extend_setting (tree_view (sym c.deref-in-ExtendSetting.ensures i)) (named_view (sym c.deref-in-ExtendSetting-2.ensures.value i))) in
+    let inside = ap (λ o. relvars_in_named (in_tuples (scope_at c.args.place.now) o) (named_view c.deref-in-ExtendSetting-2.result.now)) c.in_ok-operand-in-ExtendSetting.ensures.ty in
+    let n = names_view c.args.seen.now in
+    let l = names_view c.check_named_inside-attributes-in-ExtendSetting.new.seen in
+    let rs = relvars_in (scope_at c.args.place.now) (tree_view c.deref-in-ExtendSetting.result.now) in
+    let ps = relvars_in_named (in_tuples (scope_at c.args.place.now) (Valued (type_view c.in_ok-operand-in-ExtendSetting.operand))) (named_view c.deref-in-ExtendSetting-2.result.now) in
+    names_are c.type_of_setting.result (scope_at c.args.place.now) (tree_view c.args.expr.now) n l (rs ++ ps) (types_in (tree_view c.deref-in-ExtendSetting.result.now) ++ types_in_named (named_view c.deref-in-ExtendSetting-2.result.now))
+    (ap (relvars_in (scope_at c.args.place.now)) is ∙ ap (λ ns. rs ++ ns) inside) (ap types_in is)
+    (names_held (λ (ts : Vec (List ℕ × Ty)). pairs_view ts.items) c.check_named_inside-attributes-in-ExtendSetting.result
+    (λ attributes. own.over_relation (type_view c.in_ok-operand-in-ExtendSetting.operand) (λ h. own.setting_type h attributes)) type_view c.type_of_setting.result
+    n l (rs ++ ps) (types_in (tree_view c.deref-in-ExtendSetting.result.now) ++ types_in_named (named_view c.deref-in-ExtendSetting-2.result.now)) c.type_of_setting.ensures
+    (names_of_second c.check_named_inside-attributes-in-ExtendSetting.result n (names_view c.check-in-ExtendSetting.new.seen) l rs (types_in (tree_view c.deref-in-ExtendSetting.result.now)) ps (types_in_named (named_view c.deref-in-ExtendSetting-2.result.now))
+    c.in_ok-operand-in-ExtendSetting.ensures.names c.check_named_inside-attributes-in-ExtendSetting.ensures.names))
 
 -- ---- IF
 

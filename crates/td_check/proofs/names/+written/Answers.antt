@@ -1,11 +1,11 @@
 use Rattle.std.proofs.Common.{◌∙◌, ◌++◌, ap, sym}
 use Rattle.td_check.proofs.Gives.{weaker}
-use Rattle.td_check.proofs.WrittenNames.{names_more, names_of, names_of_all, names_of_item, names_of_items, names_of_list, names_of_part, names_of_parts, names_behind, names_past}
+use Rattle.td_check.proofs.WrittenNames.{names_more, names_of, names_of_all, names_of_extended, names_of_item, names_of_items, names_of_list, names_of_part, names_of_parts, names_behind, names_past}
 use Rattle.td_check.proofs.names.+written.Goals as goal
-use Rattle.td_check.specs.WrittenNames.{names_in}
+use Rattle.td_check.specs.WrittenNames.{names_in, names_in_named}
 use Rattle.td_tree.specs.code.TreeViews.{attributes_view, named_view, summaries_view, tree_view}
 use Rattle.td_tree.specs.Trees as trees
-use Rattle.td_tree.proofs.code_lemmas.Rows.{extend_is, summarize_by_is, summarize_per_is, tuple_is}
+use Rattle.td_tree.proofs.code_lemmas.Rows.{summarize_by_is, summarize_per_is, tuple_is}
 
 pub add_all-loop-expr-preserved : goal.add_all-loop-expr-preserved
 add_all-loop-expr-preserved t c =
@@ -44,10 +44,10 @@ add_names-returns-in-Tuple t c =
 
 pub add_names-returns-in_ok-add_names-in-Extend : goal.add_names-returns-in_ok-add_names-in-Extend
 add_names-returns-in_ok-add_names-in-Extend t c =
-    let is = ap tree_view c.in-Extend.is ∙ extend_is c.in-Extend.operand c.in-Extend.parts ∙ (λ i. trees.extend (tree_view (sym c.deref-in-Extend.ensures i)) (named_view (sym c.deref-in-Extend-2.ensures.value i))) in
+    let is = names_of_extended c.args.expr.now c.in-Extend.operand c.in-Extend.parts c.in-Extend.is ∙ (λ i. names_in (tree_view (sym c.deref-in-Extend.ensures i)) ++ names_in_named (named_view (sym c.deref-in-Extend-2.ensures.value i))) in
     weaker _ _ c.add_named-in-Extend.result
-    (λ e. names_behind c.args.names.now.items c.add_names.new.names.items c.add_named-in-Extend.new.names.items _ _ c.in_ok-add_names-in-Extend.ensures e
-    ∙ ap (λ w. c.args.names.now.items ++ names_in w) (sym is))
+    (λ e. names_behind c.args.names.now.items c.add_names-in-Extend.new.names.items c.add_named-in-Extend.new.names.items _ _ c.in_ok-add_names-in-Extend.ensures e
+    ∙ ap (λ ns. c.args.names.now.items ++ ns) (sym is))
     c.add_named-in-Extend.ensures
 
 pub add_names-returns-in_ok-add_names-in-SummarizeBy : goal.add_names-returns-in_ok-add_names-in-SummarizeBy
@@ -62,8 +62,8 @@ pub add_names-returns-in_ok-add_names-in-SummarizePer-2 : goal.add_names-returns
 add_names-returns-in_ok-add_names-in-SummarizePer-2 t c =
     let is = ap tree_view c.in-SummarizePer.is ∙ summarize_per_is c.in-SummarizePer.operand c.in-SummarizePer.per c.in-SummarizePer.items ∙ (λ i. trees.summarize_per (tree_view (sym c.deref-in-SummarizePer.ensures i)) (tree_view (sym c.deref-in-SummarizePer-2.ensures i)) (summaries_view (sym c.deref-in-SummarizePer-3.ensures.value i))) in
     weaker _ _ c.add_items.result
-    (λ e. names_behind c.args.names.now.items c.add_names-in-SummarizePer.new.names.items c.add_items.new.names.items _ _ c.in_ok-add_names-in-SummarizePer.ensures
-    (names_behind c.add_names-in-SummarizePer.new.names.items c.add_names-in-SummarizePer-2.new.names.items c.add_items.new.names.items _ _ c.in_ok-add_names-in-SummarizePer-2.ensures e)
+    (λ e. names_behind c.args.names.now.items c.add_names.new.names.items c.add_items.new.names.items _ _ c.in_ok-add_names-in-SummarizePer.ensures
+    (names_behind c.add_names.new.names.items c.add_names-in-SummarizePer.new.names.items c.add_items.new.names.items _ _ c.in_ok-add_names-in-SummarizePer-2.ensures e)
     ∙ ap (λ w. c.args.names.now.items ++ names_in w) (sym is))
     c.add_items.ensures
 

@@ -3,8 +3,8 @@ use Rattle.td_catalog.specs.code.CatalogViews.{base_view}
 use Rattle.td_catalog.specs.Database.{base_named}
 use Rattle.td_body.specs.Bodies.{after_change}
 use Rattle.td_check.proofs.StatementAnswers.{given_is}
-use Rattle.td_engine.proofs.code_lemmas.FirstGifts.{change_of_base, delete_first, first_given, insert_first, update_first}
-use Rattle.td_engine.proofs.code_lemmas.PlannableAssignments.{assignment_plannable, base_gift, delete_plannable, insert_plannable, update_plannable, update_settings}
+use Rattle.td_engine.proofs.code_lemmas.FirstGifts.{change_of_base, delete_first, disjoint_insert_first, first_given, included_delete_first, insert_first, update_first}
+use Rattle.td_engine.proofs.code_lemmas.PlannableAssignments.{assignment_plannable, base_gift, delete_plannable, disjoint_insert_plannable, included_delete_plannable, insert_plannable, update_plannable, update_settings}
 use Rattle.td_engine.specs.Assignments.{chosen_for, setting_names, target_of, updated_relation}
 use Rattle.td_engine.specs.Changes.{changed_by, gift_over}
 use Rattle.td_engine.specs.code.Plannable.{ArePlannableSettings, IsAdmittedAssignment, IsPlannableIf}
@@ -79,15 +79,16 @@ first_update-requires-clause-condition g c =
     let a = assignment_view c.args.assignment.now in
     let b = base_view g.B.Body.relation (c.target_of.result.now, c.in-Some.entry.now) in
     let is : base_named (target_of a) db ≡ Some b = ap (λ n. base_named n db) (sym c.target_of.ensures) ∙ sym c.in-Some.ensures.found in
+    let style = c.in-Update.field-0 in
     let n = c.in-Update.target in
     let condition = option_map tree_view c.in-Update.condition in
     let settings = named_view c.in-Update.settings.items in
-    let e : a ≡ trees.update n condition settings = ap assignment_view c.in-Update.is in
+    let e : a ≡ trees.update style n condition settings = ap assignment_view c.in-Update.is in
     let there : base_named n db ≡ Some b = ap (λ m. base_named m db) (sym (ap target_of e)) ∙ is in
     let asked : option_map (λ e. tree_view e.now) c.as_ref-condition.result ≡ condition =
     given_is tree_view c.as_ref-condition.result c.in-Update.condition c.as_ref-condition.ensures.value in
     subst (λ o. IsPlannableIf db (option_map (trees.restriction (trees.name n)) o)) (sym asked)
-    (update_plannable db c.requires.legal n b there condition settings (subst (IsAdmittedAssignment db) e c.requires.admitted))
+    (update_plannable db c.requires.legal n b there style condition settings (subst (IsAdmittedAssignment db) e c.requires.admitted))
 
 pub first_update-requires-clause-settings : goal.first_update-requires-clause-settings
 first_update-requires-clause-settings g c =
@@ -95,17 +96,18 @@ first_update-requires-clause-settings g c =
     let a = assignment_view c.args.assignment.now in
     let b = base_view g.B.Body.relation (c.target_of.result.now, c.in-Some.entry.now) in
     let is : base_named (target_of a) db ≡ Some b = ap (λ n. base_named n db) (sym c.target_of.ensures) ∙ sym c.in-Some.ensures.found in
+    let style = c.in-Update.field-0 in
     let n = c.in-Update.target in
     let condition = option_map tree_view c.in-Update.condition in
     let settings = named_view c.in-Update.settings.items in
-    let e : a ≡ trees.update n condition settings = ap assignment_view c.in-Update.is in
+    let e : a ≡ trees.update style n condition settings = ap assignment_view c.in-Update.is in
     let there : base_named n db ≡ Some b = ap (λ m. base_named m db) (sym (ap target_of e)) ∙ is in
     let asked : option_map (λ e. tree_view e.now) c.as_ref-condition.result ≡ condition =
     given_is tree_view c.as_ref-condition.result c.in-Update.condition c.as_ref-condition.ensures.value in
     subst (λ xs. ArePlannableSettings db (world_of db) (chosen_for b.relation (world_of db) n (option_map (λ e. tree_view e.now) c.as_ref-condition.result)) (named_view xs))
     (sym c.deref.ensures.value)
     (subst (λ o. ArePlannableSettings db (world_of db) (chosen_for b.relation (world_of db) n o) settings) (sym asked)
-    (update_settings db c.requires.legal n b there condition settings (subst (IsAdmittedAssignment db) e c.requires.admitted)))
+    (update_settings db c.requires.legal n b there style condition settings (subst (IsAdmittedAssignment db) e c.requires.admitted)))
 
 pub returns-in-Delete-clause-answer : goal.returns-in-Delete-clause-answer
 returns-in-Delete-clause-answer g c =
@@ -138,16 +140,17 @@ returns-in-Update-clause-answer g c =
     let a = assignment_view c.args.assignment.now in
     let b = base_view g.B.Body.relation (c.target_of.result.now, c.in-Some.entry.now) in
     let is : base_named (target_of a) db ≡ Some b = ap (λ n. base_named n db) (sym c.target_of.ensures) ∙ sym c.in-Some.ensures.found in
+    let style = c.in-Update.field-0 in
     let n = c.in-Update.target in
     let condition = option_map tree_view c.in-Update.condition in
     let settings = named_view c.in-Update.settings.items in
-    let e : a ≡ trees.update n condition settings = ap assignment_view c.in-Update.is in
+    let e : a ≡ trees.update style n condition settings = ap assignment_view c.in-Update.is in
     let there : base_named n db ≡ Some b = ap (λ m. base_named m db) (sym (ap target_of e)) ∙ is in
     let asked : option_map (λ e. tree_view e.now) c.as_ref-condition.result ≡ condition =
     given_is tree_view c.as_ref-condition.result c.in-Update.condition c.as_ref-condition.ensures.value in
     first_given db a b c.first_update.result is
     (subst (λ x. Answers (λ (d : Change). changed_by d b.relation) c.first_update.result (gift_over db b.relation x)) (sym e)
-    (update_first db n condition b c.first_update.result there settings
+    (update_first db n condition b c.first_update.result there style settings
     (subst (λ xs. Answers (λ (d : Change). changed_by d b.relation) c.first_update.result (with_value (chosen_for b.relation (world_of db) n condition)
     (updated_relation b.relation (setting_names (named_view xs)) (values_in_tuples (world_of db) [] (named_view xs))))) c.deref.ensures.value
     (subst (λ o. Answers (λ (d : Change). changed_by d b.relation) c.first_update.result (with_value (chosen_for b.relation (world_of db) n o)
@@ -177,3 +180,73 @@ returns-in-Assign-clause-change g c =
     let r = base_view g.B.Body.relation (c.target_of.result.now, c.in-Some.entry.now) in
     let is : base_named (target_of a) db ≡ Some r = ap (λ n. base_named n db) (sym c.target_of.ensures) ∙ sym c.in-Some.ensures.found in
     change_of_base db (target_of a) r r.relation.heading c.change_over.result is refl c.change_over.ensures.headings
+
+pub put_in_apart-requires-clause-heading : goal.put_in_apart-requires-clause-heading
+put_in_apart-requires-clause-heading g c = c.in-Some.ensures.entry.heading_is
+
+pub put_in_apart-requires-clause-source : goal.put_in_apart-requires-clause-source
+put_in_apart-requires-clause-source g c =
+    let db = c.args.catalog.now.database in
+    disjoint_insert_plannable db c.requires.legal c.in-DisjointInsert.field-0 (tree_view c.in-DisjointInsert.source)
+    (subst (λ a. IsAdmittedAssignment db (assignment_view a)) c.in-DisjointInsert.is c.requires.admitted)
+
+pub returns-in-DisjointInsert-clause-answer : goal.returns-in-DisjointInsert-clause-answer
+returns-in-DisjointInsert-clause-answer g c =
+    let db = c.args.catalog.now.database in
+    let a = assignment_view c.args.assignment.now in
+    let r = base_view g.B.Body.relation (c.target_of.result.now, c.in-Some.entry.now) in
+    let is : base_named (target_of a) db ≡ Some r = ap (λ n. base_named n db) (sym c.target_of.ensures) ∙ sym c.in-Some.ensures.found in
+    let n = c.in-DisjointInsert.field-0 in
+    let source = tree_view c.in-DisjointInsert.source in
+    let e : a ≡ trees.disjoint_insert n source = ap assignment_view c.in-DisjointInsert.is in
+    let there : base_named n db ≡ Some r = ap (λ m. base_named m db) (sym (ap target_of e)) ∙ is in
+    first_given db a r c.put_in_apart.result is
+    (subst (λ x. Answers (λ (d : Change). changed_by d r.relation) c.put_in_apart.result (gift_over db r.relation x)) (sym e)
+    (disjoint_insert_first db n source r c.put_in_apart.result there c.put_in_apart.ensures.answer))
+
+pub returns-in-DisjointInsert-clause-change : goal.returns-in-DisjointInsert-clause-change
+returns-in-DisjointInsert-clause-change g c =
+    let db = c.args.catalog.now.database in
+    let a = assignment_view c.args.assignment.now in
+    let r = base_view g.B.Body.relation (c.target_of.result.now, c.in-Some.entry.now) in
+    let is : base_named (target_of a) db ≡ Some r = ap (λ n. base_named n db) (sym c.target_of.ensures) ∙ sym c.in-Some.ensures.found in
+    change_of_base db (target_of a) r r.relation.heading c.put_in_apart.result is refl c.put_in_apart.ensures.headings
+
+pub take_out-requires-clause-heading : goal.take_out-requires-clause-heading
+take_out-requires-clause-heading g c = c.in-Some.ensures.entry.heading_is
+
+pub take_out-requires-clause-source : goal.take_out-requires-clause-source
+take_out-requires-clause-source g c =
+    let db = c.args.catalog.now.database in
+    included_delete_plannable db c.requires.legal c.in-IncludedDelete.field-0 (tree_view c.in-IncludedDelete.source)
+    (subst (λ a. IsAdmittedAssignment db (assignment_view a)) c.in-IncludedDelete.is c.requires.admitted)
+
+pub returns-in-IncludedDelete-clause-answer : goal.returns-in-IncludedDelete-clause-answer
+returns-in-IncludedDelete-clause-answer g c =
+    let db = c.args.catalog.now.database in
+    let a = assignment_view c.args.assignment.now in
+    let r = base_view g.B.Body.relation (c.target_of.result.now, c.in-Some.entry.now) in
+    let is : base_named (target_of a) db ≡ Some r = ap (λ n. base_named n db) (sym c.target_of.ensures) ∙ sym c.in-Some.ensures.found in
+    let n = c.in-IncludedDelete.field-0 in
+    let source = tree_view c.in-IncludedDelete.source in
+    let e : a ≡ trees.included_delete n source = ap assignment_view c.in-IncludedDelete.is in
+    let there : base_named n db ≡ Some r = ap (λ m. base_named m db) (sym (ap target_of e)) ∙ is in
+    first_given db a r c.take_out.result is
+    (subst (λ x. Answers (λ (d : Change). changed_by d r.relation) c.take_out.result (gift_over db r.relation x)) (sym e)
+    (included_delete_first db n source r c.take_out.result there c.take_out.ensures.answer))
+
+pub returns-in-IncludedDelete-clause-change : goal.returns-in-IncludedDelete-clause-change
+returns-in-IncludedDelete-clause-change g c =
+    let db = c.args.catalog.now.database in
+    let a = assignment_view c.args.assignment.now in
+    let r = base_view g.B.Body.relation (c.target_of.result.now, c.in-Some.entry.now) in
+    let is : base_named (target_of a) db ≡ Some r = ap (λ n. base_named n db) (sym c.target_of.ensures) ∙ sym c.in-Some.ensures.found in
+    change_of_base db (target_of a) r r.relation.heading c.take_out.result is refl c.take_out.ensures.headings
+
+pub take_out-requires-clause-valid : goal.take_out-requires-clause-valid
+take_out-requires-clause-valid g c =
+    let db = c.args.catalog.now.database in
+    let a = assignment_view c.args.assignment.now in
+    let r = base_view g.B.Body.relation (c.target_of.result.now, c.in-Some.entry.now) in
+    let is : base_named (target_of a) db ≡ Some r = ap (λ n. base_named n db) (sym c.target_of.ensures) ∙ sym c.in-Some.ensures.found in
+    (base_gift db c.requires.legal (target_of a) r is).relation

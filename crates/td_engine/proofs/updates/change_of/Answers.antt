@@ -11,6 +11,14 @@ change_of_assign-requires g c = subst (λ a. IsPlannableAssignment c.args.catalo
 pub change_of_insert-requires : goal.change_of_insert-requires
 change_of_insert-requires g c = subst (λ a. IsPlannableAssignment c.args.catalog.now.database c.args.so_far.now (assignment_view a)) c.in-Insert.is c.requires
 
+pub change_of_disjoint_insert-requires : goal.change_of_disjoint_insert-requires
+change_of_disjoint_insert-requires g c =
+    subst (λ a. IsPlannableAssignment c.args.catalog.now.database c.args.so_far.now (assignment_view a)) c.in-DisjointInsert.is c.requires
+
+pub change_of_included_delete-requires : goal.change_of_included_delete-requires
+change_of_included_delete-requires g c =
+    subst (λ a. IsPlannableAssignment c.args.catalog.now.database c.args.so_far.now (assignment_view a)) c.in-IncludedDelete.is c.requires
+
 pub delete-requires : goal.delete-requires
 delete-requires g c =
     subst (IsPlannableConditionIf c.args.catalog.now.database c.in-Delete.target c.args.so_far.now)

@@ -37,9 +37,10 @@ set_all-requires-clause-distinct g c =
     let fs = values_in_tuples (world_in c.args.env.now) (tuples_in_hand c.args.env.now) parts in
     let seen : values_in_tuples (seen_by c.of_env-sight.result) (reverse c.deref.result.now) parts ≡ fs =
     λ i. values_in_tuples (c.of_env-sight.ensures.exact i) (reverse ((c.deref.ensures.value ∙ c.in_ok-copies_of_lent.ensures) i)) parts in
-    let cs = columns_view c.in_ok-columns.columns.items in
+    let cs = columns_view c.deref-2.result.now in
     let given : gathered (named_columns attributes fs c.args.rel.now.body) ≡ Valued cs =
-    subst (λ gs. gathered (named_columns attributes gs c.args.rel.now.body) ≡ Valued cs) seen c.in_ok-columns.ensures in
+    subst (λ gs. gathered (named_columns attributes gs c.args.rel.now.body) ≡ Valued cs) seen
+    (c.in_ok-columns.ensures ∙ ap (λ xs. Valued (columns_view xs)) (sym c.deref-2.ensures.value)) in
     let lengths : length attributes ≡ length fs =
     length-map c.args.attributes.now _ ∙ c.requires.lengths ∙ sym (as_many_parts (world_in c.args.env.now) (tuples_in_hand c.args.env.now) c.args.parts.now) in
     ap (λ xs. are_distinct (attribute_names xs)) (set_names attributes fs c.args.rel.now cs given lengths) ∙ c.requires.distinct
@@ -51,9 +52,10 @@ set_all-requires-clause-fit g c =
     let fs = values_in_tuples (world_in c.args.env.now) (tuples_in_hand c.args.env.now) parts in
     let seen : values_in_tuples (seen_by c.of_env-sight.result) (reverse c.deref.result.now) parts ≡ fs =
     λ i. values_in_tuples (c.of_env-sight.ensures.exact i) (reverse ((c.deref.ensures.value ∙ c.in_ok-copies_of_lent.ensures) i)) parts in
-    let cs = columns_view c.in_ok-columns.columns.items in
+    let cs = columns_view c.deref-2.result.now in
     let given : gathered (named_columns attributes fs c.args.rel.now.body) ≡ Valued cs =
-    subst (λ gs. gathered (named_columns attributes gs c.args.rel.now.body) ≡ Valued cs) seen c.in_ok-columns.ensures in
+    subst (λ gs. gathered (named_columns attributes gs c.args.rel.now.body) ≡ Valued cs) seen
+    (c.in_ok-columns.ensures ∙ ap (λ xs. Valued (columns_view xs)) (sym c.deref-2.ensures.value)) in
     set_columns_fit attributes fs c.args.rel.now cs given
 
 pub returns : goal.returns
@@ -63,8 +65,9 @@ returns g c =
     let fs = values_in_tuples (world_in c.args.env.now) (tuples_in_hand c.args.env.now) parts in
     let seen : values_in_tuples (seen_by c.of_env-sight.result) (reverse c.deref.result.now) parts ≡ fs =
     λ i. values_in_tuples (c.of_env-sight.ensures.exact i) (reverse ((c.deref.ensures.value ∙ c.in_ok-copies_of_lent.ensures) i)) parts in
-    let cs = columns_view c.in_ok-columns.columns.items in
+    let cs = columns_view c.deref-2.result.now in
     let given : gathered (named_columns attributes fs c.args.rel.now.body) ≡ Valued cs =
-    subst (λ gs. gathered (named_columns attributes gs c.args.rel.now.body) ≡ Valued cs) seen c.in_ok-columns.ensures in
+    subst (λ gs. gathered (named_columns attributes gs c.args.rel.now.body) ≡ Valued cs) seen
+    (c.in_ok-columns.ensures ∙ ap (λ xs. Valued (columns_view xs)) (sym c.deref-2.ensures.value)) in
     setting_given attributes fs c.args.rel.now cs given
     ∙ ap (λ q. Valued q) (sym (c.in_ok-set_all.ensures (additions_of attributes fs) (set_columns attributes fs c.args.rel.now cs given)))

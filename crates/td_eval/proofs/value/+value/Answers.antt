@@ -18,6 +18,7 @@ use Rattle.td_eval.proofs.code_lemmas.WalkedAttributes.{as_many_found, columns_f
 use Rattle.td_eval.proofs.code_lemmas.WalkedColumns.{beside_at, beside_past, beside_within, column_found, columns_are}
 use Rattle.td_eval.proofs.code_lemmas.WalkedExtension.{answers_related, types_refused}
 use Rattle.td_eval.proofs.code_lemmas.WalkedLists.{arguments_are, as_many_parts, entries_are, entry_found, of_as_many, value_found, walked, walked_values}
+use Rattle.td_eval.proofs.code_lemmas.WalkedSettings.{types_unset}
 use Rattle.td_eval.proofs.code_lemmas.WalkedSelections.{constructed_of, mismatched}
 use Rattle.td_eval.proofs.code_lemmas.OpValues.{related as both_related}
 use Rattle.td_eval.proofs.code_lemmas.WalkedTotals.{group_found, terms_given, total_found, totals_are, totals_given, totals_refused}
@@ -25,7 +26,7 @@ use Rattle.td_check.proofs.BothAnswers.{both_given, both_refused}
 use Rattle.td_eval.specs.AggregateValues.{aggregated_value, asked_of, summarized_value, summary_attributes, summary_value}
 use Rattle.td_eval.specs.DatabaseWorlds.{constraint_value, world_of_types}
 use Rattle.td_eval.specs.code.NewColumns.{column_view, named_columns}
-use Rattle.td_eval.specs.OperatorValues.{column_values, component_value, extended_value, listed_value, on_relation, postfix_value, restricted_value, truth_value, tuple_from, value_of_type}
+use Rattle.td_eval.specs.OperatorValues.{column_values, component_value, extended_by_settings, extended_value, listed_value, on_relation, postfix_value, restricted_value, truth_value, tuple_from, value_of_type}
 use Rattle.td_eval.specs.code.Sights.{seen_by, virtuals_of}
 use Rattle.td_eval.specs.code.Totals.{term_in, total_of, total_view}
 use Rattle.td_eval.specs.TreeValues.{argument_values, entry_values, items_in_tuples, value_of, values_in_tuples}
@@ -36,7 +37,7 @@ use Rattle.td_tree.specs.Heights.{height, highest, highest_named, highest_summar
 use Rattle.td_tree.specs.Outcomes.{Answers, Valued, gathered, named_cause, with_value}
 use Rattle.td_tree.specs.code.TreeViews.{attributes_view, heading_tree_view, named_view, summaries_view, tree_view, trees_view}
 use Rattle.td_tree.specs.Trees as trees
-use Rattle.td_tree.proofs.code_lemmas.Rows.{extend_is, headed_relation_is, relation_is, select_is, summarize_by_is, summarize_per_is, tuple_is}
+use Rattle.td_tree.proofs.code_lemmas.Rows.{extend_is, extend_setting_is, headed_relation_is, relation_is, select_is, summarize_by_is, summarize_per_is, tuple_is}
 use Rattle.td_types.specs.declared.ty.Ty.{Ty}
 use Rattle.td_types.specs.TypeLists.{heading_meant}
 use Rattle.td_types.specs.Types.{Heading}
@@ -160,6 +161,13 @@ pub value_of-extension-requires : goal.value_of-extension-requires
 value_of-extension-requires g t c =
     λ κs o. (
       (let h = ap height (ap tree_view c.in-Extend.is ∙ extend_is c.in-Extend.operand c.in-Extend.parts ∙ (λ i. trees.extend (tree_view (sym c.deref-in-Extend.ensures i)) (named_view (sym c.deref-in-Extend-2.ensures.value i)))) in let low = le-max_right (height (tree_view c.deref-in-Extend.result.now)) (highest_named (named_view c.deref-in-Extend-2.result.now)) in omega (arith, c.decreases, h, low)),
+      (o, c.requires),
+    )
+
+pub value_of-setting-requires : goal.value_of-setting-requires
+value_of-setting-requires g t c =
+    λ κs o. (
+      (let h = ap height (ap tree_view c.in-ExtendSetting.is ∙ extend_setting_is c.in-ExtendSetting.operand c.in-ExtendSetting.settings ∙ (λ i. trees.extend_setting (tree_view (sym c.deref-in-ExtendSetting.ensures i)) (named_view (sym c.deref-in-ExtendSetting-2.ensures.value i)))) in let low = le-max_right (height (tree_view c.deref-in-ExtendSetting.result.now)) (highest_named (named_view c.deref-in-ExtendSetting-2.result.now)) in omega (arith, c.decreases, h, low)),
       (o, c.requires),
     )
 
@@ -316,6 +324,15 @@ value_of-returns-in_ok-value_of-in-Extend g t c =
     (values_in_tuples (seen_by c.args.sight.now) (reverse c.args.tuples.now) (named_view c.deref-in-Extend-2.result.now)) r)) (λ v. v) c.extension-in-Extend.result
     c.in_ok-value_of-in-Extend.ensures c.extension-in-Extend.ensures)
 
+pub value_of-returns-in_ok-value_of-in-ExtendSetting : goal.value_of-returns-in_ok-value_of-in-ExtendSetting
+value_of-returns-in_ok-value_of-in-ExtendSetting g t c =
+    let is = ap tree_view c.in-ExtendSetting.is ∙ extend_setting_is c.in-ExtendSetting.operand c.in-ExtendSetting.settings ∙ (λ i. trees.extend_setting (tree_view (sym c.deref-in-ExtendSetting.ensures i)) (named_view (sym c.deref-in-ExtendSetting-2.ensures.value i))) in
+    rw is
+    (answered_then (λ v. v) c.in_ok-value_of-in-ExtendSetting.field-0 (value_of (seen_by c.args.sight.now) (reverse c.args.tuples.now) (tree_view c.deref-in-ExtendSetting.result.now))
+    (λ v. on_relation v (λ r. extended_by_settings (named_types (entered_with r.heading (with_tuples (seen_by c.args.sight.now).scope (reverse c.args.tuples.now))) (named_view c.deref-in-ExtendSetting-2.result.now))
+    (values_in_tuples (seen_by c.args.sight.now) (reverse c.args.tuples.now) (named_view c.deref-in-ExtendSetting-2.result.now)) r)) (λ v. v) c.setting-in-ExtendSetting.result
+    c.in_ok-value_of-in-ExtendSetting.ensures c.setting-in-ExtendSetting.ensures)
+
 pub restriction-restriction_value-requires : goal.restriction-restriction_value-requires
 restriction-restriction_value-requires g t c =
     of_as_many c.truths.result (λ t. truth_value (value_of (seen_by c.args.sight.now) (t ∷ (reverse c.args.tuples.now)) (tree_view c.args.condition.now))) c.in_ok-rel.rel.now.body c.truths.ensures
@@ -379,6 +396,50 @@ extension-returns g t c =
     (subst (λ xs. Answers (λ (cs : Vec (List ℕ × Column)). columns_view cs.items) c.columns-columns.result (gathered (named_columns (pairs_view xs) (values_in_tuples (seen_by c.args.sight.now) (reverse c.args.tuples.now) (named_view c.args.parts.now)) c.in_ok-rel.rel.now.body)))
     (c.deref.ensures.value ∙ sym c.deref-2.ensures.value) c.columns-columns.ensures)))
 
+-- ---- attributes that are set
+
+pub setting-returns-in_err-attributes : goal.setting-returns-in_err-attributes
+setting-returns-in_err-attributes g t c =
+    let p = err_from_is_err_and c.from_residual-in_err-attributes.result c.from_residual-in_err-attributes.ensures.1 in
+    answers_related (λ (v : Val). v) c.args.operand.now c.in_ok-rel.rel.now (λ r. extended_by_settings (named_types (entered_with r.heading (with_tuples (seen_by c.args.sight.now).scope (reverse c.args.tuples.now))) (named_view c.args.settings.now)) (values_in_tuples (seen_by c.args.sight.now) (reverse c.args.tuples.now) (named_view c.args.settings.now)) r) c.from_residual-in_err-attributes.result c.in_ok-rel.ensures
+    (rw (p.1, p.2)
+    (types_unset (named_types (entered_with c.in_ok-rel.rel.now.heading (with_tuples (seen_by c.args.sight.now).scope (reverse c.args.tuples.now))) (named_view c.args.settings.now)) (values_in_tuples (seen_by c.args.sight.now) (reverse c.args.tuples.now) (named_view c.args.settings.now)) c.in_ok-rel.rel.now (λ (ts : Vec (List ℕ × Ty)). pairs_view ts.items) _ c.in_err-attributes.ensures))
+
+pub setting-columns-columns-requires : goal.setting-columns-columns-requires
+setting-columns-columns-requires g t c =
+    λ κs o. (
+      omega (arith, c.decreases),
+      (
+        o,
+        (
+          c.requires,
+          as_many_found (entered_with c.in_ok-rel.rel.now.heading (with_tuples (seen_by c.args.sight.now).scope (reverse c.args.tuples.now))) c.args.settings.now
+              c.in_ok-attributes.attributes.items c.deref.result.now c.deref.ensures.value c.in_ok-attributes.ensures,
+        ),
+      ),
+    )
+
+pub setting-setting_by-requires : goal.setting-setting_by-requires
+setting-setting_by-requires g t c =
+    let scope = entered_with c.in_ok-rel.rel.now.heading (with_tuples (seen_by c.args.sight.now).scope (reverse c.args.tuples.now)) in
+    columns_for (values_in_tuples (seen_by c.args.sight.now) (reverse c.args.tuples.now) (named_view c.args.settings.now)) c.in_ok-rel.rel.now.body c.deref.result.now c.deref-2.result.now c.columns-columns.result
+    (c.deref-2.ensures.value ∙ sym c.deref.ensures.value)
+    (as_many_found scope c.args.settings.now c.in_ok-attributes.attributes.items c.deref.result.now c.deref.ensures.value c.in_ok-attributes.ensures
+    ∙ sym (as_many_parts (seen_by c.args.sight.now) (reverse c.args.tuples.now) c.args.settings.now))
+    c.columns-columns.ensures
+
+pub setting-returns : goal.setting-returns
+setting-returns g t c =
+    let scope = entered_with c.in_ok-rel.rel.now.heading (with_tuples (seen_by c.args.sight.now).scope (reverse c.args.tuples.now)) in
+    answers_related (λ (v : Val). v) c.args.operand.now c.in_ok-rel.rel.now (λ r. extended_by_settings (named_types (entered_with r.heading (with_tuples (seen_by c.args.sight.now).scope (reverse c.args.tuples.now))) (named_view c.args.settings.now)) (values_in_tuples (seen_by c.args.sight.now) (reverse c.args.tuples.now) (named_view c.args.settings.now)) r) c.setting_by.result c.in_ok-rel.ensures
+    (subst (λ o. Answers (λ (v : Val). v) c.setting_by.result (extended_by_settings o (values_in_tuples (seen_by c.args.sight.now) (reverse c.args.tuples.now) (named_view c.args.settings.now)) c.in_ok-rel.rel.now))
+    (ap Valued (ap pairs_view c.deref-2.ensures.value) ∙ sym c.in_ok-attributes.ensures)
+    (c.setting_by.ensures (values_in_tuples (seen_by c.args.sight.now) (reverse c.args.tuples.now) (named_view c.args.settings.now))
+    (as_many_found scope c.args.settings.now c.in_ok-attributes.attributes.items c.deref-2.result.now c.deref-2.ensures.value c.in_ok-attributes.ensures
+    ∙ sym (as_many_parts (seen_by c.args.sight.now) (reverse c.args.tuples.now) c.args.settings.now))
+    (subst (λ xs. Answers (λ (cs : Vec (List ℕ × Column)). columns_view cs.items) c.columns-columns.result (gathered (named_columns (pairs_view xs) (values_in_tuples (seen_by c.args.sight.now) (reverse c.args.tuples.now) (named_view c.args.settings.now)) c.in_ok-rel.rel.now.body)))
+    (c.deref.ensures.value ∙ sym c.deref-2.ensures.value) c.columns-columns.ensures)))
+
 -- ---- aggregates
 
 pub values_in_rows-loop-row-init : goal.values_in_rows-loop-row-init
@@ -401,30 +462,30 @@ values_in_rows-returns g t c =
 
 -- ---- SUMMARIZE
 
-pub item_in_groups-loop-group-preserved : goal.item_in_groups-loop-group-preserved
-item_in_groups-loop-group-preserved g t c =
+pub summaries::item_in_groups-loop-group-preserved : goal.summaries::item_in_groups-loop-group-preserved
+summaries::item_in_groups-loop-group-preserved g t c =
     collected_next (λ (vs : Vec Val). vs.items) (group_found (seen_by c.args.sight.now) (reverse c.args.tuples.now) c.args.item.now) c.args.groups.now c.loop-group.group-index c.loop-group-test.true c.loop-group-item.is
     c.loop-group.invariant c.item_in_group-found.ensures c.in_ok-collect.ensures
 
-pub item_in_groups-returns : goal.item_in_groups-returns
-item_in_groups-returns g t c =
+pub summaries::item_in_groups-returns : goal.summaries::item_in_groups-returns
+summaries::item_in_groups-returns g t c =
     walked (λ (vss : Vec (Vec Val)). map (λ vs. vs.items) vss.items) (group_found (seen_by c.args.sight.now) (reverse c.args.tuples.now) c.args.item.now) c.args.groups.now
     c.loop-group.group-index c.loop-group-test.false c.loop-group.causes c.loop-group.values c.finish.result c.finish.ensures c.loop-group.invariant _ refl
 
-pub totals-loop-item-preserved : goal.totals-loop-item-preserved
-totals-loop-item-preserved g t c =
+pub summaries::totals-loop-item-preserved : goal.summaries::totals-loop-item-preserved
+summaries::totals-loop-item-preserved g t c =
     let values = gathered (map (group_found (seen_by c.args.sight.now) (reverse c.args.tuples.now) c.item-item.result) c.args.groups.now) in
     collected_next total_view (total_found (seen_by c.args.sight.now) (reverse c.args.tuples.now) c.args.groups.now) c.args.items.now c.loop-item.item-index c.loop-item-test.true c.item-item.is
     c.loop-item.invariant (c.with_aggregate-total.ensures values c.item_in_groups.ensures) c.in_ok-collect.ensures
 
-pub totals-returns : goal.totals-returns
-totals-returns g t c =
+pub summaries::totals-returns : goal.summaries::totals-returns
+summaries::totals-returns g t c =
     walked (λ (ts : Vec (Agg × Vec (Vec Val))). map total_view ts.items) (total_found (seen_by c.args.sight.now) (reverse c.args.tuples.now) c.args.groups.now) c.args.items.now
     c.loop-item.item-index c.loop-item-test.false c.loop-item.causes c.loop-item.totals c.finish.result c.finish.ensures c.loop-item.invariant _
     (ap gathered (totals_are (seen_by c.args.sight.now) (reverse c.args.tuples.now) c.args.groups.now c.args.items.now))
 
-pub totals-item_in_groups-requires : goal.totals-item_in_groups-requires
-totals-item_in_groups-requires g t c =
+pub summaries::totals-item_in_groups-requires : goal.summaries::totals-item_in_groups-requires
+summaries::totals-item_in_groups-requires g t c =
     λ κs o. (
       (let h = height_item c.args.items.now c.loop-item.item-index c.item-item.result c.loop-item-test.true c.item-item.is in omega (arith, c.decreases, h)),
       (o, c.requires),
@@ -438,13 +499,13 @@ aggregation-returns g t c =
     answers_related (λ (v : Val). v) c.args.operand.now c.in_ok-rel.rel.now (aggregated_value (asked_of c.args.op) value) c.value_of_aggregate.result c.in_ok-rel.ensures
     (c.value_of_aggregate.ensures (gathered (map value c.in_ok-rel.rel.now.body)) c.values_in_rows.ensures)
 
-pub item_in_group-returns-in_ok-terms-in-Count : goal.item_in_group-returns-in_ok-terms-in-Count
-item_in_group-returns-in_ok-terms-in-Count g t c =
+pub summaries::item_in_group-returns-in_ok-terms-in-Count : goal.summaries::item_in_group-returns-in_ok-terms-in-Count
+summaries::item_in_group-returns-in_ok-terms-in-Count g t c =
     ap (λ item. gathered (map (term_in (seen_by c.args.sight.now) (reverse c.args.tuples.now) item) c.args.group.now.body)) c.in-Count.is
     ∙ terms_given c.args.group.now.body (boolean true) ∙ ap (λ vs. Valued vs) (sym c.in_ok-terms-in-Count.ensures)
 
-pub summary-returns-in_err-totals : goal.summary-returns-in_err-totals
-summary-returns-in_err-totals g t c =
+pub summaries::summary-returns-in_err-totals : goal.summaries::summary-returns-in_err-totals
+summaries::summary-returns-in_err-totals g t c =
     let world = seen_by c.args.sight.now in
     let tuples = reverse c.args.tuples.now in
     let e = err_from_is_err_and c.from_residual-in_err-totals.result c.from_residual-in_err-totals.ensures.1 in
@@ -458,8 +519,8 @@ summary-returns-in_err-totals g t c =
     (totals_refused (attributes r.heading) items r p c.in_ok-groups.groups.items c.in_ok-groups.ensures view c.in_err-totals.field-0.0
     (subst (λ gs. Answers view (Err c.in_err-totals.field-0.0) (gathered (map (total_of gs) items))) c.deref.ensures.value c.in_err-totals.ensures)))
 
-pub summary-returns : goal.summary-returns
-summary-returns g t c =
+pub summaries::summary-returns : goal.summaries::summary-returns
+summaries::summary-returns g t c =
     let world = seen_by c.args.sight.now in
     let tuples = reverse c.args.tuples.now in
     let r = c.in_ok-rel.rel.now in

@@ -50,13 +50,13 @@ invariant-values_in_rows-loop-row g l =
     (map (λ t. value_of (seen_by l.sight) (t ∷ reverse l.tuples) (tree_view l.expr)) (take l.row-index l.rows))
     × (l.inner.items ≡ l.tuples)
 
-abbrev pub invariant-item_in_groups-loop-group : goal.invariant-item_in_groups-loop-group
-invariant-item_in_groups-loop-group g l =
+abbrev pub invariant-summaries::item_in_groups-loop-group : goal.invariant-summaries::item_in_groups-loop-group
+invariant-summaries::item_in_groups-loop-group g l =
     IsGathered l.causes (map (λ vs. vs.items) l.values.items)
     (map (group_found (seen_by l.sight) (reverse l.tuples) l.item) (take l.group-index l.groups))
 
-abbrev pub invariant-totals-loop-item : goal.invariant-totals-loop-item
-invariant-totals-loop-item g l =
+abbrev pub invariant-summaries::totals-loop-item : goal.invariant-summaries::totals-loop-item
+invariant-summaries::totals-loop-item g l =
     IsGathered l.causes (map total_view l.totals.items)
     (map (total_found (seen_by l.sight) (reverse l.tuples) l.groups) (take l.item-index l.items))
 
@@ -101,6 +101,9 @@ decreases-columns g l = weight l.sight.now + (8 * highest_named (named_view l.pa
 abbrev pub decreases-extension : goal.decreases-extension
 decreases-extension g l = weight l.sight.now + (8 * highest_named (named_view l.parts.now) + 4)
 
+abbrev pub decreases-setting : goal.decreases-setting
+decreases-setting g l = weight l.sight.now + (8 * highest_named (named_view l.settings.now) + 4)
+
 abbrev pub decreases-choice : goal.decreases-choice
 decreases-choice g l =
     weight l.sight.now
@@ -112,14 +115,14 @@ decreases-values_in_rows g l = weight l.sight.now + (8 * height (tree_view l.exp
 abbrev pub decreases-aggregation : goal.decreases-aggregation
 decreases-aggregation g l = weight l.sight.now + (8 * height (tree_view l.expr.now) + 3)
 
-abbrev pub decreases-item_in_group : goal.decreases-item_in_group
-decreases-item_in_group g l = weight l.sight.now + (8 * item_height l.item.now + 3)
+abbrev pub decreases-summaries::item_in_group : goal.decreases-summaries::item_in_group
+decreases-summaries::item_in_group g l = weight l.sight.now + (8 * item_height l.item.now + 3)
 
-abbrev pub decreases-item_in_groups : goal.decreases-item_in_groups
-decreases-item_in_groups g l = weight l.sight.now + (8 * item_height l.item.now + 4)
+abbrev pub decreases-summaries::item_in_groups : goal.decreases-summaries::item_in_groups
+decreases-summaries::item_in_groups g l = weight l.sight.now + (8 * item_height l.item.now + 4)
 
-abbrev pub decreases-totals : goal.decreases-totals
-decreases-totals g l = weight l.sight.now + (8 * highest_summary (summaries_view l.items.now) + 5)
+abbrev pub decreases-summaries::totals : goal.decreases-summaries::totals
+decreases-summaries::totals g l = weight l.sight.now + (8 * highest_summary (summaries_view l.items.now) + 5)
 
-abbrev pub decreases-summary : goal.decreases-summary
-decreases-summary g l = weight l.sight.now + (8 * highest_summary (summaries_view l.items.now) + 6)
+abbrev pub decreases-summaries::summary : goal.decreases-summaries::summary
+decreases-summaries::summary g l = weight l.sight.now + (8 * highest_summary (summaries_view l.items.now) + 6)

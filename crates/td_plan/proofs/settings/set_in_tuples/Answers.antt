@@ -35,12 +35,14 @@ pub set_all-requires-clause-distinct : goal.set_all-requires-clause-distinct
 set_all-requires-clause-distinct g c =
     let attributes = pairs_view c.args.attributes.now in
     let is = c.in_ok-columns.ensures.columns in
-    ap (λ xs. are_distinct (attribute_names xs)) (set_names attributes is.0 c.args.rel.now (columns_view c.in_ok-columns.columns.items) is.2 is.1) ∙ c.requires.distinct
+    let given = is.2 ∙ ap (λ xs. Valued (columns_view xs)) (sym c.deref-2.ensures.value) in
+    ap (λ xs. are_distinct (attribute_names xs)) (set_names attributes is.0 c.args.rel.now (columns_view c.deref-2.result.now) given is.1) ∙ c.requires.distinct
 
 pub set_all-requires-clause-fit : goal.set_all-requires-clause-fit
 set_all-requires-clause-fit g c =
     let is = c.in_ok-columns.ensures.columns in
-    set_columns_fit (pairs_view c.args.attributes.now) is.0 c.args.rel.now (columns_view c.in_ok-columns.columns.items) is.2
+    let given = is.2 ∙ ap (λ xs. Valued (columns_view xs)) (sym c.deref-2.ensures.value) in
+    set_columns_fit (pairs_view c.args.attributes.now) is.0 c.args.rel.now (columns_view c.deref-2.result.now) given
 
 pub returns : goal.returns
 returns g c = λ rules.
@@ -48,9 +50,10 @@ returns g c = λ rules.
     let attributes = pairs_view c.args.attributes.now in
     let parts = named_view c.args.parts.now in
     let fs = values_in_tuples (world_in env) (tuples_in_hand env) parts in
-    let cs = columns_view c.in_ok-columns.columns.items in
+    let cs = columns_view c.deref-2.result.now in
     let planned = subst (λ h. ArePartPlans (scope_in env) h c.in_ok-plans.plans parts) c.heading.ensures c.in_ok-plans.ensures.plans in
-    let given : gathered (named_columns attributes fs c.args.rel.now.body) ≡ Valued cs = c.in_ok-columns.ensures.answer (scope_in env) parts planned rules in
+    let given : gathered (named_columns attributes fs c.args.rel.now.body) ≡ Valued cs =
+    c.in_ok-columns.ensures.answer (scope_in env) parts planned rules ∙ ap (λ xs. Valued (columns_view xs)) (sym c.deref-2.ensures.value) in
     setting_given attributes fs c.args.rel.now cs given
     ∙ ap (λ q. Valued q) (sym (c.in_ok-set_all.ensures (additions_of attributes fs) (set_columns attributes fs c.args.rel.now cs given)))
 

@@ -1,4 +1,4 @@
-use Rattle.std.proofs.Common.{◌≡◌, ◌∙◌, ap, length, map, reverse, subst, sym}
+use Rattle.std.proofs.Common.{◌∙◌, ap, length, map, reverse, subst, sym}
 use Rattle.std.proofs.lemmas.List.{length-map}
 use Rattle.td_check.specs.Scopes.{entered_with}
 use Rattle.td_eval.proofs.code_lemmas.WalkedTotals.{as_many_attributes, as_many_items, as_many_totals}

@@ -4,7 +4,7 @@ use Rattle.td_plan.proofs.PlannedBelow.{below}
 use Rattle.td_plan.proofs.PlannedLists.{expressions_are}
 use Rattle.td_plan.specs.code.TreeWeights.{weight}
 use Rattle.td_plan.specs.code.PlannedParts.{ArePlanned, IsPlanned, part_tree}
-use Rattle.td_tree.proofs.code_lemmas.Rows.{extend_is, headed_relation_is, relation_is, select_is, summarize_by_is, summarize_per_is, tuple_is}
+use Rattle.td_tree.proofs.code_lemmas.Rows.{extend_is, extend_setting_is, headed_relation_is, relation_is, select_is, summarize_by_is, summarize_per_is, tuple_is}
 use Rattle.td_tree.specs.code.TreeViews.{attributes_view, heading_tree_view, named_view, postfix_view, summaries_view, tree_view, trees_view}
 use Rattle.td_tree.specs.Trees as trees
 use Rattle.td_plan.proofs.planning.Planning.by_form.Goals as goal
@@ -97,7 +97,13 @@ returns-in-Tuple g c =
 pub returns-in-Extend : goal.returns-in-Extend
 returns-in-Extend g c =
     let is = ap tree_view c.in-Extend.is ∙ extend_is c.in-Extend.operand c.in-Extend.parts ∙ (λ i. trees.extend (tree_view (sym c.deref-in-Extend.ensures i)) (named_view (sym c.deref-in-Extend-2.ensures.value i))) in
-    subst (IsPlanned c.args.self.now.planner.now.scope c.extend_step.result) (sym is) (c.extend_step.ensures)
+    subst (IsPlanned c.args.self.now.planner.now.scope c.extend_step.result) (sym is) c.extend_step.ensures.0
+
+pub returns-in-ExtendSetting : goal.returns-in-ExtendSetting
+returns-in-ExtendSetting g c =
+    let is = ap tree_view c.in-ExtendSetting.is ∙ extend_setting_is c.in-ExtendSetting.operand c.in-ExtendSetting.settings
+    ∙ (λ i. trees.extend_setting (tree_view (sym c.deref-in-ExtendSetting.ensures i)) (named_view (sym c.deref-in-ExtendSetting-2.ensures.value i))) in
+    subst (IsPlanned c.args.self.now.planner.now.scope c.extend_step-in-ExtendSetting.result) (sym is) c.extend_step-in-ExtendSetting.ensures.1
 
 pub returns-in-SummarizePer : goal.returns-in-SummarizePer
 returns-in-SummarizePer g c =
@@ -140,6 +146,11 @@ part_steps-requires g c =
 pub extend_step-requires : goal.extend_step-requires
 extend_step-requires g c =
     let h = ap weight (ap tree_view c.in-Extend.is ∙ extend_is c.in-Extend.operand c.in-Extend.parts ∙ (λ i. trees.extend (tree_view (sym c.deref-in-Extend.ensures i)) (named_view (sym c.deref-in-Extend-2.ensures.value i)))) in
+    below (omega (arith, h)) c.requires
+
+pub extend_step-requires-in-ExtendSetting : goal.extend_step-requires-in-ExtendSetting
+extend_step-requires-in-ExtendSetting g c =
+    let h = ap weight (ap tree_view c.in-ExtendSetting.is ∙ extend_setting_is c.in-ExtendSetting.operand c.in-ExtendSetting.settings ∙ (λ i. trees.extend_setting (tree_view (sym c.deref-in-ExtendSetting.ensures i)) (named_view (sym c.deref-in-ExtendSetting-2.ensures.value i)))) in
     below (omega (arith, h)) c.requires
 
 pub summarize_per_step-requires : goal.summarize_per_step-requires

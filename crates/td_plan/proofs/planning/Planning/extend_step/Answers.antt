@@ -1,6 +1,6 @@
 use Rattle.std.proofs.Common.{◌≡◌, subst}
 use Rattle.std.specs.Prelude.{IfNone, IfSome}
-use Rattle.td_check.specs.OperatorTypes.{extension_type}
+use Rattle.td_check.specs.OperatorTypes.{extension_type, setting_type}
 use Rattle.td_check.specs.Scopes.{entered_with}
 use Rattle.td_check.specs.StaticTypes.{named_types, type_of}
 use Rattle.td_plan.proofs.PlannedAnswers.{parts_typed, relation_typed, untyped_planned}
@@ -26,11 +26,16 @@ returns-in_default g c =
     let scope = c.args.self.now.planner.now.scope in
     let d = tree_view c.args.operand.now in
     let es = named_view c.args.parts.now in
-    untyped_planned scope c.step_of.result (trees.extend d es)
-    (λ kind typed.
-    let found = relation_typed (type_of scope d) (λ s h. with_value (named_types (entered_with h scope) es) (extension_type h)) kind typed in
-    (subst (λ o. IfNone o ((h : Heading) → type_of scope d ≡ Valued (relation (pack h)) → ⊥)) c.in_default.is c.in_ok-heading.ensures.none)
-    found.0 found.1)
+    let none = subst (λ o. IfNone o ((h : Heading) → type_of scope d ≡ Valued (relation (pack h)) → ⊥)) c.in_default.is c.in_ok-heading.ensures.none in (
+      untyped_planned scope c.step_of.result (trees.extend d es)
+          (λ kind typed.
+          let found = relation_typed (type_of scope d) (λ s h. with_value (named_types (entered_with h scope) es) (extension_type h)) kind typed in
+          none found.0 found.1),
+      untyped_planned scope c.step_of.result (trees.extend_setting d es)
+          (λ kind typed.
+          let found = relation_typed (type_of scope d) (λ s h. with_value (named_types (entered_with h scope) es) (setting_type h)) kind typed in
+          none found.0 found.1),
+    )
 
 pub returns-in_default-2 : goal.returns-in_default-2
 returns-in_default-2 g c =
@@ -38,9 +43,10 @@ returns-in_default-2 g c =
     let inner = entered_with c.in-Some.heading scope in
     let d = tree_view c.args.operand.now in
     let es = named_view c.args.parts.now in
-    untyped_planned scope c.step_of-in_default-2.result (trees.extend d es)
-    (λ kind typed.
-    let found = parts_typed scope d c.in-Some.heading es extension_type kind
-    (subst (λ o. IfSome o (λ h. type_of scope d ≡ Valued (relation (pack h)))) c.in-Some.is c.in_ok-heading.ensures.some)
-    typed in
-    subst (λ o. AreFoundColumns inner o (named_types inner es) (in_named es)) c.in_default-2.is c.in_ok-columns.ensures found.0 found.1)
+    let static = subst (λ o. IfSome o (λ h. type_of scope d ≡ Valued (relation (pack h)))) c.in-Some.is c.in_ok-heading.ensures.some in
+    let none = subst (λ o. AreFoundColumns inner o (named_types inner es) (in_named es)) c.in_default-2.is c.in_ok-columns.ensures in (
+      untyped_planned scope c.step_of-in_default-2.result (trees.extend d es)
+          (λ kind typed. let found = parts_typed scope d c.in-Some.heading es extension_type kind static typed in none found.0 found.1),
+      untyped_planned scope c.step_of-in_default-2.result (trees.extend_setting d es)
+          (λ kind typed. let found = parts_typed scope d c.in-Some.heading es setting_type kind static typed in none found.0 found.1),
+    )
