@@ -13,10 +13,10 @@ take_from_body-requires-clause-none g c = c.in_ok-none.ensures ∙ ap (λ h. rel
 pub take_from_body-requires-clause-heading : goal.take_from_body-requires-clause-heading
 take_from_body-requires-clause-heading g c =
     let headed = ap (λ (q : Relation). q.heading) c.in_ok-none.ensures ∙ sym c.requires.heading in
-    IfOk-weaker c.source_for.result _ _ (λ s h. h ∙ headed) c.source_for.ensures.heading
+    IfOk-weaker c.source_for-out.result _ _ (λ s h. h ∙ headed) c.source_for-out.ensures.heading
 
 pub returns-clause-answer : goal.returns-clause-answer
 returns-clause-answer g c =
     let r = g.B.Body.relation c.args.entry.now.body in
     let headed : r.heading ≡ c.in_ok-none.none.heading = c.requires.heading ∙ ap (λ (q : Relation). q.heading) (sym c.in_ok-none.ensures) in
-    c.take_from_body.ensures.answer (relation_for r (world_of c.args.catalog.now.database) (tree_view c.args.source.now)) (c.source_for.ensures.answer r headed)
+    c.take_from_body.ensures.answer (relation_for r (world_of c.args.catalog.now.database) (tree_view c.args.source.now)) (c.source_for-out.ensures.answer r headed)

@@ -14,4 +14,4 @@ returns-clause-answer g c =
     let so_far = c.args.so_far.now in
     let x = tree_view c.args.source.now in
     subst (Answers (λ (d : Change). changed_by d so_far) c.put_in_relation.result) (sym (put_apart_is db n so_far x))
-    (c.put_in_relation.ensures.answer (relation_for so_far (source_world db n so_far) x) c.relation_assigned.ensures.answer)
+    (c.put_in_relation.ensures.answer (relation_for so_far (source_world db n so_far) x) c.relation_assigned-add.ensures.answer)

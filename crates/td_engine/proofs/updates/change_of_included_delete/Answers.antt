@@ -14,4 +14,4 @@ returns-clause-answer g c =
     let so_far = c.args.so_far.now in
     let x = tree_view c.args.source.now in
     subst (Answers (λ (d : Change). changed_by d so_far) c.take_from_relation.result) (sym (taken_out_is db n so_far x))
-    (c.take_from_relation.ensures.answer (relation_for so_far (source_world db n so_far) x) c.relation_assigned.ensures.answer)
+    (c.take_from_relation.ensures.answer (relation_for so_far (source_world db n so_far) x) c.relation_assigned-out.ensures.answer)
