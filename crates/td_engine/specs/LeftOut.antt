@@ -1,5 +1,5 @@
 -- Which checks a statement may leave out: those whose tests it cannot have changed (this project's own).
-use Rattle.std.specs.Prelude.{◌≡◌, ℕ, false, List, [], ◌∷◌, Option, None}
+use Rattle.std.specs.Prelude.{◌≡◌, ℕ, false, List, None}
 use Rattle.std.specs.List.{AllByRecursion}
 use Rattle.td_catalog.specs.Database.{Database, NamedConstraint, VirtualRelvar}
 use Rattle.td_catalog.specs.NamedRelvars.{names_any}

@@ -1,5 +1,5 @@
 -- What a run leaves (this project's own, in the words of the set machine).
-use Rattle.std.specs.Prelude.{◌≡◌, ℕ, ◌-◌, ◌<◌, ◌≤◌, Bool, false, List, [], length, take, Option}
+use Rattle.std.specs.Prelude.{◌≡◌, ℕ, ◌-◌, ◌<◌, ◌≤◌, Bool, false, List, length, take, Option}
 use Rattle.std.specs.Io.KnownBytes.{Appends}
 use Rattle.td_engine.specs.Machine.{Progress, Runs, State, progress_at_first, has_stopped}
 use Rattle.td_engine.specs.Told.{AppendsIfTold}

@@ -1,5 +1,5 @@
 -- What a call that changes the catalogue in place has done, where it answers so.
-use Rattle.std.proofs.Common.{◌≡◌, ◌∙◌, Bool, None, Some, Option, Result, Ok, Err, ap, not, subst, sym}
+use Rattle.std.proofs.Common.{◌≡◌, ◌∙◌, Bool, Some, Option, Result, Ok, Err, ap, not, subst, sym}
 use Rattle.std.specs.Prelude.{IfSome, IsTrue, OnErr, OnOk, ⊤}
 use Rattle.td_catalog.specs.Database.{Database}
 use Rattle.td_catalog.specs.KeptDatabases.{CatalogView, advanced_view}

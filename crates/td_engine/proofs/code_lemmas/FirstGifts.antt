@@ -7,6 +7,7 @@ use Rattle.td_body.specs.Bodies.{after_change}
 use Rattle.td_catalog.specs.Database.{BaseRelvar, Database, base_named}
 use Rattle.td_check.specs.OperatorTypes.{known_or, same_heading}
 use Rattle.td_engine.proofs.code_lemmas.DeletedTuples.{delete_is, same_world}
+use Rattle.td_engine.proofs.law_lemmas.Admitted.{refused_on}
 use Rattle.td_engine.proofs.law_lemmas.Sources.{inserted_is, put_apart_is, taken_out_is}
 use Rattle.td_engine.specs.Assignments.{Given, chosen_for, current, given_to, relation_for, setting_names, target_of, updated_relation, with_assignment, with_given}
 use Rattle.td_engine.specs.Changes.{IsChangeOf, IsOfHeading, changed_by, gift_over, given_as}
@@ -110,3 +111,10 @@ module _ (db : Database) where
   given_next given a q is =
       sym (in_turn (current db given (target_of a)) (λ so_far. gift_over db so_far a) (λ r. Valued (with_given (target_of a) r given)))
       ∙ ap (λ o. with_value o (λ r. Valued (with_given (target_of a) r given))) is
+
+  -- where it is refused, nothing is given
+  pub given_refused : {X : Type 0} (view : X → Given) (given : Given) (a : Assignment) (f : Fault) (u : Change → Relation) → Answers u (Err f) (gift_of db given a)
+      → Answers view (Err f) (with_assignment db given a)
+  given_refused view given a f u h =
+      subst (Answers view (Err f)) (in_turn (current db given (target_of a)) (λ so_far. gift_over db so_far a) (λ r. Valued (with_given (target_of a) r given)))
+      (refused_on u view f (gift_of db given a) (λ r. Valued (with_given (target_of a) r given)) h)

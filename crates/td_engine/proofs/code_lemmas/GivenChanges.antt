@@ -4,7 +4,7 @@ use Rattle.std.specs.Cmp.Lexicographic.{same_text}
 use Rattle.std.specs.List.{AllByRecursion}
 use Rattle.std.specs.Map.{lookup}
 use Rattle.std.specs.Map.Iter.{deref_pair}
-use Rattle.std.specs.Prelude.{IfSome, if◌then◌else◌, map, option_map, slice_get}
+use Rattle.std.specs.Prelude.{IfSome, if◌then◌else◌, option_map, slice_get}
 use Rattle.indexmap.specs.IndexMap.{insert_entry}
 use Rattle.td_algebra.specs.Operators.{difference, union}
 use Rattle.td_catalog.specs.Database.{BaseRelvar, Database, base_named}

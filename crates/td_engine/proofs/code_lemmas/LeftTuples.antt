@@ -1,5 +1,5 @@
 -- What a change of a relation leaves.
-use Rattle.std.proofs.Common.{◌≡◌, ◌∙◌, ◌↔◌, ◌∷◌, ◌++◌, Bool, true, false, List, [], ap, append-nil, filter, not, refl, subst, sym, true≢false}
+use Rattle.std.proofs.Common.{◌≡◌, ◌∙◌, ◌∷◌, ◌++◌, Bool, true, false, List, [], ap, append-nil, filter, not, refl, sym, true≢false}
 use Rattle.std.specs.Prelude.{if◌then◌else◌}
 use Rattle.std.specs.List.{AllByRecursion}
 use Rattle.td_algebra.proofs.Lists.{contains_filter}

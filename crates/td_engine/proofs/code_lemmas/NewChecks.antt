@@ -1,5 +1,5 @@
 -- What is checked after a definition in a legal database: what is new, and nothing else.
-use Rattle.std.proofs.Common.{◌≡◌, ◌∙◌, ◌∷◌, ◌++◌, ◌-◌, ◌+◌, ℕ, zero, suc, List, [], None, Option, Some, Result, arith, ap, length, map, not, refl, subst, sym, true}
+use Rattle.std.proofs.Common.{◌≡◌, ◌∙◌, ◌∷◌, ◌++◌, ◌-◌, ◌+◌, ℕ, List, [], None, Option, Some, Result, arith, ap, length, map, not, refl, subst, sym, true}
 use Rattle.std.proofs.lemmas.List.{length-append}
 use Rattle.std.specs.List.{slice_get}
 use Rattle.std.specs.Prelude.{is_some, ⊤}

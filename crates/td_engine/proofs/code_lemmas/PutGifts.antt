@@ -1,12 +1,11 @@
 -- Base relvars that take what they were given in place, one after another.
-use Rattle.std.proofs.Common.{◌≡◌, ◌∙◌, ◌∷◌, ◌+◌, ℕ, zero, suc, Bool, true, false, List, [], Option, Some, None, Result, Ok, Err, ap, refl, subst, sym}
-use Rattle.std.specs.Prelude.{IfSome, OnOk, if◌then◌else◌, ⊤}
+use Rattle.std.proofs.Common.{◌≡◌, ◌∙◌, ◌∷◌, ℕ, zero, suc, Bool, true, false, List, [], Option, Some, None, Result, ap, refl, subst, sym}
+use Rattle.std.specs.Prelude.{IfSome, if◌then◌else◌, ⊤}
 use Rattle.std.specs.List.{AllByRecursion, slice_get}
 use Rattle.td_algebra.specs.Operators.{restriction}
-use Rattle.td_body.proofs.Differences.{led_over}
 use Rattle.td_catalog.specs.Database.{BaseRelvar, Database, base_among, base_named, base_relvar, with_body, with_relation}
 use Rattle.td_catalog.specs.TypedDatabases.{AreTyped, IsTyped, IsTypedBase}
-use Rattle.td_engine.proofs.law_lemmas.Gifted.{found, some_is, still_found}
+use Rattle.td_engine.proofs.law_lemmas.Gifted.{some_is}
 use Rattle.td_engine.specs.Assignments.{Given}
 use Rattle.td_engine.specs.code.Carried.{Passes}
 use Rattle.td_engine.specs.Checks.{base_check}

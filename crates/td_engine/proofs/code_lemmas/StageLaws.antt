@@ -1,5 +1,5 @@
 -- Catalogues that go on and go back, by their stages.
-use Rattle.std.proofs.Common.{◌≡◌, ◌∙◌, ◌≤◌, ◌<◌, ◌+◌, ◌∷◌, ◌++◌, ℕ, zero, suc, List, [], ap, append_assoc, append-nil, arith, get_or, length, length-append, map, drop, refl, subst, sym, take}
+use Rattle.std.proofs.Common.{◌≡◌, ◌∙◌, ◌≤◌, ◌<◌, ◌+◌, ◌∷◌, ◌++◌, ℕ, zero, suc, List, [], ap, append_assoc, append-nil, arith, get_or, length, length-append, map, drop, refl, sym, take}
 use Rattle.std.proofs.Math.Seq.{get_or-append_seam, take-append_seam}
 use Rattle.std.proofs.lemmas.List.{get_or_append_left, length-take-le, take-append-drop}
 use Rattle.td_catalog.specs.Database.{Database}

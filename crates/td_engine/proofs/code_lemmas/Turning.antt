@@ -1,22 +1,20 @@
 -- What a run leaves after one statement more, at its end, and at a fault.
-use Rattle.std.proofs.Common.{◌≡◌, ℕ, ◌+◌, ◌-◌, ◌<◌, ◌≤◌, ◌&&◌, Bool, true, false, nat_lt, if◌then◌else◌, List, [], ◌∷◌, ◌++◌, length, take, Option, Some, None, Result, Ok, Err, IfOk, refl, sym, ap, ◌∙◌, subst, arith, append_assoc, length-append, is_none, ◌⊎◌, inl, inr}
-use Rattle.std.proofs.KnownBytes.{Appends-trans, Appends-nil}
-use Rattle.std.proofs.Math.Seq.{take-append_seam, take-append-add}
-use Rattle.std.specs.Io.KnownBytes.{Appends, Consumes}
+use Rattle.std.proofs.Common.{◌≡◌, ℕ, ◌+◌, ◌<◌, ◌≤◌, ◌&&◌, Bool, true, false, nat_lt, if◌then◌else◌, List, [], ◌∷◌, ◌++◌, length, take, Option, Some, None, Result, Ok, Err, IfOk, refl, sym, ap, ◌∙◌, subst, arith, is_none}
+use Rattle.std.proofs.KnownBytes.{Appends-trans}
+use Rattle.std.specs.Io.KnownBytes.{Appends}
 use Rattle.std.specs.String.{string_bytes}
-use Rattle.td_engine.proofs.law_lemmas.Runs.{runs_append, runs_stopped}
-use Rattle.td_engine.proofs.code_lemmas.ToldLaws.{told_after}
+use Rattle.td_engine.proofs.law_lemmas.Runs.{runs_append}
 use Rattle.td_engine.specs.Faults.{IfMemory, IfRead, IfReadLimit, IfWrite}
 use Rattle.td_engine.specs.Machine.{Progress, State, Step, Steps, nothing, next, and_then, progress_at_first, has_stopped, refusals_of}
-use Rattle.td_engine.specs.Standing.{IsLeft, Run, RunsTo, Standing, standing}
+use Rattle.td_engine.specs.Standing.{IsLeft, Run, RunsTo, Standing}
 use Rattle.td_engine.specs.code.Steps.{IsParsed, IsStep, step_view}
 use Rattle.td_engine.specs.Told.{AppendsIfTold}
 use Rattle.td_engine.specs.code.Turns.{FirstStep, HasTurned, HasTurnedCut, IsReading, Place, Turned}
 use Rattle.td_engine.specs.declared.answer.Answer as code
 use Rattle.td_engine.specs.declared.run.RunFault.TheVariants.{Memory, Read, ReadLimit, Write}
 use Rattle.td_engine.specs.declared.run.RunFault.{RunFault}
-use Rattle.td_scan.proofs.TakenLaws.{fewer_bytes, first_and_after, no_statement}
-use Rattle.td_tree.specs.Statements.{PlacedToken, Held, after, statements}
+use Rattle.td_scan.proofs.TakenLaws.{fewer_bytes}
+use Rattle.td_tree.specs.Statements.{PlacedToken, Held, after}
 use Rattle.td_tree.specs.declared.cause.Cause.{Cause}
 use Rattle.td_tree.specs.declared.fault.Fault.{Fault}
 use Rattle.td_tree.specs.declared.statement.Statement.{Statement}

@@ -1,6 +1,6 @@
 -- What is known of a definition that is spelled and meets the static rules.
-use Rattle.std.proofs.Common.{◌≡◌, ◌∙◌, ◌∷◌, Bool, true, false, List, [], Option, Some, None, Result, Ok, Err, ap, map, refl, subst, sym}
-use Rattle.std.specs.Prelude.{IfOk, IsTrue, is_some, not, ⊤}
+use Rattle.std.proofs.Common.{◌≡◌, ◌∙◌, ◌∷◌, Bool, true, false, List, [], Option, Some, None, Err, ap, map, refl, subst, sym}
+use Rattle.std.specs.Prelude.{IsTrue, is_some, not, ⊤}
 use Rattle.std.specs.List.{AllByRecursion}
 use Rattle.td_catalog.specs.Database.{Database, NamedConstraint, VirtualRelvar, database_scope, knows_constraint, knows_relvar, named_constraint, virtual_relvar}
 use Rattle.td_catalog.specs.Dumps.{ordered_names}

@@ -1,6 +1,5 @@
 -- What targets are given in turn, and the checks of base relvars with it.
 use Rattle.std.proofs.Common.{◌≡◌, ◌∙◌, ◌∷◌, ◌+◌, ◌<◌, ℕ, zero, suc, List, [], Some, None, Ok, Err, IfSome, ap, drop, get_or, length, map, subst, sym}
-use Rattle.std.specs.Prelude.{⊤}
 use Rattle.std.specs.List.{slice_get}
 use Rattle.std.specs.Option.{option_or}
 use Rattle.std.proofs.lemmas.Option.{slice_get-get_or}

@@ -1,8 +1,7 @@
 -- Checks that are made one after another until one refuses.
-use Rattle.std.proofs.Common.{◌≡◌, ◌∙◌, ◌∷◌, ◌+◌, ◌≤◌, ℕ, zero, suc, List, [], Option, Some, None, Err, ap, drop, length, arith, refl}
+use Rattle.std.proofs.Common.{◌≡◌, ◌∙◌, ◌∷◌, ◌+◌, ℕ, zero, suc, List, [], Option, Some, None, Err, ap, drop, arith, refl}
 use Rattle.std.specs.List.{slice_get}
 use Rattle.std.specs.Option.{option_or}
-use Rattle.std.proofs.lemmas.List.{drop_all}
 use Rattle.td_engine.specs.code.Carried.{Passes, refusal_view}
 use Rattle.td_engine.specs.Checks.{first_refusal}
 use Rattle.td_engine.specs.Refusals.{Refusal}

@@ -1,6 +1,6 @@
 -- The checks of a legal database: the keys of its base relvars hold.
 use Rattle.std.proofs.Common.{◌≡◌, ◌∙◌, ◌∷◌, ◌++◌, ℕ, Bool, true, false, List, [], Option, Some, None, Result, Ok, Err, ap, refl, sym}
-use Rattle.std.specs.Prelude.{◌&&◌, OnOk, ⊤}
+use Rattle.std.specs.Prelude.{◌&&◌, ⊤}
 use Rattle.std.specs.List.{AllByRecursion}
 use Rattle.std.specs.Option.{option_or}
 use Rattle.td_body.specs.Bodies.{key_holds}

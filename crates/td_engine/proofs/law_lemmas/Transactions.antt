@@ -1,7 +1,7 @@
 -- What the statements of transactions do, by what is kept before and after.
-use Rattle.std.proofs.Common.{◌≡◌, ◌∙◌, ◌≤◌, ◌<◌, ◌∷◌, ◌++◌, true, false, List, [], Some, None, ap, arith, length, reverse, subst, sym}
+use Rattle.std.proofs.Common.{◌≡◌, ◌∙◌, ◌≤◌, ◌<◌, ◌∷◌, ◌++◌, List, [], Some, None, ap, arith, length, reverse, subst, sym}
 use Rattle.std.proofs.lemmas.List.{reverse-append}
-use Rattle.std.specs.Prelude.{IsFalse, IsTrue, is_none, nat_lt, if◌then◌else◌}
+use Rattle.std.specs.Prelude.{IsFalse, IsTrue, is_none}
 use Rattle.std.specs.List.{AllByRecursion}
 use Rattle.std.specs.String.{string_bytes}
 use Rattle.td_catalog.specs.Database.{Database}

@@ -1,1 +1,0 @@
-use Rattle.td_engine.proofs.assignments.check_keys.Goals as goal

@@ -1,6 +1,8 @@
 use Rattle.std.proofs.Common.{◌≡◌, ◌∙◌, ap, subst, sym}
+use Rattle.std.proofs.lemmas.Result.{err_from_is_err_and}
+use Rattle.std.specs.Prelude.{⊤}
 use Rattle.indexmap.specs.IndexMap.{insert_entry}
-use Rattle.td_engine.proofs.code_lemmas.FirstGifts.{given_next}
+use Rattle.td_engine.proofs.code_lemmas.FirstGifts.{given_next, given_refused}
 use Rattle.td_engine.proofs.code_lemmas.GivenChanges.{all_with, given_with}
 use Rattle.td_engine.specs.Assignments.{target_of}
 use Rattle.td_engine.specs.Changes.{AreChanges, IsChangeOf, given_as, given_in}
@@ -8,6 +10,13 @@ use Rattle.td_tree.specs.Outcomes.{Valued}
 use Rattle.td_tree.specs.code.TreeViews.{assignment_view}
 use Rattle.td_types.specs.Types.{same_name}
 use Rattle.td_engine.proofs.assignments.give.Goals as goal
+
+pub returns-in_err-change-clause-answer : goal.returns-in_err-change-clause-answer
+returns-in_err-change-clause-answer g c =
+    let db = c.args.catalog.now.database in
+    let a = assignment_view c.args.assignment.now in
+    let e = err_from_is_err_and c.from_residual.result c.from_residual.ensures.1 in
+    rw (e.1, e.2) (given_refused db (λ (u : ⊤). given_in db c.args.given.now.entries) (given_in db c.args.given.now.entries) a c.in_err-change.field-0.0 (given_as db (target_of a)) c.in_err-change.ensures.answer)
 
 pub returns-clause-answer : goal.returns-clause-answer
 returns-clause-answer g c =

@@ -1,4 +1,4 @@
-use Rattle.std.proofs.Common.{◌≡◌, ◌∙◌, ◌∷◌, [], ap, subst, sym}
+use Rattle.std.proofs.Common.{◌≡◌, ◌∙◌, ap, subst, sym}
 use Rattle.std.specs.Prelude.{IfSome, OnOk}
 use Rattle.td_catalog.specs.Database.{Database, base_named, base_relvar, with_body}
 use Rattle.td_engine.proofs.code_lemmas.GivenChanges.{given_of}

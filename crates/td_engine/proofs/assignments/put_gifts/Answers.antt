@@ -1,4 +1,4 @@
-use Rattle.std.proofs.Common.{◌≡◌, ◌∙◌, ◌<◌, ap, length, subst, sym}
+use Rattle.std.proofs.Common.{◌∙◌, ◌<◌, ap, length, subst, sym}
 use Rattle.td_catalog.specs.Database.{Database}
 use Rattle.td_engine.proofs.law_lemmas.GiftsInTurn.{gift_passed, gift_refused}
 use Rattle.td_engine.proofs.code_lemmas.StageLaws.{on_and_on}

@@ -1,4 +1,4 @@
-use Rattle.std.proofs.Common.{◌∙◌, ◌+◌, ◌≤◌, ap, drop, length, subst, sym}
+use Rattle.std.proofs.Common.{◌∙◌, ◌+◌, ◌≤◌, ap, drop, subst, sym}
 use Rattle.std.proofs.lemmas.List.{drop_all}
 use Rattle.td_catalog.specs.code.CatalogViews.{virtual_view}
 use Rattle.td_engine.proofs.law_lemmas.InOrder.{drop_next, none_left}

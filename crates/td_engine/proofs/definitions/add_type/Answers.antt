@@ -3,10 +3,9 @@ use Rattle.std.specs.Prelude.{not}
 use Rattle.td_catalog.specs.Database.{with_declared}
 use Rattle.td_catalog.specs.TypedDatabases.{IsConstrained}
 use Rattle.td_check.specs.StatementTypes.{holds_or}
-use Rattle.td_engine.proofs.law_lemmas.Admitted.{TypeAdmitted, type_admitted}
+use Rattle.td_engine.proofs.law_lemmas.Admitted.{type_admitted}
 use Rattle.td_engine.proofs.code_lemmas.Done.{defined, goes, held_there}
 use Rattle.td_engine.proofs.law_lemmas.Settled.{bases_hold}
-use Rattle.td_engine.proofs.code_lemmas.StageLaws.{stays}
 use Rattle.td_engine.proofs.law_lemmas.WrittenStatements.{statement_written}
 use Rattle.td_tree.specs.Outcomes.{Answers, Valued, with_value}
 use Rattle.td_tree.specs.code.TreeViews.{heading_tree_view, tree_view}

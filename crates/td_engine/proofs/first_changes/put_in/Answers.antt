@@ -1,4 +1,4 @@
-use Rattle.std.proofs.Common.{◌≡◌, ◌∙◌, [], ap, sym}
+use Rattle.std.proofs.Common.{◌≡◌, ◌∙◌, ap, sym}
 use Rattle.std.proofs.lemmas.Result.{err_from_is_err_and}
 use Rattle.td_algebra.specs.Operators.{difference, union}
 use Rattle.td_engine.proofs.law_lemmas.Admitted.{refused_on}
@@ -10,7 +10,6 @@ use Rattle.td_eval.specs.DatabaseWorlds.{world_of}
 use Rattle.td_tree.specs.Outcomes.{Valued, with_value}
 use Rattle.td_tree.specs.code.TreeViews.{tree_view}
 use Rattle.td_value.specs.Values.{Relation}
-use Rattle.td_value.specs.code.Views.{relation_view}
 use Rattle.td_engine.proofs.first_changes.put_in.Goals as goal
 
 pub returns-in_err-add-clause-answer : goal.returns-in_err-add-clause-answer

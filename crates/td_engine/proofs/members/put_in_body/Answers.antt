@@ -1,4 +1,4 @@
-use Rattle.std.proofs.Common.{◌≡◌, ◌∙◌, Ok, [], ap, false, refl, subst, sym, true}
+use Rattle.std.proofs.Common.{◌≡◌, ◌∙◌, [], ap, false, refl, subst, sym, true}
 use Rattle.std.specs.Prelude.{IfOk}
 use Rattle.td_algebra.specs.Operators.{is_disjoint}
 use Rattle.td_engine.proofs.code_lemmas.TestedChanges.{not_apart, other_way, put_apart}

@@ -1,4 +1,4 @@
-use Rattle.std.proofs.Common.{◌≡◌, ◌∙◌, Ok, [], ap, refl, subst, sym, true}
+use Rattle.std.proofs.Common.{◌≡◌, ◌∙◌, [], ap, refl, subst, sym, true}
 use Rattle.std.specs.Prelude.{IfOk}
 use Rattle.td_algebra.specs.Operators.{is_subset}
 use Rattle.td_engine.proofs.code_lemmas.TestedChanges.{taken_out}

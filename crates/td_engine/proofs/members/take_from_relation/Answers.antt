@@ -1,4 +1,4 @@
-use Rattle.std.proofs.Common.{◌≡◌, ◌∙◌, Ok, subst, sym, true}
+use Rattle.std.proofs.Common.{◌≡◌, ◌∙◌, subst, sym, true}
 use Rattle.td_algebra.proofs.Relations.{IsRelation-view}
 use Rattle.td_algebra.specs.Operators.{is_subset}
 use Rattle.td_engine.proofs.code_lemmas.TestedChanges.{taken_out}

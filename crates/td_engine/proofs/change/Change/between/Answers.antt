@@ -1,4 +1,4 @@
-use Rattle.std.proofs.Common.{◌≡◌, ◌∙◌, ap, subst, sym}
+use Rattle.std.proofs.Common.{◌∙◌, ap, subst, sym}
 use Rattle.td_algebra.proofs.Relations.{IsRelation-view}
 use Rattle.td_algebra.specs.Operators.{difference}
 use Rattle.td_body.proofs.Differences.{led_over}

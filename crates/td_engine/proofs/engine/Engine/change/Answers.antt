@@ -1,4 +1,4 @@
-use Rattle.std.proofs.Common.{◌≡◌, ◌∙◌, IfOk, map, reverse, subst, sym}
+use Rattle.std.proofs.Common.{◌∙◌, map, reverse, subst, sym}
 use Rattle.td_engine.proofs.law_lemmas.Answered.{database_does}
 use Rattle.td_engine.proofs.code_lemmas.Opens.{engine_on, state_on}
 use Rattle.td_engine.proofs.code_lemmas.Turning.{ok_map}

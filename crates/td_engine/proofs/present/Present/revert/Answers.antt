@@ -1,4 +1,4 @@
-use Rattle.std.proofs.Common.{◌≡◌, ◌∙◌, ◌+◌, ap, subst, sym, take}
+use Rattle.std.proofs.Common.{◌∙◌, ◌+◌, ap, subst, sym, take}
 use Rattle.td_catalog.specs.KeptDatabases.{CatalogView, stages}
 use Rattle.td_engine.proofs.code_lemmas.StageLaws.{back_stage}
 use Rattle.td_engine.specs.Legality.{IsLegal}
