@@ -35,7 +35,7 @@ use td_catalog::defining::DefiningExpression;
 use td_catalog::entry::{BaseEntry, VirtualEntry};
 use td_catalog::marked_names::MarkedNames;
 use td_eval::env::Env;
-use td_plan::value::value_in;
+use td_plan::values::value_in;
 use td_tree::cause::Cause;
 use td_tree::expression::Expr;
 use td_tree::fault::Fault;

@@ -24,7 +24,7 @@ use td_body::body::Body;
 use td_catalog::catalog::Catalog;
 use td_catalog::entry::BaseEntry;
 use td_eval::env::Env;
-use td_plan::chosen::tuples_where;
+use td_plan::values::tuples_where;
 use td_tree::expression::{Expr, NamedExpr};
 use td_tree::fault::Fault;
 use td_tree::name::Name;

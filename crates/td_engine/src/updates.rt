@@ -29,12 +29,10 @@ ghost use Rattle.td_value.specs.Values.{Relation, Tuple, Val};
 use crate::change::Change;
 use crate::members::{put_in_relation, take_from_relation};
 use std::alloc::Global;
-use td_algebra::restriction::restrict;
 use td_body::body::Body;
 use td_catalog::catalog::Catalog;
 use td_eval::env::Env;
-use td_plan::settings::set_in_tuples;
-use td_plan::value::{truths_in, value_in};
+use td_plan::values::{set_in_tuples, tuples_where, value_in};
 use td_tree::cause::Cause;
 use td_tree::expression::{Expr, NamedExpr};
 use td_tree::fault::Fault;
@@ -193,42 +191,27 @@ fn change_of_included_delete<B: Body>(
 
 // ---- conditions
 
-/// The tuples whose truth values are TRUE.
-fn restricted_to(
-    alloc: Global,
-    so_far: &Rel,
-    truths: Result<Vec<bool>, Fault>,
-) -> Result<Rel, Fault>
-    requires { IfOk truths (λ m. length m.items ≡ length so_far.now.body) }
-    ensures { (p : Tuple → Outcome Val) → Answers (λ m. m.items) truths
-        (gathered (map (λ t. truth_value (p t)) so_far.now.body))
-        → Answers (λ r. r) result (restricted_relation p so_far.now) }
-{
-    let truths = truths?;
-    Ok(restrict(alloc, so_far, &truths)?)
-}
-
-/// The truth values of a condition in the target's tuples so far, in their order.
-fn truths_so_far<'a, B: Body>(
+/// The tuples of the target so far for which the condition is TRUE.
+fn chosen_by<'a, B: Body>(
     alloc: Global,
     catalog: &'a Catalog<B>,
     target: &'a Name,
     so_far: &'a Rel,
     condition: &Expr,
-) -> Result<Vec<bool>, Fault>
+) -> Result<Rel, Fault>
     requires { IsPlannableCondition catalog.now.database target.now so_far.now
         (tree_view condition.now) }
-    ensures { Answers (λ m. m.items) result (gathered (map (λ t. truth_value (value_of
+    ensures answer { Answers (λ r. r) result (restricted_relation (λ t. value_of
         (source_world catalog.now.database target.now so_far.now) (t ∷ []) (tree_view
-        condition.now)))
-        so_far.now.body)) }
+        condition.now)) so_far.now) }
+    ensures heading { IfOk result (λ r. r.heading ≡ so_far.now.heading) }
 {
     let env = Env {
         catalog,
         other: Some((target, so_far)),
         tuples: &[],
     };
-    truths_in(alloc, &env, so_far, condition)
+    relation_of(so_far, tuples_where(alloc, &env, target, condition))
 }
 
 // ---- UPDATE
@@ -250,10 +233,7 @@ fn chosen_tuples<B: Body>(
 {
     match condition {
         None => Ok(so_far.try_clone()?),
-        Some(condition) => {
-            let truths = truths_so_far(alloc, catalog, target, so_far, condition);
-            restricted_to(alloc, so_far, truths)
-        }
+        Some(condition) => chosen_by(alloc, catalog, target, so_far, condition),
     }
 }
 
@@ -324,7 +304,7 @@ pub(crate) fn updated_tuples<'a, B: Body>(
     ensures heading { IfOk result (λ r. r.heading ≡ chosen.now.heading) }
 {
     let attributes = setting_attributes(alloc, chosen.heading(), settings)?;
-    let changed = set_in_tuples(alloc, env, chosen, &attributes, settings)?;
+    let changed = set_in_tuples(alloc, env, chosen, attributes, settings)?;
     of_heading(chosen, &changed)
 }
 

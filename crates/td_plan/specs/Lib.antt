@@ -1,11 +1,12 @@
+pub mod Closed
 pub mod Counted
 pub mod Equalities
 pub mod EqualitiesOfNames
 pub mod EqualitiesOfValues
 pub mod Fixing
-pub mod Hoisting
 pub mod LookUps
 pub mod Narrowing
+pub mod OperatorTrees
 pub mod Plans
 pub mod PlansOf
 pub mod Pushing

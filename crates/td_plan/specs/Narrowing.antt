@@ -10,11 +10,11 @@ use Rattle.td_eval.specs.TreeValues.{value_of}
 use Rattle.td_eval.specs.UnfailingValues.{GivesValues}
 use Rattle.td_eval.specs.ValueTypes.{IsOfType, IsTypedTuple, IsWritten, KeepsType}
 use Rattle.td_eval.specs.Worlds.{World}
-use Rattle.td_plan.specs.declared.fixed.FixedValue.{FixedValue}
-use Rattle.td_plan.specs.declared.step.Step.{Step}
+use Rattle.td_plan.specs.declared.rewriting.fixed.FixedValue.{FixedValue}
+use Rattle.td_plan.specs.declared.plan.step.Step.{Step}
 use Rattle.td_plan.specs.EqualitiesOfValues.{where_value}
-use Rattle.td_plan.specs.Plans.{Frame, PlanTree, plan_value}
-use Rattle.td_plan.specs.PlansOf.{AreFramesOf, AreInHand, outermost}
+use Rattle.td_plan.specs.Plans.{PlanTree, Slots, plan_value}
+use Rattle.td_plan.specs.PlansOf.{AreInHand, AreSlotsOf, outermost}
 use Rattle.td_plan.specs.code.StepViews.{step_view}
 use Rattle.td_tree.specs.Outcomes.{Outcome, Valued}
 use Rattle.td_tree.specs.Trees.{Tree, restriction}
@@ -34,8 +34,8 @@ pub record IsFixedAt (w : World) (scope : Scope) (s : List Tuple) (h : Heading) 
 -- the plan has a value, and the condition fixes the attribute of the name to it
 abbrev pub IsFixedTo : Scope → Heading → Tree → List ℕ → PlanTree → Type 0
 IsFixedTo scope h e n p =
-    (w : World) (s : List Tuple) (fs : List Frame) → GivesValues w (outermost scope) → AreInHand scope s → AreFramesOf s fs
-    → (v : Val) × (plan_value w fs p ≡ Valued v) × IsFixedAt w scope s h e n v
+    (w : World) (s : List Tuple) (slots : Slots) → GivesValues w (outermost scope) → AreInHand scope s → AreSlotsOf s slots
+    → (v : Val) × (plan_value w slots p ≡ Valued v) × IsFixedAt w scope s h e n v
 
 -- the condition fixes each of these attributes to the value of its step
 abbrev pub AreFixed : Scope → Heading → Tree → List FixedValue → Type 0
@@ -56,8 +56,8 @@ pub record NarrowsIn (w : World) (scope : Scope) (s : List Tuple) (o : Outcome V
 abbrev pub Narrows : Scope → PlanTree → Tree → Tree → Heading → Type 0
 Narrows scope p d e h =
     IsWritten (restriction d e) → (t : Type') → type_of scope (restriction d e) ≡ Valued t
-    → (w : World) (s : List Tuple) (fs : List Frame) → GivesValues w (outermost scope) → AreInHand scope s → AreFramesOf s fs
-    → NarrowsIn w scope s (plan_value w fs p) d e h
+    → (w : World) (s : List Tuple) (slots : Slots) → GivesValues w (outermost scope) → AreInHand scope s → AreSlotsOf s slots
+    → NarrowsIn w scope s (plan_value w slots p) d e h
 
 -- ---- what planning gives, in a box, where there was memory for it; the operand is of the heading
 

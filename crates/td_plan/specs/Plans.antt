@@ -1,4 +1,4 @@
--- Plans, and the values that they have: attributes are places. What operators give is what expressions give.
+-- Plans, and the values that they have: attributes are places in slots. What operators give is what expressions give.
 use Rattle.std.specs.Prelude.{ℕ, nat_eq, List, [], ◌∷◌, length, Option, Some, None, if◌then◌else◌}
 use Rattle.std.specs.List.{slice_get, zip}
 use Rattle.td_eval.specs.AggregateValues.{Summand, aggregated_value, asked_of, summary_value}
@@ -19,45 +19,65 @@ use Rattle.td_types.specs.Types.{Attribute, Heading}
 use Rattle.td_value.specs.code.Views.{values_of}
 use Rattle.td_value.specs.Values.{Val, Relation, Tuple}
 
+-- ---- operators, by how many operands they have
+
+-- of one operand
+pub data Monadic : Type 0 where
+  prefix : Prefix → Monadic
+  extract : List ℕ → Monadic
+  postfix : Postfix → Monadic
+  component : List ℕ → Monadic
+  measure : Measure → Monadic
+
+-- between two operands
+pub data Dyadic : Type 0 where
+  operator : Operator → Dyadic
+  comparison : Comparison → Dyadic
+
+-- of any number of parts: components, the tuples of a relation, or the values of a tuple's attributes
+pub data Selector : Type 0 where
+  user : List ℕ → Selector
+  relation : Selector
+  headed_relation : Heading → Selector
+  tuple : List (List ℕ) → Selector
+
+-- ---- plans
+
 mutual
-  -- a depth counts the tuples in scope from the innermost, at 0; the list of plans beside an inner
-  -- plan has its parts that are evaluated once for all the tuples
+  -- a number beside the parts of a plan is the slot in which what is applied to each tuple has that tuple
   pub data PlanTree : Type 0 where
     constant : Val → PlanTree
     refused : Cause → PlanTree
     attribute : ℕ → ℕ → PlanTree
-    fixed : ℕ → ℕ → PlanTree
     relvar : List ℕ → PlanTree
     look_up : List ℕ → List (List ℕ) → PlanTree → PlanTree
-    prefix : Prefix → PlanTree → PlanTree
-    extract : List ℕ → PlanTree → PlanTree
-    restriction : PlanTree → PlanTrees → PlanTree → PlanTree
-    binary : PlanTree → Operator → PlanTree → PlanTree
-    compare : PlanTree → Comparison → PlanTree → PlanTree
-    postfix : PlanTree → Postfix → PlanTree
-    select : List ℕ → PlanTrees → PlanTree
-    component : List ℕ → PlanTree → PlanTree
-    measure : Measure → PlanTree → PlanTree
-    relation : PlanTrees → PlanTree
-    headed_relation : Heading → PlanTrees → PlanTree
-    tuple : List (List ℕ) → PlanTrees → PlanTree
-    extend : PlanTree → List Attribute → PlanTrees → PlanTrees → PlanTree
-    aggregate : Aggregate → PlanTree → PlanTrees → PlanTree → PlanTree
-    summarize_per : PlanTree → PlanTree → List Attribute → List Agg → PlanTrees → PlanTrees → PlanTree
-    summarize_by : PlanTree → Attributes → List Attribute → List Agg → PlanTrees → PlanTrees → PlanTree
+    monadic : Monadic → PlanTree → PlanTree
+    dyadic : PlanTree → Dyadic → PlanTree → PlanTree
+    select : Selector → PlanTrees → PlanTree
+    restriction : PlanTree → ℕ → PlanTree → PlanTree
+    extend : PlanTree → List Attribute → ℕ → PlanTrees → PlanTree
+    aggregate : Aggregate → PlanTree → ℕ → PlanTree → PlanTree
+    summarize_per : PlanTree → PlanTree → List Attribute → List Agg → ℕ → PlanTrees → PlanTree
+    summarize_by : PlanTree → Attributes → List Attribute → List Agg → ℕ → PlanTrees → PlanTree
     choice : PlanTree → PlanTree → PlanTree → PlanTree
 
   pub data PlanTrees : Type 0 where
     none : PlanTrees
     more : PlanTree → PlanTrees → PlanTrees
 
--- a tuple in scope, with the outcomes of the parts that are evaluated once for all such tuples
-pub record Frame : Type 0 where
-  pub tuple : Tuple
-  pub fixed_parts : List (Outcome Val)
+-- ---- tuples in scope
 
-abbrev pub frame_of : List (Outcome Val) → Tuple → Frame
-frame_of os t = record { tuple = t; fixed_parts = os }
+-- the values of the tuple in each slot
+abbrev pub Slots : Type 0
+Slots = ℕ → List Val
+
+-- where a tuple of these values is in the slot
+abbrev pub with_slot : ℕ → List Val → Slots → Slots
+with_slot slot row s = λ j. if nat_eq j slot then row else s j
+
+-- where no tuple is in scope
+abbrev pub no_slots : Slots
+no_slots = λ j. []
 
 -- what a place that there is not gives
 abbrev pub unknown_place : Outcome Val
@@ -67,17 +87,7 @@ abbrev pub value_or : Option Val → Outcome Val
 value_or (Some v) = Valued v
 value_or None = unknown_place
 
-abbrev pub attribute_at : Option Frame → ℕ → Outcome Val
-attribute_at (Some f) place = value_or (slice_get (values_of f.tuple) place)
-attribute_at None place = unknown_place
-
-abbrev pub outcome_or : Option (Outcome Val) → Outcome Val
-outcome_or (Some o) = o
-outcome_or None = unknown_place
-
-abbrev pub fixed_at : Option Frame → ℕ → Outcome Val
-fixed_at (Some f) place = outcome_or (slice_get f.fixed_parts place)
-fixed_at None place = unknown_place
+-- ---- what operators give
 
 -- where there are as many new attributes as parts that give them values, what these give: else HEADING
 abbrev pub where_as_many : {A : Type 0} → List Attribute → List A → Outcome Val → Outcome Val
@@ -99,50 +109,58 @@ agreeing_value key o t = with_value o (λ u. on_relation u (λ r. of_relation (a
 abbrev pub looked_up : List (List ℕ) → Outcome Val → Val → Outcome Val
 looked_up key o v = on_tuple v (agreeing_value key o)
 
--- the innermost frame is the first
+abbrev pub monadic_value : World → Monadic → Val → Outcome Val
+monadic_value w (prefix op) v = prefix_value op v
+monadic_value w (extract a) v = extracted_value a v
+monadic_value w (postfix op) v = postfix_value op v
+monadic_value w (component rest) v = component_value w.scope.types rest v
+monadic_value w (measure op) v = measure_value op v
+
+abbrev pub dyadic_value : Dyadic → Val → Val → Outcome Val
+dyadic_value (operator op) v u = operator_value op v u
+dyadic_value (comparison op) v u = comparison_value op v u
+
+abbrev pub selected_value : World → Selector → List Val → Outcome Val
+selected_value w (user n) vs = selector_outcome w n vs
+selected_value w relation vs = listed_value vs
+selected_value w (headed_relation h) vs = headed_value h vs
+selected_value w (tuple names) vs = tuple_from (zip names vs)
+
+-- ---- the values of plans
+
 abbrev mutual
-  pub plan_value : World → List Frame → PlanTree → Outcome Val
-  plan_value w fs (constant v) = Valued v
-  plan_value w fs (refused c) = Refused (Only c)
-  plan_value w fs (attribute depth place) = attribute_at (slice_get fs depth) place
-  plan_value w fs (fixed depth place) = fixed_at (slice_get fs depth) place
-  plan_value w fs (relvar n) = known_outcome (w.relvar n)
-  plan_value w fs (look_up n key part) = with_value (plan_value w fs part) (looked_up key (known_outcome (w.relvar n)))
-  plan_value w fs (prefix op operand) = with_value (plan_value w fs operand) (prefix_value op)
-  plan_value w fs (extract a operand) = with_value (plan_value w fs operand) (extracted_value a)
-  plan_value w fs (restriction operand parts condition) =
-      with_value (plan_value w fs operand)
-      (λ v. on_relation v (restricted_value (λ t. plan_value w (frame_of (plan_values w fs parts) t ∷ fs) condition)))
-  plan_value w fs (binary left op right) = with_both (plan_value w fs left) (plan_value w fs right) (operator_value op)
-  plan_value w fs (compare left op right) = with_both (plan_value w fs left) (plan_value w fs right) (comparison_value op)
-  plan_value w fs (postfix operand op) = with_value (plan_value w fs operand) (postfix_value op)
-  plan_value w fs (select ty arguments) = with_value (gathered (plan_values w fs arguments)) (selector_outcome w ty)
-  plan_value w fs (component rest operand) = with_value (plan_value w fs operand) (component_value w.scope.types rest)
-  plan_value w fs (measure op operand) = with_value (plan_value w fs operand) (measure_value op)
-  plan_value w fs (relation elements) = with_value (gathered (plan_values w fs elements)) listed_value
-  plan_value w fs (headed_relation h elements) = with_value (gathered (plan_values w fs elements)) (headed_value h)
-  plan_value w fs (tuple names parts) = with_value (gathered (plan_values w fs parts)) (λ vs. tuple_from (zip names vs))
-  plan_value w fs (extend operand attributes parts values) =
-      with_value (plan_value w fs operand)
-      (λ v. on_relation v (extension_of attributes (plan_columns w fs (plan_values w fs parts) values)))
-  plan_value w fs (aggregate op operand parts value) =
-      with_value (plan_value w fs operand)
-      (λ v. on_relation v (aggregated_value (asked_of op) (λ t. plan_value w (frame_of (plan_values w fs parts) t ∷ fs) value)))
-  plan_value w fs (summarize_per operand per attributes aggregates parts values) =
-      with_both (plan_value w fs operand) (plan_value w fs per)
-      (summary_of attributes (zip aggregates (plan_columns w fs (plan_values w fs parts) values)))
-  plan_value w fs (summarize_by operand by attributes aggregates parts values) =
-      with_value (plan_value w fs operand) (λ v. with_value (postfix_value (project by) v)
-      (summary_of attributes (zip aggregates (plan_columns w fs (plan_values w fs parts) values)) v))
-  plan_value w fs (choice condition consequent alternative) =
-      with_value (plan_value w fs condition)
-      (λ v. on_truth v (λ b. if b then plan_value w fs consequent else plan_value w fs alternative))
+  pub plan_value : World → Slots → PlanTree → Outcome Val
+  plan_value w s (constant v) = Valued v
+  plan_value w s (refused c) = Refused (Only c)
+  plan_value w s (attribute slot place) = value_or (slice_get (s slot) place)
+  plan_value w s (relvar n) = known_outcome (w.relvar n)
+  plan_value w s (look_up n key part) = with_value (plan_value w s part) (looked_up key (known_outcome (w.relvar n)))
+  plan_value w s (monadic op operand) = with_value (plan_value w s operand) (monadic_value w op)
+  plan_value w s (dyadic left op right) = with_both (plan_value w s left) (plan_value w s right) (dyadic_value op)
+  plan_value w s (select selector parts) = with_value (gathered (plan_values w s parts)) (selected_value w selector)
+  plan_value w s (restriction operand slot condition) =
+      with_value (plan_value w s operand)
+      (λ v. on_relation v (restricted_value (λ t. plan_value w (with_slot slot (values_of t) s) condition)))
+  plan_value w s (extend operand attributes slot values) =
+      with_value (plan_value w s operand) (λ v. on_relation v (extension_of attributes (plan_columns w s slot values)))
+  plan_value w s (aggregate op operand slot value) =
+      with_value (plan_value w s operand)
+      (λ v. on_relation v (aggregated_value (asked_of op) (λ t. plan_value w (with_slot slot (values_of t) s) value)))
+  plan_value w s (summarize_per operand per attributes aggregates slot values) =
+      with_both (plan_value w s operand) (plan_value w s per)
+      (summary_of attributes (zip aggregates (plan_columns w s slot values)))
+  plan_value w s (summarize_by operand by attributes aggregates slot values) =
+      with_value (plan_value w s operand) (λ v. with_value (postfix_value (project by) v)
+      (summary_of attributes (zip aggregates (plan_columns w s slot values)) v))
+  plan_value w s (choice condition consequent alternative) =
+      with_value (plan_value w s condition)
+      (λ v. on_truth v (λ b. if b then plan_value w s consequent else plan_value w s alternative))
 
-  pub plan_values : World → List Frame → PlanTrees → List (Outcome Val)
-  plan_values w fs none = []
-  plan_values w fs (more first rest) = plan_value w fs first ∷ plan_values w fs rest
+  pub plan_values : World → Slots → PlanTrees → List (Outcome Val)
+  plan_values w s none = []
+  plan_values w s (more first rest) = plan_value w s first ∷ plan_values w s rest
 
-  -- the functions of a further tuple that plans are, given these outcomes of the parts run once
-  pub plan_columns : World → List Frame → List (Outcome Val) → PlanTrees → List (Tuple → Outcome Val)
-  plan_columns w fs os none = []
-  plan_columns w fs os (more first rest) = (λ t. plan_value w (frame_of os t ∷ fs) first) ∷ plan_columns w fs os rest
+  -- the functions of a further tuple, in the slot, that plans are
+  pub plan_columns : World → Slots → ℕ → PlanTrees → List (Tuple → Outcome Val)
+  plan_columns w s slot none = []
+  plan_columns w s slot (more first rest) = (λ t. plan_value w (with_slot slot (values_of t) s) first) ∷ plan_columns w s slot rest

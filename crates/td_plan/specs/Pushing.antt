@@ -9,8 +9,8 @@ use Rattle.td_eval.specs.TreeValues.{value_of}
 use Rattle.td_eval.specs.UnfailingValues.{GivesValues}
 use Rattle.td_eval.specs.ValueTypes.{IsWritten}
 use Rattle.td_eval.specs.Worlds.{World}
-use Rattle.td_plan.specs.declared.push.Restricted.{Restricted}
-use Rattle.td_plan.specs.declared.push.Restricted.TheVariants as operands
+use Rattle.td_plan.specs.declared.rewriting.push.Restricted.{Restricted}
+use Rattle.td_plan.specs.declared.rewriting.push.Restricted.TheVariants as operands
 use Rattle.td_plan.specs.PlansOf.{AreInHand, outermost}
 use Rattle.td_tree.specs.declared.operator.Operator.{Operator}
 use Rattle.td_tree.specs.Outcomes.{Valued}

@@ -1,10 +1,12 @@
 pub mod Hands
-pub mod MadeSteps
+pub mod Memos
 pub mod PlanViews
 pub mod PlannedParts
 pub mod Planners
 pub mod PlansBelow
 pub mod Quick
+pub mod QuickInside
+pub mod Remembered
 pub mod Runs
 pub mod StepHeights
 pub mod StepViews

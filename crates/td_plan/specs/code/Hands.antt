@@ -1,16 +1,17 @@
 -- What the tuples in scope, as the code has them, stand for (this project's own).
-use Rattle.std.specs.Prelude.{◌≡◌, List, [], ◌∷◌, Option, Some, None, Result, ⊤}
-use Rattle.std.specs.List.{AllByRecursion}
+use Rattle.std.specs.Borrow.{Bor}
+use Rattle.std.specs.Prelude.{List, [], Option, Some, None}
+use Rattle.std.specs.List.{AllByRecursion, slice_get}
 use Rattle.td_eval.specs.code.Sights.{world_in}
 use Rattle.td_eval.specs.Worlds.{World, known_outcome}
-use Rattle.td_plan.specs.declared.hand.Hand.{Hand}
-use Rattle.td_plan.specs.declared.hand.Held.{Held}
-use Rattle.td_plan.specs.declared.surroundings.Surroundings.{Surroundings}
-use Rattle.td_plan.specs.declared.surroundings.ValuedRelvar.{ValuedRelvar}
-use Rattle.td_plan.specs.Plans.{Frame, unknown_place}
-use Rattle.td_tree.specs.declared.fault.Fault.{Fault}
-use Rattle.td_tree.specs.Outcomes.{Answers, Outcome}
-use Rattle.td_value.specs.Values.{Val}
+use Rattle.td_plan.specs.declared.running.hand.Hand.{Hand}
+use Rattle.td_plan.specs.declared.running.hand.Inside.{Inside}
+use Rattle.td_plan.specs.declared.running.surroundings.Surroundings.{Surroundings}
+use Rattle.td_plan.specs.declared.running.surroundings.ValuedRelvar.{ValuedRelvar}
+use Rattle.td_plan.specs.Plans.{Slots, with_slot}
+use Rattle.td_tree.specs.Outcomes.{Answers}
+use Rattle.td_value.specs.code.Views.{values_of}
+use Rattle.td_value.specs.Values.{Tuple, Val}
 
 -- ---- what a plan is run in
 
@@ -31,29 +32,31 @@ AreSurroundings around = AreValued (world_around around) around.valued.now
 
 -- ---- tuples in scope
 
--- answers for these outcomes, one for each
-abbrev pub AreAnswers : List (Result Val Fault) → List (Outcome Val) → Type 0
-AreAnswers [] [] = ⊤
-AreAnswers [] (o ∷ os) = ⊥
-AreAnswers (r ∷ rs) [] = ⊥
-AreAnswers (r ∷ rs) (o ∷ os) = Answers (λ v. v) r o × AreAnswers rs os
+-- the values of a tuple, if there is one
+abbrev pub cells_of : Option Tuple → List Val
+cells_of (Some t) = values_of t
+cells_of None = []
 
--- an answer of this outcome; where there is none, the outcome is that of an unknown place
-abbrev pub IsAnswer : Option (Result Val Fault) → Outcome Val → Type 0
-IsAnswer (Some r) o = Answers (λ v. v) r o
-IsAnswer None o = o ≡ unknown_place
+abbrev pub cells_lent : Option (Bor Tuple) → List Val
+cells_lent (Some t) = values_of t.now
+cells_lent None = []
 
--- a frame of the same tuple, with answers for what is fixed
-abbrev pub IsHeld : Held → Frame → Type 0
-IsHeld h f = (f.tuple ≡ h.tuple) × AreAnswers h.fixed.value.items f.fixed_parts
+abbrev pub cells_at : Option (Option Tuple) → List Val
+cells_at (Some row) = cells_of row
+cells_at None = []
 
-abbrev pub AreHeld : List Held → List Frame → Type 0
-AreHeld [] [] = ⊤
-AreHeld [] (f ∷ fs) = ⊥
-AreHeld (h ∷ hs) [] = ⊥
-AreHeld (h ∷ hs) (f ∷ fs) = IsHeld h f × AreHeld hs fs
+-- tuples, each in the slot of its place
+abbrev pub slots_in : List (Option Tuple) → Slots
+slots_in rows = λ j. cells_at (slice_get rows j)
 
--- the innermost frame and the outer ones
-abbrev pub IsHand : Hand → List Frame → Type 0
-IsHand h [] = ⊥
-IsHand h (f ∷ fs) = (f.tuple ≡ h.tuple.now) × AreAnswers h.fixed.now.value.items f.fixed_parts × AreHeld h.outer.now fs
+-- the tuples further out, and the innermost in its slot
+abbrev pub slots_of : Hand → Slots
+slots_of hand = with_slot hand.slot (cells_lent hand.tuple) (slots_in hand.outer.now)
+
+-- where a tuple of a loop is in scope
+abbrev pub slots_inside : Inside → Tuple → Slots
+slots_inside inside t = with_slot inside.slot (values_of t) (slots_in inside.outer.items)
+
+-- lent tuples, each in the slot of its place
+abbrev pub slots_lent : List (Bor Tuple) → Slots
+slots_lent ts = λ j. cells_lent (slice_get ts j)

@@ -2,12 +2,9 @@
 use Rattle.std.specs.declared.alloc.AllocError.{AllocError}
 use Rattle.std.specs.Global.{Box, Vec}
 use Rattle.std.specs.Prelude.{◌≡◌, ℕ, true, IfOk, List, [], ◌∷◌, Option, Some, None, Result, ⊤}
-use Rattle.td_check.specs.Scopes.{Scope, entered_with}
-use Rattle.td_plan.specs.declared.in_tuples.NewColumns.{NewColumns}
-use Rattle.td_plan.specs.declared.in_tuples.PulledStep.{PulledStep}
-use Rattle.td_plan.specs.declared.plan.PartPlans.{PartPlans}
-use Rattle.td_plan.specs.declared.step.Step.{Step}
-use Rattle.td_plan.specs.Hoisting.{Hoists, HoistsAll}
+use Rattle.td_check.specs.Scopes.{Scope}
+use Rattle.td_plan.specs.declared.making.in_tuples.NewColumns.{NewColumns}
+use Rattle.td_plan.specs.declared.plan.step.Step.{Step}
 use Rattle.td_plan.specs.Plans.{PlanTree, PlanTrees, none, more}
 use Rattle.td_plan.specs.PlansOf.{IsPlanOfTyped}
 use Rattle.td_plan.specs.code.StepViews.{step_view, steps_view}
@@ -18,7 +15,7 @@ use Rattle.td_tree.specs.Outcomes.{Outcome, Valued}
 use Rattle.td_tree.specs.code.TreeViews.{tree_view}
 use Rattle.td_tree.specs.Trees.{Tree, literal, truth}
 use Rattle.td_tree.specs.Trees as trees
-use Rattle.td_types.specs.Types.{Attribute, Heading}
+use Rattle.td_types.specs.Types.{Attribute}
 use Rattle.td_types.specs.code.Views.{pairs_view}
 
 -- plans of these expressions, one for each
@@ -75,23 +72,12 @@ names_in (trees.more_named n e es) = n ∷ names_in es
 
 -- ---- in the tuples of a relation
 
--- plans of parts in the tuples of a heading, and of the parts evaluated once for all these tuples
-abbrev pub ArePartPlans : Scope → Heading → PartPlans → trees.NamedTrees → Type 0
-ArePartPlans scope h plans parts =
-    (ps : PlanTrees) × ArePlansOfTyped (entered_with h scope) ps (in_named parts)
-    × HoistsAll none (steps_view plans.once.items) ps (steps_view plans.values.items)
-
--- the attributes have these types; the plans are of their values and of the parts evaluated once
+-- the attributes have these types, and the steps are plans of their values
 abbrev pub ArePlannedColumns : Scope → NewColumns → Outcome (List Attribute) → List Tree → Type 0
 ArePlannedColumns inner columns types es =
-    (types ≡ Valued (pairs_view columns.attributes.items))
-    × (ps : PlanTrees) × ArePlansOfTyped inner ps es × HoistsAll none (steps_view columns.once.items) ps (steps_view columns.values.items)
+    (types ≡ Valued (pairs_view columns.attributes.items)) × ArePlansOfTyped inner (steps_view columns.values.items) es
 
 -- where there are such types; else none
 abbrev pub AreFoundColumns : Scope → Option NewColumns → Outcome (List Attribute) → List Tree → Type 0
 AreFoundColumns inner (Some columns) types es = ArePlannedColumns inner columns types es
 AreFoundColumns inner None types es = (xs : List Attribute) → types ≡ Valued xs → ⊥
-
--- a plan of the expression in a further tuple, with the parts evaluated once for all tuples
-abbrev pub IsPulled : Scope → PulledStep → Tree → Type 0
-IsPulled inner asked e = (p : PlanTree) × IsPlanOfTyped inner p e × Hoists none (steps_view asked.once.items) p (step_view asked.step.value)

@@ -1,9 +1,9 @@
 -- What an expression is planned in (this project's own).
-use Rattle.std.specs.Prelude.{◌≡◌, ℕ, Bool, false, suc, List, [], ◌∷◌, Option, Some, None, option_map, reverse, if◌then◌else◌}
+use Rattle.std.specs.Prelude.{◌≡◌, ℕ, Bool, false, suc, List, [], ◌∷◌, Option, Some, None, length, option_map, reverse, if◌then◌else◌}
 use Rattle.td_catalog.specs.Database.{Database, database_scope}
 use Rattle.td_catalog.specs.KeptDatabases.{CatalogView}
 use Rattle.td_check.specs.Scopes.{Scope}
-use Rattle.td_plan.specs.declared.planner.Planner.{Planner}
+use Rattle.td_plan.specs.declared.making.planner.Planner.{Planner}
 use Rattle.td_types.specs.Types.{Attribute, Heading, same_name}
 
 -- the scope where tuples of these headings are in scope, the innermost first
@@ -28,11 +28,11 @@ abbrev pub place_in : List ℕ → Heading → Option ℕ
 place_in n [] = None
 place_in n (a ∷ rest) = if same_name a.0 n then Some 0 else option_map suc (place_in n rest)
 
--- the depth of the innermost attribute of a name, and its place in its heading
+-- the slot of the innermost attribute of a name, and its place in its heading: a tuple's slot is how many are further out
 abbrev pub attribute_place : List ℕ → List Heading → Option (ℕ × ℕ)
 attribute_place n [] = None
 attribute_place n (h ∷ hs) =
     elim (place_in n h) as (λ _. Option (ℕ × ℕ)) [
-      | Some p ↦ Some (0, p)
-      | None ↦ option_map (λ q. (suc q.0, q.1)) (attribute_place n hs)
+      | Some p ↦ Some (length hs, p)
+      | None ↦ attribute_place n hs
     ]

@@ -1,39 +1,29 @@
 -- How deep steps nest.
-use Rattle.std.specs.Prelude.{ℕ, suc, List, max}
-use Rattle.td_plan.specs.declared.step.Step.{Step}
-use Rattle.td_plan.specs.Plans.{PlanTree, PlanTrees}
-use Rattle.td_plan.specs.Plans as plans
-use Rattle.td_plan.specs.code.StepViews.{step_view, steps_view}
+use Rattle.std.specs.Prelude.{ℕ, suc, List, [], ◌∷◌, max}
+use Rattle.td_plan.specs.declared.plan.step.Step.{Step, Row_of-Step, end_of-Step, more_of-Step}
+use Rattle.td_plan.specs.declared.plan.step.Step.TheVariants as p
 
 abbrev mutual
-  pub height : PlanTree → ℕ
-  height (plans.look_up n key part) = suc (height part)
-  height (plans.prefix op operand) = suc (height operand)
-  height (plans.extract a operand) = suc (height operand)
-  height (plans.restriction operand parts condition) = suc (max (height operand) (max (highest parts) (height condition)))
-  height (plans.binary left op right) = suc (max (height left) (height right))
-  height (plans.compare left op right) = suc (max (height left) (height right))
-  height (plans.postfix operand op) = suc (height operand)
-  height (plans.select ty arguments) = suc (highest arguments)
-  height (plans.component rest operand) = suc (height operand)
-  height (plans.measure op operand) = suc (height operand)
-  height (plans.relation elements) = suc (highest elements)
-  height (plans.headed_relation h elements) = suc (highest elements)
-  height (plans.tuple names parts) = suc (highest parts)
-  height (plans.extend operand attributes parts values) = suc (max (height operand) (max (highest parts) (highest values)))
-  height (plans.aggregate op operand parts value) = suc (max (height operand) (max (highest parts) (height value)))
-  height (plans.summarize_per operand per attributes aggregates parts values) =
-      suc (max (max (height operand) (height per)) (max (highest parts) (highest values)))
-  height (plans.summarize_by operand by attributes aggregates parts values) = suc (max (height operand) (max (highest parts) (highest values)))
-  height (plans.choice condition consequent alternative) = suc (max (height condition) (max (height consequent) (height alternative)))
-  height _ = 0
+  pub step_height : Step → ℕ
+  step_height (p.LookUp' name key _ part) = suc (step_height part)
+  step_height (p.Monadic' op _ operand) = suc (step_height operand)
+  step_height (p.Dyadic' _ left op _ right) = suc (max (step_height left) (step_height right))
+  step_height (p.Select' selector _ parts) = suc (row_height parts)
+  step_height (p.Restriction' _ operand slot _ condition origin) = suc (max (step_height operand) (step_height condition))
+  step_height (p.Extend' _ operand attributes slot _ values) = suc (max (step_height operand) (row_height values))
+  step_height (p.Aggregate' op _ operand slot _ value) = suc (max (step_height operand) (step_height value))
+  step_height (p.SummarizePer' _ operand _ per attributes aggregates slot _ values) =
+      suc (max (max (step_height operand) (step_height per)) (row_height values))
+  step_height (p.SummarizeBy' _ operand by attributes aggregates slot _ values) = suc (max (step_height operand) (row_height values))
+  step_height (p.If' _ condition _ consequent _ alternative) =
+      suc (max (step_height condition) (max (step_height consequent) (step_height alternative)))
+  step_height (p.Once' place reach _ part) = suc (step_height part)
+  step_height _ = 0
 
-  pub highest : PlanTrees → ℕ
-  highest plans.none = 0
-  highest (plans.more first rest) = max (height first) (highest rest)
-
-abbrev pub step_height : Step → ℕ
-step_height step = height (step_view step)
+  pub row_height : {m : _} → Row_of-Step m → ℕ
+  row_height end_of-Step = 0
+  row_height (more_of-Step first rest) = max (step_height first) (row_height rest)
 
 abbrev pub steps_height : List Step → ℕ
-steps_height steps = highest (steps_view steps)
+steps_height [] = 0
+steps_height (first ∷ rest) = max (step_height first) (steps_height rest)

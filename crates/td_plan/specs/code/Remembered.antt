@@ -1,0 +1,101 @@
+-- A step whose parts are kept once it is made.
+use Rattle.std.specs.Prelude.{◌≡◌, ◌⊎◌, ◌<◌, ℕ, suc, List, [], ◌∷◌, ⊤}
+use Rattle.std.specs.List.{Contains}
+use Rattle.td_plan.specs.declared.plan.step.Step.{Step}
+use Rattle.td_plan.specs.declared.plan.step.Step.TheVariants as steps
+use Rattle.td_plan.specs.code.Memos.{AreOn, AreSound, IsOn, IsSound, Parts, Placed}
+use Rattle.td_plan.specs.code.StepViews.{step_view, steps_view}
+
+-- what stands for a part whose answer is kept
+abbrev pub IsKeptPart : Step → Type 0
+IsKeptPart (steps.Once' place reach _ part) = ⊤
+IsKeptPart _ = ⊥
+
+-- ---- slots that are named
+
+-- all before the reach
+abbrev pub AreBefore : ℕ → List ℕ → Type 0
+AreBefore reach names = (j : ℕ) → Contains names j → j < reach
+
+abbrev pub AreAmong : List ℕ → List ℕ → Type 0
+AreAmong names others = (j : ℕ) → Contains names j → Contains others j
+
+-- all but that of a slot are among the others
+abbrev pub AreAmongBut : ℕ → List ℕ → List ℕ → Type 0
+AreAmongBut slot names others = (j : ℕ) → Contains names j → (j ≡ slot) ⊎ Contains others j
+
+abbrev pub AreAllAmong : List (List ℕ) → List ℕ → Type 0
+AreAllAmong [] others = ⊤
+AreAllAmong (names ∷ rest) others = AreAmong names others × AreAllAmong rest others
+
+-- ---- one step
+
+-- the step has the same value, names no other slots than these, and the places of its parts are those from the first number up
+-- to the second
+pub record IsRemembered (a b : ℕ) (names : List ℕ) (old new : Step) : Type 0 where
+  pub view : step_view new ≡ step_view old
+  pub on : IsOn names (step_view old)
+  pub placed : Placed a b (λ ps. IsSound ps new)
+
+-- the step, which names these slots, or the part that it becomes at the next place
+abbrev pub KeepsPart : ℕ → ℕ → List ℕ → Step → Step → Type 0
+KeepsPart a b names old new =
+    ((b ≡ a) × (new ≡ old))
+    ⊎ ((b ≡ suc a) × (step_view new ≡ step_view old)
+    × ((ps : Parts) → IsOn names (step_view old) → ps a ≡ step_view old → IsSound ps old → IsSound ps new))
+
+-- ---- two steps, and three
+
+-- each so, where this is said of the slots that they name
+pub record AreRemembered (a b : ℕ) (claim : List ℕ → List ℕ → Type 0) (l r new_l new_r : Step) : Type 0 where
+  pub left : step_view new_l ≡ step_view l
+  pub right : step_view new_r ≡ step_view r
+  pub on : (x y : List ℕ) × IsOn x (step_view l) × IsOn y (step_view r) × claim x y
+  pub placed : Placed a b (λ ps. IsSound ps new_l × IsSound ps new_r)
+
+pub record AreThreeRemembered (a b : ℕ) (names : List ℕ) (f s t new_f new_s new_t : Step) : Type 0 where
+  pub first : step_view new_f ≡ step_view f
+  pub second : step_view new_s ≡ step_view s
+  pub third : step_view new_t ≡ step_view t
+  pub first_on : IsOn names (step_view f)
+  pub second_on : IsOn names (step_view s)
+  pub third_on : IsOn names (step_view t)
+  pub placed : Placed a b (λ ps. IsSound ps new_f × IsSound ps new_s × IsSound ps new_t)
+
+-- ---- lists of steps
+
+-- each names the slots beside it, and the places of its parts come after those of the steps before it
+abbrev pub AreEachRemembered : ℕ → ℕ → List (List ℕ) → List Step → List Step → Type 0
+AreEachRemembered a b [] [] [] = a ≡ b
+AreEachRemembered a b (names ∷ rest) (old ∷ olds) (new ∷ news) =
+    (m : ℕ) × IsRemembered a m names old new × AreEachRemembered m b rest olds news
+AreEachRemembered a b _ _ _ = ⊥
+
+abbrev pub AreEachKept : ℕ → ℕ → List (List ℕ) → List Step → List Step → Type 0
+AreEachKept a b [] [] [] = a ≡ b
+AreEachKept a b (names ∷ rest) (old ∷ olds) (new ∷ news) =
+    (m : ℕ) × KeepsPart a m names old new × AreEachKept m b rest olds news
+AreEachKept a b _ _ _ = ⊥
+
+pub record AreAllRemembered (a b : ℕ) (names : List ℕ) (olds news : List Step) : Type 0 where
+  pub views : steps_view news ≡ steps_view olds
+  pub on : AreOn names (steps_view olds)
+  pub placed : Placed a b (λ ps. AreSound ps news)
+
+-- an operand, and steps in the tuples of a slot: together they name these slots beside it
+pub record AreRememberedInside (a b : ℕ) (slot : ℕ) (names : List ℕ) (old : Step) (olds : List Step) (new : Step) (news : List Step) : Type 0 where
+  pub operand : step_view new ≡ step_view old
+  pub views : steps_view news ≡ steps_view olds
+  pub operand_on : IsOn names (step_view old)
+  pub on : (inner : List ℕ) × AreOn inner (steps_view olds) × AreAmongBut slot inner names
+  pub placed : Placed a b (λ ps. IsSound ps new × AreSound ps news)
+
+-- two operands
+pub record AreRememberedInsideBoth (a b : ℕ) (slot : ℕ) (names : List ℕ) (l r : Step) (olds : List Step) (new_l new_r : Step) (news : List Step) : Type 0 where
+  pub left : step_view new_l ≡ step_view l
+  pub right : step_view new_r ≡ step_view r
+  pub views : steps_view news ≡ steps_view olds
+  pub left_on : IsOn names (step_view l)
+  pub right_on : IsOn names (step_view r)
+  pub on : (inner : List ℕ) × AreOn inner (steps_view olds) × AreAmongBut slot inner names
+  pub placed : Placed a b (λ ps. IsSound ps new_l × IsSound ps new_r × AreSound ps news)

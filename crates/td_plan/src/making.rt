@@ -1,0 +1,8 @@
+//! How plans are made of expressions.
+pub(crate) mod closed;
+pub(crate) mod in_tuples;
+pub(crate) mod nodes;
+pub(crate) mod planner;
+pub(crate) mod planning;
+pub(crate) mod remember;
+pub(crate) mod summaries;

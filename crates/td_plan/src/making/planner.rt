@@ -1,0 +1,249 @@
+//! What an expression is planned in.
+ghost use Rattle.std.specs.Prelude.{◌≡◌, IfNone, IfOk, IfSome, List, OnOk, [], length};
+ghost use Rattle.std.specs.Prelude.{reverse};
+ghost use Rattle.std.specs.List.{slice_get};
+ghost use Rattle.td_catalog.specs.Database.{Database, database_scope};
+ghost use Rattle.td_check.specs.Scopes.{entered_with};
+ghost use Rattle.td_check.specs.StaticTypes.{named_types, type_of};
+ghost use Rattle.td_plan.specs.code.Planners.{IsPlanner, attribute_place, catalog_database};
+ghost use Rattle.td_plan.specs.code.Planners.{is_named, place_in};
+ghost use Rattle.td_eval.specs.DatabaseWorlds.{world_of};
+ghost use Rattle.td_eval.specs.TreeValues.{value_of};
+ghost use Rattle.td_tree.specs.Outcomes.{Answers, Valued};
+ghost use Rattle.td_tree.specs.code.TreeViews.{named_view, tree_view};
+ghost use Rattle.td_types.specs.Types as types;
+ghost use Rattle.td_types.specs.Types.{Attribute, Heading, pack};
+ghost use Rattle.td_types.specs.code.Views.{pairs_view};
+
+use std::alloc::{AllocError, Global};
+use td_body::body::Body;
+use td_catalog::catalog::Catalog;
+use td_check::expression::{check_expr, check_parts};
+use td_check::scope::Scope;
+use td_eval::env::Env;
+use td_eval::value::eval;
+use td_tree::expression::{Expr, NamedExpr};
+use td_tree::fault::Fault;
+use td_tree::name::Name;
+use td_types::heading::Heading;
+use td_types::table::TypeTable;
+use td_types::ty::Ty;
+use td_value::relation::Rel;
+use td_value::value::Value;
+
+/// What is defined, as far as planning asks for it.
+pub(crate) trait Known {
+    /// All of it.
+    ghost database: { Self → Database };
+
+    /// What is known to expressions where no tuple is in scope.
+    fn outermost(&self) -> Scope<'_>
+        ensures { result ≡ database_scope (database self.now) };
+
+    /// The declared types.
+    fn declared_types(&self) -> &TypeTable
+        ensures { result.now ≡ (database self.now).types };
+
+    /// The keys of the base relvar of the name.
+    fn keys_of(&self, name: &Name) -> Option<&[Vec<Name>]>;
+
+    /// The value of an expression where no tuple is in scope.
+    fn value_alone(&self, alloc: Global, expr: &Expr) -> Result<Value, Fault>
+        ensures { Answers (λ v. v) result
+            (value_of (world_of (database self.now)) [] (tree_view expr.now)) };
+}
+
+impl<B: Body> Known for Catalog<B> {
+    ghost database = { catalog_database };
+
+    fn outermost(&self) -> Scope<'_> {
+        self.scope()
+    }
+
+    fn declared_types(&self) -> &TypeTable {
+        self.types()
+    }
+
+    fn keys_of(&self, name: &Name) -> Option<&[Vec<Name>]> {
+        let entry = self.get_base(name)?;
+        Some(&entry.keys)
+    }
+
+    fn value_alone(&self, alloc: Global, expr: &Expr) -> Result<Value, Fault> {
+        value_alone(alloc, self, expr)
+    }
+}
+
+/// The value of an expression where no tuple is in scope, and no other relation stands in.
+fn value_alone<'a, B: Body>(
+    alloc: Global,
+    catalog: &'a Catalog<B>,
+    expr: &Expr,
+) -> Result<Value, Fault>
+    ensures { Answers (λ v. v) result
+        (value_of (world_of catalog.now.database) [] (tree_view expr.now)) }
+{
+    let other: Option<(&'a Name, &'a Rel)> = None;
+    let env = Env {
+        catalog,
+        other,
+        tuples: &[],
+    };
+    eval(alloc, &env, expr)
+}
+
+/// What is known where an expression stands, and the headings of the tuples in scope there.
+#[derive(Drop)]
+pub(crate) struct Planner<'a, C> {
+    pub(crate) alloc: Global,
+    pub(crate) catalog: &'a C,
+    /// The name of the relvar in whose place another relation stands.
+    pub(crate) replaced: Option<&'a Name>,
+    pub(crate) scope: Scope<'a>,
+    /// The innermost is the last.
+    pub(crate) headings: Vec<Heading>,
+}
+
+/// Whether the attribute at a place of a heading has the name.
+fn is_at(heading: &Heading, place: usize, name: &Name) -> bool
+    ensures { result ≡ is_named name.now (slice_get heading.now place) }
+{
+    match heading.at(place) {
+        Some((other, _)) => *other == *name,
+        None => false,
+    }
+}
+
+/// Where the attribute of a name stands in a heading.
+fn place_in(heading: &Heading, name: &Name) -> Option<usize>
+    ensures { result ≡ place_in name.now heading.now }
+{
+    for place in 0..heading.len() {
+        if is_at(heading, place, name) {
+            return Some(place);
+        }
+    }
+    None
+}
+
+/// The slot of the innermost attribute of a name, and its place in its heading. The innermost
+/// heading is the last.
+fn innermost_place(headings: &[Heading], name: &Name) -> Option<(usize, usize)>
+    ensures { result ≡ attribute_place name.now (reverse headings.now) }
+{
+    match headings.split_last() {
+        None => None,
+        Some((last, outer)) => match place_in(last, name) {
+            Some(place) => Some((outer.len(), place)),
+            None => innermost_place(outer, name),
+        },
+    }
+}
+
+impl<'a, C: Known> Planner<'a, C> {
+    /// Where no tuple is in scope. It takes no memory.
+    pub(crate) fn outside(
+        alloc: Global,
+        catalog: &'a C,
+        replaced: Option<&'a Name>,
+    ) -> Planner<'a, C>
+        ensures planner { IsPlanner C.database result }
+        ensures scope { result.scope ≡ database_scope (C.database catalog.now) }
+        ensures headings { result.headings.items ≡ [] }
+        ensures catalog { result.catalog.now ≡ catalog.now }
+    {
+        Planner {
+            alloc,
+            catalog,
+            replaced,
+            scope: catalog.outermost(),
+            headings: Vec::new(alloc),
+        }
+    }
+
+    /// A further tuple, of the heading, comes into hand.
+    fn enter(&mut self, heading: &Heading) -> Result<(), AllocError>
+        requires { IsPlanner C.database self.old }
+        ensures planner { OnOk result (IsPlanner C.database self.new) }
+        ensures scope { OnOk result (self.new.scope ≡ entered_with heading.now self.old.scope) }
+    {
+        self.scope.enter(heading.try_clone()?)?;
+        self.headings.push(heading.try_clone()?)?;
+        Ok(())
+    }
+
+    /// Where a further tuple, of the heading, is in hand.
+    pub(crate) fn with_heading(self, heading: Heading) -> Result<Planner<'a, C>, AllocError>
+        requires { IsPlanner C.database self }
+        ensures planner { IfOk result (λ p. IsPlanner C.database p) }
+        ensures scope { IfOk result (λ p. p.scope ≡ entered_with heading self.entry.scope) }
+    {
+        let mut planner = self;
+        planner.enter(&heading)?;
+        Ok(planner)
+    }
+
+    /// Where a further tuple, of the heading, is in hand.
+    #[inline(never)]
+    pub(crate) fn inner_planner(&self, heading: &Heading) -> Result<Planner<'a, C>, AllocError>
+        requires { IsPlanner C.database self.now }
+        ensures planner { IfOk result (λ p. IsPlanner C.database p) }
+        ensures scope { IfOk result (λ p. p.scope ≡ entered_with heading.now self.now.scope) }
+    {
+        let mut inner = Planner::outside(self.alloc, self.catalog, self.replaced);
+        for outer in &self.headings {
+            inner.enter(outer)?;
+        }
+        inner.enter(heading)?;
+        Ok(inner)
+    }
+
+    /// The slot of a further tuple, which is how many are in scope.
+    pub(crate) fn next_slot(&self) -> usize
+        requires { IsPlanner C.database self.now }
+        ensures { result ≡ length self.now.scope.entered }
+    {
+        self.headings.len()
+    }
+
+    /// The slot of the innermost attribute of the name, and its place in its heading.
+    pub(crate) fn attribute_place(&self, name: &Name) -> Option<(usize, usize)>
+        requires { IsPlanner C.database self.now }
+        ensures { result ≡ attribute_place name.now self.now.scope.entered }
+    {
+        innermost_place(&self.headings, name)
+    }
+
+    /// The heading of the relations that are an expression's values.
+    pub(crate) fn heading_of(&self, expr: &Expr) -> Result<Option<Heading>, AllocError>
+        requires { IsPlanner C.database self.now }
+        ensures some { IfOk result (λ found. IfSome found (λ h.
+            type_of self.now.scope (tree_view expr.now) ≡ Valued (types.relation (pack h)))) }
+        ensures none { IfOk result (λ found. IfNone found ((h : Heading)
+            → type_of self.now.scope (tree_view expr.now) ≡ Valued (types.relation (pack h)) → ⊥)) }
+    {
+        match check_expr(&self.scope, expr) {
+            Ok(Ty::Rel(heading)) => Ok(Some(heading)),
+            Ok(_) => Ok(None),
+            Err(Fault::Refused(_)) => Ok(None),
+            Err(Fault::Memory) => Err(AllocError),
+        }
+    }
+
+    /// The attributes that parts add, with their types; none where one of these has no type.
+    pub(crate) fn attributes_of(
+        &self,
+        parts: &[NamedExpr],
+    ) -> Result<Option<Vec<(Name, Ty)>>, AllocError>
+        ensures some { IfOk result (λ found. IfSome found (λ xs.
+            named_types self.now.scope (named_view parts.now) ≡ Valued (pairs_view xs.items))) }
+        ensures none { IfOk result (λ found. IfNone found ((xs : List Attribute)
+            → named_types self.now.scope (named_view parts.now) ≡ Valued xs → ⊥)) }
+    {
+        match check_parts(&self.scope, parts) {
+            Ok(attributes) => Ok(Some(attributes)),
+            Err(Fault::Refused(_)) => Ok(None),
+            Err(Fault::Memory) => Err(AllocError),
+        }
+    }
+}

@@ -1,0 +1,416 @@
+//! Plans of expressions. Each function takes what plans the parts of an expression as a parameter,
+//! so that it is proved by itself.
+ghost use Rattle.std.specs.Prelude.{◌+◌, IfOk, map, suc};
+ghost use Rattle.td_check.specs.Scopes.{entered_with};
+ghost use Rattle.td_check.specs.StaticTypes.{named_types};
+ghost use Rattle.td_eval.specs.AggregateValues.{summary_attributes};
+ghost use Rattle.td_plan.specs.code.PlannedParts.{AreFoundColumns, ArePlanned, ArePlansOfTyped};
+ghost use Rattle.td_plan.specs.code.PlannedParts.{IsBoxPlanned, IsExtensionPlanned, IsPlanned};
+ghost use Rattle.td_plan.specs.code.PlannedParts.{in_named, in_summaries, item_tree, part_tree};
+ghost use Rattle.td_plan.specs.code.Planners.{IsPlanner};
+ghost use Rattle.td_plan.specs.code.PlansBelow.{PlansBelow};
+ghost use Rattle.td_plan.specs.PlansOf.{IsPlanOfTyped};
+ghost use Rattle.td_plan.specs.code.StepViews.{step_view, steps_view};
+ghost use Rattle.td_plan.specs.code.TreeWeights.{expr_weight, item_weight, named_weight};
+ghost use Rattle.td_plan.specs.code.TreeWeights.{summaries_weight, weights};
+ghost use Rattle.td_tree.specs.code.TreeViews.{attributes_view, named_view, summaries_view};
+ghost use Rattle.td_tree.specs.code.TreeViews.{tree_view};
+ghost use Rattle.td_tree.specs.code.TreeViews.{trees_view};
+ghost use Rattle.td_tree.specs.Trees as trees;
+
+use crate::making::closed::{closed_step, is_closed};
+use crate::making::in_tuples::{NewColumns, aggregation_step, extension_step, new_columns};
+use crate::making::nodes::{
+    choice_step, component, dyadic_step, extraction, headed_step, literal_step, monadic_step,
+    name_step, postfix, relation_step, select_step, tuple_step,
+};
+use crate::making::planner::{Known, Planner};
+use crate::making::summaries::{
+    aggregates_of, attributes_of, count_step, summary_by_step, summary_step,
+};
+use crate::plan::step::{Dyadic, Monadic, Origin, Step};
+use std::alloc::AllocError;
+use td_tree::expression::{Attributes, Expr, NamedExpr, Summary};
+use td_tree::operator::Aggregate;
+use td_types::heading::Heading;
+
+/// What an expression is planned in, and what plans the parts of it there.
+#[derive(Drop)]
+pub(crate) struct Planning<'p, C, F> {
+    pub(crate) planner: &'p Planner<'p, C>,
+    /// Plans a part.
+    pub(crate) inner: F,
+}
+
+impl<C: Known, F> Planning<'_, C, F>
+where
+    F: Fn(&Planner<'_, C>, &Expr) -> Result<Step, AllocError> + Copy,
+{
+    /// The step of a part.
+    pub(crate) fn step_of(&self, expr: &Expr) -> Result<Step, AllocError>
+        requires { PlansBelow C.database self.now (suc (expr_weight expr.now)) F.pre F.post }
+        ensures { IfOk result
+            (λ p. IsPlanOfTyped self.now.planner.now.scope (step_view p) (tree_view expr.now)) }
+    {
+        (self.inner)(self.planner, expr)
+    }
+
+    /// The step of a part, in a box.
+    #[inline(never)]
+    pub(crate) fn boxed_step(&self, expr: &Expr) -> Result<Box<Step>, AllocError>
+        requires { PlansBelow C.database self.now (suc (expr_weight expr.now)) F.pre F.post }
+        ensures { IsBoxPlanned self.now.planner.now.scope result (tree_view expr.now) }
+    {
+        let step = self.step_of(expr)?;
+        Ok(Box::new(self.planner.alloc, step)?)
+    }
+
+    /// The step of a part, in a box, where a further tuple, of the heading, is in scope.
+    #[inline(never)]
+    pub(crate) fn step_inside(
+        &self,
+        heading: &Heading,
+        expr: &Expr,
+    ) -> Result<Box<Step>, AllocError>
+        requires { PlansBelow C.database self.now (suc (expr_weight expr.now)) F.pre F.post }
+        ensures { IsBoxPlanned (entered_with heading.now self.now.planner.now.scope) result
+            (tree_view expr.now) }
+    {
+        let inner = self.planner.inner_planner(heading)?;
+        let step = (self.inner)(&inner, expr)?;
+        Ok(Box::new(self.planner.alloc, step)?)
+    }
+
+    /// The steps of expressions, in the order written.
+    #[inline(never)]
+    fn steps_of(&self, exprs: &[Expr]) -> Result<Vec<Step>, AllocError>
+        requires { PlansBelow C.database self.now (suc (weights (trees_view exprs.now)))
+            F.pre F.post }
+        ensures { ArePlanned self.now.planner.now.scope result (map tree_view exprs.now) }
+    {
+        let mut steps = Vec::with_capacity(self.planner.alloc, exprs.len())?;
+        for expr in exprs {
+            steps.push(self.step_of(expr)?)?;
+        }
+        Ok(steps)
+    }
+
+    /// The steps of the expressions of parts, in the order written.
+    #[inline(never)]
+    pub(crate) fn part_steps(&self, parts: &[NamedExpr]) -> Result<Vec<Step>, AllocError>
+        requires { PlansBelow C.database self.now (suc (named_weight (named_view parts.now)))
+            F.pre F.post }
+        ensures { ArePlanned self.now.planner.now.scope result (map part_tree parts.now) }
+    {
+        let mut steps = Vec::with_capacity(self.planner.alloc, parts.len())?;
+        for part in parts {
+            steps.push(self.step_of(&part.value)?)?;
+        }
+        Ok(steps)
+    }
+
+    /// The step of what an item is of in a tuple.
+    fn item_step(&self, item: &Summary) -> Result<Step, AllocError>
+        requires { PlansBelow C.database self.now (suc (item_weight item.now)) F.pre F.post }
+        ensures { IfOk result
+            (λ p. IsPlanOfTyped self.now.planner.now.scope (step_view p) (item_tree item.now)) }
+    {
+        match item {
+            Summary::Count(_) => Ok(count_step()),
+            Summary::Of(_, value, _) => self.step_of(value),
+        }
+    }
+
+    /// The steps of what items are of in a tuple, in the order written.
+    #[inline(never)]
+    fn item_steps(&self, items: &[Summary]) -> Result<Vec<Step>, AllocError>
+        requires { PlansBelow C.database self.now
+            (suc (summaries_weight (summaries_view items.now))) F.pre F.post }
+        ensures { ArePlanned self.now.planner.now.scope result (map item_tree items.now) }
+    {
+        let mut steps = Vec::with_capacity(self.planner.alloc, items.len())?;
+        for item in items {
+            steps.push(self.item_step(item)?)?;
+        }
+        Ok(steps)
+    }
+
+    /// The new attributes that parts give to the tuple in scope; none where these have no types.
+    fn part_columns(&self, parts: &[NamedExpr]) -> Result<Option<NewColumns>, AllocError>
+        requires { PlansBelow C.database self.now (suc (named_weight (named_view parts.now)))
+            F.pre F.post }
+        ensures { IfOk result (λ found. AreFoundColumns self.now.planner.now.scope found
+            (named_types self.now.planner.now.scope (named_view parts.now))
+            (in_named (named_view parts.now))) }
+    {
+        let Some(attributes) = self.planner.attributes_of(parts)? else {
+            return Ok(None);
+        };
+        let columns = new_columns(attributes, self.part_steps(parts))?;
+        Ok(Some(columns))
+    }
+
+    /// The same where a further tuple, of the heading, is in hand.
+    fn part_columns_inside(
+        &self,
+        heading: &Heading,
+        parts: &[NamedExpr],
+    ) -> Result<Option<NewColumns>, AllocError>
+        requires { PlansBelow C.database self.now (suc (named_weight (named_view parts.now)))
+            F.pre F.post }
+        ensures { IfOk result (λ found.
+            AreFoundColumns (entered_with heading.now self.now.planner.now.scope) found
+            (named_types (entered_with heading.now self.now.planner.now.scope)
+            (named_view parts.now)) (in_named (named_view parts.now))) }
+    {
+        let inner = self.planner.inner_planner(heading)?;
+        Planning {
+            planner: &inner,
+            inner: self.inner,
+        }
+        .part_columns(parts)
+    }
+
+    /// The new attributes that items give to a group; none where these have no types.
+    fn item_columns(&self, items: &[Summary]) -> Result<Option<NewColumns>, AllocError>
+        requires { PlansBelow C.database self.now
+            (suc (summaries_weight (summaries_view items.now))) F.pre F.post }
+        ensures { IfOk result (λ found. AreFoundColumns self.now.planner.now.scope found
+            (summary_attributes self.now.planner.now.scope (summaries_view items.now))
+            (in_summaries (summaries_view items.now))) }
+    {
+        let alloc = self.planner.alloc;
+        let Some(attributes) = attributes_of(alloc, &self.planner.scope, items)? else {
+            return Ok(None);
+        };
+        let columns = new_columns(attributes, self.item_steps(items))?;
+        Ok(Some(columns))
+    }
+
+    /// The same where a further tuple, of the heading, is in hand.
+    fn item_columns_inside(
+        &self,
+        heading: &Heading,
+        items: &[Summary],
+    ) -> Result<Option<NewColumns>, AllocError>
+        requires { PlansBelow C.database self.now
+            (suc (summaries_weight (summaries_view items.now))) F.pre F.post }
+        ensures { IfOk result (λ found.
+            AreFoundColumns (entered_with heading.now self.now.planner.now.scope) found
+            (summary_attributes (entered_with heading.now self.now.planner.now.scope)
+            (summaries_view items.now)) (in_summaries (summaries_view items.now))) }
+    {
+        let inner = self.planner.inner_planner(heading)?;
+        Planning {
+            planner: &inner,
+            inner: self.inner,
+        }
+        .item_columns(items)
+    }
+
+    /// The step of an aggregate of an expression in the tuples of an operand.
+    #[inline(never)]
+    fn aggregate_step(
+        &self,
+        op: Aggregate,
+        operand: &Expr,
+        value: &Expr,
+    ) -> Result<Step, AllocError>
+        requires { PlansBelow C.database self.now
+            (suc (expr_weight operand.now + expr_weight value.now)) F.pre F.post }
+        ensures { IsPlanned self.now.planner.now.scope result
+            (trees.aggregate op (tree_view operand.now) (tree_view value.now)) }
+    {
+        let Some(heading) = self.planner.heading_of(operand)? else {
+            return self.step_of(operand);
+        };
+        let slot = self.planner.next_slot();
+        let value = self.step_inside(&heading, value);
+        aggregation_step(op, self.boxed_step(operand), slot, value)
+    }
+
+    /// The step of an operand's tuples with attributes set, in either spelling.
+    #[inline(never)]
+    fn extend_step(&self, operand: &Expr, parts: &[NamedExpr]) -> Result<Step, AllocError>
+        requires { PlansBelow C.database self.now
+            (suc (expr_weight operand.now + named_weight (named_view parts.now))) F.pre F.post }
+        ensures { IsExtensionPlanned self.now.planner.now.scope result (tree_view operand.now)
+            (named_view parts.now) }
+    {
+        let Some(heading) = self.planner.heading_of(operand)? else {
+            return self.step_of(operand);
+        };
+        let Some(columns) = self.part_columns_inside(&heading, parts)? else {
+            return self.step_of(operand);
+        };
+        let slot = self.planner.next_slot();
+        extension_step(self.boxed_step(operand), slot, columns)
+    }
+
+    /// The step of SUMMARIZE of an operand by the tuples of another relation.
+    #[inline(never)]
+    fn summarize_per_step(
+        &self,
+        operand: &Expr,
+        per: &Expr,
+        items: &[Summary],
+    ) -> Result<Step, AllocError>
+        requires { PlansBelow C.database self.now (suc (expr_weight operand.now
+            + expr_weight per.now + summaries_weight (summaries_view items.now))) F.pre F.post }
+        ensures { IsPlanned self.now.planner.now.scope result (trees.summarize_per
+            (tree_view operand.now) (tree_view per.now) (summaries_view items.now)) }
+    {
+        let Some(heading) = self.planner.heading_of(operand)? else {
+            return self.step_of(operand);
+        };
+        let Some(columns) = self.item_columns_inside(&heading, items)? else {
+            return self.step_of(operand);
+        };
+        let slot = self.planner.next_slot();
+        let aggregates = aggregates_of(self.planner.alloc, items);
+        summary_step(
+            self.boxed_step(operand),
+            self.boxed_step(per),
+            aggregates,
+            slot,
+            columns,
+        )
+    }
+
+    /// The step of SUMMARIZE of an operand by some of its attributes.
+    #[inline(never)]
+    fn summarize_by_step(
+        &self,
+        operand: &Expr,
+        by: &Attributes,
+        items: &[Summary],
+    ) -> Result<Step, AllocError>
+        requires { PlansBelow C.database self.now (suc (expr_weight operand.now
+            + summaries_weight (summaries_view items.now))) F.pre F.post }
+        ensures { IsPlanned self.now.planner.now.scope result (trees.summarize_by
+            (tree_view operand.now) (attributes_view by.now) (summaries_view items.now)) }
+    {
+        let Some(heading) = self.planner.heading_of(operand)? else {
+            return self.step_of(operand);
+        };
+        let Some(columns) = self.item_columns_inside(&heading, items)? else {
+            return self.step_of(operand);
+        };
+        let slot = self.planner.next_slot();
+        let aggregates = aggregates_of(self.planner.alloc, items);
+        summary_by_step(self.boxed_step(operand), by, aggregates, slot, columns)
+    }
+
+    /// The step of an expression, by those of its parts.
+    fn by_form(&self, expr: &Expr) -> Result<Step, AllocError>
+        requires { PlansBelow C.database self.now (expr_weight expr.now) F.pre F.post }
+        ensures { IfOk result
+            (λ p. IsPlanOfTyped self.now.planner.now.scope (step_view p) (tree_view expr.now)) }
+    {
+        match expr {
+            Expr::Literal(literal) => literal_step(self.planner.alloc, literal),
+            Expr::Name(name) => name_step(self.planner, name),
+            Expr::Parentheses(inner) => self.step_of(inner),
+            Expr::Prefix(op, operand) => {
+                monadic_step(Ok(Monadic::Prefix(*op)), self.boxed_step(operand))
+            }
+            Expr::Extract(name, operand) => {
+                monadic_step(extraction(name), self.boxed_step(operand))
+            }
+            Expr::Restriction(operand, condition) => {
+                self.where_of(operand, condition, Origin::Written)
+            }
+            Expr::Binary(left, op, right) => {
+                let left = self.boxed_step(left);
+                dyadic_step(left, Dyadic::Operator(*op), self.boxed_step(right))
+            }
+            Expr::Compare(left, op, right) => {
+                let left = self.boxed_step(left);
+                dyadic_step(left, Dyadic::Comparison(*op), self.boxed_step(right))
+            }
+            Expr::Postfix(operand, op) => monadic_step(postfix(op), self.boxed_step(operand)),
+            Expr::Select(ty, arguments) => select_step(ty, self.steps_of(arguments)),
+            Expr::Component(rest, operand) => {
+                monadic_step(component(rest), self.boxed_step(operand))
+            }
+            Expr::Measure(op, operand) => {
+                monadic_step(Ok(Monadic::Measure(*op)), self.boxed_step(operand))
+            }
+            Expr::Aggregate(op, operand, value) => self.aggregate_step(*op, operand, value),
+            Expr::Relation(elements) => relation_step(self.steps_of(elements)),
+            Expr::HeadedRelation(heading, elements) => {
+                headed_step(self.planner, heading, self.steps_of(elements))
+            }
+            Expr::Tuple(parts) => tuple_step(self.planner.alloc, parts, self.part_steps(parts)),
+            Expr::Extend(operand, parts) => self.extend_step(operand, parts),
+            Expr::ExtendSetting(operand, settings) => self.extend_step(operand, settings),
+            Expr::SummarizePer(operand, per, items) => self.summarize_per_step(operand, per, items),
+            Expr::SummarizeBy(operand, by, items) => self.summarize_by_step(operand, by, items),
+            Expr::If(condition, consequent, alternative) => choice_step(
+                self.boxed_step(condition),
+                self.boxed_step(consequent),
+                self.boxed_step(alternative),
+            ),
+        }
+    }
+
+    /// The step of an expression: what it has, where that needs no plan, else by its parts.
+    pub(crate) fn planned(&self, expr: &Expr) -> Result<Step, AllocError>
+        requires { PlansBelow C.database self.now (expr_weight expr.now) F.pre F.post }
+        ensures { IfOk result
+            (λ p. IsPlanOfTyped self.now.planner.now.scope (step_view p) (tree_view expr.now)) }
+    {
+        if is_closed(expr) {
+            closed_step(self.planner, expr)
+        } else {
+            self.by_form(expr)
+        }
+    }
+}
+
+/// The step of an expression.
+pub(crate) fn step_of<C: Known>(planner: &Planner<'_, C>, expr: &Expr) -> Result<Step, AllocError>
+    requires { IsPlanner C.database planner.now }
+    ensures { IfOk result
+        (λ p. IsPlanOfTyped planner.now.scope (step_view p) (tree_view expr.now)) }
+{
+    Planning {
+        planner: &*planner,
+        inner: step_of,
+    }
+    .planned(expr)
+}
+
+/// The steps of the expressions of parts, in the order written.
+pub(crate) fn part_steps<C: Known>(
+    planner: &Planner<'_, C>,
+    parts: &[NamedExpr],
+) -> Result<Vec<Step>, AllocError>
+    requires { IsPlanner C.database planner.now }
+    ensures { IfOk result (λ ps. ArePlansOfTyped planner.now.scope (steps_view ps.items)
+        (map part_tree parts.now)) }
+{
+    Planning {
+        planner: &*planner,
+        inner: step_of,
+    }
+    .part_steps(parts)
+}
+
+/// The step of the tuples of an expression's relation for which a condition is true.
+pub(crate) fn where_of<C: Known>(
+    planner: &Planner<'_, C>,
+    expr: &Expr,
+    condition: &Expr,
+    origin: Origin,
+) -> Result<Step, AllocError>
+    requires { IsPlanner C.database planner.now }
+    ensures { IfOk result (λ p. IsPlanOfTyped planner.now.scope (step_view p)
+        (trees.restriction (tree_view expr.now) (tree_view condition.now))) }
+{
+    Planning {
+        planner: &*planner,
+        inner: step_of,
+    }
+    .where_of(expr, condition, origin)
+}

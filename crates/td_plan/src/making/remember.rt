@@ -1,0 +1,359 @@
+//! Parts of a step whose answers are kept, found once it is made: those that do not name the
+//! innermost tuple which what they are parts of names.
+ghost use Rattle.std.specs.Prelude.{◌≡◌, ◌<◌, ◌^◌, ◌-◌, ◌∷◌, [], IfOk, List, OnOk, map, ℕ};
+ghost use Rattle.td_plan.specs.code.Memos.{IsRunnable};
+ghost use Rattle.td_plan.specs.code.Remembered.{AreAllAmong, AreAmong, AreAmongBut, AreBefore};
+ghost use Rattle.td_plan.specs.code.Remembered.{AreEachKept, AreEachRemembered, AreRemembered};
+ghost use Rattle.td_plan.specs.code.Remembered.{AreAllRemembered, AreRememberedInside};
+ghost use Rattle.td_plan.specs.code.Remembered.{AreRememberedInsideBoth, AreThreeRemembered};
+ghost use Rattle.td_plan.specs.code.Remembered.{IsKeptPart, IsRemembered, KeepsPart};
+ghost use Rattle.td_plan.specs.code.StepHeights.{step_height};
+ghost use Rattle.td_plan.specs.code.StepViews.{step_view};
+
+use crate::plan::step::Step;
+use std::alloc::{AllocError, Global};
+use std::mem;
+use td_tree::cause::Cause;
+
+// ---- the slots that steps name
+
+/// One slot.
+fn one(alloc: Global, slot: usize) -> Result<Vec<usize>, AllocError>
+    ensures { IfOk result (λ names. names.items ≡ slot ∷ []) }
+{
+    let mut names = Vec::new(alloc);
+    names.push(slot)?;
+    Ok(names)
+}
+
+/// Adds those of the others that are not there.
+fn add_all(names: &mut Vec<usize>, others: &[usize]) -> Result<(), AllocError>
+    ensures before { OnOk result (AreAmong names.old.items names.new.items) }
+    ensures others { OnOk result (AreAmong others.now names.new.items) }
+{
+    for other in others {
+        if !names.contains(other) {
+            names.push(*other)?;
+        }
+    }
+    Ok(())
+}
+
+/// Those of both.
+fn joined(first: Vec<usize>, second: &[usize]) -> Result<Vec<usize>, AllocError>
+    ensures first { IfOk result (λ names. AreAmong first.items names.items) }
+    ensures second { IfOk result (λ names. AreAmong second.now names.items) }
+{
+    let mut names = first;
+    add_all(&mut names, second)?;
+    Ok(names)
+}
+
+/// Those of all.
+fn union_of(alloc: Global, all: &[Vec<usize>]) -> Result<Vec<usize>, AllocError>
+    ensures { IfOk result (λ names. AreAllAmong (map (λ ns. ns.items) all.now) names.items) }
+{
+    let mut names = Vec::new(alloc);
+    for some in all {
+        add_all(&mut names, some)?;
+    }
+    Ok(names)
+}
+
+/// All but that slot.
+fn without(alloc: Global, slot: usize, names: &[usize]) -> Result<Vec<usize>, AllocError>
+    ensures { IfOk result (λ others. AreAmongBut slot names.now others.items) }
+{
+    let mut others = Vec::new(alloc);
+    for name in names {
+        if *name != slot {
+            others.push(*name)?;
+        }
+    }
+    Ok(others)
+}
+
+/// The first slot from which on there is none of these, if it is a number of a slot.
+fn reach_of(names: &[usize]) -> usize
+    ensures { result < 2 ^ 64 - 1 → AreBefore result names.now }
+{
+    let mut reach = 0;
+    for name in names {
+        reach = reach.max(name.saturating_add(1));
+    }
+    reach
+}
+
+// ---- parts
+
+/// Keeps the answer of a step, which names no slot from the reach on, at the next place.
+fn keep(
+    alloc: Global,
+    places: &mut usize,
+    step: &mut Step,
+    reach: usize,
+) -> Result<(), AllocError>
+    ensures { OnOk result ((names : List ℕ) → AreBefore reach names
+        → KeepsPart places.old places.new names step.old step.new) }
+{
+    let place = *places;
+    let Some(next) = place.checked_add(1) else {
+        return Ok(());
+    };
+    let part = mem::replace(step, Step::Refused(Cause::NameUnknown));
+    let part = Box::new(alloc, part)?;
+    *step = Step::Once { place, reach, part };
+    *places = next;
+    Ok(())
+}
+
+/// Whether a step takes more than a look.
+fn has_work(step: &Step) -> bool {
+    match step {
+        Step::Constant(_) => false,
+        Step::Refused(_) => false,
+        Step::Attribute { slot: _, place: _ } => false,
+        Step::Once { place: _, reach: _, part: _ } => false,
+        _ => true,
+    }
+}
+
+/// Keeps the answer of a step that names these slots where what it is a part of reaches further.
+fn keep_part(
+    alloc: Global,
+    places: &mut usize,
+    step: &mut Step,
+    names: &[usize],
+    reach: usize,
+) -> Result<(), AllocError>
+    ensures { OnOk result (KeepsPart places.old places.new names.now step.old step.new) }
+{
+    let own = reach_of(names);
+    if own < reach && has_work(step) {
+        keep(alloc, places, step, own)
+    } else {
+        Ok(())
+    }
+}
+
+/// Keeps the answers of steps so, each of which names the slots beside it.
+fn keep_all(
+    alloc: Global,
+    places: &mut usize,
+    steps: &mut Vec<Step>,
+    all: &[Vec<usize>],
+    reach: usize,
+) -> Result<(), AllocError>
+    ensures { OnOk result (AreEachKept places.old places.new (map (λ ns. ns.items) all.now)
+        steps.old.items steps.new.items) }
+{
+    for (place, step) in steps.iter_mut().enumerate() {
+        if let Some(names) = all.get(place) {
+            keep_part(alloc, places, step, names, reach)?;
+        }
+    }
+    Ok(())
+}
+
+/// Becomes the part whose answer it keeps, which is to be found anew.
+fn become_part(step: &mut Step)
+    ensures view { step_view step.new ≡ step_view step.old }
+    ensures height { IsKeptPart step.old → step_height step.new < step_height step.old }
+{
+    let old = mem::replace(step, Step::Refused(Cause::NameUnknown));
+    *step = match old {
+        Step::Once { place: _, reach: _, part } => Box::into_inner(part),
+        other => other,
+    };
+}
+
+// ---- the walk
+
+/// Keeps the answers of the step's parts. It gives the slots that the step names.
+#[cycle(remember)]
+fn remember(alloc: Global, places: &mut usize, step: &mut Step) -> Result<Vec<usize>, AllocError>
+    ensures { IfOk result (λ names.
+        IsRemembered places.old places.new names.items step.old step.new) }
+{
+    match step {
+        Step::Constant(_) | Step::Refused(_) | Step::Relvar(_) => Ok(Vec::new(alloc)),
+        Step::Attribute { slot, place: _ } => one(alloc, *slot),
+        Step::LookUp(_, _, operand) => remember(alloc, places, operand),
+        Step::Monadic(_, operand) => remember(alloc, places, operand),
+        Step::Dyadic(left, _, right) => both(alloc, places, left, right),
+        Step::Select(_, parts) => all(alloc, places, parts),
+        Step::Restriction(operand, slot, body, _) => inside(alloc, places, operand, *slot, body),
+        Step::Extend(operand, _, slot, values) => {
+            all_inside(alloc, places, operand, *slot, values)
+        }
+        Step::Aggregate(_, operand, slot, body) => inside(alloc, places, operand, *slot, body),
+        Step::SummarizePer(operand, per, _, _, slot, values) => {
+            all_inside_both(alloc, places, operand, per, *slot, values)
+        }
+        Step::SummarizeBy(operand, _, _, _, slot, values) => {
+            all_inside(alloc, places, operand, *slot, values)
+        }
+        Step::If(condition, consequent, alternative) => {
+            three(alloc, places, condition, consequent, alternative)
+        }
+        Step::Once { place: _, reach: _, part: _ } => {
+            become_part(step);
+            remember(alloc, places, step)
+        }
+    }
+}
+
+/// Keeps the answers of parts of two steps, and of the one that does not reach as far.
+#[cycle(remember)]
+fn both(
+    alloc: Global,
+    places: &mut usize,
+    left: &mut Step,
+    right: &mut Step,
+) -> Result<Vec<usize>, AllocError>
+    ensures { IfOk result (λ names. AreRemembered places.old places.new
+        (λ x y. AreAmong x names.items × AreAmong y names.items)
+        left.old right.old left.new right.new) }
+{
+    let first = remember(alloc, places, left)?;
+    let second = remember(alloc, places, right)?;
+    let reach = reach_of(&first).max(reach_of(&second));
+    keep_part(alloc, places, left, &first, reach)?;
+    keep_part(alloc, places, right, &second, reach)?;
+    joined(first, &second)
+}
+
+/// Keeps the answers of parts of three steps, and of those that do not reach as far.
+#[cycle(remember)]
+fn three(
+    alloc: Global,
+    places: &mut usize,
+    first: &mut Step,
+    second: &mut Step,
+    third: &mut Step,
+) -> Result<Vec<usize>, AllocError>
+    ensures { IfOk result (λ names. AreThreeRemembered places.old places.new names.items
+        first.old second.old third.old first.new second.new third.new) }
+{
+    let names = both(alloc, places, second, third)?;
+    let own = remember(alloc, places, first)?;
+    let reach = reach_of(&own);
+    keep_part(alloc, places, first, &own, reach_of(&names))?;
+    keep_part(alloc, places, second, &names, reach)?;
+    keep_part(alloc, places, third, &names, reach)?;
+    joined(own, &names)
+}
+
+/// Keeps the answers of parts of an operand, and of what is applied to the tuple in the slot.
+#[cycle(remember)]
+fn inside(
+    alloc: Global,
+    places: &mut usize,
+    operand: &mut Step,
+    slot: usize,
+    body: &mut Step,
+) -> Result<Vec<usize>, AllocError>
+    ensures { IfOk result (λ names. AreRemembered places.old places.new
+        (λ x y. AreAmong x names.items × AreAmongBut slot y names.items)
+        operand.old body.old operand.new body.new) }
+{
+    let first = remember(alloc, places, operand)?;
+    let second = remember(alloc, places, body)?;
+    let outer = without(alloc, slot, &second)?;
+    keep_part(alloc, places, operand, &first, reach_of(&outer))?;
+    keep_part(alloc, places, body, &second, slot.saturating_add(1))?;
+    joined(first, &outer)
+}
+
+/// Keeps the answers of parts of each of the steps. It gives the slots that each names.
+#[cycle(remember)]
+fn remember_all(
+    alloc: Global,
+    places: &mut usize,
+    steps: &mut Vec<Step>,
+) -> Result<Vec<Vec<usize>>, AllocError>
+    ensures { IfOk result (λ all. AreEachRemembered places.old places.new
+        (map (λ ns. ns.items) all.items) steps.old.items steps.new.items) }
+{
+    let mut all = Vec::with_capacity(alloc, steps.len())?;
+    for step in steps.iter_mut() {
+        all.push(remember(alloc, places, step)?)?;
+    }
+    Ok(all)
+}
+
+/// Keeps the answers of parts of steps that stand side by side, and of those that do not reach as
+/// far as others.
+#[cycle(remember)]
+fn all(
+    alloc: Global,
+    places: &mut usize,
+    steps: &mut Vec<Step>,
+) -> Result<Vec<usize>, AllocError>
+    ensures { IfOk result (λ names. AreAllRemembered places.old places.new names.items
+        steps.old.items steps.new.items) }
+{
+    let each = remember_all(alloc, places, steps)?;
+    let names = union_of(alloc, &each)?;
+    keep_all(alloc, places, steps, &each, reach_of(&names))?;
+    Ok(names)
+}
+
+/// Keeps the answers of parts of an operand, and of all that is applied to the tuple in the slot.
+#[cycle(remember)]
+fn all_inside(
+    alloc: Global,
+    places: &mut usize,
+    operand: &mut Step,
+    slot: usize,
+    steps: &mut Vec<Step>,
+) -> Result<Vec<usize>, AllocError>
+    ensures { IfOk result (λ names. AreRememberedInside places.old places.new slot names.items
+        operand.old steps.old.items operand.new steps.new.items) }
+{
+    let first = remember(alloc, places, operand)?;
+    let each = remember_all(alloc, places, steps)?;
+    let outer = without(alloc, slot, &union_of(alloc, &each)?)?;
+    keep_part(alloc, places, operand, &first, reach_of(&outer))?;
+    keep_all(alloc, places, steps, &each, slot.saturating_add(1))?;
+    joined(first, &outer)
+}
+
+/// Keeps the answers of parts of two operands, and of all that is applied to the tuple in the slot.
+#[cycle(remember)]
+fn all_inside_both(
+    alloc: Global,
+    places: &mut usize,
+    operand: &mut Step,
+    per: &mut Step,
+    slot: usize,
+    steps: &mut Vec<Step>,
+) -> Result<Vec<usize>, AllocError>
+    ensures { IfOk result (λ names. AreRememberedInsideBoth places.old places.new slot names.items
+        operand.old per.old steps.old.items operand.new per.new steps.new.items) }
+{
+    let first = all_inside(alloc, places, operand, slot, steps)?;
+    let second = remember(alloc, places, per)?;
+    let reach = reach_of(&second);
+    keep_part(alloc, places, per, &second, reach_of(&first))?;
+    keep_part(alloc, places, operand, &first, reach)?;
+    joined(first, &second)
+}
+
+/// A step with the parts whose answers are kept, and how many places these have.
+#[derive(Drop)]
+pub(crate) struct Remembered {
+    pub(crate) step: Step,
+    pub(crate) places: usize,
+}
+
+/// The step, with the parts whose answers are kept: it has the same value.
+pub(crate) fn remembered(alloc: Global, step: Step) -> Result<Remembered, AllocError>
+    ensures view { IfOk result (λ r. step_view r.step ≡ step_view step) }
+    ensures runnable { IfOk result (λ r. IsRunnable r.step) }
+{
+    let mut step = step;
+    let mut places = 0;
+    remember(alloc, &mut places, &mut step)?;
+    Ok(Remembered { step, places })
+}

@@ -1,0 +1,115 @@
+//! The steps of SUMMARIZE.
+ghost use Rattle.std.specs.Prelude.{◌≡◌, IfNone, IfOk, IfSome, List, length, map, true};
+ghost use Rattle.td_check.specs.Scopes.{Scope, entered_with};
+ghost use Rattle.td_check.specs.StaticTypes.{type_of};
+ghost use Rattle.td_eval.specs.AggregateValues.{summary_attributes};
+ghost use Rattle.td_eval.specs.code.Totals.{asked_by};
+ghost use Rattle.td_plan.specs.code.PlannedParts.{ArePlannedColumns, IsBoxPlanned, IsPlanned};
+ghost use Rattle.td_plan.specs.code.PlannedParts.{in_summaries};
+ghost use Rattle.td_plan.specs.PlansOf.{IsPlanOfTyped};
+ghost use Rattle.td_plan.specs.code.StepViews.{step_view};
+ghost use Rattle.td_plan.specs.SummaryItems.{aggregates_in};
+ghost use Rattle.td_tree.specs.Outcomes.{Valued};
+ghost use Rattle.td_tree.specs.code.TreeViews.{attributes_view, summaries_view};
+ghost use Rattle.td_tree.specs.Trees as trees;
+ghost use Rattle.td_tree.specs.Trees.{Tree};
+ghost use Rattle.td_types.specs.Types as types;
+ghost use Rattle.td_types.specs.Types.{Attribute, Heading, pack};
+ghost use Rattle.td_types.specs.code.Views.{pairs_view};
+
+use crate::making::in_tuples::NewColumns;
+use crate::plan::step::Step;
+use std::alloc::{AllocError, Global};
+use td_check::scope::Scope;
+use td_eval::operators::summaries::{asked_by, item_attributes};
+use td_group::aggregates::Agg;
+use td_tree::expression::{Attributes, Summary};
+use td_tree::fault::Fault;
+use td_tree::name::Name;
+use td_types::ty::Ty;
+use td_value::value::Value;
+
+/// The attributes that items add, with their types: none where they have no types.
+pub(crate) fn attributes_of(
+    alloc: Global,
+    scope: &Scope<'_>,
+    items: &[Summary],
+) -> Result<Option<Vec<(Name, Ty)>>, AllocError>
+    ensures some { IfOk result (λ found. IfSome found (λ xs.
+        summary_attributes scope.now (summaries_view items.now)
+        ≡ Valued (pairs_view xs.items))) }
+    ensures none { IfOk result (λ found. IfNone found ((xs : List Attribute)
+        → summary_attributes scope.now (summaries_view items.now) ≡ Valued xs → ⊥)) }
+{
+    match item_attributes(alloc, scope, items) {
+        Ok(attributes) => Ok(Some(attributes)),
+        Err(Fault::Refused(_)) => Ok(None),
+        Err(Fault::Memory) => Err(AllocError),
+    }
+}
+
+/// The aggregates that items of SUMMARIZE name, in the order written.
+pub(crate) fn aggregates_of(alloc: Global, items: &[Summary]) -> Result<Vec<Agg>, AllocError>
+    ensures { IfOk result (λ xs. xs.items ≡ map asked_by items.now) }
+{
+    let mut aggregates = Vec::with_capacity(alloc, items.len())?;
+    for item in items {
+        aggregates.push(asked_by(item))?;
+    }
+    Ok(aggregates)
+}
+
+/// The step of what COUNT counts: a term for each tuple.
+pub(crate) fn count_step() -> Step
+    ensures { (scope : Scope)
+        → IsPlanOfTyped scope (step_view result) (trees.literal (trees.truth true)) }
+{
+    Step::Constant(Value::bool(true))
+}
+
+/// The step of SUMMARIZE of an operand by the tuples of another relation, with new attributes,
+/// which are these aggregates.
+#[inline(never)]
+pub(crate) fn summary_step(
+    operand: Result<Box<Step>, AllocError>,
+    per: Result<Box<Step>, AllocError>,
+    aggregates: Result<Vec<Agg>, AllocError>,
+    slot: usize,
+    columns: NewColumns,
+) -> Result<Step, AllocError>
+    ensures { (scope : Scope) (d q : Tree) (items : trees.Summaries) (h : Heading)
+        → slot ≡ length scope.entered → IsBoxPlanned scope operand d → IsBoxPlanned scope per q
+        → type_of scope d ≡ Valued (types.relation (pack h))
+        → IfOk aggregates (λ xs. xs.items ≡ aggregates_in items)
+        → ArePlannedColumns (entered_with h scope) columns
+        (summary_attributes (entered_with h scope) items) (in_summaries items)
+        → IsPlanned scope result (trees.summarize_per d q items) }
+{
+    let NewColumns { attributes, values } = columns;
+    let aggregates = aggregates?;
+    let operand = operand?;
+    Ok(Step::SummarizePer(operand, per?, attributes, aggregates, slot, values))
+}
+
+/// The step of SUMMARIZE of an operand by some of its attributes, with new attributes, which are
+/// these aggregates.
+#[inline(never)]
+pub(crate) fn summary_by_step(
+    operand: Result<Box<Step>, AllocError>,
+    by: &Attributes,
+    aggregates: Result<Vec<Agg>, AllocError>,
+    slot: usize,
+    columns: NewColumns,
+) -> Result<Step, AllocError>
+    ensures { (scope : Scope) (d : Tree) (items : trees.Summaries) (h : Heading)
+        → slot ≡ length scope.entered → IsBoxPlanned scope operand d → type_of scope d ≡ Valued (types.relation (pack h))
+        → IfOk aggregates (λ xs. xs.items ≡ aggregates_in items)
+        → ArePlannedColumns (entered_with h scope) columns
+        (summary_attributes (entered_with h scope) items) (in_summaries items)
+        → IsPlanned scope result (trees.summarize_by d (attributes_view by.now) items) }
+{
+    let NewColumns { attributes, values } = columns;
+    let aggregates = aggregates?;
+    let by = by.try_clone()?;
+    Ok(Step::SummarizeBy(operand?, by, attributes, aggregates, slot, values))
+}

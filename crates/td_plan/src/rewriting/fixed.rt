@@ -1,0 +1,240 @@
+//! Attributes that a condition fixes to values.
+ghost use Rattle.std.specs.List.{list_any};
+ghost use Rattle.std.specs.Prelude.{◌≡◌, IfOk, IfSome, IsTrue, suc};
+ghost use Rattle.td_check.specs.CannotFail as unfailing;
+ghost use Rattle.td_check.specs.Scopes.{Scope};
+ghost use Rattle.td_eval.specs.ValueTypes.{IsWritten};
+ghost use Rattle.td_plan.specs.Fixing.{AreOneWhere, HasTypeOf, IsNamedApart, MayFix};
+ghost use Rattle.td_plan.specs.Narrowing.{AreFixed, Implies, IsFixedTo};
+ghost use Rattle.td_plan.specs.code.PlansBelow.{PlansBelow};
+ghost use Rattle.td_plan.specs.code.StepViews.{step_view};
+ghost use Rattle.td_plan.specs.code.TreeWeights.{expr_weight};
+ghost use Rattle.td_tree.specs.declared.operator.Comparison.TheVariants as comparisons;
+ghost use Rattle.td_tree.specs.declared.operator.Operator.TheVariants as operators;
+ghost use Rattle.td_tree.specs.code.TreeViews.{tree_view};
+ghost use Rattle.td_tree.specs.Trees as trees;
+ghost use Rattle.td_tree.specs.Trees.{Tree};
+ghost use Rattle.td_types.specs.Headings.{has_attribute};
+ghost use Rattle.td_types.specs.Types.{Heading};
+
+use crate::making::planner::{Known, Planner};
+use crate::making::planning::Planning;
+use crate::plan::step::Step;
+use crate::rewriting::brief::is_brief;
+use crate::rewriting::numbers::has_numbers;
+use std::alloc::{AllocError, Global};
+use td_check::cannot_fail::cannot_fail;
+use td_check::expression::check_expr;
+use td_check::names::names_in;
+use td_check::scope::Scope;
+use td_tree::expression::Expr;
+use td_tree::fault::Fault;
+use td_tree::name::Name;
+use td_tree::operator::{Comparison, Operator};
+use td_types::heading::Heading;
+
+/// An attribute, and the step of the value that it has in each tuple for which a condition is TRUE.
+#[derive(Drop)]
+pub(crate) struct FixedValue {
+    pub(crate) name: Name,
+    pub(crate) value: Step,
+}
+
+/// Whether the heading has an attribute of the name.
+fn is_attribute(heading: &Heading, name: &Name) -> bool
+    ensures { result ≡ has_attribute name.now heading.now }
+{
+    heading.get(name).is_some()
+}
+
+/// Whether it has one of one of these names.
+fn one_is_attribute(heading: &Heading, names: &[Name]) -> bool
+    ensures { result ≡ list_any (λ n. has_attribute n heading.now) names.now }
+{
+    names.iter().any(|name| is_attribute(heading, name))
+}
+
+/// Whether no attribute of the heading is named in an expression.
+fn is_named_apart(alloc: Global, heading: &Heading, value: &Expr) -> Result<bool, AllocError>
+    ensures { IfOk result (λ b. IsTrue b → IsNamedApart heading.now (tree_view value.now)) }
+{
+    let names = names_in(alloc, value)?;
+    Ok(!one_is_attribute(heading, &names))
+}
+
+/// Whether an expression has, outside of the tuples of the heading, the type of an attribute there.
+fn has_type_of<C: Known>(
+    planner: &Planner<'_, C>,
+    heading: &Heading,
+    name: &Name,
+    value: &Expr,
+) -> Result<bool, AllocError>
+    ensures { IfOk result (λ b. IsTrue b
+        → HasTypeOf planner.now.scope heading.now name.now (tree_view value.now)) }
+{
+    let Some(ty) = heading.get(name) else {
+        return Ok(false);
+    };
+    match check_expr(&planner.scope, value) {
+        Ok(other) => Ok(other == *ty),
+        Err(Fault::Refused(_)) => Ok(false),
+        Err(Fault::Memory) => Err(AllocError),
+    }
+}
+
+/// Whether an expression has a value, whatever relations the base relvars hold.
+pub(crate) fn has_a_value(scope: &Scope<'_>, expr: &Expr) -> Result<bool, AllocError>
+    ensures { IfOk result
+        (λ b. IsTrue b → IsTrue (unfailing.cannot_fail scope.now (tree_view expr.now))) }
+{
+    match cannot_fail(scope, expr) {
+        Ok(answer) => Ok(answer),
+        Err(Fault::Refused(_)) => Ok(false),
+        Err(Fault::Memory) => Err(AllocError),
+    }
+}
+
+/// Whether an equality with the expression fixes the attribute of the name. It is planned once more
+/// for each WHERE around it, so that only what is brief does.
+fn may_fix<C: Known>(
+    planner: &Planner<'_, C>,
+    heading: &Heading,
+    name: &Name,
+    value: &Expr,
+) -> Result<bool, AllocError>
+    ensures { IfOk result (λ b. IsTrue b
+        → MayFix planner.now.scope heading.now name.now (tree_view value.now)) }
+{
+    if !is_brief(value) || !has_numbers(value) {
+        return Ok(false);
+    }
+    if !is_named_apart(planner.alloc, heading, value)? {
+        return Ok(false);
+    }
+    Ok(has_type_of(planner, heading, name, value)? && has_a_value(&planner.scope, value)?)
+}
+
+/// The name that an operand of an equality is, where the other operand fixes the attribute of it.
+fn fixed_name<C: Known>(
+    planner: &Planner<'_, C>,
+    heading: &Heading,
+    operand: &Expr,
+    value: &Expr,
+) -> Result<Option<Name>, AllocError>
+    ensures { IfOk result (λ found. IfSome found (λ n. (tree_view operand.now ≡ trees.name n)
+        × MayFix planner.now.scope heading.now n (tree_view value.now))) }
+{
+    let Expr::Name(name) = operand else {
+        return Ok(None);
+    };
+    if may_fix(planner, heading, name, value)? {
+        Ok(Some(name.try_clone()?))
+    } else {
+        Ok(None)
+    }
+}
+
+/// Whether the operator is AND.
+fn is_and(op: Operator) -> bool
+    ensures { IsTrue result → op ≡ operators.And }
+{
+    matches!(op, Operator::And)
+}
+
+/// Whether the comparison is of equality.
+fn is_equal(op: Comparison) -> bool
+    ensures { IsTrue result → op ≡ comparisons.Equal }
+{
+    matches!(op, Comparison::Equal)
+}
+
+/// Puts the attribute of the name, with the step of its value, after the others.
+fn put(
+    fixed: &mut Vec<FixedValue>,
+    name: Name,
+    value: Result<Step, AllocError>,
+) -> Result<(), AllocError>
+    ensures { IfOk result (λ _. (scope : Scope) (h : Heading) (e : Tree)
+        → IfOk value (λ p. IsFixedTo scope h e name (step_view p))
+        → AreFixed scope h e fixed.old.items → AreFixed scope h e fixed.new.items) }
+{
+    let value = value?;
+    Ok(fixed.push(FixedValue { name, value })?)
+}
+
+impl<C: Known, F> Planning<'_, C, F>
+where
+    F: Fn(&Planner<'_, C>, &Expr) -> Result<Step, AllocError> + Copy,
+{
+    /// Puts the attribute that an operand of an equality names after the others, with the step of
+    /// the other operand, where that fixes it.
+    fn put_fixed_value(
+        &self,
+        value: &Expr,
+        operand: &Expr,
+        heading: &Heading,
+        fixed: &mut Vec<FixedValue>,
+    ) -> Result<(), AllocError>
+        requires { PlansBelow C.database self.now (suc (expr_weight value.now)) F.pre F.post }
+        ensures { IfOk result (λ _. IsWritten (tree_view value.now) → (e : Tree)
+            → AreOneWhere e (tree_view operand.now) (tree_view value.now)
+            → AreFixed self.now.planner.now.scope heading.now e fixed.old.items
+            → AreFixed self.now.planner.now.scope heading.now e fixed.new.items) }
+    {
+        match fixed_name(self.planner, heading, operand, value)? {
+            Some(name) => put(fixed, name, self.step_of(value)),
+            None => Ok(()),
+        }
+    }
+
+    /// Puts the attributes of the heading that the condition's conjuncts fix after the others, each
+    /// with the step of its value.
+    fn put_fixed_values(
+        &self,
+        condition: &Expr,
+        heading: &Heading,
+        fixed: &mut Vec<FixedValue>,
+    ) -> Result<(), AllocError>
+        requires { PlansBelow C.database self.now (suc (expr_weight condition.now)) F.pre F.post }
+        ensures { IfOk result (λ _. IsWritten (tree_view condition.now) → (e : Tree)
+            → Implies e (tree_view condition.now)
+            → AreFixed self.now.planner.now.scope heading.now e fixed.old.items
+            → AreFixed self.now.planner.now.scope heading.now e fixed.new.items) }
+    {
+        match condition {
+            Expr::Parentheses(inner) => self.put_fixed_values(inner, heading, fixed),
+            Expr::Binary(left, op, right) => {
+                if !is_and(*op) {
+                    return Ok(());
+                }
+                self.put_fixed_values(left, heading, fixed)?;
+                self.put_fixed_values(right, heading, fixed)
+            }
+            Expr::Compare(left, op, right) => {
+                if !is_equal(*op) {
+                    return Ok(());
+                }
+                self.put_fixed_value(right, left, heading, fixed)?;
+                self.put_fixed_value(left, right, heading, fixed)
+            }
+            _ => Ok(()),
+        }
+    }
+
+    /// The attributes of the heading that the condition's conjuncts fix, each with the step of its
+    /// value.
+    pub(crate) fn fixed_values(
+        &self,
+        condition: &Expr,
+        heading: &Heading,
+    ) -> Result<Vec<FixedValue>, AllocError>
+        requires { PlansBelow C.database self.now (suc (expr_weight condition.now)) F.pre F.post }
+        ensures { IfOk result (λ fixed. IsWritten (tree_view condition.now)
+            → AreFixed self.now.planner.now.scope heading.now (tree_view condition.now)
+            fixed.items) }
+    {
+        let mut fixed = Vec::new(self.planner.alloc);
+        self.put_fixed_values(condition, heading, &mut fixed)?;
+        Ok(fixed)
+    }
+}

@@ -1,0 +1,16 @@
+//! How plans are run.
+mod counted;
+pub(crate) mod evaluator;
+mod extended;
+pub(crate) mod hand;
+mod look_up;
+mod loops;
+pub(crate) mod memo;
+mod operators;
+mod quick;
+mod quick_rows;
+mod rows;
+mod run;
+pub mod run_plan;
+pub(crate) mod surroundings;
+pub(crate) mod virtuals;

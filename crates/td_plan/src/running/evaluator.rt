@@ -1,0 +1,90 @@
+//! What values steps. Each function takes what values the parts of a step as a parameter, so that
+//! it is proved by itself.
+ghost use Rattle.std.specs.Prelude.{◌≡◌, suc};
+ghost use Rattle.td_eval.specs.Worlds.{World};
+ghost use Rattle.td_plan.specs.code.Hands.{slots_of};
+ghost use Rattle.td_plan.specs.code.Memos.{AreSound, IsSound, Keeps};
+ghost use Rattle.td_plan.specs.code.Runs.{step_value, step_values};
+ghost use Rattle.td_plan.specs.code.StepHeights.{step_height, steps_height};
+ghost use Rattle.td_plan.specs.code.ValuesBelow.{ValuesBelow};
+ghost use Rattle.td_tree.specs.Outcomes.{Answers, gathered};
+
+use crate::plan::step::Step;
+use crate::running::hand::Hand;
+use crate::running::memo::Memo;
+use std::alloc::Global;
+use td_tree::fault::Fault;
+use td_tree::gathering::Gathering;
+use td_value::value::Value;
+
+/// What plans are run in.
+pub(crate) trait InWorld {
+    /// The world in which they have their values.
+    ghost world: { Self → World };
+}
+
+/// What a plan is run in, and what values the parts of a step there.
+#[derive(Drop)]
+pub(crate) struct Evaluator<'e, A, F> {
+    pub(crate) alloc: Global,
+    pub(crate) around: &'e A,
+    /// Values a part.
+    pub(crate) inner: F,
+}
+
+impl<'e, A, F> Evaluator<'e, A, F> {
+    /// What values steps there, by what values their parts.
+    #[inline]
+    pub(crate) fn new(alloc: Global, around: &'e A, inner: F) -> Self
+        ensures around { result.around.now ≡ around.now }
+        ensures inner { result.inner ≡ inner }
+    {
+        Evaluator {
+            alloc,
+            around,
+            inner,
+        }
+    }
+}
+
+impl<A: InWorld, F> Evaluator<'_, A, F>
+where
+    F: Fn(&A, &mut Memo, &Hand<'_, '_>, &Step) -> Result<Value, Fault>,
+{
+    /// The value of a part.
+    #[inline]
+    pub(crate) fn run(
+        &self,
+        memo: &mut Memo,
+        hand: &Hand<'_, '_>,
+        step: &Step,
+    ) -> Result<Value, Fault>
+        requires { ValuesBelow A.world self.now (suc (step_height step.now)) F.pre F.post }
+        ensures { Keeps (A.world self.now.around.now) (slots_of hand.now) memo.old memo.new
+            (λ ps. IsSound ps step.now) (Answers (λ v. v) result
+            (step_value (A.world self.now.around.now) (slots_of hand.now) step.now)) }
+    {
+        (self.inner)(self.around, memo, hand, step)
+    }
+
+    /// The values of steps, in their order.
+    #[inline(never)]
+    pub(crate) fn values_of(
+        &self,
+        memo: &mut Memo,
+        hand: &Hand<'_, '_>,
+        steps: &[Step],
+    ) -> Result<Vec<Value>, Fault>
+        requires { ValuesBelow A.world self.now (suc (steps_height steps.now)) F.pre F.post }
+        ensures { Keeps (A.world self.now.around.now) (slots_of hand.now) memo.old memo.new
+            (λ ps. AreSound ps steps.now) (Answers (λ vs. vs.items) result (gathered
+            (step_values (A.world self.now.around.now) (slots_of hand.now) steps.now))) }
+    {
+        let mut causes = Gathering::new();
+        let mut values = Vec::with_capacity(self.alloc, steps.len())?;
+        for step in steps {
+            causes.collect(&mut values, self.run(memo, hand, step))?;
+        }
+        causes.finish(values)
+    }
+}

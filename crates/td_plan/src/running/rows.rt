@@ -1,0 +1,371 @@
+//! What plans give in each tuple of a relation.
+ghost use Rattle.std.specs.Prelude.{◌≡◌, ◌<◌, ◌≤◌, List, Some, length, map, suc, ⊤};
+ghost use Rattle.std.specs.List.{slice_get, zip};
+ghost use Rattle.td_algebra.specs.Columns.{columns_view};
+ghost use Rattle.td_eval.specs.code.NewColumns.{named_columns};
+ghost use Rattle.td_eval.specs.OperatorValues.{column_values, truth_value};
+ghost use Rattle.td_eval.specs.code.Totals.{total_of, total_view};
+ghost use Rattle.td_plan.specs.code.Hands.{slots_in, slots_of};
+ghost use Rattle.td_plan.specs.code.Memos.{AreSound, IsSound, Keeps, KeepsBelow};
+ghost use Rattle.td_plan.specs.code.Runs.{step_value, truths_in, value_in, values_in};
+ghost use Rattle.td_plan.specs.code.StepHeights.{step_height, steps_height};
+ghost use Rattle.td_plan.specs.code.ValuesBelow.{ValuesBelow};
+ghost use Rattle.td_tree.specs.Outcomes.{Answers, Outcome, Valued, gathered, with_value};
+ghost use Rattle.td_types.specs.code.Views.{pairs_view, type_view};
+ghost use Rattle.td_value.specs.Values.{Val};
+
+use crate::plan::step::Step;
+use crate::running::evaluator::{Evaluator, InWorld};
+use crate::running::hand::{Hand, Inside, hand_inside};
+use crate::running::memo::{Memo, forget};
+use crate::running::quick::{quick_number, quick_truth};
+use crate::running::quick_rows::{FEWEST, quick_truths};
+use td_algebra::extension::Column;
+use td_eval::rows::{named_column, truth_of, value_of_its_type};
+use td_group::aggregates::Agg;
+use td_tree::fault::Fault;
+use td_tree::gathering::Gathering;
+use td_tree::name::Name;
+use td_types::ty::Ty;
+use td_value::relation::Rel;
+use td_value::tuple::Tuple;
+use td_value::value::Value;
+
+impl<A: InWorld, F> Evaluator<'_, A, F>
+where
+    F: Fn(&A, &mut Memo, &Hand<'_, '_>, &Step) -> Result<Value, Fault>,
+{
+    /// The value of a step in a tuple. A number is looked for without causes first.
+    #[inline]
+    fn value_with(
+        &self,
+        memo: &mut Memo,
+        hand: &Hand<'_, '_>,
+        step: &Step,
+    ) -> Result<Value, Fault>
+        requires { ValuesBelow A.world self.now (suc (step_height step.now)) F.pre F.post }
+        ensures { Keeps (A.world self.now.around.now) (slots_of hand.now) memo.old memo.new
+            (λ ps. IsSound ps step.now) (Answers (λ v. v) result
+            (step_value (A.world self.now.around.now) (slots_of hand.now) step.now)) }
+    {
+        match quick_number(memo, hand, step) {
+            Some(z) => Ok(Value::int(z)),
+            None => self.run(memo, hand, step),
+        }
+    }
+
+    /// The truth value of a condition in a tuple. It is looked for without causes first.
+    #[inline]
+    fn truth_with(
+        &self,
+        memo: &mut Memo,
+        hand: &Hand<'_, '_>,
+        condition: &Step,
+    ) -> Result<bool, Fault>
+        requires { ValuesBelow A.world self.now (suc (step_height condition.now)) F.pre F.post }
+        ensures { Keeps (A.world self.now.around.now) (slots_of hand.now) memo.old memo.new
+            (λ ps. IsSound ps condition.now) (Answers (λ b. b) result (truth_value
+            (step_value (A.world self.now.around.now) (slots_of hand.now) condition.now))) }
+    {
+        match quick_truth(memo, hand, condition) {
+            Some(truth) => Ok(truth),
+            None => truth_of(self.run(memo, hand, condition)),
+        }
+    }
+
+    /// The value of a step in a tuple of a loop. What is kept and names that tuple is forgotten.
+    #[inline]
+    fn value_in_row(
+        &self,
+        memo: &mut Memo,
+        inside: &Inside,
+        row: &Tuple,
+        step: &Step,
+    ) -> Result<Value, Fault>
+        requires { ValuesBelow A.world self.now (suc (step_height step.now)) F.pre F.post }
+        ensures { KeepsBelow (A.world self.now.around.now) inside.now.slot
+            (slots_in inside.now.outer.items) memo.old memo.new (λ ps. IsSound ps step.now)
+            (Answers (λ v. v) result (value_in (A.world self.now.around.now)
+            (slots_in inside.now.outer.items) inside.now.slot step.now row.now)) }
+    {
+        let hand = hand_inside(inside, row);
+        let value = self.value_with(memo, &hand, step);
+        forget(memo, inside.slot);
+        value
+    }
+
+    /// The truth value of a condition in a tuple of a loop. What is kept and names that tuple is
+    /// forgotten.
+    #[inline]
+    fn truth_in_row(
+        &self,
+        memo: &mut Memo,
+        inside: &Inside,
+        row: &Tuple,
+        condition: &Step,
+    ) -> Result<bool, Fault>
+        requires { ValuesBelow A.world self.now (suc (step_height condition.now)) F.pre F.post }
+        ensures { KeepsBelow (A.world self.now.around.now) inside.now.slot
+            (slots_in inside.now.outer.items) memo.old memo.new (λ ps. IsSound ps condition.now)
+            (Answers (λ b. b) result (truth_value (value_in (A.world self.now.around.now)
+            (slots_in inside.now.outer.items) inside.now.slot condition.now row.now))) }
+    {
+        let hand = hand_inside(inside, row);
+        let truth = self.truth_with(memo, &hand, condition);
+        forget(memo, inside.slot);
+        truth
+    }
+
+    /// The truth values of a condition in tuples, one after the other.
+    #[inline(never)]
+    fn truths_by_row(
+        &self,
+        memo: &mut Memo,
+        inside: &Inside,
+        rows: &[Tuple],
+        condition: &Step,
+    ) -> Result<Vec<bool>, Fault>
+        requires { ValuesBelow A.world self.now (suc (step_height condition.now)) F.pre F.post }
+        ensures { KeepsBelow (A.world self.now.around.now) inside.now.slot
+            (slots_in inside.now.outer.items) memo.old memo.new (λ ps. IsSound ps condition.now)
+            (Answers (λ m. m.items) result (truths_in (A.world self.now.around.now)
+            (slots_in inside.now.outer.items) inside.now.slot condition.now rows.now)) }
+    {
+        let mut causes = Gathering::new();
+        let mut truths = Vec::with_capacity(self.alloc, rows.len())?;
+        for row in rows {
+            causes.collect(&mut truths, self.truth_in_row(memo, inside, row, condition))?;
+        }
+        causes.finish(truths)
+    }
+
+    /// What is kept of the parts of a condition once it has been asked in the first tuple, so that
+    /// it may be found without causes in all of them.
+    #[inline(never)]
+    fn ask_first(&self, memo: &mut Memo, inside: &Inside, rows: &[Tuple], condition: &Step)
+        requires { ValuesBelow A.world self.now (suc (step_height condition.now)) F.pre F.post }
+        ensures { KeepsBelow (A.world self.now.around.now) inside.now.slot
+            (slots_in inside.now.outer.items) memo.old memo.new (λ ps. IsSound ps condition.now)
+            ⊤ }
+    {
+        if let Some(row) = rows.first() {
+            let _ = self.truth_in_row(memo, inside, row, condition);
+        }
+    }
+
+    /// The truth values of a condition in many tuples. They are looked for in all tuples at once
+    /// first.
+    #[inline(never)]
+    fn truths_of_many(
+        &self,
+        memo: &mut Memo,
+        inside: &Inside,
+        rows: &[Tuple],
+        condition: &Step,
+    ) -> Result<Vec<bool>, Fault>
+        requires { ValuesBelow A.world self.now (suc (step_height condition.now)) F.pre F.post }
+        ensures { KeepsBelow (A.world self.now.around.now) inside.now.slot
+            (slots_in inside.now.outer.items) memo.old memo.new (λ ps. IsSound ps condition.now)
+            (Answers (λ m. m.items) result (truths_in (A.world self.now.around.now)
+            (slots_in inside.now.outer.items) inside.now.slot condition.now rows.now)) }
+    {
+        self.ask_first(memo, inside, rows, condition);
+        match quick_truths(self.alloc, memo, inside, rows, condition) {
+            Ok(Some(truths)) => Ok(truths),
+            Ok(None) => self.truths_by_row(memo, inside, rows, condition),
+            Err(_) => Err(Fault::Memory),
+        }
+    }
+
+    /// The truth values of a condition in the tuples of a loop.
+    #[inline(never)]
+    pub(crate) fn truths(
+        &self,
+        memo: &mut Memo,
+        inside: &Inside,
+        rows: &[Tuple],
+        condition: &Step,
+    ) -> Result<Vec<bool>, Fault>
+        requires { ValuesBelow A.world self.now (suc (step_height condition.now)) F.pre F.post }
+        ensures { KeepsBelow (A.world self.now.around.now) inside.now.slot
+            (slots_in inside.now.outer.items) memo.old memo.new (λ ps. IsSound ps condition.now)
+            (Answers (λ m. m.items) result (truths_in (A.world self.now.around.now)
+            (slots_in inside.now.outer.items) inside.now.slot condition.now rows.now)) }
+    {
+        if rows.len() < FEWEST {
+            self.truths_by_row(memo, inside, rows, condition)
+        } else {
+            self.truths_of_many(memo, inside, rows, condition)
+        }
+    }
+
+    /// The values of a step in the tuples of a loop.
+    #[inline(never)]
+    pub(crate) fn values_in_rows(
+        &self,
+        memo: &mut Memo,
+        inside: &Inside,
+        rows: &[Tuple],
+        step: &Step,
+    ) -> Result<Vec<Value>, Fault>
+        requires { ValuesBelow A.world self.now (suc (step_height step.now)) F.pre F.post }
+        ensures { KeepsBelow (A.world self.now.around.now) inside.now.slot
+            (slots_in inside.now.outer.items) memo.old memo.new (λ ps. IsSound ps step.now)
+            (Answers (λ vs. vs.items) result (gathered (map (value_in
+            (A.world self.now.around.now) (slots_in inside.now.outer.items) inside.now.slot
+            step.now) rows.now))) }
+    {
+        let mut causes = Gathering::new();
+        let mut values = Vec::with_capacity(self.alloc, rows.len())?;
+        for row in rows {
+            causes.collect(&mut values, self.value_in_row(memo, inside, row, step))?;
+        }
+        causes.finish(values)
+    }
+
+    // ---- new attributes
+
+    /// The values of a step in the tuples of a loop, which are of a type.
+    #[inline(never)]
+    fn column(
+        &self,
+        memo: &mut Memo,
+        inside: &Inside,
+        rows: &[Tuple],
+        ty: &Ty,
+        step: &Step,
+    ) -> Result<Vec<Value>, Fault>
+        requires { ValuesBelow A.world self.now (suc (step_height step.now)) F.pre F.post }
+        ensures { KeepsBelow (A.world self.now.around.now) inside.now.slot
+            (slots_in inside.now.outer.items) memo.old memo.new (λ ps. IsSound ps step.now)
+            (Answers (λ vs. vs.items) result (column_values (type_view ty.now) (value_in
+            (A.world self.now.around.now) (slots_in inside.now.outer.items) inside.now.slot
+            step.now) rows.now)) }
+    {
+        let mut causes = Gathering::new();
+        let mut values = Vec::with_capacity(self.alloc, rows.len())?;
+        for row in rows {
+            let value = value_of_its_type(ty, self.value_in_row(memo, inside, row, step));
+            causes.collect(&mut values, value)?;
+        }
+        causes.finish(values)
+    }
+
+    /// The new attributes with their values in the tuples of a loop.
+    #[inline(never)]
+    pub(crate) fn columns(
+        &self,
+        memo: &mut Memo,
+        inside: &Inside,
+        rows: &[Tuple],
+        attributes: &[(Name, Ty)],
+        steps: &[Step],
+    ) -> Result<Vec<(Name, Column)>, Fault>
+        requires values { ValuesBelow A.world self.now (suc (steps_height steps.now))
+            F.pre F.post }
+        requires lengths { length attributes.now ≡ length steps.now }
+        ensures { KeepsBelow (A.world self.now.around.now) inside.now.slot
+            (slots_in inside.now.outer.items) memo.old memo.new (λ ps. AreSound ps steps.now)
+            (Answers (λ cs. columns_view cs.items) result (gathered (named_columns
+            (pairs_view attributes.now) (values_in (A.world self.now.around.now)
+            (slots_in inside.now.outer.items) inside.now.slot steps.now) rows.now))) }
+    {
+        let mut causes = Gathering::new();
+        let mut columns = Vec::with_capacity(self.alloc, steps.len())?;
+        for (place, step) in steps.iter().enumerate() {
+            let (name, ty) = &attributes[place];
+            let values = self.column(memo, inside, rows, ty, step);
+            causes.collect(&mut columns, named_column(name, ty, values))?;
+        }
+        causes.finish(columns)
+    }
+
+    // ---- groups
+
+    /// The values of a step in the tuples of each group.
+    #[inline(never)]
+    fn values_in_groups(
+        &self,
+        memo: &mut Memo,
+        inside: &Inside,
+        groups: &[(Tuple, Rel)],
+        step: &Step,
+    ) -> Result<Vec<Vec<Value>>, Fault>
+        requires { ValuesBelow A.world self.now (suc (step_height step.now)) F.pre F.post }
+        ensures { KeepsBelow (A.world self.now.around.now) inside.now.slot
+            (slots_in inside.now.outer.items) memo.old memo.new (λ ps. IsSound ps step.now)
+            (Answers (λ vss. map (λ vs. vs.items) vss.items) result (gathered (map (λ g. gathered
+            (map (value_in (A.world self.now.around.now) (slots_in inside.now.outer.items)
+            inside.now.slot step.now) g.1.body)) groups.now))) }
+    {
+        let mut causes = Gathering::new();
+        let mut values = Vec::with_capacity(self.alloc, groups.len())?;
+        for (_, group) in groups {
+            let found = self.values_in_rows(memo, inside, group.rows(), step);
+            causes.collect(&mut values, found)?;
+        }
+        causes.finish(values)
+    }
+
+    /// What each aggregate is of in the groups, by the step beside it.
+    #[inline(never)]
+    pub(crate) fn totals(
+        &self,
+        memo: &mut Memo,
+        inside: &Inside,
+        groups: &[(Tuple, Rel)],
+        aggregates: &[Agg],
+        steps: &[Step],
+    ) -> Result<Vec<(Agg, Vec<Vec<Value>>)>, Fault>
+        requires { ValuesBelow A.world self.now (suc (steps_height steps.now)) F.pre F.post }
+        ensures { KeepsBelow (A.world self.now.around.now) inside.now.slot
+            (slots_in inside.now.outer.items) memo.old memo.new (λ ps. AreSound ps steps.now)
+            (Answers (λ ts. map total_view ts.items) result (gathered (map (total_of groups.now)
+            (zip aggregates.now (values_in (A.world self.now.around.now)
+            (slots_in inside.now.outer.items) inside.now.slot steps.now))))) }
+    {
+        let mut causes = Gathering::new();
+        let count = item_count(aggregates, steps);
+        let mut totals = Vec::with_capacity(self.alloc, count)?;
+        for place in 0..count {
+            let asked = aggregate_at(aggregates, place);
+            let values = self.values_in_groups(memo, inside, groups, &steps[place]);
+            let total = with_aggregate(asked, values);
+            causes.collect(&mut totals, total)?;
+        }
+        causes.finish(totals)
+    }
+}
+
+/// The aggregate with the values that it is of in each group.
+fn with_aggregate(
+    asked: Agg,
+    groups: Result<Vec<Vec<Value>>, Fault>,
+) -> Result<(Agg, Vec<Vec<Value>>), Fault>
+    ensures { (o : Outcome (List (List Val)))
+        → Answers (λ vss. map (λ vs. vs.items) vss.items) groups o
+        → Answers total_view result (with_value o (λ vss. Valued (asked, vss))) }
+{
+    Ok((asked, groups?))
+}
+
+/// How many aggregates have a step beside them.
+pub(crate) fn item_count(aggregates: &[Agg], steps: &[Step]) -> usize
+    ensures count { result ≡ length (zip aggregates.now steps.now) }
+    ensures aggregates { result ≤ length aggregates.now }
+    ensures steps { result ≤ length steps.now }
+{
+    if aggregates.len() < steps.len() {
+        aggregates.len()
+    } else {
+        steps.len()
+    }
+}
+
+/// The aggregate at a place.
+fn aggregate_at(aggregates: &[Agg], place: usize) -> Agg
+    requires { place < length aggregates.now }
+    ensures { slice_get aggregates.now place ≡ Some result }
+{
+    aggregates[place]
+}

@@ -1,0 +1,92 @@
+//! The values of expressions by their plans.
+ghost use Rattle.std.specs.Prelude.{◌≡◌, IfOk, List, map};
+ghost use Rattle.td_check.specs.Scopes.{Scope};
+ghost use Rattle.td_eval.specs.code.Sights.{tuples_in_hand, world_in};
+ghost use Rattle.td_eval.specs.UnfailingValues.{GivesValues};
+ghost use Rattle.td_eval.specs.ValueTypes.{DefinitionsAreWritten};
+ghost use Rattle.td_eval.specs.Worlds.{World};
+ghost use Rattle.td_plan.specs.code.Hands.{AreSurroundings, slots_in, slots_lent, world_around};
+ghost use Rattle.td_plan.specs.code.PlanViews.{plan_view};
+ghost use Rattle.td_plan.specs.Plans.{plan_value};
+ghost use Rattle.td_plan.specs.PlansOf.{AreInHand, IsPlanFor, outermost};
+ghost use Rattle.td_tree.specs.Outcomes.{Answers, Outcome};
+ghost use Rattle.td_value.specs.Values.{Tuple, Val};
+
+use crate::plan::Plan;
+use crate::running::hand::Hand;
+use crate::running::memo::new_memo;
+use crate::running::run::run;
+use crate::running::surroundings::Surroundings;
+use crate::running::virtuals::virtual_relvars;
+use std::alloc::{AllocError, Global};
+use td_body::body::Body;
+use td_eval::env::Env;
+use td_tree::fault::Fault;
+use td_value::tuple::Tuple;
+use td_value::value::Value;
+
+/// The tuples, each in the slot of its place.
+fn tuples_in_slots(alloc: Global, tuples: &[&Tuple]) -> Result<Vec<Option<Tuple>>, AllocError>
+    ensures { IfOk result (λ rows. slots_in rows.items ≡ slots_lent tuples.now) }
+{
+    let mut rows = Vec::with_capacity(alloc, tuples.len())?;
+    for tuple in tuples {
+        rows.push(Some(tuple.try_clone()?))?;
+    }
+    Ok(rows)
+}
+
+/// The value of a plan where these tuples are in scope, each in the slot of its place.
+fn run_in<B: Body>(
+    around: &Surroundings<'_, '_, '_, B>,
+    rows: &[Option<Tuple>],
+    plan: &Plan,
+) -> Result<Value, Fault>
+    requires { AreSurroundings around.now }
+    ensures { Answers (λ v. v) result
+        (plan_value (world_around around.now) (slots_in rows.now) (plan_view plan.now)) }
+{
+    let mut memo = new_memo(around.alloc, plan.places)?;
+    let hand = Hand {
+        tuple: None,
+        slot: rows.len(),
+        outer: rows,
+    };
+    run(around, &mut memo, &hand, &plan.step)
+}
+
+/// What the plan is for, with the virtual relvars that have been evaluated.
+pub(crate) fn run_plan_in<B: Body>(
+    around: &Surroundings<'_, '_, '_, B>,
+    plan: &Plan,
+) -> Result<Value, Fault>
+    requires { AreSurroundings around.now }
+    ensures { (scope : Scope) (outcome : World → List Tuple → Outcome Val)
+        → IsPlanFor scope (plan_view plan.now) outcome
+        → GivesValues (world_around around.now) (outermost scope)
+        → AreInHand scope (tuples_in_hand around.now.env.now)
+        → Answers (λ v. v) result
+        (outcome (world_around around.now) (tuples_in_hand around.now.env.now)) }
+{
+    let rows = tuples_in_slots(around.alloc, around.env.tuples)?;
+    run_in(around, &rows, plan)
+}
+
+/// What the plan is for: of a plan of an expression, the expression's value, or the least of the
+/// causes for which it has none. Each virtual relvar that it may need is evaluated once.
+pub fn run_plan<B: Body>(alloc: Global, env: &Env<'_, B>, plan: &Plan) -> Result<Value, Fault>
+    requires { DefinitionsAreWritten env.now.catalog.now.database }
+    ensures { (scope : Scope) (outcome : World → List Tuple → Outcome Val)
+        → IsPlanFor scope (plan_view plan.now) outcome
+        → GivesValues (world_in env.now) (outermost scope)
+        → AreInHand scope (tuples_in_hand env.now)
+        → Answers (λ v. v) result (outcome (world_in env.now) (tuples_in_hand env.now)) }
+{
+    let valued = virtual_relvars(alloc, env, &plan.names)?;
+    let around = Surroundings {
+        alloc,
+        env,
+        valued: &valued,
+    };
+    run_plan_in(&around, plan)
+}

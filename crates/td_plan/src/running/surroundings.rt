@@ -1,0 +1,51 @@
+//! What a plan is run in.
+ghost use Rattle.td_eval.specs.Worlds.{known_outcome};
+ghost use Rattle.td_plan.specs.code.Hands.{AreSurroundings, world_around};
+ghost use Rattle.td_tree.specs.Outcomes.{Answers};
+
+use crate::running::evaluator::InWorld;
+use crate::running::memo::again;
+use std::alloc::Global;
+use td_body::body::Body;
+use td_eval::env::Env;
+use td_eval::known::relvar_in;
+use td_tree::fault::Fault;
+use td_tree::name::Name;
+use td_value::value::Value;
+
+/// A virtual relvar that has been evaluated.
+#[derive(Drop)]
+pub(crate) struct ValuedRelvar {
+    pub(crate) name: Name,
+    pub(crate) answer: Result<Value, Fault>,
+}
+
+/// The database, and the virtual relvars that have been evaluated in it.
+#[derive(Drop)]
+pub(crate) struct Surroundings<'e, 'a, 'v, B: Body> {
+    pub(crate) alloc: Global,
+    pub(crate) env: &'e Env<'a, B>,
+    pub(crate) valued: &'v [ValuedRelvar],
+}
+
+impl<B: Body> InWorld for Surroundings<'_, '_, '_, B> {
+    ghost world = { world_around };
+}
+
+/// The value of the relvar of a name.
+#[inline(never)]
+pub(crate) fn relvar_value<B: Body>(
+    around: &Surroundings<'_, '_, '_, B>,
+    name: &Name,
+) -> Result<Value, Fault>
+    requires { AreSurroundings around.now }
+    ensures { Answers (λ v. v) result
+        (known_outcome ((world_around around.now).relvar name.now)) }
+{
+    for relvar in around.valued {
+        if relvar.name == *name {
+            return again(&relvar.answer);
+        }
+    }
+    relvar_in(around.alloc, around.env, name)
+}
