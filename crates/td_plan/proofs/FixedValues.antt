@@ -17,7 +17,7 @@ use Rattle.td_eval.specs.ValueTypes.{IsWritten}
 use Rattle.td_eval.specs.Worlds.{World, innermost_value, known_outcome, with_tuples}
 use Rattle.td_plan.proofs.EqualNames.{values_depend_on_names}
 use Rattle.td_plan.proofs.EqualValues.{and_of_both, equality_of_one}
-use Rattle.td_plan.specs.declared.fixed.FixedValue.{FixedValue}
+use Rattle.td_plan.specs.declared.rewriting.fixed.FixedValue.{FixedValue}
 use Rattle.td_plan.specs.Fixing.{AreOneWhere, IsNamedApart, MayFix}
 use Rattle.td_plan.specs.Narrowing.{AreFixed, Implies, IsFixedTo}
 use Rattle.td_plan.specs.Plans.{PlanTree}

@@ -6,8 +6,8 @@ use Rattle.std.proofs.lemmas.List.{take_all, take_more}
 use Rattle.td_tree.specs.declared.fault.Fault.{Fault}
 use Rattle.td_tree.specs.declared.fault.Fault.TheVariants as faults
 use Rattle.td_tree.specs.Outcomes.{Answers, Outcome, Valued, Refused, Only}
-use Rattle.td_plan.specs.declared.hand.Hand.{Hand}
-use Rattle.td_plan.specs.declared.hand.Held.{Held}
+use Rattle.td_plan.specs.declared.running.hand.Hand.{Hand}
+use Rattle.td_plan.specs.declared.running.hand.Held.{Held}
 use Rattle.td_plan.specs.code.Hands.{AreAnswers, AreHeld, IsAnswer, IsHand, IsHeld}
 use Rattle.td_plan.specs.Plans.{Frame, fixed_at, frame_of, outcome_or, unknown_place}
 use Rattle.td_value.specs.Values.{Val}

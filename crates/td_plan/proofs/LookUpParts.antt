@@ -13,7 +13,7 @@ use Rattle.td_eval.specs.UnfailingValues.{GivesValues}
 use Rattle.td_eval.specs.ValueTypes.{IsTypedTuple}
 use Rattle.td_eval.specs.Worlds.{World}
 use Rattle.td_plan.proofs.EqualLookUps.{there_value, values_told}
-use Rattle.td_plan.specs.declared.fixed.FixedValue.{FixedValue}
+use Rattle.td_plan.specs.declared.rewriting.fixed.FixedValue.{FixedValue}
 use Rattle.td_plan.specs.Equalities.{HasValues, has_values}
 use Rattle.td_plan.specs.Narrowing.{AreFixed, IsFixedAt}
 use Rattle.td_plan.specs.Plans as plans

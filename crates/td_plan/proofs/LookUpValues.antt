@@ -21,7 +21,7 @@ use Rattle.td_eval.specs.Worlds.{World, innermost_value, known_outcome, with_tup
 use Rattle.td_plan.proofs.EqualValues.{where_after_look_up}
 use Rattle.td_plan.proofs.LookUpParts.{entries_heading, entries_tuple, fixed_entries, fixed_names, fixed_plans, fixed_values_hold, part_found, part_value}
 use Rattle.td_plan.proofs.TotalConditions.{unfailing_conditions_are_total}
-use Rattle.td_plan.specs.declared.fixed.FixedValue.{FixedValue}
+use Rattle.td_plan.specs.declared.rewriting.fixed.FixedValue.{FixedValue}
 use Rattle.td_plan.specs.EqualitiesOfValues.{IsTotalIn, where_value}
 use Rattle.td_plan.specs.LookUps.{IsBase, MeansName}
 use Rattle.td_plan.specs.Narrowing.{AreFixed, Narrows}

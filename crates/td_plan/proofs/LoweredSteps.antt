@@ -1,6 +1,6 @@
 -- Lists of steps that are lowered in turn.
 use Rattle.std.proofs.Common.{◌≡◌, ℕ, List, [], ◌∷◌, ◌++◌, ap}
-use Rattle.td_plan.specs.declared.step.Step.{Step}
+use Rattle.td_plan.specs.declared.plan.step.Step.{Step}
 use Rattle.td_plan.specs.Hoisting.{all_lowered, lowered_step}
 use Rattle.td_plan.specs.Plans.{none, more}
 use Rattle.td_plan.specs.code.StepViews.{step_view, steps_view}

@@ -2,7 +2,7 @@
 use Rattle.std.proofs.Common.{◌≡◌, Err, Ok, Result, subst, sym}
 use Rattle.std.specs.declared.alloc.AllocError.{AllocError}
 use Rattle.std.specs.Prelude.{IfOk, IsOkAnd}
-use Rattle.td_plan.specs.declared.step.Step.{Step}
+use Rattle.td_plan.specs.declared.plan.step.Step.{Step}
 use Rattle.td_plan.specs.code.MadeSteps.{IsMadeOf, IsMadeOfBoth, IsMadeOfThree}
 use Rattle.td_plan.specs.Plans.{PlanTree}
 use Rattle.td_plan.specs.code.StepViews.{step_view}

@@ -11,7 +11,7 @@ use Rattle.td_eval.specs.ValueTypes.{IsTypedTuple}
 use Rattle.td_eval.specs.UnfailingValues.{GivesValues}
 use Rattle.td_eval.specs.Worlds.{World}
 use Rattle.td_plan.proofs.HandLaws.{held_more}
-use Rattle.td_plan.specs.declared.hand.Held.{Held}
+use Rattle.td_plan.specs.declared.running.hand.Held.{Held}
 use Rattle.td_plan.specs.code.Hands.{AreAnswers, AreHeld}
 use Rattle.td_plan.specs.Plans.{Frame, PlanTree, frame_of, plan_value}
 use Rattle.td_plan.specs.PlansOf.{AreFramesOf, AreInHand, IsPlanOf, outermost}

@@ -4,9 +4,9 @@ use Rattle.std.specs.Borrow.{Bor}
 use Rattle.std.specs.Prelude.{Result}
 use Rattle.std.specs.declared.alloc.AllocError.{AllocError}
 use Rattle.td_catalog.specs.Database.{Database}
-use Rattle.td_plan.specs.declared.planner.Planner.{Planner}
-use Rattle.td_plan.specs.declared.planning.Planning.{Planning}
-use Rattle.td_plan.specs.declared.step.Step.{Step}
+use Rattle.td_plan.specs.declared.making.planner.Planner.{Planner}
+use Rattle.td_plan.specs.declared.making.planning.Planning.{Planning}
+use Rattle.td_plan.specs.declared.plan.step.Step.{Step}
 use Rattle.td_plan.specs.code.PlansBelow.{PlansBelow}
 use Rattle.td_tree.specs.declared.expression.Expr.{Expr}
 

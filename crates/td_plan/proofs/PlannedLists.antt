@@ -2,7 +2,7 @@
 use Rattle.std.proofs.Common.{◌≡◌, ◌∙◌, ◌+◌, ◌<◌, ℕ, List, [], ◌∷◌, ◌++◌, add-one, ap, get_or, length, map, refl, subst, sym, take}
 use Rattle.std.proofs.Math.Seq.{take-suc}
 use Rattle.td_check.specs.Scopes.{Scope}
-use Rattle.td_plan.specs.declared.step.Step.{Step}
+use Rattle.td_plan.specs.declared.plan.step.Step.{Step}
 use Rattle.td_plan.specs.code.PlannedParts.{ArePlansOfTyped, in_named, in_summaries, in_trees, item_tree, names_in, part_tree}
 use Rattle.td_plan.specs.PlansOf.{IsPlanOfTyped}
 use Rattle.td_plan.specs.code.StepViews.{step_view, steps_view}

@@ -16,7 +16,7 @@ use Rattle.td_tree.specs.Outcomes.{gathered, with_both, with_value}
 use Rattle.td_tree.specs.Trees.{Attributes, Postfix, project}
 use Rattle.td_types.specs.Types.{Attribute, Heading}
 use Rattle.td_plan.proofs.Independence.{independent}
-use Rattle.td_plan.specs.declared.step.Step.{Step}
+use Rattle.td_plan.specs.declared.plan.step.Step.{Step}
 use Rattle.td_plan.specs.Hoisting.{Hoists, HoistsAll, lowered_step, reaches}
 use Rattle.td_plan.specs.Plans.{Frame, PlanTree, PlanTrees, fixed, look_up, prefix, extract, restriction, binary, compare, postfix, select, component, measure, relation, headed_relation, tuple, extend, aggregate, summarize_per, summarize_by, choice, extension_of, frame_of, looked_up, outcome_or, plan_columns, plan_value, plan_values, summary_of}
 use Rattle.td_plan.specs.code.StepViews.{step_view, steps_view}

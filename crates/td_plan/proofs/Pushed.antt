@@ -24,7 +24,7 @@ use Rattle.td_plan.specs.EqualitiesOfNames.{NamesOnly}
 use Rattle.td_plan.specs.EqualitiesOfValues.{Gives, IsAnsweredBy, IsHeadedAndAnswered, IsTotalIn, operated_outcome, where_value}
 use Rattle.td_plan.specs.PlansOf.{AreInHand, IsPlanOfTyped, outermost}
 use Rattle.td_plan.specs.Plans.{PlanTree}
-use Rattle.td_plan.specs.declared.push.Restricted.TheVariants as operands
+use Rattle.td_plan.specs.declared.rewriting.push.Restricted.TheVariants as operands
 use Rattle.td_plan.specs.Pushing.{IsAnsweredIn, MayStandFor, restricted_tree}
 use Rattle.td_tree.specs.declared.cause.Cause.TheVariants as causes
 use Rattle.td_tree.specs.declared.operator.Operator.{Operator}

@@ -8,7 +8,7 @@ use Rattle.std.specs.Prelude.{nat_eq, not, replicate}
 use Rattle.td_check.proofs.CheckedLists.{step_taken}
 use Rattle.td_eval.specs.OperatorValues.{prefix_value, truth_value}
 use Rattle.td_eval.specs.Worlds.{World}
-use Rattle.td_plan.specs.declared.step.Step.{Step}
+use Rattle.td_plan.specs.declared.plan.step.Step.{Step}
 use Rattle.td_plan.specs.Plans.{Frame, PlanTree, frame_of, plan_value}
 use Rattle.td_plan.specs.code.Quick.{AreInRows, AreQuick}
 use Rattle.td_plan.specs.code.Runs.{value_in}

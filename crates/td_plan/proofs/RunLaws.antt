@@ -15,9 +15,9 @@ use Rattle.td_eval.specs.OperatorValues.{column_values, on_truth, truth_value}
 use Rattle.td_eval.specs.code.Sights.{other_in, world_in}
 use Rattle.td_eval.specs.Worlds.{World}
 use Rattle.td_plan.proofs.HandLaws.{are_told, frame_told, held_told, told}
-use Rattle.td_plan.specs.declared.hand.Entered.{Entered}
-use Rattle.td_plan.specs.declared.step.Step.{Step}
-use Rattle.td_plan.specs.declared.surroundings.ValuedRelvar.{ValuedRelvar}
+use Rattle.td_plan.specs.declared.running.hand.Entered.{Entered}
+use Rattle.td_plan.specs.declared.plan.step.Step.{Step}
+use Rattle.td_plan.specs.declared.running.surroundings.ValuedRelvar.{ValuedRelvar}
 use Rattle.td_plan.specs.code.Hands.{AreValued, IsValued}
 use Rattle.td_plan.specs.Plans.{Frame, where_as_many}
 use Rattle.td_plan.specs.code.Runs.{IsEntered, IsInside, step_value, step_values, value_in, values_in}

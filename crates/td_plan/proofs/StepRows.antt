@@ -2,9 +2,9 @@
 use Rattle.std.proofs.Common.{◌≡◌, refl, ap, ◌∙◌, ℕ, List}
 use Rattle.std.specs.Global.{Box, Vec}
 use Rattle.td_group.specs.declared.aggregates.Agg.{Agg}
-use Rattle.td_plan.specs.declared.step.Step.{Step, Row_of-Step, end_of-Step, more_of-Step, items-the_row-Step, items_hidden-the_row-Step-0}
-use Rattle.td_plan.specs.declared.step.Step.TheVariants as p
-use Rattle.td_plan.specs.declared.step.Origin.{Origin}
+use Rattle.td_plan.specs.declared.plan.step.Step.{Step, Row_of-Step, end_of-Step, more_of-Step, items-the_row-Step, items_hidden-the_row-Step-0}
+use Rattle.td_plan.specs.declared.plan.step.Step.TheVariants as p
+use Rattle.td_plan.specs.declared.plan.step.Origin.{Origin}
 use Rattle.td_plan.specs.Plans.{PlanTrees, more, restriction, select, relation, headed_relation, tuple, extend, aggregate, summarize_per, summarize_by}
 use Rattle.td_plan.specs.code.StepViews.{step_view, steps_row, steps_view}
 use Rattle.td_tree.specs.declared.expression.Attributes.{Attributes}

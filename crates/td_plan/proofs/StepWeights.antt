@@ -1,6 +1,6 @@
 -- How large a step is.
 use Rattle.std.proofs.Common.{ap, length, get_or, zero, ◌<◌, ◌≡◌, ℕ, ◌+◌, ◌≤◌, suc, List, [], ◌∷◌, ◌++◌, arith}
-use Rattle.td_plan.specs.declared.step.Step.{Step}
+use Rattle.td_plan.specs.declared.plan.step.Step.{Step}
 use Rattle.td_plan.specs.code.StepViews.{step_view, steps_view}
 use Rattle.td_plan.specs.Plans.{PlanTree, PlanTrees, none, more, look_up, prefix, extract, restriction, binary, compare, postfix, select, component, measure, relation, headed_relation, tuple, extend, aggregate, summarize_per, summarize_by, choice}
 

@@ -5,7 +5,7 @@ use Rattle.td_eval.specs.OperatorValues.{on_relation, on_relations}
 use Rattle.td_eval.specs.code.Totals.{Total, total_of}
 use Rattle.td_eval.specs.Worlds.{World}
 use Rattle.td_group.specs.declared.aggregates.Agg.{Agg}
-use Rattle.td_plan.specs.declared.step.Step.{Step}
+use Rattle.td_plan.specs.declared.plan.step.Step.{Step}
 use Rattle.td_plan.specs.Plans.{Frame}
 use Rattle.td_plan.specs.code.Runs.{value_in, values_in}
 use Rattle.td_tree.specs.declared.fault.Fault.{Fault}

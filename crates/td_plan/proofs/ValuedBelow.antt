@@ -3,9 +3,9 @@ use Rattle.std.proofs.Common.{ℕ, suc, ◌≤◌, arith}
 use Rattle.std.specs.Borrow.{Bor}
 use Rattle.std.specs.Prelude.{Result}
 use Rattle.td_eval.specs.Worlds.{World}
-use Rattle.td_plan.specs.declared.evaluator.Evaluator.{Evaluator}
-use Rattle.td_plan.specs.declared.hand.Hand.{Hand}
-use Rattle.td_plan.specs.declared.step.Step.{Step}
+use Rattle.td_plan.specs.declared.running.evaluator.Evaluator.{Evaluator}
+use Rattle.td_plan.specs.declared.running.hand.Hand.{Hand}
+use Rattle.td_plan.specs.declared.plan.step.Step.{Step}
 use Rattle.td_plan.specs.code.ValuesBelow.{ValuesBelow}
 use Rattle.td_tree.specs.declared.fault.Fault.{Fault}
 use Rattle.td_value.specs.Values.{Val}

@@ -19,7 +19,7 @@ use Rattle.td_eval.proofs.law_lemmas.MoreWorlds.{HasMoreThan, same_in_more}
 use Rattle.td_eval.proofs.law_lemmas.TypedDatabases.{all_at, fronts_keep}
 use Rattle.td_eval.proofs.law_lemmas.ValuedWorlds.{typed_databases_give_values}
 use Rattle.td_eval.proofs.code_lemmas.WorldParts.{virtual_name, world_scope, world_selectors}
-use Rattle.td_plan.specs.declared.surroundings.ValuedRelvar.{ValuedRelvar}
+use Rattle.td_plan.specs.declared.running.surroundings.ValuedRelvar.{ValuedRelvar}
 use Rattle.td_plan.specs.code.Hands.{AreValued, IsValued}
 use Rattle.td_plan.specs.Plans.{PlanTree}
 use Rattle.td_plan.specs.PlansOf.{AreInHand, IsPlanOf, IsPlanOfTyped, outermost}

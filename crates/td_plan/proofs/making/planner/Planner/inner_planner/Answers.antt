@@ -1,0 +1,17 @@
+use Rattle.std.proofs.Common.{◌≡◌, ◌∙◌, ◌<◌, ap, get_or, length, rules, subst, sym}
+use Rattle.td_catalog.specs.Database.{database_scope}
+use Rattle.td_check.specs.Scopes.{entered_with}
+use Rattle.td_plan.specs.code.Planners.{among_headings}
+use Rattle.td_plan.proofs.Places.{one_more_first}
+use Rattle.td_plan.proofs.making.planner.Planner.inner_planner.Goals as goal
+
+pub loop-outer-preserved : goal.loop-outer-preserved
+loop-outer-preserved g c =
+    let hs = c.args.self.now.headings.items in
+    let within : c.loop-outer.outer-index < length hs = search rules in
+    let at = subst (λ xs. c.outer-item.result ≡ get_or xs c.loop-outer.outer-index c.outer-item.result) c.deref-outer-items.ensures.value c.outer-item.is in (
+      c.in_ok-enter.ensures.planner,
+      c.in_ok-enter.ensures.scope
+          ∙ (λ i. entered_with c.outer-item.result (c.loop-outer.invariant.1 i))
+          ∙ ap (among_headings (database_scope (g.C.Known.database c.args.self.now.catalog.now))) (sym (one_more_first hs c.loop-outer.outer-index c.outer-item.result within at)),
+    )

@@ -1,0 +1,30 @@
+use Rattle.std.proofs.Common.{◌≡◌, subst}
+use Rattle.std.specs.Prelude.{IfNone, IfSome}
+use Rattle.td_check.specs.OperatorTypes.{aggregate_type}
+use Rattle.td_check.specs.Scopes.{entered_with}
+use Rattle.td_check.specs.StaticTypes.{type_of}
+use Rattle.td_plan.proofs.PlannedAnswers.{relation_typed, untyped_planned}
+use Rattle.td_tree.specs.Outcomes.{Valued, with_value}
+use Rattle.td_tree.specs.code.TreeViews.{tree_view}
+use Rattle.td_tree.specs.Trees as trees
+use Rattle.td_types.specs.Types.{Heading, pack, relation}
+use Rattle.td_plan.proofs.making.planning.Planning.aggregate_step.Goals as goal
+
+pub returns : goal.returns
+returns g c =
+    let scope = c.args.self.now.planner.now.scope in
+    let d = tree_view c.args.operand.now in
+    c.aggregation_step.ensures scope d (tree_view c.args.value.now) c.in-Some.heading c.boxed_step.ensures
+    (subst (λ o. IfSome o (λ h. type_of scope d ≡ Valued (relation (pack h)))) c.in-Some.is c.in_ok-heading.ensures.some)
+    (c.pulled_step-value.ensures (entered_with c.in-Some.heading scope) (tree_view c.args.value.now) c.step_inside.ensures)
+
+pub returns-in_default : goal.returns-in_default
+returns-in_default g c =
+    let scope = c.args.self.now.planner.now.scope in
+    let d = tree_view c.args.operand.now in
+    let e = tree_view c.args.value.now in
+    untyped_planned scope c.step_of.result (trees.aggregate c.args.op d e)
+    (λ kind typed.
+    let found = relation_typed (type_of scope d) (λ s h. with_value (type_of (entered_with h scope) e) (aggregate_type c.args.op)) kind typed in
+    (subst (λ o. IfNone o ((h : Heading) → type_of scope d ≡ Valued (relation (pack h)) → ⊥)) c.in_default.is c.in_ok-heading.ensures.none)
+    found.0 found.1)

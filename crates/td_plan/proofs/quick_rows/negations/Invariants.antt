@@ -1,6 +1,0 @@
-use Rattle.std.proofs.Common.{◌≡◌, map, take}
-use Rattle.std.specs.Prelude.{not}
-use Rattle.td_plan.proofs.quick_rows.negations.Given as goal
-
-abbrev pub invariant-loop-truth : goal.invariant-loop-truth
-invariant-loop-truth l = l.negations.items ≡ map not (take l.truth-index l.truths)

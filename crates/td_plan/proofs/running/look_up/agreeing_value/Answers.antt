@@ -1,0 +1,17 @@
+use Rattle.std.proofs.Common.{◌≡◌, subst, sym}
+use Rattle.std.specs.Prelude.{IfSome}
+use Rattle.td_body.specs.Bodies.{agreeing}
+use Rattle.td_eval.specs.Worlds.{known_outcome}
+use Rattle.td_plan.proofs.LookUpLaws.{agreeing_found}
+use Rattle.td_plan.specs.code.Hands.{world_around}
+use Rattle.td_tree.specs.Outcomes.{Answers}
+use Rattle.td_plan.proofs.running.look_up.agreeing_value.Goals as goal
+
+pub returns-in-Some-2 : goal.returns-in-Some-2
+returns-in-Some-2 g c =
+    let key = c.args.key.now in
+    let r = g.B.Body.relation c.in-Some.entry.now.body in
+    let found = subst (λ o. IfSome o (λ q. q ≡ agreeing key c.args.part.now r)) c.in-Some-2.is c.in_ok-found.ensures in
+    subst (Answers (λ v. v) c.as_value.result)
+    (sym (agreeing_found key (known_outcome ((world_around c.args.around.now).relvar c.args.name.now)) r c.args.part.now c.in-Some.ensures.value))
+    (c.as_value.ensures (agreeing key c.args.part.now r) found)

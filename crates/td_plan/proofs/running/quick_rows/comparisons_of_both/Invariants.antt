@@ -1,0 +1,10 @@
+use Rattle.std.proofs.Common.{◌≡◌, map, take}
+use Rattle.std.specs.List.{zip}
+use Rattle.td_eval.specs.OperatorValues.{comparison_value}
+use Rattle.td_plan.proofs.QuickRows.{of_two}
+use Rattle.td_tree.specs.Outcomes.{Valued}
+use Rattle.td_value.specs.Values.{boolean, integer}
+use Rattle.td_plan.proofs.running.quick_rows.comparisons_of_both.Given as goal
+
+abbrev pub invariant-loop-place : goal.invariant-loop-place
+invariant-loop-place l = map (of_two integer (comparison_value l.op)) (take l.place (zip l.left l.right)) ≡ map (λ x. Valued (boolean x)) l.truths.items

@@ -1,0 +1,10 @@
+use Rattle.std.proofs.Common.{◌≡◌, map, take}
+use Rattle.std.specs.List.{zip}
+use Rattle.td_eval.specs.OperatorValues.{operator_value}
+use Rattle.td_plan.proofs.QuickRows.{of_two}
+use Rattle.td_tree.specs.Outcomes.{Valued}
+use Rattle.td_value.specs.Values.{boolean}
+use Rattle.td_plan.proofs.running.quick_rows.truths_of_both.Given as goal
+
+abbrev pub invariant-loop-place : goal.invariant-loop-place
+invariant-loop-place l = map (of_two boolean (operator_value l.op)) (take l.place (zip l.left l.right)) ≡ map (λ x. Valued (boolean x)) l.truths.items

@@ -1,4 +1,0 @@
-use Rattle.td_plan.proofs.virtuals.mark_reached.Given as goal
-
-abbrev pub decreases-loop-place : goal.decreases-loop-place
-decreases-loop-place g l = l.place
