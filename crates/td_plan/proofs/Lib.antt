@@ -1,4 +1,5 @@
 pub mod CountedTruths
+pub mod EnteredSlots
 pub mod EqualLookUps
 pub mod EqualNames
 pub mod EqualRestrictions
@@ -6,12 +7,9 @@ pub mod EqualValues
 pub mod FixedParts
 pub mod FixedValues
 pub mod HandLaws
-pub mod Independence
 pub mod LookUpLaws
 pub mod LookUpParts
 pub mod LookUpValues
-pub mod LoweredSteps
-pub mod MadeSteps
 pub mod NarrowedOperands
 pub mod Places
 pub mod Planned
@@ -24,8 +22,6 @@ pub mod PlannedSettings
 pub mod PlannedSummaries
 pub mod PlannedTuples
 pub mod Pushed
-pub mod PulledColumns
-pub mod PulledParts
 pub mod QuickRows
 pub mod RunLaws
 pub mod StepHeights
