@@ -10,7 +10,9 @@ pub mod HandLaws
 pub mod LookUpLaws
 pub mod LookUpParts
 pub mod LookUpValues
+pub mod MadePlans
 pub mod NarrowedOperands
+pub mod PlacedLaws
 pub mod Places
 pub mod Planned
 pub mod PlannedAnswers
@@ -23,6 +25,8 @@ pub mod PlannedSummaries
 pub mod PlannedTuples
 pub mod Pushed
 pub mod QuickRows
+pub mod RememberedRows
+pub mod Remembering
 pub mod RunLaws
 pub mod StepHeights
 pub mod StepRows
@@ -32,3 +36,4 @@ pub mod TotalConditions
 pub mod TreeWeights
 pub mod ValuedBelow
 pub mod VirtualRelvars
+pub mod Withins

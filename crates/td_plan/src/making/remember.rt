@@ -341,18 +341,18 @@ fn all_inside_both(
 
 /// A step with the parts whose answers are kept, and how many places these have.
 #[derive(Drop)]
-pub(crate) struct Remembered {
+pub(crate) struct RememberedStep {
     pub(crate) step: Step,
     pub(crate) places: usize,
 }
 
 /// The step, with the parts whose answers are kept: it has the same value.
-pub(crate) fn remembered(alloc: Global, step: Step) -> Result<Remembered, AllocError>
+pub(crate) fn remembered(alloc: Global, step: Step) -> Result<RememberedStep, AllocError>
     ensures view { IfOk result (λ r. step_view r.step ≡ step_view step) }
     ensures runnable { IfOk result (λ r. IsRunnable r.step) }
 {
     let mut step = step;
     let mut places = 0;
     remember(alloc, &mut places, &mut step)?;
-    Ok(Remembered { step, places })
+    Ok(RememberedStep { step, places })
 }
