@@ -1,4 +1,5 @@
 pub mod CountedTruths
+pub mod EnteredSlots
 pub mod EqualLookUps
 pub mod EqualNames
 pub mod EqualRestrictions
@@ -6,13 +7,12 @@ pub mod EqualValues
 pub mod FixedParts
 pub mod FixedValues
 pub mod HandLaws
-pub mod Independence
 pub mod LookUpLaws
 pub mod LookUpParts
 pub mod LookUpValues
-pub mod LoweredSteps
-pub mod MadeSteps
+pub mod MadePlans
 pub mod NarrowedOperands
+pub mod PlacedLaws
 pub mod Places
 pub mod Planned
 pub mod PlannedAnswers
@@ -24,9 +24,9 @@ pub mod PlannedSettings
 pub mod PlannedSummaries
 pub mod PlannedTuples
 pub mod Pushed
-pub mod PulledColumns
-pub mod PulledParts
 pub mod QuickRows
+pub mod RememberedRows
+pub mod Remembering
 pub mod RunLaws
 pub mod StepHeights
 pub mod StepRows
@@ -36,3 +36,4 @@ pub mod TotalConditions
 pub mod TreeWeights
 pub mod ValuedBelow
 pub mod VirtualRelvars
+pub mod Withins
