@@ -7,9 +7,9 @@ use td_body::sorted::SortedBody;
 use td_catalog::catalog::Catalog;
 use td_engine::engine::Engine;
 use td_eval::env::Env;
-use td_plan::explain::explain;
-use td_plan::plan::plan_of;
-use td_plan::run_plan::run_plan;
+use td_plan::making::plans::plan;
+use td_plan::plan::explain::explain;
+use td_plan::running::run_plan::run_plan;
 use td_tree::fault::Fault;
 use td_tree::name::Name;
 use td_types::heading::Heading;
@@ -105,7 +105,7 @@ fn told<'a>(
         other,
         tuples: &[],
     };
-    let plan = plan_of(alloc, &env, &tree);
+    let plan = plan(alloc, &env, &tree);
     drop(tree);
     let plan = plan?;
     let answer = value_literal(alloc, run_plan(alloc, &env, &plan));

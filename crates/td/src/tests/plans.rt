@@ -8,9 +8,11 @@ use td_body::sorted::SortedBody;
 use td_catalog::catalog::Catalog;
 use td_eval::env::Env;
 use td_eval::value::eval;
-use td_plan::explain::explain;
-use td_plan::plan::{Plan, plan_of};
-use td_plan::run_plan::run_plan;
+use td_plan::making::plans::plan;
+use td_plan::plan::Plan;
+use td_plan::plan::explain::explain;
+use td_plan::running::run_plan::run_plan;
+use td_tree::cause::Cause;
 use td_tree::fault::Fault;
 use td_tree::name::Name;
 use td_value::relation::Rel;
@@ -38,7 +40,7 @@ fn found(
 ) -> Result<Value, Fault> {
     let tree = expression(alloc, text)?;
     let answer = if planned {
-        let plan = plan_of(alloc, env, &tree)?;
+        let plan = plan(alloc, env, &tree)?;
         let answer = run_plan(alloc, env, &plan);
         drop(plan);
         answer
@@ -279,7 +281,7 @@ fn planned<'a>(alloc: Global, catalog: &'a Catalog<SortedBody>, text: &str) -> R
         other,
         tuples: &[],
     };
-    let plan = plan_of(alloc, &env, &tree);
+    let plan = plan(alloc, &env, &tree);
     drop(tree);
     Ok(plan?)
 }
@@ -345,24 +347,134 @@ fn read(alloc: Global, catalog: &Catalog<SortedBody>, text: &str) -> Result<Stri
 
 const COUNTED: &str = "RESTRICTION
   RELVAR S
-  ONCE
-    COUNT
-      RELVAR SP
   CONDITION
     <
       ATTRIBUTE 0 1
-      VALUED ONCE 0 0
+      ONCE
+        COUNT
+          RELVAR SP
 ";
+
+const LOOK_UP: &str = "RESTRICTION
+  LOOKUP S
+    TUPLE SNO
+      3
+  CONDITION
+    =
+      ATTRIBUTE 0 1
+      3
+";
+
+const REPLACED: &str = "RESTRICTION
+  RELVAR S
+  CONDITION
+    =
+      ATTRIBUTE 0 1
+      3
+";
+
+const READ: &[(&str, &str)] = &[
+    ("S WHERE SNO < COUNT(SP)", COUNTED),
+    ("S WHERE SNO = 3", LOOK_UP),
+    ("1", "1\n"),
+    ("1 + 1", "+\n  1\n  1\n"),
+    ("S JOIN SP", "HASHJOIN\n  RELVAR S\n  RELVAR SP\n"),
+    ("TUPLE {A 1}", "TUPLE {A 1}\n"),
+];
 
 #[test]
 fn plans_as_a_person_reads_them(rt: HostRuntime) {
     let alloc = rt.alloc();
     let catalog = database(alloc, KNOWN).expect(&rt, "memory");
-    let told = read(alloc, &catalog, "S WHERE SNO < COUNT(SP)").expect(&rt, "a plan");
-    assert_eq!(rt; told.as_str(), COUNTED);
-    let constant = read(alloc, &catalog, "1").expect(&rt, "a plan");
-    assert_eq!(rt; constant.as_str(), "1\n");
+    for (text, want) in READ {
+        let told = read(alloc, &catalog, text).expect(&rt, "a plan");
+        assert_eq!(rt; told.as_str(), *want);
+        drop(told);
+    }
+    drop(catalog);
+}
+
+/// Whether a look-up is read of the plan of an expression in which something may fail.
+fn has_look_up(alloc: Global, catalog: &Catalog<SortedBody>) -> Result<bool, Fault> {
+    let told = read(alloc, catalog, "SP WHERE SNO = 3 AND QTY = 7 AND 10 / QTY > 1")?;
+    let found = told.as_str().contains("LOOKUP");
     drop(told);
-    drop(constant);
+    Ok(found)
+}
+
+#[test]
+fn what_may_fail_is_no_look_up(rt: HostRuntime) {
+    let alloc = rt.alloc();
+    let catalog = database(alloc, KNOWN).expect(&rt, "memory");
+    assert_eq!(rt; has_look_up(alloc, &catalog), Ok(false));
+    drop(catalog);
+}
+
+/// What a person reads of the plan where another relation stands for the relvar of the name.
+fn read_beside<'a>(
+    alloc: Global,
+    catalog: &'a Catalog<SortedBody>,
+    target: &'a Name,
+    other: &'a Rel,
+    text: &str,
+) -> Result<String, Fault> {
+    let tree = expression(alloc, text)?;
+    let env = Env {
+        catalog,
+        other: Some((target, other)),
+        tuples: &[],
+    };
+    let plan = plan(alloc, &env, &tree);
+    drop(tree);
+    let plan = plan?;
+    let told = explain(alloc, &plan);
+    drop(plan);
+    Ok(told?)
+}
+
+#[test]
+fn no_look_up_where_another_relation_stands(rt: HostRuntime) {
+    let alloc = rt.alloc();
+    let catalog = database(alloc, KNOWN).expect(&rt, "memory");
+    let target = name(alloc, "S").expect(&rt, "a name");
+    let other = relation(alloc, "RELATION {TUPLE {SNO 3, CITY 'x'}}").expect(&rt, "a relation");
+    let told = read_beside(alloc, &catalog, &target, &other, "S WHERE SNO = 3");
+    let told = told.expect(&rt, "a plan");
+    assert_eq!(rt; told.as_str(), REPLACED);
+    drop(told);
+    drop(other);
+    drop(target);
+    drop(catalog);
+}
+
+// ---- the rows of one call
+
+const SMALL: &[(&str, Want)] = &[
+    ("1 + 1", Ok("2")),
+    ("9223372036854775807 + 1", Err(Cause::Overflow)),
+    ("-9223372036854775808 - 1", Err(Cause::Overflow)),
+    ("-9223372036854775808", Ok("-9223372036854775808")),
+    ("SUM(SP, QTY)", Ok("12")),
+    ("1 / 0 + 9223372036854775807 * 2", Err(Cause::Overflow)),
+    ("TABLE_DEE", Ok("RELATION {} {TUPLE {}}")),
+    ("TABLE_DUM", Ok("RELATION {} {}")),
+    ("SP {}", Ok("RELATION {} {TUPLE {}}")),
+    (
+        "COUNT(TCLOSE RELATION {TUPLE {X 1, Y 2}, TUPLE {X 2, Y 3}})",
+        Ok("3"),
+    ),
+    ("COUNT(SP GROUP ({QTY} AS G))", Ok("2")),
+    ("IF COUNT(S) = 3 THEN 'x' ELSE 'y' END IF", Ok("'x'")),
+    ("TUPLE {SNO 3, CITY 'Oslo'} IN S", Ok("TRUE")),
+];
+
+#[test]
+fn plans_of_small_expressions(rt: HostRuntime) {
+    let alloc = rt.alloc();
+    let catalog = database(alloc, KNOWN).expect(&rt, "memory");
+    for (text, want) in SMALL {
+        let told = told_elsewhere(alloc, &catalog, &catalog, text);
+        assert!(rt; is_answer(told, *want), "{text}");
+    }
     drop(catalog);
 }
