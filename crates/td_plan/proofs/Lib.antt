@@ -15,6 +15,7 @@ pub mod Places
 pub mod Planned
 pub mod PlannedAnswers
 pub mod PlannedBelow
+pub mod PlannedClosed
 pub mod PlannedLists
 pub mod PlannedNames
 pub mod PlannedNodes
