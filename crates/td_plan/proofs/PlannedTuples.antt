@@ -1,5 +1,5 @@
 -- What is planned in the tuples of an operand is what is applied to them.
-use Rattle.std.proofs.Common.{◌≡◌, ◌∙◌, ℕ, suc, true, List, [], ◌∷◌, ap, append-nil, length, refl, subst, sym}
+use Rattle.std.proofs.Common.{◌≡◌, ◌∙◌, ℕ, suc, true, List, [], ◌∷◌, ap, append-nil, length, subst, sym}
 use Rattle.std.specs.List.{Contains}
 use Rattle.std.specs.Prelude.{nat_eq}
 use Rattle.std.proofs.lemmas.Bool.{eq-eqb}
@@ -27,7 +27,7 @@ use Rattle.td_plan.proofs.EnteredSlots.{entered_slots}
 use Rattle.td_plan.proofs.PlannedAnswers.{parts_typed}
 use Rattle.td_plan.specs.Plans as plans
 use Rattle.td_plan.specs.Plans.{PlanTree, PlanTrees, Slots, extension_of, plan_columns, plan_value, with_slot}
-use Rattle.td_plan.specs.PlansOf.{AreInHand, AreSlotsOf, IsPlanFor, IsPlanOf, IsPlanOfTyped, outermost}
+use Rattle.td_plan.specs.PlansOf.{AreInHand, AreSlotsOf, IsPlanOf, IsPlanOfTyped, outermost}
 use Rattle.td_tree.specs.declared.cause.Cause.TheVariants as causes
 use Rattle.td_tree.specs.declared.operator.Aggregate.{Aggregate}
 use Rattle.td_tree.specs.Outcomes.{Outcome, Valued, with_value}
@@ -38,7 +38,7 @@ use Rattle.td_types.specs.Headings.{are_distinct, have_no_common}
 use Rattle.td_types.specs.code.TypeCode.{unpack_pack}
 use Rattle.td_types.specs.Types.{Attribute, Attrs, Heading, Type', attribute_names, pack, unpack}
 use Rattle.td_types.specs.Types as types
-use Rattle.td_value.specs.Values.{Relation, Tuple, Val, heading_of}
+use Rattle.td_value.specs.Values.{Relation, Tuple, heading_of}
 use Rattle.td_value.specs.code.Views.{values_of}
 
 -- ---- in the tuples of a relation that an operand has as its value
