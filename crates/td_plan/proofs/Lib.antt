@@ -10,7 +10,9 @@ pub mod HandLaws
 pub mod LookUpLaws
 pub mod LookUpParts
 pub mod LookUpValues
+pub mod MadePlans
 pub mod NarrowedOperands
+pub mod PlacedLaws
 pub mod Places
 pub mod Planned
 pub mod PlannedAnswers
@@ -24,6 +26,8 @@ pub mod PlannedSummaries
 pub mod PlannedTuples
 pub mod Pushed
 pub mod QuickRows
+pub mod RememberedRows
+pub mod Remembering
 pub mod RunLaws
 pub mod StepHeights
 pub mod StepRows
@@ -33,3 +37,4 @@ pub mod TotalConditions
 pub mod TreeWeights
 pub mod ValuedBelow
 pub mod VirtualRelvars
+pub mod Withins
