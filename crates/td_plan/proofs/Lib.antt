@@ -5,13 +5,13 @@ pub mod EqualRestrictions
 pub mod EqualValues
 pub mod FixedParts
 pub mod FixedValues
-pub mod HandLaws
 pub mod Independence
 pub mod LookUpLaws
 pub mod LookUpParts
 pub mod LookUpValues
 pub mod LoweredSteps
 pub mod MadeSteps
+pub mod MemoLaws
 pub mod NarrowedOperands
 pub mod Places
 pub mod Planned
@@ -28,6 +28,8 @@ pub mod PulledColumns
 pub mod PulledParts
 pub mod QuickRows
 pub mod RunLaws
+pub mod SlotLaws
+pub mod SoundSteps
 pub mod StepHeights
 pub mod StepRows
 pub mod StepWeights
