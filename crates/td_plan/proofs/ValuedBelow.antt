@@ -15,4 +15,4 @@ pub lower : {A F : Type 0} {world : A → World} {e : Evaluator A F} {height low
     {pre : F → Bor A → MutBor Memo → Bor Hand → Bor Step → Type 0}
     {post : F → Bor A → MutBor Memo → Bor Hand → Bor Step → Result Val Fault → MutBor Memo → Type 0}
     → low ≤ height → ValuesBelow world e (suc height) pre post → ValuesBelow world e (suc low) pre post
-lower l v = record { callable = λ memo hand step h. v.callable memo hand step (omega (arith, l, h)); values = v.values }
+lower l v = record { callable = λ memo hand step h ready. v.callable memo hand step (omega (arith, l, h)) ready; values = v.values }

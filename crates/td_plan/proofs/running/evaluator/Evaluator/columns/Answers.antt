@@ -18,7 +18,7 @@ use Rattle.td_types.specs.declared.ty.Ty.{Ty}
 use Rattle.td_plan.proofs.running.evaluator.Evaluator.columns.Goals as goal
 
 pub column-values-requires : goal.column-values-requires
-column-values-requires g c = lower (height_part c.args.steps.now c.loop-place.place c.index-steps-place.result c.loop-place-test.true c.index-steps-place.is) c.requires.values
+column-values-requires g c = lower (height_part c.args.steps.now c.loop-place.place c.index-steps-place.result c.loop-place-test.true c.index-steps-place.is) c.requires.below
 
 pub loop-place-preserved : goal.loop-place-preserved
 loop-place-preserved g c = λ ps sound m.

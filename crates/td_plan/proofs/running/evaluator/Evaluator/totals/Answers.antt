@@ -17,7 +17,7 @@ use Rattle.td_value.specs.Values.{Val}
 use Rattle.td_plan.proofs.running.evaluator.Evaluator.totals.Goals as goal
 
 pub values_in_groups-values-requires : goal.values_in_groups-values-requires
-values_in_groups-values-requires g c = lower (height_part c.args.steps.now c.loop-place.place c.index-steps-place.result (omega (arith, c.item_count-count.ensures.steps)) c.index-steps-place.is) c.requires
+values_in_groups-values-requires g c = lower (height_part c.args.steps.now c.loop-place.place c.index-steps-place.result (omega (arith, c.item_count-count.ensures.steps)) c.index-steps-place.is) c.requires.below
 
 pub loop-place-preserved : goal.loop-place-preserved
 loop-place-preserved g c = λ ps sound m.

@@ -11,7 +11,7 @@ use Rattle.td_plan.proofs.ValuedBelow.{lower}
 use Rattle.td_plan.proofs.running.evaluator.Evaluator.values_of.Goals as goal
 
 pub run-requires : goal.run-requires
-run-requires g c = lower (height_part c.args.steps.now c.loop-step.step-index c.step-item.result c.loop-step-test.true c.step-item.is) c.requires
+run-requires g c = lower (height_part c.args.steps.now c.loop-step.step-index c.step-item.result c.loop-step-test.true c.step-item.is) c.requires.below
 
 pub loop-step-preserved : goal.loop-step-preserved
 loop-step-preserved g c = λ ps sound m.
