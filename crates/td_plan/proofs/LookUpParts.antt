@@ -17,8 +17,8 @@ use Rattle.td_plan.specs.declared.rewriting.fixed.FixedValue.{FixedValue}
 use Rattle.td_plan.specs.Equalities.{HasValues, has_values}
 use Rattle.td_plan.specs.Narrowing.{AreFixed, IsFixedAt}
 use Rattle.td_plan.specs.Plans as plans
-use Rattle.td_plan.specs.Plans.{Frame, PlanTrees, plan_value, plan_values}
-use Rattle.td_plan.specs.PlansOf.{AreFramesOf, AreInHand, outermost}
+use Rattle.td_plan.specs.Plans.{PlanTrees, plan_value, plan_values}
+use Rattle.td_plan.specs.PlansOf.{AreSlotsOf, AreInHand, outermost}
 use Rattle.td_plan.specs.code.StepViews.{steps_view}
 use Rattle.td_tree.specs.Names.{IsName}
 use Rattle.td_tree.specs.Outcomes.{Valued, gathered, with_both, with_value}
@@ -97,21 +97,21 @@ module _ (h : Heading) where
 
 -- ---- the values of fixed attributes
 
-module _ (scope : Scope) (h : Heading) (c : Tree) (w : World) (s : List Tuple) (fs : List Frame) (k : GivesValues w (outermost scope))
-    (hand : AreInHand scope s) (f : AreFramesOf s fs) where
+module _ (scope : Scope) (h : Heading) (c : Tree) (w : World) (s : List Tuple) (slots : Slots) (k : GivesValues w (outermost scope))
+    (hand : AreInHand scope s) (f : AreSlotsOf s slots) where
   abbrev FixedEntry : List ℕ × Val → Type 0
   FixedEntry e = IsFixedAt w scope s h c e.0 e.1
 
   -- the plans of the part give the values of the entries, which are fixed to them
   pub record IsPartIn (part : List FixedValue) (es : Tuple) : Type 0 where
     pub names : tuple_names es ≡ fixed_names part
-    pub values : gathered (plan_values w fs (fixed_plans part)) ≡ Valued (entry_values es)
+    pub values : gathered (plan_values w slots (fixed_plans part)) ≡ Valued (entry_values es)
     pub fixed : AllByRecursion FixedEntry es
 
   pub part_found : (part : List FixedValue) → AreFixed scope h c part → (es : Tuple) × IsPartIn part es
   part_found [] all = ([], record { names = refl; values = refl; fixed = tt })
   part_found (x ∷ part) all =
-      let here = all.0 w s fs k hand f in
+      let here = all.0 w s slots k hand f in
       let rest = part_found part all.1 in (
         (x.name, here.0) ∷ rest.0,
         record {
@@ -141,7 +141,7 @@ module _ (scope : Scope) (h : Heading) (c : Tree) (w : World) (s : List Tuple) (
   -- the plan of the tuple gives it
   pub part_value : (key : List (List ℕ)) (part : List FixedValue) (es : Tuple) → IsHeading (pack h) → IsPartIn part es
       → fixed_names part ≡ attribute_names (projection key h)
-      → plan_value w fs (plans.tuple (fixed_names part) (fixed_plans part)) ≡ Valued (tuple_value es)
+      → plan_value w slots (plans.tuple (fixed_names part) (fixed_plans part)) ≡ Valued (tuple_value es)
   part_value key part es p found names =
       ap (λ o. with_value o (λ vs. tuple_from (zip (fixed_names part) vs))) found.values
       ∙ ap (λ ns. tuple_from (zip ns (entry_values es))) (sym found.names)

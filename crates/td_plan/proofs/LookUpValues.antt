@@ -145,22 +145,22 @@ pub look_up_narrows : (scope : Scope) (n : List ℕ) (key : List (List ℕ)) (pa
     → type_of scope d ≡ Valued (types.relation (pack h)) → HasNumbers c → IsTrue (cannot_fail (entered_with h scope) c)
     → (IsWritten c → AreFixed scope h c part) → fixed_names part ≡ attribute_names (projection key h)
     → Narrows scope (plans.look_up n key (plans.tuple (fixed_names part) (fixed_plans part))) d c h
-look_up_narrows scope n key part d c h base named static numbers never fixed names = λ written t is w s fs k hand f.
+look_up_narrows scope n key part d c h base named static numbers never fixed names = λ written t is w s slots k hand f.
     let ds = scope.types in
     let asked = λ (u : Tuple). value_of w (u ∷ s) c in
     let condition : IsWritten c = (written.0.1, written.1.1) in
     let found = base_found scope n d h base named static w s k hand in
     let r = found.0 in
     let there = found.1 in
-    let given = part_found scope h c w s fs k hand f part (fixed condition) in
+    let given = part_found scope h c w s slots k hand f part (fixed condition) in
     let es = given.0 in
     let p : IsHeading (pack h) = subst (λ g. IsHeading (pack g)) there.headed there.typed.0.2 in
-    let entries = fixed_entries scope h c w s fs k hand f p es given.1.fixed in
+    let entries = fixed_entries scope h c w s slots k hand f p es given.1.fixed in
     let tuple_names = given.1.names ∙ names in
     let total = answers scope c h w s k hand condition numbers never (condition_type scope d c h t static is) r there.headed there.typed in
     let agrees = typed_restriction ds (agree_on key es) r (typed_from_value ds r there.typed) in
     let value =
-    ap (λ o. with_value o (looked_up key (known_outcome (w.relvar n)))) (part_value scope h c w s fs k hand f key part es p given.1 names)
+    ap (λ o. with_value o (looked_up key (known_outcome (w.relvar n)))) (part_value scope h c w s slots k hand f key part es p given.1 names)
     ∙ tuple_unpacked es (λ u. with_value (known_outcome (w.relvar n)) (λ v. on_relation v (λ q. of_relation (agreeing key u q))))
     ∙ ap (λ o. with_value o (λ v. on_relation v (λ q. of_relation (agreeing key es q)))) there.known
     ∙ relation_unpacked r (λ q. of_relation (agreeing key es q)) in
@@ -175,6 +175,6 @@ look_up_narrows scope n key part d c h base named static numbers never fixed nam
           (entries_tuple h key p es entries tuple_names, entries_heading h key p es entries tuple_names ∙ ap (projection key) (sym there.headed))
           (λ u m e.
           let at = rows_typed ds r there.typed u m in
-          fixed_values_hold scope h c w s fs k hand f u at.0 (at.1 ∙ there.headed) e es given.1.fixed))
+          fixed_values_hold scope h c w s slots k hand f u at.0 (at.1 ∙ there.headed) e es given.1.fixed))
           ∙ ap (where_value asked) (sym there.asked);
     }

@@ -16,12 +16,12 @@ use Rattle.td_types.specs.Types as types
 
 pub plan_narrows : (scope : Scope) (p : PlanTree) (d e : Tree) (h : Heading) → IsPlanOfTyped scope p d
     → type_of scope d ≡ Valued (types.relation (pack h)) → Narrows scope p d e h
-plan_narrows scope p d e h i static = λ written t is w s fs k hand f.
+plan_narrows scope p d e h i static = λ written t is w s slots k hand f.
     let relation = types.relation (pack h) in
-    let is_value = i (written.0.0, written.1.0) relation static w s fs k hand f in
+    let is_value = i (written.0.0, written.1.0) relation static w s slots k hand f in
     record {
       kept =
           subst (KeepsType scope.types (Valued relation)) (sym is_value)
-          (kept scope w s fs k hand f d relation (written.0.0, written.1.0) static);
+          (kept scope w s slots k hand f d relation (written.0.0, written.1.0) static);
       same = ap (where_value (λ t. value_of w (t ∷ s) e)) is_value;
     }

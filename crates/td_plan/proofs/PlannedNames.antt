@@ -1,12 +1,13 @@
 -- A name's plan is the place of the innermost attribute of that name, else the relvar.
-use Rattle.std.proofs.Common.{◌≡◌, ◌∙◌, ℕ, suc, Bool, true, false, List, [], ◌∷◌, Option, Some, None, ap, map, option_map, refl, subst, sym, if◌then◌else◌}
+use Rattle.std.proofs.Common.{◌≡◌, ◌∙◌, ℕ, suc, Bool, true, false, List, [], ◌∷◌, Option, Some, None, ap, length, map, option_map, refl, subst, sym, if◌then◌else◌}
 use Rattle.std.specs.List.{slice_get}
+use Rattle.std.proofs.lemmas.List.{length-map}
 use Rattle.td_check.specs.Scopes.{Scope}
 use Rattle.td_eval.specs.Worlds.{World, innermost_value, known_outcome}
 use Rattle.td_plan.specs.code.Planners.{attribute_place, place_in}
 use Rattle.td_plan.specs.Plans as plans
-use Rattle.td_plan.specs.Plans.{Frame, attribute_at, value_or}
-use Rattle.td_plan.specs.PlansOf.{AreFramesOf, IsPlanOfTyped}
+use Rattle.td_plan.specs.Plans.{Slots, value_or}
+use Rattle.td_plan.specs.PlansOf.{AreSlotsOf, IsPlanOfTyped}
 use Rattle.td_tree.specs.Outcomes.{Outcome, Valued}
 use Rattle.td_tree.specs.Trees as trees
 use Rattle.td_types.specs.Types.{same_name}
@@ -27,37 +28,39 @@ found_in n (e ∷ t) = by_test (same_name e.0 n) refl (place_in n (heading_of t)
     by_test false is (Some p) h = (h.0, rw is h.1, h.2)
     by_test false is None h = rw is h
 
--- that of the innermost attribute, in the frames
-abbrev FoundAt : List ℕ → List Tuple → List Frame → Option (ℕ × ℕ) → Type 0
-FoundAt n s fs (Some q) = (v : Val) × (innermost_value n s ≡ Some v) × (attribute_at (slice_get fs q.0) q.1 ≡ Valued v)
-FoundAt n s fs None = innermost_value n s ≡ None
+-- that of the innermost attribute, in the slots
+abbrev FoundAt : List ℕ → List Tuple → Slots → Option (ℕ × ℕ) → Type 0
+FoundAt n s slots (Some q) = (v : Val) × (innermost_value n s ≡ Some v) × (value_or (slice_get (slots q.0) q.1) ≡ Valued v)
+FoundAt n s slots None = innermost_value n s ≡ None
 
 abbrev first_or : List ℕ → List Tuple → Option Val → Option Val
 first_or n s o = elim o as (λ _. Option Val) [ Some v ↦ Some v | None ↦ innermost_value n s ]
 
-pub attribute_found : (n : List ℕ) (s : List Tuple) (fs : List Frame) → AreFramesOf s fs → FoundAt n s fs (attribute_place n (map heading_of s))
-attribute_found n [] fs h = refl
-attribute_found n (t ∷ s) [] h = absurd h
-attribute_found n (t ∷ s) (f ∷ fs) h =
-    by_place (place_in n (heading_of t)) (found_in n t) (attribute_place n (map heading_of s)) (attribute_found n s fs h.1)
+pub attribute_found : (n : List ℕ) (s : List Tuple) (slots : Slots) → AreSlotsOf s slots → FoundAt n s slots (attribute_place n (map heading_of s))
+attribute_found n [] slots h = refl
+attribute_found n (t ∷ s) slots h =
+    by_place (place_in n (heading_of t)) (found_in n t) (attribute_place n (map heading_of s)) (attribute_found n s slots h.1)
   where
-    by_place : (o : Option ℕ) → FoundIn n t o → (outer : Option (ℕ × ℕ)) → FoundAt n s fs outer
-        → FoundAt n (t ∷ s) (f ∷ fs)
-        (elim o as (λ _. Option (ℕ × ℕ)) [ Some p ↦ Some (0, p) | None ↦ option_map (λ q. (suc q.0, q.1)) outer ])
+    here : slots (length (map heading_of s)) ≡ values_of t
+    here = ap slots (length-map s heading_of) ∙ h.0
+
+    by_place : (o : Option ℕ) → FoundIn n t o → (outer : Option (ℕ × ℕ)) → FoundAt n s slots outer
+        → FoundAt n (t ∷ s) slots
+        (elim o as (λ _. Option (ℕ × ℕ)) [ Some p ↦ Some (length (map heading_of s), p) | None ↦ outer ])
     by_place (Some p) is outer ih =
-        (is.0, ap (first_or n s) is.1, ap (λ u. value_or (slice_get (values_of u) p)) h.0 ∙ ap value_or is.2)
+        (is.0, ap (first_or n s) is.1, ap (λ u. value_or (slice_get u p)) here ∙ ap value_or is.2)
     by_place None is (Some q) ih = (ih.0, ap (first_or n s) is ∙ ih.1, ih.2)
     by_place None is None ih = ap (first_or n s) is ∙ ih
 
 abbrev name_or : World → List ℕ → Option Val → Outcome Val
 name_or w n o = elim o as (λ _. Outcome Val) [ Some v ↦ Valued v | None ↦ known_outcome (w.relvar n) ]
 
-pub attribute_planned : (scope : Scope) (n : List ℕ) (d p : ℕ) → attribute_place n scope.entered ≡ Some (d, p)
-    → IsPlanOfTyped scope (plans.attribute d p) (trees.name n)
-attribute_planned scope n d p e = λ written t is w s fs k hand f.
-    let found = subst (FoundAt n s fs) (ap (attribute_place n) hand.1 ∙ e) (attribute_found n s fs f) in
+pub attribute_planned : (scope : Scope) (n : List ℕ) (slot p : ℕ) → attribute_place n scope.entered ≡ Some (slot, p)
+    → IsPlanOfTyped scope (plans.attribute slot p) (trees.name n)
+attribute_planned scope n slot p e = λ written t is w s slots k hand f.
+    let found = subst (FoundAt n s slots) (ap (attribute_place n) hand.1 ∙ e) (attribute_found n s slots f) in
     found.2 ∙ ap (name_or w n) (sym found.1)
 
 pub relvar_planned : (scope : Scope) (n : List ℕ) → attribute_place n scope.entered ≡ None → IsPlanOfTyped scope (plans.relvar n) (trees.name n)
-relvar_planned scope n e = λ written t is w s fs k hand f.
-    ap (name_or w n) (sym (subst (FoundAt n s fs) (ap (attribute_place n) hand.1 ∙ e) (attribute_found n s fs f)))
+relvar_planned scope n e = λ written t is w s slots k hand f.
+    ap (name_or w n) (sym (subst (FoundAt n s slots) (ap (attribute_place n) hand.1 ∙ e) (attribute_found n s slots f)))

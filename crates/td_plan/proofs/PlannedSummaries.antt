@@ -1,5 +1,5 @@
 -- What is planned for SUMMARIZE is what its items ask of the groups.
-use Rattle.std.proofs.Common.{◌≡◌, ◌∙◌, suc, true, List, [], ◌∷◌, Option, Some, None, ap, length, map, refl, subst, sym}
+use Rattle.std.proofs.Common.{◌≡◌, ◌∙◌, ℕ, suc, true, List, [], ◌∷◌, Option, Some, None, ap, length, map, refl, subst, sym}
 use Rattle.std.specs.List.{zip}
 use Rattle.std.specs.Prelude.{nat_eq}
 use Rattle.std.proofs.lemmas.Bool.{eq-eqb}
@@ -20,13 +20,12 @@ use Rattle.td_eval.proofs.law_lemmas.AlikeOutcomes.{both_alike, over_same, with_
 use Rattle.td_eval.proofs.law_lemmas.AlikeSummaries.{SummandsAlikeIn, summarized_alike}
 use Rattle.td_eval.proofs.code_lemmas.SummaryParts.{attributes_of_items, by_type, more_changes_no_items, per_type}
 use Rattle.td_eval.proofs.code_lemmas.TypedRows.{rows_typed}
-use Rattle.td_plan.specs.Hoisting.{HoistsAll}
 use Rattle.td_plan.specs.code.PlannedParts.{ArePlansOfTyped, in_summaries}
 use Rattle.td_plan.specs.Plans as plans
-use Rattle.td_plan.specs.Plans.{Frame, PlanTree, PlanTrees, plan_columns, plan_value, plan_values, summary_of}
-use Rattle.td_plan.specs.PlansOf.{AreFramesOf, AreInHand, IsPlanOfTyped, outermost}
+use Rattle.td_plan.specs.Plans.{PlanTree, PlanTrees, Slots, plan_columns, plan_value, summary_of}
+use Rattle.td_plan.specs.PlansOf.{AreInHand, AreSlotsOf, IsPlanOfTyped, outermost}
 use Rattle.td_plan.specs.SummaryItems.{aggregates_in}
-use Rattle.td_plan.proofs.PlannedTuples.{all_pulled, heading_is, kept, more_there, one_alike}
+use Rattle.td_plan.proofs.PlannedTuples.{heading_is, kept, more_there, one_alike}
 use Rattle.td_group.specs.declared.aggregates.Agg.{Agg}
 use Rattle.td_tree.specs.declared.expression.Summary.{Summary}
 use Rattle.td_tree.specs.declared.expression.Summary.TheVariants as summaries
@@ -139,11 +138,11 @@ module _ (scope : Scope) (d : Tree) (items : Summaries) where
 
 -- ---- in a world
 
-module _ (scope : Scope) (w : World) (s : List Tuple) (fs : List Frame) (k : GivesValues w (outermost scope)) (hand : AreInHand scope s) (f : AreFramesOf s fs) where
-  module _ (os : List (Outcome Val)) where
+module _ (scope : Scope) (w : World) (s : List Tuple) (slots : Slots) (k : GivesValues w (outermost scope)) (hand : AreInHand scope s) (f : AreSlotsOf s slots) where
+  module _ (slot : ℕ) (next : slot ≡ length scope.entered) where
     -- there are as many new attributes as items
     as_many_items : (inner : Scope) (ps : PlanTrees) (items : Summaries) (xs : List Attribute) → ArePlansOfTyped inner ps (in_summaries items)
-        → summary_attributes inner items ≡ Valued xs → length xs ≡ length (zip (aggregates_in items) (plan_columns w fs os ps))
+        → summary_attributes inner items ≡ Valued xs → length xs ≡ length (zip (aggregates_in items) (plan_columns w slots slot ps))
     as_many_items inner plans.none trees.no_summaries xs all is = ap length (sym (valued_is [] xs is))
     as_many_items inner plans.none (trees.counted m rest) xs all is = absurd all
     as_many_items inner plans.none (trees.summed op e m rest) xs all is = absurd all
@@ -159,7 +158,7 @@ module _ (scope : Scope) (w : World) (s : List Tuple) (fs : List Frame) (k : Giv
     module _ (r : Relation) (h : Heading) (head : r.heading ≡ h) (typed : IsOfType scope.types (relation_value r) (types.relation (pack r.heading))) where
       items_alike : (ps : PlanTrees) (items : Summaries) (xs : List Attribute) → ArePlansOfTyped (entered_with h scope) ps (in_summaries items)
           → ItemsGiveNames items → ItemsHaveTexts items → summary_attributes (entered_with h scope) items ≡ Valued xs
-          → SummandsAlikeIn r (zip (aggregates_in items) (plan_columns w fs os ps)) (items_in_tuples w s items)
+          → SummandsAlikeIn r (zip (aggregates_in items) (plan_columns w slots slot ps)) (items_in_tuples w s items)
       items_alike plans.none trees.no_summaries xs all n x is = tt
       items_alike plans.none (trees.counted m rest) xs all n x is = absurd all
       items_alike plans.none (trees.summed op e m rest) xs all n x is = absurd all
@@ -167,7 +166,7 @@ module _ (scope : Scope) (w : World) (s : List Tuple) (fs : List Frame) (k : Giv
       items_alike (plans.more p ps) (trees.counted m rest) xs all n x is =
           let y = value_of_with (summary_attributes (entered_with h scope) rest) (λ attributes. Valued ((m, integer) ∷ attributes)) xs is in (
             refl,
-            one_alike scope w s fs k hand f r h head (rows_typed scope.types r typed) os p (trees.literal (trees.truth true)) boolean all.0 (tt, tt) refl,
+            one_alike scope w s slots k hand f r h head (rows_typed scope.types r typed) slot next p (trees.literal (trees.truth true)) boolean all.0 (tt, tt) refl,
             items_alike ps rest y.0 all.1 n.1 x y.1,
           )
       items_alike (plans.more p ps) (trees.summed op e m rest) xs all n x is =
@@ -175,29 +174,29 @@ module _ (scope : Scope) (w : World) (s : List Tuple) (fs : List Frame) (k : Giv
           (λ t attributes. Valued ((m, t) ∷ attributes)) xs is in
           let z = value_of_with (type_of (entered_with h scope) e) (aggregate_type op) y.0 y.2 in (
             refl,
-            one_alike scope w s fs k hand f r h head (rows_typed scope.types r typed) os p e z.0 all.0 (n.0, x.0) z.1,
+            one_alike scope w s slots k hand f r h head (rows_typed scope.types r typed) slot next p e z.0 all.0 (n.0, x.0) z.1,
             items_alike ps rest y.1 all.1 n.2 x.1 y.3,
           )
 
   module _ (d : Tree) (written : IsWritten d) (h : Heading) (static : type_of scope d ≡ Valued (types.relation (pack h))) (items : Summaries)
       (names : ItemsGiveNames items) (texts : ItemsHaveTexts items) (have : HaveTypes (entered_with h scope) items)
       (xs : List Attribute) (known : summary_attributes (entered_with h scope) items ≡ Valued xs)
-      (cs : PlanTrees) (all : ArePlansOfTyped (entered_with h scope) cs (in_summaries items)) (os : List (Outcome Val)) where
+      (cs : PlanTrees) (all : ArePlansOfTyped (entered_with h scope) cs (in_summaries items)) (slot : ℕ) (next : slot ≡ length scope.entered) where
     -- the new attributes have the same types where more is known
     same_attributes : Valued xs ≡ summary_attributes (entered_with h (with_tuples w.scope s)) items
     same_attributes =
-        let there = more_changes_no_items (entered_with h scope) (entered_with h (with_tuples w.scope s)) items have.0 (more_there scope w s fs k hand f h) have.1 in
+        let there = more_changes_no_items (entered_with h scope) (entered_with h (with_tuples w.scope s)) items have.0 (more_there scope w s slots k hand f h) have.1 in
         sym known ∙ attributes_of_items (entered_with h scope) items have.0 have.1
         ∙ sym (attributes_of_items (entered_with h (with_tuples w.scope s)) items have.0 there)
 
     -- what is given of the operand's value
     pub summary_alike : (v u : Val) → value_of w s d ≡ Valued v
-        → summary_of xs (zip (aggregates_in items) (plan_columns w fs os cs)) v u
+        → summary_of xs (zip (aggregates_in items) (plan_columns w slots slot cs)) v u
         ≡ summary_value (λ g. summary_attributes (entered_with g (with_tuples w.scope s)) items) (items_in_tuples w s items) v u
     summary_alike v u is =
-        let summands = zip (aggregates_in items) (plan_columns w fs os cs) in
-        let many : nat_eq (length xs) (length summands) ≡ true = eq-eqb (length xs) (length summands) (as_many_items os (entered_with h scope) cs items xs all known) in
-        let keeps = subst (KeepsType scope.types (Valued (types.relation (pack h)))) is (kept scope w s fs k hand f d (types.relation (pack h)) written static) in
+        let summands = zip (aggregates_in items) (plan_columns w slots slot cs) in
+        let many : nat_eq (length xs) (length summands) ≡ true = eq-eqb (length xs) (length summands) (as_many_items slot next (entered_with h scope) cs items xs all known) in
+        let keeps = subst (KeepsType scope.types (Valued (types.relation (pack h)))) is (kept scope w s slots k hand f d (types.relation (pack h)) written static) in
         rw many
         (over_same scope.types (types.relation (pack h)) (Valued v)
         (λ r. on_relation u (λ p. summarized_value (Valued xs) summands r p))
@@ -206,46 +205,40 @@ module _ (scope : Scope) (w : World) (s : List Tuple) (fs : List Frame) (k : Giv
         (λ g r same head typed.
         let at = heading_is h g r same head in
         let one = λ (p : Relation). summarized_alike r p (Valued xs) summands (items_in_tuples w s items)
-        (items_alike os r h at typed cs items xs all names texts known)
+        (items_alike slot next r h at typed cs items xs all names texts known)
         ∙ (λ j. summarized_value (same_attributes j) (items_in_tuples w s items) r p)
         ∙ (λ j. summarized_value (summary_attributes (entered_with (sym at j) (with_tuples w.scope s)) items) (items_in_tuples w s items) r p) in
         λ j. on_relation u (λ p. one p j)))
 
 -- ---- SUMMARIZE
 
-module _ (scope : Scope) (p : PlanTree) (xs : List Attribute) (gs : List Agg) (old parts qs cs : PlanTrees) (d : Tree) (items : Summaries) (h : Heading)
-    (i : IsPlanOfTyped scope p d) (static : type_of scope d ≡ Valued (types.relation (pack h)))
+module _ (scope : Scope) (p : PlanTree) (xs : List Attribute) (gs : List Agg) (slot : ℕ) (cs : PlanTrees) (d : Tree) (items : Summaries) (h : Heading)
+    (next : slot ≡ length scope.entered) (i : IsPlanOfTyped scope p d) (static : type_of scope d ≡ Valued (types.relation (pack h)))
     (known : summary_attributes (entered_with h scope) items ≡ Valued xs) (asked : gs ≡ aggregates_in items)
-    (all : ArePlansOfTyped (entered_with h scope) cs (in_summaries items)) (pulls : HoistsAll old parts cs qs) where
-  -- the summands that the code asks
-  summands_are : (w : World) (fs : List Frame)
-      → zip gs (plan_columns w fs (plan_values w fs parts) qs) ≡ zip (aggregates_in items) (plan_columns w fs (plan_values w fs parts) cs)
-  summands_are w fs = λ j. zip (asked j) (all_pulled old parts cs qs pulls w fs j)
-
+    (all : ArePlansOfTyped (entered_with h scope) cs (in_summaries items)) where
   pub summary_planned : (r : PlanTree) (q : Tree) → IsPlanOfTyped scope r q
-      → IsPlanOfTyped scope (plans.summarize_per p r xs gs parts qs) (trees.summarize_per d q items)
-  summary_planned r q m = λ written t is w s fs k hand f.
+      → IsPlanOfTyped scope (plans.summarize_per p r xs gs slot cs) (trees.summarize_per d q items)
+  summary_planned r q m = λ written t is w s slots k hand f.
       let found = per_types scope d h static items q t is in
       let own : IsWritten d = (written.0.0, written.1.0) in
-      let os = plan_values w fs parts in
-      let summands = zip (aggregates_in items) (plan_columns w fs os cs) in
-      (λ j. with_both (plan_value w fs p) (plan_value w fs r) (summary_of xs (summands_are w fs j)))
-      ∙ (λ j. with_both (i own (types.relation (pack h)) static w s fs k hand f j)
-      (m (written.0.1, written.1.1) found.0 found.1 w s fs k hand f j) (summary_of xs summands))
+      let columns = plan_columns w slots slot cs in
+      let summands = zip (aggregates_in items) columns in
+      (λ j. with_both (i own (types.relation (pack h)) static w s slots k hand f j)
+      (m (written.0.1, written.1.1) found.0 found.1 w s slots k hand f j) (summary_of xs (zip (asked j) columns)))
       ∙ both_alike (value_of w s d) (value_of w s q) (summary_of xs summands)
       (summary_value (λ g. summary_attributes (entered_with g (with_tuples w.scope s)) items) (items_in_tuples w s items))
-      (λ v u valued. summary_alike scope w s fs k hand f d own h static items written.0.2 written.1.2 found.2 xs known cs all os v u valued)
+      (λ v u valued. summary_alike scope w s slots k hand f d own h static items written.0.2 written.1.2 found.2 xs known cs all slot next v u valued)
 
-  pub summary_by_planned : (by : Attributes) → IsPlanOfTyped scope (plans.summarize_by p by xs gs parts qs) (trees.summarize_by d by items)
-  summary_by_planned by = λ written t is w s fs k hand f.
+  pub summary_by_planned : (by : Attributes) → IsPlanOfTyped scope (plans.summarize_by p by xs gs slot cs) (trees.summarize_by d by items)
+  summary_by_planned by = λ written t is w s slots k hand f.
       let have = by_types scope d h static items by t is in
       let own : IsWritten d = (written.0.0, written.1.0) in
-      let os = plan_values w fs parts in
-      let summands = zip (aggregates_in items) (plan_columns w fs os cs) in
+      let columns = plan_columns w slots slot cs in
+      let summands = zip (aggregates_in items) columns in
       let meant = summary_value (λ g. summary_attributes (entered_with g (with_tuples w.scope s)) items) (items_in_tuples w s items) in
-      (λ j. with_value (plan_value w fs p) (λ v. with_value (postfix_value (project by) v) (summary_of xs (summands_are w fs j) v)))
-      ∙ (λ j. with_value (i own (types.relation (pack h)) static w s fs k hand f j) (λ v. with_value (postfix_value (project by) v) (summary_of xs summands v)))
+      (λ j. with_value (i own (types.relation (pack h)) static w s slots k hand f j)
+      (λ v. with_value (postfix_value (project by) v) (summary_of xs (zip (asked j) columns) v)))
       ∙ with_alike (value_of w s d) (λ v. with_value (postfix_value (project by) v) (summary_of xs summands v))
       (λ v. with_value (postfix_value (project by) v) (meant v))
       (λ v valued. with_alike (postfix_value (project by) v) (summary_of xs summands v) (meant v)
-      (λ u other. summary_alike scope w s fs k hand f d own h static items written.0.1 written.1.1 have xs known cs all os v u valued))
+      (λ u other. summary_alike scope w s slots k hand f d own h static items written.0.1 written.1.1 have xs known cs all slot next v u valued))

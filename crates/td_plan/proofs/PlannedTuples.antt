@@ -1,5 +1,5 @@
 -- What is planned in the tuples of an operand is what is applied to them.
-use Rattle.std.proofs.Common.{◌≡◌, ◌∙◌, suc, true, List, [], ◌∷◌, ap, append-nil, length, map, refl, subst, sym}
+use Rattle.std.proofs.Common.{◌≡◌, ◌∙◌, ℕ, suc, true, List, [], ◌∷◌, ap, append-nil, length, refl, subst, sym}
 use Rattle.std.specs.List.{Contains}
 use Rattle.std.specs.Prelude.{nat_eq}
 use Rattle.std.proofs.lemmas.Bool.{eq-eqb}
@@ -21,13 +21,13 @@ use Rattle.td_eval.proofs.law_lemmas.AlikeRows.{AlikeIn, AreAlikeIn, aggregated_
 use Rattle.td_eval.proofs.law_lemmas.NewSettings.{new_settings_extend}
 use Rattle.td_eval.proofs.code_lemmas.TypedRows.{rows_typed}
 use Rattle.td_eval.proofs.code_lemmas.TypedTrees.{values_keep_types}
-use Rattle.td_plan.specs.Hoisting.{BeginsWith, Hoists, HoistsAll}
 use Rattle.td_plan.specs.Narrowing.{Narrows}
 use Rattle.td_plan.specs.code.PlannedParts.{ArePlansOfTyped, in_named}
+use Rattle.td_plan.proofs.EnteredSlots.{entered_slots}
 use Rattle.td_plan.proofs.PlannedAnswers.{parts_typed}
 use Rattle.td_plan.specs.Plans as plans
-use Rattle.td_plan.specs.Plans.{Frame, PlanTree, PlanTrees, extension_of, frame_of, plan_columns, plan_value, plan_values}
-use Rattle.td_plan.specs.PlansOf.{AreFramesOf, AreInHand, IsPlanOf, IsPlanOfTyped, outermost}
+use Rattle.td_plan.specs.Plans.{PlanTree, PlanTrees, Slots, extension_of, plan_columns, plan_value, with_slot}
+use Rattle.td_plan.specs.PlansOf.{AreInHand, AreSlotsOf, IsPlanFor, IsPlanOf, IsPlanOfTyped, outermost}
 use Rattle.td_tree.specs.declared.cause.Cause.TheVariants as causes
 use Rattle.td_tree.specs.declared.operator.Aggregate.{Aggregate}
 use Rattle.td_tree.specs.Outcomes.{Outcome, Valued, with_value}
@@ -39,45 +39,11 @@ use Rattle.td_types.specs.code.TypeCode.{unpack_pack}
 use Rattle.td_types.specs.Types.{Attribute, Attrs, Heading, Type', attribute_names, pack, unpack}
 use Rattle.td_types.specs.Types as types
 use Rattle.td_value.specs.Values.{Relation, Tuple, Val, heading_of}
-
--- ---- where parts were valued once
-
-begins_itself : (os : List (Outcome Val)) → BeginsWith os os
-begins_itself os = ([], sym (append-nil os))
-
--- what a plan gives in a tuple
-abbrev in_tuple : World → List Frame → List (Outcome Val) → PlanTree → Tuple → Outcome Val
-in_tuple w fs os p t = plan_value w (frame_of os t ∷ fs) p
-
-one_pulled : (old parts : PlanTrees) (c q : PlanTree) → Hoists old parts c q → (w : World) (fs : List Frame)
-    → in_tuple w fs (plan_values w fs parts) q ≡ in_tuple w fs (plan_values w fs parts) c
-one_pulled old parts c q pulls w fs = λ i t. (pulls w fs t (plan_values w fs parts) (begins_itself (plan_values w fs parts))).1 i
-
--- functions that give the same everywhere
-same_columns : (fs gs : List (Tuple → Outcome Val)) → ((t : Tuple) → map (λ f. f t) fs ≡ map (λ f. f t) gs) → fs ≡ gs
-same_columns [] [] h = refl
-same_columns [] (g ∷ gs) h = absurd (let e = h [] in cc)
-same_columns (f ∷ fs) [] h = absurd (let e = h [] in cc)
-same_columns (f ∷ fs) (g ∷ gs) h =
-    let first : (t : Tuple) → f t ≡ g t = λ t. (let e = h t in cc) in
-    let rest = same_columns fs gs (λ t. (let e = h t in cc)) in
-    λ i. (λ t. first t i) ∷ rest i
-
-columns_are : (w : World) (fs : List Frame) (os : List (Outcome Val)) (ps : PlanTrees) (t : Tuple)
-    → map (λ f. f t) (plan_columns w fs os ps) ≡ plan_values w (frame_of os t ∷ fs) ps
-columns_are w fs os plans.none t = refl
-columns_are w fs os (plans.more p ps) t = ap (λ vs. plan_value w (frame_of os t ∷ fs) p ∷ vs) (columns_are w fs os ps t)
-
-pub all_pulled : (old parts cs qs : PlanTrees) → HoistsAll old parts cs qs → (w : World) (fs : List Frame)
-    → plan_columns w fs (plan_values w fs parts) qs ≡ plan_columns w fs (plan_values w fs parts) cs
-all_pulled old parts cs qs pulls w fs =
-    let os = plan_values w fs parts in
-    same_columns (plan_columns w fs os qs) (plan_columns w fs os cs)
-    (λ t. columns_are w fs os qs t ∙ (pulls w fs t os (begins_itself os)).1 ∙ sym (columns_are w fs os cs t))
+use Rattle.td_value.specs.code.Views.{values_of}
 
 -- ---- in the tuples of a relation that an operand has as its value
 
-module _ (scope : Scope) (w : World) (s : List Tuple) (fs : List Frame) (k : GivesValues w (outermost scope)) (hand : AreInHand scope s) (f : AreFramesOf s fs) where
+module _ (scope : Scope) (w : World) (s : List Tuple) (slots : Slots) (k : GivesValues w (outermost scope)) (hand : AreInHand scope s) (f : AreSlotsOf s slots) where
   -- a value of the operand's type
   pub kept : (d : Tree) (t : Type') → IsWritten d → type_of scope d ≡ Valued t → KeepsType scope.types (Valued t) (value_of w s d)
   kept d t written is =
@@ -92,16 +58,18 @@ module _ (scope : Scope) (w : World) (s : List Tuple) (fs : List Frame) (k : Giv
       record { types = k.keeps.types; relvars = ([], k.keeps.known ∙ sym (append-nil scope.relvars)); entered = λ i. h ∷ hand.1 i }
 
   module _ (r : Relation) (h : Heading) (head : r.heading ≡ h)
-      (typed : (u : Tuple) → Contains r.body u → IsTypedTuple scope.types u × (heading_of u ≡ r.heading)) (os : List (Outcome Val)) where
+      (typed : (u : Tuple) → Contains r.body u → IsTypedTuple scope.types u × (heading_of u ≡ r.heading))
+      (slot : ℕ) (next : slot ≡ length scope.entered) where
     pub one_alike : (c : PlanTree) (e : Tree) (t : Type') → IsPlanOfTyped (entered_with h scope) c e → IsWritten e → type_of (entered_with h scope) e ≡ Valued t
-        → AlikeIn r (λ u. plan_value w (frame_of os u ∷ fs) c) (λ u. value_of w (u ∷ s) e)
+        → AlikeIn r (λ u. plan_value w (with_slot slot (values_of u) slots) c) (λ u. value_of w (u ∷ s) e)
     one_alike c e t i written is = λ u b.
         let at = typed u b in
-        i written t is w (u ∷ s) (frame_of os u ∷ fs) k ((at.0, hand.0), λ j. (at.1 ∙ head) j ∷ hand.1 j) (refl, f)
+        i written t is w (u ∷ s) (with_slot slot (values_of u) slots) k ((at.0, hand.0), λ j. (at.1 ∙ head) j ∷ hand.1 j)
+        (entered_slots scope.entered u s slots slot next hand.1 f)
 
     pub parts_alike : (ps : PlanTrees) (es : NamedTrees) (xs : List Attribute) → ArePlansOfTyped (entered_with h scope) ps (in_named es)
         → PartsGiveNames es → PartsHaveTexts es → named_types (entered_with h scope) es ≡ Valued xs
-        → AreAlikeIn r (plan_columns w fs os ps) (values_in_tuples w s es)
+        → AreAlikeIn r (plan_columns w slots slot ps) (values_in_tuples w s es)
     parts_alike plans.none trees.none_named xs all n x is = tt
     parts_alike plans.none (trees.more_named m e es) xs all n x is = absurd all
     parts_alike (plans.more p ps) trees.none_named xs all n x is = absurd all
@@ -126,82 +94,82 @@ module _ (scope : Scope) where
       (z.0, subst (λ i. type_of (entered_with i scope) e ≡ Valued z.0) (unpack_pack h) z.1)
 
   -- where the operand's plan narrows it
-  pub restriction_planned : (p : PlanTree) (old parts : PlanTrees) (q c : PlanTree) (d e : Tree) (h : Heading) → Narrows scope p d e h
-      → type_of scope d ≡ Valued (types.relation (pack h)) → IsPlanOfTyped (entered_with h scope) c e → Hoists old parts c q
-      → IsPlanOfTyped scope (plans.restriction p parts q) (trees.restriction d e)
-  restriction_planned p old parts q c d e h i static j pulls = λ written t is w s fs k hand f.
+  pub restriction_planned : (p : PlanTree) (slot : ℕ) (c : PlanTree) (d e : Tree) (h : Heading) → slot ≡ length scope.entered → Narrows scope p d e h
+      → type_of scope d ≡ Valued (types.relation (pack h)) → IsPlanOfTyped (entered_with h scope) c e
+      → IsPlanOfTyped scope (plans.restriction p slot c) (trees.restriction d e)
+  restriction_planned p slot c d e h next i static j = λ written t is w s slots k hand f.
       let u = inner_type d e h t restriction_type static is in
-      let os = plan_values w fs parts in
-      let narrowed = i written t is w s fs k hand f in
-      ap (λ a. with_value (plan_value w fs p) (λ v. on_relation v (restricted_value a))) (one_pulled old parts c q pulls w fs)
-      ∙ over_same scope.types (types.relation (pack h)) (plan_value w fs p)
-      (restricted_value (λ t. plan_value w (frame_of os t ∷ fs) c)) (restricted_value (λ t. value_of w (t ∷ s) e)) narrowed.kept
-      (λ g r same head typed. restricted_alike r (λ t. plan_value w (frame_of os t ∷ fs) c) (λ t. value_of w (t ∷ s) e)
-      (one_alike scope w s fs k hand f r h (heading_is h g r same head) (rows_typed scope.types r typed) os c e u.0 j (written.0.1, written.1.1) u.1))
+      let inside = λ (t : Tuple). plan_value w (with_slot slot (values_of t) slots) c in
+      let narrowed = i written t is w s slots k hand f in
+      over_same scope.types (types.relation (pack h)) (plan_value w slots p)
+      (restricted_value inside) (restricted_value (λ t. value_of w (t ∷ s) e)) narrowed.kept
+      (λ g r same head typed. restricted_alike r inside (λ t. value_of w (t ∷ s) e)
+      (one_alike scope w s slots k hand f r h (heading_is h g r same head) (rows_typed scope.types r typed) slot next c e u.0 j
+      (written.0.1, written.1.1) u.1))
       ∙ narrowed.same
 
-  pub aggregation_planned : (op : Aggregate) (p : PlanTree) (old parts : PlanTrees) (q c : PlanTree) (d e : Tree) (h : Heading) → IsPlanOfTyped scope p d
-      → type_of scope d ≡ Valued (types.relation (pack h)) → IsPlanOfTyped (entered_with h scope) c e → Hoists old parts c q
-      → IsPlanOfTyped scope (plans.aggregate op p parts q) (trees.aggregate op d e)
-  aggregation_planned op p old parts q c d e h i static j pulls = λ written t is w s fs k hand f.
+  pub aggregation_planned : (op : Aggregate) (p : PlanTree) (slot : ℕ) (c : PlanTree) (d e : Tree) (h : Heading) → slot ≡ length scope.entered
+      → IsPlanOfTyped scope p d → type_of scope d ≡ Valued (types.relation (pack h)) → IsPlanOfTyped (entered_with h scope) c e
+      → IsPlanOfTyped scope (plans.aggregate op p slot c) (trees.aggregate op d e)
+  aggregation_planned op p slot c d e h next i static j = λ written t is w s slots k hand f.
       let u = inner_type d e h t (λ q. aggregate_type op) static is in
-      let os = plan_values w fs parts in
-      ap (λ a. with_value (plan_value w fs p) (λ v. on_relation v (aggregated_value (asked_of op) a))) (one_pulled old parts c q pulls w fs)
-      ∙ ap (λ o. with_value o (λ v. on_relation v (aggregated_value (asked_of op) (λ t. plan_value w (frame_of os t ∷ fs) c))))
-      (i (written.0.0, written.1.0) (types.relation (pack h)) static w s fs k hand f)
+      let inside = λ (t : Tuple). plan_value w (with_slot slot (values_of t) slots) c in
+      ap (λ o. with_value o (λ v. on_relation v (aggregated_value (asked_of op) inside)))
+      (i (written.0.0, written.1.0) (types.relation (pack h)) static w s slots k hand f)
       ∙ over_same scope.types (types.relation (pack h)) (value_of w s d)
-      (aggregated_value (asked_of op) (λ t. plan_value w (frame_of os t ∷ fs) c)) (aggregated_value (asked_of op) (λ t. value_of w (t ∷ s) e))
-      (kept scope w s fs k hand f d (types.relation (pack h)) (written.0.0, written.1.0) static)
-      (λ g r same head typed. aggregated_alike r (asked_of op) (λ t. plan_value w (frame_of os t ∷ fs) c) (λ t. value_of w (t ∷ s) e)
-      (one_alike scope w s fs k hand f r h (heading_is h g r same head) (rows_typed scope.types r typed) os c e u.0 j (written.0.1, written.1.1) u.1))
+      (aggregated_value (asked_of op) inside) (aggregated_value (asked_of op) (λ t. value_of w (t ∷ s) e))
+      (kept scope w s slots k hand f d (types.relation (pack h)) (written.0.0, written.1.0) static)
+      (λ g r same head typed. aggregated_alike r (asked_of op) inside (λ t. value_of w (t ∷ s) e)
+      (one_alike scope w s slots k hand f r h (heading_is h g r same head) (rows_typed scope.types r typed) slot next c e u.0 j
+      (written.0.1, written.1.1) u.1))
 
   -- ---- EXTEND
 
-  as_many : (w : World) (fs : List Frame) (os : List (Outcome Val)) (inner : Scope) (ps : PlanTrees) (es : NamedTrees) (xs : List Attribute)
-      → ArePlansOfTyped inner ps (in_named es) → named_types inner es ≡ Valued xs → length xs ≡ length (plan_columns w fs os ps)
-  as_many w fs os inner plans.none trees.none_named xs all is = ap length (sym (valued_is [] xs is))
-  as_many w fs os inner plans.none (trees.more_named m e es) xs all is = absurd all
-  as_many w fs os inner (plans.more p ps) trees.none_named xs all is = absurd all
-  as_many w fs os inner (plans.more p ps) (trees.more_named m e es) xs all is =
+  pub as_many : (w : World) (slots : Slots) (slot : ℕ) (inner : Scope) (ps : PlanTrees) (es : NamedTrees) (xs : List Attribute)
+      → ArePlansOfTyped inner ps (in_named es) → named_types inner es ≡ Valued xs → length xs ≡ length (plan_columns w slots slot ps)
+  as_many w slots slot inner plans.none trees.none_named xs all is = ap length (sym (valued_is [] xs is))
+  as_many w slots slot inner plans.none (trees.more_named m e es) xs all is = absurd all
+  as_many w slots slot inner (plans.more p ps) trees.none_named xs all is = absurd all
+  as_many w slots slot inner (plans.more p ps) (trees.more_named m e es) xs all is =
       let y = values_of_both (type_of inner e) (named_types inner es) (λ t attributes. Valued ((m, t) ∷ attributes)) xs is in
-      ap length (sym (valued_is ((m, y.0) ∷ y.1) xs y.4)) ∙ ap suc (as_many w fs os inner ps es y.1 all.1 y.3)
+      ap length (sym (valued_is ((m, y.0) ∷ y.1) xs y.4)) ∙ ap suc (as_many w slots slot inner ps es y.1 all.1 y.3)
 
   -- the attributes of both spellings, where the operand has the heading
   module _ (d : Tree) (es : NamedTrees) (h : Heading) (static : type_of scope d ≡ Valued (types.relation (pack h)))
       (xs : List Attribute) (known : named_types (entered_with h scope) es ≡ Valued xs) where
     -- they have the same types for each relation of the operand's type
-    known_there : (w : World) (s : List Tuple) (fs : List Frame) → GivesValues w (outermost scope) → AreInHand scope s → AreFramesOf s fs
+    known_there : (w : World) (s : List Tuple) (slots : Slots) → GivesValues w (outermost scope) → AreInHand scope s → AreSlotsOf s slots
         → (r : Relation) → r.heading ≡ h → named_types (entered_with r.heading (with_tuples w.scope s)) es ≡ Valued xs
-    known_there w s fs k hand f r at =
+    known_there w s slots k hand f r at =
         ap (λ g. named_types (entered_with g (with_tuples w.scope s)) es) at
-        ∙ more_changes_no_parts (entered_with h scope) (entered_with h (with_tuples w.scope s)) es xs (more_there scope w s fs k hand f h) known
+        ∙ more_changes_no_parts (entered_with h scope) (entered_with h (with_tuples w.scope s)) es xs (more_there scope w s slots k hand f h) known
 
     -- what plans give as settings
-    settings_planned : (p : PlanTree) (old parts qs cs : PlanTrees) → IsPlanOfTyped scope p d → ArePlansOfTyped (entered_with h scope) cs (in_named es)
-        → HoistsAll old parts cs qs → IsWritten (trees.extend_setting d es) → IsPlanOf scope (plans.extend p xs parts qs) (trees.extend_setting d es)
-    settings_planned p old parts qs cs i all pulls written = λ w s fs k hand f.
-        let os = plan_values w fs parts in
-        let columns = plan_columns w fs os cs in
-        let many : nat_eq (length xs) (length columns) ≡ true = eq-eqb (length xs) (length columns) (as_many w fs os (entered_with h scope) cs es xs all known) in
-        ap (λ cols. with_value (plan_value w fs p) (λ v. on_relation v (extension_of xs cols))) (all_pulled old parts cs qs pulls w fs)
-        ∙ ap (λ o. with_value o (λ v. on_relation v (extension_of xs columns)))
-        (i (written.0.0, written.1.0) (types.relation (pack h)) static w s fs k hand f)
+    settings_planned : (p : PlanTree) (slot : ℕ) (cs : PlanTrees) → slot ≡ length scope.entered → IsPlanOfTyped scope p d
+        → ArePlansOfTyped (entered_with h scope) cs (in_named es) → IsWritten (trees.extend_setting d es)
+        → IsPlanOf scope (plans.extend p xs slot cs) (trees.extend_setting d es)
+    settings_planned p slot cs next i all written = λ w s slots k hand f.
+        let columns = plan_columns w slots slot cs in
+        let many : nat_eq (length xs) (length columns) ≡ true =
+        eq-eqb (length xs) (length columns) (as_many w slots slot (entered_with h scope) cs es xs all known) in
+        ap (λ o. with_value o (λ v. on_relation v (extension_of xs columns)))
+        (i (written.0.0, written.1.0) (types.relation (pack h)) static w s slots k hand f)
         ∙ over_same scope.types (types.relation (pack h)) (value_of w s d) (extension_of xs columns)
         (λ r. extended_by_settings (named_types (entered_with r.heading (with_tuples w.scope s)) es) (values_in_tuples w s es) r)
-        (kept scope w s fs k hand f d (types.relation (pack h)) (written.0.0, written.1.0) static)
+        (kept scope w s slots k hand f d (types.relation (pack h)) (written.0.0, written.1.0) static)
         (λ g r same head typed.
         let at = heading_is h g r same head in
-        let there = known_there w s fs k hand f r at in
+        let there = known_there w s slots k hand f r at in
         rw many
         (settings_alike r (Valued xs) columns (values_in_tuples w s es)
-        (parts_alike scope w s fs k hand f r h at (rows_typed scope.types r typed) os cs es xs all written.0.1 written.1.1 known)
+        (parts_alike scope w s slots k hand f r h at (rows_typed scope.types r typed) slot next cs es xs all written.0.1 written.1.1 known)
         ∙ (λ j. extended_by_settings (sym there j) (values_in_tuples w s es) r)))
 
     -- what is added to the operand's heading is set
-    additions_set : (t : Type') → type_of scope (trees.extend d es) ≡ Valued t → IsWritten (trees.extend d es) → (w : World) (s : List Tuple) (fs : List Frame)
-        → GivesValues w (outermost scope) → AreInHand scope s → AreFramesOf s fs
+    additions_set : (t : Type') → type_of scope (trees.extend d es) ≡ Valued t → IsWritten (trees.extend d es) → (w : World) (s : List Tuple) (slots : Slots)
+        → GivesValues w (outermost scope) → AreInHand scope s → AreSlotsOf s slots
         → value_of w s (trees.extend d es) ≡ value_of w s (trees.extend_setting d es)
-    additions_set t is written w s fs k hand f =
+    additions_set t is written w s slots k hand f =
         let new = parts_typed scope d h es extension_type t static is in
         let extended = value_of_with (extended_by h new.0) (λ g. Valued (types.relation (pack g))) t new.2 in
         let apart : have_no_common xs h ≡ true =
@@ -210,22 +178,22 @@ module _ (scope : Scope) where
         over_same scope.types (types.relation (pack h)) (value_of w s d)
         (λ r. extended_value (named_types (entered_with r.heading (with_tuples w.scope s)) es) (values_in_tuples w s es) r)
         (λ r. extended_by_settings (named_types (entered_with r.heading (with_tuples w.scope s)) es) (values_in_tuples w s es) r)
-        (kept scope w s fs k hand f d (types.relation (pack h)) (written.0.0, written.1.0) static)
+        (kept scope w s slots k hand f d (types.relation (pack h)) (written.0.0, written.1.0) static)
         (λ g r same head typed.
         let at = heading_is h g r same head in
         let there_typed = named_types (entered_with r.heading (with_tuples w.scope s)) es in
-        let there : there_typed ≡ Valued xs = known_there w s fs k hand f r at in
+        let there : there_typed ≡ Valued xs = known_there w s slots k hand f r at in
         sym (new_settings_extend there_typed (values_in_tuples w s es) r typed.0 (λ ys same.
         ap (λ zs. have_no_common zs r.heading) (valued_is ys xs (sym same ∙ there)) ∙ ap (have_no_common xs) at ∙ apart)))
 
   -- a plan of each spelling
-  module _ (p : PlanTree) (xs : List Attribute) (old parts qs cs : PlanTrees) (d : Tree) (es : NamedTrees) (h : Heading) (i : IsPlanOfTyped scope p d)
-      (static : type_of scope d ≡ Valued (types.relation (pack h))) (known : named_types (entered_with h scope) es ≡ Valued xs)
-      (all : ArePlansOfTyped (entered_with h scope) cs (in_named es)) (pulls : HoistsAll old parts cs qs) where
-    pub setting_planned : IsPlanOfTyped scope (plans.extend p xs parts qs) (trees.extend_setting d es)
-    setting_planned = λ written t is. settings_planned d es h static xs known p old parts qs cs i all pulls written
+  module _ (p : PlanTree) (xs : List Attribute) (slot : ℕ) (cs : PlanTrees) (d : Tree) (es : NamedTrees) (h : Heading) (next : slot ≡ length scope.entered)
+      (i : IsPlanOfTyped scope p d) (static : type_of scope d ≡ Valued (types.relation (pack h)))
+      (known : named_types (entered_with h scope) es ≡ Valued xs) (all : ArePlansOfTyped (entered_with h scope) cs (in_named es)) where
+    pub setting_planned : IsPlanOfTyped scope (plans.extend p xs slot cs) (trees.extend_setting d es)
+    setting_planned = λ written t is. settings_planned d es h static xs known p slot cs next i all written
 
-    pub extension_planned : IsPlanOfTyped scope (plans.extend p xs parts qs) (trees.extend d es)
-    extension_planned = λ written t is w s fs k hand f.
-        settings_planned d es h static xs known p old parts qs cs i all pulls written w s fs k hand f
-        ∙ sym (additions_set d es h static xs known t is written w s fs k hand f)
+    pub extension_planned : IsPlanOfTyped scope (plans.extend p xs slot cs) (trees.extend d es)
+    extension_planned = λ written t is w s slots k hand f.
+        settings_planned d es h static xs known p slot cs next i all written w s slots k hand f
+        ∙ sym (additions_set d es h static xs known t is written w s slots k hand f)

@@ -43,9 +43,9 @@ use Rattle.td_value.specs.Values.{IsRelation, Relation, Tuple, Val, relation_val
 
 -- a plan of what stands for an expression is one of the expression
 pub stands_planned : (scope : Scope) (p : PlanTree) (e d : Tree) → MayStandFor scope e d → IsPlanOfTyped scope p e → IsPlanOfTyped scope p d
-stands_planned scope p e d stands plan = λ written t is w s fs k hand f.
+stands_planned scope p e d stands plan = λ written t is w s slots k hand f.
     let there = stands written t is in
-    plan there.written t there.typed w s fs k hand f ∙ there.same w s k hand
+    plan there.written t there.typed w s slots k hand f ∙ there.same w s k hand
 
 -- ---- what operands give
 

@@ -3,7 +3,7 @@
 
 pub mod equalities;
 pub mod laws;
-mod making;
+pub mod making;
 pub mod plan;
 mod rewriting;
 pub mod running;

@@ -4,5 +4,6 @@ pub(crate) mod in_tuples;
 pub(crate) mod nodes;
 pub(crate) mod planner;
 pub(crate) mod planning;
+pub mod plans;
 pub(crate) mod remember;
 pub(crate) mod summaries;

@@ -13,7 +13,7 @@ ghost use Rattle.td_types.specs.Types.{attribute_names};
 ghost use Rattle.td_types.specs.code.Views.{pairs_view};
 ghost use Rattle.td_value.specs.Values.{Relation};
 
-use crate::plan::{plan, plan_in_relvar, plan_settings};
+use crate::making::plans::{plan, plan_in_relvar, plan_settings};
 use crate::running::run_plan::run_plan;
 use std::alloc::Global;
 use td_body::body::Body;

@@ -68,6 +68,21 @@ module _ (db : Database) (legal : IsLegal db) where
       let typed = value_from_typed db.types r is in
       (is.is_relation, all_from_members (IsTypedTuple db.types) r.body (λ u c. (rows_typed db.types r typed u c).0))
 
+  -- what is chosen of a base relvar has its type
+  chosen_typed : (n : List ℕ) (b : BaseRelvar) → base_named n db ≡ Some b → (p : Tree) (k : Option Type')
+      → type_if_given (entered_with b.relation.heading (database_scope db)) (Some p) ≡ Valued k → condition_fits k ≡ Valued tt
+      → type_of (database_scope db) (restriction (name n) p) ≡ Valued (relation (pack b.relation.heading))
+  chosen_typed n b at p k typed fits =
+      let t = value_of_with (type_of (entered_with b.relation.heading (database_scope db)) p) (λ t. Valued (Some t)) k typed in
+      let asked : condition_fits (Some t.0) ≡ Valued tt = ap (λ o. with_value o condition_fits) t.2 ∙ fits in
+      let truth : same_type t.0 boolean ≡ true = (value_of_test (same_type t.0 boolean) tt tt causes.TypeMismatch asked).0 in
+      let kind = relation (pack b.relation.heading) in
+      let operand : type_of (database_scope db) (name n) ≡ Valued kind =
+      ap (λ o. with_value (known_or causes.NameUnknown o) (λ r. Valued (relation (pack r.heading)))) (known_as_base db n b at) in
+      ap (λ o. with_value o (λ s. over_relation s (λ h. with_value (type_of (entered_with h (database_scope db)) p) (restriction_type s)))) operand
+      ∙ ap (λ (h : Heading). with_value (type_of (entered_with h (database_scope db)) p) (restriction_type kind)) (unpack_pack b.relation.heading)
+      ∙ ap (λ o. with_value o (restriction_type kind)) t.1 ∙ ap (λ c. value_if c kind causes.TypeMismatch) truth
+
   -- ---- one assignment
 
   module _ (n : List ℕ) (so_far : Relation) (gift : IsGift db (n, so_far)) where
@@ -84,17 +99,15 @@ module _ (db : Database) (legal : IsLegal db) where
         }
 
     condition_plannable : (condition : Option Tree) (k : Option Type')
-        → type_if_given (entered_with gift.target.relation.heading (database_scope db)) condition ≡ Valued k
+        → type_if_given (entered_with gift.target.relation.heading (database_scope db)) condition ≡ Valued k → condition_fits k ≡ Valued tt
         → IsWrittenIf condition → IsPlannableConditionIf db n so_far condition
-    condition_plannable None k typed is_written = tt
-    condition_plannable (Some e) k typed is_written =
-        let t = value_of_with (type_of (entered_with gift.target.relation.heading (database_scope db)) e) _ k typed in
+    condition_plannable None k typed fits is_written = tt
+    condition_plannable (Some e) k typed fits is_written =
         record {
           gives = source_gives db legal.typed defined n so_far gift;
           definitions = defined;
-          tuples = tuples_typed so_far (typed_gift db legal.typed defined n so_far gift);
-          written = is_written;
-          typed = (t.0, subst (λ (h : Heading). type_of (entered_with h (database_scope db)) e ≡ Valued t.0) (sym gift.heading) t.1);
+          written = ((tt, is_written.0), (tt, is_written.1));
+          typed = (relation (pack gift.target.relation.heading), chosen_typed n gift.target gift.named e k typed fits);
         }
 
     settings_plannable : (style : Style) (condition : Option Tree) (settings : NamedTrees) → IsAdmittedAssignment db (update style n condition settings)
@@ -121,10 +134,10 @@ module _ (db : Database) (legal : IsLegal db) where
   assignment_plannable so_far (included_delete n e) gift is = source_plannable n so_far gift e is.checked is.written
   assignment_plannable so_far (delete n condition) gift is =
       let k = checked_condition db legal.typed defined n so_far gift condition is.checked in
-      condition_plannable n so_far gift condition k.0 k.1 is.written
+      condition_plannable n so_far gift condition k.0 k.1 k.2 is.written
   assignment_plannable so_far (update style n condition settings) gift is =
       let k = checked_setting_condition db legal.typed defined n so_far gift style condition settings is.checked in
-      (condition_plannable n so_far gift condition k.0 k.1 is.written.0, settings_plannable n so_far gift style condition settings is)
+      (condition_plannable n so_far gift condition k.0 k.1 k.2 is.written.0, settings_plannable n so_far gift style condition settings is)
 
   -- ---- what is chosen of what a base relvar holds
 
@@ -133,22 +146,11 @@ module _ (db : Database) (legal : IsLegal db) where
         → condition_fits k ≡ Valued tt → IsWrittenIf condition → IsPlannableIf db (option_map (restriction (name n)) condition)
     chosen_plannable None k typed fits is_written = tt
     chosen_plannable (Some p) k typed fits is_written =
-        let t = value_of_with (type_of (entered_with b.relation.heading (database_scope db)) p) (λ t. Valued (Some t)) k typed in
-        let asked : condition_fits (Some t.0) ≡ Valued tt = ap (λ o. with_value o condition_fits) t.2 ∙ fits in
-        let truth : same_type t.0 boolean ≡ true = (value_of_test (same_type t.0 boolean) tt tt causes.TypeMismatch asked).0 in
-        let kind = relation (pack b.relation.heading) in
-        let operand : type_of (database_scope db) (name n) ≡ Valued kind =
-        ap (λ o. with_value (known_or causes.NameUnknown o) (λ r. Valued (relation (pack r.heading)))) (known_as_base db n b at) in
         record {
           gives = database_gives db legal.typed defined;
           definitions = defined;
           written = ((tt, is_written.0), (tt, is_written.1));
-          typed = (
-            kind,
-            ap (λ o. with_value o (λ s. over_relation s (λ h. with_value (type_of (entered_with h (database_scope db)) p) (restriction_type s)))) operand
-                ∙ ap (λ (h : Heading). with_value (type_of (entered_with h (database_scope db)) p) (restriction_type kind)) (unpack_pack b.relation.heading)
-                ∙ ap (λ o. with_value o (restriction_type kind)) t.1 ∙ ap (λ c. value_if c kind causes.TypeMismatch) truth,
-          );
+          typed = (relation (pack b.relation.heading), chosen_typed n b at p k typed fits);
         }
 
     pub delete_plannable : (condition : Option Tree) → IsAdmittedAssignment db (delete n condition)

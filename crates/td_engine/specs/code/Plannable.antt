@@ -16,7 +16,7 @@ use Rattle.td_eval.specs.UnfailingValues.{GivesValues}
 use Rattle.td_eval.specs.ValueTypes.{DefinitionsAreWritten, IsTypedTuple, IsWritten}
 use Rattle.td_eval.specs.Worlds.{World}
 use Rattle.td_tree.specs.Outcomes.{Outcome, Valued}
-use Rattle.td_tree.specs.Trees.{Assignment, NamedTrees, Tree, assign, delete, disjoint_insert, included_delete, insert, update}
+use Rattle.td_tree.specs.Trees.{Assignment, NamedTrees, Tree, assign, delete, disjoint_insert, included_delete, insert, name, restriction, update}
 use Rattle.td_types.specs.Types.{Attribute, Type'}
 use Rattle.td_value.specs.Values.{IsRelation, Relation}
 
@@ -68,13 +68,12 @@ pub record IsPlannableSource (db : Database) (target : List ℕ) (so_far : Relat
   pub written : IsWritten e
   pub typed : (t : Type') × (type_of (database_scope db) e ≡ Valued t)
 
--- a condition that may be so in each of the target's tuples so far
+-- a condition by which tuples may be chosen of the target where its name means its relation so far
 pub record IsPlannableCondition (db : Database) (target : List ℕ) (so_far : Relation) (e : Tree) : Type 0 where
   pub gives : GivesValues (source_world db target so_far) (database_scope db)
   pub definitions : DefinitionsAreWritten db
-  pub tuples : IsRelation so_far × AllByRecursion (IsTypedTuple db.types) so_far.body
-  pub written : IsWritten e
-  pub typed : (t : Type') × (type_of (entered_with so_far.heading (database_scope db)) e ≡ Valued t)
+  pub written : IsWritten (restriction (name target) e)
+  pub typed : (t : Type') × (type_of (database_scope db) (restriction (name target) e) ≡ Valued t)
 
 abbrev pub IsPlannableConditionIf : Database → List ℕ → Relation → Option Tree → Type 0
 IsPlannableConditionIf db target so_far None = ⊤

@@ -71,6 +71,7 @@ AreEachRemembered a b (names ∷ rest) (old ∷ olds) (new ∷ news) =
     (m : ℕ) × IsRemembered a m names old new × AreEachRemembered m b rest olds news
 AreEachRemembered a b _ _ _ = ⊥
 
+-- each, or the part that it becomes at a place after those of the steps before it
 abbrev pub AreEachKept : ℕ → ℕ → List (List ℕ) → List Step → List Step → Type 0
 AreEachKept a b [] [] [] = a ≡ b
 AreEachKept a b (names ∷ rest) (old ∷ olds) (new ∷ news) =

@@ -1,6 +1,6 @@
 //! Parts of a step whose answers are kept, found once it is made: those that do not name the
 //! innermost tuple which what they are parts of names.
-ghost use Rattle.std.specs.Prelude.{◌≡◌, ◌<◌, ◌^◌, ◌-◌, ◌∷◌, [], IfOk, List, OnOk, map, ℕ};
+ghost use Rattle.std.specs.Prelude.{◌≡◌, ◌<◌, ◌^◌, ◌-◌, ◌∷◌, [], IfOk, List, OnOk, length, map, ℕ};
 ghost use Rattle.td_plan.specs.code.Memos.{IsRunnable};
 ghost use Rattle.td_plan.specs.code.Remembered.{AreAllAmong, AreAmong, AreAmongBut, AreBefore};
 ghost use Rattle.td_plan.specs.code.Remembered.{AreEachKept, AreEachRemembered, AreRemembered};
@@ -144,13 +144,12 @@ fn keep_all(
     all: &[Vec<usize>],
     reach: usize,
 ) -> Result<(), AllocError>
+    requires { length all.now ≡ length steps.old.items }
     ensures { OnOk result (AreEachKept places.old places.new (map (λ ns. ns.items) all.now)
         steps.old.items steps.new.items) }
 {
     for (place, step) in steps.iter_mut().enumerate() {
-        if let Some(names) = all.get(place) {
-            keep_part(alloc, places, step, names, reach)?;
-        }
+        keep_part(alloc, places, step, &all[place], reach)?;
     }
     Ok(())
 }
@@ -342,18 +341,18 @@ fn all_inside_both(
 
 /// A step with the parts whose answers are kept, and how many places these have.
 #[derive(Drop)]
-pub(crate) struct Remembered {
+pub(crate) struct RememberedStep {
     pub(crate) step: Step,
     pub(crate) places: usize,
 }
 
 /// The step, with the parts whose answers are kept: it has the same value.
-pub(crate) fn remembered(alloc: Global, step: Step) -> Result<Remembered, AllocError>
+pub(crate) fn remembered(alloc: Global, step: Step) -> Result<RememberedStep, AllocError>
     ensures view { IfOk result (λ r. step_view r.step ≡ step_view step) }
     ensures runnable { IfOk result (λ r. IsRunnable r.step) }
 {
     let mut step = step;
     let mut places = 0;
     remember(alloc, &mut places, &mut step)?;
-    Ok(Remembered { step, places })
+    Ok(RememberedStep { step, places })
 }

@@ -7,7 +7,7 @@ ghost use Rattle.td_eval.specs.Worlds.{known_outcome};
 ghost use Rattle.td_plan.specs.code.Hands.{AreValued};
 ghost use Rattle.td_tree.specs.Outcomes.{Answers};
 
-use crate::plan::plan;
+use crate::making::plans::plan;
 use crate::running::run_plan::run_plan_in;
 use crate::running::surroundings::{Surroundings, ValuedRelvar};
 use std::alloc::{AllocError, Global};

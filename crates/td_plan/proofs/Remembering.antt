@@ -1,0 +1,197 @@
+-- Steps whose parts are kept once they are made.
+use Rattle.std.proofs.Common.{◌≡◌, ◌∙◌, ◌++◌, ◌∷◌, ◌⊎◌, [], List, inl, inr, ℕ, suc, ap, length, refl, subst, sym}
+use Rattle.std.specs.List.{Contains}
+use Rattle.std.specs.Prelude.{⊤}
+use Rattle.td_plan.specs.declared.plan.step.Step.{Step}
+use Rattle.td_plan.proofs.PlacedLaws.{placed_all, placed_both, placed_map, placed_more}
+use Rattle.td_plan.proofs.Withins.{on_more}
+use Rattle.td_plan.specs.Plans.{PlanTree, more}
+use Rattle.td_plan.specs.code.Memos.{AreOn, AreSound, IsOn, IsSound, Parts, Placed}
+use Rattle.td_plan.specs.code.Remembered.{AreAllAmong, AreAllRemembered, AreAmong, AreAmongBut, AreEachKept, AreEachRemembered, AreRemembered, AreRememberedInside, IsRemembered, KeepsPart}
+use Rattle.td_plan.specs.code.StepViews.{step_view, steps_view}
+
+pub among_but_more : (slot : ℕ) (inner a b : List ℕ) → AreAmongBut slot inner a → AreAmong a b → AreAmongBut slot inner b
+among_but_more slot inner a b h more = λ j c. by_case j (h j c)
+  where
+    by_case : (j : ℕ) → (j ≡ slot) ⊎ Contains a j → (j ≡ slot) ⊎ Contains b j
+    by_case j (inl e) = inl e
+    by_case j (inr d) = inr (more j d)
+
+-- ---- a part that is kept
+
+pub kept_view : (a b : ℕ) (names : List ℕ) (old new : Step) → KeepsPart a b names old new → step_view new ≡ step_view old
+kept_view a b names old new (inl h) = ap step_view h.1
+kept_view a b names old new (inr h) = h.1
+
+pub placed_kept : (z a b : ℕ) (names : List ℕ) (old new : Step) (Q : Parts → Type 0) → KeepsPart a b names old new → IsOn names (step_view old)
+    → Placed z a (λ ps. IsSound ps old × Q ps) → Placed z b (λ ps. IsSound ps new × Q ps)
+placed_kept z a b names old new Q (inl h) on placed =
+    subst (λ n. Placed z n (λ ps. IsSound ps new × Q ps)) (sym h.0) (subst (λ p. Placed z a (λ ps. IsSound ps p × Q ps)) (sym h.1) placed)
+placed_kept z a b names old new Q (inr h) on placed =
+    subst (λ n. Placed z n (λ ps. IsSound ps new × Q ps)) (sym h.0)
+    (placed_map z (suc a) _ _ (λ ps i. (h.2 ps on i.0 i.1.0, i.1.1)) (placed_more z a (step_view old) _ placed))
+
+swapped : (z a : ℕ) (P Q : Parts → Type 0) → Placed z a (λ ps. P ps × Q ps) → Placed z a (λ ps. Q ps × P ps)
+swapped z a P Q h = placed_map z a (λ ps. P ps × Q ps) (λ ps. Q ps × P ps) (λ ps x. (x.1, x.0)) h
+
+-- ---- steps of no part, and of one
+
+pub leaf_remembered : (a : ℕ) (names : List ℕ) (old new : Step) → step_view new ≡ step_view old → IsOn names (step_view old) → ((ps : Parts) → IsSound ps new)
+    → IsRemembered a a names old new
+leaf_remembered a names old new view on sound = record { view = view; on = on; placed = placed_all a _ sound }
+
+pub one_remembered : (make : PlanTree → PlanTree) (a b : ℕ) (names : List ℕ) → ((p : PlanTree) → IsOn names p → IsOn names (make p))
+    → (o new_o old new : Step) → IsRemembered a b names o new_o → step_view old ≡ make (step_view o) → step_view new ≡ make (step_view new_o)
+    → ((ps : Parts) → IsSound ps new_o → IsSound ps new) → IsRemembered a b names old new
+one_remembered make a b names law o new_o old new h was is sound = record {
+  view = is ∙ ap make h.view ∙ sym was;
+  on = subst (IsOn names) (sym was) (law (step_view o) h.on);
+  placed = placed_map a b _ _ sound h.placed;
+}
+
+-- ---- two steps
+
+-- each of which may be kept after both
+pub two_placed : (a b c d e : ℕ) (f g : List ℕ) (l l1 l2 r r1 r2 : Step) → IsRemembered a b f l l1 → IsRemembered b c g r r1
+    → KeepsPart c d f l1 l2 → KeepsPart d e g r1 r2 → Placed a e (λ ps. IsSound ps l2 × IsSound ps r2)
+two_placed a b c d e f g l l1 l2 r r1 r2 h i j k =
+    swapped a e (λ ps. IsSound ps r2) (λ ps. IsSound ps l2)
+    (placed_kept a d e g r1 r2 (λ ps. IsSound ps l2) k (subst (IsOn g) (sym i.view) i.on)
+    (swapped a d (λ ps. IsSound ps l2) (λ ps. IsSound ps r1)
+    (placed_kept a c d f l1 l2 (λ ps. IsSound ps r1) j (subst (IsOn f) (sym h.view) h.on) (placed_both a b c _ _ h.placed i.placed))))
+
+-- what is made of two parts, by what is said of the slots that they name
+pub two_remembered : (make : PlanTree → PlanTree → PlanTree) (claim : List ℕ → List ℕ → Type 0) (a b : ℕ) (names : List ℕ)
+    → ((x y : List ℕ) (p q : PlanTree) → claim x y → IsOn x p → IsOn y q → IsOn names (make p q))
+    → (l r new_l new_r old new : Step) → AreRemembered a b claim l r new_l new_r → step_view old ≡ make (step_view l) (step_view r)
+    → step_view new ≡ make (step_view new_l) (step_view new_r) → ((ps : Parts) → IsSound ps new_l × IsSound ps new_r → IsSound ps new)
+    → IsRemembered a b names old new
+two_remembered make claim a b names law l r new_l new_r old new h was is sound =
+    let on = h.on in
+    record {
+      view = is ∙ (λ i. make (h.left i) (h.right i)) ∙ sym was;
+      on = subst (IsOn names) (sym was) (law on.0 on.1 (step_view l) (step_view r) on.4 on.2 on.3);
+      placed = placed_map a b _ _ sound h.placed;
+    }
+
+-- ---- lists of steps
+
+abbrev AreEachOn : List (List ℕ) → List Step → Type 0
+AreEachOn [] [] = ⊤
+AreEachOn [] (s ∷ ss) = ⊥
+AreEachOn (n ∷ ns) [] = ⊥
+AreEachOn (n ∷ ns) (s ∷ ss) = IsOn n (step_view s) × AreEachOn ns ss
+
+-- one more
+pub each_more : (a b c : ℕ) (ns : List (List ℕ)) (os xs : List Step) (n : List ℕ) (o x : Step) → AreEachRemembered a b ns os xs → IsRemembered b c n o x
+    → AreEachRemembered a c (ns ++ (n ∷ [])) (os ++ (o ∷ [])) (xs ++ (x ∷ []))
+each_more a b c [] [] [] n o x h i = (c, subst (λ z. IsRemembered z c n o x) (sym h) i, refl)
+each_more a b c [] [] (y ∷ xs) n o x h i = absurd h
+each_more a b c [] (q ∷ os) [] n o x h i = absurd h
+each_more a b c [] (q ∷ os) (y ∷ xs) n o x h i = absurd h
+each_more a b c (m ∷ ns) [] [] n o x h i = absurd h
+each_more a b c (m ∷ ns) [] (y ∷ xs) n o x h i = absurd h
+each_more a b c (m ∷ ns) (q ∷ os) [] n o x h i = absurd h
+each_more a b c (m ∷ ns) (q ∷ os) (y ∷ xs) n o x h i = (h.0, h.1, each_more h.0 b c ns os xs n o x h.2 i)
+
+pub each_kept_more : (a b c : ℕ) (ns : List (List ℕ)) (os xs : List Step) (n : List ℕ) (o x : Step) → AreEachKept a b ns os xs → KeepsPart b c n o x
+    → AreEachKept a c (ns ++ (n ∷ [])) (os ++ (o ∷ [])) (xs ++ (x ∷ []))
+each_kept_more a b c [] [] [] n o x h i = (c, subst (λ z. KeepsPart z c n o x) (sym h) i, refl)
+each_kept_more a b c [] [] (y ∷ xs) n o x h i = absurd h
+each_kept_more a b c [] (q ∷ os) [] n o x h i = absurd h
+each_kept_more a b c [] (q ∷ os) (y ∷ xs) n o x h i = absurd h
+each_kept_more a b c (m ∷ ns) [] [] n o x h i = absurd h
+each_kept_more a b c (m ∷ ns) [] (y ∷ xs) n o x h i = absurd h
+each_kept_more a b c (m ∷ ns) (q ∷ os) [] n o x h i = absurd h
+each_kept_more a b c (m ∷ ns) (q ∷ os) (y ∷ xs) n o x h i = (h.0, h.1, each_kept_more h.0 b c ns os xs n o x h.2 i)
+
+-- what is known of each and all of them
+record AreListed (a b : ℕ) (ns : List (List ℕ)) (os xs : List Step) : Type 0 where
+  pub lengths : length ns ≡ length xs
+  pub views : steps_view xs ≡ steps_view os
+  pub each_on : AreEachOn ns xs
+  pub on : (names : List ℕ) → AreAllAmong ns names → AreOn names (steps_view os)
+  pub placed : Placed a b (λ ps. AreSound ps xs)
+
+pub listed : (a b : ℕ) (ns : List (List ℕ)) (os xs : List Step) → AreEachRemembered a b ns os xs → AreListed a b ns os xs
+listed a b [] [] [] h = record {
+  lengths = refl;
+  views = refl;
+  each_on = tt;
+  on = λ names among w s t agree. refl;
+  placed = subst (λ z. Placed a z (λ ps. ⊤)) h (placed_all a _ (λ ps. tt));
+}
+listed a b [] [] (y ∷ xs) h = absurd h
+listed a b [] (q ∷ os) [] h = absurd h
+listed a b [] (q ∷ os) (y ∷ xs) h = absurd h
+listed a b (m ∷ ns) [] [] h = absurd h
+listed a b (m ∷ ns) [] (y ∷ xs) h = absurd h
+listed a b (m ∷ ns) (q ∷ os) [] h = absurd h
+listed a b (m ∷ ns) (q ∷ os) (y ∷ xs) h =
+    let rest = listed h.0 b ns os xs h.2 in
+    let first = h.1 in
+    record {
+      lengths = ap suc rest.lengths;
+      views = λ i. more (first.view i) (rest.views i);
+      each_on = (subst (IsOn m) (sym first.view) first.on, rest.each_on);
+      on = λ names among w s t agree i. on_more m names (step_view q) among.0 first.on w s t agree i ∷ rest.on names among.1 w s t agree i;
+      placed = placed_both a h.0 b _ _ first.placed rest.placed;
+    }
+
+pub each_kept_views : (a b : ℕ) (ns : List (List ℕ)) (os xs : List Step) → AreEachKept a b ns os xs → steps_view xs ≡ steps_view os
+each_kept_views a b [] [] [] h = refl
+each_kept_views a b [] [] (y ∷ xs) h = absurd h
+each_kept_views a b [] (q ∷ os) [] h = absurd h
+each_kept_views a b [] (q ∷ os) (y ∷ xs) h = absurd h
+each_kept_views a b (m ∷ ns) [] [] h = absurd h
+each_kept_views a b (m ∷ ns) [] (y ∷ xs) h = absurd h
+each_kept_views a b (m ∷ ns) (q ∷ os) [] h = absurd h
+each_kept_views a b (m ∷ ns) (q ∷ os) (y ∷ xs) h =
+    let first = kept_view a h.0 m q y h.1 in
+    let rest = each_kept_views h.0 b ns os xs h.2 in
+    λ i. more (first i) (rest i)
+
+pub each_placed_kept : (z a b : ℕ) (ns : List (List ℕ)) (os xs : List Step) (Q : Parts → Type 0) → AreEachKept a b ns os xs → AreEachOn ns os
+    → Placed z a (λ ps. AreSound ps os × Q ps) → Placed z b (λ ps. AreSound ps xs × Q ps)
+each_placed_kept z a b [] [] [] Q h on placed = subst (λ n. Placed z n (λ ps. ⊤ × Q ps)) h placed
+each_placed_kept z a b [] [] (y ∷ xs) Q h on placed = absurd h
+each_placed_kept z a b [] (q ∷ os) [] Q h on placed = absurd h
+each_placed_kept z a b [] (q ∷ os) (y ∷ xs) Q h on placed = absurd h
+each_placed_kept z a b (m ∷ ns) [] [] Q h on placed = absurd h
+each_placed_kept z a b (m ∷ ns) [] (y ∷ xs) Q h on placed = absurd h
+each_placed_kept z a b (m ∷ ns) (q ∷ os) [] Q h on placed = absurd h
+each_placed_kept z a b (m ∷ ns) (q ∷ os) (y ∷ xs) Q h on placed =
+    placed_map z b (λ ps. AreSound ps xs × (IsSound ps y × Q ps)) _ (λ ps x. ((x.1.0, x.0), x.1.1))
+    (each_placed_kept z h.0 b ns os xs (λ ps. IsSound ps y × Q ps) h.2 on.1
+    (placed_map z h.0 (λ ps. IsSound ps y × (AreSound ps os × Q ps)) _ (λ ps x. (x.1.0, (x.0, x.1.1)))
+    (placed_kept z a h.0 m q y (λ ps. AreSound ps os × Q ps) h.1 on.0
+    (placed_map z a (λ ps. (IsSound ps q × AreSound ps os) × Q ps) _ (λ ps x. (x.0.0, (x.0.1, x.1))) placed))))
+
+-- all of a list, each of which may be kept after all
+pub all_remembered : (a b c : ℕ) (ns : List (List ℕ)) (names : List ℕ) (os ms xs : List Step) → AreEachRemembered a b ns os ms → AreAllAmong ns names
+    → AreEachKept b c ns ms xs → AreAllRemembered a c names os xs
+all_remembered a b c ns names os ms xs h among k =
+    let all = listed a b ns os ms h in
+    record {
+      views = each_kept_views b c ns ms xs k ∙ all.views;
+      on = all.on names among;
+      placed = placed_map a c (λ ps. AreSound ps xs × ⊤) _ (λ ps x. x.0)
+          (each_placed_kept a b c ns ms xs (λ ps. ⊤) k all.each_on (placed_map a b _ (λ ps. AreSound ps ms × ⊤) (λ ps x. (x, tt)) all.placed));
+    }
+
+-- an operand, and a list in the tuples of a slot
+pub inside_remembered : (a b c d e slot : ℕ) (f : List ℕ) (ns : List (List ℕ)) (inner outer names : List ℕ) (l l1 l2 : Step) (os ms xs : List Step)
+    → IsRemembered a b f l l1 → AreEachRemembered b c ns os ms → AreAllAmong ns inner → AreAmongBut slot inner outer → KeepsPart c d f l1 l2
+    → AreEachKept d e ns ms xs → AreAmong f names → AreAmong outer names → AreRememberedInside a e slot names l os l2 xs
+inside_remembered a b c d e slot f ns inner outer names l l1 l2 os ms xs h i among but j k first second =
+    let all = listed b c ns os ms i in
+    record {
+      operand = kept_view c d f l1 l2 j ∙ h.view;
+      views = each_kept_views d e ns ms xs k ∙ all.views;
+      operand_on = on_more f names (step_view l) first h.on;
+      on = (inner, all.on inner among, among_but_more slot inner outer names but second);
+      placed = swapped a e (λ ps. AreSound ps xs) (λ ps. IsSound ps l2)
+          (each_placed_kept a d e ns ms xs (λ ps. IsSound ps l2) k all.each_on
+          (swapped a d (λ ps. IsSound ps l2) (λ ps. AreSound ps ms)
+          (placed_kept a c d f l1 l2 (λ ps. AreSound ps ms) j (subst (IsOn f) (sym h.view) h.on) (placed_both a b c _ _ h.placed all.placed))));
+    }
