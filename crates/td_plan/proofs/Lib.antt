@@ -6,11 +6,11 @@ pub mod EqualRestrictions
 pub mod EqualValues
 pub mod FixedParts
 pub mod FixedValues
-pub mod HandLaws
 pub mod LookUpLaws
 pub mod LookUpParts
 pub mod LookUpValues
 pub mod MadePlans
+pub mod MemoLaws
 pub mod NarrowedOperands
 pub mod PlacedLaws
 pub mod Places
@@ -29,6 +29,8 @@ pub mod QuickRows
 pub mod RememberedRows
 pub mod Remembering
 pub mod RunLaws
+pub mod SlotLaws
+pub mod SoundSteps
 pub mod StepHeights
 pub mod StepRows
 pub mod StepWeights
