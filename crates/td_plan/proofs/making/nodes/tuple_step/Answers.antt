@@ -15,7 +15,7 @@ returns c = λ scope all.
     let parts = c.args.parts.now in
     let values = c.in_ok-values.values in
     let ps = steps_view values.items in
-    let names = c.in_ok-names_of.field-0 in
+    let names = c.in_ok-names.names in
     subst (λ p. IsPlanOfTyped scope p (trees.tuple (named_view parts))) (sym (select_is (selectors.Tuple names) values))
-    (tuple_planned scope names.items ps (named_view parts) (c.in_ok-names_of.ensures ∙ sym (names_are parts))
+    (tuple_planned scope names.items ps (named_view parts) (c.in_ok-names.ensures ∙ sym (names_are parts))
     (subst (ArePlansOfTyped scope ps) (sym (parts_are parts)) (subst (λ o. ArePlanned scope o (map part_tree parts)) c.in_ok-values.was all)))
