@@ -48,7 +48,7 @@ pushed_restriction-returns-in-Second g t c =
     let r = tree_view c.args.right.now in
     let e = tree_view c.args.condition.now in
     subst (λ k. IsPlanned scope c.dyadic_step-in-Second.result (restricted_tree k l c.args.op r e)) (sym c.in-Second.is)
-    (c.dyadic_step-in-Second.ensures scope l (trees.restriction r e) c.boxed_step-left.ensures c.where_pushed-in-Second.ensures)
+    (c.dyadic_step-in-Second.ensures scope l (trees.restriction r e) c.boxed_step-left.ensures c.where_pushed.ensures)
 
 pub pushed_restriction-returns-in-Both : goal.pushed_restriction-returns-in-Both
 pushed_restriction-returns-in-Both g t c =
