@@ -41,7 +41,7 @@ filter_both p q (t ∷ ts) = by_tests (filter_both p q ts) (p t) (q t) refl refl
 -- ---- the values of a part
 
 -- a tuple has a value at a name exactly where it gives the name that value
-pub value_there : (n : List ℕ) (v : Val) (t : Tuple) → is_at n v t ≡ true → value_at n t ≡ Some v
+value_there : (n : List ℕ) (v : Val) (t : Tuple) → is_at n v t ≡ true → value_at n t ≡ Some v
 value_there n v t e = by_value (value_at n t) e
   where
     by_value : (o : Option Val) → eq_by_cmp (option_cmp value_cmp) o (Some v) ≡ true → o ≡ Some v
@@ -127,7 +127,7 @@ module _ (key : List (List ℕ)) (part : Tuple) (h : Heading) (valid : IsTuple p
       one_test (has_values part t) (agree_on key part t) (λ e. (agreement_of_values key part t valid p.0).1 (from_values e))
       (λ e. to_values ((agreement_of_values key part t valid p.0).0 e))
 
-pub kept_same : (f g : Tuple → Bool) (ts : List Tuple) → ((t : Tuple) → Contains ts t → f t ≡ g t) → filter f ts ≡ filter g ts
+kept_same : (f g : Tuple → Bool) (ts : List Tuple) → ((t : Tuple) → Contains ts t → f t ≡ g t) → filter f ts ≡ filter g ts
 kept_same f g [] h = refl
 kept_same f g (t ∷ ts) h =
     rw (h t (contains_first t ts), kept_same f g ts (λ u c. h u (contains_later t ts u c))) refl

@@ -90,7 +90,7 @@ module _ (h : Heading) where
         ∙ twice (has_name n key) (type_at n h)
         ∙ sym (type_at-projection key n h))
 
-    pub entries_from : tuple_from es ≡ Valued (tuple_value es)
+    entries_from : tuple_from es ≡ Valued (tuple_value es)
     entries_from =
         rw (ascending_distinct (tuple_names es) ascends)
         (ap (λ t. Valued (tuple_value t)) (sym (sorted_is_tuple_of es es (IsPermutation-refl es) ascends)))

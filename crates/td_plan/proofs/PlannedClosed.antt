@@ -1,7 +1,7 @@
 -- A literal, or a tuple or a relation of such, has the same value in every world that keeps the types.
 use Rattle.std.proofs.Common.{◌≡◌, ◌∙◌, ◌++◌, ◌∷◌, List, [], ap, refl, sym}
 use Rattle.std.proofs.lemmas.List.{append-nil}
-use Rattle.td_catalog.specs.Database.{Database, database_scope}
+use Rattle.td_catalog.specs.Database.{Database}
 use Rattle.td_check.specs.OperatorTypes.{headed_type, listed_type, tuple_type}
 use Rattle.td_check.specs.Scopes.{Scope}
 use Rattle.td_check.specs.StaticTypes.{named_types, type_of, types_of}

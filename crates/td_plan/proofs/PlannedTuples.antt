@@ -85,7 +85,7 @@ heading_is h g r e head = let same : pack h ≡ g = cc in head ∙ ap unpack (sy
 
 module _ (scope : Scope) where
   -- the type of what is applied
-  pub inner_type : (d e : Tree) (h : Heading) (t : Type') (g : Type' → Type' → Outcome Type') → type_of scope d ≡ Valued (types.relation (pack h))
+  inner_type : (d e : Tree) (h : Heading) (t : Type') (g : Type' → Type' → Outcome Type') → type_of scope d ≡ Valued (types.relation (pack h))
       → with_value (type_of scope d) (λ q. over_relation q (λ i. with_value (type_of (entered_with i scope) e) (g q))) ≡ Valued t
       → (u : Type') × (type_of (entered_with h scope) e ≡ Valued u)
   inner_type d e h t g static is =
@@ -125,7 +125,7 @@ module _ (scope : Scope) where
 
   -- ---- EXTEND
 
-  pub as_many : (w : World) (slots : Slots) (slot : ℕ) (inner : Scope) (ps : PlanTrees) (es : NamedTrees) (xs : List Attribute)
+  as_many : (w : World) (slots : Slots) (slot : ℕ) (inner : Scope) (ps : PlanTrees) (es : NamedTrees) (xs : List Attribute)
       → ArePlansOfTyped inner ps (in_named es) → named_types inner es ≡ Valued xs → length xs ≡ length (plan_columns w slots slot ps)
   as_many w slots slot inner plans.none trees.none_named xs all is = ap length (sym (valued_is [] xs is))
   as_many w slots slot inner plans.none (trees.more_named m e es) xs all is = absurd all

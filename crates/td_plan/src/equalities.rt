@@ -37,14 +37,15 @@ pub fn total_conditions_restrict()
     ensures { TotalConditionsRestrict }
 {}
 
-/// WHERE by such a condition restricts both operands of UNION, and the first of INTERSECT and MINUS.
+/// WHERE by such a condition restricts both operands of UNION, and the first of INTERSECT or MINUS.
 pub fn where_of_one_heading()
     ensures union { WhereOfUnion }
     ensures intersect { WhereOfIntersectOnLeft }
     ensures minus { WhereOfMinus }
 {}
 
-/// WHERE by one that asks of one operand's attributes alone restricts that operand of JOIN or TIMES.
+/// WHERE by one that asks of one operand's attributes alone restricts that operand of JOIN or of
+/// TIMES.
 pub fn where_of_a_join()
     ensures left { WhereOfJoinOnLeft }
     ensures right { WhereOfJoinOnRight }
@@ -52,8 +53,8 @@ pub fn where_of_a_join()
     ensures times_right { WhereOfTimesOnRight }
 {}
 
-/// An equality that is TRUE is of one value, and AND is TRUE where both its operands are; WHERE by a
-/// condition that fixes each attribute of a key to a value is WHERE of what the look-up by these
+/// An equality that is TRUE is of one value, and where AND is TRUE both its operands are. WHERE by
+/// a condition that fixes each attribute of a key to a value is WHERE of what the look-up by these
 /// values finds.
 pub fn where_is_a_look_up()
     ensures equal { EqualityIsOfOneValue }
