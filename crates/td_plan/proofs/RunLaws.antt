@@ -11,16 +11,14 @@ use Rattle.td_eval.proofs.code_lemmas.WorldParts.{world_scope}
 use Rattle.td_eval.specs.declared.env.Env.{Env}
 use Rattle.td_eval.specs.DatabaseWorlds.{world_of}
 use Rattle.td_eval.specs.code.NewColumns.{AreColumnsFor, named_columns, with_values}
-use Rattle.td_eval.specs.OperatorValues.{column_values, on_truth, truth_value}
+use Rattle.td_eval.specs.OperatorValues.{column_values, on_relation, on_truth, truth_value}
 use Rattle.td_eval.specs.code.Sights.{other_in, world_in}
 use Rattle.td_eval.specs.Worlds.{World}
-use Rattle.td_plan.proofs.HandLaws.{are_told, frame_told, held_told, told}
-use Rattle.td_plan.specs.declared.running.hand.Entered.{Entered}
 use Rattle.td_plan.specs.declared.plan.step.Step.{Step}
 use Rattle.td_plan.specs.declared.running.surroundings.ValuedRelvar.{ValuedRelvar}
 use Rattle.td_plan.specs.code.Hands.{AreValued, IsValued}
-use Rattle.td_plan.specs.Plans.{Frame, where_as_many}
-use Rattle.td_plan.specs.code.Runs.{IsEntered, IsInside, step_value, step_values, value_in, values_in}
+use Rattle.td_plan.specs.Plans.{Slots, where_as_many}
+use Rattle.td_plan.specs.code.Runs.{step_value, step_values, value_in, values_in}
 use Rattle.td_tree.specs.declared.cause.Cause.TheVariants as causes
 use Rattle.td_tree.specs.declared.fault.Fault.{Fault}
 use Rattle.td_tree.specs.declared.fault.Fault.TheVariants as faults
@@ -28,50 +26,22 @@ use Rattle.td_tree.specs.Outcomes.{Answers, Outcome, Valued, Refused, Only, gath
 use Rattle.td_types.specs.declared.ty.Ty.{Ty}
 use Rattle.td_types.specs.Types.{Attribute}
 use Rattle.td_types.specs.code.Views.{pairs_view, type_view}
-use Rattle.td_value.specs.Values.{Tuple, Val, boolean, char, integer, relation, tuple, user}
+use Rattle.td_value.specs.Values.{Relation, Tuple, Val, boolean, char, integer, relation, tuple, user}
 
 -- the values of steps are those of each
-pub values_found : (w : World) (fs : List Frame) (ps : List Step) → step_values w fs ps ≡ map (step_value w fs) ps
-values_found w fs [] = refl
-values_found w fs (p ∷ ps) = ap (λ os. step_value w fs p ∷ os) (values_found w fs ps)
-
--- frames for what stands inside a loop
-abbrev pub frames_inside : Entered → List Frame
-frames_inside e = map frame_told e.outer.items
-
-abbrev pub outcomes_inside : Entered → List (Outcome Val)
-outcomes_inside e = map told e.fixed.value.items
-
-pub entered_told : (e : Entered) → IsEntered e (frames_inside e) (outcomes_inside e)
-entered_told e = (held_told e.outer.items, are_told e.fixed.value.items)
-
--- what is found of rows, whatever stands inside, is found of them with the parts, which do not count where there is no row
-pub inside_rows : {X Y : Type 0} (w : World) (fs : List Frame) (parts : List Step) (e : Entered) (F : List Frame → List (Outcome Val) → List X → Y)
-    → ((gs hs : List Frame) (os ps : List (Outcome Val)) → F gs os [] ≡ F hs ps []) → (P : Y → Type 0) (b : Bool) (rows : List X) → (b ≡ true → rows ≡ [])
-    → IsInside w fs parts b e → ((gs : List Frame) (os : List (Outcome Val)) → IsEntered e gs os → P (F gs os rows))
-    → P (F fs (step_values w fs parts) rows)
-inside_rows w fs parts e F same P true rows none inside k =
-    subst (λ xs. P (F fs (step_values w fs parts) xs)) (sym (none refl))
-    (subst P (same [] fs [] (step_values w fs parts)) (subst (λ xs. P (F [] [] xs)) (none refl) (k [] [] inside)))
-inside_rows w fs parts e F same P false rows none inside k = k fs (step_values w fs parts) inside
-
--- columns without rows
-pub columns_nowhere : (w : World) (attributes : List Attribute) (steps : List Step) (gs hs : List Frame) (os ps : List (Outcome Val))
-    → gathered (named_columns attributes (values_in w gs os steps) []) ≡ gathered (named_columns attributes (values_in w hs ps steps) [])
-columns_nowhere w [] steps gs hs os ps = refl
-columns_nowhere w (a ∷ attributes) [] gs hs os ps = refl
-columns_nowhere w (a ∷ attributes) (p ∷ steps) gs hs os ps =
-    ap (λ (o : Outcome (List NamedColumn)). with_both (with_values a (Valued [])) o (λ c cs. Valued (c ∷ cs))) (columns_nowhere w attributes steps gs hs os ps)
+pub values_found : (w : World) (s : Slots) (ps : List Step) → step_values w s ps ≡ map (step_value w s) ps
+values_found w s [] = refl
+values_found w s (p ∷ ps) = ap (λ os. step_value w s p ∷ os) (values_found w s ps)
 
 -- of an attribute and the step that it is set to
-abbrev pub column_found : World → List Frame → List (Outcome Val) → List Tuple → (List ℕ × Ty) × Step → Outcome NamedColumn
-column_found w fs os tuples z = with_values (z.0.0, type_view z.0.1) (column_values (type_view z.0.1) (value_in w fs os z.1) tuples)
+abbrev pub column_found : World → Slots → ℕ → List Tuple → (List ℕ × Ty) × Step → Outcome NamedColumn
+column_found w s k tuples z = with_values (z.0.0, type_view z.0.1) (column_values (type_view z.0.1) (value_in w s k z.1) tuples)
 
-pub columns_are : (w : World) (fs : List Frame) (os : List (Outcome Val)) (tuples : List Tuple) (xs : List (List ℕ × Ty)) (steps : List Step)
-    → map (column_found w fs os tuples) (zip xs steps) ≡ named_columns (pairs_view xs) (values_in w fs os steps) tuples
-columns_are w fs os tuples [] steps = refl
-columns_are w fs os tuples (x ∷ xs) [] = refl
-columns_are w fs os tuples (x ∷ xs) (p ∷ steps) = ap (λ ys. column_found w fs os tuples (x, p) ∷ ys) (columns_are w fs os tuples xs steps)
+pub columns_are : (w : World) (s : Slots) (k : ℕ) (tuples : List Tuple) (xs : List (List ℕ × Ty)) (steps : List Step)
+    → map (column_found w s k tuples) (zip xs steps) ≡ named_columns (pairs_view xs) (values_in w s k steps) tuples
+columns_are w s k tuples [] steps = refl
+columns_are w s k tuples (x ∷ xs) [] = refl
+columns_are w s k tuples (x ∷ xs) (p ∷ steps) = ap (λ ys. column_found w s k tuples (x, p) ∷ ys) (columns_are w s k tuples xs steps)
 
 -- the answer for a relvar of that name
 pub valued_at : (w : World) (rs : List ValuedRelvar) (i : ℕ) (r : ValuedRelvar) → i < length rs → r ≡ get_or rs i r → AreValued w rs → IsValued w r
@@ -97,9 +67,9 @@ zip_longer (x ∷ xs) [] e = refl
 zip_longer (x ∷ xs) (y ∷ ys) e = ap suc (zip_longer xs ys (omega (arith, e)))
 
 -- there are as many columns as steps
-pub as_many_columns : (w : World) (fs : List Frame) (os : List (Outcome Val)) (steps : List Step) → length (values_in w fs os steps) ≡ length steps
-as_many_columns w fs os [] = refl
-as_many_columns w fs os (p ∷ steps) = ap suc (as_many_columns w fs os steps)
+pub as_many_columns : (w : World) (s : Slots) (k : ℕ) (steps : List Step) → length (values_in w s k steps) ≡ length steps
+as_many_columns w s k [] = refl
+as_many_columns w s k (p ∷ steps) = ap suc (as_many_columns w s k steps)
 
 -- where there are as many new attributes as parts, and where not
 pub where_equal : {A : Type 0} (attributes : List Attribute) (parts : List A) (o : Outcome Val) → length attributes ≡ length parts
@@ -117,11 +87,6 @@ pub columns_for : (r : Result (Vec (List ℕ × Column)) Fault) (attributes : Li
 columns_for (Ok cs) attributes fs tuples lengths a = (fs, lengths, a)
 columns_for (Err e) attributes fs tuples lengths a = tt
 
--- where there is no element
-pub no_rows : {X : Type 0} (xs : List X) (n : ℕ) (b : Bool) → length xs ≡ n → b ≡ nat_eq n 0 → b ≡ true → xs ≡ []
-no_rows [] n b many is e = refl
-no_rows (x ∷ xs) n b many is e = absurd (let none = eqb-true n 0 (sym is ∙ e) in omega (arith, many, none))
-
 -- a condition without a truth value leaves nothing to choose
 pub choice_refused : (o : Outcome Val) (k : Bool → Outcome Val) (f : Fault) → Answers {X = Bool} (λ b. b) (Err f) (truth_value o)
     → Answers {X = Val} (λ v. v) (Err f) (with_value o (λ v. on_truth v k))
@@ -133,3 +98,14 @@ choice_refused (Valued (char t)) k (faults.Refused c) a = a
 choice_refused (Valued (user n ps)) k (faults.Refused c) a = a
 choice_refused (Valued (tuple fs)) k (faults.Refused c) a = a
 choice_refused (Valued (relation h rs)) k (faults.Refused c) a = a
+
+-- a value that is not a relation
+pub unrelated : {X : Type 0} (view : X → Relation) (f : Fault) (v : Val) (k : Relation → Outcome Val)
+    → Answers view (Err f) (on_relation v Valued) → Answers {X = Val} (λ v. v) (Err f) (on_relation v k)
+unrelated view faults.Memory v k a = tt
+unrelated view (faults.Refused c) (boolean b) k a = a
+unrelated view (faults.Refused c) (integer z) k a = a
+unrelated view (faults.Refused c) (char t) k a = a
+unrelated view (faults.Refused c) (user n ps) k a = a
+unrelated view (faults.Refused c) (tuple fs) k a = a
+unrelated view (faults.Refused c) (relation h rs) k a = absurd (cc)

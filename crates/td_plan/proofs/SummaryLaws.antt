@@ -2,45 +2,35 @@
 use Rattle.std.proofs.Common.{◌≡◌, ◌<◌, ℕ, zero, suc, List, [], ◌∷◌, Err, ap, arith, get_or, length, map, refl}
 use Rattle.std.specs.List.{zip}
 use Rattle.td_eval.specs.OperatorValues.{on_relation, on_relations}
-use Rattle.td_eval.specs.code.Totals.{Total, total_of}
 use Rattle.td_eval.specs.Worlds.{World}
 use Rattle.td_group.specs.declared.aggregates.Agg.{Agg}
 use Rattle.td_plan.specs.declared.plan.step.Step.{Step}
-use Rattle.td_plan.specs.Plans.{Frame}
+use Rattle.td_plan.specs.Plans.{Slots}
 use Rattle.td_plan.specs.code.Runs.{value_in, values_in}
 use Rattle.td_tree.specs.declared.fault.Fault.{Fault}
 use Rattle.td_tree.specs.declared.fault.Fault.TheVariants as faults
-use Rattle.td_tree.specs.Outcomes.{Answers, Outcome, Valued, gathered, with_both}
+use Rattle.td_tree.specs.Outcomes.{Answers, Outcome, Valued, gathered}
 use Rattle.td_value.specs.Values.{Relation, Tuple, Val, boolean, char, integer, relation, tuple, user}
 
 module _ (w : World) where
   -- the values of a step in the tuples of a group
-  abbrev pub group_found : List Frame → List (Outcome Val) → Step → Tuple × Relation → Outcome (List Val)
-  group_found fs os step g = gathered (map (value_in w fs os step) g.1.body)
-
-  -- totals without groups
-  pub totals_nowhere : (gs : List Agg) (steps : List Step) (fs hs : List Frame) (os ps : List (Outcome Val))
-      → gathered (map (total_of []) (zip gs (values_in w fs os steps))) ≡ gathered (map (total_of []) (zip gs (values_in w hs ps steps)))
-  totals_nowhere [] steps fs hs os ps = refl
-  totals_nowhere (g ∷ gs) [] fs hs os ps = refl
-  totals_nowhere (g ∷ gs) (p ∷ steps) fs hs os ps =
-      ap (λ (o : Outcome (List Total)). with_both {A = Total} (Valued (g, [])) o (λ t ts. Valued (t ∷ ts))) (totals_nowhere gs steps fs hs os ps)
+  abbrev pub group_found : Slots → ℕ → Step → Tuple × Relation → Outcome (List Val)
+  group_found s k step g = gathered (map (value_in w s k step) g.1.body)
 
   -- there are as many items as aggregates with steps
-  pub as_many_items : (gs : List Agg) (steps : List Step) (fs : List Frame) (os : List (Outcome Val))
-      → length (zip gs (values_in w fs os steps)) ≡ length (zip gs steps)
-  as_many_items [] steps fs os = refl
-  as_many_items (g ∷ gs) [] fs os = refl
-  as_many_items (g ∷ gs) (p ∷ steps) fs os = ap suc (as_many_items gs steps fs os)
+  pub as_many_items : (gs : List Agg) (steps : List Step) (s : Slots) (k : ℕ) → length (zip gs (values_in w s k steps)) ≡ length (zip gs steps)
+  as_many_items [] steps s k = refl
+  as_many_items (g ∷ gs) [] s k = refl
+  as_many_items (g ∷ gs) (p ∷ steps) s k = ap suc (as_many_items gs steps s k)
 
   -- the item at a place
-  pub item_at : (gs : List Agg) (steps : List Step) (fs : List Frame) (os : List (Outcome Val)) (i : ℕ) (g : Agg) (p : Step)
+  pub item_at : (gs : List Agg) (steps : List Step) (s : Slots) (k : ℕ) (i : ℕ) (g : Agg) (p : Step)
       → i < length (zip gs steps) → g ≡ get_or gs i g → p ≡ get_or steps i p
-      → (g, value_in w fs os p) ≡ get_or (zip gs (values_in w fs os steps)) i (g, value_in w fs os p)
-  item_at [] steps fs os i g p inside is at = absurd (omega (arith, inside))
-  item_at (h ∷ gs) [] fs os i g p inside is at = absurd (omega (arith, inside))
-  item_at (h ∷ gs) (q ∷ steps) fs os zero g p inside is at = λ j. (is j, value_in w fs os (at j))
-  item_at (h ∷ gs) (q ∷ steps) fs os (suc i) g p inside is at = item_at gs steps fs os i g p (omega (arith, inside)) is at
+      → (g, value_in w s k p) ≡ get_or (zip gs (values_in w s k steps)) i (g, value_in w s k p)
+  item_at [] steps s k i g p inside is at = absurd (omega (arith, inside))
+  item_at (h ∷ gs) [] s k i g p inside is at = absurd (omega (arith, inside))
+  item_at (h ∷ gs) (q ∷ steps) s k zero g p inside is at = λ j. (is j, value_in w s k (at j))
+  item_at (h ∷ gs) (q ∷ steps) s k (suc i) g p inside is at = item_at gs steps s k i g p (omega (arith, inside)) is at
 
 -- values that are not both relations
 pub relations_refused : {X : Type 0} (v u : Val) (k : Relation → Relation → Outcome Val) (view : X → Relation × Relation) (f : Fault)

@@ -114,3 +114,15 @@ Keeps w s old new sound claim = (ps : Parts) → sound ps → IsMemo ps w s old 
 abbrev pub KeepsBelow : World → ℕ → Slots → Memo → Memo → (Parts → Type 0) → Type 0 → Type 0
 KeepsBelow w slot s old new sound claim =
     (ps : Parts) → sound ps → IsMemoBelow ps w slot s old → claim × IsMemoBelow ps w slot s new
+
+-- there are parts of which the memo is right
+pub record IsReady (w : World) (s : Slots) (m : Memo) (are : Parts → Type 0) : Type 0 where
+  pub parts : Parts
+  pub sound : are parts
+  pub memo : IsMemo parts w s m
+
+-- and stays so whatever comes into the slot and those further in
+pub record IsReadyBelow (w : World) (slot : ℕ) (s : Slots) (m : Memo) (are : Parts → Type 0) : Type 0 where
+  pub parts : Parts
+  pub sound : are parts
+  pub memo : IsMemoBelow parts w slot s m

@@ -3,7 +3,7 @@
 ghost use Rattle.std.specs.Prelude.{◌≡◌, suc};
 ghost use Rattle.td_eval.specs.Worlds.{World};
 ghost use Rattle.td_plan.specs.code.Hands.{slots_of};
-ghost use Rattle.td_plan.specs.code.Memos.{AreSound, IsSound, Keeps};
+ghost use Rattle.td_plan.specs.code.Memos.{AreSound, IsReady, IsSound, Keeps};
 ghost use Rattle.td_plan.specs.code.Runs.{step_value, step_values};
 ghost use Rattle.td_plan.specs.code.StepHeights.{step_height, steps_height};
 ghost use Rattle.td_plan.specs.code.ValuesBelow.{ValuesBelow};
@@ -59,7 +59,9 @@ where
         hand: &Hand<'_, '_>,
         step: &Step,
     ) -> Result<Value, Fault>
-        requires { ValuesBelow A.world self.now (suc (step_height step.now)) F.pre F.post }
+        requires below { ValuesBelow A.world self.now (suc (step_height step.now)) F.pre F.post }
+        requires ready { IsReady (A.world self.now.around.now) (slots_of hand.now) memo.old
+            (λ ps. IsSound ps step.now) }
         ensures { Keeps (A.world self.now.around.now) (slots_of hand.now) memo.old memo.new
             (λ ps. IsSound ps step.now) (Answers (λ v. v) result
             (step_value (A.world self.now.around.now) (slots_of hand.now) step.now)) }
@@ -75,7 +77,9 @@ where
         hand: &Hand<'_, '_>,
         steps: &[Step],
     ) -> Result<Vec<Value>, Fault>
-        requires { ValuesBelow A.world self.now (suc (steps_height steps.now)) F.pre F.post }
+        requires below { ValuesBelow A.world self.now (suc (steps_height steps.now)) F.pre F.post }
+        requires ready { IsReady (A.world self.now.around.now) (slots_of hand.now) memo.old
+            (λ ps. AreSound ps steps.now) }
         ensures { Keeps (A.world self.now.around.now) (slots_of hand.now) memo.old memo.new
             (λ ps. AreSound ps steps.now) (Answers (λ vs. vs.items) result (gathered
             (step_values (A.world self.now.around.now) (slots_of hand.now) steps.now))) }

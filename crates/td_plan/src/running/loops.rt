@@ -6,7 +6,7 @@ ghost use Rattle.td_plan.specs.Plans.{aggregate, choice, dyadic, extend, measure
 ghost use Rattle.td_plan.specs.Plans.{plan_value, restriction, summarize_by, summarize_per};
 ghost use Rattle.td_plan.specs.Plans.{summary_of};
 ghost use Rattle.td_plan.specs.code.Hands.{slots_of};
-ghost use Rattle.td_plan.specs.code.Memos.{AreSound, IsSound, Keeps};
+ghost use Rattle.td_plan.specs.code.Memos.{AreSound, IsReady, IsSound, Keeps};
 ghost use Rattle.td_plan.specs.code.Runs.{values_in};
 ghost use Rattle.td_plan.specs.code.StepHeights.{step_height, steps_height};
 ghost use Rattle.td_plan.specs.code.StepViews.{dyadic_view, step_view, steps_view};
@@ -57,8 +57,10 @@ where
         op: Dyadic,
         right: &Step,
     ) -> Result<Value, Fault>
-        requires { ValuesBelow A.world self.now
+        requires below { ValuesBelow A.world self.now
             (suc (max (step_height left.now) (step_height right.now))) F.pre F.post }
+        requires ready { IsReady (A.world self.now.around.now) (slots_of hand.now) memo.old
+            (λ ps. IsSound ps left.now × IsSound ps right.now) }
         ensures { Keeps (A.world self.now.around.now) (slots_of hand.now) memo.old memo.new
             (λ ps. IsSound ps left.now × IsSound ps right.now) (Answers (λ v. v) result
             (plan_value (A.world self.now.around.now) (slots_of hand.now)
@@ -79,8 +81,12 @@ where
         consequent: &Step,
         alternative: &Step,
     ) -> Result<Value, Fault>
-        requires { ValuesBelow A.world self.now (suc (max (step_height condition.now)
+        requires below { ValuesBelow A.world self.now
+            (suc (max (step_height condition.now)
             (max (step_height consequent.now) (step_height alternative.now)))) F.pre F.post }
+        requires ready { IsReady (A.world self.now.around.now) (slots_of hand.now) memo.old
+            (λ ps. IsSound ps condition.now × IsSound ps consequent.now
+            × IsSound ps alternative.now) }
         ensures { Keeps (A.world self.now.around.now) (slots_of hand.now) memo.old memo.new
             (λ ps. IsSound ps condition.now × IsSound ps consequent.now
             × IsSound ps alternative.now) (Answers (λ v. v) result
@@ -105,8 +111,10 @@ where
         slot: usize,
         condition: &Step,
     ) -> Result<Value, Fault>
-        requires { ValuesBelow A.world self.now
+        requires below { ValuesBelow A.world self.now
             (suc (max (step_height operand.now) (step_height condition.now))) F.pre F.post }
+        requires ready { IsReady (A.world self.now.around.now) (slots_of hand.now) memo.old
+            (λ ps. IsSound ps operand.now × IsSound ps condition.now) }
         ensures { Keeps (A.world self.now.around.now) (slots_of hand.now) memo.old memo.new
             (λ ps. IsSound ps operand.now × IsSound ps condition.now) (Answers (λ v. v) result
             (plan_value (A.world self.now.around.now) (slots_of hand.now)
@@ -130,8 +138,10 @@ where
         slot: usize,
         condition: &Step,
     ) -> Result<Value, Fault>
-        requires { ValuesBelow A.world self.now
+        requires below { ValuesBelow A.world self.now
             (suc (max (step_height operand.now) (step_height condition.now))) F.pre F.post }
+        requires ready { IsReady (A.world self.now.around.now) (slots_of hand.now) memo.old
+            (λ ps. IsSound ps operand.now × IsSound ps condition.now) }
         ensures { Keeps (A.world self.now.around.now) (slots_of hand.now) memo.old memo.new
             (λ ps. IsSound ps operand.now × IsSound ps condition.now) (Answers (λ v. v) result
             (plan_value (A.world self.now.around.now) (slots_of hand.now) (monadic (measure op)
@@ -153,7 +163,9 @@ where
         op: Measure,
         operand: &Step,
     ) -> Result<Value, Fault>
-        requires { ValuesBelow A.world self.now (suc (step_height operand.now)) F.pre F.post }
+        requires below { ValuesBelow A.world self.now (suc (step_height operand.now)) F.pre F.post }
+        requires ready { IsReady (A.world self.now.around.now) (slots_of hand.now) memo.old
+            (λ ps. IsSound ps operand.now) }
         ensures { Keeps (A.world self.now.around.now) (slots_of hand.now) memo.old memo.new
             (λ ps. IsSound ps operand.now) (Answers (λ v. v) result
             (plan_value (A.world self.now.around.now) (slots_of hand.now)
@@ -178,8 +190,10 @@ where
         slot: usize,
         value: &Step,
     ) -> Result<Value, Fault>
-        requires { ValuesBelow A.world self.now
+        requires below { ValuesBelow A.world self.now
             (suc (max (step_height operand.now) (step_height value.now))) F.pre F.post }
+        requires ready { IsReady (A.world self.now.around.now) (slots_of hand.now) memo.old
+            (λ ps. IsSound ps operand.now × IsSound ps value.now) }
         ensures { Keeps (A.world self.now.around.now) (slots_of hand.now) memo.old memo.new
             (λ ps. IsSound ps operand.now × IsSound ps value.now) (Answers (λ v. v) result
             (plan_value (A.world self.now.around.now) (slots_of hand.now)
@@ -202,8 +216,10 @@ where
         slot: usize,
         values: &[Step],
     ) -> Result<Value, Fault>
-        requires { ValuesBelow A.world self.now
+        requires below { ValuesBelow A.world self.now
             (suc (max (step_height operand.now) (steps_height values.now))) F.pre F.post }
+        requires ready { IsReady (A.world self.now.around.now) (slots_of hand.now) memo.old
+            (λ ps. IsSound ps operand.now × AreSound ps values.now) }
         ensures { Keeps (A.world self.now.around.now) (slots_of hand.now) memo.old memo.new
             (λ ps. IsSound ps operand.now × AreSound ps values.now) (Answers (λ v. v) result
             (plan_value (A.world self.now.around.now) (slots_of hand.now)
@@ -232,8 +248,10 @@ where
         per: &Value,
         items: &Summands<'_>,
     ) -> Result<Value, Fault>
-        requires { ValuesBelow A.world self.now (suc (steps_height items.now.values.now))
+        requires below { ValuesBelow A.world self.now (suc (steps_height items.now.values.now))
             F.pre F.post }
+        requires ready { IsReady (A.world self.now.around.now) (slots_of hand.now) memo.old
+            (λ ps. AreSound ps items.now.values.now) }
         ensures { Keeps (A.world self.now.around.now) (slots_of hand.now) memo.old memo.new
             (λ ps. AreSound ps items.now.values.now) (Answers (λ v. v) result (summary_of
             (pairs_view items.now.attributes.now) (zip items.now.aggregates.now
@@ -261,9 +279,11 @@ where
         per: &Step,
         items: &Summands<'_>,
     ) -> Result<Value, Fault>
-        requires { ValuesBelow A.world self.now
+        requires below { ValuesBelow A.world self.now
             (suc (max (max (step_height operand.now) (step_height per.now))
             (steps_height items.now.values.now))) F.pre F.post }
+        requires ready { IsReady (A.world self.now.around.now) (slots_of hand.now) memo.old
+            (λ ps. IsSound ps operand.now × IsSound ps per.now × AreSound ps items.now.values.now) }
         ensures { Keeps (A.world self.now.around.now) (slots_of hand.now) memo.old memo.new
             (λ ps. IsSound ps operand.now × IsSound ps per.now
             × AreSound ps items.now.values.now) (Answers (λ v. v) result
@@ -287,9 +307,10 @@ where
         by: &Attributes,
         items: &Summands<'_>,
     ) -> Result<Value, Fault>
-        requires { ValuesBelow A.world self.now
-            (suc (max (step_height operand.now) (steps_height items.now.values.now)))
-            F.pre F.post }
+        requires below { ValuesBelow A.world self.now
+            (suc (max (step_height operand.now) (steps_height items.now.values.now))) F.pre F.post }
+        requires ready { IsReady (A.world self.now.around.now) (slots_of hand.now) memo.old
+            (λ ps. IsSound ps operand.now × AreSound ps items.now.values.now) }
         ensures { Keeps (A.world self.now.around.now) (slots_of hand.now) memo.old memo.new
             (λ ps. IsSound ps operand.now × AreSound ps items.now.values.now)
             (Answers (λ v. v) result

@@ -6,7 +6,8 @@ ghost use Rattle.td_eval.specs.code.NewColumns.{named_columns};
 ghost use Rattle.td_eval.specs.OperatorValues.{column_values, truth_value};
 ghost use Rattle.td_eval.specs.code.Totals.{total_of, total_view};
 ghost use Rattle.td_plan.specs.code.Hands.{slots_in, slots_of};
-ghost use Rattle.td_plan.specs.code.Memos.{AreSound, IsSound, Keeps, KeepsBelow};
+ghost use Rattle.td_plan.specs.code.Memos.{AreSound, IsReady, IsReadyBelow, IsSound};
+ghost use Rattle.td_plan.specs.code.Memos.{Keeps, KeepsBelow};
 ghost use Rattle.td_plan.specs.code.Runs.{step_value, truths_in, value_in, values_in};
 ghost use Rattle.td_plan.specs.code.StepHeights.{step_height, steps_height};
 ghost use Rattle.td_plan.specs.code.ValuesBelow.{ValuesBelow};
@@ -43,7 +44,9 @@ where
         hand: &Hand<'_, '_>,
         step: &Step,
     ) -> Result<Value, Fault>
-        requires { ValuesBelow A.world self.now (suc (step_height step.now)) F.pre F.post }
+        requires below { ValuesBelow A.world self.now (suc (step_height step.now)) F.pre F.post }
+        requires ready { IsReady (A.world self.now.around.now) (slots_of hand.now) memo.old
+            (λ ps. IsSound ps step.now) }
         ensures { Keeps (A.world self.now.around.now) (slots_of hand.now) memo.old memo.new
             (λ ps. IsSound ps step.now) (Answers (λ v. v) result
             (step_value (A.world self.now.around.now) (slots_of hand.now) step.now)) }
@@ -62,7 +65,10 @@ where
         hand: &Hand<'_, '_>,
         condition: &Step,
     ) -> Result<bool, Fault>
-        requires { ValuesBelow A.world self.now (suc (step_height condition.now)) F.pre F.post }
+        requires below { ValuesBelow A.world self.now (suc (step_height condition.now))
+            F.pre F.post }
+        requires ready { IsReady (A.world self.now.around.now) (slots_of hand.now) memo.old
+            (λ ps. IsSound ps condition.now) }
         ensures { Keeps (A.world self.now.around.now) (slots_of hand.now) memo.old memo.new
             (λ ps. IsSound ps condition.now) (Answers (λ b. b) result (truth_value
             (step_value (A.world self.now.around.now) (slots_of hand.now) condition.now))) }
@@ -82,7 +88,9 @@ where
         row: &Tuple,
         step: &Step,
     ) -> Result<Value, Fault>
-        requires { ValuesBelow A.world self.now (suc (step_height step.now)) F.pre F.post }
+        requires below { ValuesBelow A.world self.now (suc (step_height step.now)) F.pre F.post }
+        requires ready { IsReadyBelow (A.world self.now.around.now) inside.now.slot
+            (slots_in inside.now.outer.items) memo.old (λ ps. IsSound ps step.now) }
         ensures { KeepsBelow (A.world self.now.around.now) inside.now.slot
             (slots_in inside.now.outer.items) memo.old memo.new (λ ps. IsSound ps step.now)
             (Answers (λ v. v) result (value_in (A.world self.now.around.now)
@@ -104,7 +112,10 @@ where
         row: &Tuple,
         condition: &Step,
     ) -> Result<bool, Fault>
-        requires { ValuesBelow A.world self.now (suc (step_height condition.now)) F.pre F.post }
+        requires below { ValuesBelow A.world self.now (suc (step_height condition.now))
+            F.pre F.post }
+        requires ready { IsReadyBelow (A.world self.now.around.now) inside.now.slot
+            (slots_in inside.now.outer.items) memo.old (λ ps. IsSound ps condition.now) }
         ensures { KeepsBelow (A.world self.now.around.now) inside.now.slot
             (slots_in inside.now.outer.items) memo.old memo.new (λ ps. IsSound ps condition.now)
             (Answers (λ b. b) result (truth_value (value_in (A.world self.now.around.now)
@@ -125,7 +136,10 @@ where
         rows: &[Tuple],
         condition: &Step,
     ) -> Result<Vec<bool>, Fault>
-        requires { ValuesBelow A.world self.now (suc (step_height condition.now)) F.pre F.post }
+        requires below { ValuesBelow A.world self.now (suc (step_height condition.now))
+            F.pre F.post }
+        requires ready { IsReadyBelow (A.world self.now.around.now) inside.now.slot
+            (slots_in inside.now.outer.items) memo.old (λ ps. IsSound ps condition.now) }
         ensures { KeepsBelow (A.world self.now.around.now) inside.now.slot
             (slots_in inside.now.outer.items) memo.old memo.new (λ ps. IsSound ps condition.now)
             (Answers (λ m. m.items) result (truths_in (A.world self.now.around.now)
@@ -143,7 +157,10 @@ where
     /// it may be found without causes in all of them.
     #[inline(never)]
     fn ask_first(&self, memo: &mut Memo, inside: &Inside, rows: &[Tuple], condition: &Step)
-        requires { ValuesBelow A.world self.now (suc (step_height condition.now)) F.pre F.post }
+        requires below { ValuesBelow A.world self.now (suc (step_height condition.now))
+            F.pre F.post }
+        requires ready { IsReadyBelow (A.world self.now.around.now) inside.now.slot
+            (slots_in inside.now.outer.items) memo.old (λ ps. IsSound ps condition.now) }
         ensures { KeepsBelow (A.world self.now.around.now) inside.now.slot
             (slots_in inside.now.outer.items) memo.old memo.new (λ ps. IsSound ps condition.now)
             ⊤ }
@@ -163,7 +180,10 @@ where
         rows: &[Tuple],
         condition: &Step,
     ) -> Result<Vec<bool>, Fault>
-        requires { ValuesBelow A.world self.now (suc (step_height condition.now)) F.pre F.post }
+        requires below { ValuesBelow A.world self.now (suc (step_height condition.now))
+            F.pre F.post }
+        requires ready { IsReadyBelow (A.world self.now.around.now) inside.now.slot
+            (slots_in inside.now.outer.items) memo.old (λ ps. IsSound ps condition.now) }
         ensures { KeepsBelow (A.world self.now.around.now) inside.now.slot
             (slots_in inside.now.outer.items) memo.old memo.new (λ ps. IsSound ps condition.now)
             (Answers (λ m. m.items) result (truths_in (A.world self.now.around.now)
@@ -186,7 +206,10 @@ where
         rows: &[Tuple],
         condition: &Step,
     ) -> Result<Vec<bool>, Fault>
-        requires { ValuesBelow A.world self.now (suc (step_height condition.now)) F.pre F.post }
+        requires below { ValuesBelow A.world self.now (suc (step_height condition.now))
+            F.pre F.post }
+        requires ready { IsReadyBelow (A.world self.now.around.now) inside.now.slot
+            (slots_in inside.now.outer.items) memo.old (λ ps. IsSound ps condition.now) }
         ensures { KeepsBelow (A.world self.now.around.now) inside.now.slot
             (slots_in inside.now.outer.items) memo.old memo.new (λ ps. IsSound ps condition.now)
             (Answers (λ m. m.items) result (truths_in (A.world self.now.around.now)
@@ -208,7 +231,9 @@ where
         rows: &[Tuple],
         step: &Step,
     ) -> Result<Vec<Value>, Fault>
-        requires { ValuesBelow A.world self.now (suc (step_height step.now)) F.pre F.post }
+        requires below { ValuesBelow A.world self.now (suc (step_height step.now)) F.pre F.post }
+        requires ready { IsReadyBelow (A.world self.now.around.now) inside.now.slot
+            (slots_in inside.now.outer.items) memo.old (λ ps. IsSound ps step.now) }
         ensures { KeepsBelow (A.world self.now.around.now) inside.now.slot
             (slots_in inside.now.outer.items) memo.old memo.new (λ ps. IsSound ps step.now)
             (Answers (λ vs. vs.items) result (gathered (map (value_in
@@ -235,7 +260,9 @@ where
         ty: &Ty,
         step: &Step,
     ) -> Result<Vec<Value>, Fault>
-        requires { ValuesBelow A.world self.now (suc (step_height step.now)) F.pre F.post }
+        requires below { ValuesBelow A.world self.now (suc (step_height step.now)) F.pre F.post }
+        requires ready { IsReadyBelow (A.world self.now.around.now) inside.now.slot
+            (slots_in inside.now.outer.items) memo.old (λ ps. IsSound ps step.now) }
         ensures { KeepsBelow (A.world self.now.around.now) inside.now.slot
             (slots_in inside.now.outer.items) memo.old memo.new (λ ps. IsSound ps step.now)
             (Answers (λ vs. vs.items) result (column_values (type_view ty.now) (value_in
@@ -261,8 +288,9 @@ where
         attributes: &[(Name, Ty)],
         steps: &[Step],
     ) -> Result<Vec<(Name, Column)>, Fault>
-        requires values { ValuesBelow A.world self.now (suc (steps_height steps.now))
-            F.pre F.post }
+        requires below { ValuesBelow A.world self.now (suc (steps_height steps.now)) F.pre F.post }
+        requires ready { IsReadyBelow (A.world self.now.around.now) inside.now.slot
+            (slots_in inside.now.outer.items) memo.old (λ ps. AreSound ps steps.now) }
         requires lengths { length attributes.now ≡ length steps.now }
         ensures { KeepsBelow (A.world self.now.around.now) inside.now.slot
             (slots_in inside.now.outer.items) memo.old memo.new (λ ps. AreSound ps steps.now)
@@ -291,7 +319,9 @@ where
         groups: &[(Tuple, Rel)],
         step: &Step,
     ) -> Result<Vec<Vec<Value>>, Fault>
-        requires { ValuesBelow A.world self.now (suc (step_height step.now)) F.pre F.post }
+        requires below { ValuesBelow A.world self.now (suc (step_height step.now)) F.pre F.post }
+        requires ready { IsReadyBelow (A.world self.now.around.now) inside.now.slot
+            (slots_in inside.now.outer.items) memo.old (λ ps. IsSound ps step.now) }
         ensures { KeepsBelow (A.world self.now.around.now) inside.now.slot
             (slots_in inside.now.outer.items) memo.old memo.new (λ ps. IsSound ps step.now)
             (Answers (λ vss. map (λ vs. vs.items) vss.items) result (gathered (map (λ g. gathered
@@ -317,7 +347,9 @@ where
         aggregates: &[Agg],
         steps: &[Step],
     ) -> Result<Vec<(Agg, Vec<Vec<Value>>)>, Fault>
-        requires { ValuesBelow A.world self.now (suc (steps_height steps.now)) F.pre F.post }
+        requires below { ValuesBelow A.world self.now (suc (steps_height steps.now)) F.pre F.post }
+        requires ready { IsReadyBelow (A.world self.now.around.now) inside.now.slot
+            (slots_in inside.now.outer.items) memo.old (λ ps. AreSound ps steps.now) }
         ensures { KeepsBelow (A.world self.now.around.now) inside.now.slot
             (slots_in inside.now.outer.items) memo.old memo.new (λ ps. AreSound ps steps.now)
             (Answers (λ ts. map total_view ts.items) result (gathered (map (total_of groups.now)

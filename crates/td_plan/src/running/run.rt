@@ -1,6 +1,6 @@
 //! The value of a step.
 ghost use Rattle.td_plan.specs.code.Hands.{AreSurroundings, slots_of, world_around};
-ghost use Rattle.td_plan.specs.code.Memos.{IsPart, IsSound, Keeps};
+ghost use Rattle.td_plan.specs.code.Memos.{IsPart, IsReady, IsSound, Keeps};
 ghost use Rattle.td_plan.specs.code.Runs.{step_value};
 ghost use Rattle.td_plan.specs.code.StepHeights.{step_height};
 ghost use Rattle.td_plan.specs.code.StepViews.{step_view};
@@ -34,7 +34,9 @@ where
         reach: usize,
         part: &Step,
     ) -> Result<Value, Fault>
-        requires { ValuesBelow A.world self.now (suc (step_height part.now)) F.pre F.post }
+        requires below { ValuesBelow A.world self.now (suc (step_height part.now)) F.pre F.post }
+        requires ready { IsReady (A.world self.now.around.now) (slots_of hand.now) memo.old
+            (λ ps. IsPart ps place reach (step_view part.now) × IsSound ps part.now) }
         ensures { Keeps (A.world self.now.around.now) (slots_of hand.now) memo.old memo.new
             (λ ps. IsPart ps place reach (step_view part.now) × IsSound ps part.now)
             (Answers (λ v. v) result
@@ -58,7 +60,9 @@ pub(crate) fn run<B: Body>(
     hand: &Hand<'_, '_>,
     step: &Step,
 ) -> Result<Value, Fault>
-    requires { AreSurroundings around.now }
+    requires around { AreSurroundings around.now }
+    requires ready { IsReady (world_around around.now) (slots_of hand.now) memo.old
+        (λ ps. IsSound ps step.now) }
     ensures { Keeps (world_around around.now) (slots_of hand.now) memo.old memo.new
         (λ ps. IsSound ps step.now) (Answers (λ v. v) result
         (step_value (world_around around.now) (slots_of hand.now) step.now)) }

@@ -10,13 +10,13 @@ use Rattle.td_plan.proofs.ValuedBelow.{lower}
 use Rattle.td_plan.proofs.running.evaluator.Evaluator.aggregation.Goals as goal
 
 pub run-requires : goal.run-requires
-run-requires g c = lower (omega arith) c.requires
+run-requires g c = lower (omega arith) c.requires.below
 
 pub entered_loop-requires : goal.entered_loop-requires
-entered_loop-requires g c = lower (omega arith) c.requires
+entered_loop-requires g c = lower (omega arith) c.requires.below
 
 pub values_in_rows-requires : goal.values_in_rows-requires
-values_in_rows-requires g c = lower (omega arith) c.requires
+values_in_rows-requires g c = lower (omega arith) c.requires.below
 
 pub returns : goal.returns
 returns g c = λ fs h.

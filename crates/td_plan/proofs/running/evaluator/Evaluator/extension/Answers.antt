@@ -17,13 +17,13 @@ use Rattle.td_plan.proofs.ValuedBelow.{lower}
 use Rattle.td_plan.proofs.running.evaluator.Evaluator.extension.Goals as goal
 
 pub run-requires : goal.run-requires
-run-requires g c = lower (omega arith) c.requires
+run-requires g c = lower (omega arith) c.requires.below
 
 pub entered_loop-requires : goal.entered_loop-requires
-entered_loop-requires g c = lower (omega arith) c.requires
+entered_loop-requires g c = lower (omega arith) c.requires.below
 
 pub columns-columns-requires : goal.columns-columns-requires
-columns-columns-requires g c = record { values = lower (omega arith) c.requires; lengths = c.if-attributes-values.false }
+columns-columns-requires g c = record { values = lower (omega arith) c.requires.below; lengths = c.if-attributes-values.false }
 
 pub returns-then-attributes-values : goal.returns-then-attributes-values
 returns-then-attributes-values g c = λ fs h.

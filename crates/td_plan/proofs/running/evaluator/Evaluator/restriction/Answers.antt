@@ -10,13 +10,13 @@ use Rattle.td_plan.proofs.ValuedBelow.{lower}
 use Rattle.td_plan.proofs.running.evaluator.Evaluator.restriction.Goals as goal
 
 pub run-requires : goal.run-requires
-run-requires g c = lower (omega arith) c.requires
+run-requires g c = lower (omega arith) c.requires.below
 
 pub entered_loop-requires : goal.entered_loop-requires
-entered_loop-requires g c = lower (omega arith) c.requires
+entered_loop-requires g c = lower (omega arith) c.requires.below
 
 pub truths-requires : goal.truths-requires
-truths-requires g c = lower (omega arith) c.requires
+truths-requires g c = lower (omega arith) c.requires.below
 
 pub restriction_value-requires : goal.restriction_value-requires
 restriction_value-requires g c =

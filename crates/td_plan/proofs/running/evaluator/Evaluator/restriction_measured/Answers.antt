@@ -11,13 +11,13 @@ use Rattle.td_plan.proofs.ValuedBelow.{lower}
 use Rattle.td_plan.proofs.running.evaluator.Evaluator.restriction_measured.Goals as goal
 
 pub run-requires : goal.run-requires
-run-requires g c = lower (omega arith) c.requires
+run-requires g c = lower (omega arith) c.requires.below
 
 pub entered_loop-requires : goal.entered_loop-requires
-entered_loop-requires g c = lower (omega arith) c.requires
+entered_loop-requires g c = lower (omega arith) c.requires.below
 
 pub truths-requires : goal.truths-requires
-truths-requires g c = lower (omega arith) c.requires
+truths-requires g c = lower (omega arith) c.requires.below
 
 pub returns-in_err-operand : goal.returns-in_err-operand
 returns-in_err-operand g c = λ fs h.

@@ -11,13 +11,13 @@ use Rattle.td_plan.proofs.ValuedBelow.{lower}
 use Rattle.td_plan.proofs.running.evaluator.Evaluator.summary_per.Goals as goal
 
 pub run-operand-requires : goal.run-operand-requires
-run-operand-requires g c = lower (omega arith) c.requires
+run-operand-requires g c = lower (omega arith) c.requires.below
 
 pub run-requires : goal.run-requires
-run-requires g c = lower (omega arith) c.requires
+run-requires g c = lower (omega arith) c.requires.below
 
 pub summary-requires : goal.summary-requires
-summary-requires g c = lower (omega arith) c.requires
+summary-requires g c = lower (omega arith) c.requires.below
 
 pub returns-in_err-operand : goal.returns-in_err-operand
 returns-in_err-operand g c = λ fs h.

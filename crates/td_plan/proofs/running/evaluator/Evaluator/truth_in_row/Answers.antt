@@ -1,0 +1,16 @@
+use Rattle.td_plan.proofs.MemoLaws.{kept_inside}
+use Rattle.td_plan.specs.code.Hands.{slots_in}
+use Rattle.td_plan.specs.code.Memos.{IsSound}
+use Rattle.td_plan.specs.code.Runs.{step_value}
+use Rattle.td_plan.specs.Plans.{Slots}
+use Rattle.td_tree.specs.Outcomes.{Answers}
+use Rattle.td_value.specs.code.Views.{values_of}
+use Rattle.td_eval.specs.OperatorValues.{truth_value}
+use Rattle.td_plan.proofs.running.evaluator.Evaluator.truth_in_row.Goals as goal
+
+pub returns : goal.returns
+returns g c =
+    let w = g.A.InWorld.world c.args.self.now.around.now in
+    kept_inside w c.args.inside.now.slot (values_of c.args.row.now) (slots_in c.args.inside.now.outer.items) _ _ _ _ (λ ps. IsSound ps c.args.condition.now)
+    (λ (s : Slots). Answers (λ b. b) c.truth_with-truth.result (truth_value (step_value w s c.args.condition.now)))
+    c.hand_inside-hand.ensures c.truth_with-truth.ensures c.forget.ensures

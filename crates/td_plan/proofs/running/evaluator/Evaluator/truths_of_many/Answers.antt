@@ -1,0 +1,16 @@
+use Rattle.std.proofs.Common.{subst}
+use Rattle.td_plan.proofs.QuickRows.{truths_gathered}
+use Rattle.td_plan.specs.code.QuickInside.{value_inside}
+use Rattle.td_plan.proofs.running.evaluator.Evaluator.truths_of_many.Goals as goal
+
+pub returns-in-Ok-Some : goal.returns-in-Ok-Some
+returns-in-Ok-Some g c = λ ps sound m.
+    let w = g.A.InWorld.world c.args.self.now.around.now in
+    let a = (c.ask_first.ensures ps sound m).1 in
+    (truths_gathered (value_inside w c.args.inside.now c.args.condition.now) c.args.rows.now c.in-Ok-Some.truths.items (c.in-Ok-Some.ensures ps w sound a), a)
+
+pub returns-in-Ok-None : goal.returns-in-Ok-None
+returns-in-Ok-None g c = λ ps sound m. c.truths_by_row.ensures ps sound (c.ask_first.ensures ps sound m).1
+
+pub returns-in-Err : goal.returns-in-Err
+returns-in-Err g c = λ ps sound m. (tt, (c.ask_first.ensures ps sound m).1)
