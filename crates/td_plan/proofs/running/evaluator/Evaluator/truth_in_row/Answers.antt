@@ -1,4 +1,4 @@
-use Rattle.td_plan.proofs.MemoLaws.{kept_inside}
+use Rattle.td_plan.proofs.MemoLaws.{kept_inside, ready_inside}
 use Rattle.td_plan.specs.code.Hands.{slots_in}
 use Rattle.td_plan.specs.code.Memos.{IsSound}
 use Rattle.td_plan.specs.code.Runs.{step_value}
@@ -7,6 +7,11 @@ use Rattle.td_tree.specs.Outcomes.{Answers}
 use Rattle.td_value.specs.code.Views.{values_of}
 use Rattle.td_eval.specs.OperatorValues.{truth_value}
 use Rattle.td_plan.proofs.running.evaluator.Evaluator.truth_in_row.Goals as goal
+
+pub truth_with-truth-requires-clause-ready : goal.truth_with-truth-requires-clause-ready
+truth_with-truth-requires-clause-ready g c =
+    ready_inside (g.A.InWorld.world c.args.self.now.around.now) c.args.inside.now.slot (values_of c.args.row.now) (slots_in c.args.inside.now.outer.items) _ _ _
+    c.hand_inside-hand.ensures c.requires.ready
 
 pub returns : goal.returns
 returns g c =

@@ -1,7 +1,11 @@
 use Rattle.std.proofs.Common.{subst}
 use Rattle.td_plan.proofs.QuickRows.{truths_gathered}
 use Rattle.td_plan.specs.code.QuickInside.{value_inside}
+use Rattle.td_plan.proofs.MemoLaws.{ready_still}
 use Rattle.td_plan.proofs.running.evaluator.Evaluator.truths_of_many.Goals as goal
+
+pub truths_by_row-requires-clause-ready : goal.truths_by_row-requires-clause-ready
+truths_by_row-requires-clause-ready g c = ready_still c.ask_first.ensures c.requires.ready
 
 pub returns-in-Ok-Some : goal.returns-in-Ok-Some
 returns-in-Ok-Some g c = λ ps sound m.

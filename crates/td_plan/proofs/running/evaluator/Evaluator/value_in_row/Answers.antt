@@ -1,4 +1,4 @@
-use Rattle.td_plan.proofs.MemoLaws.{kept_inside}
+use Rattle.td_plan.proofs.MemoLaws.{kept_inside, ready_inside}
 use Rattle.td_plan.specs.code.Hands.{slots_in}
 use Rattle.td_plan.specs.code.Memos.{IsSound}
 use Rattle.td_plan.specs.code.Runs.{step_value}
@@ -6,6 +6,11 @@ use Rattle.td_plan.specs.Plans.{Slots}
 use Rattle.td_tree.specs.Outcomes.{Answers}
 use Rattle.td_value.specs.code.Views.{values_of}
 use Rattle.td_plan.proofs.running.evaluator.Evaluator.value_in_row.Goals as goal
+
+pub value_with-value-requires-clause-ready : goal.value_with-value-requires-clause-ready
+value_with-value-requires-clause-ready g c =
+    ready_inside (g.A.InWorld.world c.args.self.now.around.now) c.args.inside.now.slot (values_of c.args.row.now) (slots_in c.args.inside.now.outer.items) _ _ _
+    c.hand_inside-hand.ensures c.requires.ready
 
 pub returns : goal.returns
 returns g c =
