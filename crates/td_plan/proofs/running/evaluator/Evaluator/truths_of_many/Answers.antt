@@ -11,7 +11,8 @@ pub returns-in-Ok-Some : goal.returns-in-Ok-Some
 returns-in-Ok-Some g c = λ ps sound m.
     let w = g.A.InWorld.world c.args.self.now.around.now in
     let a = (c.ask_first.ensures ps sound m).1 in
-    (truths_gathered (value_inside w c.args.inside.now c.args.condition.now) c.args.rows.now c.in-Ok-Some.truths.items (c.in-Ok-Some.ensures ps w sound a), a)
+    let found = c.in-Ok-Some.ensures ps w sound a in
+    (truths_gathered (value_inside w c.args.inside.now c.args.condition.now) c.args.rows.now c.in-Ok-Some.truths.items (rw c.in-Ok-Some.field-0-is at found), a)
 
 pub returns-in-Ok-None : goal.returns-in-Ok-None
 returns-in-Ok-None g c = λ ps sound m. c.truths_by_row.ensures ps sound (c.ask_first.ensures ps sound m).1
