@@ -82,31 +82,8 @@ AreEachOn [] (s ∷ ss) = ⊥
 AreEachOn (n ∷ ns) [] = ⊥
 AreEachOn (n ∷ ns) (s ∷ ss) = IsOn n (step_view s) × AreEachOn ns ss
 
--- one more
-pub each_more : (a b c : ℕ) (ns : List (List ℕ)) (os xs : List Step) (n : List ℕ) (o x : Step) → AreEachRemembered a b ns os xs → IsRemembered b c n o x
-    → AreEachRemembered a c (ns ++ (n ∷ [])) (os ++ (o ∷ [])) (xs ++ (x ∷ []))
-each_more a b c [] [] [] n o x h i = (c, subst (λ z. IsRemembered z c n o x) (sym h) i, refl)
-each_more a b c [] [] (y ∷ xs) n o x h i = absurd h
-each_more a b c [] (q ∷ os) [] n o x h i = absurd h
-each_more a b c [] (q ∷ os) (y ∷ xs) n o x h i = absurd h
-each_more a b c (m ∷ ns) [] [] n o x h i = absurd h
-each_more a b c (m ∷ ns) [] (y ∷ xs) n o x h i = absurd h
-each_more a b c (m ∷ ns) (q ∷ os) [] n o x h i = absurd h
-each_more a b c (m ∷ ns) (q ∷ os) (y ∷ xs) n o x h i = (h.0, h.1, each_more h.0 b c ns os xs n o x h.2 i)
-
-pub each_kept_more : (a b c : ℕ) (ns : List (List ℕ)) (os xs : List Step) (n : List ℕ) (o x : Step) → AreEachKept a b ns os xs → KeepsPart b c n o x
-    → AreEachKept a c (ns ++ (n ∷ [])) (os ++ (o ∷ [])) (xs ++ (x ∷ []))
-each_kept_more a b c [] [] [] n o x h i = (c, subst (λ z. KeepsPart z c n o x) (sym h) i, refl)
-each_kept_more a b c [] [] (y ∷ xs) n o x h i = absurd h
-each_kept_more a b c [] (q ∷ os) [] n o x h i = absurd h
-each_kept_more a b c [] (q ∷ os) (y ∷ xs) n o x h i = absurd h
-each_kept_more a b c (m ∷ ns) [] [] n o x h i = absurd h
-each_kept_more a b c (m ∷ ns) [] (y ∷ xs) n o x h i = absurd h
-each_kept_more a b c (m ∷ ns) (q ∷ os) [] n o x h i = absurd h
-each_kept_more a b c (m ∷ ns) (q ∷ os) (y ∷ xs) n o x h i = (h.0, h.1, each_kept_more h.0 b c ns os xs n o x h.2 i)
-
 -- what is known of each and all of them
-record AreListed (a b : ℕ) (ns : List (List ℕ)) (os xs : List Step) : Type 0 where
+pub record AreListed (a b : ℕ) (ns : List (List ℕ)) (os xs : List Step) : Type 0 where
   pub lengths : length ns ≡ length xs
   pub views : steps_view xs ≡ steps_view os
   pub each_on : AreEachOn ns xs

@@ -79,7 +79,9 @@ fn reach_of(names: &[usize]) -> usize
 {
     let mut reach = 0;
     for name in names {
-        reach = reach.max(name.saturating_add(1));
+        if reach <= *name {
+            reach = name.saturating_add(1);
+        }
     }
     reach
 }
