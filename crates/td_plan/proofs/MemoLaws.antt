@@ -5,7 +5,7 @@ use Rattle.std.proofs.lemmas.Bool.{cases_lt}
 use Rattle.td_tree.specs.Outcomes.{Answers}
 use Rattle.td_plan.specs.declared.running.memo.Kept.{Kept}
 use Rattle.td_plan.specs.declared.running.memo.Memo.{Memo}
-use Rattle.td_plan.specs.code.Memos.{AgreeBelow, AreKept, AreWithin, IsKept, IsMemo, IsMemoBelow, Keeps, KeepsBelow, Parts, Reaches}
+use Rattle.td_plan.specs.code.Memos.{AgreeBelow, AreKept, AreWithin, IsKept, IsMemo, IsMemoBelow, IsReady, IsReadyBelow, Keeps, KeepsBelow, Parts, Reaches}
 use Rattle.td_plan.specs.Plans.{PlanTree, Slots, with_slot}
 use Rattle.td_plan.proofs.SlotLaws.{agree_back, agree_below}
 use Rattle.td_value.specs.Values.{Val}
@@ -69,3 +69,25 @@ pub kept_inside : (w : World) (k : ℕ) (row : List Val) (s inner : Slots) (old 
 kept_inside w k row s inner old mid new sound claim is keeps forgets = λ ps h m.
     let a = keeps ps h (subst (λ x. IsMemo ps w x old) (sym is) (m (with_slot k row s) (agree_below k row s))) in
     (subst claim is a.0, forgets ps w inner s (subst (λ x. AgreeBelow k x s) (sym is) (agree_back k row s)) a.1)
+
+pub ready_inside : (w : World) (k : ℕ) (row : List Val) (s inner : Slots) (m : Memo) (are : Parts → Type 0) → inner ≡ with_slot k row s → IsReadyBelow w k s m are → IsReady w inner m are
+ready_inside w k row s inner m are is r = record {
+  parts = r.parts;
+  sound = r.sound;
+  memo = subst (λ x. IsMemo r.parts w x m) (sym is) (r.memo (with_slot k row s) (agree_below k row s));
+}
+
+-- so it is after what keeps the memo right
+pub ready_still : {w : World} {k : ℕ} {s : Slots} {old new : Memo} {are : Parts → Type 0} {claim : Type 0} → KeepsBelow w k s old new are claim → IsReadyBelow w k s old are → IsReadyBelow w k s new are
+ready_still keeps r = record { parts = r.parts; sound = r.sound; memo = (keeps r.parts r.sound r.memo).1 }
+
+-- what a loop does whose slot and tuples further out are these
+pub kept_outside : (w : World) (k l : ℕ) (s t : Slots) (old new : Memo) (sound : Parts → Type 0) (claim : ℕ → Slots → Type 0)
+    → l ≡ k → t ≡ s → KeepsBelow w l t old new sound (claim l t) → (ps : Parts) → sound ps → IsMemoBelow ps w k s old → claim k s × IsMemo ps w s new
+kept_outside w k l s t old new sound claim slot outer keeps ps h m =
+    let here = subst (λ (at : ℕ × Slots). KeepsBelow w at.0 at.1 old new sound (claim at.0 at.1)) (λ i. (slot i, outer i)) keeps in
+    let a = here ps h m in
+    (a.0, a.1 s (λ j l. refl))
+
+pub ready_below : {w : World} {k l : ℕ} {s t : Slots} {m : Memo} {are : Parts → Type 0} → l ≡ k → t ≡ s → IsReadyBelow w k s m are → IsReadyBelow w l t m are
+ready_below {w} {m = m} {are = are} slot outer r = subst (λ (at : ℕ × Slots). IsReadyBelow w at.0 at.1 m are) (λ i. (sym slot i, sym outer i)) r

@@ -3,18 +3,25 @@ use Rattle.std.proofs.Common.{◌≡◌, ◌∙◌, ◌<◌, ◌+◌, ◌++◌, 
 use Rattle.std.proofs.lemmas.Bool.{eqb-true}
 use Rattle.std.proofs.lemmas.List.{append_assoc, append-nil, map-append}
 use Rattle.std.specs.Global.{Vec}
-use Rattle.std.specs.List.{zip}
+use Rattle.std.specs.List.{slice_get, zip}
 use Rattle.std.specs.Prelude.{nat_eq, not, replicate}
 use Rattle.td_check.proofs.CheckedLists.{step_taken}
 use Rattle.td_eval.specs.OperatorValues.{prefix_value, truth_value}
 use Rattle.td_eval.specs.Worlds.{World}
 use Rattle.td_plan.specs.declared.plan.step.Step.{Step}
-use Rattle.td_plan.specs.Plans.{Frame, PlanTree, frame_of, plan_value}
-use Rattle.td_plan.specs.code.Quick.{AreInRows, AreQuick}
-use Rattle.td_plan.specs.code.Runs.{value_in}
+use Rattle.td_plan.proofs.SlotLaws.{agree_below, slot_here}
+use Rattle.td_plan.specs.declared.running.hand.Inside.{Inside}
+use Rattle.td_plan.specs.declared.running.memo.Memo.{Memo}
+use Rattle.td_plan.specs.Plans.{PlanTree, Slots, attribute, plan_value, value_or}
+use Rattle.td_plan.specs.code.Hands.{slots_in, slots_inside}
+use Rattle.td_plan.specs.code.Quick.{AreInRows, AreQuick, IsQuick}
+use Rattle.td_plan.specs.code.QuickInside.{IsMemoInside, value_inside}
+use Rattle.td_plan.specs.code.Memos.{IsMemo, Parts}
+use Rattle.td_plan.specs.code.Runs.{step_value}
 use Rattle.td_plan.specs.code.StepViews.{step_view}
 use Rattle.td_tree.specs.declared.operator.Prefix.TheVariants as prefixes
 use Rattle.td_tree.specs.Outcomes.{Outcome, Valued, gathered, with_both, with_value}
+use Rattle.td_value.specs.code.Views.{values_of}
 use Rattle.td_value.specs.Values.{Tuple, Val, boolean}
 
 -- the value of one element more
@@ -25,10 +32,25 @@ one_more view f xs i x ys y inside is so_far found =
     step_taken (λ zs. map f zs ≡ map (λ y. Valued (view y)) (ys ++ y ∷ [])) xs i x inside is
     (map-append f (take i xs) (x ∷ []) ∙ (λ j. so_far j ++ (found j ∷ [])) ∙ sym (map-append (λ y. Valued (view y)) ys (y ∷ [])))
 
--- what a plan gives in tuples is what its step does
-pub of_plan : {X : Type 0} (view : X → Val) (w : World) (fs : List Frame) (os : List (Outcome Val)) (s : Step) (p : PlanTree) (ts : List Tuple)
-    (found : Option (Vec X)) → step_view s ≡ p → AreQuick view (λ t. plan_value w (frame_of os t ∷ fs) p) ts found → AreQuick view (value_in w fs os s) ts found
-of_plan view w fs os s p ts found is q = subst (λ p. AreQuick view (λ t. plan_value w (frame_of os t ∷ fs) p) ts found) (sym is) q
+-- what a plan gives in tuples of a loop is what its step does
+pub of_plan : {X : Type 0} (view : X → Val) (w : World) (inside : Inside) (s : Step) (p : PlanTree) (ts : List Tuple) (found : Option (Vec X))
+    → step_view s ≡ p → AreQuick view (λ t. plan_value w (slots_inside inside t) p) ts found → AreQuick view (value_inside w inside s) ts found
+of_plan view w inside s p ts found is q = subst (λ p. AreQuick view (λ t. plan_value w (slots_inside inside t) p) ts found) (sym is) q
+
+-- an attribute of the loop's tuples
+pub of_attribute : {X : Type 0} (view : X → Val) (w : World) (inside : Inside) (slot place : ℕ) (ts : List Tuple) (found : Option (Vec X))
+    → slot ≡ inside.slot → AreQuick view (λ t. value_or (slice_get (values_of t) place)) ts found
+    → AreQuick view (λ t. plan_value w (slots_inside inside t) (attribute slot place)) ts found
+of_attribute view w inside slot place ts found here q =
+    subst (λ (f : Tuple → Outcome Val). AreQuick view f ts found) (λ i t. value_or (slice_get (sym (slot_here slot inside.slot (values_of t) (slots_in inside.outer.items) here) i) place)) q
+
+-- what is found where a tuple of the loop is in scope
+pub quick_inside : {X : Type 0} (view : X → Val) (found : Option X) (w : World) (inside : Inside) (t : Tuple) (s : Slots) (step : Step) (memo : Memo) (ps : Parts)
+    → s ≡ slots_inside inside t → IsMemoInside ps w inside memo → (IsMemo ps w s memo → IsQuick view found (step_value w s step))
+    → IsQuick view found (value_inside w inside step t)
+quick_inside view found w inside t s step memo ps is m q =
+    subst (λ x. IsQuick view found (step_value w x step)) is
+    (q (subst (λ x. IsMemo ps w x memo) (sym is) (m (slots_inside inside t) (agree_below inside.slot (values_of t) (slots_in inside.outer.items)))))
 
 -- what is found is the values
 pub found_in : {X : Type 0} (view : X → Val) (f : Tuple → Outcome Val) (ts : List Tuple) (found : Option (Vec X)) (v : Vec X) → found ≡ Some v

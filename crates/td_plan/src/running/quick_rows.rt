@@ -154,12 +154,15 @@ fn quick_numbers(
                 single_numbers(alloc, memo, inside, rows, step)
             }
         }
-        Step::Dyadic(left, Dyadic::Operator(op), right) => match quick_numbers(alloc, memo, inside, rows, left)? {
-            None => Ok(None),
-            Some(left) => match quick_numbers(alloc, memo, inside, rows, right)? {
+        Step::Dyadic(left, op, right) => match op {
+            Dyadic::Operator(op) => match quick_numbers(alloc, memo, inside, rows, left)? {
                 None => Ok(None),
-                Some(right) => numbers_of_both(alloc, *op, &left, &right),
+                Some(left) => match quick_numbers(alloc, memo, inside, rows, right)? {
+                    None => Ok(None),
+                    Some(right) => numbers_of_both(alloc, *op, &left, &right),
+                },
             },
+            Dyadic::Comparison(_) => Ok(None),
         },
         _ => single_numbers(alloc, memo, inside, rows, step),
     }
@@ -325,22 +328,27 @@ fn truths_in_all(
         rows.now found) }
 {
     match condition {
-        Step::Dyadic(left, Dyadic::Comparison(op), right) => {
-            match quick_comparisons(alloc, memo, inside, rows, left, *op, right)? {
-                None => single_truths(alloc, memo, inside, rows, condition),
-                Some(truths) => Ok(Some(truths)),
+        Step::Dyadic(left, op, right) => match op {
+            Dyadic::Comparison(op) => {
+                match quick_comparisons(alloc, memo, inside, rows, left, *op, right)? {
+                    None => single_truths(alloc, memo, inside, rows, condition),
+                    Some(truths) => Ok(Some(truths)),
+                }
             }
-        }
-        Step::Dyadic(left, Dyadic::Operator(op), right) => match truths_in_all(alloc, memo, inside, rows, left)? {
-            None => Ok(None),
-            Some(left) => match truths_in_all(alloc, memo, inside, rows, right)? {
+            Dyadic::Operator(op) => match truths_in_all(alloc, memo, inside, rows, left)? {
                 None => Ok(None),
-                Some(right) => truths_of_both(alloc, *op, &left, &right),
+                Some(left) => match truths_in_all(alloc, memo, inside, rows, right)? {
+                    None => Ok(None),
+                    Some(right) => truths_of_both(alloc, *op, &left, &right),
+                },
             },
         },
-        Step::Monadic(Monadic::Prefix(op), operand) => match truths_in_all(alloc, memo, inside, rows, operand)? {
-            None => Ok(None),
-            Some(truths) => truths_prefixed(alloc, *op, &truths),
+        Step::Monadic(op, operand) => match op {
+            Monadic::Prefix(op) => match truths_in_all(alloc, memo, inside, rows, operand)? {
+                None => Ok(None),
+                Some(truths) => truths_prefixed(alloc, *op, &truths),
+            },
+            _ => Ok(None),
         },
         _ => single_truths(alloc, memo, inside, rows, condition),
     }

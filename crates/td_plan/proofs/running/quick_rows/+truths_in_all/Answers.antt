@@ -3,43 +3,57 @@ use Rattle.std.proofs.lemmas.Result.{IfOk-weaker}
 use Rattle.td_eval.specs.OperatorValues.{comparison_value}
 use Rattle.td_plan.proofs.QuickRows.{found_in, of_plan}
 use Rattle.td_plan.specs.Plans as plans
+use Rattle.td_plan.specs.code.Memos.{IsSound}
 use Rattle.td_plan.specs.code.Quick.{AreQuick}
-use Rattle.td_plan.specs.code.Runs.{value_in}
-use Rattle.td_plan.specs.code.StepViews.{step_view}
+use Rattle.td_plan.specs.code.QuickInside.{value_inside}
+use Rattle.td_plan.specs.code.StepViews.{dyadic_view, monadic_view, step_view}
 use Rattle.td_tree.specs.Outcomes.{with_both}
 use Rattle.td_value.specs.Values.{Tuple, boolean}
 use Rattle.td_plan.proofs.running.quick_rows.+truths_in_all.Goals as goal
 
-pub returns-in-Compare : goal.returns-in-Compare
-returns-in-Compare t c = λ w fs os e.
+pub returns-in-Comparison : goal.returns-in-Comparison
+returns-in-Comparison t c = λ ps w sound m.
+    let i = c.in-Dyadic in
+    let o = c.in-Comparison in
     let left = c.deref.result.now in
-    let right = c.deref-in-Compare.result.now in
+    let right = c.deref-in-Comparison.result.now in
     let rows = c.args.rows.now in
-    of_plan boolean w fs os c.args.condition.now (plans.compare (step_view left) c.in-Compare.op (step_view right)) rows (Some c.in-Some.truths)
-    (ap step_view c.in-Compare.is ∙ (λ i. plans.compare (step_view (sym c.deref.ensures i)) c.in-Compare.op (step_view (sym c.deref-in-Compare.ensures i))))
-    (subst (AreQuick boolean (λ (t : Tuple). with_both (value_in w fs os left t) (value_in w fs os right t) (comparison_value c.in-Compare.op)) rows) c.in-Some.is
-    (c.in_ok-quick_comparisons-in-Compare.ensures w fs os e))
+    let both : IsSound ps i.left.value × IsSound ps i.right.value = subst (IsSound ps) i.is sound in
+    of_plan boolean w c.args.inside.now c.args.condition.now (plans.dyadic (step_view left) (plans.comparison o.op) (step_view right)) rows (Some c.in-Some.truths)
+    (ap step_view i.is ∙ (λ j. plans.dyadic (step_view (sym c.deref.ensures j)) (dyadic_view (o.is j)) (step_view (sym c.deref-in-Comparison.ensures j))))
+    (subst (AreQuick boolean (λ (t : Tuple). with_both (value_inside w c.args.inside.now left t) (value_inside w c.args.inside.now right t) (comparison_value o.op)) rows) c.in-Some.is
+    (c.in_ok-quick_comparisons-in-Comparison.ensures ps w
+    (subst (IsSound ps) (sym c.deref.ensures) both.0) (subst (IsSound ps) (sym c.deref-in-Comparison.ensures) both.1) m))
 
-pub returns-in-Binary : goal.returns-in-Binary
-returns-in-Binary t c =
-    let left = c.deref-in-Binary.result.now in
+pub returns-in-Dyadic : goal.returns-in-Dyadic
+returns-in-Dyadic t c =
+    let i = c.in-Dyadic in
+    let o = c.in-Operator in
+    let left = c.deref-in-Operator.result.now in
     let right = c.deref-in-Some-2.result.now in
     let rows = c.args.rows.now in
-    IfOk-weaker c.truths_of_both.result _ _ (λ found k w fs os e.
-    of_plan boolean w fs os c.args.condition.now (plans.binary (step_view left) c.in-Binary.op (step_view right)) rows found
-    (ap step_view c.in-Binary.is ∙ (λ i. plans.binary (step_view (sym c.deref-in-Binary.ensures i)) c.in-Binary.op (step_view (sym c.deref-in-Some-2.ensures i))))
-    (k (value_in w fs os left) (value_in w fs os right) rows
-    (found_in boolean (value_in w fs os left) rows _ c.in-Some-2.left c.in-Some-2.is (c.in_ok-truths_in_all-in-Binary.ensures w fs os e) c.deref-in-Some-3.result.now c.deref-in-Some-3.ensures.value)
-    (found_in boolean (value_in w fs os right) rows _ c.in-Some-3.right c.in-Some-3.is (c.in_ok-truths_in_all-in-Some-2.ensures w fs os e) c.deref-in-Some-3-2.result.now c.deref-in-Some-3-2.ensures.value)))
+    IfOk-weaker c.truths_of_both.result _ _ (λ found k ps w sound m.
+    let both : IsSound ps i.left.value × IsSound ps i.right.value = subst (IsSound ps) i.is sound in
+    let f = value_inside w c.args.inside.now left in
+    let g = value_inside w c.args.inside.now right in
+    of_plan boolean w c.args.inside.now c.args.condition.now (plans.dyadic (step_view left) (plans.operator o.op) (step_view right)) rows found
+    (ap step_view i.is ∙ (λ j. plans.dyadic (step_view (sym c.deref-in-Operator.ensures j)) (dyadic_view (o.is j)) (step_view (sym c.deref-in-Some-2.ensures j))))
+    (k f g rows
+    (found_in boolean f rows _ c.in-Some-2.left c.in-Some-2.is (c.in_ok-truths_in_all-in-Operator.ensures ps w (subst (IsSound ps) (sym c.deref-in-Operator.ensures) both.0) m) c.deref-in-Some-3.result.now c.deref-in-Some-3.ensures.value)
+    (found_in boolean g rows _ c.in-Some-3.right c.in-Some-3.is (c.in_ok-truths_in_all-in-Some-2.ensures ps w (subst (IsSound ps) (sym c.deref-in-Some-2.ensures) both.1) m) c.deref-in-Some-3-2.result.now c.deref-in-Some-3-2.ensures.value)))
     c.truths_of_both.ensures
 
 pub returns-in-Prefix : goal.returns-in-Prefix
 returns-in-Prefix t c =
+    let i = c.in-Monadic in
+    let o = c.in-Prefix in
     let operand = c.deref-in-Prefix.result.now in
     let rows = c.args.rows.now in
-    IfOk-weaker c.truths_prefixed.result _ _ (λ found k w fs os e.
-    of_plan boolean w fs os c.args.condition.now (plans.prefix c.in-Prefix.op (step_view operand)) rows found
-    (ap step_view c.in-Prefix.is ∙ (λ i. plans.prefix c.in-Prefix.op (step_view (sym c.deref-in-Prefix.ensures i))))
-    (k (value_in w fs os operand) rows
-    (found_in boolean (value_in w fs os operand) rows _ c.in-Some-4.truths c.in-Some-4.is (c.in_ok-truths_in_all-in-Prefix.ensures w fs os e) c.deref-in-Some-4.result.now c.deref-in-Some-4.ensures.value)))
+    IfOk-weaker c.truths_prefixed.result _ _ (λ found k ps w sound m.
+    let inner : IsSound ps i.operand.value = subst (IsSound ps) i.is sound in
+    let f = value_inside w c.args.inside.now operand in
+    of_plan boolean w c.args.inside.now c.args.condition.now (plans.monadic (plans.prefix o.op) (step_view operand)) rows found
+    (ap step_view i.is ∙ (λ j. plans.monadic (monadic_view (o.is j)) (step_view (sym c.deref-in-Prefix.ensures j))))
+    (k f rows
+    (found_in boolean f rows _ c.in-Some-4.truths c.in-Some-4.is (c.in_ok-truths_in_all-in-Prefix.ensures ps w (subst (IsSound ps) (sym c.deref-in-Prefix.ensures) inner) m) c.deref-in-Some-4.result.now c.deref-in-Some-4.ensures.value)))
     c.truths_prefixed.ensures

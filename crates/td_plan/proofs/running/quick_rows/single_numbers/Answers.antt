@@ -4,18 +4,18 @@ use Rattle.std.proofs.lemmas.List.{take_all}
 use mir.Syntax.{w64}
 use Rattle.td_plan.proofs.QuickRows.{one_more}
 use Rattle.td_plan.specs.code.Quick.{IsQuick}
-use Rattle.td_plan.specs.code.Runs.{value_in}
+use Rattle.td_plan.specs.code.QuickInside.{value_inside}
 use Rattle.td_value.specs.Values.{integer}
 use Rattle.td_plan.proofs.running.quick_rows.single_numbers.Goals as goal
 
 pub loop-row-preserved : goal.loop-row-preserved
-loop-row-preserved c = λ w fs os h.
-    let f = value_in w fs os c.args.step.now in
+loop-row-preserved c = λ ps w sound m.
+    let f = value_inside w c.args.inside.now c.args.step.now in
     let fits : FitsSigned w64 c.in-Some.z = search rules in
     rw (c.in_ok-push.ensures.items, to_z-of_z w64 c.in-Some.z fits)
-    (one_more integer f c.args.rows.now c.loop-row.row-index c.row-item.result c.loop-row.numbers.items c.in-Some.z c.loop-row-test.true c.row-item.is (c.loop-row.invariant w fs os h)
-    (subst (λ found. IsQuick integer found (f c.row-item.result)) c.in-Some.is (c.quick_number_in.ensures w fs os h)))
+    (one_more integer f c.args.rows.now c.loop-row.row-index c.row-item.result c.loop-row.numbers.items c.in-Some.z c.loop-row-test.true c.row-item.is (c.loop-row.invariant ps w sound m)
+    (subst (λ found. IsQuick integer found (f c.row-item.result)) c.in-Some.is (c.quick_number_in.ensures ps w sound m)))
 
 pub returns : goal.returns
-returns c = λ w fs os h.
-    ap (map (value_in w fs os c.args.step.now)) (sym (take_all c.loop-row.row-index c.args.rows.now c.loop-row-test.false)) ∙ c.loop-row.invariant w fs os h
+returns c = λ ps w sound m.
+    ap (map (value_inside w c.args.inside.now c.args.step.now)) (sym (take_all c.loop-row.row-index c.args.rows.now c.loop-row-test.false)) ∙ c.loop-row.invariant ps w sound m

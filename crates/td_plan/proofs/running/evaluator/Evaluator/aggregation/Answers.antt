@@ -1,34 +1,66 @@
-use Rattle.std.proofs.Common.{arith, ◌≡◌, List, length, map, refl, subst}
+use Rattle.std.proofs.Common.{arith, map, refl, rules, subst}
+use Rattle.std.proofs.lemmas.Result.{err_from_is_err_and}
+use Rattle.std.specs.Borrow.{Bor}
+use Rattle.td_eval.proofs.code_lemmas.OpValues.{refused_then}
 use Rattle.td_eval.proofs.code_lemmas.WalkedExtension.{related}
+use Rattle.td_plan.proofs.MemoLaws.{kept_outside, ready_below}
+use Rattle.td_plan.proofs.ValuedBelow.{lower}
+use Rattle.td_plan.specs.code.Hands.{slots_in, slots_of}
+use Rattle.td_value.specs.Values.{Relation, Tuple, Val}
 use Rattle.td_eval.specs.AggregateValues.{aggregated_value, asked_of}
 use Rattle.td_eval.specs.OperatorValues.{on_relation}
-use Rattle.td_plan.proofs.RunLaws.{inside_rows, no_rows}
-use Rattle.td_plan.specs.code.Runs.{step_value, step_values, value_in}
-use Rattle.td_tree.specs.Outcomes.{Answers, Valued, gathered, with_value}
-use Rattle.td_value.specs.Values.{Tuple}
-use Rattle.td_plan.proofs.ValuedBelow.{lower}
+use Rattle.td_plan.proofs.RunLaws.{unrelated}
+use Rattle.td_plan.specs.code.Memos.{IsSound}
+use Rattle.td_plan.specs.code.Runs.{step_value, value_in}
+use Rattle.td_tree.specs.Outcomes.{Answers, gathered}
 use Rattle.td_plan.proofs.running.evaluator.Evaluator.aggregation.Goals as goal
 
-pub run-requires : goal.run-requires
-run-requires g c = lower (omega arith) c.requires.below
+pub run-requires-clause-below : goal.run-requires-clause-below
+run-requires-clause-below g c = lower (omega arith) c.requires.below
 
-pub entered_loop-requires : goal.entered_loop-requires
-entered_loop-requires g c = lower (omega arith) c.requires.below
+pub run-requires-clause-ready : goal.run-requires-clause-ready
+run-requires-clause-ready g c = let r = c.requires.ready in record { parts = r.parts; sound = r.sound.0; memo = r.memo }
 
-pub values_in_rows-requires : goal.values_in_rows-requires
-values_in_rows-requires g c = lower (omega arith) c.requires.below
+pub values_in_rows-requires-clause-below : goal.values_in_rows-requires-clause-below
+values_in_rows-requires-clause-below g c = lower (omega arith) c.requires.below
+
+pub values_in_rows-requires-clause-ready : goal.values_in_rows-requires-clause-ready
+values_in_rows-requires-clause-ready g c =
+    let r = c.requires.ready in
+    ready_below c.in_ok-inside.ensures.slot c.in_ok-inside.ensures.outer
+    (record { parts = r.parts; sound = r.sound.1; memo = c.in_ok-inside.ensures.memo r.parts (g.A.InWorld.world c.args.self.now.around.now) (c.in_ok-operand.ensures r.parts r.sound.0 r.memo).1 })
+
+pub returns-in_err-operand : goal.returns-in_err-operand
+returns-in_err-operand g c = λ ps sound m.
+    let w = g.A.InWorld.world c.args.self.now.around.now in
+    let s = slots_of c.args.hand.now in
+    let a = c.in_err-operand.ensures ps sound.0 m in
+    let e = err_from_is_err_and c.from_residual.result c.from_residual.ensures.1 in
+    (rw (e.1, e.2) (refused_then (λ (v : Val). v) (λ (v : Val). v) _ (step_value w s c.args.operand.now) (λ v. on_relation v (aggregated_value (asked_of c.args.op) (value_in w s c.args.slot c.args.value.now))) a.0), a.1)
+
+pub returns-in_err-rel : goal.returns-in_err-rel
+returns-in_err-rel g c = λ ps sound m.
+    let w = g.A.InWorld.world c.args.self.now.around.now in
+    let s = slots_of c.args.hand.now in
+    let a = c.in_ok-operand.ensures ps sound.0 m in
+    let e = err_from_is_err_and c.from_residual-in_err-rel.result c.from_residual-in_err-rel.ensures.1 in
+    (rw (a.0, e.1, e.2) (unrelated (λ (r : Bor Relation). r.now) _ c.in_ok-operand.operand (aggregated_value (asked_of c.args.op) (value_in w s c.args.slot c.args.value.now)) c.in_err-rel.ensures), a.1)
+
+pub returns-in_err-inside : goal.returns-in_err-inside
+returns-in_err-inside g c = λ ps sound m.
+    let a = c.in_ok-operand.ensures ps sound.0 m in
+    (search rules, c.entered.ensures.memo ps (g.A.InWorld.world c.args.self.now.around.now) a.1 (slots_of c.args.hand.now) (λ j l. refl))
 
 pub returns : goal.returns
-returns g c = λ fs h.
+returns g c = λ ps sound m.
     let w = g.A.InWorld.world c.args.self.now.around.now in
-    let v = c.in_ok-operand.operand in
-    let given : step_value w fs c.args.operand.now ≡ Valued v = c.in_ok-operand.ensures fs h in
-    let p = value_in w fs (step_values w fs c.args.parts.now) c.args.value.now in
-    let r = c.in_ok-relation_in.field-0.now in
-    let values : Answers (λ vs. vs.items) c.values_in_rows.result (gathered (map p c.rows-rows.result.now)) =
-    inside_rows w fs c.args.parts.now c.in_ok-inside.inside (λ gs os (ts : List Tuple). gathered (map (value_in w gs os c.args.value.now) ts)) (λ gs hs os ps. refl)
-    (Answers (λ vs. vs.items) c.values_in_rows.result) c.is_empty.result c.rows-rows.result.now (no_rows c.rows-rows.result.now (length c.rows-rows.result.now) c.is_empty.result refl c.is_empty.ensures) (c.in_ok-inside.ensures fs h) c.values_in_rows.ensures in
-    let value : Answers (λ v. v) c.value_of_aggregate.result (with_value (step_value w fs c.args.operand.now) (λ v. on_relation v (aggregated_value (asked_of c.args.op) p))) =
-    rw (given, related v r (aggregated_value (asked_of c.args.op) p) c.in_ok-relation_in.ensures)
-    (c.value_of_aggregate.ensures (gathered (map p r.body)) (subst (λ ts. Answers (λ vs. vs.items) c.values_in_rows.result (gathered (map p ts))) c.rows-rows.ensures.rows values)) in
-    value
+    let s = slots_of c.args.hand.now in
+    let p = value_in w s c.args.slot c.args.value.now in
+    let r = c.in_ok-rel.rel.now in
+    let a = c.in_ok-operand.ensures ps sound.0 m in
+    let b = kept_outside w c.args.slot c.in_ok-inside.inside.slot s (slots_in c.in_ok-inside.inside.outer.items) c.entered.new.memo c.values_in_rows.new.memo (λ ps. IsSound ps c.args.value.now) (λ k t. Answers (λ vs. vs.items) c.values_in_rows.result (gathered (map (value_in w t k c.args.value.now) c.rows.result.now)))
+    c.in_ok-inside.ensures.slot c.in_ok-inside.ensures.outer c.values_in_rows.ensures ps sound.1 (c.in_ok-inside.ensures.memo ps w a.1) in (
+      rw (a.0, related c.in_ok-operand.operand r (aggregated_value (asked_of c.args.op) p) c.in_ok-rel.ensures)
+          (c.value_of_aggregate.ensures (gathered (map p r.body)) (subst (λ ts. Answers (λ vs. vs.items) c.values_in_rows.result (gathered (map p ts))) c.rows.ensures.rows b.0)),
+      b.1,
+    )

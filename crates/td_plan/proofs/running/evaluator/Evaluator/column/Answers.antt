@@ -7,7 +7,11 @@ use Rattle.td_value.specs.Values.{Tuple}
 use Rattle.td_eval.specs.OperatorValues.{value_of_type}
 use Rattle.td_tree.specs.Outcomes.{with_value}
 use Rattle.td_types.specs.code.Views.{type_view}
+use Rattle.td_plan.proofs.MemoLaws.{ready_still}
 use Rattle.td_plan.proofs.running.evaluator.Evaluator.column.Goals as goal
+
+pub value_in_row-requires-clause-ready : goal.value_in_row-requires-clause-ready
+value_in_row-requires-clause-ready g c = ready_still c.loop-row.invariant c.requires.ready
 
 pub loop-row-preserved : goal.loop-row-preserved
 loop-row-preserved g c = λ ps sound m.

@@ -17,8 +17,16 @@ use Rattle.td_tree.specs.Outcomes.{gathered}
 use Rattle.td_types.specs.declared.ty.Ty.{Ty}
 use Rattle.td_plan.proofs.running.evaluator.Evaluator.columns.Goals as goal
 
-pub column-values-requires : goal.column-values-requires
-column-values-requires g c = lower (height_part c.args.steps.now c.loop-place.place c.index-steps-place.result c.loop-place-test.true c.index-steps-place.is) c.requires.below
+pub column-values-requires-clause-ready : goal.column-values-requires-clause-ready
+column-values-requires-clause-ready g c =
+    let r = c.requires.ready in record {
+      parts = r.parts;
+      sound = sound_at r.parts c.args.steps.now c.loop-place.place c.index-steps-place.result c.loop-place-test.true c.index-steps-place.is r.sound;
+      memo = (c.loop-place.invariant r.parts r.sound r.memo).1;
+    }
+
+pub column-values-requires-clause-below : goal.column-values-requires-clause-below
+column-values-requires-clause-below g c = lower (height_part c.args.steps.now c.loop-place.place c.index-steps-place.result c.loop-place-test.true c.index-steps-place.is) c.requires.below
 
 pub loop-place-preserved : goal.loop-place-preserved
 loop-place-preserved g c = λ ps sound m.

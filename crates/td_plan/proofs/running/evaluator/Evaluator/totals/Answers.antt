@@ -16,8 +16,16 @@ use Rattle.td_tree.proofs.code_lemmas.Gatherings.{collected_next}
 use Rattle.td_value.specs.Values.{Val}
 use Rattle.td_plan.proofs.running.evaluator.Evaluator.totals.Goals as goal
 
-pub values_in_groups-values-requires : goal.values_in_groups-values-requires
-values_in_groups-values-requires g c = lower (height_part c.args.steps.now c.loop-place.place c.index-steps-place.result (omega (arith, c.item_count-count.ensures.steps)) c.index-steps-place.is) c.requires.below
+pub values_in_groups-values-requires-clause-ready : goal.values_in_groups-values-requires-clause-ready
+values_in_groups-values-requires-clause-ready g c =
+    let r = c.requires.ready in record {
+      parts = r.parts;
+      sound = sound_at r.parts c.args.steps.now c.loop-place.place c.index-steps-place.result (omega (arith, c.item_count-count.ensures.steps)) c.index-steps-place.is r.sound;
+      memo = (c.loop-place.invariant r.parts r.sound r.memo).1;
+    }
+
+pub values_in_groups-values-requires-clause-below : goal.values_in_groups-values-requires-clause-below
+values_in_groups-values-requires-clause-below g c = lower (height_part c.args.steps.now c.loop-place.place c.index-steps-place.result (omega (arith, c.item_count-count.ensures.steps)) c.index-steps-place.is) c.requires.below
 
 pub loop-place-preserved : goal.loop-place-preserved
 loop-place-preserved g c = λ ps sound m.

@@ -5,7 +5,11 @@ use Rattle.td_plan.specs.code.Runs.{value_in}
 use Rattle.td_tree.proofs.code_lemmas.Gatherings.{collected_next}
 use Rattle.td_value.specs.Values.{Tuple}
 use Rattle.td_eval.specs.OperatorValues.{truth_value}
+use Rattle.td_plan.proofs.MemoLaws.{ready_still}
 use Rattle.td_plan.proofs.running.evaluator.Evaluator.truths_by_row.Goals as goal
+
+pub truth_in_row-requires-clause-ready : goal.truth_in_row-requires-clause-ready
+truth_in_row-requires-clause-ready g c = ready_still c.loop-row.invariant c.requires.ready
 
 pub loop-row-preserved : goal.loop-row-preserved
 loop-row-preserved g c = λ ps sound m.

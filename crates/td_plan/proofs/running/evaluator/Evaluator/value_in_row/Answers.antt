@@ -1,5 +1,5 @@
-use Rattle.td_plan.proofs.MemoLaws.{kept_inside}
-use Rattle.td_plan.specs.code.Hands.{slots_in}
+use Rattle.td_plan.proofs.MemoLaws.{kept_inside, ready_inside}
+use Rattle.td_plan.specs.code.Hands.{slots_in, slots_of}
 use Rattle.td_plan.specs.code.Memos.{IsSound}
 use Rattle.td_plan.specs.code.Runs.{step_value}
 use Rattle.td_plan.specs.Plans.{Slots}
@@ -7,9 +7,14 @@ use Rattle.td_tree.specs.Outcomes.{Answers}
 use Rattle.td_value.specs.code.Views.{values_of}
 use Rattle.td_plan.proofs.running.evaluator.Evaluator.value_in_row.Goals as goal
 
+pub value_with-value-requires-clause-ready : goal.value_with-value-requires-clause-ready
+value_with-value-requires-clause-ready g c =
+    ready_inside (g.A.InWorld.world c.args.self.now.around.now) c.args.inside.now.slot (values_of c.args.row.now) (slots_in c.args.inside.now.outer.items) _ _ _
+    c.hand_inside-hand.ensures c.requires.ready
+
 pub returns : goal.returns
 returns g c =
     let w = g.A.InWorld.world c.args.self.now.around.now in
-    kept_inside w c.args.inside.now.slot (values_of c.args.row.now) (slots_in c.args.inside.now.outer.items) _ _ _ _ (λ ps. IsSound ps c.args.step.now)
+    kept_inside w c.args.inside.now.slot (values_of c.args.row.now) (slots_in c.args.inside.now.outer.items) (slots_of c.hand_inside-hand.result) c.args.memo.now c.value_with-value.new.memo c.forget.new.memo (λ ps. IsSound ps c.args.step.now)
     (λ (s : Slots). Answers (λ v. v) c.value_with-value.result (step_value w s c.args.step.now))
     c.hand_inside-hand.ensures c.value_with-value.ensures c.forget.ensures

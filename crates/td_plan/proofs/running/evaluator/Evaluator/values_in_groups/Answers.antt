@@ -7,7 +7,11 @@ use Rattle.td_plan.specs.code.Runs.{value_in}
 use Rattle.td_tree.proofs.code_lemmas.Gatherings.{collected_next}
 use Rattle.td_tree.specs.Outcomes.{Answers, gathered}
 use Rattle.td_value.specs.Values.{Val}
+use Rattle.td_plan.proofs.MemoLaws.{ready_still}
 use Rattle.td_plan.proofs.running.evaluator.Evaluator.values_in_groups.Goals as goal
+
+pub values_in_rows-found-requires-clause-ready : goal.values_in_rows-found-requires-clause-ready
+values_in_rows-found-requires-clause-ready g c = ready_still c.loop-group.invariant c.requires.ready
 
 pub loop-group-preserved : goal.loop-group-preserved
 loop-group-preserved g c = λ ps sound m.

@@ -10,8 +10,16 @@ use Rattle.td_tree.specs.Outcomes.{gathered}
 use Rattle.td_plan.proofs.ValuedBelow.{lower}
 use Rattle.td_plan.proofs.running.evaluator.Evaluator.values_of.Goals as goal
 
-pub run-requires : goal.run-requires
-run-requires g c = lower (height_part c.args.steps.now c.loop-step.step-index c.step-item.result c.loop-step-test.true c.step-item.is) c.requires.below
+pub run-requires-clause-ready : goal.run-requires-clause-ready
+run-requires-clause-ready g c =
+    let r = c.requires.ready in record {
+      parts = r.parts;
+      sound = sound_at r.parts c.args.steps.now c.loop-step.step-index c.step-item.result c.loop-step-test.true c.step-item.is r.sound;
+      memo = (c.loop-step.invariant r.parts r.sound r.memo).1;
+    }
+
+pub run-requires-clause-below : goal.run-requires-clause-below
+run-requires-clause-below g c = lower (height_part c.args.steps.now c.loop-step.step-index c.step-item.result c.loop-step-test.true c.step-item.is) c.requires.below
 
 pub loop-step-preserved : goal.loop-step-preserved
 loop-step-preserved g c = λ ps sound m.
