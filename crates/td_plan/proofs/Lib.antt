@@ -1,4 +1,5 @@
 pub mod CountedTruths
+pub mod EachStep
 pub mod EnteredSlots
 pub mod EqualLookUps
 pub mod EqualNames
@@ -11,6 +12,7 @@ pub mod LookUpParts
 pub mod LookUpValues
 pub mod MadePlans
 pub mod MemoLaws
+pub mod NamedSlots
 pub mod NarrowedOperands
 pub mod PlacedLaws
 pub mod Places
