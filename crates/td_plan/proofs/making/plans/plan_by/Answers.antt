@@ -1,4 +1,4 @@
 use Rattle.td_plan.proofs.making.plans.plan_by.Goals as goal
 
-pub returns : goal.returns
-returns c = ?
+pub returns-plan : goal.returns-plan
+returns-plan g c = ?
