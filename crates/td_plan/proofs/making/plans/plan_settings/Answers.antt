@@ -7,8 +7,8 @@ use Rattle.td_tree.specs.code.TreeViews.{named_view}
 use Rattle.td_types.specs.code.Views.{pairs_view}
 use Rattle.td_plan.proofs.making.plans.plan_settings.Goals as goal
 
-pub returns-plan : goal.returns-plan
-returns-plan g c =
+pub returns-clause-plan : goal.returns-clause-plan
+returns-clause-plan g c =
     let r = c.args.rel.now in
     let xs = pairs_view c.args.attributes.items in
     let parts = named_view c.args.parts.now in
