@@ -22,7 +22,7 @@ outer_slots [] k row slots l f = tt
 outer_slots (t ∷ s) k row slots l f =
     (other_slot (length s) k row slots (λ e. omega (arith, e, l)) ∙ f.0, outer_slots s k row slots (omega (arith, l)) f.1)
 
-pub same_slot : (k : ℕ) (row : List Val) (slots : Slots) → with_slot k row slots k ≡ row
+same_slot : (k : ℕ) (row : List Val) (slots : Slots) → with_slot k row slots k ≡ row
 same_slot k row slots = rw (eq-eqb k k refl) refl
 
 -- the slot of a further tuple is how many are in scope

@@ -1,7 +1,7 @@
 -- Restrictions that fix the attributes of a key.
-use Rattle.std.proofs.Common.{◌≡◌, ◌∙◌, ◌≤◌, ap, arith, sym, refl, subst, ℕ, zero, suc, Bool, true, false, List, [], ◌∷◌, Option, None, Some, filter, length, true≢false}
-use Rattle.std.specs.Prelude.{◌&&◌, ◌||◌, not, is_some, option_map, if◌then◌else◌}
-use Rattle.std.specs.List.{Contains, list_any}
+use Rattle.std.proofs.Common.{◌≡◌, ◌∙◌, ap, arith, sym, refl, subst, ℕ, zero, suc, Bool, true, false, List, [], ◌∷◌, Option, None, Some, filter, true≢false}
+use Rattle.std.specs.Prelude.{◌&&◌, not, is_some, option_map, if◌then◌else◌}
+use Rattle.std.specs.List.{Contains}
 use Rattle.std.specs.Option.{option_cmp}
 use Rattle.std.specs.Ordering.{eq_by_cmp}
 use Rattle.std.specs.Cmp.Lexicographic.{same_text}
@@ -9,16 +9,15 @@ use Rattle.td_types.specs.Headings.{are_distinct, has_name, projection}
 use Rattle.td_types.specs.Types.{Heading, same_name, type_at}
 use Rattle.td_types.proofs.HeadingLaws.{same_name-itself, type_at-projection}
 use Rattle.td_value.specs.Agreement.{AgreeOn, agree_on}
-use Rattle.td_value.specs.ValueOrder.{tuple_Decides, value_Decides}
-use Rattle.td_value.specs.Values.{Val, IsTuple, IsTupleOf, Tuple, heading_of, projected_tuple, tuple_cmp, tuple_names, type_of, value_at, value_cmp}
+use Rattle.td_value.specs.ValueOrder.{value_Decides}
+use Rattle.td_value.specs.Values.{Val, IsRelation, IsTuple, Relation, IsTupleOf, Tuple, heading_of, tuple_names, type_of, value_at, value_cmp}
 use Rattle.td_value.proofs.Agreement.{agreement_of_values}
 use Rattle.td_algebra.proofs.Entries.{has_value, no_value_outside, tuple_distinct, type_at-heading_of}
 use Rattle.td_algebra.proofs.Lists.{contains_first, contains_later}
 use Rattle.td_algebra.proofs.Relations.{member_headed}
-use Rattle.td_body.specs.Bodies.{key_holds}
+use Rattle.td_body.specs.Bodies.{agreeing}
 use Rattle.td_algebra.specs.Operators.{restriction}
-use Rattle.td_plan.proofs.EqualRestrictions.{filter_both}
-use Rattle.td_plan.specs.Equalities.{LookUpFindsOne, RestrictionAfterLookUp, RestrictionIsLookUp, HasValues, ValuesAreTold, has_values, is_at}
+use Rattle.td_plan.specs.Equalities.{RestrictionAfterLookUp, HasValues, IsPartOn, ValuesAreTold, has_values, is_at}
 
 both : (b c : Bool) → (not b && c) ≡ true → (b ≡ false) × (c ≡ true)
 both true c e = absurd (true≢false (sym e))
@@ -28,45 +27,21 @@ both_true : (b c : Bool) → (b && c) ≡ true → (b ≡ true) × (c ≡ true)
 both_true true c e = (refl, e)
 both_true false c e = absurd (true≢false (sym e))
 
-or_left : (b c : Bool) → (b || c) ≡ false → b ≡ false
-or_left true c e = absurd (true≢false e)
-or_left false c e = refl
-
-or_right : (b c : Bool) → (b || c) ≡ false → c ≡ false
-or_right true c e = absurd (true≢false e)
-or_right false c e = e
-
--- ---- at most one
-
-module _ (key : List (List ℕ)) (part : Tuple) where
-  -- what agrees with the part agrees with one that does
-  one_part : (t u : Tuple) → agree_on key part t ≡ true → agree_on key part u ≡ agree_on key t u
-  one_part t u e = ap (λ x. eq_by_cmp tuple_cmp x (projected_tuple key u)) ((tuple_Decides (projected_tuple key part) (projected_tuple key t)).0 e)
-
-  none_agree : (t : Tuple) → agree_on key part t ≡ true → (ts : List Tuple) → list_any (agree_on key t) ts ≡ false → filter (agree_on key part) ts ≡ []
-  none_agree t e [] n = refl
-  none_agree t e (u ∷ ts) n =
-      rw (one_part t u e ∙ or_left (agree_on key t u) (list_any (agree_on key t) ts) n)
-      (none_agree t e ts (or_right (agree_on key t u) (list_any (agree_on key t) ts) n))
-
-  at_most_one : (ts : List Tuple) → key_holds key ts ≡ true → length (filter (agree_on key part) ts) ≤ 1
-  at_most_one [] h = omega arith
-  at_most_one (t ∷ ts) h = by_test (at_most_one ts apart.1) (agree_on key part t) refl
-    where
-      apart : (list_any (agree_on key t) ts ≡ false) × (key_holds key ts ≡ true)
-      apart = both (list_any (agree_on key t) ts) (key_holds key ts) h
-
-      by_test : length (filter (agree_on key part) ts) ≤ 1 → (b : Bool) → agree_on key part t ≡ b → length (filter (agree_on key part) (t ∷ ts)) ≤ 1
-      by_test rest true e = rw (e, none_agree t e ts apart.0) (omega arith)
-      by_test rest false e = rw e rest
-
-pub look_up_finds_one : LookUpFindsOne
-look_up_finds_one key part r h = at_most_one key part r.body h
+-- what passes both tests is what passes one and then the other
+filter_both : (p q : Tuple → Bool) (ts : List Tuple) → filter (λ t. p t && q t) ts ≡ filter q (filter p ts)
+filter_both p q [] = refl
+filter_both p q (t ∷ ts) = by_tests (filter_both p q ts) (p t) (q t) refl refl
+  where
+    by_tests : filter (λ u. p u && q u) ts ≡ filter q (filter p ts) → (a b : Bool) → p t ≡ a → q t ≡ b
+        → filter (λ u. p u && q u) (t ∷ ts) ≡ filter q (filter p (t ∷ ts))
+    by_tests rest true true d e = rw (d, e) (ap (λ us. t ∷ us) rest)
+    by_tests rest true false d e = rw (d, e) rest
+    by_tests rest false b d e = rw d rest
 
 -- ---- the values of a part
 
 -- a tuple has a value at a name exactly where it gives the name that value
-pub value_there : (n : List ℕ) (v : Val) (t : Tuple) → is_at n v t ≡ true → value_at n t ≡ Some v
+value_there : (n : List ℕ) (v : Val) (t : Tuple) → is_at n v t ≡ true → value_at n t ≡ Some v
 value_there n v t e = by_value (value_at n t) e
   where
     by_value : (o : Option Val) → eq_by_cmp (option_cmp value_cmp) o (Some v) ≡ true → o ≡ Some v
@@ -152,12 +127,14 @@ module _ (key : List (List ℕ)) (part : Tuple) (h : Heading) (valid : IsTuple p
       one_test (has_values part t) (agree_on key part t) (λ e. (agreement_of_values key part t valid p.0).1 (from_values e))
       (λ e. to_values ((agreement_of_values key part t valid p.0).0 e))
 
-pub kept_same : (f g : Tuple → Bool) (ts : List Tuple) → ((t : Tuple) → Contains ts t → f t ≡ g t) → filter f ts ≡ filter g ts
+kept_same : (f g : Tuple → Bool) (ts : List Tuple) → ((t : Tuple) → Contains ts t → f t ≡ g t) → filter f ts ≡ filter g ts
 kept_same f g [] h = refl
 kept_same f g (t ∷ ts) h =
     rw (h t (contains_first t ts), kept_same f g ts (λ u c. h u (contains_later t ts u c))) refl
 
-pub restriction_looks_up : RestrictionIsLookUp
+-- a restriction that fixes each attribute of the key is the look-up
+restriction_looks_up : (key : List (List ℕ)) (part : Tuple) (r : Relation) → IsRelation r → IsPartOn key r part
+    → restriction (has_values part) r ≡ agreeing key part r
 restriction_looks_up key part r p is =
     ap (λ ts. record { heading = r.heading; body = ts })
     (kept_same (has_values part) (agree_on key part) r.body (λ t c. values_agree key part r.heading is.0 is.1 t (member_headed r t p c)))

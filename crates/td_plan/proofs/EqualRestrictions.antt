@@ -1,38 +1,13 @@
--- Restrictions of intersections and joins, and one restriction after another.
-use Rattle.std.proofs.Common.{◌≡◌, ◌∙◌, ap, sym, refl, subst, Bool, true, false, List, [], ◌∷◌, filter}
-use Rattle.std.specs.Prelude.{◌&&◌, not}
-use Rattle.std.specs.List.{list_all, list_any}
-use Rattle.td_value.specs.Sets.{has}
-use Rattle.td_value.specs.Values.{Tuple, projected_tuple, tuple_cmp}
+-- Restrictions of joins and products.
+use Rattle.std.proofs.Common.{◌∙◌, ap, sym, refl, subst}
+use Rattle.td_value.specs.Values.{projected_tuple}
 use Rattle.td_value.proofs.Members.{by_members}
-use Rattle.td_algebra.specs.Operators.{are_partners, join, relation_names, restriction}
+use Rattle.td_algebra.specs.Operators.{join, relation_names, restriction}
 use Rattle.td_algebra.proofs.Joined.{apart_agree, product_join}
 use Rattle.td_algebra.proofs.JoinMembers.{IsRelation-join, join_members}
 use Rattle.td_algebra.proofs.Lists.{contains_filter}
 use Rattle.td_algebra.proofs.Relations.{IsRelation-restriction, member_headed}
-use Rattle.td_algebra.proofs.SetEqualities.{restrictions_turned}
-use Rattle.td_body.proofs.TupleSets.{has-filter}
-use Rattle.td_plan.specs.Equalities.{AsksOnlyOf, RestrictionByAll, RestrictionByBoth, RestrictionOfIntersectionOnRight, RestrictionOfJoinOnLeft, RestrictionOfJoinOnRight, RestrictionOfProductOnLeft, RestrictionOfProductOnRight, RestrictionOfSemidifference, RestrictionOfSemijoin, RestrictionsCommute}
-
--- ---- intersections
-
--- what passes both tests is what passes one and then the other
-pub filter_both : (p q : Tuple → Bool) (ts : List Tuple) → filter (λ t. p t && q t) ts ≡ filter q (filter p ts)
-filter_both p q [] = refl
-filter_both p q (t ∷ ts) = by_tests (filter_both p q ts) (p t) (q t) refl refl
-  where
-    by_tests : filter (λ u. p u && q u) ts ≡ filter q (filter p ts) → (a b : Bool) → p t ≡ a → q t ≡ b
-        → filter (λ u. p u && q u) (t ∷ ts) ≡ filter q (filter p (t ∷ ts))
-    by_tests rest true true d e = rw (d, e) (ap (λ us. t ∷ us) rest)
-    by_tests rest true false d e = rw (d, e) rest
-    by_tests rest false b d e = rw d rest
-
-pub intersection_restricted_right : RestrictionOfIntersectionOnRight
-intersection_restricted_right p r s =
-    restrictions_turned p (λ t. has tuple_cmp t s.body) r
-    ∙ ap (λ ts. record { heading = r.heading; body = ts }) (sym (filter_both p (λ t. has tuple_cmp t s.body) r.body) ∙ (λ i. filter (λ t. sym (has-filter p t s.body) i) r.body))
-
--- ---- joins
+use Rattle.td_plan.specs.Equalities.{AsksOnlyOf, RestrictionOfJoinOnLeft, RestrictionOfJoinOnRight, RestrictionOfProductOnLeft, RestrictionOfProductOnRight}
 
 pub join_restricted_left : RestrictionOfJoinOnLeft
 join_restricted_left p r s j asked =
@@ -83,26 +58,3 @@ product_restricted_right p r s a asked =
     let is = product_join r s a.2 in
     ap (restriction p) is ∙ join_restricted_right p r s (a.0, a.1, apart_agree r.heading s.heading a.2) (subst (λ q. AsksOnlyOf (relation_names s) q p) is asked)
     ∙ sym (product_join r (restriction p s) a.2)
-
-pub semijoin_restricted : RestrictionOfSemijoin
-semijoin_restricted p r s = restrictions_turned p (λ t. list_any (are_partners r s t) s.body) r
-
-pub semidifference_restricted : RestrictionOfSemidifference
-semidifference_restricted p r s = restrictions_turned p (λ t. not (list_any (are_partners r s t) s.body)) r
-
--- ---- one after another
-
-pub restricted_by_both : RestrictionByBoth
-restricted_by_both p q r = ap (λ ts. record { heading = r.heading; body = ts }) (filter_both p q r.body)
-
-filter_all : (ts : List Tuple) → filter (λ t. true) ts ≡ ts
-filter_all [] = refl
-filter_all (t ∷ ts) = ap (λ us. t ∷ us) (filter_all ts)
-
-pub restricted_by_all : RestrictionByAll
-restricted_by_all [] r = ap (λ ts. record { heading = r.heading; body = ts }) (filter_all r.body)
-restricted_by_all (p ∷ ps) r =
-    restricted_by_both p (λ t. list_all (λ q. q t) ps) r ∙ restricted_by_all ps (restriction p r)
-
-pub restrictions_commute : RestrictionsCommute
-restrictions_commute p q r = restrictions_turned p q r

@@ -1,18 +1,11 @@
 -- Fixed attributes that are taken from a list, one after another.
-use Rattle.std.proofs.Common.{◌≡◌, ◌∙◌, ◌⊎◌, inl, inr, ◌+◌, ◌++◌, ◌<◌, ℕ, suc, zero, List, [], ◌∷◌, Some, add-one, ap, get_or, length, map, subst, sym, take}
+use Rattle.std.proofs.Common.{◌≡◌, ◌∙◌, ◌⊎◌, inl, inr, ◌+◌, ◌++◌, ℕ, suc, zero, List, [], ◌∷◌, Some, add-one, ap, map, subst, sym, take}
 use Rattle.std.proofs.lemmas.List.Elements.{Contains-append_cases}
-use Rattle.std.proofs.lemmas.List.Sorted.{Contains-permutation, IsPermutation-swap_remove, IsPermutation-sym}
 use Rattle.std.proofs.lemmas.List.{map-append}
-use Rattle.std.specs.List.{AllByRecursion, Contains, slice_get, swap_remove}
-use Rattle.td_algebra.proofs.Lists.{contains_cases, contains_later, contains_none}
+use Rattle.std.specs.List.{AllByRecursion, Contains, slice_get}
+use Rattle.td_algebra.proofs.Lists.{contains_cases, contains_none}
 use Rattle.td_eval.proofs.code_lemmas.KeepsGathered.{all_from_members, member_from_all}
 use Rattle.td_types.specs.Types.{Heading, Type', attribute_names}
-
--- the others are of the list
-pub others_stay : {X : Type 0} (xs : List X) (i : ℕ) (x : X) → i < length xs → x ≡ get_or xs i x → (y : X) → Contains (swap_remove xs i x) y → Contains xs y
-others_stay xs i x l e y c =
-    let rest = swap_remove xs i x in
-    Contains-permutation (x ∷ rest) xs y (IsPermutation-sym xs (x ∷ rest) (IsPermutation-swap_remove xs i x l e)) (contains_later x rest y c)
 
 -- one more of the list
 pub one_more_among : {X : Type 0} (xs ys zs : List X) (x : X) → ys ≡ xs ++ (x ∷ []) → ((y : X) → Contains xs y → Contains zs y) → Contains zs x

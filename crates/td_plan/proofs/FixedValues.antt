@@ -129,7 +129,7 @@ module _ (h : Heading) (u : Tuple) (headed : heading_of u ≡ h) where
 
 module _ (scope : Scope) (h : Heading) (n : List ℕ) (x : Tree) (may : MayFix scope h n x) (written : IsWritten x) where
   pub one_fixed : (p : PlanTree) → IsPlanOfTyped scope p x → (e a : Tree) → a ≡ trees.name n → AreOneWhere e a x → IsFixedTo scope h e n p
-  one_fixed p plan e a is same w s slots k hand frames =
+  one_fixed p plan e a is same w s slots k hand f =
       let here : with_tuples (outermost scope) s ≡ scope =
       λ i. record { types = scope.types; relvars = scope.relvars; constraints = scope.constraints; entered = hand.1 i } in
       let t = may.typed.0 in
@@ -137,7 +137,7 @@ module _ (scope : Scope) (h : Heading) (n : List ℕ) (x : Tree) (may : MayFix s
       (ap (λ z. type_of z x) here ∙ may.typed.2) (ap (λ z. cannot_fail z x) here ∙ may.unfailing) in
       let v = found.0 in (
         v,
-        plan written t may.typed.2 w s slots k hand frames ∙ found.1,
+        plan written t may.typed.2 w s slots k hand f ∙ found.1,
         record {
           typed = (t, may.typed.1, found.2);
           same = λ u typed headed there.

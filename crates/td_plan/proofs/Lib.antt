@@ -1,4 +1,5 @@
 pub mod CountedTruths
+pub mod EachStep
 pub mod EnteredSlots
 pub mod EqualLookUps
 pub mod EqualNames
@@ -12,12 +13,14 @@ pub mod LookUpParts
 pub mod LookUpValues
 pub mod MadePlans
 pub mod MemoLaws
+pub mod NamedSlots
 pub mod NarrowedOperands
 pub mod PlacedLaws
 pub mod Places
 pub mod Planned
 pub mod PlannedAnswers
 pub mod PlannedBelow
+pub mod PlannedClosed
 pub mod PlannedLists
 pub mod PlannedNames
 pub mod PlannedNodes

@@ -17,8 +17,8 @@ use Rattle.td_plan.specs.declared.rewriting.fixed.FixedValue.{FixedValue}
 use Rattle.td_plan.specs.Equalities.{HasValues, has_values}
 use Rattle.td_plan.specs.Narrowing.{AreFixed, IsFixedAt}
 use Rattle.td_plan.specs.Plans as plans
-use Rattle.td_plan.specs.Plans.{PlanTrees, plan_value, plan_values}
-use Rattle.td_plan.specs.PlansOf.{AreSlotsOf, AreInHand, outermost}
+use Rattle.td_plan.specs.Plans.{PlanTrees, Slots, plan_value, plan_values}
+use Rattle.td_plan.specs.PlansOf.{AreInHand, AreSlotsOf, outermost}
 use Rattle.td_plan.specs.code.StepViews.{steps_view}
 use Rattle.td_tree.specs.Names.{IsName}
 use Rattle.td_tree.specs.Outcomes.{Valued, gathered, with_both, with_value}
@@ -90,7 +90,7 @@ module _ (h : Heading) where
         ∙ twice (has_name n key) (type_at n h)
         ∙ sym (type_at-projection key n h))
 
-    pub entries_from : tuple_from es ≡ Valued (tuple_value es)
+    entries_from : tuple_from es ≡ Valued (tuple_value es)
     entries_from =
         rw (ascending_distinct (tuple_names es) ascends)
         (ap (λ t. Valued (tuple_value t)) (sym (sorted_is_tuple_of es es (IsPermutation-refl es) ascends)))
@@ -141,7 +141,7 @@ module _ (scope : Scope) (h : Heading) (c : Tree) (w : World) (s : List Tuple) (
   -- the plan of the tuple gives it
   pub part_value : (key : List (List ℕ)) (part : List FixedValue) (es : Tuple) → IsHeading (pack h) → IsPartIn part es
       → fixed_names part ≡ attribute_names (projection key h)
-      → plan_value w slots (plans.tuple (fixed_names part) (fixed_plans part)) ≡ Valued (tuple_value es)
+      → plan_value w slots (plans.select (plans.tuple (fixed_names part)) (fixed_plans part)) ≡ Valued (tuple_value es)
   part_value key part es p found names =
       ap (λ o. with_value o (λ vs. tuple_from (zip (fixed_names part) vs))) found.values
       ∙ ap (λ ns. tuple_from (zip ns (entry_values es))) (sym found.names)

@@ -144,7 +144,7 @@ answers scope c h w s k hand written numbers never is r headed typed =
 pub look_up_narrows : (scope : Scope) (n : List ℕ) (key : List (List ℕ)) (part : List FixedValue) (d c : Tree) (h : Heading) → IsBase scope n → MeansName n d
     → type_of scope d ≡ Valued (types.relation (pack h)) → HasNumbers c → IsTrue (cannot_fail (entered_with h scope) c)
     → (IsWritten c → AreFixed scope h c part) → fixed_names part ≡ attribute_names (projection key h)
-    → Narrows scope (plans.look_up n key (plans.tuple (fixed_names part) (fixed_plans part))) d c h
+    → Narrows scope (plans.look_up n key (plans.select (plans.tuple (fixed_names part)) (fixed_plans part))) d c h
 look_up_narrows scope n key part d c h base named static numbers never fixed names = λ written t is w s slots k hand f.
     let ds = scope.types in
     let asked = λ (u : Tuple). value_of w (u ∷ s) c in

@@ -1,8 +1,8 @@
 -- Where attributes stand in headings.
-use Rattle.std.proofs.Common.{◌≡◌, ◌∙◌, ◌+◌, ◌≤◌, ℕ, zero, suc, List, [], ◌∷◌, ◌++◌, Option, Some, None, Bool, true, false, ap, refl, subst, sym, length, map, reverse, take, option_map, add-one, get_or, ◌<◌, if◌then◌else◌}
+use Rattle.std.proofs.Common.{◌≡◌, ◌∙◌, ◌+◌, ℕ, zero, suc, List, [], ◌∷◌, ◌++◌, Option, Some, None, Bool, true, false, ap, refl, subst, sym, length, map, reverse, take, option_map, add-one, get_or, ◌<◌, if◌then◌else◌}
 use Rattle.std.specs.List.{slice_get}
 use Rattle.std.proofs.Math.Seq.{take-suc}
-use Rattle.std.proofs.lemmas.List.{map-append, reverse-append, take_all}
+use Rattle.std.proofs.lemmas.List.{map-append, reverse-append}
 use Rattle.td_plan.specs.code.Planners.{is_named, place_in}
 use Rattle.td_types.specs.Types.{Heading, same_name}
 
@@ -34,11 +34,8 @@ module _ (n : List ℕ) where
   pub no_place_yet : (h : Heading) (i : ℕ) → is_named n (slice_get h i) ≡ false → place_in n (take i h) ≡ None → place_in n (take (i + 1) h) ≡ None
   no_place_yet h i is none = subst (λ j. place_in n (take j h) ≡ None) (sym (add-one i)) (place_beyond h i is none)
 
-  pub place_none : (h : Heading) (i : ℕ) → length h ≤ i → place_in n (take i h) ≡ None → place_in n h ≡ None
-  place_none h i past e = subst (λ ys. place_in n ys ≡ None) (take_all i h past) e
-
 -- the innermost is the last
-pub last_first : (h : Heading) (outer : List Heading) → reverse (outer ++ (h ∷ [])) ≡ h ∷ reverse outer
+last_first : (h : Heading) (outer : List Heading) → reverse (outer ++ (h ∷ [])) ≡ h ∷ reverse outer
 last_first h outer = reverse-append outer (h ∷ [])
 
 -- one more of the headings

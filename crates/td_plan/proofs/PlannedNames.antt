@@ -36,7 +36,7 @@ FoundAt n s slots None = innermost_value n s ≡ None
 abbrev first_or : List ℕ → List Tuple → Option Val → Option Val
 first_or n s o = elim o as (λ _. Option Val) [ Some v ↦ Some v | None ↦ innermost_value n s ]
 
-pub attribute_found : (n : List ℕ) (s : List Tuple) (slots : Slots) → AreSlotsOf s slots → FoundAt n s slots (attribute_place n (map heading_of s))
+attribute_found : (n : List ℕ) (s : List Tuple) (slots : Slots) → AreSlotsOf s slots → FoundAt n s slots (attribute_place n (map heading_of s))
 attribute_found n [] slots h = refl
 attribute_found n (t ∷ s) slots h =
     by_place (place_in n (heading_of t)) (found_in n t) (attribute_place n (map heading_of s)) (attribute_found n s slots h.1)

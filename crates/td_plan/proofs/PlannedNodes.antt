@@ -27,7 +27,7 @@ use Rattle.td_value.specs.Values.{Tuple, Val}
 
 -- ---- outcomes
 
-pub with_value_twice : {A B C : Type 0} (o : Outcome A) (f : A → Outcome B) (g : B → Outcome C) → with_value (with_value o f) g ≡ with_value o (λ x. with_value (f x) g)
+with_value_twice : {A B C : Type 0} (o : Outcome A) (f : A → Outcome B) (g : B → Outcome C) → with_value (with_value o f) g ≡ with_value o (λ x. with_value (f x) g)
 with_value_twice (Valued x) f g = refl
 with_value_twice (Refused cs) f g = refl
 

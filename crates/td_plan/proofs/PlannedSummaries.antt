@@ -22,7 +22,7 @@ use Rattle.td_eval.proofs.code_lemmas.SummaryParts.{attributes_of_items, by_type
 use Rattle.td_eval.proofs.code_lemmas.TypedRows.{rows_typed}
 use Rattle.td_plan.specs.code.PlannedParts.{ArePlansOfTyped, in_summaries}
 use Rattle.td_plan.specs.Plans as plans
-use Rattle.td_plan.specs.Plans.{PlanTree, PlanTrees, Slots, plan_columns, plan_value, summary_of}
+use Rattle.td_plan.specs.Plans.{PlanTree, PlanTrees, Slots, plan_columns, summary_of}
 use Rattle.td_plan.specs.PlansOf.{AreInHand, AreSlotsOf, IsPlanOfTyped, outermost}
 use Rattle.td_plan.specs.SummaryItems.{aggregates_in}
 use Rattle.td_plan.proofs.PlannedTuples.{heading_is, kept, more_there, one_alike}

@@ -1,5 +1,5 @@
 -- What is planned in the tuples of an operand is what is applied to them.
-use Rattle.std.proofs.Common.{◌≡◌, ◌∙◌, ℕ, suc, true, List, [], ◌∷◌, ap, append-nil, length, refl, subst, sym}
+use Rattle.std.proofs.Common.{◌≡◌, ◌∙◌, ℕ, suc, true, List, [], ◌∷◌, ap, append-nil, length, subst, sym}
 use Rattle.std.specs.List.{Contains}
 use Rattle.std.specs.Prelude.{nat_eq}
 use Rattle.std.proofs.lemmas.Bool.{eq-eqb}
@@ -27,7 +27,7 @@ use Rattle.td_plan.proofs.EnteredSlots.{entered_slots}
 use Rattle.td_plan.proofs.PlannedAnswers.{parts_typed}
 use Rattle.td_plan.specs.Plans as plans
 use Rattle.td_plan.specs.Plans.{PlanTree, PlanTrees, Slots, extension_of, plan_columns, plan_value, with_slot}
-use Rattle.td_plan.specs.PlansOf.{AreInHand, AreSlotsOf, IsPlanFor, IsPlanOf, IsPlanOfTyped, outermost}
+use Rattle.td_plan.specs.PlansOf.{AreInHand, AreSlotsOf, IsPlanOf, IsPlanOfTyped, outermost}
 use Rattle.td_tree.specs.declared.cause.Cause.TheVariants as causes
 use Rattle.td_tree.specs.declared.operator.Aggregate.{Aggregate}
 use Rattle.td_tree.specs.Outcomes.{Outcome, Valued, with_value}
@@ -38,7 +38,7 @@ use Rattle.td_types.specs.Headings.{are_distinct, have_no_common}
 use Rattle.td_types.specs.code.TypeCode.{unpack_pack}
 use Rattle.td_types.specs.Types.{Attribute, Attrs, Heading, Type', attribute_names, pack, unpack}
 use Rattle.td_types.specs.Types as types
-use Rattle.td_value.specs.Values.{Relation, Tuple, Val, heading_of}
+use Rattle.td_value.specs.Values.{Relation, Tuple, heading_of}
 use Rattle.td_value.specs.code.Views.{values_of}
 
 -- ---- in the tuples of a relation that an operand has as its value
@@ -85,7 +85,7 @@ heading_is h g r e head = let same : pack h ≡ g = cc in head ∙ ap unpack (sy
 
 module _ (scope : Scope) where
   -- the type of what is applied
-  pub inner_type : (d e : Tree) (h : Heading) (t : Type') (g : Type' → Type' → Outcome Type') → type_of scope d ≡ Valued (types.relation (pack h))
+  inner_type : (d e : Tree) (h : Heading) (t : Type') (g : Type' → Type' → Outcome Type') → type_of scope d ≡ Valued (types.relation (pack h))
       → with_value (type_of scope d) (λ q. over_relation q (λ i. with_value (type_of (entered_with i scope) e) (g q))) ≡ Valued t
       → (u : Type') × (type_of (entered_with h scope) e ≡ Valued u)
   inner_type d e h t g static is =
@@ -125,7 +125,7 @@ module _ (scope : Scope) where
 
   -- ---- EXTEND
 
-  pub as_many : (w : World) (slots : Slots) (slot : ℕ) (inner : Scope) (ps : PlanTrees) (es : NamedTrees) (xs : List Attribute)
+  as_many : (w : World) (slots : Slots) (slot : ℕ) (inner : Scope) (ps : PlanTrees) (es : NamedTrees) (xs : List Attribute)
       → ArePlansOfTyped inner ps (in_named es) → named_types inner es ≡ Valued xs → length xs ≡ length (plan_columns w slots slot ps)
   as_many w slots slot inner plans.none trees.none_named xs all is = ap length (sym (valued_is [] xs is))
   as_many w slots slot inner plans.none (trees.more_named m e es) xs all is = absurd all

@@ -1,21 +1,25 @@
 -- Steps whose parts are kept once they are made.
 use Rattle.std.proofs.Common.{◌≡◌, ◌∙◌, ◌++◌, ◌∷◌, ◌⊎◌, [], List, inl, inr, ℕ, suc, ap, length, refl, subst, sym}
 use Rattle.std.specs.List.{Contains}
-use Rattle.std.specs.Prelude.{⊤}
+use Rattle.std.specs.Prelude.{IfOk, Result, Ok, Err, ⊤}
 use Rattle.td_plan.specs.declared.plan.step.Step.{Step}
 use Rattle.td_plan.proofs.PlacedLaws.{placed_all, placed_both, placed_map, placed_more}
 use Rattle.td_plan.proofs.Withins.{on_more}
-use Rattle.td_plan.specs.Plans.{PlanTree, more}
+use Rattle.td_plan.specs.Plans.{PlanTree, PlanTrees, more}
 use Rattle.td_plan.specs.code.Memos.{AreOn, AreSound, IsOn, IsSound, Parts, Placed}
-use Rattle.td_plan.specs.code.Remembered.{AreAllAmong, AreAllRemembered, AreAmong, AreAmongBut, AreEachKept, AreEachRemembered, AreRemembered, AreRememberedInside, IsRemembered, KeepsPart}
+use Rattle.td_plan.specs.code.Remembered.{AreAllAmong, AreAllRemembered, AreAmong, AreAmongBut, AreEachKept, AreEachRemembered, AreRemembered, AreRememberedInside, AreRememberedInsideBoth, AreThreeRemembered, IsRemembered, KeepsPart}
 use Rattle.td_plan.specs.code.StepViews.{step_view, steps_view}
 
 pub among_but_more : (slot : ℕ) (inner a b : List ℕ) → AreAmongBut slot inner a → AreAmong a b → AreAmongBut slot inner b
-among_but_more slot inner a b h more = λ j c. by_case j (h j c)
+among_but_more slot inner a b h further = λ j c. by_case j (h j c)
   where
     by_case : (j : ℕ) → (j ≡ slot) ⊎ Contains a j → (j ≡ slot) ⊎ Contains b j
     by_case j (inl e) = inl e
-    by_case j (inr d) = inr (more j d)
+    by_case j (inr d) = inr (further j d)
+
+pub ok_by_both : {X E : Type 0} (r : Result X E) (P Q R : X → Type 0) → ((x : X) → P x → Q x → R x) → IfOk r P → IfOk r Q → IfOk r R
+ok_by_both (Ok x) P Q R f p q = f x p q
+ok_by_both (Err e) P Q R f p q = tt
 
 -- ---- a part that is kept
 
@@ -74,6 +78,33 @@ two_remembered make claim a b names law l r new_l new_r old new h was is sound =
       placed = placed_map a b _ _ sound h.placed;
     }
 
+-- ---- three steps
+
+pub three_remembered : (a b c d e z : ℕ) (names own all : List ℕ) (f f1 f2 s s1 s2 t t1 t2 : Step)
+    → AreRemembered a b (λ x y. AreAmong x names × AreAmong y names) s t s1 t1 → IsRemembered b c own f f1
+    → KeepsPart c d own f1 f2 → KeepsPart d e names s1 s2 → KeepsPart e z names t1 t2 → AreAmong own all → AreAmong names all
+    → AreThreeRemembered a z all f s t f2 s2 t2
+three_remembered a b c d e z names own all f f1 f2 s s1 s2 t t1 t2 h i j k l first others =
+    let on = h.on in
+    let second_on : IsOn names (step_view s) = on_more on.0 names (step_view s) on.4.0 on.2 in
+    let third_on : IsOn names (step_view t) = on_more on.1 names (step_view t) on.4.1 on.3 in
+    record {
+      first = kept_view c d own f1 f2 j ∙ i.view;
+      second = kept_view d e names s1 s2 k ∙ h.left;
+      third = kept_view e z names t1 t2 l ∙ h.right;
+      first_on = on_more own all (step_view f) first i.on;
+      second_on = on_more names all (step_view s) others second_on;
+      third_on = on_more names all (step_view t) others third_on;
+      placed =
+          placed_map a z (λ ps. IsSound ps t2 × (IsSound ps f2 × IsSound ps s2)) _ (λ ps x. (x.1.0, x.1.1, x.0))
+          (placed_kept a e z names t1 t2 (λ ps. IsSound ps f2 × IsSound ps s2) l (subst (IsOn names) (sym h.right) third_on)
+          (placed_map a e (λ ps. IsSound ps s2 × (IsSound ps t1 × IsSound ps f2)) _ (λ ps x. (x.1.0, (x.1.1, x.0)))
+          (placed_kept a d e names s1 s2 (λ ps. IsSound ps t1 × IsSound ps f2) k (subst (IsOn names) (sym h.left) second_on)
+          (placed_map a d (λ ps. IsSound ps f2 × (IsSound ps s1 × IsSound ps t1)) _ (λ ps x. (x.1.0, (x.1.1, x.0)))
+          (placed_kept a c d own f1 f2 (λ ps. IsSound ps s1 × IsSound ps t1) j (subst (IsOn own) (sym i.view) i.on)
+          (swapped a c (λ ps. IsSound ps s1 × IsSound ps t1) (λ ps. IsSound ps f1) (placed_both a b c _ _ h.placed i.placed)))))));
+    }
+
 -- ---- lists of steps
 
 abbrev AreEachOn : List (List ℕ) → List Step → Type 0
@@ -82,31 +113,8 @@ AreEachOn [] (s ∷ ss) = ⊥
 AreEachOn (n ∷ ns) [] = ⊥
 AreEachOn (n ∷ ns) (s ∷ ss) = IsOn n (step_view s) × AreEachOn ns ss
 
--- one more
-pub each_more : (a b c : ℕ) (ns : List (List ℕ)) (os xs : List Step) (n : List ℕ) (o x : Step) → AreEachRemembered a b ns os xs → IsRemembered b c n o x
-    → AreEachRemembered a c (ns ++ (n ∷ [])) (os ++ (o ∷ [])) (xs ++ (x ∷ []))
-each_more a b c [] [] [] n o x h i = (c, subst (λ z. IsRemembered z c n o x) (sym h) i, refl)
-each_more a b c [] [] (y ∷ xs) n o x h i = absurd h
-each_more a b c [] (q ∷ os) [] n o x h i = absurd h
-each_more a b c [] (q ∷ os) (y ∷ xs) n o x h i = absurd h
-each_more a b c (m ∷ ns) [] [] n o x h i = absurd h
-each_more a b c (m ∷ ns) [] (y ∷ xs) n o x h i = absurd h
-each_more a b c (m ∷ ns) (q ∷ os) [] n o x h i = absurd h
-each_more a b c (m ∷ ns) (q ∷ os) (y ∷ xs) n o x h i = (h.0, h.1, each_more h.0 b c ns os xs n o x h.2 i)
-
-pub each_kept_more : (a b c : ℕ) (ns : List (List ℕ)) (os xs : List Step) (n : List ℕ) (o x : Step) → AreEachKept a b ns os xs → KeepsPart b c n o x
-    → AreEachKept a c (ns ++ (n ∷ [])) (os ++ (o ∷ [])) (xs ++ (x ∷ []))
-each_kept_more a b c [] [] [] n o x h i = (c, subst (λ z. KeepsPart z c n o x) (sym h) i, refl)
-each_kept_more a b c [] [] (y ∷ xs) n o x h i = absurd h
-each_kept_more a b c [] (q ∷ os) [] n o x h i = absurd h
-each_kept_more a b c [] (q ∷ os) (y ∷ xs) n o x h i = absurd h
-each_kept_more a b c (m ∷ ns) [] [] n o x h i = absurd h
-each_kept_more a b c (m ∷ ns) [] (y ∷ xs) n o x h i = absurd h
-each_kept_more a b c (m ∷ ns) (q ∷ os) [] n o x h i = absurd h
-each_kept_more a b c (m ∷ ns) (q ∷ os) (y ∷ xs) n o x h i = (h.0, h.1, each_kept_more h.0 b c ns os xs n o x h.2 i)
-
 -- what is known of each and all of them
-record AreListed (a b : ℕ) (ns : List (List ℕ)) (os xs : List Step) : Type 0 where
+pub record AreListed (a b : ℕ) (ns : List (List ℕ)) (os xs : List Step) : Type 0 where
   pub lengths : length ns ≡ length xs
   pub views : steps_view xs ≡ steps_view os
   pub each_on : AreEachOn ns xs
@@ -194,4 +202,61 @@ inside_remembered a b c d e slot f ns inner outer names l l1 l2 os ms xs h i amo
           (each_placed_kept a d e ns ms xs (λ ps. IsSound ps l2) k all.each_on
           (swapped a d (λ ps. IsSound ps l2) (λ ps. AreSound ps ms)
           (placed_kept a c d f l1 l2 (λ ps. AreSound ps ms) j (subst (IsOn f) (sym h.view) h.on) (placed_both a b c _ _ h.placed all.placed))));
+    }
+
+-- two operands, the first of which has the list beside it
+pub inside_both_remembered : (a b c d e slot : ℕ) (f g names : List ℕ) (l l1 l2 r r1 r2 : Step) (os xs : List Step)
+    → AreRememberedInside a b slot f l os l1 xs → IsRemembered b c g r r1 → KeepsPart c d g r1 r2 → KeepsPart d e f l1 l2
+    → AreAmong f names → AreAmong g names → AreRememberedInsideBoth a e slot names l r os l2 r2 xs
+inside_both_remembered a b c d e slot f g names l l1 l2 r r1 r2 os xs h i j k first second =
+    let on = h.on in
+    record {
+      left = kept_view d e f l1 l2 k ∙ h.operand;
+      right = kept_view c d g r1 r2 j ∙ i.view;
+      views = h.views;
+      left_on = on_more f names (step_view l) first h.operand_on;
+      right_on = on_more g names (step_view r) second i.on;
+      on = (on.0, on.1, among_but_more slot on.0 f names on.2 first);
+      placed =
+          placed_map a e (λ ps. IsSound ps l2 × (AreSound ps xs × IsSound ps r2)) _ (λ ps x. (x.0, x.1.1, x.1.0))
+          (placed_kept a d e f l1 l2 (λ ps. AreSound ps xs × IsSound ps r2) k (subst (IsOn f) (sym h.operand) h.operand_on)
+          (placed_map a d (λ ps. IsSound ps r2 × (IsSound ps l1 × AreSound ps xs)) _ (λ ps x. (x.1.0, (x.1.1, x.0)))
+          (placed_kept a c d g r1 r2 (λ ps. IsSound ps l1 × AreSound ps xs) j (subst (IsOn g) (sym i.view) i.on)
+          (swapped a c (λ ps. IsSound ps l1 × AreSound ps xs) (λ ps. IsSound ps r1) (placed_both a b c _ _ h.placed i.placed)))));
+    }
+
+-- ---- steps of lists
+
+pub all_made : (make : PlanTrees → PlanTree) (a b : ℕ) (names : List ℕ) → ((ps : PlanTrees) → AreOn names ps → IsOn names (make ps))
+    → (os xs : List Step) (old new : Step) → AreAllRemembered a b names os xs → step_view old ≡ make (steps_view os) → step_view new ≡ make (steps_view xs)
+    → ((ps : Parts) → AreSound ps xs → IsSound ps new) → IsRemembered a b names old new
+all_made make a b names law os xs old new h was is sound = record {
+  view = is ∙ ap make h.views ∙ sym was;
+  on = subst (IsOn names) (sym was) (law (steps_view os) h.on);
+  placed = placed_map a b _ _ sound h.placed;
+}
+
+pub inside_made : (make : PlanTree → PlanTrees → PlanTree) (a b slot : ℕ) (names : List ℕ)
+    → ((inner : List ℕ) (p : PlanTree) (ps : PlanTrees) → AreAmongBut slot inner names → IsOn names p → AreOn inner ps → IsOn names (make p ps))
+    → (l l2 : Step) (os xs : List Step) (old new : Step) → AreRememberedInside a b slot names l os l2 xs → step_view old ≡ make (step_view l) (steps_view os)
+    → step_view new ≡ make (step_view l2) (steps_view xs) → ((ps : Parts) → IsSound ps l2 × AreSound ps xs → IsSound ps new) → IsRemembered a b names old new
+inside_made make a b slot names law l l2 os xs old new h was is sound =
+    let on = h.on in
+    record {
+      view = is ∙ (λ i. make (h.operand i) (h.views i)) ∙ sym was;
+      on = subst (IsOn names) (sym was) (law on.0 (step_view l) (steps_view os) on.2 h.operand_on on.1);
+      placed = placed_map a b _ _ sound h.placed;
+    }
+
+pub inside_both_made : (make : PlanTree → PlanTree → PlanTrees → PlanTree) (a b slot : ℕ) (names : List ℕ)
+    → ((inner : List ℕ) (p q : PlanTree) (ps : PlanTrees) → AreAmongBut slot inner names → IsOn names p → IsOn names q → AreOn inner ps → IsOn names (make p q ps))
+    → (l r l2 r2 : Step) (os xs : List Step) (old new : Step) → AreRememberedInsideBoth a b slot names l r os l2 r2 xs
+    → step_view old ≡ make (step_view l) (step_view r) (steps_view os) → step_view new ≡ make (step_view l2) (step_view r2) (steps_view xs)
+    → ((ps : Parts) → IsSound ps l2 × IsSound ps r2 × AreSound ps xs → IsSound ps new) → IsRemembered a b names old new
+inside_both_made make a b slot names law l r l2 r2 os xs old new h was is sound =
+    let on = h.on in
+    record {
+      view = is ∙ (λ i. make (h.left i) (h.right i) (h.views i)) ∙ sym was;
+      on = subst (IsOn names) (sym was) (law on.0 (step_view l) (step_view r) (steps_view os) on.2 h.left_on h.right_on on.1);
+      placed = placed_map a b _ _ sound h.placed;
     }

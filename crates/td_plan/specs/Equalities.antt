@@ -1,19 +1,13 @@
 -- Equalities of restrictions: each side may be computed in place of the other.
-use Rattle.std.specs.Prelude.{◌≡◌, ℕ, ◌≤◌, Bool, ◌&&◌, List, Some, fold, length, IsTrue, ◌↔◌}
+use Rattle.std.specs.Prelude.{◌≡◌, ℕ, Bool, List, Some, IsTrue, ◌↔◌}
 use Rattle.std.specs.List.{All, list_all}
 use Rattle.std.specs.Option.{option_cmp}
 use Rattle.std.specs.Ordering.{eq_by_cmp}
 use Rattle.td_types.specs.Headings.{have_no_common, projection}
 use Rattle.td_value.specs.Values.{Val, Tuple, Relation, IsRelation, IsTuple, heading_of, projected_tuple, value_at, value_cmp}
 use Rattle.td_algebra.specs.Membership.{AreJoinable, IsIn}
-use Rattle.td_algebra.specs.Operators.{intersection, join, product, relation_names, restriction, semidifference, semijoin}
-use Rattle.td_body.specs.Bodies.{agreeing, key_holds}
-
--- ---- a restriction of an intersection restricts either operand
-
-abbrev pub RestrictionOfIntersectionOnRight : Type 0
-RestrictionOfIntersectionOnRight =
-    (p : Tuple → Bool) (r s : Relation) → restriction p (intersection r s) ≡ intersection r (restriction p s)
+use Rattle.td_algebra.specs.Operators.{join, product, relation_names, restriction}
+use Rattle.td_body.specs.Bodies.{agreeing}
 
 -- ---- a restriction of a join restricts an operand
 
@@ -47,33 +41,6 @@ RestrictionOfProductOnRight =
     (p : Tuple → Bool) (r s : Relation) → HaveNoCommon r s → AsksOnlyOf (relation_names s) (product r s) p
     → restriction p (product r s) ≡ product r (restriction p s)
 
--- MATCHING and NOT MATCHING keep tuples of the first operand: a restriction of them restricts it
-abbrev pub RestrictionOfSemijoin : Type 0
-RestrictionOfSemijoin =
-    (p : Tuple → Bool) (r s : Relation) → restriction p (semijoin r s) ≡ semijoin (restriction p r) s
-
-abbrev pub RestrictionOfSemidifference : Type 0
-RestrictionOfSemidifference =
-    (p : Tuple → Bool) (r s : Relation) → restriction p (semidifference r s) ≡ semidifference (restriction p r) s
-
--- ---- one restriction after another
-
--- a restriction by two conjuncts is one restriction after the other
-abbrev pub RestrictionByBoth : Type 0
-RestrictionByBoth =
-    (p q : Tuple → Bool) (r : Relation) → restriction (λ t. p t && q t) r ≡ restriction q (restriction p r)
-
--- a restriction by conjuncts is one restriction after another
-abbrev pub RestrictionByAll : Type 0
-RestrictionByAll =
-    (ps : List (Tuple → Bool)) (r : Relation)
-    → restriction (λ t. list_all (λ p. p t) ps) r ≡ fold (λ q p. restriction p q) r ps
-
--- two restrictions may change places
-abbrev pub RestrictionsCommute : Type 0
-RestrictionsCommute =
-    (p q : Tuple → Bool) (r : Relation) → restriction p (restriction q r) ≡ restriction q (restriction p r)
-
 -- ---- look-up by key
 
 -- whether a tuple has the value at the name
@@ -96,21 +63,9 @@ ValuesAreTold = (part t : Tuple) → IsTrue (has_values part t) ↔ HasValues pa
 abbrev pub IsPartOn : List (List ℕ) → Relation → Tuple → Type 0
 IsPartOn key r part = IsTuple part × (heading_of part ≡ projection key r.heading)
 
--- a restriction that fixes each attribute of a key to a value is the look-up by these values
-abbrev pub RestrictionIsLookUp : Type 0
-RestrictionIsLookUp =
-    (key : List (List ℕ)) (part : Tuple) (r : Relation) → IsRelation r → IsPartOn key r part
-    → restriction (has_values part) r ≡ agreeing key part r
-
 -- a restriction that passes no tuple without these values is one of what the look-up finds
 abbrev pub RestrictionAfterLookUp : Type 0
 RestrictionAfterLookUp =
     (key : List (List ℕ)) (part : Tuple) (p : Tuple → Bool) (r : Relation) → IsRelation r → IsPartOn key r part
     → ((t : Tuple) → IsIn t r → IsTrue (p t) → HasValues part t)
     → restriction p r ≡ restriction p (agreeing key part r)
-
--- where the key holds, a look-up finds at most one tuple
-abbrev pub LookUpFindsOne : Type 0
-LookUpFindsOne =
-    (key : List (List ℕ)) (part : Tuple) (r : Relation) → IsTrue (key_holds key r.body)
-    → length (agreeing key part r).body ≤ 1

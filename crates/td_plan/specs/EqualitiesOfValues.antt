@@ -1,18 +1,17 @@
 -- Equalities of the values of restrictions by conditions that have a truth value in every tuple that they are asked of: each
 -- side may be computed in place of the other.
-use Rattle.std.specs.Prelude.{◌≡◌, ℕ, Bool, true, List, Some, fold, ⊤}
-use Rattle.std.specs.List.{AllByRecursion}
+use Rattle.std.specs.Prelude.{◌≡◌, ℕ, Bool, true, List, ⊤}
 use Rattle.td_tree.specs.declared.operator.Comparison.TheVariants as comparisons
 use Rattle.td_tree.specs.declared.operator.Operator.{Operator}
 use Rattle.td_tree.specs.declared.operator.Operator.TheVariants as operators
 use Rattle.td_tree.specs.Outcomes.{Outcome, Valued, Refused, with_both, with_value}
 use Rattle.td_types.specs.Types.{Heading, attribute_names}
-use Rattle.td_value.specs.Values.{Val, Tuple, Relation, IsRelation, relation_value, type_of, value_at}
+use Rattle.td_value.specs.Values.{Val, Tuple, Relation, IsRelation, relation_value}
 use Rattle.td_algebra.specs.Membership.{IsIn}
 use Rattle.td_algebra.specs.Operators.{restriction}
 use Rattle.td_body.specs.Bodies.{agreeing}
 use Rattle.td_eval.specs.OperatorValues.{comparison_value, is_true, of_relation, of_truth, on_relation, operator_value, restricted_value}
-use Rattle.td_plan.specs.Equalities.{AsksOnlyOf, HasValues, IsPartOn, has_values, is_at}
+use Rattle.td_plan.specs.Equalities.{AsksOnlyOf, HasValues, IsPartOn}
 
 -- ---- conditions and operands
 
@@ -51,16 +50,11 @@ WhereOfUnion =
     (p : Tuple → Outcome Val) (a b : Outcome Val) → Gives (IsAnsweredBy p) a → Gives (IsAnsweredBy p) b
     → where_value p (operated_outcome operators.Union a b) ≡ operated_outcome operators.Union (where_value p a) (where_value p b)
 
--- of an intersection, either
+-- of an intersection, the first
 abbrev pub WhereOfIntersectOnLeft : Type 0
 WhereOfIntersectOnLeft =
     (p : Tuple → Outcome Val) (a b : Outcome Val) → Gives (IsTotalIn p) a → Gives IsRelation b
     → where_value p (operated_outcome operators.Intersect a b) ≡ operated_outcome operators.Intersect (where_value p a) b
-
-abbrev pub WhereOfIntersectOnRight : Type 0
-WhereOfIntersectOnRight =
-    (p : Tuple → Outcome Val) (a b : Outcome Val) → Gives IsRelation a → Gives (IsTotalIn p) b
-    → where_value p (operated_outcome operators.Intersect a b) ≡ operated_outcome operators.Intersect a (where_value p b)
 
 -- of a difference, the first
 abbrev pub WhereOfMinus : Type 0
@@ -107,54 +101,7 @@ WhereOfTimesOnRight =
     → AsksOnlyIn h (operated_outcome operators.Times a b) p
     → where_value p (operated_outcome operators.Times a b) ≡ operated_outcome operators.Times a (where_value p b)
 
--- MATCHING and NOT MATCHING keep tuples of their first operand
-abbrev pub WhereOfMatching : Type 0
-WhereOfMatching =
-    (p : Tuple → Outcome Val) (a b : Outcome Val) → Gives (IsTotalIn p) a → Gives IsRelation b
-    → where_value p (operated_outcome operators.Matching a b) ≡ operated_outcome operators.Matching (where_value p a) b
-
-abbrev pub WhereOfNotMatching : Type 0
-WhereOfNotMatching =
-    (p : Tuple → Outcome Val) (a b : Outcome Val) → Gives (IsTotalIn p) a → Gives IsRelation b
-    → where_value p (operated_outcome operators.NotMatching a b) ≡ operated_outcome operators.NotMatching (where_value p a) b
-
--- ---- one WHERE after another
-
--- both conditions
-abbrev pub conjoined_conditions : (Tuple → Outcome Val) → (Tuple → Outcome Val) → Tuple → Outcome Val
-conjoined_conditions p q t = operated_outcome operators.And (p t) (q t)
-
--- WHERE by two conjuncts is one WHERE after the other, where the second has a truth value in each tuple: AND counts its causes
--- in tuples that the first drops
-abbrev pub WhereByAnd : Type 0
-WhereByAnd =
-    (p q : Tuple → Outcome Val) (a : Outcome Val) → Gives (IsTotalIn q) a
-    → where_value (conjoined_conditions p q) a ≡ where_value q (where_value p a)
-
--- each of the conditions has a truth value in each tuple of the relation
-abbrev pub AreTotalIn : List (Tuple → Outcome Val) → Relation → Type 0
-AreTotalIn qs r = AllByRecursion (λ q. IsTotalIn q r) qs
-
--- WHERE by several conjuncts is one WHERE after another, where these have truth values
-abbrev pub WhereByAnds : Type 0
-WhereByAnds =
-    (p : Tuple → Outcome Val) (qs : List (Tuple → Outcome Val)) (a : Outcome Val) → Gives (AreTotalIn qs) a
-    → where_value (fold conjoined_conditions p qs) a ≡ fold (λ o q. where_value q o) (where_value p a) qs
-
--- two WHEREs may change places
-abbrev pub WheresCommute : Type 0
-WheresCommute =
-    (p q : Tuple → Outcome Val) (a : Outcome Val) → Gives (λ r. IsTotalIn p r × IsTotalIn q r) a
-    → where_value p (where_value q a) ≡ where_value q (where_value p a)
-
 -- ---- look-up by key
-
--- an attribute that is compared with a value of its type is TRUE where the tuple has that value there
-abbrev pub EqualityIsOfValue : Type 0
-EqualityIsOfValue =
-    (name : List ℕ) (x v : Val) (t : Tuple) → value_at name t ≡ Some x → type_of x ≡ type_of v
-    → (comparison_value comparisons.Equal x v ≡ of_truth (is_at name v t))
-    × (comparison_value comparisons.Equal v x ≡ of_truth (is_at name v t))
 
 -- two values whose comparison is TRUE are one
 abbrev pub EqualityIsOfOneValue : Type 0
@@ -164,13 +111,6 @@ EqualityIsOfOneValue = (v u : Val) → comparison_value comparisons.Equal v u �
 abbrev pub AndIsOfBoth : Type 0
 AndIsOfBoth =
     (a b : Outcome Val) → operated_outcome operators.And a b ≡ of_truth true → (a ≡ of_truth true) × (b ≡ of_truth true)
-
--- WHERE by a condition that fixes each attribute of a key to a value is the look-up by these values
-abbrev pub WhereIsLookUp : Type 0
-WhereIsLookUp =
-    (key : List (List ℕ)) (part : Tuple) (p : Tuple → Outcome Val) (r : Relation) → IsRelation r → IsPartOn key r part
-    → ((t : Tuple) → IsIn t r → p t ≡ of_truth (has_values part t))
-    → where_value p (of_relation r) ≡ of_relation (agreeing key part r)
 
 -- by a condition that is TRUE in no tuple without these values, it is WHERE of what the look-up finds
 abbrev pub WhereAfterLookUp : Type 0

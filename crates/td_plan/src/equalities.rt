@@ -1,30 +1,14 @@
 //! Equalities of restrictions: each side may be computed in place of the other.
-ghost use Rattle.td_plan.specs.Equalities.{LookUpFindsOne, RestrictionAfterLookUp};
-ghost use Rattle.td_plan.specs.Equalities.{RestrictionByAll, RestrictionByBoth};
-ghost use Rattle.td_plan.specs.Equalities.{RestrictionOfIntersectionOnRight};
-ghost use Rattle.td_plan.specs.Equalities.{RestrictionIsLookUp, RestrictionOfJoinOnLeft};
+ghost use Rattle.td_plan.specs.Equalities.{RestrictionAfterLookUp, RestrictionOfJoinOnLeft};
 ghost use Rattle.td_plan.specs.Equalities.{RestrictionOfJoinOnRight, RestrictionOfProductOnLeft};
-ghost use Rattle.td_plan.specs.Equalities.{RestrictionOfProductOnRight};
-ghost use Rattle.td_plan.specs.Equalities.{RestrictionOfSemidifference, RestrictionOfSemijoin};
-ghost use Rattle.td_plan.specs.Equalities.{RestrictionsCommute, ValuesAreTold};
+ghost use Rattle.td_plan.specs.Equalities.{RestrictionOfProductOnRight, ValuesAreTold};
 ghost use Rattle.td_plan.specs.EqualitiesOfNames.{NamesAreWhatIsAsked, ValuesDependOnNames};
 ghost use Rattle.td_plan.specs.EqualitiesOfValues.{AndIsOfBoth, EqualityIsOfOneValue};
-ghost use Rattle.td_plan.specs.EqualitiesOfValues.{EqualityIsOfValue};
-ghost use Rattle.td_plan.specs.EqualitiesOfValues.{TotalConditionsRestrict};
-ghost use Rattle.td_plan.specs.EqualitiesOfValues.{WhereAfterLookUp, WhereByAnd, WhereByAnds};
-ghost use Rattle.td_plan.specs.EqualitiesOfValues.{WhereIsLookUp, WhereOfIntersectOnLeft};
-ghost use Rattle.td_plan.specs.EqualitiesOfValues.{WhereOfIntersectOnRight, WhereOfJoinOnLeft};
-ghost use Rattle.td_plan.specs.EqualitiesOfValues.{WhereOfJoinOnRight, WhereOfMatching};
-ghost use Rattle.td_plan.specs.EqualitiesOfValues.{WhereOfMinus};
-ghost use Rattle.td_plan.specs.EqualitiesOfValues.{WhereOfNotMatching, WhereOfTimesOnLeft};
-ghost use Rattle.td_plan.specs.EqualitiesOfValues.{WhereOfTimesOnRight, WhereOfUnion};
-ghost use Rattle.td_plan.specs.EqualitiesOfValues.{WheresCommute};
-
-/// A restriction of an intersection is the intersection with the second operand restricted; the
-/// first may be restricted in its place.
-pub fn restriction_of_an_intersection()
-    ensures { RestrictionOfIntersectionOnRight }
-{}
+ghost use Rattle.td_plan.specs.EqualitiesOfValues.{TotalConditionsRestrict, WhereAfterLookUp};
+ghost use Rattle.td_plan.specs.EqualitiesOfValues.{WhereOfIntersectOnLeft, WhereOfJoinOnLeft};
+ghost use Rattle.td_plan.specs.EqualitiesOfValues.{WhereOfJoinOnRight, WhereOfMinus};
+ghost use Rattle.td_plan.specs.EqualitiesOfValues.{WhereOfTimesOnLeft, WhereOfTimesOnRight};
+ghost use Rattle.td_plan.specs.EqualitiesOfValues.{WhereOfUnion};
 
 /// A restriction of a join that asks, in the tuples of the join, of one operand's attributes alone
 /// is the join with that operand restricted.
@@ -39,27 +23,11 @@ pub fn restriction_of_a_product()
     ensures right { RestrictionOfProductOnRight }
 {}
 
-/// A restriction of what MATCHING or NOT MATCHING keeps restricts the first operand.
-pub fn restriction_of_a_semijoin()
-    ensures matching { RestrictionOfSemijoin }
-    ensures not_matching { RestrictionOfSemidifference }
-{}
-
-/// A restriction by conjuncts is one restriction after another, in any order.
-pub fn restriction_by_conjuncts()
-    ensures both { RestrictionByBoth }
-    ensures all { RestrictionByAll }
-    ensures turned { RestrictionsCommute }
-{}
-
-/// A restriction that fixes each attribute of a key to a value is the look-up by these values, and
-/// one that fixes more is a restriction of what that finds; where the key holds it finds at most
-/// one tuple.
+/// A restriction that passes no tuple without these values of a key's attributes is one of what the
+/// look-up by them finds.
 pub fn restriction_is_a_look_up()
     ensures told { ValuesAreTold }
-    ensures same { RestrictionIsLookUp }
     ensures after { RestrictionAfterLookUp }
-    ensures one { LookUpFindsOne }
 {}
 
 // ---- values
@@ -69,40 +37,28 @@ pub fn total_conditions_restrict()
     ensures { TotalConditionsRestrict }
 {}
 
-/// WHERE by such a condition restricts the operands of UNION, INTERSECT and MINUS.
+/// WHERE by such a condition restricts both operands of UNION, and the first of INTERSECT or MINUS.
 pub fn where_of_one_heading()
     ensures union { WhereOfUnion }
-    ensures intersect_left { WhereOfIntersectOnLeft }
-    ensures intersect_right { WhereOfIntersectOnRight }
+    ensures intersect { WhereOfIntersectOnLeft }
     ensures minus { WhereOfMinus }
 {}
 
-/// WHERE by one that asks of one operand's attributes alone restricts that operand of JOIN or
-/// TIMES, and any restricts the first operand of MATCHING or NOT MATCHING.
+/// WHERE by one that asks of one operand's attributes alone restricts that operand of JOIN or of
+/// TIMES.
 pub fn where_of_a_join()
     ensures left { WhereOfJoinOnLeft }
     ensures right { WhereOfJoinOnRight }
     ensures times_left { WhereOfTimesOnLeft }
     ensures times_right { WhereOfTimesOnRight }
-    ensures matching { WhereOfMatching }
-    ensures not_matching { WhereOfNotMatching }
 {}
 
-/// WHERE by AND is one WHERE after another, and two may change places.
-pub fn where_by_conjuncts()
-    ensures both { WhereByAnd }
-    ensures all { WhereByAnds }
-    ensures turned { WheresCommute }
-{}
-
-/// A comparison fixes an attribute to a value, and AND what its operands fix; WHERE by a condition
-/// that fixes each attribute of a key to a value is the look-up by these values, and by one that
-/// fixes more WHERE of what that finds.
+/// An equality that is TRUE is of one value, and where AND is TRUE both its operands are. WHERE by
+/// a condition that fixes each attribute of a key to a value is WHERE of what the look-up by these
+/// values finds.
 pub fn where_is_a_look_up()
-    ensures equality { EqualityIsOfValue }
     ensures equal { EqualityIsOfOneValue }
     ensures both { AndIsOfBoth }
-    ensures same { WhereIsLookUp }
     ensures after { WhereAfterLookUp }
 {}
 

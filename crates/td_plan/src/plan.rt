@@ -1,6 +1,4 @@
 //! Plans, made once for all of the worlds that keep a scope.
-ghost use Rattle.td_plan.specs.code.Memos.{IsRunnable};
-
 pub mod explain;
 pub(crate) mod step;
 
@@ -15,5 +13,4 @@ pub struct Plan {
     pub(crate) places: usize,
     /// The names that stand in the expression, where there are virtual relvars.
     pub(crate) names: Vec<Name>,
-    ghost runnable: { IsRunnable step },
 }

@@ -64,19 +64,18 @@ pub record AreThreeRemembered (a b : ℕ) (names : List ℕ) (f s t new_f new_s 
 
 -- ---- lists of steps
 
--- each names the slots beside it, and the places of its parts come after those of the steps before it
-abbrev pub AreEachRemembered : ℕ → ℕ → List (List ℕ) → List Step → List Step → Type 0
-AreEachRemembered a b [] [] [] = a ≡ b
-AreEachRemembered a b (names ∷ rest) (old ∷ olds) (new ∷ news) =
-    (m : ℕ) × IsRemembered a m names old new × AreEachRemembered m b rest olds news
-AreEachRemembered a b _ _ _ = ⊥
+-- this holds of each, with the slots beside it; the places of each come after those of the steps before it
+abbrev pub AreEach : (ℕ → ℕ → List ℕ → Step → Step → Type 0) → ℕ → ℕ → List (List ℕ) → List Step → List Step → Type 0
+AreEach Claim a b [] [] [] = a ≡ b
+AreEach Claim a b (names ∷ rest) (old ∷ olds) (new ∷ news) =
+    (m : ℕ) × Claim a m names old new × AreEach Claim m b rest olds news
+AreEach Claim a b _ _ _ = ⊥
 
--- each, or the part that it becomes at a place after those of the steps before it
+abbrev pub AreEachRemembered : ℕ → ℕ → List (List ℕ) → List Step → List Step → Type 0
+AreEachRemembered = AreEach (λ a b names old new. IsRemembered a b names old new)
+
 abbrev pub AreEachKept : ℕ → ℕ → List (List ℕ) → List Step → List Step → Type 0
-AreEachKept a b [] [] [] = a ≡ b
-AreEachKept a b (names ∷ rest) (old ∷ olds) (new ∷ news) =
-    (m : ℕ) × KeepsPart a m names old new × AreEachKept m b rest olds news
-AreEachKept a b _ _ _ = ⊥
+AreEachKept = AreEach (λ a b names old new. KeepsPart a b names old new)
 
 pub record AreAllRemembered (a b : ℕ) (names : List ℕ) (olds news : List Step) : Type 0 where
   pub views : steps_view news ≡ steps_view olds

@@ -1,6 +1,6 @@
 //! Relations and tuples of which all parts are literals. They have their values before a plan is
 //! run, by evaluation, which costs less than planning them.
-ghost use Rattle.std.specs.Prelude.{◌≡◌, IfOk, IsTrue};
+ghost use Rattle.std.specs.Prelude.{◌≡◌, IfOk, IfSome, IsTrue};
 ghost use Rattle.td_plan.specs.Closed.{AreClosed, IsClosed, PartsAreClosed};
 ghost use Rattle.td_plan.specs.PlansOf.{IsPlanOfTyped};
 ghost use Rattle.td_plan.specs.code.Planners.{IsPlanner};
@@ -55,7 +55,7 @@ fn parts_are_constant(parts: &[NamedExpr]) -> bool
 }
 
 /// Whether an expression is a tuple or a relation of literals alone.
-pub(crate) fn is_closed(expr: &Expr) -> bool
+fn is_closed(expr: &Expr) -> bool
     ensures { IsTrue result → IsClosed (tree_view expr.now) }
 {
     match expr {
@@ -64,20 +64,22 @@ pub(crate) fn is_closed(expr: &Expr) -> bool
     }
 }
 
-/// The step of what such an expression has.
+/// The step of what such an expression has, if it has a value.
 #[inline(never)]
 pub(crate) fn closed_step<C: Known>(
     planner: &Planner<'_, C>,
     expr: &Expr,
-) -> Result<Step, AllocError>
-    requires planner { IsPlanner C.database planner.now }
-    requires closed { IsClosed (tree_view expr.now) }
-    ensures { IfOk result
-        (λ p. IsPlanOfTyped planner.now.scope (step_view p) (tree_view expr.now)) }
+) -> Result<Option<Step>, AllocError>
+    requires { IsPlanner C.database planner.now }
+    ensures { IfOk result (λ found. IfSome found
+        (λ p. IsPlanOfTyped planner.now.scope (step_view p) (tree_view expr.now))) }
 {
+    if !is_closed(expr) {
+        return Ok(None);
+    }
     match planner.catalog.value_alone(planner.alloc, expr) {
-        Ok(value) => Ok(Step::Constant(value)),
-        Err(Fault::Refused(cause)) => Ok(Step::Refused(cause)),
+        Ok(value) => Ok(Some(Step::Constant(value))),
+        Err(Fault::Refused(_)) => Ok(None),
         Err(Fault::Memory) => Err(AllocError),
     }
 }

@@ -18,7 +18,7 @@ ghost use Rattle.td_tree.specs.code.TreeViews.{tree_view};
 ghost use Rattle.td_tree.specs.code.TreeViews.{trees_view};
 ghost use Rattle.td_tree.specs.Trees as trees;
 
-use crate::making::closed::{closed_step, is_closed};
+use crate::making::closed::closed_step;
 use crate::making::in_tuples::{NewColumns, aggregation_step, extension_step, new_columns};
 use crate::making::nodes::{
     choice_step, component, dyadic_step, extraction, headed_step, literal_step, monadic_step,
@@ -360,10 +360,9 @@ where
         ensures { IfOk result
             (λ p. IsPlanOfTyped self.now.planner.now.scope (step_view p) (tree_view expr.now)) }
     {
-        if is_closed(expr) {
-            closed_step(self.planner, expr)
-        } else {
-            self.by_form(expr)
+        match closed_step(self.planner, expr)? {
+            Some(step) => Ok(step),
+            None => self.by_form(expr),
         }
     }
 }

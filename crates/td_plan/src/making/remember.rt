@@ -79,7 +79,9 @@ fn reach_of(names: &[usize]) -> usize
 {
     let mut reach = 0;
     for name in names {
-        reach = reach.max(name.saturating_add(1));
+        if reach <= *name {
+            reach = name.saturating_add(1);
+        }
     }
     reach
 }
@@ -175,7 +177,9 @@ fn remember(alloc: Global, places: &mut usize, step: &mut Step) -> Result<Vec<us
         IsRemembered places.old places.new names.items step.old step.new) }
 {
     match step {
-        Step::Constant(_) | Step::Refused(_) | Step::Relvar(_) => Ok(Vec::new(alloc)),
+        Step::Constant(_) => Ok(Vec::new(alloc)),
+        Step::Refused(_) => Ok(Vec::new(alloc)),
+        Step::Relvar(_) => Ok(Vec::new(alloc)),
         Step::Attribute { slot, place: _ } => one(alloc, *slot),
         Step::LookUp(_, _, operand) => remember(alloc, places, operand),
         Step::Monadic(_, operand) => remember(alloc, places, operand),
@@ -312,7 +316,8 @@ fn all_inside(
 {
     let first = remember(alloc, places, operand)?;
     let each = remember_all(alloc, places, steps)?;
-    let outer = without(alloc, slot, &union_of(alloc, &each)?)?;
+    let inner = union_of(alloc, &each)?;
+    let outer = without(alloc, slot, &inner)?;
     keep_part(alloc, places, operand, &first, reach_of(&outer))?;
     keep_all(alloc, places, steps, &each, slot.saturating_add(1))?;
     joined(first, &outer)

@@ -102,7 +102,8 @@ pub(crate) fn summary_by_step(
     columns: NewColumns,
 ) -> Result<Step, AllocError>
     ensures { (scope : Scope) (d : Tree) (items : trees.Summaries) (h : Heading)
-        → slot ≡ length scope.entered → IsBoxPlanned scope operand d → type_of scope d ≡ Valued (types.relation (pack h))
+        → slot ≡ length scope.entered → IsBoxPlanned scope operand d
+        → type_of scope d ≡ Valued (types.relation (pack h))
         → IfOk aggregates (λ xs. xs.items ≡ aggregates_in items)
         → ArePlannedColumns (entered_with h scope) columns
         (summary_attributes (entered_with h scope) items) (in_summaries items)

@@ -196,7 +196,8 @@ fn put_attribute(
 
 /// The step of the tuple of these attributes.
 fn part_step(alloc: Global, part: Vec<FixedValue>) -> Result<Step, AllocError>
-    ensures { IfOk result (λ p. step_view p ≡ plans.select (plans.tuple (map (λ x. x.name) part.items))
+    ensures { IfOk result (λ p. step_view p
+        ≡ plans.select (plans.tuple (map (λ x. x.name) part.items))
         (steps_view (map (λ x. x.value) part.items))) }
 {
     let mut names = Vec::with_capacity(alloc, part.len())?;

@@ -1,4 +1,4 @@
-use Rattle.td_plan.proofs.EqualValues.{where_of_join_left, where_of_join_right, where_of_matching, where_of_not_matching, where_of_times_left, where_of_times_right}
+use Rattle.td_plan.proofs.EqualValues.{where_of_join_left, where_of_join_right, where_of_times_left, where_of_times_right}
 use Rattle.td_plan.proofs.equalities.where_of_a_join.Goals as goal
 
 pub returns-clause-left : goal.returns-clause-left
@@ -12,9 +12,3 @@ returns-clause-times_left c = where_of_times_left
 
 pub returns-clause-times_right : goal.returns-clause-times_right
 returns-clause-times_right c = where_of_times_right
-
-pub returns-clause-matching : goal.returns-clause-matching
-returns-clause-matching c = where_of_matching
-
-pub returns-clause-not_matching : goal.returns-clause-not_matching
-returns-clause-not_matching c = where_of_not_matching

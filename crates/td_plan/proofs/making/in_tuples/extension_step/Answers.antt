@@ -1,6 +1,5 @@
 use Rattle.std.proofs.Common.{subst, sym}
 use Rattle.td_plan.specs.code.PlannedParts.{IsBoxPlanned}
-use Rattle.td_plan.specs.Plans.{none}
 use Rattle.td_plan.specs.PlansOf.{IsPlanOfTyped}
 use Rattle.td_plan.specs.code.StepViews.{step_view, steps_view}
 use Rattle.td_plan.proofs.PlannedTuples.{extension_planned, setting_planned}
@@ -10,16 +9,15 @@ use Rattle.td_types.specs.code.Views.{pairs_view}
 use Rattle.td_plan.proofs.making.in_tuples.extension_step.Goals as goal
 
 pub returns : goal.returns
-returns c = λ scope d es h i static columns.
+returns c = λ scope d es h next i static columns.
     let p = c.in_ok-operand.field-0 in
     let new = c.args.columns in
     let xs = pairs_view new.attributes.items in
-    let once = steps_view new.once.items in
     let values = steps_view new.values.items in
-    let is = sym (extend_is p new.attributes new.once new.values) in
+    let is = sym (extend_is p new.attributes c.args.slot new.values) in
     let planned = subst (λ o. IsBoxPlanned scope o d) c.in_ok-operand.was i in (
       subst (λ x. IsPlanOfTyped scope x (trees.extend d es)) is
-          (extension_planned scope (step_view p.value) xs none once values columns.1 d es h planned static columns.0 columns.2 columns.3),
+          (extension_planned scope (step_view p.value) xs c.args.slot values d es h next planned static columns.0 columns.1),
       subst (λ x. IsPlanOfTyped scope x (trees.extend_setting d es)) is
-          (setting_planned scope (step_view p.value) xs none once values columns.1 d es h planned static columns.0 columns.2 columns.3),
+          (setting_planned scope (step_view p.value) xs c.args.slot values d es h next planned static columns.0 columns.1),
     )

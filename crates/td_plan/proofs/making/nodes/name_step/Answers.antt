@@ -7,7 +7,7 @@ use Rattle.td_plan.proofs.making.nodes.name_step.Goals as goal
 
 pub returns-in-Some : goal.returns-in-Some
 returns-in-Some g c =
-    attribute_planned c.args.planner.now.scope c.args.name.now c.in-Some.depth c.in-Some.place (sym c.attribute_place.ensures ∙ c.in-Some.is)
+    attribute_planned c.args.planner.now.scope c.args.name.now c.in-Some.slot c.in-Some.place (sym c.attribute_place.ensures ∙ c.in-Some.is)
 
 pub returns-in_ok-try_clone-in-None : goal.returns-in_ok-try_clone-in-None
 returns-in_ok-try_clone-in-None g c =

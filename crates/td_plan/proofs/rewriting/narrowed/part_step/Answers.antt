@@ -2,7 +2,8 @@ use Rattle.std.proofs.Common.{◌≡◌, ◌∙◌, ap, map, sym}
 use Rattle.std.proofs.lemmas.Iterator.Adapters.{YieldsList-from_vec}
 use Rattle.std.proofs.lemmas.Iterator.Consumers.{YieldsList-end}
 use Rattle.std.proofs.lemmas.List.{map-id}
-use Rattle.td_plan.proofs.StepRows.{tuple_is}
+use Rattle.td_plan.proofs.StepRows.{select_is}
+use Rattle.td_plan.specs.declared.plan.step.Selector.TheVariants as selectors
 use Rattle.td_plan.specs.declared.rewriting.fixed.FixedValue.{FixedValue}
 use Rattle.td_plan.specs.Plans as plans
 use Rattle.td_plan.specs.code.StepViews.{steps_view}
@@ -15,4 +16,4 @@ returns c =
     let all : c.loop-attribute.yielded ≡ c.args.part.items = sym (map-id c.loop-attribute.yielded) ∙ end.0 in
     let names = c.loop-attribute.invariant.1 ∙ ap (map (λ (x : FixedValue). x.name)) all in
     let values = c.loop-attribute.invariant.2 ∙ ap (map (λ (x : FixedValue). x.value)) all in
-    tuple_is c.loop-attribute.names c.loop-attribute.values ∙ (λ i. plans.tuple (names i) (steps_view (values i)))
+    select_is (selectors.Tuple c.loop-attribute.names) c.loop-attribute.values ∙ (λ i. plans.select (plans.tuple (names i)) (steps_view (values i)))

@@ -38,8 +38,8 @@ pushed_restriction-returns-in-First g t c =
     let l = tree_view c.args.left.now in
     let r = tree_view c.args.right.now in
     let e = tree_view c.args.condition.now in
-    subst (λ k. IsPlanned scope c.binary_step.result (restricted_tree k l c.args.op r e)) (sym c.in-First.is)
-    (c.binary_step.ensures scope (trees.restriction l e) r c.where_pushed.ensures c.boxed_step.ensures)
+    subst (λ k. IsPlanned scope c.dyadic_step.result (restricted_tree k l c.args.op r e)) (sym c.in-First.is)
+    (c.dyadic_step.ensures scope (trees.restriction l e) r c.where_pushed-left.ensures c.boxed_step.ensures)
 
 pub pushed_restriction-returns-in-Second : goal.pushed_restriction-returns-in-Second
 pushed_restriction-returns-in-Second g t c =
@@ -47,8 +47,8 @@ pushed_restriction-returns-in-Second g t c =
     let l = tree_view c.args.left.now in
     let r = tree_view c.args.right.now in
     let e = tree_view c.args.condition.now in
-    subst (λ k. IsPlanned scope c.binary_step-in-Second.result (restricted_tree k l c.args.op r e)) (sym c.in-Second.is)
-    (c.binary_step-in-Second.ensures scope l (trees.restriction r e) c.boxed_step-in-Second.ensures c.where_pushed-in-Second.ensures)
+    subst (λ k. IsPlanned scope c.dyadic_step-in-Second.result (restricted_tree k l c.args.op r e)) (sym c.in-Second.is)
+    (c.dyadic_step-in-Second.ensures scope l (trees.restriction r e) c.boxed_step-left.ensures c.where_pushed.ensures)
 
 pub pushed_restriction-returns-in-Both : goal.pushed_restriction-returns-in-Both
 pushed_restriction-returns-in-Both g t c =
@@ -56,8 +56,8 @@ pushed_restriction-returns-in-Both g t c =
     let l = tree_view c.args.left.now in
     let r = tree_view c.args.right.now in
     let e = tree_view c.args.condition.now in
-    subst (λ k. IsPlanned scope c.binary_step-in-Both.result (restricted_tree k l c.args.op r e)) (sym c.in-Both.is)
-    (c.binary_step-in-Both.ensures scope (trees.restriction l e) (trees.restriction r e) c.where_pushed-in-Both.ensures c.where_pushed-in-Both-2.ensures)
+    subst (λ k. IsPlanned scope c.dyadic_step-in-Both.result (restricted_tree k l c.args.op r e)) (sym c.in-Both.is)
+    (c.dyadic_step-in-Both.ensures scope (trees.restriction l e) (trees.restriction r e) c.where_pushed-left-in-Both.ensures c.where_pushed-in-Both.ensures)
 
 pub where_pushed-returns : goal.where_pushed-returns
 where_pushed-returns g t c =

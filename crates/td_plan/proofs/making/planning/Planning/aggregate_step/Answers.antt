@@ -14,9 +14,9 @@ pub returns : goal.returns
 returns g c =
     let scope = c.args.self.now.planner.now.scope in
     let d = tree_view c.args.operand.now in
-    c.aggregation_step.ensures scope d (tree_view c.args.value.now) c.in-Some.heading c.boxed_step.ensures
+    c.aggregation_step.ensures scope d (tree_view c.args.value.now) c.in-Some.heading c.next_slot-slot.ensures c.boxed_step.ensures
     (subst (λ o. IfSome o (λ h. type_of scope d ≡ Valued (relation (pack h)))) c.in-Some.is c.in_ok-heading.ensures.some)
-    (c.pulled_step-value.ensures (entered_with c.in-Some.heading scope) (tree_view c.args.value.now) c.step_inside.ensures)
+    c.step_inside-value.ensures
 
 pub returns-in_default : goal.returns-in_default
 returns-in_default g c =

@@ -1,8 +1,9 @@
-use Rattle.std.proofs.Common.{◌∙◌, ap, arith, map, subst, sym}
+use Rattle.std.proofs.Common.{◌∙◌, ap, arith, map, refl, subst, sym}
 use Rattle.std.specs.Rc.{rc_str_bytes}
 use Rattle.td_plan.proofs.PlannedBelow.{below}
 use Rattle.td_plan.proofs.PlannedLists.{expressions_are}
 use Rattle.td_plan.specs.code.TreeWeights.{weight}
+use Rattle.td_plan.specs.Plans as plans
 use Rattle.td_plan.specs.code.PlannedParts.{ArePlanned, IsPlanned, part_tree}
 use Rattle.td_tree.proofs.code_lemmas.Rows.{extend_is, extend_setting_is, headed_relation_is, relation_is, select_is, summarize_by_is, summarize_per_is, tuple_is}
 use Rattle.td_tree.specs.code.TreeViews.{attributes_view, heading_tree_view, named_view, postfix_view, summaries_view, tree_view, trees_view}
@@ -27,27 +28,32 @@ returns-in-Parentheses g c =
 pub returns-in-Prefix : goal.returns-in-Prefix
 returns-in-Prefix g c =
     let is = ap tree_view c.in-Prefix.is ∙ ap (λ x. trees.prefix c.in-Prefix.op (tree_view x)) (sym c.deref-in-Prefix.ensures) in
-    subst (IsPlanned c.args.self.now.planner.now.scope c.prefix_step.result) (sym is) (c.prefix_step.ensures c.args.self.now.planner.now.scope (tree_view c.deref-in-Prefix.result.now) c.boxed_step.ensures)
+    subst (IsPlanned c.args.self.now.planner.now.scope c.monadic_step.result) (sym is)
+    (c.monadic_step.ensures c.args.self.now.planner.now.scope (plans.prefix c.in-Prefix.op) (tree_view c.deref-in-Prefix.result.now) refl c.boxed_step.ensures)
 
 pub returns-in-Extract : goal.returns-in-Extract
 returns-in-Extract g c =
     let is = ap tree_view c.in-Extract.is ∙ ap (λ x. trees.extract c.in-Extract.name (tree_view x)) (sym c.deref-in-Extract.ensures) in
-    subst (IsPlanned c.args.self.now.planner.now.scope c.extract_step.result) (sym is) (c.extract_step.ensures c.args.self.now.planner.now.scope (tree_view c.deref-in-Extract.result.now) c.boxed_step-in-Extract.ensures)
+    subst (IsPlanned c.args.self.now.planner.now.scope c.monadic_step-in-Extract.result) (sym is)
+    (c.monadic_step-in-Extract.ensures c.args.self.now.planner.now.scope (plans.extract c.in-Extract.name) (tree_view c.deref-in-Extract.result.now) c.extraction.ensures c.boxed_step-in-Extract.ensures)
 
 pub returns-in-Postfix : goal.returns-in-Postfix
 returns-in-Postfix g c =
     let is = ap tree_view c.in-Postfix.is ∙ ap (λ x. trees.postfix (tree_view x) (postfix_view c.in-Postfix.op)) (sym c.deref-in-Postfix.ensures) in
-    subst (IsPlanned c.args.self.now.planner.now.scope c.postfix_step.result) (sym is) (c.postfix_step.ensures c.args.self.now.planner.now.scope (tree_view c.deref-in-Postfix.result.now) c.boxed_step-in-Postfix.ensures)
+    subst (IsPlanned c.args.self.now.planner.now.scope c.monadic_step-in-Postfix.result) (sym is)
+    (c.monadic_step-in-Postfix.ensures c.args.self.now.planner.now.scope (plans.postfix (postfix_view c.in-Postfix.op)) (tree_view c.deref-in-Postfix.result.now) c.postfix.ensures c.boxed_step-in-Postfix.ensures)
 
 pub returns-in-Component : goal.returns-in-Component
 returns-in-Component g c =
     let is = ap tree_view c.in-Component.is ∙ ap (λ x. trees.component (rc_str_bytes c.in-Component.rest) (tree_view x)) (sym c.deref-in-Component.ensures) in
-    subst (IsPlanned c.args.self.now.planner.now.scope c.component_step.result) (sym is) (c.component_step.ensures c.args.self.now.planner.now.scope (tree_view c.deref-in-Component.result.now) c.boxed_step-in-Component.ensures)
+    subst (IsPlanned c.args.self.now.planner.now.scope c.monadic_step-in-Component.result) (sym is)
+    (c.monadic_step-in-Component.ensures c.args.self.now.planner.now.scope (plans.component (rc_str_bytes c.in-Component.rest)) (tree_view c.deref-in-Component.result.now) c.component.ensures c.boxed_step-in-Component.ensures)
 
 pub returns-in-Measure : goal.returns-in-Measure
 returns-in-Measure g c =
     let is = ap tree_view c.in-Measure.is ∙ ap (λ x. trees.measure c.in-Measure.op (tree_view x)) (sym c.deref-in-Measure.ensures) in
-    subst (IsPlanned c.args.self.now.planner.now.scope c.measure_step.result) (sym is) (c.measure_step.ensures c.args.self.now.planner.now.scope (tree_view c.deref-in-Measure.result.now) c.boxed_step-in-Measure.ensures)
+    subst (IsPlanned c.args.self.now.planner.now.scope c.monadic_step-in-Measure.result) (sym is)
+    (c.monadic_step-in-Measure.ensures c.args.self.now.planner.now.scope (plans.measure c.in-Measure.op) (tree_view c.deref-in-Measure.result.now) refl c.boxed_step-in-Measure.ensures)
 
 pub returns-in-Restriction : goal.returns-in-Restriction
 returns-in-Restriction g c =
@@ -57,12 +63,14 @@ returns-in-Restriction g c =
 pub returns-in-Binary : goal.returns-in-Binary
 returns-in-Binary g c =
     let is = ap tree_view c.in-Binary.is ∙ (λ i. trees.binary (tree_view (sym c.deref-in-Binary.ensures i)) c.in-Binary.op (tree_view (sym c.deref-in-Binary-2.ensures i))) in
-    subst (IsPlanned c.args.self.now.planner.now.scope c.binary_step.result) (sym is) (c.binary_step.ensures c.args.self.now.planner.now.scope (tree_view c.deref-in-Binary.result.now) (tree_view c.deref-in-Binary-2.result.now) c.boxed_step-in-Binary.ensures c.boxed_step-in-Binary-2.ensures)
+    subst (IsPlanned c.args.self.now.planner.now.scope c.dyadic_step.result) (sym is)
+    (c.dyadic_step.ensures c.args.self.now.planner.now.scope (tree_view c.deref-in-Binary.result.now) (tree_view c.deref-in-Binary-2.result.now) c.boxed_step-left.ensures c.boxed_step-in-Binary.ensures)
 
 pub returns-in-Compare : goal.returns-in-Compare
 returns-in-Compare g c =
     let is = ap tree_view c.in-Compare.is ∙ (λ i. trees.compare (tree_view (sym c.deref-in-Compare.ensures i)) c.in-Compare.op (tree_view (sym c.deref-in-Compare-2.ensures i))) in
-    subst (IsPlanned c.args.self.now.planner.now.scope c.compare_step.result) (sym is) (c.compare_step.ensures c.args.self.now.planner.now.scope (tree_view c.deref-in-Compare.result.now) (tree_view c.deref-in-Compare-2.result.now) c.boxed_step-in-Compare.ensures c.boxed_step-in-Compare-2.ensures)
+    subst (IsPlanned c.args.self.now.planner.now.scope c.dyadic_step-in-Compare.result) (sym is)
+    (c.dyadic_step-in-Compare.ensures c.args.self.now.planner.now.scope (tree_view c.deref-in-Compare.result.now) (tree_view c.deref-in-Compare-2.result.now) c.boxed_step-left-in-Compare.ensures c.boxed_step-in-Compare.ensures)
 
 pub returns-in-Select : goal.returns-in-Select
 returns-in-Select g c =

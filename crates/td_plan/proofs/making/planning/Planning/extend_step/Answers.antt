@@ -17,7 +17,7 @@ returns g c =
     let inner = entered_with c.in-Some.heading scope in
     let d = tree_view c.args.operand.now in
     let es = named_view c.args.parts.now in
-    c.extension_step.ensures scope d es c.in-Some.heading c.boxed_step.ensures
+    c.extension_step.ensures scope d es c.in-Some.heading c.next_slot-slot.ensures c.boxed_step.ensures
     (subst (λ o. IfSome o (λ h. type_of scope d ≡ Valued (relation (pack h)))) c.in-Some.is c.in_ok-heading.ensures.some)
     (subst (λ o. AreFoundColumns inner o (named_types inner es) (in_named es)) c.in-Some-2.is c.in_ok-columns.ensures)
 

@@ -20,7 +20,7 @@ returns g c =
     let q = tree_view c.args.per.now in
     let items = summaries_view c.args.items.now in
     let inner = entered_with c.in-Some.heading scope in
-    c.summary_step.ensures scope d q items c.in-Some.heading c.boxed_step.ensures c.boxed_step-2.ensures
+    c.summary_step.ensures scope d q items c.in-Some.heading c.next_slot-slot.ensures c.boxed_step.ensures c.boxed_step-2.ensures
     (subst (λ o. IfSome o (λ h. type_of scope d ≡ Valued (relation (pack h)))) c.in-Some.is c.in_ok-heading.ensures.some)
     (IfOk-weaker c.aggregates_of-aggregates.result _ _ (λ xs is. is ∙ sym (aggregates_are c.args.items.now)) c.aggregates_of-aggregates.ensures)
     (subst (λ o. AreFoundColumns inner o (summary_attributes inner items) (in_summaries items)) c.in-Some-2.is c.in_ok-columns.ensures)

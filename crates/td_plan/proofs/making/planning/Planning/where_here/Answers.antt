@@ -16,7 +16,7 @@ returns g c =
     let scope = c.args.self.now.planner.now.scope in
     let d = tree_view c.args.expr.now in
     let static = subst (λ o. IfSome o (λ h. type_of scope d ≡ Valued (types.relation (pack h)))) c.in-Some.is c.in_ok-heading.ensures.some in
-    c.restriction_step.ensures scope d (tree_view c.args.condition.now) c.in-Some.heading c.narrowed_operand.ensures static c.step_inside.ensures
+    c.restriction_step.ensures scope d (tree_view c.args.condition.now) c.in-Some.heading c.next_slot-slot.ensures c.narrowed_operand.ensures static c.step_inside.ensures
 
 -- what is no relation has no restriction
 pub returns-in_default : goal.returns-in_default
