@@ -3,6 +3,7 @@ pub mod explain;
 pub(crate) mod step;
 
 use crate::plan::step::Step;
+use std::marker::Model;
 use td_tree::name::Name;
 
 /// An expression whose names are found and whose types are known.
@@ -13,4 +14,15 @@ pub struct Plan {
     pub(crate) places: usize,
     /// The names that stand in the expression, where there are virtual relvars.
     pub(crate) names: Vec<Name>,
+}
+
+impl Model for Plan {
+    ghost use Rattle.td_plan.specs.code.Memos.{IsRunnable};
+    ghost use Rattle.td_plan.specs.code.PlanViews.{PlanValue};
+
+    ghost Value = { PlanValue };
+
+    ghost view = { λ p. record { step = p.step } };
+
+    ghost invariant = { λ p. IsRunnable p.step };
 }
