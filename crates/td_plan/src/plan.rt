@@ -17,10 +17,14 @@ pub struct Plan {
 }
 
 impl Model for Plan {
+    ghost use Rattle.std.specs.Coded.{codes};
+    ghost use Rattle.td_plan.specs.contracts.plan.step.Step as e;
     ghost use Rattle.td_plan.specs.code.Memos.{IsRunnable};
     ghost use Rattle.td_plan.specs.code.PlanViews.{PlanValue};
 
     ghost Value = { PlanValue };
+
+    ghost coded = { Prim.hlevel (codes, e.the_row.coded) };
 
     ghost view = { λ p. record { step = p.step } };
 
