@@ -8,11 +8,10 @@ use Rattle.td_eval.proofs.code_lemmas.OpValues.{relation_unpacked}
 use Rattle.td_eval.specs.OperatorValues.{of_relation, on_relation, set_value}
 use Rattle.td_eval.specs.TreeValues.{values_in_tuples}
 use Rattle.td_eval.specs.Worlds.{World}
-use Rattle.td_plan.specs.declared.plan.Plan.{Plan}
 use Rattle.td_plan.specs.declared.plan.step.Step.{Step}
 use Rattle.td_plan.proofs.PlannedLists.{parts_are}
 use Rattle.td_plan.specs.Plans.{PlanTree, extension_of}
-use Rattle.td_plan.specs.code.PlanViews.{plan_view}
+use Rattle.td_plan.specs.code.PlanViews.{PlanValue, plan_view}
 use Rattle.td_plan.specs.code.PlannedParts.{in_named, part_tree}
 use Rattle.td_plan.specs.code.StepViews.{step_view}
 use Rattle.td_tree.specs.declared.expression.NamedExpr.{NamedExpr}
@@ -26,7 +25,7 @@ use Rattle.td_types.specs.Types.{Attribute, attribute_names}
 use Rattle.td_value.specs.Values.{Relation, Tuple, Val, relation_value}
 
 -- what is said of the step is said of the plan
-pub planned_by : (P : PlanTree → Type 0) (made : Result Step AllocError) (result : Result Plan AllocError)
+pub planned_by : (P : PlanTree → Type 0) (made : Result Step AllocError) (result : Result PlanValue AllocError)
     → IfOk result (λ p. IsOkAnd made (λ s. plan_view p ≡ step_view s)) → IfOk made (λ s. P (step_view s)) → IfOk result (λ p. P (plan_view p))
 planned_by P (Ok s) (Ok p) same h = subst P (sym same) h
 planned_by P (Err e) (Ok p) same h = absurd same

@@ -6,7 +6,6 @@ ghost use Rattle.td_eval.specs.UnfailingValues.{GivesValues};
 ghost use Rattle.td_eval.specs.ValueTypes.{DefinitionsAreWritten};
 ghost use Rattle.td_eval.specs.Worlds.{World};
 ghost use Rattle.td_plan.specs.code.Hands.{AreSurroundings, slots_in, slots_lent, world_around};
-ghost use Rattle.td_plan.specs.code.Memos.{IsRunnable};
 ghost use Rattle.td_plan.specs.code.PlanViews.{plan_view};
 ghost use Rattle.td_plan.specs.Plans.{plan_value};
 ghost use Rattle.td_plan.specs.PlansOf.{AreInHand, IsPlanFor, outermost};
@@ -44,7 +43,7 @@ fn run_in<B: Body>(
     plan: &Plan,
 ) -> Result<Value, Fault>
     requires { AreSurroundings around.now }
-    ensures { IsRunnable plan.now.step → Answers (λ v. v) result
+    ensures { Answers (λ v. v) result
         (plan_value (world_around around.now) (slots_in rows.now) (plan_view plan.now)) }
 {
     let mut memo = new_memo(around.alloc, plan.places)?;
@@ -62,8 +61,7 @@ pub(crate) fn run_plan_in<B: Body>(
     plan: &Plan,
 ) -> Result<Value, Fault>
     requires { AreSurroundings around.now }
-    ensures { IsRunnable plan.now.step
-        → (scope : Scope) (outcome : World → List Tuple → Outcome Val)
+    ensures { (scope : Scope) (outcome : World → List Tuple → Outcome Val)
         → IsPlanFor scope (plan_view plan.now) outcome
         → GivesValues (world_around around.now) (outermost scope)
         → AreInHand scope (tuples_in_hand around.now.env.now)
@@ -77,8 +75,7 @@ pub(crate) fn run_plan_in<B: Body>(
 /// What the plan is for: of a plan of an expression, the expression's value, or the least of the
 /// causes for which it has none. A virtual relvar is evaluated where the plan names it.
 pub fn run_plan<B: Body>(alloc: Global, env: &Env<'_, B>, plan: &Plan) -> Result<Value, Fault>
-    ensures { IsRunnable plan.now.step
-        → (scope : Scope) (outcome : World → List Tuple → Outcome Val)
+    ensures { (scope : Scope) (outcome : World → List Tuple → Outcome Val)
         → IsPlanFor scope (plan_view plan.now) outcome
         → GivesValues (world_in env.now) (outermost scope)
         → AreInHand scope (tuples_in_hand env.now)
@@ -99,8 +96,7 @@ pub(crate) fn run_valued<B: Body>(
     plan: &Plan,
 ) -> Result<Value, Fault>
     requires { DefinitionsAreWritten env.now.catalog.now.database }
-    ensures { IsRunnable plan.now.step
-        → (scope : Scope) (outcome : World → List Tuple → Outcome Val)
+    ensures { (scope : Scope) (outcome : World → List Tuple → Outcome Val)
         → IsPlanFor scope (plan_view plan.now) outcome
         → GivesValues (world_in env.now) (outermost scope)
         → AreInHand scope (tuples_in_hand env.now)
