@@ -1,6 +1,5 @@
 //! The plans of expressions.
 ghost use Rattle.std.specs.Prelude.{◌≡◌, IfOk, IsOkAnd};
-ghost use Rattle.td_plan.specs.code.Memos.{IsRunnable};
 ghost use Rattle.td_plan.specs.code.Planners.{IsPlanner, catalog_database};
 ghost use Rattle.td_plan.specs.PlansOf.{ArePlannedSettings, IsPlanOfTyped, scope_in};
 ghost use Rattle.td_plan.specs.code.PlanViews.{plan_view};
@@ -50,8 +49,7 @@ fn plan_by(
     step: Result<Step, AllocError>,
     names: Vec<Name>,
 ) -> Result<Plan, AllocError>
-    ensures plan { IfOk result (λ p. IsOkAnd step (λ s. plan_view p ≡ step_view s)) }
-    ensures runnable { IfOk result (λ p. IsRunnable p.step) }
+    ensures { IfOk result (λ plan. IsOkAnd step (λ s. plan_view plan ≡ step_view s)) }
 {
     let made = remembered(alloc, step?)?;
     Ok(Plan {
@@ -64,9 +62,8 @@ fn plan_by(
 /// The plan of an expression. Where the same names are known, and tuples of the same headings in
 /// scope, it has the expression's value, or is refused by the same causes.
 pub fn plan<B: Body>(alloc: Global, env: &Env<'_, B>, expr: &Expr) -> Result<Plan, AllocError>
-    ensures plan { IfOk result
+    ensures { IfOk result
         (λ p. IsPlanOfTyped (scope_in env.now) (plan_view p) (tree_view expr.now)) }
-    ensures runnable { IfOk result (λ p. IsRunnable p.step) }
 {
     let mut names = Vec::new(alloc);
     add_names(alloc, env.catalog, expr, &mut names)?;
@@ -81,9 +78,8 @@ fn plan_where<B: Body>(
     expr: &Expr,
     condition: &Expr,
 ) -> Result<Plan, AllocError>
-    ensures plan { IfOk result (λ p. IsPlanOfTyped (scope_in env.now) (plan_view p)
+    ensures { IfOk result (λ p. IsPlanOfTyped (scope_in env.now) (plan_view p)
         (trees.restriction (tree_view expr.now) (tree_view condition.now))) }
-    ensures runnable { IfOk result (λ p. IsRunnable p.step) }
 {
     let mut names = Vec::new(alloc);
     add_names(alloc, env.catalog, condition, &mut names)?;
@@ -99,9 +95,8 @@ pub(crate) fn plan_in_relvar<B: Body>(
     relvar: &Name,
     condition: &Expr,
 ) -> Result<Plan, AllocError>
-    ensures plan { IfOk result (λ p. IsPlanOfTyped (scope_in env.now) (plan_view p)
+    ensures { IfOk result (λ p. IsPlanOfTyped (scope_in env.now) (plan_view p)
         (trees.restriction (trees.name relvar.now) (tree_view condition.now))) }
-    ensures runnable { IfOk result (λ p. IsRunnable p.step) }
 {
     let named = Expr::Name(relvar.try_clone()?);
     plan_where(alloc, env, &named, condition)
@@ -134,9 +129,8 @@ pub(crate) fn plan_settings<B: Body>(
     attributes: Vec<(Name, Ty)>,
     parts: &[NamedExpr],
 ) -> Result<Plan, AllocError>
-    ensures plan { IfOk result (λ p. ArePlannedSettings (scope_in env.now) (plan_view p) rel.now
+    ensures { IfOk result (λ p. ArePlannedSettings (scope_in env.now) (plan_view p) rel.now
         (pairs_view attributes.items) (named_view parts.now)) }
-    ensures runnable { IfOk result (λ p. IsRunnable p.step) }
 {
     let mut names = Vec::new(alloc);
     for part in parts {

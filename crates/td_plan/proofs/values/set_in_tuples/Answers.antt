@@ -23,5 +23,5 @@ returns g c = λ rules.
     (subst (λ o. Answers (λ v. v) c.run_valued.result o)
     (extension_is_set xs fs r
     (length-map c.args.attributes.items pair_view ∙ c.requires.lengths ∙ sym (as_many_set (world_in env) (tuples_in_hand env) c.args.parts.now)) c.requires.distinct)
-    (c.run_valued.ensures c.in_ok-plan.ensures.runnable (scope_in env) (λ w s. extension_of xs (values_in_tuples w s parts) r)
-    (c.in_ok-plan.ensures.plan rules.relation.0 rules.relation.1 rules.written.0 rules.written.1 rules.typed.0 rules.typed.1) rules.gives rules.tuples))
+    (c.run_valued.ensures (scope_in env) (λ w s. extension_of xs (values_in_tuples w s parts) r)
+    (c.in_ok-plan.ensures rules.relation.0 rules.relation.1 rules.written.0 rules.written.1 rules.typed.0 rules.typed.1) rules.gives rules.tuples))

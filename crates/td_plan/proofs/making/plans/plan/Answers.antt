@@ -5,10 +5,10 @@ use Rattle.td_plan.specs.PlansOf.{IsPlanOfTyped, scope_in}
 use Rattle.td_tree.specs.code.TreeViews.{tree_view}
 use Rattle.td_plan.proofs.making.plans.plan.Goals as goal
 
-pub returns-clause-plan : goal.returns-clause-plan
-returns-clause-plan g c =
+pub returns : goal.returns
+returns g c =
     let d = tree_view c.args.expr.now in
-    planned_by (λ p. IsPlanOfTyped (scope_in c.args.env.now) p d) c.step_of.result c.plan_by.result c.plan_by.ensures.plan
+    planned_by (λ p. IsPlanOfTyped (scope_in c.args.env.now) p d) c.step_of.result c.plan_by.result c.plan_by.ensures
     (subst (λ s. IsPlanned s c.step_of.result d) c.in_ok-planner.ensures.scope c.step_of.ensures)
 
 pub step_of-requires : goal.step_of-requires

@@ -6,9 +6,9 @@ use Rattle.td_tree.specs.code.TreeViews.{tree_view}
 use Rattle.td_tree.specs.Trees.{name, restriction}
 use Rattle.td_plan.proofs.making.plans.plan_in_relvar.Goals as goal
 
-pub returns-clause-plan : goal.returns-clause-plan
-returns-clause-plan g c =
+pub returns : goal.returns
+returns g c =
     IfOk-weaker c.plan_where.result _ _
     (λ p plan. subst (λ n. IsPlanOfTyped (scope_in c.args.env.now) (plan_view p) (restriction (name n) (tree_view c.args.condition.now)))
     c.in_ok-try_clone.ensures plan)
-    c.plan_where.ensures.plan
+    c.plan_where.ensures
